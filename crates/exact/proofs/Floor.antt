@@ -1,0 +1,105 @@
+-- Laws of rounding down: the floored quotient of integers and the floor of a rational number, each determined by its two
+-- bounds. The bounds of the quotient alone are Integer's, and are passed on here.
+use mathlib.Core.Path.{_≡_, refl, sym, _∙_, ap, subst}
+use mathlib.Core.List.{[], _∷_}
+use Prim.Native.Nat.{ℕ, zero, suc, _*_, _<_}
+use native.Mathlib.Omega.{arith}
+use native.Mathlib.Nat.{mul-pos}
+use lib.IntN.{ℤ, pos, negsuc, _+ℤ_, _*ℤ_}
+use lib.Signed.{_≤ℤ_, _<ℤ_, shrZ, ≤ℤ-refl}
+use Rattle.exact.specs.Rational.{ℚ, den, mk, _+ᵠ_, -ᵠ_, _-ᵠ_, int}
+use Rattle.exact.specs.Order.{_≤ᵠ_, _<ᵠ_}
+use Rattle.exact.specs.Floor.{floorDiv, floor}
+use Rattle.exact.proofs.Integer as Z
+use Rattle.exact.proofs.Integer.{ℤ-ring, readsℤ}
+use Rattle.exact.proofs.Ring.{ring, reads}
+use Rattle.exact.proofs.Rational.{_is_over_, self, is-int, mk-is, int-add, ℚ-ring, readsℚ}
+use Rattle.exact.proofs.Order.{is-le, is-lt, le-is, lt-is, ≤-refl, ≤-trans, ≤-<-trans, int-cancel-<, +-mono, +-mono-<, lt-by, lt-pos}
+pub use Rattle.exact.proofs.Integer.{floorDiv-le, lt-floorDiv, le-floorDiv, floorDiv-lt, floorDiv-unique}
+
+-- ---- the floored quotient of integers
+
+-- it is the machine logic's shift, at every divisor
+pub floorDiv-shrZ : (z : ℤ) (d : ℕ) → floorDiv z d ≡ shrZ z d
+floorDiv-shrZ (pos a) d = refl
+floorDiv-shrZ (negsuc a) d = refl
+
+pub floorDiv-mono : (x y : ℤ) (d : ℕ) → 0 < d → x ≤ℤ y → floorDiv x d ≤ℤ floorDiv y d
+floorDiv-mono x y d p h = le-floorDiv (floorDiv x d) y d p (Z.≤-trans _ x y (floorDiv-le x d p) h)
+
+-- a common factor cancels
+pub floorDiv-mul : (k : ℕ) (a : ℤ) (b : ℕ) → 0 < k → 0 < b → floorDiv (pos k *ℤ a) (k * b) ≡ floorDiv a b
+floorDiv-mul zero a b h p = absurd (omega arith)
+floorDiv-mul (suc k) a b h p = sym (floorDiv-unique (floorDiv a b) (pos (suc k) *ℤ a) (suc k * b) (mul-pos h p)
+    (rw (alg (floorDiv a b) (pos (suc k)) (pos b), Z.*-comm (pos (suc k)) a) (Z.*-mono _ a (suc k) (floorDiv-le a b p)))
+    (rw (alg (floorDiv a b +ℤ pos 1) (pos (suc k)) (pos b), Z.*-comm (pos (suc k)) a) (Z.*-mono-< a _ k (lt-floorDiv a b p))))
+  where
+    alg : (f k b : ℤ) → f *ℤ (k *ℤ b) ≡ f *ℤ b *ℤ k
+    alg f k b = ring ℤ-ring (f ∷ k ∷ b ∷ []) (search reads) (search reads) refl
+
+-- a multiple of the divisor comes out
+pub floorDiv-add : (x z : ℤ) (d : ℕ) → 0 < d → floorDiv (x +ℤ z *ℤ pos d) d ≡ floorDiv x d +ℤ z
+floorDiv-add x z d p = sym (floorDiv-unique (floorDiv x d +ℤ z) (x +ℤ z *ℤ pos d) d p
+    (rw (alg (floorDiv x d) z (pos d)) (Z.+-mono _ x _ _ (floorDiv-le x d p) (≤ℤ-refl (z *ℤ pos d))))
+    (rw (alg₁ (floorDiv x d) z (pos d)) (Z.+-mono-< x _ _ _ (lt-floorDiv x d p) (≤ℤ-refl (z *ℤ pos d)))))
+  where
+    alg : (f z d : ℤ) → (f +ℤ z) *ℤ d ≡ f *ℤ d +ℤ z *ℤ d
+    alg f z d = ring ℤ-ring (f ∷ z ∷ d ∷ []) (search reads) (search reads) refl
+
+    alg₁ : (f z d : ℤ) → (f +ℤ z +ℤ pos 1) *ℤ d ≡ (f +ℤ pos 1) *ℤ d +ℤ z *ℤ d
+    alg₁ f z d = ring ℤ-ring (f ∷ z ∷ d ∷ []) (search readsℤ) (search readsℤ) refl
+
+pub floorDiv-exact : (z : ℤ) (d : ℕ) → 0 < d → floorDiv (z *ℤ pos d) d ≡ z
+floorDiv-exact z d p = sym (floorDiv-unique z (z *ℤ pos d) d p (≤ℤ-refl _)
+    (Z.<-in _ _ (omega (arith, Z.bal-* z (pos d), Z.bal-* (z +ℤ pos 1) (pos d), ap (λ t. t * d) (Z.bal-+ z (pos 1))))))
+
+-- ---- the floor of a rational number: its two bounds
+pub int-le : (z : ℤ) (q : ℚ) → (z *ℤ pos (den q)) ≤ℤ (q .num) → int z ≤ᵠ q
+int-le z q h = is-le (is-int z) (self q) (rw (Z.*-one (q .num)) h)
+
+pub lt-int : (q : ℚ) (z : ℤ) → (q .num) <ℤ (z *ℤ pos (den q)) → q <ᵠ int z
+lt-int q z h = is-lt (self q) (is-int z) (rw (Z.*-one (q .num)) h)
+
+pub floor-le : (q : ℚ) → int (floor q) ≤ᵠ q
+unfolding floor
+floor-le q = int-le (floorDiv (q .num) (den q)) q (floorDiv-le (q .num) (den q) (omega arith))
+
+pub lt-floor : (q : ℚ) → q <ᵠ int (floor q +ℤ pos 1)
+unfolding floor
+lt-floor q = lt-int q (floorDiv (q .num) (den q) +ℤ pos 1) (lt-floorDiv (q .num) (den q) (omega arith))
+
+-- rounding down loses less than one
+pub floor-gap : (q : ℚ) → q -ᵠ int (floor q) <ᵠ int (pos 1)
+floor-gap q = lt-by (lt-pos (subst (λ t. q <ᵠ t) (int-add (floor q) (pos 1)) (lt-floor q))) (ring ℚ-ring (q ∷ int (floor q) ∷ []) (search readsℚ) (search readsℚ) refl)
+
+-- ---- the bounds determine it
+pub le-floor : (z : ℤ) (q : ℚ) → int z ≤ᵠ q → z ≤ℤ floor q
+le-floor z q h = Z.<-suc-≤ z (floor q) (int-cancel-< z (floor q +ℤ pos 1) (≤-<-trans h (lt-floor q)))
+
+pub floor-lt : (z : ℤ) (q : ℚ) → q <ᵠ int z → floor q <ℤ z
+floor-lt z q h = int-cancel-< (floor q) z (≤-<-trans (floor-le q) h)
+
+pub floor-unique : (z : ℤ) (q : ℚ) → int z ≤ᵠ q → q <ᵠ int (z +ℤ pos 1) → z ≡ floor q
+floor-unique z q h k = Z.≤-antisym z (floor q) (le-floor z q h) (Z.<-suc-≤ (floor q) z (floor-lt (z +ℤ pos 1) q k))
+
+pub floor-mono : {p q : ℚ} → p ≤ᵠ q → floor p ≤ℤ floor q
+floor-mono {p} {q} h = le-floor (floor p) q (≤-trans (floor-le p) h)
+
+-- the floor of a fraction in any terms is the floored quotient
+pub floor-is : {q : ℚ} {a : ℤ} {b : ℕ} → q is a over b → floor q ≡ floorDiv a b
+floor-is {q} {a} {b} h = floorDiv-unique (floor q) a b (h .bpos)
+    (rw (Z.*-one a) at (le-is (is-int (floor q)) h (floor-le q))) (rw (Z.*-one a) at (lt-is h (is-int (floor q +ℤ pos 1)) (lt-floor q)))
+
+pub floor-mk : (n : ℤ) (d : ℕ) (h : 0 < d) → floor (mk n d h) ≡ floorDiv n d
+floor-mk n d h = floor-is (mk-is n d h)
+
+pub floor-int : (z : ℤ) → floor (int z) ≡ z
+floor-int z = floor-is (is-int z) ∙ ap (λ t. floorDiv t 1) (sym (Z.*-one z)) ∙ floorDiv-exact z 1 (omega arith)
+
+pub floor-add : (q : ℚ) (z : ℤ) → floor (q +ᵠ int z) ≡ floor q +ℤ z
+floor-add q z = sym (floor-unique (floor q +ℤ z) (q +ᵠ int z)
+    (rw (int-add (floor q) z) (+-mono (floor-le q) (≤-refl (int z))))
+    (rw (alg (floor q) z, int-add (floor q +ℤ pos 1) z) (+-mono-< (lt-floor q) (≤-refl (int z)))))
+  where
+    alg : (f z : ℤ) → f +ℤ z +ℤ pos 1 ≡ f +ℤ pos 1 +ℤ z
+    alg f z = ring ℤ-ring (f ∷ z ∷ []) (search readsℤ) (search readsℤ) refl

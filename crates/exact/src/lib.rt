@@ -1,0 +1,1 @@
+// Exact numbers: mathematics only, in specs/ and proofs/. This crate has no code.

@@ -1,0 +1,79 @@
+-- What an answer says of the fraction that was counted: for `checked`, which picks it, and for callers, who match on it.
+use mathlib.Core.Path.{_≡_, refl, sym, ap, _∙_}
+use mathlib.Core.Bool.{true, false}
+use Prim.Native.Nat.{ℕ}
+use native.Mathlib.Omega.{arith}
+use Rattle.exact.specs.Rational.{ℚ}
+use Rattle.fraction.specs.Size.{fits, Counting, counted, too-large, count, _>>=_}
+use Rattle.fraction.specs.Machine.{fraction, value, answer, Sized}
+use Rattle.fraction.specs.declared.Fraction.{Fraction}
+use Rattle.fraction.specs.declared.Counted.the-variants.{Fits, TooLarge}
+use Rattle.fraction.proofs.Value.{ratio-is, den-positive, value-fraction}
+use Rattle.fraction.proofs.Size.{fits-num, fits-den, is-fits, count-fits, count-large, counted-is, too-large-is}
+
+-- ---- sizes
+
+pub fits-sized : (q : ℚ) → fits q ≡ true → Sized (fraction q)
+unfolding fraction
+fits-sized q e = record { num-small = fits-num q e; den-pos = den-positive q; den-small = fits-den q e }
+
+-- and back, in any terms
+pub sized-fits : (f : Fraction) → Sized f → fits (value f) ≡ true
+unfolding value
+sized-fits f h = is-fits (ratio-is (f .num) (f .den) (h .den-pos)) (h .num-small) (h .den-small)
+
+-- ---- answers
+
+pub answer-fits : (q : ℚ) → fits q ≡ true → answer (count q) ≡ Fits (fraction q)
+unfolding answer
+answer-fits q e = rw (count-fits q e)
+
+pub answer-large : (q : ℚ) → fits q ≡ false → answer (count q) ≡ TooLarge
+unfolding answer
+answer-large q e = rw (count-large q e)
+
+-- `Fits f`: the computation had a result, which f stands for, in lowest terms
+pub fits-answer : (x : Counting ℚ) (f : Fraction) → answer x ≡ Fits f → (x ≡ counted (value f)) × (f ≡ fraction (value f))
+unfolding answer
+fits-answer (counted q) f e =
+    let w : fraction q ≡ f = cc in
+    let v : q ≡ value f = sym (value-fraction q) ∙ ap value w in
+    (ap counted v, sym w ∙ ap fraction v)
+fits-answer too-large f e = absurd (let z : _≡_ {A = ℕ} 0 1 = cc in omega arith)
+
+-- `TooLarge`: it had none
+pub large-answer : (x : Counting ℚ) → answer x ≡ TooLarge → x ≡ too-large
+unfolding answer
+large-answer (counted q) e = absurd (let z : _≡_ {A = ℕ} 0 1 = cc in omega arith)
+large-answer too-large e = refl
+
+pub answer-too-large : answer too-large ≡ TooLarge
+unfolding answer
+answer-too-large = refl
+
+-- ---- a computation goes on with what the answer holds, or stops
+
+pub fits-then : {B : Type 0} (x : Counting ℚ) (f : Fraction) (k : ℚ → Counting B) → answer x ≡ Fits f → (x >>= k) ≡ k (value f)
+fits-then x f k e = ap (λ y. y >>= k) (fits-answer x f e .0)
+
+pub large-then : {B : Type 0} (x : Counting ℚ) (k : ℚ → Counting B) → answer x ≡ TooLarge → (x >>= k) ≡ too-large
+large-then x k e = ap (λ y. y >>= k) (large-answer x e)
+
+-- ---- one counted fraction
+
+-- what `Fits f` says of the fraction q that was counted
+pub record Kept (q : ℚ) (f : Fraction) : Type 0 where
+  pub value-is : value f ≡ q
+  pub fraction-is : f ≡ fraction q
+  pub small : fits q ≡ true
+  pub sized : Sized f
+
+pub kept : (q : ℚ) (f : Fraction) → answer (count q) ≡ Fits f → Kept q f
+kept q f e =
+    let a = fits-answer (count q) f e in
+    let k = counted-is q (value f) (a .0) in
+    let w : f ≡ fraction q = a .1 ∙ ap fraction (k .0) in
+    record { value-is = k .0; fraction-is = w; small = k .1; sized = rw w (fits-sized q (k .1)) }
+
+pub not-kept : (q : ℚ) → answer (count q) ≡ TooLarge → fits q ≡ false
+not-kept q e = too-large-is q (large-answer (count q) e)
