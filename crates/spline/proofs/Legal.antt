@@ -1,0 +1,177 @@
+-- What the checks of a space leave: a space that none of the numbers 2 to 5 refuses has degrees from 1 to 5, segments of
+-- positive length, and at each join at most three conditions and no more than either neighbouring degree.
+use mathlib.Core.Path.{_≡_, refl, sym, _∙_, ap}
+use mathlib.Core.Logic.{_⊎_, inl, inr}
+use mathlib.Core.Bool.{Bool, true, false, cond, not, _&&_, _||_}
+use mathlib.Core.Option.{Option, some, none}
+use Prim.Native.Nat.{ℕ, zero, suc, _+_, _-_, _<_, _≤_}
+use native.Mathlib.Omega.{arith}
+use native.Mathlib.Numerals.{add-one}
+use lib.Dec.{T, eqb, leb, leb→le, eqb→eq}
+use lib.IntN.{ℤ, pos, negsuc, _+ℤ_, _-ℤ_, negℤ, natAbs}
+use lib.ListN.{length}
+use lib.Signed.{leZ, ltZ, _≤ℤ_, _<ℤ_}
+use Rattle.exact.proofs.Decide.{and-true, or-false, not-false, true-holds}
+use Rattle.exact.proofs.Integer.{up, dn, bal-+, bal-neg, ≤-out, <-out, abs-parts}
+use Rattle.exact.proofs.Word.{leZ-true, leZ-false}
+use Rattle.spline.specs.Outcome.{Outcome, answer, refusal, refuse, _then_}
+use Rattle.spline.specs.Search.{first}
+use Rattle.spline.specs.Space.{Space, segments, break, degreeEntry, order, between, lengthsFit, badBreak, spanTooLong, badDegree, badOrder, refuseFirst, checkedEntries, checked, degree, width, conditionCount}
+use Rattle.spline.proofs.Outcome.{answer-unique, answer-not-refusal}
+use Rattle.spline.proofs.Search.{first-none-inverts}
+
+-- The facts that the tests leave, test by test.
+pub record Checked (s : Space) : Type 0 where
+  pub lengths : lengthsFit s ≡ true
+  pub breaks : (i : ℕ) → i < segments s + 1 → badBreak s i ≡ false
+  pub span : spanTooLong s ≡ false
+  pub degrees : (i : ℕ) → i < segments s → badDegree s i ≡ false
+  pub orders : (i : ℕ) → i < segments s - 1 → badOrder s i ≡ false
+
+refuseFirst-inverts : {A : Type 0} (number : ℕ) (o : Option ℕ) (rest : Outcome A) {a : A} → refuseFirst number o rest ≡ answer a → (o ≡ none) × (rest ≡ answer a)
+refuseFirst-inverts number none rest e = (refl, e)
+refuseFirst-inverts number (some i) rest e = absurd (answer-not-refusal e refl)
+
+cond-refuse-inverts : {A : Type 0} (b : Bool) (number place : ℕ) (rest : Outcome A) {a : A} → cond b (refuse number place) rest ≡ answer a → (b ≡ false) × (rest ≡ answer a)
+cond-refuse-inverts true number place rest e = absurd (answer-not-refusal e refl)
+cond-refuse-inverts false number place rest e = (refl, e)
+
+fitting-inverts : {A : Type 0} (b : Bool) (number place : ℕ) (rest : Outcome A) {a : A} → cond b rest (refuse number place) ≡ answer a → (b ≡ true) × (rest ≡ answer a)
+fitting-inverts true number place rest e = (refl, e)
+fitting-inverts false number place rest e = absurd (answer-not-refusal e refl)
+
+-- a check that answers gives the space itself
+pub checked-inverts : (s : Space) {s′ : Space} → checked s ≡ answer s′ → (s ≡ s′) × Checked s
+unfolding checked checkedEntries
+checked-inverts s {s′} e = finish (fitting-inverts (lengthsFit s) 2 0 _ e)
+  where
+    after-degrees : Outcome Space
+    after-degrees = refuseFirst 5 (first (segments s - 1) (badOrder s)) (answer s)
+
+    after-span : Outcome Space
+    after-span = refuseFirst 4 (first (segments s) (badDegree s)) after-degrees
+
+    after-breaks : Outcome Space
+    after-breaks = cond (spanTooLong s) (refuse 3 (segments s)) after-span
+
+    finish : (lengthsFit s ≡ true) × (refuseFirst 3 (first (segments s + 1) (badBreak s)) after-breaks ≡ answer s′) → (s ≡ s′) × Checked s
+    finish p =
+        let a = refuseFirst-inverts 3 (first (segments s + 1) (badBreak s)) after-breaks (p .1) in
+        let b = cond-refuse-inverts (spanTooLong s) 3 (segments s) after-span (a .1) in
+        let c = refuseFirst-inverts 4 (first (segments s) (badDegree s)) after-degrees (b .1) in
+        let d = refuseFirst-inverts 5 (first (segments s - 1) (badOrder s)) (answer s) (c .1) in
+        (answer-unique refl (d .1), record {
+          lengths = p .0;
+          breaks = first-none-inverts (badBreak s) (segments s + 1) (a .0);
+          span = b .0;
+          degrees = first-none-inverts (badDegree s) (segments s) (c .0);
+          orders = first-none-inverts (badOrder s) (segments s - 1) (d .0);
+        })
+
+-- the checks give no number above 5
+pub checked-numbers : (s : Space) {number place : ℕ} → checked s ≡ refusal number place → number ≤ 5
+unfolding checked checkedEntries
+checked-numbers s {number} {place} e = fitting (lengthsFit s) e
+  where
+    is : (n p : ℕ) → n ≤ 5 → _≡_ {A = Outcome Space} (refuse n p) (refusal number place) → number ≤ 5
+    is n p h r = let z : n ≡ number = cc in omega arith
+
+    after-degrees : Outcome Space
+    after-degrees = refuseFirst 5 (first (segments s - 1) (badOrder s)) (answer s)
+
+    after-span : Outcome Space
+    after-span = refuseFirst 4 (first (segments s) (badDegree s)) after-degrees
+
+    orders : (o : Option ℕ) → refuseFirst 5 o (answer s) ≡ refusal number place → number ≤ 5
+    orders none r = absurd (answer-not-refusal refl r)
+    orders (some i) r = is 5 i (omega arith) r
+
+    degrees : (o : Option ℕ) → refuseFirst 4 o after-degrees ≡ refusal number place → number ≤ 5
+    degrees none r = orders (first (segments s - 1) (badOrder s)) r
+    degrees (some i) r = is 4 i (omega arith) r
+
+    spans : (b : Bool) → cond b (refuse 3 (segments s)) after-span ≡ refusal number place → number ≤ 5
+    spans true r = is 3 (segments s) (omega arith) r
+    spans false r = degrees (first (segments s) (badDegree s)) r
+
+    breaks : (o : Option ℕ) → refuseFirst 3 o (cond (spanTooLong s) (refuse 3 (segments s)) after-span) ≡ refusal number place → number ≤ 5
+    breaks none r = spans (spanTooLong s) r
+    breaks (some i) r = is 3 i (omega arith) r
+
+    fitting : (b : Bool) → cond b (refuseFirst 3 (first (segments s + 1) (badBreak s)) (cond (spanTooLong s) (refuse 3 (segments s)) after-span)) (refuse 2 0) ≡ refusal number place → number ≤ 5
+    fitting true r = breaks (first (segments s + 1) (badBreak s)) r
+    fitting false r = is 2 0 (omega arith) r
+
+-- The numbers of a space that passes.
+pub record Legal (s : Space) : Type 0 where
+  pub some-segment : 1 ≤ segments s
+  pub few-segments : segments s ≤ 12
+  pub break-count : length (s .breaks) ≡ segments s + 1
+  pub order-count : length (s .orders) + 1 ≡ segments s
+  pub least-degree : (i : ℕ) → i < segments s → 1 ≤ degree s i
+  pub greatest-degree : (i : ℕ) → i < segments s → degree s i ≤ 5
+  pub positive-width : (i : ℕ) → i < segments s → 0 < width s i
+  pub three-conditions : (j : ℕ) → j < segments s - 1 → conditionCount s j ≤ 3
+  pub below-left-degree : (j : ℕ) → j < segments s - 1 → conditionCount s j ≤ degree s j
+  pub below-right-degree : (j : ℕ) → j < segments s - 1 → conditionCount s j ≤ degree s (suc j)
+
+degree-range : (d : ℤ) → not (between (pos 1) (pos 5) d) ≡ false → (1 ≤ natAbs d) × (natAbs d ≤ 5)
+degree-range d e = let b = and-true (leZ (pos 1) d) (leZ d (pos 5)) (not-false _ e) in
+    go d (≤-out (pos 1) d (leZ-true (pos 1) d (b .0))) (≤-out d (pos 5) (leZ-true d (pos 5) (b .1)))
+  where
+    go : (z : ℤ) → up (pos 1) + dn z ≤ dn (pos 1) + up z → up z + dn (pos 5) ≤ dn z + up (pos 5) → (1 ≤ natAbs z) × (natAbs z ≤ 5)
+    go (pos n) p q = omega arith
+    go (negsuc n) p q = absurd (omega arith)
+
+-- an order is at least -1 and at most 2, and below each degree: the count of its conditions
+count-range : (o : ℤ) → not (between (negℤ (pos 1)) (pos 2) o) ≡ false → natAbs (o +ℤ pos 1) ≤ 3
+count-range o e = let b = and-true (leZ (negℤ (pos 1)) o) (leZ o (pos 2)) (not-false _ e) in
+    go o (≤-out (negsuc 0) o (leZ-true (negsuc 0) o (b .0))) (≤-out o (pos 2) (leZ-true o (pos 2) (b .1)))
+  where
+    go : (z : ℤ) → up (negsuc 0) + dn z ≤ dn (negsuc 0) + up z → up z + dn (pos 2) ≤ dn z + up (pos 2) → natAbs (z +ℤ pos 1) ≤ 3
+    go (pos n) p q = omega arith
+    go (negsuc zero) p q = omega arith
+    go (negsuc (suc n)) p q = absurd (omega arith)
+
+count-below : (d o : ℤ) → not (between (pos 1) (pos 5) d) ≡ false → not (between (negℤ (pos 1)) (pos 2) o) ≡ false → leZ d o ≡ false → natAbs (o +ℤ pos 1) ≤ natAbs d
+count-below d o g e h =
+    let a = and-true (leZ (pos 1) d) (leZ d (pos 5)) (not-false _ g) in
+    let b = and-true (leZ (negℤ (pos 1)) o) (leZ o (pos 2)) (not-false _ e) in
+    go d o (≤-out (pos 1) d (leZ-true (pos 1) d (a .0))) (≤-out (negsuc 0) o (leZ-true (negsuc 0) o (b .0))) (<-out o d (leZ-false d o h))
+  where
+    go : (d o : ℤ) → up (pos 1) + dn d ≤ dn (pos 1) + up d → up (negsuc 0) + dn o ≤ dn (negsuc 0) + up o → up o + dn d < dn o + up d → natAbs (o +ℤ pos 1) ≤ natAbs d
+    go (pos d) (pos n) r p q = omega arith
+    go (pos d) (negsuc zero) r p q = omega arith
+    go (pos d) (negsuc (suc n)) r p q = absurd (omega arith)
+    go (negsuc d) o r p q = absurd (omega arith)
+
+width-range : (a b : ℤ) → leZ b a ≡ false → 0 < natAbs (b -ℤ a)
+width-range a b e = omega (arith, <-out a b (leZ-false b a e), bal-+ b (negℤ a), bal-neg a, abs-parts (b -ℤ a))
+
+pub legal : (s : Space) → Checked s → Legal s
+unfolding lengthsFit badBreak badDegree badOrder
+legal s c = record {
+  some-segment = leb→le 1 (segments s) (true-holds (lengths .0));
+  few-segments = leb→le (segments s) 12 (true-holds (lengths .1));
+  break-count = eqb→eq (length (s .breaks)) (segments s + 1) (true-holds (lengths .2));
+  order-count = eqb→eq (length (s .orders) + 1) (segments s) (true-holds (lengths .3));
+  least-degree = λ i h. degree-range (degreeEntry s i) (c .degrees i h) .0;
+  greatest-degree = λ i h. degree-range (degreeEntry s i) (c .degrees i h) .1;
+  positive-width = λ i h. width-range (break s i) (break s (suc i)) (or-false (not (between (negℤ (pos 10000)) (pos 10000) (break s (suc i)))) (leZ (break s (suc i)) (break s i)) (c .breaks (suc i) (omega arith)) .1);
+  three-conditions = λ j h. count-range (order s j) (tests j h .0);
+  below-left-degree = λ j h. count-below (degreeEntry s j) (order s j) (c .degrees j (omega arith)) (tests j h .0) (tests j h .1);
+  below-right-degree = λ j h. count-below (degreeEntry s (suc j)) (order s j) (c .degrees (suc j) (omega arith)) (tests j h .0) (tests j h .2);
+}
+  where
+    lengths : (leb 1 (segments s) ≡ true) × (leb (segments s) 12 ≡ true) × (eqb (length (s .breaks)) (segments s + 1) ≡ true) × (eqb (length (s .orders) + 1) (segments s) ≡ true)
+    lengths =
+        let a = and-true (leb 1 (segments s) && leb (segments s) 12 && eqb (length (s .breaks)) (segments s + 1)) (eqb (length (s .orders) + 1) (segments s)) (c .lengths) in
+        let b = and-true (leb 1 (segments s) && leb (segments s) 12) (eqb (length (s .breaks)) (segments s + 1)) (a .0) in
+        let d = and-true (leb 1 (segments s)) (leb (segments s) 12) (b .0) in
+        (d .0, d .1, b .1, a .1)
+
+    tests : (j : ℕ) → j < segments s - 1 → (not (between (negℤ (pos 1)) (pos 2) (order s j)) ≡ false) × (leZ (degreeEntry s j) (order s j) ≡ false) × (leZ (degreeEntry s (suc j)) (order s j) ≡ false)
+    tests j h =
+        let a = or-false (not (between (negℤ (pos 1)) (pos 2) (order s j)) || leZ (degreeEntry s j) (order s j)) (leZ (degreeEntry s (suc j)) (order s j)) (c .orders j h) in
+        let b = or-false (not (between (negℤ (pos 1)) (pos 2) (order s j))) (leZ (degreeEntry s j) (order s j)) (a .0) in
+        (b .0, b .1, a .1)

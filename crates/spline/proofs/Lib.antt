@@ -1,0 +1,4 @@
+pub mod Outcome
+pub mod Search
+pub mod Cases
+pub mod Legal

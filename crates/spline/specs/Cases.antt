@@ -1,0 +1,171 @@
+-- The cases W1 to W10 (document 01, "Sheet and printout" for W1 and "Cases" for the others) as one table of inputs and
+-- outcomes. The two statements at the end are proved by computation in proofs/Cases.
+use mathlib.Core.Path.{_≡_}
+use mathlib.Core.List.{List, [], _∷_, map}
+use Prim.Native.Nat.{ℕ}
+use lib.IntN.{ℤ, pos, negℤ}
+use lib.ListN.{length}
+use Rattle.spline.specs.Outcome.{Outcome, answer, refusal, with-answer}
+use Rattle.spline.specs.Space.{Space}
+use Rattle.spline.specs.Table.{Table, tableCells}
+use Rattle.spline.specs.Build.{built}
+use Rattle.spline.specs.Published.{extraction}
+use Rattle.spline.specs.CurveCall.{curveOutcome}
+use Rattle.spline.specs.Listing.{Weight, tableWeights}
+
+-- What a call shows when it answers: n, the weights and the values.
+pub record Answered : Type 0 where
+  pub rows : ℕ
+  pub weights : List Weight
+  pub values : List ℤ
+
+-- That of a table and a list of values; n is the number of the table's rows.
+abbrev pub shown : Table → List ℤ → Answered
+shown t values = record { rows = length t; weights = tableWeights 0 t; values = values }
+
+-- Building alone, or the curve call with its coefficients and positions.
+pub data Call : Type 0 where
+  building : Call
+  reading : List ℤ → List ℤ → Call
+
+-- What the definitions say of a call on a space, with buffers just long enough.
+unfoldable pub outcome : Space → Call → Outcome Answered
+outcome s building = with-answer (λ t. shown t []) (built s tableCells tableCells)
+outcome s (reading coefs positions) = with-answer (λ r. shown (r .table) (r .values)) (curveOutcome s coefs positions tableCells tableCells (length positions))
+
+-- One line of the table of cases.
+pub record Case : Type 0 where
+  pub space : Space
+  pub call : Call
+  pub ends : Outcome Answered
+
+-- A space, a call on it and its outcome.
+abbrev pub line : Space → Call → Outcome Answered → Case
+line s c o = record { space = s; call = c; ends = o }
+
+-- Breakpoints, degrees and orders.
+abbrev pub space : List ℕ → List ℕ → List ℤ → Space
+space breaks degrees orders = record { breaks = map pos breaks; degrees = map pos degrees; orders = orders }
+
+-- An answer with this n, these weights and these values.
+abbrev pub answers : ℕ → List Weight → List ℤ → Outcome Answered
+answers n weights values = answer (record { rows = n; weights = weights; values = values })
+
+-- n over d in row r and column c.
+abbrev pub weightAt : ℕ → ℕ → ℕ → ℕ → Weight
+weightAt r c n d = record { row = r; column = c; numerator = pos n; denominator = d }
+
+-- ---- the spaces, and their weights where they are accepted
+
+-- W1, W2, W3 and W10: the weights are those that document 01 prints.
+abbrev pub space1 : Space
+space1 = space (0 ∷ 1 ∷ 3 ∷ []) (2 ∷ 2 ∷ []) (pos 1 ∷ [])
+
+abbrev pub weights1 : List Weight
+weights1 =
+    weightAt 0 0 1 1 ∷
+    weightAt 1 1 1 1 ∷ weightAt 1 2 2 3 ∷ weightAt 1 3 2 3 ∷
+    weightAt 2 2 1 3 ∷ weightAt 2 3 1 3 ∷ weightAt 2 4 1 1 ∷
+    weightAt 3 5 1 1 ∷ []
+
+-- W4: "the join's ordinate", columns 2 and 3, "has weights 4/7 and 3/7".
+abbrev pub space4 : Space
+space4 = space (0 ∷ 1 ∷ 3 ∷ []) (2 ∷ 3 ∷ []) (pos 1 ∷ [])
+
+abbrev pub weights4 : List Weight
+weights4 =
+    weightAt 0 0 1 1 ∷
+    weightAt 1 1 1 1 ∷ weightAt 1 2 4 7 ∷ weightAt 1 3 4 7 ∷
+    weightAt 2 2 3 7 ∷ weightAt 2 3 3 7 ∷ weightAt 2 4 1 1 ∷
+    weightAt 3 5 1 1 ∷
+    weightAt 4 6 1 1 ∷ []
+
+-- W5: "n = 5, the join's ordinate", columns 3 and 4, "1/4, 1/2, 1/4".
+abbrev pub space5 : Space
+space5 = space (0 ∷ 1 ∷ 2 ∷ []) (3 ∷ 3 ∷ []) (pos 2 ∷ [])
+
+abbrev pub weights5 : List Weight
+weights5 =
+    weightAt 0 0 1 1 ∷
+    weightAt 1 1 1 1 ∷ weightAt 1 2 1 2 ∷ weightAt 1 3 1 4 ∷ weightAt 1 4 1 4 ∷
+    weightAt 2 2 1 2 ∷ weightAt 2 3 1 2 ∷ weightAt 2 4 1 2 ∷ weightAt 2 5 1 2 ∷
+    weightAt 3 3 1 4 ∷ weightAt 3 4 1 4 ∷ weightAt 3 5 1 2 ∷ weightAt 3 6 1 1 ∷
+    weightAt 4 7 1 1 ∷ []
+
+-- W6 and W7: one segment of degree 1, of this length.
+abbrev pub lineSpace : ℕ → Space
+lineSpace length = space (0 ∷ length ∷ []) (1 ∷ []) []
+
+abbrev pub lineWeights : List Weight
+lineWeights = weightAt 0 0 1 1 ∷ weightAt 1 1 1 1 ∷ []
+
+-- W8, with this order.
+abbrev pub space8 : ℕ → Space
+space8 order = space (0 ∷ 1 ∷ 2 ∷ []) (1 ∷ 2 ∷ []) (pos order ∷ [])
+
+abbrev pub weights8 : List Weight
+weights8 = weightAt 0 0 1 1 ∷ weightAt 1 1 1 1 ∷ weightAt 1 2 1 1 ∷ weightAt 2 3 1 1 ∷ weightAt 3 4 1 1 ∷ []
+
+-- W9: a join of order -1, so that every weight is the identity's.
+abbrev pub space9 : Space
+space9 = space (0 ∷ 1 ∷ 2 ∷ []) (1 ∷ 1 ∷ []) (negℤ (pos 1) ∷ [])
+
+abbrev pub weights9 : List Weight
+weights9 = weightAt 0 0 1 1 ∷ weightAt 1 1 1 1 ∷ weightAt 2 2 1 1 ∷ weightAt 3 3 1 1 ∷ []
+
+-- ---- the table
+
+-- W1 to W10, in document 01's words where it gives a case in a sentence.
+unfoldable pub cases : List Case
+cases =
+    -- W1
+    line space1 (reading (pos 0 ∷ pos 100 ∷ pos 0 ∷ pos 0 ∷ []) (pos 256 ∷ pos 512 ∷ [])) (answers 4 weights1 (pos 17066 ∷ pos 4266 ∷ [])) ∷
+    -- W2: "W1 with coefficient -100: at 512, -4267"
+    line space1 (reading (pos 0 ∷ negℤ (pos 100) ∷ pos 0 ∷ pos 0 ∷ []) (pos 512 ∷ [])) (answers 4 weights1 (negℤ (pos 4267) ∷ [])) ∷
+    -- W3: "W1 with four coefficients 1: 256 at both"
+    line space1 (reading (pos 1 ∷ pos 1 ∷ pos 1 ∷ pos 1 ∷ []) (pos 256 ∷ pos 512 ∷ [])) (answers 4 weights1 (pos 256 ∷ pos 256 ∷ [])) ∷
+    -- W4
+    line space4 building (answers 5 weights4 []) ∷
+    -- W5
+    line space5 building (answers 5 weights5 []) ∷
+    -- W6: "coefs 0,10: at 1, value 1"
+    line (lineSpace 10) (reading (pos 0 ∷ pos 10 ∷ []) (pos 1 ∷ [])) (answers 2 lineWeights (pos 1 ∷ [])) ∷
+    -- W7: "0,2000 accepted; 0,2001 gives 3, place 1"
+    line (lineSpace 2000) building (answers 2 lineWeights []) ∷
+    line (lineSpace 2001) building (refusal 3 1) ∷
+    -- W8: "order 0 accepted, order 1 gives 5, place 0"
+    line (space8 0) building (answers 4 weights8 []) ∷
+    line (space8 1) building (refusal 5 0) ∷
+    -- W9: "coefs 0,10,20,30: at 256, 5120"
+    line space9 (reading (pos 0 ∷ pos 10 ∷ pos 20 ∷ pos 30 ∷ []) (pos 256 ∷ [])) (answers 4 weights9 (pos 5120 ∷ [])) ∷
+    -- W10: "three coefficients: 6, place 255"; "the sole position 769: 7, place 0"; "with 768 accepted"
+    line space1 (reading (pos 0 ∷ pos 100 ∷ pos 0 ∷ []) (pos 256 ∷ pos 512 ∷ [])) (refusal 6 255) ∷
+    line space1 (reading (pos 0 ∷ pos 100 ∷ pos 0 ∷ pos 0 ∷ []) (pos 769 ∷ [])) (refusal 7 0) ∷
+    line space1 (reading (pos 0 ∷ pos 100 ∷ pos 0 ∷ pos 0 ∷ []) (pos 768 ∷ [])) (answers 4 weights1 (pos 0 ∷ [])) ∷ []
+
+-- ---- the two statements
+
+-- P holds of every line of a table.
+abbrev pub Every : (Case → Type 0) → List Case → Type 0
+Every P [] = Unit {0}
+Every P (c ∷ cs) = P c × Every P cs
+
+-- The case ends as its line says.
+abbrev pub Holds : Case → Type 0
+Holds c = outcome (c .space) (c .call) ≡ c .ends
+
+-- A line's outcome with the published construction's weights in the place of its own.
+abbrev pub withPublished : Case → Outcome Answered
+withPublished c = with-answer (λ r. shown (extraction (c .space)) (r .values)) (c .ends)
+
+-- If the case is accepted, the published construction gives the same weights.
+abbrev pub AsPublished : Case → Type 0
+AsPublished c = withPublished c ≡ c .ends
+
+-- All that document 01 says of its cases.
+abbrev pub EveryCaseHolds : Type 0
+EveryCaseHolds = Every Holds cases
+
+-- The published construction agrees on them.
+abbrev pub EveryCasePublished : Type 0
+EveryCasePublished = Every AsPublished cases

@@ -1,0 +1,89 @@
+-- The curve call (document 01, "What the engine takes" and "Numbers and places"): what it ends with, and what the three
+-- lent buffers hold afterwards. The refusals are tested in number order, within a number by place.
+use mathlib.Core.Bool.{Bool, cond, not}
+use mathlib.Core.List.{List, _++_}
+use Prim.Native.Nat.{ℕ}
+use lib.Dec.{eqb, ltb}
+use lib.IntN.{ℤ, pos, negℤ}
+use lib.ListN.{length, getD, drop}
+use Rattle.spline.specs.Outcome.{Outcome, answer, refusal, refuse, largestPlace, _then_, with-answer}
+use Rattle.spline.specs.Search.{first}
+use Rattle.spline.specs.Space.{Space, segments, break, between, fitting, refuseFirst, checkedEntries, rowCount}
+use Rattle.spline.specs.Table.{Table}
+use Rattle.spline.specs.Build.{weights, longEnough, numeratorsAfter, denominatorsAfter}
+use Rattle.spline.specs.Reading.{fine, values}
+
+-- "up to 4,096 positions".
+abbrev pub positionLimit : ℕ
+positionLimit = 4096
+
+-- "from -1,000,000 to 1,000,000 thousandths of a millimetre".
+abbrev pub coefficientLimit : ℤ
+coefficientLimit = pos 1000000
+
+-- Number 6: entry i is out of range.
+unfoldable pub badCoefficient : List ℤ → ℕ → Bool
+badCoefficient coefs i = not (between (negℤ coefficientLimit) coefficientLimit (getD coefs i (pos 0)))
+
+-- Number 7: entry i is below 256·x0 or above 256·xm.
+unfoldable pub badPosition : Space → List ℤ → ℕ → Bool
+badPosition s positions i = not (between (fine (break s 0)) (fine (break s (segments s))) (getD positions i (pos 0)))
+
+-- Number 1, all three places, or the value given.
+abbrev pub allLongEnough : {A : Type 0} → List ℤ → ℕ → ℕ → ℕ → Outcome A → Outcome A
+allLongEnough positions numLength denLength valuesLength rest =
+    longEnough numLength denLength
+    (cond (ltb valuesLength (length positions)) (refuse 1 2) rest)
+
+-- Numbers 6 and 7 of a legal space, "place 255 and tested first: count is not n", or the value given.
+abbrev pub legalEntries : {A : Type 0} → Space → List ℤ → List ℤ → Outcome A → Outcome A
+legalEntries s coefs positions rest =
+    cond (eqb (length coefs) (rowCount s))
+    (refuseFirst 6 (first (length coefs) (badCoefficient coefs))
+    (refuseFirst 7 (first (length positions) (badPosition s positions))
+    rest))
+    (refuse 6 largestPlace)
+
+-- The space itself, or the first of the refusals 2 to 7.
+unfoldable pub curveChecked : Space → List ℤ → List ℤ → Outcome Space
+curveChecked s coefs positions =
+    fitting s
+    (cond (ltb positionLimit (length positions)) (refuse 2 1)
+    (checkedEntries s then λ legal. legalEntries legal coefs positions (answer legal)))
+
+-- What an answered call has worked out: the weights, and one value per position.
+pub record CurveResult : Type 0 where
+  pub table : Table
+  pub values : List ℤ
+
+-- "It builds, then writes one value per position": 8 or 9 from the build, or the result.
+unfoldable pub curveRead : List ℤ → List ℤ → Space → Outcome CurveResult
+curveRead coefs positions s = with-answer (λ t. record { table = t; values = values s t coefs positions }) (weights s)
+
+-- What the curve call ends with, given the lengths of the three buffers.
+unfoldable pub curveOutcome : Space → List ℤ → List ℤ → ℕ → ℕ → ℕ → Outcome CurveResult
+curveOutcome s coefs positions numLength denLength valuesLength =
+    allLongEnough positions numLength denLength valuesLength
+    (curveChecked s coefs positions then curveRead coefs positions)
+
+-- "returns their count".
+abbrev pub returned : Outcome CurveResult → Outcome ℕ
+returned o = with-answer (λ r. length (r .values)) o
+
+-- The outcome of the build within the call.
+abbrev pub tableOf : Outcome CurveResult → Outcome Table
+tableOf o = with-answer (λ r. r .table) o
+
+-- The numerators after the call, as after building.
+abbrev pub curveNumerators : Outcome CurveResult → List ℤ → List ℤ
+curveNumerators o before = numeratorsAfter (tableOf o) before
+
+-- The denominators after the call, as after building.
+abbrev pub curveDenominators : Outcome CurveResult → List ℤ → List ℤ
+curveDenominators o before = denominatorsAfter (tableOf o) before
+
+-- The values' buffer after the call: the values in list order, and "value cells past that count keep what they held";
+-- unchanged after every refusal.
+unfoldable pub valuesAfter : Outcome CurveResult → List ℤ → List ℤ
+valuesAfter (answer r) before = r .values ++ drop (length (r .values)) before
+valuesAfter (refusal number place) before = before

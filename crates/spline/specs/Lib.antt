@@ -1,0 +1,14 @@
+pub mod Outcome
+pub mod Search
+pub mod Space
+pub mod Conditions
+pub mod Table
+pub mod Step
+pub mod Build
+pub mod Piecewise
+pub mod Published
+pub mod Reading
+pub mod CurveCall
+pub mod ExactCurve
+pub mod Listing
+pub mod Cases

@@ -1,0 +1,123 @@
+-- Reading the curve (document 01, "Reading the curve", up to the exact curve): the segment of a position, the ordinates,
+-- the de Casteljau triangle and the values. Two rules stand in one definition each: `segmentAt` says which segment a
+-- position belongs to, and `rounded` how a quotient becomes a whole number. Coefficients come as a function of the row.
+use mathlib.Core.Bool.{Bool, cond, not}
+use mathlib.Core.List.{List, map}
+use mathlib.Core.Option.{Option, some, none, Option·getD}
+use Prim.Native.Nat.{ℕ, zero, suc, _+_, _*_}
+use lib.IntN.{ℤ, pos, _+ℤ_, _-ℤ_, _*ℤ_}
+use lib.ListN.{length, getD}
+use lib.Signed.{leZ, ltZ}
+use Rattle.exact.specs.Rational.{ℚ, den}
+use Rattle.exact.specs.Order.{isZero}
+use Rattle.exact.specs.Floor.{floorDiv}
+use Rattle.exact.specs.Tabulate.{tab}
+use Rattle.spline.specs.Search.{last}
+use Rattle.spline.specs.Space.{Space, segments, break, degree, width, firstColumn, columnCount}
+use Rattle.spline.specs.Table.{Table, cell}
+
+-- Positions count 256ths of a ring, values 256ths of a thousandth of a millimetre.
+abbrev pub parts : ℕ
+parts = 256
+
+-- The fine number of a whole one.
+abbrev pub fine : ℤ → ℤ
+fine z = pos parts *ℤ z
+
+-- "A position belongs to the last stretch that starts at or before it"; the last breakpoint, where no segment starts,
+-- thereby to the last one. Before the first breakpoint, where number 7 refuses, it is segment 0.
+unfoldable pub segmentAt : Space → ℤ → ℕ
+segmentAt s x = Option·getD (last (segments s) (λ i. leZ (fine (break s i)) x)) 0
+
+-- "floor": the whole number that stands for z / d.
+unfoldable pub rounded : ℤ → ℕ → ℤ
+rounded z d = floorDiv z d
+
+-- ---- the ordinates (step 1)
+
+-- The coefficient of row i.
+abbrev pub coefficient : List ℤ → ℕ → ℤ
+coefficient coefs i = getD coefs i (pos 0)
+
+-- The weight of row i on column c is not zero.
+abbrev pub hasWeight : Table → ℕ → ℕ → Bool
+hasWeight t c i = not (isZero (cell t i c))
+
+-- "floor(256·coefficient·numerator/denominator)".
+unfoldable pub term : ℚ → ℤ → ℤ
+term weight a = rounded (fine a *ℤ weight .num) (den weight)
+
+-- "over its non-zero weights, add": the sum of the terms of the first n rows.
+unfoldable pub termSum : Table → (ℕ → ℤ) → ℕ → ℕ → ℤ
+termSum t a c zero = pos 0
+termSum t a c (suc n) = termSum t a c n +ℤ cond (hasWeight t c n) (term (cell t n c) (a n)) (pos 0)
+
+-- The number before, if there is one and the test prefers it to z; else z.
+abbrev pub preferred : (ℤ → ℤ → Bool) → Option ℤ → ℤ → ℤ
+preferred prefers none z = z
+preferred prefers (some y) z = cond (prefers y z) y z
+
+-- The number that the test prefers among the a i whose i, below n, passes; none if no i passes.
+unfoldable pub best : (ℤ → ℤ → Bool) → ℕ → (ℕ → Bool) → (ℕ → ℤ) → Option ℤ
+best prefers zero passes a = none
+best prefers (suc n) passes a = let before = best prefers n passes a in cond (passes n) (some (preferred prefers before (a n))) before
+
+-- The least of the numbers a i with i below n that pass.
+abbrev pub least : ℕ → (ℕ → Bool) → (ℕ → ℤ) → Option ℤ
+least = best leZ
+
+-- The greatest of them.
+abbrev pub greatest : ℕ → (ℕ → Bool) → (ℕ → ℤ) → Option ℤ
+greatest = best (λ y z. leZ z y)
+
+-- "If the sum is under 256 times the least such coefficient, take that".
+abbrev pub atLeast : Option ℤ → ℤ → ℤ
+atLeast none z = z
+atLeast (some a) z = cond (ltZ z (fine a)) (fine a) z
+
+-- "likewise above the greatest".
+abbrev pub atMost : Option ℤ → ℤ → ℤ
+atMost none z = z
+atMost (some a) z = cond (ltZ (fine a) z) (fine a) z
+
+-- The ordinate of column c: its terms' sum within the limits of the coefficients with weight on it.
+unfoldable pub ordinate : Table → (ℕ → ℤ) → ℕ → ℤ
+ordinate t a c =
+    atMost (greatest (length t) (hasWeight t c) a)
+    (atLeast (least (length t) (hasWeight t c) a)
+    (termSum t a c (length t)))
+
+-- The ordinates of all columns.
+unfoldable pub ordinates : Space → Table → (ℕ → ℤ) → List ℤ
+ordinates s t a = tab (columnCount s) (ordinate t a)
+
+-- ---- the triangle (step 2)
+
+-- D: the length of segment i in 256ths of a ring.
+abbrev pub fineWidth : Space → ℕ → ℕ
+fineWidth s i = parts * width s i
+
+-- u: the position minus 256 times the segment's start.
+abbrev pub offset : Space → ℕ → ℤ → ℤ
+offset s i x = x -ℤ fine (break s i)
+
+-- "neighbours g, h become floor(((D - u)·g + u·h)/D)".
+unfoldable pub blend : ℕ → ℤ → ℤ → ℤ → ℤ
+blend d u g h = rounded ((pos d -ℤ u) *ℤ g +ℤ u *ℤ h) d
+
+-- Number k after n blends of the numbers g 0, g 1, ..
+unfoldable pub triangle : ℕ → ℤ → (ℕ → ℤ) → ℕ → ℕ → ℤ
+triangle d u g zero k = g k
+triangle d u g (suc n) k = blend d u (triangle d u g n k) (triangle d u g n (suc k))
+
+-- "blend p times" the ordinates of segment i, given the ordinates of all columns.
+unfoldable pub blended : Space → List ℤ → ℕ → ℤ → ℤ
+blended s os i x = triangle (fineWidth s i) (offset s i x) (λ k. getD os (firstColumn s i + k) (pos 0)) (degree s i) 0
+
+-- The value at a position.
+unfoldable pub valueAt : Space → Table → List ℤ → ℤ → ℤ
+valueAt s t coefs x = blended s (ordinates s t (coefficient coefs)) (segmentAt s x) x
+
+-- "one value per position, in list order".
+unfoldable pub values : Space → Table → List ℤ → List ℤ → List ℤ
+values s t coefs positions = map (valueAt s t coefs) positions

@@ -1,0 +1,101 @@
+-- Demand 2 on the weights, proved: from the basis that the build ends with to lists of ordinates and factors.
+use mathlib.Core.Path.{_≡_, refl, sym, _∙_, ap, ap₂, subst}
+use mathlib.Core.Logic.{_⊎_, inl, inr}
+use mathlib.Core.List.{List, [], _∷_}
+use Prim.Native.Nat.{ℕ, zero, suc, _+_, _-_, _*_, _<_, _≤_}
+use native.Mathlib.Omega.{arith}
+use lib.IntN.{ℤ, pos, negsuc}
+use lib.ListN.{length, getD, List·getD-eq-default}
+use lib.Seq.{ext-getD}
+use Rattle.exact.specs.Rational.{ℚ, int, _+ᵠ_, _*ᵠ_}
+use Rattle.exact.specs.Sum.{sum}
+use Rattle.exact.specs.Tabulate.{tab}
+use Rattle.exact.proofs.Decide.{le-or-lt}
+use Rattle.exact.proofs.Rational.{mul-zero}
+use Rattle.exact.proofs.Sum.{sum-ext, sum-zero}
+use Rattle.exact.proofs.Tabulate.{tab-length, tab-getD}
+use Rattle.spline.specs.Space.{Space, segments, columnCount, rowCount, conditionCount}
+use Rattle.spline.specs.Conditions.{Entry, conditions}
+use Rattle.spline.specs.Table.{Row, Table, entry, row, cell}
+use Rattle.spline.specs.Piecewise.{Accepted, MeetsAll, pairing, combination}
+use Rattle.theorems.specs.Demand2.{RowsAndColumns, CombinationsMeetConditions, OneCombination, ConditionsGiveOneCombination}
+use Rattle.theorems.proofs.Functional.{applied, applied-ext, applied-sum}
+use Rattle.theorems.proofs.Stepped.{Wide, values}
+use Rattle.theorems.proofs.Basis.{Basis, combined}
+use Rattle.theorems.proofs.Built.{Done, earlier, here, Built, built, row-count}
+
+pub rows-and-columns : RowsAndColumns
+rows-and-columns s a = let b = built s (a .table) (a .is) in let n = row-count s (a .table) b in (n, λ i h. b .basis .wide .each i (rw n h))
+
+-- ---- lists and functions
+
+-- the sum of ordinates times conditions is the functional's value
+pairing-applied : (o : Row) (κ : List Entry) → pairing o κ ≡ applied κ (entry o)
+unfolding pairing applied
+pairing-applied o [] = refl
+pairing-applied o (e ∷ es) = ap (λ t. entry o (e .column) *ᵠ int (e .factor) +ᵠ t) (pairing-applied o es)
+
+module _ (columns : ℕ) (t : Table) (wide : Wide columns t) where
+  -- past the last column all entries are zero
+  cell-past : (i c : ℕ) → columns ≤ c → cell t i c ≡ int (pos 0)
+  cell-past i c h = go (le-or-lt (length t) i)
+    where
+      go : (length t ≤ i) ⊎ (i < length t) → cell t i c ≡ int (pos 0)
+      go (inl k) = ap (λ r. entry r c) (List·getD-eq-default t [] k)
+      go (inr k) = List·getD-eq-default (row t i) (int (pos 0)) (rw (wide .each i k) h)
+
+  combined-past : (a : ℕ → ℚ) (c : ℕ) → columns ≤ c → combined a t c ≡ int (pos 0)
+  combined-past a c h = sum-zero (length t) (λ i k. ap (λ u. a i *ᵠ u) (cell-past i c h) ∙ mul-zero (a i))
+
+  combination-at : (factors : List ℚ) (c : ℕ) → entry (combination columns factors t) c ≡ combined (entry factors) t c
+  unfolding combination
+  combination-at factors c = go (le-or-lt columns c)
+    where
+      go : (columns ≤ c) ⊎ (c < columns) → entry (combination columns factors t) c ≡ combined (entry factors) t c
+      go (inl h) = List·getD-eq-default (combination columns factors t) (int (pos 0)) (rw (tab-length columns (λ c. sum (length t) (λ i. entry factors i *ᵠ cell t i c))) h) ∙ sym (combined-past (entry factors) c h)
+      go (inr h) = tab-getD columns (λ c. sum (length t) (λ i. entry factors i *ᵠ cell t i c)) c (int (pos 0)) h
+
+combination-length : (columns : ℕ) (factors : List ℚ) (t : Table) → length (combination columns factors t) ≡ columns
+unfolding combination
+combination-length columns factors t = tab-length columns _
+
+pub combinations-meet-conditions : CombinationsMeetConditions
+combinations-meet-conditions s a factors = record { columns = combination-length (columnCount s) factors (a .table); meets = met }
+  where
+    b : Built s (a .table)
+    b = built s (a .table) (a .is)
+
+    met : (j k : ℕ) → j < segments s - 1 → k < conditionCount s j → pairing (combination (columnCount s) factors (a .table)) (conditions s j k) ≡ int (pos 0)
+    met j k h l = pairing-applied (combination (columnCount s) factors (a .table)) (conditions s j k)
+        ∙ applied-ext (conditions s j k) (combination-at (columnCount s) (a .table) (b .basis .wide) factors)
+        ∙ applied-sum (conditions s j k) (length (a .table)) (entry factors) (cell (a .table))
+        ∙ sum-zero (length (a .table)) (λ i m. ap (λ u. entry factors i *ᵠ u) (b .basis .meets (conditions s j k) (earlier j k h l refl) i) ∙ mul-zero (entry factors i))
+
+pub conditions-give-one-combination : ConditionsGiveOneCombination
+conditions-give-one-combination s a o M = go (built s (a .table) (a .is))
+  where
+    met : (κ : List Entry) → Done s (segments s - 1) 0 κ → applied κ (entry o) ≡ int (pos 0)
+    met κ (earlier j k h l e) = ap (λ λ′. applied λ′ (entry o)) (sym e) ∙ sym (pairing-applied o (conditions s j k)) ∙ M .meets j k h l
+    met κ (here k h e) = absurd (omega arith)
+
+    go : Built s (a .table) → OneCombination s (a .table) o
+    go b = finish (b .basis .spans (entry o) (λ c h. List·getD-eq-default o (int (pos 0)) (rw (M .columns) h)) met)
+      where
+        n : length (a .table) ≡ rowCount s
+        n = row-count s (a .table) b
+
+        finish : (f : ℕ → ℚ) × ((c : ℕ) → combined f (a .table) c ≡ entry o c) → OneCombination s (a .table) o
+        finish f = record {
+          factors = factors;
+          count = tab-length (rowCount s) (f .0);
+          gives = ext-getD (int (pos 0)) (combination (columnCount s) factors (a .table)) o (combination-length (columnCount s) factors (a .table) ∙ sym (M .columns))
+              (λ c h. combination-at (columnCount s) (a .table) (b .basis .wide) factors c ∙ same c ∙ f .1 c);
+          only = λ others h e. ext-getD (int (pos 0)) others factors (h ∙ sym (tab-length (rowCount s) (f .0)))
+              (λ i l. b .basis .unique (entry others) (entry factors) (λ c. sym (combination-at (columnCount s) (a .table) (b .basis .wide) others c) ∙ ap (λ r. entry r c) e ∙ sym (f .1 c) ∙ sym (same c)) i (rw n (rw h at l)));
+        }
+          where
+            factors : List ℚ
+            factors = tab (rowCount s) (f .0)
+
+            same : (c : ℕ) → combined (entry factors) (a .table) c ≡ combined (f .0) (a .table) c
+            same c = sum-ext (length (a .table)) (λ i h. ap (λ u. u *ᵠ cell (a .table) i c) (tab-getD (rowCount s) (f .0) i (int (pos 0)) (rw n at h)))

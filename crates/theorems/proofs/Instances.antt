@@ -1,0 +1,174 @@
+-- The theorems at two spaces of document 01's cases, W4 and W5, with numbers: the hypotheses can be met, and what the
+-- theorems say of these spaces is what the cases say.
+use mathlib.Core.Path.{_≡_, refl, sym, _∙_, ap}
+use mathlib.Core.List.{List, [], _∷_}
+use Prim.Native.Nat.{ℕ, zero, suc, _-_, _<_}
+use native.Mathlib.Omega.{arith}
+use lib.IntN.{ℤ, pos, negsuc}
+use lib.ListN.{length}
+use Rattle.exact.specs.Gcd.{gcd, gcdF}
+use Rattle.exact.specs.Rational.{ℚ, mk, int, inv, _+ᵠ_, _*ᵠ_, -ᵠ_, _//_}
+use Rattle.exact.specs.Order.{isZero, ltᵠ, _≤ᵠ_}
+use Rattle.exact.specs.Sum.{sum}
+use Rattle.exact.specs.Tabulate.{tab}
+use Rattle.fraction.specs.Size.{fits}
+use Rattle.spline.specs.Outcome.{capped, collect, repeat}
+use Rattle.spline.specs.Search.{first, last}
+use Rattle.spline.specs.Space.{Space, segments, columnCount, rowCount, conditionCount, lengthsFit, badBreak, spanTooLong, badDegree, badOrder, checkedEntries, checked, firstColumn, conditionsBefore}
+use Rattle.spline.specs.Conditions.{falling, binomial, alternating, undivided, commonDivisor, conditions}
+use Rattle.spline.specs.Table.{Row, Table, row, cell, identity}
+use Rattle.spline.specs.Step.{count, addProducts, span, partialSum, quotientFactor, factors, newEntry, newRows, step}
+use Rattle.spline.specs.Build.{orderSteps, joinSteps, weights, spaceWeights}
+use Rattle.spline.specs.Published.{extraction}
+use Rattle.spline.specs.Piecewise.{Accepted, MeetsAll, Meets, pairing, combination}
+use Rattle.theorems.specs.Demand2.{OneCombination}
+use Rattle.theorems.proofs.Demand2.{rows-and-columns, combinations-meet-conditions, conditions-give-one-combination}
+use Rattle.theorems.proofs.Demand3.{no-weight-negative, column-sums-one}
+use Rattle.theorems.proofs.Published.{weights-are-published}
+
+abbrev q0 : ℚ
+q0 = int (pos 0)
+
+abbrev q1 : ℚ
+q1 = int (pos 1)
+
+-- ---- W4: breaks 0,1,3, degrees 2,3, order 1
+
+abbrev space4 : Space
+space4 = record { breaks = pos 0 ∷ pos 1 ∷ pos 3 ∷ []; degrees = pos 2 ∷ pos 3 ∷ []; orders = pos 1 ∷ [] }
+
+abbrev table4 : Table
+table4 =
+    (q1 ∷ q0 ∷ q0 ∷ q0 ∷ q0 ∷ q0 ∷ q0 ∷ []) ∷
+    (q0 ∷ q1 ∷ pos 4 // 6 ∷ pos 4 // 6 ∷ q0 ∷ q0 ∷ q0 ∷ []) ∷
+    (q0 ∷ q0 ∷ pos 3 // 6 ∷ pos 3 // 6 ∷ q1 ∷ q0 ∷ q0 ∷ []) ∷
+    (q0 ∷ q0 ∷ q0 ∷ q0 ∷ q0 ∷ q1 ∷ q0 ∷ []) ∷
+    (q0 ∷ q0 ∷ q0 ∷ q0 ∷ q0 ∷ q0 ∷ q1 ∷ []) ∷ []
+
+accepted4 : Accepted space4
+unfolding gcd gcdF mk int inv _+ᵠ_ _*ᵠ_ -ᵠ_ _//_ isZero ltᵠ sum tab fits capped collect repeat first last lengthsFit badBreak spanTooLong badDegree badOrder checkedEntries checked firstColumn conditionsBefore falling binomial alternating undivided commonDivisor conditions identity count addProducts span partialSum quotientFactor factors newEntry newRows step orderSteps joinSteps weights spaceWeights
+accepted4 = record { table = table4; is = refl }
+
+-- the published construction has weights 4/7 and 3/7 on the join's ordinate
+published4 : table4 ≡ extraction space4
+unfolding accepted4
+published4 = weights-are-published space4 accepted4
+
+rows4 : length table4 ≡ 5
+unfolding accepted4 firstColumn conditionsBefore
+rows4 = rows-and-columns space4 accepted4 .0
+
+columns4 : length (row table4 2) ≡ 7
+unfolding accepted4 firstColumn conditionsBefore
+columns4 = rows-and-columns space4 accepted4 .1 2 (omega arith)
+
+weight4 : int (pos 0) ≤ᵠ pos 4 // 6
+unfolding accepted4
+weight4 = no-weight-negative space4 accepted4 1 2
+
+column-sum4 : sum 5 (λ i. cell table4 i 2) ≡ int (pos 1)
+unfolding accepted4 firstColumn conditionsBefore
+column-sum4 = column-sums-one space4 accepted4 2 (omega arith)
+
+-- any factors, also fractions and negative ones, give ordinates that meet the two conditions of the join
+factors4 : List ℚ
+factors4 = pos 2 // 4 ∷ negsuc 6 // 0 ∷ q0 ∷ q1 ∷ pos 5 // 1 ∷ []
+
+combination4 : MeetsAll space4 (combination 7 factors4 table4)
+unfolding accepted4 firstColumn
+combination4 = combinations-meet-conditions space4 accepted4 factors4
+
+-- ordinates that meet them, and the only factors that give these ordinates
+abbrev ordinates4 : Row
+ordinates4 = q0 ∷ int (pos 7) ∷ int (pos 4) ∷ int (pos 4) ∷ q0 ∷ q1 ∷ int (pos 2) ∷ []
+
+met4 : (j k : ℕ) → j < segments space4 - 1 → k < conditionCount space4 j → Meets space4 ordinates4 j k
+unfolding gcd gcdF mk int _+ᵠ_ _*ᵠ_ tab firstColumn falling binomial alternating undivided commonDivisor conditions pairing
+met4 zero zero h l = refl
+met4 zero (suc zero) h l = refl
+met4 zero (suc (suc k)) h l = absurd (omega arith)
+met4 (suc j) k h l = absurd (omega arith)
+
+meets4 : MeetsAll space4 ordinates4
+unfolding firstColumn
+meets4 = record { columns = refl; meets = met4 }
+
+given4 : combination 7 (q0 ∷ int (pos 7) ∷ q0 ∷ q1 ∷ int (pos 2) ∷ []) table4 ≡ ordinates4
+unfolding gcd gcdF mk int _+ᵠ_ _*ᵠ_ _//_ sum tab combination
+given4 = refl
+
+only4 : (others : List ℚ) → length others ≡ 5 → combination 7 others table4 ≡ ordinates4 → others ≡ q0 ∷ int (pos 7) ∷ q0 ∷ q1 ∷ int (pos 2) ∷ []
+unfolding accepted4 firstColumn conditionsBefore
+only4 others h e = let o = conditions-give-one-combination space4 accepted4 ordinates4 meets4 in o .only others h e ∙ sym (o .only (q0 ∷ int (pos 7) ∷ q0 ∷ q1 ∷ int (pos 2) ∷ []) refl given4)
+
+-- ---- W5: breaks 0,1,2, degrees 3,3, order 2
+
+abbrev space5 : Space
+space5 = record { breaks = pos 0 ∷ pos 1 ∷ pos 2 ∷ []; degrees = pos 3 ∷ pos 3 ∷ []; orders = pos 2 ∷ [] }
+
+abbrev table5 : Table
+table5 =
+    (q1 ∷ q0 ∷ q0 ∷ q0 ∷ q0 ∷ q0 ∷ q0 ∷ q0 ∷ []) ∷
+    (q0 ∷ q1 ∷ pos 1 // 1 ∷ pos 1 // 3 ∷ pos 1 // 3 ∷ q0 ∷ q0 ∷ q0 ∷ []) ∷
+    (q0 ∷ q0 ∷ pos 1 // 1 ∷ pos 1 // 1 ∷ pos 1 // 1 ∷ pos 1 // 1 ∷ q0 ∷ q0 ∷ []) ∷
+    (q0 ∷ q0 ∷ q0 ∷ pos 1 // 3 ∷ pos 1 // 3 ∷ pos 1 // 1 ∷ q1 ∷ q0 ∷ []) ∷
+    (q0 ∷ q0 ∷ q0 ∷ q0 ∷ q0 ∷ q0 ∷ q0 ∷ q1 ∷ []) ∷ []
+
+accepted5 : Accepted space5
+unfolding gcd gcdF mk int inv _+ᵠ_ _*ᵠ_ -ᵠ_ _//_ isZero ltᵠ sum tab fits capped collect repeat first last lengthsFit badBreak spanTooLong badDegree badOrder checkedEntries checked firstColumn conditionsBefore falling binomial alternating undivided commonDivisor conditions identity count addProducts span partialSum quotientFactor factors newEntry newRows step orderSteps joinSteps weights spaceWeights
+accepted5 = record { table = table5; is = refl }
+
+-- the published construction has weights 1/4, 1/2 and 1/4 on the join's ordinate
+published5 : table5 ≡ extraction space5
+unfolding accepted5
+published5 = weights-are-published space5 accepted5
+
+rows5 : length table5 ≡ 5
+unfolding accepted5 firstColumn conditionsBefore
+rows5 = rows-and-columns space5 accepted5 .0
+
+columns5 : length (row table5 3) ≡ 8
+unfolding accepted5 firstColumn conditionsBefore
+columns5 = rows-and-columns space5 accepted5 .1 3 (omega arith)
+
+weight5 : int (pos 0) ≤ᵠ pos 1 // 3
+unfolding accepted5
+weight5 = no-weight-negative space5 accepted5 1 3
+
+column-sum5 : sum 5 (λ i. cell table5 i 4) ≡ int (pos 1)
+unfolding accepted5 firstColumn conditionsBefore
+column-sum5 = column-sums-one space5 accepted5 4 (omega arith)
+
+combination5 : MeetsAll space5 (combination 8 factors4 table5)
+unfolding accepted5 firstColumn
+combination5 = combinations-meet-conditions space5 accepted5 factors4
+
+abbrev ordinates5 : Row
+ordinates5 = q0 ∷ int (pos 4) ∷ int (pos 3) ∷ int (pos 4) ∷ int (pos 4) ∷ int (pos 5) ∷ int (pos 8) ∷ q1 ∷ []
+
+met5 : (j k : ℕ) → j < segments space5 - 1 → k < conditionCount space5 j → Meets space5 ordinates5 j k
+unfolding gcd gcdF mk int _+ᵠ_ _*ᵠ_ tab firstColumn falling binomial alternating undivided commonDivisor conditions pairing
+met5 zero zero h l = refl
+met5 zero (suc zero) h l = refl
+met5 zero (suc (suc zero)) h l = refl
+met5 zero (suc (suc (suc k))) h l = absurd (omega arith)
+met5 (suc j) k h l = absurd (omega arith)
+
+meets5 : MeetsAll space5 ordinates5
+unfolding firstColumn
+meets5 = record { columns = refl; meets = met5 }
+
+given5 : combination 8 (q0 ∷ int (pos 4) ∷ int (pos 2) ∷ int (pos 8) ∷ q1 ∷ []) table5 ≡ ordinates5
+unfolding gcd gcdF mk int _+ᵠ_ _*ᵠ_ _//_ sum tab combination
+given5 = refl
+
+only5 : (others : List ℚ) → length others ≡ 5 → combination 8 others table5 ≡ ordinates5 → others ≡ q0 ∷ int (pos 4) ∷ int (pos 2) ∷ int (pos 8) ∷ q1 ∷ []
+unfolding accepted5 firstColumn conditionsBefore
+only5 others h e = let o = conditions-give-one-combination space5 accepted5 ordinates5 meets5 in o .only others h e ∙ sym (o .only (q0 ∷ int (pos 4) ∷ int (pos 2) ∷ int (pos 8) ∷ q1 ∷ []) refl given5)
+
+-- ---- the conditions can fail
+
+-- a step of height 1 at the join of W4 does not meet its first condition
+broken4 : pairing (q1 ∷ q1 ∷ q1 ∷ q0 ∷ q0 ∷ q0 ∷ q0 ∷ []) (conditions space4 0 0) ≡ int (pos 1)
+unfolding gcd gcdF mk int _+ᵠ_ _*ᵠ_ tab firstColumn falling binomial alternating undivided commonDivisor conditions pairing
+broken4 = refl

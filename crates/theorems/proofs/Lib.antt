@@ -1,0 +1,16 @@
+pub mod NullSpace
+pub mod Functional
+pub mod StepInversion
+pub mod Stepped
+pub mod Difference
+pub mod Basis
+pub mod Identity
+pub mod Condition
+pub mod Built
+pub mod Derivative
+pub mod Bidiagonal
+pub mod Published
+pub mod Demand3
+pub mod Counted
+pub mod Demand2
+pub mod Instances

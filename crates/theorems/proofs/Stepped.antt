@@ -1,0 +1,363 @@
+-- A step of the build as one formula: where the jumps sum to zero and all rows are equally long, new row i is
+-- w(i)·(old row i) + (1 - w(i+1))·(old row i+1) for every i, with factors that meet the hypotheses of NullSpace.
+use mathlib.Core.Path.{_≡_, refl, sym, _∙_, ap, ap₂, subst}
+use mathlib.Core.Logic.{_≢_, _⊎_, inl, inr}
+use mathlib.Core.Bool.{Bool, true, false, cond, not}
+use mathlib.Core.List.{List, [], _∷_, _++_}
+use Prim.Native.Nat.{ℕ, zero, suc, _+_, _-_, _<_, _≤_}
+use native.Mathlib.Omega.{arith}
+use native.Mathlib.Nat.{eq-or-lt-of-le}
+use lib.Dec.{T, ltb, lt→ltb}
+use lib.Arith.{le→nltb}
+use lib.IntN.{ℤ, pos, negsuc}
+use lib.ListN.{length, getD, take, drop, List·getD-eq-default}
+use Rattle.exact.specs.Rational.{ℚ, _+ᵠ_, _*ᵠ_, -ᵠ_, _-ᵠ_, int, _/ᵠ_}
+use Rattle.exact.specs.Order.{ltᵠ, Nn, _≤ᵠ_}
+use Rattle.exact.specs.Sum.{sum}
+use Rattle.exact.proofs.Decide.{le-or-lt, true-not-false, holds-true, fails-false, cond-true, cond-false}
+use Rattle.exact.proofs.Ring.{ring, reads}
+use Rattle.exact.proofs.Rational.{ℚ-ring, readsℚ, add-zero, mul-zero, zero-mul, div-mul, mul-nonzero, int-nonzero}
+use Rattle.exact.proofs.Order.{nn-int, le-nn, pos-nn, <-≤, <-≢, ltᵠ-true, pos-nonzero}
+use Rattle.exact.proofs.Sum.{sum-zero, sum-ext, sum-past, sum-skip, sum-only}
+use Rattle.spline.specs.Outcome.{Outcome, answer, refusal, _then_, collect}
+use Rattle.spline.specs.Conditions.{Entry}
+use Rattle.spline.specs.Table.{Row, Table, entry, row, cell}
+use Rattle.spline.specs.Step.{jump, jumps, Span, span, partialSum, factors, newRow, newRows, step}
+use Rattle.spline.proofs.Outcome.{then-inverts, Chained, answer-unique, collect-inverts, Collected}
+use Rattle.theorems.proofs.NullSpace.{Jumps, mixed, last-factor}
+use Rattle.theorems.proofs.Functional.{applied, applied-zero, applied-ext, jump-inverts}
+use Rattle.theorems.proofs.StepInversion.{Spans, span-inverts, Proper, Factors, factors-inverts, Mixed, newRow-inverts, spliced-length, spliced-before, spliced-inside, spliced-after}
+
+-- All rows have this many entries.
+pub record Wide (width : ℕ) (t : Table) : Type 0 where
+  pub each : (i : ℕ) → i < length t → length (row t i) ≡ width
+
+-- The functional's values on the rows; zero past the last row.
+abbrev pub values : List Entry → Table → ℕ → ℚ
+values κ t i = applied κ (cell t i)
+
+pub values-past : (κ : List Entry) (t : Table) (i : ℕ) → length t ≤ i → values κ t i ≡ int (pos 0)
+values-past κ t i h = applied-ext κ (λ c. ap (λ r. entry r c) (List·getD-eq-default t [] h)) ∙ applied-zero κ
+
+jumps-inverts : (j : ℕ) (κ : List Entry) (t : Table) {js : List ℚ} → jumps j κ t ≡ answer js → (length js ≡ length t) × ((i : ℕ) → entry js i ≡ values κ t i)
+jumps-inverts j κ t {js} e = (parts .size, λ i. place i (le-or-lt (length t) i))
+  where
+    parts : Collected (length t) (λ i. jump j κ (row t i)) js
+    parts = collect-inverts (length t) (λ i. jump j κ (row t i)) e
+
+    place : (i : ℕ) → (length t ≤ i) ⊎ (i < length t) → entry js i ≡ values κ t i
+    place i (inl h) = List·getD-eq-default js (int (pos 0)) (rw (parts .size) h) ∙ sym (values-past κ t i h)
+    place i (inr h) = jump-inverts j κ (row t i) (parts .at i h (int (pos 0)))
+
+-- What a step that answers leaves.
+pub record Stepped (κ : List Entry) (width : ℕ) (t t′ : Table) : Type 0 where
+  pub f : ℕ
+  pub l : ℕ
+  pub w : ℕ → ℚ
+  pub null : Jumps (length t) f l (values κ t) w
+  pub not-negative : (i : ℕ) → Nn (w i)
+  pub at-most-one : (i : ℕ) → Nn (int (pos 1) -ᵠ w i)
+  pub rows : suc (length t′) ≡ length t
+  pub wide : Wide width t′
+  pub cells : (i c : ℕ) → cell t′ i c ≡ mixed w (λ k. cell t k c) i
+
+-- The factor of row i: 1 before f, the computed ones from f to l, 0 after l.
+extended : List ℚ → ℕ → ℕ → ℚ
+extended ws f i = cond (ltb i f) (int (pos 1)) (entry ws (i - f))
+
+extended-before : (ws : List ℚ) (f i : ℕ) → i < f → extended ws f i ≡ int (pos 1)
+unfolding extended
+extended-before ws f i h = cond-true (int (pos 1)) (entry ws (i - f)) (holds-true (ltb i f) (lt→ltb i f h))
+
+extended-from : (ws : List ℚ) (f i : ℕ) → f ≤ i → extended ws f i ≡ entry ws (i - f)
+unfolding extended
+extended-from ws f i h = cond-false (int (pos 1)) (entry ws (i - f)) (fails-false (ltb i f) (le→nltb i f h))
+
+-- Where a row stands.
+data Where (f l i : ℕ) : Type 0 where
+  before : i < f → Where f l i
+  at-f : i ≡ f → Where f l i
+  between : f < i → i < l → Where f l i
+  at-l : f < i → i ≡ l → Where f l i
+  after : l < i → Where f l i
+
+find : (f l i : ℕ) → f ≤ l → Where f l i
+find f l i o = go (le-or-lt f i)
+  where
+    right : f < i → (i ≤ l) ⊎ (l < i) → Where f l i
+    right h (inr k) = after k
+    right h (inl k) = end h (eq-or-lt-of-le k)
+      where
+        end : f < i → (i ≡ l) ⊎ (i < l) → Where f l i
+        end h (inl e) = at-l h e
+        end h (inr k) = between h k
+
+    middle : (f ≡ i) ⊎ (f < i) → Where f l i
+    middle (inl e) = at-f (sym e)
+    middle (inr h) = right h (le-or-lt i l)
+
+    go : (f ≤ i) ⊎ (i < f) → Where f l i
+    go (inr h) = before h
+    go (inl h) = middle (eq-or-lt-of-le h)
+
+module _ (js ws : List ℚ) (f l n : ℕ) (J : ℕ → ℚ) (same : (i : ℕ) → entry js i ≡ J i) (below : l < n) (S : Spans js f l) (F : f < l → Factors js f l ws) (zero-sum : sum n J ≡ int (pos 0)) where
+  J-before : (j : ℕ) → j < f → J j ≡ int (pos 0)
+  J-before j h = sym (same j) ∙ S .before j h
+
+  J-after : (j : ℕ) → l < j → J j ≡ int (pos 0)
+  J-after j h = sym (same j) ∙ S .after j h
+
+  J-inside : (j : ℕ) → f ≤ j → j ≤ l → J j ≢ int (pos 0)
+  J-inside j h k e = S .inside j h k (same j ∙ e)
+
+  -- the jumps up to l sum to zero
+  whole : sum (suc l) J ≡ int (pos 0)
+  whole = sym (sum-past (suc l) n J below (λ i h k. J-after i h)) ∙ zero-sum
+
+  -- so there are two non-zero jumps at least
+  spread : f < l
+  unfolding sum
+  spread = go (eq-or-lt-of-le (S .ordered))
+    where
+      go : (f ≡ l) ⊎ (f < l) → f < l
+      go (inl e) = absurd (J-inside l (S .ordered) (omega arith) (sym (ap (λ t. t +ᵠ J l) (sum-zero l (λ i h. J-before i (omega arith))) ∙ ring ℚ-ring (J l ∷ []) (search readsℚ) (search readsℚ) refl) ∙ whole))
+      go (inr h) = h
+
+  abbrev w : ℕ → ℚ
+  w i = extended ws f i
+
+  w-first : w f ≡ int (pos 1)
+  w-first = extended-from ws f f (omega arith) ∙ ap (entry ws) (let z : f - f ≡ 0 = omega arith in z) ∙ F spread .at-first
+
+  w-after : (i : ℕ) → l ≤ i → w i ≡ int (pos 0)
+  w-after i h = let o = spread in extended-from ws f i (omega arith) ∙ go (eq-or-lt-of-le h)
+    where
+      go : (l ≡ i) ⊎ (l < i) → entry ws (i - f) ≡ int (pos 0)
+      go (inl e) = ap (λ k. entry ws (k - f)) (sym e) ∙ F spread .at-last
+      go (inr k) = let o = spread in F spread .past (i - f) (omega arith)
+
+  proper : (i : ℕ) → f < i → i < l → Proper js f i (w i)
+  proper i h k = subst (Proper js f i) (sym (extended-from ws f i (omega arith))) (F spread .inside i h k)
+
+  partial-is : (i : ℕ) → f ≤ i → partialSum js f i ≡ sum (suc i) J
+  unfolding partialSum
+  partial-is i h = sum-ext (suc i - f) (λ d k. same (f + d)) ∙ sym (sum-skip f (suc i - f) J J-before) ∙ ap (λ n. sum n J) (let z : f + (suc i - f) ≡ suc i = omega arith in z)
+
+  -- the identity behind the step
+  weight : (j : ℕ) → j < n → w j *ᵠ J j ≡ sum (suc j) J
+  unfolding sum
+  weight j h = go (find f l j (S .ordered))
+    where
+      go : Where f l j → w j *ᵠ J j ≡ sum (suc j) J
+      go (before k) = ap (λ t. w j *ᵠ t) (J-before j k) ∙ mul-zero (w j) ∙ sym (sum-zero (suc j) (λ i r. J-before i (omega arith)))
+      go (at-f e) = ap (λ t. t *ᵠ J j) (ap w e ∙ w-first) ∙ ring ℚ-ring (J j ∷ []) (search readsℚ) (search readsℚ) refl ∙ ap (λ t. t +ᵠ J j) (sym (sum-zero j (λ i r. J-before i (omega arith))))
+      go (between p q) = let P = proper j p q in
+          ap (λ t. t *ᵠ J j) (P .quotient ∙ ap₂ _/ᵠ_ (partial-is j (omega arith)) (same j)) ∙ div-mul (sum (suc j) J) (J j) (J-inside j (omega arith) (omega arith))
+      go (at-l p e) = ap (λ t. t *ᵠ J j) (w-after j (omega arith)) ∙ zero-mul (J j) ∙ sym (ap (λ k. sum (suc k) J) e ∙ whole)
+      go (after p) = ap (λ t. t *ᵠ J j) (w-after j (omega arith)) ∙ zero-mul (J j) ∙ sym (sum-past (suc l) (suc j) J (omega arith) (λ i r s. J-after i r) ∙ whole)
+
+  w-not-zero : (i : ℕ) → f ≤ i → i < l → w i ≢ int (pos 0)
+  w-not-zero i h k = go (eq-or-lt-of-le h)
+    where
+      go : (f ≡ i) ⊎ (f < i) → w i ≢ int (pos 0)
+      go (inl e) z = int-nonzero 0 (sym w-first ∙ ap w e ∙ z)
+      go (inr p) z = pos-nonzero (ltᵠ-true (int (pos 0)) (w i) (proper i p k .above-zero)) z
+
+  part : (j : ℕ) → f < j → j ≤ l → sum j J ≢ int (pos 0)
+  part zero h k z = omega arith
+  part (suc i) h k z = mul-nonzero (w-not-zero i (omega arith) (omega arith)) (J-inside i (omega arith) (omega arith)) (weight i (omega arith) ∙ z)
+
+  null-space : Jumps n f l J w
+  null-space = record {
+    ordered = spread;
+    below = below;
+    before = λ j h. (J-before j h, extended-before ws f j h);
+    after = λ j h. (J-after j h, w-after j (omega arith));
+    at-first = w-first;
+    at-last = w-after l (omega arith);
+    jump = J-inside;
+    part = part;
+    whole = whole;
+    weight = weight;
+  }
+
+  w-not-negative : (i : ℕ) → Nn (w i)
+  w-not-negative i = go (find f l i (S .ordered))
+    where
+      one : w i ≡ int (pos 1) → Nn (w i)
+      one e = subst Nn (sym e) (nn-int 1)
+
+      none : w i ≡ int (pos 0) → Nn (w i)
+      none e = subst Nn (sym e) (nn-int 0)
+
+      go : Where f l i → Nn (w i)
+      go (before h) = one (extended-before ws f i h)
+      go (at-f e) = one (ap w e ∙ w-first)
+      go (between p q) = pos-nn (ltᵠ-true (int (pos 0)) (w i) (proper i p q .above-zero))
+      go (at-l p e) = none (w-after i (omega arith))
+      go (after p) = none (w-after i (omega arith))
+
+  w-at-most-one : (i : ℕ) → Nn (int (pos 1) -ᵠ w i)
+  w-at-most-one i = go (find f l i (S .ordered))
+    where
+      one : w i ≡ int (pos 1) → Nn (int (pos 1) -ᵠ w i)
+      one e = subst Nn (ring ℚ-ring [] (search readsℚ) (search readsℚ) refl ∙ ap (λ t. int (pos 1) -ᵠ t) (sym e)) (nn-int 0)
+
+      none : w i ≡ int (pos 0) → Nn (int (pos 1) -ᵠ w i)
+      none e = subst Nn (ring ℚ-ring [] (search readsℚ) (search readsℚ) refl ∙ ap (λ t. int (pos 1) -ᵠ t) (sym e)) (nn-int 1)
+
+      go : Where f l i → Nn (int (pos 1) -ᵠ w i)
+      go (before h) = one (extended-before ws f i h)
+      go (at-f e) = one (ap w e ∙ w-first)
+      go (between p q) = le-nn (<-≤ (ltᵠ-true (w i) (int (pos 1)) (proper i p q .below-one)))
+      go (at-l p e) = none (w-after i (omega arith))
+      go (after p) = none (w-after i (omega arith))
+
+-- ---- the step
+
+-- The intermediate results of a step.
+record Parts (j : ℕ) (κ : List Entry) (t t′ : Table) : Type 0 where
+  js : List ℚ
+  f : ℕ
+  l : ℕ
+  ws : List ℚ
+  rs : Table
+  has-jumps : jumps j κ t ≡ answer js
+  has-span : span j js ≡ answer (record { f = f; l = l })
+  has-factors : factors j js (record { f = f; l = l }) ≡ answer ws
+  has-rows : collect (l - f) (λ d. newRow j (entry ws d) (entry ws (suc d)) (row t (f + d)) (row t (f + suc d))) ≡ answer rs
+  whole : take f t ++ (rs ++ drop (suc l) t) ≡ t′
+
+parts-of : (j : ℕ) (κ : List Entry) (t : Table) {t′ : Table} → step j κ t ≡ answer t′ → Parts j κ t t′
+unfolding step newRows
+parts-of j κ t {t′} e = go-jumps (then-inverts (jumps j κ t) after-jumps e)
+  where
+    after-factors : List ℚ → Span → List ℚ → Outcome Table
+    after-factors js g ws = newRows j g ws t then λ rs. answer (take (g .f) t ++ (rs ++ drop (suc (g .l)) t))
+
+    after-span : List ℚ → Span → Outcome Table
+    after-span js g = factors j js g then after-factors js g
+
+    after-jumps : List ℚ → Outcome Table
+    after-jumps js = span j js then after-span js
+
+    go-factors : (js : List ℚ) → jumps j κ t ≡ answer js → (g : Span) → span j js ≡ answer g → (ws : List ℚ) → factors j js g ≡ answer ws
+        → Chained (newRows j g ws t) (λ rs. answer (take (g .f) t ++ (rs ++ drop (suc (g .l)) t))) t′ → Parts j κ t t′
+    go-factors js p g q ws r c = record {
+      js = js;
+      f = g .f;
+      l = g .l;
+      ws = ws;
+      rs = c .middle;
+      has-jumps = p;
+      has-span = q;
+      has-factors = r;
+      has-rows = c .before;
+      whole = answer-unique refl (c .after);
+    }
+
+    go-span : (js : List ℚ) → jumps j κ t ≡ answer js → (g : Span) → span j js ≡ answer g → Chained (factors j js g) (after-factors js g) t′ → Parts j κ t t′
+    go-span js p g q c = go-factors js p g q (c .middle) (c .before) (then-inverts (newRows j g (c .middle) t) (λ rs. answer (take (g .f) t ++ (rs ++ drop (suc (g .l)) t))) (c .after))
+
+    go-jumps : Chained (jumps j κ t) after-jumps t′ → Parts j κ t t′
+    go-jumps c = let d = then-inverts (span j (c .middle)) (after-span (c .middle)) (c .after) in
+        go-span (c .middle) (c .before) (d .middle) (d .before) (then-inverts (factors j (c .middle) (d .middle)) (after-factors (c .middle) (d .middle)) (d .after))
+
+module _ (width j : ℕ) (t t′ rs : Table) (ws : List ℚ) (f l : ℕ) (J : ℕ → ℚ) (G : Jumps (length t) f l J (extended ws f)) (wide : Wide width t)
+    (has-rows : collect (l - f) (λ d. newRow j (entry ws d) (entry ws (suc d)) (row t (f + d)) (row t (f + suc d))) ≡ answer rs)
+    (whole : take f t ++ (rs ++ drop (suc l) t) ≡ t′) where
+  collected : Collected (l - f) (λ d. newRow j (entry ws d) (entry ws (suc d)) (row t (f + d)) (row t (f + suc d))) rs
+  collected = collect-inverts (l - f) (λ d. newRow j (entry ws d) (entry ws (suc d)) (row t (f + d)) (row t (f + suc d))) has-rows
+
+  row-before : (i : ℕ) → i < f → row t′ i ≡ row t i
+  row-before i h = let o = G .ordered in let b = G .below in ap (λ u. row u i) (sym whole) ∙ spliced-before t rs f l (omega arith) b (collected .size) i [] h
+
+  row-inside : (i : ℕ) → f ≤ i → i < l → row t′ i ≡ row rs (i - f)
+  row-inside i h k = let o = G .ordered in let b = G .below in ap (λ u. row u i) (sym whole) ∙ spliced-inside t rs f l (omega arith) b (collected .size) i [] h k
+
+  row-after : (i : ℕ) → l ≤ i → row t′ i ≡ row t (suc i)
+  row-after i h = let o = G .ordered in let b = G .below in ap (λ u. row u i) (sym whole) ∙ spliced-after t rs f l (omega arith) b (collected .size) i [] h
+
+  rows : suc (length t′) ≡ length t
+  rows = let o = G .ordered in let b = G .below in ap (λ u. suc (length u)) (sym whole) ∙ spliced-length t rs f l (omega arith) b (collected .size)
+
+  row-mixed : (d : ℕ) → d < l - f → Mixed (entry ws d) (entry ws (suc d)) (row t (f + d)) (row t (f + suc d)) (row rs d)
+  row-mixed d h = let b = G .below in newRow-inverts j (entry ws d) (entry ws (suc d)) (row t (f + d)) (row t (f + suc d))
+      (wide .each (f + suc d) (omega arith) ∙ sym (wide .each (f + d) (omega arith))) (collected .at d h [])
+
+  -- where a new row comes from
+  data Source (i : ℕ) : Type 0 where
+    kept : i < f → Source i
+    new : f ≤ i → i < l → Source i
+    moved : l ≤ i → Source i
+
+  source : (i : ℕ) → Source i
+  source i = go (le-or-lt f i) (le-or-lt l i)
+    where
+      go : (f ≤ i) ⊎ (i < f) → (l ≤ i) ⊎ (i < l) → Source i
+      go (inr h) k = kept h
+      go (inl h) (inl k) = moved k
+      go (inl h) (inr k) = new h k
+
+  still-wide : (i : ℕ) → i < length t′ → length (row t′ i) ≡ width
+  still-wide i h = let n = rows in let b = G .below in go n b (source i)
+    where
+      go : suc (length t′) ≡ length t → l < length t → Source i → length (row t′ i) ≡ width
+      go n b (kept k) = ap length (row-before i k) ∙ wide .each i (omega arith)
+      go n b (new p q) = ap length (row-inside i p q) ∙ row-mixed (i - f) (omega arith) .size ∙ wide .each (f + (i - f)) (omega arith)
+      go n b (moved k) = ap length (row-after i k) ∙ wide .each (suc i) (omega arith)
+
+  factor-at-most : (i : ℕ) → i ≤ f → extended ws f i ≡ int (pos 1)
+  factor-at-most i h = go (eq-or-lt-of-le h)
+    where
+      go : (i ≡ f) ⊎ (i < f) → extended ws f i ≡ int (pos 1)
+      go (inl e) = ap (extended ws f) e ∙ G .at-first
+      go (inr k) = G .before i k .1
+
+  all-mixed : (i c : ℕ) → cell t′ i c ≡ mixed (extended ws f) (λ k. cell t k c) i
+  unfolding mixed
+  all-mixed i c = go (source i)
+    where
+      both : (a b : ℚ) {u v : ℚ} → extended ws f i ≡ u → extended ws f (suc i) ≡ v → u *ᵠ a +ᵠ (int (pos 1) -ᵠ v) *ᵠ b ≡ extended ws f i *ᵠ a +ᵠ (int (pos 1) -ᵠ extended ws f (suc i)) *ᵠ b
+      both a b p q = ap₂ (λ x y. x *ᵠ a +ᵠ (int (pos 1) -ᵠ y) *ᵠ b) (sym p) (sym q)
+
+      first-of : (a b : ℚ) → a ≡ int (pos 1) *ᵠ a +ᵠ (int (pos 1) -ᵠ int (pos 1)) *ᵠ b
+      first-of a b = ring ℚ-ring (a ∷ b ∷ []) (search readsℚ depth 20) (search readsℚ depth 20) refl
+
+      second-of : (a b : ℚ) → b ≡ int (pos 0) *ᵠ a +ᵠ (int (pos 1) -ᵠ int (pos 0)) *ᵠ b
+      second-of a b = ring ℚ-ring (a ∷ b ∷ []) (search readsℚ depth 20) (search readsℚ depth 20) refl
+
+      go : Source i → cell t′ i c ≡ extended ws f i *ᵠ cell t i c +ᵠ (int (pos 1) -ᵠ extended ws f (suc i)) *ᵠ cell t (suc i) c
+      go (kept k) = ap (λ r. entry r c) (row-before i k) ∙ first-of (cell t i c) (cell t (suc i) c)
+          ∙ both (cell t i c) (cell t (suc i) c) (factor-at-most i (omega arith)) (factor-at-most (suc i) k)
+      go (new p q) = ap (λ r. entry r c) (row-inside i p q) ∙ row-mixed (i - f) (omega arith) .at c
+          ∙ ap₂ (λ m n. entry ws (i - f) *ᵠ cell t m c +ᵠ (int (pos 1) -ᵠ entry ws (suc (i - f))) *ᵠ cell t n c) (let z : f + (i - f) ≡ i = omega arith in z) (let z : f + suc (i - f) ≡ suc i = omega arith in z)
+          ∙ both (cell t i c) (cell t (suc i) c) (extended-from ws f i p) (extended-from ws f (suc i) (omega arith) ∙ ap (entry ws) (let z : suc i - f ≡ suc (i - f) = omega arith in z))
+      go (moved k) = ap (λ r. entry r c) (row-after i k) ∙ second-of (cell t i c) (cell t (suc i) c)
+          ∙ both (cell t i c) (cell t (suc i) c) (last-factor (length t) f l J (extended ws f) G i k) (last-factor (length t) f l J (extended ws f) G (suc i) (omega arith))
+
+pub step-inverts : (κ : List Entry) (width j : ℕ) (t : Table) {t′ : Table} → Wide width t → sum (length t) (values κ t) ≡ int (pos 0) → step j κ t ≡ answer t′ → Stepped κ width t t′
+step-inverts κ width j t {t′} wide zero-sum e = go (parts-of j κ t e)
+  where
+    go : Parts j κ t t′ → Stepped κ width t t′
+    go p = make (p .js) (p .f) (p .l) (p .ws) (p .rs) (p .has-jumps) (p .has-span) (p .has-factors) (p .has-rows) (p .whole)
+      where
+        make : (js : List ℚ) (f l : ℕ) (ws : List ℚ) (rs : Table) → jumps j κ t ≡ answer js → span j js ≡ answer (record { f = f; l = l }) → factors j js (record { f = f; l = l }) ≡ answer ws
+            → collect (l - f) (λ d. newRow j (entry ws d) (entry ws (suc d)) (row t (f + d)) (row t (f + suc d))) ≡ answer rs → take f t ++ (rs ++ drop (suc l) t) ≡ t′ → Stepped κ width t t′
+        make js f l ws rs a b c d whole = finish (jumps-inverts j κ t a) (span-inverts j js b) (λ o. factors-inverts j js (record { f = f; l = l }) o c)
+          where
+            finish : (length js ≡ length t) × ((i : ℕ) → entry js i ≡ values κ t i) → Spans js f l → (f < l → Factors js f l ws) → Stepped κ width t t′
+            finish J S F = with-null (null-space js ws f l (length t) (values κ t) (J .1) (omega (arith, S .below, J .0)) S F zero-sum)
+              where
+                with-null : Jumps (length t) f l (values κ t) (extended ws f) → Stepped κ width t t′
+                with-null G = record {
+                  f = f;
+                  l = l;
+                  w = extended ws f;
+                  null = G;
+                  not-negative = w-not-negative js ws f l (length t) (values κ t) (J .1) (omega (arith, S .below, J .0)) S F zero-sum;
+                  at-most-one = w-at-most-one js ws f l (length t) (values κ t) (J .1) (omega (arith, S .below, J .0)) S F zero-sum;
+                  rows = rows width j t t′ rs ws f l (values κ t) G wide d whole;
+                  wide = record { each = still-wide width j t t′ rs ws f l (values κ t) G wide d whole };
+                  cells = all-mixed width j t t′ rs ws f l (values κ t) G wide d whole;
+                }
