@@ -1,10 +1,10 @@
 -- Laws of the greatest common divisor: Euclid's step as a loop takes it, that it divides both numbers and is the
 -- greatest that does, and that lowest terms are unique. `Div k a b` says that k divides a and b.
-use mathlib.Core.Path.{_≡_, refl, sym, _∙_, ap, ap₂}
-use Prim.Native.Nat.{ℕ, zero, suc, _*_, _%_, _<_, _≤_}
+use mathlib.Core.Path.{_≡_, refl, sym, _∙_, ap, ap₂, subst}
+use Prim.Native.Nat.{ℕ, zero, suc, _*_, _/_, _%_, _<_, _≤_, _∣_}
 use native.Mathlib.Omega.{arith}
 use native.Mathlib.Decide.{decLt}
-use native.Mathlib.Nat.{mod-lt, mod-eq-of-lt, mul-one, mul-comm, zero-mul, le-mul-of-pos-right, eq-of-mul-eq-mul-right}
+use native.Mathlib.Nat.{mod-lt, mod-eq-of-lt, mul-one, mul-comm, zero-mul, le-mul-of-pos-right, eq-of-mul-eq-mul-right, mul-div-cancel', dvd-mul-right, dvd-trans, dvd-antisymm}
 use Rattle.exact.specs.Gcd.{gcdF, gcd}
 use Rattle.exact.specs.Lowest.{gcd-fuel}
 pub use Rattle.exact.specs.Lowest.{Div, gcd-mul, gcd-div, Reduced, reduced}
@@ -78,3 +78,30 @@ lowest-unique a b c d h k e = (tops b d bottoms h k e, bottoms)
     tops : (b d : ℕ) → b ≡ d → gcd a b ≡ 1 → gcd c d ≡ 1 → a * d ≡ c * b → a ≡ c
     tops b zero p h k e = sym (gcd-zero a) ∙ ap (gcd a) (sym p) ∙ h ∙ sym k ∙ gcd-zero c
     tops b (suc d) p h k e = eq-of-mul-eq-mul-right (suc d) (omega arith) a c (e ∙ ap (λ t. c * t) p)
+
+-- ---- by divisibility: it divides both numbers, every common divisor divides it, and brackets may be moved
+pub gcd-dvd-left : (a b : ℕ) → gcd a b ∣ a
+gcd-dvd-left a b = let r = gcd-div a b in subst (λ (n : ℕ). gcd a b ∣ n) (sym (r .left-is)) (dvd-mul-right (gcd a b) (r .left))
+
+pub gcd-dvd-right : (a b : ℕ) → gcd a b ∣ b
+gcd-dvd-right a b = let r = gcd-div a b in subst (λ (n : ℕ). gcd a b ∣ n) (sym (r .right-is)) (dvd-mul-right (gcd a b) (r .right))
+
+pub dvd-gcd : (k a b : ℕ) → k ∣ a → k ∣ b → k ∣ gcd a b
+dvd-gcd k a b p q =
+    let r = gcd-greatest k a b (record { left = a / k; right = b / k; left-is = sym (mul-div-cancel' k p); right-is = sym (mul-div-cancel' k q) }) in
+    subst (λ (n : ℕ). k ∣ n) (sym (r .1)) (dvd-mul-right k (r .0))
+
+pub gcd-assoc : (a b c : ℕ) → gcd (gcd a b) c ≡ gcd a (gcd b c)
+gcd-assoc a b c = dvd-antisymm
+    (dvd-gcd _ a (gcd b c) (dvd-trans _ outer (gcd-dvd-left a b)) (dvd-gcd _ b c (dvd-trans _ outer (gcd-dvd-right a b)) (gcd-dvd-right (gcd a b) c)))
+    (dvd-gcd _ (gcd a b) c (dvd-gcd _ a b (gcd-dvd-left a (gcd b c)) (dvd-trans _ inner (gcd-dvd-left b c))) (dvd-trans _ inner (gcd-dvd-right b c)))
+  where
+    outer : gcd (gcd a b) c ∣ gcd a b
+    outer = gcd-dvd-left (gcd a b) c
+
+    inner : gcd a (gcd b c) ∣ gcd b c
+    inner = gcd-dvd-right a (gcd b c)
+
+-- a number's divisor in common with a multiple of it is the number
+pub gcd-multiple : (a c : ℕ) → gcd a (a * c) ≡ a
+gcd-multiple a c = ap (λ t. gcd t (a * c)) (sym (mul-one a)) ∙ gcd-scale a 1 c ∙ ap (λ t. a * t) (gcd-comm 1 c ∙ gcd-one c) ∙ mul-one a

@@ -80,6 +80,9 @@ neg-is x = ext _ _ (omega (arith, bal-neg x, bal-* (negsuc 0) x))
 pub neg-* : (x y : ℤ) → negℤ x *ℤ y ≡ negℤ (x *ℤ y)
 neg-* x y = ext _ _ (omega (arith, bal-* (negℤ x) y, bal-* x y, bal-neg (x *ℤ y), ap (λ t. t * up y) (bal-neg x .0), ap (λ t. t * dn y) (bal-neg x .0), ap (λ t. t * up y) (bal-neg x .1), ap (λ t. t * dn y) (bal-neg x .1)))
 
+pub *-neg : (x y : ℤ) → x *ℤ negℤ y ≡ negℤ (x *ℤ y)
+*-neg x y = ext _ _ (omega (arith, bal-* x (negℤ y), bal-* x y, bal-neg (x *ℤ y), ap (λ t. up x * t) (bal-neg y .0), ap (λ t. dn x * t) (bal-neg y .0), ap (λ t. up x * t) (bal-neg y .1), ap (λ t. dn x * t) (bal-neg y .1)))
+
 abbrev pub ℤ-ring : CRing ℤ
 ℤ-ring = record {
   add = _+ℤ_;

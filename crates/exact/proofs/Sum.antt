@@ -13,7 +13,7 @@ use Rattle.exact.specs.Order.{_≤ᵠ_, _<ᵠ_, Nn, absᵠ}
 use Rattle.exact.specs.Sum.{sum}
 use Rattle.exact.proofs.Ring.{Is, ring, reads}
 use Rattle.exact.proofs.Rational.{ℚ-ring, readsℚ, add-zero, zero-add, int-add}
-use Rattle.exact.proofs.Order.{nn-int, nn-add, ≤-refl, ≤-trans, <-≤, le-nn, lt-by, lt-pos, pos-add, +-mono, +-mono-<, abs-add, abs-of-nn}
+use Rattle.exact.proofs.Order.{nn-int, nn-add, ≤-refl, ≤-trans, <-≤, le-nn, le-by, lt-by, lt-pos, pos-add, +-mono, +-mono-<, abs-add, abs-of-nn}
 
 pub sum-ext : (n : ℕ) {f g : ℕ → ℚ} → ((i : ℕ) → i < n → f i ≡ g i) → sum n f ≡ sum n g
 unfolding sum
@@ -123,6 +123,16 @@ sum-mono-at (suc n) k {f} {g} l h s = go (λ l. sum-mono-at n k {f = f} {g = g} 
 
 pub sum-mono-< : (n : ℕ) {f g : ℕ → ℚ} → 0 < n → ((i : ℕ) → i < n → f i <ᵠ g i) → sum n f <ᵠ sum n g
 sum-mono-< n p h = sum-mono-at n 0 p (λ i l. <-≤ (h i l)) (h 0 p)
+
+-- a place is at most the sum where no place is negative
+pub sum-place-le : (n k : ℕ) {f : ℕ → ℚ} → k < n → ((i : ℕ) → i < n → Nn (f i)) → f k ≤ᵠ sum n f
+unfolding sum
+sum-place-le zero k l h = absurd (omega arith)
+sum-place-le (suc n) k {f} l h = go (λ m. sum-place-le n k {f = f} m (λ i m. h i (omega arith))) (eq-or-lt-of-le l)
+  where
+    go : (k < n → f k ≤ᵠ sum n f) → (suc k ≡ suc n) ⊎ (suc k < suc n) → f k ≤ᵠ sum n f +ᵠ f n
+    go ih (inl e) = le-by (sum-nn n {f = f} (λ i m. h i (omega arith))) (ring ℚ-ring (sum n f ∷ f n ∷ []) (search reads) (search reads) refl ∙ ap (λ j. sum n f +ᵠ f n -ᵠ f j) (let z : n ≡ k = omega arith in z))
+    go ih (inr m) = le-by (nn-add (le-nn (ih (omega arith))) (h n (omega arith))) (ring ℚ-ring (sum n f ∷ f n ∷ f k ∷ []) (search reads) (search reads) refl)
 
 -- the triangle inequality
 pub sum-abs : (n : ℕ) (f : ℕ → ℚ) → absᵠ (sum n f) ≤ᵠ sum n (λ i. absᵠ (f i))

@@ -7,10 +7,11 @@ use mathlib.Core.List.{List, [], _∷_, _++_, append-assoc, map}
 use Prim.Native.Nat.{ℕ, zero, suc, _+_, _-_, _<_, _≤_}
 use native.Mathlib.Numerals.{add-one}
 use native.Mathlib.Omega.{arith}
+use native.Mathlib.Decide.{ℕ-discrete}
 use native.Mathlib.Nat.{zero-add, suc-add}
 use lib.Dec.{T, eqb, eqb→eq, eqb-refl, eqb·suc-suc}
-use lib.ListN.{length, getD, take, drop, set, replicate, List·getD-append}
-use lib.Seq.{drop-cons, set-at, take-at, drop-at, set-append-left, length-front, length-take-le, getD-append-add, getD-drop, drop-append-add, drop-drop}
+use lib.ListN.{length, getD, take, drop, set, replicate, length-set, List·getD-append}
+use lib.Seq.{drop-cons, set-at, take-at, drop-at, set-append-left, length-front, length-take-le, getD-append-add, getD-drop, drop-append-add, drop-drop, getD-set-same, getD-set-other, ext-getD}
 use Rattle.exact.specs.Tabulate.{tab, updated}
 
 module _ {A : Type 0} where
@@ -100,6 +101,14 @@ module _ {A : Type 0} where
       ∙ ap (λ t. t ++ drop (suc n) d) (sym (tab-snoc n f))
       ∙ ap (λ k. tab k f ++ drop k d) (sym (add-one n))
 
+  -- a table with the same value from place c on, in a list of that value
+  pub tab-rest : (n c : ℕ) {f g : ℕ → A} {v : A} → c ≤ n → ((i : ℕ) → i < c → f i ≡ g i) → ((i : ℕ) → c ≤ i → g i ≡ v) → tab c f ++ drop c (replicate n v) ≡ tab n g
+  unfolding tab
+  tab-rest zero zero h p q = refl
+  tab-rest zero (suc c) h p q = absurd (omega arith)
+  tab-rest (suc n) zero {f} h p q = ap₂ _∷_ (sym (q 0 (omega arith))) (tab-rest n zero {f = f} (omega arith) (λ i l. absurd (omega arith)) (λ i l. q (suc i) (omega arith)))
+  tab-rest (suc n) (suc c) h p q = ap₂ _∷_ (p 0 (omega arith)) (tab-rest n c (omega arith) (λ i l. p (suc i) (omega arith)) (λ i l. q (suc i) (omega arith)))
+
   pub updated-same : (f : ℕ → A) (k : ℕ) (v : A) → updated f k v k ≡ v
   unfolding updated
   updated-same f k v = go (eqb k k) (eqb-refl k)
@@ -130,7 +139,22 @@ module _ {A : Type 0} where
   pub set-tab : (n : ℕ) (f : ℕ → A) (r : List A) (k : ℕ) (v : A) → k < n → set (tab n f ++ r) k v ≡ tab n (updated f k v) ++ r
   set-tab n f r k v h = set-append-left (tab n f) r k v (rw (tab-length n f) h) ∙ ap (λ t. t ++ r) (tab-set n f k v h)
 
+-- one store takes a rule to another that gives the stored value there and agrees with it elsewhere
+pub tab-store : {A : Type 0} (n : ℕ) {f g : ℕ → A} (k : ℕ) {v : A} → k < n → g k ≡ v → ((i : ℕ) → i < n → i ≢ k → f i ≡ g i) → set (tab n f) k v ≡ tab n g
+tab-store n {f} {g} k {v} h same other = ext-getD v (set (tab n f) k v) (tab n g) (length-set (tab n f) k v ∙ tab-length n f ∙ sym (tab-length n g)) (λ i l. at i (bound i l) (ℕ-discrete i k))
+  where
+    bound : (i : ℕ) → i < length (set (tab n f) k v) → i < n
+    bound i l = omega (arith, length-set (tab n f) k v, tab-length n f)
+
+    at : (i : ℕ) → i < n → Dec (i ≡ k) → getD (set (tab n f) k v) i v ≡ getD (tab n g) i v
+    at i l (yes e) = ap (λ j. getD (set (tab n f) k v) j v) e ∙ getD-set-same (tab n f) k v v (rw (tab-length n f) h) ∙ sym same ∙ ap g (sym e) ∙ sym (tab-getD n g i v l)
+    at i l (no e) = getD-set-other (tab n f) k i v v e ∙ tab-getD n f i v l ∙ other i l e ∙ sym (tab-getD n g i v l)
+
 pub map-tab : {A B : Type 0} (g : A → B) (n : ℕ) (f : ℕ → A) → map g (tab n f) ≡ tab n (λ i. g (f i))
 unfolding tab
 map-tab g zero f = refl
 map-tab g (suc n) f = ap (λ t. g (f 0) ∷ t) (map-tab g n (λ i. f (suc i)))
+
+-- a table of tables
+pub tab-getD-getD : {A : Type 0} (m n : ℕ) (f : ℕ → ℕ → A) (i k : ℕ) (d : A) → i < m → k < n → getD (getD (tab m (λ a. tab n (f a))) i []) k d ≡ f i k
+tab-getD-getD m n f i k d h l = ap (λ r. getD r k d) (tab-getD m (λ a. tab n (f a)) i [] h) ∙ tab-getD n (f i) k d l

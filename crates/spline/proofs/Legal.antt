@@ -1,20 +1,18 @@
 -- What the checks of a space leave: a space that none of the numbers 2 to 5 refuses has degrees from 1 to 5, segments of
 -- positive length, and at each join at most three conditions and no more than either neighbouring degree.
-use mathlib.Core.Path.{_≡_, refl, sym, _∙_, ap}
-use mathlib.Core.Logic.{_⊎_, inl, inr}
+use mathlib.Core.Path.{_≡_, refl}
 use mathlib.Core.Bool.{Bool, true, false, cond, not, _&&_, _||_}
 use mathlib.Core.Option.{Option, some, none}
 use Prim.Native.Nat.{ℕ, zero, suc, _+_, _-_, _<_, _≤_}
 use native.Mathlib.Omega.{arith}
-use native.Mathlib.Numerals.{add-one}
-use lib.Dec.{T, eqb, leb, leb→le, eqb→eq}
+use lib.Dec.{eqb, leb, leb→le, eqb→eq}
 use lib.IntN.{ℤ, pos, negsuc, _+ℤ_, _-ℤ_, negℤ, natAbs}
 use lib.ListN.{length}
-use lib.Signed.{leZ, ltZ, _≤ℤ_, _<ℤ_}
+use lib.Signed.{leZ}
 use Rattle.exact.proofs.Decide.{and-true, or-false, not-false, true-holds}
 use Rattle.exact.proofs.Integer.{up, dn, bal-+, bal-neg, ≤-out, <-out, abs-parts}
 use Rattle.exact.proofs.Word.{leZ-true, leZ-false}
-use Rattle.spline.specs.Outcome.{Outcome, answer, refusal, refuse, _then_}
+use Rattle.spline.specs.Outcome.{Outcome, answer, refusal, refuse}
 use Rattle.spline.specs.Search.{first}
 use Rattle.spline.specs.Space.{Space, segments, break, degreeEntry, order, between, lengthsFit, badBreak, spanTooLong, badDegree, badOrder, refuseFirst, checkedEntries, checked, degree, width, conditionCount}
 use Rattle.spline.proofs.Outcome.{answer-unique, answer-not-refusal}
@@ -28,15 +26,15 @@ pub record Checked (s : Space) : Type 0 where
   pub degrees : (i : ℕ) → i < segments s → badDegree s i ≡ false
   pub orders : (i : ℕ) → i < segments s - 1 → badOrder s i ≡ false
 
-refuseFirst-inverts : {A : Type 0} (number : ℕ) (o : Option ℕ) (rest : Outcome A) {a : A} → refuseFirst number o rest ≡ answer a → (o ≡ none) × (rest ≡ answer a)
+pub refuseFirst-inverts : {A : Type 0} (number : ℕ) (o : Option ℕ) (rest : Outcome A) {a : A} → refuseFirst number o rest ≡ answer a → (o ≡ none) × (rest ≡ answer a)
 refuseFirst-inverts number none rest e = (refl, e)
 refuseFirst-inverts number (some i) rest e = absurd (answer-not-refusal e refl)
 
-cond-refuse-inverts : {A : Type 0} (b : Bool) (number place : ℕ) (rest : Outcome A) {a : A} → cond b (refuse number place) rest ≡ answer a → (b ≡ false) × (rest ≡ answer a)
+pub cond-refuse-inverts : {A : Type 0} (b : Bool) (number place : ℕ) (rest : Outcome A) {a : A} → cond b (refuse number place) rest ≡ answer a → (b ≡ false) × (rest ≡ answer a)
 cond-refuse-inverts true number place rest e = absurd (answer-not-refusal e refl)
 cond-refuse-inverts false number place rest e = (refl, e)
 
-fitting-inverts : {A : Type 0} (b : Bool) (number place : ℕ) (rest : Outcome A) {a : A} → cond b rest (refuse number place) ≡ answer a → (b ≡ true) × (rest ≡ answer a)
+pub fitting-inverts : {A : Type 0} (b : Bool) (number place : ℕ) (rest : Outcome A) {a : A} → cond b rest (refuse number place) ≡ answer a → (b ≡ true) × (rest ≡ answer a)
 fitting-inverts true number place rest e = (refl, e)
 fitting-inverts false number place rest e = absurd (answer-not-refusal e refl)
 
@@ -59,14 +57,16 @@ checked-inverts s {s′} e = finish (fitting-inverts (lengthsFit s) 2 0 _ e)
         let a = refuseFirst-inverts 3 (first (segments s + 1) (badBreak s)) after-breaks (p .1) in
         let b = cond-refuse-inverts (spanTooLong s) 3 (segments s) after-span (a .1) in
         let c = refuseFirst-inverts 4 (first (segments s) (badDegree s)) after-degrees (b .1) in
-        let d = refuseFirst-inverts 5 (first (segments s - 1) (badOrder s)) (answer s) (c .1) in
-        (answer-unique refl (d .1), record {
-          lengths = p .0;
-          breaks = first-none-inverts (badBreak s) (segments s + 1) (a .0);
-          span = b .0;
-          degrees = first-none-inverts (badDegree s) (segments s) (c .0);
-          orders = first-none-inverts (badOrder s) (segments s - 1) (d .0);
-        })
+        let d = refuseFirst-inverts 5 (first (segments s - 1) (badOrder s)) (answer s) (c .1) in (
+          answer-unique refl (d .1),
+          record {
+            lengths = p .0;
+            breaks = first-none-inverts (badBreak s) (segments s + 1) (a .0);
+            span = b .0;
+            degrees = first-none-inverts (badDegree s) (segments s) (c .0);
+            orders = first-none-inverts (badOrder s) (segments s - 1) (d .0);
+          },
+        )
 
 -- the checks give no number above 5
 pub checked-numbers : (s : Space) {number place : ℕ} → checked s ≡ refusal number place → number ≤ 5

@@ -1,4 +1,7 @@
 pub mod Outcome
 pub mod Search
-pub mod Cases
 pub mod Legal
+pub mod Step
+pub mod Answers
+pub mod Refusals
+pub mod Cases

@@ -50,9 +50,18 @@ module _ {A B : Type 0} where
   then-breaks (answer a) f e = second-refuses a refl e
   then-breaks (refusal number place) f e = first-refuses (cc)
 
+-- a chain of three, bracketed either way
+pub then-assoc : {A B C : Type 0} (o : Outcome A) (f : A → Outcome B) (g : B → Outcome C) → ((o then f) then g) ≡ (o then λ a. f a then g)
+then-assoc (answer a) f g = refl
+then-assoc (refusal number place) f g = refl
+
 -- ---- a collection
 
 module _ {A : Type 0} where
+  pub collect-none : (f : ℕ → Outcome A) → collect 0 f ≡ answer []
+  unfolding collect
+  collect-none f = refl
+
   -- one answer more at the end
   pub collect-more : (n : ℕ) (f : ℕ → Outcome A) {xs : List A} {x : A} → collect n f ≡ answer xs → f n ≡ answer x → collect (suc n) f ≡ answer (xs ++ (x ∷ []))
   unfolding collect
@@ -186,3 +195,26 @@ module _ {A : Type 0} where
       go : (repeat n f a ≡ refusal number place → Halted n f a number place) → Broken (repeat n f a) (f n) number place → Halted (suc n) f a number place
       go ih (first-refuses p) = let s = ih p in record { index = s .index; below = omega (arith, s .below); reached = s .reached; before = s .before; refuses = s .refuses }
       go ih (second-refuses b p q) = record { index = n; below = omega arith; reached = b; before = p; refuses = q }
+
+-- ---- which refusals can come
+
+-- every refusal of the outcome is one that P allows
+abbrev pub RefusedAs : {A : Type 0} → (ℕ → ℕ → Type 0) → Outcome A → Type 0
+RefusedAs P o = (number place : ℕ) → o ≡ refusal number place → P number place
+
+module _ (P : ℕ → ℕ → Type 0) where
+  pub answer-refused : {A : Type 0} (a : A) → RefusedAs P (answer a)
+  answer-refused a number place e = absurd (answer-not-refusal refl e)
+
+  pub then-refused : {A B : Type 0} (o : Outcome A) (f : A → Outcome B) → RefusedAs P o → ((a : A) → o ≡ answer a → RefusedAs P (f a)) → RefusedAs P (o then f)
+  then-refused o f h k number place e = go (then-breaks o f e)
+    where
+      go : Broken o f number place → P number place
+      go (first-refuses p) = h number place p
+      go (second-refuses a p q) = k a p number place q
+
+  pub collect-refused : {A : Type 0} (n : ℕ) (f : ℕ → Outcome A) → ((i : ℕ) → i < n → RefusedAs P (f i)) → RefusedAs P (collect n f)
+  collect-refused n f h number place e = let s = collect-refuses n f e in h (s .index) (s .below) number place (s .refuses)
+
+  pub repeat-refused : {A : Type 0} (n : ℕ) (f : ℕ → A → Outcome A) (a : A) → ((i : ℕ) (b : A) → i < n → repeat i f a ≡ answer b → RefusedAs P (f i b)) → RefusedAs P (repeat n f a)
+  repeat-refused n f a h number place e = let s = repeat-refuses n f a e in h (s .index) (s .reached) (s .below) (s .before) number place (s .refuses)

@@ -1,16 +1,13 @@
 -- Laws of the two searches: what the first and the last index that meets a test are, from the tests below the bound (for
 -- a loop that searches) and back (for a theorem that is given what was found).
-use mathlib.Core.Path.{_≡_, refl, sym, _∙_, ap}
+use mathlib.Core.Path.{_≡_, refl, _∙_, ap}
 use mathlib.Core.Logic.{_⊎_, inl, inr}
 use mathlib.Core.Bool.{Bool, true, false, cond}
 use mathlib.Core.Option.{Option, some, none}
-use Prim.Native.Nat.{ℕ, zero, suc, _+_, _<_, _≤_}
+use Prim.Native.Nat.{ℕ, zero, suc, _<_}
 use native.Mathlib.Omega.{arith}
 use native.Mathlib.Nat.{eq-or-lt-of-le}
-use Rattle.spline.specs.Search.{first, last, or-else, found}
-
-true-not-false : {b : Bool} → b ≡ true → b ≡ false → ⊥
-true-not-false p q = let z : _≡_ {A = ℕ} 0 1 = cc in omega arith
+use Rattle.spline.specs.Search.{first, last, or-else}
 
 some-not-none : {o : Option ℕ} {i : ℕ} → o ≡ some i → o ≡ none → ⊥
 some-not-none p q = let z : _≡_ {A = ℕ} 0 1 = cc in omega arith

@@ -1,26 +1,26 @@
 -- What the rows of a table are to the conditions done so far: equally long, without negative entries, with column sums
 -- one, each meeting the conditions, and spanning all that meet them in exactly one way. A step keeps this and adds its
--- own condition (MATH: the step theorem, on tables).
+-- own condition.
 use mathlib.Core.Path.{_≡_, refl, sym, _∙_, ap, ap₂, subst}
-use mathlib.Core.Logic.{_≢_, _⊎_, inl, inr}
+use mathlib.Core.Logic.{_⊎_, inl, inr}
 use mathlib.Core.List.{List, [], _∷_}
-use Prim.Native.Nat.{ℕ, zero, suc, _+_, _<_, _≤_}
+use Prim.Native.Nat.{ℕ, zero, suc, _<_, _≤_}
 use native.Mathlib.Omega.{arith}
-use lib.IntN.{ℤ, pos, negsuc}
-use lib.ListN.{length, getD}
+use lib.IntN.{pos}
+use lib.ListN.{length}
 use Rattle.exact.specs.Rational.{ℚ, _+ᵠ_, _*ᵠ_, -ᵠ_, _-ᵠ_, int}
 use Rattle.exact.specs.Order.{Nn}
 use Rattle.exact.specs.Sum.{sum}
 use Rattle.exact.proofs.Decide.{le-or-lt}
-use Rattle.exact.proofs.Ring.{ring, reads}
+use Rattle.exact.proofs.Ring.{ring}
 use Rattle.exact.proofs.Rational.{ℚ-ring, readsℚ, one-mul}
 use Rattle.exact.proofs.Order.{nn-add, nn-mul}
 use Rattle.exact.proofs.Sum.{sum-ext}
-use Rattle.spline.specs.Outcome.{Outcome, answer}
+use Rattle.spline.specs.Outcome.{answer}
 use Rattle.spline.specs.Conditions.{Entry}
 use Rattle.spline.specs.Table.{Table, cell}
 use Rattle.spline.specs.Step.{step}
-use Rattle.theorems.proofs.NullSpace.{Jumps, mixed, lifted, reindex, lifted-one, first-factor, last-factor, mixed-null, coefficient, coefficient-lifts, lifted-unique}
+use Rattle.theorems.proofs.NullSpace.{mixed, lifted, reindex, lifted-one, first-factor, last-factor, mixed-null, coefficient, coefficient-lifts, lifted-unique}
 use Rattle.theorems.proofs.Functional.{applied, applied-ext, applied-mix, applied-sum}
 use Rattle.theorems.proofs.Stepped.{Wide, values, values-past, Stepped, step-inverts}
 

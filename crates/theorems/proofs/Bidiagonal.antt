@@ -1,17 +1,17 @@
 -- The published null-space matrix of a vector that is proportional to the jumps of a step mixes neighbours by the step's
 -- factors: its recurrence for the two diagonals, -l(j-1)/l(j) times the entry before, yields w(i) and 1 - w(i+1).
-use mathlib.Core.Path.{_≡_, refl, sym, _∙_, ap, ap₂, subst}
+use mathlib.Core.Path.{_≡_, refl, sym, _∙_, ap, ap₂}
 use mathlib.Core.Logic.{_≢_, _⊎_, inl, inr}
 use mathlib.Core.Bool.{Bool, true, false, cond, not}
-use mathlib.Core.List.{List, [], _∷_}
-use mathlib.Core.Option.{Option, some, none, Option·getD}
-use Prim.Native.Nat.{ℕ, zero, suc, _+_, _-_, _<_, _≤_}
+use mathlib.Core.List.{[], _∷_}
+use mathlib.Core.Option.{some, Option·getD}
+use Prim.Native.Nat.{ℕ, zero, suc, _-_, _<_, _≤_}
 use native.Mathlib.Omega.{arith}
-use lib.Dec.{T, eqb, leb, ltb, eqb→eq, eqb-refl, not-T, le→leb, lt→ltb}
+use lib.Dec.{eqb, leb, ltb, eqb→eq, eqb-refl, not-T, le→leb, lt→ltb}
 use lib.Arith.{lt→nleb, le→nltb}
-use lib.IntN.{ℤ, pos, negsuc}
-use lib.ListN.{length, getD}
-use Rattle.exact.specs.Rational.{ℚ, _+ᵠ_, _*ᵠ_, -ᵠ_, _-ᵠ_, _/ᵠ_, int, inv}
+use lib.IntN.{pos}
+use lib.ListN.{length}
+use Rattle.exact.specs.Rational.{ℚ, _+ᵠ_, _*ᵠ_, -ᵠ_, _-ᵠ_, int, inv}
 use Rattle.exact.specs.Order.{isZero}
 use Rattle.exact.specs.Sum.{sum}
 use Rattle.exact.specs.Tabulate.{tab}
@@ -22,7 +22,7 @@ use Rattle.exact.proofs.Order.{zero-test, nonzero-test}
 use Rattle.exact.proofs.Sum.{sum-zero, sum-past}
 use Rattle.exact.proofs.Tabulate.{tab-length, tab-getD}
 use Rattle.spline.specs.Search.{first, last}
-use Rattle.spline.specs.Table.{Row, Table, entry, row, cell}
+use Rattle.spline.specs.Table.{Row, entry, cell}
 use Rattle.spline.specs.Published.{carried, diagonal, aboveDiagonal, bidiagonal, nullspace}
 use Rattle.spline.proofs.Search.{first-at, last-at}
 use Rattle.theorems.proofs.NullSpace.{Jumps, mixed, first-factor, last-factor}
@@ -139,8 +139,8 @@ module _ (v : Row) (n f l : ℕ) (J w : ℕ → ℚ) (ρ : ℚ) (G : Jumps n f l
   unfolding mixed
   nullspace-mixes x r h = sum-two n r (λ i. cell (nullspace v) r i *ᵠ x i) h (λ i k p q. ap (λ u. u *ᵠ x i) (nullspace-cell r i h k ∙ other i p q) ∙ zero-mul (x i))
       ∙ ap₂ (λ a b. a *ᵠ x r +ᵠ b *ᵠ x (suc r))
-          (nullspace-cell r r h (omega arith) ∙ cond-true _ _ (holds-true (eqb r r) (eqb-refl r)) ∙ diagonal-is r)
-          (nullspace-cell r (suc r) h h ∙ cond-false _ _ (differ (suc r) r (omega arith)) ∙ cond-true _ _ (holds-true (eqb (suc r) (suc r)) (eqb-refl (suc r))) ∙ above-is r)
+      (nullspace-cell r r h (omega arith) ∙ cond-true _ _ (holds-true (eqb r r) (eqb-refl r)) ∙ diagonal-is r)
+      (nullspace-cell r (suc r) h h ∙ cond-false _ _ (differ (suc r) r (omega arith)) ∙ cond-true _ _ (holds-true (eqb (suc r) (suc r)) (eqb-refl (suc r))) ∙ above-is r)
     where
       differ : (a b : ℕ) → a ≢ b → eqb a b ≡ false
       differ a b h = fails-false (eqb a b) (not-T (eqb a b) (λ t. h (eqb→eq a b t)))

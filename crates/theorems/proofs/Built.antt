@@ -1,22 +1,20 @@
 -- The induction over the steps: the table that the build answers is a basis for all join conditions of the space, and
 -- each condition has taken one row.
-use mathlib.Core.Path.{_≡_, refl, sym, _∙_, ap, ap₂, subst}
+use mathlib.Core.Path.{_≡_, refl, sym, _∙_, ap, subst}
 use mathlib.Core.Logic.{_⊎_, inl, inr}
-use mathlib.Core.List.{List, [], _∷_}
-use Prim.Native.Nat.{ℕ, zero, suc, _+_, _-_, _<_, _≤_}
+use mathlib.Core.List.{List}
+use Prim.Native.Nat.{ℕ, suc, _+_, _-_, _<_}
 use native.Mathlib.Omega.{arith}
 use native.Mathlib.Nat.{eq-or-lt-of-le}
-use lib.IntN.{ℤ, pos, negsuc}
 use lib.ListN.{length}
-use Rattle.exact.specs.Rational.{ℚ, int}
-use Rattle.spline.specs.Outcome.{Outcome, answer, _then_, repeat}
-use Rattle.spline.specs.Space.{Space, segments, degree, width, columnCount, conditionCount, conditionsBefore, rowCount, checked}
+use Rattle.spline.specs.Outcome.{answer}
+use Rattle.spline.specs.Space.{Space, segments, columnCount, conditionCount, conditionsBefore, rowCount, checked}
 use Rattle.spline.specs.Conditions.{Entry, conditions}
 use Rattle.spline.specs.Table.{Table, identity}
 use Rattle.spline.specs.Step.{step}
 use Rattle.spline.specs.Build.{orderSteps, joinSteps, weights, spaceWeights}
 use Rattle.spline.proofs.Outcome.{then-inverts, repeat-keeps}
-use Rattle.spline.proofs.Legal.{Checked, checked-inverts, Legal, legal}
+use Rattle.spline.proofs.Legal.{checked-inverts, Legal, legal}
 use Rattle.theorems.proofs.Stepped.{Stepped}
 use Rattle.theorems.proofs.Basis.{Basis, basis-stepped, step-keeps}
 use Rattle.theorems.proofs.Identity.{identity-rows, identity-basis}

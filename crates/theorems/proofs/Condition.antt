@@ -1,27 +1,25 @@
 -- The column of conditions of a join and an order: it is, up to a positive factor, the difference of two finite
 -- differences of the ordinates on the two sides of the join; it vanishes on equal ordinates and stays inside the table.
 use mathlib.Core.Path.{_≡_, refl, sym, _∙_, ap, ap₂, subst}
-use mathlib.Core.Logic.{_≢_, _⊎_, inl, inr}
+use mathlib.Core.Logic.{_⊎_, inl, inr}
 use mathlib.Core.List.{List, [], _∷_, _++_, map}
-use Prim.Native.Nat.{ℕ, zero, suc, _+_, _-_, _*_, _/_, _^_, _<_, _≤_}
+use Prim.Native.Nat.{ℕ, zero, suc, _+_, _-_, _*_, _/_, _<_, _≤_}
 use native.Mathlib.Omega.{arith}
 use native.Mathlib.Nat.{mul-div-cancel-left, mul-pos, mul-assoc, one-le-pow, pow-zero, eq-or-lt-of-le, zero-mul as ℕ-zero-mul}
 use lib.IntN.{ℤ, pos, negsuc, negℤ, natAbs, _*ℤ_}
-use lib.ListN.{length}
 use Rattle.exact.specs.Gcd.{gcd}
 use Rattle.exact.specs.Rational.{ℚ, _+ᵠ_, _*ᵠ_, -ᵠ_, _-ᵠ_, int, signed}
 use Rattle.exact.specs.Sum.{sum}
 use Rattle.exact.specs.Tabulate.{tab}
-use Rattle.exact.proofs.Gcd.{Div, gcd-div, gcd-pos, gcd-comm}
+use Rattle.exact.proofs.Gcd.{gcd-div, gcd-pos, gcd-comm}
 use Rattle.exact.proofs.Integer.{neg-*, *-comm, abs-mul, abs-neg, abs-zero}
 use Rattle.exact.proofs.Ring.{ring, reads}
 use Rattle.exact.proofs.Rational.{ℚ-ring, readsℚ, int-mul, int-neg, int-nonzero, mul-cancel, zero-mul, mul-zero, mul-comm}
-use Rattle.exact.proofs.Sum.{sum-ext, sum-add, sum-mul, sum-front, sum-zero}
-use Rattle.spline.specs.Space.{Space, segments, degree, width, firstColumn, columnCount, conditionCount}
+use Rattle.exact.proofs.Sum.{sum-ext, sum-mul, sum-front}
+use Rattle.spline.specs.Space.{Space, segments, degree, width, firstColumn, columnCount}
 use Rattle.spline.specs.Conditions.{Entry, falling, binomial, alternating, scale, leftEntry, rightEntry, undivided, commonDivisor, divided, conditions}
-use Rattle.spline.proofs.Legal.{Legal}
 use Rattle.theorems.proofs.Functional.{applied}
-use Rattle.theorems.proofs.Difference.{signedBinomial, difference, difference-zero, difference-constant}
+use Rattle.theorems.proofs.Difference.{signedBinomial, difference, difference-constant}
 use Rattle.theorems.proofs.Basis.{Inside, none, more}
 
 -- ---- the functional of lists of entries
@@ -59,7 +57,7 @@ right-applied : (s : Space) (j k : ℕ) (z : ℕ → ℚ) → applied (tab (suc 
 unfolding difference rightScale
 right-applied s j k z = applied-tab (suc k) (rightEntry s j k) z
     ∙ sum-ext (suc k) (λ t h. ap (λ u. z (firstColumn s (suc j) + t) *ᵠ u) (int-neg _) ∙ out (z (firstColumn s (suc j) + t)) (int (pos (b * binomial k t) *ℤ alternating (k - t)))
-        ∙ ap (λ u. int (negsuc 0) *ᵠ u) (scaled-entry b k t (z (firstColumn s (suc j) + t))) ∙ assoc (signedBinomial k t *ᵠ z (firstColumn s (suc j) + t)))
+    ∙ ap (λ u. int (negsuc 0) *ᵠ u) (scaled-entry b k t (z (firstColumn s (suc j) + t))) ∙ assoc (signedBinomial k t *ᵠ z (firstColumn s (suc j) + t)))
     ∙ sum-mul (suc k) (-ᵠ int (pos b)) (λ t. signedBinomial k t *ᵠ z (firstColumn s (suc j) + t))
   where
     b : ℕ

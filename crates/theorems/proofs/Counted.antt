@@ -3,25 +3,23 @@
 use mathlib.Core.Path.{_≡_, refl, sym, _∙_, ap, ap₂, subst}
 use mathlib.Core.Logic.{_⊎_, inl, inr}
 use mathlib.Core.Bool.{Bool, true, false, cond, not, _&&_}
-use mathlib.Core.List.{List, [], _∷_, _++_, append-assoc}
+use mathlib.Core.List.{List, [], _∷_, _++_}
 use mathlib.Core.Option.{Option, some, none, Option·getD}
-use Prim.Native.Nat.{ℕ, zero, suc, _+_, _-_, _<_, _≤_}
+use Prim.Native.Nat.{ℕ, zero, suc, _+_, _-_}
 use native.Mathlib.Omega.{arith}
-use lib.IntN.{ℤ, pos}
-use lib.ListN.{length, getD, take, drop}
+use lib.IntN.{pos}
+use lib.ListN.{length, take, drop}
 use Rattle.exact.specs.Rational.{ℚ, int, _+ᵠ_, _*ᵠ_, _-ᵠ_, _/ᵠ_}
-use Rattle.exact.specs.Order.{isZero, ltᵠ}
 use Rattle.exact.specs.Tabulate.{tab}
 use Rattle.exact.proofs.Decide.{and-true, true-not-false}
 use Rattle.exact.proofs.Rational.{add-zero, zero-add, add-assoc}
 use Rattle.exact.proofs.Tabulate.{tab-snoc}
-use Rattle.fraction.specs.Size.{fits}
 use Rattle.spline.specs.Outcome.{Outcome, answer, refusal, refuse, capped, _then_, collect, repeat}
 use Rattle.spline.specs.Search.{first, last, found}
 use Rattle.spline.specs.Space.{Space, segments, columnCount, conditionCount, checked}
 use Rattle.spline.specs.Conditions.{Entry, conditions}
 use Rattle.spline.specs.Table.{Row, Table, entry, row, cell, identity}
-use Rattle.spline.specs.Step.{count, addProducts, jump, jumps, jumpsAt, Span, zeroBetween, spanOf, span, partialSum, factor, quotientFactor, factors, newEntry, newRow, newRows, step}
+use Rattle.spline.specs.Step.{count, addProducts, jumps, jumpsAt, Span, zeroBetween, spanOf, span, partialSum, quotientFactor, factor, factors, newEntry, newRows, step}
 use Rattle.spline.specs.Build.{orderSteps, joinSteps, weights, spaceWeights}
 use Rattle.spline.specs.Published.{for}
 use Rattle.spline.specs.Piecewise.{pairing}

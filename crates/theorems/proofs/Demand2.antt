@@ -1,11 +1,11 @@
 -- Demand 2 on the weights, proved: from the basis that the build ends with to lists of ordinates and factors.
-use mathlib.Core.Path.{_≡_, refl, sym, _∙_, ap, ap₂, subst}
+use mathlib.Core.Path.{_≡_, refl, sym, _∙_, ap}
 use mathlib.Core.Logic.{_⊎_, inl, inr}
 use mathlib.Core.List.{List, [], _∷_}
-use Prim.Native.Nat.{ℕ, zero, suc, _+_, _-_, _*_, _<_, _≤_}
+use Prim.Native.Nat.{ℕ, _-_, _<_, _≤_}
 use native.Mathlib.Omega.{arith}
-use lib.IntN.{ℤ, pos, negsuc}
-use lib.ListN.{length, getD, List·getD-eq-default}
+use lib.IntN.{pos}
+use lib.ListN.{length, List·getD-eq-default}
 use lib.Seq.{ext-getD}
 use Rattle.exact.specs.Rational.{ℚ, int, _+ᵠ_, _*ᵠ_}
 use Rattle.exact.specs.Sum.{sum}
@@ -14,14 +14,14 @@ use Rattle.exact.proofs.Decide.{le-or-lt}
 use Rattle.exact.proofs.Rational.{mul-zero}
 use Rattle.exact.proofs.Sum.{sum-ext, sum-zero}
 use Rattle.exact.proofs.Tabulate.{tab-length, tab-getD}
-use Rattle.spline.specs.Space.{Space, segments, columnCount, rowCount, conditionCount}
+use Rattle.spline.specs.Space.{segments, columnCount, rowCount, conditionCount}
 use Rattle.spline.specs.Conditions.{Entry, conditions}
 use Rattle.spline.specs.Table.{Row, Table, entry, row, cell}
-use Rattle.spline.specs.Piecewise.{Accepted, MeetsAll, pairing, combination}
+use Rattle.spline.specs.Piecewise.{pairing, combination}
 use Rattle.theorems.specs.Demand2.{RowsAndColumns, CombinationsMeetConditions, OneCombination, ConditionsGiveOneCombination}
 use Rattle.theorems.proofs.Functional.{applied, applied-ext, applied-sum}
-use Rattle.theorems.proofs.Stepped.{Wide, values}
-use Rattle.theorems.proofs.Basis.{Basis, combined}
+use Rattle.theorems.proofs.Stepped.{Wide}
+use Rattle.theorems.proofs.Basis.{combined}
 use Rattle.theorems.proofs.Built.{Done, earlier, here, Built, built, row-count}
 
 pub rows-and-columns : RowsAndColumns
@@ -37,7 +37,7 @@ pairing-applied o (e ∷ es) = ap (λ t. entry o (e .column) *ᵠ int (e .factor
 
 module _ (columns : ℕ) (t : Table) (wide : Wide columns t) where
   -- past the last column all entries are zero
-  cell-past : (i c : ℕ) → columns ≤ c → cell t i c ≡ int (pos 0)
+  pub cell-past : (i c : ℕ) → columns ≤ c → cell t i c ≡ int (pos 0)
   cell-past i c h = go (le-or-lt (length t) i)
     where
       go : (length t ≤ i) ⊎ (i < length t) → cell t i c ≡ int (pos 0)

@@ -1,14 +1,10 @@
 -- The first half of demand 3, proved.
-use mathlib.Core.Path.{_≡_, refl, sym, _∙_, ap}
-use Prim.Native.Nat.{ℕ, _+_, _<_}
-use native.Mathlib.Omega.{arith}
-use lib.ListN.{length}
+use mathlib.Core.Path.{sym, _∙_, ap}
 use Rattle.exact.specs.Sum.{sum}
 use Rattle.exact.proofs.Order.{nn-zero-le}
-use Rattle.spline.specs.Space.{Space, rowCount}
-use Rattle.spline.specs.Table.{Table, cell}
+use Rattle.spline.specs.Table.{cell}
 use Rattle.theorems.specs.Demand3.{NoWeightNegative, ColumnSumsOne}
-use Rattle.theorems.proofs.Built.{Built, built, row-count}
+use Rattle.theorems.proofs.Built.{built, row-count}
 
 pub no-weight-negative : NoWeightNegative
 no-weight-negative s a i c = nn-zero-le (built s (a .table) (a .is) .basis .not-negative i c)

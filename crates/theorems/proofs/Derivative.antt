@@ -1,24 +1,24 @@
 -- The published constraints are document 01's conditions up to a factor: the derivatives of the Bernstein pieces at the
 -- two sides of a join are finite differences of the ordinates, times falling factorials over powers of the lengths, and
 -- clearing those powers gives the conditions before their division.
-use mathlib.Core.Path.{_≡_, refl, sym, _∙_, ap, ap₂, subst}
+use mathlib.Core.Path.{_≡_, refl, sym, _∙_, ap, ap₂}
 use mathlib.Core.Logic.{_≢_, _⊎_, inl, inr}
-use mathlib.Core.Bool.{Bool, true, false, cond}
-use mathlib.Core.List.{List, [], _∷_}
+use mathlib.Core.Bool.{cond}
+use mathlib.Core.List.{[], _∷_}
 use Prim.Native.Nat.{ℕ, zero, suc, _+_, _-_, _*_, _^_, _<_, _≤_}
 use native.Mathlib.Omega.{arith}
 use native.Mathlib.Nat.{pow-zero, pow-suc, zero-add, one-le-pow, mul-pos}
-use lib.Dec.{T, eqb, leb, ltb, eqb→eq, eqb-refl, not-T, le→leb, lt→ltb}
+use lib.Dec.{eqb, leb, ltb, eqb→eq, eqb-refl, not-T, le→leb, lt→ltb}
 use lib.Arith.{lt→nleb, le→nltb}
-use lib.IntN.{ℤ, pos, negsuc, _*ℤ_}
+use lib.IntN.{pos}
 use Rattle.exact.specs.Rational.{ℚ, _+ᵠ_, _*ᵠ_, -ᵠ_, _-ᵠ_, _/ᵠ_, int, inv}
 use Rattle.exact.specs.Sum.{sum}
 use Rattle.exact.proofs.Decide.{le-or-lt, holds-true, fails-false, cond-true, cond-false}
-use Rattle.exact.proofs.Ring.{ring, reads, by-eq}
-use Rattle.exact.proofs.Rational.{ℚ-ring, readsℚ, int-mul, int-nonzero, mul-inv, mul-zero, mul-one, mul-assoc, mul-cancel, mul-nonzero, inv-nonzero, div-mul, one-mul}
-use Rattle.exact.proofs.Sum.{sum-ext, sum-zero, sum-only, sum-mul, sum-split, sum-skip, sum-past}
+use Rattle.exact.proofs.Ring.{ring, reads}
+use Rattle.exact.proofs.Rational.{ℚ-ring, readsℚ, int-mul, int-nonzero, mul-inv, mul-zero, mul-one, mul-cancel, mul-nonzero, inv-nonzero, div-mul, one-mul}
+use Rattle.exact.proofs.Sum.{sum-ext, sum-only, sum-mul, sum-split, sum-skip, sum-past}
 use Rattle.spline.specs.Space.{Space, segments, degree, width, firstColumn, columnCount}
-use Rattle.spline.specs.Conditions.{falling, scale, conditions}
+use Rattle.spline.specs.Conditions.{falling, conditions}
 use Rattle.spline.specs.Published.{derivativeCoefficient, bernstein, derivativeAtLeft, derivativeAtRight, leftConstraint, rightConstraint, constraint}
 use Rattle.theorems.proofs.Functional.{applied}
 use Rattle.theorems.proofs.Difference.{difference, difference-ext, difference-zero, difference-suc, difference-sum, difference-none}

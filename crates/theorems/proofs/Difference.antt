@@ -2,14 +2,14 @@
 -- rule makes a difference the difference of two lower ones; so it vanishes on equal numbers, and it is the recurrence by
 -- which the published construction takes derivatives.
 use mathlib.Core.Path.{_≡_, refl, sym, _∙_, ap, ap₂}
-use mathlib.Core.List.{List, [], _∷_}
+use mathlib.Core.List.{[], _∷_}
 use Prim.Native.Nat.{ℕ, zero, suc, _+_, _-_, _<_, _≤_}
 use native.Mathlib.Omega.{arith}
-use lib.IntN.{ℤ, pos, negsuc, negℤ, _*ℤ_}
+use lib.IntN.{pos, negsuc}
 use Rattle.exact.specs.Rational.{ℚ, _+ᵠ_, _*ᵠ_, -ᵠ_, _-ᵠ_, int}
 use Rattle.exact.specs.Sum.{sum}
 use Rattle.exact.proofs.Ring.{ring, reads}
-use Rattle.exact.proofs.Rational.{ℚ-ring, readsℚ, int-mul, int-add, mul-assoc, add-zero, neg-is as neg-one, int-neg, zero-mul, mul-zero}
+use Rattle.exact.proofs.Rational.{ℚ-ring, readsℚ, int-add, mul-assoc, add-zero, neg-is as neg-one, int-neg, zero-mul, mul-zero}
 use Rattle.exact.proofs.Sum.{sum-ext, sum-add, sum-mul, sum-front, sum-zero}
 use Rattle.spline.specs.Conditions.{binomial, alternating}
 
@@ -21,7 +21,7 @@ signedBinomial k t = int (pos (binomial k t)) *ᵠ int (alternating (k - t))
 unfoldable pub difference : ℕ → (ℕ → ℚ) → ℚ
 difference k x = sum (suc k) (λ t. signedBinomial k t *ᵠ x t)
 
-binomial-above : (k t : ℕ) → k < t → binomial k t ≡ 0
+pub binomial-above : (k t : ℕ) → k < t → binomial k t ≡ 0
 unfolding binomial
 binomial-above k zero h = absurd (omega arith)
 binomial-above zero (suc t) h = refl
@@ -63,7 +63,7 @@ carried-sum : (k : ℕ) (x : ℕ → ℚ) → sum (suc (suc k)) (λ t. carry k t
 unfolding difference sum
 carried-sum k x =
     ap₂ _+ᵠ_ (sum-ext (suc k) (λ t h. ap (λ u. u *ᵠ x t) (carry-negates k t (omega arith)) ∙ mul-assoc (int (negsuc 0)) (signedBinomial k t) (x t)) ∙ sum-mul (suc k) (int (negsuc 0)) (λ t. signedBinomial k t *ᵠ x t))
-        (ap (λ u. u *ᵠ x (suc k)) (carry-last k) ∙ zero-mul (x (suc k)))
+    (ap (λ u. u *ᵠ x (suc k)) (carry-last k) ∙ zero-mul (x (suc k)))
     ∙ add-zero _
 
 -- Pascal's rule
@@ -72,7 +72,7 @@ unfolding difference
 difference-suc k x =
     sum-front (suc k) (λ t. signedBinomial (suc k) t *ᵠ x t)
     ∙ ap₂ _+ᵠ_ (ap (λ u. u *ᵠ x 0) (carry-first k)) (sum-ext (suc k) (λ t h. ap (λ u. u *ᵠ x (suc t)) (pascal k t) ∙ add-mul (signedBinomial k t) (carry k (suc t)) (x (suc t)))
-        ∙ sum-add (suc k) (λ t. signedBinomial k t *ᵠ x (suc t)) (λ t. carry k (suc t) *ᵠ x (suc t)))
+    ∙ sum-add (suc k) (λ t. signedBinomial k t *ᵠ x (suc t)) (λ t. carry k (suc t) *ᵠ x (suc t)))
     ∙ swap (carry k 0 *ᵠ x 0) (difference k (λ t. x (suc t))) (sum (suc k) (λ t. carry k (suc t) *ᵠ x (suc t)))
     ∙ ap (λ u. difference k (λ t. x (suc t)) +ᵠ u) (sym (sum-front (suc k) (λ t. carry k t *ᵠ x t)) ∙ carried-sum k x)
     ∙ ap (λ u. difference k (λ t. x (suc t)) +ᵠ u) (sym (neg-one (difference k x)))

@@ -2,16 +2,14 @@
 use mathlib.Core.Path.{_≡_, refl, sym, _∙_, ap, ap₂}
 use mathlib.Core.Bool.{Bool, true, false, cond}
 use mathlib.Core.List.{List, [], _∷_}
-use Prim.Native.Nat.{ℕ, zero, suc, _<_}
-use native.Mathlib.Omega.{arith}
-use lib.IntN.{ℤ, pos, negsuc}
-use Rattle.exact.specs.Rational.{ℚ, _+ᵠ_, _*ᵠ_, -ᵠ_, _-ᵠ_, int}
+use Prim.Native.Nat.{ℕ, zero, suc}
+use lib.IntN.{pos}
+use Rattle.exact.specs.Rational.{ℚ, _+ᵠ_, _*ᵠ_, int}
 use Rattle.exact.specs.Sum.{sum}
-use Rattle.exact.proofs.Ring.{ring, reads, by-eq}
+use Rattle.exact.proofs.Ring.{ring}
 use Rattle.exact.proofs.Rational.{ℚ-ring, readsℚ, add-zero, add-assoc, add-comm}
-use Rattle.exact.proofs.Sum.{sum-ext, sum-zero, sum-add, sum-mul}
 use Rattle.fraction.specs.Size.{fits}
-use Rattle.spline.specs.Outcome.{Outcome, answer, refusal, refuse, _then_}
+use Rattle.spline.specs.Outcome.{answer, refuse, _then_}
 use Rattle.spline.specs.Conditions.{Entry}
 use Rattle.spline.specs.Table.{Row, entry}
 use Rattle.spline.specs.Step.{count, addProducts, jump}

@@ -1,14 +1,13 @@
 -- The table that the build starts with is a basis where there are no conditions.
-use mathlib.Core.Path.{_≡_, refl, sym, _∙_, ap, ap₂, subst}
+use mathlib.Core.Path.{_≡_, sym, _∙_, ap, subst}
 use mathlib.Core.Logic.{_≢_, _⊎_, inl, inr}
 use mathlib.Core.Bool.{Bool, true, false, cond}
-use mathlib.Core.List.{List, [], _∷_}
-use Prim.Native.Nat.{ℕ, zero, suc, _+_, _<_, _≤_}
-use native.Mathlib.Omega.{arith}
-use lib.Dec.{T, eqb, eqb→eq, eqb-refl, not-T}
-use lib.IntN.{ℤ, pos, negsuc}
-use lib.ListN.{length, getD, List·getD-eq-default}
-use Rattle.exact.specs.Rational.{ℚ, _+ᵠ_, _*ᵠ_, int}
+use mathlib.Core.List.{List, []}
+use Prim.Native.Nat.{ℕ, _<_, _≤_}
+use lib.Dec.{eqb, eqb→eq, eqb-refl, not-T}
+use lib.IntN.{pos}
+use lib.ListN.{length, List·getD-eq-default}
+use Rattle.exact.specs.Rational.{ℚ, _*ᵠ_, int}
 use Rattle.exact.specs.Order.{Nn}
 use Rattle.exact.specs.Sum.{sum}
 use Rattle.exact.specs.Tabulate.{tab}
@@ -18,8 +17,7 @@ use Rattle.exact.proofs.Order.{nn-int}
 use Rattle.exact.proofs.Sum.{sum-ext, sum-zero, sum-only}
 use Rattle.exact.proofs.Tabulate.{tab-length, tab-getD}
 use Rattle.spline.specs.Conditions.{Entry}
-use Rattle.spline.specs.Table.{Table, row, entry, cell, identity}
-use Rattle.theorems.proofs.Stepped.{Wide}
+use Rattle.spline.specs.Table.{row, entry, cell, identity}
 use Rattle.theorems.proofs.Basis.{Basis, combined}
 
 unit : ℕ → ℕ → ℚ

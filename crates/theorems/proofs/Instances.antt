@@ -1,30 +1,33 @@
 -- The theorems at two spaces of document 01's cases, W4 and W5, with numbers: the hypotheses can be met, and what the
 -- theorems say of these spaces is what the cases say.
 use mathlib.Core.Path.{_≡_, refl, sym, _∙_, ap}
-use mathlib.Core.List.{List, [], _∷_}
+use mathlib.Core.Bool.{true, false}
+use mathlib.Core.List.{List, [], _∷_, _++_}
 use Prim.Native.Nat.{ℕ, zero, suc, _-_, _<_}
 use native.Mathlib.Omega.{arith}
-use lib.IntN.{ℤ, pos, negsuc}
-use lib.ListN.{length}
+use lib.IntN.{pos, negsuc}
+use lib.ListN.{length, getD, take, drop, length-take}
+use lib.Seq.{split-at}
 use Rattle.exact.specs.Gcd.{gcd, gcdF}
 use Rattle.exact.specs.Rational.{ℚ, mk, int, inv, _+ᵠ_, _*ᵠ_, -ᵠ_, _//_}
 use Rattle.exact.specs.Order.{isZero, ltᵠ, _≤ᵠ_}
 use Rattle.exact.specs.Sum.{sum}
 use Rattle.exact.specs.Tabulate.{tab}
 use Rattle.fraction.specs.Size.{fits}
-use Rattle.spline.specs.Outcome.{capped, collect, repeat}
+use Rattle.spline.specs.Outcome.{answer, refusal, capped, collect, repeat}
 use Rattle.spline.specs.Search.{first, last}
-use Rattle.spline.specs.Space.{Space, segments, columnCount, rowCount, conditionCount, lengthsFit, badBreak, spanTooLong, badDegree, badOrder, checkedEntries, checked, firstColumn, conditionsBefore}
+use Rattle.spline.specs.Space.{Space, segments, conditionCount, lengthsFit, badBreak, spanTooLong, badDegree, badOrder, checkedEntries, checked, firstColumn, conditionsBefore}
 use Rattle.spline.specs.Conditions.{falling, binomial, alternating, undivided, commonDivisor, conditions}
 use Rattle.spline.specs.Table.{Row, Table, row, cell, identity}
 use Rattle.spline.specs.Step.{count, addProducts, span, partialSum, quotientFactor, factors, newEntry, newRows, step}
 use Rattle.spline.specs.Build.{orderSteps, joinSteps, weights, spaceWeights}
-use Rattle.spline.specs.Published.{extraction}
+use Rattle.spline.specs.Published.{for, extraction}
 use Rattle.spline.specs.Piecewise.{Accepted, MeetsAll, Meets, pairing, combination}
-use Rattle.theorems.specs.Demand2.{OneCombination}
+use Rattle.theorems.specs.Counted.{counted, passes, joined, jumpTests, exactJumps, firstJump, lastJump, shapeTest, quotient, factorTests, innerRows, innerRow, exactFactors, entryTests, rowTests, exactRow, stepTests, exactStep, exactOrders, exactJoins, buildTests, exactWeights, allPass, FirstTooLarge, FirstFailure}
 use Rattle.theorems.proofs.Demand2.{rows-and-columns, combinations-meet-conditions, conditions-give-one-combination}
 use Rattle.theorems.proofs.Demand3.{no-weight-negative, column-sums-one}
 use Rattle.theorems.proofs.Published.{weights-are-published}
+use Rattle.theorems.proofs.Counted.{eight-is-first-too-large, first-failure-refuses, passing-is-accepted}
 
 abbrev q0 : ℚ
 q0 = int (pos 0)
@@ -172,3 +175,89 @@ only5 others h e = let o = conditions-give-one-combination space5 accepted5 ordi
 broken4 : pairing (q1 ∷ q1 ∷ q1 ∷ q0 ∷ q0 ∷ q0 ∷ q0 ∷ []) (conditions space4 0 0) ≡ int (pos 1)
 unfolding gcd gcdF mk int _+ᵠ_ _*ᵠ_ tab firstColumn falling binomial alternating undivided commonDivisor conditions pairing
 broken4 = refl
+
+-- ---- a space that is refused for a partial sum: breaks 0,1,1291, degrees 3,3, order 2
+
+abbrev space8 : Space
+space8 = record { breaks = pos 0 ∷ pos 1 ∷ pos 1291 ∷ []; degrees = pos 3 ∷ pos 3 ∷ []; orders = pos 2 ∷ [] }
+
+refused8 : spaceWeights space8 ≡ refusal 8 0
+unfolding gcd gcdF mk int inv _+ᵠ_ _*ᵠ_ -ᵠ_ _//_ isZero ltᵠ sum tab fits capped collect repeat first last lengthsFit badBreak spanTooLong badDegree badOrder checkedEntries checked firstColumn conditionsBefore falling binomial alternating undivided commonDivisor conditions identity count addProducts span partialSum quotientFactor factors newEntry newRows step orderSteps joinSteps weights spaceWeights
+refused8 = refl
+
+too-large8 : FirstTooLarge space8 0
+too-large8 = eight-is-first-too-large space8 0 refused8
+
+-- the fraction: 194 tests pass before it
+fraction8 : getD (buildTests space8) 194 (counted 0 q0) ≡ counted 0 (negsuc 2150017199 // 1290)
+unfolding gcd gcdF mk int inv _+ᵠ_ _*ᵠ_ -ᵠ_ _//_ isZero ltᵠ sum tab fits capped first last firstColumn falling binomial alternating undivided commonDivisor conditions identity partialSum pairing for joined jumpTests exactJumps firstJump lastJump shapeTest quotient factorTests innerRows innerRow exactFactors entryTests rowTests exactRow stepTests exactStep exactOrders exactJoins buildTests allPass
+fraction8 = refl
+
+passed8 : allPass (take 194 (buildTests space8)) ≡ true
+unfolding gcd gcdF mk int inv _+ᵠ_ _*ᵠ_ -ᵠ_ _//_ isZero ltᵠ sum tab fits capped first last firstColumn falling binomial alternating undivided commonDivisor conditions identity partialSum pairing for joined jumpTests exactJumps firstJump lastJump shapeTest quotient factorTests innerRows innerRow exactFactors entryTests rowTests exactRow stepTests exactStep exactOrders exactJoins buildTests allPass
+passed8 = refl
+
+size8 : length (take 195 (buildTests space8)) ≡ 195
+unfolding gcd gcdF mk int inv _+ᵠ_ _*ᵠ_ -ᵠ_ _//_ isZero ltᵠ sum tab fits capped first last firstColumn falling binomial alternating undivided commonDivisor conditions identity partialSum pairing for joined jumpTests exactJumps firstJump lastJump shapeTest quotient factorTests innerRows innerRow exactFactors entryTests rowTests exactRow stepTests exactStep exactOrders exactJoins buildTests allPass
+size8 = refl
+
+too-large-fraction8 : fits (negsuc 2150017199 // 1290) ≡ false
+unfolding gcd gcdF mk _//_ fits
+too-large-fraction8 = refl
+
+failure8 : FirstFailure (buildTests space8) 8 0
+unfolding capped
+failure8 = record {
+  before = take 194 (buildTests space8);
+  failing = counted 0 (negsuc 2150017199 // 1290);
+  after = drop 195 (buildTests space8);
+  parts = split-at (buildTests space8) 194 (counted 0 q0) (omega (arith, length-take 195 (buildTests space8), size8)) ∙ ap (λ t. take 194 (buildTests space8) ++ (t ∷ drop 195 (buildTests space8))) fraction8;
+  passed = passed8;
+  fails = too-large-fraction8;
+  number-is = refl;
+  place-is = refl;
+}
+
+checked8 : checked space8 ≡ answer space8
+unfolding first lengthsFit badBreak spanTooLong badDegree badOrder checkedEntries checked
+checked8 = refl
+
+refused-again8 : spaceWeights space8 ≡ refusal 8 0
+refused-again8 = first-failure-refuses space8 8 0 checked8 failure8
+
+-- ---- W4 and W5 pass all their tests
+
+passes4 : allPass (buildTests space4) ≡ true
+unfolding gcd gcdF mk int inv _+ᵠ_ _*ᵠ_ -ᵠ_ _//_ isZero ltᵠ sum tab fits capped first last firstColumn falling binomial alternating undivided commonDivisor conditions identity partialSum pairing for joined jumpTests exactJumps firstJump lastJump shapeTest quotient factorTests innerRows innerRow exactFactors entryTests rowTests exactRow stepTests exactStep exactOrders exactJoins buildTests allPass
+passes4 = refl
+
+checked4 : checked space4 ≡ answer space4
+unfolding first lengthsFit badBreak spanTooLong badDegree badOrder checkedEntries checked
+checked4 = refl
+
+accepted-by-tests4 : spaceWeights space4 ≡ answer (exactWeights space4)
+accepted-by-tests4 = passing-is-accepted space4 checked4 passes4
+
+tests4 : length (buildTests space4) ≡ 144
+unfolding gcd gcdF mk int inv _+ᵠ_ _*ᵠ_ -ᵠ_ _//_ isZero ltᵠ sum tab fits capped first last firstColumn falling binomial alternating undivided commonDivisor conditions identity partialSum pairing for joined jumpTests exactJumps firstJump lastJump shapeTest quotient factorTests innerRows innerRow exactFactors entryTests rowTests exactRow stepTests exactStep exactOrders exactJoins buildTests allPass
+tests4 = refl
+
+passes5 : allPass (buildTests space5) ≡ true
+unfolding gcd gcdF mk int inv _+ᵠ_ _*ᵠ_ -ᵠ_ _//_ isZero ltᵠ sum tab fits capped first last firstColumn falling binomial alternating undivided commonDivisor conditions identity partialSum pairing for joined jumpTests exactJumps firstJump lastJump shapeTest quotient factorTests innerRows innerRow exactFactors entryTests rowTests exactRow stepTests exactStep exactOrders exactJoins buildTests allPass
+passes5 = refl
+
+checked5 : checked space5 ≡ answer space5
+unfolding first lengthsFit badBreak spanTooLong badDegree badOrder checkedEntries checked
+checked5 = refl
+
+accepted-by-tests5 : spaceWeights space5 ≡ answer (exactWeights space5)
+accepted-by-tests5 = passing-is-accepted space5 checked5 passes5
+
+tests5 : length (buildTests space5) ≡ 316
+unfolding gcd gcdF mk int inv _+ᵠ_ _*ᵠ_ -ᵠ_ _//_ isZero ltᵠ sum tab fits capped first last firstColumn falling binomial alternating undivided commonDivisor conditions identity partialSum pairing for joined jumpTests exactJumps firstJump lastJump shapeTest quotient factorTests innerRows innerRow exactFactors entryTests rowTests exactRow stepTests exactStep exactOrders exactJoins buildTests allPass
+tests5 = refl
+
+-- the shape can fail: jumps with a zero between
+misshapen : passes (shapeTest 0 (q1 ∷ q0 ∷ q1 ∷ [])) ≡ false
+unfolding gcd gcdF mk int isZero first last firstJump lastJump shapeTest
+misshapen = refl

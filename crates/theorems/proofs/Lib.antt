@@ -1,16 +1,21 @@
+-- The proofs of the statements in specs/. NullSpace is the step theorem on functions; Functional to Stepped bring a step
+-- of the build into its form; Basis to Built go through the steps; Derivative to Published compare with the published
+-- construction; Counted is about refusals; Demand2 and Demand3 state the results, Instances are examples with numbers.
 pub mod NullSpace
 pub mod Functional
 pub mod StepInversion
+pub mod Extended
+pub mod Splice
 pub mod Stepped
-pub mod Difference
 pub mod Basis
 pub mod Identity
+pub mod Difference
 pub mod Condition
 pub mod Built
 pub mod Derivative
 pub mod Bidiagonal
 pub mod Published
-pub mod Demand3
 pub mod Counted
 pub mod Demand2
+pub mod Demand3
 pub mod Instances

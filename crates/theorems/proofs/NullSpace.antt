@@ -3,26 +3,19 @@
 -- it keeps sums. It is apart from tables and conditions: only this identity and the places of the zeros are used.
 use mathlib.Core.Path.{_≡_, refl, sym, _∙_, ap, ap₂}
 use mathlib.Core.Logic.{_≢_, _⊎_, inl, inr}
-use mathlib.Core.Bool.{Bool, true, false, not, cond}
-use mathlib.Core.List.{List, [], _∷_}
-use Prim.Native.Nat.{ℕ, zero, suc, _+_, _-_, _<_, _≤_}
+use mathlib.Core.Bool.{cond}
+use mathlib.Core.List.{[], _∷_}
+use Prim.Native.Nat.{ℕ, zero, suc, _-_, _<_, _≤_}
 use native.Mathlib.Omega.{arith}
-use lib.Dec.{T, leb, leb→le, le→leb, nleb→lt}
+use lib.Dec.{leb, le→leb}
 use lib.Arith.{lt→nleb}
-use lib.IntN.{ℤ, pos, negsuc}
+use lib.IntN.{pos, negsuc}
 use Rattle.exact.specs.Rational.{ℚ, _+ᵠ_, _*ᵠ_, -ᵠ_, _-ᵠ_, int, inv}
 use Rattle.exact.specs.Sum.{sum}
-use Rattle.exact.proofs.Ring.{ring, reads, by-eq}
+use Rattle.exact.proofs.Decide.{le-or-lt, holds-true, fails-false, cond-true, cond-false}
+use Rattle.exact.proofs.Ring.{ring, by-eq}
 use Rattle.exact.proofs.Rational.{ℚ-ring, readsℚ, mul-inv, mul-cancel, zero-mul}
 use Rattle.exact.proofs.Sum.{sum-zero, sum-past}
-
-cond-T : (b : Bool) (x y : ℚ) → T b → cond b x y ≡ x
-cond-T true x y t = refl
-cond-T false x y t = absurd t
-
-cond-F : (b : Bool) (x y : ℚ) → T (not b) → cond b x y ≡ y
-cond-F true x y t = absurd t
-cond-F false x y t = refl
 
 -- where k stands: up to f, up to l, or past l
 data Place (f l k : ℕ) : Type 0 where
@@ -31,12 +24,12 @@ data Place (f l k : ℕ) : Type 0 where
   high : l < k → Place f l k
 
 place : (f l k : ℕ) → Place f l k
-place f l k = go (leb k f) (leb k l) (λ t. leb→le k f t) (λ t. nleb→lt k f t) (λ t. leb→le k l t) (λ t. nleb→lt k l t)
+place f l k = go (le-or-lt k f) (le-or-lt k l)
   where
-    go : (a b : Bool) → (T a → k ≤ f) → (T (not a) → f < k) → (T b → k ≤ l) → (T (not b) → l < k) → Place f l k
-    go true b p q r s = low (p tt)
-    go false true p q r s = mid (q tt) (r tt)
-    go false false p q r s = high (s tt)
+    go : (k ≤ f) ⊎ (f < k) → (k ≤ l) ⊎ (l < k) → Place f l k
+    go (inl p) q = low p
+    go (inr p) (inl q) = mid p q
+    go (inr p) (inr q) = high q
 
 -- Neighbours mixed: what row i becomes.
 unfoldable pub mixed : (ℕ → ℚ) → (ℕ → ℚ) → ℕ → ℚ
@@ -146,15 +139,15 @@ module _ (n f l : ℕ) (J w : ℕ → ℚ) (G : Jumps n f l J w) where
 
     coefficient-low : (k : ℕ) → k ≤ f → coefficient k ≡ x (k - 1)
     unfolding coefficient
-    coefficient-low k h = cond-T (leb k f) _ _ (le→leb k f h)
+    coefficient-low k h = cond-true _ _ (holds-true (leb k f) (le→leb k f h))
 
     coefficient-mid : (k : ℕ) → f < k → k ≤ l → coefficient k ≡ sum k X *ᵠ inv (sum k J)
     unfolding coefficient
-    coefficient-mid k h q = cond-F (leb k f) _ _ (lt→nleb k f h) ∙ cond-T (leb k l) _ _ (le→leb k l q)
+    coefficient-mid k h q = cond-false _ _ (fails-false (leb k f) (lt→nleb k f h)) ∙ cond-true _ _ (holds-true (leb k l) (le→leb k l q))
 
     coefficient-high : (k : ℕ) → l < k → coefficient k ≡ x k
     unfolding coefficient
-    coefficient-high k h = let q = G .ordered in cond-F (leb k f) _ _ (lt→nleb k f (omega arith)) ∙ cond-F (leb k l) _ _ (lt→nleb k l h)
+    coefficient-high k h = let q = G .ordered in cond-false _ _ (fails-false (leb k f) (lt→nleb k f (omega arith))) ∙ cond-false _ _ (fails-false (leb k l) (lt→nleb k l h))
 
     balance : (k : ℕ) → k ≤ n → sum k J *ᵠ coefficient k ≡ sum k X
     balance k h = go (place f l k)

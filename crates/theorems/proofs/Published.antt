@@ -1,24 +1,24 @@
 -- The weights are the published construction's: step by step the figure's H is the build's table, and its L = H K, whose
 -- column k is proportional to the jumps, so that both mix the same rows by the same factors.
-use mathlib.Core.Path.{_≡_, refl, sym, _∙_, ap, ap₂, subst}
+use mathlib.Core.Path.{_≡_, refl, sym, _∙_, ap, ap₂}
 use mathlib.Core.Logic.{_≢_, _⊎_, inl, inr}
-use mathlib.Core.List.{List, [], _∷_}
-use Prim.Native.Nat.{ℕ, zero, suc, _+_, _-_, _<_, _≤_}
+use mathlib.Core.List.{[], _∷_}
+use Prim.Native.Nat.{ℕ, suc, _-_, _<_, _≤_}
 use native.Mathlib.Omega.{arith}
-use lib.IntN.{ℤ, pos, negsuc}
-use lib.ListN.{length, getD, List·getD-eq-default}
+use lib.IntN.{pos}
+use lib.ListN.{length, List·getD-eq-default}
 use lib.Seq.{ext-getD}
 use Rattle.exact.specs.Rational.{ℚ, _+ᵠ_, _*ᵠ_, -ᵠ_, _-ᵠ_, int}
 use Rattle.exact.specs.Sum.{sum}
 use Rattle.exact.specs.Tabulate.{tab}
 use Rattle.exact.proofs.Decide.{le-or-lt}
 use Rattle.exact.proofs.Ring.{ring, reads}
-use Rattle.exact.proofs.Rational.{ℚ-ring, readsℚ, mul-zero, mul-assoc}
+use Rattle.exact.proofs.Rational.{ℚ-ring, mul-zero}
 use Rattle.exact.proofs.Sum.{sum-ext, sum-add, sum-mul}
 use Rattle.exact.proofs.Tabulate.{tab-length, tab-getD}
-use Rattle.spline.specs.Outcome.{Outcome, answer, repeat}
-use Rattle.spline.specs.Space.{Space, segments, degree, width, columnCount, conditionCount}
-use Rattle.spline.specs.Conditions.{Entry, conditions}
+use Rattle.spline.specs.Outcome.{answer}
+use Rattle.spline.specs.Space.{Space, segments, columnCount, conditionCount}
+use Rattle.spline.specs.Conditions.{conditions}
 use Rattle.spline.specs.Table.{Row, Table, entry, row, cell, identity}
 use Rattle.spline.specs.Step.{step}
 use Rattle.spline.specs.Build.{orderSteps, joinSteps, weights}
@@ -30,7 +30,7 @@ use Rattle.theorems.proofs.NullSpace.{mixed}
 use Rattle.theorems.proofs.Stepped.{Wide, values, values-past, Stepped}
 use Rattle.theorems.proofs.Basis.{Basis}
 use Rattle.theorems.proofs.Identity.{identity-basis}
-use Rattle.theorems.proofs.Built.{Done, earlier, here, order-stepped, order-kept, join-kept, nothing-done, Built, built}
+use Rattle.theorems.proofs.Built.{Done, order-stepped, order-kept, join-kept, nothing-done, built}
 use Rattle.theorems.proofs.Derivative.{ratio, ratio-nonzero, constraints-are-conditions}
 use Rattle.theorems.proofs.Bidiagonal.{nullspace-rows, nullspace-mixes}
 
@@ -111,7 +111,7 @@ module _ (s : Space) (L : Legal s) (j k : ℕ) (h : j < segments s - 1) (l : k <
   next-H : product (columnCount s) (nullspace v) t ≡ t′
   next-H = table-ext (columnCount s) (product (columnCount s) (nullspace v) t) t′ (product-wide (columnCount s) (nullspace v) t) (S .wide) (product-length (columnCount s) (nullspace v) t ∙ null-rows)
       (λ r c p q. let p′ : r < length (nullspace v) = rw (product-length (columnCount s) (nullspace v) t) at p in
-        product-cell (columnCount s) (nullspace v) t r c p′ q ∙ null-mixes (λ i. cell t i c) r (rw null-rows at p′) ∙ sym (S .cells r c))
+      product-cell (columnCount s) (nullspace v) t r c p′ q ∙ null-mixes (λ i. cell t i c) r (rw null-rows at p′) ∙ sym (S .cells r c))
 
   next-L : product (conditionCount s j) (nullspace v) (constrained t) ≡ constrained t′
   unfolding mixed

@@ -2,30 +2,28 @@
 -- equations between exact numbers. The counting and the refusals are gone from here on.
 use mathlib.Core.Path.{_≡_, refl, sym, _∙_, ap, ap₂, subst}
 use mathlib.Core.Logic.{_≢_, _⊎_, inl, inr}
-use mathlib.Core.Bool.{Bool, true, false, cond, not, _&&_}
+use mathlib.Core.Bool.{Bool, true, false, cond, _&&_}
 use mathlib.Core.List.{List, [], _∷_, _++_}
 use mathlib.Core.Option.{Option, some, none}
-use Prim.Native.Nat.{ℕ, zero, suc, _+_, _-_, _<_, _≤_}
+use Prim.Native.Nat.{ℕ, suc, _+_, _-_, _<_, _≤_}
 use native.Mathlib.Omega.{arith}
 use native.Mathlib.Nat.{eq-or-lt-of-le}
-use lib.IntN.{ℤ, pos, negsuc}
-use lib.ListN.{length, getD, take, drop, length-append, length-take, length-drop, List·getD-append, List·getD-eq-default}
-use lib.Seq.{getD-take, getD-drop, getD-append-add, getD-at, length-take-le}
+use lib.IntN.{pos}
+use lib.ListN.{length, getD, length-append, List·getD-append, List·getD-eq-default}
+use lib.Seq.{getD-at}
 use Rattle.exact.specs.Rational.{ℚ, _+ᵠ_, _*ᵠ_, -ᵠ_, _-ᵠ_, int, _/ᵠ_}
 use Rattle.exact.specs.Order.{isZero, ltᵠ}
-use Rattle.exact.specs.Sum.{sum}
 use Rattle.exact.proofs.Decide.{le-or-lt, true-not-false, not-true, not-false, and-true}
-use Rattle.exact.proofs.Ring.{ring, reads}
+use Rattle.exact.proofs.Ring.{ring}
 use Rattle.exact.proofs.Rational.{ℚ-ring, readsℚ}
 use Rattle.exact.proofs.Order.{isZero-true, isZero-false}
-use Rattle.spline.specs.Outcome.{Outcome, answer, refusal, refuse, _then_, collect}
+use Rattle.spline.specs.Outcome.{Outcome, answer, refuse, _then_, collect}
 use Rattle.spline.specs.Search.{first, last, found}
-use Rattle.spline.specs.Conditions.{Entry}
-use Rattle.spline.specs.Table.{Row, Table, entry, row, cell}
-use Rattle.spline.specs.Step.{count, jump, jumps, jumpsAt, Span, zeroBetween, spanOf, span, partialSum, factor, quotientFactor, factors, newEntry, newRow, newRows, step}
+use Rattle.spline.specs.Table.{Row, entry}
+use Rattle.spline.specs.Step.{count, jumpsAt, Span, zeroBetween, spanOf, span, partialSum, quotientFactor, factor, factors, newEntry, newRow}
 use Rattle.spline.proofs.Outcome.{then-inverts, Chained, answer-unique, answer-not-refusal, collect-inverts, Collected}
 use Rattle.spline.proofs.Search.{First, Last, first-some-inverts, last-some-inverts, first-none-inverts}
-use Rattle.theorems.proofs.Functional.{applied, count-inverts, jump-inverts}
+use Rattle.theorems.proofs.Functional.{count-inverts}
 
 -- ---- the span
 
@@ -206,26 +204,3 @@ newRow-inverts j w v r r′ {q} same e = record { size = parts .size; at = λ c.
     place c (inl h) = List·getD-eq-default q (int (pos 0)) (rw (parts .size) h) ∙ nothing w (int (pos 1) -ᵠ v)
         ∙ ap₂ (λ x y. w *ᵠ x +ᵠ (int (pos 1) -ᵠ v) *ᵠ y) (sym (List·getD-eq-default r (int (pos 0)) h)) (sym (List·getD-eq-default r′ (int (pos 0)) (rw same h)))
     place c (inr h) = newEntry-inverts j w v (entry r c) (entry r′ c) (parts .at c h (int (pos 0)))
-
--- ---- the table with some of its rows replaced
-
-module _ {A : Type 0} (t rs : List A) (f l : ℕ) (ordered : f ≤ l) (below : l < length t) (size : length rs ≡ l - f) where
-  front : length (take f t) ≡ f
-  front = length-take-le f t (omega arith)
-
-  pub spliced-length : suc (length (take f t ++ (rs ++ drop (suc l) t))) ≡ length t
-  spliced-length = ap suc (length-append (take f t) (rs ++ drop (suc l) t) ∙ ap₂ _+_ front (length-append rs (drop (suc l) t) ∙ ap₂ _+_ size (length-drop (suc l) t))) ∙ omega arith
-
-  pub spliced-before : (i : ℕ) (d : A) → i < f → getD (take f t ++ (rs ++ drop (suc l) t)) i d ≡ getD t i d
-  spliced-before i d h = List·getD-append (take f t) (rs ++ drop (suc l) t) d i (rw front h) ∙ getD-take f t i d h
-
-  pub spliced-from : (k : ℕ) (d : A) → getD (take f t ++ (rs ++ drop (suc l) t)) (f + k) d ≡ getD (rs ++ drop (suc l) t) k d
-  spliced-from k d = ap (λ n. getD (take f t ++ (rs ++ drop (suc l) t)) (n + k) d) (sym front) ∙ getD-append-add (take f t) (rs ++ drop (suc l) t) k d
-
-  pub spliced-inside : (i : ℕ) (d : A) → f ≤ i → i < l → getD (take f t ++ (rs ++ drop (suc l) t)) i d ≡ getD rs (i - f) d
-  spliced-inside i d h k = ap (λ n. getD (take f t ++ (rs ++ drop (suc l) t)) n d) (let z : i ≡ f + (i - f) = omega arith in z) ∙ spliced-from (i - f) d
-      ∙ List·getD-append rs (drop (suc l) t) d (i - f) (rw size (omega arith))
-
-  pub spliced-after : (i : ℕ) (d : A) → l ≤ i → getD (take f t ++ (rs ++ drop (suc l) t)) i d ≡ getD t (suc i) d
-  spliced-after i d h = ap (λ n. getD (take f t ++ (rs ++ drop (suc l) t)) n d) (let z : i ≡ f + (length rs + (i - l)) = omega (arith, size) in z) ∙ spliced-from (length rs + (i - l)) d
-      ∙ getD-append-add rs (drop (suc l) t) (i - l) d ∙ getD-drop (suc l) t (i - l) d ∙ ap (λ n. getD t n d) (let z : suc l + (i - l) ≡ suc i = omega arith in z)

@@ -3,17 +3,17 @@
 -- is refused while the list is made. The build refuses with the first test of the list that fails, and for no other reason.
 use mathlib.Core.Path.{_≡_}
 use mathlib.Core.Logic.{_⊎_}
-use mathlib.Core.Bool.{Bool, true, false, cond, not, _&&_}
+use mathlib.Core.Bool.{Bool, true, false, not, _&&_}
 use mathlib.Core.List.{List, [], _∷_, _++_}
-use mathlib.Core.Option.{Option, Option·getD}
+use mathlib.Core.Option.{Option·getD}
 use Prim.Native.Nat.{ℕ, zero, suc, _+_, _-_}
-use lib.IntN.{ℤ, pos}
+use lib.IntN.{pos}
 use lib.ListN.{length, take, drop}
 use Rattle.exact.specs.Rational.{ℚ, int, _+ᵠ_, _*ᵠ_, _-ᵠ_, _/ᵠ_}
 use Rattle.exact.specs.Order.{ltᵠ}
 use Rattle.exact.specs.Tabulate.{tab}
 use Rattle.fraction.specs.Size.{fits}
-use Rattle.spline.specs.Outcome.{Outcome, answer, refusal, refuse, capped, _then_}
+use Rattle.spline.specs.Outcome.{answer, refusal, capped}
 use Rattle.spline.specs.Search.{first, last, found}
 use Rattle.spline.specs.Space.{Space, segments, columnCount, conditionCount, checked}
 use Rattle.spline.specs.Conditions.{Entry, conditions}

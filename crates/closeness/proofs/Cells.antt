@@ -1,0 +1,112 @@
+-- The value cells after a legal call: cell k holds the value at position k, the cells past the positions' count hold what
+-- they held, and no value is larger than 256 times the largest coefficient allowed.
+use mathlib.Core.Path.{_≡_, sym, _∙_, ap, subst}
+use mathlib.Core.Bool.{Bool, true, false, not}
+use mathlib.Core.List.{List, _++_, map}
+use Prim.Native.Nat.{ℕ, _+_, _<_, _≤_}
+use native.Mathlib.Omega.{arith}
+use lib.Dec.{T}
+use lib.IntN.{ℤ, pos, negℤ, natAbs}
+use lib.ListN.{length, getD, drop}
+use lib.Signed.{leZ, _≤ℤ_}
+use Rattle.exact.specs.Tabulate.{tab}
+use Rattle.exact.proofs.Decide.{and-true, fails-false, not-false}
+use Rattle.exact.proofs.Integer as Z
+use Rattle.exact.proofs.Tabulate.{tab-length, tab-self, map-tab, getD-tab, length-tab, getD-past-tab}
+use Rattle.exact.proofs.Word.{leZ-true}
+use Rattle.spline.specs.Space.{Space, segments, break, between, firstColumn, rowCount}
+use Rattle.spline.specs.Table.{Table}
+use Rattle.spline.specs.Piecewise.{Accepted}
+use Rattle.spline.specs.Reading.{fine, segmentAt, coefficient, hasWeight, valueAt, values}
+use Rattle.spline.specs.CurveCall.{coefficientLimit, badCoefficient, badPosition, curveOutcome, valuesAfter}
+use Rattle.spline.specs.ExactCurve.{weighsOn, leastOn, greatestOn, Legal}
+use Rattle.theorems.proofs.Built.{built, row-count}
+use Rattle.closeness.specs.Demand3.{InSpan, valueLimit, Close, CellsAreClose, CellsPastAreKept}
+use Rattle.closeness.proofs.Fine.{fine-mono}
+use Rattle.closeness.proofs.Weights.{Passing, accepted-column, some-weight, howMany-some}
+use Rattle.closeness.proofs.Segment.{accepted-checked, located}
+use Rattle.closeness.proofs.OnSegment.{weighs-in-column, leastOn-is, greatestOn-is}
+use Rattle.closeness.proofs.Value.{segment-column}
+use Rattle.closeness.proofs.LegalCall.{legal-calls-answer}
+use Rattle.closeness.proofs.Demand3.{value-at-most-exact, exact-below-value-and-closeness, value-at-least-least, value-at-most-greatest}
+
+-- ---- the cells as a table
+
+values-tab : (s : Space) (t : Table) (coefs positions : List ℤ) → values s t coefs positions ≡ tab (length positions) (λ k. valueAt s t coefs (getD positions k (pos 0)))
+unfolding values
+values-tab s t coefs positions = ap (map (valueAt s t coefs)) (sym (tab-self positions (pos 0))) ∙ map-tab (valueAt s t coefs) (length positions) (λ k. getD positions k (pos 0))
+
+module _ (s : Space) (coefs positions : List ℤ) (numLength denLength valuesLength : ℕ) (l : Legal s coefs positions numLength denLength valuesLength) (before : List ℤ) where
+  -- the values in list order, and then the old cells
+  pub values-after : valuesAfter (curveOutcome s coefs positions numLength denLength valuesLength) before
+      ≡ tab (length positions) (λ k. valueAt s (l .accepted .table) coefs (getD positions k (pos 0))) ++ drop (length positions) before
+  unfolding valuesAfter
+  values-after = ap (λ o. valuesAfter o before) (legal-calls-answer s coefs positions numLength denLength valuesLength l)
+      ∙ ap (λ vs. vs ++ drop (length vs) before) (values-tab s (l .accepted .table) coefs positions)
+      ∙ ap (λ n. tab (length positions) (λ k. valueAt s (l .accepted .table) coefs (getD positions k (pos 0))) ++ drop n before) (tab-length (length positions) _)
+
+  pub cell-holds-value : (k : ℕ) → k < length positions → getD (valuesAfter (curveOutcome s coefs positions numLength denLength valuesLength) before) k (pos 0) ≡ valueAt s (l .accepted .table) coefs (getD positions k (pos 0))
+  cell-holds-value k h = ap (λ cells. getD cells k (pos 0)) values-after ∙ getD-tab (length positions) _ (drop (length positions) before) k (pos 0) h
+
+  pub cells-past-kept : (k : ℕ) → length positions ≤ k → getD (valuesAfter (curveOutcome s coefs positions numLength denLength valuesLength) before) k (pos 0) ≡ getD before k (pos 0)
+  cells-past-kept k h = ap (λ cells. getD cells k (pos 0)) values-after ∙ getD-past-tab (length positions) _ before k (pos 0) h
+
+  pub cells-length : length before ≡ valuesLength → length (valuesAfter (curveOutcome s coefs positions numLength denLength valuesLength) before) ≡ valuesLength
+  cells-length e = ap length values-after ∙ length-tab (length positions) _ before (omega (arith, l .values)) ∙ e
+
+-- ---- what the tests leave of coefficients and positions
+
+coefficient-size : (coefs : List ℤ) (i : ℕ) → T (not (badCoefficient coefs i)) → (negℤ coefficientLimit ≤ℤ coefficient coefs i) × (coefficient coefs i ≤ℤ coefficientLimit)
+unfolding badCoefficient
+coefficient-size coefs i h = let b = and-true (leZ (negℤ coefficientLimit) (coefficient coefs i)) (leZ (coefficient coefs i) coefficientLimit) (not-false _ (fails-false _ h)) in
+    (leZ-true (negℤ coefficientLimit) (coefficient coefs i) (b .0), leZ-true (coefficient coefs i) coefficientLimit (b .1))
+
+twice-not : (b : Bool) → T (not (not b)) → T b
+twice-not true h = tt
+twice-not false h = h
+
+pub position-inside : (s : Space) (positions : List ℤ) (i : ℕ) → T (not (badPosition s positions i)) → InSpan s (getD positions i (pos 0))
+unfolding badPosition
+position-inside s positions i h = twice-not (between (fine (break s 0)) (fine (break s (segments s))) (getD positions i (pos 0))) h
+
+-- ---- the size of a value
+
+-- a row with weight on the position's segment
+row-on-segment : (s : Space) (a : Accepted s) (x : ℤ) → InSpan s x → Passing (length (a .table)) (weighsOn s (a .table) (segmentAt s x))
+row-on-segment s a x inside =
+    let c = segment-column s (segmentAt s x) 0 (located s (accepted-checked s a .1) x inside .below) (omega arith) in
+    let w = howMany-some (length (a .table)) (hasWeight (a .table) (firstColumn s (segmentAt s x) + 0)) (some-weight (a .table) (firstColumn s (segmentAt s x) + 0) (accepted-column s a (firstColumn s (segmentAt s x) + 0) c)) in
+    record { index = w .index; below = w .below; passes = weighs-in-column s (a .table) (segmentAt s x) 0 (w .index) (omega arith) (w .passes) }
+
+module _ (s : Space) (a : Accepted s) (coefs : List ℤ) (count : length coefs ≡ rowCount s) (legal : (i : ℕ) → i < length coefs → T (not (badCoefficient coefs i))) (x : ℤ) (inside : InSpan s x) where
+  size-of-row : (i : ℕ) → i < length (a .table) → (negℤ coefficientLimit ≤ℤ coefficient coefs i) × (coefficient coefs i ≤ℤ coefficientLimit)
+  size-of-row i h = coefficient-size coefs i (legal i (omega (arith, row-count s (a .table) (built s (a .table) (a .is)))))
+
+  pub value-size : natAbs (valueAt s (a .table) coefs x) ≤ valueLimit
+  value-size =
+      let w = row-on-segment s a x inside in
+      let low = leastOn-is s (a .table) (segmentAt s x) coefs (w .index) (w .below) (w .passes) in
+      let high = greatestOn-is s (a .table) (segmentAt s x) coefs (w .index) (w .below) (w .passes) in
+      Z.abs-le-in (valueAt s (a .table) coefs x) valueLimit
+      (Z.≤-trans _ _ _ (fine-mono (negℤ coefficientLimit) (leastOn s (a .table) coefs (segmentAt s x)) (subst (λ z. negℤ coefficientLimit ≤ℤ z) (low .is) (size-of-row (low .index) (low .below) .0))) (value-at-least-least s a coefs x inside))
+      (Z.≤-trans _ _ _ (value-at-most-greatest s a coefs x inside) (fine-mono (greatestOn s (a .table) coefs (segmentAt s x)) coefficientLimit (subst (λ z. z ≤ℤ coefficientLimit) (high .is) (size-of-row (high .index) (high .below) .1))))
+
+-- ---- all of it, of a cell
+
+pub value-close : (s : Space) (coefs positions : List ℤ) (numLength denLength valuesLength : ℕ) (l : Legal s coefs positions numLength denLength valuesLength) (k : ℕ) → k < length positions
+    → Close s (l .accepted .table) coefs (getD positions k (pos 0)) (valueAt s (l .accepted .table) coefs (getD positions k (pos 0)))
+value-close s coefs positions numLength denLength valuesLength l k h = let inside = position-inside s positions k (l .inSpan k h) in record {
+  at-most-exact = value-at-most-exact s (l .accepted) coefs (getD positions k (pos 0)) inside;
+  exact-below = exact-below-value-and-closeness s (l .accepted) coefs (getD positions k (pos 0)) inside;
+  at-least-least = value-at-least-least s (l .accepted) coefs (getD positions k (pos 0)) inside;
+  at-most-greatest = value-at-most-greatest s (l .accepted) coefs (getD positions k (pos 0)) inside;
+  size = value-size s (l .accepted) coefs (l .coefficientCount) (l .coefficients) (getD positions k (pos 0)) inside;
+}
+
+pub cells-are-close : CellsAreClose
+cells-are-close s coefs positions numLength denLength valuesLength l before k h =
+    subst (Close s (l .accepted .table) coefs (getD positions k (pos 0))) (sym (cell-holds-value s coefs positions numLength denLength valuesLength l before k h))
+    (value-close s coefs positions numLength denLength valuesLength l k h)
+
+pub cells-past-are-kept : CellsPastAreKept
+cells-past-are-kept s coefs positions numLength denLength valuesLength l before e = (cells-length s coefs positions numLength denLength valuesLength l before e, cells-past-kept s coefs positions numLength denLength valuesLength l before)

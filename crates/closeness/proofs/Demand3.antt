@@ -1,0 +1,38 @@
+-- The second half of demand 3, proved: of each value, of a curve call, and of the cells after it.
+use mathlib.Core.List.{List}
+use lib.IntN.{ℤ, pos}
+use Rattle.exact.specs.Rational.{int}
+use Rattle.spline.specs.Space.{Space}
+use Rattle.spline.specs.Piecewise.{Accepted}
+use Rattle.spline.specs.Reading.{fine, segmentAt, valueAt}
+use Rattle.spline.specs.ExactCurve.{exactCurve, leastOn, greatestOn}
+use Rattle.closeness.specs.Demand3.{InSpan, closeness, ValueAtMostExact, ExactBelowValueAndCloseness, ValueAtLeastLeast, ValueAtMostGreatest}
+use Rattle.closeness.proofs.Triangle.{Within, Between}
+use Rattle.closeness.proofs.Segment.{Located, accepted-checked, located}
+use Rattle.closeness.proofs.Value.{blended-within, blended-between}
+
+-- ---- a value
+
+module _ (s : Space) (a : Accepted s) (coefs : List ℤ) (x : ℤ) (inside : InSpan s x) where
+  at : Located s x (segmentAt s x)
+  at = located s (accepted-checked s a .1) x inside
+
+  value-within : Within (int (pos (closeness s (a .table) x))) (exactCurve s (a .table) coefs x) (valueAt s (a .table) coefs x)
+  unfolding exactCurve valueAt
+  value-within = blended-within s a coefs x (segmentAt s x) at
+
+  value-between : Between (fine (leastOn s (a .table) coefs (segmentAt s x))) (fine (greatestOn s (a .table) coefs (segmentAt s x))) (valueAt s (a .table) coefs x)
+  unfolding valueAt
+  value-between = blended-between s a coefs x (segmentAt s x) at
+
+pub value-at-most-exact : ValueAtMostExact
+value-at-most-exact s a coefs x inside = value-within s a coefs x inside .below
+
+pub exact-below-value-and-closeness : ExactBelowValueAndCloseness
+exact-below-value-and-closeness s a coefs x inside = value-within s a coefs x inside .above
+
+pub value-at-least-least : ValueAtLeastLeast
+value-at-least-least s a coefs x inside = value-between s a coefs x inside .at-least
+
+pub value-at-most-greatest : ValueAtMostGreatest
+value-at-most-greatest s a coefs x inside = value-between s a coefs x inside .at-most

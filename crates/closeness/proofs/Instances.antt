@@ -1,0 +1,206 @@
+-- The theorems at document 01's cases W1, W2 and W3 with numbers: the hypotheses can be met, and W1's values 17066 and 4266
+-- are below the exact 51200/3 and 12800/3 by less than s + p = 4 and between 0 and 25600.
+use mathlib.Core.Path.{_≡_, refl, _∙_, ap, subst}
+use mathlib.Core.Bool.{not}
+use mathlib.Core.List.{List, [], _∷_}
+use Prim.Native.Nat.{ℕ, zero, suc, _<_, _≤_}
+use native.Mathlib.Omega.{arith}
+use lib.Dec.{T}
+use lib.IntN.{ℤ, pos, negsuc, natAbs}
+use lib.ListN.{length, getD}
+use lib.Signed.{_≤ℤ_}
+use Rattle.exact.specs.Gcd.{gcd, gcdF}
+use Rattle.exact.specs.Rational.{ℚ, den, mk, int, inv, _+ᵠ_, _*ᵠ_, -ᵠ_, _//_}
+use Rattle.exact.specs.Order.{isZero, ltᵠ, _≤ᵠ_, _<ᵠ_}
+use Rattle.exact.specs.Sum.{sum}
+use Rattle.exact.specs.Tabulate.{tab}
+use Rattle.exact.proofs.Integer as Z
+use Rattle.fraction.specs.Size.{fits}
+use Rattle.spline.specs.Outcome.{answer, capped, collect, repeat}
+use Rattle.spline.specs.Search.{first, last, howMany}
+use Rattle.spline.specs.Space.{Space, lengthsFit, badBreak, spanTooLong, badDegree, badOrder, checkedEntries, checked, firstColumn, conditionsBefore}
+use Rattle.spline.specs.Conditions.{falling, binomial, alternating, undivided, commonDivisor, conditions}
+use Rattle.spline.specs.Table.{Table, cell, identity}
+use Rattle.spline.specs.Step.{count, addProducts, span, partialSum, quotientFactor, factors, newEntry, newRows, step}
+use Rattle.spline.specs.Build.{orderSteps, joinSteps, weights, spaceWeights}
+use Rattle.spline.specs.Piecewise.{Accepted}
+use Rattle.spline.specs.Reading.{fine, segmentAt, rounded, term, termSum, best, ordinate, ordinates, blend, triangle, blended, valueAt, values}
+use Rattle.spline.specs.CurveCall.{badCoefficient, badPosition, curveOutcome, returned, valuesAfter}
+use Rattle.spline.specs.ExactCurve.{power, bernsteinAt, exactTerm, exactOn, exactCurve, largest, mostWeights, weighsOn, leastOn, greatestOn, Legal}
+use Rattle.closeness.specs.Demand3.{closeness, Close}
+use Rattle.closeness.proofs.Weights.{weight-num-le-den}
+use Rattle.closeness.proofs.LegalCall.{legal-calls-answer, legal-calls-return-count, answered-calls-are-legal}
+use Rattle.closeness.proofs.Demand3.{value-at-most-exact, exact-below-value-and-closeness, value-at-least-least, value-at-most-greatest}
+use Rattle.closeness.proofs.Cells.{cells-are-close, cells-past-are-kept}
+
+abbrev q0 : ℚ
+q0 = int (pos 0)
+
+abbrev q1 : ℚ
+q1 = int (pos 1)
+
+-- ---- W1: breaks 0,1,3, degrees 2,2, order 1
+
+abbrev space1 : Space
+space1 = record { breaks = pos 0 ∷ pos 1 ∷ pos 3 ∷ []; degrees = pos 2 ∷ pos 2 ∷ []; orders = pos 1 ∷ [] }
+
+abbrev table1 : Table
+table1 =
+    (q1 ∷ q0 ∷ q0 ∷ q0 ∷ q0 ∷ q0 ∷ []) ∷
+    (q0 ∷ q1 ∷ pos 2 // 2 ∷ pos 2 // 2 ∷ q0 ∷ q0 ∷ []) ∷
+    (q0 ∷ q0 ∷ pos 1 // 2 ∷ pos 1 // 2 ∷ q1 ∷ q0 ∷ []) ∷
+    (q0 ∷ q0 ∷ q0 ∷ q0 ∷ q0 ∷ q1 ∷ []) ∷ []
+
+abbrev coefs1 : List ℤ
+coefs1 = pos 0 ∷ pos 100 ∷ pos 0 ∷ pos 0 ∷ []
+
+abbrev positions1 : List ℤ
+positions1 = pos 256 ∷ pos 512 ∷ []
+
+accepted1 : Accepted space1
+unfolding gcd gcdF mk int inv _+ᵠ_ _*ᵠ_ -ᵠ_ _//_ isZero ltᵠ sum tab fits capped collect repeat first last lengthsFit badBreak spanTooLong badDegree badOrder checkedEntries checked firstColumn conditionsBefore falling binomial alternating undivided commonDivisor conditions identity count addProducts span partialSum quotientFactor factors newEntry newRows step orderSteps joinSteps weights spaceWeights
+accepted1 = record { table = table1; is = refl }
+
+coefficients1 : (i : ℕ) → i < length coefs1 → T (not (badCoefficient coefs1 i))
+unfolding badCoefficient
+coefficients1 zero h = tt
+coefficients1 (suc zero) h = tt
+coefficients1 (suc (suc zero)) h = tt
+coefficients1 (suc (suc (suc zero))) h = tt
+coefficients1 (suc (suc (suc (suc i)))) h = absurd (omega arith)
+
+inside1 : (i : ℕ) → i < length positions1 → T (not (badPosition space1 positions1 i))
+unfolding badPosition
+inside1 zero h = tt
+inside1 (suc zero) h = tt
+inside1 (suc (suc i)) h = absurd (omega arith)
+
+-- with a values' buffer of three cells
+legal1 : Legal space1 coefs1 positions1 5184 5184 3
+unfolding firstColumn conditionsBefore
+legal1 = record {
+  accepted = accepted1;
+  coefficientCount = refl;
+  coefficients = coefficients1;
+  positionCount = omega arith;
+  inSpan = inside1;
+  numerators = omega arith;
+  denominators = omega arith;
+  values = omega arith;
+}
+
+-- ---- what the definitions give there
+
+values1 : values space1 table1 coefs1 positions1 ≡ pos 17066 ∷ pos 4266 ∷ []
+unfolding gcd gcdF mk int _//_ isZero tab firstColumn last segmentAt rounded term termSum best ordinate ordinates blend triangle blended valueAt values
+values1 = refl
+
+exact1 : exactCurve space1 table1 coefs1 (pos 256) ≡ pos 51200 // 2
+unfolding gcd gcdF mk int inv _+ᵠ_ _*ᵠ_ -ᵠ_ _//_ sum firstColumn last segmentAt binomial power bernsteinAt exactTerm exactOn exactCurve
+exact1 = refl
+
+exact1-later : exactCurve space1 table1 coefs1 (pos 512) ≡ pos 12800 // 2
+unfolding gcd gcdF mk int inv _+ᵠ_ _*ᵠ_ -ᵠ_ _//_ sum firstColumn last segmentAt binomial power bernsteinAt exactTerm exactOn exactCurve
+exact1-later = refl
+
+-- s = 2 and p = 2 on the second segment
+closeness1 : closeness space1 table1 (pos 512) ≡ 4
+unfolding gcd gcdF mk int _//_ isZero firstColumn last segmentAt howMany largest mostWeights
+closeness1 = refl
+
+least1 : leastOn space1 table1 coefs1 1 ≡ pos 0
+unfolding gcd gcdF mk int _//_ isZero firstColumn first best weighsOn leastOn
+least1 = refl
+
+greatest1 : greatestOn space1 table1 coefs1 1 ≡ pos 100
+unfolding gcd gcdF mk int _//_ isZero firstColumn first best weighsOn greatestOn
+greatest1 = refl
+
+-- ---- what the theorems say there
+
+weight1 : natAbs (cell table1 1 2 .num) ≤ den (cell table1 1 2)
+unfolding accepted1
+weight1 = weight-num-le-den space1 accepted1 1 2
+
+weight1-size : (natAbs (cell table1 1 2 .num) ≡ 2) × (den (cell table1 1 2) ≡ 3)
+unfolding gcd gcdF mk _//_
+weight1-size = (refl, refl)
+
+answers1 : curveOutcome space1 coefs1 positions1 5184 5184 3 ≡ answer (record { table = table1; values = pos 17066 ∷ pos 4266 ∷ [] })
+unfolding legal1 accepted1
+answers1 = legal-calls-answer space1 coefs1 positions1 5184 5184 3 legal1 ∙ ap (λ vs. answer (record { table = table1; values = vs })) values1
+
+returned1 : returned (curveOutcome space1 coefs1 positions1 5184 5184 3) ≡ answer 2
+returned1 = legal-calls-return-count space1 coefs1 positions1 5184 5184 3 legal1
+
+-- the cells after the call, which held 7, 8 and 9
+cells1 : valuesAfter (curveOutcome space1 coefs1 positions1 5184 5184 3) (pos 7 ∷ pos 8 ∷ pos 9 ∷ []) ≡ pos 17066 ∷ pos 4266 ∷ pos 9 ∷ []
+unfolding valuesAfter
+cells1 = ap (λ o. valuesAfter o (pos 7 ∷ pos 8 ∷ pos 9 ∷ [])) answers1
+
+close1 : Close space1 table1 coefs1 (pos 512) (pos 4266)
+unfolding legal1 accepted1
+close1 = subst (λ cells. Close space1 table1 coefs1 (pos 512) (getD cells 1 (pos 0))) cells1 (cells-are-close space1 coefs1 positions1 5184 5184 3 legal1 (pos 7 ∷ pos 8 ∷ pos 9 ∷ []) 1 (omega arith))
+
+at-most-exact1 : int (pos 4266) ≤ᵠ pos 12800 // 2
+at-most-exact1 = subst (λ e. int (pos 4266) ≤ᵠ e) exact1-later (close1 .at-most-exact)
+
+exact-below1 : pos 12800 // 2 <ᵠ int (pos 4266) +ᵠ int (pos 4)
+exact-below1 = subst (λ e. e <ᵠ int (pos 4266) +ᵠ int (pos 4)) exact1-later (subst (λ n. exactCurve space1 table1 coefs1 (pos 512) <ᵠ int (pos 4266) +ᵠ int (pos n)) closeness1 (close1 .exact-below))
+
+at-least1 : pos 0 ≤ℤ pos 4266
+unfolding segmentAt last
+at-least1 = subst (λ z. fine z ≤ℤ pos 4266) least1 (close1 .at-least-least)
+
+at-most1 : pos 4266 ≤ℤ pos 25600
+unfolding segmentAt last
+at-most1 = subst (λ z. pos 4266 ≤ℤ fine z) greatest1 (close1 .at-most-greatest)
+
+last-cell1 : getD (valuesAfter (curveOutcome space1 coefs1 positions1 5184 5184 3) (pos 7 ∷ pos 8 ∷ pos 9 ∷ [])) 2 (pos 0) ≡ pos 9
+last-cell1 = cells-past-are-kept space1 coefs1 positions1 5184 5184 3 legal1 (pos 7 ∷ pos 8 ∷ pos 9 ∷ []) refl .1 2 (omega arith)
+
+-- a call that answers is legal
+legal-again1 : Legal space1 coefs1 positions1 5184 5184 3
+legal-again1 = answered-calls-are-legal space1 coefs1 positions1 5184 5184 3 (record { table = table1; values = pos 17066 ∷ pos 4266 ∷ [] }) answers1
+
+-- ---- W2, below zero: the value is under the exact -12800/3, not nearer to zero
+
+abbrev coefs2 : List ℤ
+coefs2 = pos 0 ∷ negsuc 99 ∷ pos 0 ∷ pos 0 ∷ []
+
+value2 : valueAt space1 table1 coefs2 (pos 512) ≡ negsuc 4266
+unfolding gcd gcdF mk int _//_ isZero tab firstColumn last segmentAt rounded term termSum best ordinate ordinates blend triangle blended valueAt
+value2 = refl
+
+exact2 : exactCurve space1 table1 coefs2 (pos 512) ≡ negsuc 12799 // 2
+unfolding gcd gcdF mk int inv _+ᵠ_ _*ᵠ_ -ᵠ_ _//_ sum firstColumn last segmentAt binomial power bernsteinAt exactTerm exactOn exactCurve
+exact2 = refl
+
+at-most-exact2 : int (negsuc 4266) ≤ᵠ negsuc 12799 // 2
+unfolding accepted1
+at-most-exact2 = subst (λ v. int v ≤ᵠ negsuc 12799 // 2) value2 (subst (λ e. int (valueAt space1 table1 coefs2 (pos 512)) ≤ᵠ e) exact2 (value-at-most-exact space1 accepted1 coefs2 (pos 512) tt))
+
+exact-below2 : negsuc 12799 // 2 <ᵠ int (negsuc 4266) +ᵠ int (pos 4)
+unfolding accepted1
+exact-below2 = subst (λ v. negsuc 12799 // 2 <ᵠ int v +ᵠ int (pos 4)) value2 (subst (λ n. negsuc 12799 // 2 <ᵠ int (valueAt space1 table1 coefs2 (pos 512)) +ᵠ int (pos n)) closeness1
+    (subst (λ e. e <ᵠ int (valueAt space1 table1 coefs2 (pos 512)) +ᵠ int (pos (closeness space1 table1 (pos 512)))) exact2 (exact-below-value-and-closeness space1 accepted1 coefs2 (pos 512) tt)))
+
+-- ---- W3, where the lower limit acts: four coefficients 1 leave no value but 256
+
+abbrev coefs3 : List ℤ
+coefs3 = pos 1 ∷ pos 1 ∷ pos 1 ∷ pos 1 ∷ []
+
+-- the plain sum of the two floored terms at the join is 255
+terms3 : termSum table1 (λ i. pos 1) 3 4 ≡ pos 255
+unfolding gcd gcdF mk int _//_ isZero rounded term termSum
+terms3 = refl
+
+limits3 : (leastOn space1 table1 coefs3 1 ≡ pos 1) × (greatestOn space1 table1 coefs3 1 ≡ pos 1)
+unfolding gcd gcdF mk int _//_ isZero firstColumn first best weighsOn leastOn greatestOn
+limits3 = (refl, refl)
+
+value3 : valueAt space1 table1 coefs3 (pos 256) ≡ pos 256
+unfolding accepted1 segmentAt last
+value3 = Z.≤-antisym (valueAt space1 table1 coefs3 (pos 256)) (pos 256)
+    (subst (λ z. valueAt space1 table1 coefs3 (pos 256) ≤ℤ fine z) (limits3 .1) (value-at-most-greatest space1 accepted1 coefs3 (pos 256) tt))
+    (subst (λ z. fine z ≤ℤ valueAt space1 table1 coefs3 (pos 256)) (limits3 .0) (value-at-least-least space1 accepted1 coefs3 (pos 256) tt))

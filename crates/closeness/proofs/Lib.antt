@@ -1,0 +1,19 @@
+-- The laws behind the second half of demand 3, from the rounding up to the cells after a call. Other crates cite
+-- Weights for the size of a weight, Segment for a position's offset, LegalCall and Cells for a call, Demand3 for a value.
+pub mod Rounding
+pub mod Fine
+pub mod Bernstein
+pub mod Mean
+pub mod Triangle
+pub mod Extremum
+pub mod Weights
+pub mod Terms
+pub mod Ordinate
+pub mod Segment
+pub mod ExactSum
+pub mod OnSegment
+pub mod Value
+pub mod Demand3
+pub mod LegalCall
+pub mod Cells
+pub mod Instances

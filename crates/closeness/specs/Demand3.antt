@@ -1,0 +1,102 @@
+-- The second half of demand 3: a curve call within document 01's limits on an accepted space answers with a value for each
+-- position, at or below the exact curve, lower by less than s + p, and between 256 times the least and the greatest
+-- coefficient with weight on the position's segment. `CellsAreClose` says all this of the cells after a call.
+use mathlib.Core.Path.{_≡_}
+use mathlib.Core.List.{List}
+use Prim.Native.Nat.{ℕ, _+_, _<_, _≤_}
+use lib.Dec.{T}
+use lib.IntN.{ℤ, pos, natAbs}
+use lib.ListN.{length, getD}
+use lib.Signed.{_≤ℤ_}
+use Rattle.exact.specs.Rational.{int, _+ᵠ_}
+use Rattle.exact.specs.Order.{_≤ᵠ_, _<ᵠ_}
+use Rattle.spline.specs.Outcome.{answer}
+use Rattle.spline.specs.Space.{Space, segments, break, between, degree}
+use Rattle.spline.specs.Table.{Table}
+use Rattle.spline.specs.Piecewise.{Accepted}
+use Rattle.spline.specs.Reading.{fine, segmentAt, valueAt, values}
+use Rattle.spline.specs.CurveCall.{CurveResult, curveOutcome, returned, valuesAfter}
+use Rattle.spline.specs.ExactCurve.{exactCurve, mostWeights, leastOn, greatestOn, Legal}
+
+-- The position is neither below 256·x0 nor above 256·xm.
+abbrev pub InSpan : Space → ℤ → Type 0
+InSpan s x = T (between (fine (break s 0)) (fine (break s (segments s))) x)
+
+-- s + p of the position's segment.
+abbrev pub closeness : Space → Table → ℤ → ℕ
+closeness s t x = mostWeights s t (segmentAt s x) + degree s (segmentAt s x)
+
+-- ---- a value, whatever the coefficients
+
+-- "Each value is at or below document 01's exact curve at its position".
+abbrev pub ValueAtMostExact : Type 0
+ValueAtMostExact = (s : Space) (a : Accepted s) (coefs : List ℤ) (x : ℤ) → InSpan s x
+    → int (valueAt s (a .table) coefs x) ≤ᵠ exactCurve s (a .table) coefs x
+
+-- "lower by less than s + p units of 1/256".
+abbrev pub ExactBelowValueAndCloseness : Type 0
+ExactBelowValueAndCloseness = (s : Space) (a : Accepted s) (coefs : List ℤ) (x : ℤ) → InSpan s x
+    → exactCurve s (a .table) coefs x <ᵠ int (valueAt s (a .table) coefs x) +ᵠ int (pos (closeness s (a .table) x))
+
+-- "no less than 256 times the least .. coefficient with weight on that position's stretch".
+abbrev pub ValueAtLeastLeast : Type 0
+ValueAtLeastLeast = (s : Space) (a : Accepted s) (coefs : List ℤ) (x : ℤ) → InSpan s x
+    → fine (leastOn s (a .table) coefs (segmentAt s x)) ≤ℤ valueAt s (a .table) coefs x
+
+-- "and no more than 256 times the greatest".
+abbrev pub ValueAtMostGreatest : Type 0
+ValueAtMostGreatest = (s : Space) (a : Accepted s) (coefs : List ℤ) (x : ℤ) → InSpan s x
+    → valueAt s (a .table) coefs x ≤ℤ fine (greatestOn s (a .table) coefs (segmentAt s x))
+
+-- ---- a call within document 01's limits
+
+-- What such a call has worked out: the accepted weights, and one value per position.
+abbrev pub legalResult : (s : Space) → Accepted s → List ℤ → List ℤ → CurveResult
+legalResult s a coefs positions = record { table = a .table; values = values s (a .table) coefs positions }
+
+-- "the curve call answers", "the positions repeated, out of order or none at all".
+abbrev pub LegalCallsAnswer : Type 0
+LegalCallsAnswer = (s : Space) (coefs positions : List ℤ) (numLength denLength valuesLength : ℕ)
+    (l : Legal s coefs positions numLength denLength valuesLength)
+    → curveOutcome s coefs positions numLength denLength valuesLength ≡ answer (legalResult s (l .accepted) coefs positions)
+
+-- "it returns the positions' count".
+abbrev pub LegalCallsReturnCount : Type 0
+LegalCallsReturnCount = (s : Space) (coefs positions : List ℤ) (numLength denLength valuesLength : ℕ)
+    → Legal s coefs positions numLength denLength valuesLength
+    → returned (curveOutcome s coefs positions numLength denLength valuesLength) ≡ answer (length positions)
+
+-- And only such calls answer.
+abbrev pub AnsweredCallsAreLegal : Type 0
+AnsweredCallsAreLegal = (s : Space) (coefs positions : List ℤ) (numLength denLength valuesLength : ℕ) (r : CurveResult)
+    → curveOutcome s coefs positions numLength denLength valuesLength ≡ answer r
+    → Legal s coefs positions numLength denLength valuesLength
+
+-- ---- the cells after a call
+
+-- 256 times the largest coefficient.
+abbrev pub valueLimit : ℕ
+valueLimit = 256000000
+
+-- All that demand 3 says of the number v written for position x, and its size.
+pub record Close (s : Space) (t : Table) (coefs : List ℤ) (x v : ℤ) : Type 0 where
+  pub at-most-exact : int v ≤ᵠ exactCurve s t coefs x
+  pub exact-below : exactCurve s t coefs x <ᵠ int v +ᵠ int (pos (closeness s t x))
+  pub at-least-least : fine (leastOn s t coefs (segmentAt s x)) ≤ℤ v
+  pub at-most-greatest : v ≤ℤ fine (greatestOn s t coefs (segmentAt s x))
+  pub size : natAbs v ≤ valueLimit
+
+-- After a legal call value cell k holds such a number for position k: "writes a value for each, in list order".
+abbrev pub CellsAreClose : Type 0
+CellsAreClose = (s : Space) (coefs positions : List ℤ) (numLength denLength valuesLength : ℕ)
+    (l : Legal s coefs positions numLength denLength valuesLength) (before : List ℤ) (k : ℕ) → k < length positions
+    → Close s (l .accepted .table) coefs (getD positions k (pos 0))
+    (getD (valuesAfter (curveOutcome s coefs positions numLength denLength valuesLength) before) k (pos 0))
+
+-- The buffer is as long as it was, and "value cells past that count keep what they held".
+abbrev pub CellsPastAreKept : Type 0
+CellsPastAreKept = (s : Space) (coefs positions : List ℤ) (numLength denLength valuesLength : ℕ)
+    → Legal s coefs positions numLength denLength valuesLength → (before : List ℤ) → length before ≡ valuesLength
+    → (length (valuesAfter (curveOutcome s coefs positions numLength denLength valuesLength) before) ≡ valuesLength)
+    × ((k : ℕ) → length positions ≤ k
+    → getD (valuesAfter (curveOutcome s coefs positions numLength denLength valuesLength) before) k (pos 0) ≡ getD before k (pos 0))

@@ -1,0 +1,2 @@
+-- The statements of the theorems on the values, each a type that cites definitions only; the proofs are in proofs/.
+pub mod Demand3

@@ -1,0 +1,142 @@
+"""Compares the engine with the rational program on random calls.
+
+usage: compare.py DRIVER [--count N] [--seed S] [--case LINE]
+
+The driver executable runs each call; its line must equal the model's byte for
+byte, so every answer and every lent cell is compared. Every value of every
+answered curve call is held against the exact curve as demand 3 asks. The
+first difference is shown with its call line, which --case runs again.
+"""
+
+import argparse
+import itertools
+import subprocess
+import sys
+import time
+from collections import Counter
+from pathlib import Path
+from random import SystemRandom
+
+sys.path.insert(0, str(Path(__file__).resolve().parent / "reference"))
+
+from cases import fixed_calls
+from generate import calls
+from protocol import call_line, printed_values, read_call, result_line
+from walzhik_reference import ClosenessTest, Space, by_column
+
+GATE_COUNT = 20_000
+BATCH = 1_000             # calls given to one run of the driver
+BATCH_SECONDS = 300
+REACHABLE = range(9)      # numbers that a call on random lists must show
+ENOUGH = 2_000            # calls from which each of them must have come up
+BEFORE, AFTER = 40, 80    # characters shown around a difference
+
+
+class Difference(Exception):
+    """A call and what is wrong with it."""
+
+
+def driven(driver, lines):
+    """The driver's result lines and whether it ended well."""
+    run = subprocess.run([driver], input="".join(line + "\n" for line in lines),
+                         capture_output=True, text=True, timeout=BATCH_SECONDS, check=False)
+    return run.stdout.splitlines(), run.returncode, run.stderr
+
+
+def first_difference(expected, got):
+    """Where two lines part, with some text on both sides."""
+    place = next((i for i, (a, b) in enumerate(zip(expected, got)) if a != b),
+                 min(len(expected), len(got)))
+    start, end = max(place - BEFORE, 0), place + AFTER
+    return (f"  from character {start}\n  model:  {expected[start:end]}\n"
+            f"  engine: {got[start:end]}")
+
+
+def check_line(call, outcome, line):
+    expected = result_line(call, outcome)
+    if line != expected:
+        raise Difference(f"call: {call_line(call)}\n{first_difference(expected, line)}")
+
+
+def check_closeness(call, outcome, line):
+    """Demand 3 on every printed value; the number of values tested."""
+    if not outcome.values:
+        return 0
+    space = Space(call.breaks, call.degrees, call.orders)
+    test = ClosenessTest(space, by_column(space, outcome.rows), call.coefs)
+    fault = test.first_fault(call.positions, printed_values(call, line))
+    if fault:
+        raise Difference(f"call: {call_line(call)}\n  value {fault[0]} is {fault[1]}")
+    return len(outcome.values)
+
+
+def compare_batch(driver, batch, seen):
+    lines, code, errors = driven(driver, [call_line(call) for call in batch])
+    for call, line in zip(batch, lines):
+        outcome = call.outcome()
+        check_line(call, outcome, line)
+        seen["values"] += check_closeness(call, outcome, line)
+        seen[call.kind, outcome.reply.number] += 1
+    if code != 0 or len(lines) != len(batch):
+        culprit = call_line(batch[min(len(lines), len(batch) - 1)])
+        raise Difference(f"call: {culprit}\n  the driver ended with {code} after "
+                         f"{len(lines)} of {len(batch)} results: {errors.strip()}")
+
+
+def compare_all(driver, every_call, seen):
+    batches = iter(every_call)
+    while batch := list(itertools.islice(batches, BATCH)):
+        compare_batch(driver, batch, seen)
+
+
+def print_summary(seen, seconds):
+    for number in sorted({key[1] for key in seen if key != "values"}):
+        name = f"number {number}" if number else "answers"
+        print(f"  {name:9} build {seen['build', number]:6}  curve {seen['curve', number]:6}")
+    total = compared(seen)
+    print(f"  {seen['values']} values held against the exact curve")
+    print(f"  {total / seconds:.0f} calls a second")
+
+
+def compared(seen):
+    return sum(count for key, count in seen.items() if key != "values")
+
+
+def missing_numbers(seen):
+    return [number for number in REACHABLE
+            if not seen["build", number] + seen["curve", number]]
+
+
+def arguments():
+    parser = argparse.ArgumentParser(description="compare the engine with the rational program")
+    parser.add_argument("driver")
+    parser.add_argument("--count", type=int, default=GATE_COUNT)
+    parser.add_argument("--seed", type=int, default=None)
+    parser.add_argument("--case", default=None, help="one call line to run again")
+    return parser.parse_args()
+
+
+def main():
+    chosen = arguments()
+    seed = SystemRandom().randrange(2 ** 32) if chosen.seed is None else chosen.seed
+    seen = Counter()
+    start = time.monotonic()
+    print(f"compare: seed {seed}")
+    every_call = ([read_call(chosen.case)] if chosen.case
+                  else itertools.chain(fixed_calls(), calls(seed, chosen.count)))
+    try:
+        compare_all(chosen.driver, every_call, seen)
+    except Difference as difference:
+        print(difference)
+        print(f"compare: {compared(seen)} passed, 1 failed (seed {seed})")
+        return 1
+    print_summary(seen, time.monotonic() - start)
+    missing = missing_numbers(seen) if compared(seen) >= ENOUGH else []
+    if missing:
+        print(f"compare: never seen: {missing}")
+    print(f"compare: {compared(seen)} passed, {len(missing)} failed")
+    return 1 if missing else 0
+
+
+if __name__ == "__main__":
+    sys.exit(main())

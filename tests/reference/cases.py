@@ -1,0 +1,143 @@
+"""W1 to W10 of document 01, as one table of what the paper states of them.
+
+A case without coefficients is a build; every other is a curve call. Only
+stated facts stand here, none that the model worked out.
+"""
+
+from fractions import Fraction
+from typing import NamedTuple
+
+from limits import CELLS
+from protocol import Call, Lent
+
+
+class Case(NamedTuple):
+    """`weights` maps (row, column) to a weight, `rows` is n, and `columns`
+    maps a column to all its non-zero weights, rows rising."""
+    name: str
+    breaks: list
+    degrees: list
+    orders: list
+    coefs: list = None
+    positions: list = []
+    number: int = 0
+    place: int = 0
+    rows: int = None
+    weights: dict = {}
+    columns: dict = {}
+    values: dict = {}
+
+
+W1_SPACE = ([0, 1, 3], [2, 2], [1])
+W1_WEIGHTS = {
+    (0, 0): Fraction(1), (1, 1): Fraction(1),
+    (1, 2): Fraction(2, 3), (1, 3): Fraction(2, 3),
+    (2, 2): Fraction(1, 3), (2, 3): Fraction(1, 3),
+    (2, 4): Fraction(1), (3, 5): Fraction(1),
+}
+W4_JOIN = [Fraction(4, 7), Fraction(3, 7)]
+W5_JOIN = [Fraction(1, 4), Fraction(1, 2), Fraction(1, 4)]
+
+CASES = [
+    Case("W1", *W1_SPACE, [0, 100, 0, 0], [256, 512],
+         rows=4, weights=W1_WEIGHTS, values={256: 17066, 512: 4266}),
+    Case("W2", *W1_SPACE, [0, -100, 0, 0], [256, 512],
+         rows=4, weights=W1_WEIGHTS, values={512: -4267}),
+    Case("W3", *W1_SPACE, [1, 1, 1, 1], [256, 512],
+         rows=4, weights=W1_WEIGHTS, values={256: 256, 512: 256}),
+    # The join has two ordinates, the left segment's last and the right one's first.
+    Case("W4", [0, 1, 3], [2, 3], [1], columns={2: W4_JOIN, 3: W4_JOIN}),
+    Case("W5", [0, 1, 2], [3, 3], [2], rows=5, columns={3: W5_JOIN, 4: W5_JOIN}),
+    Case("W6", [0, 10], [1], [], [0, 10], [1], values={1: 1}),
+    Case("W7 accepted", [0, 2000], [1], []),
+    Case("W7 refused", [0, 2001], [1], [], number=3, place=1),
+    Case("W8 accepted", [0, 1, 2], [1, 2], [0]),
+    Case("W8 refused", [0, 1, 2], [1, 2], [1], number=5, place=0),
+    Case("W9", [0, 1, 2], [1, 1], [-1], [0, 10, 20, 30], [256], values={256: 5120}),
+    Case("W10 count", *W1_SPACE, [0, 100, 0], [256, 512], number=6, place=255),
+    Case("W10 outside", *W1_SPACE, [0, 100, 0, 0], [769], number=7, place=0),
+    Case("W10 end", *W1_SPACE, [0, 100, 0, 0], [768], rows=4, weights=W1_WEIGHTS),
+]
+
+# Step 1's plain sum at the join of W3, before its limits raise it to 256.
+W3_PLAIN_SUM = 255
+
+W1_SHEET = b"""\
+breaks=0,1,3
+degrees=2,2
+orders=1
+coefs=0,100,0,0
+at=256,512
+"""
+
+W1_PRINTOUT = b"""\
+n=4
+w=0,0,1/1
+w=1,1,1/1
+w=1,2,2/3
+w=1,3,2/3
+w=2,2,1/3
+w=2,3,1/3
+w=2,4,1/1
+w=3,5,1/1
+v=256,17066
+v=512,4266
+"""
+
+# (breaks, degrees, orders, number) from the readings of document 01: a span of
+# 22 is the least that is refused for its size, and a partial sum is counted too.
+SIZE_CASES = [
+    ([0, 1, 21, 22], [5, 3, 4], [2, 2], 8),
+    ([0, 1, 20, 21], [5, 3, 4], [2, 2], 0),
+    ([0, 1, 1291], [3, 3], [2], 8),
+]
+
+
+# Old contents of the lent buffers, recognisable in a difference.
+NUM_FILL, DEN_FILL, VALUES_FILL = 700_000, -900_000, 500_000
+
+
+def build_call(lists):
+    return Call("build", *lists, Lent(CELLS, NUM_FILL), Lent(CELLS, DEN_FILL))
+
+
+def case_call(case):
+    call = build_call((case.breaks, case.degrees, case.orders))
+    if case.coefs is None:
+        return call
+    return call._replace(kind="curve", coefs=case.coefs, positions=case.positions,
+                         values=Lent(len(case.positions) + 1, VALUES_FILL))
+
+
+def fixed_calls():
+    """The calls every comparison starts with."""
+    sized = [build_call(lists) for *lists, _ in SIZE_CASES]
+    return [case_call(case) for case in CASES] + sized
+
+
+def numbers_text(numbers):
+    return ",".join(map(str, numbers))
+
+
+def case_sheet(case):
+    """The sheet of a case; a build case reads no position of a curve of zeros."""
+    coefs = case.coefs
+    if coefs is None:
+        columns = sum(case.degrees) + len(case.degrees)
+        coefs = [0] * (columns - sum(order + 1 for order in case.orders))
+    lists = {"breaks": case.breaks, "degrees": case.degrees, "orders": case.orders,
+             "coefs": coefs, "at": case.positions}
+    return "".join(f"{name}={numbers_text(entries)}\n"
+                   for name, entries in lists.items()).encode("ascii")
+
+
+def stated_lines(case):
+    """The lines that what is stated of the case puts on its printout."""
+    if case.number:
+        return [f"no={case.number},{case.place}"]
+    lines = [f"n={case.rows}"] if case.rows is not None else []
+    lines += [f"w={row},{column},{weight.numerator}/{weight.denominator}"
+              for (row, column), weight in case.weights.items()]
+    lines += [f"v={position},{value}" for position, value in case.values.items()]
+    return lines + [f"low={position}" for position, value in case.values.items()
+                    if value <= 0]

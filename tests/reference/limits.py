@@ -1,0 +1,27 @@
+"""The limits of document 01, each under one name.
+
+They stand apart so that no other file of the reference model holds a bare
+number, and a change of a limit is a change of one line.
+"""
+
+SIDE = 72                    # rows and columns of the weight table
+CELLS = SIDE * SIDE          # cells of one weight buffer that a call may write
+
+MOST_SEGMENTS = 12           # document 01 says stretch for segment
+BREAKPOINT_LIMIT = 10_000    # size of a breakpoint
+SPAN_LIMIT = 2_000           # last breakpoint minus first
+LEAST_DEGREE = 1
+MOST_DEGREE = 5
+DISCONTINUITY = -1           # the order of a join without condition: a scar
+MOST_ORDER = 2
+
+COEFFICIENT_LIMIT = 1_000_000
+MOST_POSITIONS = 4_096
+UNIT = 256                   # positions are 256ths of a ring, values 256ths too
+
+SIZE_LIMIT = 2 ** 31         # counted numerators and denominators stay below
+LARGEST_PLACE = 255          # stands for every larger place too
+
+MOST_SHEET_BYTES = 65_536
+MOST_LIST_ENTRIES = 4_096    # of one line of a sheet
+MOST_DIGITS = 7              # of one number of a sheet

@@ -1,0 +1,54 @@
+"""Curve values, by document 01's "Reading the curve".
+
+Step 1 turns the coefficients into a segment's Bernstein ordinates in whole
+256ths; step 2 blends them in a de Casteljau triangle. Every division is
+Python's floor, towards minus infinity.
+"""
+
+from bisect import bisect_right
+
+from limits import UNIT
+
+
+def segment_of(space, position):
+    """The last segment that starts at or before the position."""
+    return bisect_right(space.breaks, position // UNIT, 0, len(space.degrees)) - 1
+
+
+def ordinate(column, coefs):
+    """Step 1 for one column, given as its (row, weight) pairs."""
+    total = sum(UNIT * coefs[row] * weight.numerator // weight.denominator
+                for row, weight in column)
+    near = [coefs[row] for row, _ in column]
+    return min(max(total, UNIT * min(near)), UNIT * max(near))
+
+
+def segment_ordinates(space, columns, coefs, segment):
+    first = space.first_columns()[segment]
+    return [ordinate(column, coefs)
+            for column in columns[first:first + space.degrees[segment] + 1]]
+
+
+def blend(ordinates, u, whole):
+    """Step 2: the de Casteljau triangle at u of `whole`."""
+    level = ordinates
+    while len(level) > 1:
+        level = [((whole - u) * g + u * h) // whole for g, h in zip(level, level[1:])]
+    return level[0]
+
+
+def local(space, position):
+    """The position's segment, and u and D of document 01."""
+    segment = segment_of(space, position)
+    return segment, position - UNIT * space.breaks[segment], UNIT * space.length(segment)
+
+
+def curve_values(space, columns, coefs, positions):
+    """One value per position, in list order."""
+    ordinates = [segment_ordinates(space, columns, coefs, segment)
+                 for segment in range(len(space.degrees))] if positions else []
+    values = []
+    for position in positions:
+        segment, u, whole = local(space, position)
+        values.append(blend(ordinates[segment], u, whole))
+    return values

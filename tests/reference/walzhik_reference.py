@@ -1,0 +1,20 @@
+"""The rational program: an exact model of document 01, independent of the engine.
+
+This file is the whole public surface; the modules beside it hold one idea
+each. They share nothing with the engine but the paper.
+"""
+
+from calls import (Outcome, Reply, build, build_outcome, curve, curve_outcome,
+                   expand_values, expand_weights)
+from closeness import (ClosenessTest, coefficient_limits, exact_curve,
+                       most_weights, segment_columns)
+from sheet import sheet
+from space import Refusal, Space
+from weights import build_rows, by_column, join_conditions
+
+__all__ = [
+    "ClosenessTest", "Outcome", "Refusal", "Reply", "Space", "build",
+    "build_outcome", "build_rows", "by_column", "coefficient_limits", "curve",
+    "curve_outcome", "exact_curve", "expand_values", "expand_weights",
+    "join_conditions", "most_weights", "segment_columns", "sheet",
+]
