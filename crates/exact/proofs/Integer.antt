@@ -248,6 +248,11 @@ pub abs-le : (z : ℤ) (k : ℕ) → up z ≤ dn z + k → dn z ≤ up z + k →
 abs-le (pos n) k p q = omega arith
 abs-le (negsuc n) k p q = omega arith
 
+pub abs-mono : (x y : ℤ) → pos 0 ≤ℤ x → x ≤ℤ y → natAbs x ≤ natAbs y
+abs-mono (pos a) (pos b) h k = omega (arith, ≤-out (pos a) (pos b) k)
+abs-mono (pos a) (negsuc b) h k = absurd (k .le)
+abs-mono (negsuc a) y h k = absurd (h .le)
+
 pub abs-neg : (z : ℤ) → natAbs (negℤ z) ≡ natAbs z
 abs-neg z = omega (arith, abs-parts z, abs-parts (negℤ z), bal-neg z)
 

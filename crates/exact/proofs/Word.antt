@@ -3,7 +3,7 @@
 -- read a word back, are the machine logic's, and the laws of the absolute value Integer's: both are passed on.
 use mathlib.Core.Path.{_≡_, refl, sym, ap, _∙_}
 use mathlib.Core.Logic.{_⊎_, inl, inr}
-use mathlib.Core.Bool.{true, false}
+use mathlib.Core.Bool.{true, false, not}
 use Prim.Native.Nat.{ℕ, zero, suc, _+_, _-_, _/_, _<_, _≤_, _^_}
 use native.Mathlib.Nat.{lt-of-le-of-lt, div-le-self}
 use native.Mathlib.Omega.{arith}
@@ -74,6 +74,14 @@ le-test {a} {b} h = holds-true (leZ a b) (h .le)
 
 pub not-le-test : {a b : ℤ} → b <ℤ a → leZ a b ≡ false
 not-le-test {a} {b} h = refuted-false (leZ a b) (λ t. clashℤ h (leZ-yes t))
+
+-- at most is not above
+pub leZ-not-ltZ : (a b : ℤ) → leZ b a ≡ not (ltZ a b)
+leZ-not-ltZ a b = go (≤-or-> b a)
+  where
+    go : (b ≤ℤ a) ⊎ (a <ℤ b) → leZ b a ≡ not (ltZ a b)
+    go (inl h) = le-test h ∙ ap not (sym (not-lt-test h))
+    go (inr h) = not-le-test h ∙ ap not (sym (lt-test h))
 
 -- an equality test of two signed numbers is one of their bits
 pub ofZ-inj : (w : Width) (a b : ℤ) → SFits w a → SFits w b → ofZ w a ≡ ofZ w b → a ≡ b

@@ -1,0 +1,72 @@
+-- What an entry that breaks no rule is, as facts of order, and back. The definitions test by flags; the laws of legal
+-- lists and of the machine's arithmetic want the order.
+use mathlib.Core.Path.{_≡_, refl, sym, _∙_}
+use mathlib.Core.Bool.{Bool, true, false, _||_}
+use Prim.Native.Nat.{ℕ, zero, suc, _≤_}
+use native.Mathlib.Omega.{arith}
+use lib.IntN.{ℤ, pos, negsuc, natAbs}
+use lib.Signed.{ltZ, _≤ℤ_, _<ℤ_}
+use Rattle.exact.proofs.Integer.{≤-in, ≤-out, abs-le}
+use Rattle.exact.proofs.Word.{ltZ-false, leZ-false, not-lt-test, not-le-test}
+use Rattle.spline.specs.Space.{Space, break, degreeEntry, order, badBreak, badDegree, badOrder}
+use Rattle.space.proofs.Tests.{break-zero, break-suc, degree-tests, order-tests}
+
+neither : (a b : Bool) → (a || b) ≡ false → (a ≡ false) × (b ≡ false)
+neither true b e = absurd (let z : _≡_ {A = ℕ} 0 1 = cc in omega arith)
+neither false b e = (refl, e)
+
+-- the range of a breakpoint, by its size
+size-of : (x : ℤ) → ltZ x (negsuc 9999) ≡ false → ltZ (pos 10000) x ≡ false → natAbs x ≤ 10000
+size-of x e f = let h = ≤-out _ _ (ltZ-false x (negsuc 9999) e) in let k = ≤-out _ _ (ltZ-false (pos 10000) x f) in abs-le x 10000 (omega arith) (omega arith)
+
+low-of : (x : ℤ) → natAbs x ≤ 10000 → negsuc 9999 ≤ℤ x
+low-of (pos n) h = ≤-in _ _ (omega arith)
+low-of (negsuc n) h = ≤-in _ _ (omega arith)
+
+high-of : (x : ℤ) → natAbs x ≤ 10000 → x ≤ℤ pos 10000
+high-of (pos n) h = ≤-in _ _ (omega arith)
+high-of (negsuc n) h = ≤-in _ _ (omega arith)
+
+module _ (s : Space) where
+  pub good-break-size : (i : ℕ) → badBreak s i ≡ false → natAbs (break s i) ≤ 10000
+  good-break-size zero e = let p = neither _ _ (sym (break-zero s) ∙ e) in size-of (break s zero) (p .0) (p .1)
+  good-break-size (suc i) e = let p = neither _ _ (neither _ _ (sym (break-suc s i) ∙ e) .0) in size-of (break s (suc i)) (p .0) (p .1)
+
+  pub good-break-rises : (i : ℕ) → badBreak s (suc i) ≡ false → break s i <ℤ break s (suc i)
+  good-break-rises i e = leZ-false (break s (suc i)) (break s i) (neither (ltZ (break s (suc i)) (negsuc 9999) || ltZ (pos 10000) (break s (suc i))) _ (sym (break-suc s i) ∙ e) .1)
+
+  pub break-good-first : natAbs (break s zero) ≤ 10000 → badBreak s zero ≡ false
+  break-good-first h = break-zero s ∙ simp (not-lt-test (low-of (break s zero) h), not-lt-test (high-of (break s zero) h))
+
+  pub break-good : (i : ℕ) → natAbs (break s (suc i)) ≤ 10000 → break s i <ℤ break s (suc i) → badBreak s (suc i) ≡ false
+  break-good i h k = break-suc s i ∙ simp (not-lt-test (low-of (break s (suc i)) h), not-lt-test (high-of (break s (suc i)) h), not-le-test k)
+
+  pub good-degree-low : (i : ℕ) → badDegree s i ≡ false → pos 1 ≤ℤ degreeEntry s i
+  good-degree-low i e = ltZ-false (degreeEntry s i) (pos 1) (neither (ltZ (degreeEntry s i) (pos 1)) (ltZ (pos 5) (degreeEntry s i)) (sym (degree-tests s i) ∙ e) .0)
+
+  pub good-degree-high : (i : ℕ) → badDegree s i ≡ false → degreeEntry s i ≤ℤ pos 5
+  good-degree-high i e = ltZ-false (pos 5) (degreeEntry s i) (neither (ltZ (degreeEntry s i) (pos 1)) (ltZ (pos 5) (degreeEntry s i)) (sym (degree-tests s i) ∙ e) .1)
+
+  pub degree-good : (i : ℕ) → pos 1 ≤ℤ degreeEntry s i → degreeEntry s i ≤ℤ pos 5 → badDegree s i ≡ false
+  degree-good i h k = degree-tests s i ∙ simp (not-lt-test h, not-lt-test k)
+
+  pub record GoodOrder (i : ℕ) : Type 0 where
+    pub low : negsuc 0 ≤ℤ order s i
+    pub high : order s i ≤ℤ pos 2
+    pub left : order s i <ℤ degreeEntry s i
+    pub right : order s i <ℤ degreeEntry s (suc i)
+
+  pub good-order : (i : ℕ) → badOrder s i ≡ false → GoodOrder i
+  good-order i e =
+      let p = neither _ _ (sym (order-tests s i) ∙ e) in
+      let q = neither _ _ (p .0) in
+      let r = neither _ _ (q .0) in
+      record {
+        low = ltZ-false (order s i) (negsuc 0) (r .0);
+        high = ltZ-false (pos 2) (order s i) (r .1);
+        left = leZ-false (degreeEntry s i) (order s i) (q .1);
+        right = leZ-false (degreeEntry s (suc i)) (order s i) (p .1);
+      }
+
+  pub order-good : (i : ℕ) → GoodOrder i → badOrder s i ≡ false
+  order-good i h = order-tests s i ∙ simp (not-lt-test (h .low), not-lt-test (h .high), not-le-test (h .left), not-le-test (h .right))

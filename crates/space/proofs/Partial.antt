@@ -1,0 +1,49 @@
+-- Every definition reads only the lists that it needs: on a space with the other lists left out it gives the same. The
+-- contracts of this crate name such partial spaces, the definitions of the build the whole one.
+use mathlib.Core.Path.{_≡_, refl, sym, _∙_, ap, ap₂}
+use mathlib.Core.List.{List, []}
+use Prim.Native.Nat.{ℕ, zero, suc, _+_, _-_}
+use lib.IntN.{ℤ}
+use lib.ListN.{length}
+use Rattle.spline.specs.Space.{badBreak, badDegree, badOrder, degree, width, conditionCount, firstColumn, columnCount, conditionsBefore, rowCount}
+use Rattle.space.specs.Reply.{space}
+
+module _ (b d o : List ℤ) where
+  pub bad-break-partial : (i : ℕ) → badBreak (space b [] []) i ≡ badBreak (space b d o) i
+  unfolding badBreak
+  bad-break-partial zero = refl
+  bad-break-partial (suc i) = refl
+
+  pub bad-degree-partial : (i : ℕ) → badDegree (space [] d []) i ≡ badDegree (space b d o) i
+  unfolding badDegree
+  bad-degree-partial i = refl
+
+  pub bad-order-partial : (i : ℕ) → badOrder (space [] d o) i ≡ badOrder (space b d o) i
+  unfolding badOrder
+  bad-order-partial i = refl
+
+  pub degree-partial : (i : ℕ) → degree (space [] d []) i ≡ degree (space b d o) i
+  degree-partial i = refl
+
+  pub width-partial : (i : ℕ) → width (space b [] []) i ≡ width (space b d o) i
+  width-partial i = refl
+
+  pub condition-count-partial : (i : ℕ) → conditionCount (space [] [] o) i ≡ conditionCount (space b d o) i
+  condition-count-partial i = refl
+
+  pub first-column-partial : (i : ℕ) → firstColumn (space [] d []) i ≡ firstColumn (space b d o) i
+  unfolding firstColumn
+  first-column-partial zero = refl
+  first-column-partial (suc i) = ap (λ (n : ℕ). n + (degree (space b d o) i + 1)) (first-column-partial i)
+
+  pub conditions-before-partial : (i : ℕ) → conditionsBefore (space [] [] o) i ≡ conditionsBefore (space b d o) i
+  unfolding conditionsBefore
+  conditions-before-partial zero = refl
+  conditions-before-partial (suc i) = ap (λ (n : ℕ). n + conditionCount (space b d o) i) (conditions-before-partial i)
+
+  pub column-count-partial : columnCount (space [] d []) ≡ columnCount (space b d o)
+  column-count-partial = first-column-partial (length d)
+
+-- the number of rows needs the degrees and the orders
+pub row-count-partial : (b d o : List ℤ) → rowCount (space [] d o) ≡ rowCount (space b d o)
+row-count-partial b d o = ap₂ _-_ (sym (column-count-partial [] d o) ∙ column-count-partial b d o) (sym (conditions-before-partial [] d o (length d - 1)) ∙ conditions-before-partial b d o (length d - 1))

@@ -1,0 +1,284 @@
+// The three lists of a space: the refusals 2 to 5, and the columns and conditions of a legal space.
+ghost use mathlib.Core.Path.{_≡_};
+ghost use mathlib.Core.List.{[]};
+ghost use mathlib.Core.Bool.{false};
+ghost use Prim.Native.Nat.{ℕ, _+_, _<_, _≤_};
+ghost use lib.IntN.{pos, _-ℤ_};
+ghost use lib.ListN.{length, getD};
+ghost use lib.Signed.{ltZ};
+ghost use Rattle.spline.specs.Search.{first};
+ghost use Rattle.spline.specs.Space.{lengthsFit, badBreak, badDegree, badOrder, checked, degree, width, conditionCount, firstColumn, conditionsBefore, rowCount};
+ghost use Rattle.space.specs.Reply.{space, legality, found};
+ghost use Rattle.space.specs.Legal.{BreaksLegal, DegreesLegal, OrdersLegal, JoinsLegal, breaksChecked, degreesChecked, ordersChecked};
+
+const MAX_SEGMENTS: usize = 12;
+
+const BREAK_LIMIT: i32 = 10000;
+
+const SPAN_LIMIT: i32 = 2000;
+
+const MAX_DEGREE: i32 = 5;
+
+const MAX_ORDER: i32 = 2;
+
+pub enum Legality {
+    Legal,
+    Refused(u8, u8),
+}
+
+// The first entry that breaks a rule, if any does.
+pub enum Found {
+    At(usize),
+    Nothing,
+}
+
+pub fn lengths_fit(breaks: &[i32], degrees: &[i32], orders: &[i32]) -> bool
+    ensures { λ r. ⌜ r ≡ lengthsFit (space (now (breaks .entry)) (now (degrees .entry)) (now (orders .entry))) ⌝ }
+{
+    let m = degrees.len();
+    if m < 1 {
+        return false;
+    }
+    if m > MAX_SEGMENTS {
+        return false;
+    }
+    if breaks.len() != m + 1 {
+        return false;
+    }
+    orders.len() == m - 1
+}
+
+fn break_is_bad(breaks: &[i32], i: usize) -> bool
+    requires { ⌜ i < length (now breaks) ⌝ }
+    ensures { λ r. ⌜ r ≡ badBreak (space (now (breaks .entry)) [] []) i ⌝ }
+{
+    let x = breaks[i];
+    if x < 0 - BREAK_LIMIT {
+        return true;
+    }
+    if x > BREAK_LIMIT {
+        return true;
+    }
+    if i == 0 {
+        return false;
+    }
+    let before = breaks[i - 1];
+    x <= before
+}
+
+fn first_bad_break(breaks: &[i32]) -> Found
+    ensures { λ r. ⌜ r ≡ found (first (length (now (breaks .entry))) (badBreak (space (now (breaks .entry)) [] []))) ⌝ }
+{
+    let n = breaks.len();
+    let mut i = 0;
+    let found = loop {
+        if i == n {
+            break Found::Nothing;
+        }
+        if break_is_bad(breaks, i) {
+            break Found::At(i);
+        }
+        i += 1;
+    };
+    found
+}
+
+// Whether the last of m + 1 breakpoints, each in its range, is too far from the first.
+fn span_is_too_long(breaks: &[i32], m: usize) -> bool
+    requires { ⌜ length (now breaks) ≡ m + 1 ⌝ }
+    requires { ⌜ ((i : ℕ) → i < length (now breaks) → badBreak (space (now breaks) [] []) i ≡ false) ⌝ }
+    ensures { λ r. ⌜ r ≡ ltZ (pos 2000) (getD (now (breaks .entry)) m (pos 0) -ℤ getD (now (breaks .entry)) 0 (pos 0)) ⌝ }
+{
+    let first = breaks[0];
+    let last = breaks[m];
+    last - first > SPAN_LIMIT
+}
+
+fn degree_is_bad(degrees: &[i32], i: usize) -> bool
+    requires { ⌜ i < length (now degrees) ⌝ }
+    ensures { λ r. ⌜ r ≡ badDegree (space [] (now (degrees .entry)) []) i ⌝ }
+{
+    let p = degrees[i];
+    if p < 1 {
+        return true;
+    }
+    p > MAX_DEGREE
+}
+
+fn first_bad_degree(degrees: &[i32]) -> Found
+    ensures { λ r. ⌜ r ≡ found (first (length (now (degrees .entry))) (badDegree (space [] (now (degrees .entry)) []))) ⌝ }
+{
+    let n = degrees.len();
+    let mut i = 0;
+    let found = loop {
+        if i == n {
+            break Found::Nothing;
+        }
+        if degree_is_bad(degrees, i) {
+            break Found::At(i);
+        }
+        i += 1;
+    };
+    found
+}
+
+fn order_is_bad(degrees: &[i32], orders: &[i32], i: usize) -> bool
+    requires { ⌜ (i < length (now orders)) × (length (now degrees) ≡ length (now orders) + 1) ⌝ }
+    ensures { λ r. ⌜ r ≡ badOrder (space [] (now (degrees .entry)) (now (orders .entry))) i ⌝ }
+{
+    let r = orders[i];
+    if r < -1 {
+        return true;
+    }
+    if r > MAX_ORDER {
+        return true;
+    }
+    let p = degrees[i];
+    if p <= r {
+        return true;
+    }
+    let q = degrees[i + 1];
+    q <= r
+}
+
+fn first_bad_order(degrees: &[i32], orders: &[i32]) -> Found
+    requires { ⌜ length (now degrees) ≡ length (now orders) + 1 ⌝ }
+    ensures { λ r. ⌜ r ≡ found (first (length (now (orders .entry))) (badOrder (space [] (now (degrees .entry)) (now (orders .entry))))) ⌝ }
+{
+    let n = orders.len();
+    let mut i = 0;
+    let found = loop {
+        if i == n {
+            break Found::Nothing;
+        }
+        if order_is_bad(degrees, orders, i) {
+            break Found::At(i);
+        }
+        i += 1;
+    };
+    found
+}
+
+// Number 3, of m + 1 breakpoints.
+fn check_breaks(breaks: &[i32], m: usize) -> Legality
+    requires { ⌜ (length (now breaks) ≡ m + 1) × (m ≤ 12) ⌝ }
+    ensures { λ r. ⌜ r ≡ legality (breaksChecked (now (breaks .entry)) m) ⌝ }
+{
+    let bad = first_bad_break(breaks);
+    match bad {
+        Found::At(i) => Legality::Refused(3, i as u8),
+        Found::Nothing => {
+            if span_is_too_long(breaks, m) {
+                let place = m as u8;
+                return Legality::Refused(3, place);
+            }
+            Legality::Legal
+        }
+    }
+}
+
+// Number 4.
+fn check_degrees(degrees: &[i32]) -> Legality
+    requires { ⌜ length (now degrees) ≤ 12 ⌝ }
+    ensures { λ r. ⌜ r ≡ legality (degreesChecked (now (degrees .entry))) ⌝ }
+{
+    let bad = first_bad_degree(degrees);
+    match bad {
+        Found::At(i) => Legality::Refused(4, i as u8),
+        Found::Nothing => Legality::Legal,
+    }
+}
+
+// Number 5.
+fn check_orders(degrees: &[i32], orders: &[i32]) -> Legality
+    requires { ⌜ (length (now degrees) ≡ length (now orders) + 1) × (length (now degrees) ≤ 12) ⌝ }
+    ensures { λ r. ⌜ r ≡ legality (ordersChecked (now (degrees .entry)) (now (orders .entry))) ⌝ }
+{
+    let bad = first_bad_order(degrees, orders);
+    match bad {
+        Found::At(i) => Legality::Refused(5, i as u8),
+        Found::Nothing => Legality::Legal,
+    }
+}
+
+// The first of the refusals 2 to 5, in the order of their numbers.
+pub fn check(breaks: &[i32], degrees: &[i32], orders: &[i32]) -> Legality
+    ensures { λ r. ⌜ r ≡ legality (checked (space (now (breaks .entry)) (now (degrees .entry)) (now (orders .entry)))) ⌝ }
+{
+    if lengths_fit(breaks, degrees, orders) {
+        let b = check_breaks(breaks, degrees.len());
+        match b {
+            Legality::Refused(number, place) => Legality::Refused(number, place),
+            Legality::Legal => {
+                let d = check_degrees(degrees);
+                match d {
+                    Legality::Refused(number, place) => Legality::Refused(number, place),
+                    Legality::Legal => check_orders(degrees, orders),
+                }
+            }
+        }
+    } else {
+        Legality::Refused(2, 0)
+    }
+}
+
+pub fn degree_at(degrees: &[i32], i: usize) -> usize
+    requires { ⌜ (i < length (now degrees)) × DegreesLegal (now degrees) ⌝ }
+    ensures { λ r. ⌜ r ≡ degree (space [] (now (degrees .entry)) []) i ⌝ }
+{
+    degrees[i] as usize
+}
+
+pub fn segment_length(breaks: &[i32], i: usize) -> i64
+    requires { ⌜ (i + 1 < length (now breaks)) × BreaksLegal (now breaks) ⌝ }
+    ensures { λ r. ⌜ r ≡ pos (width (space (now (breaks .entry)) [] []) i) ⌝ }
+{
+    let start = breaks[i];
+    let end = breaks[i + 1];
+    (end - start) as i64
+}
+
+// The number of conditions at join i.
+pub fn condition_count(orders: &[i32], i: usize) -> usize
+    requires { ⌜ (i < length (now orders)) × OrdersLegal (now orders) ⌝ }
+    ensures { λ r. ⌜ r ≡ conditionCount (space [] [] (now (orders .entry))) i ⌝ }
+{
+    (orders[i] + 1) as usize
+}
+
+pub fn first_column(degrees: &[i32], i: usize) -> usize
+    requires { ⌜ (i ≤ length (now degrees)) × ((length (now degrees) ≤ 12) × DegreesLegal (now degrees)) ⌝ }
+    ensures { λ r. ⌜ r ≡ firstColumn (space [] (now (degrees .entry)) []) i ⌝ }
+{
+    let mut column = 0;
+    let mut k = 0;
+    while k < i {
+        column += degree_at(degrees, k) + 1;
+        k += 1;
+    }
+    column
+}
+
+// The number of conditions at the joins before join i.
+fn conditions_before(orders: &[i32], i: usize) -> usize
+    requires { ⌜ (i ≤ length (now orders)) × ((length (now orders) ≤ 12) × OrdersLegal (now orders)) ⌝ }
+    ensures { λ r. ⌜ r ≡ conditionsBefore (space [] [] (now (orders .entry))) i ⌝ }
+{
+    let mut count = 0;
+    let mut k = 0;
+    while k < i {
+        count += condition_count(orders, k);
+        k += 1;
+    }
+    count
+}
+
+// The number of weights' rows after the last step of the build, and so of coefficients.
+pub fn row_count(degrees: &[i32], orders: &[i32]) -> usize
+    requires { ⌜ JoinsLegal (now degrees) (now orders) ⌝ }
+    ensures { λ r. ⌜ r ≡ rowCount (space [] (now (degrees .entry)) (now (orders .entry))) ⌝ }
+{
+    let columns = first_column(degrees, degrees.len());
+    let conditions = conditions_before(orders, orders.len());
+    columns - conditions
+}
