@@ -1,11 +1,13 @@
 """Compares the engine with the rational program on random calls.
 
-usage: compare.py DRIVER [--count N] [--seed S] [--case LINE]
+usage: compare.py DRIVER [--count N] [--seed S] [--case LINE] [--valgrind]
 
 The driver executable runs each call; its line must equal the model's byte for
 byte, so every answer and every lent cell is compared. Every value of every
 answered curve call is held against the exact curve as demand 3 asks. The
-first difference is shown with its call line, which --case runs again.
+first difference is shown with its call line, which --case runs again. With
+--valgrind the driver runs under it, and any read or write outside the lent
+memory is a failure.
 """
 
 import argparse
@@ -27,6 +29,7 @@ from walzhik_reference import ClosenessTest, Space, by_column
 GATE_COUNT = 20_000
 BATCH = 1_000             # calls given to one run of the driver
 BATCH_SECONDS = 300
+VALGRIND = ["valgrind", "--quiet", "--error-exitcode=9"]
 REACHABLE = range(9)      # numbers that a call on random lists must show
 ENOUGH = 2_000            # calls from which each of them must have come up
 BEFORE, AFTER = 40, 80    # characters shown around a difference
@@ -36,9 +39,9 @@ class Difference(Exception):
     """A call and what is wrong with it."""
 
 
-def driven(driver, lines):
+def driven(command, lines):
     """The driver's result lines and whether it ended well."""
-    run = subprocess.run([driver], input="".join(line + "\n" for line in lines),
+    run = subprocess.run(command, input="".join(line + "\n" for line in lines),
                          capture_output=True, text=True, timeout=BATCH_SECONDS, check=False)
     return run.stdout.splitlines(), run.returncode, run.stderr
 
@@ -70,8 +73,8 @@ def check_closeness(call, outcome, line):
     return len(outcome.values)
 
 
-def compare_batch(driver, batch, seen):
-    lines, code, errors = driven(driver, [call_line(call) for call in batch])
+def compare_batch(command, batch, seen):
+    lines, code, errors = driven(command, [call_line(call) for call in batch])
     for call, line in zip(batch, lines):
         outcome = call.outcome()
         check_line(call, outcome, line)
@@ -83,10 +86,10 @@ def compare_batch(driver, batch, seen):
                          f"{len(lines)} of {len(batch)} results: {errors.strip()}")
 
 
-def compare_all(driver, every_call, seen):
+def compare_all(command, every_call, seen):
     batches = iter(every_call)
     while batch := list(itertools.islice(batches, BATCH)):
-        compare_batch(driver, batch, seen)
+        compare_batch(command, batch, seen)
 
 
 def print_summary(seen, seconds):
@@ -113,6 +116,7 @@ def arguments():
     parser.add_argument("--count", type=int, default=GATE_COUNT)
     parser.add_argument("--seed", type=int, default=None)
     parser.add_argument("--case", default=None, help="one call line to run again")
+    parser.add_argument("--valgrind", action="store_true", help="run the driver under valgrind")
     return parser.parse_args()
 
 
@@ -125,7 +129,7 @@ def main():
     every_call = ([read_call(chosen.case)] if chosen.case
                   else itertools.chain(fixed_calls(), calls(seed, chosen.count)))
     try:
-        compare_all(chosen.driver, every_call, seen)
+        compare_all(VALGRIND * chosen.valgrind + [chosen.driver], every_call, seen)
     except Difference as difference:
         print(difference)
         print(f"compare: {compared(seen)} passed, 1 failed (seed {seed})")
