@@ -8,6 +8,7 @@ use mathlib.Core.List.{List, [], _∷_}
 use Prim.Native.Nat.{ℕ, zero, suc, pred, _*_, _/_, _<_, _≤_}
 use native.Mathlib.Omega.{arith}
 use native.Mathlib.Nat.{mul-pos, suc-pred-eq-of-pos, div-one, div-le-self}
+use native.Mathlib.Numerals.{add-one}
 use lib.Dec.{T, T-prop, eqb, eqb→eq}
 use lib.IntN.{ℤ, pos, negsuc, _+ℤ_, _-ℤ_, _*ℤ_, negℤ, natAbs, ℤ-discrete}
 use Rattle.exact.specs.Gcd.{gcd}
@@ -299,6 +300,9 @@ int-neg z = is-unique (is-int (negℤ z)) (is-opp (is-int z)) refl
 
 pub int-sub : (a b : ℤ) → int (a -ℤ b) ≡ int a -ᵠ int b
 int-sub a b = int-add a (negℤ b) ∙ ap (λ t. int a +ᵠ t) (int-neg b)
+
+pub int-suc : (n : ℕ) → int (pos (suc n)) ≡ int (pos n) +ᵠ int (pos 1)
+int-suc n = ap (λ m. int (pos m)) (sym (add-one n)) ∙ int-add (pos n) (pos 1)
 
 pub int-inj : (a b : ℤ) → int a ≡ int b → a ≡ b
 int-inj a b e = Z.*-inj a b 0 (is-cross (is-int a) (subst (λ t. t is b over 1) (sym e) (is-int b)))

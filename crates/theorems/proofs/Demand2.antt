@@ -30,7 +30,7 @@ rows-and-columns s a = let b = built s (a .table) (a .is) in let n = row-count s
 -- ---- lists and functions
 
 -- the sum of ordinates times conditions is the functional's value
-pairing-applied : (o : Row) (κ : List Entry) → pairing o κ ≡ applied κ (entry o)
+pub pairing-applied : (o : Row) (κ : List Entry) → pairing o κ ≡ applied κ (entry o)
 unfolding pairing applied
 pairing-applied o [] = refl
 pairing-applied o (e ∷ es) = ap (λ t. entry o (e .column) *ᵠ int (e .factor) +ᵠ t) (pairing-applied o es)
@@ -47,7 +47,7 @@ module _ (columns : ℕ) (t : Table) (wide : Wide columns t) where
   combined-past : (a : ℕ → ℚ) (c : ℕ) → columns ≤ c → combined a t c ≡ int (pos 0)
   combined-past a c h = sum-zero (length t) (λ i k. ap (λ u. a i *ᵠ u) (cell-past i c h) ∙ mul-zero (a i))
 
-  combination-at : (factors : List ℚ) (c : ℕ) → entry (combination columns factors t) c ≡ combined (entry factors) t c
+  pub combination-at : (factors : List ℚ) (c : ℕ) → entry (combination columns factors t) c ≡ combined (entry factors) t c
   unfolding combination
   combination-at factors c = go (le-or-lt columns c)
     where

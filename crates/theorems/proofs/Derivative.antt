@@ -26,12 +26,12 @@ use Rattle.theorems.proofs.Condition.{leftScale, rightScale, divisor, d
 
 -- ---- derivatives as differences
 
--- F(p, k) / h^k, as the recurrence makes it
-rate : ℕ → ℕ → ℕ → ℚ
+-- F(p, k) / h^k, as the recurrence makes it.
+pub rate : ℕ → ℕ → ℕ → ℚ
 rate p h zero = int (pos 1)
 rate p h (suc k) = int (pos (p - k)) /ᵠ int (pos h) *ᵠ rate p h k
 
-derivative-difference : (p h : ℕ) (f : ℕ → ℚ) (k j : ℕ) → derivativeCoefficient p h f k j ≡ rate p h k *ᵠ difference k (λ t. f (j + t))
+pub derivative-difference : (p h : ℕ) (f : ℕ → ℚ) (k j : ℕ) → derivativeCoefficient p h f k j ≡ rate p h k *ᵠ difference k (λ t. f (j + t))
 unfolding derivativeCoefficient rate
 derivative-difference p h f zero j = sym (ap (λ u. int (pos 1) *ᵠ u) (difference-zero (λ t. f (j + t)) ∙ ap f (let e : j + 0 ≡ j = omega arith in e)) ∙ one-mul (f j))
 derivative-difference p h f (suc k) j =
@@ -153,7 +153,7 @@ module _ (s : Space) (i k : ℕ) where
         ∙ side-sum (degree s (suc i) + 1) k 0 (-ᵠ rate (degree s (suc i)) (width s (suc i)) k) (λ t. z (firstColumn s (suc i) + t)) (omega arith)
         ∙ ap (λ u. -ᵠ rate (degree s (suc i)) (width s (suc i)) k *ᵠ u) (difference-ext k (λ u l. ap (λ n. z (firstColumn s (suc i) + n)) (zero-add u)))
 
-    constraint-sum : sum (columnCount s) (λ c. z c *ᵠ constraint s i c k)
+    pub constraint-sum : sum (columnCount s) (λ c. z c *ᵠ constraint s i c k)
         ≡ rate (degree s i) (width s i) k *ᵠ difference k (λ u. z (firstColumn s i + (degree s i - k + u))) -ᵠ rate (degree s (suc i)) (width s (suc i)) k *ᵠ difference k (λ u. z (firstColumn s (suc i) + u))
     unfolding F firstColumn
     constraint-sum = sum-past (firstColumn s (suc (suc i))) (columnCount s) F (firstColumn-mono s (suc (suc i)) (segments s) inner) (λ c h l. ap (λ u. z c *ᵠ u) (constraint-after c h) ∙ mul-zero (z c))

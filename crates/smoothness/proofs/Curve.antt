@@ -1,0 +1,63 @@
+-- Document 01's exact curve is, on each segment, the polynomial with the ordinates that the rows and the coefficients give.
+use mathlib.Core.Path.{_≡_, refl, sym, _∙_, ap, ap₂, fun-ext}
+use mathlib.Core.List.{List, [], _∷_, map}
+use Prim.Native.Nat.{ℕ, zero, suc, _+_, _*_, _<_}
+use native.Mathlib.Omega.{arith}
+use lib.IntN.{ℤ, pos}
+use lib.ListN.{length}
+use Rattle.exact.specs.Rational.{ℚ, int, inv, _*ᵠ_, -ᵠ_, _-ᵠ_, _/ᵠ_}
+use Rattle.exact.proofs.Ring.{ring, by-eq}
+use Rattle.exact.proofs.Rational.{ℚ-ring, readsℚ, int-mul, int-sub, int-nonzero, inv-mul, mul-inv, mul-assoc}
+use Rattle.exact.proofs.Sum.{sum-ext}
+use Rattle.spline.specs.Space.{Space, degree, width, firstColumn, columnCount}
+use Rattle.spline.specs.Table.{entry, cell}
+use Rattle.spline.specs.Piecewise.{Accepted}
+use Rattle.spline.specs.Reading.{parts, fine, segmentAt, coefficient, fineWidth, offset}
+use Rattle.spline.specs.ExactCurve.{exactOn, exactCurve}
+use Rattle.theorems.proofs.Built.{built}
+use Rattle.theorems.proofs.Demand2.{combination-at}
+use Rattle.closeness.proofs.Segment.{Located, located, accepted-checked}
+use Rattle.closeness.proofs.Bernstein.{exactTriangle}
+use Rattle.closeness.proofs.Triangle.{leftFactor, rightFactor}
+use Rattle.closeness.proofs.Ordinate.{exactOrdinate}
+use Rattle.closeness.proofs.ExactSum.{exactOrdinates, exactOn-is-triangle}
+use Rattle.smoothness.specs.Polynomial.{value}
+use Rattle.smoothness.specs.Smoothness.{piece, curveOrdinates, ExactCurveIsPolynomial}
+use Rattle.smoothness.proofs.Bernstein.{bernsteinForm-value}
+
+-- 256 times the coefficients, as factors
+factor-at : (coefs : List ℤ) (i : ℕ) → entry (map (λ c. int (fine c)) coefs) i ≡ int (fine (coefficient coefs i))
+factor-at [] i = refl
+factor-at (c ∷ coefs) zero = refl
+factor-at (c ∷ coefs) (suc i) = factor-at coefs i
+
+ordinate-is : (s : Space) (a : Accepted s) (coefs : List ℤ) (c : ℕ) → entry (curveOrdinates s (a .table) coefs) c ≡ exactOrdinate (a .table) (coefficient coefs) c
+unfolding exactOrdinate
+ordinate-is s a coefs c = combination-at (columnCount s) (a .table) (built s (a .table) (a .is) .basis .wide) (map (λ c. int (fine c)) coefs) c
+    ∙ sum-ext (length (a .table)) (λ i l. ap (λ u. u *ᵠ cell (a .table) i c) (factor-at coefs i))
+
+-- u / D, with D = 256 h
+right-factor : (h : ℕ) (u : ℤ) → 0 < parts * h → rightFactor (parts * h) u ≡ int u /ᵠ int (pos parts) /ᵠ int (pos h)
+right-factor zero u l = absurd (omega arith)
+right-factor (suc h) u l = ap (λ d. int u *ᵠ inv d) (int-mul (pos parts) (pos (suc h))) ∙ ap (λ d. int u *ᵠ d) (inv-mul (int (pos parts)) (int (pos (suc h))) (int-nonzero 255) (int-nonzero h)) ∙ sym (mul-assoc _ _ _)
+
+left-factor : (d : ℕ) (u : ℤ) → 0 < d → leftFactor d u ≡ int (pos 1) -ᵠ rightFactor d u
+left-factor zero u l = absurd (omega arith)
+left-factor (suc d) u l = ap (λ t. t *ᵠ inv (int (pos (suc d)))) (int-sub (pos (suc d)) u)
+    ∙ by-eq ℚ-ring (int (pos 1)) (mul-inv (int (pos (suc d))) (int-nonzero d)) (ring ℚ-ring (int (pos (suc d)) ∷ int u ∷ inv (int (pos (suc d))) ∷ []) (search readsℚ depth 20) (search readsℚ depth 20) refl)
+
+pub exact-curve-is-polynomial : ExactCurveIsPolynomial
+unfolding exactCurve piece
+exact-curve-is-polynomial s a coefs x inside = go (segmentAt s x) (located s (accepted-checked s a .1) x inside)
+  where
+    go : (j : ℕ) → Located s x j → exactOn s (a .table) coefs j x ≡ value (piece s (curveOrdinates s (a .table) coefs) j) (int (offset s j x) /ᵠ int (pos parts))
+    go j L = exactOn-is-triangle s (a .table) coefs j x (L .positive)
+        ∙ ap₂ (λ α β. exactTriangle α β (exactOrdinates s (a .table) coefs j) (degree s j) 0) (left-factor (fineWidth s j) (offset s j x) (L .positive) ∙ ap (λ u. int (pos 1) -ᵠ u) β) β
+        ∙ ap (λ o. exactTriangle (int (pos 1) -ᵠ y /ᵠ int (pos (width s j))) (y /ᵠ int (pos (width s j))) o (degree s j) 0) (fun-ext (λ t. sym (ordinate-is s a coefs (firstColumn s j + t))))
+        ∙ sym (bernsteinForm-value (width s j) (degree s j) (λ t. entry (curveOrdinates s (a .table) coefs) (firstColumn s j + t)) (int (offset s j x) /ᵠ int (pos parts)))
+      where
+        y : ℚ
+        y = int (offset s j x) /ᵠ int (pos parts)
+
+        β : rightFactor (fineWidth s j) (offset s j x) ≡ y /ᵠ int (pos (width s j))
+        β = right-factor (width s j) (offset s j x) (L .positive)

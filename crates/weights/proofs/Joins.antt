@@ -1,0 +1,91 @@
+-- The joins of a legal space: that the machine's sides are those of join j and fit what a step asks, which refusals the
+-- orders at a join can give, and what the joins leave, from an answer or a refusal.
+use mathlib.Core.Path.{_≡_, refl, sym, _∙_, ap, subst}
+use mathlib.Core.Logic.{_⊎_, inl, inr}
+use mathlib.Core.List.{List, []}
+use Prim.Native.Nat.{ℕ, suc, _+_, _<_, _≤_}
+use native.Mathlib.Omega.{arith}
+use lib.IntN.{ℤ}
+use lib.ListN.{length}
+use Rattle.spline.specs.Outcome.{Outcome, answer, refusal, capped}
+use Rattle.spline.specs.Space.{Space, conditionCount, conditionsBefore, columnCount}
+use Rattle.spline.specs.Conditions.{conditions}
+use Rattle.spline.specs.Table.{Table, numerators, denominators}
+use Rattle.spline.specs.Step.{step}
+use Rattle.spline.specs.Build.{orderSteps}
+use Rattle.spline.proofs.Outcome.{RefusedAs, repeat-refused}
+use Rattle.spline.proofs.Refusals.{EightOrNine, step-refuses}
+use Rattle.space.specs.Reply.{space}
+use Rattle.space.specs.Legal.{ListsLegal}
+use Rattle.space.proofs.Legal.{legal-width-low, legal-width-high, legal-degree-high, legal-conditions-high, legal-conditions-left, legal-conditions-right, legal-columns-within, legal-column-count-high, legal-conditions-before, first-column-next, first-column-mono, conditions-before-next}
+use Rattle.space.proofs.Partial.{first-column-partial}
+use Rattle.weights.specs.Held.{SideIs, JoinIs, JoinFits, JoinsLeave, Kept}
+use Rattle.weights.specs.Reply.{refusalOf}
+use Rattle.weights.specs.declared.Built.{Built}
+use Rattle.weights.specs.declared.Built.the-variants.{Rows, Refused}
+use Rattle.weights.specs.declared.conditions.Side.{Side}
+use Rattle.weights.specs.declared.conditions.Join.{Join}
+use Rattle.weights.specs.declared.jumps.Refusal.the-variants as refusals
+use Rattle.weights.proofs.Steps.{eight-named, nine-named}
+
+-- ---- a join of a legal space
+
+-- a side needs only the breakpoints and the degrees
+pub side-whole : (b d o : List ℤ) {side : Side} {i : ℕ} → SideIs side (space b d []) i → SideIs side (space b d o) i
+side-whole b d o {side} {i} h = record {
+  degree-is = h .degree-is;
+  length-is = h .length-is;
+  column-is = h .column-is ∙ sym (first-column-partial b d [] i) ∙ first-column-partial b d o i;
+}
+
+module _ (b d o : List ℤ) (legal : ListsLegal b d o) (j : ℕ) (within : j < length o) where
+  pub join-fits : {join : Join} → JoinIs join (space b d o) j → (k : ℕ) → k < conditionCount (space b d o) j → JoinFits join k
+  join-fits is k h = record {
+    space = space b d o;
+    index = j;
+    is = is;
+    left-short = legal-width-high b d o legal j (omega (arith, legal .order-count));
+    right-short = legal-width-high b d o legal (suc j) (omega (arith, legal .order-count));
+    left-long = legal-width-low b d o legal j (omega (arith, legal .order-count));
+    right-long = legal-width-low b d o legal (suc j) (omega (arith, legal .order-count));
+    left-degree = legal-degree-high b d o legal j (omega (arith, legal .order-count));
+    right-degree = legal-degree-high b d o legal (suc j) (omega (arith, legal .order-count));
+    order-left = omega (arith, legal-conditions-left b d o legal j within);
+    order-right = omega (arith, legal-conditions-right b d o legal j within);
+    order = omega (arith, legal-conditions-high b d o legal j within);
+    left-columns = omega (arith, first-column-next (space b d o) j);
+    right-columns = omega (arith, legal-columns-within b d o legal (suc j) (omega (arith, legal .order-count)), legal-column-count-high b d o legal);
+  }
+
+  -- the conditions up to and with this join are fewer than the columns
+  pub conditions-left : conditionsBefore (space b d o) j + conditionCount (space b d o) j < columnCount (space b d o)
+  conditions-left = omega (
+    arith,
+    conditions-before-next (space b d o) j,
+    legal-conditions-before b d o legal (suc j) (omega (arith, legal .order-count)),
+    first-column-mono (space b d o) (suc j) (length d) (omega (arith, legal .order-count)),
+  )
+
+-- ---- the refusals of the orders at a join
+
+pub orders-refuse : (s : Space) (j n : ℕ) (t : Table) → RefusedAs (EightOrNine j) (orderSteps s j n t)
+unfolding orderSteps
+orders-refuse s j n t = repeat-refused (EightOrNine j) n (λ k. step j (conditions s j k)) t (λ k u h e. step-refuses j (conditions s j k) u)
+
+-- a number with one name is not the other
+pub named-eight : {number : ℕ} → (number ≡ 8) ⊎ (number ≡ 9) → refusalOf number ≡ refusals.TooLarge → number ≡ 8
+named-eight (inl e) h = e
+named-eight (inr e) h = absurd (let n = nine-named e in let z : _≡_ {A = ℕ} 0 1 = cc in omega arith)
+
+pub named-nine : {number : ℕ} → (number ≡ 8) ⊎ (number ≡ 9) → refusalOf number ≡ refusals.Shape → number ≡ 9
+named-nine (inl e) h = absurd (let n = eight-named e in let z : _≡_ {A = ℕ} 0 1 = cc in omega arith)
+named-nine (inr e) h = e
+
+-- ---- what the joins leave
+
+module _ (n : ℕ) (num den num′ den′ : List ℤ) where
+  pub joins-answer : {o : Outcome Table} {t : Table} {r : Built} → o ≡ answer t → r ≡ Rows n → num′ ≡ numerators t num → den′ ≡ denominators t den → JoinsLeave o n r num den num′ den′
+  joins-answer {r = r} e h p q = subst (λ (o : Outcome Table). JoinsLeave o n r num den num′ den′) (sym e) (h, p, q)
+
+  pub joins-refusal : {o : Outcome Table} {number place : ℕ} {r : Built} → o ≡ refusal number place → r ≡ Refused number place → Kept num num′ → Kept den den′ → JoinsLeave o n r num den num′ den′
+  joins-refusal {r = r} e h p q = subst (λ (o : Outcome Table). JoinsLeave o n r num den num′ den′) (sym e) (h, p, q)

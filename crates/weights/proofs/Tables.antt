@@ -1,0 +1,114 @@
+-- Rows and entries of a table: past its ends, after one row is changed, left out or put between others, and the identity.
+use mathlib.Core.Path.{_≡_, refl, sym, _∙_, ap, ap₂}
+use mathlib.Core.Bool.{cond}
+use mathlib.Core.Logic.{_≢_}
+use mathlib.Core.List.{[], _∷_, _++_, append-assoc}
+use Prim.Native.Nat.{ℕ, suc, _+_, _-_, _<_, _≤_}
+use native.Mathlib.Omega.{arith}
+use native.Mathlib.Decide.{decLt}
+use borrow.Author.Tests.{eq-eqb, ne-eqb}
+use lib.Dec.{eqb}
+use lib.IntN.{pos}
+use lib.ListN.{length, set, take, drop, length-append, length-drop, take-append-drop, List·getD-append, List·getD-eq-default}
+use lib.Seq.{length-take-le, getD-take, getD-drop, getD-append-add, drop-cons, set-at, take-at, drop-append-add}
+use Rattle.exact.specs.Rational.{int}
+use Rattle.exact.specs.Tabulate.{tab}
+use Rattle.exact.proofs.Tabulate.{tab-length, tab-getD}
+use Rattle.spline.specs.Table.{Row, Table, entry, row, cell, identity}
+
+-- ---- past the ends
+
+pub entry-past : (r : Row) (c : ℕ) → length r ≤ c → entry r c ≡ int (pos 0)
+entry-past r c h = List·getD-eq-default r (int (pos 0)) h
+
+pub row-past : (t : Table) (i : ℕ) → length t ≤ i → row t i ≡ []
+row-past t i h = List·getD-eq-default t [] h
+
+pub cell-past : (t : Table) (i c : ℕ) → length t ≤ i → cell t i c ≡ int (pos 0)
+cell-past t i c h = ap (λ r. entry r c) (row-past t i h)
+
+-- ---- row l left out
+
+pub row-without-before : (t : Table) (l i : ℕ) → l ≤ length t → i < l → row (take l t ++ drop (suc l) t) i ≡ row t i
+row-without-before t l i h k = List·getD-append (take l t) (drop (suc l) t) [] i (rw (length-take-le l t h) k) ∙ getD-take l t i [] k
+
+pub row-without-from : (t : Table) (l i : ℕ) → l ≤ length t → l ≤ i → row (take l t ++ drop (suc l) t) i ≡ row t (suc i)
+row-without-from t l i h k =
+    ap (λ n. row (take l t ++ drop (suc l) t) n) (let e : i ≡ length (take l t) + (i - l) = omega (arith, length-take-le l t h) in e)
+    ∙ getD-append-add (take l t) (drop (suc l) t) (i - l) []
+    ∙ getD-drop (suc l) t (i - l) []
+    ∙ ap (row t) (let e : suc l + (i - l) ≡ suc i = omega arith in e)
+
+-- ---- rows from f up to i made new: where rs are those rows, the table is take f t ++ (rs ++ drop i t)
+
+abbrev pub renewed : ℕ → Table → Table → ℕ → Table
+renewed f t rs i = take f t ++ (rs ++ drop i t)
+
+pub renewed-none : (f : ℕ) (t : Table) → t ≡ renewed f t [] f
+renewed-none f t = sym (take-append-drop f t)
+
+module _ (f : ℕ) (t rs : Table) (i : ℕ) (order : f ≤ i) (inside : i ≤ length t) (size : length rs ≡ i - f) where
+  pub renewed-length : length (renewed f t rs i) ≡ length t
+  renewed-length = length-append (take f t) (rs ++ drop i t) ∙ omega (arith, length-take-le f t (omega arith), length-append rs (drop i t), length-drop i t)
+
+  -- the rows from i on are the old ones
+  pub renewed-old : (k : ℕ) → i ≤ k → row (renewed f t rs i) k ≡ row t k
+  renewed-old k h =
+      ap (row (renewed f t rs i)) (let e : k ≡ length (take f t) + (length rs + (k - i)) = omega (arith, length-take-le f t (omega arith)) in e)
+      ∙ getD-append-add (take f t) (rs ++ drop i t) (length rs + (k - i)) []
+      ∙ getD-append-add rs (drop i t) (k - i) []
+      ∙ getD-drop i t (k - i) []
+      ∙ ap (row t) (let e : i + (k - i) ≡ k = omega arith in e)
+
+  -- one new row more
+  pub renewed-more : (r : Row) → i < length t → set (renewed f t rs i) i r ≡ renewed f t (rs ++ (r ∷ [])) (suc i)
+  renewed-more r h =
+      ap (λ ys. set (take f t ++ (rs ++ ys)) i r) (drop-cons t i [] h)
+      ∙ ap (λ ys. set ys i r) (sym (append-assoc (take f t) rs (row t i ∷ drop (suc i) t)))
+      ∙ set-at (take f t ++ rs) (row t i) (drop (suc i) t) r i (length-append (take f t) rs ∙ omega (arith, length-take-le f t (omega arith)))
+      ∙ append-assoc (take f t) rs (r ∷ drop (suc i) t)
+      ∙ ap (λ ys. take f t ++ ys) (sym (append-assoc rs (r ∷ []) (drop (suc i) t)))
+
+-- the rows up to l made new and row l left out: the table that a step leaves
+pub renewed-without : (f : ℕ) (t rs : Table) (l : ℕ) → f ≤ l → l < length t → length rs ≡ l - f → take l (renewed f t rs l) ++ drop (suc l) (renewed f t rs l) ≡ renewed f t rs (suc l)
+renewed-without f t rs l h k size =
+    ap₂ _++_
+    (ap (take l) split ∙ take-at (take f t ++ rs) (row t l ∷ drop (suc l) t) l long)
+    (
+    ap (drop (suc l)) split
+    ∙ ap (λ n. drop n ((take f t ++ rs) ++ (row t l ∷ drop (suc l) t))) (let e : suc l ≡ length (take f t ++ rs) + 1 = omega (arith, long) in e)
+    ∙ drop-append-add (take f t ++ rs) (row t l ∷ drop (suc l) t) 1
+    )
+    ∙ append-assoc (take f t) rs (drop (suc l) t)
+  where
+    split : renewed f t rs l ≡ (take f t ++ rs) ++ (row t l ∷ drop (suc l) t)
+    split = ap (λ ys. take f t ++ (rs ++ ys)) (drop-cons t l [] k) ∙ sym (append-assoc (take f t) rs (row t l ∷ drop (suc l) t))
+
+    long : length (take f t ++ rs) ≡ l
+    long = length-append (take f t) rs ∙ omega (arith, length-take-le f t (omega arith))
+
+-- ---- the identity
+
+pub identity-cell : (n i c : ℕ) → i < n → c < n → cell (identity n) i c ≡ cond (eqb i c) (int (pos 1)) (int (pos 0))
+unfolding identity
+identity-cell n i c h k = ap (λ r. entry r c) (tab-getD n _ i [] h) ∙ tab-getD n (λ j. cond (eqb i j) (int (pos 1)) (int (pos 0))) c (int (pos 0)) k
+
+pub identity-wide : (n i : ℕ) → i < n → length (row (identity n) i) ≡ n
+unfolding identity
+identity-wide n i h = ap length (tab-getD n _ i [] h) ∙ tab-length n (λ j. cond (eqb i j) (int (pos 1)) (int (pos 0)))
+
+-- outside, and off the diagonal
+pub identity-low : (n i c : ℕ) → n ≤ i → cell (identity n) i c ≡ int (pos 0)
+unfolding identity
+identity-low n i c h = cell-past (tab n _) i c (rw (tab-length n (λ i. tab n (λ j. cond (eqb i j) (int (pos 1)) (int (pos 0))))) h)
+
+pub identity-off : (n i c : ℕ) → i ≢ c → cell (identity n) i c ≡ int (pos 0)
+identity-off n i c h = go (decLt i n) (decLt c n)
+  where
+    go : Dec (i < n) → Dec (c < n) → cell (identity n) i c ≡ int (pos 0)
+    go (no k) d = identity-low n i c (omega arith)
+    go (yes k) (no l) = entry-past (row (identity n) i) c (rw (identity-wide n i k) (omega arith))
+    go (yes k) (yes l) = identity-cell n i c k l ∙ ap (λ b. cond b (int (pos 1)) (int (pos 0))) (ne-eqb i c h)
+
+pub identity-on : (n i : ℕ) → i < n → cell (identity n) i i ≡ int (pos 1)
+identity-on n i h = identity-cell n i i h h ∙ ap (λ b. cond b (int (pos 1)) (int (pos 0))) (eq-eqb i i refl)

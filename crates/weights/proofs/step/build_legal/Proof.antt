@@ -1,0 +1,116 @@
+-- The identity of the space's columns, then the joins' steps; after a refusal the buffers are cleared. Assumes nothing.
+use borrow.Author.Needs.{needs}
+use mathlib.Core.Path.{_≡_, sym, _∙_, ap, subst}
+use mathlib.Core.List.{List}
+use Prim.Native.Nat.{ℕ, _≤_}
+use native.Mathlib.Omega.{arith}
+use Rattle.spline.specs.Space.{Space, columnCount, rowCount}
+use Rattle.spline.specs.Table.{identity}
+use Rattle.spline.specs.Build.{weights}
+use Rattle.space.specs.Reply.{space}
+use Rattle.space.proofs.Partial.{column-count-partial}
+use Rattle.space.proofs.Legal.{legal-column-count-high}
+use Rattle.weights.specs.Held.{Holds, Start, JoinsLeave}
+use Rattle.weights.specs.declared.Built.{Built}
+use Rattle.weights.proofs.Buffer.{holds-left}
+use Rattle.weights.proofs.Stepped.{identity-fits}
+use Rattle.weights.proofs.Building.{ends-rows, ends-cleared}
+use Rattle.weights.proofs.step.build_legal.Statement.{statement}
+use Rattle.weights.proofs.step.build_legal.Tie as tie
+
+abbrev lists : tie.Start → Space
+lists c = space (c .args .breaks .now) (c .args .degrees .now) (c .args .orders .now)
+
+-- the columns
+module _ (c : tie.After-first-column) where
+  columns-are : c .first-column .result ≡ columnCount (lists (c .before))
+  columns-are = c .first-column .ensures ∙ column-count-partial _ (c .before .args .degrees .now) _
+
+  columns-fit : c .first-column .result ≤ 72
+  columns-fit = omega (arith, columns-are, legal-column-count-high _ _ _ (c .before .pre .0))
+
+first-column-requires : tie.Need-first-column-requires
+first-column-requires c κs = search needs
+
+identity-requires : tie.Need-identity-requires
+identity-requires c κs = let f = c .before .before in (columns-fit f, f .before .pre .1)
+
+-- the identity is in the buffers
+starts : (c : tie.After-identity) → Start (lists (c .before .before .before .before)) (c .identity .last .0) (c .identity .last .1 .0) (c .before .before .before .first-column .result)
+starts c =
+    let f = c .before .before .before in
+    let p = f .before .pre in
+    record {
+      count = columns-are f;
+      room = columns-fit f;
+      holds = holds-left _ _ (identity (f .first-column .result)) (p .1 .0) (p .1 .1) (c .identity .ensures .0) (c .identity .ensures .1) (identity-fits (f .first-column .result));
+    }
+
+join-steps-requires : tie.Need-join-steps-requires
+join-steps-requires c κs = let i = c .before .before .before .before in (i .before .before .before .before .pre .0, starts i)
+
+enum-known-built : tie.Need-enum-known-built
+enum-known-built c = search needs
+
+enum-known-built-2 : tie.Need-enum-known-built-2
+enum-known-built-2 c = search needs
+
+clear-requires : tie.Need-clear-requires
+clear-requires c κs = search needs
+
+same-length : tie.Need-same-length
+same-length c = search needs
+
+same-length-2 : tie.Need-same-length-2
+same-length-2 c = search needs
+
+-- what the joins left, for the answer that was told
+module _ (c : tie.After-join-steps) where
+  abbrev before-joins : tie.After-identity
+  before-joins = c .before .before .before .before .before
+
+  abbrev whole : Space
+  whole = lists (before-joins .before .before .before .before)
+
+  left : (r : Built) → c .join-steps .result ≡ r → JoinsLeave (weights whole) (rowCount whole) r (before-joins .identity .last .0) (before-joins .identity .last .1 .0) (c .join-steps .last .1 .1 .1 .0) (c .join-steps .last .1 .1 .1 .1 .0)
+  left r e = subst (λ (x : Built). JoinsLeave (weights whole) (rowCount whole) x (before-joins .identity .last .0) (before-joins .identity .last .1 .0) (c .join-steps .last .1 .1 .1 .0) (c .join-steps .last .1 .1 .1 .1 .0)) e (c .join-steps .ensures)
+
+returns : tie.Need-returns
+returns c =
+    let j = c .before .before .before .before .before in
+    let i = before-joins j in
+    let e = ends-rows (rowCount (whole j)) _ _ _ _ _ _ _ (i .identity .ensures .0) (i .identity .ensures .1) (weights (whole j)) (left j _ (c .before .built .given .1)) in
+    (e .answers, (e .numerators-are, e .denominators-are))
+
+same-length-3 : tie.Need-same-length-3
+same-length-3 c = search needs
+
+same-length-4 : tie.Need-same-length-4
+same-length-4 c = search needs
+
+returns-2 : tie.Need-returns-2
+returns-2 c =
+    let d = c .before .before in
+    let b = d .before .before .before .before in
+    let j = b .before .before .before .before in
+    let i = before-joins j in
+    let p = i .before .before .before .before .pre .1 in
+    let e = ends-cleared (rowCount (whole j)) _ _ _ _ _ _ _ (i .identity .ensures .0) (i .identity .ensures .1) (whole j) (p .0) (p .1) (left j _ (b .built2 .given .1)) (d .clear .ensures .0) (d .clear .ensures .1) in
+    (e .answers, (e .numerators-are, e .denominators-are))
+
+pub build-legal-spec : {M : Type 1} → statement M
+build-legal-spec =
+    tie.close
+    (tie.spec
+    first-column-requires
+    identity-requires
+    join-steps-requires
+    enum-known-built
+    enum-known-built-2
+    clear-requires
+    same-length
+    same-length-2
+    returns
+    same-length-3
+    same-length-4
+    returns-2)

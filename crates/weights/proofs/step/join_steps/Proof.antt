@@ -1,0 +1,305 @@
+-- Before the turn at j the buffers hold the table after the joins before j, with a row less for each of their conditions;
+-- the orders at join j are then its next steps. Assumes nothing.
+use borrow.Author.Needs.{needs}
+use mathlib.Core.Path.{_≡_, refl, sym, _∙_, ap, ap₂, subst}
+use mathlib.Core.Logic.{_⊎_}
+use mathlib.Core.List.{List, []}
+use Prim.Native.Nat.{ℕ, suc, _+_, _-_, _<_, _≤_}
+use native.Mathlib.Omega.{arith}
+use native.Mathlib.Numerals.{add-one}
+use lib.IntN.{ℤ}
+use lib.ListN.{length}
+use Rattle.spline.specs.Outcome.{answer, repeat}
+use Rattle.spline.specs.Space.{Space, segments, columnCount, conditionCount, conditionsBefore, rowCount}
+use Rattle.spline.specs.Table.{Table, identity, numerators, denominators}
+use Rattle.spline.specs.Build.{orderSteps, joinSteps, weights}
+use Rattle.spline.proofs.Outcome.{repeat-more, repeat-stops, capped-small}
+use Rattle.space.specs.Reply.{space}
+use Rattle.space.proofs.Legal.{conditions-before-zero, conditions-before-next, legal-row-count-sum}
+use Rattle.weights.specs.Held.{Holds, SideIs, JoinIs, JoinFits, Kept, Leaves, JoinsLeave, Start}
+use Rattle.weights.specs.declared.conditions.Join.{Join}
+use Rattle.weights.specs.declared.Built.the-variants.{Rows, Refused}
+use Rattle.weights.specs.declared.jumps.Refusal.{Refusal}
+use Rattle.weights.specs.declared.jumps.Refusal.the-variants as refusals
+use Rattle.weights.proofs.Buffer.{holds-left, kept-then, kept-numerators, kept-denominators, numerators-again, denominators-again}
+use Rattle.weights.proofs.Stepped.{Proper, orders-less, identity-shaped}
+use Rattle.weights.proofs.Leaving.{Done, Halted, leaves-none, leaves-some}
+use Rattle.weights.proofs.Joins.{side-whole, join-fits, conditions-left, orders-refuse, named-eight, named-nine, joins-answer, joins-refusal}
+use Rattle.weights.proofs.step.join_steps.Statement.{statement}
+use Rattle.weights.proofs.step.join_steps.Tie as tie
+
+-- the first j joins are answered, and the buffers hold their table
+record State (s : Space) (num₀ den₀ : List ℤ) (columns : ℕ) (num dens : List ℤ) (rows j : ℕ) : Type 0 where
+  reached : Table
+  answers : joinSteps s j ≡ answer reached
+  proper : Proper reached rows columns
+  num-is : num ≡ numerators reached num₀
+  den-is : dens ≡ denominators reached den₀
+
+record Inv (s : Space) (joins : ℕ) (num₀ den₀ : List ℤ) (columns : ℕ) (num dens : List ℤ) (rows j : ℕ) : Type 0 where
+  within : j ≤ joins
+  rows-are : rows + conditionsBefore s j ≡ columnCount s
+  num-long : length num ≡ length num₀
+  den-long : length dens ≡ length den₀
+  state : State s num₀ den₀ columns num dens rows j
+
+abbrev Inv-loop : tie.InvT-loop
+Inv-loop breaks degrees orders num₀ den₀ columns rows₀ j₀ num den rows j = Inv (space breaks degrees orders) (length orders) num₀ den₀ columns num den rows j
+
+abbrev μ-loop : tie.MeasureT-loop
+μ-loop breaks degrees orders num₀ den₀ columns rows₀ j₀ num den rows j = length orders - j
+
+-- ---- one turn, in the definitions' terms
+
+joins-none : (s : Space) → joinSteps s 0 ≡ answer (identity (columnCount s))
+unfolding joinSteps repeat
+joins-none s = refl
+
+module _ {s : Space} {num₀ den₀ : List ℤ} {columns : ℕ} {num dens : List ℤ} {rows j : ℕ} (start : Start s num₀ den₀ columns) (st : State s num₀ den₀ columns num dens rows j) where
+  holds : Holds num dens (st .reached)
+  holds = holds-left num₀ den₀ (st .reached) (start .holds .num-long) (start .holds .den-long) (st .num-is) (st .den-is) (st .proper .fit)
+
+  -- all orders are done: one join more
+  goes-on : {n : ℕ} → n ≡ conditionCount s j → (num′ dens′ : List ℤ) → Done num dens num′ dens′ (orderSteps s j (conditionCount s j) (st .reached)) → State s num₀ den₀ columns num′ dens′ (rows - n) (j + 1)
+  unfolding joinSteps
+  goes-on count num′ dens′ d = record {
+    reached = d .table;
+    answers = ap (joinSteps s) (add-one j) ∙ repeat-more j (λ j. orderSteps s j (conditionCount s j)) (identity (columnCount s)) (st .answers) ∙ d .answers;
+    proper = subst (λ n. Proper (d .table) (rows - n) columns) (sym count) (orders-less s j (conditionCount s j) (st .reached) (d .answers) (st .proper));
+    num-is = d .num-is ∙ ap (numerators (d .table)) (st .num-is) ∙ numerators-again (d .table) (st .reached) num₀;
+    den-is = d .den-is ∙ ap (denominators (d .table)) (st .den-is) ∙ denominators-again (d .table) (st .reached) den₀;
+  }
+
+  -- one is refused: so is the build
+  ends : j < segments s - 1 → (num′ dens′ : List ℤ) {reason : Refusal} {number : ℕ} → (h : Halted num dens num′ dens′ (orderSteps s j (conditionCount s j) (st .reached)) reason)
+      → h .ended .number ≡ number → j ≤ 255 → JoinsLeave (weights s) (rowCount s) (Refused number j) num₀ den₀ num′ dens′
+  unfolding joinSteps weights
+  ends l num′ dens′ {number = number} h e small =
+      joins-refusal (rowCount s) num₀ den₀ num′ dens′
+      (repeat-stops (segments s - 1) j (λ j. orderSteps s j (conditionCount s j)) (identity (columnCount s)) l (st .answers) (h .ended .refuses))
+      (ap₂ Refused (sym e) (sym (orders-refuse s j (conditionCount s j) (st .reached) (h .ended .number) (h .ended .place) (h .ended .refuses) .1 ∙ capped-small j small)))
+      (kept-then (subst (Kept num₀) (sym (st .num-is)) (kept-numerators (st .reached) num₀ (start .holds .num-long))) (h .num-kept))
+      (kept-then (subst (Kept den₀) (sym (st .den-is)) (kept-denominators (st .reached) den₀ (start .holds .den-long))) (h .den-kept))
+
+-- ---- the turn that the code takes
+
+abbrev at-loop : tie.After-side-at2 Inv-loop μ-loop → tie.At-loop Inv-loop μ-loop
+at-loop c = c .before .before .before .before
+
+abbrev start : tie.After-side-at2 Inv-loop μ-loop → tie.Start Inv-loop μ-loop
+start c = at-loop c .before
+
+abbrev lists : tie.Start Inv-loop μ-loop → Space
+lists c = space (c .args .breaks .now) (c .args .degrees .now) (c .args .orders .now)
+
+-- the bounds of a turn
+record Turn (orders degrees j : ℕ) : Type 0 where
+  taken : j < orders
+  count : orders + 1 ≡ degrees
+  few : degrees ≤ 12
+
+turn : (c : tie.In-loop Inv-loop μ-loop) → Turn (length (c .before .before .args .orders .now)) (length (c .before .before .args .degrees .now)) (c .before .loop .j)
+turn c = record { taken = omega arith; count = c .before .before .pre .0 .order-count; few = c .before .before .pre .0 .few }
+
+module _ (c : tie.After-side-at2 Inv-loop μ-loop) where
+  abbrev s : Space
+  s = lists (start c)
+
+  abbrev j : ℕ
+  j = at-loop c .loop .j
+
+  abbrev join : Join
+  join = record { left = c .before .side-at .result; right = c .side-at2 .result }
+
+  is : JoinIs join s j
+  is = record {
+    left-is = side-whole _ _ (start c .args .orders .now) (c .before .side-at .ensures);
+    right-is = side-whole _ _ (start c .args .orders .now) (subst (SideIs (c .side-at2 .result) (space (start c .args .breaks .now) (start c .args .degrees .now) [])) (add-one j) (c .side-at2 .ensures));
+  }
+
+  fitting : (k : ℕ) → k < c .before .before .condition-count .result → JoinFits join k
+  fitting k h = join-fits _ _ _ (start c .pre .0) j (turn (c .before .before .before) .taken) is k (subst (λ n. k < n) (c .before .before .condition-count .ensures) h)
+
+  st : State s (start c .args .num .now) (start c .args .den .now) (start c .args .columns) (at-loop c .loop .num) (at-loop c .loop .den) (at-loop c .loop .rows) j
+  st = at-loop c .loop .inv .state
+
+  room : c .before .before .condition-count .result ≤ at-loop c .loop .rows
+  room = omega (arith, conditions-left _ _ _ (start c .pre .0) j (turn (c .before .before .before) .taken), at-loop c .loop .inv .rows-are, c .before .before .condition-count .ensures)
+
+module _ (c : tie.After-den Inv-loop μ-loop) where
+  abbrev sides : tie.After-side-at2 Inv-loop μ-loop
+  sides = c .before .before .before .before .before
+
+  left : Leaves (orderSteps (s sides) (j sides) (conditionCount (s sides) (j sides)) (st sides .reached)) (c .before .before .order-steps .result) (at-loop sides .loop .num) (at-loop sides .loop .den) (c .before .before .order-steps .last .0) (c .before .before .order-steps .last .1 .0)
+  left =
+      subst (λ n. Leaves (orderSteps (s sides) (j sides) n (st sides .reached)) (c .before .before .order-steps .result) (at-loop sides .loop .num) (at-loop sides .loop .den) (c .before .before .order-steps .last .0) (c .before .before .order-steps .last .1 .0))
+      (sides .before .before .condition-count .ensures)
+      (c .before .before .order-steps .ensures (s sides) (j sides) (st sides .reached) (is sides) (holds (start sides .pre .1) (st sides)) (st sides .proper .shaped))
+
+  halted : (reason : Refusal) → c .before .before .order-steps .result ≡ reason → (reason ≡ refusals.None → ⊥)
+      → Halted (at-loop sides .loop .num) (at-loop sides .loop .den) (c .before .before .order-steps .last .0) (c .before .before .order-steps .last .1 .0) (orderSteps (s sides) (j sides) (conditionCount (s sides) (j sides)) (st sides .reached)) reason
+  halted reason e n = leaves-some _ _ _ _ (orderSteps (s sides) (j sides) (conditionCount (s sides) (j sides)) (st sides .reached)) _ reason left e n
+
+  -- the number of a refusal
+  numbered : (reason : Refusal) (h : Halted (at-loop sides .loop .num) (at-loop sides .loop .den) (c .before .before .order-steps .last .0) (c .before .before .order-steps .last .1 .0) (orderSteps (s sides) (j sides) (conditionCount (s sides) (j sides)) (st sides .reached)) reason)
+      → (h .ended .number ≡ 8) ⊎ (h .ended .number ≡ 9)
+  numbered reason h = orders-refuse (s sides) (j sides) (conditionCount (s sides) (j sides)) (st sides .reached) (h .ended .number) (h .ended .place) (h .ended .refuses) .0
+
+  num-same : length (c .before .before .order-steps .last .0) ≡ length (start sides .args .num .now)
+  num-same = c .before .before .order-steps .kept .0 ∙ at-loop sides .loop .inv .num-long
+
+  den-same : length (c .before .before .order-steps .last .1 .0) ≡ length (start sides .args .den .now)
+  den-same = c .before .before .order-steps .kept .1 .0 ∙ at-loop sides .loop .inv .den-long
+
+loop-holds : tie.Need-loop-holds Inv-loop μ-loop
+loop-holds c =
+    let b = c .pre .1 in
+    record {
+      within = omega arith;
+      rows-are = omega (arith, conditions-before-zero (lists c), b .count);
+      num-long = refl;
+      den-long = refl;
+      state = record {
+        reached = identity (c .args .columns);
+        answers = joins-none (lists c) ∙ ap (λ n. answer (identity n)) (sym (b .count));
+        proper = record { shaped = identity-shaped (c .args .columns) (b .room); fit = b .holds .fit };
+        num-is = b .holds .num-is;
+        den-is = b .holds .den-is;
+      };
+    }
+
+condition-count-requires : tie.Need-condition-count-requires Inv-loop μ-loop
+condition-count-requires c κs = (turn c .taken, c .before .before .pre .0 .orders-legal)
+
+side-at-requires : tie.Need-side-at-requires Inv-loop μ-loop
+side-at-requires c κs = let t = turn (c .before) in let p = c .before .before .before .pre .0 in ((_, p), omega (arith, t .taken, t .count))
+
+add-side-at : tie.Need-add-side-at Inv-loop μ-loop
+add-side-at c = let t = turn (c .before .before) in omega (arith, t .taken, t .count, t .few)
+
+side-at-requires-2 : tie.Need-side-at-requires-2 Inv-loop μ-loop
+side-at-requires-2 c κs = let t = turn (c .before .before) in let p = c .before .before .before .before .pre .0 in ((_, p), omega (arith, t .taken, t .count))
+
+order-steps-requires : tie.Need-order-steps-requires Inv-loop μ-loop
+order-steps-requires c κs =
+    let d = c .before .before in
+    let x = st d in
+    (room d, (fitting d, record { table = x .reached; holds = holds (start d .pre .1) x; shaped = x .proper .shaped }))
+
+enum-told : tie.Need-enum-told Inv-loop μ-loop
+enum-told c = search needs
+
+sub-rows : tie.Need-sub-rows Inv-loop μ-loop
+sub-rows c = room (sides (c .before .before))
+
+enum-told-2 : tie.Need-enum-told-2 Inv-loop μ-loop
+enum-told-2 c = search needs
+
+-- a join's index is a byte
+place-small : (c : tie.After-den Inv-loop μ-loop) → j (sides c) < 12
+place-small c = let t = turn (sides c .before .before .before) in omega (arith, t .taken, t .count, t .few)
+
+before-last : (c : tie.After-den Inv-loop μ-loop) → j (sides c) < segments (s (sides c)) - 1
+before-last c = let t = turn (sides c .before .before .before) in omega (arith, t .taken, t .count)
+
+cast-t20 : tie.Need-cast-t20 Inv-loop μ-loop
+cast-t20 c = omega (arith, place-small (c .before .before))
+
+same-length : tie.Need-same-length Inv-loop μ-loop
+same-length c = num-same (c .before .before)
+
+same-length-2 : tie.Need-same-length-2 Inv-loop μ-loop
+same-length-2 c = den-same (c .before .before)
+
+returns : tie.Need-returns Inv-loop μ-loop
+returns c =
+    let d = c .before .before in
+    let h = halted d refusals.TooLarge (c .enum-told2 .given .1) (λ z. let x : _≡_ {A = ℕ} 0 1 = cc in omega arith) in
+    ends (start (sides d) .pre .1) (st (sides d)) (before-last d) _ _ h (named-eight (numbered d refusals.TooLarge h) (h .ended .named)) (omega (arith, place-small d))
+
+enum-told-3 : tie.Need-enum-told-3 Inv-loop μ-loop
+enum-told-3 c = search needs
+
+cast-t21 : tie.Need-cast-t21 Inv-loop μ-loop
+cast-t21 c = omega (arith, place-small (c .before .before))
+
+same-length-3 : tie.Need-same-length-3 Inv-loop μ-loop
+same-length-3 c = num-same (c .before .before)
+
+same-length-4 : tie.Need-same-length-4 Inv-loop μ-loop
+same-length-4 c = den-same (c .before .before)
+
+returns-2 : tie.Need-returns-2 Inv-loop μ-loop
+returns-2 c =
+    let d = c .before .before in
+    let h = halted d refusals.Shape (c .enum-told3 .given .1) (λ z. let x : _≡_ {A = ℕ} 0 1 = cc in omega arith) in
+    ends (start (sides d) .pre .1) (st (sides d)) (before-last d) _ _ h (named-nine (numbered d refusals.Shape h) (h .ended .named)) (omega (arith, place-small d))
+
+add-j : tie.Need-add-j Inv-loop μ-loop
+add-j c = omega (arith, place-small (c .before .before))
+
+loop-less : tie.Need-loop-less Inv-loop μ-loop
+loop-less c = let t = turn (sides (c .before .before) .before .before .before) in omega (arith, t .taken)
+
+loop-again : tie.Need-loop-again Inv-loop μ-loop
+loop-again c =
+    let d = c .before .before in
+    let x = sides d in
+    let t = turn (x .before .before .before) in
+    let n = x .before .before .condition-count .ensures in
+    record {
+      within = omega (arith, t .taken);
+      rows-are = omega (arith, room x, at-loop x .loop .inv .rows-are, conditions-before-next (s x) (j x), n, ap (conditionsBefore (s x)) (add-one (j x)));
+      num-long = num-same d;
+      den-long = den-same d;
+      state = goes-on (start x .pre .1) (st x) n _ _ (leaves-none _ _ _ _ (orderSteps (s x) (j x) (conditionCount (s x) (j x)) (st x .reached)) _ (left d) (c .enum-told .given .1));
+    }
+
+same-length-5 : tie.Need-same-length-5 Inv-loop μ-loop
+same-length-5 c = c .before .loop .inv .num-long
+
+same-length-6 : tie.Need-same-length-6 Inv-loop μ-loop
+same-length-6 c = c .before .loop .inv .den-long
+
+-- every join: the rows are counted
+returns-3 : tie.Need-returns-3 Inv-loop μ-loop
+unfolding weights
+returns-3 c =
+    let b = c .before .before in
+    let l = c .before .loop in
+    let p = b .pre .0 in
+    let e : l .j ≡ segments (lists b) - 1 = omega (arith, p .order-count) in
+    joins-answer (rowCount (lists b)) _ _ _ _ (ap (joinSteps (lists b)) (sym e) ∙ l .inv .state .answers)
+    (ap Rows (omega (arith, l .inv .rows-are, legal-row-count-sum _ _ _ p, ap (conditionsBefore (lists b)) e)))
+    (l .inv .state .num-is) (l .inv .state .den-is)
+
+pub join-steps-spec : {M : Type 1} → statement M
+join-steps-spec =
+    tie.close
+    (tie.spec
+    Inv-loop
+    μ-loop
+    loop-holds
+    condition-count-requires
+    side-at-requires
+    add-side-at
+    side-at-requires-2
+    order-steps-requires
+    enum-told
+    sub-rows
+    enum-told-2
+    cast-t20
+    same-length
+    same-length-2
+    returns
+    enum-told-3
+    cast-t21
+    same-length-3
+    same-length-4
+    returns-2
+    add-j
+    loop-less
+    loop-again
+    same-length-5
+    same-length-6
+    returns-3)

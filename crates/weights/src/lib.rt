@@ -1,0 +1,46 @@
+// The weights of a multi-degree spline space: exact fractions in two lent buffers, by document 01's steps.
+ghost use mathlib.Core.Path.{_≡_};
+ghost use lib.ListN.{length};
+ghost use Rattle.spline.specs.Outcome.{with-answer};
+ghost use Rattle.spline.specs.Space.{rowCount};
+ghost use Rattle.spline.specs.Build.{built, numeratorsAfter, denominatorsAfter};
+ghost use Rattle.space.specs.Reply.{space};
+ghost use Rattle.weights.specs.Reply.{reply};
+
+mod cells;
+mod conditions;
+mod jumps;
+mod rows;
+mod step;
+
+// What building answers: the row count n, or a refusal's number and place.
+pub enum Built {
+    Rows(usize),
+    Refused(u8, u8),
+}
+
+// Builds the weights of the space with these breakpoints, degrees and orders. Lists and buffers may have any length and
+// content: what the definition refuses is refused, and the buffers are then as it says.
+pub fn build(
+    breaks: &[i32],
+    degrees: &[i32],
+    orders: &[i32],
+    num: &mut [i64],
+    den: &mut [i64],
+) -> Built
+    ensures answer { λ r. ⌜ reply r ≡ with-answer (λ _. rowCount (space (now (breaks .entry)) (now (degrees .entry)) (now (orders .entry)))) (built (space (now (breaks .entry)) (now (degrees .entry)) (now (orders .entry))) (length (now (num .entry))) (length (now (den .entry)))) ⌝ }
+    ensures numerators { λ r. ⌜ now (num .exit) ≡ numeratorsAfter (built (space (now (breaks .entry)) (now (degrees .entry)) (now (orders .entry))) (length (now (num .entry))) (length (now (den .entry)))) (now (num .entry)) ⌝ }
+    ensures denominators { λ r. ⌜ now (den .exit) ≡ denominatorsAfter (built (space (now (breaks .entry)) (now (degrees .entry)) (now (orders .entry))) (length (now (num .entry))) (length (now (den .entry)))) (now (den .entry)) ⌝ }
+{
+    if num.len() < crate::cells::TABLE_CELLS {
+        return Built::Refused(1, 0);
+    }
+    if den.len() < crate::cells::TABLE_CELLS {
+        return Built::Refused(1, 1);
+    }
+    let legality = space::check(breaks, degrees, orders);
+    match legality {
+        space::Legality::Legal => step::build_legal(breaks, degrees, orders, num, den),
+        space::Legality::Refused(number, place) => Built::Refused(number, place),
+    }
+}

@@ -1,0 +1,195 @@
+// The steps of the build: at each join from the left, one for each order from 0 up to its own.
+ghost use mathlib.Core.Path.{_≡_};
+ghost use mathlib.Core.List.{List, []};
+ghost use Prim.Native.Nat.{ℕ, _<_, _≤_};
+ghost use lib.IntN.{ℤ};
+ghost use lib.ListN.{length};
+ghost use Rattle.exact.specs.Rational.{ℚ};
+ghost use Rattle.spline.specs.Outcome.{with-answer};
+ghost use Rattle.spline.specs.Space.{Space, rowCount};
+ghost use Rattle.spline.specs.Conditions;
+ghost use Rattle.spline.specs.Table.{Table};
+ghost use Rattle.spline.specs.Step;
+ghost use Rattle.spline.specs.Build;
+ghost use Rattle.space.specs.Reply.{space};
+ghost use Rattle.weights.specs.Reply.{reply, fractions};
+ghost use Rattle.weights.specs.Held.{Holds, Shaped, Held, Leaves, JoinsLeave, Start, SideIs, JoinIs, JoinFits};
+ghost use Rattle.weights.specs.Jumps.{Spanned};
+ghost use Rattle.space.specs.Legal.{ListsLegal};
+use crate::Built;
+use crate::conditions::Join;
+use crate::conditions::Side;
+use crate::jumps::Fractions;
+use crate::jumps::JumpSpan;
+use crate::jumps::Refusal;
+
+// The rest of a step whose jumps span the rows f to l: the factors, the new rows and one row less.
+fn mix(
+    num: &mut [i64],
+    den: &mut [i64],
+    js: Fractions,
+    f: usize,
+    l: usize,
+    rows: usize,
+    columns: usize,
+) -> Refusal
+    requires { ⌜ Spanned js f l × ((l < rows) × Held (now num) (now den) rows columns) ⌝ }
+    ensures { λ r. ⌜ ((t : Table) (j : ℕ) (qs : List ℚ) → Holds (now (num .entry)) (now (den .entry)) t → Shaped t rows columns → js ≡ fractions qs
+        → Leaves (Step.mixed j t qs (record { f = f; l = l })) r (now (num .entry)) (now (den .entry)) (now (num .exit)) (now (den .exit))) ⌝ }
+{
+    let ws = crate::jumps::factors(js, f, l);
+    let refusal = ws.refusal;
+    match refusal {
+        Refusal::TooLarge => Refusal::TooLarge,
+        Refusal::Shape => Refusal::Shape,
+        Refusal::None => {
+            let of = ws.of;
+            let done = crate::rows::mix_rows(num, den, of, f, l, rows, columns);
+            if !done {
+                return Refusal::TooLarge;
+            }
+            crate::cells::drop_row(num, den, l, rows);
+            Refusal::None
+        }
+    }
+}
+
+// One step: the new rows and one row less, or why it is refused.
+fn step(
+    num: &mut [i64],
+    den: &mut [i64],
+    join: Join,
+    k: usize,
+    rows: usize,
+    columns: usize,
+) -> Refusal
+    requires { ⌜ JoinFits join k × Held (now num) (now den) rows columns ⌝ }
+    ensures { λ r. ⌜ ((s : Space) (j : ℕ) (t : Table) → JoinIs join s j → Holds (now (num .entry)) (now (den .entry)) t → Shaped t rows columns
+        → Leaves (Step.step j (Conditions.conditions s j k) t) r (now (num .entry)) (now (den .entry)) (now (num .exit)) (now (den .exit))) ⌝ }
+{
+    let js = crate::jumps::jumps(num, den, rows, join, k);
+    if !js.fit {
+        return Refusal::TooLarge;
+    }
+    let of = js.of;
+    let span = crate::jumps::span(of, rows);
+    match span {
+        JumpSpan::Nothing => Refusal::Shape,
+        JumpSpan::Rows(f, l) => mix(num, den, of, f, l, rows, columns),
+    }
+}
+
+// The orders 0 up to n - 1 at one join; `rows` is the number of rows before.
+fn order_steps(
+    num: &mut [i64],
+    den: &mut [i64],
+    join: Join,
+    n: usize,
+    rows: usize,
+    columns: usize,
+) -> Refusal
+    requires { ⌜ (n ≤ rows) × (((k : ℕ) → k < n → JoinFits join k) × Held (now num) (now den) rows columns) ⌝ }
+    ensures { λ r. ⌜ ((s : Space) (j : ℕ) (t : Table) → JoinIs join s j → Holds (now (num .entry)) (now (den .entry)) t → Shaped t rows columns
+        → Leaves (Build.orderSteps s j n t) r (now (num .entry)) (now (den .entry)) (now (num .exit)) (now (den .exit))) ⌝ }
+{
+    let mut k = 0;
+    while k < n {
+        let refusal = step(num, den, join, k, rows - k, columns);
+        match refusal {
+            Refusal::None => {
+                k += 1;
+            }
+            Refusal::TooLarge => {
+                return Refusal::TooLarge;
+            }
+            Refusal::Shape => {
+                return Refusal::Shape;
+            }
+        }
+    }
+    Refusal::None
+}
+
+fn side_at(breaks: &[i32], degrees: &[i32], i: usize) -> Side
+    requires { ⌜ ((orders : List ℤ) × ListsLegal (now breaks) (now degrees) orders) × (i < length (now degrees)) ⌝ }
+    ensures { λ r. ⌜ SideIs r (space (now (breaks .entry)) (now (degrees .entry)) []) i ⌝ }
+{
+    let degree = space::degree_at(degrees, i);
+    let length = space::segment_length(breaks, i);
+    let column = space::first_column(degrees, i);
+    Side {
+        degree: degree,
+        length: length,
+        column: column,
+    }
+}
+
+// The joins from the left: the number of rows at the end, or the refusal with its join.
+fn join_steps(
+    breaks: &[i32],
+    degrees: &[i32],
+    orders: &[i32],
+    num: &mut [i64],
+    den: &mut [i64],
+    columns: usize,
+) -> Built
+    requires { ⌜ ListsLegal (now breaks) (now degrees) (now orders) × Start (space (now breaks) (now degrees) (now orders)) (now num) (now den) columns ⌝ }
+    ensures { λ r. ⌜ JoinsLeave (Build.weights (space (now (breaks .entry)) (now (degrees .entry)) (now (orders .entry)))) (rowCount (space (now (breaks .entry)) (now (degrees .entry)) (now (orders .entry)))) r (now (num .entry)) (now (den .entry)) (now (num .exit)) (now (den .exit)) ⌝ }
+{
+    let mut rows = columns;
+    let mut j = 0;
+    while j < orders.len() {
+        let n = space::condition_count(orders, j);
+        let left = side_at(breaks, degrees, j);
+        let right = side_at(breaks, degrees, j + 1);
+        let refusal = order_steps(
+            num,
+            den,
+            Join {
+                left: left,
+                right: right,
+            },
+            n,
+            rows,
+            columns,
+        );
+        match refusal {
+            Refusal::None => {
+                rows -= n;
+            }
+            Refusal::TooLarge => {
+                return Built::Refused(8, j as u8);
+            }
+            Refusal::Shape => {
+                return Built::Refused(9, j as u8);
+            }
+        }
+        j += 1;
+    }
+    Built::Rows(rows)
+}
+
+// The build of a space whose lists are legal, in buffers that are long enough.
+pub fn build_legal(
+    breaks: &[i32],
+    degrees: &[i32],
+    orders: &[i32],
+    num: &mut [i64],
+    den: &mut [i64],
+) -> Built
+    requires { ⌜ ListsLegal (now breaks) (now degrees) (now orders) × ((5184 ≤ length (now num)) × (5184 ≤ length (now den))) ⌝ }
+    ensures { λ r. ⌜ reply r ≡ with-answer (λ _. rowCount (space (now (breaks .entry)) (now (degrees .entry)) (now (orders .entry)))) (Build.weights (space (now (breaks .entry)) (now (degrees .entry)) (now (orders .entry)))) ⌝ }
+    ensures { λ r. ⌜ now (num .exit) ≡ Build.numeratorsAfter (Build.weights (space (now (breaks .entry)) (now (degrees .entry)) (now (orders .entry)))) (now (num .entry)) ⌝ }
+    ensures { λ r. ⌜ now (den .exit) ≡ Build.denominatorsAfter (Build.weights (space (now (breaks .entry)) (now (degrees .entry)) (now (orders .entry)))) (now (den .entry)) ⌝ }
+{
+    let columns = space::first_column(degrees, degrees.len());
+    crate::cells::identity(num, den, columns);
+    let built = join_steps(breaks, degrees, orders, num, den, columns);
+    match built {
+        Built::Rows(n) => Built::Rows(n),
+        Built::Refused(number, place) => {
+            crate::cells::clear(num, den, 0, crate::cells::TABLE_CELLS);
+            Built::Refused(number, place)
+        }
+    }
+}
