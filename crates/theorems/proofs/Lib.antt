@@ -18,4 +18,5 @@ pub mod Published
 pub mod Counted
 pub mod Demand2
 pub mod Demand3
+pub mod Cells
 pub mod Instances

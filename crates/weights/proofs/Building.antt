@@ -7,15 +7,15 @@ use mathlib.Core.List.{List, []}
 use Prim.Native.Nat.{ℕ, _-_, _<_, _≤_}
 use native.Mathlib.Omega.{arith}
 use borrow.Author.Tests.{ne-eqb, lt-ltb, le-ltb}
-use lib.Dec.{eqb, ltb}
+use lib.Dec.{ltb}
 use lib.IntN.{ℤ, pos}
 use lib.ListN.{length}
 use Rattle.spline.specs.Outcome.{Outcome, answer, refusal, refuse, with-answer}
 use Rattle.spline.specs.Space.{Space, segments, columnCount, conditionCount, checked}
 use Rattle.spline.specs.Table.{Table, identity, tableCells, numerators, denominators}
 use Rattle.spline.specs.Build.{orderSteps, joinSteps, weights, spaceWeights, built, clears, numeratorsAfter, denominatorsAfter}
-use Rattle.spline.proofs.Outcome.{RefusedAs, repeat-refused, then-answers, then-refuses, capped-small}
-use Rattle.spline.proofs.Legal.{checked-numbers}
+use Rattle.spline.proofs.Outcome.{RefusedAs, repeat-refused, then-answers, then-refuses}
+use Rattle.spline.proofs.Outcome.{capped-small}
 use Rattle.weights.specs.Held.{JoinsLeave, Kept}
 use Rattle.weights.specs.Part.{filled}
 use Rattle.weights.specs.Reply.{reply}

@@ -1,13 +1,13 @@
 -- The joins of a legal space: that the machine's sides are those of join j and fit what a step asks, which refusals the
 -- orders at a join can give, and what the joins leave, from an answer or a refusal.
-use mathlib.Core.Path.{_≡_, refl, sym, _∙_, ap, subst}
+use mathlib.Core.Path.{_≡_, sym, _∙_, subst}
 use mathlib.Core.Logic.{_⊎_, inl, inr}
 use mathlib.Core.List.{List, []}
-use Prim.Native.Nat.{ℕ, suc, _+_, _<_, _≤_}
+use Prim.Native.Nat.{ℕ, suc, _+_, _<_}
 use native.Mathlib.Omega.{arith}
 use lib.IntN.{ℤ}
 use lib.ListN.{length}
-use Rattle.spline.specs.Outcome.{Outcome, answer, refusal, capped}
+use Rattle.spline.specs.Outcome.{Outcome, answer, refusal}
 use Rattle.spline.specs.Space.{Space, conditionCount, conditionsBefore, columnCount}
 use Rattle.spline.specs.Conditions.{conditions}
 use Rattle.spline.specs.Table.{Table, numerators, denominators}
@@ -30,13 +30,16 @@ use Rattle.weights.proofs.Steps.{eight-named, nine-named}
 
 -- ---- a join of a legal space
 
--- a side needs only the breakpoints and the degrees
-pub side-whole : (b d o : List ℤ) {side : Side} {i : ℕ} → SideIs side (space b d []) i → SideIs side (space b d o) i
+-- a side, and so a join, needs only the breakpoints and the degrees
+side-whole : (b d o : List ℤ) {side : Side} {i : ℕ} → SideIs side (space b d []) i → SideIs side (space b d o) i
 side-whole b d o {side} {i} h = record {
   degree-is = h .degree-is;
   length-is = h .length-is;
   column-is = h .column-is ∙ sym (first-column-partial b d [] i) ∙ first-column-partial b d o i;
 }
+
+pub join-whole : (b d o : List ℤ) {join : Join} {j : ℕ} → JoinIs join (space b d []) j → JoinIs join (space b d o) j
+join-whole b d o h = record { left-is = side-whole b d o (h .left-is); right-is = side-whole b d o (h .right-is) }
 
 module _ (b d o : List ℤ) (legal : ListsLegal b d o) (j : ℕ) (within : j < length o) where
   pub join-fits : {join : Join} → JoinIs join (space b d o) j → (k : ℕ) → k < conditionCount (space b d o) j → JoinFits join k

@@ -22,8 +22,8 @@ use Rattle.weights.specs.declared.jumps.Refusal.the-variants as refusals
 use Rattle.weights.proofs.Counted.{Refused}
 use Rattle.weights.proofs.Factors.{refusal-some, Ended}
 use Rattle.weights.proofs.Steps.{eight-named, nine-named}
-use Rattle.weights.proofs.Tables.{renewed, renewed-without}
-use Rattle.weights.proofs.Buffer.{holds-left, kept-then, kept-numerators, kept-denominators, numerators-again, denominators-again}
+use Rattle.weights.proofs.Tables.{renewed-without}
+use Rattle.weights.proofs.Buffer.{holds-left, numerators-again, denominators-again}
 use Rattle.weights.proofs.Stepped.{renewed-fits, renewed-shaped, newRows-fit, newRows-length}
 
 -- ---- to what is left

@@ -1,16 +1,15 @@
 -- What the build's functions ask and leave of the two lent buffers: they hold a table whose entries all fit, and what
 -- lies past its 5,184 cells stays as it is.
 use mathlib.Core.Bool.{Bool, true, false}
-use mathlib.Core.List.{List, []}
+use mathlib.Core.List.{List}
 use mathlib.Core.Path.{_≡_}
 use Prim.Native.Nat.{ℕ, suc, _+_, _<_, _≤_}
 use lib.IntN.{ℤ, pos}
-use lib.ListN.{length, drop, set, take}
-use Rattle.exact.specs.Rational.{ℚ}
+use lib.ListN.{length, drop}
 use Rattle.fraction.specs.Size.{fits}
 use Rattle.spline.specs.Outcome.{Outcome, answer, refusal}
 use Rattle.spline.specs.Space.{Space, degree, width, firstColumn, columnCount}
-use Rattle.spline.specs.Table.{Row, Table, row, cell, rowCells, tableCells, identity, numerators, denominators}
+use Rattle.spline.specs.Table.{Table, row, cell, rowCells, tableCells, identity, numerators, denominators}
 use Rattle.weights.specs.Reply.{refusalOf}
 use Rattle.weights.specs.declared.Built.{Built}
 use Rattle.weights.specs.declared.Built.the-variants.{Rows, Refused}

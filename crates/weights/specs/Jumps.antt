@@ -4,7 +4,6 @@ use mathlib.Core.List.{List}
 use mathlib.Core.Path.{_≡_}
 use Prim.Native.Nat.{ℕ, _<_, _≤_}
 use lib.IntN.{pos}
-use lib.ListN.{length}
 use Rattle.exact.specs.Rational.{ℚ, int}
 use Rattle.exact.specs.Order.{isZero, ltᵠ}
 use Rattle.fraction.specs.Size.{fits}

@@ -1,5 +1,5 @@
 -- A part of a buffer written over, cell by cell.
-use mathlib.Core.Bool.{Bool, true, false, cond, _&&_}
+use mathlib.Core.Bool.{Bool, cond, _&&_}
 use mathlib.Core.List.{List}
 use Prim.Native.Nat.{ℕ, _+_, _%_, _/_}
 use lib.Dec.{eqb, leb, ltb}

@@ -1,6 +1,6 @@
 -- Document 01's numbers and places for the cases of the machine's answers, and the machine's form of what the
 -- definitions of crate spline give.
-use mathlib.Core.Bool.{Bool, true, false, cond}
+use mathlib.Core.Bool.{true, false, cond}
 use mathlib.Core.List.{List, []}
 use Prim.Native.Nat.{ℕ}
 use lib.Dec.{eqb}

@@ -1,7 +1,7 @@
 // The steps of the build: at each join from the left, one for each order from 0 up to its own.
 ghost use mathlib.Core.Path.{_≡_};
 ghost use mathlib.Core.List.{List, []};
-ghost use Prim.Native.Nat.{ℕ, _<_, _≤_};
+ghost use Prim.Native.Nat.{ℕ, _+_, _<_, _≤_};
 ghost use lib.IntN.{ℤ};
 ghost use lib.ListN.{length};
 ghost use Rattle.exact.specs.Rational.{ℚ};
@@ -124,6 +124,18 @@ fn side_at(breaks: &[i32], degrees: &[i32], i: usize) -> Side
     }
 }
 
+fn join_at(breaks: &[i32], degrees: &[i32], j: usize) -> Join
+    requires { ⌜ ((orders : List ℤ) × ListsLegal (now breaks) (now degrees) orders) × (j + 1 < length (now degrees)) ⌝ }
+    ensures { λ r. ⌜ JoinIs r (space (now (breaks .entry)) (now (degrees .entry)) []) j ⌝ }
+{
+    let left = side_at(breaks, degrees, j);
+    let right = side_at(breaks, degrees, j + 1);
+    Join {
+        left: left,
+        right: right,
+    }
+}
+
 // The joins from the left: the number of rows at the end, or the refusal with its join.
 fn join_steps(
     breaks: &[i32],
@@ -140,28 +152,18 @@ fn join_steps(
     let mut j = 0;
     while j < orders.len() {
         let n = space::condition_count(orders, j);
-        let left = side_at(breaks, degrees, j);
-        let right = side_at(breaks, degrees, j + 1);
-        let refusal = order_steps(
-            num,
-            den,
-            Join {
-                left: left,
-                right: right,
-            },
-            n,
-            rows,
-            columns,
-        );
+        let join = join_at(breaks, degrees, j);
+        let refusal = order_steps(num, den, join, n, rows, columns);
+        let place = j as u8;
         match refusal {
             Refusal::None => {
                 rows -= n;
             }
             Refusal::TooLarge => {
-                return Built::Refused(8, j as u8);
+                return Built::Refused(8, place);
             }
             Refusal::Shape => {
-                return Built::Refused(9, j as u8);
+                return Built::Refused(9, place);
             }
         }
         j += 1;

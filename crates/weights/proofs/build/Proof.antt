@@ -1,15 +1,14 @@
 -- The tests in document 01's order: a buffer that is too short, lists that are refused, and the build of a legal space.
 -- Assumes nothing.
 use borrow.Author.Needs.{needs}
-use borrow.Author.Tests.{ltb-true, ltb-false}
-use mathlib.Core.Path.{_≡_, sym, _∙_, ap}
+use mathlib.Core.Path.{sym, _∙_, ap}
 use Prim.Native.Nat.{_≤_}
 use native.Mathlib.Omega.{arith}
 use lib.ListN.{length}
-use Rattle.spline.specs.Outcome.{answer, refusal, with-answer}
+use Rattle.spline.specs.Outcome.{with-answer}
 use Rattle.spline.specs.Space.{Space, checked, rowCount}
 use Rattle.spline.specs.Table.{tableCells}
-use Rattle.spline.specs.Build.{built, weights, numeratorsAfter, denominatorsAfter}
+use Rattle.spline.specs.Build.{numeratorsAfter, denominatorsAfter}
 use Rattle.spline.proofs.Legal.{checked-numbers}
 use Rattle.space.specs.Reply.{space}
 use Rattle.space.specs.Legal.{ListsLegal}

@@ -1,25 +1,22 @@
 -- At row i the sum is that of the jumps f to i - 1, and the array holds 1 and the factors of the rows f + 1 to i - 1.
 use borrow.Author.Needs.{needs}
 use native.Mathlib.Omega.{arith}
-use mathlib.Core.Path.{_≡_, refl, sym, _∙_, ap, ap₂}
-use mathlib.Core.Bool.{true}
+use mathlib.Core.Path.{_≡_, sym, _∙_, ap, ap₂}
 use mathlib.Core.List.{List, [], _∷_, _++_}
 use mathlib.Core.Logic.{_≢_}
 use Prim.Native.Nat.{ℕ, suc, _+_, _-_, _<_, _≤_}
 use lib.IntN.{pos}
-use lib.ListN.{length}
 use mir.Syntax.{w64}
 use mir.Val.{SFits}
 use mir.ValLaws.{toZ-ofZ}
 use Rattle.exact.specs.Rational.{ℚ, int, _+ᵠ_}
 use Rattle.exact.proofs.Rational.{zero-is}
 use Rattle.exact.proofs.Order.{isZero-false}
-use Rattle.fraction.specs.Size.{fits}
 use Rattle.fraction.specs.Machine.{fraction, value, Sized}
 use Rattle.fraction.specs.declared.Fraction.{Fraction}
 use Rattle.fraction.proofs.Value.{value-fraction}
 use Rattle.fraction.proofs.Answer.{fits-sized}
-use Rattle.spline.specs.Outcome.{Outcome, answer, refusal, collect}
+use Rattle.spline.specs.Outcome.{answer, refusal, collect}
 use Rattle.spline.specs.Step.{factor, partialSum, quotientFactor}
 use Rattle.spline.specs.Table.{entry}
 use Rattle.spline.proofs.Outcome.{collect-none, collect-more, collect-ends, collect-stays, collect-inverts}

@@ -1,12 +1,11 @@
 -- The two parts are read at the index.
 use borrow.Author.Needs.{needs}
-use mathlib.Core.Path.{_≡_, _∙_, ap}
+use mathlib.Core.Path.{_∙_, ap}
 use lib.IntN.{pos}
 use lib.ListN.{getD}
 use mir.Syntax.{w64}
 use mir.Val.{SFits}
 use mir.ValLaws.{toZ-ofZ}
-use Rattle.fraction.specs.declared.Fraction.{Fraction}
 use Rattle.weights.specs.declared.jumps.Fractions.{Fractions}
 use Rattle.weights.proofs.Fractions.{fraction-at}
 use Rattle.weights.proofs.jumps.fraction_at.Statement.{statement}

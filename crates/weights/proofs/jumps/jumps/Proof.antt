@@ -13,7 +13,7 @@ use mir.Val.{SFits}
 use mir.ValLaws.{toZ-ofZ}
 use Rattle.exact.specs.Rational.{ℚ}
 use Rattle.fraction.specs.Machine.{value}
-use Rattle.spline.specs.Outcome.{Outcome, answer, refusal, collect}
+use Rattle.spline.specs.Outcome.{Outcome, answer, collect}
 use Rattle.spline.specs.Space.{Space}
 use Rattle.spline.specs.Conditions.{conditions}
 use Rattle.spline.specs.Table.{Table, row}
@@ -23,7 +23,6 @@ use Rattle.weights.specs.Held.{Holds, JoinIs}
 use Rattle.weights.specs.Reply.{fractions, rowJumps}
 use Rattle.weights.specs.declared.conditions.Join.{Join}
 use Rattle.weights.specs.declared.jumps.Fractions.{Fractions}
-use Rattle.weights.specs.declared.jumps.RowJumps.{RowJumps}
 use Rattle.weights.proofs.Counted.{fits-answered, large-refused}
 use Rattle.weights.proofs.Fractions.{fractions-more}
 use Rattle.weights.proofs.jumps.jumps.Statement.{statement}

@@ -3,8 +3,7 @@ use borrow.Author.Needs.{needs}
 use native.Mathlib.Omega.{arith}
 use mathlib.Core.Path.{_≡_, sym, _∙_, ap}
 use mathlib.Core.List.{List}
-use mathlib.Core.Option.{some, none}
-use Prim.Native.Nat.{ℕ}
+use mathlib.Core.Option.{some}
 use lib.ListN.{length}
 use Rattle.exact.specs.Rational.{ℚ}
 use Rattle.spline.specs.Search.{first, last}

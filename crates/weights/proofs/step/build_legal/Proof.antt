@@ -1,8 +1,7 @@
 -- The identity of the space's columns, then the joins' steps; after a refusal the buffers are cleared. Assumes nothing.
 use borrow.Author.Needs.{needs}
-use mathlib.Core.Path.{_≡_, sym, _∙_, ap, subst}
-use mathlib.Core.List.{List}
-use Prim.Native.Nat.{ℕ, _≤_}
+use mathlib.Core.Path.{_≡_, _∙_, subst}
+use Prim.Native.Nat.{_≤_}
 use native.Mathlib.Omega.{arith}
 use Rattle.spline.specs.Space.{Space, columnCount, rowCount}
 use Rattle.spline.specs.Table.{identity}
@@ -10,7 +9,7 @@ use Rattle.spline.specs.Build.{weights}
 use Rattle.space.specs.Reply.{space}
 use Rattle.space.proofs.Partial.{column-count-partial}
 use Rattle.space.proofs.Legal.{legal-column-count-high}
-use Rattle.weights.specs.Held.{Holds, Start, JoinsLeave}
+use Rattle.weights.specs.Held.{Start, JoinsLeave}
 use Rattle.weights.specs.declared.Built.{Built}
 use Rattle.weights.proofs.Buffer.{holds-left}
 use Rattle.weights.proofs.Stepped.{identity-fits}

@@ -3,8 +3,8 @@
 use borrow.Author.Needs.{needs}
 use mathlib.Core.Path.{_≡_, refl, sym, _∙_, ap, ap₂, subst}
 use mathlib.Core.Logic.{_⊎_}
-use mathlib.Core.List.{List, []}
-use Prim.Native.Nat.{ℕ, suc, _+_, _-_, _<_, _≤_}
+use mathlib.Core.List.{List}
+use Prim.Native.Nat.{ℕ, _+_, _-_, _<_, _≤_}
 use native.Mathlib.Omega.{arith}
 use native.Mathlib.Numerals.{add-one}
 use lib.IntN.{ℤ}
@@ -13,18 +13,18 @@ use Rattle.spline.specs.Outcome.{answer, repeat}
 use Rattle.spline.specs.Space.{Space, segments, columnCount, conditionCount, conditionsBefore, rowCount}
 use Rattle.spline.specs.Table.{Table, identity, numerators, denominators}
 use Rattle.spline.specs.Build.{orderSteps, joinSteps, weights}
-use Rattle.spline.proofs.Outcome.{repeat-more, repeat-stops, capped-small}
+use Rattle.spline.proofs.Outcome.{repeat-more, repeat-stops}
 use Rattle.space.specs.Reply.{space}
+use Rattle.spline.proofs.Outcome.{capped-small}
 use Rattle.space.proofs.Legal.{conditions-before-zero, conditions-before-next, legal-row-count-sum}
-use Rattle.weights.specs.Held.{Holds, SideIs, JoinIs, JoinFits, Kept, Leaves, JoinsLeave, Start}
-use Rattle.weights.specs.declared.conditions.Join.{Join}
+use Rattle.weights.specs.Held.{Holds, JoinIs, JoinFits, Kept, Leaves, JoinsLeave, Start}
 use Rattle.weights.specs.declared.Built.the-variants.{Rows, Refused}
 use Rattle.weights.specs.declared.jumps.Refusal.{Refusal}
 use Rattle.weights.specs.declared.jumps.Refusal.the-variants as refusals
 use Rattle.weights.proofs.Buffer.{holds-left, kept-then, kept-numerators, kept-denominators, numerators-again, denominators-again}
 use Rattle.weights.proofs.Stepped.{Proper, orders-less, identity-shaped}
 use Rattle.weights.proofs.Leaving.{Done, Halted, leaves-none, leaves-some}
-use Rattle.weights.proofs.Joins.{side-whole, join-fits, conditions-left, orders-refuse, named-eight, named-nine, joins-answer, joins-refusal}
+use Rattle.weights.proofs.Joins.{join-whole, join-fits, conditions-left, orders-refuse, named-eight, named-nine, joins-answer, joins-refusal}
 use Rattle.weights.proofs.step.join_steps.Statement.{statement}
 use Rattle.weights.proofs.step.join_steps.Tie as tie
 
@@ -83,10 +83,10 @@ module _ {s : Space} {num₀ den₀ : List ℤ} {columns : ℕ} {num dens : List
 
 -- ---- the turn that the code takes
 
-abbrev at-loop : tie.After-side-at2 Inv-loop μ-loop → tie.At-loop Inv-loop μ-loop
-at-loop c = c .before .before .before .before
+abbrev at-loop : tie.After-join-at Inv-loop μ-loop → tie.At-loop Inv-loop μ-loop
+at-loop c = c .before .before .before
 
-abbrev start : tie.After-side-at2 Inv-loop μ-loop → tie.Start Inv-loop μ-loop
+abbrev start : tie.After-join-at Inv-loop μ-loop → tie.Start Inv-loop μ-loop
 start c = at-loop c .before
 
 abbrev lists : tie.Start Inv-loop μ-loop → Space
@@ -101,39 +101,33 @@ record Turn (orders degrees j : ℕ) : Type 0 where
 turn : (c : tie.In-loop Inv-loop μ-loop) → Turn (length (c .before .before .args .orders .now)) (length (c .before .before .args .degrees .now)) (c .before .loop .j)
 turn c = record { taken = omega arith; count = c .before .before .pre .0 .order-count; few = c .before .before .pre .0 .few }
 
-module _ (c : tie.After-side-at2 Inv-loop μ-loop) where
+module _ (c : tie.After-join-at Inv-loop μ-loop) where
   abbrev s : Space
   s = lists (start c)
 
   abbrev j : ℕ
   j = at-loop c .loop .j
 
-  abbrev join : Join
-  join = record { left = c .before .side-at .result; right = c .side-at2 .result }
+  is : JoinIs (c .join-at .result) s j
+  is = join-whole _ _ (start c .args .orders .now) (c .join-at .ensures)
 
-  is : JoinIs join s j
-  is = record {
-    left-is = side-whole _ _ (start c .args .orders .now) (c .before .side-at .ensures);
-    right-is = side-whole _ _ (start c .args .orders .now) (subst (SideIs (c .side-at2 .result) (space (start c .args .breaks .now) (start c .args .degrees .now) [])) (add-one j) (c .side-at2 .ensures));
-  }
-
-  fitting : (k : ℕ) → k < c .before .before .condition-count .result → JoinFits join k
-  fitting k h = join-fits _ _ _ (start c .pre .0) j (turn (c .before .before .before) .taken) is k (subst (λ n. k < n) (c .before .before .condition-count .ensures) h)
+  fitting : (k : ℕ) → k < c .before .condition-count .result → JoinFits (c .join-at .result) k
+  fitting k h = join-fits _ _ _ (start c .pre .0) j (turn (c .before .before) .taken) is k (subst (λ n. k < n) (c .before .condition-count .ensures) h)
 
   st : State s (start c .args .num .now) (start c .args .den .now) (start c .args .columns) (at-loop c .loop .num) (at-loop c .loop .den) (at-loop c .loop .rows) j
   st = at-loop c .loop .inv .state
 
-  room : c .before .before .condition-count .result ≤ at-loop c .loop .rows
-  room = omega (arith, conditions-left _ _ _ (start c .pre .0) j (turn (c .before .before .before) .taken), at-loop c .loop .inv .rows-are, c .before .before .condition-count .ensures)
+  room : c .before .condition-count .result ≤ at-loop c .loop .rows
+  room = omega (arith, conditions-left _ _ _ (start c .pre .0) j (turn (c .before .before) .taken), at-loop c .loop .inv .rows-are, c .before .condition-count .ensures)
 
 module _ (c : tie.After-den Inv-loop μ-loop) where
-  abbrev sides : tie.After-side-at2 Inv-loop μ-loop
+  abbrev sides : tie.After-join-at Inv-loop μ-loop
   sides = c .before .before .before .before .before
 
   left : Leaves (orderSteps (s sides) (j sides) (conditionCount (s sides) (j sides)) (st sides .reached)) (c .before .before .order-steps .result) (at-loop sides .loop .num) (at-loop sides .loop .den) (c .before .before .order-steps .last .0) (c .before .before .order-steps .last .1 .0)
   left =
       subst (λ n. Leaves (orderSteps (s sides) (j sides) n (st sides .reached)) (c .before .before .order-steps .result) (at-loop sides .loop .num) (at-loop sides .loop .den) (c .before .before .order-steps .last .0) (c .before .before .order-steps .last .1 .0))
-      (sides .before .before .condition-count .ensures)
+      (sides .before .condition-count .ensures)
       (c .before .before .order-steps .ensures (s sides) (j sides) (st sides .reached) (is sides) (holds (start sides .pre .1) (st sides)) (st sides .proper .shaped))
 
   halted : (reason : Refusal) → c .before .before .order-steps .result ≡ reason → (reason ≡ refusals.None → ⊥)
@@ -171,20 +165,21 @@ loop-holds c =
 condition-count-requires : tie.Need-condition-count-requires Inv-loop μ-loop
 condition-count-requires c κs = (turn c .taken, c .before .before .pre .0 .orders-legal)
 
-side-at-requires : tie.Need-side-at-requires Inv-loop μ-loop
-side-at-requires c κs = let t = turn (c .before) in let p = c .before .before .before .pre .0 in ((_, p), omega (arith, t .taken, t .count))
-
-add-side-at : tie.Need-add-side-at Inv-loop μ-loop
-add-side-at c = let t = turn (c .before .before) in omega (arith, t .taken, t .count, t .few)
-
-side-at-requires-2 : tie.Need-side-at-requires-2 Inv-loop μ-loop
-side-at-requires-2 c κs = let t = turn (c .before .before) in let p = c .before .before .before .before .pre .0 in ((_, p), omega (arith, t .taken, t .count))
+join-at-requires : tie.Need-join-at-requires Inv-loop μ-loop
+join-at-requires c κs = let t = turn (c .before) in let p = c .before .before .before .pre .0 in ((_, p), omega (arith, t .taken, t .count))
 
 order-steps-requires : tie.Need-order-steps-requires Inv-loop μ-loop
 order-steps-requires c κs =
     let d = c .before .before in
     let x = st d in
     (room d, (fitting d, record { table = x .reached; holds = holds (start d .pre .1) x; shaped = x .proper .shaped }))
+
+-- a join's index is a byte
+place-small : (c : tie.After-den Inv-loop μ-loop) → j (sides c) < 12
+place-small c = let t = turn (sides c .before .before) in omega (arith, t .taken, t .count, t .few)
+
+cast-place : tie.Need-cast-place Inv-loop μ-loop
+cast-place c = omega (arith, place-small c)
 
 enum-told : tie.Need-enum-told Inv-loop μ-loop
 enum-told c = search needs
@@ -195,15 +190,8 @@ sub-rows c = room (sides (c .before .before))
 enum-told-2 : tie.Need-enum-told-2 Inv-loop μ-loop
 enum-told-2 c = search needs
 
--- a join's index is a byte
-place-small : (c : tie.After-den Inv-loop μ-loop) → j (sides c) < 12
-place-small c = let t = turn (sides c .before .before .before) in omega (arith, t .taken, t .count, t .few)
-
 before-last : (c : tie.After-den Inv-loop μ-loop) → j (sides c) < segments (s (sides c)) - 1
-before-last c = let t = turn (sides c .before .before .before) in omega (arith, t .taken, t .count)
-
-cast-t20 : tie.Need-cast-t20 Inv-loop μ-loop
-cast-t20 c = omega (arith, place-small (c .before .before))
+before-last c = let t = turn (sides c .before .before) in omega (arith, t .taken, t .count)
 
 same-length : tie.Need-same-length Inv-loop μ-loop
 same-length c = num-same (c .before .before)
@@ -219,9 +207,6 @@ returns c =
 
 enum-told-3 : tie.Need-enum-told-3 Inv-loop μ-loop
 enum-told-3 c = search needs
-
-cast-t21 : tie.Need-cast-t21 Inv-loop μ-loop
-cast-t21 c = omega (arith, place-small (c .before .before))
 
 same-length-3 : tie.Need-same-length-3 Inv-loop μ-loop
 same-length-3 c = num-same (c .before .before)
@@ -239,14 +224,14 @@ add-j : tie.Need-add-j Inv-loop μ-loop
 add-j c = omega (arith, place-small (c .before .before))
 
 loop-less : tie.Need-loop-less Inv-loop μ-loop
-loop-less c = let t = turn (sides (c .before .before) .before .before .before) in omega (arith, t .taken)
+loop-less c = let t = turn (sides (c .before .before) .before .before) in omega (arith, t .taken)
 
 loop-again : tie.Need-loop-again Inv-loop μ-loop
 loop-again c =
     let d = c .before .before in
     let x = sides d in
-    let t = turn (x .before .before .before) in
-    let n = x .before .before .condition-count .ensures in
+    let t = turn (x .before .before) in
+    let n = x .before .condition-count .ensures in
     record {
       within = omega (arith, t .taken);
       rows-are = omega (arith, room x, at-loop x .loop .inv .rows-are, conditions-before-next (s x) (j x), n, ap (conditionsBefore (s x)) (add-one (j x)));
@@ -281,19 +266,16 @@ join-steps-spec =
     μ-loop
     loop-holds
     condition-count-requires
-    side-at-requires
-    add-side-at
-    side-at-requires-2
+    join-at-requires
     order-steps-requires
+    cast-place
     enum-told
     sub-rows
     enum-told-2
-    cast-t20
     same-length
     same-length-2
     returns
     enum-told-3
-    cast-t21
     same-length-3
     same-length-4
     returns-2

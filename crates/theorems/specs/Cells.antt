@@ -1,0 +1,30 @@
+-- What the theorems say of the lent cells after a call: building an accepted space leaves the published construction's
+-- weights in them. The contract of the build cites the same outcome and the same buffers, so this holds of the machine's cells.
+use mathlib.Core.List.{List}
+use mathlib.Core.Path.{_≡_}
+use Prim.Native.Nat.{ℕ, _+_, _*_, _<_, _≤_}
+use lib.IntN.{ℤ, pos}
+use lib.ListN.{length, getD}
+use Rattle.exact.specs.Rational.{ℚ, den}
+use Rattle.spline.specs.Outcome.{answer}
+use Rattle.spline.specs.Space.{Space}
+use Rattle.spline.specs.Table.{cell, rowCells, tableCells}
+use Rattle.spline.specs.Build.{built, numeratorsAfter, denominatorsAfter}
+use Rattle.spline.specs.Published.{extraction}
+use Rattle.spline.specs.Piecewise.{Accepted}
+
+-- Cell k of the two buffers holds the fraction q.
+pub record HoldsFraction (q : ℚ) (nums dens : List ℤ) (k : ℕ) : Type 0 where
+  pub numerator : getD nums k (pos 0) ≡ q .num
+  pub denominator : getD dens k (pos 0) ≡ pos (den q)
+
+-- An accepted space is built in buffers that are long enough.
+abbrev pub AcceptedSpacesAreBuilt : Type 0
+AcceptedSpacesAreBuilt = (s : Space) (a : Accepted s) (numLength denLength : ℕ) → tableCells ≤ numLength → tableCells ≤ denLength
+    → built s numLength denLength ≡ answer (a .table)
+
+-- After it, cell 72·i + c holds the published weight of row i on column c, and 0/1 outside the table.
+abbrev pub CellsHoldPublishedWeights : Type 0
+CellsHoldPublishedWeights = (s : Space) → Accepted s → (nums dens : List ℤ) → tableCells ≤ length nums → tableCells ≤ length dens
+    → (i c : ℕ) → i < rowCells → c < rowCells
+    → HoldsFraction (cell (extraction s) i c) (numeratorsAfter (built s (length nums) (length dens)) nums) (denominatorsAfter (built s (length nums) (length dens)) dens) (rowCells * i + c)
