@@ -74,10 +74,10 @@ legal-calls-return-count s coefs positions numLength denLength valuesLength l =
 -- ---- an answered call is legal
 
 -- What the answer of the tests 6 and 7 tells.
-record EntriesPassed (s : Space) (coefs positions : List ℤ) : Type 0 where
-  count : length coefs ≡ rowCount s
-  coefficients : first (length coefs) (badCoefficient coefs) ≡ none
-  positions-inside : first (length positions) (badPosition s positions) ≡ none
+pub record EntriesPassed (s : Space) (coefs positions : List ℤ) : Type 0 where
+  pub count : length coefs ≡ rowCount s
+  pub coefficients : first (length coefs) (badCoefficient coefs) ≡ none
+  pub positions-inside : first (length positions) (badPosition s positions) ≡ none
 
 entries-passed : (s : Space) (coefs positions : List ℤ) {s′ : Space} → legalEntries s coefs positions (answer s) ≡ answer s′ → EntriesPassed s coefs positions × (s ≡ s′)
 entries-passed s coefs positions e =
@@ -88,12 +88,12 @@ entries-passed s coefs positions e =
     (record { count = eqb→eq (length coefs) (rowCount s) (true-holds (a .0)); coefficients = b .0; positions-inside = c .0 }, answer-unique refl (c .1))
 
 -- What the answer of the tests 2 to 7 tells.
-record ChecksPassed (s : Space) (coefs positions : List ℤ) : Type 0 where
-  space : checked s ≡ answer s
-  few : length positions ≤ positionLimit
-  entries : EntriesPassed s coefs positions
+pub record ChecksPassed (s : Space) (coefs positions : List ℤ) : Type 0 where
+  pub space : checked s ≡ answer s
+  pub few : length positions ≤ positionLimit
+  pub entries : EntriesPassed s coefs positions
 
-checks-passed : (s : Space) (coefs positions : List ℤ) {s′ : Space} → curveChecked s coefs positions ≡ answer s′ → ChecksPassed s coefs positions × (s ≡ s′)
+pub checks-passed : (s : Space) (coefs positions : List ℤ) {s′ : Space} → curveChecked s coefs positions ≡ answer s′ → ChecksPassed s coefs positions × (s ≡ s′)
 unfolding curveChecked checked
 checks-passed s coefs positions {s′} e =
     let rest = checkedEntries s then λ legal. legalEntries legal coefs positions (answer legal) in

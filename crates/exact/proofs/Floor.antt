@@ -2,10 +2,10 @@
 -- bounds. The bounds of the quotient alone are Integer's, and are passed on here.
 use mathlib.Core.Path.{_≡_, refl, sym, _∙_, ap, subst}
 use mathlib.Core.List.{[], _∷_}
-use Prim.Native.Nat.{ℕ, zero, suc, _*_, _<_}
+use Prim.Native.Nat.{ℕ, zero, suc, _*_, _<_, _≤_}
 use native.Mathlib.Omega.{arith}
 use native.Mathlib.Nat.{mul-pos}
-use lib.IntN.{ℤ, pos, negsuc, _+ℤ_, _*ℤ_}
+use lib.IntN.{ℤ, pos, negsuc, negℤ, natAbs, _+ℤ_, _*ℤ_}
 use lib.Signed.{_≤ℤ_, _<ℤ_, shrZ, ≤ℤ-refl}
 use Rattle.exact.specs.Rational.{ℚ, den, mk, _+ᵠ_, -ᵠ_, _-ᵠ_, int}
 use Rattle.exact.specs.Order.{_≤ᵠ_, _<ᵠ_}
@@ -52,6 +52,12 @@ floorDiv-add x z d p = sym (floorDiv-unique (floorDiv x d +ℤ z) (x +ℤ z *ℤ
 pub floorDiv-exact : (z : ℤ) (d : ℕ) → 0 < d → floorDiv (z *ℤ pos d) d ≡ z
 floorDiv-exact z d p = sym (floorDiv-unique z (z *ℤ pos d) d p (≤ℤ-refl _)
     (Z.<-in _ _ (omega (arith, Z.bal-* z (pos d), Z.bal-* (z +ℤ pos 1) (pos d), ap (λ t. t * d) (Z.bal-+ z (pos 1))))))
+
+-- a number at most k times the divisor in size
+pub floorDiv-abs : (z : ℤ) (d k : ℕ) → 0 < d → natAbs z ≤ k * d → natAbs (floorDiv z d) ≤ k
+floorDiv-abs z d k p h = Z.abs-le-in (floorDiv z d) k
+    (le-floorDiv (negℤ (pos k)) z d p (Z.≤-in _ _ (omega (arith, Z.bal-* (negℤ (pos k)) (pos d), ap (λ t. t * d) (Z.bal-neg (pos k) .0), ap (λ t. t * d) (Z.bal-neg (pos k) .1), Z.abs-parts z))))
+    (subst (λ t. floorDiv z d ≤ℤ t) (floorDiv-exact (pos k) d p) (floorDiv-mono z (pos k *ℤ pos d) d p (Z.≤-in _ _ (omega (arith, Z.abs-parts z)))))
 
 -- ---- the floor of a rational number: its two bounds
 pub int-le : (z : ℤ) (q : ℚ) → (z *ℤ pos (den q)) ≤ℤ (q .num) → int z ≤ᵠ q

@@ -15,10 +15,10 @@ use Rattle.fraction.specs.Size.{fits}
 use Rattle.fraction.proofs.Size.{int-fits}
 use Rattle.spline.specs.Outcome.{answer, _then_}
 use Rattle.spline.specs.Table.{Row, Table, entry, row, cell, identity, rowCells}
-use Rattle.spline.specs.Space.{Space}
+use Rattle.spline.specs.Space.{Space, segments, columnCount, conditionCount, conditionsBefore, rowCount}
 use Rattle.spline.specs.Conditions.{Entry, conditions}
 use Rattle.spline.specs.Step.{Span, newEntry, newRow, newRows, jumps, span, factors, mixed, step}
-use Rattle.spline.specs.Build.{orderSteps}
+use Rattle.spline.specs.Build.{orderSteps, joinSteps, weights}
 use Rattle.spline.proofs.Outcome.{answer-unique, then-inverts, Collected, collect-inverts, repeat-keeps}
 use Rattle.spline.proofs.Answers.{jumps-length, span-inverts}
 use Rattle.weights.specs.Held.{Shaped}
@@ -161,3 +161,12 @@ orders-less s j n t {next} {rows} {columns} e proper =
     repeat-keeps (λ k u. Proper u (rows - k) columns) n (λ k. step j (conditions s j k)) t (subst (λ m. Proper t m columns) (let z : rows ≡ rows - 0 = omega arith in z) proper)
     (λ k u v h p f. subst (λ m. Proper v m columns) (let z : rows - k - 1 ≡ rows - suc k = omega arith in z) (step-one-less j (conditions s j k) u f p))
     next e
+
+-- ---- the whole build: a row less for each condition
+pub weights-proper : (s : Space) {t : Table} → columnCount s ≤ rowCells → weights s ≡ answer t → Proper t (rowCount s) (columnCount s)
+unfolding weights joinSteps conditionsBefore
+weights-proper s {t} h e =
+    repeat-keeps (λ k u. Proper u (columnCount s - conditionsBefore s k) (columnCount s)) (segments s - 1) (λ j. orderSteps s j (conditionCount s j)) (identity (columnCount s))
+    (subst (λ m. Proper (identity (columnCount s)) m (columnCount s)) (let z : columnCount s ≡ columnCount s - 0 = omega arith in z) (record { shaped = identity-shaped (columnCount s) h; fit = identity-fits (columnCount s) }))
+    (λ j u v l p f. subst (λ m. Proper v m (columnCount s)) (let z : columnCount s - conditionsBefore s j - conditionCount s j ≡ columnCount s - (conditionsBefore s j + conditionCount s j) = omega arith in z) (orders-less s j (conditionCount s j) u f p))
+    t e

@@ -1,0 +1,182 @@
+-- What the curve call ends with, case by case, and what the machine answers and leaves in each.
+use mathlib.Core.Path.{_≡_, refl, sym, _∙_, ap, ap₂}
+use mathlib.Core.Bool.{Bool, true, false, cond, _||_}
+use mathlib.Core.Logic.{_⊎_, inl, inr}
+use mathlib.Core.List.{List, [], _++_}
+use Prim.Native.Nat.{ℕ, _<_, _≤_}
+use native.Mathlib.Omega.{arith}
+use borrow.Author.Tests.{ne-eqb, lt-ltb, le-ltb}
+use lib.Dec.{ltb}
+use lib.IntN.{ℤ, pos, natAbs}
+use lib.ListN.{length, getD, drop, List·getD-eq-default}
+use Rattle.exact.proofs.Decide.{le-or-lt, cond-true, cond-false}
+use Rattle.spline.specs.Outcome.{Outcome, answer, refusal, refuse, capped, with-answer, _then_}
+use Rattle.spline.specs.Space.{Space, checked, columnCount, rowCount}
+use Rattle.spline.specs.Table.{Table, tableCells, rowCells, numerators, denominators}
+use Rattle.spline.specs.Build.{weights, spaceWeights, clears, numeratorsAfter, denominatorsAfter}
+use Rattle.spline.specs.Piecewise.{Accepted}
+use Rattle.spline.specs.Reading.{values}
+use Rattle.spline.specs.CurveCall.{CurveResult, badCoefficient, badPosition, curveChecked, curveRead, curveOutcome, returned, curveNumerators, curveDenominators, valuesAfter}
+use Rattle.spline.proofs.Outcome.{then-answers, then-refuses}
+use Rattle.spline.proofs.Search.{first-none-inverts}
+use Rattle.closeness.proofs.LegalCall.{ChecksPassed, checks-passed, values-length}
+use Rattle.closeness.proofs.Weights.{weight-num-le-den}
+use Rattle.space.specs.Reply.{space, legality}
+use Rattle.space.specs.Legal.{ListsLegal}
+use Rattle.space.specs.declared.Legality.the-variants.{Legal}
+use Rattle.space.proofs.Reply.{legal-answers}
+use Rattle.space.proofs.Legal.{checked-legal, legal-column-count-high}
+use Rattle.weights.specs.Held.{Holds}
+use Rattle.weights.specs.Reply as building
+use Rattle.weights.specs.declared.Built.the-variants as builts
+use Rattle.weights.proofs.Buffer.{holds-left}
+use Rattle.weights.proofs.Stepped.{Proper, weights-proper}
+use Rattle.curve.specs.Reply.{reply}
+use Rattle.curve.specs.Ordinates.{Weighs, Coefficients}
+use Rattle.curve.specs.Reading.{Within}
+use Rattle.curve.specs.declared.Answer.{Answer}
+use Rattle.curve.specs.declared.Answer.the-variants.{Values, Refused}
+use Rattle.curve.proofs.Entries.{good-coefficient, good-position}
+
+-- ---- what a call answers and leaves, by its outcome
+
+pub record Ends (o : Outcome CurveResult) (r : Answer) (num den vs num′ den′ vs′ : List ℤ) : Type 0 where
+  pub answers : reply r ≡ returned o
+  pub numerators-are : num′ ≡ curveNumerators o num
+  pub denominators-are : den′ ≡ curveDenominators o den
+  pub values-are : vs′ ≡ valuesAfter o vs
+
+module _ {o : Outcome CurveResult} (num den vs : List ℤ) where
+  -- a refusal: the two buffers as after building, the values as they were
+  pub ends-refused : {number place : ℕ} {num′ den′ : List ℤ} → o ≡ refusal number place → num′ ≡ numeratorsAfter (refusal number place) num → den′ ≡ denominatorsAfter (refusal number place) den
+      → Ends o (Refused number place) num den vs num′ den′ vs
+  unfolding reply valuesAfter
+  ends-refused e p q = record {
+    answers = sym (ap returned e);
+    numerators-are = p ∙ sym (ap (λ x. curveNumerators x num) e);
+    denominators-are = q ∙ sym (ap (λ x. curveDenominators x den) e);
+    values-are = sym (ap (λ x. valuesAfter x vs) e);
+  }
+
+  -- a refusal that is not 8 or 9 leaves the buffers
+  pub ends-unchanged : {number place : ℕ} → o ≡ refusal number place → number ≤ 7 → Ends o (Refused number place) num den vs num den vs
+  unfolding numeratorsAfter denominatorsAfter
+  ends-unchanged {number} e h = ends-refused e (sym (cond-false (numerators [] num) num kept)) (sym (cond-false (denominators [] den) den kept))
+    where
+      kept : clears number ≡ false
+      kept = ap₂ _||_ (ne-eqb number 8 (λ z. omega arith)) (ne-eqb number 9 (λ z. omega arith))
+
+  -- the values of m positions
+  pub ends-written : {t : Table} {written : List ℤ} {m : ℕ} {num′ den′ vs′ : List ℤ} → o ≡ answer (record { table = t; values = written }) → length written ≡ m
+      → num′ ≡ numerators t num → den′ ≡ denominators t den → vs′ ≡ written ++ drop m vs → Ends o (Values m) num den vs num′ den′ vs′
+  unfolding reply valuesAfter numeratorsAfter denominatorsAfter
+  ends-written {written = written} e l p q w = record {
+    answers = ap answer (sym l) ∙ sym (ap returned e);
+    numerators-are = p ∙ sym (ap (λ x. curveNumerators x num) e);
+    denominators-are = q ∙ sym (ap (λ x. curveDenominators x den) e);
+    values-are = w ∙ ap (λ n. written ++ drop n vs) (sym l) ∙ sym (ap (λ x. valuesAfter x vs) e);
+  }
+
+-- ---- the call's outcome
+
+module _ (s : Space) (coefs positions : List ℤ) (numLength denLength valuesLength : ℕ) where
+  abbrev outcome : Outcome CurveResult
+  outcome = curveOutcome s coefs positions numLength denLength valuesLength
+
+  pub first-short : numLength < tableCells → outcome ≡ refusal 1 0
+  unfolding curveOutcome capped
+  first-short h = cond-true _ _ (lt-ltb numLength tableCells h)
+
+  pub second-short : tableCells ≤ numLength → denLength < tableCells → outcome ≡ refusal 1 1
+  unfolding curveOutcome capped
+  second-short h k = cond-false _ _ (le-ltb numLength tableCells h) ∙ cond-true _ _ (lt-ltb denLength tableCells k)
+
+  pub third-short : tableCells ≤ numLength → tableCells ≤ denLength → valuesLength < length positions → outcome ≡ refusal 1 2
+  unfolding curveOutcome capped
+  third-short h k l = cond-false _ _ (le-ltb numLength tableCells h) ∙ cond-false _ _ (le-ltb denLength tableCells k) ∙ cond-true _ _ (lt-ltb valuesLength (length positions) l)
+
+  module _ (h : tableCells ≤ numLength) (k : tableCells ≤ denLength) (l : length positions ≤ valuesLength) where
+    all-long : outcome ≡ (curveChecked s coefs positions then curveRead coefs positions)
+    unfolding curveOutcome
+    all-long = cond-false _ _ (le-ltb numLength tableCells h) ∙ cond-false _ _ (le-ltb denLength tableCells k) ∙ cond-false _ _ (le-ltb valuesLength (length positions) l)
+
+    pub call-refused : {number place : ℕ} → curveChecked s coefs positions ≡ refusal number place → outcome ≡ refusal number place
+    call-refused e = all-long ∙ then-refuses (curveRead coefs positions) e
+
+    module _ (c : curveChecked s coefs positions ≡ answer s) where
+      pub call-stopped : {number place : ℕ} → weights s ≡ refusal number place → outcome ≡ refusal number place
+      unfolding curveRead
+      call-stopped e = all-long ∙ then-answers (curveRead coefs positions) c ∙ ap (with-answer (λ t. record { table = t; values = values s t coefs positions })) e
+
+      pub call-answers : {t : Table} → weights s ≡ answer t → outcome ≡ answer (record { table = t; values = values s t coefs positions })
+      unfolding curveRead
+      call-answers e = all-long ∙ then-answers (curveRead coefs positions) c ∙ ap (with-answer (λ t. record { table = t; values = values s t coefs positions })) e
+
+-- ---- what building answered
+
+pub refused-inverts : (o : Outcome Table) (n : ℕ) {number place : ℕ} → building.reply (builts.Refused number place) ≡ with-answer (λ _. n) o → o ≡ refusal number place
+unfolding building.reply
+refused-inverts (answer t) n e = absurd (let z : _≡_ {A = ℕ} 0 1 = cc in omega arith)
+refused-inverts (refusal a b) n e = cc
+
+pub record HasRows (o : Outcome Table) (n m : ℕ) : Type 0 where
+  pub table : Table
+  pub is : o ≡ answer table
+  pub rows : m ≡ n
+
+pub rows-inverts : (o : Outcome Table) (n : ℕ) {m : ℕ} → building.reply (builts.Rows m) ≡ with-answer (λ _. n) o → HasRows o n m
+unfolding building.reply
+rows-inverts (answer t) n e = record { table = t; is = refl; rows = cc }
+rows-inverts (refusal a b) n e = absurd (let z : _≡_ {A = ℕ} 0 1 = cc in omega arith)
+
+-- ---- lists and entries that pass
+
+module _ (b d o coefs positions : List ℤ) (e : legality (curveChecked (space b d o) coefs positions) ≡ Legal) where
+  abbrev s : Space
+  s = space b d o
+
+  reached : Space
+  reached = legal-answers (curveChecked s coefs positions) e .given
+
+  passed : ChecksPassed s coefs positions × (s ≡ reached)
+  unfolding reached
+  passed = checks-passed s coefs positions (legal-answers (curveChecked s coefs positions) e .is)
+
+  pub checks-answer : curveChecked s coefs positions ≡ answer s
+  unfolding reached
+  checks-answer = legal-answers (curveChecked s coefs positions) e .is ∙ ap answer (sym (passed .1))
+
+  pub lists-legal : ListsLegal b d o
+  lists-legal = checked-legal b d o (passed .0 .space)
+
+  pub coefficients-good : Coefficients coefs (rowCount s)
+  coefficients-good = record { count = passed .0 .entries .count; small = λ i. small i (le-or-lt (length coefs) i) }
+    where
+      small : (i : ℕ) → (length coefs ≤ i) ⊎ (i < length coefs) → natAbs (getD coefs i (pos 0)) ≤ 1000000
+      small i (inl h) = rw (List·getD-eq-default coefs (pos 0) {n = i} h) (omega arith)
+      small i (inr h) = good-coefficient coefs i (first-none-inverts (badCoefficient coefs) (length coefs) (passed .0 .entries .coefficients) i h)
+
+  pub positions-good : (k : ℕ) → k < length positions → Within (space b d []) (getD positions k (pos 0))
+  positions-good k h = let w = good-position s positions k (first-none-inverts (badPosition s positions) (length positions) (passed .0 .entries .positions-inside) k h) in record { low = w .low; high = w .high }
+
+  -- the weights that were built
+  module _ {t : Table} (w : weights s ≡ answer t) where
+    proper : Proper t (rowCount s) (columnCount s)
+    proper = weights-proper s (legal-column-count-high b d o lists-legal) w
+
+    pub weights-rows : length t ≡ rowCount s
+    weights-rows = proper .shaped .row-count
+
+    module _ (num den : List ℤ) {num′ den′ : List ℤ} (h : tableCells ≤ length num) (k : tableCells ≤ length den) (p : num′ ≡ numerators t num) (q : den′ ≡ denominators t den) where
+      pub weights-held : Holds num′ den′ t
+      weights-held = holds-left num den t h k p q (proper .fit)
+
+      pub weights-good : Weighs num′ den′ (rowCount s)
+      unfolding spaceWeights
+      weights-good = record {
+        table = t;
+        holds = weights-held;
+        rows = weights-rows;
+        few = proper .shaped .rows-fit;
+        unit = λ i c. weight-num-le-den s (record { table = t; is = then-answers weights (passed .0 .space) ∙ w }) i c;
+      }

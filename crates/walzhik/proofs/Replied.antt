@@ -1,0 +1,21 @@
+-- The struct that C and Rust receive is the outcome's, whatever enum it comes from. `reply` is the definition that gives
+-- document 01's number and place for the cases of that enum.
+use mathlib.Core.Path.{_≡_, refl, sym, ap, _∙_}
+use Prim.Native.Nat.{ℕ}
+use Rattle.spline.specs.Outcome.{Outcome, answer, refusal}
+use Rattle.walzhik.specs.Reply.{replied}
+use Rattle.walzhik.specs.declared.Reply.{Reply}
+
+-- the three parts of a reply
+pub reply-ext : (r : Reply) (count number place : ℕ) → (r .count ≡ count) × ((r .number ≡ number) × (r .place ≡ place)) → r ≡ record { count = count; number = number; place = place }
+reply-ext r count number place e = λ i. record { count = e .0 i; number = e .1 .0 i; place = e .1 .1 i }
+
+-- a count
+pub answer-replied : (r : Reply) (o : Outcome ℕ) (n : ℕ) → (r .count ≡ n) × ((r .number ≡ 0) × (r .place ≡ 0)) → answer n ≡ o → r ≡ replied o
+unfolding replied
+answer-replied r o n e h = reply-ext r n 0 0 e ∙ ap replied h
+
+-- a refusal
+pub refusal-replied : (r : Reply) (o : Outcome ℕ) (number place : ℕ) → (r .count ≡ 0) × ((r .number ≡ number) × (r .place ≡ place)) → refusal number place ≡ o → r ≡ replied o
+unfolding replied
+refusal-replied r o number place e h = reply-ext r 0 number place e ∙ ap replied h

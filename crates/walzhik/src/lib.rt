@@ -1,0 +1,81 @@
+// The engine for C and Rust: the public calls with their answers as a struct by value.
+ghost use mathlib.Core.Path.{_≡_};
+ghost use lib.ListN.{length};
+ghost use Rattle.space.specs.Reply.{space};
+ghost use Rattle.spline.specs.Outcome.{with-answer};
+ghost use Rattle.spline.specs.Space.{rowCount};
+ghost use Rattle.spline.specs.Build.{built, numeratorsAfter, denominatorsAfter};
+ghost use Rattle.spline.specs.CurveCall.{curveOutcome, returned, curveNumerators, curveDenominators, valuesAfter};
+ghost use Rattle.walzhik.specs.Reply.{replied};
+
+// The count of rows or values, with number 0 and place 0; or count 0 with a refusal's number and place.
+#[repr(C)]
+pub struct Reply {
+    pub count: u64,
+    pub number: u32,
+    pub place: u32,
+}
+
+fn answered(count: usize) -> Reply
+    ensures { λ r. ⌜ (r .count ≡ count) × ((r .number ≡ 0) × (r .place ≡ 0)) ⌝ }
+{
+    Reply {
+        count: count as u64,
+        number: 0,
+        place: 0,
+    }
+}
+
+fn refused(number: u8, place: u8) -> Reply
+    ensures { λ r. ⌜ (r .count ≡ 0) × ((r .number ≡ number) × (r .place ≡ place)) ⌝ }
+{
+    Reply {
+        count: 0,
+        number: number as u32,
+        place: place as u32,
+    }
+}
+
+// weights::build
+#[no_mangle]
+pub extern "C" fn walzhik_build(
+    breaks: &[i32],
+    degrees: &[i32],
+    orders: &[i32],
+    num: &mut [i64],
+    den: &mut [i64],
+) -> Reply
+    ensures answer { λ r. ⌜ r ≡ replied (with-answer (λ _. rowCount (space (now (breaks .entry)) (now (degrees .entry)) (now (orders .entry)))) (built (space (now (breaks .entry)) (now (degrees .entry)) (now (orders .entry))) (length (now (num .entry))) (length (now (den .entry))))) ⌝ }
+    ensures numerators { λ r. ⌜ now (num .exit) ≡ numeratorsAfter (built (space (now (breaks .entry)) (now (degrees .entry)) (now (orders .entry))) (length (now (num .entry))) (length (now (den .entry)))) (now (num .entry)) ⌝ }
+    ensures denominators { λ r. ⌜ now (den .exit) ≡ denominatorsAfter (built (space (now (breaks .entry)) (now (degrees .entry)) (now (orders .entry))) (length (now (num .entry))) (length (now (den .entry)))) (now (den .entry)) ⌝ }
+{
+    let built = weights::build(breaks, degrees, orders, num, den);
+    match built {
+        weights::Built::Rows(n) => answered(n),
+        weights::Built::Refused(number, place) => refused(number, place),
+    }
+}
+
+// curve::curve
+#[no_mangle]
+pub extern "C" fn walzhik_curve(
+    breaks: &[i32],
+    degrees: &[i32],
+    orders: &[i32],
+    coefs: &[i32],
+    positions: &[i32],
+    num: &mut [i64],
+    den: &mut [i64],
+    values: &mut [i32],
+) -> Reply
+    ensures answer { λ r. ⌜ r ≡ replied (returned (curveOutcome (space (now (breaks .entry)) (now (degrees .entry)) (now (orders .entry))) (now (coefs .entry)) (now (positions .entry)) (length (now (num .entry))) (length (now (den .entry))) (length (now (values .entry))))) ⌝ }
+    ensures numerators { λ r. ⌜ now (num .exit) ≡ curveNumerators (curveOutcome (space (now (breaks .entry)) (now (degrees .entry)) (now (orders .entry))) (now (coefs .entry)) (now (positions .entry)) (length (now (num .entry))) (length (now (den .entry))) (length (now (values .entry)))) (now (num .entry)) ⌝ }
+    ensures denominators { λ r. ⌜ now (den .exit) ≡ curveDenominators (curveOutcome (space (now (breaks .entry)) (now (degrees .entry)) (now (orders .entry))) (now (coefs .entry)) (now (positions .entry)) (length (now (num .entry))) (length (now (den .entry))) (length (now (values .entry)))) (now (den .entry)) ⌝ }
+    ensures values { λ r. ⌜ now (values .exit) ≡ valuesAfter (curveOutcome (space (now (breaks .entry)) (now (degrees .entry)) (now (orders .entry))) (now (coefs .entry)) (now (positions .entry)) (length (now (num .entry))) (length (now (den .entry))) (length (now (values .entry)))) (now (values .entry)) ⌝ }
+{
+    let answer = curve::curve(breaks, degrees, orders, coefs, positions, num, den, values);
+    match answer {
+        curve::Answer::Values(n) => answered(n),
+        curve::Answer::Refused(number, place) => refused(number, place),
+    }
+}

@@ -1,0 +1,67 @@
+/* Walzhik: growth curves in segments of different degree, with exact weights.
+ *
+ * The static library libwalzhik.a has two calls. Lists and buffers may have any length and any content: a call always
+ * returns, reads and writes only what it is lent, and answers or refuses with a number and a place. A list or buffer of
+ * length 0 still needs a valid (non-null, aligned) pointer.
+ *
+ * A space has m segments, 1 to 12:
+ *   breaks   m + 1 breakpoints in rings, strictly rising, each from -10000 to 10000, over a span of at most 2000
+ *   degrees  m degrees, each from 1 to 5
+ *   orders   m - 1 continuity orders, one for each join: -1 (a discontinuity), 0, 1 or 2, and less than both
+ *            neighbouring degrees
+ * It has n = (sum of degrees + m) - (sum over joins of (order + 1)) rows.
+ *
+ * num, den   at least WALZHIK_CELLS cells each: row i, column j of the weights is num[72 i + j] / den[72 i + j], in lowest
+ *            terms with positive denominator; 0/1 in all unused cells. Cells past WALZHIK_CELLS are never touched.
+ * coefs      n coefficients, each from -1000000 to 1000000 thousandths of a millimetre
+ * positions  up to 4096 positions in 256ths of a ring, in any order, each within the span
+ * values     at least one cell for each position: the curve in 256ths of a thousandth of a millimetre, in list order.
+ *            Cells past the positions' count keep what they held.
+ *
+ * Numbers of a refusal, tested in this order (8 and 9 as the build meets them), with their places (255 stands for
+ * anything larger):
+ *   1  a buffer is too short: num (0), den (1), values (2)
+ *   2  the list lengths don't fit one m from 1 to 12 (0); over 4096 positions (1)
+ *   3  breakpoint: out of range or not above the one before; then, place m, a span over 2000
+ *   4  segment: degree out of range
+ *   5  join: order out of range
+ *   6  entry: coefficient out of range; place 255, tested first: the count is not n
+ *   7  entry: position outside the span
+ *   8  join: a counted fraction has a numerator's size or a denominator of 2^31 or more
+ *   9  join: the jumps lack the needed shape
+ * After 1 to 7 all buffers are unchanged. After 8 and 9 the first WALZHIK_CELLS cells of num and den are 0/1, and the
+ * values are unchanged. walzhik_build never gives 6, 7, or the places of 1 and 2 that name values and positions.
+ */
+#ifndef WALZHIK_H
+#define WALZHIK_H
+
+#include <stddef.h>
+#include <stdint.h>
+
+#ifdef __cplusplus
+extern "C" {
+#endif
+
+#define WALZHIK_CELLS 5184
+
+/* An answer: number 0, place 0, and the count of rows (build) or of values written (curve). A refusal: count 0. */
+typedef struct {
+    uint64_t count;
+    uint32_t number;
+    uint32_t place;
+} walzhik_reply;
+
+walzhik_reply walzhik_build(const int32_t *breaks, size_t breaks_len, const int32_t *degrees, size_t degrees_len,
+                            const int32_t *orders, size_t orders_len, int64_t *num, size_t num_len, int64_t *den,
+                            size_t den_len);
+
+walzhik_reply walzhik_curve(const int32_t *breaks, size_t breaks_len, const int32_t *degrees, size_t degrees_len,
+                            const int32_t *orders, size_t orders_len, const int32_t *coefs, size_t coefs_len,
+                            const int32_t *positions, size_t positions_len, int64_t *num, size_t num_len, int64_t *den,
+                            size_t den_len, int32_t *values, size_t values_len);
+
+#ifdef __cplusplus
+}
+#endif
+
+#endif

@@ -1,0 +1,23 @@
+#!/usr/bin/env bash
+# The examples: each sheet gives the printout that stands beside it, C and Rust print the values that the sheet of W1 has,
+# the picture in docs/ is still what the tool draws, and the README shows what the program prints.
+set -u
+cd "$(dirname "$0")/.."
+from_c=$1 from_rust=$2 sheet=$3
+failed=0
+
+same() {
+    diff <(cat "$2") <(cat "$3") >/dev/null || { printf 'differs: %s\n' "$1"; failed=1; }
+}
+
+for input in examples/*.sheet; do
+    same "$input" <("$sheet" <"$input") "${input%.sheet}.out"
+done
+values=$(sed -n 's/^v=//p' examples/w1.out)
+[ "$("$from_c")" = "$values" ] || { echo 'differs: examples/curve.c'; failed=1; }
+[ "$("$from_rust")" = "$values" ] || { echo 'differs: examples/curve.rs'; failed=1; }
+same docs/growth.svg <(python3 tools/plot examples/growth.sheet examples/growth.out) docs/growth.svg
+while IFS= read -r line; do
+    grep -qF -- "    $line" README.md || { printf 'not in the README: %s\n' "$line"; failed=1; }
+done <examples/w1.out
+exit "$failed"
