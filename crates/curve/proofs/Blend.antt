@@ -36,7 +36,7 @@ blend-is d u g h positive = sym (ap (λ t. floorDiv t d) (alg (pos d)) ∙ floor
 -- ---- on the machine
 
 module _ (u d g h : ℤ) (o : Offset u d) (p : natAbs g ≤ ordinateLimit) (q : natAbs h ≤ ordinateLimit) where
-  pub offset-abs : natAbs u ≤ 512000
+  offset-abs : natAbs u ≤ 512000
   offset-abs = abs-le u 512000 (omega (arith, ≤-out _ _ (o .below), ≤-out _ _ (o .short))) (omega (arith, ≤-out _ _ (o .above)))
 
   pub rise-fits : SFits w64 (h -ℤ g)
@@ -50,6 +50,3 @@ module _ (u d g h : ℤ) (o : Offset u d) (p : natAbs g ≤ ordinateLimit) (q : 
 
   pub step-abs : natAbs (blend (natAbs d) u g h) ≤ ordinateLimit
   step-abs = blend-abs (natAbs d) u g h (pos-of d (o .long) .1) (o .above) (rw (pos-of d (o .long) .0) at (o .below)) ordinateLimit p q
-
-  pub step-fits : SFits w64 (blend (natAbs d) u g h)
-  step-fits = sfits-abs (omega (arith, step-abs))

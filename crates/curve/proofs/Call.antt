@@ -1,25 +1,23 @@
 -- What the curve call ends with, case by case, and what the machine answers and leaves in each.
 use mathlib.Core.Path.{_≡_, refl, sym, _∙_, ap, ap₂}
-use mathlib.Core.Bool.{Bool, true, false, cond, _||_}
+use mathlib.Core.Bool.{false, _||_}
 use mathlib.Core.Logic.{_⊎_, inl, inr}
 use mathlib.Core.List.{List, [], _++_}
 use Prim.Native.Nat.{ℕ, _<_, _≤_}
 use native.Mathlib.Omega.{arith}
 use borrow.Author.Tests.{ne-eqb, lt-ltb, le-ltb}
-use lib.Dec.{ltb}
 use lib.IntN.{ℤ, pos, natAbs}
 use lib.ListN.{length, getD, drop, List·getD-eq-default}
 use Rattle.exact.proofs.Decide.{le-or-lt, cond-true, cond-false}
-use Rattle.spline.specs.Outcome.{Outcome, answer, refusal, refuse, capped, with-answer, _then_}
-use Rattle.spline.specs.Space.{Space, checked, columnCount, rowCount}
-use Rattle.spline.specs.Table.{Table, tableCells, rowCells, numerators, denominators}
+use Rattle.spline.specs.Outcome.{Outcome, answer, refusal, capped, with-answer, _then_}
+use Rattle.spline.specs.Space.{Space, columnCount, rowCount}
+use Rattle.spline.specs.Table.{Table, tableCells, numerators, denominators}
 use Rattle.spline.specs.Build.{weights, spaceWeights, clears, numeratorsAfter, denominatorsAfter}
-use Rattle.spline.specs.Piecewise.{Accepted}
 use Rattle.spline.specs.Reading.{values}
 use Rattle.spline.specs.CurveCall.{CurveResult, badCoefficient, badPosition, curveChecked, curveRead, curveOutcome, returned, curveNumerators, curveDenominators, valuesAfter}
 use Rattle.spline.proofs.Outcome.{then-answers, then-refuses}
 use Rattle.spline.proofs.Search.{first-none-inverts}
-use Rattle.closeness.proofs.LegalCall.{ChecksPassed, checks-passed, values-length}
+use Rattle.closeness.proofs.LegalCall.{ChecksPassed, checks-passed}
 use Rattle.closeness.proofs.Weights.{weight-num-le-den}
 use Rattle.space.specs.Reply.{space, legality}
 use Rattle.space.specs.Legal.{ListsLegal}

@@ -13,8 +13,6 @@ mod triangle;
 
 const TABLE_CELLS: usize = 5184;
 
-const MAX_POSITIONS: usize = 4096;
-
 // What the curve call answers: the number of values written, or a refusal's number and place.
 pub enum Answer {
     Values(usize),

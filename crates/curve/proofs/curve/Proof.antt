@@ -5,7 +5,7 @@ use mathlib.Core.Path.{_≡_, sym, _∙_, ap, subst}
 use mathlib.Core.List.{_++_}
 use Prim.Native.Nat.{_≤_}
 use lib.ListN.{length, drop}
-use Rattle.spline.specs.Outcome.{Outcome, answer, refusal}
+use Rattle.spline.specs.Outcome.{Outcome, answer}
 use Rattle.spline.specs.Space.{Space, rowCount}
 use Rattle.spline.specs.Table.{tableCells, numerators, denominators}
 use Rattle.spline.specs.Build.{weights, built, numeratorsAfter, denominatorsAfter}
@@ -24,11 +24,6 @@ use Rattle.curve.proofs.Refused.{curve-numbers}
 use Rattle.curve.proofs.Call.{ends-refused, ends-unchanged, ends-written, first-short, second-short, third-short, call-refused, call-stopped, call-answers, HasRows, refused-inverts, rows-inverts, checks-answer, lists-legal, coefficients-good, positions-good, weights-rows, weights-held, weights-good}
 use Rattle.curve.proofs.curve.Statement.{statement}
 use Rattle.curve.proofs.curve.Tie as tie
-use Rattle.curve.proofs.curve.Reads as reads
-use Rattle.curve.proofs.curve.Lts as lts
-use Rattle.curve.proofs.limits.check.Reads as check-reads
-use Rattle.curve.proofs.reading.write_values.Reads as write-values-reads
-use Rattle.weights.proofs.build.Reads as build-reads
 
 module _ (s : tie.Start) where
   abbrev lists : Space

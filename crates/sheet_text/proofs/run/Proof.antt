@@ -1,0 +1,118 @@
+-- `run` meets its contract: the call's answer is the definition's, so a refusal is printed as it is and an answer from the
+-- buffers that the call has filled.
+use borrow.Author.Needs.{needs}
+use native.Mathlib.Omega.{arith}
+use mathlib.Core.Path.{sym}
+use Prim.Native.Nat.{ℕ, _≤_}
+use lib.ListN.{length}
+use lib.Seq.{length-take-le}
+use Rattle.sheet_text.specs.Reading.{Lists}
+use Rattle.sheet_text.specs.Sheet.{called}
+use Rattle.sheet_text.proofs.Whole.{refused-shows, answered-shows, count-positions}
+use Rattle.sheet_text.proofs.run.Statement.{statement}
+use Rattle.sheet_text.proofs.run.Tie as tie
+
+slice-aggregate-curve : tie.Need-slice-aggregate-curve
+slice-aggregate-curve c = search needs
+
+slice-aggregate-curve-2 : tie.Need-slice-aggregate-curve-2
+slice-aggregate-curve-2 c = search needs
+
+slice-aggregate-curve-3 : tie.Need-slice-aggregate-curve-3
+slice-aggregate-curve-3 c = search needs
+
+curve-requires : tie.Need-curve-requires
+curve-requires c κs = search needs
+
+enum-known-answer : tie.Need-enum-known-answer
+enum-known-answer c = search needs
+
+refusal-requires : tie.Need-refusal-requires
+refusal-requires c κs = search needs
+
+enum-known-answer-2 : tie.Need-enum-known-answer-2
+enum-known-answer-2 c = search needs
+
+slice-aggregate-answer : tie.Need-slice-aggregate-answer
+slice-aggregate-answer c = search needs
+
+slice-aggregate-answer-2 : tie.Need-slice-aggregate-answer-2
+slice-aggregate-answer-2 c = search needs
+
+-- the five lists, where the call has returned
+abbrev lists : tie.After-curve → Lists
+lists k =
+    let x = k .before .before .before .before .before .args in
+    record { breaks = x .breaks .now; degrees = x .degrees .now; orders = x .orders .now; coefs = x .coefs .now; positions = x .positions .now }
+
+-- the values, where the call has answered with their count
+module _ (a : tie.After-answer2) where
+  abbrev returned : tie.After-curve
+  returned = a .before .before .before .before .before
+
+  abbrev count : ℕ
+  count = a .answer2 .given .0 .0
+
+  few : length (lists returned .positions) ≤ 4096
+  few = returned .before .before .before .before .before .pre
+
+  fits : count ≤ length (returned .curve .last .1 .1 .1 .1 .1 .1 .1 .0)
+  unfolding called
+  fits =
+      omega (
+        arith,
+        few,
+        a .before .before .values2 .given,
+        count-positions (lists returned) (returned .curve .result) (returned .curve .ensures .0) count (a .answer2 .given .1),
+      )
+
+array-share-prefix-values : tie.Need-array-share-prefix-values
+array-share-prefix-values c = fits (c .before .before .before)
+
+slice-aggregate-answer-3 : tie.Need-slice-aggregate-answer-3
+slice-aggregate-answer-3 c = let a = c .before .before .before .before in sym (length-take-le (count a) _ (fits a))
+
+answer-requires : tie.Need-answer-requires
+answer-requires c κs = search needs
+
+same-length : tie.Need-same-length
+same-length c = search needs
+
+returns : tie.Need-returns
+unfolding called
+returns c =
+    let k = c .before .before .before .before .before .before .before .before .before .before in
+    let x = c .before .before .before .before .before .answer .given in
+    refused-shows (lists k) (k .curve .result) (k .curve .ensures .0) _ _ (x .1) (c .before .before .refusal .ensures .0) (c .before .before .refusal .ensures .1)
+
+same-length-2 : tie.Need-same-length-2
+same-length-2 c = search needs
+
+returns-2 : tie.Need-returns-2
+unfolding called
+returns-2 c =
+    let a = c .before .before .before .before .before .before .before .before in
+    let k = returned a in
+    answered-shows (lists k) (k .curve .result) (k .curve .ensures .0) (count a) (a .answer2 .given .1)
+    _ _ _ (search needs) (search needs) (few a) (k .curve .ensures .1 .0) (k .curve .ensures .1 .1 .0) (k .curve .ensures .1 .1 .1) (c .before .before .answer3 .ensures)
+
+pub run-spec : {M : Type 1} → statement M
+run-spec =
+    tie.close
+    (tie.spec
+    slice-aggregate-curve
+    slice-aggregate-curve-2
+    slice-aggregate-curve-3
+    curve-requires
+    enum-known-answer
+    refusal-requires
+    enum-known-answer-2
+    slice-aggregate-answer
+    slice-aggregate-answer-2
+    array-share-prefix-values
+    slice-aggregate-answer-3
+    answer-requires
+    same-length
+    returns
+    same-length-2
+    returns-2)

@@ -1,0 +1,137 @@
+-- `sheet` meets its contract: the parts of the buffers up to the counts are the lists that were read.
+use borrow.Author.Needs.{needs}
+use native.Mathlib.Omega.{arith}
+use mathlib.Core.Path.{sym, ap}
+use Prim.Native.Nat.{_≤_}
+use lib.ListN.{length}
+use lib.Seq.{length-take-le}
+use Rattle.sheet_text.specs.Bytes.{Text}
+use Rattle.sheet_text.specs.Reading.{read}
+use Rattle.sheet_text.specs.Reply.{Lengths}
+use Rattle.sheet_text.proofs.Parts.{Listed, reply-read, positions-few, part-fits, part-is, called-shows, malformed-shows}
+use Rattle.sheet_text.proofs.sheet.Statement.{statement}
+use Rattle.sheet_text.proofs.sheet.Tie as tie
+
+read-requires : tie.Need-read-requires
+read-requires c κs = search needs
+
+enum-known-lists : tie.Need-enum-known-lists
+enum-known-lists c = search needs
+
+refusal-requires : tie.Need-refusal-requires
+refusal-requires c κs = search needs
+
+enum-known-lists-2 : tie.Need-enum-known-lists-2
+enum-known-lists-2 c = search needs
+
+-- the lists, where the sheet has been read
+module _ (a : tie.After-lists2) where
+  abbrev done : tie.After-read
+  done = a .before .before
+
+  abbrev text : Text
+  text = done .before .before .before .before .before .before .before .before .args .input .now
+
+  abbrev counts : Lengths
+  counts = let n = a .lists2 .given .0 in record { breaks = n .0; degrees = n .1 .0; orders = n .1 .1 .0; coefs = n .1 .1 .1 .0; positions = n .1 .1 .1 .1 .0 }
+
+  listed : Listed (read text) counts
+  listed = reply-read (read text) (done .read .result) _ _ _ _ _ (done .read .ensures .0) (a .lists2 .given .1)
+
+  breaks-fit : counts .breaks ≤ length (done .read .last .1 .0)
+  breaks-fit = part-fits (λ l. l .breaks) (listed .is) _ (done .read .ensures .1 .0) (ap (λ n. n .breaks) (listed .counts))
+
+  degrees-fit : counts .degrees ≤ length (done .read .last .1 .1 .0)
+  degrees-fit = part-fits (λ l. l .degrees) (listed .is) _ (done .read .ensures .1 .1 .0) (ap (λ n. n .degrees) (listed .counts))
+
+  orders-fit : counts .orders ≤ length (done .read .last .1 .1 .1 .0)
+  orders-fit = part-fits (λ l. l .orders) (listed .is) _ (done .read .ensures .1 .1 .1 .0) (ap (λ n. n .orders) (listed .counts))
+
+  coefs-fit : counts .coefs ≤ length (done .read .last .1 .1 .1 .1 .0)
+  coefs-fit = part-fits (λ l. l .coefs) (listed .is) _ (done .read .ensures .1 .1 .1 .1 .0) (ap (λ n. n .coefs) (listed .counts))
+
+  positions-fit : counts .positions ≤ length (done .read .last .1 .1 .1 .1 .1 .0)
+  positions-fit = part-fits (λ l. l .positions) (listed .is) _ (done .read .ensures .1 .1 .1 .1 .1) (ap (λ n. n .positions) (listed .counts))
+
+array-share-prefix-breaks : tie.Need-array-share-prefix-breaks
+array-share-prefix-breaks c = breaks-fit (c .before)
+
+slice-aggregate-run : tie.Need-slice-aggregate-run
+slice-aggregate-run c = let a = c .before .before in sym (length-take-le (counts a .breaks) _ (breaks-fit a))
+
+array-share-prefix-degrees : tie.Need-array-share-prefix-degrees
+array-share-prefix-degrees c = degrees-fit (c .before .before)
+
+slice-aggregate-run-2 : tie.Need-slice-aggregate-run-2
+slice-aggregate-run-2 c = let a = c .before .before .before in sym (length-take-le (counts a .degrees) _ (degrees-fit a))
+
+array-share-prefix-orders : tie.Need-array-share-prefix-orders
+array-share-prefix-orders c = orders-fit (c .before .before .before)
+
+slice-aggregate-run-3 : tie.Need-slice-aggregate-run-3
+slice-aggregate-run-3 c = let a = c .before .before .before .before in sym (length-take-le (counts a .orders) _ (orders-fit a))
+
+array-share-prefix-coefs : tie.Need-array-share-prefix-coefs
+array-share-prefix-coefs c = coefs-fit (c .before .before .before .before)
+
+slice-aggregate-run-4 : tie.Need-slice-aggregate-run-4
+slice-aggregate-run-4 c = let a = c .before .before .before .before .before in sym (length-take-le (counts a .coefs) _ (coefs-fit a))
+
+array-share-prefix-positions : tie.Need-array-share-prefix-positions
+array-share-prefix-positions c = positions-fit (c .before .before .before .before .before)
+
+slice-aggregate-run-5 : tie.Need-slice-aggregate-run-5
+slice-aggregate-run-5 c = let a = c .before .before .before .before .before .before in sym (length-take-le (counts a .positions) _ (positions-fit a))
+
+run-requires : tie.Need-run-requires
+run-requires c κs =
+    let a = c .before .before .before .before .before .before .before in
+    omega (arith, length-take-le (counts a .positions) (done a .read .last .1 .1 .1 .1 .1 .0) (positions-fit a), ap (λ n. n .positions) (listed a .counts), positions-few (text a) (listed a .lists) (listed a .is))
+
+same-length : tie.Need-same-length
+same-length c = search needs
+
+returns : tie.Need-returns
+returns c =
+    let a = c .before .before .before .before .before in
+    let k = a .before .before in
+    malformed-shows _ (k .read .result) _ (k .read .ensures .0) (a .lists .given .1) (c .before .before .refusal .ensures .0) (c .before .before .refusal .ensures .1)
+
+same-length-2 : tie.Need-same-length-2
+same-length-2 c = search needs
+
+returns-2 : tie.Need-returns-2
+returns-2 c =
+    let a = c .before .before .before .before .before .before .before .before .before .before in
+    let k = done a in
+    called-shows (text a) (listed a .lists) (listed a .is) _
+    (part-is (λ l. l .breaks) (listed a .is) _ (k .read .ensures .1 .0) (ap (λ n. n .breaks) (listed a .counts)))
+    (part-is (λ l. l .degrees) (listed a .is) _ (k .read .ensures .1 .1 .0) (ap (λ n. n .degrees) (listed a .counts)))
+    (part-is (λ l. l .orders) (listed a .is) _ (k .read .ensures .1 .1 .1 .0) (ap (λ n. n .orders) (listed a .counts)))
+    (part-is (λ l. l .coefs) (listed a .is) _ (k .read .ensures .1 .1 .1 .1 .0) (ap (λ n. n .coefs) (listed a .counts)))
+    (part-is (λ l. l .positions) (listed a .is) _ (k .read .ensures .1 .1 .1 .1 .1) (ap (λ n. n .positions) (listed a .counts)))
+    (c .before .before .run .ensures)
+
+pub sheet-spec : {M : Type 1} → statement M
+sheet-spec =
+    tie.close
+    (tie.spec
+    read-requires
+    enum-known-lists
+    refusal-requires
+    enum-known-lists-2
+    array-share-prefix-breaks
+    slice-aggregate-run
+    array-share-prefix-degrees
+    slice-aggregate-run-2
+    array-share-prefix-orders
+    slice-aggregate-run-3
+    array-share-prefix-coefs
+    slice-aggregate-run-4
+    array-share-prefix-positions
+    slice-aggregate-run-5
+    run-requires
+    same-length
+    returns
+    same-length-2
+    returns-2)

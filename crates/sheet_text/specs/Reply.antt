@@ -1,0 +1,85 @@
+-- The machine's form of what the definitions of reading say: the cases of the enums that the reading functions answer, with
+-- document 01's number and place for those of the public one, and what the five lent buffers hold afterwards.
+use mathlib.Core.List.{List, [], _++_}
+use mathlib.Core.Option.{Option, some, none}
+use mathlib.Core.Path.{_≡_}
+use Prim.Native.Nat.{ℕ, _+_, _<_}
+use lib.IntN.{ℤ}
+use lib.ListN.{length, drop}
+use lib.Seq.{slice}
+use Rattle.spline.specs.Outcome.{Outcome, answer, refusal, with-answer}
+use Rattle.sheet_text.specs.Bytes.{Text, Part}
+use Rattle.sheet_text.specs.Reading.{listOf, Line, Lists}
+use Rattle.sheet_text.specs.declared.numeral.Field.{Field}
+use Rattle.sheet_text.specs.declared.numeral.Field.the-variants as field-cases
+use Rattle.sheet_text.specs.declared.read.Count.{Count}
+use Rattle.sheet_text.specs.declared.read.Count.the-variants as count-cases
+use Rattle.sheet_text.specs.declared.read.LineSpan.{LineSpan}
+use Rattle.sheet_text.specs.declared.read.LineSpan.the-variants as span-cases
+use Rattle.sheet_text.specs.declared.read.Lists.{Lists as Answer}
+use Rattle.sheet_text.specs.declared.read.Lists.the-variants as answer-cases
+
+-- ---- fields and lists
+
+-- A numeral's number, if the field is one.
+unfoldable pub field : Option ℤ → Field
+field none = field-cases.Bad
+field (some z) = field-cases.Number z
+
+-- How many numbers a list has, if it is one.
+unfoldable pub count : Option (List ℤ) → Count
+count none = count-cases.Bad
+count (some zs) = count-cases.Numbers (length zs)
+
+-- The numbers of a list; none if it is not one.
+abbrev pub numbers : Option (List ℤ) → List ℤ
+numbers none = []
+numbers (some zs) = zs
+
+-- A buffer with a list at its front; the cells past the list keep what they held.
+abbrev pub overwritten : List ℤ → List ℤ → List ℤ
+overwritten zs before = zs ++ drop (length zs) before
+
+-- ---- lines
+
+-- The list of a line is the part from the one index up to the other, where byte 10 stands.
+pub record Spans (text : Text) (l : Line) (start end : ℕ) : Type 0 where
+  pub part : Part text start end
+  pub ended : end < length text
+  pub list : listOf (slice start end text) ≡ some (l .list)
+  pub rest : l .rest ≡ drop (end + 1) text
+
+-- The answer for a line of the text: where its list begins and ends, if the line is good.
+abbrev pub LineAt : Text → Option Line → LineSpan → Type 0
+LineAt text none span-cases.Bad = Unit {0}
+LineAt text none (span-cases.List start end) = ⊥
+LineAt text (some l) span-cases.Bad = ⊥
+LineAt text (some l) (span-cases.List start end) = Spans text l start end
+
+-- ---- the sheet
+
+-- The number of entries of the five lists.
+pub record Lengths : Type 0 where
+  pub breaks : ℕ
+  pub degrees : ℕ
+  pub orders : ℕ
+  pub coefs : ℕ
+  pub positions : ℕ
+
+-- The lengths of the lists that were read.
+abbrev pub lengths : Lists → Lengths
+lengths l = record { breaks = length (l .breaks); degrees = length (l .degrees); orders = length (l .orders); coefs = length (l .coefs); positions = length (l .positions) }
+
+-- "10, line: the program's text is malformed".
+unfoldable pub reply : Answer → Outcome Lengths
+reply (answer-cases.Read b d o c p) = answer (record { breaks = b; degrees = d; orders = o; coefs = c; positions = p })
+reply (answer-cases.Refused place) = refusal 10 place
+
+-- What reading answers: the five lengths, or a refusal.
+abbrev pub counted : Outcome Lists → Outcome Lengths
+counted o = with-answer lengths o
+
+-- A buffer after reading: one of the lists at its front after an answer, unchanged after a refusal.
+unfoldable pub after : (Lists → List ℤ) → Outcome Lists → List ℤ → List ℤ
+after list (answer l) before = overwritten (list l) before
+after list (refusal number place) before = before
