@@ -2,18 +2,17 @@
 -- `stripped` give once the search's index or the comparison's answer is known.
 use mathlib.Core.Path.{_≡_, refl, sym, _∙_, ap, ap₂}
 use mathlib.Core.Bool.{Bool, true, false, cond}
-use mathlib.Core.List.{List, [], _∷_}
-use mathlib.Core.Option.{Option, some, none}
-use mathlib.Core.Logic.{_⊎_, inl, inr}
-use Prim.Native.Nat.{ℕ, zero, suc, _+_, _<_, _≤_}
+use mathlib.Core.List.{[], _∷_}
+use mathlib.Core.Option.{some, none}
+use Prim.Native.Nat.{ℕ, suc, _+_, _<_, _≤_}
 use native.Mathlib.Nat.{add-assoc}
 use native.Mathlib.Numerals.{add-one}
 use native.Mathlib.Omega.{arith}
-use borrow.Author.Tests.{eq-eqb, ne-eqb, eqb-true, eqb-false}
+use borrow.Author.Tests.{eq-eqb, ne-eqb}
 use lib.Dec.{eqb}
 use lib.ListN.{length, getD, take, drop, drop-of-length-le}
 use lib.Seq.{slice, slice-empty, drop-cons}
-use Rattle.sheet_text.specs.Bytes.{Text, comma, Cut, withByte, cut, onFirst, fields, stripped, indexOf, beginsWith}
+use Rattle.sheet_text.specs.Bytes.{Text, comma, withByte, cut, onFirst, fields, stripped, indexOf, beginsWith}
 use Rattle.sheet_text.proofs.Slice.{slice-step}
 
 -- ---- the index of a byte
@@ -52,7 +51,7 @@ cut-none b [] e = refl
 cut-none b (c ∷ cs) e = go (eqb c b) e (cut-none b cs)
   where
     go : (s : Bool) → cond s 0 (suc (indexOf b cs)) ≡ suc (length cs) → (indexOf b cs ≡ length cs → cut b cs ≡ none) →
-      cond s (some (record { before = []; after = cs })) (withByte c (cut b cs)) ≡ none
+        cond s (some (record { before = []; after = cs })) (withByte c (cut b cs)) ≡ none
     go true e ih = absurd (omega arith)
     go false e ih = ap (withByte c) (ih (omega arith))
 
@@ -62,9 +61,9 @@ cut-some b [] h = absurd (omega arith)
 cut-some b (c ∷ cs) h = go (eqb c b) h (cut-some b cs)
   where
     go : (s : Bool) → cond s 0 (suc (indexOf b cs)) < suc (length cs) →
-      (indexOf b cs < length cs → cut b cs ≡ some (record { before = take (indexOf b cs) cs; after = drop (suc (indexOf b cs)) cs })) →
-      cond s (some (record { before = []; after = cs })) (withByte c (cut b cs))
-      ≡ some (record { before = take (cond s 0 (suc (indexOf b cs))) (c ∷ cs); after = drop (suc (cond s 0 (suc (indexOf b cs)))) (c ∷ cs) })
+        (indexOf b cs < length cs → cut b cs ≡ some (record { before = take (indexOf b cs) cs; after = drop (suc (indexOf b cs)) cs })) →
+        cond s (some (record { before = []; after = cs })) (withByte c (cut b cs))
+        ≡ some (record { before = take (cond s 0 (suc (indexOf b cs))) (c ∷ cs); after = drop (suc (cond s 0 (suc (indexOf b cs)))) (c ∷ cs) })
     go true h ih = refl
     go false h ih = ap (withByte c) (ih (omega arith))
 
@@ -75,7 +74,7 @@ fields-one [] e = refl
 fields-one (c ∷ cs) e = go (eqb c comma) e (fields-one cs)
   where
     go : (s : Bool) → cond s 0 (suc (indexOf comma cs)) ≡ suc (length cs) → (indexOf comma cs ≡ length cs → fields cs ≡ cs ∷ []) →
-      cond s ([] ∷ fields cs) (onFirst c (fields cs)) ≡ (c ∷ cs) ∷ []
+        cond s ([] ∷ fields cs) (onFirst c (fields cs)) ≡ (c ∷ cs) ∷ []
     go true e ih = absurd (omega arith)
     go false e ih = ap (onFirst c) (ih (omega arith))
 
@@ -85,9 +84,9 @@ fields-more [] h = absurd (omega arith)
 fields-more (c ∷ cs) h = go (eqb c comma) h (fields-more cs)
   where
     go : (s : Bool) → cond s 0 (suc (indexOf comma cs)) < suc (length cs) →
-      (indexOf comma cs < length cs → fields cs ≡ take (indexOf comma cs) cs ∷ fields (drop (suc (indexOf comma cs)) cs)) →
-      cond s ([] ∷ fields cs) (onFirst c (fields cs))
-      ≡ take (cond s 0 (suc (indexOf comma cs))) (c ∷ cs) ∷ fields (drop (suc (cond s 0 (suc (indexOf comma cs)))) (c ∷ cs))
+        (indexOf comma cs < length cs → fields cs ≡ take (indexOf comma cs) cs ∷ fields (drop (suc (indexOf comma cs)) cs)) →
+        cond s ([] ∷ fields cs) (onFirst c (fields cs))
+        ≡ take (cond s 0 (suc (indexOf comma cs))) (c ∷ cs) ∷ fields (drop (suc (cond s 0 (suc (indexOf comma cs)))) (c ∷ cs))
     go true h ih = refl
     go false h ih = ap (onFirst c) (ih (omega arith))
 
@@ -140,6 +139,6 @@ stripped-some (p ∷ ps) [] e = absurd (let z : _≡_ {A = ℕ} 0 1 = cc in omeg
 stripped-some (p ∷ ps) (c ∷ cs) e = go (eqb c p) e (stripped-some ps cs)
   where
     go : (s : Bool) → cond s (beginsWith ps cs) false ≡ true → (beginsWith ps cs ≡ true → (length ps ≤ length cs) × (stripped ps cs ≡ some (drop (length ps) cs))) →
-      (suc (length ps) ≤ suc (length cs)) × (cond s (stripped ps cs) none ≡ some (drop (length ps) cs))
+        (suc (length ps) ≤ suc (length cs)) × (cond s (stripped ps cs) none ≡ some (drop (length ps) cs))
     go true e ih = (omega (arith, ih e .0), ih e .1)
     go false e ih = absurd (let z : _≡_ {A = ℕ} 0 1 = cc in omega arith)

@@ -2,21 +2,21 @@
 use mathlib.Core.Path.{_≡_, refl, sym, _∙_, ap}
 use mathlib.Core.Bool.{Bool, true, false, _&&_, not, and-false}
 use mathlib.Core.Bool.{and-true as and-true-right}
-use mathlib.Core.List.{List, [], _∷_}
-use Prim.Native.Nat.{ℕ, zero, suc, _+_, _*_, _-_, _^_, _<_, _≤_}
+use mathlib.Core.List.{[], _∷_}
+use Prim.Native.Nat.{ℕ, _+_, _*_, _-_, _^_, _<_, _≤_}
 use native.Mathlib.Nat.{mul-le-mul-right, pow-le-pow-right, pow-succ'}
 use native.Mathlib.Omega.{arith}
 use borrow.Author.Tests.{le-leb, lt-leb, lt-ltb, le-ltb, leb-true, ltb-true, not-true}
 use lib.Dec.{leb, ltb, eqb}
 use lib.ListN.{length, getD}
-use lib.Seq.{slice, slice-empty, length-slice}
+use lib.Seq.{slice, slice-empty}
 use Rattle.exact.proofs.Decide.{and-true}
 use Rattle.sheet_text.specs.Bytes.{Text, digitZero}
 use Rattle.sheet_text.specs.Numeral.{isDigit, allDigits, digitsValue, spareZero, isNatural}
 use Rattle.sheet_text.proofs.Slice.{slice-step}
 
 -- ---- one byte
-digit-yes : (c : ℕ) → 48 ≤ c → c ≤ 57 → isDigit c ≡ true
+pub digit-yes : (c : ℕ) → 48 ≤ c → c ≤ 57 → isDigit c ≡ true
 digit-yes c h k = rw (le-leb 48 c h, lt-ltb c 58 (omega arith))
 
 digit-low : (c : ℕ) → c < 48 → isDigit c ≡ false
@@ -25,7 +25,7 @@ digit-low c h = rw (lt-leb 48 c h)
 digit-high : (c : ℕ) → 57 < c → isDigit c ≡ false
 digit-high c h = rw (le-leb 48 c (omega arith), le-ltb c 58 (omega arith))
 
-digit-bounds : (c : ℕ) → isDigit c ≡ true → (48 ≤ c) × (c ≤ 57)
+pub digit-bounds : (c : ℕ) → isDigit c ≡ true → (48 ≤ c) × (c ≤ 57)
 digit-bounds c e =
     let both = and-true (leb 48 c) (ltb c 58) e in
     (leb-true 48 c (both .0), omega (arith, ltb-true c 58 (both .1)))

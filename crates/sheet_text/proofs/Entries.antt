@@ -1,26 +1,26 @@
 -- A list between commas, one field at a time: how many numbers it has, and which they are.
 use mathlib.Core.Path.{_≡_, refl, sym, _∙_, ap, ap₂}
 use mathlib.Core.Bool.{Bool, true, false, cond}
-use mathlib.Core.List.{List, [], _∷_, _++_}
+use mathlib.Core.List.{List, [], _∷_}
 use mathlib.Core.Option.{Option, some, none}
 use mathlib.Core.Logic.{_⊎_, inl, inr}
-use Prim.Native.Nat.{ℕ, zero, suc, _+_, _-_, _<_, _≤_}
+use Prim.Native.Nat.{ℕ, suc, _+_, _<_, _≤_}
 use native.Mathlib.Nat.{zero-add}
 use native.Mathlib.Omega.{arith}
 use borrow.Author.Tests.{le-leb, lt-leb}
 use lib.Dec.{leb}
 use lib.IntN.{ℤ}
-use lib.ListN.{length, take, drop}
+use lib.ListN.{length}
 use lib.Seq.{slice, slice-empty, length-slice}
 use Rattle.exact.proofs.Decide.{le-or-lt}
 use Rattle.sheet_text.specs.Bytes.{Text, comma, Part, fields, indexOf}
 use Rattle.sheet_text.specs.Numeral.{numeral}
 use Rattle.sheet_text.specs.Reading.{prepended, numerals, limitedList, listOf, listLimit}
-use Rattle.sheet_text.specs.Reply.{field, count, numbers, overwritten}
+use Rattle.sheet_text.specs.Reply.{field, count}
 use Rattle.sheet_text.specs.declared.numeral.Field.the-variants as field-cases
 use Rattle.sheet_text.specs.declared.read.Count.{Count}
 use Rattle.sheet_text.specs.declared.read.Count.the-variants.{Numbers, Bad}
-use Rattle.sheet_text.proofs.Slice.{take-slice, drop-slice, slice-step}
+use Rattle.sheet_text.proofs.Slice.{take-slice, drop-slice}
 use Rattle.sheet_text.proofs.Cutting.{index-within, fields-one, fields-more}
 
 -- ---- the field from an index on, up to the next comma or the end
@@ -44,8 +44,8 @@ module _ (text : Text) (start to stop : ℕ) (part : Part text start to) (is : s
       let after : start + suc k ≡ stop + 1 = omega arith in
       fields-more (slice start to text) (omega arith)
       ∙ ap₂ (λ (f g : Text). f ∷ fields g)
-        (take-slice k start to text (omega arith) ∙ ap (λ (n : ℕ). slice start n text) (sym is))
-        (drop-slice (suc k) start to text ∙ ap (λ (n : ℕ). slice n to text) after)
+      (take-slice k start to text (omega arith) ∙ ap (λ (n : ℕ). slice start n text) (sym is))
+      (drop-slice (suc k) start to text ∙ ap (λ (n : ℕ). slice n to text) after)
 
   pub field-first : (fs : List Text) × (fields (slice start to text) ≡ slice start stop text ∷ fs)
   field-first = go (le-or-lt to stop)
@@ -103,10 +103,10 @@ pub list-empty : (text : Text) (to : ℕ) → listOf (slice to to text) ≡ some
 unfolding listOf
 list-empty text to = ap listOf (slice-empty to text)
 
-module _ (text : Text) (from to : ℕ) (before : from < to) (within : to ≤ length text) where
-  pub list-fields : listOf (slice from to text) ≡ limitedList (numerals (fields (slice from to text)))
-  unfolding listOf
-  list-fields = rw (slice-step from to text 0 before within)
+pub list-fields : (t : Text) → 0 < length t → listOf t ≡ limitedList (numerals (fields t))
+unfolding listOf
+list-fields [] h = absurd (omega arith)
+list-fields (c ∷ cs) h = refl
 
-  pub list-count : count (listOf (slice from to text)) ≡ tally 0 (numerals (fields (slice from to text)))
-  list-count = ap count list-fields ∙ tally-start (numerals (fields (slice from to text)))
+pub list-count : (t : Text) → 0 < length t → count (listOf t) ≡ tally 0 (numerals (fields t))
+list-count t h = ap count (list-fields t h) ∙ tally-start (numerals (fields t))

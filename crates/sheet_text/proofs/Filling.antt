@@ -1,16 +1,16 @@
 -- Writing a list's numbers into a buffer from the front, one field at a time.
-use mathlib.Core.Path.{_≡_, refl, sym, _∙_, ap, ap₂}
+use mathlib.Core.Path.{_≡_, refl, sym, _∙_, ap}
 use mathlib.Core.Bool.{Bool, true, false, cond}
 use mathlib.Core.List.{List, [], _∷_, _++_, append-assoc}
 use mathlib.Core.Option.{Option, some, none}
-use Prim.Native.Nat.{ℕ, zero, suc, _+_, _<_, _≤_}
+use Prim.Native.Nat.{ℕ, suc, _+_, _<_, _≤_}
 use native.Mathlib.Numerals.{add-one}
 use native.Mathlib.Omega.{arith}
 use borrow.Author.Tests.{leb-true}
 use lib.Dec.{leb}
 use lib.IntN.{ℤ}
 use lib.ListN.{length, getD, take, drop, set, length-drop}
-use lib.Seq.{slice, drop-cons, take-suc, set-at, length-take-le, length-front, take-length}
+use lib.Seq.{drop-cons, take-suc, set-at, length-take-le, length-front, take-length}
 use Rattle.sheet_text.specs.Bytes.{Text, fields}
 use Rattle.sheet_text.specs.Numeral.{numeral}
 use Rattle.sheet_text.specs.Reading.{prepended, numerals, limitedList, listOf, listLimit}
@@ -39,9 +39,9 @@ unfolding listOf
 list-few [] zs e = let empty : zs ≡ [] = cc in rw empty (omega arith)
 list-few (c ∷ cs) zs e = limited-some (numerals (fields (c ∷ cs))) zs e .1
 
-pub filled-start : (text : Text) (from to : ℕ) → from < to → to ≤ length text → (zs before : List ℤ) → listOf (slice from to text) ≡ some zs → length zs ≤ length before → Filled zs (slice from to text) before before 0
-filled-start text from to h k zs before e room =
-    let good = limited-some (numerals (fields (slice from to text))) zs (sym (list-fields text from to h k) ∙ e) in
+pub filled-start : (t : Text) → 0 < length t → (zs before : List ℤ) → listOf t ≡ some zs → length zs ≤ length before → Filled zs t before before 0
+filled-start t h zs before e room =
+    let good = limited-some (numerals (fields t)) zs (sym (list-fields t h) ∙ e) in
     record { up-to = omega arith; room = room; others = good .0; written = refl }
 
 prepended-some : (a : Option ℤ) (o : Option (List ℤ)) (l : List ℤ) → prepended a o ≡ some l → (z : ℤ) × (ws : List ℤ) × (a ≡ some z) × (o ≡ some ws) × (l ≡ z ∷ ws)

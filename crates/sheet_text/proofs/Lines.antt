@@ -1,17 +1,17 @@
 -- The line that begins at an index of a text, by where its byte 10 stands, whether it begins with its key, and what list
 -- follows the key.
 use mathlib.Core.Path.{_≡_, refl, sym, _∙_, ap, ap₂}
-use mathlib.Core.Bool.{Bool, true, false}
+use mathlib.Core.Bool.{true, false}
 use mathlib.Core.List.{List}
 use mathlib.Core.Option.{Option, some, none}
-use Prim.Native.Nat.{ℕ, suc, _+_, _-_, _<_, _≤_}
+use Prim.Native.Nat.{ℕ, suc, _+_, _<_, _≤_}
 use native.Mathlib.Omega.{arith}
 use lib.IntN.{ℤ}
-use lib.ListN.{length, take, drop, length-drop}
+use lib.ListN.{length, drop, length-drop}
 use lib.Seq.{slice, drop-drop, length-slice}
-use Rattle.sheet_text.specs.Bytes.{Text, newline, Part, Cut, cut, stripped, indexOf, beginsWith}
+use Rattle.sheet_text.specs.Bytes.{Text, newline, Part, stripped, indexOf, beginsWith}
 use Rattle.sheet_text.specs.Reading.{listOf, Line, lineOf, bodyOf, cutLine, line}
-use Rattle.sheet_text.specs.Reply.{count, Spans, LineAt}
+use Rattle.sheet_text.specs.Reply.{count, LineAt}
 use Rattle.sheet_text.specs.declared.read.Count.the-variants as count-cases
 use Rattle.sheet_text.specs.declared.read.LineSpan.the-variants as span-cases
 use Rattle.sheet_text.proofs.Slice.{slice-take, slice-all, drop-slice}
@@ -51,8 +51,8 @@ module _ (key text : Text) (from end : ℕ) (within : from ≤ length text) (is 
         let next : from + suc k ≡ end + 1 = omega (arith, end-is) in
         ap (cutLine key) (cut-some newline (drop from text) (omega (arith, end-is, end-below, length-drop from text)))
         ∙ ap₂ (λ (b a : Text). lineOf (bodyOf (stripped key b)) a)
-          (sym (slice-take from k text) ∙ ap (λ (n : ℕ). slice from n text) (sym end-is))
-          (drop-drop (suc k) from text ∙ ap (λ (n : ℕ). drop n text) next)
+        (sym (slice-take from k text) ∙ ap (λ (n : ℕ). slice from n text) (sym end-is))
+        (drop-drop (suc k) from text ∙ ap (λ (n : ℕ). drop n text) next)
 
     pub line-unkeyed : beginsWith key (slice from end text) ≡ false → line key (drop from text) ≡ none
     line-unkeyed e = line-cut ∙ ap (λ (o : Option Text). lineOf (bodyOf o) (drop (end + 1) text)) (stripped-none key (slice from end text) e)
@@ -72,7 +72,7 @@ module _ (key text : Text) (from end : ℕ) (within : from ≤ length text) (is 
       pub line-good : (zs : List ℤ) → listOf (slice (from + length key) end text) ≡ some zs → LineAt text (line key (drop from text)) (span-cases.List (from + length key) end)
       line-good zs e =
           rw (line-keyed ∙ ap (λ (o : Option (List ℤ)). lineOf o (drop (end + 1) text)) e)
-          (record { part = list-part; ended = end-below; list = e; rest = refl })
+          (record { list = record { part = list-part; list = e }; ended = end-below; rest = refl })
 
 pub line-bad : (text : Text) {o : Option Line} → o ≡ none → LineAt text o span-cases.Bad
 line-bad text e = rw e tt

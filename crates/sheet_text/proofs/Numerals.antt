@@ -1,12 +1,11 @@
 -- The number that a part of a text stands for, by its first byte and by whether the digits behind it are a numeral's.
 use mathlib.Core.Path.{_≡_, refl, sym, _∙_, ap}
 use mathlib.Core.Bool.{Bool, true, false, cond}
-use mathlib.Core.List.{List, [], _∷_}
-use mathlib.Core.Option.{Option, some, none}
+use mathlib.Core.List.{_∷_}
+use mathlib.Core.Option.{some, none}
 use Prim.Native.Nat.{ℕ, zero, suc, _+_, _<_, _≤_}
-use native.Mathlib.Omega.{arith}
 use borrow.Author.Tests.{eq-eqb, ne-eqb}
-use lib.IntN.{ℤ, pos, negsuc, negℤ, _-ℤ_}
+use lib.IntN.{pos, _-ℤ_}
 use lib.ListN.{length, getD}
 use lib.Seq.{slice, slice-empty}
 use Rattle.exact.proofs.Word.{zero-sub}
@@ -19,7 +18,7 @@ numeral-minus : (c : ℕ) (cs : Text) → c ≡ minus → numeral (c ∷ cs) ≡
 unfolding numeral
 numeral-minus c cs e = rw (eq-eqb c minus e)
 
-numeral-plain : (c : ℕ) (cs : Text) → (c ≡ minus → ⊥) → numeral (c ∷ cs) ≡ cond (isNatural (c ∷ cs)) (some (pos (digitsValue 0 (c ∷ cs)))) none
+pub numeral-plain : (c : ℕ) (cs : Text) → (c ≡ minus → ⊥) → numeral (c ∷ cs) ≡ cond (isNatural (c ∷ cs)) (some (pos (digitsValue 0 (c ∷ cs)))) none
 unfolding numeral
 numeral-plain c cs h = rw (ne-eqb c minus h)
 

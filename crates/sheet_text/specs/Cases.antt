@@ -1,7 +1,6 @@
 -- Case W1 as a sheet and its printout (document 01, "Sheet and printout"), byte for byte. The statement at the end is proved
 -- by computation in proofs/Cases; the cases of the calls alone are crate spline's.
 use mathlib.Core.List.{List, [], _∷_, _++_}
-use Prim.Native.Nat.{ℕ}
 use Prim.Native.Char.{code}
 use Prim.Native.String.{String}
 use Prim.Native.String as string
@@ -21,26 +20,26 @@ lines (s ∷ ss) = bytes s ++ (newline ∷ lines ss)
 -- The sheet of W1.
 unfoldable pub w1Text : Text
 w1Text = lines (
-  "breaks=0,1,3" ∷
-  "degrees=2,2" ∷
-  "orders=1" ∷
-  "coefs=0,100,0,0" ∷
-  "at=256,512" ∷ [])
+    "breaks=0,1,3" ∷
+    "degrees=2,2" ∷
+    "orders=1" ∷
+    "coefs=0,100,0,0" ∷
+    "at=256,512" ∷ [])
 
 -- Its printout.
 unfoldable pub w1Printout : Text
 w1Printout = lines (
-  "n=4" ∷
-  "w=0,0,1/1" ∷
-  "w=1,1,1/1" ∷
-  "w=1,2,2/3" ∷
-  "w=1,3,2/3" ∷
-  "w=2,2,1/3" ∷
-  "w=2,3,1/3" ∷
-  "w=2,4,1/1" ∷
-  "w=3,5,1/1" ∷
-  "v=256,17066" ∷
-  "v=512,4266" ∷ [])
+    "n=4" ∷
+    "w=0,0,1/1" ∷
+    "w=1,1,1/1" ∷
+    "w=1,2,2/3" ∷
+    "w=1,3,2/3" ∷
+    "w=2,2,1/3" ∷
+    "w=2,3,1/3" ∷
+    "w=2,4,1/1" ∷
+    "w=3,5,1/1" ∷
+    "v=256,17066" ∷
+    "v=512,4266" ∷ [])
 
 -- The sheet of W1 gives its printout.
 abbrev pub SheetCaseHolds : Type 0

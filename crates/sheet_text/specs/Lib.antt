@@ -4,6 +4,7 @@ pub mod Numeral
 pub mod Reading
 pub mod Printout
 pub mod Sheet
+pub mod SheetText
 pub mod Buffer
 pub mod Reply
 pub mod Printed

@@ -16,6 +16,8 @@ use Rattle.sheet_text.specs.declared.read.Count.{Count}
 use Rattle.sheet_text.specs.declared.read.Count.the-variants as count-cases
 use Rattle.sheet_text.specs.declared.read.LineSpan.{LineSpan}
 use Rattle.sheet_text.specs.declared.read.LineSpan.the-variants as span-cases
+use Rattle.sheet_text.specs.declared.read.Places.{Places}
+use Rattle.sheet_text.specs.declared.read.Places.the-variants as places-cases
 use Rattle.sheet_text.specs.declared.read.Lists.{Lists as Answer}
 use Rattle.sheet_text.specs.declared.read.Lists.the-variants as answer-cases
 
@@ -40,13 +42,17 @@ numbers (some zs) = zs
 abbrev pub overwritten : List ℤ → List ℤ → List ℤ
 overwritten zs before = zs ++ drop (length zs) before
 
+-- A list stands in the text from the one index up to the other.
+pub record ListAt (text : Text) (zs : List ℤ) (start end : ℕ) : Type 0 where
+  pub part : Part text start end
+  pub list : listOf (slice start end text) ≡ some zs
+
 -- ---- lines
 
--- The list of a line is the part from the one index up to the other, where byte 10 stands.
+-- A line's list stands there, with byte 10 at its end.
 pub record Spans (text : Text) (l : Line) (start end : ℕ) : Type 0 where
-  pub part : Part text start end
+  pub list : ListAt text (l .list) start end
   pub ended : end < length text
-  pub list : listOf (slice start end text) ≡ some (l .list)
   pub rest : l .rest ≡ drop (end + 1) text
 
 -- The answer for a line of the text: where its list begins and ends, if the line is good.
@@ -57,6 +63,21 @@ LineAt text (some l) span-cases.Bad = ⊥
 LineAt text (some l) (span-cases.List start end) = Spans text l start end
 
 -- ---- the sheet
+
+-- The five lists stand at these places.
+pub record ListsAt (text : Text) (l : Lists) (b b-end d d-end o o-end c c-end p p-end : ℕ) : Type 0 where
+  pub breaks : ListAt text (l .breaks) b b-end
+  pub degrees : ListAt text (l .degrees) d d-end
+  pub orders : ListAt text (l .orders) o o-end
+  pub coefs : ListAt text (l .coefs) c c-end
+  pub positions : ListAt text (l .positions) p p-end
+
+-- The answer for a whole text: where the five lists stand, or the place of number 10.
+abbrev pub Scanned : Text → Outcome Lists → Places → Type 0
+Scanned text (answer l) (places-cases.Lists b b-end d d-end o o-end c c-end p p-end) = ListsAt text l b b-end d d-end o o-end c c-end p p-end
+Scanned text (answer l) (places-cases.Refused place) = ⊥
+Scanned text (refusal number place) (places-cases.Lists b b-end d d-end o o-end c c-end p p-end) = ⊥
+Scanned text (refusal number place) (places-cases.Refused at) = (number ≡ 10) × (place ≡ at)
 
 -- The number of entries of the five lists.
 pub record Lengths : Type 0 where

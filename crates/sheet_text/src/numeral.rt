@@ -7,6 +7,7 @@ ghost use Rattle.sheet_text.specs.Numeral.{allDigits, isNatural, digitsV
 ghost use Rattle.sheet_text.specs.Numeral;
 ghost use Rattle.sheet_text.specs.Reply.{field};
 
+// What stands between two commas: a whole number, or no numeral.
 pub enum Field {
     Number(i32),
     Bad,
@@ -14,16 +15,19 @@ pub enum Field {
 
 const MOST_DIGITS: usize = 7;
 
+const BASE: u32 = 10;
+
+// Whether all bytes of the part are digits.
 fn all_digits(text: &[u8], from: usize, to: usize) -> bool
     requires { ⌜ Part (now text) from to ⌝ }
     ensures { λ r. ⌜ r ≡ allDigits (slice from to (now (text .entry))) ⌝ }
 {
     let mut i = from;
     while i < to {
-        if text[i] < 48 {
+        if text[i] < b'0' {
             return false;
         }
-        if text[i] > 57 {
+        if text[i] > b'9' {
             return false;
         }
         i += 1;
@@ -44,7 +48,7 @@ fn is_natural(text: &[u8], from: usize, to: usize) -> bool
         return false;
     }
     if n > 1 {
-        if text[from] == 48 {
+        if text[from] == b'0' {
             return false;
         }
     }
@@ -60,12 +64,13 @@ fn digits_value(text: &[u8], from: usize, to: usize) -> u32
     let mut v = 0;
     let mut i = from;
     while i < to {
-        v = v * 10 + (text[i] - 48) as u32;
+        v = v * BASE + (text[i] - b'0') as u32;
         i += 1;
     }
     v
 }
 
+// The number that the part stands for, if it is a numeral: a minus may stand before the digits, but not before 0.
 pub fn numeral(text: &[u8], from: usize, to: usize) -> Field
     requires { ⌜ Part (now text) from to ⌝ }
     ensures { λ r. ⌜ r ≡ field (Numeral.numeral (slice from to (now (text .entry)))) ⌝ }
@@ -73,7 +78,7 @@ pub fn numeral(text: &[u8], from: usize, to: usize) -> Field
     if from == to {
         return Field::Bad;
     }
-    if text[from] == 45 {
+    if text[from] == b'-' {
         if is_natural(text, from + 1, to) {
             let v = digits_value(text, from + 1, to);
             if v == 0 {

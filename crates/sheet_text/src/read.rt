@@ -7,11 +7,11 @@ ghost use lib.Seq.{slice};
 ghost use Rattle.sheet_text.specs.Bytes.{Part};
 ghost use Rattle.sheet_text.specs.Reading;
 ghost use Rattle.sheet_text.specs.Reading.{listOf};
-ghost use Rattle.sheet_text.specs.Reply.{count, numbers, overwritten, LineAt, reply, counted, after};
-
+ghost use Rattle.sheet_text.specs.Reply.{count, numbers, overwritten, LineAt, Scanned, reply, counted, after};
 use crate::numeral::Field;
 
 const TEXT_LIMIT: usize = 65536;
+
 const LIST_LIMIT: usize = 4096;
 
 // The number of entries of the five lists, or the place of number 10.
@@ -21,15 +21,21 @@ pub enum Lists {
 }
 
 // How many numbers a list has, if it is one.
-pub enum Count {
+enum Count {
     Numbers(usize),
     Bad,
 }
 
 // Where a line's list begins and ends, if the line is good.
-pub enum LineSpan {
+enum LineSpan {
     List(usize, usize),
     Bad,
+}
+
+// Where the five lists begin and end, or the place of number 10.
+enum Places {
+    Lists(usize, usize, usize, usize, usize, usize, usize, usize, usize, usize),
+    Refused(u8),
 }
 
 // Looks through a list.
@@ -68,7 +74,7 @@ fn line(text: &[u8], from: usize, key: &[u8]) -> LineSpan
     requires { ⌜ from ≤ length (now text) ⌝ }
     ensures { λ r. ⌜ LineAt (now (text .entry)) (Reading.line (now (key .entry)) (drop from (now (text .entry)))) r ⌝ }
 {
-    let end = crate::fields::find(text, from, text.len(), 10);
+    let end = crate::fields::find(text, from, text.len(), b'\n');
     if end == text.len() {
         return LineSpan::Bad;
     }
@@ -83,7 +89,8 @@ fn line(text: &[u8], from: usize, key: &[u8]) -> LineSpan
     }
 }
 
-// Writes the numbers of a good list to the front of the buffer, and answers how many they are.
+// Writes the numbers of a good list to the front of the buffer, and answers how many they are. Each field of such a list is
+// a number, so the bad case is never met.
 fn fill(text: &[u8], from: usize, to: usize, list: &mut [i32]) -> usize
     requires { ⌜ Part (now text) from to ⌝ }
     requires { ⌜ listOf (slice from to (now text)) ≡ some (numbers (listOf (slice from to (now text)))) ⌝ }
@@ -115,9 +122,44 @@ fn fill(text: &[u8], from: usize, to: usize, list: &mut [i32]) -> usize
     }
 }
 
+// Looks through the whole text.
+fn scan(text: &[u8]) -> Places
+    ensures { λ r. ⌜ Scanned (now (text .entry)) (Reading.read (now (text .entry))) r ⌝ }
+{
+    if text.len() > TEXT_LIMIT {
+        return Places::Refused(0);
+    }
+    let LineSpan::List(b, b_end) = line(text, 0, b"breaks=") else {
+        return Places::Refused(1);
+    };
+    let LineSpan::List(d, d_end) = line(text, b_end + 1, b"degrees=") else {
+        return Places::Refused(2);
+    };
+    let LineSpan::List(o, o_end) = line(text, d_end + 1, b"orders=") else {
+        return Places::Refused(3);
+    };
+    let LineSpan::List(c, c_end) = line(text, o_end + 1, b"coefs=") else {
+        return Places::Refused(4);
+    };
+    let LineSpan::List(p, p_end) = line(text, c_end + 1, b"at=") else {
+        return Places::Refused(5);
+    };
+    if p_end + 1 != text.len() {
+        return Places::Refused(6);
+    }
+    Places::Lists(b, b_end, d, d_end, o, o_end, c, c_end, p, p_end)
+}
+
 // The five lists of a sheet's text, each written to the front of its buffer. The text may be any bytes: after number 10 no
 // buffer is changed.
-pub fn read(text: &[u8], breaks: &mut [i32; 4096], degrees: &mut [i32; 4096], orders: &mut [i32; 4096], coefs: &mut [i32; 4096], positions: &mut [i32; 4096]) -> Lists
+pub fn read(
+    text: &[u8],
+    breaks: &mut [i32; 4096],
+    degrees: &mut [i32; 4096],
+    orders: &mut [i32; 4096],
+    coefs: &mut [i32; 4096],
+    positions: &mut [i32; 4096],
+) -> Lists
     ensures answer { λ r. ⌜ reply r ≡ counted (Reading.read (now (text .entry))) ⌝ }
     ensures breaks { λ r. ⌜ now (breaks .exit) ≡ after (λ l. l .breaks) (Reading.read (now (text .entry))) (now (breaks .entry)) ⌝ }
     ensures degrees { λ r. ⌜ now (degrees .exit) ≡ after (λ l. l .degrees) (Reading.read (now (text .entry))) (now (degrees .entry)) ⌝ }
@@ -125,32 +167,15 @@ pub fn read(text: &[u8], breaks: &mut [i32; 4096], degrees: &mut [i32; 4096], or
     ensures coefs { λ r. ⌜ now (coefs .exit) ≡ after (λ l. l .coefs) (Reading.read (now (text .entry))) (now (coefs .entry)) ⌝ }
     ensures positions { λ r. ⌜ now (positions .exit) ≡ after (λ l. l .positions) (Reading.read (now (text .entry))) (now (positions .entry)) ⌝ }
 {
-    if text.len() > TEXT_LIMIT {
-        return Lists::Refused(0);
+    let scanned = scan(text);
+    match scanned {
+        Places::Refused(place) => Lists::Refused(place),
+        Places::Lists(b, b_end, d, d_end, o, o_end, c, c_end, p, p_end) => Lists::Read(
+            fill(text, b, b_end, breaks),
+            fill(text, d, d_end, degrees),
+            fill(text, o, o_end, orders),
+            fill(text, c, c_end, coefs),
+            fill(text, p, p_end, positions),
+        ),
     }
-    let LineSpan::List(b, b_end) = line(text, 0, b"breaks=") else {
-        return Lists::Refused(1);
-    };
-    let LineSpan::List(d, d_end) = line(text, b_end + 1, b"degrees=") else {
-        return Lists::Refused(2);
-    };
-    let LineSpan::List(o, o_end) = line(text, d_end + 1, b"orders=") else {
-        return Lists::Refused(3);
-    };
-    let LineSpan::List(c, c_end) = line(text, o_end + 1, b"coefs=") else {
-        return Lists::Refused(4);
-    };
-    let LineSpan::List(p, p_end) = line(text, c_end + 1, b"at=") else {
-        return Lists::Refused(5);
-    };
-    if p_end + 1 != text.len() {
-        return Lists::Refused(6);
-    }
-    Lists::Read(
-        fill(text, b, b_end, breaks),
-        fill(text, d, d_end, degrees),
-        fill(text, o, o_end, orders),
-        fill(text, c, c_end, coefs),
-        fill(text, p, p_end, positions),
-    )
 }

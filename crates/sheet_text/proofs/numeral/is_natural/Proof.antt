@@ -43,7 +43,7 @@ returns-4 c =
     let to = s .args .to in
     let size = length-slice from to text (s .pre .within) in
     let spare : spareZero (slice from to text) ≡ false =
-      ⊎-elim (λ w. spare-first text from to (omega arith) (s .pre .within) ∙ ne-eqb _ _ (w .2 .left)) (λ w. spare-short (slice from to text) (omega arith)) (c .before .if3 .came) in
+    ⊎-elim (λ w. spare-first text from to (omega arith) (s .pre .within) ∙ ne-eqb _ _ (w .2 .left)) (λ w. spare-short (slice from to text) (omega arith)) (c .before .if3 .came) in
     c .all-digits .ensures ∙ sym (natural-digits (slice from to text) (omega arith) (omega arith) spare)
 
 pub is-natural-spec : {M : Type 1} → statement M

@@ -1,12 +1,12 @@
 -- The count so far and the fields from `start` on make up the list's count.
 use borrow.Author.Needs.{needs}
-use mathlib.Core.List.{List, [], _∷_}
-use mathlib.Core.Option.{some, none}
+use mathlib.Core.List.{List, []}
+use mathlib.Core.Option.{some}
 use mathlib.Core.Path.{_≡_, sym, _∙_, ap}
-use Prim.Native.Nat.{ℕ, _+_, _-_, _≤_, _<_}
+use Prim.Native.Nat.{ℕ, _+_, _-_, _≤_}
 use native.Mathlib.Omega.{arith}
 use lib.IntN.{ℤ}
-use lib.Seq.{slice}
+use lib.Seq.{slice, length-slice}
 use Rattle.sheet_text.specs.Bytes.{Text, Part, fields}
 use Rattle.sheet_text.specs.Numeral.{numeral}
 use Rattle.sheet_text.specs.Reading.{listOf, numerals, listLimit}
@@ -33,7 +33,8 @@ returns c =
 loop-holds : tie.Need-loop-holds Inv-loop μ-loop
 loop-holds c =
     let s = c .before .before in
-    (omega arith, omega arith, list-count (s .args .text .now) (s .args .from) (s .args .to) (omega arith) (s .pre .within))
+    let a = s .args in
+    (omega arith, omega arith, list-count (slice (a .from) (a .to) (a .text .now)) (omega (arith, length-slice (a .from) (a .to) (a .text .now) (s .pre .within))))
 
 find-requires : tie.Need-find-requires Inv-loop μ-loop
 find-requires c κs = omega arith

@@ -1,13 +1,13 @@
 -- The numbers written so far are the list's first n, and those of the fields from `start` on are the others.
 use borrow.Author.Needs.{needs}
 use mathlib.Core.List.{List, [], _∷_}
-use mathlib.Core.Option.{some, none}
+use mathlib.Core.Option.{some}
 use mathlib.Core.Path.{_≡_, refl, sym, _∙_, ap}
 use Prim.Native.Nat.{ℕ, _+_, _-_, _*_, _^_, _≤_, _<_}
 use native.Mathlib.Omega.{arith}
 use lib.IntN.{ℤ}
 use lib.ListN.{length, set, length-set}
-use lib.Seq.{slice}
+use lib.Seq.{slice, length-slice}
 use mir.Syntax.{w32}
 use mir.Val.{SFits}
 use Rattle.exact.proofs.Word.{toZ-ofZ}
@@ -31,14 +31,14 @@ returns : tie.Need-returns Inv-loop μ-loop
 returns c =
     let a = c .before .before .args in
     let empty : listOf (slice (a .from) (a .to) (a .text .now)) ≡ some [] =
-      ap (λ (n : ℕ). listOf (slice n (a .to) (a .text .now))) (c .if1 .taken) ∙ list-empty (a .text .now) (a .to) in
+    ap (λ (n : ℕ). listOf (slice n (a .to) (a .text .now))) (c .if1 .taken) ∙ list-empty (a .text .now) (a .to) in
     rw empty (refl, refl)
 
 loop-holds : tie.Need-loop-holds Inv-loop μ-loop
 loop-holds c =
     let s = c .before .before in
     let a = s .args in
-    (omega arith, filled-start (a .text .now) (a .from) (a .to) (omega arith) (s .pre .0 .within) _ (a .list .now) (s .pre .1 .0) (s .pre .1 .1))
+    (omega arith, filled-start (slice (a .from) (a .to) (a .text .now)) (omega (arith, length-slice (a .from) (a .to) (a .text .now) (s .pre .0 .within))) _ (a .list .now) (s .pre .1 .0) (s .pre .1 .1))
 
 find-requires : tie.Need-find-requires Inv-loop μ-loop
 find-requires c κs = omega arith

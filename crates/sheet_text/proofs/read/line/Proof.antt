@@ -1,10 +1,9 @@
 -- Byte 10 is found, then the key and the list are tested in what stands before it.
 use borrow.Author.Needs.{needs}
 use borrow.Author.Tests.{not-true, not-false}
-use mathlib.Core.Bool.{true, false}
+use mathlib.Core.Bool.{true}
 use mathlib.Core.Path.{_≡_, sym, _∙_}
-use Prim.Native.Nat.{ℕ, _≤_}
-use lib.ListN.{length}
+use Prim.Native.Nat.{ℕ}
 use lib.Seq.{slice}
 use Rattle.sheet_text.specs.Bytes.{Text, beginsWith}
 use Rattle.sheet_text.proofs.Lines.{count-none, count-some, end-part, line-unended, line-unkeyed, list-part, line-bad-list, line-good, line-bad}
