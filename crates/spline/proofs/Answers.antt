@@ -1,19 +1,19 @@
--- What an answer of a part of a step tells: that the jumps and factors fit, that the factors lie from 0 to 1, and that
--- the span has no zero inside. A caller that is given the answer uses them.
-use mathlib.Core.Path.{_≡_, refl, sym, _∙_, ap, subst}
+-- What an answer of a part of a step tells: that the jumps fit, that the span has no zero inside, and that the factors are
+-- quotients that fit and lie from 0 to 1. A caller that is given the answer uses them.
+use mathlib.Core.Path.{_≡_, refl, sym, _∙_, ap, ap₂, subst}
 use mathlib.Core.Logic.{_≢_, _⊎_, inl, inr}
-use mathlib.Core.Bool.{Bool, true, false, cond, not, _&&_}
+use mathlib.Core.Bool.{Bool, true, false, cond, _&&_}
 use mathlib.Core.List.{List, [], _∷_, _++_}
 use mathlib.Core.Option.{Option, some, none}
 use Prim.Native.Nat.{ℕ, zero, suc, _+_, _-_, _<_, _≤_}
 use native.Mathlib.Omega.{arith}
-use native.Mathlib.Decide.{decLe, decLt}
 use native.Mathlib.Nat.{eq-or-lt-of-le}
 use lib.IntN.{pos}
 use lib.ListN.{length, length-append, List·getD-append, List·getD-eq-default}
 use lib.Seq.{getD-at}
 use Rattle.exact.specs.Rational.{ℚ, int, _+ᵠ_, _*ᵠ_, _/ᵠ_}
 use Rattle.exact.specs.Order.{isZero, leᵠ, ltᵠ}
+use Rattle.exact.proofs.Decide.{le-or-lt, true-not-false, not-true, not-false, and-true}
 use Rattle.exact.proofs.Order.{≤-refl, <-≤, zero<one, ltᵠ-true, le-test, isZero-true, isZero-false}
 use Rattle.fraction.specs.Size.{fits}
 use Rattle.fraction.proofs.Size.{int-fits}
@@ -46,11 +46,11 @@ module _ (j : ℕ) (κ : List Entry) (t : Table) {qs : List ℚ} (e : jumps j κ
   jumps-length = collect-inverts (length t) (λ i. jump j κ (row t i)) e .size
 
   pub jumps-fit : (i : ℕ) → fits (entry qs i) ≡ true
-  jumps-fit i = go (decLt i (length t))
+  jumps-fit i = go (le-or-lt (length t) i)
     where
-      go : Dec (i < length t) → fits (entry qs i) ≡ true
-      go (yes h) = jump-fits j κ (row t i) (collect-inverts (length t) (λ i. jump j κ (row t i)) e .at i h (int (pos 0)))
-      go (no h) = ap fits (List·getD-eq-default qs (int (pos 0)) (omega (arith, jumps-length, h))) ∙ int-fits (pos 0) (omega arith)
+      go : (length t ≤ i) ⊎ (i < length t) → fits (entry qs i) ≡ true
+      go (inl h) = ap fits (List·getD-eq-default qs (int (pos 0)) (omega (arith, jumps-length, h))) ∙ int-fits (pos 0) (omega arith)
+      go (inr h) = jump-fits j κ (row t i) (collect-inverts (length t) (λ i. jump j κ (row t i)) e .at i h (int (pos 0)))
 
 -- ---- a factor
 pub record Factored (s q w : ℚ) : Type 0 where
@@ -59,10 +59,6 @@ pub record Factored (s q w : ℚ) : Type 0 where
   pub quotient : w ≡ s /ᵠ q
   pub above-zero : ltᵠ (int (pos 0)) w ≡ true
   pub below-one : ltᵠ w (int (pos 1)) ≡ true
-
-both-true : (a b : Bool) → (a && b) ≡ true → (a ≡ true) × (b ≡ true)
-both-true true b e = (refl, e)
-both-true false b e = absurd (let z : _≡_ {A = ℕ} 0 1 = cc in omega arith)
 
 pub factor-answers : (j : ℕ) (s q : ℚ) {w : ℚ} → quotientFactor j s q ≡ answer w → Factored s q w
 unfolding quotientFactor
@@ -77,7 +73,7 @@ factor-answers j s q {w} e =
     go : (v : ℚ) (b : Bool) → fits s ≡ true → fits v ≡ true → v ≡ s /ᵠ q → (ltᵠ (int (pos 0)) v && ltᵠ v (int (pos 1))) ≡ b → cond b (answer v) (refuse 9 j) ≡ answer w → Factored s q w
     go v true h k z t e =
         let same : v ≡ w = answer-unique refl e in
-        let u = both-true (ltᵠ (int (pos 0)) v) (ltᵠ v (int (pos 1))) t in
+        let u = and-true (ltᵠ (int (pos 0)) v) (ltᵠ v (int (pos 1))) t in
         subst (Factored s q) same (record { sum-fits = h; factor-fits = k; quotient = z; above-zero = u .0; below-one = u .1 })
     go v false h k z t e = absurd (answer-not-refusal e refl)
 
@@ -89,37 +85,29 @@ pub record Spans (js : List ℚ) (f l : ℕ) : Type 0 where
   pub after : (j : ℕ) → l < j → entry js j ≡ int (pos 0)
   pub inside : (j : ℕ) → f ≤ j → j ≤ l → entry js j ≢ int (pos 0)
 
-negated-true : (b : Bool) → not b ≡ true → b ≡ false
-negated-true true e = absurd (let z : _≡_ {A = ℕ} 0 1 = cc in omega arith)
-negated-true false e = refl
-
-negated-false : (b : Bool) → not b ≡ false → b ≡ true
-negated-false true e = refl
-negated-false false e = absurd (let z : _≡_ {A = ℕ} 0 1 = cc in omega arith)
-
 spans : (js : List ℚ) (f l : ℕ) → First (jumpsAt js) (length js) f → Last (jumpsAt js) (length js) l → zeroBetween js f l ≡ false → Spans js f l
 spans js f l p q z = record {
-  ordered = ordered (decLe f l);
+  ordered = ordered (le-or-lt f l);
   below = q .below;
-  before = λ j h. isZero-true (entry js j) (negated-false _ (p .before j h));
-  after = λ j h. past j h (decLt j (length js));
+  before = λ j h. isZero-true (entry js j) (not-false _ (p .before j h));
+  after = λ j h. past j h (le-or-lt (length js) j);
   inside = λ j h k. within j h (eq-or-lt-of-le k);
 }
   where
-    ordered : Dec (f ≤ l) → f ≤ l
-    ordered (yes h) = h
-    ordered (no h) = absurd (let e = q .after f (omega (arith, h)) (p .below) in let z : _≡_ {A = ℕ} 0 1 = cc (p .meets, e) in omega arith)
+    ordered : (f ≤ l) ⊎ (l < f) → f ≤ l
+    ordered (inl h) = h
+    ordered (inr h) = absurd (true-not-false (p .meets) (q .after f h (p .below)))
 
-    past : (j : ℕ) → l < j → Dec (j < length js) → entry js j ≡ int (pos 0)
-    past j h (yes k) = isZero-true (entry js j) (negated-false _ (q .after j h k))
-    past j h (no k) = List·getD-eq-default js (int (pos 0)) (omega (arith, k))
+    past : (j : ℕ) → l < j → (length js ≤ j) ⊎ (j < length js) → entry js j ≡ int (pos 0)
+    past j h (inl k) = List·getD-eq-default js (int (pos 0)) k
+    past j h (inr k) = isZero-true (entry js j) (not-false _ (q .after j h k))
 
     no-zero : (o : Option ℕ) → found o ≡ false → o ≡ none
     no-zero none e = refl
-    no-zero (some i) e = absurd (let z : _≡_ {A = ℕ} 0 1 = cc in omega arith)
+    no-zero (some i) e = absurd (true-not-false refl e)
 
     within : (j : ℕ) → f ≤ j → (j ≡ l) ⊎ (j < l) → entry js j ≢ int (pos 0)
-    within j h (inl k) = rw k (isZero-false (entry js l) (negated-true _ (q .meets)))
+    within j h (inl k) = rw k (isZero-false (entry js l) (not-true _ (q .meets)))
     within j h (inr k) = isZero-false (entry js j) (rw (let e : f + (j - f) ≡ j = omega arith in e) at
         (first-none-inverts (λ d. isZero (entry js (f + d))) (l - f) (no-zero _ z) (j - f) (omega arith)))
 
@@ -137,7 +125,63 @@ span-inverts j js {g} e = go (first (length js) (jumpsAt js)) (last (length js) 
     go (some f) none p q h = absurd (answer-not-refusal h refl)
     go (some f) (some l) p q h = ends f l (first-some-inverts (jumpsAt js) (length js) p) (last-some-inverts (jumpsAt js) (length js) q) (zeroBetween js f l) refl h
 
--- ---- the factors of a span
+-- ---- the factors of a span: 1, those of the rows strictly between f and l, and 0 from there on
+pub record Factors (js : List ℚ) (f l : ℕ) (ws : List ℚ) : Type 0 where
+  pub at-first : entry ws 0 ≡ int (pos 1)
+  pub inside : (i : ℕ) → f < i → i < l → Factored (partialSum js f i) (entry js i) (entry ws (i - f))
+  pub past : (d : ℕ) → 0 < d → l - f ≤ d → entry ws d ≡ int (pos 0)
+
+framed : List ℚ → List ℚ
+framed us = int (pos 1) ∷ (us ++ (int (pos 0) ∷ []))
+
+framed-inside : (us : List ℚ) (d : ℕ) → d < length us → entry (framed us) (suc d) ≡ entry us d
+unfolding framed
+framed-inside us d h = List·getD-append us (int (pos 0) ∷ []) (int (pos 0)) d h
+
+framed-past : (us : List ℚ) (d : ℕ) → length us ≤ d → entry (framed us) (suc d) ≡ int (pos 0)
+unfolding framed
+framed-past us d h = go (eq-or-lt-of-le h)
+  where
+    go : (length us ≡ d) ⊎ (length us < d) → entry (us ++ (int (pos 0) ∷ [])) d ≡ int (pos 0)
+    go (inl e) = getD-at us (int (pos 0)) [] (int (pos 0)) d e
+    go (inr k) = List·getD-eq-default (us ++ (int (pos 0) ∷ [])) (int (pos 0)) (simp length-append (omega arith))
+
+pub factors-inverts : (j : ℕ) (js : List ℚ) (g : Span) {ws : List ℚ} → factors j js g ≡ answer ws → Factors js (g .f) (g .l) ws
+unfolding factors framed
+factors-inverts j js g {ws} e = record { at-first = ap (λ u. entry u 0) (sym whole); inside = inside; past = past }
+  where
+    f : ℕ
+    f = g .f
+
+    l : ℕ
+    l = g .l
+
+    inner : ℕ → Outcome ℚ
+    inner d = factor j js f (f + 1 + d)
+
+    c : Chained (collect (l - f - 1) inner) (λ us. answer (framed us)) ws
+    c = then-inverts (collect (l - f - 1) inner) (λ us. answer (framed us)) e
+
+    us : List ℚ
+    us = c .middle
+
+    whole : framed us ≡ ws
+    whole = answer-unique refl (c .after)
+
+    parts : Collected (l - f - 1) inner us
+    parts = collect-inverts (l - f - 1) inner (c .before)
+
+    past : (d : ℕ) → 0 < d → l - f ≤ d → entry ws d ≡ int (pos 0)
+    past d h k = ap₂ entry (sym whole) (let z : d ≡ suc (d - 1) = omega arith in z) ∙ framed-past us (d - 1) (rw (parts .size) (omega arith))
+
+    inside : (i : ℕ) → f < i → i < l → Factored (partialSum js f i) (entry js i) (entry ws (i - f))
+    inside i h k = subst (Factored (partialSum js f i) (entry js i)) (sym value) (factor-answers j (partialSum js f i) (entry js i) answered)
+      where
+        value : entry ws (i - f) ≡ entry us (i - f - 1)
+        value = ap₂ entry (sym whole) (let z : i - f ≡ suc (i - f - 1) = omega arith in z) ∙ framed-inside us (i - f - 1) (rw (parts .size) (omega arith))
+
+        answered : factor j js f i ≡ answer (entry us (i - f - 1))
+        answered = ap (factor j js f) (let z : i ≡ f + 1 + (i - f - 1) = omega arith in z) ∙ parts .at (i - f - 1) (omega arith) (int (pos 0))
 
 -- a factor that fits, from 0 to 1
 pub record FromZeroToOne (w : ℚ) : Type 0 where
@@ -159,32 +203,15 @@ inner-factor {w = w} h = record {
 }
 
 pub factors-unit : (j : ℕ) (js : List ℚ) (g : Span) {ws : List ℚ} → factors j js g ≡ answer ws → (i : ℕ) → FromZeroToOne (entry ws i)
-unfolding factors
-factors-unit j js g {ws} e = λ i. subst (λ (vs : List ℚ). FromZeroToOne (entry vs i)) (answer-unique refl (c .after)) (place i)
+factors-unit j js g {ws} e = at
   where
-    inner : ℕ → Outcome ℚ
-    inner d = factor j js (g .f) (g .f + 1 + d)
+    F : Factors js (g .f) (g .l) ws
+    F = factors-inverts j js g e
 
-    c : Chained (collect (g .l - g .f - 1) inner) (λ us. answer (int (pos 1) ∷ (us ++ (int (pos 0) ∷ [])))) ws
-    c = then-inverts (collect (g .l - g .f - 1) inner) (λ us. answer (int (pos 1) ∷ (us ++ (int (pos 0) ∷ [])))) e
-
-    us : List ℚ
-    us = c .middle
-
-    parts : Collected (g .l - g .f - 1) inner us
-    parts = collect-inverts (g .l - g .f - 1) inner (c .before)
-
-    within : (i : ℕ) → i < length us → FromZeroToOne (entry us i)
-    within i h = inner-factor (factor-answers j (partialSum js (g .f) (g .f + 1 + i)) (entry js (g .f + 1 + i)) (parts .at i (rw (parts .size) at h) (int (pos 0))))
-
-    past : (i : ℕ) → length us ≤ i → (length us ≡ i) ⊎ (length us < i) → entry (us ++ (int (pos 0) ∷ [])) i ≡ int (pos 0)
-    past i h (inl k) = getD-at us (int (pos 0)) [] (int (pos 0)) i k
-    past i h (inr k) = List·getD-eq-default (us ++ (int (pos 0) ∷ [])) (int (pos 0)) (simp length-append (omega arith))
-
-    at : (i : ℕ) → Dec (i < length us) → FromZeroToOne (entry (us ++ (int (pos 0) ∷ [])) i)
-    at i (yes h) = subst FromZeroToOne (sym (List·getD-append us (int (pos 0) ∷ []) (int (pos 0)) i h)) (within i h)
-    at i (no h) = let k : length us ≤ i = omega (arith, h) in subst FromZeroToOne (sym (past i k (eq-or-lt-of-le k))) zero-factor
-
-    place : (i : ℕ) → FromZeroToOne (entry (int (pos 1) ∷ (us ++ (int (pos 0) ∷ []))) i)
-    place zero = one-factor
-    place (suc i) = at i (decLt i (length us))
+    at : (i : ℕ) → FromZeroToOne (entry ws i)
+    at zero = subst FromZeroToOne (sym (F .at-first)) one-factor
+    at (suc d) = go (le-or-lt (g .l - g .f) (suc d))
+      where
+        go : (g .l - g .f ≤ suc d) ⊎ (suc d < g .l - g .f) → FromZeroToOne (entry ws (suc d))
+        go (inl h) = subst FromZeroToOne (sym (F .past (suc d) (omega arith) h)) zero-factor
+        go (inr h) = subst (λ k. FromZeroToOne (entry ws k)) (let z : g .f + suc d - g .f ≡ suc d = omega arith in z) (inner-factor (F .inside (g .f + suc d) (omega arith) (omega arith)))

@@ -1,7 +1,9 @@
 pub mod Outcome
+pub mod Table
 pub mod Search
 pub mod Legal
 pub mod Step
 pub mod Answers
+pub mod NewRows
 pub mod Refusals
 pub mod Cases

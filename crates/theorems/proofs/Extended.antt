@@ -20,8 +20,8 @@ use Rattle.exact.proofs.Order.{nn-int, le-nn, pos-nn, <-≤, ltᵠ-true, pos-no
 use Rattle.exact.proofs.Sum.{sum-zero, sum-ext, sum-past, sum-skip}
 use Rattle.spline.specs.Table.{entry}
 use Rattle.spline.specs.Step.{jump, partialSum}
+use Rattle.spline.proofs.Answers.{Spans, Factored, Factors}
 use Rattle.theorems.proofs.NullSpace.{Jumps}
-use Rattle.theorems.proofs.StepInversion.{Spans, Proper, Factors}
 
 -- The factor of row i: 1 before f, the computed ones from f to l, 0 after l.
 pub extended : List ℚ → ℕ → ℕ → ℚ
@@ -62,7 +62,7 @@ find f l i o = go (le-or-lt f i)
     go (inr h) = before h
     go (inl h) = middle (eq-or-lt-of-le h)
 
-module _ (js ws : List ℚ) (f l n : ℕ) (J : ℕ → ℚ) (same : (i : ℕ) → entry js i ≡ J i) (below : l < n) (S : Spans js f l) (F : f < l → Factors js f l ws) (zero-sum : sum n J ≡ int (pos 0)) where
+module _ (js ws : List ℚ) (f l n : ℕ) (J : ℕ → ℚ) (same : (i : ℕ) → entry js i ≡ J i) (below : l < n) (S : Spans js f l) (F : Factors js f l ws) (zero-sum : sum n J ≡ int (pos 0)) where
   J-before : (j : ℕ) → j < f → J j ≡ int (pos 0)
   J-before j h = sym (same j) ∙ S .before j h
 
@@ -89,17 +89,13 @@ module _ (js ws : List ℚ) (f l n : ℕ) (J : ℕ → ℚ) (same : (i : ℕ) �
   w i = extended ws f i
 
   w-first : w f ≡ int (pos 1)
-  w-first = extended-from ws f f (omega arith) ∙ ap (entry ws) (let z : f - f ≡ 0 = omega arith in z) ∙ F spread .at-first
+  w-first = extended-from ws f f (omega arith) ∙ ap (entry ws) (let z : f - f ≡ 0 = omega arith in z) ∙ F .at-first
 
   w-after : (i : ℕ) → l ≤ i → w i ≡ int (pos 0)
-  w-after i h = let o = spread in extended-from ws f i (omega arith) ∙ go (eq-or-lt-of-le h)
-    where
-      go : (l ≡ i) ⊎ (l < i) → entry ws (i - f) ≡ int (pos 0)
-      go (inl e) = ap (λ k. entry ws (k - f)) (sym e) ∙ F spread .at-last
-      go (inr k) = let o = spread in F spread .past (i - f) (omega arith)
+  w-after i h = let o = spread in extended-from ws f i (omega arith) ∙ F .past (i - f) (omega arith) (omega arith)
 
-  proper : (i : ℕ) → f < i → i < l → Proper js f i (w i)
-  proper i h k = subst (Proper js f i) (sym (extended-from ws f i (omega arith))) (F spread .inside i h k)
+  proper : (i : ℕ) → f < i → i < l → Factored (partialSum js f i) (entry js i) (w i)
+  proper i h k = subst (Factored (partialSum js f i) (entry js i)) (sym (extended-from ws f i (omega arith))) (F .inside i h k)
 
   partial-is : (i : ℕ) → f ≤ i → partialSum js f i ≡ sum (suc i) J
   unfolding partialSum

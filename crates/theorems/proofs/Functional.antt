@@ -1,6 +1,5 @@
 -- A column of conditions as a linear functional of the ordinates, and that the build's jump of a row is its value there.
 use mathlib.Core.Path.{_≡_, refl, sym, _∙_, ap, ap₂}
-use mathlib.Core.Bool.{Bool, true, false, cond}
 use mathlib.Core.List.{List, [], _∷_}
 use Prim.Native.Nat.{ℕ, zero, suc}
 use lib.IntN.{pos}
@@ -8,12 +7,12 @@ use Rattle.exact.specs.Rational.{ℚ, _+ᵠ_, _*ᵠ_, int}
 use Rattle.exact.specs.Sum.{sum}
 use Rattle.exact.proofs.Ring.{ring}
 use Rattle.exact.proofs.Rational.{ℚ-ring, readsℚ, add-zero, add-assoc, add-comm}
-use Rattle.fraction.specs.Size.{fits}
-use Rattle.spline.specs.Outcome.{answer, refuse, _then_}
+use Rattle.spline.specs.Outcome.{answer, _then_}
 use Rattle.spline.specs.Conditions.{Entry}
 use Rattle.spline.specs.Table.{Row, entry}
 use Rattle.spline.specs.Step.{count, addProducts, jump}
-use Rattle.spline.proofs.Outcome.{then-inverts, Chained, answer-unique, answer-not-refusal}
+use Rattle.spline.proofs.Outcome.{then-inverts, Chained, answer-unique}
+use Rattle.spline.proofs.Step.{count-answers}
 
 -- The sum of ordinate times condition.
 unfoldable pub applied : List Entry → (ℕ → ℚ) → ℚ
@@ -51,15 +50,6 @@ applied-sum κ (suc n) a x =
 
 -- ---- the build's jumps
 
--- a counted fraction that is not refused is the fraction
-pub count-inverts : (j : ℕ) (q : ℚ) {p : ℚ} → count j q ≡ answer p → p ≡ q
-unfolding count
-count-inverts j q {p} e = go (fits q) e
-  where
-    go : (b : Bool) → cond b (answer q) (refuse 8 j) ≡ answer p → p ≡ q
-    go true h = answer-unique h refl
-    go false h = absurd (answer-not-refusal h refl)
-
 pub addProducts-inverts : (j : ℕ) (r : Row) (s : ℚ) (κ : List Entry) {q : ℚ} → addProducts j r s κ ≡ answer q → q ≡ s +ᵠ applied κ (entry r)
 unfolding addProducts applied
 addProducts-inverts j r s [] e = answer-unique e refl ∙ sym (add-zero s)
@@ -69,7 +59,7 @@ addProducts-inverts j r s (e ∷ es) {q} h = go (then-inverts (count j (entry r 
         → ((t : ℚ) → addProducts j r t es ≡ answer q → q ≡ t +ᵠ applied es (entry r)) → q ≡ s +ᵠ (entry r (e .column) *ᵠ int (e .factor) +ᵠ applied es (entry r))
     go c ih = let d = then-inverts (count j (s +ᵠ c .middle)) (λ t. addProducts j r t es) (c .after) in
         ih (d .middle) (d .after)
-        ∙ ap (λ t. t +ᵠ applied es (entry r)) (count-inverts j (s +ᵠ c .middle) (d .before) ∙ ap (λ t. s +ᵠ t) (count-inverts j (entry r (e .column) *ᵠ int (e .factor)) (c .before)))
+        ∙ ap (λ t. t +ᵠ applied es (entry r)) (count-answers j (s +ᵠ c .middle) (d .before) .0 ∙ ap (λ t. s +ᵠ t) (count-answers j (entry r (e .column) *ᵠ int (e .factor)) (c .before) .0))
         ∙ add-assoc s _ _
 
 -- the jump of a row is the functional's value there

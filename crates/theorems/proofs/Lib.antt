@@ -3,7 +3,6 @@
 -- construction; Counted is about refusals; Demand2 and Demand3 state the results, Instances are examples with numbers.
 pub mod NullSpace
 pub mod Functional
-pub mod StepInversion
 pub mod Extended
 pub mod Splice
 pub mod Stepped

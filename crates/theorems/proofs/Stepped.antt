@@ -19,9 +19,10 @@ use Rattle.spline.specs.Conditions.{Entry}
 use Rattle.spline.specs.Table.{Table, entry, row, cell}
 use Rattle.spline.specs.Step.{jump, jumps, Span, span, factors, newRow, newRows, step}
 use Rattle.spline.proofs.Outcome.{then-inverts, Chained, answer-unique, collect-inverts, Collected}
+use Rattle.spline.proofs.Answers.{Spans, span-inverts, Factors, factors-inverts}
+use Rattle.spline.proofs.NewRows.{Mixed, newRow-inverts}
 use Rattle.theorems.proofs.NullSpace.{Jumps, mixed, last-factor}
 use Rattle.theorems.proofs.Functional.{applied, applied-zero, applied-ext, jump-inverts}
-use Rattle.theorems.proofs.StepInversion.{Spans, span-inverts, Factors, factors-inverts, Mixed, newRow-inverts}
 use Rattle.theorems.proofs.Extended.{extended, extended-from, null-space, w-not-negative, w-at-most-one}
 use Rattle.theorems.proofs.Splice.{spliced-length, spliced-before, spliced-inside, spliced-after}
 
@@ -189,9 +190,9 @@ step-inverts κ width j t {t′} wide zero-sum e = go (parts-of j κ t e)
       where
         make : (js : List ℚ) (f l : ℕ) (ws : List ℚ) (rs : Table) → jumps j κ t ≡ answer js → span j js ≡ answer (record { f = f; l = l }) → factors j js (record { f = f; l = l }) ≡ answer ws
             → collect (l - f) (λ d. newRow j (entry ws d) (entry ws (suc d)) (row t (f + d)) (row t (f + suc d))) ≡ answer rs → take f t ++ (rs ++ drop (suc l) t) ≡ t′ → Stepped κ width t t′
-        make js f l ws rs a b c d whole = finish (jumps-inverts j κ t a) (span-inverts j js b) (λ o. factors-inverts j js (record { f = f; l = l }) o c)
+        make js f l ws rs a b c d whole = finish (jumps-inverts j κ t a) (span-inverts j js b) (factors-inverts j js (record { f = f; l = l }) c)
           where
-            finish : (length js ≡ length t) × ((i : ℕ) → entry js i ≡ values κ t i) → Spans js f l → (f < l → Factors js f l ws) → Stepped κ width t t′
+            finish : (length js ≡ length t) × ((i : ℕ) → entry js i ≡ values κ t i) → Spans js f l → Factors js f l ws → Stepped κ width t t′
             finish J S F = with-null (null-space js ws f l (length t) (values κ t) (J .1) (omega (arith, S .below, J .0)) S F zero-sum)
               where
                 with-null : Jumps (length t) f l (values κ t) (extended ws f) → Stepped κ width t t′
