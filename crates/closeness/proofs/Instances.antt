@@ -10,7 +10,7 @@ use lib.IntN.{ℤ, pos, negsuc, natAbs}
 use lib.ListN.{length, getD}
 use lib.Signed.{_≤ℤ_}
 use Rattle.exact.specs.Gcd.{gcd, gcdF}
-use Rattle.exact.specs.Rational.{ℚ, den, mk, int, inv, _+ᵠ_, _*ᵠ_, -ᵠ_, _//_}
+use Rattle.exact.specs.Rational.{den, mk, int, inv, _+ᵠ_, _*ᵠ_, -ᵠ_, _//_}
 use Rattle.exact.specs.Order.{isZero, ltᵠ, _≤ᵠ_, _<ᵠ_}
 use Rattle.exact.specs.Sum.{sum}
 use Rattle.exact.specs.Tabulate.{tab}
@@ -18,7 +18,7 @@ use Rattle.exact.proofs.Integer as Z
 use Rattle.fraction.specs.Size.{fits}
 use Rattle.spline.specs.Outcome.{answer, capped, collect, repeat}
 use Rattle.spline.specs.Search.{first, last, howMany}
-use Rattle.spline.specs.Space.{Space, lengthsFit, badBreak, spanTooLong, badDegree, badOrder, checkedEntries, checked, firstColumn, conditionsBefore}
+use Rattle.spline.specs.Space.{lengthsFit, badBreak, spanTooLong, badDegree, badOrder, checkedEntries, checked, firstColumn, conditionsBefore}
 use Rattle.spline.specs.Conditions.{falling, binomial, alternating, undivided, commonDivisor, conditions}
 use Rattle.spline.specs.Table.{Table, cell, identity}
 use Rattle.spline.specs.Step.{count, addProducts, span, partialSum, quotientFactor, factors, newEntry, newRows, step}
@@ -26,23 +26,16 @@ use Rattle.spline.specs.Build.{orderSteps, joinSteps, weights, spaceWeights}
 use Rattle.spline.specs.Piecewise.{Accepted}
 use Rattle.spline.specs.Reading.{fine, segmentAt, rounded, term, termSum, best, ordinate, ordinates, blend, triangle, blended, valueAt, values}
 use Rattle.spline.specs.CurveCall.{badCoefficient, badPosition, curveOutcome, returned, valuesAfter}
+use Rattle.spline.specs.Cases.{space1}
 use Rattle.spline.specs.ExactCurve.{power, bernsteinAt, exactTerm, exactOn, exactCurve, largest, mostWeights, weighsOn, leastOn, greatestOn, Legal}
+use Rattle.theorems.proofs.Instances.{q0, q1}
 use Rattle.closeness.specs.Demand3.{closeness, Close}
 use Rattle.closeness.proofs.Weights.{weight-num-le-den}
 use Rattle.closeness.proofs.LegalCall.{legal-calls-answer, legal-calls-return-count, answered-calls-are-legal}
 use Rattle.closeness.proofs.Demand3.{value-at-most-exact, exact-below-value-and-closeness, value-at-least-least, value-at-most-greatest}
 use Rattle.closeness.proofs.Cells.{cells-are-close, cells-past-are-kept}
 
-abbrev q0 : ℚ
-q0 = int (pos 0)
-
-abbrev q1 : ℚ
-q1 = int (pos 1)
-
 -- ---- W1: breaks 0,1,3, degrees 2,2, order 1
-
-abbrev space1 : Space
-space1 = record { breaks = pos 0 ∷ pos 1 ∷ pos 3 ∷ []; degrees = pos 2 ∷ pos 2 ∷ []; orders = pos 1 ∷ [] }
 
 abbrev table1 : Table
 table1 =

@@ -8,32 +8,23 @@ use lib.IntN.{ℤ, pos, negsuc, natAbs}
 use lib.ListN.{length}
 use Rattle.exact.specs.Gcd.{gcd, gcdF}
 use Rattle.exact.specs.Rational.{ℚ, mk, int, inv, _+ᵠ_, _*ᵠ_, -ᵠ_, _/ᵠ_, _//_}
-use Rattle.exact.specs.Order.{isZero, ltᵠ}
 use Rattle.exact.specs.Sum.{sum}
 use Rattle.exact.specs.Tabulate.{tab}
 use Rattle.exact.proofs.Rational.{int-inj}
-use Rattle.fraction.specs.Size.{fits}
-use Rattle.spline.specs.Outcome.{answer, capped, collect, repeat}
-use Rattle.spline.specs.Search.{first, last}
-use Rattle.spline.specs.Space.{Space, segments, conditionCount, lengthsFit, badBreak, spanTooLong, badDegree, badOrder, checkedEntries, checked, firstColumn, conditionsBefore}
+use Rattle.spline.specs.Search.{last}
+use Rattle.spline.specs.Space.{segments, conditionCount, firstColumn, conditionsBefore}
 use Rattle.spline.specs.Conditions.{falling, binomial, alternating, undivided, commonDivisor, conditions}
-use Rattle.spline.specs.Table.{Row, Table, identity}
-use Rattle.spline.specs.Step.{count, addProducts, span, partialSum, quotientFactor, factors, newEntry, newRows, step}
-use Rattle.spline.specs.Build.{orderSteps, joinSteps, weights, spaceWeights}
-use Rattle.spline.specs.Piecewise.{Accepted, Meets, pairing, combination}
+use Rattle.spline.specs.Table.{Row}
+use Rattle.spline.specs.Piecewise.{Meets, pairing, combination}
 use Rattle.spline.specs.Reading.{parts, segmentAt, offset}
 use Rattle.spline.specs.ExactCurve.{exactCurve}
+use Rattle.spline.specs.Cases.{space4, space5}
+use Rattle.theorems.proofs.Instances.{q0, q1, factors4, ordinates4, checked4, table5, ordinates5, accepted5, given5, checked5}
 use Rattle.smoothness.specs.Polynomial.{value, _+ᵖ_, _·ᵖ_, _*ᵖ_, power, total, derivative, iterated}
 use Rattle.smoothness.specs.Bernstein.{bernsteinPolynomial, bernsteinForm}
 use Rattle.smoothness.specs.Smoothness.{piece, leftDerivative, rightDerivative, Smooth, curveOrdinates}
 use Rattle.smoothness.proofs.Smoothness.{conditions-are-smoothness, combinations-are-smooth, smooth-curves-are-combinations}
 use Rattle.smoothness.proofs.Curve.{exact-curve-is-polynomial}
-
-abbrev q0 : ℚ
-q0 = int (pos 0)
-
-abbrev q1 : ℚ
-q1 = int (pos 1)
 
 -- ---- polynomials
 
@@ -47,12 +38,6 @@ unfolding gcd gcdF mk int _+ᵠ_ _*ᵠ_ value
 value-example = refl
 
 -- ---- W5: breaks 0,1,2, degrees 3,3, order 2
-
-abbrev space5 : Space
-space5 = record { breaks = pos 0 ∷ pos 1 ∷ pos 2 ∷ []; degrees = pos 3 ∷ pos 3 ∷ []; orders = pos 2 ∷ [] }
-
-abbrev ordinates5 : Row
-ordinates5 = q0 ∷ int (pos 4) ∷ int (pos 3) ∷ int (pos 4) ∷ int (pos 4) ∷ int (pos 5) ∷ int (pos 8) ∷ q1 ∷ []
 
 -- 12 x - 15 x^2 + 7 x^3
 piece5 : piece space5 ordinates5 0 ≡ q0 ∷ int (pos 12) ∷ int (negsuc 14) ∷ int (pos 7) ∷ []
@@ -80,10 +65,6 @@ agree5 (suc j) k h l = absurd (omega arith)
 smooth5 : Smooth space5 ordinates5
 unfolding firstColumn
 smooth5 = record { columns = refl; agree = agree5 }
-
-checked5 : checked space5 ≡ answer space5
-unfolding first lengthsFit badBreak spanTooLong badDegree badOrder checkedEntries checked
-checked5 = refl
 
 -- so the condition of order 2 is met
 meets5 : Meets space5 ordinates5 0 2
@@ -116,26 +97,10 @@ condition-broken5 = refl
 
 -- ---- the rows of W5
 
-abbrev table5 : Table
-table5 =
-    (q1 ∷ q0 ∷ q0 ∷ q0 ∷ q0 ∷ q0 ∷ q0 ∷ q0 ∷ []) ∷
-    (q0 ∷ q1 ∷ pos 1 // 1 ∷ pos 1 // 3 ∷ pos 1 // 3 ∷ q0 ∷ q0 ∷ q0 ∷ []) ∷
-    (q0 ∷ q0 ∷ pos 1 // 1 ∷ pos 1 // 1 ∷ pos 1 // 1 ∷ pos 1 // 1 ∷ q0 ∷ q0 ∷ []) ∷
-    (q0 ∷ q0 ∷ q0 ∷ pos 1 // 3 ∷ pos 1 // 3 ∷ pos 1 // 1 ∷ q1 ∷ q0 ∷ []) ∷
-    (q0 ∷ q0 ∷ q0 ∷ q0 ∷ q0 ∷ q0 ∷ q0 ∷ q1 ∷ []) ∷ []
-
-accepted5 : Accepted space5
-unfolding gcd gcdF mk int inv _+ᵠ_ _*ᵠ_ -ᵠ_ _//_ isZero ltᵠ sum tab fits capped collect repeat first last lengthsFit badBreak spanTooLong badDegree badOrder checkedEntries checked firstColumn conditionsBefore falling binomial alternating undivided commonDivisor conditions identity count addProducts span partialSum quotientFactor factors newEntry newRows step orderSteps joinSteps weights spaceWeights
-accepted5 = record { table = table5; is = refl }
-
 -- any factors, also fractions and negative ones, join smoothly
-combination5 : Smooth space5 (combination 8 (pos 2 // 4 ∷ negsuc 6 // 0 ∷ q0 ∷ q1 ∷ pos 5 // 1 ∷ []) table5)
+combination5 : Smooth space5 (combination 8 factors4 table5)
 unfolding accepted5 firstColumn
-combination5 = combinations-are-smooth space5 accepted5 (pos 2 // 4 ∷ negsuc 6 // 0 ∷ q0 ∷ q1 ∷ pos 5 // 1 ∷ [])
-
-given5 : combination 8 (q0 ∷ int (pos 4) ∷ int (pos 2) ∷ int (pos 8) ∷ q1 ∷ []) table5 ≡ ordinates5
-unfolding gcd gcdF mk int _+ᵠ_ _*ᵠ_ _//_ sum tab combination
-given5 = refl
+combination5 = combinations-are-smooth space5 accepted5 factors4
 
 -- the smooth ordinates above come from these factors only
 only5 : (others : List ℚ) → length others ≡ 5 → combination 8 others table5 ≡ ordinates5 → others ≡ q0 ∷ int (pos 4) ∷ int (pos 2) ∷ int (pos 8) ∷ q1 ∷ []
@@ -159,19 +124,9 @@ exact5 = exact-curve-is-polynomial space5 accepted5 coefs5 (pos 128) tt ∙ half
 
 -- ---- W4: breaks 0,1,3, degrees 2,3, order 1
 
-abbrev space4 : Space
-space4 = record { breaks = pos 0 ∷ pos 1 ∷ pos 3 ∷ []; degrees = pos 2 ∷ pos 3 ∷ []; orders = pos 1 ∷ [] }
-
-abbrev ordinates4 : Row
-ordinates4 = q0 ∷ int (pos 7) ∷ int (pos 4) ∷ int (pos 4) ∷ q0 ∷ q1 ∷ int (pos 2) ∷ []
-
 condition4 : Meets space4 ordinates4 0 1
 unfolding gcd gcdF mk int _+ᵠ_ _*ᵠ_ tab firstColumn falling binomial alternating undivided commonDivisor conditions pairing
 condition4 = refl
-
-checked4 : checked space4 ≡ answer space4
-unfolding first lengthsFit badBreak spanTooLong badDegree badOrder checkedEntries checked
-checked4 = refl
 
 -- segments of different lengths and degrees meet with the same slope
 slopes4 : leftDerivative space4 ordinates4 0 1 ≡ rightDerivative space4 ordinates4 0 1

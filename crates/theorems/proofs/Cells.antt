@@ -7,7 +7,7 @@ use lib.Dec.{ltb}
 use lib.IntN.{pos}
 use lib.ListN.{length, getD, drop}
 use Rattle.exact.specs.Rational.{den}
-use Rattle.spline.specs.Outcome.{Outcome, answer, refuse}
+use Rattle.spline.specs.Outcome.{Outcome, refuse}
 use Rattle.spline.specs.Table.{Table, cell, rowCells, tableCells, numerators, denominators}
 use Rattle.spline.specs.Build.{spaceWeights, longEnough, built, numeratorsAfter, denominatorsAfter}
 use Rattle.spline.proofs.Table.{laid-cell}

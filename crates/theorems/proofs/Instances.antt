@@ -1,44 +1,46 @@
 -- The theorems at two spaces of document 01's cases, W4 and W5, with numbers: the hypotheses can be met, and what the
 -- theorems say of these spaces is what the cases say.
 use mathlib.Core.Path.{_≡_, refl, sym, _∙_, ap}
+use mathlib.Core.Logic.{_⊎_, inl, inr}
 use mathlib.Core.Bool.{true, false}
 use mathlib.Core.List.{List, [], _∷_, _++_}
-use Prim.Native.Nat.{ℕ, zero, suc, _-_, _<_}
+use Prim.Native.Nat.{ℕ, zero, suc, _+_, _-_, _*_, _<_}
 use native.Mathlib.Omega.{arith}
-use lib.IntN.{pos, negsuc}
+use lib.IntN.{ℤ, pos, negsuc}
 use lib.ListN.{length, getD, take, drop, length-take}
 use lib.Seq.{split-at}
 use Rattle.exact.specs.Gcd.{gcd, gcdF}
-use Rattle.exact.specs.Rational.{ℚ, mk, int, inv, _+ᵠ_, _*ᵠ_, -ᵠ_, _//_}
+use Rattle.exact.specs.Rational.{ℚ, den, mk, int, inv, _+ᵠ_, _*ᵠ_, -ᵠ_, _//_}
 use Rattle.exact.specs.Order.{isZero, ltᵠ, _≤ᵠ_}
 use Rattle.exact.specs.Sum.{sum}
 use Rattle.exact.specs.Tabulate.{tab}
+use Rattle.exact.proofs.Tabulate.{tab-length}
 use Rattle.fraction.specs.Size.{fits}
 use Rattle.spline.specs.Outcome.{answer, refusal, capped, collect, repeat}
 use Rattle.spline.specs.Search.{first, last}
 use Rattle.spline.specs.Space.{Space, segments, conditionCount, lengthsFit, badBreak, spanTooLong, badDegree, badOrder, checkedEntries, checked, firstColumn, conditionsBefore}
 use Rattle.spline.specs.Conditions.{falling, binomial, alternating, undivided, commonDivisor, conditions}
-use Rattle.spline.specs.Table.{Row, Table, row, cell, identity}
+use Rattle.spline.specs.Table.{Row, Table, row, cell, identity, rowCells}
 use Rattle.spline.specs.Step.{count, addProducts, span, partialSum, quotientFactor, factors, newEntry, newRows, step}
-use Rattle.spline.specs.Build.{orderSteps, joinSteps, weights, spaceWeights}
+use Rattle.spline.specs.Build.{orderSteps, joinSteps, weights, spaceWeights, built, numeratorsAfter, denominatorsAfter}
 use Rattle.spline.specs.Published.{for, extraction}
+use Rattle.spline.specs.Cases.{space4, space5, lineSpace}
 use Rattle.spline.specs.Piecewise.{Accepted, MeetsAll, Meets, pairing, combination}
-use Rattle.theorems.specs.Counted.{counted, passes, joined, jumpTests, exactJumps, firstJump, lastJump, shapeTest, quotient, factorTests, innerRows, innerRow, exactFactors, entryTests, rowTests, exactRow, stepTests, exactStep, exactOrders, exactJoins, buildTests, exactWeights, allPass, FirstTooLarge, FirstFailure}
+use Rattle.spline.proofs.Outcome.{answer-not-refusal}
+use Rattle.theorems.specs.Counted.{Test, counted, shaped, numberOf, passes, joined, jumpTests, exactJumps, firstJump, lastJump, shapeTest, quotient, factorTests, innerRows, innerRow, exactFactors, entryTests, rowTests, exactRow, stepTests, exactStep, exactOrders, exactJoins, buildTests, exactWeights, allPass, FirstTooLarge, FirstFailure}
 use Rattle.theorems.proofs.Demand2.{rows-and-columns, combinations-meet-conditions, conditions-give-one-combination}
 use Rattle.theorems.proofs.Demand3.{no-weight-negative, column-sums-one}
 use Rattle.theorems.proofs.Published.{weights-are-published}
-use Rattle.theorems.proofs.Counted.{eight-is-first-too-large, first-failure-refuses, passing-is-accepted}
+use Rattle.theorems.proofs.Cells.{accepted-spaces-are-built, cells-hold-published-weights}
+use Rattle.theorems.proofs.Counted.{refused-by-first-failure, eight-is-first-too-large, first-failure-refuses, passing-is-accepted}
 
-abbrev q0 : ℚ
+abbrev pub q0 : ℚ
 q0 = int (pos 0)
 
-abbrev q1 : ℚ
+abbrev pub q1 : ℚ
 q1 = int (pos 1)
 
 -- ---- W4: breaks 0,1,3, degrees 2,3, order 1
-
-abbrev space4 : Space
-space4 = record { breaks = pos 0 ∷ pos 1 ∷ pos 3 ∷ []; degrees = pos 2 ∷ pos 3 ∷ []; orders = pos 1 ∷ [] }
 
 abbrev table4 : Table
 table4 =
@@ -57,6 +59,40 @@ published4 : table4 ≡ extraction space4
 unfolding accepted4
 published4 = weights-are-published space4 accepted4
 
+-- the build in buffers of 5,184 and more cells answers with this table
+built4 : built space4 5184 6000 ≡ answer table4
+unfolding accepted4
+built4 = accepted-spaces-are-built space4 accepted4 5184 6000 (omega arith) (omega arith)
+
+-- a buffer of 6,000 cells that all hold 9
+lent : List ℤ
+lent = tab 6000 (λ k. pos 9)
+
+lent-length : length lent ≡ 6000
+unfolding lent
+lent-length = tab-length 6000 (λ k. pos 9)
+
+module _ (i c : ℕ) (h : i < rowCells) (k : c < rowCells) where
+  numerator4 : getD (numeratorsAfter (built space4 (length lent) (length lent)) lent) (rowCells * i + c) (pos 0) ≡ cell table4 i c .num
+  numerator4 = cells-hold-published-weights space4 accepted4 lent lent (omega (arith, lent-length)) (omega (arith, lent-length)) i c h k .numerator ∙ ap (λ t. cell t i c .num) (sym published4)
+
+  denominator4 : getD (denominatorsAfter (built space4 (length lent) (length lent)) lent) (rowCells * i + c) (pos 0) ≡ pos (den (cell table4 i c))
+  denominator4 = cells-hold-published-weights space4 accepted4 lent lent (omega (arith, lent-length)) (omega (arith, lent-length)) i c h k .denominator ∙ ap (λ t. pos (den (cell t i c))) (sym published4)
+
+-- after it cell 74, of row 1 and the join's ordinate, holds 4/7, cell 146, of row 2, holds 3/7
+weight-cell4 : (getD (numeratorsAfter (built space4 (length lent) (length lent)) lent) 74 (pos 0) ≡ pos 4) × (getD (denominatorsAfter (built space4 (length lent) (length lent)) lent) 74 (pos 0) ≡ pos 7)
+unfolding gcd gcdF mk _//_
+weight-cell4 = (numerator4 1 2 (omega arith) (omega arith), denominator4 1 2 (omega arith) (omega arith))
+
+next-weight-cell4 : (getD (numeratorsAfter (built space4 (length lent) (length lent)) lent) 146 (pos 0) ≡ pos 3) × (getD (denominatorsAfter (built space4 (length lent) (length lent)) lent) 146 (pos 0) ≡ pos 7)
+unfolding gcd gcdF mk _//_
+next-weight-cell4 = (numerator4 2 2 (omega arith) (omega arith), denominator4 2 2 (omega arith) (omega arith))
+
+-- and cell 5183, which is unused, holds 0/1
+unused-cell4 : (getD (numeratorsAfter (built space4 (length lent) (length lent)) lent) 5183 (pos 0) ≡ pos 0) × (getD (denominatorsAfter (built space4 (length lent) (length lent)) lent) 5183 (pos 0) ≡ pos 1)
+unfolding gcd gcdF mk int
+unused-cell4 = (numerator4 71 71 (omega arith) (omega arith), denominator4 71 71 (omega arith) (omega arith))
+
 rows4 : length table4 ≡ 5
 unfolding accepted4 firstColumn conditionsBefore
 rows4 = rows-and-columns space4 accepted4 .0
@@ -74,7 +110,7 @@ unfolding accepted4 firstColumn conditionsBefore
 column-sum4 = column-sums-one space4 accepted4 2 (omega arith)
 
 -- any factors, also fractions and negative ones, give ordinates that meet the two conditions of the join
-factors4 : List ℚ
+pub factors4 : List ℚ
 factors4 = pos 2 // 4 ∷ negsuc 6 // 0 ∷ q0 ∷ q1 ∷ pos 5 // 1 ∷ []
 
 combination4 : MeetsAll space4 (combination 7 factors4 table4)
@@ -82,7 +118,7 @@ unfolding accepted4 firstColumn
 combination4 = combinations-meet-conditions space4 accepted4 factors4
 
 -- ordinates that meet them, and the only factors that give these ordinates
-abbrev ordinates4 : Row
+abbrev pub ordinates4 : Row
 ordinates4 = q0 ∷ int (pos 7) ∷ int (pos 4) ∷ int (pos 4) ∷ q0 ∷ q1 ∷ int (pos 2) ∷ []
 
 met4 : (j k : ℕ) → j < segments space4 - 1 → k < conditionCount space4 j → Meets space4 ordinates4 j k
@@ -106,10 +142,7 @@ only4 others h e = let o = conditions-give-one-combination space4 accepted4 ordi
 
 -- ---- W5: breaks 0,1,2, degrees 3,3, order 2
 
-abbrev space5 : Space
-space5 = record { breaks = pos 0 ∷ pos 1 ∷ pos 2 ∷ []; degrees = pos 3 ∷ pos 3 ∷ []; orders = pos 2 ∷ [] }
-
-abbrev table5 : Table
+abbrev pub table5 : Table
 table5 =
     (q1 ∷ q0 ∷ q0 ∷ q0 ∷ q0 ∷ q0 ∷ q0 ∷ q0 ∷ []) ∷
     (q0 ∷ q1 ∷ pos 1 // 1 ∷ pos 1 // 3 ∷ pos 1 // 3 ∷ q0 ∷ q0 ∷ q0 ∷ []) ∷
@@ -117,7 +150,7 @@ table5 =
     (q0 ∷ q0 ∷ q0 ∷ pos 1 // 3 ∷ pos 1 // 3 ∷ pos 1 // 1 ∷ q1 ∷ q0 ∷ []) ∷
     (q0 ∷ q0 ∷ q0 ∷ q0 ∷ q0 ∷ q0 ∷ q0 ∷ q1 ∷ []) ∷ []
 
-accepted5 : Accepted space5
+unfoldable pub accepted5 : Accepted space5
 unfolding gcd gcdF mk int inv _+ᵠ_ _*ᵠ_ -ᵠ_ _//_ isZero ltᵠ sum tab fits capped collect repeat first last lengthsFit badBreak spanTooLong badDegree badOrder checkedEntries checked firstColumn conditionsBefore falling binomial alternating undivided commonDivisor conditions identity count addProducts span partialSum quotientFactor factors newEntry newRows step orderSteps joinSteps weights spaceWeights
 accepted5 = record { table = table5; is = refl }
 
@@ -146,7 +179,7 @@ combination5 : MeetsAll space5 (combination 8 factors4 table5)
 unfolding accepted5 firstColumn
 combination5 = combinations-meet-conditions space5 accepted5 factors4
 
-abbrev ordinates5 : Row
+abbrev pub ordinates5 : Row
 ordinates5 = q0 ∷ int (pos 4) ∷ int (pos 3) ∷ int (pos 4) ∷ int (pos 4) ∷ int (pos 5) ∷ int (pos 8) ∷ q1 ∷ []
 
 met5 : (j k : ℕ) → j < segments space5 - 1 → k < conditionCount space5 j → Meets space5 ordinates5 j k
@@ -161,7 +194,7 @@ meets5 : MeetsAll space5 ordinates5
 unfolding firstColumn
 meets5 = record { columns = refl; meets = met5 }
 
-given5 : combination 8 (q0 ∷ int (pos 4) ∷ int (pos 2) ∷ int (pos 8) ∷ q1 ∷ []) table5 ≡ ordinates5
+pub given5 : combination 8 (q0 ∷ int (pos 4) ∷ int (pos 2) ∷ int (pos 8) ∷ q1 ∷ []) table5 ≡ ordinates5
 unfolding gcd gcdF mk int _+ᵠ_ _*ᵠ_ _//_ sum tab combination
 given5 = refl
 
@@ -225,13 +258,37 @@ checked8 = refl
 refused-again8 : spaceWeights space8 ≡ refusal 8 0
 refused-again8 = first-failure-refuses space8 8 0 checked8 failure8
 
+-- the refusal comes from that test: number 8 is none of 2 to 5
+by-first-failure8 : FirstFailure (buildTests space8) 8 0
+by-first-failure8 = go (refused-by-first-failure space8 8 0 refused8)
+  where
+    go : (checked space8 ≡ refusal 8 0) ⊎ ((checked space8 ≡ answer space8) × FirstFailure (buildTests space8) 8 0) → FirstFailure (buildTests space8) 8 0
+    go (inl e) = absurd (answer-not-refusal checked8 e)
+    go (inr f) = f .1
+
+-- W7: a span of 2,001 is refused before the build, by number 3
+refused7 : spaceWeights (lineSpace 2001) ≡ refusal 3 1
+unfolding capped first lengthsFit badBreak spanTooLong checkedEntries checked spaceWeights
+refused7 = refl
+
+three-is-no-test : (t : Test) → 3 ≡ numberOf t → ⊥
+three-is-no-test (counted join q) e = omega arith
+three-is-no-test (shaped join b) e = omega arith
+
+before-build7 : checked (lineSpace 2001) ≡ refusal 3 1
+before-build7 = go (refused-by-first-failure (lineSpace 2001) 3 1 refused7)
+  where
+    go : (checked (lineSpace 2001) ≡ refusal 3 1) ⊎ ((checked (lineSpace 2001) ≡ answer (lineSpace 2001)) × FirstFailure (buildTests (lineSpace 2001)) 3 1) → checked (lineSpace 2001) ≡ refusal 3 1
+    go (inl e) = e
+    go (inr f) = absurd (three-is-no-test (f .1 .failing) (f .1 .number-is))
+
 -- ---- W4 and W5 pass all their tests
 
 passes4 : allPass (buildTests space4) ≡ true
 unfolding gcd gcdF mk int inv _+ᵠ_ _*ᵠ_ -ᵠ_ _//_ isZero ltᵠ sum tab fits capped first last firstColumn falling binomial alternating undivided commonDivisor conditions identity partialSum pairing for joined jumpTests exactJumps firstJump lastJump shapeTest quotient factorTests innerRows innerRow exactFactors entryTests rowTests exactRow stepTests exactStep exactOrders exactJoins buildTests allPass
 passes4 = refl
 
-checked4 : checked space4 ≡ answer space4
+pub checked4 : checked space4 ≡ answer space4
 unfolding first lengthsFit badBreak spanTooLong badDegree badOrder checkedEntries checked
 checked4 = refl
 
@@ -246,7 +303,7 @@ passes5 : allPass (buildTests space5) ≡ true
 unfolding gcd gcdF mk int inv _+ᵠ_ _*ᵠ_ -ᵠ_ _//_ isZero ltᵠ sum tab fits capped first last firstColumn falling binomial alternating undivided commonDivisor conditions identity partialSum pairing for joined jumpTests exactJumps firstJump lastJump shapeTest quotient factorTests innerRows innerRow exactFactors entryTests rowTests exactRow stepTests exactStep exactOrders exactJoins buildTests allPass
 passes5 = refl
 
-checked5 : checked space5 ≡ answer space5
+pub checked5 : checked space5 ≡ answer space5
 unfolding first lengthsFit badBreak spanTooLong badDegree badOrder checkedEntries checked
 checked5 = refl
 
