@@ -9,7 +9,7 @@ use lib.IntN.{pos}
 use Rattle.exact.specs.Rational.{ℚ, int, inv, _+ᵠ_, _*ᵠ_}
 use Rattle.exact.specs.Sum.{sum}
 use Rattle.exact.proofs.Ring.{ring, reads}
-use Rattle.exact.proofs.Rational.{ℚ-ring, readsℚ, add-zero, zero-mul, mul-nonzero, int-nonzero, int-add, inv-mul, inv-unique, mul-one}
+use Rattle.exact.proofs.Rational.{ℚ-ring, readsℚ, add-zero, zero-mul, mul-nonzero, int-nonzero, int-add, inv-mul, inv-unique, mul-one, mul-assoc}
 use Rattle.exact.proofs.Sum.{sum-ext, sum-add, sum-mul, sum-front, sum-last}
 use Rattle.spline.specs.Conditions.{binomial}
 use Rattle.spline.specs.ExactCurve.{power}
@@ -68,12 +68,9 @@ module _ (α β : ℚ) where
   carried-sum : (n : ℕ) (x : ℕ → ℚ) → sum (suc (suc n)) (λ t. carry n t *ᵠ x t) ≡ α *ᵠ bernsteinSum α β n x
   unfolding bernsteinSum
   carried-sum n x = sum-last (suc n) (λ t. carry n t *ᵠ x t)
-      ∙ ap₂ _+ᵠ_ (sum-ext (suc n) (λ t h. ap (λ u. u *ᵠ x t) (carry-is n t (omega arith)) ∙ assoc α (bernstein α β n t) (x t)) ∙ sum-mul (suc n) α (λ t. bernstein α β n t *ᵠ x t))
+      ∙ ap₂ _+ᵠ_ (sum-ext (suc n) (λ t h. ap (λ u. u *ᵠ x t) (carry-is n t (omega arith)) ∙ mul-assoc α (bernstein α β n t) (x t)) ∙ sum-mul (suc n) α (λ t. bernstein α β n t *ᵠ x t))
       (ap (λ u. u *ᵠ x (suc n)) (carry-last n) ∙ zero-mul (x (suc n)))
       ∙ add-zero _
-    where
-      assoc : (a b c : ℚ) → a *ᵠ b *ᵠ c ≡ a *ᵠ (b *ᵠ c)
-      assoc a b c = ring ℚ-ring (a ∷ b ∷ c ∷ []) (search reads) (search reads) refl
 
   -- one more degree: the two neighbouring sums, blended
   pub bernsteinSum-suc : (n : ℕ) (x : ℕ → ℚ) → bernsteinSum α β (suc n) x ≡ α *ᵠ bernsteinSum α β n x +ᵠ β *ᵠ bernsteinSum α β n (λ t. x (suc t))

@@ -9,7 +9,7 @@ use Rattle.exact.specs.Rational.{ℚ, den, int, inv, _+ᵠ_, _*ᵠ_}
 use Rattle.exact.specs.Order.{_≤ᵠ_, _<ᵠ_}
 use Rattle.exact.specs.Sum.{sum}
 use Rattle.exact.proofs.Ring.{ring, reads, by-eq}
-use Rattle.exact.proofs.Rational.{ℚ-ring, readsℚ, self, is-mul-int, int-add, int-mul, int-nonzero, mul-inv, mul-zero, add-zero}
+use Rattle.exact.proofs.Rational.{ℚ-ring, readsℚ, self, is-mul-int, int-add, int-mul, int-nonzero, mul-inv, mul-zero, add-zero, add-comm}
 use Rattle.exact.proofs.Order.{≤-refl, <-≤, +-mono, +-mono-<}
 use Rattle.spline.specs.Search.{howMany}
 use Rattle.spline.specs.Table.{Table, cell}
@@ -50,11 +50,8 @@ one-term {z} {τ} {e} {x} {n} S w = record { below = below; above = <-≤ above;
     regroup : (a b c d : ℚ) → a +ᵠ b +ᵠ (c +ᵠ d) ≡ c +ᵠ a +ᵠ (d +ᵠ b)
     regroup a b c d = ring ℚ-ring (a ∷ b ∷ c ∷ d ∷ []) (search reads depth 20) (search reads depth 20) refl
 
-    swap : (a b : ℚ) → a +ᵠ b ≡ b +ᵠ a
-    swap a b = ring ℚ-ring (a ∷ b ∷ []) (search reads) (search reads) refl
-
     above : e +ᵠ x <ᵠ int (z +ℤ τ) +ᵠ int (pos (n + 1))
-    above = subst (λ t. t <ᵠ int (z +ℤ τ) +ᵠ int (pos (n + 1))) (swap x e)
+    above = subst (λ t. t <ᵠ int (z +ℤ τ) +ᵠ int (pos (n + 1))) (add-comm x e)
         (subst (λ t. x +ᵠ e <ᵠ t) (regroup (int τ) (int (pos 1)) (int z) (int (pos n)) ∙ sym (ap₂ _+ᵠ_ (int-add z τ) (int-add (pos n) (pos 1))))
         (+-mono-< (w .above) (S .above)))
 

@@ -15,7 +15,7 @@ use Rattle.spline.specs.Space.{Space, segments, degree, firstColumn, columnCoun
 use Rattle.spline.specs.Piecewise.{Accepted}
 use Rattle.spline.specs.Reading.{fine, coefficient, ordinate, ordinates, fineWidth, offset, triangle, blended}
 use Rattle.spline.specs.ExactCurve.{exactOn, mostWeights, leastOn, greatestOn}
-use Rattle.theorems.proofs.Condition.{firstColumn-mono}
+use Rattle.spline.proofs.Space.{firstColumn-mono}
 use Rattle.closeness.proofs.Triangle.{Within, Between, triangle-within, triangle-between}
 use Rattle.closeness.proofs.Weights.{Column, accepted-column}
 use Rattle.closeness.proofs.Ordinate.{ordinate-within, ordinate-between}

@@ -1,7 +1,7 @@
 -- The rational numbers as a field. A law is proved by cross products: `q is a over b` says that q is the fraction a / b,
 -- in whatever terms, each operation has its rule for such fractions, and two numbers with equal cross products are equal.
 -- Then come the ring solver's instance, the inverse, the parts in lowest terms and decidable equality.
-use mathlib.Core.Path.{_≡_, refl, sym, _∙_, ap, subst}
+use mathlib.Core.Path.{_≡_, refl, sym, _∙_, ap, ap₂, subst}
 use mathlib.Core.Logic.{_≢_, _⊎_, inl, inr}
 use mathlib.Core.HLevel.{isProp→PathP, hedberg}
 use mathlib.Core.List.{List, [], _∷_}
@@ -159,6 +159,9 @@ mul-add p q r = is-unique (is-mul (self p) (is-add (self q) (self r))) (is-add (
   where
     alg : (a c e b d f : ℤ) → a *ℤ (c *ℤ f +ℤ e *ℤ d) *ℤ (b *ℤ d *ℤ (b *ℤ f)) ≡ (a *ℤ c *ℤ (b *ℤ f) +ℤ a *ℤ e *ℤ (b *ℤ d)) *ℤ (b *ℤ (d *ℤ f))
     alg a c e b d f = ring ℤ-ring (a ∷ b ∷ c ∷ d ∷ e ∷ f ∷ []) (search reads depth 20) (search reads depth 20) refl
+
+pub add-mul : (p q r : ℚ) → (p +ᵠ q) *ᵠ r ≡ p *ᵠ r +ᵠ q *ᵠ r
+add-mul p q r = mul-comm (p +ᵠ q) r ∙ mul-add r p q ∙ ap₂ _+ᵠ_ (mul-comm r p) (mul-comm r q)
 
 pub add-zero : (p : ℚ) → p +ᵠ int (pos 0) ≡ p
 add-zero p = is-unique (is-add (self p) (is-int (pos 0))) (self p) (alg (p .num) (pos (den p)) (pos 1))
@@ -396,7 +399,4 @@ is-div h k l = is-mul h (is-inv k l)
 
 -- the denominator multiplied out
 pub is-mul-int : {q : ℚ} {a : ℤ} {b : ℕ} → q is a over b → q *ᵠ int (pos b) ≡ int a
-is-mul-int {q} {a} {b} h = is-unique (is-mul h (is-int (pos b))) (is-int a) (alg a (pos b) (pos 1))
-  where
-    alg : (a b u : ℤ) → a *ℤ b *ℤ u ≡ a *ℤ (b *ℤ u)
-    alg a b u = Z.*-assoc a b u
+is-mul-int {q} {a} {b} h = is-unique (is-mul h (is-int (pos b))) (is-int a) (Z.*-assoc a (pos b) (pos 1))

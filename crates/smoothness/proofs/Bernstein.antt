@@ -9,7 +9,7 @@ use lib.IntN.{pos}
 use Rattle.exact.specs.Rational.{ℚ, int, inv, _+ᵠ_, _*ᵠ_, -ᵠ_, _-ᵠ_, _/ᵠ_}
 use Rattle.exact.specs.Sum.{sum}
 use Rattle.exact.proofs.Ring.{ring, reads}
-use Rattle.exact.proofs.Rational.{ℚ-ring, readsℚ, int-add, int-suc, int-nonzero, mul-inv, mul-assoc, mul-comm, mul-zero, zero-mul, one-mul, zero-add, add-zero}
+use Rattle.exact.proofs.Rational.{ℚ-ring, readsℚ, int-add, int-suc, int-nonzero, mul-inv, mul-assoc, mul-comm, mul-add, add-mul, mul-zero, zero-mul, one-mul, zero-add, add-zero}
 use Rattle.exact.proofs.Sum.{sum-ext, sum-add, sum-mul, sum-sub, sum-front, sum-last}
 use Rattle.spline.specs.Conditions.{binomial}
 use Rattle.spline.specs.ExactCurve as Exact
@@ -103,15 +103,12 @@ module _ (h : ℕ) where
   pascal : (n t i : ℕ) → basis (suc n) (suc t) i ≡ rise (basis n t) i +ᵠ carry n (suc t) i
   unfolding carry basis rise binomial
   pascal n t i = ap₂ (λ c m. c *ᵠ monomial (suc t) m i) (int-add (pos (binomial n t)) (pos (binomial n (suc t)))) e
-      ∙ spread (int (pos (binomial n t))) (int (pos (binomial n (suc t)))) (monomial (suc t) (n - t) i)
+      ∙ add-mul (int (pos (binomial n t))) (int (pos (binomial n (suc t)))) (monomial (suc t) (n - t) i)
       ∙ ap₂ (λ u m. int (pos (binomial n t)) *ᵠ u +ᵠ int (pos (binomial n (suc t))) *ᵠ monomial (suc t) m i) (monomial-left t (n - t) i) (sym e)
       ∙ ap (λ u. u +ᵠ int (pos (binomial n (suc t))) *ᵠ monomial (suc t) (suc n - suc t) i) (sym (linear-mul _ _ (int (pos (binomial n t))) (monomial t (n - t)) i))
     where
       e : suc n - suc t ≡ n - t
       e = omega arith
-
-      spread : (a b c : ℚ) → (a +ᵠ b) *ᵠ c ≡ a *ᵠ c +ᵠ b *ᵠ c
-      spread a b c = ring ℚ-ring (a ∷ b ∷ c ∷ []) (search reads) (search reads) refl
 
   -- the coefficients of the polynomial with the ordinates o
   form : ℕ → (ℕ → ℚ) → ℕ → ℚ
@@ -132,14 +129,11 @@ module _ (h : ℕ) where
   form-suc : (n : ℕ) (o : ℕ → ℚ) (i : ℕ) → form (suc n) o i ≡ sink (form n o) i +ᵠ rise (form n (λ t. o (suc t))) i
   unfolding form rise
   form-suc n o i = sum-front (suc n) (λ t. o t *ᵠ basis (suc n) t i)
-      ∙ ap₂ _+ᵠ_ (ap (λ u. o 0 *ᵠ u) (carry-first n i)) (sum-ext (suc n) (λ t l. ap (λ u. o (suc t) *ᵠ u) (pascal n t i) ∙ spread (o (suc t)) (rise (basis n t) i) (carry n (suc t) i))
+      ∙ ap₂ _+ᵠ_ (ap (λ u. o 0 *ᵠ u) (carry-first n i)) (sum-ext (suc n) (λ t l. ap (λ u. o (suc t) *ᵠ u) (pascal n t i) ∙ mul-add (o (suc t)) (rise (basis n t) i) (carry n (suc t) i))
       ∙ sum-add (suc n) (λ t. o (suc t) *ᵠ rise (basis n t) i) (λ t. o (suc t) *ᵠ carry n (suc t) i))
       ∙ swap (o 0 *ᵠ carry n 0 i) (sum (suc n) (λ t. o (suc t) *ᵠ rise (basis n t) i)) (sum (suc n) (λ t. o (suc t) *ᵠ carry n (suc t) i))
       ∙ ap₂ _+ᵠ_ (sym (sum-front (suc n) (λ t. o t *ᵠ carry n t i)) ∙ carried-sum n o i) (sym (linear-sum (int (pos 0)) (inv (int (pos h))) (suc n) (λ t. o (suc t)) (basis n) i))
     where
-      spread : (a b c : ℚ) → a *ᵠ (b +ᵠ c) ≡ a *ᵠ b +ᵠ a *ᵠ c
-      spread a b c = ring ℚ-ring (a ∷ b ∷ c ∷ []) (search reads) (search reads) refl
-
       swap : (a b c : ℚ) → a +ᵠ (b +ᵠ c) ≡ (a +ᵠ c) +ᵠ b
       swap a b c = ring ℚ-ring (a ∷ b ∷ c ∷ []) (search reads) (search reads) refl
 

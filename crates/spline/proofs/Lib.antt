@@ -1,6 +1,8 @@
 pub mod Outcome
 pub mod Table
 pub mod Search
+pub mod Space
+pub mod Conditions
 pub mod Legal
 pub mod Step
 pub mod Answers

@@ -18,7 +18,7 @@ use Rattle.spline.specs.Outcome.{Outcome, answer, refusal, refuse, _then
 use Rattle.spline.specs.Search.{first, last}
 use Rattle.spline.specs.Conditions.{Entry}
 use Rattle.spline.specs.Table.{Row, entry}
-use Rattle.spline.specs.Step.{count, addProducts, jumpsAt, Span, zeroBetween, spanOf, span, partialSum, quotientFactor}
+use Rattle.spline.specs.Step.{count, addProducts, jumpsAt, zeroBetween, spanOf, span, partialSum, quotientFactor}
 use Rattle.spline.proofs.Outcome.{answer-unique, answer-not-refusal, then-answers, then-refuses, then-assoc}
 
 -- ---- a counted fraction

@@ -1,23 +1,24 @@
 -- The column of conditions of a join and an order: it is, up to a positive factor, the difference of two finite
 -- differences of the ordinates on the two sides of the join; it vanishes on equal ordinates and stays inside the table.
 use mathlib.Core.Path.{_≡_, refl, sym, _∙_, ap, ap₂, subst}
-use mathlib.Core.Logic.{_⊎_, inl, inr}
 use mathlib.Core.List.{List, [], _∷_, _++_, map}
 use Prim.Native.Nat.{ℕ, zero, suc, _+_, _-_, _*_, _/_, _<_, _≤_}
 use native.Mathlib.Omega.{arith}
-use native.Mathlib.Nat.{mul-div-cancel-left, mul-pos, mul-assoc, one-le-pow, pow-zero, eq-or-lt-of-le, zero-mul as ℕ-zero-mul}
+use native.Mathlib.Nat.{mul-div-cancel-left, mul-assoc, pow-zero, zero-mul as ℕ-zero-mul}
 use lib.IntN.{ℤ, pos, negsuc, negℤ, natAbs, _*ℤ_}
 use Rattle.exact.specs.Gcd.{gcd}
 use Rattle.exact.specs.Rational.{ℚ, _+ᵠ_, _*ᵠ_, -ᵠ_, _-ᵠ_, int, signed}
 use Rattle.exact.specs.Sum.{sum}
 use Rattle.exact.specs.Tabulate.{tab}
 use Rattle.exact.proofs.Gcd.{gcd-div, gcd-pos, gcd-comm}
-use Rattle.exact.proofs.Integer.{neg-*, *-comm, abs-mul, abs-neg, abs-zero}
+use Rattle.exact.proofs.Integer.{neg-*, *-comm, abs-mul, abs-zero}
 use Rattle.exact.proofs.Ring.{ring, reads}
 use Rattle.exact.proofs.Rational.{ℚ-ring, readsℚ, int-mul, int-neg, int-nonzero, mul-cancel, zero-mul, mul-zero, mul-comm}
 use Rattle.exact.proofs.Sum.{sum-ext, sum-mul, sum-front}
 use Rattle.spline.specs.Space.{Space, segments, degree, width, firstColumn, columnCount}
 use Rattle.spline.specs.Conditions.{Entry, falling, binomial, alternating, scale, leftEntry, rightEntry, undivided, commonDivisor, divided, conditions}
+use Rattle.spline.proofs.Space.{firstColumn-mono}
+use Rattle.spline.proofs.Conditions.{scale-pos, alternating-abs}
 use Rattle.theorems.proofs.Functional.{applied}
 use Rattle.theorems.proofs.Difference.{signedBinomial, difference, difference-constant}
 use Rattle.theorems.proofs.Basis.{Inside, none, more}
@@ -69,13 +70,14 @@ right-applied s j k z = applied-tab (suc k) (rightEntry s j k) z
     assoc : (u : ℚ) → int (negsuc 0) *ᵠ (int (pos b) *ᵠ u) ≡ -ᵠ int (pos b) *ᵠ u
     assoc u = ring ℚ-ring (int (pos b) ∷ u ∷ []) (search readsℚ) (search readsℚ) refl
 
+-- a negative factor as a difference
+pub neg-out : (a b c : ℚ) → a +ᵠ -ᵠ b *ᵠ c ≡ a -ᵠ b *ᵠ c
+neg-out a b c = ring ℚ-ring (a ∷ b ∷ c ∷ []) (search readsℚ) (search readsℚ) refl
+
 applied-undivided : (s : Space) (j k : ℕ) (z : ℕ → ℚ) → applied (undivided s j k) z
     ≡ int (pos (leftScale s j k)) *ᵠ difference k (λ t. z (firstColumn s j + (degree s j - k + t))) -ᵠ int (pos (rightScale s j k)) *ᵠ difference k (λ t. z (firstColumn s (suc j) + t))
 unfolding undivided
 applied-undivided s j k z = applied-append (tab (suc k) (leftEntry s j k)) (tab (suc k) (rightEntry s j k)) z ∙ ap₂ _+ᵠ_ (left-applied s j k z) (right-applied s j k z) ∙ neg-out _ _ _
-  where
-    neg-out : (a b c : ℚ) → a +ᵠ -ᵠ b *ᵠ c ≡ a -ᵠ b *ᵠ c
-    neg-out a b c = ring ℚ-ring (a ∷ b ∷ c ∷ []) (search readsℚ) (search readsℚ) refl
 
 -- ---- the division by the greatest common divisor
 
@@ -126,19 +128,6 @@ applied-conditions s j k z = applied-divided (commonDivisor (undivided s j k)) z
 
 -- ---- positive factors
 
-falling-pos : (p k : ℕ) → k ≤ p → 0 < falling p k
-unfolding falling
-falling-pos p zero h = omega arith
-falling-pos p (suc k) h = mul-pos (falling-pos p k (omega arith)) (omega arith)
-
-scale-pos : (p k other : ℕ) → k ≤ p → 0 < other → 0 < scale p k other
-scale-pos p k other h l = mul-pos (falling-pos p k h) (one-le-pow k other l)
-
-alternating-abs : (n : ℕ) → natAbs (alternating n) ≡ 1
-unfolding alternating
-alternating-abs zero = refl
-alternating-abs (suc n) = abs-neg (alternating n) ∙ alternating-abs n
-
 common-pos : (e : Entry) (es : List Entry) → 0 < natAbs (e .factor) → 0 < commonDivisor (e ∷ es)
 unfolding commonDivisor
 common-pos e es h = rw (gcd-comm (natAbs (e .factor)) (commonDivisor es)) (gcd-pos (commonDivisor es) (natAbs (e .factor)) h)
@@ -171,15 +160,6 @@ conditions-constant s j k h l = cancel (divisor s j k) (divisor-pos s j k h l) (
         ∙ ring ℚ-ring (int (pos (leftScale s j (suc k))) ∷ int (pos (rightScale s j (suc k))) ∷ []) (search readsℚ depth 20) (search readsℚ depth 20) refl
 
 -- ---- inside the table
-
-pub firstColumn-mono : (s : Space) (i n : ℕ) → i ≤ n → firstColumn s i ≤ firstColumn s n
-unfolding firstColumn
-firstColumn-mono s i zero h = omega (arith, ap (firstColumn s) (let e : i ≡ 0 = omega arith in e))
-firstColumn-mono s i (suc n) h = go (λ l. firstColumn-mono s i n l) (eq-or-lt-of-le h)
-  where
-    go : (i ≤ n → firstColumn s i ≤ firstColumn s n) → (i ≡ suc n) ⊎ (i < suc n) → firstColumn s i ≤ firstColumn s n + (degree s n + 1)
-    go ih (inl e) = omega (arith, ap (firstColumn s) e)
-    go ih (inr l) = omega (arith, ih (omega arith))
 
 inside-append : (n : ℕ) {xs ys : List Entry} → Inside n xs → Inside n ys → Inside n (xs ++ ys)
 inside-append n none I = I

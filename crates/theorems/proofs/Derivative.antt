@@ -20,9 +20,10 @@ use Rattle.exact.proofs.Sum.{sum-ext, sum-only, sum-mul, sum-split, sum-skip, s
 use Rattle.spline.specs.Space.{Space, segments, degree, width, firstColumn, columnCount}
 use Rattle.spline.specs.Conditions.{falling, conditions}
 use Rattle.spline.specs.Published.{derivativeCoefficient, bernstein, derivativeAtLeft, derivativeAtRight, leftConstraint, rightConstraint, constraint}
+use Rattle.spline.proofs.Space.{firstColumn-mono}
 use Rattle.theorems.proofs.Functional.{applied}
 use Rattle.theorems.proofs.Difference.{difference, difference-ext, difference-zero, difference-suc, difference-sum, difference-none}
-use Rattle.theorems.proofs.Condition.{leftScale, rightScale, divisor, divisor-pos, applied-conditions, firstColumn-mono}
+use Rattle.theorems.proofs.Condition.{leftScale, rightScale, divisor, divisor-pos, applied-conditions, neg-out}
 
 -- ---- derivatives as differences
 
@@ -158,9 +159,6 @@ module _ (s : Space) (i k : ℕ) where
     unfolding F firstColumn
     constraint-sum = sum-past (firstColumn s (suc (suc i))) (columnCount s) F (firstColumn-mono s (suc (suc i)) (segments s) inner) (λ c h l. ap (λ u. z c *ᵠ u) (constraint-after c h) ∙ mul-zero (z c))
         ∙ sum-split (firstColumn s (suc i)) (degree s (suc i) + 1) F ∙ ap₂ _+ᵠ_ left-sum right-sum ∙ neg-out _ _ _
-      where
-        neg-out : (a b c : ℚ) → a +ᵠ -ᵠ b *ᵠ c ≡ a -ᵠ b *ᵠ c
-        neg-out a b c = ring ℚ-ring (a ∷ b ∷ c ∷ []) (search readsℚ) (search readsℚ) refl
 
 -- The constraints are the conditions times a number that is not zero.
 pub ratio : Space → ℕ → ℕ → ℚ

@@ -9,7 +9,7 @@ use lib.IntN.{pos, negsuc}
 use Rattle.exact.specs.Rational.{ℚ, _+ᵠ_, _*ᵠ_, -ᵠ_, _-ᵠ_, int}
 use Rattle.exact.specs.Sum.{sum}
 use Rattle.exact.proofs.Ring.{ring, reads}
-use Rattle.exact.proofs.Rational.{ℚ-ring, readsℚ, int-add, mul-assoc, add-zero, neg-is as neg-one, int-neg, zero-mul, mul-zero}
+use Rattle.exact.proofs.Rational.{ℚ-ring, readsℚ, int-add, mul-assoc, add-mul, add-zero, neg-is as neg-one, int-neg, zero-mul, mul-zero}
 use Rattle.exact.proofs.Sum.{sum-ext, sum-add, sum-mul, sum-front, sum-zero}
 use Rattle.spline.specs.Conditions.{binomial, alternating}
 
@@ -77,9 +77,6 @@ difference-suc k x =
     ∙ ap (λ u. difference k (λ t. x (suc t)) +ᵠ u) (sym (sum-front (suc k) (λ t. carry k t *ᵠ x t)) ∙ carried-sum k x)
     ∙ ap (λ u. difference k (λ t. x (suc t)) +ᵠ u) (sym (neg-one (difference k x)))
   where
-    add-mul : (a b c : ℚ) → (a +ᵠ b) *ᵠ c ≡ a *ᵠ c +ᵠ b *ᵠ c
-    add-mul a b c = ring ℚ-ring (a ∷ b ∷ c ∷ []) (search reads) (search reads) refl
-
     swap : (a b c : ℚ) → a +ᵠ (b +ᵠ c) ≡ b +ᵠ (a +ᵠ c)
     swap a b c = ring ℚ-ring (a ∷ b ∷ c ∷ []) (search reads) (search reads) refl
 

@@ -14,7 +14,7 @@ use Rattle.exact.specs.Rational.{ℚ, _+ᵠ_, _*ᵠ_, -ᵠ_, _-ᵠ_, int, inv}
 use Rattle.exact.specs.Sum.{sum}
 use Rattle.exact.proofs.Decide.{le-or-lt, holds-true, fails-false, cond-true, cond-false}
 use Rattle.exact.proofs.Ring.{ring, by-eq}
-use Rattle.exact.proofs.Rational.{ℚ-ring, readsℚ, mul-inv, mul-cancel, zero-mul}
+use Rattle.exact.proofs.Rational.{ℚ-ring, readsℚ, mul-inv, mul-cancel, mul-comm, zero-mul}
 use Rattle.exact.proofs.Sum.{sum-zero, sum-past}
 
 -- where k stands: up to f, up to l, or past l
@@ -180,10 +180,7 @@ module _ (n f l : ℕ) (J w : ℕ → ℚ) (G : Jumps n f l J w) where
     where
       go : Place f l (suc k) → c (suc k) ≡ d (suc k)
       go (low q) = sym (lifted-at-one w c k (G .before k q .1)) ∙ e k (omega arith) ∙ lifted-at-one w d k (G .before k q .1)
-      go (mid q r) = mul-cancel (G .part (suc k) q r) (comm (c (suc k)) (sum (suc k) J)
+      go (mid q r) = mul-cancel (G .part (suc k) q r) (mul-comm (c (suc k)) (sum (suc k) J)
           ∙ balance-of-lifted J w (lifted w d) c n (G .weight) e (suc k) (omega arith)
-          ∙ sym (balance-of-lifted J w (lifted w d) d n (G .weight) (λ j i. refl) (suc k) (omega arith)) ∙ comm (sum (suc k) J) (d (suc k)))
-        where
-          comm : (a b : ℚ) → a *ᵠ b ≡ b *ᵠ a
-          comm a b = ring ℚ-ring (a ∷ b ∷ []) (search readsℚ) (search readsℚ) refl
+          ∙ sym (balance-of-lifted J w (lifted w d) d n (G .weight) (λ j i. refl) (suc k) (omega arith)) ∙ mul-comm (sum (suc k) J) (d (suc k)))
       go (high q) = sym (lifted-at-zero w c (suc k) (G .after (suc k) q .1)) ∙ e (suc k) h ∙ lifted-at-zero w d (suc k) (G .after (suc k) q .1)
