@@ -1,14 +1,13 @@
 -- The least and the greatest number among those that pass a test: it is one of them, and it is at or below, or at or above,
 -- all of them. One argument serves both: the number that a total order prefers.
-use mathlib.Core.Path.{_≡_, refl, _∙_, ap, subst}
-use mathlib.Core.Logic.{_⊎_, inl, inr}
+use mathlib.Core.Path.{_≡_, refl, _∙_, ap}
 use mathlib.Core.Bool.{Bool, true, false, cond}
 use mathlib.Core.Option.{some, none}
 use Prim.Native.Nat.{ℕ, zero, suc, _<_}
 use native.Mathlib.Omega.{arith}
-use native.Mathlib.Nat.{eq-or-lt-of-le}
 use lib.IntN.{ℤ}
 use lib.Signed.{leZ, _≤ℤ_}
+use Rattle.exact.proofs.Decide.{below-suc}
 use Rattle.exact.proofs.Integer as Z
 use Rattle.exact.proofs.Word.{leZ-true, leZ-false, le-test}
 use Rattle.spline.specs.Reading.{preferred, best}
@@ -46,14 +45,6 @@ module _ (prefers : ℤ → ℤ → Bool) (order : TotalOrder prefers) (passes :
   seek zero = nowhere (λ k h. absurd (omega arith)) refl
   seek (suc n) = go (seek n) (passes n) refl
     where
-      -- a claim of the places below n and of n
-      one-more : {P : ℕ → Type 0} → ((k : ℕ) → k < n → P k) → P n → (k : ℕ) → k < suc n → P k
-      one-more {P} h p k l = place (eq-or-lt-of-le l)
-        where
-          place : (suc k ≡ suc n) ⊎ (suc k < suc n) → P k
-          place (inl z) = subst P (let y : n ≡ k = omega arith in y) p
-          place (inr z) = h k (omega arith)
-
       go : Sought prefers passes a n → (b : Bool) → passes n ≡ b → Sought prefers passes a (suc n)
       go (at m B e) false t = at m
           (record {
@@ -61,16 +52,16 @@ module _ (prefers : ℤ → ℤ → Bool) (order : TotalOrder prefers) (passes :
             below = omega (arith, B .below);
             passing = B .passing;
             is = B .is;
-            over = one-more {P = λ k. passes k ≡ true → prefers m (a k) ≡ true} (B .over) (λ p. absurd (let z : _≡_ {A = ℕ} 0 1 = cc in omega arith));
+            over = below-suc (λ k. passes k ≡ true → prefers m (a k) ≡ true) (B .over) (λ p. absurd (let z : _≡_ {A = ℕ} 0 1 = cc in omega arith));
           }) (best-kept n t ∙ e)
-      go (nowhere h e) false t = nowhere (one-more {P = λ k. passes k ≡ false} h t) (best-kept n t ∙ e)
+      go (nowhere h e) false t = nowhere (below-suc (λ k. passes k ≡ false) h t) (best-kept n t ∙ e)
       go (nowhere h e) true t = at (a n)
           (record {
             index = n;
             below = omega arith;
             passing = t;
             is = refl;
-            over = one-more {P = λ k. passes k ≡ true → prefers (a n) (a k) ≡ true} (λ k l p. absurd (let q = h k l in let z : _≡_ {A = ℕ} 0 1 = cc in omega arith)) (λ p. order .itself (a n));
+            over = below-suc (λ k. passes k ≡ true → prefers (a n) (a k) ≡ true) (λ k l p. absurd (let q = h k l in let z : _≡_ {A = ℕ} 0 1 = cc in omega arith)) (λ p. order .itself (a n));
           }) (best-passing n t ∙ ap (λ o. some (preferred prefers o (a n))) e)
       go (at m B e) true t = choose (prefers m (a n)) refl
         where
@@ -84,7 +75,7 @@ module _ (prefers : ℤ → ℤ → Bool) (order : TotalOrder prefers) (passes :
                 below = omega (arith, B .below);
                 passing = B .passing;
                 is = B .is;
-                over = one-more {P = λ k. passes k ≡ true → prefers m (a k) ≡ true} (B .over) (λ q. p);
+                over = below-suc (λ k. passes k ≡ true → prefers m (a k) ≡ true) (B .over) (λ q. p);
               }) (found m (ap (λ b. cond b m (a n)) p))
           choose false p = at (a n)
               (record {
@@ -92,7 +83,7 @@ module _ (prefers : ℤ → ℤ → Bool) (order : TotalOrder prefers) (passes :
                 below = omega arith;
                 passing = t;
                 is = refl;
-                over = one-more {P = λ k. passes k ≡ true → prefers (a n) (a k) ≡ true} (λ k l q. order .chain (a n) m (a k) (order .other m (a n) p) (B .over k l q)) (λ q. order .itself (a n));
+                over = below-suc (λ k. passes k ≡ true → prefers (a n) (a k) ≡ true) (λ k l q. order .chain (a n) m (a k) (order .other m (a n) p) (B .over k l q)) (λ q. order .itself (a n));
               }) (found (a n) (ap (λ b. cond b m (a n)) p))
 
 rising : TotalOrder leZ

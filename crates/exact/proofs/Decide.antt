@@ -1,8 +1,10 @@
 -- Case distinctions: two natural numbers compared, a Boolean's value against its truth, and what a conditional then is.
-use mathlib.Core.Path.{_≡_, refl, ap}
+use mathlib.Core.Path.{_≡_, refl, ap, subst}
 use mathlib.Core.Logic.{_⊎_, inl, inr}
 use mathlib.Core.Bool.{Bool, true, false, not, cond, _&&_, _||_}
-use Prim.Native.Nat.{ℕ, _<_, _≤_}
+use Prim.Native.Nat.{ℕ, suc, _<_, _≤_}
+use native.Mathlib.Omega.{arith}
+use native.Mathlib.Nat.{eq-or-lt-of-le}
 use lib.Dec.{T, leb, leb→le, nleb→lt}
 pub use borrow.Author.Tests.{not-true, not-false}
 
@@ -12,6 +14,14 @@ le-or-lt a b = go (leb a b) (leb→le a b) (nleb→lt a b)
     go : (c : Bool) → (T c → a ≤ b) → (T (not c) → b < a) → (a ≤ b) ⊎ (b < a)
     go true p q = inl (p tt)
     go false p q = inr (q tt)
+
+-- what holds of the numbers below n and of n
+pub below-suc : {n : ℕ} (P : ℕ → Type 0) → ((k : ℕ) → k < n → P k) → P n → (k : ℕ) → k < suc n → P k
+below-suc {n} P h p k l = go (eq-or-lt-of-le l)
+  where
+    go : (suc k ≡ suc n) ⊎ (suc k < suc n) → P k
+    go (inl e) = subst P (let z : n ≡ k = omega arith in z) p
+    go (inr m) = h k (omega arith)
 
 -- ---- a value and its truth
 pub true-holds : {b : Bool} → b ≡ true → T b

@@ -7,6 +7,7 @@ use mathlib.Core.Option.{Option, some, none}
 use Prim.Native.Nat.{ℕ, zero, suc, _<_}
 use native.Mathlib.Omega.{arith}
 use native.Mathlib.Nat.{eq-or-lt-of-le}
+use Rattle.exact.proofs.Decide.{below-suc}
 use Rattle.spline.specs.Search.{first, last, or-else}
 
 some-not-none : {o : Option ℕ} {i : ℕ} → o ≡ some i → o ≡ none → ⊥
@@ -61,11 +62,7 @@ module _ (test : ℕ → Bool) where
       go : Searched n → (b : Bool) → test n ≡ b → Searched (suc n)
       go (at i s e) b t = at i (record { below = omega (arith, s .below); meets = s .meets; before = s .before }) (first-kept n e)
       go (nowhere h e) true t = at n (record { below = omega arith; meets = t; before = h }) (first-new n e t)
-      go (nowhere h e) false t = nowhere (λ k l. place k (eq-or-lt-of-le l)) (first-still-none n e t)
-        where
-          place : (k : ℕ) → (suc k ≡ suc n) ⊎ (suc k < suc n) → test k ≡ false
-          place k (inl z) = ap test (let p : k ≡ n = omega arith in p) ∙ t
-          place k (inr l) = h k (omega arith)
+      go (nowhere h e) false t = nowhere (below-suc (λ k. test k ≡ false) h t) (first-still-none n e t)
 
   pub first-some-inverts : (n : ℕ) {i : ℕ} → first n test ≡ some i → First n i
   first-some-inverts n {i} e = go (search-first n)
@@ -128,16 +125,8 @@ module _ (test : ℕ → Bool) where
     where
       go : SearchedBack n → (b : Bool) → test n ≡ b → SearchedBack (suc n)
       go s true t = at n (record { below = omega arith; meets = t; after = λ k a b. absurd (omega arith) }) (last-new n t)
-      go (at i s e) false t = at i (record { below = omega (arith, s .below); meets = s .meets; after = λ k a l. place k a (eq-or-lt-of-le l) }) (last-kept n t ∙ e)
-        where
-          place : (k : ℕ) → i < k → (suc k ≡ suc n) ⊎ (suc k < suc n) → test k ≡ false
-          place k a (inl z) = ap test (let p : k ≡ n = omega arith in p) ∙ t
-          place k a (inr l) = s .after k a (omega arith)
-      go (nowhere h e) false t = nowhere (λ k l. place k (eq-or-lt-of-le l)) (last-kept n t ∙ e)
-        where
-          place : (k : ℕ) → (suc k ≡ suc n) ⊎ (suc k < suc n) → test k ≡ false
-          place k (inl z) = ap test (let p : k ≡ n = omega arith in p) ∙ t
-          place k (inr l) = h k (omega arith)
+      go (at i s e) false t = at i (record { below = omega (arith, s .below); meets = s .meets; after = λ k a l. below-suc (λ k. i < k → test k ≡ false) (λ k l a. s .after k a l) (λ a. t) k l a }) (last-kept n t ∙ e)
+      go (nowhere h e) false t = nowhere (below-suc (λ k. test k ≡ false) h t) (last-kept n t ∙ e)
 
   pub last-some-inverts : (n : ℕ) {i : ℕ} → last n test ≡ some i → Last n i
   last-some-inverts n {i} e = go (search-last n)
