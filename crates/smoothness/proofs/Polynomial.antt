@@ -175,6 +175,10 @@ value-total (suc n) f x = value-add (total n f) (f n) x ∙ ap (λ u. u +ᵠ val
 unfoldable pub differential : (ℕ → ℚ) → ℕ → ℚ
 differential f i = int (pos (suc i)) *ᵠ f (suc i)
 
+derivative-length : (p : Polynomial) → length (derivative p) ≡ length p - 1
+unfolding derivative
+derivative-length p = tab-length (length p - 1) _
+
 pub coefficient-derivative : (p : Polynomial) (i : ℕ) → coefficient (derivative p) i ≡ differential (coefficient p) i
 unfolding derivative differential
 coefficient-derivative p i = go (le-or-lt (length p - 1) i)
@@ -183,7 +187,7 @@ coefficient-derivative p i = go (le-or-lt (length p - 1) i)
     rule i = int (pos (suc i)) *ᵠ coefficient p (suc i)
 
     go : (length p - 1 ≤ i) ⊎ (i < length p - 1) → coefficient (derivative p) i ≡ rule i
-    go (inl h) = List·getD-eq-default (derivative p) (int (pos 0)) (rw (tab-length (length p - 1) rule) h)
+    go (inl h) = List·getD-eq-default (derivative p) (int (pos 0)) (rw (derivative-length p) h)
         ∙ sym (ap (λ u. int (pos (suc i)) *ᵠ u) (List·getD-eq-default p (int (pos 0)) (let l : length p ≤ suc i = omega arith in l)) ∙ mul-zero (int (pos (suc i))))
     go (inr h) = tab-getD (length p - 1) rule i (int (pos 0)) h
 
