@@ -20,7 +20,7 @@ sub-checked c =
     let s = c .before .before in
     let an = num-fits (s .pre) in
     let ad = den-fits (s .pre) in
-    simp toZ-ofZ (nums s)
+    simp toZ-ofZ (search (sub-fits, s .pre))
 
 checked-requires : tie.Need-checked-requires
 checked-requires c κs = search needs

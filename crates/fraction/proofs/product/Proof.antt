@@ -26,8 +26,10 @@ mul-checked : tie.Need-mul-checked
 mul-checked c =
     let s = c .before .before .before .before in
     let an = num-fits (s .pre .0) in
+    let ad = den-fits (s .pre .0) in
     let bn = num-fits (s .pre .1) in
-    simp toZ-ofZ (nums s)
+    let bd = den-fits (s .pre .1) in
+    simp toZ-ofZ (search (mul-fits, s .pre))
 
 mul-checked-2 : tie.Need-mul-checked-2
 mul-checked-2 c =

@@ -32,15 +32,19 @@ mul-checked : tie.Need-mul-checked
 mul-checked c =
     let s = c .before .before .before .before in
     let an = num-fits (s .pre .0) in
+    let ad = den-fits (s .pre .0) in
+    let bn = num-fits (s .pre .1) in
     let bd = den-fits (s .pre .1) in
-    simp toZ-ofZ (left s)
+    simp toZ-ofZ (search (mul-fits, s .pre))
 
 mul-checked-2 : tie.Need-mul-checked-2
 mul-checked-2 c =
     let s = start c in
+    let an = num-fits (s .pre .0) in
     let ad = den-fits (s .pre .0) in
     let bn = num-fits (s .pre .1) in
-    simp toZ-ofZ (right s)
+    let bd = den-fits (s .pre .1) in
+    simp toZ-ofZ (search (mul-fits, s .pre))
 
 add-checked : tie.Need-add-checked
 add-checked c =
@@ -51,7 +55,7 @@ add-checked c =
     let bd = den-fits (s .pre .1) in
     let l = left s in
     let r = right s in
-    simp toZ-ofZ (nums s)
+    simp toZ-ofZ (search (mul-add-fits, s .pre))
 
 mul-checked-3 : tie.Need-mul-checked-3
 mul-checked-3 c =
