@@ -4,7 +4,7 @@ use mathlib.Core.Bool.{true, false}
 use Prim.Native.Nat.{ℕ}
 use native.Mathlib.Omega.{arith}
 use Rattle.exact.specs.Rational.{ℚ}
-use Rattle.fraction.specs.Size.{fits, Counting, counted, too-large, count, _>>=_}
+use Rattle.fraction.specs.Size.{fits, Counting, counted, too-large, count}
 use Rattle.fraction.specs.Machine.{fraction, value, answer, Sized}
 use Rattle.fraction.specs.declared.Fraction.{Fraction}
 use Rattle.fraction.specs.declared.Counted.the-variants.{Fits, TooLarge}
@@ -32,7 +32,7 @@ pub answer-large : (q : ℚ) → fits q ≡ false → answer (count q) ≡ TooLa
 unfolding answer
 answer-large q e = rw (count-large q e)
 
--- `Fits f`: the computation had a result, which f stands for, in lowest terms
+-- `Fits f`: the fraction is counted, and f stands for it in lowest terms
 pub fits-answer : (x : Counting ℚ) (f : Fraction) → answer x ≡ Fits f → (x ≡ counted (value f)) × (f ≡ fraction (value f))
 unfolding answer
 fits-answer (counted q) f e =
@@ -41,7 +41,7 @@ fits-answer (counted q) f e =
     (ap counted v, sym w ∙ ap fraction v)
 fits-answer too-large f e = absurd (let z : _≡_ {A = ℕ} 0 1 = cc in omega arith)
 
--- `TooLarge`: it had none
+-- `TooLarge`: it is not
 pub large-answer : (x : Counting ℚ) → answer x ≡ TooLarge → x ≡ too-large
 unfolding answer
 large-answer (counted q) e = absurd (let z : _≡_ {A = ℕ} 0 1 = cc in omega arith)
@@ -50,14 +50,6 @@ large-answer too-large e = refl
 pub answer-too-large : answer too-large ≡ TooLarge
 unfolding answer
 answer-too-large = refl
-
--- ---- a computation goes on with what the answer holds, or stops
-
-pub fits-then : {B : Type 0} (x : Counting ℚ) (f : Fraction) (k : ℚ → Counting B) → answer x ≡ Fits f → (x >>= k) ≡ k (value f)
-fits-then x f k e = ap (λ y. y >>= k) (fits-answer x f e .0)
-
-pub large-then : {B : Type 0} (x : Counting ℚ) (k : ℚ → Counting B) → answer x ≡ TooLarge → (x >>= k) ≡ too-large
-large-then x k e = ap (λ y. y >>= k) (large-answer x e)
 
 -- ---- one counted fraction
 

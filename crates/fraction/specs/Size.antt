@@ -1,5 +1,5 @@
--- Counted fractions: the size test of document 01 ("Building the weights", last paragraph) and computations that stop at
--- the first fraction that fails it. The test stands here alone; every operation and the definition of the build use it.
+-- Counted fractions: the size test of document 01 ("Building the weights", last paragraph). The test stands here alone;
+-- every operation and the definition of the build use it.
 use Prim.Native.Nat.{ℕ, _^_}
 use mathlib.Core.Bool.{Bool, _&&_, cond}
 use lib.Dec.{ltb}
@@ -14,17 +14,11 @@ limit = 2 ^ 31
 unfoldable pub fits : ℚ → Bool
 fits q = ltb (natAbs (q .num)) limit && ltb (den q) limit
 
--- a computation with counted fractions: its result, or that a counted fraction was too large
+-- a counted fraction, or that it was too large
 pub data Counting (A : Type 0) : Type 0 where
   counted : A → Counting A
   too-large : Counting A
 
--- a fraction is counted: it goes on if it fits
+-- a fraction is counted: it is the result if it fits
 unfoldable pub count : ℚ → Counting ℚ
 count q = cond (fits q) (counted q) too-large
-
--- go on with the result, if there is one: `do` blocks of counted fractions are made of this
-infixl 1 _>>=_
-abbrev pub _>>=_ : {A B : Type 0} → Counting A → (A → Counting B) → Counting B
-counted a >>= f = f a
-too-large >>= f = too-large
