@@ -1,6 +1,7 @@
 #!/usr/bin/env bash
 # The examples: each sheet gives the printout that stands beside it, C and Rust print the values that the sheet of W1 has,
-# the picture in docs/ is still what the tool draws, and the README shows what the program prints.
+# the picture in docs/ is still what the tool draws, the README shows what the program prints, and a printout that can't be
+# written is said on standard error.
 set -u
 cd "$(dirname "$0")/.."
 from_c=$1 from_rust=$2 sheet=$3
@@ -20,4 +21,7 @@ same docs/growth.svg <(python3 tools/plot examples/growth.sheet examples/growth.
 while IFS= read -r line; do
     grep -qF -- "    $line" README.md || { printf 'not in the README: %s\n' "$line"; failed=1; }
 done <examples/w1.out
+if [ -e /dev/full ]; then
+    "$sheet" <examples/w1.sheet 2>&1 >/dev/full | grep -q '^write: ' || { echo 'no message where nothing can be written'; failed=1; }
+fi
 exit "$failed"

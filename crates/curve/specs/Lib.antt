@@ -1,5 +1,2 @@
 -- What the contracts of curve cite beside the definitions of crate spline.
 pub mod Reply
-pub mod Limits
-pub mod Ordinates
-pub mod Reading

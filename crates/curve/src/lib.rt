@@ -6,10 +6,7 @@ ghost use Rattle.space.specs.Reply.{space};
 ghost use Rattle.spline.specs.CurveCall.{curveOutcome, returned, curveNumerators, curveDenominators, valuesAfter};
 ghost use Rattle.curve.specs.Reply.{reply};
 
-mod limits;
-mod ordinates;
 mod reading;
-mod triangle;
 
 const TABLE_CELLS: usize = 5184;
 

@@ -5,14 +5,14 @@ use Prim.Native.Nat.{ℕ, _<_, _≤_}
 use native.Mathlib.Omega.{arith}
 use borrow.Author.Tests.{ltb-true, lt-ltb, le-ltb}
 use lib.Dec.{ltb}
-use lib.IntN.{ℤ, pos, natAbs, negℤ, _+ℤ_, _*ℤ_}
-use lib.Signed.{_<ℤ_}
-use Rattle.exact.specs.Rational.{ℚ, den, int, _-ᵠ_}
-use Rattle.exact.specs.Order.{_<ᵠ_}
-use Rattle.exact.proofs.Integer.{up, dn, *-one, <-out, bal-+, bal-neg, abs-le}
-use Rattle.exact.proofs.Rational.{_is_over_, self, is-int, is-add, is-neg, is-least}
+use lib.IntN.{ℤ, pos, natAbs, negℤ, _-ℤ_, _*ℤ_}
+use lib.Signed.{_≤ℤ_}
+use Rattle.exact.specs.Rational.{ℚ, den, int}
+use Rattle.exact.specs.Order.{_≤ᵠ_}
+use Rattle.exact.proofs.Integer.{up, dn, *-one, ≤-out, bal-+, bal-neg, abs-le}
+use Rattle.exact.proofs.Rational.{_is_over_, self, is-int, is-least}
 use Rattle.exact.proofs.Decide.{and-true, cond-true, cond-false}
-use Rattle.exact.proofs.Order.{lt-is}
+use Rattle.exact.proofs.Order.{le-is}
 use Rattle.fraction.specs.Size.{limit, fits, counted, too-large, count}
 
 -- ---- the test, by its two parts
@@ -50,19 +50,18 @@ is-fits {q} h k l = let m = is-least h in small-fits q (omega arith) (omega arit
 pub int-fits : (z : ℤ) → natAbs z < limit → fits (int z) ≡ true
 int-fits z h = is-fits (is-int z) h (omega arith)
 
--- the complement of a weight fits where the weight does
-pub one-minus-fits : (w : ℚ) → fits w ≡ true → int (pos 0) <ᵠ w → w <ᵠ int (pos 1) → fits (int (pos 1) -ᵠ w) ≡ true
-one-minus-fits w f l u = is-fits (is-add (is-int (pos 1)) (is-neg w)) (omega (arith, size (w .num) (den w) (lt-is (is-int (pos 0)) (self w) l) (lt-is (self w) (is-int (pos 1)) u), fits-den w f)) (omega (arith, fits-den w f))
+-- 1 - w over w's own denominator, for w from 0 to 1: the numerator is no larger than the denominator
+pub complement-le : (w : ℚ) → int (pos 0) ≤ᵠ w → w ≤ᵠ int (pos 1) → natAbs (pos (den w) -ℤ w .num) ≤ den w
+complement-le w l u = size (w .num) (den w) (le-is (is-int (pos 0)) (self w) l) (le-is (self w) (is-int (pos 1)) u)
   where
-    size : (n : ℤ) (d : ℕ) → (pos 0 *ℤ pos d) <ℤ (n *ℤ pos 1) → (n *ℤ pos 1) <ℤ (pos 1 *ℤ pos d) → natAbs (pos 1 *ℤ pos d +ℤ negℤ n *ℤ pos 1) ≤ d
+    size : (n : ℤ) (d : ℕ) → (pos 0 *ℤ pos d) ≤ℤ (n *ℤ pos 1) → (n *ℤ pos 1) ≤ℤ (pos 1 *ℤ pos d) → natAbs (pos d -ℤ n) ≤ d
     size n d h k =
-        let a = <-out _ _ h in
-        let b = <-out _ _ k in
-        let s = bal-+ (pos 1 *ℤ pos d) (negℤ n *ℤ pos 1) in
+        let a = ≤-out _ _ h in
+        let b = ≤-out _ _ k in
+        let s = bal-+ (pos d) (negℤ n) in
         let t = bal-neg n in
         let x = *-one n in
-        let y = *-one (negℤ n) in
-        abs-le (pos 1 *ℤ pos d +ℤ negℤ n *ℤ pos 1) d (omega (arith, ap up x, ap dn x, ap up y, ap dn y)) (omega (arith, ap up x, ap dn x, ap up y, ap dn y))
+        abs-le (pos d -ℤ n) d (omega (arith, ap up x, ap dn x)) (omega (arith, ap up x, ap dn x))
 
 -- ---- counting
 

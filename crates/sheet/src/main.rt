@@ -1,17 +1,17 @@
 // Reads a sheet from standard input and writes its printout to standard output.
 
-const OUTPUT_BYTES: usize = 327680;
+// One byte more than the longest sheet, so that a longer text is seen to be too long.
+const INPUT_BYTES: usize = 65537;
 
-// One byte more than the longest sheet is read, so that a longer text is seen to be too long. The longest printout is
-// shorter than the output buffer.
+// The most bytes that a printout has (`printoutLimit`), so none is cut.
+const OUTPUT_BYTES: usize = 745943;
+
 fn main() {
-    let mut input = [0u8; 65537];
+    let mut input = [0u8; INPUT_BYTES];
     let n = io::read_full(0, &mut input);
-    let mut out = [0u8; 327680];
+    let mut out = [0u8; OUTPUT_BYTES];
     let count = sheet_text::sheet(&input[..n], &mut out);
-    if count < OUTPUT_BYTES {
-        io::write_all(1, &out[..count]);
-        return;
+    if !io::write_all(1, &out[..count]) {
+        os::fail(b"write");
     }
-    io::write_all(1, &out);
 }

@@ -9,12 +9,12 @@ use Rattle.spline.specs.Outcome.{Outcome, answer, refusal, capped, with-answer}
 use Rattle.spline.specs.CurveCall.{CurveResult, curveOutcome}
 use Rattle.spline.specs.Cases.{Answered, shown, answers, weights1, outcome, cases}
 use Rattle.spline.proofs.Cases.{every-case-holds}
-use Rattle.sheet_text.specs.Bytes.{cut, fields, stripped}
-use Rattle.sheet_text.specs.Numeral.{allDigits, digitsValue, isNatural, numeral, digitsUpTo, digits, decimal}
-use Rattle.sheet_text.specs.Reading.{numerals, listOf, line, readLine, Lists, fiveLines, read}
-use Rattle.sheet_text.specs.Printout.{joined, countLine, weightLine, weightLines, valueLine, valueLines, lowPositions, lowLines, answerText}
-use Rattle.sheet_text.specs.Sheet.{called, occurrences, LowOrder, Prints, answered, called-on}
-use Rattle.sheet_text.specs.Cases.{bytes, lines, w1Text, w1Printout, SheetCaseHolds}
+use Rattle.numerals.specs.Bytes.{bytes, lines, cut, fields, stripped}
+use Rattle.numerals.specs.Numeral.{allDigits, digitsValue, isNatural, numeral, digitsUpTo, digits, decimal}
+use Rattle.sheet_lists.specs.Reading.{numerals, listOf, line, readLine, Lists, fiveLines, read}
+use Rattle.printout.specs.Printout.{joined, countLine, weightLine, weightLines, valueLine, valueLines, lowPositions, lowLines, occurrences, LowOrder, answerText}
+use Rattle.sheet_text.specs.Sheet.{called, Prints, answered, called-on}
+use Rattle.sheet_text.specs.Cases.{w1Text, w1Printout, SheetCaseHolds}
 
 -- the five lists of W1, and its values
 abbrev w1 : Lists

@@ -22,13 +22,13 @@ use Rattle.space.proofs.Legal.{checked-legal, legal-column-count-high, legal-ro
 use Rattle.curve.specs.Reply as curve
 use Rattle.curve.specs.declared.Answer.{Answer}
 use Rattle.curve.specs.declared.Answer.the-variants.{Values, Refused}
-use Rattle.sheet_text.specs.Reading.{Lists, listLimit}
+use Rattle.sheet_lists.specs.Reading.{Lists}
 use Rattle.sheet_text.specs.Sheet.{spaceOf, called, Prints, answered, refused}
 use Rattle.sheet_text.specs.Shows.{Shows}
-use Rattle.sheet_text.specs.Buffer.{written}
-use Rattle.sheet_text.specs.Printout.{answerText, refusalLine}
-use Rattle.sheet_text.specs.Printed.{Answered}
-use Rattle.sheet_text.proofs.Stored.{printed-table}
+use Rattle.printout.specs.Buffer.{written}
+use Rattle.printout.specs.Printout.{answerText, refusalLine}
+use Rattle.printout.specs.Printed.{Answered}
+use Rattle.printout.proofs.Stored.{printed-table}
 
 -- ---- an answered call
 
@@ -136,7 +136,7 @@ module _ (l : Lists) (m : Answer) (e : curve.reply m ≡ returned (called l)) wh
     denominators-are before = ap (λ o. curveDenominators o before) (counted .is)
 
     -- an answer is printed from its buffers
-    pub answered-shows : (num den vs : List ℤ) {num′ den′ vs′ : List ℤ} → tableCells ≤ length num → tableCells ≤ length den → length (l .positions) ≤ listLimit
+    pub answered-shows : (num den vs : List ℤ) {num′ den′ vs′ : List ℤ} → tableCells ≤ length num → tableCells ≤ length den → length (l .positions) ≤ positionLimit
         → num′ ≡ curveNumerators (called l) num → den′ ≡ curveDenominators (called l) den → vs′ ≡ valuesAfter (called l) vs
         → {out out′ : List ℕ} {count : ℕ} → Answered (length (l .coefs)) num′ den′ (l .positions) (take n vs′) out out′ count
         → Shows (Prints (l .positions) (called l)) out out′ count

@@ -1,21 +1,8 @@
 -- Case W1 as a sheet and its printout (document 01, "Sheet and printout"), byte for byte. The statement at the end is proved
 -- by computation in proofs/Cases; the cases of the calls alone are crate spline's.
-use mathlib.Core.List.{List, [], _∷_, _++_}
-use Prim.Native.Char.{code}
-use Prim.Native.String.{String}
-use Prim.Native.String as string
-use Rattle.sheet_text.specs.Bytes.{Text, newline}
+use mathlib.Core.List.{[], _∷_}
+use Rattle.numerals.specs.Bytes.{Text, lines}
 use Rattle.sheet_text.specs.Sheet.{Printout}
-
--- The bytes of a text of ASCII characters.
-unfoldable pub bytes : String → Text
-bytes string.[] = []
-bytes (string._∷_ c s) = code c ∷ bytes s
-
--- Lines, each ended by byte 10.
-unfoldable pub lines : List String → Text
-lines [] = []
-lines (s ∷ ss) = bytes s ++ (newline ∷ lines ss)
 
 -- The sheet of W1.
 unfoldable pub w1Text : Text

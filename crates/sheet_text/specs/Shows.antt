@@ -3,8 +3,8 @@ use mathlib.Core.List.{List}
 use mathlib.Core.Path.{_≡_}
 use Prim.Native.Nat.{ℕ}
 use lib.ListN.{length}
-use Rattle.sheet_text.specs.Bytes.{Text}
-use Rattle.sheet_text.specs.Buffer.{written}
+use Rattle.numerals.specs.Bytes.{Text}
+use Rattle.printout.specs.Buffer.{written}
 
 -- The buffer shows a text with this property. Document 01 leaves only the order of the low lines free, so for a printout the
 -- text is given but for that order.

@@ -79,16 +79,6 @@ pub first-column-next : (s : Space) (i : ℕ) → firstColumn s i + degree s i +
 unfolding firstColumn
 first-column-next s i = omega arith
 
--- segments after a segment have later columns
-pub first-column-mono : (s : Space) (i j : ℕ) → i ≤ j → firstColumn s i ≤ firstColumn s j
-unfolding firstColumn
-first-column-mono s i zero l = omega (arith, ap (firstColumn s) (let z : i ≡ 0 = omega arith in z))
-first-column-mono s i (suc j) l = go (λ t. first-column-mono s i j t) (eq-or-lt-of-le l)
-  where
-    go : (i ≤ j → firstColumn s i ≤ firstColumn s j) → (i ≡ suc j) ⊎ (i < suc j) → firstColumn s i ≤ firstColumn s (suc j)
-    go ih (inl e) = omega (arith, ap (firstColumn s) e)
-    go ih (inr t) = omega (arith, ih (omega arith))
-
 -- ---- orders and conditions
 
 module _ (s : Space) (h : OrdersLegal (s .orders)) where

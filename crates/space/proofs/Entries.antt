@@ -1,19 +1,16 @@
 -- What an entry that breaks no rule is, as facts of order, and back. The definitions test by flags; the laws of legal
 -- lists and of the machine's arithmetic want the order.
-use mathlib.Core.Path.{_≡_, refl, sym, _∙_}
-use mathlib.Core.Bool.{Bool, true, false, _||_}
+use mathlib.Core.Path.{_≡_, sym, _∙_}
+use mathlib.Core.Bool.{false, _||_}
 use Prim.Native.Nat.{ℕ, zero, suc, _≤_}
 use native.Mathlib.Omega.{arith}
 use lib.IntN.{ℤ, pos, negsuc, natAbs}
 use lib.Signed.{ltZ, _≤ℤ_, _<ℤ_}
+use Rattle.exact.proofs.Decide.{or-false}
 use Rattle.exact.proofs.Integer.{≤-in, ≤-out, abs-le}
 use Rattle.exact.proofs.Word.{ltZ-false, leZ-false, not-lt-test, not-le-test}
 use Rattle.spline.specs.Space.{Space, break, degreeEntry, order, badBreak, badDegree, badOrder}
 use Rattle.space.proofs.Tests.{break-zero, break-suc, degree-tests, order-tests}
-
-neither : (a b : Bool) → (a || b) ≡ false → (a ≡ false) × (b ≡ false)
-neither true b e = absurd (let z : _≡_ {A = ℕ} 0 1 = cc in omega arith)
-neither false b e = (refl, e)
 
 -- the range of a breakpoint, by its size
 size-of : (x : ℤ) → ltZ x (negsuc 9999) ≡ false → ltZ (pos 10000) x ≡ false → natAbs x ≤ 10000
@@ -29,11 +26,11 @@ high-of (negsuc n) h = ≤-in _ _ (omega arith)
 
 module _ (s : Space) where
   pub good-break-size : (i : ℕ) → badBreak s i ≡ false → natAbs (break s i) ≤ 10000
-  good-break-size zero e = let p = neither _ _ (sym (break-zero s) ∙ e) in size-of (break s zero) (p .0) (p .1)
-  good-break-size (suc i) e = let p = neither _ _ (neither _ _ (sym (break-suc s i) ∙ e) .0) in size-of (break s (suc i)) (p .0) (p .1)
+  good-break-size zero e = let p = or-false _ _ (sym (break-zero s) ∙ e) in size-of (break s zero) (p .0) (p .1)
+  good-break-size (suc i) e = let p = or-false _ _ (or-false _ _ (sym (break-suc s i) ∙ e) .0) in size-of (break s (suc i)) (p .0) (p .1)
 
   pub good-break-rises : (i : ℕ) → badBreak s (suc i) ≡ false → break s i <ℤ break s (suc i)
-  good-break-rises i e = leZ-false (break s (suc i)) (break s i) (neither (ltZ (break s (suc i)) (negsuc 9999) || ltZ (pos 10000) (break s (suc i))) _ (sym (break-suc s i) ∙ e) .1)
+  good-break-rises i e = leZ-false (break s (suc i)) (break s i) (or-false (ltZ (break s (suc i)) (negsuc 9999) || ltZ (pos 10000) (break s (suc i))) _ (sym (break-suc s i) ∙ e) .1)
 
   pub break-good-first : natAbs (break s zero) ≤ 10000 → badBreak s zero ≡ false
   break-good-first h = break-zero s ∙ simp (not-lt-test (low-of (break s zero) h), not-lt-test (high-of (break s zero) h))
@@ -42,10 +39,10 @@ module _ (s : Space) where
   break-good i h k = break-suc s i ∙ simp (not-lt-test (low-of (break s (suc i)) h), not-lt-test (high-of (break s (suc i)) h), not-le-test k)
 
   pub good-degree-low : (i : ℕ) → badDegree s i ≡ false → pos 1 ≤ℤ degreeEntry s i
-  good-degree-low i e = ltZ-false (degreeEntry s i) (pos 1) (neither (ltZ (degreeEntry s i) (pos 1)) (ltZ (pos 5) (degreeEntry s i)) (sym (degree-tests s i) ∙ e) .0)
+  good-degree-low i e = ltZ-false (degreeEntry s i) (pos 1) (or-false (ltZ (degreeEntry s i) (pos 1)) (ltZ (pos 5) (degreeEntry s i)) (sym (degree-tests s i) ∙ e) .0)
 
   pub good-degree-high : (i : ℕ) → badDegree s i ≡ false → degreeEntry s i ≤ℤ pos 5
-  good-degree-high i e = ltZ-false (pos 5) (degreeEntry s i) (neither (ltZ (degreeEntry s i) (pos 1)) (ltZ (pos 5) (degreeEntry s i)) (sym (degree-tests s i) ∙ e) .1)
+  good-degree-high i e = ltZ-false (pos 5) (degreeEntry s i) (or-false (ltZ (degreeEntry s i) (pos 1)) (ltZ (pos 5) (degreeEntry s i)) (sym (degree-tests s i) ∙ e) .1)
 
   pub degree-good : (i : ℕ) → pos 1 ≤ℤ degreeEntry s i → degreeEntry s i ≤ℤ pos 5 → badDegree s i ≡ false
   degree-good i h k = degree-tests s i ∙ simp (not-lt-test h, not-lt-test k)
@@ -58,9 +55,9 @@ module _ (s : Space) where
 
   pub good-order : (i : ℕ) → badOrder s i ≡ false → GoodOrder i
   good-order i e =
-      let p = neither _ _ (sym (order-tests s i) ∙ e) in
-      let q = neither _ _ (p .0) in
-      let r = neither _ _ (q .0) in
+      let p = or-false _ _ (sym (order-tests s i) ∙ e) in
+      let q = or-false _ _ (p .0) in
+      let r = or-false _ _ (q .0) in
       record {
         low = ltZ-false (order s i) (negsuc 0) (r .0);
         high = ltZ-false (pos 2) (order s i) (r .1);

@@ -3,18 +3,19 @@
 use mathlib.Core.Path.{_≡_, refl, sym, _∙_, ap}
 use mathlib.Core.Bool.{Bool, true, false, cond}
 use mathlib.Core.List.{List, []}
-use mathlib.Core.Option.{Option, some, none}
 use Prim.Native.Nat.{ℕ, zero, suc, _+_, _*_, _-_, _<_, _≤_}
 use native.Mathlib.Omega.{arith}
 use lib.IntN.{ℤ, pos, _-ℤ_}
 use lib.ListN.{length, getD}
 use lib.Signed.{_≤ℤ_}
 use Rattle.exact.proofs.Word.{ltZ-false, not-lt-test}
-use Rattle.spline.specs.Outcome.{Outcome, answer, refuse, _then_}
+use Rattle.spline.specs.Outcome.{answer, refuse, _then_}
 use Rattle.spline.specs.Search.{first}
-use Rattle.spline.specs.Space.{Space, lengthsFit, break, badBreak, badDegree, badOrder, refuseFirst, checked, degree, width, conditionCount, firstColumn, columnCount, conditionsBefore, rowCount}
+use Rattle.spline.specs.Space.{Space, lengthsFit, break, badBreak, badDegree, badOrder, checked, degree, width, conditionCount, firstColumn, columnCount, conditionsBefore, rowCount}
 use Rattle.spline.proofs.Outcome.{then-inverts, answer-unique, answer-not-refusal}
 use Rattle.spline.proofs.Search.{first-none, first-none-inverts}
+use Rattle.spline.proofs.Space.{firstColumn-mono}
+use Rattle.spline.proofs.Legal.{refuseFirst-inverts}
 use Rattle.space.specs.Reply.{space, legality}
 use Rattle.space.specs.Legal.{BreaksLegal, DegreesLegal, JoinsLegal, ListsLegal, breaksChecked, degreesChecked, ordersChecked}
 use Rattle.space.specs.declared.Legality.the-variants.{Legal}
@@ -23,14 +24,9 @@ use Rattle.space.proofs.Entries.{good-break-size, good-break-rises, bre
 use Rattle.space.proofs.Bounds.{width-difference, width-positive, width-within, degree-low, degree-high, first-column-high, condition-count-high, condition-count-left, condition-count-right, conditions-before-columns, conditions-columns, row-count-sum, row-count-low}
 use Rattle.space.proofs.Checks.{tooLong, breaks-pass, degrees-pass, orders-pass, checked-parts, checked-lengths, checked-orders}
 use Rattle.space.proofs.Reply.{legal-answers, answer-legal}
-pub use Rattle.space.proofs.Bounds.{breaks-rise, breaks-mono, first-column-zero, first-column-next, first-column-mono, conditions-before-zero, conditions-before-next, conditions-before-mono}
+pub use Rattle.space.proofs.Bounds.{breaks-rise, breaks-mono, first-column-zero, first-column-next, conditions-before-zero, conditions-before-next, conditions-before-mono}
 
 -- ---- what a check that passed tells
-
--- nothing was found, and the rest passed
-first-answers : {A : Type 0} (number : ℕ) (o : Option ℕ) (rest : Outcome A) {a : A} → refuseFirst number o rest ≡ answer a → (o ≡ none) × (rest ≡ answer a)
-first-answers number none rest e = (refl, e)
-first-answers number (some i) rest e = absurd (answer-not-refusal e refl)
 
 flag-answers : {A : Type 0} (t : Bool) (number place : ℕ) (c : A) {a : A} → cond t (refuse number place) (answer c) ≡ answer a → t ≡ false
 flag-answers true number place c e = absurd (answer-not-refusal e refl)
@@ -39,7 +35,7 @@ flag-answers false number place c e = refl
 module _ (b : List ℤ) (m : ℕ) (n : length b ≡ m + 1) (e : breaksChecked b m ≡ answer tt) where
   no-bad-break : (i : ℕ) → i < length b → badBreak (space b [] []) i ≡ false
   unfolding breaksChecked
-  no-bad-break i l = first-none-inverts _ (m + 1) (first-answers 3 (first (m + 1) (badBreak (space b [] []))) (cond (tooLong b m) (refuse 3 m) (answer tt)) e .0) i (omega arith)
+  no-bad-break i l = first-none-inverts _ (m + 1) (refuseFirst-inverts 3 (first (m + 1) (badBreak (space b [] []))) (cond (tooLong b m) (refuse 3 m) (answer tt)) e .0) i (omega arith)
 
   breaks-legal : BreaksLegal b
   breaks-legal = record {
@@ -49,7 +45,7 @@ module _ (b : List ℤ) (m : ℕ) (n : length b ≡ m + 1) (e : breaksChecked b 
 
   span-legal : (getD b m (pos 0) -ℤ getD b 0 (pos 0)) ≤ℤ pos 2000
   unfolding breaksChecked
-  span-legal = ltZ-false (pos 2000) (getD b m (pos 0) -ℤ getD b 0 (pos 0)) (flag-answers (tooLong b m) 3 m tt (first-answers 3 (first (m + 1) (badBreak (space b [] []))) (cond (tooLong b m) (refuse 3 m) (answer tt)) e .1))
+  span-legal = ltZ-false (pos 2000) (getD b m (pos 0) -ℤ getD b 0 (pos 0)) (flag-answers (tooLong b m) 3 m tt (refuseFirst-inverts 3 (first (m + 1) (badBreak (space b [] []))) (cond (tooLong b m) (refuse 3 m) (answer tt)) e .1))
 
 degrees-legal : (d : List ℤ) → degreesChecked d ≡ answer tt → DegreesLegal d
 unfolding degreesChecked
@@ -59,11 +55,11 @@ degrees-legal d e = record {
 }
   where
     good : (i : ℕ) → i < length d → badDegree (space [] d []) i ≡ false
-    good = first-none-inverts _ (length d) (first-answers 4 (first (length d) (badDegree (space [] d []))) (answer tt) e .0)
+    good = first-none-inverts _ (length d) (refuseFirst-inverts 4 (first (length d) (badDegree (space [] d []))) (answer tt) e .0)
 
 orders-good : (d o : List ℤ) → ordersChecked d o ≡ answer tt → (i : ℕ) → i < length o → GoodOrder (space [] d o) i
 unfolding ordersChecked
-orders-good d o e i l = good-order (space [] d o) i (first-none-inverts _ (length o) (first-answers 5 (first (length o) (badOrder (space [] d o))) (answer tt) e .0) i l)
+orders-good d o e i l = good-order (space [] d o) i (first-none-inverts _ (length o) (refuseFirst-inverts 5 (first (length o) (badOrder (space [] d o))) (answer tt) e .0) i l)
 
 -- ---- the check and its meaning
 
@@ -183,7 +179,7 @@ module _ (b d o : List ℤ) (h : ListsLegal b d o) where
 
   -- a segment's columns are among all
   pub legal-columns-within : (i : ℕ) → i < length d → firstColumn (space b d o) i + degree (space b d o) i < columnCount (space b d o)
-  legal-columns-within i l = omega (arith, first-column-next (space b d o) i, first-column-mono (space b d o) (suc i) (length d) l)
+  legal-columns-within i l = omega (arith, first-column-next (space b d o) i, firstColumn-mono (space b d o) (suc i) (length d) l)
 
   -- fewer conditions than columns
   pub legal-conditions-before : (i : ℕ) → i < length d → conditionsBefore (space b d o) i + i ≤ firstColumn (space b d o) i

@@ -14,14 +14,14 @@ use Rattle.spline.specs.Outcome.{Outcome, answer, refusal, refuse, with-answer}
 use Rattle.spline.specs.Space.{Space, segments, columnCount, conditionCount, checked}
 use Rattle.spline.specs.Table.{Table, identity, tableCells, numerators, denominators}
 use Rattle.spline.specs.Build.{orderSteps, joinSteps, weights, spaceWeights, built, clears, numeratorsAfter, denominatorsAfter}
-use Rattle.spline.proofs.Outcome.{RefusedAs, repeat-refused, then-answers, then-refuses}
-use Rattle.spline.proofs.Outcome.{capped-small}
-use Rattle.weights.specs.Held.{JoinsLeave, Kept}
-use Rattle.weights.specs.Part.{filled}
+use Rattle.spline.proofs.Outcome.{RefusedAs, repeat-refused, then-answers, then-refuses, capped-small}
+use Rattle.cells.specs.Held.{Kept}
+use Rattle.cells.specs.Part.{filled}
+use Rattle.cells.proofs.Buffer.{numerators-again, denominators-again, numerators-cleared, denominators-cleared, kept-numerators, kept-denominators, kept-then}
+use Rattle.weights.specs.Leaves.{JoinsLeave}
 use Rattle.weights.specs.Reply.{reply}
 use Rattle.weights.specs.declared.Built.{Built}
 use Rattle.weights.specs.declared.Built.the-variants.{Rows, Refused}
-use Rattle.weights.proofs.Buffer.{numerators-again, denominators-again, numerators-cleared, denominators-cleared, kept-numerators, kept-denominators, kept-then}
 use Rattle.weights.proofs.Joins.{orders-refuse}
 
 -- ---- what a call answers and leaves, by the outcome o with n rows

@@ -17,16 +17,19 @@ use Rattle.spline.proofs.Outcome.{RefusedAs, repeat-refused}
 use Rattle.spline.proofs.Refusals.{EightOrNine, step-refuses}
 use Rattle.space.specs.Reply.{space}
 use Rattle.space.specs.Legal.{ListsLegal}
-use Rattle.space.proofs.Legal.{legal-width-low, legal-width-high, legal-degree-high, legal-conditions-high, legal-conditions-left, legal-conditions-right, legal-columns-within, legal-column-count-high, legal-conditions-before, first-column-next, first-column-mono, conditions-before-next}
+use Rattle.spline.proofs.Space.{firstColumn-mono}
+use Rattle.space.proofs.Legal.{legal-width-low, legal-width-high, legal-degree-high, legal-conditions-high, legal-conditions-left, legal-conditions-right, legal-columns-within, legal-column-count-high, legal-conditions-before, first-column-next, conditions-before-next}
 use Rattle.space.proofs.Partial.{first-column-partial}
-use Rattle.weights.specs.Held.{SideIs, JoinIs, JoinFits, JoinsLeave, Kept}
-use Rattle.weights.specs.Reply.{refusalOf}
+use Rattle.cells.specs.Held.{Kept}
+use Rattle.conditions.specs.Sides.{SideIs, JoinIs, JoinFits}
+use Rattle.conditions.specs.declared.Side.{Side}
+use Rattle.conditions.specs.declared.Join.{Join}
+use Rattle.factors.specs.Reply.{refusalOf}
+use Rattle.factors.specs.declared.Refusal.the-variants as refusals
+use Rattle.factors.proofs.Answers.{eight-named, nine-named}
+use Rattle.weights.specs.Leaves.{JoinsLeave}
 use Rattle.weights.specs.declared.Built.{Built}
 use Rattle.weights.specs.declared.Built.the-variants.{Rows, Refused}
-use Rattle.weights.specs.declared.conditions.Side.{Side}
-use Rattle.weights.specs.declared.conditions.Join.{Join}
-use Rattle.weights.specs.declared.jumps.Refusal.the-variants as refusals
-use Rattle.weights.proofs.Steps.{eight-named, nine-named}
 
 -- ---- a join of a legal space
 
@@ -66,7 +69,7 @@ module _ (b d o : List ℤ) (legal : ListsLegal b d o) (j : ℕ) (within : j < l
     arith,
     conditions-before-next (space b d o) j,
     legal-conditions-before b d o legal (suc j) (omega (arith, legal .order-count)),
-    first-column-mono (space b d o) (suc j) (length d) (omega (arith, legal .order-count)),
+    firstColumn-mono (space b d o) (suc j) (length d) (omega (arith, legal .order-count)),
   )
 
 -- ---- the refusals of the orders at a join

@@ -15,15 +15,17 @@ use Rattle.spline.specs.Conditions.{Entry}
 use Rattle.spline.specs.Step.{Span, jumps, span, factors, newRows, mixed, step}
 use Rattle.spline.proofs.Outcome.{then-answers, then-refuses}
 use Rattle.spline.proofs.Refusals.{jumps-refuse-8, span-refuses-9, newRows-refuse-8}
-use Rattle.weights.specs.Held.{Holds, Shaped, Kept, Leaves, LeavesIf}
-use Rattle.weights.specs.Reply.{refusalOf}
-use Rattle.weights.specs.declared.jumps.Refusal.{Refusal}
-use Rattle.weights.specs.declared.jumps.Refusal.the-variants as refusals
-use Rattle.weights.proofs.Counted.{Refused}
-use Rattle.weights.proofs.Factors.{refusal-some, Ended}
-use Rattle.weights.proofs.Steps.{eight-named, nine-named}
-use Rattle.weights.proofs.Tables.{renewed-without}
-use Rattle.weights.proofs.Buffer.{holds-left, numerators-again, denominators-again}
+use Rattle.cells.specs.Held.{Holds, Shaped, Kept}
+use Rattle.cells.proofs.Tables.{renewed-without}
+use Rattle.cells.proofs.Buffer.{holds-left, numerators-again, denominators-again}
+use Rattle.jumps.proofs.Counted.{Refused}
+use Rattle.factors.specs.Reply.{refusalOf}
+use Rattle.factors.specs.declared.Refusal.{Refusal}
+use Rattle.factors.specs.declared.Refusal.the-variants as refusals
+use Rattle.factors.proofs.Quotients.{refusal-some, Ended}
+use Rattle.factors.proofs.Answers.{eight-named, nine-named}
+use Rattle.rows.specs.Rows.{LeavesIf}
+use Rattle.weights.specs.Leaves.{Leaves}
 use Rattle.weights.proofs.Stepped.{renewed-fits, renewed-shaped, newRows-fit, newRows-length}
 
 -- ---- to what is left

@@ -21,9 +21,9 @@ use Rattle.spline.specs.Step.{Span, newEntry, newRow, newRows, jumps, span, fac
 use Rattle.spline.specs.Build.{orderSteps, joinSteps, weights}
 use Rattle.spline.proofs.Outcome.{answer-unique, then-inverts, Collected, collect-inverts, repeat-keeps}
 use Rattle.spline.proofs.Answers.{jumps-length, span-inverts}
-use Rattle.weights.specs.Held.{Shaped}
-use Rattle.weights.proofs.Tables.{cell-past, renewed, identity-on, identity-off, identity-low, identity-wide}
-use Rattle.weights.proofs.Mixing.{newRow-fits}
+use Rattle.cells.specs.Held.{Shaped}
+use Rattle.cells.proofs.Tables.{cell-past, renewed, identity-on, identity-off, identity-low, identity-wide}
+use Rattle.rows.proofs.Mixing.{newRow-fits}
 
 -- ---- tables whose entries all fit
 
@@ -60,9 +60,6 @@ take-fits n t p i c = go (decLt i n)
 
 pub drop-fits : (n : ℕ) (t : Table) → Fitting t → Fitting (drop n t)
 drop-fits n t p i c = ap (λ r. fits (entry r c)) (getD-drop n t i []) ∙ p (n + i) c
-
-pub without-fits : (l : ℕ) (t : Table) → Fitting t → Fitting (take l t ++ drop (suc l) t)
-without-fits l t p = append-fits (take l t) (drop (suc l) t) (take-fits l t p) (drop-fits (suc l) t p)
 
 pub renewed-fits : (f : ℕ) (t rs : Table) (i : ℕ) → Fitting t → Fitting rs → Fitting (renewed f t rs i)
 renewed-fits f t rs i p q = append-fits (take f t) (rs ++ drop i t) (take-fits f t p) (append-fits rs (drop i t) q (drop-fits i t p))

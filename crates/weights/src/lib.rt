@@ -7,10 +7,6 @@ ghost use Rattle.spline.specs.Build.{built, numeratorsAfter, denominatorsAfter}
 ghost use Rattle.space.specs.Reply.{space};
 ghost use Rattle.weights.specs.Reply.{reply};
 
-mod cells;
-mod conditions;
-mod jumps;
-mod rows;
 mod step;
 
 // What building answers: the row count n, or a refusal's number and place.
@@ -32,10 +28,10 @@ pub fn build(
     ensures numerators { λ r. ⌜ now (num .exit) ≡ numeratorsAfter (built (space (now (breaks .entry)) (now (degrees .entry)) (now (orders .entry))) (length (now (num .entry))) (length (now (den .entry)))) (now (num .entry)) ⌝ }
     ensures denominators { λ r. ⌜ now (den .exit) ≡ denominatorsAfter (built (space (now (breaks .entry)) (now (degrees .entry)) (now (orders .entry))) (length (now (num .entry))) (length (now (den .entry)))) (now (den .entry)) ⌝ }
 {
-    if num.len() < crate::cells::TABLE_CELLS {
+    if num.len() < cells::TABLE_CELLS {
         return Built::Refused(1, 0);
     }
-    if den.len() < crate::cells::TABLE_CELLS {
+    if den.len() < cells::TABLE_CELLS {
         return Built::Refused(1, 1);
     }
     let legality = space::check(breaks, degrees, orders);

@@ -12,16 +12,19 @@ ghost use Rattle.spline.specs.Table.{Table};
 ghost use Rattle.spline.specs.Step;
 ghost use Rattle.spline.specs.Build;
 ghost use Rattle.space.specs.Reply.{space};
-ghost use Rattle.weights.specs.Reply.{reply, fractions};
-ghost use Rattle.weights.specs.Held.{Holds, Shaped, Held, Leaves, JoinsLeave, Start, SideIs, JoinIs, JoinFits};
-ghost use Rattle.weights.specs.Jumps.{Spanned};
 ghost use Rattle.space.specs.Legal.{ListsLegal};
+ghost use Rattle.cells.specs.Held.{Holds, Shaped, Held};
+ghost use Rattle.conditions.specs.Sides.{SideIs, JoinIs, JoinFits};
+ghost use Rattle.jumps.specs.Reply.{fractions};
+ghost use Rattle.factors.specs.Jumps.{Spanned};
+ghost use Rattle.weights.specs.Reply.{reply};
+ghost use Rattle.weights.specs.Leaves.{Leaves, JoinsLeave, Start};
 use crate::Built;
-use crate::conditions::Join;
-use crate::conditions::Side;
-use crate::jumps::Fractions;
-use crate::jumps::JumpSpan;
-use crate::jumps::Refusal;
+use conditions::Join;
+use conditions::Side;
+use factors::Refusal;
+use jumps::Fractions;
+use jumps::JumpSpan;
 
 // The rest of a step whose jumps span the rows f to l: the factors, the new rows and one row less.
 fn mix(
@@ -37,18 +40,18 @@ fn mix(
     ensures { λ r. ⌜ ((t : Table) (j : ℕ) (qs : List ℚ) → Holds (now (num .entry)) (now (den .entry)) t → Shaped t rows columns → js ≡ fractions qs
         → Leaves (Step.mixed j t qs (record { f = f; l = l })) r (now (num .entry)) (now (den .entry)) (now (num .exit)) (now (den .exit))) ⌝ }
 {
-    let ws = crate::jumps::factors(js, f, l);
+    let ws = factors::factors(js, f, l);
     let refusal = ws.refusal;
     match refusal {
         Refusal::TooLarge => Refusal::TooLarge,
         Refusal::Shape => Refusal::Shape,
         Refusal::None => {
             let of = ws.of;
-            let done = crate::rows::mix_rows(num, den, of, f, l, rows, columns);
+            let done = rows::mix_rows(num, den, of, f, l, rows, columns);
             if !done {
                 return Refusal::TooLarge;
             }
-            crate::cells::drop_row(num, den, l, rows);
+            cells::drop_row(num, den, l, rows);
             Refusal::None
         }
     }
@@ -67,12 +70,12 @@ fn step(
     ensures { λ r. ⌜ ((s : Space) (j : ℕ) (t : Table) → JoinIs join s j → Holds (now (num .entry)) (now (den .entry)) t → Shaped t rows columns
         → Leaves (Step.step j (Conditions.conditions s j k) t) r (now (num .entry)) (now (den .entry)) (now (num .exit)) (now (den .exit))) ⌝ }
 {
-    let js = crate::jumps::jumps(num, den, rows, join, k);
+    let js = jumps::jumps(num, den, rows, join, k);
     if !js.fit {
         return Refusal::TooLarge;
     }
     let of = js.of;
-    let span = crate::jumps::span(of, rows);
+    let span = jumps::span(of, rows);
     match span {
         JumpSpan::Nothing => Refusal::Shape,
         JumpSpan::Rows(f, l) => mix(num, den, of, f, l, rows, columns),
@@ -185,12 +188,12 @@ pub fn build_legal(
     ensures { λ r. ⌜ now (den .exit) ≡ Build.denominatorsAfter (Build.weights (space (now (breaks .entry)) (now (degrees .entry)) (now (orders .entry)))) (now (den .entry)) ⌝ }
 {
     let columns = space::first_column(degrees, degrees.len());
-    crate::cells::identity(num, den, columns);
+    cells::identity(num, den, columns);
     let built = join_steps(breaks, degrees, orders, num, den, columns);
     match built {
         Built::Rows(n) => Built::Rows(n),
         Built::Refused(number, place) => {
-            crate::cells::clear(num, den, 0, crate::cells::TABLE_CELLS);
+            cells::clear(num, den, 0, cells::TABLE_CELLS);
             Built::Refused(number, place)
         }
     }

@@ -15,13 +15,12 @@ use Rattle.space.specs.Reply.{space, legality}
 use Rattle.space.specs.declared.Legality.the-variants.{Legal}
 use Rattle.space.proofs.Reply.{refused-refuses}
 use Rattle.space.proofs.Legal.{legal-checked}
-use Rattle.weights.specs.Held.{Holds}
+use Rattle.cells.specs.Held.{Holds}
 use Rattle.weights.specs.Reply as building
 use Rattle.weights.proofs.Building.{built-weights}
-use Rattle.curve.specs.Ordinates.{Weighs, Coefficients}
-use Rattle.curve.proofs.Position.{values-orders}
-use Rattle.curve.proofs.Refused.{curve-numbers}
-use Rattle.curve.proofs.Call.{ends-refused, ends-unchanged, ends-written, first-short, second-short, third-short, call-refused, call-stopped, call-answers, HasRows, refused-inverts, rows-inverts, checks-answer, lists-legal, coefficients-good, positions-good, weights-rows, weights-held, weights-good}
+use Rattle.ordinates.specs.Ordinates.{Weighs, Coefficients}
+use Rattle.limits.proofs.Refused.{curve-numbers}
+use Rattle.curve.proofs.Call.{ends-refused, ends-unchanged, ends-written, first-short, second-short, third-short, call-refused, call-stopped, call-answers, HasRows, refused-inverts, rows-inverts, checks-answer, lists-legal, coefficients-good, positions-good, weights-rows, weights-held, weights-good, values-orders}
 use Rattle.curve.proofs.curve.Statement.{statement}
 use Rattle.curve.proofs.curve.Tie as tie
 

@@ -1,10 +1,11 @@
--- `main` meets its contract: what is written is a part of the buffer.
+-- `main` meets its contract: the printout is no longer than the buffer, so what is written is a part of it.
 use borrow.Author.Needs.{needs}
 use native.Mathlib.Omega.{arith}
-use mathlib.Core.Path.{sym}
-use Prim.Native.Nat.{_≤_}
-use lib.ListN.{length}
+use mathlib.Core.Path.{_≡_, sym}
+use Prim.Native.Nat.{ℕ, _≤_}
+use lib.ListN.{length, length-replicate}
 use lib.Seq.{length-take-le}
+use Rattle.printout.specs.Printed.{printoutLimit}
 use Rattle.sheet.proofs.main.Statement.{statement}
 use Rattle.sheet.proofs.main.Tie as tie
 
@@ -20,36 +21,39 @@ array-share-prefix-input c = search needs
 slice-aggregate-sheet : tie.Need-slice-aggregate-sheet
 slice-aggregate-sheet c = search needs
 
+-- by the law, since the zeros are too many to be counted one by one
 slice-aggregate-sheet-2 : tie.Need-slice-aggregate-sheet-2
-slice-aggregate-sheet-2 c = search needs
+slice-aggregate-sheet-2 c = sym (length-replicate {0} {A = ℕ} _ 0)
 
 sheet-requires : tie.Need-sheet-requires
-sheet-requires c κs = search needs
+sheet-requires c κs = tt
 
--- a printout that is shorter than the buffer is a part of it
-fits : (c : tie.Then1) → c .before .before .sheet .result ≤ length (c .before .before .sheet .last .1 .0)
-fits c = omega (arith, c .if1 .taken, c .before .out2 .given)
+within : {count size : ℕ} → count ≤ printoutLimit → size ≡ printoutLimit → count ≤ size
+within h e = omega arith
+
+fits : (c : tie.After-out2) → c .before .sheet .result ≤ length (c .before .sheet .last .1 .0)
+fits c = within (c .before .sheet .ensures .1) (c .out2 .given)
 
 array-share-prefix-out : tie.Need-array-share-prefix-out
 array-share-prefix-out c = fits c
 
 slice-aggregate-write-all : tie.Need-slice-aggregate-write-all
-slice-aggregate-write-all c = sym (length-take-le (c .before .before .before .sheet .result) _ (fits (c .before)))
+slice-aggregate-write-all c = sym (length-take-le (c .before .before .sheet .result) _ (fits (c .before)))
 
 write-all-requires : tie.Need-write-all-requires
-write-all-requires c κs = search needs
+write-all-requires c κs = tt
+
+slice-aggregate-fail : tie.Need-slice-aggregate-fail
+slice-aggregate-fail c = search needs
+
+fail-requires : tie.Need-fail-requires
+fail-requires c κs = tt
 
 returns : tie.Need-returns
-returns c = search needs
-
-slice-aggregate-write-all-2 : tie.Need-slice-aggregate-write-all-2
-slice-aggregate-write-all-2 c = search needs
-
-write-all-requires-2 : tie.Need-write-all-requires-2
-write-all-requires-2 c κs = search needs
+returns c = tt
 
 returns-2 : tie.Need-returns-2
-returns-2 c = search needs
+returns-2 c = tt
 
 pub main-spec : {M : Type 1} → statement M
 main-spec =
@@ -64,7 +68,7 @@ main-spec =
     array-share-prefix-out
     slice-aggregate-write-all
     write-all-requires
+    slice-aggregate-fail
+    fail-requires
     returns
-    slice-aggregate-write-all-2
-    write-all-requires-2
     returns-2)

@@ -6,7 +6,7 @@ use mathlib.Core.Path.{sym}
 use Prim.Native.Nat.{ℕ, _≤_}
 use lib.ListN.{length}
 use lib.Seq.{length-take-le}
-use Rattle.sheet_text.specs.Reading.{Lists}
+use Rattle.sheet_lists.specs.Reading.{Lists}
 use Rattle.sheet_text.specs.Sheet.{called}
 use Rattle.sheet_text.proofs.Whole.{refused-shows, answered-shows, count-positions}
 use Rattle.sheet_text.proofs.run.Statement.{statement}
@@ -83,7 +83,8 @@ unfolding called
 returns c =
     let k = c .before .before .before .before .before .before .before .before .before .before in
     let x = c .before .before .before .before .before .answer .given in
-    refused-shows (lists k) (k .curve .result) (k .curve .ensures .0) _ _ (x .1) (c .before .before .refusal .ensures .0) (c .before .before .refusal .ensures .1)
+    let p = c .before .before .refusal .ensures in
+    (refused-shows (lists k) (k .curve .result) (k .curve .ensures .0) _ _ (x .1) (p .0) (p .1 .0), p .1 .1)
 
 same-length-2 : tie.Need-same-length-2
 same-length-2 c = search needs
@@ -93,8 +94,11 @@ unfolding called
 returns-2 c =
     let a = c .before .before .before .before .before .before .before .before in
     let k = returned a in
-    answered-shows (lists k) (k .curve .result) (k .curve .ensures .0) (count a) (a .answer2 .given .1)
-    _ _ _ (search needs) (search needs) (few a) (k .curve .ensures .1 .0) (k .curve .ensures .1 .1 .0) (k .curve .ensures .1 .1 .1) (c .before .before .answer3 .ensures)
+    let p = c .before .before .answer3 .ensures in (
+      answered-shows (lists k) (k .curve .result) (k .curve .ensures .0) (count a) (a .answer2 .given .1)
+          _ _ _ (search needs) (search needs) (few a) (k .curve .ensures .1 .0) (k .curve .ensures .1 .1 .0) (k .curve .ensures .1 .1 .1) (p .0),
+      p .1,
+    )
 
 pub run-spec : {M : Type 1} → statement M
 run-spec =

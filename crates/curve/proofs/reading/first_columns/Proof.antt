@@ -8,7 +8,7 @@ use Rattle.exact.specs.Tabulate.{tab}
 use Rattle.exact.proofs.Tabulate.{tab-none, tab-more}
 use Rattle.spline.specs.Space.{firstColumn}
 use Rattle.space.specs.Reply.{space}
-use Rattle.curve.proofs.Position.{columns-filled}
+use Rattle.triangle.proofs.Position.{columns-filled}
 use Rattle.curve.proofs.reading.first_columns.Statement.{statement}
 use Rattle.curve.proofs.reading.first_columns.Tie as tie
 

@@ -12,7 +12,7 @@ use Rattle.spline.specs.Reading.{blended, segmentAt}
 use Rattle.space.specs.Reply.{space}
 use Rattle.space.proofs.Legal.{legal-column-count-high}
 use Rattle.space.proofs.Partial.{column-count-partial}
-use Rattle.curve.proofs.Columns.{values-padded}
+use Rattle.ordinates.proofs.Columns.{values-padded}
 use Rattle.curve.proofs.reading.write_values.Statement.{statement}
 use Rattle.curve.proofs.reading.write_values.Tie as tie
 

@@ -9,9 +9,9 @@ use Rattle.spline.specs.Build.{weights}
 use Rattle.space.specs.Reply.{space}
 use Rattle.space.proofs.Partial.{column-count-partial}
 use Rattle.space.proofs.Legal.{legal-column-count-high}
-use Rattle.weights.specs.Held.{Start, JoinsLeave}
+use Rattle.cells.proofs.Buffer.{holds-left}
+use Rattle.weights.specs.Leaves.{Start, JoinsLeave}
 use Rattle.weights.specs.declared.Built.{Built}
-use Rattle.weights.proofs.Buffer.{holds-left}
 use Rattle.weights.proofs.Stepped.{identity-fits}
 use Rattle.weights.proofs.Building.{ends-rows, ends-cleared}
 use Rattle.weights.proofs.step.build_legal.Statement.{statement}

@@ -5,7 +5,7 @@ use mathlib.Core.List.{[]}
 use native.Mathlib.Numerals.{add-one}
 use native.Mathlib.Omega.{arith}
 use Rattle.space.specs.Reply.{space}
-use Rattle.weights.specs.Held.{SideIs}
+use Rattle.conditions.specs.Sides.{SideIs}
 use Rattle.weights.proofs.step.join_at.Statement.{statement}
 use Rattle.weights.proofs.step.join_at.Tie as tie
 

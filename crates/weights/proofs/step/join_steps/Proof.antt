@@ -13,15 +13,16 @@ use Rattle.spline.specs.Outcome.{answer, repeat}
 use Rattle.spline.specs.Space.{Space, segments, columnCount, conditionCount, conditionsBefore, rowCount}
 use Rattle.spline.specs.Table.{Table, identity, numerators, denominators}
 use Rattle.spline.specs.Build.{orderSteps, joinSteps, weights}
-use Rattle.spline.proofs.Outcome.{repeat-more, repeat-stops}
+use Rattle.spline.proofs.Outcome.{repeat-more, repeat-stops, capped-small}
 use Rattle.space.specs.Reply.{space}
-use Rattle.spline.proofs.Outcome.{capped-small}
 use Rattle.space.proofs.Legal.{conditions-before-zero, conditions-before-next, legal-row-count-sum}
-use Rattle.weights.specs.Held.{Holds, JoinIs, JoinFits, Kept, Leaves, JoinsLeave, Start}
+use Rattle.cells.specs.Held.{Holds, Kept}
+use Rattle.cells.proofs.Buffer.{holds-left, kept-then, kept-numerators, kept-denominators, numerators-again, denominators-again}
+use Rattle.conditions.specs.Sides.{JoinIs, JoinFits}
+use Rattle.factors.specs.declared.Refusal.{Refusal}
+use Rattle.factors.specs.declared.Refusal.the-variants as refusals
+use Rattle.weights.specs.Leaves.{Leaves, JoinsLeave, Start}
 use Rattle.weights.specs.declared.Built.the-variants.{Rows, Refused}
-use Rattle.weights.specs.declared.jumps.Refusal.{Refusal}
-use Rattle.weights.specs.declared.jumps.Refusal.the-variants as refusals
-use Rattle.weights.proofs.Buffer.{holds-left, kept-then, kept-numerators, kept-denominators, numerators-again, denominators-again}
 use Rattle.weights.proofs.Stepped.{Proper, orders-less, identity-shaped}
 use Rattle.weights.proofs.Leaving.{Done, Halted, leaves-none, leaves-some}
 use Rattle.weights.proofs.Joins.{join-whole, join-fits, conditions-left, orders-refuse, named-eight, named-nine, joins-answer, joins-refusal}

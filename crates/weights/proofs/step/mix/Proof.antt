@@ -8,9 +8,11 @@ use Prim.Native.Nat.{ℕ}
 use native.Mathlib.Omega.{arith}
 use Rattle.exact.specs.Rational.{ℚ}
 use Rattle.spline.specs.Step.{factors}
-use Rattle.weights.specs.Reply.{fractions}
-use Rattle.weights.specs.declared.jumps.Refusal.the-variants as refusals
-use Rattle.weights.proofs.Steps.{InArrays, factors-in-arrays, factors-ended, unit-factors}
+use Rattle.jumps.specs.Reply.{fractions}
+use Rattle.jumps.proofs.Answers.{InArrays}
+use Rattle.factors.specs.declared.Refusal.the-variants as refusals
+use Rattle.factors.proofs.Answers.{factors-in-arrays, factors-ended}
+use Rattle.rows.proofs.Mixing.{unit-factors}
 use Rattle.weights.proofs.Leaving.{mixed-large, mixed-done, mixed-ended}
 use Rattle.weights.proofs.step.mix.Statement.{statement}
 use Rattle.weights.proofs.step.mix.Tie as tie

@@ -15,11 +15,13 @@ use Rattle.spline.specs.Table.{Table, numerators, denominators}
 use Rattle.spline.specs.Step.{step}
 use Rattle.spline.specs.Build.{orderSteps}
 use Rattle.spline.proofs.Outcome.{repeat-more, repeat-stops}
-use Rattle.weights.specs.Held.{Holds, Shaped, JoinIs, Kept, Leaves}
-use Rattle.weights.specs.declared.conditions.Join.{Join}
-use Rattle.weights.specs.declared.jumps.Refusal.{Refusal}
-use Rattle.weights.specs.declared.jumps.Refusal.the-variants as refusals
-use Rattle.weights.proofs.Buffer.{holds-left, kept-then, kept-numerators, kept-denominators, numerators-again, denominators-again}
+use Rattle.cells.specs.Held.{Holds, Shaped, Kept}
+use Rattle.cells.proofs.Buffer.{holds-left, kept-then, kept-numerators, kept-denominators, numerators-again, denominators-again}
+use Rattle.conditions.specs.Sides.{JoinIs}
+use Rattle.conditions.specs.declared.Join.{Join}
+use Rattle.factors.specs.declared.Refusal.{Refusal}
+use Rattle.factors.specs.declared.Refusal.the-variants as refusals
+use Rattle.weights.specs.Leaves.{Leaves}
 use Rattle.weights.proofs.Stepped.{Proper, step-one-less}
 use Rattle.weights.proofs.Leaving.{Done, Halted, leaves-none, leaves-some, leaves-answer, leaves-refusal}
 use Rattle.weights.proofs.step.order_steps.Statement.{statement}

@@ -12,8 +12,10 @@ use Rattle.spline.specs.Conditions.{conditions}
 use Rattle.spline.specs.Table.{Table}
 use Rattle.spline.specs.Step.{jumps, span}
 use Rattle.spline.proofs.Answers.{jumps-length, jumps-fit, span-inverts}
-use Rattle.weights.specs.Held.{Holds, Shaped, JoinIs}
-use Rattle.weights.proofs.Steps.{InArrays, jumps-in-arrays, jumps-refused, span-rows, span-refused, spanned}
+use Rattle.cells.specs.Held.{Holds, Shaped}
+use Rattle.conditions.specs.Sides.{JoinIs}
+use Rattle.jumps.proofs.Answers.{InArrays, jumps-in-arrays, jumps-refused, span-rows, span-refused}
+use Rattle.factors.proofs.Answers.{spanned}
 use Rattle.weights.proofs.Leaving.{step-large, step-shapeless, step-mixed}
 use Rattle.weights.proofs.step.step.Statement.{statement}
 use Rattle.weights.proofs.step.step.Tie as tie

@@ -1,0 +1,4 @@
+-- The crate's hand-written modules.
+pub mod Part
+pub mod Tables
+pub mod Buffer

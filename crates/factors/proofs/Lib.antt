@@ -1,0 +1,3 @@
+-- The crate's hand-written modules.
+pub mod Quotients
+pub mod Answers

@@ -1,0 +1,4 @@
+-- The crate's hand-written modules.
+pub mod Counted
+pub mod Arrays
+pub mod Answers

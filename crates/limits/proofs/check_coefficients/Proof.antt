@@ -1,0 +1,69 @@
+-- `curve::limits::check_coefficients` meets its contract: the count first, then what the search found. Assumes nothing.
+use borrow.Author.Needs.{needs}
+use mathlib.Core.List.{[]}
+use mathlib.Core.Option.{some, none}
+use mathlib.Core.Path.{_≡_, sym, ap, _∙_}
+use lib.ListN.{length}
+use Rattle.spline.specs.Outcome.{refusal}
+use Rattle.spline.specs.Search.{first}
+use Rattle.spline.specs.Space.{Space, rowCount}
+use Rattle.spline.specs.CurveCall.{badCoefficient}
+use Rattle.space.specs.Reply.{space}
+use Rattle.space.proofs.Reply.{found-some-inverts, found-none-inverts, answer-legal, refusal-refused}
+use Rattle.limits.proofs.Refused.{coefficients-count, coefficients-refused, coefficients-pass}
+use Rattle.limits.proofs.check_coefficients.Statement.{statement}
+use Rattle.limits.proofs.check_coefficients.Tie as tie
+
+abbrev joined : tie.Start → Space
+joined s = space [] (s .args .degrees .now) (s .args .orders .now)
+
+-- as many coefficients as rows
+counted : (c : tie.Else1) → length (c .before .before .args .coefs .now) ≡ rowCount (joined (c .before .before))
+counted c = c .if1 .left ∙ c .before .row-count .ensures
+
+found-bad : (c : tie.After-bad) → first (length (c .before .before .before .before .before .args .coefs .now)) (badCoefficient (c .before .before .before .before .before .args .coefs .now)) ≡ some (c .bad .given .0 .0)
+found-bad c = found-some-inverts _ (sym (c .before .before .first-bad-coefficient .ensures) ∙ c .bad .given .1)
+
+none-bad : (c : tie.After-enum-told) → first (length (c .before .before .before .before .before .args .coefs .now)) (badCoefficient (c .before .before .before .before .before .args .coefs .now)) ≡ none
+none-bad c = found-none-inverts _ (sym (c .before .before .first-bad-coefficient .ensures) ∙ c .enum-told .given .1)
+
+row-count-requires : tie.Need-row-count-requires
+row-count-requires c κs = search needs
+
+returns : tie.Need-returns
+returns c = sym (refusal-refused _ (coefficients-count (joined (c .before .before)) (c .before .before .args .coefs .now) (λ e. c .if1 .taken (e ∙ sym (c .before .row-count .ensures)))))
+
+first-bad-coefficient-requires : tie.Need-first-bad-coefficient-requires
+first-bad-coefficient-requires c κs = search needs
+
+enum-known-bad : tie.Need-enum-known-bad
+enum-known-bad c = search needs
+
+place-requires : tie.Need-place-requires
+place-requires c κs = search needs
+
+enum-told : tie.Need-enum-told
+enum-told c = search needs
+
+returns-2 : tie.Need-returns-2
+returns-2 c =
+    let s = c .before .before .before .before .before .before .before in
+    sym (refusal-refused _ (coefficients-refused (joined s) (s .args .coefs .now) (counted (c .before .before .before .before .before)) (found-bad (c .before .before)) ∙ ap (refusal 6) (sym (c .place .ensures))))
+
+returns-3 : tie.Need-returns-3
+returns-3 c =
+    let s = c .before .before .before .before .before in
+    sym (answer-legal _ (coefficients-pass (joined s) (s .args .coefs .now) (counted (c .before .before .before)) (none-bad c)))
+
+pub check-coefficients-spec : {M : Type 1} → statement M
+check-coefficients-spec =
+    tie.close
+    (tie.spec
+    row-count-requires
+    returns
+    first-bad-coefficient-requires
+    enum-known-bad
+    place-requires
+    enum-told
+    returns-2
+    returns-3)

@@ -1,0 +1,152 @@
+// The refusals 2 to 7 of a curve call, in the order of their numbers.
+ghost use mathlib.Core.Path.{_≡_};
+ghost use mathlib.Core.List.{[]};
+ghost use Prim.Native.Nat.{_+_, _<_};
+ghost use lib.IntN.{pos};
+ghost use lib.ListN.{length, getD};
+ghost use Rattle.space.specs.Reply.{space, found, legality};
+ghost use Rattle.space.specs.Legal.{BreaksLegal, JoinsLegal, ListsLegal};
+ghost use Rattle.spline.specs.Outcome.{answer, capped};
+ghost use Rattle.spline.specs.Search;
+ghost use Rattle.spline.specs.Reading.{fine};
+ghost use Rattle.spline.specs.CurveCall.{badCoefficient, legalEntries, curveChecked};
+ghost use Rattle.limits.specs.Limits.{coefficientsChecked, outside, positionsChecked};
+use space::Found;
+use space::Legality;
+
+const MAX_POSITIONS: usize = 4096;
+
+const COEFFICIENT_LIMIT: i32 = 1000000;
+
+const NO_PLACE: usize = 255;
+
+// A place is one byte; the largest also stands for anything larger.
+fn place(i: usize) -> u8
+    ensures { λ r. ⌜ r ≡ capped i ⌝ }
+{
+    if i < NO_PLACE {
+        return i as u8;
+    }
+    255
+}
+
+fn coefficient_is_bad(coefs: &[i32], i: usize) -> bool
+    requires { ⌜ i < length (now coefs) ⌝ }
+    ensures { λ r. ⌜ r ≡ badCoefficient (now (coefs .entry)) i ⌝ }
+{
+    let a = coefs[i];
+    if a < 0 - COEFFICIENT_LIMIT {
+        return true;
+    }
+    a > COEFFICIENT_LIMIT
+}
+
+fn first_bad_coefficient(coefs: &[i32]) -> Found
+    ensures { λ r. ⌜ r ≡ found (Search.first (length (now (coefs .entry))) (badCoefficient (now (coefs .entry)))) ⌝ }
+{
+    let n = coefs.len();
+    let mut i = 0;
+    let found = loop {
+        if i == n {
+            break Found::Nothing;
+        }
+        if coefficient_is_bad(coefs, i) {
+            break Found::At(i);
+        }
+        i += 1;
+    };
+    found
+}
+
+// The first position below the one bound or above the other.
+fn first_bad_position(positions: &[i32], low: i32, high: i32) -> Found
+    ensures { λ r. ⌜ r ≡ found (Search.first (length (now (positions .entry))) (outside (now (positions .entry)) low high)) ⌝ }
+{
+    let n = positions.len();
+    let mut i = 0;
+    let found = loop {
+        if i == n {
+            break Found::Nothing;
+        }
+        let x = positions[i];
+        if x < low {
+            break Found::At(i);
+        }
+        if x > high {
+            break Found::At(i);
+        }
+        i += 1;
+    };
+    found
+}
+
+// Number 6 of a legal space: the count first.
+fn check_coefficients(degrees: &[i32], orders: &[i32], coefs: &[i32]) -> Legality
+    requires { ⌜ JoinsLegal (now degrees) (now orders) ⌝ }
+    ensures { λ r. ⌜ r ≡ legality (coefficientsChecked (space [] (now (degrees .entry)) (now (orders .entry))) (now (coefs .entry))) ⌝ }
+{
+    let n = space::row_count(degrees, orders);
+    if coefs.len() != n {
+        return Legality::Refused(6, 255);
+    }
+    let bad = first_bad_coefficient(coefs);
+    match bad {
+        Found::At(i) => Legality::Refused(6, place(i)),
+        Found::Nothing => Legality::Legal,
+    }
+}
+
+// Number 7 of a legal space.
+fn check_positions(breaks: &[i32], m: usize, positions: &[i32]) -> Legality
+    requires { ⌜ (length (now breaks) ≡ m + 1) × BreaksLegal (now breaks) ⌝ }
+    ensures { λ r. ⌜ r ≡ legality (positionsChecked (now (positions .entry)) (fine (getD (now (breaks .entry)) 0 (pos 0))) (fine (getD (now (breaks .entry)) m (pos 0)))) ⌝ }
+{
+    let low = 256 * breaks[0];
+    let high = 256 * breaks[m];
+    let bad = first_bad_position(positions, low, high);
+    match bad {
+        Found::At(i) => Legality::Refused(7, place(i)),
+        Found::Nothing => Legality::Legal,
+    }
+}
+
+// Numbers 6 and 7 of a legal space.
+fn check_entries(
+    breaks: &[i32],
+    degrees: &[i32],
+    orders: &[i32],
+    coefs: &[i32],
+    positions: &[i32],
+) -> Legality
+    requires { ⌜ ListsLegal (now breaks) (now degrees) (now orders) ⌝ }
+    ensures { λ r. ⌜ r ≡ legality (legalEntries (space (now (breaks .entry)) (now (degrees .entry)) (now (orders .entry))) (now (coefs .entry)) (now (positions .entry)) (answer (space (now (breaks .entry)) (now (degrees .entry)) (now (orders .entry))))) ⌝ }
+{
+    let c = check_coefficients(degrees, orders, coefs);
+    match c {
+        Legality::Refused(number, at) => Legality::Refused(number, at),
+        Legality::Legal => check_positions(breaks, degrees.len(), positions),
+    }
+}
+
+// The first of the refusals 2 to 7.
+pub fn check(
+    breaks: &[i32],
+    degrees: &[i32],
+    orders: &[i32],
+    coefs: &[i32],
+    positions: &[i32],
+) -> Legality
+    ensures { λ r. ⌜ r ≡ legality (curveChecked (space (now (breaks .entry)) (now (degrees .entry)) (now (orders .entry))) (now (coefs .entry)) (now (positions .entry))) ⌝ }
+{
+    if !space::lengths_fit(breaks, degrees, orders) {
+        return Legality::Refused(2, 0);
+    }
+    if positions.len() > MAX_POSITIONS {
+        return Legality::Refused(2, 1);
+    }
+    let lists = space::check(breaks, degrees, orders);
+    match lists {
+        Legality::Refused(number, at) => Legality::Refused(number, at),
+        Legality::Legal => check_entries(breaks, degrees, orders, coefs, positions),
+    }
+}

@@ -1,0 +1,144 @@
+-- Where a text is cut: one step of the search for a byte and of the comparison with a key, and what `cut`, `fields` and
+-- `stripped` give once the search's index or the comparison's answer is known.
+use mathlib.Core.Path.{_≡_, refl, sym, _∙_, ap, ap₂}
+use mathlib.Core.Bool.{Bool, true, false, cond}
+use mathlib.Core.List.{[], _∷_}
+use mathlib.Core.Option.{some, none}
+use Prim.Native.Nat.{ℕ, suc, _+_, _<_, _≤_}
+use native.Mathlib.Nat.{add-assoc}
+use native.Mathlib.Numerals.{add-one}
+use native.Mathlib.Omega.{arith}
+use borrow.Author.Tests.{eq-eqb, ne-eqb}
+use lib.Dec.{eqb}
+use lib.ListN.{length, getD, take, drop, drop-of-length-le}
+use lib.Seq.{slice, slice-empty, drop-cons}
+use Rattle.numerals.specs.Bytes.{Text, comma, withByte, cut, onFirst, fields, stripped, indexOf, beginsWith}
+use Rattle.numerals.proofs.Slice.{slice-step}
+
+-- ---- the index of a byte
+index-here : (b c : ℕ) (cs : Text) → c ≡ b → indexOf b (c ∷ cs) ≡ 0
+unfolding indexOf
+index-here b c cs e = rw (eq-eqb c b e)
+
+index-past : (b c : ℕ) (cs : Text) → (c ≡ b → ⊥) → indexOf b (c ∷ cs) ≡ suc (indexOf b cs)
+unfolding indexOf
+index-past b c cs h = rw (ne-eqb c b h)
+
+module _ (b : ℕ) (text : Text) (i to : ℕ) (before : i < to) (within : to ≤ length text) where
+  pub index-found : getD text i 0 ≡ b → indexOf b (slice i to text) ≡ 0
+  index-found e = ap (indexOf b) (slice-step i to text 0 before within) ∙ index-here b _ _ e
+
+  pub index-next : (getD text i 0 ≡ b → ⊥) → indexOf b (slice i to text) ≡ suc (indexOf b (slice (i + 1) to text))
+  index-next h = ap (indexOf b) (slice-step i to text 0 before within) ∙ index-past b _ _ h
+
+pub index-end : (b : ℕ) (text : Text) (to : ℕ) → indexOf b (slice to to text) ≡ 0
+unfolding indexOf
+index-end b text to = ap (indexOf b) (slice-empty to text)
+
+pub index-within : (b : ℕ) (t : Text) → indexOf b t ≤ length t
+unfolding indexOf
+index-within b [] = omega arith
+index-within b (c ∷ cs) = go (eqb c b) (index-within b cs)
+  where
+    go : (e : Bool) → indexOf b cs ≤ length cs → cond e 0 (suc (indexOf b cs)) ≤ suc (length cs)
+    go true h = omega arith
+    go false h = omega arith
+
+-- ---- cutting at the index
+pub cut-none : (b : ℕ) (t : Text) → indexOf b t ≡ length t → cut b t ≡ none
+unfolding indexOf cut
+cut-none b [] e = refl
+cut-none b (c ∷ cs) e = go (eqb c b) e (cut-none b cs)
+  where
+    go : (s : Bool) → cond s 0 (suc (indexOf b cs)) ≡ suc (length cs) → (indexOf b cs ≡ length cs → cut b cs ≡ none) →
+        cond s (some (record { before = []; after = cs })) (withByte c (cut b cs)) ≡ none
+    go true e ih = absurd (omega arith)
+    go false e ih = ap (withByte c) (ih (omega arith))
+
+pub cut-some : (b : ℕ) (t : Text) → indexOf b t < length t → cut b t ≡ some (record { before = take (indexOf b t) t; after = drop (suc (indexOf b t)) t })
+unfolding indexOf cut
+cut-some b [] h = absurd (omega arith)
+cut-some b (c ∷ cs) h = go (eqb c b) h (cut-some b cs)
+  where
+    go : (s : Bool) → cond s 0 (suc (indexOf b cs)) < suc (length cs) →
+        (indexOf b cs < length cs → cut b cs ≡ some (record { before = take (indexOf b cs) cs; after = drop (suc (indexOf b cs)) cs })) →
+        cond s (some (record { before = []; after = cs })) (withByte c (cut b cs))
+        ≡ some (record { before = take (cond s 0 (suc (indexOf b cs))) (c ∷ cs); after = drop (suc (cond s 0 (suc (indexOf b cs)))) (c ∷ cs) })
+    go true h ih = refl
+    go false h ih = ap (withByte c) (ih (omega arith))
+
+-- ---- the fields: the one before the first comma, and those after it
+pub fields-one : (t : Text) → indexOf comma t ≡ length t → fields t ≡ t ∷ []
+unfolding indexOf fields
+fields-one [] e = refl
+fields-one (c ∷ cs) e = go (eqb c comma) e (fields-one cs)
+  where
+    go : (s : Bool) → cond s 0 (suc (indexOf comma cs)) ≡ suc (length cs) → (indexOf comma cs ≡ length cs → fields cs ≡ cs ∷ []) →
+        cond s ([] ∷ fields cs) (onFirst c (fields cs)) ≡ (c ∷ cs) ∷ []
+    go true e ih = absurd (omega arith)
+    go false e ih = ap (onFirst c) (ih (omega arith))
+
+pub fields-more : (t : Text) → indexOf comma t < length t → fields t ≡ take (indexOf comma t) t ∷ fields (drop (suc (indexOf comma t)) t)
+unfolding indexOf fields
+fields-more [] h = absurd (omega arith)
+fields-more (c ∷ cs) h = go (eqb c comma) h (fields-more cs)
+  where
+    go : (s : Bool) → cond s 0 (suc (indexOf comma cs)) < suc (length cs) →
+        (indexOf comma cs < length cs → fields cs ≡ take (indexOf comma cs) cs ∷ fields (drop (suc (indexOf comma cs)) cs)) →
+        cond s ([] ∷ fields cs) (onFirst c (fields cs))
+        ≡ take (cond s 0 (suc (indexOf comma cs))) (c ∷ cs) ∷ fields (drop (suc (cond s 0 (suc (indexOf comma cs)))) (c ∷ cs))
+    go true h ih = refl
+    go false h ih = ap (onFirst c) (ih (omega arith))
+
+-- ---- a key at the beginning
+key-same : (p c : ℕ) (ps cs : Text) → c ≡ p → beginsWith (p ∷ ps) (c ∷ cs) ≡ beginsWith ps cs
+unfolding beginsWith
+key-same p c ps cs e = rw (eq-eqb c p e)
+
+key-other : (p c : ℕ) (ps cs : Text) → (c ≡ p → ⊥) → beginsWith (p ∷ ps) (c ∷ cs) ≡ false
+unfolding beginsWith
+key-other p c ps cs h = rw (ne-eqb c p h)
+
+module _ (key text : Text) (from i to : ℕ) (more : i < length key) (within : to ≤ length text) where
+  key-left : (t : Text) → beginsWith (drop i key) t ≡ beginsWith (getD key i 0 ∷ drop (suc i) key) t
+  key-left t = ap (λ (k : Text). beginsWith k t) (drop-cons key i 0 more)
+
+  key-here : from + i < to → beginsWith (drop i key) (slice (from + i) to text) ≡ beginsWith (getD key i 0 ∷ drop (suc i) key) (getD text (from + i) 0 ∷ slice (from + i + 1) to text)
+  key-here h = key-left _ ∙ ap (beginsWith _) (slice-step (from + i) to text 0 h within)
+
+  pub key-next : from + i < to → getD text (from + i) 0 ≡ getD key i 0 → beginsWith (drop i key) (slice (from + i) to text) ≡ beginsWith (drop (i + 1) key) (slice (from + (i + 1)) to text)
+  key-next h e =
+      key-here h ∙ key-same _ _ _ _ e
+      ∙ ap₂ (λ (n m : ℕ). beginsWith (drop n key) (slice m to text)) (sym (add-one i)) (add-assoc from i 1)
+
+  pub key-differs : from + i < to → (getD text (from + i) 0 ≡ getD key i 0 → ⊥) → beginsWith (drop i key) (slice (from + i) to text) ≡ false
+  key-differs h e = key-here h ∙ key-other _ _ _ _ e
+
+  pub key-longer : from + i ≡ to → beginsWith (drop i key) (slice (from + i) to text) ≡ false
+  unfolding beginsWith
+  key-longer e = key-left _ ∙ ap (beginsWith (getD key i 0 ∷ drop (suc i) key)) (ap (λ (n : ℕ). slice n to text) e ∙ slice-empty to text)
+
+pub key-end : (key : Text) (i : ℕ) (t : Text) → length key ≤ i → beginsWith (drop i key) t ≡ true
+unfolding beginsWith
+key-end key i t h = ap (λ (k : Text). beginsWith k t) (drop-of-length-le key h)
+
+pub stripped-none : (key t : Text) → beginsWith key t ≡ false → stripped key t ≡ none
+unfolding beginsWith stripped
+stripped-none [] t e = absurd (let z : _≡_ {A = ℕ} 0 1 = cc in omega arith)
+stripped-none (p ∷ ps) [] e = refl
+stripped-none (p ∷ ps) (c ∷ cs) e = go (eqb c p) e (stripped-none ps cs)
+  where
+    go : (s : Bool) → cond s (beginsWith ps cs) false ≡ false → (beginsWith ps cs ≡ false → stripped ps cs ≡ none) → cond s (stripped ps cs) none ≡ none
+    go true e ih = ih e
+    go false e ih = refl
+
+pub stripped-some : (key t : Text) → beginsWith key t ≡ true → (length key ≤ length t) × (stripped key t ≡ some (drop (length key) t))
+unfolding beginsWith stripped
+stripped-some [] t e = (omega arith, refl)
+stripped-some (p ∷ ps) [] e = absurd (let z : _≡_ {A = ℕ} 0 1 = cc in omega arith)
+stripped-some (p ∷ ps) (c ∷ cs) e = go (eqb c p) e (stripped-some ps cs)
+  where
+    go : (s : Bool) → cond s (beginsWith ps cs) false ≡ true → (beginsWith ps cs ≡ true → (length ps ≤ length cs) × (stripped ps cs ≡ some (drop (length ps) cs))) →
+        (suc (length ps) ≤ suc (length cs)) × (cond s (stripped ps cs) none ≡ some (drop (length ps) cs))
+    go true e ih = (omega (arith, ih e .0), ih e .1)
+    go false e ih = absurd (let z : _≡_ {A = ℕ} 0 1 = cc in omega arith)

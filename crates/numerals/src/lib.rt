@@ -1,0 +1,3 @@
+// Parts of a text: finding a byte, comparing with a key, and the number that a part stands for.
+pub mod fields;
+pub mod numeral;

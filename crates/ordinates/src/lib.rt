@@ -1,0 +1,129 @@
+// The Bernstein ordinates of the curve, in 256ths: for each column the sum of the rounded terms, within the limits of the
+// coefficients with weight on it.
+ghost use mathlib.Core.Path.{_≡_};
+ghost use mathlib.Core.Bool.{cond};
+ghost use Prim.Native.Nat.{_^_, _<_, _≤_};
+ghost use lib.IntN.{pos, natAbs};
+ghost use lib.ListN.{length};
+ghost use lib.Signed.{leZ, ltZ, _<ℤ_};
+ghost use Rattle.spline.specs.Space.{Space, columnCount};
+ghost use Rattle.spline.specs.Table.{Table};
+ghost use Rattle.spline.specs.Reading;
+ghost use Rattle.cells.specs.Held.{Holds};
+ghost use Rattle.ordinates.specs.Ordinates.{given, termsOf, Added, Weighs, Coefficients, padded, Bounded};
+
+// A column's terms so far: their sum, and the least and greatest coefficient with weight. `some` is false before the first.
+pub struct Terms {
+    pub some: bool,
+    pub sum: i64,
+    pub least: i64,
+    pub greatest: i64,
+}
+
+// The lesser of a and b, or b where a is not known.
+fn lesser(some: bool, a: i64, b: i64) -> i64
+    ensures { λ r. ⌜ r ≡ Reading.preferred leZ (given some a) b ⌝ }
+{
+    if some {
+        if a <= b {
+            return a;
+        }
+    }
+    b
+}
+
+// The greater of a and b, or b where a is not known.
+fn greater(some: bool, a: i64, b: i64) -> i64
+    ensures { λ r. ⌜ r ≡ Reading.preferred (λ y z. leZ z y) (given some a) b ⌝ }
+{
+    if some {
+        if b <= a {
+            return a;
+        }
+    }
+    b
+}
+
+// One more coefficient with weight num / den.
+fn with_term(before: Terms, a: i64, num: i64, den: i64) -> Terms
+    requires { ⌜ (natAbs a ≤ 1000000) × ((natAbs num < 2 ^ 31) × ((pos 0 <ℤ den) × ((natAbs num ≤ natAbs den) × (natAbs (before .sum) < 2 ^ 62)))) ⌝ }
+    ensures { λ r. ⌜ Added before a num den r ⌝ }
+{
+    let term = fraction::floor_div(256 * a * num, den);
+    let least = lesser(before.some, before.least, a);
+    let greatest = greater(before.some, before.greatest, a);
+    Terms {
+        some: true,
+        sum: before.sum + term,
+        least: least,
+        greatest: greatest,
+    }
+}
+
+fn at_most(high: i64, x: i64) -> i64
+    ensures { λ r. ⌜ r ≡ cond (ltZ high x) high x ⌝ }
+{
+    if high < x {
+        return high;
+    }
+    x
+}
+
+// The sum within 256 times the least and the greatest coefficient.
+fn limited(terms: Terms) -> i64
+    requires { ⌜ (natAbs (terms .least) ≤ 1000000) × (natAbs (terms .greatest) ≤ 1000000) ⌝ }
+    ensures { λ r. ⌜ r ≡ Reading.atMost (given (terms .some) (terms .greatest)) (Reading.atLeast (given (terms .some) (terms .least)) (terms .sum)) ⌝ }
+{
+    let sum = terms.sum;
+    if !terms.some {
+        return sum;
+    }
+    let low = 256 * terms.least;
+    let high = 256 * terms.greatest;
+    if sum < low {
+        return at_most(high, low);
+    }
+    at_most(high, sum)
+}
+
+// The terms of column c over the first n rows.
+fn column_terms(num: &[i64], den: &[i64], coefs: &[i32], n: usize, c: usize) -> Terms
+    requires { ⌜ (c < 72) × (Weighs (now num) (now den) n × Coefficients (now coefs) n) ⌝ }
+    ensures { λ r. ⌜ ((t : Table) → Holds (now (num .entry)) (now (den .entry)) t → r ≡ termsOf t (Reading.coefficient (now (coefs .entry))) c n) ⌝ }
+{
+    let mut all = Terms {
+        some: false,
+        sum: 0,
+        least: 0,
+        greatest: 0,
+    };
+    let mut i = 0;
+    while i < n {
+        let at = 72 * i + c;
+        let x = num[at];
+        if x != 0 {
+            let a = coefs[i] as i64;
+            let d = den[at];
+            all = with_term(all, a, x, d);
+        }
+        i += 1;
+    }
+    all
+}
+
+// The ordinates of the first `columns` columns, 0 past them.
+pub fn ordinates(num: &[i64], den: &[i64], coefs: &[i32], n: usize, columns: usize) -> [i64; 72]
+    requires { ⌜ (columns ≤ 72) × (Weighs (now num) (now den) n × Coefficients (now coefs) n) ⌝ }
+    ensures { λ r. ⌜ ((s : Space) (t : Table) → Holds (now (num .entry)) (now (den .entry)) t → length t ≡ n → columnCount s ≡ columns
+        → r ≡ padded (Reading.ordinates s t (Reading.coefficient (now (coefs .entry))))) × Bounded r ⌝ }
+{
+    let mut os = [0; 72];
+    let mut c = 0;
+    while c < columns {
+        let all = column_terms(num, den, coefs, n, c);
+        let o = limited(all);
+        os[c] = o;
+        c += 1;
+    }
+    os
+}

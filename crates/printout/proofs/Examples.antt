@@ -1,0 +1,49 @@
+-- Document 01's printout of case W1, a refusal and low lines, by computation on the definitions.
+use mathlib.Core.Path.{_≡_, refl}
+use mathlib.Core.List.{List, [], _∷_, _++_}
+use lib.IntN.{pos, negsuc}
+use Rattle.spline.specs.Cases.{weights1}
+use Rattle.numerals.specs.Bytes.{Text}
+use Rattle.numerals.specs.Numeral.{digitsUpTo, digits, decimal}
+use Rattle.printout.specs.Printout.{joined, countLine, weightLine, weightLines, valueLine, valueLines, lowLine, lowLines, lowPositions, refusalLine}
+
+-- The lines as document 01 prints them.
+abbrev w1 : List Text
+w1 =
+    -- n=4
+    (110 ∷ 61 ∷ 52 ∷ 10 ∷ []) ∷
+    -- w=0,0,1/1
+    (119 ∷ 61 ∷ 48 ∷ 44 ∷ 48 ∷ 44 ∷ 49 ∷ 47 ∷ 49 ∷ 10 ∷ []) ∷
+    -- w=1,1,1/1
+    (119 ∷ 61 ∷ 49 ∷ 44 ∷ 49 ∷ 44 ∷ 49 ∷ 47 ∷ 49 ∷ 10 ∷ []) ∷
+    -- w=1,2,2/3
+    (119 ∷ 61 ∷ 49 ∷ 44 ∷ 50 ∷ 44 ∷ 50 ∷ 47 ∷ 51 ∷ 10 ∷ []) ∷
+    -- w=1,3,2/3
+    (119 ∷ 61 ∷ 49 ∷ 44 ∷ 51 ∷ 44 ∷ 50 ∷ 47 ∷ 51 ∷ 10 ∷ []) ∷
+    -- w=2,2,1/3
+    (119 ∷ 61 ∷ 50 ∷ 44 ∷ 50 ∷ 44 ∷ 49 ∷ 47 ∷ 51 ∷ 10 ∷ []) ∷
+    -- w=2,3,1/3
+    (119 ∷ 61 ∷ 50 ∷ 44 ∷ 51 ∷ 44 ∷ 49 ∷ 47 ∷ 51 ∷ 10 ∷ []) ∷
+    -- w=2,4,1/1
+    (119 ∷ 61 ∷ 50 ∷ 44 ∷ 52 ∷ 44 ∷ 49 ∷ 47 ∷ 49 ∷ 10 ∷ []) ∷
+    -- w=3,5,1/1
+    (119 ∷ 61 ∷ 51 ∷ 44 ∷ 53 ∷ 44 ∷ 49 ∷ 47 ∷ 49 ∷ 10 ∷ []) ∷
+    -- v=256,17066
+    (118 ∷ 61 ∷ 50 ∷ 53 ∷ 54 ∷ 44 ∷ 49 ∷ 55 ∷ 48 ∷ 54 ∷ 54 ∷ 10 ∷ []) ∷
+    -- v=512,4266
+    (118 ∷ 61 ∷ 53 ∷ 49 ∷ 50 ∷ 44 ∷ 52 ∷ 50 ∷ 54 ∷ 54 ∷ 10 ∷ []) ∷
+    []
+
+pub w1-printed : countLine 4 ++ (weightLines weights1 ++ (valueLines (pos 256 ∷ pos 512 ∷ []) (pos 17066 ∷ pos 4266 ∷ []) ++ lowLines [])) ≡ joined w1
+unfolding joined digitsUpTo digits decimal countLine weightLine weightLines valueLine valueLines lowLine lowLines
+w1-printed = refl
+
+-- low=-5 and low=0 for the values 0 and -1, and no line for the value 1
+pub lows-printed : lowLines (lowPositions (negsuc 4 ∷ pos 0 ∷ pos 1 ∷ []) (pos 0 ∷ negsuc 0 ∷ pos 1 ∷ [])) ≡ 108 ∷ 111 ∷ 119 ∷ 61 ∷ 45 ∷ 53 ∷ 10 ∷ 108 ∷ 111 ∷ 119 ∷ 61 ∷ 48 ∷ 10 ∷ []
+unfolding joined digitsUpTo digits decimal lowLine lowLines lowPositions
+lows-printed = refl
+
+-- no=10,6
+pub refusal-printed : refusalLine 10 6 ≡ 110 ∷ 111 ∷ 61 ∷ 49 ∷ 48 ∷ 44 ∷ 54 ∷ 10 ∷ []
+unfolding digitsUpTo digits refusalLine
+refusal-printed = refl

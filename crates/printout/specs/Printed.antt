@@ -1,0 +1,57 @@
+-- The printout of an answer as its printing function is handed it: rows, the two buffers, positions and values. The buffers
+-- are taken as they are, whatever they hold: proofs/Stored shows that where they hold a table these are its weights.
+use mathlib.Core.Bool.{Bool, cond, _&&_}
+use mathlib.Core.List.{List, [], _∷_, _++_}
+use mathlib.Core.Path.{_≡_}
+use Prim.Native.Nat.{ℕ, zero, suc, _+_, _*_, _/_, _%_}
+use lib.Dec.{eqb, leb}
+use lib.IntN.{ℤ, pos, natAbs}
+use lib.ListN.{length, getD}
+use Rattle.spline.specs.Listing.{Weight}
+use Rattle.spline.specs.Table.{rowCells, tableCells}
+use Rattle.spline.specs.CurveCall.{positionLimit}
+use Rattle.numerals.specs.Bytes.{Text, newline, comma, slash}
+use Rattle.numerals.specs.Numeral.{digits, decimal}
+use Rattle.printout.specs.Printout.{weightKey, countLine, weightLines, valueLines, lowLines, LowOrder}
+use Rattle.printout.specs.Buffer.{written}
+
+-- The most bytes that a printout has, 745,943: at most 23 for the n line, 87 for each weight, and 46 and 26 for the v line and
+-- the low line of each position. A number is counted with the 20 digits and the sign that 64 bits can have.
+abbrev pub printoutLimit : ℕ
+printoutLimit = 23 + 87 * tableCells + 46 * positionLimit + 26 * positionLimit
+
+-- A weight's line in two parts: w=row,column, and numerator/denominator with the end of the line.
+abbrev pub placeText : ℕ → ℕ → Text
+placeText r c = weightKey ++ (digits r ++ (comma ∷ (digits c ++ (comma ∷ []))))
+
+abbrev pub fractionText : ℤ → ℕ → Text
+fractionText num den = decimal num ++ (slash ∷ (digits den ++ (newline ∷ [])))
+
+-- The weight in cell k, "row i, column j is cell 72·i + j", if its numerator is not zero. A denominator counts by its size.
+unfoldable pub storedWeight : ℕ → ℤ → ℤ → List Weight
+storedWeight k num den =
+    cond (eqb (natAbs num) 0) [] (record { row = k / rowCells; column = k % rowCells; numerator = num; denominator = natAbs den } ∷ [])
+
+-- The non-zero weights of the first k cells.
+unfoldable pub storedWeights : ℕ → List ℤ → List ℤ → List Weight
+storedWeights zero num den = []
+storedWeights (suc k) num den = storedWeights k num den ++ storedWeight k (getD num k (pos 0)) (getD den k (pos 0))
+
+-- An answered call: at most 72 rows, buffers that take the table, at most 4,096 positions and a value for each.
+unfoldable pub isAnswer : ℕ → List ℤ → List ℤ → List ℤ → List ℤ → Bool
+isAnswer n num den xs vs =
+    leb n rowCells && leb tableCells (length num) && leb tableCells (length den) && leb (length xs) positionLimit && leb (length xs) (length vs)
+
+-- What is printed: the lines of the answer, with the low lines in the order given; nothing where there is no answer.
+unfoldable pub printed : ℕ → List ℤ → List ℤ → List ℤ → List ℤ → List ℤ → Text
+printed n num den xs vs lows =
+    cond (isAnswer n num den xs vs)
+    (countLine n ++ (weightLines (storedWeights (rowCells * n) num den) ++ (valueLines xs vs ++ lowLines lows)))
+    []
+
+-- What printing an answer leaves. The order of the low lines is free: `lows` is one that has each of them.
+pub record Answered (n : ℕ) (num den xs vs : List ℤ) (before after : List ℕ) (count : ℕ) : Type 0 where
+  pub lows : List ℤ
+  pub order : LowOrder xs vs lows
+  pub contents : after ≡ written 0 (printed n num den xs vs lows) before
+  pub length-is : count ≡ length (printed n num den xs vs lows)

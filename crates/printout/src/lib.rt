@@ -1,0 +1,262 @@
+// Printing into a lent buffer: each function writes its text from an index on, as far as the buffer reaches, and answers
+// the index after it. The limits on the index keep every sum from overflowing; a caller's limit is below its callees'.
+ghost use mathlib.Core.Path.{_≡_};
+ghost use mathlib.Core.List.{[], _∷_};
+ghost use Prim.Native.Nat.{_+_, _*_, _^_, _<_, _≤_};
+ghost use lib.IntN.{natAbs};
+ghost use lib.ListN.{length};
+ghost use Rattle.printout.specs.Buffer.{written, Puts};
+ghost use Rattle.numerals.specs.Numeral.{digits, decimal};
+ghost use Rattle.printout.specs.Printout.{countLine, weightLines, valueLine, valueLines, lowLine, lowLines, lowPositions, refusalLine};
+ghost use Rattle.printout.specs.Printed.{placeText, fractionText, storedWeight, storedWeights, isAnswer, Answered, printoutLimit};
+
+// Cells of a row, cells of a table, and the most positions of a call.
+const ROW: usize = 72;
+
+const CELLS: usize = 5184;
+
+const POSITIONS: usize = 4096;
+
+// One byte.
+fn put(out: &mut [u8], at: usize, byte: u8) -> usize
+    requires { ⌜ at < 18446744073709551615 ⌝ }
+    ensures { λ r. ⌜ Puts 1 at (byte ∷ []) (now (out .entry)) (now (out .exit)) r ⌝ }
+{
+    if at < out.len() {
+        out[at] = byte;
+    }
+    at + 1
+}
+
+// A key.
+fn put_text(out: &mut [u8], at: usize, text: &[u8]) -> usize
+    requires { ⌜ at ≤ 2 ^ 44 ⌝ }
+    ensures { λ r. ⌜ Puts (length (now (text .entry))) at (now (text .entry)) (now (out .entry)) (now (out .exit)) r ⌝ }
+{
+    let mut next = at;
+    let mut i = 0;
+    while i < text.len() {
+        next = put(out, next, text[i]);
+        i += 1;
+    }
+    next
+}
+
+// How many decimal digits a number has.
+fn digit_count(n: u64) -> usize
+    ensures { λ r. ⌜ r ≡ length (digits n) ⌝ }
+    ensures { λ r. ⌜ r ≤ 20 ⌝ }
+{
+    let mut count = 1;
+    let mut rest = n;
+    while rest >= 10 {
+        count += 1;
+        rest = rest / 10;
+    }
+    count
+}
+
+// The digits of a number, from the last to the first.
+fn put_digits(out: &mut [u8], at: usize, n: u64) -> usize
+    requires { ⌜ at ≤ 2 ^ 44 ⌝ }
+    ensures { λ r. ⌜ Puts 20 at (digits n) (now (out .entry)) (now (out .exit)) r ⌝ }
+{
+    let count = digit_count(n);
+    let mut rest = n;
+    let mut i = count;
+    while i > 0 {
+        i -= 1;
+        put(out, at + i, 48 + (rest % 10) as u8);
+        rest = rest / 10;
+    }
+    at + count
+}
+
+// A signed number.
+fn put_decimal(out: &mut [u8], at: usize, z: i64) -> usize
+    requires { ⌜ at ≤ 2 ^ 43 ⌝ }
+    ensures { λ r. ⌜ Puts 21 at (decimal z) (now (out .entry)) (now (out .exit)) r ⌝ }
+{
+    let size = fraction::magnitude(z);
+    if z < 0 {
+        let next = put(out, at, b'-');
+        return put_digits(out, next, size);
+    }
+    put_digits(out, at, size)
+}
+
+// n=rows
+fn put_count(out: &mut [u8], at: usize, n: usize) -> usize
+    requires { ⌜ at ≤ 2 ^ 42 ⌝ }
+    ensures { λ r. ⌜ Puts 23 at (countLine n) (now (out .entry)) (now (out .exit)) r ⌝ }
+{
+    let a = put_text(out, at, b"n=");
+    let b = put_digits(out, a, n as u64);
+    put(out, b, 10)
+}
+
+// w=row,column,
+fn put_place(out: &mut [u8], at: usize, i: usize, c: usize) -> usize
+    requires { ⌜ at ≤ 2 ^ 43 ⌝ }
+    ensures { λ r. ⌜ Puts 44 at (placeText i c) (now (out .entry)) (now (out .exit)) r ⌝ }
+{
+    let a = put_text(out, at, b"w=");
+    let b = put_digits(out, a, i as u64);
+    let d = put(out, b, b',');
+    let e = put_digits(out, d, c as u64);
+    put(out, e, b',')
+}
+
+// numerator/denominator
+fn put_fraction(out: &mut [u8], at: usize, num: i64, den: i64) -> usize
+    requires { ⌜ at ≤ 2 ^ 43 ⌝ }
+    ensures { λ r. ⌜ Puts 43 at (fractionText num (natAbs den)) (now (out .entry)) (now (out .exit)) r ⌝ }
+{
+    let size = fraction::magnitude(den);
+    let a = put_decimal(out, at, num);
+    let b = put(out, a, b'/');
+    let c = put_digits(out, b, size);
+    put(out, c, 10)
+}
+
+// The line of the weight in cell k, unless it is zero.
+fn put_cell(out: &mut [u8], at: usize, k: usize, num: i64, den: i64) -> usize
+    requires { ⌜ at ≤ 2 ^ 42 ⌝ }
+    ensures { λ r. ⌜ Puts 87 at (weightLines (storedWeight k num den)) (now (out .entry)) (now (out .exit)) r ⌝ }
+{
+    if num == 0 {
+        return at;
+    }
+    let a = put_place(out, at, k / ROW, k % ROW);
+    put_fraction(out, a, num, den)
+}
+
+// The lines of the non-zero weights of the first n rows.
+fn put_weights(out: &mut [u8], at: usize, n: usize, num: &[i64], den: &[i64]) -> usize
+    requires { ⌜ (at ≤ 2 ^ 41) × (n ≤ 72) × (5184 ≤ length (now num)) × (5184 ≤ length (now den)) ⌝ }
+    ensures { λ r. ⌜ Puts (87 * (72 * n)) at (weightLines (storedWeights (72 * n) (now (num .entry)) (now (den .entry)))) (now (out .entry)) (now (out .exit)) r ⌝ }
+{
+    let cells = ROW * n;
+    let mut next = at;
+    let mut k = 0;
+    while k < cells {
+        next = put_cell(out, next, k, num[k], den[k]);
+        k += 1;
+    }
+    next
+}
+
+// v=position,value
+fn put_value(out: &mut [u8], at: usize, x: i32, v: i32) -> usize
+    requires { ⌜ at ≤ 2 ^ 42 ⌝ }
+    ensures { λ r. ⌜ Puts 46 at (valueLine x v) (now (out .entry)) (now (out .exit)) r ⌝ }
+{
+    let a = put_text(out, at, b"v=");
+    let b = put_decimal(out, a, x as i64);
+    let c = put(out, b, b',');
+    let d = put_decimal(out, c, v as i64);
+    put(out, d, 10)
+}
+
+// A line for each position with its value.
+fn put_values(out: &mut [u8], at: usize, positions: &[i32], values: &[i32]) -> usize
+    requires { ⌜ (at ≤ 2 ^ 41) × (length (now positions) ≤ 4096) × (length (now positions) ≤ length (now values)) ⌝ }
+    ensures { λ r. ⌜ Puts (46 * length (now (positions .entry))) at (valueLines (now (positions .entry)) (now (values .entry))) (now (out .entry)) (now (out .exit)) r ⌝ }
+{
+    let mut next = at;
+    let mut k = 0;
+    while k < positions.len() {
+        next = put_value(out, next, positions[k], values[k]);
+        k += 1;
+    }
+    next
+}
+
+// low=position
+fn put_low_line(out: &mut [u8], at: usize, x: i32) -> usize
+    requires { ⌜ at ≤ 2 ^ 42 ⌝ }
+    ensures { λ r. ⌜ Puts 26 at (lowLine x) (now (out .entry)) (now (out .exit)) r ⌝ }
+{
+    let a = put_text(out, at, b"low=");
+    let b = put_decimal(out, a, x as i64);
+    put(out, b, 10)
+}
+
+// The low line of position x, if its value is zero or less.
+fn put_low(out: &mut [u8], at: usize, x: i32, v: i32) -> usize
+    requires { ⌜ at ≤ 2 ^ 42 ⌝ }
+    ensures { λ r. ⌜ Puts 26 at (lowLines (lowPositions (x ∷ []) (v ∷ []))) (now (out .entry)) (now (out .exit)) r ⌝ }
+{
+    if v <= 0 {
+        return put_low_line(out, at, x);
+    }
+    at
+}
+
+// A low line for each entry whose value is zero or less, in list order.
+fn put_lows(out: &mut [u8], at: usize, positions: &[i32], values: &[i32]) -> usize
+    requires { ⌜ (at ≤ 2 ^ 41) × (length (now positions) ≤ 4096) × (length (now positions) ≤ length (now values)) ⌝ }
+    ensures { λ r. ⌜ Puts (26 * length (now (positions .entry))) at (lowLines (lowPositions (now (positions .entry)) (now (values .entry)))) (now (out .entry)) (now (out .exit)) r ⌝ }
+{
+    let mut next = at;
+    let mut k = 0;
+    while k < positions.len() {
+        next = put_low(out, next, positions[k], values[k]);
+        k += 1;
+    }
+    next
+}
+
+// The arguments are those of an answered call.
+fn is_answer(n: usize, num: &[i64], den: &[i64], positions: &[i32], values: &[i32]) -> bool
+    ensures { λ r. ⌜ r ≡ isAnswer n (now (num .entry)) (now (den .entry)) (now (positions .entry)) (now (values .entry)) ⌝ }
+{
+    if n > ROW {
+        return false;
+    }
+    if num.len() < CELLS {
+        return false;
+    }
+    if den.len() < CELLS {
+        return false;
+    }
+    if positions.len() > POSITIONS {
+        return false;
+    }
+    positions.len() <= values.len()
+}
+
+// The printout of an answer: the first n rows of the two buffers, the values at the positions, and the low lines. Where the
+// arguments are not those of an answered call nothing is printed.
+pub fn answer(
+    n: usize,
+    num: &[i64],
+    den: &[i64],
+    positions: &[i32],
+    values: &[i32],
+    out: &mut [u8],
+) -> usize
+    ensures { λ r. ⌜ Answered n (now (num .entry)) (now (den .entry)) (now (positions .entry)) (now (values .entry)) (now (out .entry)) (now (out .exit)) r ⌝ }
+    ensures { λ r. ⌜ r ≤ printoutLimit ⌝ }
+{
+    if !is_answer(n, num, den, positions, values) {
+        return 0;
+    }
+    let a = put_count(out, 0, n);
+    let b = put_weights(out, a, n, num, den);
+    let c = put_values(out, b, positions, values);
+    put_lows(out, c, positions, values)
+}
+
+// The printout of a refusal: no=number,place
+pub fn refusal(number: u8, place: u8, out: &mut [u8]) -> usize
+    ensures { λ r. ⌜ r ≡ length (refusalLine number place) ⌝ }
+    ensures { λ r. ⌜ now (out .exit) ≡ written 0 (refusalLine number place) (now (out .entry)) ⌝ }
+    ensures { λ r. ⌜ r ≤ printoutLimit ⌝ }
+{
+    let a = put_text(out, 0, b"no=");
+    let b = put_digits(out, a, number as u64);
+    let c = put(out, b, b',');
+    let d = put_digits(out, c, place as u64);
+    put(out, d, 10)
+}

@@ -1,0 +1,90 @@
+-- The first product is counted, then the second, then their sum. Assumes nothing.
+use borrow.Author.Needs.{needs}
+use mathlib.Core.Path.{_≡_, sym, _∙_, ap}
+use Prim.Native.Nat.{ℕ}
+use lib.IntN.{pos}
+use Rattle.exact.specs.Rational.{ℚ, int, _+ᵠ_, _-ᵠ_, _*ᵠ_}
+use Rattle.fraction.specs.Machine.{value}
+use Rattle.spline.specs.Outcome.{Outcome, _then_}
+use Rattle.spline.specs.Step.{count, newEntry}
+use Rattle.jumps.specs.Reply.{counted}
+use Rattle.jumps.proofs.Counted.{machine-counted, count-sized, fits-then, large-then}
+use Rattle.rows.proofs.new_entry.Statement.{statement}
+use Rattle.rows.proofs.new_entry.Tie as tie
+
+abbrev first : tie.After-product → ℚ
+first c = value (c .before .args .w) *ᵠ value (c .before .args .x)
+
+first-is : (c : tie.After-product) (j : ℕ) → c .product .result ≡ counted (count j (first c))
+first-is c j = c .product .ensures ∙ machine-counted j (first c)
+
+-- what is left to do after the first product
+abbrev rest : tie.After-product → ℕ → ℚ → ℚ → Outcome ℚ
+rest c j v p = count j ((int (pos 1) -ᵠ v) *ᵠ value (c .before .args .y)) then λ q. count j (p +ᵠ q)
+
+abbrev start : tie.After-product2 → tie.After-product
+start c = c .before .before .before .before
+
+abbrev second : tie.After-product2 → ℚ
+second c = value (start c .before .args .u) *ᵠ value (start c .before .args .y)
+
+second-is : (c : tie.After-product2) (j : ℕ) → c .product2 .result ≡ counted (count j (second c))
+second-is c j = c .product2 .ensures ∙ machine-counted j (second c)
+
+-- the second product by the complement
+second-by : (c : tie.After-product2) (j : ℕ) (v : ℚ) → value (start c .before .args .u) ≡ int (pos 1) -ᵠ v → c .product2 .result ≡ counted (count j ((int (pos 1) -ᵠ v) *ᵠ value (start c .before .args .y)))
+second-by c j v e = second-is c j ∙ ap (λ u. counted (count j (u *ᵠ value (start c .before .args .y)))) e
+
+-- the first product fits: the rest goes on with it
+first-fits : (c : tie.After-first) (j : ℕ) (v : ℚ) → counted (newEntry j (value (c .before .before .before .args .w)) v (value (c .before .before .before .args .x)) (value (c .before .before .before .args .y))) ≡ counted (rest (c .before .before) j v (value (c .first .given .0 .0)))
+unfolding newEntry
+first-fits c j v = let p = c .before .before in fits-then (count j (first p)) (rest p j v) (c .first .given .0 .0) (sym (first-is p j) ∙ c .first .given .1)
+
+product-requires : tie.Need-product-requires
+product-requires c κs = search needs
+
+enum-told : tie.Need-enum-told
+enum-told c = search needs
+
+enum-known-first : tie.Need-enum-known-first
+enum-known-first c = search needs
+
+product-requires-2 : tie.Need-product-requires-2
+product-requires-2 c κs = search needs
+
+enum-told-2 : tie.Need-enum-told-2
+enum-told-2 c = search needs
+
+enum-known-second : tie.Need-enum-known-second
+enum-known-second c = search needs
+
+sum-requires : tie.Need-sum-requires
+sum-requires c κs =
+    let s = c .before .before .before in
+    let k = c .before .second .given in
+    let f = s .before .before .first .given in
+    (count-sized 0 (first (start s)) (f .0 .0) (sym (first-is (start s) 0) ∙ f .1) .1, count-sized 0 (second s) (k .0 .0) (sym (second-is s 0) ∙ k .1) .1)
+
+returns : tie.Need-returns
+unfolding newEntry
+returns c j v e = let p = c .before .before in sym (large-then (count j (first p)) (rest p j v) (sym (first-is p j) ∙ c .enum-told .given .1))
+
+returns-2 : tie.Need-returns-2
+returns-2 c j v e =
+    let s = c .before .before in
+    let f = s .before .before in
+    sym (first-fits f j v
+    ∙ large-then (count j ((int (pos 1) -ᵠ v) *ᵠ value (start s .before .args .y))) (λ q. count j (value (f .first .given .0 .0) +ᵠ q)) (sym (second-by s j v e) ∙ c .enum-told2 .given .1))
+
+returns-3 : tie.Need-returns-3
+returns-3 c j v e =
+    let s = c .before .before .before .before in
+    let f = s .before .before in
+    let k = c .before .before .second .given in
+    c .sum .ensures
+    ∙ machine-counted j (value (f .first .given .0 .0) +ᵠ value (k .0 .0))
+    ∙ sym (first-fits f j v
+    ∙ fits-then (count j ((int (pos 1) -ᵠ v) *ᵠ value (start s .before .args .y))) (λ q. count j (value (f .first .given .0 .0) +ᵠ q)) (k .0 .0) (sym (second-by s j v e) ∙ k .1))
+
+pub new-entry-spec : {M : Type 1} → statement M
+new-entry-spec = tie.close (tie.spec product-requires enum-told enum-known-first product-requires-2 enum-told-2 enum-known-second sum-requires returns returns-2 returns-3)

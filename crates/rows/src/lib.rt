@@ -1,0 +1,113 @@
+// The new rows of a step, made in place: each needs its own old row and the next.
+ghost use mathlib.Core.Path.{_≡_};
+ghost use mathlib.Core.List.{List, _++_};
+ghost use Prim.Native.Nat.{ℕ, suc, _+_, _<_, _≤_};
+ghost use lib.IntN.{pos};
+ghost use lib.ListN.{length, set, take, drop};
+ghost use Rattle.exact.specs.Rational.{ℚ, int, _-ᵠ_};
+ghost use Rattle.fraction.specs.Machine.{Sized, value};
+ghost use Rattle.spline.specs.Outcome.{with-answer};
+ghost use Rattle.spline.specs.Table.{Table, row};
+ghost use Rattle.spline.specs.Step;
+ghost use Rattle.cells.specs.Held.{Holds, Shaped, Held};
+ghost use Rattle.jumps.specs.Reply.{counted, fractions};
+ghost use Rattle.rows.specs.Rows.{UnitFactor, UnitFactors, LeavesIf};
+use fraction::Counted;
+use fraction::Fraction;
+use jumps::Fractions;
+
+// w x + u y, with both products and the sum counted.
+fn new_entry(w: Fraction, u: Fraction, x: Fraction, y: Fraction) -> Counted
+    requires { ⌜ Sized w × (Sized u × (Sized x × Sized y)) ⌝ }
+    ensures { λ r. ⌜ ((j : ℕ) (v : ℚ) → value u ≡ int (pos 1) -ᵠ v → r ≡ counted (Step.newEntry j (value w) v (value x) (value y))) ⌝ }
+{
+    let first = fraction::product(w, x);
+    match first {
+        Counted::TooLarge => Counted::TooLarge,
+        Counted::Fits(p) => {
+            let second = fraction::product(u, y);
+            match second {
+                Counted::TooLarge => Counted::TooLarge,
+                Counted::Fits(q) => fraction::sum(p, q),
+            }
+        }
+    }
+}
+
+// Row i becomes w times itself plus u times the next row; false where a counted fraction is too large.
+fn mix_row(
+    num: &mut [i64],
+    den: &mut [i64],
+    i: usize,
+    w: Fraction,
+    u: Fraction,
+    columns: usize,
+) -> bool
+    requires { ⌜ Sized w × (Sized u × ((i + 1 < 72) × (columns ≤ 72))) ⌝ }
+    requires { ⌜ ((t : Table) × Holds (now num) (now den) t) ⌝ }
+    ensures { λ r. ⌜ ((t : Table) (j : ℕ) (v : ℚ) → Holds (now (num .entry)) (now (den .entry)) t → value u ≡ int (pos 1) -ᵠ v → i < length t → length (row t i) ≡ columns
+        → LeavesIf (with-answer (set t i) (Step.newRow j (value w) v (row t i) (row t (suc i)))) r (now (num .entry)) (now (den .entry)) (now (num .exit)) (now (den .exit))) ⌝ }
+{
+    let mut c = 0;
+    while c < columns {
+        let at = 72 * i + c;
+        let below = at + 72;
+        let x = cells::read(num, den, at);
+        let y = cells::read(num, den, below);
+        let made = new_entry(w, u, x, y);
+        match made {
+            Counted::Fits(q) => {
+                let n = q.num;
+                let d = q.den;
+                num[at] = n;
+                den[at] = d;
+            }
+            Counted::TooLarge => {
+                return false;
+            }
+        }
+        c += 1;
+    }
+    true
+}
+
+// The complement 1 - w of a factor from 0 to 1, which is never too large.
+fn complement(w: Fraction) -> Fraction
+    requires { ⌜ UnitFactor w ⌝ }
+    ensures { λ r. ⌜ (value r ≡ int (pos 1) -ᵠ value w) × Sized r ⌝ }
+{
+    Fraction {
+        num: w.den - w.num,
+        den: w.den,
+    }
+}
+
+// The rows f to l - 1 made new, rows rising; false where a counted fraction is too large.
+pub fn mix_rows(
+    num: &mut [i64],
+    den: &mut [i64],
+    ws: Fractions,
+    f: usize,
+    l: usize,
+    rows: usize,
+    columns: usize,
+) -> bool
+    requires { ⌜ (f ≤ l) × ((l < rows) × Held (now num) (now den) rows columns) ⌝ }
+    requires { ⌜ UnitFactors ws ⌝ }
+    ensures { λ r. ⌜ ((t : Table) (j : ℕ) (qs : List ℚ) → Holds (now (num .entry)) (now (den .entry)) t → Shaped t rows columns → ws ≡ fractions qs
+        → LeavesIf (with-answer (λ rs. take f t ++ (rs ++ drop l t)) (Step.newRows j (record { f = f; l = l }) qs t)) r (now (num .entry)) (now (den .entry)) (now (num .exit)) (now (den .exit))) ⌝ }
+{
+    let mut i = f;
+    while i < l {
+        let d = i - f;
+        let w = jumps::fraction_at(ws, d);
+        let v = jumps::fraction_at(ws, d + 1);
+        let u = complement(v);
+        let done = mix_row(num, den, i, w, u, columns);
+        if !done {
+            return false;
+        }
+        i += 1;
+    }
+    true
+}

@@ -1,0 +1,99 @@
+-- The machine's form of what the definitions of reading say: the cases of the enums that the reading functions answer, with
+-- document 01's number and place for those of the public one, and what the five lent buffers hold afterwards.
+use mathlib.Core.List.{List, [], _++_}
+use mathlib.Core.Option.{Option, some, none}
+use mathlib.Core.Path.{_≡_}
+use Prim.Native.Nat.{ℕ, _+_, _<_}
+use lib.IntN.{ℤ}
+use lib.ListN.{length, drop}
+use lib.Seq.{slice}
+use Rattle.spline.specs.Outcome.{Outcome, answer, refusal, with-answer}
+use Rattle.numerals.specs.Bytes.{Text, Part}
+use Rattle.sheet_lists.specs.Reading.{listOf, Line, Lists}
+use Rattle.sheet_lists.specs.declared.Count.{Count}
+use Rattle.sheet_lists.specs.declared.Count.the-variants as count-cases
+use Rattle.sheet_lists.specs.declared.LineSpan.{LineSpan}
+use Rattle.sheet_lists.specs.declared.LineSpan.the-variants as span-cases
+use Rattle.sheet_lists.specs.declared.Places.{Places}
+use Rattle.sheet_lists.specs.declared.Places.the-variants as places-cases
+use Rattle.sheet_lists.specs.declared.Lists.{Lists as Answer}
+use Rattle.sheet_lists.specs.declared.Lists.the-variants as answer-cases
+
+-- ---- lists
+
+-- How many numbers a list has, if it is one.
+unfoldable pub count : Option (List ℤ) → Count
+count none = count-cases.Bad
+count (some zs) = count-cases.Numbers (length zs)
+
+-- The numbers of a list; none if it is not one.
+abbrev pub numbers : Option (List ℤ) → List ℤ
+numbers none = []
+numbers (some zs) = zs
+
+-- A buffer with a list at its front; the cells past the list keep what they held.
+abbrev pub overwritten : List ℤ → List ℤ → List ℤ
+overwritten zs before = zs ++ drop (length zs) before
+
+-- A list stands in the text from the one index up to the other.
+pub record ListAt (text : Text) (zs : List ℤ) (start end : ℕ) : Type 0 where
+  pub part : Part text start end
+  pub list : listOf (slice start end text) ≡ some zs
+
+-- ---- lines
+
+-- A line's list stands there, with byte 10 at its end.
+pub record Spans (text : Text) (l : Line) (start end : ℕ) : Type 0 where
+  pub list : ListAt text (l .list) start end
+  pub ended : end < length text
+  pub rest : l .rest ≡ drop (end + 1) text
+
+-- The answer for a line of the text: where its list begins and ends, if the line is good.
+abbrev pub LineAt : Text → Option Line → LineSpan → Type 0
+LineAt text none span-cases.Bad = Unit {0}
+LineAt text none (span-cases.List start end) = ⊥
+LineAt text (some l) span-cases.Bad = ⊥
+LineAt text (some l) (span-cases.List start end) = Spans text l start end
+
+-- ---- the sheet
+
+-- The five lists stand at these places.
+pub record ListsAt (text : Text) (l : Lists) (b b-end d d-end o o-end c c-end p p-end : ℕ) : Type 0 where
+  pub breaks : ListAt text (l .breaks) b b-end
+  pub degrees : ListAt text (l .degrees) d d-end
+  pub orders : ListAt text (l .orders) o o-end
+  pub coefs : ListAt text (l .coefs) c c-end
+  pub positions : ListAt text (l .positions) p p-end
+
+-- The answer for a whole text: where the five lists stand, or the place of number 10.
+abbrev pub Scanned : Text → Outcome Lists → Places → Type 0
+Scanned text (answer l) (places-cases.Lists b b-end d d-end o o-end c c-end p p-end) = ListsAt text l b b-end d d-end o o-end c c-end p p-end
+Scanned text (answer l) (places-cases.Refused place) = ⊥
+Scanned text (refusal number place) (places-cases.Lists b b-end d d-end o o-end c c-end p p-end) = ⊥
+Scanned text (refusal number place) (places-cases.Refused at) = (number ≡ 10) × (place ≡ at)
+
+-- The number of entries of the five lists.
+pub record Lengths : Type 0 where
+  pub breaks : ℕ
+  pub degrees : ℕ
+  pub orders : ℕ
+  pub coefs : ℕ
+  pub positions : ℕ
+
+-- The lengths of the lists that were read.
+abbrev pub lengths : Lists → Lengths
+lengths l = record { breaks = length (l .breaks); degrees = length (l .degrees); orders = length (l .orders); coefs = length (l .coefs); positions = length (l .positions) }
+
+-- "10, line: the program's text is malformed".
+unfoldable pub reply : Answer → Outcome Lengths
+reply (answer-cases.Read b d o c p) = answer (record { breaks = b; degrees = d; orders = o; coefs = c; positions = p })
+reply (answer-cases.Refused place) = refusal 10 place
+
+-- What reading answers: the five lengths, or a refusal.
+abbrev pub counted : Outcome Lists → Outcome Lengths
+counted o = with-answer lengths o
+
+-- A buffer after reading: one of the lists at its front after an answer, unchanged after a refusal.
+unfoldable pub after : (Lists → List ℤ) → Outcome Lists → List ℤ → List ℤ
+after list (answer l) before = overwritten (list l) before
+after list (refusal number place) before = before

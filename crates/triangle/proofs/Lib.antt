@@ -1,0 +1,5 @@
+-- The laws behind the value at one position: a blend and the stages of the triangle; a position's segment and its ordinates.
+pub mod Blend
+pub mod Stages
+pub mod Local
+pub mod Position

@@ -1,0 +1,86 @@
+-- A position within the span of legal lists: the segment that holds it, its offset there, and the segment's columns.
+use mathlib.Core.Path.{_≡_, sym, _∙_, ap₂, subst}
+use mathlib.Core.Bool.{Bool, true, _&&_}
+use mathlib.Core.List.{List, [], _++_}
+use Prim.Native.Nat.{ℕ, _+_, _<_, _≤_}
+use native.Mathlib.Omega.{arith}
+use borrow.Author.Tests.{lt-ltb, le-ltb}
+use lib.Dec.{T}
+use lib.IntN.{ℤ, pos, natAbs}
+use lib.ListN.{length, getD, drop, replicate}
+use lib.Signed.{leZ}
+use Rattle.exact.specs.Tabulate.{tab}
+use Rattle.exact.proofs.Decide.{cond-true, cond-false}
+use Rattle.exact.proofs.Integer.{≤-in, <-in}
+use Rattle.exact.proofs.Tabulate.{tab-length, tab-getD, tab-rest}
+use Rattle.spline.specs.Space.{degree, firstColumn}
+use Rattle.spline.specs.Reading.{fine, segmentAt, fineWidth, offset, triangle, blended}
+use Rattle.spline.proofs.Legal.{Checked, checked-inverts}
+use Rattle.closeness.specs.Demand3.{InSpan}
+use Rattle.closeness.proofs.Segment.{Located, located}
+use Rattle.space.specs.Reply.{space}
+use Rattle.space.specs.Legal.{ListsLegal}
+use Rattle.space.proofs.Legal.{legal-checked, legal-width-high, legal-degree-high, legal-columns-within, legal-column-count-high}
+use Rattle.space.proofs.Partial.{first-column-partial}
+use Rattle.triangle.specs.Reading.{columnsOf, localOf, Within, Offset}
+use Rattle.triangle.proofs.Stages.{triangle-ext}
+use Rattle.triangle.proofs.Local.{local-at}
+
+both : (a b : Bool) → T a → T b → T (a && b)
+both true b p q = q
+
+module _ (b d o : List ℤ) (h : ListsLegal b d o) (x : ℤ) (w : Within (space b d []) x) (i : ℕ) (at : i ≡ segmentAt (space b d []) x) where
+  checks : Checked (space b d o)
+  checks = checked-inverts (space b d o) (legal-checked b d o h) .1
+
+  inside : InSpan (space b d o) x
+  inside = both (leZ (fine (getD b 0 (pos 0))) x) _ (w .low .le) (w .high .le)
+
+  -- the orders do not matter
+  held : Located (space b d o) x i
+  unfolding segmentAt
+  held = subst (Located (space b d o) x) (sym at) (located (space b d o) checks x inside)
+
+  pub segment-within : i < length d
+  segment-within = held .below
+
+  pub offset-within : Offset (offset (space b [] []) i x) (pos (fineWidth (space b [] []) i))
+  offset-within = record {
+    above = held .from;
+    below = held .to;
+    long = <-in _ _ (omega (arith, held .positive));
+    short = ≤-in _ _ (omega (arith, legal-width-high b d o h i segment-within));
+  }
+
+-- ---- the columns of a segment
+
+-- the array of first columns
+pub columns-filled : (d : List ℤ) → length d ≤ 12 → tab (length d) (firstColumn (space [] d [])) ++ drop (length d) (replicate 12 0) ≡ columnsOf (space [] d [])
+unfolding columnsOf
+columns-filled d h = tab-rest 12 (length d) h (λ i l. sym (cond-true (firstColumn (space [] d []) i) 0 (lt-ltb i (length d) l))) (λ i l. cond-false (firstColumn (space [] d []) i) 0 (le-ltb i (length d) l))
+
+pub columns-long : (d : List ℤ) → length (columnsOf (space [] d [])) ≡ 12
+unfolding columnsOf
+columns-long d = tab-length 12 _
+
+module _ (b d o : List ℤ) (h : ListsLegal b d o) (i : ℕ) (l : i < length d) where
+  pub column-at : getD (columnsOf (space [] d [])) i 0 ≡ firstColumn (space [] d []) i
+  unfolding columnsOf
+  column-at = tab-getD 12 _ i 0 (omega (arith, h .few)) ∙ cond-true (firstColumn (space [] d []) i) 0 (lt-ltb _ _ l)
+
+  pub columns-within : firstColumn (space [] d []) i + degree (space [] d []) i < 72
+  columns-within = omega (arith, first-column-partial b d o i, legal-columns-within b d o h i l, legal-column-count-high b d o h)
+
+  pub degree-within : degree (space [] d []) i ≤ 5
+  degree-within = legal-degree-high b d o h i l
+
+-- ---- the value, from the segment's ordinates in an array of six
+
+pub blended-local : (b d os : List ℤ) (x : ℤ) (i c p : ℕ) (u e : ℤ) → p < 6 → c ≡ firstColumn (space [] d []) i → p ≡ degree (space [] d []) i
+    → u ≡ offset (space b [] []) i x → e ≡ pos (fineWidth (space b [] []) i)
+    → triangle (natAbs e) u (λ k. getD (localOf os c p) k (pos 0)) p 0 ≡ blended (space b d []) os i x
+unfolding blended
+blended-local b d os x i c p u e l c-is p-is u-is e-is =
+    triangle-ext (natAbs e) u (λ k. getD (localOf os c p) k (pos 0)) (λ k. getD os (c + k) (pos 0)) p (λ k h. local-at os c p k l h) p 0 (omega arith)
+    ∙ ap₂ (λ z n. triangle (natAbs z) u (λ k. getD os (n + k) (pos 0)) p 0) e-is (c-is ∙ first-column-partial b d [] i)
+    ∙ ap₂ (λ z n. triangle (fineWidth (space b [] []) i) z (λ k. getD os (firstColumn (space b d []) i + k) (pos 0)) n 0) u-is p-is

@@ -1,0 +1,2 @@
+-- What the contracts of triangle cite beside the definitions of crate spline.
+pub mod Reading

@@ -1,0 +1,90 @@
+// The value at one position: its segment, the segment's ordinates, and the de Casteljau triangle on them.
+ghost use mathlib.Core.Path.{_≡_};
+ghost use mathlib.Core.List.{List, []};
+ghost use mathlib.Core.Option.{Option·getD};
+ghost use Prim.Native.Nat.{_+_, _<_, _≤_};
+ghost use lib.IntN.{ℤ, pos};
+ghost use lib.ListN.{length, getD};
+ghost use lib.Signed.{leZ};
+ghost use Rattle.space.specs.Reply.{space};
+ghost use Rattle.space.specs.Legal.{BreaksLegal, ListsLegal};
+ghost use Rattle.spline.specs.Search;
+ghost use Rattle.spline.specs.Reading;
+ghost use Rattle.ordinates.specs.Ordinates.{Bounded};
+ghost use Rattle.triangle.specs.Reading.{columnsOf, localOf, Within};
+
+mod triangle;
+
+// The last segment that starts at or before position x.
+fn segment_at(breaks: &[i32], m: usize, x: i32) -> usize
+    requires { ⌜ (m < length (now breaks)) × BreaksLegal (now breaks) ⌝ }
+    ensures { λ r. ⌜ r ≡ Option·getD (Search.last m (λ i. leZ (Reading.fine (getD (now (breaks .entry)) i (pos 0))) x)) 0 ⌝ }
+{
+    let mut i = m;
+    let at = loop {
+        if i == 0 {
+            break 0;
+        }
+        i -= 1;
+        let start = 256 * breaks[i];
+        if start <= x {
+            break i;
+        }
+    };
+    at
+}
+
+// The p + 1 ordinates from column c on, 0 past them.
+fn local_ordinates(ordinates: &[i64], c: usize, p: usize) -> [i64; 6]
+    requires { ⌜ (p ≤ 5) × (c + p < length (now ordinates)) ⌝ }
+    ensures { λ r. ⌜ r ≡ localOf (now (ordinates .entry)) c p ⌝ }
+{
+    let mut o = [0; 6];
+    let mut k = 0;
+    while k <= p {
+        let x = ordinates[c + k];
+        o[k] = x;
+        k += 1;
+    }
+    o
+}
+
+// The length of segment i, in 256ths of a ring.
+fn fine_width(breaks: &[i32], i: usize) -> i64
+    requires { ⌜ (i + 1 < length (now breaks)) × BreaksLegal (now breaks) ⌝ }
+    ensures { λ r. ⌜ r ≡ pos (Reading.fineWidth (space (now (breaks .entry)) [] []) i) ⌝ }
+{
+    let length = space::segment_length(breaks, i);
+    256 * length
+}
+
+// How far position x lies past the start of segment i.
+fn offset(breaks: &[i32], i: usize, x: i32) -> i64
+    requires { ⌜ (i < length (now breaks)) × BreaksLegal (now breaks) ⌝ }
+    ensures { λ r. ⌜ r ≡ Reading.offset (space (now (breaks .entry)) [] []) i x ⌝ }
+{
+    let start = breaks[i] as i64;
+    x as i64 - 256 * start
+}
+
+// The value at position x.
+pub fn value_at(
+    breaks: &[i32],
+    degrees: &[i32],
+    columns: &[usize],
+    ordinates: &[i64],
+    x: i32,
+) -> i32
+    requires { ⌜ ((orders : List ℤ) × ListsLegal (now breaks) (now degrees) orders) × Within (space (now breaks) (now degrees) []) x ⌝ }
+    requires { ⌜ (now columns ≡ columnsOf (space [] (now degrees) [])) × ((length (now ordinates) ≡ 72) × Bounded (now ordinates)) ⌝ }
+    ensures { λ r. ⌜ r ≡ Reading.blended (space (now (breaks .entry)) (now (degrees .entry)) []) (now (ordinates .entry)) (Reading.segmentAt (space (now (breaks .entry)) (now (degrees .entry)) []) x) x ⌝ }
+{
+    let i = segment_at(breaks, degrees.len(), x);
+    let p = space::degree_at(degrees, i);
+    let u = offset(breaks, i, x);
+    let d = fine_width(breaks, i);
+    let c = columns[i];
+    let o = local_ordinates(ordinates, c, p);
+    let v = crate::triangle::triangle(o, p, u, d);
+    v as i32
+}

@@ -1,0 +1,30 @@
+-- What the build's functions leave in the two lent buffers, and what the joins start from.
+use mathlib.Core.List.{List}
+use mathlib.Core.Path.{_≡_}
+use Prim.Native.Nat.{ℕ, _≤_}
+use lib.IntN.{ℤ}
+use Rattle.spline.specs.Outcome.{Outcome, answer, refusal}
+use Rattle.spline.specs.Space.{Space, columnCount}
+use Rattle.spline.specs.Table.{Table, rowCells, identity, numerators, denominators}
+use Rattle.cells.specs.Held.{Holds, Kept}
+use Rattle.factors.specs.Reply.{refusalOf}
+use Rattle.factors.specs.declared.Refusal.{Refusal}
+use Rattle.factors.specs.declared.Refusal.the-variants as refusals
+use Rattle.weights.specs.declared.Built.{Built}
+use Rattle.weights.specs.declared.Built.the-variants.{Rows, Refused}
+
+-- A computation in place: the table it answers is in the buffers, or it is refused and they hold whatever they hold.
+abbrev pub Leaves : Outcome Table → Refusal → List ℤ → List ℤ → List ℤ → List ℤ → Type 0
+Leaves (answer t) r num den num′ den′ = (r ≡ refusals.None) × (num′ ≡ numerators t num) × (den′ ≡ denominators t den)
+Leaves (refusal number place) r num den num′ den′ = (r ≡ refusalOf number) × Kept num num′ × Kept den den′
+
+-- The buffers hold the identity of the space's columns.
+pub record Start (s : Space) (num den : List ℤ) (columns : ℕ) : Type 0 where
+  pub count : columns ≡ columnCount s
+  pub room : columns ≤ rowCells
+  pub holds : Holds num den (identity columns)
+
+-- What the joins leave: the table with its n rows, or the refusal.
+abbrev pub JoinsLeave : Outcome Table → ℕ → Built → List ℤ → List ℤ → List ℤ → List ℤ → Type 0
+JoinsLeave (answer t) n r num den num′ den′ = (r ≡ Rows n) × (num′ ≡ numerators t num) × (den′ ≡ denominators t den)
+JoinsLeave (refusal number place) n r num den num′ den′ = (r ≡ Refused number place) × Kept num num′ × Kept den den′
