@@ -16,7 +16,7 @@ use Rattle.exact.proofs.Rational.{int-num, int-den}
 use Rattle.fraction.specs.Size.{fits}
 use Rattle.fraction.specs.Machine.{fraction}
 use Rattle.spline.specs.Table.{Table, cell, stored, rowCells, tableCells, numerators, denominators}
-use Rattle.spline.proofs.Table.{stored-at}
+use Rattle.spline.proofs.Table.{laid-cell}
 use Rattle.cells.specs.Held.{Holds, Kept}
 use Rattle.cells.specs.Part.{filled}
 use Rattle.cells.proofs.Part.{Written, filled-length, filled-inside, filled-after}
@@ -49,12 +49,10 @@ module _ (f : ℚ → ℤ) where
   unfolding laid
   laid-stored t b k h = getD-tab tableCells _ (drop tableCells b) k (pos 0) h
 
-  pub laid-cell : (t : Table) (b : List ℤ) (i c : ℕ) → i < rowCells → c < rowCells → getD (laid f t b) (72 * i + c) (pos 0) ≡ f (cell t i c)
-  laid-cell t b i c h l = laid-stored t b (72 * i + c) (omega arith) ∙ ap f (stored-at t i c l)
-
-  -- the same of a buffer that is the table's
+  -- a cell of a buffer that is the table's
   pub laid-reads : (t : Table) {b : List ℤ} → b ≡ laid f t b → (i c : ℕ) → i < rowCells → c < rowCells → getD b (72 * i + c) (pos 0) ≡ f (cell t i c)
-  laid-reads t {b} is i c h l = ap (λ (xs : List ℤ). getD xs (72 * i + c) (pos 0)) is ∙ laid-cell t b i c h l
+  unfolding laid
+  laid-reads t {b} is i c h l = ap (λ (xs : List ℤ). getD xs (72 * i + c) (pos 0)) is ∙ laid-cell f t (drop tableCells b) i c h l
 
   pub laid-past : (t : Table) (b : List ℤ) (k : ℕ) → tableCells ≤ k → getD (laid f t b) k (pos 0) ≡ getD b k (pos 0)
   unfolding laid

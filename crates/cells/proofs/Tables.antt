@@ -1,31 +1,11 @@
--- Rows and entries of a table: past its ends, after one row is changed, left out or put between others, and the identity.
-use mathlib.Core.Path.{_≡_, refl, sym, _∙_, ap, ap₂}
-use mathlib.Core.Bool.{cond}
-use mathlib.Core.Logic.{_≢_}
+-- Rows of a table: after one is left out, and after some are made new.
+use mathlib.Core.Path.{_≡_, sym, _∙_, ap, ap₂}
 use mathlib.Core.List.{[], _∷_, _++_, append-assoc}
 use Prim.Native.Nat.{ℕ, suc, _+_, _-_, _<_, _≤_}
 use native.Mathlib.Omega.{arith}
-use native.Mathlib.Decide.{decLt}
-use borrow.Author.Tests.{eq-eqb, ne-eqb}
-use lib.Dec.{eqb}
-use lib.IntN.{pos}
-use lib.ListN.{length, set, take, drop, length-append, length-drop, take-append-drop, List·getD-append, List·getD-eq-default}
+use lib.ListN.{length, set, take, drop, length-append, length-drop, take-append-drop, List·getD-append}
 use lib.Seq.{length-take-le, getD-take, getD-drop, getD-append-add, drop-cons, set-at, take-at, drop-append-add}
-use Rattle.exact.specs.Rational.{int}
-use Rattle.exact.specs.Tabulate.{tab}
-use Rattle.exact.proofs.Tabulate.{tab-length, tab-getD}
-use Rattle.spline.specs.Table.{Row, Table, entry, row, cell, identity}
-
--- ---- past the ends
-
-pub entry-past : (r : Row) (c : ℕ) → length r ≤ c → entry r c ≡ int (pos 0)
-entry-past r c h = List·getD-eq-default r (int (pos 0)) h
-
-pub row-past : (t : Table) (i : ℕ) → length t ≤ i → row t i ≡ []
-row-past t i h = List·getD-eq-default t [] h
-
-pub cell-past : (t : Table) (i c : ℕ) → length t ≤ i → cell t i c ≡ int (pos 0)
-cell-past t i c h = ap (λ r. entry r c) (row-past t i h)
+use Rattle.spline.specs.Table.{Row, Table, row}
 
 -- ---- row l left out
 
@@ -86,29 +66,3 @@ renewed-without f t rs l h k size =
 
     long : length (take f t ++ rs) ≡ l
     long = length-append (take f t) rs ∙ omega (arith, length-take-le f t (omega arith))
-
--- ---- the identity
-
-pub identity-cell : (n i c : ℕ) → i < n → c < n → cell (identity n) i c ≡ cond (eqb i c) (int (pos 1)) (int (pos 0))
-unfolding identity
-identity-cell n i c h k = ap (λ r. entry r c) (tab-getD n _ i [] h) ∙ tab-getD n (λ j. cond (eqb i j) (int (pos 1)) (int (pos 0))) c (int (pos 0)) k
-
-pub identity-wide : (n i : ℕ) → i < n → length (row (identity n) i) ≡ n
-unfolding identity
-identity-wide n i h = ap length (tab-getD n _ i [] h) ∙ tab-length n (λ j. cond (eqb i j) (int (pos 1)) (int (pos 0)))
-
--- outside, and off the diagonal
-pub identity-low : (n i c : ℕ) → n ≤ i → cell (identity n) i c ≡ int (pos 0)
-unfolding identity
-identity-low n i c h = cell-past (tab n _) i c (rw (tab-length n (λ i. tab n (λ j. cond (eqb i j) (int (pos 1)) (int (pos 0))))) h)
-
-pub identity-off : (n i c : ℕ) → i ≢ c → cell (identity n) i c ≡ int (pos 0)
-identity-off n i c h = go (decLt i n) (decLt c n)
-  where
-    go : Dec (i < n) → Dec (c < n) → cell (identity n) i c ≡ int (pos 0)
-    go (no k) d = identity-low n i c (omega arith)
-    go (yes k) (no l) = entry-past (row (identity n) i) c (rw (identity-wide n i k) (omega arith))
-    go (yes k) (yes l) = identity-cell n i c k l ∙ ap (λ b. cond b (int (pos 1)) (int (pos 0))) (ne-eqb i c h)
-
-pub identity-on : (n i : ℕ) → i < n → cell (identity n) i i ≡ int (pos 1)
-identity-on n i h = identity-cell n i i h h ∙ ap (λ b. cond b (int (pos 1)) (int (pos 0))) (eq-eqb i i refl)

@@ -3,12 +3,11 @@
 use mathlib.Core.Path.{_≡_, refl, sym, _∙_, ap, subst}
 use mathlib.Core.Logic.{_⊎_, inl, inr}
 use mathlib.Core.Bool.{Bool, true, false, cond}
-use mathlib.Core.List.{[]}
 use Prim.Native.Nat.{ℕ, zero, suc, _+_, _<_, _≤_}
 use native.Mathlib.Omega.{arith}
 use native.Mathlib.Nat.{eq-or-lt-of-le}
 use lib.IntN.{ℤ, pos, negsuc, _*ℤ_, natAbs}
-use lib.ListN.{length, List·getD-eq-default}
+use lib.ListN.{length}
 use lib.Dec.{T}
 use lib.Signed.{_≤ℤ_, nonNeg}
 use Rattle.exact.specs.Rational.{ℚ, den, int}
@@ -21,11 +20,12 @@ use Rattle.exact.proofs.Order.{int-mono, le-is, isZero-true}
 use Rattle.exact.proofs.Sum.{sum-zero, sum-place-le}
 use Rattle.spline.specs.Search.{howMany}
 use Rattle.spline.specs.Space.{Space, columnCount}
-use Rattle.spline.specs.Table.{Table, entry, cell}
+use Rattle.spline.specs.Table.{Table, cell}
 use Rattle.spline.specs.Piecewise.{Accepted}
 use Rattle.spline.specs.Reading.{hasWeight}
 use Rattle.theorems.proofs.Built.{built}
-use Rattle.theorems.proofs.Demand2.{cell-past}
+use Rattle.spline.proofs.Table.{cell-past}
+use Rattle.theorems.proofs.Demand2.{cell-beside}
 
 -- What a column of an accepted table is.
 pub record Column (t : Table) (c : ℕ) : Type 0 where
@@ -92,8 +92,8 @@ weight-at-most-one s a i c = go (le-or-lt (length (a .table)) i) (le-or-lt (colu
     zero-le-one e = subst (λ t. t ≤ᵠ int (pos 1)) (sym e) (int-mono (Z.≤-in (pos 0) (pos 1) (omega arith)))
 
     go : (length (a .table) ≤ i) ⊎ (i < length (a .table)) → (columnCount s ≤ c) ⊎ (c < columnCount s) → cell (a .table) i c ≤ᵠ int (pos 1)
-    go (inl h) k = zero-le-one (ap (λ r. entry r c) (List·getD-eq-default (a .table) [] h))
-    go (inr h) (inl k) = zero-le-one (cell-past (columnCount s) (a .table) (built s (a .table) (a .is) .basis .wide) i c k)
+    go (inl h) k = zero-le-one (cell-past (a .table) i c h)
+    go (inr h) (inl k) = zero-le-one (cell-beside (columnCount s) (a .table) (built s (a .table) (a .is) .basis .wide) i c k)
     go (inr h) (inr k) = let C = accepted-column s a c k in subst (λ t. cell (a .table) i c ≤ᵠ t) (C .sums-one) (sum-place-le (length (a .table)) i h (λ j l. C .not-negative j))
 
 -- so its numerator's size is at most its denominator

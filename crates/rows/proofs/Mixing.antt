@@ -19,10 +19,10 @@ use Rattle.spline.specs.Outcome.{answer}
 use Rattle.spline.specs.Table.{Row, Table, entry, row, cell, rowCells, tableCells}
 use Rattle.spline.specs.Step.{Span, factors, newEntry, newRow}
 use Rattle.spline.proofs.Outcome.{Collected, collect-inverts}
+use Rattle.spline.proofs.Table.{entry-past}
 use Rattle.spline.proofs.NewRows.{newEntry-answers as newEntry-is}
 use Rattle.spline.proofs.Answers.{factors-unit}
 use Rattle.cells.proofs.Part.{Written}
-use Rattle.cells.proofs.Tables.{entry-past}
 use Rattle.cells.proofs.Buffer.{laid, laid-by, laid-reads}
 use Rattle.jumps.specs.Reply.{fractions}
 use Rattle.jumps.specs.declared.Fractions.{Fractions}

@@ -9,7 +9,7 @@ use Prim.Native.Nat.{ℕ, zero, suc, _+_, _-_, _<_, _≤_}
 use native.Mathlib.Omega.{arith}
 use native.Mathlib.Nat.{eq-or-lt-of-le}
 use lib.IntN.{pos}
-use lib.ListN.{length, length-append, List·getD-append, List·getD-eq-default}
+use lib.ListN.{length, length-append, List·getD-append}
 use lib.Seq.{getD-at}
 use Rattle.exact.specs.Rational.{ℚ, int, _+ᵠ_, _*ᵠ_, _/ᵠ_}
 use Rattle.exact.specs.Order.{isZero, leᵠ, ltᵠ}
@@ -24,6 +24,7 @@ use Rattle.spline.specs.Table.{Row, Table, entry, row}
 use Rattle.spline.specs.Step.{count, addProducts, jump, jumps, jumpsAt, Span, zeroBetween, spanOf, span, partialSum, quotientFactor, factor, factors}
 use Rattle.spline.proofs.Outcome.{answer-unique, answer-not-refusal, Chained, then-inverts, Collected, collect-inverts}
 use Rattle.spline.proofs.Search.{First, Last, first-some-inverts, last-some-inverts, first-none-inverts}
+use Rattle.spline.proofs.Table.{entry-past}
 use Rattle.spline.proofs.Step.{count-answers, oneMore, products-none, products-split, tested, quotientTested}
 
 -- ---- a jump
@@ -49,7 +50,7 @@ module _ (j : ℕ) (κ : List Entry) (t : Table) {qs : List ℚ} (e : jumps j κ
   jumps-fit i = go (le-or-lt (length t) i)
     where
       go : (length t ≤ i) ⊎ (i < length t) → fits (entry qs i) ≡ true
-      go (inl h) = ap fits (List·getD-eq-default qs (int (pos 0)) (omega (arith, jumps-length, h))) ∙ int-fits (pos 0) (omega arith)
+      go (inl h) = ap fits (entry-past qs _ (omega (arith, jumps-length, h))) ∙ int-fits (pos 0) (omega arith)
       go (inr h) = jump-fits j κ (row t i) (collect-inverts (length t) (λ i. jump j κ (row t i)) e .at i h (int (pos 0)))
 
 -- ---- a factor
@@ -99,7 +100,7 @@ spans js f l p q z = record {
     ordered (inr h) = absurd (true-not-false (p .meets) (q .after f h (p .below)))
 
     past : (j : ℕ) → l < j → (length js ≤ j) ⊎ (j < length js) → entry js j ≡ int (pos 0)
-    past j h (inl k) = List·getD-eq-default js (int (pos 0)) k
+    past j h (inl k) = entry-past js j k
     past j h (inr k) = isZero-true (entry js j) (not-false _ (q .after j h k))
 
     no-zero : (o : Option ℕ) → found o ≡ false → o ≡ none
@@ -144,7 +145,7 @@ framed-past us d h = go (eq-or-lt-of-le h)
   where
     go : (length us ≡ d) ⊎ (length us < d) → entry (us ++ (int (pos 0) ∷ [])) d ≡ int (pos 0)
     go (inl e) = getD-at us (int (pos 0)) [] (int (pos 0)) d e
-    go (inr k) = List·getD-eq-default (us ++ (int (pos 0) ∷ [])) (int (pos 0)) (simp length-append (omega arith))
+    go (inr k) = entry-past (us ++ (int (pos 0) ∷ [])) _ (simp length-append (omega arith))
 
 pub factors-inverts : (j : ℕ) (js : List ℚ) (g : Span) {ws : List ℚ} → factors j js g ≡ answer ws → Factors js (g .f) (g .l) ws
 unfolding factors framed

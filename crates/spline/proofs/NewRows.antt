@@ -6,7 +6,7 @@ use mathlib.Core.Bool.{true}
 use mathlib.Core.List.{[], _∷_}
 use Prim.Native.Nat.{ℕ, _<_, _≤_}
 use lib.IntN.{pos}
-use lib.ListN.{length, List·getD-eq-default}
+use lib.ListN.{length}
 use Rattle.exact.specs.Rational.{ℚ, _+ᵠ_, _*ᵠ_, -ᵠ_, _-ᵠ_, int}
 use Rattle.exact.proofs.Decide.{le-or-lt}
 use Rattle.exact.proofs.Ring.{ring}
@@ -16,6 +16,7 @@ use Rattle.spline.specs.Outcome.{answer, _then_}
 use Rattle.spline.specs.Table.{Row, entry}
 use Rattle.spline.specs.Step.{count, newEntry, newRow}
 use Rattle.spline.proofs.Outcome.{then-inverts, Collected, collect-inverts}
+use Rattle.spline.proofs.Table.{entry-past}
 use Rattle.spline.proofs.Step.{count-answers}
 
 pub newEntry-answers : (j : ℕ) (w v x y : ℚ) {z : ℚ} → newEntry j w v x y ≡ answer z → (z ≡ w *ᵠ x +ᵠ (int (pos 1) -ᵠ v) *ᵠ y) × (fits z ≡ true)
@@ -40,6 +41,6 @@ newRow-inverts j w v r r′ {q} same e = record { size = parts .size; at = λ c.
     nothing a b = ring ℚ-ring (a ∷ b ∷ []) (search readsℚ) (search readsℚ) refl
 
     place : (c : ℕ) → (length r ≤ c) ⊎ (c < length r) → entry q c ≡ w *ᵠ entry r c +ᵠ (int (pos 1) -ᵠ v) *ᵠ entry r′ c
-    place c (inl h) = List·getD-eq-default q (int (pos 0)) (rw (parts .size) h) ∙ nothing w (int (pos 1) -ᵠ v)
-        ∙ ap₂ (λ x y. w *ᵠ x +ᵠ (int (pos 1) -ᵠ v) *ᵠ y) (sym (List·getD-eq-default r (int (pos 0)) h)) (sym (List·getD-eq-default r′ (int (pos 0)) (rw same h)))
+    place c (inl h) = entry-past q c (rw (parts .size) h) ∙ nothing w (int (pos 1) -ᵠ v)
+        ∙ ap₂ (λ x y. w *ᵠ x +ᵠ (int (pos 1) -ᵠ v) *ᵠ y) (sym (entry-past r c h)) (sym (entry-past r′ c (rw same h)))
     place c (inr h) = newEntry-answers j w v (entry r c) (entry r′ c) (parts .at c h (int (pos 0))) .0

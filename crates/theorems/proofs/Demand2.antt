@@ -5,7 +5,7 @@ use mathlib.Core.List.{List, [], _∷_}
 use Prim.Native.Nat.{ℕ, _-_, _<_, _≤_}
 use native.Mathlib.Omega.{arith}
 use lib.IntN.{pos}
-use lib.ListN.{length, List·getD-eq-default}
+use lib.ListN.{length}
 use lib.Seq.{ext-getD}
 use Rattle.exact.specs.Rational.{ℚ, int, _+ᵠ_, _*ᵠ_}
 use Rattle.exact.specs.Sum.{sum}
@@ -18,6 +18,7 @@ use Rattle.spline.specs.Space.{segments, columnCount, rowCount, conditionCount}
 use Rattle.spline.specs.Conditions.{Entry, conditions}
 use Rattle.spline.specs.Table.{Row, Table, entry, row, cell}
 use Rattle.spline.specs.Piecewise.{pairing, combination}
+use Rattle.spline.proofs.Table.{entry-past, cell-past}
 use Rattle.theorems.specs.Demand2.{RowsAndColumns, CombinationsMeetConditions, OneCombination, ConditionsGiveOneCombination}
 use Rattle.theorems.proofs.Functional.{applied, applied-ext, applied-sum}
 use Rattle.theorems.proofs.Stepped.{Wide}
@@ -37,22 +38,22 @@ pairing-applied o (e ∷ es) = ap (λ t. entry o (e .column) *ᵠ int (e .factor
 
 module _ (columns : ℕ) (t : Table) (wide : Wide columns t) where
   -- past the last column all entries are zero
-  pub cell-past : (i c : ℕ) → columns ≤ c → cell t i c ≡ int (pos 0)
-  cell-past i c h = go (le-or-lt (length t) i)
+  pub cell-beside : (i c : ℕ) → columns ≤ c → cell t i c ≡ int (pos 0)
+  cell-beside i c h = go (le-or-lt (length t) i)
     where
       go : (length t ≤ i) ⊎ (i < length t) → cell t i c ≡ int (pos 0)
-      go (inl k) = ap (λ r. entry r c) (List·getD-eq-default t [] k)
-      go (inr k) = List·getD-eq-default (row t i) (int (pos 0)) (rw (wide .each i k) h)
+      go (inl k) = cell-past t i c k
+      go (inr k) = entry-past (row t i) c (rw (wide .each i k) h)
 
   combined-past : (a : ℕ → ℚ) (c : ℕ) → columns ≤ c → combined a t c ≡ int (pos 0)
-  combined-past a c h = sum-zero (length t) (λ i k. ap (λ u. a i *ᵠ u) (cell-past i c h) ∙ mul-zero (a i))
+  combined-past a c h = sum-zero (length t) (λ i k. ap (λ u. a i *ᵠ u) (cell-beside i c h) ∙ mul-zero (a i))
 
   pub combination-at : (factors : List ℚ) (c : ℕ) → entry (combination columns factors t) c ≡ combined (entry factors) t c
   unfolding combination
   combination-at factors c = go (le-or-lt columns c)
     where
       go : (columns ≤ c) ⊎ (c < columns) → entry (combination columns factors t) c ≡ combined (entry factors) t c
-      go (inl h) = List·getD-eq-default (combination columns factors t) (int (pos 0)) (rw (tab-length columns (λ c. sum (length t) (λ i. entry factors i *ᵠ cell t i c))) h) ∙ sym (combined-past (entry factors) c h)
+      go (inl h) = entry-past (combination columns factors t) c (rw (tab-length columns (λ c. sum (length t) (λ i. entry factors i *ᵠ cell t i c))) h) ∙ sym (combined-past (entry factors) c h)
       go (inr h) = tab-getD columns (λ c. sum (length t) (λ i. entry factors i *ᵠ cell t i c)) c (int (pos 0)) h
 
 combination-length : (columns : ℕ) (factors : List ℚ) (t : Table) → length (combination columns factors t) ≡ columns
@@ -79,7 +80,7 @@ conditions-give-one-combination s a o M = go (built s (a .table) (a .is))
     met κ (here k h e) = absurd (omega arith)
 
     go : Built s (a .table) → OneCombination s (a .table) o
-    go b = finish (b .basis .spans (entry o) (λ c h. List·getD-eq-default o (int (pos 0)) (rw (M .columns) h)) met)
+    go b = finish (b .basis .spans (entry o) (λ c h. entry-past o c (rw (M .columns) h)) met)
       where
         n : length (a .table) ≡ rowCount s
         n = row-count s (a .table) b

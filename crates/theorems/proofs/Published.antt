@@ -6,7 +6,7 @@ use mathlib.Core.List.{[], _∷_}
 use Prim.Native.Nat.{ℕ, suc, _-_, _<_, _≤_}
 use native.Mathlib.Omega.{arith}
 use lib.IntN.{pos}
-use lib.ListN.{length, List·getD-eq-default}
+use lib.ListN.{length}
 use lib.Seq.{ext-getD}
 use Rattle.exact.specs.Rational.{ℚ, _+ᵠ_, _*ᵠ_, -ᵠ_, _-ᵠ_, int}
 use Rattle.exact.specs.Sum.{sum}
@@ -25,6 +25,7 @@ use Rattle.spline.specs.Build.{orderSteps, joinSteps, weights}
 use Rattle.spline.specs.Published.{constraint, constraints, nullspace, product, column, Matrices, constrain, for, smooth, extraction}
 use Rattle.spline.proofs.Outcome.{repeat-keeps}
 use Rattle.spline.proofs.Legal.{Legal}
+use Rattle.spline.proofs.Table.{entry-past, cell-past}
 use Rattle.theorems.specs.Demand2.{WeightsArePublished}
 use Rattle.theorems.proofs.NullSpace.{mixed}
 use Rattle.theorems.proofs.Stepped.{Wide, values, values-past, Stepped}
@@ -60,7 +61,7 @@ column-entry : (a : Table) (k i : ℕ) → entry (column a k) i ≡ cell a i k
 column-entry a k i = go (le-or-lt (length a) i)
   where
     go : (length a ≤ i) ⊎ (i < length a) → entry (column a k) i ≡ cell a i k
-    go (inl h) = List·getD-eq-default (column a k) (int (pos 0)) (rw (column-length a k) h) ∙ sym (ap (λ r. entry r k) (List·getD-eq-default a [] h))
+    go (inl h) = entry-past (column a k) _ (rw (column-length a k) h) ∙ sym (cell-past a _ k h)
     go (inr h) = tab-getD (length a) (λ r. cell a r k) i (int (pos 0)) h
 
 constraints-length : (s : Space) (i : ℕ) → length (constraints s i) ≡ columnCount s
@@ -94,7 +95,7 @@ module _ (s : Space) (L : Legal s) (j k : ℕ) (h : j < segments s - 1) (l : k <
   v-proportional i = column-entry (constrained t) k i ∙ go (le-or-lt (length t) i)
     where
       go : (length t ≤ i) ⊎ (i < length t) → cell (constrained t) i k ≡ ratio s j k *ᵠ values (conditions s j k) t i
-      go (inl p) = ap (λ r. entry r k) (List·getD-eq-default (constrained t) [] (rw (product-length (conditionCount s j) t (constraints s j)) p))
+      go (inl p) = cell-past (constrained t) _ k (rw (product-length (conditionCount s j) t (constraints s j)) p)
           ∙ sym (ap (λ u. ratio s j k *ᵠ u) (values-past (conditions s j k) t i p) ∙ mul-zero (ratio s j k))
       go (inr p) = constrained-cell t i k p l
           ∙ constraints-are-conditions s j k (cell t i) (omega arith) (let a = L .below-left-degree j h in omega arith) (let a = L .below-right-degree j h in omega arith) (L .positive-width j (omega arith)) (L .positive-width (suc j) (omega arith))

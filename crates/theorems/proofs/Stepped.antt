@@ -7,7 +7,7 @@ use Prim.Native.Nat.{ℕ, suc, _+_, _-_, _<_, _≤_}
 use native.Mathlib.Omega.{arith}
 use native.Mathlib.Nat.{eq-or-lt-of-le}
 use lib.IntN.{pos}
-use lib.ListN.{length, take, drop, List·getD-eq-default}
+use lib.ListN.{length, take, drop}
 use Rattle.exact.specs.Rational.{ℚ, _+ᵠ_, _*ᵠ_, -ᵠ_, _-ᵠ_, int}
 use Rattle.exact.specs.Order.{Nn}
 use Rattle.exact.specs.Sum.{sum}
@@ -19,6 +19,7 @@ use Rattle.spline.specs.Conditions.{Entry}
 use Rattle.spline.specs.Table.{Table, entry, row, cell}
 use Rattle.spline.specs.Step.{jump, jumps, Span, span, factors, newRow, newRows, step}
 use Rattle.spline.proofs.Outcome.{then-inverts, Chained, answer-unique, collect-inverts, Collected}
+use Rattle.spline.proofs.Table.{entry-past, cell-past}
 use Rattle.spline.proofs.Answers.{Spans, span-inverts, Factors, factors-inverts}
 use Rattle.spline.proofs.NewRows.{Mixed, newRow-inverts}
 use Rattle.theorems.proofs.NullSpace.{Jumps, mixed, last-factor}
@@ -35,7 +36,7 @@ abbrev pub values : List Entry → Table → ℕ → ℚ
 values κ t i = applied κ (cell t i)
 
 pub values-past : (κ : List Entry) (t : Table) (i : ℕ) → length t ≤ i → values κ t i ≡ int (pos 0)
-values-past κ t i h = applied-ext κ (λ c. ap (λ r. entry r c) (List·getD-eq-default t [] h)) ∙ applied-zero κ
+values-past κ t i h = applied-ext κ (λ c. cell-past t i c h) ∙ applied-zero κ
 
 jumps-inverts : (j : ℕ) (κ : List Entry) (t : Table) {js : List ℚ} → jumps j κ t ≡ answer js → (length js ≡ length t) × ((i : ℕ) → entry js i ≡ values κ t i)
 jumps-inverts j κ t {js} e = (parts .size, λ i. place i (le-or-lt (length t) i))
@@ -44,7 +45,7 @@ jumps-inverts j κ t {js} e = (parts .size, λ i. place i (le-or-lt (length t) i
     parts = collect-inverts (length t) (λ i. jump j κ (row t i)) e
 
     place : (i : ℕ) → (length t ≤ i) ⊎ (i < length t) → entry js i ≡ values κ t i
-    place i (inl h) = List·getD-eq-default js (int (pos 0)) (rw (parts .size) h) ∙ sym (values-past κ t i h)
+    place i (inl h) = entry-past js i (rw (parts .size) h) ∙ sym (values-past κ t i h)
     place i (inr h) = jump-inverts j κ (row t i) (parts .at i h (int (pos 0)))
 
 -- What a step that answers leaves.

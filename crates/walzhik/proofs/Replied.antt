@@ -1,6 +1,6 @@
 -- The struct that C and Rust receive is the outcome's, whatever enum it comes from. `reply` is the definition that gives
 -- document 01's number and place for the cases of that enum.
-use mathlib.Core.Path.{_≡_, refl, sym, ap, _∙_}
+use mathlib.Core.Path.{_≡_, ap, _∙_}
 use Prim.Native.Nat.{ℕ}
 use Rattle.spline.specs.Outcome.{Outcome, answer, refusal}
 use Rattle.walzhik.specs.Reply.{replied}

@@ -10,7 +10,6 @@ use lib.IntN.{pos}
 use lib.ListN.{length, take, drop, length-append, length-take, length-drop, List·getD-append}
 use lib.Seq.{length-take-le, getD-take, getD-drop, getD-append-add}
 use Rattle.exact.specs.Rational.{ℚ, int}
-use Rattle.exact.proofs.Tabulate.{tab-length}
 use Rattle.fraction.specs.Size.{fits}
 use Rattle.fraction.proofs.Size.{int-fits}
 use Rattle.spline.specs.Outcome.{answer, _then_}
@@ -20,9 +19,10 @@ use Rattle.spline.specs.Conditions.{Entry, conditions}
 use Rattle.spline.specs.Step.{Span, newEntry, newRow, newRows, jumps, span, factors, mixed, step}
 use Rattle.spline.specs.Build.{orderSteps, joinSteps, weights}
 use Rattle.spline.proofs.Outcome.{answer-unique, then-inverts, Collected, collect-inverts, repeat-keeps}
+use Rattle.spline.proofs.Table.{cell-past, identity-rows, identity-on, identity-off, identity-low, identity-wide}
 use Rattle.spline.proofs.Answers.{jumps-length, span-inverts}
 use Rattle.cells.specs.Held.{Shaped}
-use Rattle.cells.proofs.Tables.{cell-past, renewed, identity-on, identity-off, identity-low, identity-wide}
+use Rattle.cells.proofs.Tables.{renewed}
 use Rattle.rows.proofs.Mixing.{newRow-fits}
 
 -- ---- tables whose entries all fit
@@ -118,8 +118,7 @@ module _ (j : ℕ) (g : Span) (ws : Row) (t : Table) {rs : Table} (e : newRows j
 -- ---- the identity's shape
 
 pub identity-shaped : (n : ℕ) → n ≤ rowCells → Shaped (identity n) n n
-unfolding identity
-identity-shaped n h = record { row-count = tab-length n _; wide = λ i l. identity-wide n i l; rows-fit = h; columns-fit = h }
+identity-shaped n h = record { row-count = identity-rows n; wide = λ i l. identity-wide n i l; rows-fit = h; columns-fit = h }
 
 -- ---- a step's table: one row less, as wide as before, and it fits
 

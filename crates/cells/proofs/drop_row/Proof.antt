@@ -11,9 +11,10 @@ use lib.ListN.{length, getD, take, drop}
 use Rattle.exact.specs.Rational.{ℚ, int}
 use Rattle.exact.proofs.Rational.{int-num, int-den}
 use Rattle.spline.specs.Table.{Table, entry, cell, rowCells, tableCells}
+use Rattle.spline.proofs.Table.{cell-past}
 use Rattle.cells.specs.Part.{filled, moved}
 use Rattle.cells.proofs.Part.{filled-length, filled-inside, filled-before, filled-after, moved-length, moved-inside, moved-before, moved-after}
-use Rattle.cells.proofs.Tables.{cell-past, row-without-before, row-without-from}
+use Rattle.cells.proofs.Tables.{row-without-before, row-without-from}
 use Rattle.cells.proofs.Buffer.{laid, laid-by, laid-reads, numerator, denominator, numerators-laid, denominators-laid, holds-num, holds-den}
 use Rattle.cells.proofs.drop_row.Statement.{statement}
 use Rattle.cells.proofs.drop_row.Tie as tie

@@ -12,9 +12,9 @@ use lib.ListN.{length, getD}
 use Rattle.exact.specs.Rational.{den, int}
 use Rattle.exact.proofs.Rational.{int-num, int-den}
 use Rattle.spline.specs.Table.{cell, identity, rowCells, tableCells, numerators, denominators}
+use Rattle.spline.proofs.Table.{identity-low, identity-off, identity-on}
 use Rattle.cells.specs.Part.{filled, marked}
 use Rattle.cells.proofs.Part.{filled-length, filled-inside, filled-after, diagonal, diagonal-yes, diagonal-off, diagonal-after, marked-length, marked-on, marked-off}
-use Rattle.cells.proofs.Tables.{identity-low, identity-off, identity-on}
 use Rattle.cells.proofs.Buffer.{laid-by, numerator, denominator, numerators-laid, denominators-laid}
 use Rattle.cells.proofs.identity.Statement.{statement}
 use Rattle.cells.proofs.identity.Tie as tie
