@@ -1,13 +1,12 @@
 -- The build (document 01, "Building the weights" and "Numbers and places"): the table or the first refusal, and what the
 -- two lent buffers hold afterwards.
-use mathlib.Core.Bool.{Bool, true, false, cond, _||_}
+use mathlib.Core.Bool.{Bool, cond, _||_}
 use mathlib.Core.List.{List, []}
-use Prim.Native.Nat.{ℕ, zero, suc, _-_}
+use Prim.Native.Nat.{ℕ, _-_}
 use lib.Dec.{eqb, ltb}
 use lib.IntN.{ℤ}
-use lib.ListN.{length}
-use Rattle.spline.specs.Outcome.{Outcome, answer, refusal, refuse, _then_, with-answer, repeat}
-use Rattle.spline.specs.Space.{Space, segments, checked, columnCount, conditionCount, rowCount}
+use Rattle.spline.specs.Outcome.{Outcome, answer, refusal, refuse, _then_, repeat}
+use Rattle.spline.specs.Space.{Space, segments, checked, columnCount, conditionCount}
 use Rattle.spline.specs.Conditions.{conditions}
 use Rattle.spline.specs.Table.{Table, identity, tableCells, numerators, denominators}
 use Rattle.spline.specs.Step.{step}

@@ -1,7 +1,7 @@
 -- The column of conditions of a join and an order (document 01, "Building the weights"), as its few non-zero entries.
 use mathlib.Core.List.{List, [], _∷_, _++_, map}
 use Prim.Native.Nat.{ℕ, zero, suc, _+_, _-_, _*_, _^_, _/_}
-use lib.IntN.{ℤ, pos, negsuc, _*ℤ_, negℤ, natAbs}
+use lib.IntN.{ℤ, pos, _*ℤ_, negℤ, natAbs}
 use Rattle.exact.specs.Gcd.{gcd}
 use Rattle.exact.specs.Rational.{signed}
 use Rattle.exact.specs.Tabulate.{tab}

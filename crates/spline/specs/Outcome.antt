@@ -1,6 +1,5 @@
 -- What a call of document 01 ends with: an answer, or a refusal with its number and place.
 -- Document 01, "Numbers and places"; the steps of a computation are chained so that the first refusal is the one that counts.
-use mathlib.Core.Bool.{Bool, true, false, cond}
 use mathlib.Core.List.{List, [], _∷_, _++_}
 use Prim.Native.Nat.{ℕ, zero, suc, min}
 

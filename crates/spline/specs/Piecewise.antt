@@ -3,12 +3,12 @@
 use mathlib.Core.Path.{_≡_}
 use mathlib.Core.List.{List, [], _∷_}
 use Prim.Native.Nat.{ℕ, _-_, _<_}
-use lib.IntN.{ℤ, pos}
+use lib.IntN.{pos}
 use lib.ListN.{length}
 use Rattle.exact.specs.Rational.{ℚ, int, _+ᵠ_, _*ᵠ_}
 use Rattle.exact.specs.Sum.{sum}
 use Rattle.exact.specs.Tabulate.{tab}
-use Rattle.spline.specs.Outcome.{Outcome, answer}
+use Rattle.spline.specs.Outcome.{answer}
 use Rattle.spline.specs.Space.{Space, segments, columnCount, conditionCount}
 use Rattle.spline.specs.Conditions.{Entry, conditions}
 use Rattle.spline.specs.Table.{Row, Table, entry, cell}

@@ -2,12 +2,11 @@
 -- document 000), sections 2 and 3.2 with Figures 1 and 2, written from that paper alone. The segments are its Bernstein
 -- pieces (its Remark 2) and all numbers are exact fractions. The paper counts from 1, this file from 0: its segment join
 -- i is join i - 1 here, its k-th column order k - 1. Its mu is firstColumn, its kappa + 1 conditionCount.
-use mathlib.Core.Bool.{Bool, cond, not}
-use mathlib.Core.List.{List}
-use mathlib.Core.Option.{Option, Option·getD}
+use mathlib.Core.Bool.{cond, not}
+use mathlib.Core.Option.{Option·getD}
 use Prim.Native.Nat.{ℕ, zero, suc, _-_}
 use lib.Dec.{eqb, leb, ltb}
-use lib.IntN.{ℤ, pos}
+use lib.IntN.{pos}
 use lib.ListN.{length}
 use Rattle.exact.specs.Rational.{ℚ, int, _*ᵠ_, -ᵠ_, _-ᵠ_, _/ᵠ_}
 use Rattle.exact.specs.Order.{isZero}

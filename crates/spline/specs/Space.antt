@@ -1,15 +1,15 @@
 -- A space: breakpoints, degrees and continuity orders, and the refusals 2 to 5 of document 01 ("What the engine takes",
 -- "Numbers and places"). The lists hold any whole numbers and have any length; all functions here are total.
 -- A segment is document 01's stretch; an order of -1 is its scar.
-use mathlib.Core.Bool.{Bool, true, false, cond, not, _&&_, _||_}
+use mathlib.Core.Bool.{Bool, cond, not, _&&_, _||_}
 use mathlib.Core.List.{List}
 use mathlib.Core.Option.{Option, some, none}
 use Prim.Native.Nat.{ℕ, zero, suc, _+_, _-_}
-use lib.Dec.{eqb, leb, ltb}
-use lib.IntN.{ℤ, pos, negsuc, _-ℤ_, _+ℤ_, natAbs, negℤ}
+use lib.Dec.{eqb, leb}
+use lib.IntN.{ℤ, pos, _-ℤ_, _+ℤ_, natAbs, negℤ}
 use lib.ListN.{length, getD}
 use lib.Signed.{leZ, ltZ}
-use Rattle.spline.specs.Outcome.{Outcome, answer, refusal, refuse, _then_}
+use Rattle.spline.specs.Outcome.{Outcome, answer, refuse}
 use Rattle.spline.specs.Search.{first}
 
 -- The three lists.

@@ -1,16 +1,16 @@
 -- One step of the build: the jumps, the rows they span, the factors and the new rows, with the counted fractions in
 -- document 01's order ("Building the weights"). j is the join, which is the place of 8 and 9.
-use mathlib.Core.Bool.{Bool, true, false, cond, not, _&&_}
+use mathlib.Core.Bool.{Bool, cond, not, _&&_}
 use mathlib.Core.List.{List, [], _∷_, _++_}
 use mathlib.Core.Option.{Option, some, none}
-use Prim.Native.Nat.{ℕ, zero, suc, _+_, _-_}
-use lib.IntN.{ℤ, pos}
-use lib.ListN.{length, getD, take, drop}
+use Prim.Native.Nat.{ℕ, suc, _+_, _-_}
+use lib.IntN.{pos}
+use lib.ListN.{length, take, drop}
 use Rattle.exact.specs.Rational.{ℚ, int, _+ᵠ_, _*ᵠ_, _-ᵠ_, _/ᵠ_}
 use Rattle.exact.specs.Order.{isZero, ltᵠ}
 use Rattle.exact.specs.Sum.{sum}
 use Rattle.fraction.specs.Size.{fits}
-use Rattle.spline.specs.Outcome.{Outcome, answer, refusal, refuse, _then_, collect}
+use Rattle.spline.specs.Outcome.{Outcome, answer, refuse, _then_, collect}
 use Rattle.spline.specs.Search.{first, last, found}
 use Rattle.spline.specs.Conditions.{Entry}
 use Rattle.spline.specs.Table.{Row, Table, entry, row}
