@@ -7,10 +7,11 @@ use Prim.Native.Nat.{ℕ, zero, suc, _<_}
 use native.Mathlib.Omega.{arith}
 use lib.IntN.{ℤ}
 use lib.Signed.{leZ, _≤ℤ_}
-use Rattle.exact.proofs.Decide.{below-suc}
+use Rattle.exact.proofs.Decide.{below-suc, true-not-false, cond-true, cond-false}
 use Rattle.exact.proofs.Integer as Z
 use Rattle.exact.proofs.Word.{leZ-true, leZ-false, le-test}
 use Rattle.spline.specs.Reading.{preferred, best}
+use Rattle.spline.proofs.Reading.{best-skips, best-takes}
 
 -- m is one of the numbers a i with i below n that pass, and it is preferred to them all.
 pub record Best (prefers : ℤ → ℤ → Bool) (passes : ℕ → Bool) (a : ℕ → ℤ) (n : ℕ) (m : ℤ) : Type 0 where
@@ -32,14 +33,6 @@ record TotalOrder (prefers : ℤ → ℤ → Bool) : Type 0 where
   other : (x y : ℤ) → prefers x y ≡ false → prefers y x ≡ true
 
 module _ (prefers : ℤ → ℤ → Bool) (order : TotalOrder prefers) (passes : ℕ → Bool) (a : ℕ → ℤ) where
-  best-passing : (n : ℕ) → passes n ≡ true → best prefers (suc n) passes a ≡ some (preferred prefers (best prefers n passes a) (a n))
-  unfolding best
-  best-passing n t = ap (λ b. cond b (some (preferred prefers (best prefers n passes a) (a n))) (best prefers n passes a)) t
-
-  best-kept : (n : ℕ) → passes n ≡ false → best prefers (suc n) passes a ≡ best prefers n passes a
-  unfolding best
-  best-kept n t = ap (λ b. cond b (some (preferred prefers (best prefers n passes a) (a n))) (best prefers n passes a)) t
-
   seek : (n : ℕ) → Sought prefers passes a n
   unfolding best
   seek zero = nowhere (λ k h. absurd (omega arith)) refl
@@ -52,21 +45,21 @@ module _ (prefers : ℤ → ℤ → Bool) (order : TotalOrder prefers) (passes :
             below = omega (arith, B .below);
             passing = B .passing;
             is = B .is;
-            over = below-suc (λ k. passes k ≡ true → prefers m (a k) ≡ true) (B .over) (λ p. absurd (let z : _≡_ {A = ℕ} 0 1 = cc in omega arith));
-          }) (best-kept n t ∙ e)
-      go (nowhere h e) false t = nowhere (below-suc (λ k. passes k ≡ false) h t) (best-kept n t ∙ e)
+            over = below-suc (λ k. passes k ≡ true → prefers m (a k) ≡ true) (B .over) (λ p. absurd (true-not-false p t));
+          }) (best-skips prefers passes a n t ∙ e)
+      go (nowhere h e) false t = nowhere (below-suc (λ k. passes k ≡ false) h t) (best-skips prefers passes a n t ∙ e)
       go (nowhere h e) true t = at (a n)
           (record {
             index = n;
             below = omega arith;
             passing = t;
             is = refl;
-            over = below-suc (λ k. passes k ≡ true → prefers (a n) (a k) ≡ true) (λ k l p. absurd (let q = h k l in let z : _≡_ {A = ℕ} 0 1 = cc in omega arith)) (λ p. order .itself (a n));
-          }) (best-passing n t ∙ ap (λ o. some (preferred prefers o (a n))) e)
+            over = below-suc (λ k. passes k ≡ true → prefers (a n) (a k) ≡ true) (λ k l p. absurd (true-not-false p (h k l))) (λ p. order .itself (a n));
+          }) (best-takes prefers passes a n t ∙ ap (λ o. some (preferred prefers o (a n))) e)
       go (at m B e) true t = choose (prefers m (a n)) refl
         where
           found : (v : ℤ) → cond (prefers m (a n)) m (a n) ≡ v → best prefers (suc n) passes a ≡ some v
-          found v c = best-passing n t ∙ ap (λ o. some (preferred prefers o (a n))) e ∙ ap some c
+          found v c = best-takes prefers passes a n t ∙ ap (λ o. some (preferred prefers o (a n))) e ∙ ap some c
 
           choose : (b : Bool) → prefers m (a n) ≡ b → Sought prefers passes a (suc n)
           choose true p = at m
@@ -76,7 +69,7 @@ module _ (prefers : ℤ → ℤ → Bool) (order : TotalOrder prefers) (passes :
                 passing = B .passing;
                 is = B .is;
                 over = below-suc (λ k. passes k ≡ true → prefers m (a k) ≡ true) (B .over) (λ q. p);
-              }) (found m (ap (λ b. cond b m (a n)) p))
+              }) (found m (cond-true m (a n) p))
           choose false p = at (a n)
               (record {
                 index = n;
@@ -84,7 +77,7 @@ module _ (prefers : ℤ → ℤ → Bool) (order : TotalOrder prefers) (passes :
                 passing = t;
                 is = refl;
                 over = below-suc (λ k. passes k ≡ true → prefers (a n) (a k) ≡ true) (λ k l q. order .chain (a n) m (a k) (order .other m (a n) p) (B .over k l q)) (λ q. order .itself (a n));
-              }) (found (a n) (ap (λ b. cond b m (a n)) p))
+              }) (found (a n) (cond-false m (a n) p))
 
 rising : TotalOrder leZ
 rising = record {
@@ -110,7 +103,7 @@ pub record Extreme (prefers : ℤ → ℤ → Bool) (passes : ℕ → Bool) (a :
 
 extreme : (prefers : ℤ → ℤ → Bool) (passes : ℕ → Bool) (a : ℕ → ℤ) (n i : ℕ) → i < n → passes i ≡ true → Sought prefers passes a n → Extreme prefers passes a n
 extreme prefers passes a n i h p (at m B e) = record { value = m; found = e; is-best = B }
-extreme prefers passes a n i h p (nowhere f e) = absurd (let q = f i h in let z : _≡_ {A = ℕ} 0 1 = cc in omega arith)
+extreme prefers passes a n i h p (nowhere f e) = absurd (true-not-false p (f i h))
 
 module _ (passes : ℕ → Bool) (a : ℕ → ℤ) (n : ℕ) where
   pub least-exists : (i : ℕ) → i < n → passes i ≡ true → Extreme leZ passes a n

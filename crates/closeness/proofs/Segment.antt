@@ -2,25 +2,25 @@
 -- offset u is from 0 to D, and D is positive. These are what a blend needs of its factors.
 use mathlib.Core.Path.{_≡_, sym, _∙_, ap, subst}
 use mathlib.Core.Logic.{_⊎_, inl, inr}
-use mathlib.Core.Bool.{Bool, true, not}
+use mathlib.Core.Bool.{Bool, true}
 use mathlib.Core.Option.{Option·getD}
 use Prim.Native.Nat.{ℕ, suc, _<_}
 use native.Mathlib.Omega.{arith}
 use native.Mathlib.Nat.{eq-or-lt-of-le, mul-pos}
 use lib.IntN.{ℤ, pos, _-ℤ_, _*ℤ_, negℤ}
 use lib.Signed.{leZ, _≤ℤ_, _<ℤ_, pos-natAbs}
-use Rattle.exact.proofs.Decide.{and-true, or-false, holds-true, true-not-false}
+use Rattle.exact.proofs.Decide.{and-true, holds-true, true-not-false}
 use Rattle.exact.proofs.Integer as Z
 use Rattle.exact.proofs.Word.{leZ-true, leZ-false}
 use Rattle.spline.specs.Outcome.{answer}
 use Rattle.spline.specs.Search.{last}
-use Rattle.spline.specs.Space.{Space, segments, break, between, badBreak, checked}
+use Rattle.spline.specs.Space.{Space, segments, break, checked}
 use Rattle.spline.specs.Build.{weights, spaceWeights}
 use Rattle.spline.specs.Piecewise.{Accepted}
 use Rattle.spline.specs.Reading.{parts, fine, segmentAt, fineWidth, offset}
 use Rattle.spline.proofs.Outcome.{then-inverts}
 use Rattle.spline.proofs.Search.{SearchedBack, at, nowhere, search-last}
-use Rattle.spline.proofs.Legal.{Checked, checked-inverts, legal}
+use Rattle.spline.proofs.Legal.{Checked, checked-inverts, legal, good-break-rises}
 use Rattle.closeness.specs.Demand3.{InSpan}
 use Rattle.closeness.proofs.Fine.{fine-sub}
 
@@ -32,8 +32,7 @@ accepted-checked s a = let c = then-inverts (checked s) weights (a .is) in let i
 
 -- breakpoints rise
 pub breaks-rise : (s : Space) → Checked s → (i : ℕ) → i < segments s → break s i <ℤ break s (suc i)
-unfolding badBreak
-breaks-rise s c i h = leZ-false (break s (suc i)) (break s i) (or-false (not (between (negℤ (pos 10000)) (pos 10000) (break s (suc i)))) (leZ (break s (suc i)) (break s i)) (c .breaks (suc i) (omega arith)) .1)
+breaks-rise s c i h = good-break-rises s i (c .breaks (suc i) (omega arith))
 
 -- D is the distance of the fine breakpoints
 pub fineWidth-is : (s : Space) → Checked s → (i : ℕ) → i < segments s → pos (fineWidth s i) ≡ fine (break s (suc i)) -ℤ fine (break s i)
@@ -68,7 +67,7 @@ located s c x inside = go (search-last starts (segments s))
     ends = and-true (leZ (fine (break s 0)) x) (leZ x (fine (break s (segments s)))) (holds-true _ inside)
 
     go : SearchedBack starts (segments s) → Located s x (Option·getD (last (segments s) (λ i. leZ (fine (break s i)) x)) 0)
-    go (nowhere none-starts e) = absurd (true-not-false (ends .0) (none-starts 0 (legal s c .some-segment)))
+    go (nowhere none-starts e) = absurd (true-not-false (ends .0) (none-starts 0 (legal s c .lengths .some-segment)))
     go (at i L e) = subst (Located s x) (sym (ap (λ o. Option·getD o 0) e)) (located-between s c x i (L .below) (leZ-true (fine (break s i)) x (L .meets)) (end (eq-or-lt-of-le (L .below))))
       where
         end : (suc i ≡ segments s) ⊎ (suc i < segments s) → x ≤ℤ fine (break s (suc i))

@@ -1,6 +1,6 @@
 -- Laws of the column of conditions of a join and an order: its greatest common divisor is that of the two sides' scales,
--- so its entries, place by place, are the divided scales times signed binomials. With them come the sizes of the factors
--- and of the columns, which the jumps of a step rest on.
+-- so its entries, place by place, are the divided scales times signed binomials. With them come the sizes of the factors,
+-- which the jumps of a step rest on.
 use mathlib.Core.Path.{_≡_, refl, sym, _∙_, ap, ap₂}
 use mathlib.Core.Logic.{_≢_}
 use mathlib.Core.Bool.{cond}
@@ -21,9 +21,8 @@ use Rattle.exact.proofs.Integer.{*-assoc, *-neg, abs-neg, abs-mul, abs-mul-le}
 use Rattle.exact.proofs.Tabulate.{tab-length, tab-getD, getD-tab, map-tab, tab-ext}
 use Rattle.spline.specs.Space.{Space, degree, width, firstColumn}
 use Rattle.spline.specs.Conditions.{Entry, falling, binomial, alternating, scale, leftEntry, rightEntry, undivided, commonDivisor, divided, conditions}
-use Rattle.spline.specs.Table.{rowCells}
 use Rattle.spline.proofs.Conditions.{alternating-abs}
-use Rattle.conditions.specs.Sides.{JoinIs, JoinFits}
+use Rattle.conditions.specs.Sides.{JoinFits}
 use Rattle.conditions.specs.declared.Join.{Join}
 use Rattle.conditions.specs.Terms.{scaleOf, noEntry, columnOf, factorsOf}
 
@@ -208,29 +207,6 @@ factors-getD es e h = tab-getD 6 (λ i. (getD es i noEntry) .factor) e (pos 0) h
 
 -- ---- the sizes
 
--- What is known of join j of a legal space and of one of its orders.
-pub record JoinBounds (s : Space) (j k : ℕ) : Type 0 where
-  pub left-short : width s j ≤ 2000
-  pub right-short : width s (suc j) ≤ 2000
-  pub left-long : 1 ≤ width s j
-  pub right-long : 1 ≤ width s (suc j)
-  pub left-degree : degree s j ≤ 5
-  pub right-degree : degree s (suc j) ≤ 5
-  pub order-left : k < degree s j
-  pub order-right : k < degree s (suc j)
-  pub order : k ≤ 2
-  pub left-columns : firstColumn s j + degree s j < firstColumn s (suc j)
-  pub right-columns : firstColumn s (suc j) + degree s (suc j) < rowCells
-
--- They hold of every space of which the machine's join is a join.
-pub join-bounds : {join : Join} {s : Space} {j k : ℕ} → JoinFits join k → JoinIs join s j → JoinBounds s j k
-join-bounds f i =
-    let a = ap natAbs (f .is .left-is .length-is) in
-    let b = ap natAbs (f .is .right-is .length-is) in
-    let c = ap natAbs (i .left-is .length-is) in
-    let d = ap natAbs (i .right-is .length-is) in
-    omega arith
-
 -- No scale is above F(5, 2) times the square of the longest span.
 abbrev pub scaleLimit : ℕ
 scaleLimit = 20 * 2000 ^ 2
@@ -263,12 +239,18 @@ term-small : (a g k t : ℕ) → a ≤ scaleLimit → k ≤ 2 → natAbs (pos (a
 term-small a g k t h l = omega (arith, abs-mul-le (pos (a / g)) (signedBinomial k t) scaleLimit 4 (le-trans (div-le-self a g) h) (signed-binomial-le k t l))
 
 -- Every factor is below the size of a counted fraction's parts.
-pub factor-small : (s : Space) (j k : ℕ) → JoinBounds s j k → (e : ℕ) → natAbs ((getD (conditions s j k) e noEntry) .factor) < 2 ^ 31
-factor-small s j k b e = go (decLe e k) (decLe (2 * k + 2) e)
+pub factor-small : {join : Join} {k : ℕ} (f : JoinFits join k) (e : ℕ) → natAbs ((getD (conditions (f .space) (f .index) k) e noEntry) .factor) < 2 ^ 31
+factor-small {k = k} f e = go (decLe e k) (decLe (2 * k + 2) e)
   where
+    s : Space
+    s = f .space
+
+    j : ℕ
+    j = f .index
+
     go : Dec (e ≤ k) → Dec (2 * k + 2 ≤ e) → natAbs ((getD (conditions s j k) e noEntry) .factor) < 2 ^ 31
-    go (yes l) d = rw (entry-left s j k e l) (term-small (leftScale s j k) (divisor s j k) k e (scale-le (degree s j) k (width s (suc j)) (b .left-degree) (b .order) (b .right-short)) (b .order))
+    go (yes l) d = rw (entry-left s j k e l) (term-small (leftScale s j k) (divisor s j k) k e (scale-le (degree s j) k (width s (suc j)) (f .left-degree) (f .order) (f .right-short)) (f .order))
     go (no l) (yes d) = rw (entry-none s j k e d) (omega arith)
     go (no l) (no d) = rw (entry-right s j k e (omega arith) (omega arith))
         (rw (abs-neg (pos (rightQuotient s j k) *ℤ signedBinomial k (e - k - 1)))
-        (term-small (rightScale s j k) (divisor s j k) k (e - k - 1) (scale-le (degree s (suc j)) k (width s j) (b .right-degree) (b .order) (b .left-short)) (b .order)))
+        (term-small (rightScale s j k) (divisor s j k) k (e - k - 1) (scale-le (degree s (suc j)) k (width s j) (f .right-degree) (f .order) (f .left-short)) (f .order)))

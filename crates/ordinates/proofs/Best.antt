@@ -7,6 +7,7 @@ use native.Mathlib.Omega.{arith}
 use lib.IntN.{ℤ, pos, natAbs}
 use Rattle.exact.proofs.Decide.{cond-true, cond-false}
 use Rattle.spline.specs.Reading.{best, preferred}
+use Rattle.spline.proofs.Reading.{best-skips, best-takes}
 use Rattle.ordinates.specs.Ordinates.{known, given}
 
 -- ---- the better of two
@@ -27,15 +28,6 @@ module _ (prefers : ℤ → ℤ → Bool) {known : Bool} (a b : ℤ) where
 pub given-known : (o : Option ℤ) → given (known o) (Option·getD o (pos 0)) ≡ o
 given-known none = refl
 given-known (some z) = refl
-
-module _ (prefers : ℤ → ℤ → Bool) (passes : ℕ → Bool) (a : ℕ → ℤ) (n : ℕ) where
-  pub best-skips : passes n ≡ false → best prefers (suc n) passes a ≡ best prefers n passes a
-  unfolding best
-  best-skips e = cond-false _ _ e
-
-  pub best-takes : passes n ≡ true → best prefers (suc n) passes a ≡ some (preferred prefers (best prefers n passes a) (a n))
-  unfolding best
-  best-takes e = cond-true _ _ e
 
 -- there is a best one whatever is preferred, where an index passes
 pub known-best : (p q : ℤ → ℤ → Bool) (passes : ℕ → Bool) (a : ℕ → ℤ) (n : ℕ) → known (best p n passes a) ≡ known (best q n passes a)

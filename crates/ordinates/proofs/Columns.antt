@@ -18,10 +18,11 @@ use Rattle.exact.proofs.Tabulate.{tab-length, tab-getD, tab-none, tab-more, tab
 use Rattle.spline.specs.Space.{Space, degree, firstColumn, columnCount}
 use Rattle.spline.specs.Table.{Table, cell, rowCells}
 use Rattle.spline.specs.Reading.{coefficient, least, greatest, hasWeight, term, termSum, atLeast, atMost, ordinate, ordinates, segmentAt, fineWidth, offset, triangle, blended, valueAt, values}
+use Rattle.spline.proofs.Reading.{best-skips, best-takes}
 use Rattle.cells.specs.Held.{Holds}
 use Rattle.ordinates.specs.Ordinates.{known, given, termsOf, padded, Bounded, ordinateLimit}
 use Rattle.ordinates.specs.declared.Terms.{Terms}
-use Rattle.ordinates.proofs.Best.{given-known, known-best, best-skips, best-takes, best-small}
+use Rattle.ordinates.proofs.Best.{given-known, known-best, best-small}
 use Rattle.ordinates.proofs.Bounds.{limits-abs}
 
 -- ---- no weight, no sum

@@ -19,11 +19,12 @@ use Rattle.exact.proofs.Integer.{abs-zero, abs-add, +-zero}
 use Rattle.fraction.specs.Machine.{fraction}
 use Rattle.spline.specs.Table.{Table, cell, rowCells}
 use Rattle.spline.specs.Reading.{best, least, greatest, preferred, hasWeight, termSum, term, rounded, fine, coefficient}
+use Rattle.spline.proofs.Reading.{best-skips, best-takes}
 use Rattle.cells.specs.Held.{Holds}
 use Rattle.cells.proofs.Buffer.{holds-cell}
 use Rattle.ordinates.specs.Ordinates.{known, given, termsOf, Added, ordinateLimit}
 use Rattle.ordinates.specs.declared.Terms.{Terms}
-use Rattle.ordinates.proofs.Best.{given-known, best-skips, best-takes, known-best}
+use Rattle.ordinates.proofs.Best.{given-known, known-best}
 
 -- ---- one cell of the buffers
 

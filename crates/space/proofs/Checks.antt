@@ -12,10 +12,11 @@ use Rattle.spline.specs.Outcome.{Outcome, answer, refusal, refuse, _then_}
 use Rattle.spline.specs.Search.{first}
 use Rattle.spline.specs.Space.{Space, lengthsFit, badBreak, badDegree, badOrder, spanTooLong, refuseFirst, checkedEntries, checked}
 use Rattle.spline.proofs.Search.{first-ext}
+use Rattle.spline.proofs.Legal.{Lengths}
 use Rattle.spline.proofs.Outcome.{capped-small, then-answers, then-refuses}
 use Rattle.space.specs.Reply.{space}
 use Rattle.space.specs.Legal.{breaksChecked, degreesChecked, ordersChecked}
-use Rattle.space.proofs.Tests.{Lengths, lengths-fit}
+use Rattle.space.proofs.Tests.{lengths-fit}
 use Rattle.space.proofs.Partial.{bad-break-partial, bad-degree-partial, bad-order-partial}
 
 -- ---- one refusal

@@ -1,7 +1,7 @@
 -- What an entry that breaks no rule is, as facts of order, and back. The definitions test by flags; the laws of legal
 -- lists and of the machine's arithmetic want the order.
 use mathlib.Core.Path.{_≡_, sym, _∙_}
-use mathlib.Core.Bool.{false, _||_}
+use mathlib.Core.Bool.{false}
 use Prim.Native.Nat.{ℕ, zero, suc, _≤_}
 use native.Mathlib.Omega.{arith}
 use lib.IntN.{ℤ, pos, negsuc, natAbs}
@@ -28,9 +28,6 @@ module _ (s : Space) where
   pub good-break-size : (i : ℕ) → badBreak s i ≡ false → natAbs (break s i) ≤ 10000
   good-break-size zero e = let p = or-false _ _ (sym (break-zero s) ∙ e) in size-of (break s zero) (p .0) (p .1)
   good-break-size (suc i) e = let p = or-false _ _ (or-false _ _ (sym (break-suc s i) ∙ e) .0) in size-of (break s (suc i)) (p .0) (p .1)
-
-  pub good-break-rises : (i : ℕ) → badBreak s (suc i) ≡ false → break s i <ℤ break s (suc i)
-  good-break-rises i e = leZ-false (break s (suc i)) (break s i) (or-false (ltZ (break s (suc i)) (negsuc 9999) || ltZ (pos 10000) (break s (suc i))) _ (sym (break-suc s i) ∙ e) .1)
 
   pub break-good-first : natAbs (break s zero) ≤ 10000 → badBreak s zero ≡ false
   break-good-first h = break-zero s ∙ simp (not-lt-test (low-of (break s zero) h), not-lt-test (high-of (break s zero) h))

@@ -15,22 +15,17 @@ use Rattle.spline.specs.Space.{Space, lengthsFit, break, badBreak, badDegree, b
 use Rattle.spline.proofs.Outcome.{then-inverts, answer-unique, answer-not-refusal}
 use Rattle.spline.proofs.Search.{first-none, first-none-inverts}
 use Rattle.spline.proofs.Space.{firstColumn-mono}
-use Rattle.spline.proofs.Legal.{refuseFirst-inverts}
+use Rattle.spline.proofs.Legal.{refuseFirst-inverts, cond-refuse-inverts, Lengths, lengths-fit-inverts, good-break-rises}
 use Rattle.space.specs.Reply.{space, legality}
 use Rattle.space.specs.Legal.{BreaksLegal, DegreesLegal, JoinsLegal, ListsLegal, breaksChecked, degreesChecked, ordersChecked}
 use Rattle.space.specs.declared.Legality.the-variants.{Legal}
-use Rattle.space.proofs.Tests.{Lengths, lengths-fit-inverts}
-use Rattle.space.proofs.Entries.{good-break-size, good-break-rises, break-good-first, break-good, good-degree-low, good-degree-high, degree-good, GoodOrder, good-order, order-good}
+use Rattle.space.proofs.Entries.{good-break-size, break-good-first, break-good, good-degree-low, good-degree-high, degree-good, GoodOrder, good-order, order-good}
 use Rattle.space.proofs.Bounds.{width-difference, width-positive, width-within, degree-low, degree-high, first-column-high, condition-count-high, condition-count-left, condition-count-right, conditions-before-columns, conditions-columns, row-count-sum, row-count-low}
 use Rattle.space.proofs.Checks.{tooLong, breaks-pass, degrees-pass, orders-pass, checked-parts, checked-lengths, checked-orders}
 use Rattle.space.proofs.Reply.{legal-answers, answer-legal}
 pub use Rattle.space.proofs.Bounds.{breaks-rise, breaks-mono, first-column-zero, first-column-next, conditions-before-zero, conditions-before-next, conditions-before-mono}
 
 -- ---- what a check that passed tells
-
-flag-answers : {A : Type 0} (t : Bool) (number place : ℕ) (c : A) {a : A} → cond t (refuse number place) (answer c) ≡ answer a → t ≡ false
-flag-answers true number place c e = absurd (answer-not-refusal e refl)
-flag-answers false number place c e = refl
 
 module _ (b : List ℤ) (m : ℕ) (n : length b ≡ m + 1) (e : breaksChecked b m ≡ answer tt) where
   no-bad-break : (i : ℕ) → i < length b → badBreak (space b [] []) i ≡ false
@@ -45,7 +40,7 @@ module _ (b : List ℤ) (m : ℕ) (n : length b ≡ m + 1) (e : breaksChecked b 
 
   span-legal : (getD b m (pos 0) -ℤ getD b 0 (pos 0)) ≤ℤ pos 2000
   unfolding breaksChecked
-  span-legal = ltZ-false (pos 2000) (getD b m (pos 0) -ℤ getD b 0 (pos 0)) (flag-answers (tooLong b m) 3 m tt (refuseFirst-inverts 3 (first (m + 1) (badBreak (space b [] []))) (cond (tooLong b m) (refuse 3 m) (answer tt)) e .1))
+  span-legal = ltZ-false (pos 2000) (getD b m (pos 0) -ℤ getD b 0 (pos 0)) (cond-refuse-inverts (tooLong b m) 3 m (answer tt) (refuseFirst-inverts 3 (first (m + 1) (badBreak (space b [] []))) (cond (tooLong b m) (refuse 3 m) (answer tt)) e .1) .0)
 
 degrees-legal : (d : List ℤ) → degreesChecked d ≡ answer tt → DegreesLegal d
 unfolding degreesChecked
@@ -89,8 +84,8 @@ module _ (b d o : List ℤ) where
   checked-legal e =
       let p = passed e in
       record {
-        some = p .lengths .some;
-        few = p .lengths .few;
+        some = p .lengths .some-segment;
+        few = p .lengths .few-segments;
         break-count = p .lengths .break-count;
         order-count = p .lengths .order-count;
         breaks-legal = breaks-legal b (length d) (p .lengths .break-count) (p .breaks);
@@ -111,7 +106,7 @@ module _ (b d o : List ℤ) where
       ∙ ap (λ q. q then λ _. answer (space b d o)) (orders-pass d o (first-none _ (length o) good))
     where
       lengths : Lengths (space b d o)
-      lengths = record { some = h .some; few = h .few; break-count = h .break-count; order-count = h .order-count }
+      lengths = record { some-segment = h .some; few-segments = h .few; break-count = h .break-count; order-count = h .order-count }
 
       good-break : (i : ℕ) → i < length d + 1 → badBreak (space b [] []) i ≡ false
       good-break zero l = break-good-first (space b [] []) (h .breaks-legal .size 0 (omega (arith, h .break-count)))

@@ -1,17 +1,18 @@
 -- The machine's tests of one entry, taken one by one, and the tests of the definitions, which join them by "or". A test
 -- of order is its flag, as `simp toZ-ofZ at (c .if1 .taken)` leaves it.
 use mathlib.Core.Path.{_≡_, refl, sym, _∙_, ap, ap₂}
-use mathlib.Core.Bool.{Bool, true, false, not, _&&_, _||_, and-false, or-true, and-eq-true-iff}
+use mathlib.Core.Bool.{Bool, true, false, not, _&&_, _||_, and-false, or-true}
 use Prim.Native.Nat.{ℕ, zero, suc, _+_, _-_, _<_, _≤_}
 use native.Mathlib.Omega.{arith}
 use native.Mathlib.Numerals.{add-one}
-use borrow.Author.Tests.{leb-true, le-leb, lt-leb, eqb-true, eqb-false, eq-eqb, ne-eqb}
-use lib.Dec.{leb, eqb}
+use borrow.Author.Tests.{le-leb, lt-leb, eqb-true, eqb-false, eq-eqb, ne-eqb}
+use lib.Dec.{eqb}
 use lib.IntN.{ℤ, pos, negsuc}
 use lib.ListN.{length}
 use lib.Signed.{ltZ, leZ}
 use Rattle.exact.proofs.Word.{leZ-not-ltZ}
 use Rattle.spline.specs.Space.{Space, segments, lengthsFit, break, degreeEntry, order, between, badBreak, badDegree, badOrder}
+use Rattle.spline.proofs.Legal.{Lengths}
 
 -- ---- a number out of its range
 
@@ -50,30 +51,10 @@ module _ (s : Space) where
   unfolding lengthsFit
   orders-left h k e = eqb-shift (length (s .orders)) (segments s) h ∙ sym (simp (le-leb 1 (segments s) h, le-leb (segments s) 12 k, eq-eqb (length (s .breaks)) (segments s + 1) e))
 
--- what the lengths are
-pub record Lengths (s : Space) : Type 0 where
-  pub some : 1 ≤ segments s
-  pub few : segments s ≤ 12
-  pub break-count : length (s .breaks) ≡ segments s + 1
-  pub order-count : length (s .orders) + 1 ≡ segments s
-
-module _ (s : Space) where
-  pub lengths-fit-inverts : lengthsFit s ≡ true → Lengths s
-  unfolding lengthsFit
-  lengths-fit-inverts e =
-      let p = and-eq-true-iff (leb 1 (segments s) && leb (segments s) 12 && eqb (length (s .breaks)) (segments s + 1)) (eqb (length (s .orders) + 1) (segments s)) .0 e in
-      let q = and-eq-true-iff (leb 1 (segments s) && leb (segments s) 12) (eqb (length (s .breaks)) (segments s + 1)) .0 (p .0) in
-      let r = and-eq-true-iff (leb 1 (segments s)) (leb (segments s) 12) .0 (q .0) in
-      record {
-        some = leb-true 1 (segments s) (r .0);
-        few = leb-true (segments s) 12 (r .1);
-        break-count = eqb-true (length (s .breaks)) (segments s + 1) (q .1);
-        order-count = eqb-true (length (s .orders) + 1) (segments s) (p .1);
-      }
-
-  pub lengths-fit : Lengths s → lengthsFit s ≡ true
-  unfolding lengthsFit
-  lengths-fit h = simp (le-leb 1 (segments s) (h .some), le-leb (segments s) 12 (h .few), eq-eqb (length (s .breaks)) (segments s + 1) (h .break-count), eq-eqb (length (s .orders) + 1) (segments s) (h .order-count))
+-- and all at once
+pub lengths-fit : (s : Space) → Lengths s → lengthsFit s ≡ true
+unfolding lengthsFit
+lengths-fit s h = simp (le-leb 1 (segments s) (h .some-segment), le-leb (segments s) 12 (h .few-segments), eq-eqb (length (s .breaks)) (segments s + 1) (h .break-count), eq-eqb (length (s .orders) + 1) (segments s) (h .order-count))
 
 -- ---- the tests of an entry, one by one
 

@@ -5,11 +5,12 @@ use mathlib.Core.Bool.{Bool, true, false, cond, not, _&&_, _||_}
 use mathlib.Core.Option.{Option, some, none}
 use Prim.Native.Nat.{ℕ, zero, suc, _+_, _-_, _<_, _≤_}
 use native.Mathlib.Omega.{arith}
-use lib.Dec.{eqb, leb, leb→le, eqb→eq}
+use borrow.Author.Tests.{leb-true, eqb-true}
+use lib.Dec.{eqb, leb}
 use lib.IntN.{ℤ, pos, negsuc, _+ℤ_, _-ℤ_, negℤ, natAbs}
 use lib.ListN.{length}
-use lib.Signed.{leZ}
-use Rattle.exact.proofs.Decide.{and-true, or-false, not-false, true-holds}
+use lib.Signed.{leZ, _<ℤ_}
+use Rattle.exact.proofs.Decide.{and-true, or-false, not-false}
 use Rattle.exact.proofs.Integer.{up, dn, bal-+, bal-neg, ≤-out, <-out, abs-parts}
 use Rattle.exact.proofs.Word.{leZ-true, leZ-false}
 use Rattle.spline.specs.Outcome.{Outcome, answer, refusal, refuse}
@@ -102,12 +103,29 @@ checked-numbers s {number} {place} e = fitting (lengthsFit s) e
     fitting true r = breaks (first (segments s + 1) (badBreak s)) r
     fitting false r = is 2 0 (omega arith) r
 
--- The numbers of a space that passes.
-pub record Legal (s : Space) : Type 0 where
+-- What the lengths of the three lists are.
+pub record Lengths (s : Space) : Type 0 where
   pub some-segment : 1 ≤ segments s
   pub few-segments : segments s ≤ 12
   pub break-count : length (s .breaks) ≡ segments s + 1
   pub order-count : length (s .orders) + 1 ≡ segments s
+
+pub lengths-fit-inverts : (s : Space) → lengthsFit s ≡ true → Lengths s
+unfolding lengthsFit
+lengths-fit-inverts s e =
+    let a = and-true (leb 1 (segments s) && leb (segments s) 12 && eqb (length (s .breaks)) (segments s + 1)) (eqb (length (s .orders) + 1) (segments s)) e in
+    let b = and-true (leb 1 (segments s) && leb (segments s) 12) (eqb (length (s .breaks)) (segments s + 1)) (a .0) in
+    let d = and-true (leb 1 (segments s)) (leb (segments s) 12) (b .0) in
+    record {
+      some-segment = leb-true 1 (segments s) (d .0);
+      few-segments = leb-true (segments s) 12 (d .1);
+      break-count = eqb-true (length (s .breaks)) (segments s + 1) (b .1);
+      order-count = eqb-true (length (s .orders) + 1) (segments s) (a .1);
+    }
+
+-- The numbers of a space that passes.
+pub record Legal (s : Space) : Type 0 where
+  pub lengths : Lengths s
   pub least-degree : (i : ℕ) → i < segments s → 1 ≤ degree s i
   pub greatest-degree : (i : ℕ) → i < segments s → degree s i ≤ 5
   pub positive-width : (i : ℕ) → i < segments s → 0 < width s i
@@ -145,31 +163,25 @@ count-below d o g e h =
     go (pos d) (negsuc (suc n)) r p q = absurd (omega arith)
     go (negsuc d) o r p q = absurd (omega arith)
 
-width-range : (a b : ℤ) → leZ b a ≡ false → 0 < natAbs (b -ℤ a)
-width-range a b e = omega (arith, <-out a b (leZ-false b a e), bal-+ b (negℤ a), bal-neg a, abs-parts (b -ℤ a))
+pub good-break-rises : (s : Space) (i : ℕ) → badBreak s (suc i) ≡ false → break s i <ℤ break s (suc i)
+unfolding badBreak
+good-break-rises s i e = leZ-false (break s (suc i)) (break s i) (or-false (not (between (negℤ (pos 10000)) (pos 10000) (break s (suc i)))) (leZ (break s (suc i)) (break s i)) e .1)
+
+width-range : (a b : ℤ) → a <ℤ b → 0 < natAbs (b -ℤ a)
+width-range a b h = omega (arith, <-out a b h, bal-+ b (negℤ a), bal-neg a, abs-parts (b -ℤ a))
 
 pub legal : (s : Space) → Checked s → Legal s
-unfolding lengthsFit badBreak badDegree badOrder
+unfolding badDegree badOrder
 legal s c = record {
-  some-segment = leb→le 1 (segments s) (true-holds (lengths .0));
-  few-segments = leb→le (segments s) 12 (true-holds (lengths .1));
-  break-count = eqb→eq (length (s .breaks)) (segments s + 1) (true-holds (lengths .2));
-  order-count = eqb→eq (length (s .orders) + 1) (segments s) (true-holds (lengths .3));
+  lengths = lengths-fit-inverts s (c .lengths);
   least-degree = λ i h. degree-range (degreeEntry s i) (c .degrees i h) .0;
   greatest-degree = λ i h. degree-range (degreeEntry s i) (c .degrees i h) .1;
-  positive-width = λ i h. width-range (break s i) (break s (suc i)) (or-false (not (between (negℤ (pos 10000)) (pos 10000) (break s (suc i)))) (leZ (break s (suc i)) (break s i)) (c .breaks (suc i) (omega arith)) .1);
+  positive-width = λ i h. width-range (break s i) (break s (suc i)) (good-break-rises s i (c .breaks (suc i) (omega arith)));
   three-conditions = λ j h. count-range (order s j) (tests j h .0);
   below-left-degree = λ j h. count-below (degreeEntry s j) (order s j) (c .degrees j (omega arith)) (tests j h .0) (tests j h .1);
   below-right-degree = λ j h. count-below (degreeEntry s (suc j)) (order s j) (c .degrees (suc j) (omega arith)) (tests j h .0) (tests j h .2);
 }
   where
-    lengths : (leb 1 (segments s) ≡ true) × (leb (segments s) 12 ≡ true) × (eqb (length (s .breaks)) (segments s + 1) ≡ true) × (eqb (length (s .orders) + 1) (segments s) ≡ true)
-    lengths =
-        let a = and-true (leb 1 (segments s) && leb (segments s) 12 && eqb (length (s .breaks)) (segments s + 1)) (eqb (length (s .orders) + 1) (segments s)) (c .lengths) in
-        let b = and-true (leb 1 (segments s) && leb (segments s) 12) (eqb (length (s .breaks)) (segments s + 1)) (a .0) in
-        let d = and-true (leb 1 (segments s)) (leb (segments s) 12) (b .0) in
-        (d .0, d .1, b .1, a .1)
-
     tests : (j : ℕ) → j < segments s - 1 → (not (between (negℤ (pos 1)) (pos 2) (order s j)) ≡ false) × (leZ (degreeEntry s j) (order s j) ≡ false) × (leZ (degreeEntry s (suc j)) (order s j) ≡ false)
     tests j h =
         let a = or-false (not (between (negℤ (pos 1)) (pos 2) (order s j)) || leZ (degreeEntry s j) (order s j)) (leZ (degreeEntry s (suc j)) (order s j)) (c .orders j h) in

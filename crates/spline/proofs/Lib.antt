@@ -7,6 +7,7 @@ pub mod Space
 pub mod Legal
 pub mod Conditions
 pub mod Table
+pub mod Reading
 pub mod Step
 pub mod Answers
 pub mod NewRows

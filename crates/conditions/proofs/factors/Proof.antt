@@ -14,9 +14,11 @@ use Rattle.exact.specs.Tabulate.{tab}
 use Rattle.exact.proofs.Tabulate.{tab-none, tab-more, tab-rest}
 use Rattle.spline.specs.Space.{Space, degree, width}
 use Rattle.spline.specs.Conditions.{Entry, conditions}
+use Rattle.conditions.specs.Sides.{JoinFits}
+use Rattle.conditions.specs.declared.Join.{Join}
 use Rattle.conditions.specs.Terms.{scaleOf, ScaledOf, factorsOf}
 use Rattle.conditions.specs.declared.Scaled.{Scaled}
-use Rattle.conditions.proofs.Terms.{leftScale, rightScale, divisor, JoinBounds, join-bounds, scale-le, factor-is, entry-none}
+use Rattle.conditions.proofs.Terms.{leftScale, rightScale, divisor, scale-le, factor-is, entry-none}
 use Rattle.conditions.proofs.factors.Statement.{statement}
 use Rattle.conditions.proofs.factors.Tie as tie
 
@@ -30,11 +32,13 @@ all-filled r s j k h q = tab-rest 6 (2 * k + 2) (omega arith)
     (λ e l. ap₂ (λ x y. scaleOf x y k e) (q .left-is) (q .right-is) ∙ sym (factor-is s j k e l))
     (λ e l. ap (λ (x : Entry). x .factor) (entry-none s j k e l))
 
-scaled-small : (r : Scaled) (s : Space) (j k : ℕ) → JoinBounds s j k → ScaledOf r s j k → (natAbs (r .left) < 2 ^ 31) × (natAbs (r .right) < 2 ^ 31)
-scaled-small r s j k b q = (
-  omega (arith, ap natAbs (q .left-is), div-le-self (leftScale s j k) (divisor s j k), scale-le (degree s j) k (width s (suc j)) (b .left-degree) (b .order) (b .right-short)),
-  omega (arith, ap natAbs (q .right-is), div-le-self (rightScale s j k) (divisor s j k), scale-le (degree s (suc j)) k (width s j) (b .right-degree) (b .order) (b .left-short)),
-)
+scaled-small : (r : Scaled) {join : Join} {k : ℕ} (f : JoinFits join k) → ScaledOf r (f .space) (f .index) k → (natAbs (r .left) < 2 ^ 31) × (natAbs (r .right) < 2 ^ 31)
+scaled-small r {k = k} f q =
+    let s = f .space in
+    let j = f .index in (
+      omega (arith, ap natAbs (q .left-is), div-le-self (leftScale s j k) (divisor s j k), scale-le (degree s j) k (width s (suc j)) (f .left-degree) (f .order) (f .right-short)),
+      omega (arith, ap natAbs (q .right-is), div-le-self (rightScale s j k) (divisor s j k), scale-le (degree s (suc j)) k (width s j) (f .right-degree) (f .order) (f .left-short)),
+    )
 
 abbrev Inv-loop : tie.InvT-loop
 Inv-loop k s values₀ count e₀ values e = (e ≤ 2 * k + 2) × (values ≡ filled s k e)
@@ -58,7 +62,7 @@ factor-requires : tie.Need-factor-requires Inv-loop μ-loop
 factor-requires c κs =
     let b = c .before .before in
     let f = b .before .pre in
-    let z = scaled-small (b .scales .result) (f .space) (f .index) (b .before .args .k) (join-bounds f (f .is)) (b .scales .ensures (f .space) (f .index) (f .is)) in
+    let z = scaled-small (b .scales .result) f (b .scales .ensures (f .space) (f .index) (f .is)) in
     (z .0, (z .1, omega arith))
 
 mul-values : tie.Need-mul-values Inv-loop μ-loop

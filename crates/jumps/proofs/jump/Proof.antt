@@ -4,8 +4,8 @@ use native.Mathlib.Omega.{arith}
 use native.Mathlib.Numerals.{add-one}
 use mathlib.Core.Path.{_≡_, sym, _∙_, ap, ap₂}
 use mathlib.Core.List.{List, _∷_}
-use Prim.Native.Nat.{ℕ, suc, _+_, _*_, _-_, _^_, _<_, _≤_}
-use lib.IntN.{ℤ, pos, natAbs}
+use Prim.Native.Nat.{ℕ, suc, _+_, _*_, _-_, _≤_}
+use lib.IntN.{ℤ, pos}
 use lib.ListN.{getD, drop, drop-of-length-le}
 use lib.Seq.{drop-cons}
 use mir.Syntax.{w64}
@@ -29,7 +29,7 @@ use Rattle.cells.proofs.Buffer.{holds-cell}
 use Rattle.conditions.specs.Sides.{JoinIs}
 use Rattle.conditions.specs.Terms.{noEntry}
 use Rattle.conditions.specs.declared.Join.{Join}
-use Rattle.conditions.proofs.Terms.{conditions-length, factors-getD, join-bounds, factor-small}
+use Rattle.conditions.proofs.Terms.{conditions-length, factors-getD, factor-small}
 use Rattle.jumps.specs.Reply.{counted}
 use Rattle.jumps.proofs.Counted.{fits-answered, large-refused, refused-large, then-count-sized}
 use Rattle.jumps.proofs.jump.Statement.{statement}
@@ -101,9 +101,6 @@ module _ (c : tie.After-f Inv-loop μ-loop) (s : Space) (j : ℕ) (i : JoinIs (s
   factor-is : getD (start c .args .t6) (place c) (pos 0) ≡ this .factor
   factor-is = ap (λ xs. getD xs (place c) (pos 0)) (start c .pre .1 .0 s j i) ∙ factors-getD (conditions s j (start c .args .k)) (place c) (omega arith)
 
-  factor-bound : natAbs (this .factor) < 2 ^ 31
-  factor-bound = factor-small s j (start c .args .k) (join-bounds (start c .pre .0 .1) i) (place c)
-
   weight-is : (t : Table) → Holds (start c .args .num .now) (start c .args .den .now) t → c .before .read .result ≡ fraction (entry (row t (start c .args .at)) (this .column))
   weight-is t h =
       let n = c .before .before .column .result in
@@ -119,7 +116,7 @@ add-product-requires c κs =
       c .before .before .before .before .loop .inv .sized,
       (
         rw (weight-is c (f .space) (f .index) (f .is) (h .0) (h .1)) (fits-sized (cell (h .0) (start c .args .at) (this c (f .space) (f .index) (f .is) .column)) (h .1 .fit (start c .args .at) (this c (f .space) (f .index) (f .is) .column))),
-        simp toZ-ofZ (rw (factor-is c (f .space) (f .index) (f .is)) (factor-bound c (f .space) (f .index) (f .is))),
+        simp toZ-ofZ (rw (factor-is c (f .space) (f .index) (f .is)) (factor-small f (place c))),
       ),
     )
 
