@@ -8,19 +8,14 @@ use Rattle.fraction.specs.Size.{fits, Counting, counted, too-large, coun
 use Rattle.fraction.specs.Machine.{fraction, value, answer, Sized}
 use Rattle.fraction.specs.declared.Fraction.{Fraction}
 use Rattle.fraction.specs.declared.Counted.the-variants.{Fits, TooLarge}
-use Rattle.fraction.proofs.Value.{ratio-is, den-positive, value-fraction}
-use Rattle.fraction.proofs.Size.{fits-num, fits-den, is-fits, count-fits, count-large, counted-is, too-large-is}
+use Rattle.fraction.proofs.Value.{den-positive, value-fraction}
+use Rattle.fraction.proofs.Size.{fits-num, fits-den, count-fits, count-large, counted-is, too-large-is}
 
 -- ---- sizes
 
 pub fits-sized : (q : ℚ) → fits q ≡ true → Sized (fraction q)
 unfolding fraction
 fits-sized q e = record { num-small = fits-num q e; den-pos = den-positive q; den-small = fits-den q e }
-
--- and back, in any terms
-pub sized-fits : (f : Fraction) → Sized f → fits (value f) ≡ true
-unfolding value
-sized-fits f h = is-fits (ratio-is (f .num) (f .den) (h .den-pos)) (h .num-small) (h .den-small)
 
 -- ---- answers
 
@@ -46,10 +41,6 @@ pub large-answer : (x : Counting ℚ) → answer x ≡ TooLarge → x ≡ too-la
 unfolding answer
 large-answer (counted q) e = absurd (let z : _≡_ {A = ℕ} 0 1 = cc in omega arith)
 large-answer too-large e = refl
-
-pub answer-too-large : answer too-large ≡ TooLarge
-unfolding answer
-answer-too-large = refl
 
 -- ---- one counted fraction
 

@@ -13,7 +13,6 @@ use Rattle.exact.proofs.Ring.{ring}
 use Rattle.exact.proofs.Integer.{ℤ-ring, readsℤ, *-one, <-in, *-pos-<}
 use Rattle.exact.proofs.Rational.{_is_over_, self, mk-is, mk-num, mk-den, is-unique, is-int, is-add, is-mul, int-num, int-den, neg-is, div-unique}
 use Rattle.fraction.specs.Machine.{fraction, ratio, value}
-use Rattle.fraction.specs.declared.Fraction.{Fraction}
 
 -- n over d stands for the fraction n / d
 pub ratio-is : (n d : ℤ) → pos 0 <ℤ d → ratio n d is n over natAbs d
@@ -37,21 +36,8 @@ pub fraction-int : (z : ℤ) → fraction (int z) ≡ record { num = z; den = po
 unfolding fraction
 fraction-int z = λ i. record { num = int-num z i; den = pos (int-den z i) }
 
-pub fraction-inj : (p q : ℚ) → fraction p ≡ fraction q → p ≡ q
-fraction-inj p q e = sym (value-fraction p) ∙ ap value e ∙ value-fraction q
-
 pub value-int : (z : ℤ) → value (record { num = z; den = pos 1 }) ≡ int z
 value-int z = ap value (sym (fraction-int z)) ∙ value-fraction (int z)
-
--- a divisor that is not zero has a numerator that is not
-pub value-nonzero : (f : Fraction) → value f ≢ int (pos 0) → f .num ≢ pos 0
-unfolding value ratio
-value-nonzero f h e = h (ap (λ (n : ℤ). ratio n (f .den)) e ∙ zero-over (f .den))
-  where
-    zero-over : (d : ℤ) → ratio (pos 0) d ≡ int (pos 0)
-    zero-over (pos zero) = refl
-    zero-over (pos (suc d)) = is-unique (mk-is (pos 0) (suc d) (suc-pos d)) (is-int (pos 0)) (sym (zero-*ℤ (pos (suc d))))
-    zero-over (negsuc d) = refl
 
 -- ---- lowest terms: both parts divided by their greatest common divisor
 

@@ -69,11 +69,6 @@ unfoldable pub lastDigits : ℕ → ℕ → Text
 lastDigits zero n = []
 lastDigits (suc i) n = lastDigits i (n / 10) ++ lastDigit n
 
-pub lastDigits-length : (i n : ℕ) → length (lastDigits i n) ≡ i
-unfolding lastDigits
-lastDigits-length zero n = refl
-lastDigits-length (suc i) n = length-append (lastDigits i (n / 10)) (lastDigit n) ∙ omega (arith, lastDigits-length i (n / 10))
-
 -- the last digits of n are those of n / 10, as many as there are, and the last one
 last-more : (n : ℕ) (s t : Text) → t ≡ s ++ lastDigit n → s ≡ lastDigits (length s) (n / 10) → t ≡ lastDigits (length t) n
 unfolding lastDigits

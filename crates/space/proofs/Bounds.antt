@@ -110,15 +110,6 @@ pub conditions-before-next : (s : Space) (i : ℕ) → conditionsBefore s i + co
 unfolding conditionsBefore
 conditions-before-next s i = refl
 
-pub conditions-before-mono : (s : Space) (i j : ℕ) → i ≤ j → conditionsBefore s i ≤ conditionsBefore s j
-unfolding conditionsBefore
-conditions-before-mono s i zero l = omega (arith, ap (conditionsBefore s) (let z : i ≡ 0 = omega arith in z))
-conditions-before-mono s i (suc j) l = go (λ t. conditions-before-mono s i j t) (eq-or-lt-of-le l)
-  where
-    go : (i ≤ j → conditionsBefore s i ≤ conditionsBefore s j) → (i ≡ suc j) ⊎ (i < suc j) → conditionsBefore s i ≤ conditionsBefore s (suc j)
-    go ih (inl e) = omega (arith, ap (conditionsBefore s) e)
-    go ih (inr t) = omega (arith, ih (omega arith))
-
 -- ---- conditions against columns
 
 module _ (s : Space) (h : JoinsLegal (s .degrees) (s .orders)) where
@@ -141,7 +132,3 @@ module _ (s : Space) (h : JoinsLegal (s .degrees) (s .orders)) where
   -- no underflow in the number of rows
   pub row-count-sum : rowCount s + conditionsBefore s (segments s - 1) ≡ columnCount s
   row-count-sum = omega (arith, conditions-columns (segments s - 1) (omega (arith, h .count)), ap (firstColumn s) (let z : suc (segments s - 1) ≡ segments s = omega (arith, h .count) in z))
-
-  -- at least one row for each segment and one more
-  pub row-count-low : suc (segments s) ≤ rowCount s
-  row-count-low = omega (arith, row-count-sum, conditions-columns (segments s - 1) (omega (arith, h .count)), ap (firstColumn s) (let z : suc (segments s - 1) ≡ segments s = omega (arith, h .count) in z), h .count)

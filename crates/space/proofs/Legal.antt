@@ -11,7 +11,7 @@ use lib.Signed.{_≤ℤ_}
 use Rattle.exact.proofs.Word.{ltZ-false, not-lt-test}
 use Rattle.spline.specs.Outcome.{answer, refuse, _then_}
 use Rattle.spline.specs.Search.{first}
-use Rattle.spline.specs.Space.{Space, lengthsFit, break, badBreak, badDegree, badOrder, checked, degree, width, conditionCount, firstColumn, columnCount, conditionsBefore, rowCount}
+use Rattle.spline.specs.Space.{Space, lengthsFit, badBreak, badDegree, badOrder, checked, degree, width, conditionCount, firstColumn, columnCount, conditionsBefore, rowCount}
 use Rattle.spline.proofs.Outcome.{then-inverts, answer-unique, answer-not-refusal}
 use Rattle.spline.proofs.Search.{first-none, first-none-inverts}
 use Rattle.spline.proofs.Space.{firstColumn-mono}
@@ -20,10 +20,9 @@ use Rattle.space.specs.Reply.{space, legality}
 use Rattle.space.specs.Legal.{BreaksLegal, DegreesLegal, JoinsLegal, ListsLegal, breaksChecked, degreesChecked, ordersChecked}
 use Rattle.space.specs.declared.Legality.the-variants.{Legal}
 use Rattle.space.proofs.Entries.{good-break-size, break-good-first, break-good, good-degree-low, good-degree-high, degree-good, GoodOrder, good-order, order-good}
-use Rattle.space.proofs.Bounds.{width-difference, width-positive, width-within, degree-low, degree-high, first-column-high, condition-count-high, condition-count-left, condition-count-right, conditions-before-columns, conditions-columns, row-count-sum, row-count-low}
+use Rattle.space.proofs.Bounds.{width-positive, width-within, degree-high, first-column-next, first-column-high, condition-count-high, condition-count-left, condition-count-right, conditions-before-columns, row-count-sum}
 use Rattle.space.proofs.Checks.{tooLong, breaks-pass, degrees-pass, orders-pass, checked-parts, checked-lengths, checked-orders}
-use Rattle.space.proofs.Reply.{legal-answers, answer-legal}
-pub use Rattle.space.proofs.Bounds.{breaks-rise, breaks-mono, first-column-zero, first-column-next, conditions-before-zero, conditions-before-next, conditions-before-mono}
+use Rattle.space.proofs.Reply.{legal-answers}
 
 -- ---- what a check that passed tells
 
@@ -96,9 +95,6 @@ module _ (b d o : List ℤ) where
         right = λ i l. orders-good d o (p .orders) i l .right;
       }
 
-  pub checked-same : {s : Space} → checked (space b d o) ≡ answer s → s ≡ space b d o
-  checked-same e = passed e .same
-
   -- and back
   pub legal-checked : ListsLegal b d o → checked (space b d o) ≡ answer (space b d o)
   legal-checked h =
@@ -122,9 +118,6 @@ module _ (b d o : List ℤ) where
   pub legality-legal : legality (checked (space b d o)) ≡ Legal → ListsLegal b d o
   legality-legal e = checked-legal (legal-answers _ e .is)
 
-  pub legal-legality : ListsLegal b d o → legality (checked (space b d o)) ≡ Legal
-  legal-legality h = answer-legal _ (legal-checked h)
-
 -- ---- what legal lists give
 
 module _ (b d o : List ℤ) (h : ListsLegal b d o) where
@@ -139,18 +132,11 @@ module _ (b d o : List ℤ) (h : ListsLegal b d o) where
     right = h .right;
   }
 
-  -- a segment's length, in rings
-  pub legal-width-is : (i : ℕ) → i < length d → break (space b d o) (suc i) -ℤ break (space b d o) i ≡ pos (width (space b d o) i)
-  legal-width-is i l = width-difference (space b d o) (h .breaks-legal) i (omega (arith, h .break-count))
-
   pub legal-width-low : (i : ℕ) → i < length d → 1 ≤ width (space b d o) i
   legal-width-low i l = width-positive (space b d o) (h .breaks-legal) i (omega (arith, h .break-count))
 
   pub legal-width-high : (i : ℕ) → i < length d → width (space b d o) i ≤ 2000
   legal-width-high i l = width-within (space b d o) (h .breaks-legal) (length d) i l (omega (arith, h .break-count)) (h .span)
-
-  pub legal-degree-low : (i : ℕ) → i < length d → 1 ≤ degree (space b d o) i
-  legal-degree-low i l = degree-low (space b d o) (h .degrees-legal) i l
 
   pub legal-degree-high : (i : ℕ) → i < length d → degree (space b d o) i ≤ 5
   legal-degree-high i l = degree-high (space b d o) (h .degrees-legal) i l
@@ -180,12 +166,6 @@ module _ (b d o : List ℤ) (h : ListsLegal b d o) where
   pub legal-conditions-before : (i : ℕ) → i < length d → conditionsBefore (space b d o) i + i ≤ firstColumn (space b d o) i
   legal-conditions-before i l = conditions-before-columns (space b d o) legal-joins i l
 
-  pub legal-conditions-columns : (i : ℕ) → i < length d → conditionsBefore (space b d o) i + i + 2 ≤ firstColumn (space b d o) (suc i)
-  legal-conditions-columns i l = conditions-columns (space b d o) legal-joins i l
-
   -- the number of rows: nothing underflows, and there is one for each segment and one more
   pub legal-row-count-sum : rowCount (space b d o) + conditionsBefore (space b d o) (length d - 1) ≡ columnCount (space b d o)
   legal-row-count-sum = row-count-sum (space b d o) legal-joins
-
-  pub legal-row-count-low : length d + 1 ≤ rowCount (space b d o)
-  legal-row-count-low = omega (arith, row-count-low (space b d o) legal-joins)

@@ -5,7 +5,7 @@ use mathlib.Core.List.{List, []}
 use Prim.Native.Nat.{ℕ, zero, suc, _+_, _-_}
 use lib.IntN.{ℤ}
 use lib.ListN.{length}
-use Rattle.spline.specs.Space.{badBreak, badDegree, badOrder, degree, width, conditionCount, firstColumn, columnCount, conditionsBefore, rowCount}
+use Rattle.spline.specs.Space.{badBreak, badDegree, badOrder, degree, conditionCount, firstColumn, columnCount, conditionsBefore, rowCount}
 use Rattle.space.specs.Reply.{space}
 
 module _ (b d o : List ℤ) where
@@ -21,15 +21,6 @@ module _ (b d o : List ℤ) where
   pub bad-order-partial : (i : ℕ) → badOrder (space [] d o) i ≡ badOrder (space b d o) i
   unfolding badOrder
   bad-order-partial i = refl
-
-  pub degree-partial : (i : ℕ) → degree (space [] d []) i ≡ degree (space b d o) i
-  degree-partial i = refl
-
-  pub width-partial : (i : ℕ) → width (space b [] []) i ≡ width (space b d o) i
-  width-partial i = refl
-
-  pub condition-count-partial : (i : ℕ) → conditionCount (space [] [] o) i ≡ conditionCount (space b d o) i
-  condition-count-partial i = refl
 
   pub first-column-partial : (i : ℕ) → firstColumn (space [] d []) i ≡ firstColumn (space b d o) i
   unfolding firstColumn

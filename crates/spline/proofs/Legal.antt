@@ -1,5 +1,5 @@
--- What the checks of a space leave: a space that none of the numbers 2 to 5 refuses has degrees from 1 to 5, segments of
--- positive length, and at each join at most three conditions and no more than either neighbouring degree.
+-- What the checks of a space leave: a space that none of the numbers 2 to 5 refuses has lists of lengths that fit together,
+-- segments of positive length, and at each join no more conditions than either neighbouring degree.
 use mathlib.Core.Path.{_≡_, refl}
 use mathlib.Core.Bool.{Bool, true, false, cond, not, _&&_, _||_}
 use mathlib.Core.Option.{Option, some, none}
@@ -126,31 +126,11 @@ lengths-fit-inverts s e =
 -- The numbers of a space that passes.
 pub record Legal (s : Space) : Type 0 where
   pub lengths : Lengths s
-  pub least-degree : (i : ℕ) → i < segments s → 1 ≤ degree s i
-  pub greatest-degree : (i : ℕ) → i < segments s → degree s i ≤ 5
   pub positive-width : (i : ℕ) → i < segments s → 0 < width s i
-  pub three-conditions : (j : ℕ) → j < segments s - 1 → conditionCount s j ≤ 3
   pub below-left-degree : (j : ℕ) → j < segments s - 1 → conditionCount s j ≤ degree s j
   pub below-right-degree : (j : ℕ) → j < segments s - 1 → conditionCount s j ≤ degree s (suc j)
 
-degree-range : (d : ℤ) → not (between (pos 1) (pos 5) d) ≡ false → (1 ≤ natAbs d) × (natAbs d ≤ 5)
-degree-range d e = let b = and-true (leZ (pos 1) d) (leZ d (pos 5)) (not-false _ e) in
-    go d (≤-out (pos 1) d (leZ-true (pos 1) d (b .0))) (≤-out d (pos 5) (leZ-true d (pos 5) (b .1)))
-  where
-    go : (z : ℤ) → up (pos 1) + dn z ≤ dn (pos 1) + up z → up z + dn (pos 5) ≤ dn z + up (pos 5) → (1 ≤ natAbs z) × (natAbs z ≤ 5)
-    go (pos n) p q = omega arith
-    go (negsuc n) p q = absurd (omega arith)
-
--- an order is at least -1 and at most 2, and below each degree: the count of its conditions
-count-range : (o : ℤ) → not (between (negℤ (pos 1)) (pos 2) o) ≡ false → natAbs (o +ℤ pos 1) ≤ 3
-count-range o e = let b = and-true (leZ (negℤ (pos 1)) o) (leZ o (pos 2)) (not-false _ e) in
-    go o (≤-out (negsuc 0) o (leZ-true (negsuc 0) o (b .0))) (≤-out o (pos 2) (leZ-true o (pos 2) (b .1)))
-  where
-    go : (z : ℤ) → up (negsuc 0) + dn z ≤ dn (negsuc 0) + up z → up z + dn (pos 2) ≤ dn z + up (pos 2) → natAbs (z +ℤ pos 1) ≤ 3
-    go (pos n) p q = omega arith
-    go (negsuc zero) p q = omega arith
-    go (negsuc (suc n)) p q = absurd (omega arith)
-
+-- an order is at least -1 and below each degree: the count of its conditions
 count-below : (d o : ℤ) → not (between (pos 1) (pos 5) d) ≡ false → not (between (negℤ (pos 1)) (pos 2) o) ≡ false → leZ d o ≡ false → natAbs (o +ℤ pos 1) ≤ natAbs d
 count-below d o g e h =
     let a = and-true (leZ (pos 1) d) (leZ d (pos 5)) (not-false _ g) in
@@ -174,10 +154,7 @@ pub legal : (s : Space) → Checked s → Legal s
 unfolding badDegree badOrder
 legal s c = record {
   lengths = lengths-fit-inverts s (c .lengths);
-  least-degree = λ i h. degree-range (degreeEntry s i) (c .degrees i h) .0;
-  greatest-degree = λ i h. degree-range (degreeEntry s i) (c .degrees i h) .1;
   positive-width = λ i h. width-range (break s i) (break s (suc i)) (good-break-rises s i (c .breaks (suc i) (omega arith)));
-  three-conditions = λ j h. count-range (order s j) (tests j h .0);
   below-left-degree = λ j h. count-below (degreeEntry s j) (order s j) (c .degrees j (omega arith)) (tests j h .0) (tests j h .1);
   below-right-degree = λ j h. count-below (degreeEntry s (suc j)) (order s j) (c .degrees (suc j) (omega arith)) (tests j h .0) (tests j h .2);
 }

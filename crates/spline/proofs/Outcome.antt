@@ -95,11 +95,6 @@ module _ {A : Type 0} where
   pub collect-stops : (n i : ℕ) (f : ℕ → Outcome A) (g : ℕ → A) {number place : ℕ} → i < n → ((k : ℕ) → k < i → f k ≡ answer (g k)) → f i ≡ refusal number place → collect n f ≡ refusal number place
   collect-stops n i f g h before e = collect-stays (suc i) n f h (collect-ends i f (collect-answers i f g before) e)
 
-  pub collect-ext : (n : ℕ) {f g : ℕ → Outcome A} → ((i : ℕ) → i < n → f i ≡ g i) → collect n f ≡ collect n g
-  unfolding collect
-  collect-ext zero h = refl
-  collect-ext (suc n) {f} {g} h = ap (λ o. o then λ ys. f n then λ y. answer (ys ++ (y ∷ []))) (collect-ext n (λ i k. h i (omega arith))) ∙ ap (λ o. collect n g then λ ys. o then λ y. answer (ys ++ (y ∷ []))) (h n (omega arith))
-
   -- what an answer tells: as many elements as places, and each place's answer is its element
   pub record Collected (n : ℕ) (f : ℕ → Outcome A) (xs : List A) : Type 0 where
     pub size : length xs ≡ n
@@ -168,11 +163,6 @@ module _ {A : Type 0} where
   -- a step that refuses is the end
   pub repeat-stops : (n i : ℕ) (f : ℕ → A → Outcome A) (a : A) {b : A} {number place : ℕ} → i < n → repeat i f a ≡ answer b → f i b ≡ refusal number place → repeat n f a ≡ refusal number place
   repeat-stops n i f a h p e = repeat-stays (suc i) n f a h (repeat-more i f a p ∙ e)
-
-  pub repeat-ext : (n : ℕ) {f g : ℕ → A → Outcome A} (a : A) → ((i : ℕ) → i < n → (b : A) → f i b ≡ g i b) → repeat n f a ≡ repeat n g a
-  unfolding repeat
-  repeat-ext zero a h = refl
-  repeat-ext (suc n) {f} {g} a h = ap (λ o. o then f n) (repeat-ext n a (λ i k. h i (omega arith))) ∙ ap (λ k. repeat n g a then k) (λ j b. h n (omega arith) b j)
 
   -- what holds at first and is kept by each step that answers holds of the answer
   pub repeat-keeps : (P : ℕ → A → Type 0) (n : ℕ) (f : ℕ → A → Outcome A) (a : A) → P 0 a

@@ -141,9 +141,3 @@ module _ (test : ℕ → Bool) where
       go : SearchedBack n → test k ≡ false
       go (at i s p) = absurd (some-not-none p e)
       go (nowhere h p) = h k l
-
--- two tests that agree below the bound
-pub last-ext : (n : ℕ) {test other : ℕ → Bool} → ((k : ℕ) → k < n → test k ≡ other k) → last n test ≡ last n other
-unfolding last
-last-ext zero h = refl
-last-ext (suc n) {test} {other} h = ap (λ b. cond b (some n) (last n test)) (h n (omega arith)) ∙ ap (λ o. cond (other n) (some n) o) (last-ext n (λ k l. h k (omega arith)))

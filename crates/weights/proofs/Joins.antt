@@ -18,7 +18,8 @@ use Rattle.spline.proofs.Refusals.{EightOrNine, step-refuses}
 use Rattle.space.specs.Reply.{space}
 use Rattle.space.specs.Legal.{ListsLegal}
 use Rattle.spline.proofs.Space.{firstColumn-mono}
-use Rattle.space.proofs.Legal.{legal-width-low, legal-width-high, legal-degree-high, legal-conditions-high, legal-conditions-left, legal-conditions-right, legal-columns-within, legal-column-count-high, legal-conditions-before, first-column-next, conditions-before-next}
+use Rattle.space.proofs.Bounds.{first-column-next, conditions-before-next}
+use Rattle.space.proofs.Legal.{legal-width-low, legal-width-high, legal-degree-high, legal-conditions-high, legal-conditions-left, legal-conditions-right, legal-columns-within, legal-column-count-high, legal-conditions-before}
 use Rattle.space.proofs.Partial.{first-column-partial}
 use Rattle.cells.specs.Held.{Kept}
 use Rattle.conditions.specs.Sides.{SideIs, JoinIs, JoinFits}

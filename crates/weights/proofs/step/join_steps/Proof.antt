@@ -15,7 +15,8 @@ use Rattle.spline.specs.Table.{Table, identity, numerators, denominators}
 use Rattle.spline.specs.Build.{orderSteps, joinSteps, weights}
 use Rattle.spline.proofs.Outcome.{repeat-more, repeat-stops, capped-small}
 use Rattle.space.specs.Reply.{space}
-use Rattle.space.proofs.Legal.{conditions-before-zero, conditions-before-next, legal-row-count-sum}
+use Rattle.space.proofs.Bounds.{conditions-before-zero, conditions-before-next}
+use Rattle.space.proofs.Legal.{legal-row-count-sum}
 use Rattle.cells.specs.Held.{Holds, Kept}
 use Rattle.cells.proofs.Buffer.{holds-left, kept-then, kept-numerators, kept-denominators, numerators-again, denominators-again}
 use Rattle.conditions.specs.Sides.{JoinIs, JoinFits}
