@@ -9,12 +9,12 @@ use lib.IntN.{pos}
 use Rattle.exact.specs.Rational.{ℚ, int, inv, _+ᵠ_, _*ᵠ_, -ᵠ_, _-ᵠ_, _/ᵠ_}
 use Rattle.exact.specs.Sum.{sum}
 use Rattle.exact.proofs.Ring.{ring, reads}
-use Rattle.exact.proofs.Rational.{ℚ-ring, readsℚ, int-add, int-suc, int-nonzero, mul-inv, mul-assoc, mul-comm, mul-add, add-mul, mul-zero, zero-mul, one-mul, zero-add, add-zero}
-use Rattle.exact.proofs.Sum.{sum-ext, sum-add, sum-mul, sum-sub, sum-front, sum-last}
+use Rattle.exact.proofs.Rational.{ℚ-ring, readsℚ, int-suc, int-nonzero, mul-inv, mul-assoc, mul-comm, zero-mul, one-mul, zero-add, add-zero}
+use Rattle.exact.proofs.Sum.{sum-ext, sum-mul, sum-sub}
 use Rattle.spline.specs.Conditions.{binomial}
 use Rattle.spline.specs.ExactCurve as Exact
 use Rattle.spline.specs.Published.{derivativeCoefficient}
-use Rattle.theorems.proofs.Difference.{binomial-above}
+use Rattle.theorems.proofs.Pascal.{binomialSum-suc}
 use Rattle.closeness.proofs.Bernstein.{bernstein, bernsteinSum, exactTriangle, triangle-is-sum}
 use Rattle.smoothness.specs.Polynomial.{coefficient, value, _+ᵖ_, _·ᵖ_, _*ᵖ_, power, derivative, iterated}
 use Rattle.smoothness.specs.Bernstein.{passed, ahead, bernsteinPolynomial, bernsteinForm}
@@ -83,32 +83,14 @@ module _ (h : ℕ) where
   basis : ℕ → ℕ → ℕ → ℚ
   basis n t i = int (pos (binomial n t)) *ᵠ monomial t (n - t) i
 
-  -- what Pascal's rule takes from the same place, and nothing at n + 1
-  carry : ℕ → ℕ → ℕ → ℚ
-  carry n t i = int (pos (binomial n t)) *ᵠ monomial t (suc n - t) i
+  -- the linear factors on it
+  rise-basis : (n t i : ℕ) → rise (basis n t) i ≡ int (pos (binomial n t)) *ᵠ monomial (suc t) (n - t) i
+  unfolding basis rise
+  rise-basis n t i = linear-mul _ _ (int (pos (binomial n t))) (monomial t (n - t)) i ∙ ap (λ u. int (pos (binomial n t)) *ᵠ u) (sym (monomial-left t (n - t) i))
 
-  carry-first : (n i : ℕ) → basis (suc n) 0 i ≡ carry n 0 i
-  unfolding basis carry binomial
-  carry-first n i = refl
-
-  carry-last : (n i : ℕ) → carry n (suc n) i ≡ int (pos 0)
-  unfolding carry
-  carry-last n i = ap (λ m. int (pos m) *ᵠ monomial (suc n) (suc n - suc n) i) (binomial-above n (suc n) (omega arith)) ∙ zero-mul _
-
-  carry-is : (n t i : ℕ) → t ≤ n → carry n t i ≡ sink (basis n t) i
-  unfolding carry basis sink
-  carry-is n t i l = ap (λ m. int (pos (binomial n t)) *ᵠ monomial t m i) (let e : suc n - t ≡ suc (n - t) = omega arith in e)
-      ∙ ap (λ u. int (pos (binomial n t)) *ᵠ u) (monomial-right t (n - t) i) ∙ sym (linear-mul _ _ (int (pos (binomial n t))) (monomial t (n - t)) i)
-
-  pascal : (n t i : ℕ) → basis (suc n) (suc t) i ≡ rise (basis n t) i +ᵠ carry n (suc t) i
-  unfolding carry basis rise binomial
-  pascal n t i = ap₂ (λ c m. c *ᵠ monomial (suc t) m i) (int-add (pos (binomial n t)) (pos (binomial n (suc t)))) e
-      ∙ add-mul (int (pos (binomial n t))) (int (pos (binomial n (suc t)))) (monomial (suc t) (n - t) i)
-      ∙ ap₂ (λ u m. int (pos (binomial n t)) *ᵠ u +ᵠ int (pos (binomial n (suc t))) *ᵠ monomial (suc t) m i) (monomial-left t (n - t) i) (sym e)
-      ∙ ap (λ u. u +ᵠ int (pos (binomial n (suc t))) *ᵠ monomial (suc t) (suc n - suc t) i) (sym (linear-mul _ _ (int (pos (binomial n t))) (monomial t (n - t)) i))
-    where
-      e : suc n - suc t ≡ n - t
-      e = omega arith
+  sink-basis : (n t i : ℕ) → sink (basis n t) i ≡ int (pos (binomial n t)) *ᵠ monomial t (suc (n - t)) i
+  unfolding basis sink
+  sink-basis n t i = linear-mul _ _ (int (pos (binomial n t))) (monomial t (n - t)) i ∙ ap (λ u. int (pos (binomial n t)) *ᵠ u) (sym (monomial-right t (n - t) i))
 
   -- the coefficients of the polynomial with the ordinates o
   form : ℕ → (ℕ → ℚ) → ℕ → ℚ
@@ -119,22 +101,26 @@ module _ (h : ℕ) where
   form-is n o i = coefficient-total (suc n) (λ t. o t ·ᵖ bernsteinPolynomial h n t) i
       ∙ sum-ext (suc n) (λ t l. coefficient-multiple (o t) (bernsteinPolynomial h n t) i ∙ ap (λ u. o t *ᵠ u) (coefficient-multiple (int (pos (binomial n t))) (power (passed h) t *ᵖ power (ahead h) (n - t)) i))
 
-  carried-sum : (n : ℕ) (o : ℕ → ℚ) (i : ℕ) → sum (suc (suc n)) (λ t. o t *ᵠ carry n t i) ≡ sink (form n o) i
+  -- the linear factors on a sum
+  sunk : (n : ℕ) (o : ℕ → ℚ) (i : ℕ) → sum (suc n) (λ t. o t *ᵠ sink (basis n t) i) ≡ sink (form n o) i
   unfolding form sink
-  carried-sum n o i = sum-last (suc n) (λ t. o t *ᵠ carry n t i)
-      ∙ ap₂ _+ᵠ_ (sum-ext (suc n) (λ t l. ap (λ u. o t *ᵠ u) (carry-is n t i (omega arith)))) (ap (λ u. o (suc n) *ᵠ u) (carry-last n i) ∙ mul-zero (o (suc n)))
-      ∙ add-zero _ ∙ sym (linear-sum (int (pos 1)) (-ᵠ inv (int (pos h))) (suc n) o (basis n) i)
+  sunk n o i = sym (linear-sum (int (pos 1)) (-ᵠ inv (int (pos h))) (suc n) o (basis n) i)
+
+  risen : (n : ℕ) (o : ℕ → ℚ) (i : ℕ) → sum (suc n) (λ t. o t *ᵠ rise (basis n t) i) ≡ rise (form n o) i
+  unfolding form rise
+  risen n o i = sym (linear-sum (int (pos 0)) (inv (int (pos h))) (suc n) o (basis n) i)
 
   -- one more degree: the two neighbouring forms, blended
   form-suc : (n : ℕ) (o : ℕ → ℚ) (i : ℕ) → form (suc n) o i ≡ sink (form n o) i +ᵠ rise (form n (λ t. o (suc t))) i
-  unfolding form rise
-  form-suc n o i = sum-front (suc n) (λ t. o t *ᵠ basis (suc n) t i)
-      ∙ ap₂ _+ᵠ_ (ap (λ u. o 0 *ᵠ u) (carry-first n i)) (sum-ext (suc n) (λ t l. ap (λ u. o (suc t) *ᵠ u) (pascal n t i) ∙ mul-add (o (suc t)) (rise (basis n t) i) (carry n (suc t) i))
-      ∙ sum-add (suc n) (λ t. o (suc t) *ᵠ rise (basis n t) i) (λ t. o (suc t) *ᵠ carry n (suc t) i))
-      ∙ swap (o 0 *ᵠ carry n 0 i) (sum (suc n) (λ t. o (suc t) *ᵠ rise (basis n t) i)) (sum (suc n) (λ t. o (suc t) *ᵠ carry n (suc t) i))
-      ∙ ap₂ _+ᵠ_ (sym (sum-front (suc n) (λ t. o t *ᵠ carry n t i)) ∙ carried-sum n o i) (sym (linear-sum (int (pos 0)) (inv (int (pos h))) (suc n) (λ t. o (suc t)) (basis n) i))
+  unfolding form basis
+  form-suc n o i =
+      sum-ext (suc (suc n)) (λ t l. swap (o t) (int (pos (binomial (suc n) t))) (monomial t (suc n - t) i))
+      ∙ binomialSum-suc n (λ t m. o t *ᵠ monomial t m i)
+      ∙ ap₂ _+ᵠ_
+      (sum-ext (suc n) (λ t l. sym (swap (o t) (int (pos (binomial n t))) (monomial t (suc (n - t)) i)) ∙ ap (λ u. o t *ᵠ u) (sym (sink-basis n t i))) ∙ sunk n o i)
+      (sum-ext (suc n) (λ t l. sym (swap (o (suc t)) (int (pos (binomial n t))) (monomial (suc t) (n - t) i)) ∙ ap (λ u. o (suc t) *ᵠ u) (sym (rise-basis n t i))) ∙ risen n (λ t. o (suc t)) i)
     where
-      swap : (a b c : ℚ) → a +ᵠ (b +ᵠ c) ≡ (a +ᵠ c) +ᵠ b
+      swap : (a b c : ℚ) → a *ᵠ (b *ᵠ c) ≡ b *ᵠ (a *ᵠ c)
       swap a b c = ring ℚ-ring (a ∷ b ∷ c ∷ []) (search reads) (search reads) refl
 
   -- ---- the derivative

@@ -3,15 +3,16 @@
 -- which the published construction takes derivatives.
 use mathlib.Core.Path.{_≡_, refl, sym, _∙_, ap, ap₂}
 use mathlib.Core.List.{[], _∷_}
-use Prim.Native.Nat.{ℕ, zero, suc, _+_, _-_, _<_, _≤_}
+use Prim.Native.Nat.{ℕ, zero, suc, _-_, _≤_}
 use native.Mathlib.Omega.{arith}
-use lib.IntN.{pos, negsuc}
+use lib.IntN.{pos}
 use Rattle.exact.specs.Rational.{ℚ, _+ᵠ_, _*ᵠ_, -ᵠ_, _-ᵠ_, int}
 use Rattle.exact.specs.Sum.{sum}
 use Rattle.exact.proofs.Ring.{ring, reads}
-use Rattle.exact.proofs.Rational.{ℚ-ring, readsℚ, int-add, mul-assoc, add-mul, add-zero, neg-is as neg-one, int-neg, zero-mul, mul-zero}
-use Rattle.exact.proofs.Sum.{sum-ext, sum-add, sum-mul, sum-front, sum-zero}
+use Rattle.exact.proofs.Rational.{ℚ-ring, readsℚ, add-comm, mul-assoc, int-neg, mul-zero}
+use Rattle.exact.proofs.Sum.{sum-ext, sum-neg, sum-add, sum-mul, sum-zero}
 use Rattle.spline.specs.Conditions.{binomial, alternating}
+use Rattle.theorems.proofs.Pascal.{binomialSum, binomialSum-suc}
 
 -- (-1)^(k-t) C(k, t).
 unfoldable pub signedBinomial : ℕ → ℕ → ℚ
@@ -21,12 +22,6 @@ signedBinomial k t = int (pos (binomial k t)) *ᵠ int (alternating (k - t))
 unfoldable pub difference : ℕ → (ℕ → ℚ) → ℚ
 difference k x = sum (suc k) (λ t. signedBinomial k t *ᵠ x t)
 
-pub binomial-above : (k t : ℕ) → k < t → binomial k t ≡ 0
-unfolding binomial
-binomial-above k zero h = absurd (omega arith)
-binomial-above zero (suc t) h = refl
-binomial-above (suc k) (suc t) h = ap₂ _+_ (binomial-above k t (omega arith)) (binomial-above k (suc t) (omega arith))
-
 pub alternating-suc : (n : ℕ) → int (alternating (suc n)) ≡ -ᵠ int (alternating n)
 unfolding alternating
 alternating-suc n = int-neg (alternating n)
@@ -35,50 +30,24 @@ pub difference-ext : (k : ℕ) {x y : ℕ → ℚ} → ((t : ℕ) → t ≤ k �
 unfolding difference
 difference-ext k h = sum-ext (suc k) (λ t l. ap (λ u. signedBinomial k t *ᵠ u) (h t (omega arith)))
 
--- what Pascal's rule takes from the place before
-carry : ℕ → ℕ → ℚ
-carry k t = int (pos (binomial k t)) *ᵠ int (alternating (suc k - t))
-
-carry-first : (k : ℕ) → signedBinomial (suc k) 0 ≡ carry k 0
-unfolding signedBinomial carry binomial
-carry-first k = refl
-
-carry-last : (k : ℕ) → carry k (suc k) ≡ int (pos 0)
-unfolding carry
-carry-last k = ap (λ n. int (pos n) *ᵠ int (alternating (suc k - suc k))) (binomial-above k (suc k) (omega arith)) ∙ zero-mul _
-
-carry-negates : (k t : ℕ) → t ≤ k → carry k t ≡ int (negsuc 0) *ᵠ signedBinomial k t
-unfolding carry signedBinomial
-carry-negates k t h = ap (λ n. int (pos (binomial k t)) *ᵠ int (alternating n)) (let e : suc k - t ≡ suc (k - t) = omega arith in e)
-    ∙ ap (λ u. int (pos (binomial k t)) *ᵠ u) (alternating-suc (k - t))
-    ∙ ring ℚ-ring (int (pos (binomial k t)) ∷ int (alternating (k - t)) ∷ []) (search readsℚ depth 20) (search readsℚ depth 20) refl
-
-pascal : (k t : ℕ) → signedBinomial (suc k) (suc t) ≡ signedBinomial k t +ᵠ carry k (suc t)
-unfolding signedBinomial carry binomial
-pascal k t = ap₂ (λ u n. u *ᵠ int (alternating n)) (int-add (pos (binomial k t)) (pos (binomial k (suc t)))) (let e : suc k - suc t ≡ k - t = omega arith in e)
-    ∙ ring ℚ-ring (int (pos (binomial k t)) ∷ int (pos (binomial k (suc t))) ∷ int (alternating (k - t)) ∷ []) (search readsℚ depth 20) (search readsℚ depth 20) refl
-    ∙ ap (λ n. int (pos (binomial k t)) *ᵠ int (alternating (k - t)) +ᵠ int (pos (binomial k (suc t))) *ᵠ int (alternating n)) (let e : k - t ≡ suc k - suc t = omega arith in e)
-
-carried-sum : (k : ℕ) (x : ℕ → ℚ) → sum (suc (suc k)) (λ t. carry k t *ᵠ x t) ≡ int (negsuc 0) *ᵠ difference k x
-unfolding difference sum
-carried-sum k x =
-    ap₂ _+ᵠ_ (sum-ext (suc k) (λ t h. ap (λ u. u *ᵠ x t) (carry-negates k t (omega arith)) ∙ mul-assoc (int (negsuc 0)) (signedBinomial k t) (x t)) ∙ sum-mul (suc k) (int (negsuc 0)) (λ t. signedBinomial k t *ᵠ x t))
-    (ap (λ u. u *ᵠ x (suc k)) (carry-last k) ∙ zero-mul (x (suc k)))
-    ∙ add-zero _
+-- the same sum, its terms put together otherwise
+difference-is : (k : ℕ) (x : ℕ → ℚ) → difference k x ≡ binomialSum k (λ t m. int (alternating m) *ᵠ x t)
+unfolding difference signedBinomial
+difference-is k x = sum-ext (suc k) (λ t h. mul-assoc (int (pos (binomial k t))) (int (alternating (k - t))) (x t))
 
 -- Pascal's rule
 pub difference-suc : (k : ℕ) (x : ℕ → ℚ) → difference (suc k) x ≡ difference k (λ t. x (suc t)) -ᵠ difference k x
-unfolding difference
+unfolding difference signedBinomial
 difference-suc k x =
-    sum-front (suc k) (λ t. signedBinomial (suc k) t *ᵠ x t)
-    ∙ ap₂ _+ᵠ_ (ap (λ u. u *ᵠ x 0) (carry-first k)) (sum-ext (suc k) (λ t h. ap (λ u. u *ᵠ x (suc t)) (pascal k t) ∙ add-mul (signedBinomial k t) (carry k (suc t)) (x (suc t)))
-    ∙ sum-add (suc k) (λ t. signedBinomial k t *ᵠ x (suc t)) (λ t. carry k (suc t) *ᵠ x (suc t)))
-    ∙ swap (carry k 0 *ᵠ x 0) (difference k (λ t. x (suc t))) (sum (suc k) (λ t. carry k (suc t) *ᵠ x (suc t)))
-    ∙ ap (λ u. difference k (λ t. x (suc t)) +ᵠ u) (sym (sum-front (suc k) (λ t. carry k t *ᵠ x t)) ∙ carried-sum k x)
-    ∙ ap (λ u. difference k (λ t. x (suc t)) +ᵠ u) (sym (neg-one (difference k x)))
+    difference-is (suc k) x
+    ∙ binomialSum-suc k (λ t m. int (alternating m) *ᵠ x t)
+    ∙ ap₂ _+ᵠ_
+    (sum-ext (suc k) (λ t h. ap (λ u. int (pos (binomial k t)) *ᵠ (u *ᵠ x t)) (alternating-suc (k - t)) ∙ negated (int (pos (binomial k t))) (int (alternating (k - t))) (x t)) ∙ sum-neg (suc k) (λ t. signedBinomial k t *ᵠ x t))
+    (sym (difference-is k (λ t. x (suc t))))
+    ∙ add-comm (-ᵠ difference k x) (difference k (λ t. x (suc t)))
   where
-    swap : (a b c : ℚ) → a +ᵠ (b +ᵠ c) ≡ b +ᵠ (a +ᵠ c)
-    swap a b c = ring ℚ-ring (a ∷ b ∷ c ∷ []) (search reads) (search reads) refl
+    negated : (c a x : ℚ) → c *ᵠ (-ᵠ a *ᵠ x) ≡ -ᵠ (c *ᵠ a *ᵠ x)
+    negated c a x = ring ℚ-ring (c ∷ a ∷ x ∷ []) (search reads depth 20) (search reads depth 20) refl
 
 -- equal numbers have no differences
 pub difference-constant : (k : ℕ) (c : ℚ) → difference (suc k) (λ t. c) ≡ int (pos 0)

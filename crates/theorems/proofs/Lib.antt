@@ -8,6 +8,7 @@ pub mod Splice
 pub mod Stepped
 pub mod Basis
 pub mod Identity
+pub mod Pascal
 pub mod Difference
 pub mod Condition
 pub mod Built

@@ -85,7 +85,11 @@ mul-result-2 : tie.Need-mul-result-2
 mul-result-2 c = let f = right-fits c in let g = d-fits c in simp toZ-ofZ (product-fits c)
 
 sub-result : tie.Need-sub-result
-sub-result c = let f = right-fits c in let g = d-fits c in let h = product-fits c in simp toZ-ofZ (negated-fits c)
+sub-result c =
+    let f = right-fits c in
+    let g = d-fits c in
+    let h = product-fits c in
+    simp toZ-ofZ (sfits-abs (omega (arith, size c, abs-sub (pos 0) (right c *ℤ d c), abs-sub (right c *ℤ d c) (pos 0))))
 
 returns-2 : tie.Need-returns-2
 returns-2 c =

@@ -86,7 +86,7 @@ unfolding field
 returns-2 c =
     let d = c .before in
     let s = start d in
-    sym (ap field (minus-zero (text s) (from s) (to s) (before s) (within s) (d .before .before .before .if2 .taken) (natural d) (sym (d .digits-value .ensures) ∙ c .if4 .taken)))
+    sym (ap field (minus-zero (text s) (from s) (to s) (before s) (within s) (d .before .before .before .if2 .taken) (natural d) (omega (arith, small d, d .digits-value .ensures))))
 
 cast-t12 : tie.Need-cast-t12
 cast-t12 c = omega (arith, small (c .before))

@@ -180,8 +180,12 @@ order-steps-requires c κs =
 place-small : (c : tie.After-den Inv-loop μ-loop) → j (sides c) < 12
 place-small c = let t = turn (sides c .before .before) in omega (arith, t .taken, t .count, t .few)
 
+-- and so is the count of its conditions
+count-small : (c : tie.After-den Inv-loop μ-loop) → sides c .before .condition-count .result ≤ 72
+count-small c = omega (arith, room (sides c), st (sides c) .proper .shaped .rows-fit)
+
 cast-place : tie.Need-cast-place Inv-loop μ-loop
-cast-place c = omega (arith, place-small c)
+cast-place c = omega (arith, place-small c, count-small c)
 
 enum-told : tie.Need-enum-told Inv-loop μ-loop
 enum-told c = search needs
