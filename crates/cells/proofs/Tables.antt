@@ -3,21 +3,18 @@ use mathlib.Core.Path.{_≡_, sym, _∙_, ap, ap₂}
 use mathlib.Core.List.{[], _∷_, _++_, append-assoc}
 use Prim.Native.Nat.{ℕ, suc, _+_, _-_, _<_, _≤_}
 use native.Mathlib.Omega.{arith}
-use lib.ListN.{length, set, take, drop, length-append, length-drop, take-append-drop, List·getD-append}
-use lib.Seq.{length-take-le, getD-take, getD-drop, getD-append-add, drop-cons, set-at, take-at, drop-append-add}
+use lib.ListN.{length, set, take, drop, length-append, take-append-drop}
+use lib.Seq.{length-take-le, drop-cons, set-at, take-at, drop-append-add}
 use Rattle.spline.specs.Table.{Row, Table, row}
+use Rattle.spline.proofs.Splice.{spliced-length, spliced-before, spliced-after}
 
 -- ---- row l left out
 
 pub row-without-before : (t : Table) (l i : ℕ) → l ≤ length t → i < l → row (take l t ++ drop (suc l) t) i ≡ row t i
-row-without-before t l i h k = List·getD-append (take l t) (drop (suc l) t) [] i (rw (length-take-le l t h) k) ∙ getD-take l t i [] k
+row-without-before t l i h k = spliced-before t [] l (suc l) h i [] k
 
 pub row-without-from : (t : Table) (l i : ℕ) → l ≤ length t → l ≤ i → row (take l t ++ drop (suc l) t) i ≡ row t (suc i)
-row-without-from t l i h k =
-    ap (λ n. row (take l t ++ drop (suc l) t) n) (let e : i ≡ length (take l t) + (i - l) = omega (arith, length-take-le l t h) in e)
-    ∙ getD-append-add (take l t) (drop (suc l) t) (i - l) []
-    ∙ getD-drop (suc l) t (i - l) []
-    ∙ ap (row t) (let e : suc l + (i - l) ≡ suc i = omega arith in e)
+row-without-from t l i h k = spliced-after t [] l (suc l) h i (suc i) [] (omega arith) (omega arith)
 
 -- ---- rows from f up to i made new: where rs are those rows, the table is take f t ++ (rs ++ drop i t)
 
@@ -29,16 +26,11 @@ renewed-none f t = sym (take-append-drop f t)
 
 module _ (f : ℕ) (t rs : Table) (i : ℕ) (order : f ≤ i) (inside : i ≤ length t) (size : length rs ≡ i - f) where
   pub renewed-length : length (renewed f t rs i) ≡ length t
-  renewed-length = length-append (take f t) (rs ++ drop i t) ∙ omega (arith, length-take-le f t (omega arith), length-append rs (drop i t), length-drop i t)
+  renewed-length = spliced-length t rs f i (omega arith) ∙ omega arith
 
   -- the rows from i on are the old ones
   pub renewed-old : (k : ℕ) → i ≤ k → row (renewed f t rs i) k ≡ row t k
-  renewed-old k h =
-      ap (row (renewed f t rs i)) (let e : k ≡ length (take f t) + (length rs + (k - i)) = omega (arith, length-take-le f t (omega arith)) in e)
-      ∙ getD-append-add (take f t) (rs ++ drop i t) (length rs + (k - i)) []
-      ∙ getD-append-add rs (drop i t) (k - i) []
-      ∙ getD-drop i t (k - i) []
-      ∙ ap (row t) (let e : i + (k - i) ≡ k = omega arith in e)
+  renewed-old k h = spliced-after t rs f i (omega arith) k k [] (omega arith) (omega arith)
 
   -- one new row more
   pub renewed-more : (r : Row) → i < length t → set (renewed f t rs i) i r ≡ renewed f t (rs ++ (r ∷ [])) (suc i)

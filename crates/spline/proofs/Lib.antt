@@ -1,5 +1,5 @@
 -- Laws of the definitions in specs/, for other crates to cite as `Rattle.spline.proofs.M`. A module has the name of the
--- definitions that its laws are about; Legal is about spaces that pass the checks, Answers and NewRows about what a step
+-- definitions that its laws are about; Legal is about spaces that pass the checks, Splice about lists, Answers and NewRows about what a step
 -- that answers has done, Refusals about where a step refuses, Cases proves the cases W1 to W10.
 pub mod Outcome
 pub mod Search
@@ -7,6 +7,7 @@ pub mod Space
 pub mod Legal
 pub mod Conditions
 pub mod Table
+pub mod Splice
 pub mod Reading
 pub mod Step
 pub mod Answers

@@ -4,7 +4,6 @@
 pub mod NullSpace
 pub mod Functional
 pub mod Extended
-pub mod Splice
 pub mod Stepped
 pub mod Basis
 pub mod Identity

@@ -20,12 +20,12 @@ use Rattle.spline.specs.Table.{Table, entry, row, cell}
 use Rattle.spline.specs.Step.{jump, jumps, Span, span, factors, newRow, newRows, step}
 use Rattle.spline.proofs.Outcome.{then-inverts, Chained, answer-unique, collect-inverts, Collected}
 use Rattle.spline.proofs.Table.{entry-past, cell-past}
+use Rattle.spline.proofs.Splice.{spliced-length, spliced-before, spliced-inside, spliced-after}
 use Rattle.spline.proofs.Answers.{Spans, span-inverts, Factors, factors-inverts}
 use Rattle.spline.proofs.NewRows.{Mixed, newRow-inverts}
 use Rattle.theorems.proofs.NullSpace.{Jumps, mixed, last-factor}
 use Rattle.theorems.proofs.Functional.{applied, applied-zero, applied-ext, jump-inverts}
 use Rattle.theorems.proofs.Extended.{extended, extended-from, null-space, w-not-negative, w-at-most-one}
-use Rattle.theorems.proofs.Splice.{spliced-length, spliced-before, spliced-inside, spliced-after}
 
 -- All rows have this many entries.
 pub record Wide (width : ℕ) (t : Table) : Type 0 where
@@ -117,16 +117,16 @@ module _ (width j : ℕ) (t t′ rs : Table) (ws : List ℚ) (f l : ℕ) (J : �
   collected = collect-inverts (l - f) (λ d. newRow j (entry ws d) (entry ws (suc d)) (row t (f + d)) (row t (f + suc d))) has-rows
 
   row-before : (i : ℕ) → i < f → row t′ i ≡ row t i
-  row-before i h = let o = G .ordered in let b = G .below in ap (λ u. row u i) (sym whole) ∙ spliced-before t rs f l (omega arith) b (collected .size) i [] h
+  row-before i h = let o = G .ordered in let b = G .below in ap (λ u. row u i) (sym whole) ∙ spliced-before t rs f (suc l) (omega arith) i [] h
 
   row-inside : (i : ℕ) → f ≤ i → i < l → row t′ i ≡ row rs (i - f)
-  row-inside i h k = let o = G .ordered in let b = G .below in ap (λ u. row u i) (sym whole) ∙ spliced-inside t rs f l (omega arith) b (collected .size) i [] h k
+  row-inside i h k = let o = G .ordered in let b = G .below in ap (λ u. row u i) (sym whole) ∙ spliced-inside t rs f (suc l) (omega arith) i [] h (omega (arith, collected .size))
 
   row-after : (i : ℕ) → l ≤ i → row t′ i ≡ row t (suc i)
-  row-after i h = let o = G .ordered in let b = G .below in ap (λ u. row u i) (sym whole) ∙ spliced-after t rs f l (omega arith) b (collected .size) i [] h
+  row-after i h = let o = G .ordered in let b = G .below in ap (λ u. row u i) (sym whole) ∙ spliced-after t rs f (suc l) (omega arith) i (suc i) [] (omega (arith, collected .size)) (omega (arith, collected .size))
 
   rows : suc (length t′) ≡ length t
-  rows = let o = G .ordered in let b = G .below in ap (λ u. suc (length u)) (sym whole) ∙ spliced-length t rs f l (omega arith) b (collected .size)
+  rows = let o = G .ordered in let b = G .below in ap (λ u. suc (length u)) (sym whole) ∙ ap suc (spliced-length t rs f (suc l) (omega arith)) ∙ omega (arith, collected .size)
 
   row-mixed : (d : ℕ) → d < l - f → Mixed (entry ws d) (entry ws (suc d)) (row t (f + d)) (row t (f + suc d)) (row rs d)
   row-mixed d h = let b = G .below in newRow-inverts j (entry ws d) (entry ws (suc d)) (row t (f + d)) (row t (f + suc d))

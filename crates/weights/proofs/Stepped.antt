@@ -7,8 +7,8 @@ use Prim.Native.Nat.{ℕ, suc, _+_, _-_, _<_, _≤_}
 use native.Mathlib.Omega.{arith}
 use native.Mathlib.Decide.{decLt, ℕ-discrete}
 use lib.IntN.{pos}
-use lib.ListN.{length, take, drop, length-append, length-take, length-drop, List·getD-append}
-use lib.Seq.{length-take-le, getD-take, getD-drop, getD-append-add}
+use lib.ListN.{length, take, drop, length-take, List·getD-append}
+use lib.Seq.{getD-take, getD-drop, getD-append-add}
 use Rattle.exact.specs.Rational.{ℚ, int}
 use Rattle.fraction.specs.Size.{fits}
 use Rattle.fraction.proofs.Size.{int-fits}
@@ -20,6 +20,7 @@ use Rattle.spline.specs.Step.{Span, newEntry, newRow, newRows, jumps, span, fac
 use Rattle.spline.specs.Build.{orderSteps, joinSteps, weights}
 use Rattle.spline.proofs.Outcome.{answer-unique, then-inverts, Collected, collect-inverts, repeat-keeps}
 use Rattle.spline.proofs.Table.{cell-past, identity-rows, identity-on, identity-off, identity-low, identity-wide}
+use Rattle.spline.proofs.Splice.{spliced-length, spliced-before, spliced-inside, spliced-after}
 use Rattle.spline.proofs.Answers.{jumps-length, span-inverts}
 use Rattle.cells.specs.Held.{Shaped}
 use Rattle.cells.proofs.Tables.{renewed}
@@ -87,32 +88,24 @@ module _ (j : ℕ) (g : Span) (ws : Row) (t : Table) {rs : Table} (e : newRows j
   -- with the rows up to i new, every row is as wide as before and there are as many rows but for those between
   pub renewed-shaped : {rows columns : ℕ} (i : ℕ) → Shaped t rows columns → g .f ≤ g .l → g .l ≤ i → i ≤ rows → Shaped (renewed (g .f) t rs i) (rows - (i - g .l)) columns
   renewed-shaped {rows} {columns} i shaped h k m = record {
-    row-count = length-append (take (g .f) t) (rs ++ drop i t) ∙ omega (arith, front, length-append rs (drop i t), length-drop i t, newRows-length, shaped .row-count);
+    row-count = spliced-length t rs (g .f) i (omega (arith, shaped .row-count)) ∙ omega (arith, newRows-length, shaped .row-count);
     wide = λ n l. place n l (decLt n (g .f)) (decLt n (g .l));
     rows-fit = omega (arith, shaped .rows-fit);
     columns-fit = shaped .columns-fit;
   }
     where
-      front : length (take (g .f) t) ≡ g .f
-      front = length-take-le (g .f) t (omega (arith, shaped .row-count))
-
-      behind : (n : ℕ) → g .f ≤ n → row (renewed (g .f) t rs i) n ≡ row (rs ++ drop i t) (n - g .f)
-      behind n l = ap (row (renewed (g .f) t rs i)) (let e : n ≡ length (take (g .f) t) + (n - g .f) = omega (arith, front) in e) ∙ getD-append-add (take (g .f) t) (rs ++ drop i t) (n - g .f) []
+      within : g .f ≤ length t
+      within = omega (arith, shaped .row-count)
 
       place : (n : ℕ) → n < rows - (i - g .l) → Dec (n < g .f) → Dec (n < g .l) → length (row (renewed (g .f) t rs i) n) ≡ columns
-      place n l (yes a) b = ap length (List·getD-append (take (g .f) t) (rs ++ drop i t) [] n (omega (arith, front)) ∙ getD-take (g .f) t n [] a) ∙ shaped .wide n (omega arith)
+      place n l (yes a) b = ap length (spliced-before t rs (g .f) i within n [] a) ∙ shaped .wide n (omega arith)
       place n l (no a) (yes b) =
-          ap length (behind n (omega arith) ∙ List·getD-append rs (drop i t) [] (n - g .f) (omega (arith, newRows-length)))
+          ap length (spliced-inside t rs (g .f) i within n [] (omega arith) (omega (arith, newRows-length)))
           ∙ newRows-wide (n - g .f) (omega arith)
           ∙ ap (λ d. length (row t d)) (let e : g .f + (n - g .f) ≡ n = omega arith in e)
           ∙ shaped .wide n (omega arith)
       place n l (no a) (no b) =
-          ap length (
-          behind n (omega arith)
-          ∙ ap (row (rs ++ drop i t)) (let e : n - g .f ≡ length rs + (n - g .l) = omega (arith, newRows-length) in e)
-          ∙ getD-append-add rs (drop i t) (n - g .l) []
-          ∙ getD-drop i t (n - g .l) []
-          )
+          ap length (spliced-after t rs (g .f) i within n (i + (n - g .l)) [] (omega (arith, newRows-length)) (omega (arith, newRows-length)))
           ∙ shaped .wide (i + (n - g .l)) (omega arith)
 
 -- ---- the identity's shape
