@@ -8,18 +8,18 @@ use native.Mathlib.Omega.{arith}
 use lib.Dec.{T}
 use lib.IntN.{ℤ, pos, negℤ, natAbs}
 use lib.ListN.{length, getD, drop}
-use lib.Signed.{leZ, _≤ℤ_}
+use lib.Signed.{_≤ℤ_}
 use Rattle.exact.specs.Tabulate.{tab}
-use Rattle.exact.proofs.Decide.{and-true, fails-false, not-false}
+use Rattle.exact.proofs.Decide.{fails-false}
 use Rattle.exact.proofs.Integer as Z
 use Rattle.exact.proofs.Tabulate.{tab-length, tab-self, map-tab, getD-tab, length-tab, getD-past-tab}
-use Rattle.exact.proofs.Word.{leZ-true}
 use Rattle.spline.specs.Space.{Space, segments, break, between, firstColumn, rowCount}
 use Rattle.spline.specs.Table.{Table}
 use Rattle.spline.specs.Piecewise.{Accepted}
 use Rattle.spline.specs.Reading.{fine, segmentAt, coefficient, hasWeight, valueAt, values}
 use Rattle.spline.specs.CurveCall.{coefficientLimit, badCoefficient, badPosition, curveOutcome, valuesAfter}
 use Rattle.spline.specs.ExactCurve.{weighsOn, leastOn, greatestOn, Legal}
+use Rattle.spline.proofs.Space.{between-inverts}
 use Rattle.theorems.proofs.Built.{built, row-count}
 use Rattle.closeness.specs.Demand3.{InSpan, valueLimit, Close, CellsAreClose, CellsPastAreKept}
 use Rattle.closeness.proofs.Fine.{fine-mono}
@@ -58,8 +58,7 @@ module _ (s : Space) (coefs positions : List ℤ) (numLength denLength valuesLen
 
 coefficient-size : (coefs : List ℤ) (i : ℕ) → T (not (badCoefficient coefs i)) → (negℤ coefficientLimit ≤ℤ coefficient coefs i) × (coefficient coefs i ≤ℤ coefficientLimit)
 unfolding badCoefficient
-coefficient-size coefs i h = let b = and-true (leZ (negℤ coefficientLimit) (coefficient coefs i)) (leZ (coefficient coefs i) coefficientLimit) (not-false _ (fails-false _ h)) in
-    (leZ-true (negℤ coefficientLimit) (coefficient coefs i) (b .0), leZ-true (coefficient coefs i) coefficientLimit (b .1))
+coefficient-size coefs i h = between-inverts (negℤ coefficientLimit) coefficientLimit (coefficient coefs i) (fails-false _ h)
 
 twice-not : (b : Bool) → T (not (not b)) → T b
 twice-not true h = tt

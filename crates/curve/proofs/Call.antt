@@ -1,11 +1,10 @@
 -- What the curve call ends with, case by case, and what the machine answers and leaves in each.
-use mathlib.Core.Path.{_≡_, refl, sym, _∙_, ap, ap₂}
-use mathlib.Core.Bool.{false, _||_}
+use mathlib.Core.Path.{_≡_, refl, sym, _∙_, ap}
 use mathlib.Core.Logic.{_⊎_, inl, inr}
 use mathlib.Core.List.{List, [], _++_, map}
 use Prim.Native.Nat.{ℕ, _+_, _<_, _≤_}
 use native.Mathlib.Omega.{arith}
-use borrow.Author.Tests.{ne-eqb, lt-ltb, le-ltb}
+use borrow.Author.Tests.{lt-ltb, le-ltb}
 use lib.IntN.{ℤ, pos, natAbs}
 use lib.ListN.{length, getD, drop, List·getD-eq-default}
 use Rattle.exact.specs.Tabulate.{tab}
@@ -13,11 +12,12 @@ use Rattle.exact.proofs.Decide.{le-or-lt, cond-true, cond-false}
 use Rattle.spline.specs.Outcome.{Outcome, answer, refusal, capped, with-answer, _then_}
 use Rattle.spline.specs.Space.{Space, degree, firstColumn, columnCount, rowCount}
 use Rattle.spline.specs.Table.{Table, tableCells, numerators, denominators}
-use Rattle.spline.specs.Build.{weights, spaceWeights, clears, numeratorsAfter, denominatorsAfter}
+use Rattle.spline.specs.Build.{weights, spaceWeights, numeratorsAfter, denominatorsAfter}
 use Rattle.spline.specs.Reading.{coefficient, ordinate, ordinates, segmentAt, fineWidth, offset, triangle, blended, valueAt, values}
 use Rattle.spline.specs.CurveCall.{CurveResult, badCoefficient, badPosition, curveChecked, curveRead, curveOutcome, returned, curveNumerators, curveDenominators, valuesAfter}
 use Rattle.spline.proofs.Outcome.{then-answers, then-refuses}
 use Rattle.spline.proofs.Search.{first-none-inverts}
+use Rattle.spline.proofs.Build.{long-enough, not-cleared}
 use Rattle.closeness.proofs.LegalCall.{ChecksPassed, checks-passed}
 use Rattle.closeness.proofs.Weights.{weight-num-le-den}
 use Rattle.space.specs.Reply.{space, legality}
@@ -61,10 +61,7 @@ module _ {o : Outcome CurveResult} (num den vs : List ℤ) where
   -- a refusal that is not 8 or 9 leaves the buffers
   pub ends-unchanged : {number place : ℕ} → o ≡ refusal number place → number ≤ 7 → Ends o (Refused number place) num den vs num den vs
   unfolding numeratorsAfter denominatorsAfter
-  ends-unchanged {number} e h = ends-refused e (sym (cond-false (numerators [] num) num kept)) (sym (cond-false (denominators [] den) den kept))
-    where
-      kept : clears number ≡ false
-      kept = ap₂ _||_ (ne-eqb number 8 (λ z. omega arith)) (ne-eqb number 9 (λ z. omega arith))
+  ends-unchanged {number} e h = ends-refused e (sym (cond-false (numerators [] num) num (not-cleared number h))) (sym (cond-false (denominators [] den) den (not-cleared number h)))
 
   -- the values of m positions
   pub ends-written : {t : Table} {written : List ℤ} {m : ℕ} {num′ den′ vs′ : List ℤ} → o ≡ answer (record { table = t; values = written }) → length written ≡ m
@@ -93,12 +90,12 @@ module _ (s : Space) (coefs positions : List ℤ) (numLength denLength valuesLen
 
   pub third-short : tableCells ≤ numLength → tableCells ≤ denLength → valuesLength < length positions → outcome ≡ refusal 1 2
   unfolding curveOutcome capped
-  third-short h k l = cond-false _ _ (le-ltb numLength tableCells h) ∙ cond-false _ _ (le-ltb denLength tableCells k) ∙ cond-true _ _ (lt-ltb valuesLength (length positions) l)
+  third-short h k l = long-enough numLength denLength _ h k ∙ cond-true _ _ (lt-ltb valuesLength (length positions) l)
 
   module _ (h : tableCells ≤ numLength) (k : tableCells ≤ denLength) (l : length positions ≤ valuesLength) where
     all-long : outcome ≡ (curveChecked s coefs positions then curveRead coefs positions)
     unfolding curveOutcome
-    all-long = cond-false _ _ (le-ltb numLength tableCells h) ∙ cond-false _ _ (le-ltb denLength tableCells k) ∙ cond-false _ _ (le-ltb valuesLength (length positions) l)
+    all-long = long-enough numLength denLength _ h k ∙ cond-false _ _ (le-ltb valuesLength (length positions) l)
 
     pub call-refused : {number place : ℕ} → curveChecked s coefs positions ≡ refusal number place → outcome ≡ refusal number place
     call-refused e = all-long ∙ then-refuses (curveRead coefs positions) e

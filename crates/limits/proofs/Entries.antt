@@ -5,13 +5,12 @@ use mathlib.Core.List.{List}
 use Prim.Native.Nat.{ℕ, _≤_}
 use lib.IntN.{ℤ, pos, negsuc, natAbs}
 use lib.ListN.{getD}
-use lib.Signed.{ltZ, leZ, _≤ℤ_}
-use Rattle.exact.proofs.Decide.{not-false, and-true}
+use lib.Signed.{ltZ, _≤ℤ_}
 use Rattle.exact.proofs.Integer.{abs-le-in}
-use Rattle.exact.proofs.Word.{leZ-true}
 use Rattle.spline.specs.Space.{Space, segments, break, between}
 use Rattle.spline.specs.Reading.{fine}
 use Rattle.spline.specs.CurveCall.{badCoefficient, badPosition}
+use Rattle.spline.proofs.Space.{between-inverts}
 use Rattle.space.proofs.Tests as tests
 
 module _ (low high z : ℤ) where
@@ -32,13 +31,10 @@ module _ (coefs : List ℤ) (i : ℕ) where
 
 -- ---- entries that break no rule
 
-range : (low high z : ℤ) → not (between low high z) ≡ false → (low ≤ℤ z) × (z ≤ℤ high)
-range low high z e = let b = and-true (leZ low z) (leZ z high) (not-false _ e) in (leZ-true low z (b .0), leZ-true z high (b .1))
-
 pub good-coefficient : (coefs : List ℤ) (i : ℕ) → badCoefficient coefs i ≡ false → natAbs (getD coefs i (pos 0)) ≤ 1000000
 unfolding badCoefficient
-good-coefficient coefs i e = let r = range (negsuc 999999) (pos 1000000) (getD coefs i (pos 0)) e in abs-le-in (getD coefs i (pos 0)) 1000000 (r .0) (r .1)
+good-coefficient coefs i e = let r = between-inverts (negsuc 999999) (pos 1000000) (getD coefs i (pos 0)) e in abs-le-in (getD coefs i (pos 0)) 1000000 (r .0) (r .1)
 
 pub good-position : (s : Space) (positions : List ℤ) (i : ℕ) → badPosition s positions i ≡ false → (fine (break s 0) ≤ℤ getD positions i (pos 0)) × (getD positions i (pos 0) ≤ℤ fine (break s (segments s)))
 unfolding badPosition
-good-position s positions i e = range (fine (break s 0)) (fine (break s (segments s))) (getD positions i (pos 0)) e
+good-position s positions i e = between-inverts (fine (break s 0)) (fine (break s (segments s))) (getD positions i (pos 0)) e

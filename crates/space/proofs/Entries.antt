@@ -3,26 +3,17 @@
 use mathlib.Core.Path.{_≡_, sym, _∙_}
 use mathlib.Core.Bool.{false}
 use Prim.Native.Nat.{ℕ, zero, suc, _≤_}
-use native.Mathlib.Omega.{arith}
 use lib.IntN.{ℤ, pos, negsuc, natAbs}
 use lib.Signed.{ltZ, _≤ℤ_, _<ℤ_}
 use Rattle.exact.proofs.Decide.{or-false}
-use Rattle.exact.proofs.Integer.{≤-in, ≤-out, abs-le}
+use Rattle.exact.proofs.Integer.{abs-le-in, abs-le-out}
 use Rattle.exact.proofs.Word.{ltZ-false, leZ-false, not-lt-test, not-le-test}
 use Rattle.spline.specs.Space.{Space, break, degreeEntry, order, badBreak, badDegree, badOrder}
 use Rattle.space.proofs.Tests.{break-zero, break-suc, degree-tests, order-tests}
 
 -- the range of a breakpoint, by its size
 size-of : (x : ℤ) → ltZ x (negsuc 9999) ≡ false → ltZ (pos 10000) x ≡ false → natAbs x ≤ 10000
-size-of x e f = let h = ≤-out _ _ (ltZ-false x (negsuc 9999) e) in let k = ≤-out _ _ (ltZ-false (pos 10000) x f) in abs-le x 10000 (omega arith) (omega arith)
-
-low-of : (x : ℤ) → natAbs x ≤ 10000 → negsuc 9999 ≤ℤ x
-low-of (pos n) h = ≤-in _ _ (omega arith)
-low-of (negsuc n) h = ≤-in _ _ (omega arith)
-
-high-of : (x : ℤ) → natAbs x ≤ 10000 → x ≤ℤ pos 10000
-high-of (pos n) h = ≤-in _ _ (omega arith)
-high-of (negsuc n) h = ≤-in _ _ (omega arith)
+size-of x e f = abs-le-in x 10000 (ltZ-false x (negsuc 9999) e) (ltZ-false (pos 10000) x f)
 
 module _ (s : Space) where
   pub good-break-size : (i : ℕ) → badBreak s i ≡ false → natAbs (break s i) ≤ 10000
@@ -30,10 +21,10 @@ module _ (s : Space) where
   good-break-size (suc i) e = let p = or-false _ _ (or-false _ _ (sym (break-suc s i) ∙ e) .0) in size-of (break s (suc i)) (p .0) (p .1)
 
   pub break-good-first : natAbs (break s zero) ≤ 10000 → badBreak s zero ≡ false
-  break-good-first h = break-zero s ∙ simp (not-lt-test (low-of (break s zero) h), not-lt-test (high-of (break s zero) h))
+  break-good-first h = break-zero s ∙ simp (not-lt-test (abs-le-out (break s zero) 10000 h .0), not-lt-test (abs-le-out (break s zero) 10000 h .1))
 
   pub break-good : (i : ℕ) → natAbs (break s (suc i)) ≤ 10000 → break s i <ℤ break s (suc i) → badBreak s (suc i) ≡ false
-  break-good i h k = break-suc s i ∙ simp (not-lt-test (low-of (break s (suc i)) h), not-lt-test (high-of (break s (suc i)) h), not-le-test k)
+  break-good i h k = break-suc s i ∙ simp (not-lt-test (abs-le-out (break s (suc i)) 10000 h .0), not-lt-test (abs-le-out (break s (suc i)) 10000 h .1), not-le-test k)
 
   pub good-degree-low : (i : ℕ) → badDegree s i ≡ false → pos 1 ≤ℤ degreeEntry s i
   good-degree-low i e = ltZ-false (degreeEntry s i) (pos 1) (or-false (ltZ (degreeEntry s i) (pos 1)) (ltZ (pos 5) (degreeEntry s i)) (sym (degree-tests s i) ∙ e) .0)

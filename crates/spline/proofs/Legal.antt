@@ -10,14 +10,15 @@ use lib.Dec.{eqb, leb}
 use lib.IntN.{ℤ, pos, negsuc, _+ℤ_, _-ℤ_, negℤ, natAbs}
 use lib.ListN.{length}
 use lib.Signed.{leZ, _<ℤ_}
-use Rattle.exact.proofs.Decide.{and-true, or-false, not-false}
+use Rattle.exact.proofs.Decide.{and-true, or-false}
 use Rattle.exact.proofs.Integer.{up, dn, bal-+, bal-neg, ≤-out, <-out, abs-parts}
-use Rattle.exact.proofs.Word.{leZ-true, leZ-false}
+use Rattle.exact.proofs.Word.{leZ-false}
 use Rattle.spline.specs.Outcome.{Outcome, answer, refusal, refuse}
 use Rattle.spline.specs.Search.{first}
 use Rattle.spline.specs.Space.{Space, segments, break, degreeEntry, order, between, lengthsFit, badBreak, spanTooLong, badDegree, badOrder, refuseFirst, checkedEntries, checked, degree, width, conditionCount}
 use Rattle.spline.proofs.Outcome.{answer-unique, answer-not-refusal}
 use Rattle.spline.proofs.Search.{first-none-inverts}
+use Rattle.spline.proofs.Space.{between-inverts}
 
 -- The facts that the tests leave, test by test.
 pub record Checked (s : Space) : Type 0 where
@@ -133,9 +134,7 @@ pub record Legal (s : Space) : Type 0 where
 -- an order is at least -1 and below each degree: the count of its conditions
 count-below : (d o : ℤ) → not (between (pos 1) (pos 5) d) ≡ false → not (between (negℤ (pos 1)) (pos 2) o) ≡ false → leZ d o ≡ false → natAbs (o +ℤ pos 1) ≤ natAbs d
 count-below d o g e h =
-    let a = and-true (leZ (pos 1) d) (leZ d (pos 5)) (not-false _ g) in
-    let b = and-true (leZ (negℤ (pos 1)) o) (leZ o (pos 2)) (not-false _ e) in
-    go d o (≤-out (pos 1) d (leZ-true (pos 1) d (a .0))) (≤-out (negsuc 0) o (leZ-true (negsuc 0) o (b .0))) (<-out o d (leZ-false d o h))
+    go d o (≤-out (pos 1) d (between-inverts (pos 1) (pos 5) d g .0)) (≤-out (negsuc 0) o (between-inverts (negsuc 0) (pos 2) o e .0)) (<-out o d (leZ-false d o h))
   where
     go : (d o : ℤ) → up (pos 1) + dn d ≤ dn (pos 1) + up d → up (negsuc 0) + dn o ≤ dn (negsuc 0) + up o → up o + dn d < dn o + up d → natAbs (o +ℤ pos 1) ≤ natAbs d
     go (pos d) (pos n) r p q = omega arith

@@ -10,6 +10,7 @@ pub mod Table
 pub mod Splice
 pub mod Reading
 pub mod Step
+pub mod Build
 pub mod Answers
 pub mod NewRows
 pub mod Refusals

@@ -1,10 +1,19 @@
--- Where the columns of segments lie: a later segment does not start before an earlier one.
+-- A number that is between two bounds; and where the columns of segments lie: a later segment does not start before an
+-- earlier one.
 use mathlib.Core.Path.{_≡_, ap}
 use mathlib.Core.Logic.{_⊎_, inl, inr}
+use mathlib.Core.Bool.{false, not}
 use Prim.Native.Nat.{ℕ, zero, suc, _+_, _<_, _≤_}
 use native.Mathlib.Omega.{arith}
 use native.Mathlib.Nat.{eq-or-lt-of-le}
-use Rattle.spline.specs.Space.{Space, degree, firstColumn}
+use lib.IntN.{ℤ}
+use lib.Signed.{leZ, _≤ℤ_}
+use Rattle.exact.proofs.Decide.{and-true, not-false}
+use Rattle.exact.proofs.Word.{leZ-true}
+use Rattle.spline.specs.Space.{Space, between, degree, firstColumn}
+
+pub between-inverts : (low high z : ℤ) → not (between low high z) ≡ false → (low ≤ℤ z) × (z ≤ℤ high)
+between-inverts low high z e = let b = and-true (leZ low z) (leZ z high) (not-false _ e) in (leZ-true low z (b .0), leZ-true z high (b .1))
 
 pub firstColumn-mono : (s : Space) (i n : ℕ) → i ≤ n → firstColumn s i ≤ firstColumn s n
 unfolding firstColumn

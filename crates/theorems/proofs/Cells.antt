@@ -1,24 +1,15 @@
 -- The cells after a call hold the published weights, proved: the table lies in the buffers as specs/Table of spline says.
-use mathlib.Core.Path.{_≡_, ap, _∙_}
-use mathlib.Core.Bool.{Bool, cond}
-use Prim.Native.Nat.{ℕ, _+_, _*_, _≤_}
-use borrow.Author.Tests.{le-ltb}
-use lib.Dec.{ltb}
+use mathlib.Core.Path.{ap, _∙_}
+use Prim.Native.Nat.{_+_, _*_}
 use lib.IntN.{pos}
 use lib.ListN.{length, getD, drop}
 use Rattle.exact.specs.Rational.{den}
-use Rattle.spline.specs.Outcome.{Outcome, refuse}
-use Rattle.spline.specs.Table.{Table, cell, rowCells, tableCells, numerators, denominators}
-use Rattle.spline.specs.Build.{spaceWeights, longEnough, built, numeratorsAfter, denominatorsAfter}
+use Rattle.spline.specs.Table.{cell, rowCells, tableCells, numerators, denominators}
+use Rattle.spline.specs.Build.{spaceWeights, built, numeratorsAfter, denominatorsAfter}
 use Rattle.spline.proofs.Table.{laid-cell}
+use Rattle.spline.proofs.Build.{long-enough}
 use Rattle.theorems.specs.Cells.{AcceptedSpacesAreBuilt, CellsHoldPublishedWeights}
 use Rattle.theorems.proofs.Published.{weights-are-published}
-
--- buffers that are long enough let the outcome through
-long-enough : (n d : ℕ) (o : Outcome Table) → tableCells ≤ n → tableCells ≤ d → longEnough n d o ≡ o
-long-enough n d o h k =
-    ap (λ (b : Bool). cond b (refuse 1 0) (cond (ltb d tableCells) (refuse 1 1) o)) (le-ltb n tableCells h)
-    ∙ ap (λ (b : Bool). cond b (refuse 1 1) o) (le-ltb d tableCells k)
 
 pub accepted-spaces-are-built : AcceptedSpacesAreBuilt
 unfolding built

@@ -1,12 +1,12 @@
 -- What building ends with, case by case: too short a buffer, lists that are refused, and the joins' table or refusal; and
 -- what the machine answers and leaves in each.
 use mathlib.Core.Path.{_≡_, refl, sym, _∙_, ap, ap₂, subst}
-use mathlib.Core.Bool.{true, false, cond, _||_}
+use mathlib.Core.Bool.{true, false, cond}
 use mathlib.Core.Logic.{_⊎_, inl, inr}
 use mathlib.Core.List.{List, []}
 use Prim.Native.Nat.{ℕ, _-_, _<_, _≤_}
 use native.Mathlib.Omega.{arith}
-use borrow.Author.Tests.{ne-eqb, lt-ltb, le-ltb}
+use borrow.Author.Tests.{lt-ltb, le-ltb}
 use lib.Dec.{ltb}
 use lib.IntN.{ℤ, pos}
 use lib.ListN.{length}
@@ -15,6 +15,7 @@ use Rattle.spline.specs.Space.{Space, segments, columnCount, conditionCount, ch
 use Rattle.spline.specs.Table.{Table, identity, tableCells, numerators, denominators}
 use Rattle.spline.specs.Build.{orderSteps, joinSteps, weights, spaceWeights, built, clears, numeratorsAfter, denominatorsAfter}
 use Rattle.spline.proofs.Outcome.{RefusedAs, repeat-refused, then-answers, then-refuses, capped-small}
+use Rattle.spline.proofs.Build.{long-enough, not-cleared}
 use Rattle.cells.specs.Held.{Kept}
 use Rattle.cells.specs.Part.{filled}
 use Rattle.cells.proofs.Buffer.{numerators-again, denominators-again, numerators-cleared, denominators-cleared, kept-numerators, kept-denominators, kept-then}
@@ -41,7 +42,7 @@ ends-unchanged o n num den {number} {place} e h = record {
 }
   where
     kept : clears number ≡ false
-    kept = ap₂ _||_ (ne-eqb number 8 (λ z. omega arith)) (ne-eqb number 9 (λ z. omega arith))
+    kept = not-cleared number (omega arith)
 
 -- ---- the call's outcome
 
@@ -61,7 +62,7 @@ module _ (s : Space) (numLength denLength : ℕ) where
   module _ (h : tableCells ≤ numLength) (k : tableCells ≤ denLength) where
     built-long : built s numLength denLength ≡ spaceWeights s
     unfolding built
-    built-long = ap₂ (λ a b. cond a (refuse 1 0) (cond b (refuse 1 1) (spaceWeights s))) (le-ltb numLength tableCells h) (le-ltb denLength tableCells k)
+    built-long = long-enough numLength denLength (spaceWeights s) h k
 
     pub built-refused : {number place : ℕ} → checked s ≡ refusal number place → built s numLength denLength ≡ refusal number place
     unfolding spaceWeights
