@@ -21,6 +21,9 @@ same docs/growth.svg <(python3 tools/plot examples/growth.sheet examples/growth.
 while IFS= read -r line; do
     grep -qF -- "    $line" README.md || { printf 'not in the README: %s\n' "$line"; failed=1; }
 done <examples/w1.out
+for line in $(grep -oE '`[nwv]=[^`]+`' README.md | tr -d '`'); do
+    grep -qxF -- "$line" examples/growth.out || { printf 'in the README, but not printed: %s\n' "$line"; failed=1; }
+done
 if [ -e /dev/full ]; then
     "$sheet" <examples/w1.sheet 2>&1 >/dev/full | grep -q '^write: ' || { echo 'no message where nothing can be written'; failed=1; }
 fi
