@@ -3,9 +3,11 @@
 use mathlib.Core.Option.{some, none}
 use mathlib.Core.Path.{_≡_, refl}
 use Prim.Native.String.{String}
+use native.Mathlib.Omega.{arith}
 use lib.IntN.{ℤ, pos, negℤ}
 use Rattle.numerals.specs.Bytes.{bytes}
-use Rattle.numerals.specs.Numeral.{allDigits, digitsValue, isNatural, numeral}
+use Rattle.numerals.specs.Numeral.{allDigits, digitsValue, isNatural, numeral, decimal}
+use Rattle.numerals.proofs.RoundTrip.{numeral-reads-back}
 
 abbrev IsNumber : String → ℤ → Type 0
 IsNumber s z = numeral (bytes s) ≡ some z
@@ -20,3 +22,7 @@ numbers = (refl, refl, refl, refl, refl)
 no-numbers : NoNumber "" × NoNumber "-" × NoNumber "-0" × NoNumber "00" × NoNumber "01" × NoNumber "-01" × NoNumber "+1" × NoNumber " 1" × NoNumber "1 " × NoNumber "1\r" × NoNumber "10000000" × NoNumber "--1" × NoNumber "1-" × NoNumber "1.0"
 unfolding allDigits digitsValue isNatural numeral bytes
 no-numbers = (refl, refl, refl, refl, refl, refl, refl, refl, refl, refl, refl, refl, refl, refl)
+
+-- the least number that a sheet can hold, written and read back
+least-reads-back : numeral (decimal (negℤ (pos 9999999))) ≡ some (negℤ (pos 9999999))
+least-reads-back = numeral-reads-back (negℤ (pos 9999999)) (omega arith)

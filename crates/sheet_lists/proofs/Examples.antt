@@ -1,15 +1,18 @@
 -- The definitions of reading on small texts, by computation: what a list may be, and the place that a malformed sheet gets.
 use mathlib.Core.List.{List, [], _∷_, _++_}
 use mathlib.Core.Option.{some, none}
-use mathlib.Core.Path.{_≡_, refl}
-use Prim.Native.Nat.{ℕ}
+use mathlib.Core.Path.{_≡_, refl, sym, ap, _∙_}
+use Prim.Native.Nat.{ℕ, zero, suc, _<_, _≤_}
+use native.Mathlib.Omega.{arith}
 use Prim.Native.String.{String}
-use lib.IntN.{ℤ, pos, negℤ}
-use lib.ListN.{take}
-use Rattle.spline.specs.Outcome.{refusal, capped}
+use lib.IntN.{ℤ, pos, negℤ, natAbs}
+use lib.ListN.{take, length, getD}
+use Rattle.spline.specs.Outcome.{answer, refusal, capped}
 use Rattle.numerals.specs.Bytes.{Text, newline, bytes, lines, cut, fields, stripped}
-use Rattle.numerals.specs.Numeral.{allDigits, digitsValue, isNatural, numeral}
-use Rattle.sheet_lists.specs.Reading.{numerals, listOf, line, readLine, fiveLines, read}
+use Rattle.numerals.specs.Numeral.{allDigits, digitsValue, isNatural, numeral, digitsUpTo, digits, decimal, numberLimit}
+use Rattle.sheet_lists.specs.Reading.{numerals, listOf, line, readLine, fiveLines, read, Lists, listLimit, textLimit}
+use Rattle.sheet_lists.specs.SheetText.{commaJoined, listText, lineText, sheetText, Writable}
+use Rattle.sheet_lists.proofs.RoundTrip.{sheet-reads-back}
 
 -- ---- "commas between, an empty list allowed"
 abbrev IsList : String → List ℤ → Type 0
@@ -48,3 +51,50 @@ misplaced = (refl, refl)
 trailing : RefusedAt (w1 ++ (newline ∷ [])) 6 × RefusedAt (w1 ++ bytes "x") 6 × RefusedAt (lines ("breaks=0,1" ∷ "degrees=1" ∷ "orders=" ∷ "coefs=0,01" ∷ "at=" ∷ "" ∷ [])) 4
 unfolding capped cut fields stripped allDigits digitsValue isNatural numeral numerals listOf line readLine fiveLines read bytes lines
 trailing = (refl, refl, refl)
+
+-- ---- what is written for W1's lists is its sheet, and reads back to them
+
+abbrev lists1 : Lists
+lists1 = record {
+  breaks = pos 0 ∷ pos 1 ∷ pos 3 ∷ [];
+  degrees = pos 2 ∷ pos 2 ∷ [];
+  orders = pos 1 ∷ [];
+  coefs = pos 0 ∷ pos 100 ∷ pos 0 ∷ pos 0 ∷ [];
+  positions = pos 256 ∷ pos 512 ∷ [];
+}
+
+abbrev Small : List ℤ → Type 0
+Small zs = (i : ℕ) → natAbs (getD zs i (pos 0)) < numberLimit
+
+none-small : Small []
+none-small i = omega arith
+
+one-more : (z : ℤ) (zs : List ℤ) → natAbs z < numberLimit → Small zs → Small (z ∷ zs)
+one-more z zs h k zero = h
+one-more z zs h k (suc i) = k i
+
+text1 : sheetText lists1 ≡ w1
+unfolding sheetText lineText listText commaJoined decimal digits digitsUpTo bytes lines
+text1 = refl
+
+short1 : length (sheetText lists1) ≤ textLimit
+unfolding bytes lines
+short1 = omega (arith, ap length text1)
+
+breaks1 : Writable (lists1 .breaks)
+breaks1 = record { few = omega arith; small = one-more (pos 0) (pos 1 ∷ pos 3 ∷ []) (omega arith) (one-more (pos 1) (pos 3 ∷ []) (omega arith) (one-more (pos 3) [] (omega arith) none-small)) }
+
+degrees1 : Writable (lists1 .degrees)
+degrees1 = record { few = omega arith; small = one-more (pos 2) (pos 2 ∷ []) (omega arith) (one-more (pos 2) [] (omega arith) none-small) }
+
+orders1 : Writable (lists1 .orders)
+orders1 = record { few = omega arith; small = one-more (pos 1) [] (omega arith) none-small }
+
+coefs1 : Writable (lists1 .coefs)
+coefs1 = record { few = omega arith; small = one-more (pos 0) (pos 100 ∷ pos 0 ∷ pos 0 ∷ []) (omega arith) (one-more (pos 100) (pos 0 ∷ pos 0 ∷ []) (omega arith) (one-more (pos 0) (pos 0 ∷ []) (omega arith) (one-more (pos 0) [] (omega arith) none-small))) }
+
+positions1 : Writable (lists1 .positions)
+positions1 = record { few = omega arith; small = one-more (pos 256) (pos 512 ∷ []) (omega arith) (one-more (pos 512) [] (omega arith) none-small) }
+
+read1 : read w1 ≡ answer lists1
+read1 = ap read (sym text1) ∙ sheet-reads-back lists1 breaks1 degrees1 orders1 coefs1 positions1 short1
