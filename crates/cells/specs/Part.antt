@@ -20,6 +20,10 @@ filled from to v xs = tab (length xs) (λ k. cond (inside from to k) v (getD xs 
 unfoldable pub moved : ℕ → ℕ → List ℤ → List ℤ
 moved from to xs = tab (length xs) (λ k. getD xs (cond (inside from to k) (k + rowCells) k) (pos 0))
 
+-- From one place of the diagonal to the next: a row and a cell.
+abbrev pub diagonalStep : ℕ
+diagonalStep = rowCells + 1
+
 -- 1 at the first n places of the diagonal, the rest as before.
 unfoldable pub marked : ℕ → List ℤ → List ℤ
-marked n xs = tab (length xs) (λ k. cond (eqb (k % 73) 0 && ltb (k / 73) n) (pos 1) (getD xs k (pos 0)))
+marked n xs = tab (length xs) (λ k. cond (eqb (k % diagonalStep) 0 && ltb (k / diagonalStep) n) (pos 1) (getD xs k (pos 0)))

@@ -9,9 +9,14 @@ ghost use Rattle.cells.specs.Held.{Holds};
 ghost use Rattle.cells.specs.Part.{filled, moved, marked};
 use fraction::Fraction;
 
+// Cells of a row.
 pub const ROW_CELLS: usize = 72;
 
+// Cells of a table.
 pub const TABLE_CELLS: usize = 5184;
+
+// From one place of the diagonal to the next: a row and a cell.
+const DIAGONAL_STEP: usize = 73;
 
 // 0/1 in the cells from the one index up to the other.
 pub fn clear(num: &mut [i64], den: &mut [i64], from: usize, to: usize)
@@ -29,12 +34,12 @@ pub fn clear(num: &mut [i64], den: &mut [i64], from: usize, to: usize)
 
 // 1 at the first n places of the diagonal.
 pub fn mark_diagonal(num: &mut [i64], n: usize)
-    requires { ⌜ (n ≤ 72) × (5184 ≤ length (now num)) ⌝ }
+    requires { ⌜ (n ≤ Table.rowCells) × (Table.tableCells ≤ length (now num)) ⌝ }
     ensures { λ _. ⌜ now (num .exit) ≡ marked n (now (num .entry)) ⌝ }
 {
     let mut i = 0;
     while i < n {
-        let k = 73 * i;
+        let k = DIAGONAL_STEP * i;
         num[k] = 1;
         i += 1;
     }
@@ -42,7 +47,7 @@ pub fn mark_diagonal(num: &mut [i64], n: usize)
 
 // The cells from the one index up to the other take what stands a row further on.
 pub fn move_up(num: &mut [i64], den: &mut [i64], from: usize, to: usize)
-    requires { ⌜ (from ≤ to) × ((to + 72 ≤ length (now num)) × (to + 72 ≤ length (now den))) ⌝ }
+    requires { ⌜ (from ≤ to) × ((to + Table.rowCells ≤ length (now num)) × (to + Table.rowCells ≤ length (now den))) ⌝ }
     ensures { λ _. ⌜ now (num .exit) ≡ moved from to (now (num .entry)) ⌝ }
     ensures { λ _. ⌜ now (den .exit) ≡ moved from to (now (den .entry)) ⌝ }
 {
@@ -59,7 +64,7 @@ pub fn move_up(num: &mut [i64], den: &mut [i64], from: usize, to: usize)
 
 // The identity with n rows and columns.
 pub fn identity(num: &mut [i64], den: &mut [i64], n: usize)
-    requires { ⌜ (n ≤ 72) × ((5184 ≤ length (now num)) × (5184 ≤ length (now den))) ⌝ }
+    requires { ⌜ (n ≤ Table.rowCells) × ((Table.tableCells ≤ length (now num)) × (Table.tableCells ≤ length (now den))) ⌝ }
     ensures { λ _. ⌜ now (num .exit) ≡ Table.numerators (Table.identity n) (now (num .entry)) ⌝ }
     ensures { λ _. ⌜ now (den .exit) ≡ Table.denominators (Table.identity n) (now (den .entry)) ⌝ }
 {
@@ -69,7 +74,7 @@ pub fn identity(num: &mut [i64], den: &mut [i64], n: usize)
 
 // Row l is left out: the rows after it move up, and the last row becomes 0/1.
 pub fn drop_row(num: &mut [i64], den: &mut [i64], l: usize, rows: usize)
-    requires { ⌜ (l < rows) × ((rows ≤ 72) × ((5184 ≤ length (now num)) × (5184 ≤ length (now den)))) ⌝ }
+    requires { ⌜ (l < rows) × ((rows ≤ Table.rowCells) × ((Table.tableCells ≤ length (now num)) × (Table.tableCells ≤ length (now den)))) ⌝ }
     ensures { λ _. ⌜ ((t : Table.Table) → Holds (now (num .entry)) (now (den .entry)) t → length t ≡ rows
         → (now (num .exit) ≡ Table.numerators (take l t ++ drop (suc l) t) (now (num .entry)))
         × (now (den .exit) ≡ Table.denominators (take l t ++ drop (suc l) t) (now (den .entry)))) ⌝ }

@@ -13,20 +13,19 @@ use Rattle.exact.specs.Tabulate.{tab}
 use Rattle.exact.proofs.Decide.{fails-false}
 use Rattle.exact.proofs.Integer as Z
 use Rattle.exact.proofs.Tabulate.{tab-length, tab-self, map-tab, getD-tab, length-tab, getD-past-tab}
-use Rattle.spline.specs.Space.{Space, segments, break, between, firstColumn, rowCount}
+use Rattle.spline.specs.Space.{Space, segments, break, between, rowCount}
 use Rattle.spline.specs.Table.{Table}
 use Rattle.spline.specs.Piecewise.{Accepted}
-use Rattle.spline.specs.Reading.{fine, segmentAt, coefficient, hasWeight, valueAt, values}
+use Rattle.spline.specs.Reading.{fine, segmentAt, coefficient, valueAt, values}
 use Rattle.spline.specs.CurveCall.{coefficientLimit, badCoefficient, badPosition, curveOutcome, valuesAfter}
-use Rattle.spline.specs.ExactCurve.{weighsOn, leastOn, greatestOn, Legal}
+use Rattle.spline.specs.ExactCurve.{leastOn, greatestOn, Legal}
 use Rattle.spline.proofs.Space.{between-inverts}
 use Rattle.theorems.proofs.Built.{built, row-count}
 use Rattle.closeness.specs.Demand3.{InSpan, valueLimit, Close, CellsAreClose, CellsPastAreKept}
 use Rattle.closeness.proofs.Fine.{fine-mono}
-use Rattle.closeness.proofs.Weights.{Passing, accepted-column, some-weight, howMany-some}
 use Rattle.closeness.proofs.Segment.{accepted-checked, located}
-use Rattle.closeness.proofs.OnSegment.{weighs-in-column, leastOn-is, greatestOn-is}
-use Rattle.closeness.proofs.Value.{segment-column}
+use Rattle.closeness.proofs.OnSegment.{leastOn-is, greatestOn-is}
+use Rattle.closeness.proofs.SegmentWeights.{every-segment-has-weight}
 use Rattle.closeness.proofs.LegalCall.{legal-calls-answer}
 use Rattle.closeness.proofs.Demand3.{value-at-most-exact, exact-below-value-and-closeness, value-at-least-least, value-at-most-greatest}
 
@@ -56,9 +55,9 @@ module _ (s : Space) (coefs positions : List ℤ) (numLength denLength valuesLen
 
 -- ---- what the tests leave of coefficients and positions
 
-coefficient-size : (coefs : List ℤ) (i : ℕ) → T (not (badCoefficient coefs i)) → (negℤ coefficientLimit ≤ℤ coefficient coefs i) × (coefficient coefs i ≤ℤ coefficientLimit)
+coefficient-size : (coefs : List ℤ) (i : ℕ) → T (not (badCoefficient coefs i)) → (negℤ (pos coefficientLimit) ≤ℤ coefficient coefs i) × (coefficient coefs i ≤ℤ pos coefficientLimit)
 unfolding badCoefficient
-coefficient-size coefs i h = between-inverts (negℤ coefficientLimit) coefficientLimit (coefficient coefs i) (fails-false _ h)
+coefficient-size coefs i h = between-inverts (negℤ (pos coefficientLimit)) (pos coefficientLimit) (coefficient coefs i) (fails-false _ h)
 
 twice-not : (b : Bool) → T (not (not b)) → T b
 twice-not true h = tt
@@ -70,25 +69,18 @@ position-inside s positions i h = twice-not (between (fine (break s 0)) (fine (b
 
 -- ---- the size of a value
 
--- a row with weight on the position's segment
-row-on-segment : (s : Space) (a : Accepted s) (x : ℤ) → InSpan s x → Passing (length (a .table)) (weighsOn s (a .table) (segmentAt s x))
-row-on-segment s a x inside =
-    let c = segment-column s (segmentAt s x) 0 (located s (accepted-checked s a .1) x inside .below) (omega arith) in
-    let w = howMany-some (length (a .table)) (hasWeight (a .table) (firstColumn s (segmentAt s x) + 0)) (some-weight (a .table) (firstColumn s (segmentAt s x) + 0) (accepted-column s a (firstColumn s (segmentAt s x) + 0) c)) in
-    record { index = w .index; below = w .below; passes = weighs-in-column s (a .table) (segmentAt s x) 0 (w .index) (omega arith) (w .passes) }
-
 module _ (s : Space) (a : Accepted s) (coefs : List ℤ) (count : length coefs ≡ rowCount s) (legal : (i : ℕ) → i < length coefs → T (not (badCoefficient coefs i))) (x : ℤ) (inside : InSpan s x) where
-  size-of-row : (i : ℕ) → i < length (a .table) → (negℤ coefficientLimit ≤ℤ coefficient coefs i) × (coefficient coefs i ≤ℤ coefficientLimit)
+  size-of-row : (i : ℕ) → i < length (a .table) → (negℤ (pos coefficientLimit) ≤ℤ coefficient coefs i) × (coefficient coefs i ≤ℤ pos coefficientLimit)
   size-of-row i h = coefficient-size coefs i (legal i (omega (arith, row-count s (a .table) (built s (a .table) (a .is)))))
 
   pub value-size : natAbs (valueAt s (a .table) coefs x) ≤ valueLimit
   value-size =
-      let w = row-on-segment s a x inside in
-      let low = leastOn-is s (a .table) (segmentAt s x) coefs (w .index) (w .below) (w .passes) in
-      let high = greatestOn-is s (a .table) (segmentAt s x) coefs (w .index) (w .below) (w .passes) in
+      let w = every-segment-has-weight s a (segmentAt s x) (located s (accepted-checked s a .1) x inside .below) in
+      let low = leastOn-is s (a .table) (segmentAt s x) coefs (w .row) (w .below) (w .weighs) in
+      let high = greatestOn-is s (a .table) (segmentAt s x) coefs (w .row) (w .below) (w .weighs) in
       Z.abs-le-in (valueAt s (a .table) coefs x) valueLimit
-      (Z.≤-trans _ _ _ (fine-mono (negℤ coefficientLimit) (leastOn s (a .table) coefs (segmentAt s x)) (subst (λ z. negℤ coefficientLimit ≤ℤ z) (low .is) (size-of-row (low .index) (low .below) .0))) (value-at-least-least s a coefs x inside))
-      (Z.≤-trans _ _ _ (value-at-most-greatest s a coefs x inside) (fine-mono (greatestOn s (a .table) coefs (segmentAt s x)) coefficientLimit (subst (λ z. z ≤ℤ coefficientLimit) (high .is) (size-of-row (high .index) (high .below) .1))))
+      (Z.≤-trans _ _ _ (fine-mono (negℤ (pos coefficientLimit)) (leastOn s (a .table) coefs (segmentAt s x)) (subst (λ z. negℤ (pos coefficientLimit) ≤ℤ z) (low .is) (size-of-row (low .index) (low .below) .0))) (value-at-least-least s a coefs x inside))
+      (Z.≤-trans _ _ _ (value-at-most-greatest s a coefs x inside) (fine-mono (greatestOn s (a .table) coefs (segmentAt s x)) (pos coefficientLimit) (subst (λ z. z ≤ℤ pos coefficientLimit) (high .is) (size-of-row (high .index) (high .below) .1))))
 
 -- ---- all of it, of a cell
 

@@ -14,6 +14,8 @@ pub mod ExactSum
 pub mod OnSegment
 pub mod Value
 pub mod Demand3
+pub mod SegmentWeights
 pub mod LegalCall
 pub mod Cells
+pub mod WeightCells
 pub mod Instances

@@ -1,2 +1,4 @@
 -- The statements of the theorems on the values, each a type that cites definitions only; the proofs are in proofs/.
 pub mod Demand3
+pub mod SegmentWeights
+pub mod WeightCells

@@ -1,5 +1,5 @@
 -- Laws of the column of conditions of a join and an order: its greatest common divisor is that of the two sides' scales,
--- so its entries, place by place, are the divided scales times signed binomials. With them come the sizes of the factors,
+-- so its entries, place by place, are the divided scales times signed binomials. With them come the sizes of the entries,
 -- which the jumps of a step rest on.
 use mathlib.Core.Path.{_≡_, refl, sym, _∙_, ap, ap₂}
 use mathlib.Core.Logic.{_≢_}
@@ -24,7 +24,7 @@ use Rattle.spline.specs.Conditions.{Entry, falling, binomial, alternating, scal
 use Rattle.spline.proofs.Conditions.{alternating-abs}
 use Rattle.conditions.specs.Sides.{JoinFits}
 use Rattle.conditions.specs.declared.Join.{Join}
-use Rattle.conditions.specs.Terms.{scaleOf, noEntry, columnOf, factorsOf}
+use Rattle.conditions.specs.Terms.{scaleOf, noEntry, columnOf, entriesOf}
 
 -- ---- the two sides' scales
 
@@ -47,10 +47,10 @@ leftQuotient s j k = leftScale s j k / divisor s j k
 abbrev pub rightQuotient : Space → ℕ → ℕ → ℕ
 rightQuotient s j k = rightScale s j k / divisor s j k
 
--- ---- the greatest common divisor of all factors
+-- ---- the greatest common divisor of all entries
 
 -- Entries that are multiples of a add nothing to a.
-multiples-absorbed : (a n : ℕ) (f : ℕ → Entry) (m : ℕ → ℕ) (es : List Entry) → ((i : ℕ) → natAbs (f i .factor) ≡ a * m i)
+multiples-absorbed : (a n : ℕ) (f : ℕ → Entry) (m : ℕ → ℕ) (es : List Entry) → ((i : ℕ) → natAbs (f i .condition) ≡ a * m i)
     → gcd a (commonDivisor (tab n f ++ es)) ≡ gcd a (commonDivisor es)
 unfolding tab commonDivisor
 multiples-absorbed a zero f m es h = refl
@@ -61,7 +61,7 @@ multiples-absorbed a (suc n) f m es h =
     ∙ multiples-absorbed a n (λ i. f (suc i)) (λ i. m (suc i)) es (λ i. h (suc i))
 
 -- One side: multiples of a, of which the first is a itself.
-side-divisor : (a k : ℕ) (f : ℕ → Entry) (es : List Entry) → ((i : ℕ) → natAbs (f i .factor) ≡ a * binomial k i)
+side-divisor : (a k : ℕ) (f : ℕ → Entry) (es : List Entry) → ((i : ℕ) → natAbs (f i .condition) ≡ a * binomial k i)
     → commonDivisor (tab (suc k) f ++ es) ≡ gcd a (commonDivisor es)
 unfolding tab commonDivisor binomial
 side-divisor a k f es h =
@@ -82,7 +82,7 @@ alternating-odd (suc n) h = ap negℤ (alternating-even n (omega arith))
 product-abs : (a b n : ℕ) → natAbs (pos (a * b) *ℤ alternating n) ≡ a * b
 product-abs a b n = abs-mul (pos (a * b)) (alternating n) ∙ ap (λ t. a * b * t) (alternating-abs n) ∙ mul-one (a * b)
 
--- The greatest common divisor of all factors is that of the two scales.
+-- The greatest common divisor of all entries is that of the two scales.
 pub common-divisor : (s : Space) (j k : ℕ) → commonDivisor (undivided s j k) ≡ divisor s j k
 unfolding undivided commonDivisor
 common-divisor s j k =
@@ -108,14 +108,14 @@ signed-binomial-abs k t = abs-mul (pos (binomial k t)) (alternating (k - t)) ∙
 abbrev pub leftTerm : Space → ℕ → ℕ → ℕ → Entry
 leftTerm s j k t = record {
   column = firstColumn s j + (degree s j - k + t);
-  factor = pos (leftQuotient s j k) *ℤ signedBinomial k t;
+  condition = pos (leftQuotient s j k) *ℤ signedBinomial k t;
 }
 
 -- Entry t of the right side.
 abbrev pub rightTerm : Space → ℕ → ℕ → ℕ → Entry
 rightTerm s j k t = record {
   column = firstColumn s (suc j) + t;
-  factor = negℤ (pos (rightQuotient s j k) *ℤ signedBinomial k t);
+  condition = negℤ (pos (rightQuotient s j k) *ℤ signedBinomial k t);
 }
 
 -- A divisor of a divides a product with a at that factor.
@@ -132,12 +132,12 @@ signed-quotient g a (negsuc c) h = negated (a * suc c) ∙ ap (λ n. negℤ (pos
     negated (suc n) = refl
 
 left-divided : (s : Space) (j k t : ℕ) → divided (divisor s j k) (leftEntry s j k t) ≡ leftTerm s j k t
-left-divided s j k t = ap (λ (z : ℤ). record { column = firstColumn s j + (degree s j - k + t); factor = z }) (
+left-divided s j k t = ap (λ (z : ℤ). record { column = firstColumn s j + (degree s j - k + t); condition = z }) (
     ap (λ (z : ℤ). signed z (natAbs z / divisor s j k)) (*-assoc (pos (leftScale s j k)) (pos (binomial k t)) (alternating (k - t)))
     ∙ signed-quotient (divisor s j k) (leftScale s j k) (signedBinomial k t) (gcd-dvd-left (leftScale s j k) (rightScale s j k)))
 
 right-divided : (s : Space) (j k t : ℕ) → divided (divisor s j k) (rightEntry s j k t) ≡ rightTerm s j k t
-right-divided s j k t = ap (λ (z : ℤ). record { column = firstColumn s (suc j) + t; factor = z }) (
+right-divided s j k t = ap (λ (z : ℤ). record { column = firstColumn s (suc j) + t; condition = z }) (
     ap (λ (z : ℤ). signed z (natAbs z / divisor s j k)) turned
     ∙ signed-quotient (divisor s j k) (rightScale s j k) (negℤ (signedBinomial k t)) (gcd-dvd-right (leftScale s j k) (rightScale s j k))
     ∙ *-neg (pos (rightQuotient s j k)) (signedBinomial k t))
@@ -185,7 +185,7 @@ column-left s j k e h = ap (λ (x : Entry). x .column) (entry-left s j k e h)
 pub column-right : (s : Space) (j k e : ℕ) → k < e → e < 2 * k + 2 → columnOf (conditions s j k) e ≡ firstColumn s (suc j) + (e - k - 1)
 column-right s j k e h l = ap (λ (x : Entry). x .column) (entry-right s j k e h l)
 
--- The factors as the machine reckons them.
+-- The entries as the machine reckons them.
 pub scale-left : (x y : ℤ) (k e : ℕ) → e ≤ k → scaleOf x y k e ≡ x *ℤ signedBinomial k e
 unfolding scaleOf
 scale-left x y k e h = ap (λ b. cond b (x *ℤ signedBinomial k e) (negℤ (y *ℤ signedBinomial k (e - k - 1)))) (le-leb e k h)
@@ -194,16 +194,16 @@ pub scale-right : (x y : ℤ) (k e : ℕ) → k < e → scaleOf x y k e ≡ neg�
 unfolding scaleOf
 scale-right x y k e h = ap (λ b. cond b (x *ℤ signedBinomial k e) (negℤ (y *ℤ signedBinomial k (e - k - 1)))) (lt-leb e k h)
 
-pub factor-is : (s : Space) (j k e : ℕ) → e < 2 * k + 2 → (getD (conditions s j k) e noEntry) .factor ≡ scaleOf (pos (leftQuotient s j k)) (pos (rightQuotient s j k)) k e
-factor-is s j k e h = go (decLe e k)
+pub entry-is : (s : Space) (j k e : ℕ) → e < 2 * k + 2 → (getD (conditions s j k) e noEntry) .condition ≡ scaleOf (pos (leftQuotient s j k)) (pos (rightQuotient s j k)) k e
+entry-is s j k e h = go (decLe e k)
   where
-    go : Dec (e ≤ k) → (getD (conditions s j k) e noEntry) .factor ≡ scaleOf (pos (leftQuotient s j k)) (pos (rightQuotient s j k)) k e
-    go (yes l) = ap (λ (x : Entry). x .factor) (entry-left s j k e l) ∙ sym (scale-left (pos (leftQuotient s j k)) (pos (rightQuotient s j k)) k e l)
-    go (no l) = ap (λ (x : Entry). x .factor) (entry-right s j k e (omega arith) h) ∙ sym (scale-right (pos (leftQuotient s j k)) (pos (rightQuotient s j k)) k e (omega arith))
+    go : Dec (e ≤ k) → (getD (conditions s j k) e noEntry) .condition ≡ scaleOf (pos (leftQuotient s j k)) (pos (rightQuotient s j k)) k e
+    go (yes l) = ap (λ (x : Entry). x .condition) (entry-left s j k e l) ∙ sym (scale-left (pos (leftQuotient s j k)) (pos (rightQuotient s j k)) k e l)
+    go (no l) = ap (λ (x : Entry). x .condition) (entry-right s j k e (omega arith) h) ∙ sym (scale-right (pos (leftQuotient s j k)) (pos (rightQuotient s j k)) k e (omega arith))
 
-pub factors-getD : (es : List Entry) (e : ℕ) → e < 6 → getD (factorsOf es) e (pos 0) ≡ (getD es e noEntry) .factor
-unfolding factorsOf
-factors-getD es e h = tab-getD 6 (λ i. (getD es i noEntry) .factor) e (pos 0) h
+pub entries-getD : (es : List Entry) (e : ℕ) → e < 6 → getD (entriesOf es) e (pos 0) ≡ (getD es e noEntry) .condition
+unfolding entriesOf
+entries-getD es e h = tab-getD 6 (λ i. (getD es i noEntry) .condition) e (pos 0) h
 
 -- ---- the sizes
 
@@ -238,9 +238,9 @@ signed-binomial-le k t h = rw (signed-binomial-abs k t) (le-trans (binomial-le k
 term-small : (a g k t : ℕ) → a ≤ scaleLimit → k ≤ 2 → natAbs (pos (a / g) *ℤ signedBinomial k t) < 2 ^ 31
 term-small a g k t h l = omega (arith, abs-mul-le (pos (a / g)) (signedBinomial k t) scaleLimit 4 (le-trans (div-le-self a g) h) (signed-binomial-le k t l))
 
--- Every factor is below the size of a counted fraction's parts.
-pub factor-small : {join : Join} {k : ℕ} (f : JoinFits join k) (e : ℕ) → natAbs ((getD (conditions (f .space) (f .index) k) e noEntry) .factor) < 2 ^ 31
-factor-small {k = k} f e = go (decLe e k) (decLe (2 * k + 2) e)
+-- Every entry is below the size of a counted fraction's parts.
+pub entry-small : {join : Join} {k : ℕ} (f : JoinFits join k) (e : ℕ) → natAbs ((getD (conditions (f .space) (f .index) k) e noEntry) .condition) < 2 ^ 31
+entry-small {k = k} f e = go (decLe e k) (decLe (2 * k + 2) e)
   where
     s : Space
     s = f .space
@@ -248,7 +248,7 @@ factor-small {k = k} f e = go (decLe e k) (decLe (2 * k + 2) e)
     j : ℕ
     j = f .index
 
-    go : Dec (e ≤ k) → Dec (2 * k + 2 ≤ e) → natAbs ((getD (conditions s j k) e noEntry) .factor) < 2 ^ 31
+    go : Dec (e ≤ k) → Dec (2 * k + 2 ≤ e) → natAbs ((getD (conditions s j k) e noEntry) .condition) < 2 ^ 31
     go (yes l) d = rw (entry-left s j k e l) (term-small (leftScale s j k) (divisor s j k) k e (scale-le (degree s j) k (width s (suc j)) (f .left-degree) (f .order) (f .right-short)) (f .order))
     go (no l) (yes d) = rw (entry-none s j k e d) (omega arith)
     go (no l) (no d) = rw (entry-right s j k e (omega arith) (omega arith))

@@ -2,7 +2,7 @@
 use mathlib.Core.Path.{_≡_}
 use Prim.Native.Nat.{ℕ, suc, _+_, _<_, _≤_}
 use lib.IntN.{pos}
-use Rattle.spline.specs.Space.{Space, degree, width, firstColumn}
+use Rattle.spline.specs.Space.{Space, spanLimit, degreeLimit, degree, width, firstColumn}
 use Rattle.spline.specs.Table.{rowCells}
 use Rattle.conditions.specs.declared.Side.{Side}
 use Rattle.conditions.specs.declared.Join.{Join}
@@ -23,12 +23,12 @@ pub record JoinFits (join : Join) (k : ℕ) : Type 0 where
   pub space : Space
   pub index : ℕ
   pub is : JoinIs join space index
-  pub left-short : width space index ≤ 2000
-  pub right-short : width space (suc index) ≤ 2000
+  pub left-short : width space index ≤ spanLimit
+  pub right-short : width space (suc index) ≤ spanLimit
   pub left-long : 1 ≤ width space index
   pub right-long : 1 ≤ width space (suc index)
-  pub left-degree : degree space index ≤ 5
-  pub right-degree : degree space (suc index) ≤ 5
+  pub left-degree : degree space index ≤ degreeLimit
+  pub right-degree : degree space (suc index) ≤ degreeLimit
   pub order-left : k < degree space index
   pub order-right : k < degree space (suc index)
   pub order : k ≤ 2

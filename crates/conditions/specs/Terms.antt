@@ -23,11 +23,11 @@ pub record ScaledOf (r : Scaled) (s : Space) (j k : ℕ) : Type 0 where
 
 -- No entry.
 abbrev pub noEntry : Entry
-noEntry = record { column = 0; factor = pos 0 }
+noEntry = record { column = 0; condition = pos 0 }
 
--- The factors of at most six entries, 0 past their number.
-unfoldable pub factorsOf : List Entry → List ℤ
-factorsOf es = tab 6 (λ e. (getD es e noEntry) .factor)
+-- The conditions of at most six entries, 0 past their number.
+unfoldable pub entriesOf : List Entry → List ℤ
+entriesOf es = tab 6 (λ e. (getD es e noEntry) .condition)
 
 -- The column of entry e.
 abbrev pub columnOf : List Entry → ℕ → ℕ

@@ -3,10 +3,11 @@ ghost use mathlib.Core.Path.{_≡_};
 ghost use Prim.Native.Nat.{ℕ, _+_, _*_, _-_, _^_, _<_, _≤_};
 ghost use lib.IntN.{pos, natAbs, _*ℤ_};
 ghost use lib.Signed.{_≤ℤ_};
-ghost use Rattle.spline.specs.Space.{Space};
+ghost use Rattle.spline.specs.Space.{Space, spanLimit, degreeLimit};
 ghost use Rattle.spline.specs.Conditions;
+ghost use Rattle.spline.specs.Table.{rowCells};
 ghost use Rattle.conditions.specs.Sides.{JoinIs, JoinFits};
-ghost use Rattle.conditions.specs.Terms.{scaleOf, factorsOf, ScaledOf, columnOf};
+ghost use Rattle.conditions.specs.Terms.{scaleOf, entriesOf, ScaledOf, columnOf};
 
 // FALLING[p][k] is p (p - 1) .. (p - k + 1).
 const FALLING: [[i64; 3]; 6] = [
@@ -33,14 +34,14 @@ pub struct Join {
     pub right: Side,
 }
 
-// The factors on the two sides of a join before the binomials, without common divisor.
+// The scales on the two sides of a join before the binomials, without common divisor.
 pub struct Scaled {
     pub left: i64,
     pub right: i64,
 }
 
 fn falling(p: usize, k: usize) -> i64
-    requires { ⌜ (p ≤ 5) × (k ≤ 2) ⌝ }
+    requires { ⌜ (p ≤ degreeLimit) × (k ≤ 2) ⌝ }
     ensures { λ r. ⌜ r ≡ pos (Conditions.falling p k) ⌝ }
 {
     FALLING[p][k]
@@ -54,7 +55,7 @@ fn binomial(k: usize, t: usize) -> i64
 }
 
 fn power(x: i64, k: usize) -> i64
-    requires { ⌜ (pos 0 ≤ℤ x) × ((natAbs x ≤ 2000) × (k ≤ 2)) ⌝ }
+    requires { ⌜ (pos 0 ≤ℤ x) × ((natAbs x ≤ spanLimit) × (k ≤ 2)) ⌝ }
     ensures { λ r. ⌜ r ≡ pos (natAbs x ^ k) ⌝ }
 {
     if k == 0 {
@@ -68,7 +69,7 @@ fn power(x: i64, k: usize) -> i64
 
 // F(p, k) times the k-th power of the other side's length.
 fn scale(p: usize, k: usize, other: i64) -> i64
-    requires { ⌜ (p ≤ 5) × ((k ≤ 2) × ((pos 0 ≤ℤ other) × (natAbs other ≤ 2000))) ⌝ }
+    requires { ⌜ (p ≤ degreeLimit) × ((k ≤ 2) × ((pos 0 ≤ℤ other) × (natAbs other ≤ spanLimit))) ⌝ }
     ensures { λ r. ⌜ r ≡ pos (Conditions.scale p k (natAbs other)) ⌝ }
 {
     let f = falling(p, k);
@@ -101,7 +102,7 @@ fn signed_binomial(k: usize, t: usize) -> i64
 }
 
 // Entry e of the column: k + 1 on the left, then k + 1 on the right.
-fn factor(sides: Scaled, k: usize, e: usize) -> i64
+fn entry(sides: Scaled, k: usize, e: usize) -> i64
     requires { ⌜ (natAbs (sides .left) < 2 ^ 31) × ((natAbs (sides .right) < 2 ^ 31) × ((k ≤ 2) × (e < 2 * k + 2))) ⌝ }
     ensures { λ r. ⌜ r ≡ scaleOf (sides .left) (sides .right) k e ⌝ }
 {
@@ -114,16 +115,16 @@ fn factor(sides: Scaled, k: usize, e: usize) -> i64
 }
 
 // The entries of the column for order k, 0 past their number.
-pub fn factors(join: Join, k: usize) -> [i64; 6]
+pub fn entries(join: Join, k: usize) -> [i64; 6]
     requires { ⌜ JoinFits join k ⌝ }
-    ensures { λ r. ⌜ ((s : Space) (j : ℕ) → JoinIs join s j → r ≡ factorsOf (Conditions.conditions s j k)) ⌝ }
+    ensures { λ r. ⌜ ((s : Space) (j : ℕ) → JoinIs join s j → r ≡ entriesOf (Conditions.conditions s j k)) ⌝ }
 {
     let s = scales(join, k);
     let mut values = [0; 6];
     let count = 2 * k + 2;
     let mut e = 0;
     while e < count {
-        let x = factor(s, k, e);
+        let x = entry(s, k, e);
         values[e] = x;
         e += 1;
     }
@@ -133,7 +134,7 @@ pub fn factors(join: Join, k: usize) -> [i64; 6]
 // The column of entry e.
 pub fn column(join: Join, k: usize, e: usize) -> usize
     requires { ⌜ JoinFits join k × (e < 2 * k + 2) ⌝ }
-    ensures { λ r. ⌜ ((s : Space) (j : ℕ) → JoinIs join s j → (r ≡ columnOf (Conditions.conditions s j k) e)) × (r < 72) ⌝ }
+    ensures { λ r. ⌜ ((s : Space) (j : ℕ) → JoinIs join s j → (r ≡ columnOf (Conditions.conditions s j k) e)) × (r < rowCells) ⌝ }
 {
     if e <= k {
         let left = join.left;

@@ -1,14 +1,11 @@
 // The curve of a multi-degree spline space at given positions: the weights, the ordinates of all columns once, and then a
 // de Casteljau triangle for each position.
 ghost use mathlib.Core.Path.{_≡_};
-ghost use lib.ListN.{length};
 ghost use Rattle.space.specs.Reply.{space};
-ghost use Rattle.spline.specs.CurveCall.{curveOutcome, returned, curveNumerators, curveDenominators, valuesAfter};
+ghost use Rattle.spline.specs.CurveCall.{curveEnd};
 ghost use Rattle.curve.specs.Reply.{reply};
 
 mod reading;
-
-const TABLE_CELLS: usize = 5184;
 
 // What the curve call answers: the number of values written, or a refusal's number and place.
 pub enum Answer {
@@ -28,15 +25,13 @@ pub fn curve(
     den: &mut [i64],
     values: &mut [i32],
 ) -> Answer
-    ensures answer { λ r. ⌜ reply r ≡ returned (curveOutcome (space (now (breaks .entry)) (now (degrees .entry)) (now (orders .entry))) (now (coefs .entry)) (now (positions .entry)) (length (now (num .entry))) (length (now (den .entry))) (length (now (values .entry)))) ⌝ }
-    ensures numerators { λ r. ⌜ now (num .exit) ≡ curveNumerators (curveOutcome (space (now (breaks .entry)) (now (degrees .entry)) (now (orders .entry))) (now (coefs .entry)) (now (positions .entry)) (length (now (num .entry))) (length (now (den .entry))) (length (now (values .entry)))) (now (num .entry)) ⌝ }
-    ensures denominators { λ r. ⌜ now (den .exit) ≡ curveDenominators (curveOutcome (space (now (breaks .entry)) (now (degrees .entry)) (now (orders .entry))) (now (coefs .entry)) (now (positions .entry)) (length (now (num .entry))) (length (now (den .entry))) (length (now (values .entry)))) (now (den .entry)) ⌝ }
-    ensures values { λ r. ⌜ now (values .exit) ≡ valuesAfter (curveOutcome (space (now (breaks .entry)) (now (degrees .entry)) (now (orders .entry))) (now (coefs .entry)) (now (positions .entry)) (length (now (num .entry))) (length (now (den .entry))) (length (now (values .entry)))) (now (values .entry)) ⌝ }
+    ensures { λ r. ⌜ (let e = curveEnd (space (now (breaks .entry)) (now (degrees .entry)) (now (orders .entry))) (now (coefs .entry)) (now (positions .entry)) (now (num .entry)) (now (den .entry)) (now (values .entry)) in
+        (reply r ≡ e .answers) × ((now (num .exit) ≡ e .numerators) × ((now (den .exit) ≡ e .denominators) × (now (values .exit) ≡ e .values)))) ⌝ }
 {
-    if num.len() < TABLE_CELLS {
+    if num.len() < cells::TABLE_CELLS {
         return Answer::Refused(1, 0);
     }
-    if den.len() < TABLE_CELLS {
+    if den.len() < cells::TABLE_CELLS {
         return Answer::Refused(1, 1);
     }
     if values.len() < positions.len() {

@@ -32,13 +32,3 @@ pub record Sized (f : Fraction) : Type 0 where
   pub num-small : natAbs (f .num) < limit
   pub den-pos : pos 0 <ℤ f .den
   pub den-small : natAbs (f .den) < limit
-
--- -1, 0 or 1, as an integer is below, at or above zero
-abbrev pub signZ : ℤ → ℤ
-signZ (pos zero) = pos 0
-signZ (pos (suc n)) = pos 1
-signZ (negsuc n) = negsuc 0
-
--- the sign of a fraction: -1 below zero, 0 at zero, 1 above
-unfoldable pub signum : ℚ → ℤ
-signum q = signZ (q .num)

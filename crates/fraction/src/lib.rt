@@ -5,11 +5,11 @@ ghost use mathlib.Core.Logic.{_≢_};
 ghost use lib.IntN.{pos, natAbs};
 ghost use lib.Signed.{_<ℤ_};
 ghost use Rattle.exact.specs.Gcd;
-ghost use Rattle.exact.specs.Rational.{int, _+ᵠ_, _-ᵠ_, _*ᵠ_, _/ᵠ_};
+ghost use Rattle.exact.specs.Rational.{int, _+ᵠ_, _*ᵠ_, _/ᵠ_};
 ghost use Rattle.exact.specs.Floor.{floorDiv};
-ghost use Rattle.exact.specs.Order.{isZero, ltᵠ};
+ghost use Rattle.exact.specs.Order.{ltᵠ};
 ghost use Rattle.fraction.specs.Size.{count};
-ghost use Rattle.fraction.specs.Machine.{fraction, ratio, value, answer, signum, Sized};
+ghost use Rattle.fraction.specs.Machine.{fraction, ratio, value, answer, Sized};
 
 pub struct Fraction {
     pub num: i64,
@@ -95,13 +95,6 @@ pub fn sum(a: Fraction, b: Fraction) -> Counted
     checked(a.num * b.den + b.num * a.den, a.den * b.den)
 }
 
-pub fn one_minus(a: Fraction) -> Counted
-    requires { ⌜ Sized a ⌝ }
-    ensures { λ r. ⌜ r ≡ answer (count (int (pos 1) -ᵠ value a)) ⌝ }
-{
-    checked(a.den - a.num, a.den)
-}
-
 // Crosswise products; the signs are turned where the new denominator is below zero.
 pub fn quotient(a: Fraction, b: Fraction) -> Counted
     requires { ⌜ Sized a × Sized b × (b .num ≢ pos 0) ⌝ }
@@ -113,27 +106,6 @@ pub fn quotient(a: Fraction, b: Fraction) -> Counted
         return checked(0 - n, 0 - d);
     }
     checked(n, d)
-}
-
-// -1, 0 or 1, as a is below, at or above zero.
-pub fn sign(a: Fraction) -> i8
-    requires { ⌜ pos 0 <ℤ a .den ⌝ }
-    ensures { λ r. ⌜ r ≡ signum (value a) ⌝ }
-{
-    if a.num < 0 {
-        return -1;
-    }
-    if a.num > 0 {
-        return 1;
-    }
-    0
-}
-
-pub fn is_zero(a: Fraction) -> bool
-    requires { ⌜ pos 0 <ℤ a .den ⌝ }
-    ensures { λ r. ⌜ r ≡ isZero (value a) ⌝ }
-{
-    a.num == 0
 }
 
 pub fn is_positive(a: Fraction) -> bool

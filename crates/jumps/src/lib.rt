@@ -10,13 +10,13 @@ ghost use Rattle.spline.specs.Outcome.{_then_};
 ghost use Rattle.spline.specs.Search;
 ghost use Rattle.spline.specs.Space.{Space};
 ghost use Rattle.spline.specs.Conditions;
-ghost use Rattle.spline.specs.Table.{Table, row, entry};
+ghost use Rattle.spline.specs.Table.{Table, row, entry, rowCells};
 ghost use Rattle.spline.specs.Step;
 ghost use Rattle.space.specs.Reply.{found};
 ghost use Rattle.space.specs.declared.Found.the-variants.{At};
 ghost use Rattle.cells.specs.Held.{Holds};
 ghost use Rattle.conditions.specs.Sides.{JoinIs, JoinFits};
-ghost use Rattle.conditions.specs.Terms.{factorsOf};
+ghost use Rattle.conditions.specs.Terms.{entriesOf};
 ghost use Rattle.jumps.specs.Reply.{counted, fractions, rowJumps, jumpSpan};
 use conditions::Join;
 use fraction::Counted;
@@ -25,8 +25,8 @@ use space::Found;
 
 // One fraction for each row of the table; unused ones are 0/1.
 pub struct Fractions {
-    pub num: [i64; 72],
-    pub den: [i64; 72],
+    pub num: [i64; cells::ROW_CELLS],
+    pub den: [i64; cells::ROW_CELLS],
 }
 
 // The jumps, if no counted fraction was too large.
@@ -59,10 +59,10 @@ fn add_product(sum: Fraction, weight: Fraction, condition: i64) -> Counted
     }
 }
 
-// The jump of one row, by the factors of the column of conditions.
-fn jump(num: &[i64], den: &[i64], at: usize, join: Join, k: usize, factors: [i64; 6]) -> Counted
-    requires { ⌜ (at < 72) × JoinFits join k ⌝ }
-    requires { ⌜ ((s : Space) (j : ℕ) → JoinIs join s j → factors ≡ factorsOf (Conditions.conditions s j k)) ⌝ }
+// The jump of one row, by the entries of the column of conditions.
+fn jump(num: &[i64], den: &[i64], at: usize, join: Join, k: usize, entries: [i64; 6]) -> Counted
+    requires { ⌜ (at < rowCells) × JoinFits join k ⌝ }
+    requires { ⌜ ((s : Space) (j : ℕ) → JoinIs join s j → entries ≡ entriesOf (Conditions.conditions s j k)) ⌝ }
     requires { ⌜ ((t : Table) × Holds (now num) (now den) t) ⌝ }
     ensures { λ r. ⌜ ((s : Space) (j : ℕ) (t : Table) → JoinIs join s j → Holds (now (num .entry)) (now (den .entry)) t
         → r ≡ counted (Step.jump j (Conditions.conditions s j k) (row t at))) ⌝ }
@@ -72,10 +72,10 @@ fn jump(num: &[i64], den: &[i64], at: usize, join: Join, k: usize, factors: [i64
     let mut e = 0;
     while e < count {
         let c = conditions::column(join, k, e);
-        let cell = 72 * at + c;
+        let cell = cells::ROW_CELLS * at + c;
         let weight = cells::read(num, den, cell);
-        let f = factors[e];
-        let next = add_product(sum, weight, f);
+        let condition = entries[e];
+        let next = add_product(sum, weight, condition);
         match next {
             Counted::Fits(s) => {
                 sum = s;
@@ -93,14 +93,14 @@ pub fn no_fractions() -> Fractions
     ensures { λ r. ⌜ r ≡ fractions [] ⌝ }
 {
     Fractions {
-        num: [0; 72],
-        den: [1; 72],
+        num: [0; cells::ROW_CELLS],
+        den: [1; cells::ROW_CELLS],
     }
 }
 
 // The fraction at index i.
 pub fn fraction_at(qs: Fractions, i: usize) -> Fraction
-    requires { ⌜ i < 72 ⌝ }
+    requires { ⌜ i < rowCells ⌝ }
     ensures { λ r. ⌜ ((of : List ℚ) → qs ≡ fractions of → r ≡ fraction (entry of i)) ⌝ }
 {
     let n = qs.num[i];
@@ -110,16 +110,16 @@ pub fn fraction_at(qs: Fractions, i: usize) -> Fraction
 
 // The jumps of the first `rows` rows, rows rising.
 pub fn jumps(num: &[i64], den: &[i64], rows: usize, join: Join, k: usize) -> RowJumps
-    requires { ⌜ (rows ≤ 72) × JoinFits join k ⌝ }
+    requires { ⌜ (rows ≤ rowCells) × JoinFits join k ⌝ }
     requires { ⌜ ((t : Table) × Holds (now num) (now den) t) ⌝ }
     ensures { λ r. ⌜ ((s : Space) (j : ℕ) (t : Table) → JoinIs join s j → Holds (now (num .entry)) (now (den .entry)) t → length t ≡ rows
         → r ≡ rowJumps (Step.jumps j (Conditions.conditions s j k) t)) ⌝ }
 {
-    let factors = conditions::factors(join, k);
+    let entries = conditions::entries(join, k);
     let mut js = no_fractions();
     let mut i = 0;
     while i < rows {
-        let j = jump(num, den, i, join, k, factors);
+        let j = jump(num, den, i, join, k, entries);
         match j {
             Counted::Fits(q) => {
                 let n = q.num;
@@ -141,7 +141,7 @@ pub fn jumps(num: &[i64], den: &[i64], rows: usize, join: Join, k: usize) -> Row
 
 // The first row below `rows` with a jump other than zero.
 fn first_jump(js: Fractions, rows: usize) -> Found
-    requires { ⌜ rows ≤ 72 ⌝ }
+    requires { ⌜ rows ≤ rowCells ⌝ }
     ensures { λ r. ⌜ ((qs : List ℚ) → js ≡ fractions qs → r ≡ found (Search.first rows (Step.jumpsAt qs))) ⌝ }
 {
     let mut i: usize = 0;
@@ -159,7 +159,7 @@ fn first_jump(js: Fractions, rows: usize) -> Found
 
 // The last row below `rows` with a jump other than zero.
 fn last_jump(js: Fractions, rows: usize) -> Found
-    requires { ⌜ rows ≤ 72 ⌝ }
+    requires { ⌜ rows ≤ rowCells ⌝ }
     ensures { λ r. ⌜ ((qs : List ℚ) → js ≡ fractions qs → r ≡ found (Search.last rows (Step.jumpsAt qs))) ⌝ }
     ensures { λ r. ⌜ ((i : ℕ) → r ≡ At i → i < rows) ⌝ }
 {
@@ -178,7 +178,7 @@ fn last_jump(js: Fractions, rows: usize) -> Found
 
 // Whether a jump from row f up to row l is zero.
 fn zero_between(js: Fractions, f: usize, l: usize) -> bool
-    requires { ⌜ l ≤ 72 ⌝ }
+    requires { ⌜ l ≤ rowCells ⌝ }
     ensures { λ r. ⌜ ((qs : List ℚ) → js ≡ fractions qs → r ≡ Step.zeroBetween qs f l) ⌝ }
 {
     let mut i = f;
@@ -193,7 +193,7 @@ fn zero_between(js: Fractions, f: usize, l: usize) -> bool
 
 // The rows that the jumps span.
 pub fn span(js: Fractions, rows: usize) -> JumpSpan
-    requires { ⌜ rows ≤ 72 ⌝ }
+    requires { ⌜ rows ≤ rowCells ⌝ }
     ensures { λ r. ⌜ ((qs : List ℚ) (j : ℕ) → js ≡ fractions qs → length qs ≡ rows → r ≡ jumpSpan (Step.span j qs)) ⌝ }
 {
     let first = first_jump(js, rows);

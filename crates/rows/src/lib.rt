@@ -7,7 +7,7 @@ ghost use lib.ListN.{length, set, take, drop};
 ghost use Rattle.exact.specs.Rational.{ℚ, int, _-ᵠ_};
 ghost use Rattle.fraction.specs.Machine.{Sized, value};
 ghost use Rattle.spline.specs.Outcome.{with-answer};
-ghost use Rattle.spline.specs.Table.{Table, row};
+ghost use Rattle.spline.specs.Table.{Table, row, rowCells};
 ghost use Rattle.spline.specs.Step;
 ghost use Rattle.cells.specs.Held.{Holds, Shaped, Held};
 ghost use Rattle.jumps.specs.Reply.{counted, fractions};
@@ -43,15 +43,15 @@ fn mix_row(
     u: Fraction,
     columns: usize,
 ) -> bool
-    requires { ⌜ Sized w × (Sized u × ((i + 1 < 72) × (columns ≤ 72))) ⌝ }
+    requires { ⌜ Sized w × (Sized u × ((i + 1 < rowCells) × (columns ≤ rowCells))) ⌝ }
     requires { ⌜ ((t : Table) × Holds (now num) (now den) t) ⌝ }
     ensures { λ r. ⌜ ((t : Table) (j : ℕ) (v : ℚ) → Holds (now (num .entry)) (now (den .entry)) t → value u ≡ int (pos 1) -ᵠ v → i < length t → length (row t i) ≡ columns
         → LeavesIf (with-answer (set t i) (Step.newRow j (value w) v (row t i) (row t (suc i)))) r (now (num .entry)) (now (den .entry)) (now (num .exit)) (now (den .exit))) ⌝ }
 {
     let mut c = 0;
     while c < columns {
-        let at = 72 * i + c;
-        let below = at + 72;
+        let at = cells::ROW_CELLS * i + c;
+        let below = at + cells::ROW_CELLS;
         let x = cells::read(num, den, at);
         let y = cells::read(num, den, below);
         let made = new_entry(w, u, x, y);

@@ -25,16 +25,16 @@ use Rattle.smoothness.specs.Polynomial.{value}
 use Rattle.smoothness.specs.Smoothness.{piece, curveOrdinates, ExactCurveIsPolynomial}
 use Rattle.smoothness.proofs.Bernstein.{bernsteinForm-value}
 
--- 256 times the coefficients, as factors
-factor-at : (coefs : List ℤ) (i : ℕ) → entry (map (λ c. int (fine c)) coefs) i ≡ int (fine (coefficient coefs i))
-factor-at [] i = refl
-factor-at (c ∷ coefs) zero = refl
-factor-at (c ∷ coefs) (suc i) = factor-at coefs i
+-- 256 times the coefficients, as multipliers
+multiplier-at : (coefs : List ℤ) (i : ℕ) → entry (map (λ c. int (fine c)) coefs) i ≡ int (fine (coefficient coefs i))
+multiplier-at [] i = refl
+multiplier-at (c ∷ coefs) zero = refl
+multiplier-at (c ∷ coefs) (suc i) = multiplier-at coefs i
 
 ordinate-is : (s : Space) (a : Accepted s) (coefs : List ℤ) (c : ℕ) → entry (curveOrdinates s (a .table) coefs) c ≡ exactOrdinate (a .table) (coefficient coefs) c
 unfolding exactOrdinate
 ordinate-is s a coefs c = combination-at (columnCount s) (a .table) (built s (a .table) (a .is) .basis .wide) (map (λ c. int (fine c)) coefs) c
-    ∙ sum-ext (length (a .table)) (λ i l. ap (λ u. u *ᵠ cell (a .table) i c) (factor-at coefs i))
+    ∙ sum-ext (length (a .table)) (λ i l. ap (λ u. u *ᵠ cell (a .table) i c) (multiplier-at coefs i))
 
 -- u / D, with D = 256 h
 right-factor : (h : ℕ) (u : ℤ) → 0 < parts * h → rightFactor (parts * h) u ≡ int u /ᵠ int (pos parts) /ᵠ int (pos h)

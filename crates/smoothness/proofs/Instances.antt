@@ -19,7 +19,7 @@ use Rattle.spline.specs.Piecewise.{Meets, pairing, combination}
 use Rattle.spline.specs.Reading.{parts, segmentAt, offset}
 use Rattle.spline.specs.ExactCurve.{exactCurve}
 use Rattle.spline.specs.Cases.{space4, space5}
-use Rattle.theorems.proofs.Instances.{q0, q1, factors4, ordinates4, checked4, table5, ordinates5, accepted5, given5, checked5}
+use Rattle.theorems.proofs.Instances.{q0, q1, multipliers4, ordinates4, checked4, table5, ordinates5, accepted5, given5, checked5}
 use Rattle.smoothness.specs.Polynomial.{value, _+ᵖ_, _·ᵖ_, _*ᵖ_, power, total, derivative, iterated}
 use Rattle.smoothness.specs.Bernstein.{bernsteinPolynomial, bernsteinForm}
 use Rattle.smoothness.specs.Smoothness.{piece, leftDerivative, rightDerivative, Smooth, curveOrdinates}
@@ -97,12 +97,12 @@ condition-broken5 = refl
 
 -- ---- the rows of W5
 
--- any factors, also fractions and negative ones, join smoothly
-combination5 : Smooth space5 (combination 8 factors4 table5)
+-- any multipliers, also fractions and negative ones, join smoothly
+combination5 : Smooth space5 (combination 8 multipliers4 table5)
 unfolding accepted5 firstColumn
-combination5 = combinations-are-smooth space5 accepted5 factors4
+combination5 = combinations-are-smooth space5 accepted5 multipliers4
 
--- the smooth ordinates above come from these factors only
+-- the smooth ordinates above come from these multipliers only
 only5 : (others : List ℚ) → length others ≡ 5 → combination 8 others table5 ≡ ordinates5 → others ≡ q0 ∷ int (pos 4) ∷ int (pos 2) ∷ int (pos 8) ∷ q1 ∷ []
 unfolding accepted5 firstColumn conditionsBefore
 only5 others h e = let o = smooth-curves-are-combinations space5 accepted5 ordinates5 smooth5 in o .only others h e ∙ sym (o .only (q0 ∷ int (pos 4) ∷ int (pos 2) ∷ int (pos 8) ∷ q1 ∷ []) refl given5)

@@ -77,7 +77,7 @@ conditions-are-smoothness s c o j k h l = go (legal s (checked-inverts s c .1))
         b = L .positive-width (suc j) (omega arith)
 
 pub combinations-are-smooth : CombinationsAreSmooth
-combinations-are-smooth s a factors = let m = combinations-meet-conditions s a factors in
+combinations-are-smooth s a multipliers = let m = combinations-meet-conditions s a multipliers in
     record { columns = m .columns; agree = λ j k h l. conditions-are-smoothness s (accepted-checked s a .0) _ j k h l .0 (m .meets j k h l) }
 
 pub smooth-curves-are-combinations : SmoothCurvesAreCombinations

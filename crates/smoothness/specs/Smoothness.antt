@@ -42,7 +42,7 @@ pub record Smooth (s : Space) (o : Row) : Type 0 where
 
 -- Every combination of the rows of an accepted space is smooth.
 abbrev pub CombinationsAreSmooth : Type 0
-CombinationsAreSmooth = (s : Space) (a : Accepted s) (factors : List ℚ) → Smooth s (combination (columnCount s) factors (a .table))
+CombinationsAreSmooth = (s : Space) (a : Accepted s) (multipliers : List ℚ) → Smooth s (combination (columnCount s) multipliers (a .table))
 
 -- Every smooth piecewise curve is one and only one combination of the rows.
 abbrev pub SmoothCurvesAreCombinations : Type 0
@@ -50,7 +50,7 @@ SmoothCurvesAreCombinations = (s : Space) (a : Accepted s) (o : Row) → Smooth 
 
 -- ---- the exact curve
 
--- The combination whose factors are 256 times the coefficients.
+-- The combination whose multipliers are 256 times the coefficients.
 abbrev pub curveOrdinates : Space → Table → List ℤ → Row
 curveOrdinates s t coefs = combination (columnCount s) (map (λ c. int (fine c)) coefs) t
 

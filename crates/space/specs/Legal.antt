@@ -8,12 +8,12 @@ use lib.ListN.{length, getD}
 use lib.Signed.{ltZ, _<ℤ_, _≤ℤ_}
 use Rattle.spline.specs.Outcome.{Outcome, answer, refuse}
 use Rattle.spline.specs.Search.{first}
-use Rattle.spline.specs.Space.{segmentLimit, spanLimit, degreeLimit, badBreak, badDegree, badOrder, refuseFirst}
+use Rattle.spline.specs.Space.{segmentLimit, breakLimit, spanLimit, degreeLimit, badBreak, badDegree, badOrder, refuseFirst}
 use Rattle.space.specs.Reply.{space}
 
 -- Number 3 of m + 1 breakpoints: the first bad one, then the span at place m.
 unfoldable pub breaksChecked : List ℤ → ℕ → Outcome (Unit {0})
-breaksChecked breaks m = refuseFirst 3 (first (m + 1) (badBreak (space breaks [] []))) (cond (ltZ spanLimit (getD breaks m (pos 0) -ℤ getD breaks 0 (pos 0))) (refuse 3 m) (answer tt))
+breaksChecked breaks m = refuseFirst 3 (first (m + 1) (badBreak (space breaks [] []))) (cond (ltZ (pos spanLimit) (getD breaks m (pos 0) -ℤ getD breaks 0 (pos 0))) (refuse 3 m) (answer tt))
 
 -- Number 4.
 unfoldable pub degreesChecked : List ℤ → Outcome (Unit {0})
@@ -25,13 +25,13 @@ ordersChecked degrees orders = refuseFirst 5 (first (length orders) (badOrder (s
 
 -- Breakpoints that rise within their range.
 pub record BreaksLegal (breaks : List ℤ) : Type 0 where
-  pub size : (i : ℕ) → i < length breaks → natAbs (getD breaks i (pos 0)) ≤ 10000
+  pub size : (i : ℕ) → i < length breaks → natAbs (getD breaks i (pos 0)) ≤ breakLimit
   pub rise : (i : ℕ) → suc i < length breaks → getD breaks i (pos 0) <ℤ getD breaks (suc i) (pos 0)
 
 -- Degrees from 1 to 5.
 pub record DegreesLegal (degrees : List ℤ) : Type 0 where
   pub low : (i : ℕ) → i < length degrees → pos 1 ≤ℤ getD degrees i (pos 0)
-  pub high : (i : ℕ) → i < length degrees → getD degrees i (pos 0) ≤ℤ degreeLimit
+  pub high : (i : ℕ) → i < length degrees → getD degrees i (pos 0) ≤ℤ pos degreeLimit
 
 -- Orders from -1 to 2.
 pub record OrdersLegal (orders : List ℤ) : Type 0 where
@@ -56,6 +56,6 @@ pub record ListsLegal (breaks degrees orders : List ℤ) : Type 0 where
   pub breaks-legal : BreaksLegal breaks
   pub degrees-legal : DegreesLegal degrees
   pub orders-legal : OrdersLegal orders
-  pub span : (getD breaks (length degrees) (pos 0) -ℤ getD breaks 0 (pos 0)) ≤ℤ spanLimit
+  pub span : (getD breaks (length degrees) (pos 0) -ℤ getD breaks 0 (pos 0)) ≤ℤ pos spanLimit
   pub left : (i : ℕ) → i < length orders → getD orders i (pos 0) <ℤ getD degrees i (pos 0)
   pub right : (i : ℕ) → i < length orders → getD orders i (pos 0) <ℤ getD degrees (suc i) (pos 0)

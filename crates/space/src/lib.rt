@@ -7,7 +7,7 @@ ghost use lib.IntN.{pos, _-ℤ_};
 ghost use lib.ListN.{length, getD};
 ghost use lib.Signed.{ltZ};
 ghost use Rattle.spline.specs.Search.{first};
-ghost use Rattle.spline.specs.Space.{lengthsFit, badBreak, badDegree, badOrder, checked, degree, width, conditionCount, firstColumn, conditionsBefore, rowCount};
+ghost use Rattle.spline.specs.Space.{segmentLimit, spanLimit, lengthsFit, badBreak, badDegree, badOrder, checked, degree, width, conditionCount, firstColumn, conditionsBefore, rowCount};
 ghost use Rattle.space.specs.Reply.{space, legality, found};
 ghost use Rattle.space.specs.Legal.{BreaksLegal, DegreesLegal, OrdersLegal, JoinsLegal, breaksChecked, degreesChecked, ordersChecked};
 
@@ -87,7 +87,7 @@ fn first_bad_break(breaks: &[i32]) -> Found
 fn span_is_too_long(breaks: &[i32], m: usize) -> bool
     requires { ⌜ length (now breaks) ≡ m + 1 ⌝ }
     requires { ⌜ ((i : ℕ) → i < length (now breaks) → badBreak (space (now breaks) [] []) i ≡ false) ⌝ }
-    ensures { λ r. ⌜ r ≡ ltZ (pos 2000) (getD (now (breaks .entry)) m (pos 0) -ℤ getD (now (breaks .entry)) 0 (pos 0)) ⌝ }
+    ensures { λ r. ⌜ r ≡ ltZ (pos spanLimit) (getD (now (breaks .entry)) m (pos 0) -ℤ getD (now (breaks .entry)) 0 (pos 0)) ⌝ }
 {
     let first = breaks[0];
     let last = breaks[m];
@@ -161,7 +161,7 @@ fn first_bad_order(degrees: &[i32], orders: &[i32]) -> Found
 
 // Number 3, of m + 1 breakpoints.
 fn check_breaks(breaks: &[i32], m: usize) -> Legality
-    requires { ⌜ (length (now breaks) ≡ m + 1) × (m ≤ 12) ⌝ }
+    requires { ⌜ (length (now breaks) ≡ m + 1) × (m ≤ segmentLimit) ⌝ }
     ensures { λ r. ⌜ r ≡ legality (breaksChecked (now (breaks .entry)) m) ⌝ }
 {
     let bad = first_bad_break(breaks);
@@ -179,7 +179,7 @@ fn check_breaks(breaks: &[i32], m: usize) -> Legality
 
 // Number 4.
 fn check_degrees(degrees: &[i32]) -> Legality
-    requires { ⌜ length (now degrees) ≤ 12 ⌝ }
+    requires { ⌜ length (now degrees) ≤ segmentLimit ⌝ }
     ensures { λ r. ⌜ r ≡ legality (degreesChecked (now (degrees .entry))) ⌝ }
 {
     let bad = first_bad_degree(degrees);
@@ -191,7 +191,7 @@ fn check_degrees(degrees: &[i32]) -> Legality
 
 // Number 5.
 fn check_orders(degrees: &[i32], orders: &[i32]) -> Legality
-    requires { ⌜ (length (now degrees) ≡ length (now orders) + 1) × (length (now degrees) ≤ 12) ⌝ }
+    requires { ⌜ (length (now degrees) ≡ length (now orders) + 1) × (length (now degrees) ≤ segmentLimit) ⌝ }
     ensures { λ r. ⌜ r ≡ legality (ordersChecked (now (degrees .entry)) (now (orders .entry))) ⌝ }
 {
     let bad = first_bad_order(degrees, orders);
@@ -247,7 +247,7 @@ pub fn condition_count(orders: &[i32], i: usize) -> usize
 }
 
 pub fn first_column(degrees: &[i32], i: usize) -> usize
-    requires { ⌜ (i ≤ length (now degrees)) × ((length (now degrees) ≤ 12) × DegreesLegal (now degrees)) ⌝ }
+    requires { ⌜ (i ≤ length (now degrees)) × ((length (now degrees) ≤ segmentLimit) × DegreesLegal (now degrees)) ⌝ }
     ensures { λ r. ⌜ r ≡ firstColumn (space [] (now (degrees .entry)) []) i ⌝ }
 {
     let mut column = 0;
@@ -261,7 +261,7 @@ pub fn first_column(degrees: &[i32], i: usize) -> usize
 
 // The number of conditions at the joins before join i.
 fn conditions_before(orders: &[i32], i: usize) -> usize
-    requires { ⌜ (i ≤ length (now orders)) × ((length (now orders) ≤ 12) × OrdersLegal (now orders)) ⌝ }
+    requires { ⌜ (i ≤ length (now orders)) × ((length (now orders) ≤ segmentLimit) × OrdersLegal (now orders)) ⌝ }
     ensures { λ r. ⌜ r ≡ conditionsBefore (space [] [] (now (orders .entry))) i ⌝ }
 {
     let mut count = 0;

@@ -34,7 +34,7 @@ products-fit : (j : ℕ) (r : Row) (s : ℚ) (es : List Entry) {q : ℚ} → fit
 products-fit j r s [] h e = ap fits (answer-unique e (products-none j r s)) ∙ h
 products-fit j r s (e ∷ es) {q} h k =
     let c = then-inverts (oneMore j r s e) (λ t. addProducts j r t es) (sym (products-split j r s e es) ∙ k) in
-    let d = then-inverts (count j (entry r (e .column) *ᵠ int (e .factor))) (λ p. count j (s +ᵠ p)) (c .before) in
+    let d = then-inverts (count j (entry r (e .column) *ᵠ int (e .condition))) (λ p. count j (s +ᵠ p)) (c .before) in
     let a = count-answers j (s +ᵠ d .middle) (d .after) in
     products-fit j r (c .middle) es (ap fits (a .0) ∙ a .1) (c .after)
 

@@ -1,4 +1,4 @@
--- The parts of a condition's factor: where the order is at most the degree the scale is positive, and a sign has size 1.
+-- The parts of a condition: where the order is at most the degree the scale is positive, and a sign has size 1.
 use mathlib.Core.Path.{_≡_, refl, _∙_}
 use Prim.Native.Nat.{ℕ, zero, suc, _<_, _≤_}
 use native.Mathlib.Omega.{arith}

@@ -44,7 +44,7 @@ count-answers j q {p} e = go (fits q) refl e
 module _ (j : ℕ) (r : Row) where
   -- a product that is counted, and its partial sum
   abbrev pub oneMore : ℚ → Entry → Outcome ℚ
-  oneMore s e = count j (entry r (e .column) *ᵠ int (e .factor)) then λ p. count j (s +ᵠ p)
+  oneMore s e = count j (entry r (e .column) *ᵠ int (e .condition)) then λ p. count j (s +ᵠ p)
 
   pub products-none : (s : ℚ) → addProducts j r s [] ≡ answer s
   unfolding addProducts
@@ -52,7 +52,7 @@ module _ (j : ℕ) (r : Row) where
 
   pub products-split : (s : ℚ) (e : Entry) (es : List Entry) → addProducts j r s (e ∷ es) ≡ (oneMore s e then λ t. addProducts j r t es)
   unfolding addProducts
-  products-split s e es = sym (then-assoc (count j (entry r (e .column) *ᵠ int (e .factor))) (λ p. count j (s +ᵠ p)) (λ t. addProducts j r t es))
+  products-split s e es = sym (then-assoc (count j (entry r (e .column) *ᵠ int (e .condition))) (λ p. count j (s +ᵠ p)) (λ t. addProducts j r t es))
 
   pub products-more : (s : ℚ) (e : Entry) (es : List Entry) {t : ℚ} → oneMore s e ≡ answer t → addProducts j r s (e ∷ es) ≡ addProducts j r t es
   products-more s e es h = products-split s e es ∙ then-answers (λ t. addProducts j r t es) h

@@ -5,8 +5,9 @@ use mathlib.Core.List.{List, []}
 use Prim.Native.Nat.{ℕ, _-_}
 use lib.Dec.{eqb, ltb}
 use lib.IntN.{ℤ}
-use Rattle.spline.specs.Outcome.{Outcome, answer, refusal, refuse, _then_, repeat}
-use Rattle.spline.specs.Space.{Space, segments, checked, columnCount, conditionCount}
+use lib.ListN.{length}
+use Rattle.spline.specs.Outcome.{Outcome, answer, refusal, refuse, _then_, with-answer, repeat}
+use Rattle.spline.specs.Space.{Space, segments, checked, columnCount, conditionCount, rowCount}
 use Rattle.spline.specs.Conditions.{conditions}
 use Rattle.spline.specs.Table.{Table, identity, tableCells, numerators, denominators}
 use Rattle.spline.specs.Step.{step}
@@ -48,3 +49,15 @@ numeratorsAfter (refusal number place) before = cond (clears number) (numerators
 unfoldable pub denominatorsAfter : Outcome Table → List ℤ → List ℤ
 denominatorsAfter (answer t) before = denominators t before
 denominatorsAfter (refusal number place) before = cond (clears number) (denominators [] before) before
+
+-- What a call of the build ends with: the answer and both lent buffers.
+pub record BuildEnd : Type 0 where
+  pub answers : Outcome ℕ
+  pub numerators : List ℤ
+  pub denominators : List ℤ
+
+-- "Building returns n": the end of the call with these lists and these two buffers lent.
+abbrev pub buildEnd : Space → List ℤ → List ℤ → BuildEnd
+buildEnd s num den =
+    let o = built s (length num) (length den) in
+    record { answers = with-answer (λ _. rowCount s) o; numerators = numeratorsAfter o num; denominators = denominatorsAfter o den }

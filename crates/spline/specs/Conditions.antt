@@ -10,7 +10,7 @@ use Rattle.spline.specs.Space.{Space, degree, width, firstColumn}
 -- One non-zero entry of a column of conditions.
 pub record Entry : Type 0 where
   pub column : ℕ
-  pub factor : ℤ
+  pub condition : ℤ
 
 -- F(p, k) = p (p - 1) .. (p - k + 1), and F(p, 0) = 1.
 unfoldable pub falling : ℕ → ℕ → ℕ
@@ -36,28 +36,28 @@ scale p k other = falling p k * other ^ k
 abbrev pub leftEntry : Space → ℕ → ℕ → ℕ → Entry
 leftEntry s j k t = record {
   column = firstColumn s j + (degree s j - k + t);
-  factor = pos (scale (degree s j) k (width s (suc j)) * binomial k t) *ℤ alternating (k - t);
+  condition = pos (scale (degree s j) k (width s (suc j)) * binomial k t) *ℤ alternating (k - t);
 }
 
 -- "right ordinate t has -F(q, k) a^k (-1)^(k-t) C(k, t)".
 abbrev pub rightEntry : Space → ℕ → ℕ → ℕ → Entry
 rightEntry s j k t = record {
   column = firstColumn s (suc j) + t;
-  factor = negℤ (pos (scale (degree s (suc j)) k (width s j) * binomial k t) *ℤ alternating (k - t));
+  condition = negℤ (pos (scale (degree s (suc j)) k (width s j) * binomial k t) *ℤ alternating (k - t));
 }
 
 -- The entries before the division, for t = 0 to k on the left and then on the right: columns rising.
 unfoldable pub undivided : Space → ℕ → ℕ → List Entry
 undivided s j k = tab (suc k) (leftEntry s j k) ++ tab (suc k) (rightEntry s j k)
 
--- The greatest common divisor of all factors.
+-- The greatest common divisor of all conditions.
 unfoldable pub commonDivisor : List Entry → ℕ
 commonDivisor [] = 0
-commonDivisor (e ∷ es) = gcd (natAbs (e .factor)) (commonDivisor es)
+commonDivisor (e ∷ es) = gcd (natAbs (e .condition)) (commonDivisor es)
 
--- The entry with its factor divided by g; the sign is kept.
+-- The entry with its condition divided by g; the sign is kept.
 abbrev pub divided : ℕ → Entry → Entry
-divided g e = record { column = e .column; factor = signed (e .factor) (natAbs (e .factor) / g) }
+divided g e = record { column = e .column; condition = signed (e .condition) (natAbs (e .condition) / g) }
 
 -- The column of conditions of join j and order k.
 unfoldable pub conditions : Space → ℕ → ℕ → List Entry

@@ -18,12 +18,12 @@ abbrev pub positionLimit : ℕ
 positionLimit = 4096
 
 -- "from -1,000,000 to 1,000,000 thousandths of a millimetre".
-abbrev pub coefficientLimit : ℤ
-coefficientLimit = pos 1000000
+abbrev pub coefficientLimit : ℕ
+coefficientLimit = 1000000
 
 -- Number 6: entry i is out of range.
 unfoldable pub badCoefficient : List ℤ → ℕ → Bool
-badCoefficient coefs i = not (between (negℤ coefficientLimit) coefficientLimit (getD coefs i (pos 0)))
+badCoefficient coefs i = not (between (negℤ (pos coefficientLimit)) (pos coefficientLimit) (getD coefs i (pos 0)))
 
 -- Number 7: entry i is below 256·x0 or above 256·xm.
 unfoldable pub badPosition : Space → List ℤ → ℕ → Bool
@@ -87,3 +87,16 @@ curveDenominators o before = denominatorsAfter (tableOf o) before
 unfoldable pub valuesAfter : Outcome CurveResult → List ℤ → List ℤ
 valuesAfter (answer r) before = r .values ++ drop (length (r .values)) before
 valuesAfter (refusal number place) before = before
+
+-- What a curve call ends with: the answer and all three lent buffers.
+pub record CurveEnd : Type 0 where
+  pub answers : Outcome ℕ
+  pub numerators : List ℤ
+  pub denominators : List ℤ
+  pub values : List ℤ
+
+-- The end of the call with these lists and these three buffers lent.
+abbrev pub curveEnd : Space → List ℤ → List ℤ → List ℤ → List ℤ → List ℤ → CurveEnd
+curveEnd s coefs positions num den values =
+    let o = curveOutcome s coefs positions (length num) (length den) (length values) in
+    record { answers = returned o; numerators = curveNumerators o num; denominators = curveDenominators o den; values = valuesAfter o values }

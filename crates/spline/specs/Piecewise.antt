@@ -17,7 +17,7 @@ use Rattle.spline.specs.Build.{spaceWeights}
 -- "its ordinates times that column of conditions", summed over the column's non-zero entries.
 unfoldable pub pairing : Row → List Entry → ℚ
 pairing o [] = int (pos 0)
-pairing o (e ∷ es) = entry o (e .column) *ᵠ int (e .factor) +ᵠ pairing o es
+pairing o (e ∷ es) = entry o (e .column) *ᵠ int (e .condition) +ᵠ pairing o es
 
 -- "it meets a join condition where" that sum is zero: the condition of order k at join j.
 abbrev pub Meets : Space → Row → ℕ → ℕ → Type 0
@@ -28,9 +28,9 @@ pub record MeetsAll (s : Space) (o : Row) : Type 0 where
   pub columns : length o ≡ columnCount s
   pub meets : (j k : ℕ) → j < segments s - 1 → k < conditionCount s j → Meets s o j k
 
--- "combination of its rows": factor i times row i, summed over the rows, for a table with this many columns.
+-- "combination of its rows": multiplier i, document 01's factor, times row i, summed over the rows, for a table with this many columns.
 unfoldable pub combination : ℕ → List ℚ → Table → Row
-combination columns factors t = tab columns (λ c. sum (length t) (λ i. entry factors i *ᵠ cell t i c))
+combination columns multipliers t = tab columns (λ c. sum (length t) (λ i. entry multipliers i *ᵠ cell t i c))
 
 -- "a space is accepted where no number applies that building can give with buffers long enough": it has weights.
 pub record Accepted (s : Space) : Type 0 where

@@ -43,16 +43,16 @@ abbrev pub segmentLimit : ℕ
 segmentLimit = 12
 
 -- "each from -10,000 to 10,000".
-abbrev pub breakLimit : ℤ
-breakLimit = pos 10000
+abbrev pub breakLimit : ℕ
+breakLimit = 10000
 
 -- "xm - x0 at most 2,000".
-abbrev pub spanLimit : ℤ
-spanLimit = pos 2000
+abbrev pub spanLimit : ℕ
+spanLimit = 2000
 
 -- "Degrees, one per stretch, each 1 to 5".
-abbrev pub degreeLimit : ℤ
-degreeLimit = pos 5
+abbrev pub degreeLimit : ℕ
+degreeLimit = 5
 
 -- Number 2, place 0: the lengths are m + 1, m and m - 1 for one m in 1 to 12.
 unfoldable pub lengthsFit : Space → Bool
@@ -60,16 +60,16 @@ lengthsFit s = leb 1 (segments s) && leb (segments s) segmentLimit && eqb (lengt
 
 -- Number 3: out of -10,000 to 10,000, or not above the one before.
 unfoldable pub badBreak : Space → ℕ → Bool
-badBreak s zero = not (between (negℤ breakLimit) breakLimit (break s zero))
-badBreak s (suc i) = not (between (negℤ breakLimit) breakLimit (break s (suc i))) || leZ (break s (suc i)) (break s i)
+badBreak s zero = not (between (negℤ (pos breakLimit)) (pos breakLimit) (break s zero))
+badBreak s (suc i) = not (between (negℤ (pos breakLimit)) (pos breakLimit) (break s (suc i))) || leZ (break s (suc i)) (break s i)
 
 -- Number 3, place m: a span over 2,000.
 unfoldable pub spanTooLong : Space → Bool
-spanTooLong s = ltZ spanLimit (break s (segments s) -ℤ break s 0)
+spanTooLong s = ltZ (pos spanLimit) (break s (segments s) -ℤ break s 0)
 
 -- Number 4: out of 1 to 5.
 unfoldable pub badDegree : Space → ℕ → Bool
-badDegree s i = not (between (pos 1) degreeLimit (degreeEntry s i))
+badDegree s i = not (between (pos 1) (pos degreeLimit) (degreeEntry s i))
 
 -- Number 5: out of -1 to 2, or above the smaller neighbouring degree minus 1.
 unfoldable pub badOrder : Space → ℕ → Bool

@@ -22,7 +22,7 @@ count j q = cond (fits q) (answer q) (refuse 8 j)
 -- The sum so far, and each product weight times condition with its partial sum, columns rising.
 unfoldable pub addProducts : ℕ → Row → ℚ → List Entry → Outcome ℚ
 addProducts j r s [] = answer s
-addProducts j r s (e ∷ es) = count j (entry r (e .column) *ᵠ int (e .factor)) then λ p. count j (s +ᵠ p) then λ t. addProducts j r t es
+addProducts j r s (e ∷ es) = count j (entry r (e .column) *ᵠ int (e .condition)) then λ p. count j (s +ᵠ p) then λ t. addProducts j r t es
 
 -- "The jump of a row is the sum of weight times condition".
 abbrev pub jump : ℕ → List Entry → Row → Outcome ℚ

@@ -37,7 +37,7 @@ pub record Basis (K : List Entry → Type 0) (width : ℕ) (t : Table) : Type 0 
       → (a : ℕ → ℚ) × ((c : ℕ) → combined a t c ≡ z c)
   pub unique : (a b : ℕ → ℚ) → ((c : ℕ) → combined a t c ≡ combined b t c) → (i : ℕ) → i < length t → a i ≡ b i
 
--- ---- a condition whose factors sum to zero has jumps that sum to zero
+-- ---- a column of conditions whose entries sum to zero has jumps that sum to zero
 
 -- All entries stand in the first columns.
 pub data Inside (width : ℕ) : List Entry → Type 0 where
@@ -47,7 +47,7 @@ pub data Inside (width : ℕ) : List Entry → Type 0 where
 applied-agree : (width : ℕ) {κ : List Entry} {x y : ℕ → ℚ} → Inside width κ → ((c : ℕ) → c < width → x c ≡ y c) → applied κ x ≡ applied κ y
 unfolding applied
 applied-agree width none h = refl
-applied-agree width (more {e = e} k I) h = ap₂ (λ s t. s *ᵠ int (e .factor) +ᵠ t) (h (e .column) k) (applied-agree width I h)
+applied-agree width (more {e = e} k I) h = ap₂ (λ s t. s *ᵠ int (e .condition) +ᵠ t) (h (e .column) k) (applied-agree width I h)
 
 jumps-sum-zero : (width : ℕ) (κ : List Entry) (t : Table) → Inside width κ → applied κ (λ c. int (pos 1)) ≡ int (pos 0) → ((c : ℕ) → c < width → sum (length t) (λ i. cell t i c) ≡ int (pos 1)) → sum (length t) (values κ t) ≡ int (pos 0)
 jumps-sum-zero width κ t I z h =
@@ -56,7 +56,7 @@ jumps-sum-zero width κ t I z h =
 
 -- ---- one step
 
--- the factors moved by one place
+-- the multipliers moved by one place
 shifted : (ℕ → ℚ) → ℕ → ℚ
 shifted a zero = int (pos 0)
 shifted a (suc i) = a i

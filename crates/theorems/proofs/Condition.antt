@@ -28,12 +28,12 @@ use Rattle.theorems.proofs.Basis.{Inside, none, more}
 applied-append : (xs ys : List Entry) (z : ℕ → ℚ) → applied (xs ++ ys) z ≡ applied xs z +ᵠ applied ys z
 unfolding applied
 applied-append [] ys z = ring ℚ-ring (applied ys z ∷ []) (search readsℚ) (search readsℚ) refl
-applied-append (e ∷ xs) ys z = ap (λ t. z (e .column) *ᵠ int (e .factor) +ᵠ t) (applied-append xs ys z) ∙ ring ℚ-ring (z (e .column) *ᵠ int (e .factor) ∷ applied xs z ∷ applied ys z ∷ []) (search reads) (search reads) refl
+applied-append (e ∷ xs) ys z = ap (λ t. z (e .column) *ᵠ int (e .condition) +ᵠ t) (applied-append xs ys z) ∙ ring ℚ-ring (z (e .column) *ᵠ int (e .condition) ∷ applied xs z ∷ applied ys z ∷ []) (search reads) (search reads) refl
 
-applied-tab : (n : ℕ) (f : ℕ → Entry) (z : ℕ → ℚ) → applied (tab n f) z ≡ sum n (λ t. z (f t .column) *ᵠ int (f t .factor))
+applied-tab : (n : ℕ) (f : ℕ → Entry) (z : ℕ → ℚ) → applied (tab n f) z ≡ sum n (λ t. z (f t .column) *ᵠ int (f t .condition))
 unfolding applied tab sum
 applied-tab zero f z = refl
-applied-tab (suc n) f z = ap (λ t. z (f 0 .column) *ᵠ int (f 0 .factor) +ᵠ t) (applied-tab n (λ t. f (suc t)) z) ∙ sym (sum-front n (λ t. z (f t .column) *ᵠ int (f t .factor)))
+applied-tab (suc n) f z = ap (λ t. z (f 0 .column) *ᵠ int (f 0 .condition) +ᵠ t) (applied-tab n (λ t. f (suc t)) z) ∙ sym (sum-front n (λ t. z (f t .column) *ᵠ int (f t .condition)))
 
 -- ---- the entries before the division
 
@@ -70,7 +70,7 @@ right-applied s j k z = applied-tab (suc k) (rightEntry s j k) z
     assoc : (u : ℚ) → int (negsuc 0) *ᵠ (int (pos b) *ᵠ u) ≡ -ᵠ int (pos b) *ᵠ u
     assoc u = ring ℚ-ring (int (pos b) ∷ u ∷ []) (search readsℚ) (search readsℚ) refl
 
--- a negative factor as a difference
+-- a negative condition as a difference
 pub neg-out : (a b c : ℚ) → a +ᵠ -ᵠ b *ᵠ c ≡ a -ᵠ b *ᵠ c
 neg-out a b c = ring ℚ-ring (a ∷ b ∷ c ∷ []) (search readsℚ) (search readsℚ) refl
 
@@ -81,37 +81,37 @@ applied-undivided s j k z = applied-append (tab (suc k) (leftEntry s j k)) (tab 
 
 -- ---- the division by the greatest common divisor
 
--- g divides every factor
+-- g divides every condition
 data Divides (g : ℕ) : List Entry → Type 0 where
-  no-factor : Divides g []
-  one-factor : {e : Entry} {es : List Entry} (m : ℕ) → natAbs (e .factor) ≡ g * m → Divides g es → Divides g (e ∷ es)
+  no-entry : Divides g []
+  one-entry : {e : Entry} {es : List Entry} (m : ℕ) → natAbs (e .condition) ≡ g * m → Divides g es → Divides g (e ∷ es)
 
 divides-less : (g r : ℕ) {es : List Entry} → Divides (g * r) es → Divides g es
-divides-less g r no-factor = no-factor
-divides-less g r (one-factor m e d) = one-factor (r * m) (e ∙ mul-assoc g r m) (divides-less g r d)
+divides-less g r no-entry = no-entry
+divides-less g r (one-entry m e d) = one-entry (r * m) (e ∙ mul-assoc g r m) (divides-less g r d)
 
 common-divides : (es : List Entry) → Divides (commonDivisor es) es
 unfolding commonDivisor
-common-divides [] = no-factor
-common-divides (e ∷ es) = let d = gcd-div (natAbs (e .factor)) (commonDivisor es) in
-    one-factor (d .left) (d .left-is) (divides-less (gcd (natAbs (e .factor)) (commonDivisor es)) (d .right) (subst (λ g. Divides g es) (d .right-is) (common-divides es)))
+common-divides [] = no-entry
+common-divides (e ∷ es) = let d = gcd-div (natAbs (e .condition)) (commonDivisor es) in
+    one-entry (d .left) (d .left-is) (divides-less (gcd (natAbs (e .condition)) (commonDivisor es)) (d .right) (subst (λ g. Divides g es) (d .right-is) (common-divides es)))
 
 signed-times : (z : ℤ) (g m : ℕ) → natAbs z ≡ g * m → pos g *ℤ signed z m ≡ z
 signed-times (pos a) g m e = ap pos (sym e)
 signed-times (negsuc a) g m e = *-comm (pos g) (negℤ (pos m)) ∙ neg-* (pos m) (pos g) ∙ ap (λ n. negℤ (pos n)) (let h : m * g ≡ suc a = omega (arith, e) in h)
 
--- the divided factor times g
-factor-times : (z : ℤ) (g m : ℕ) → natAbs z ≡ g * m → int (pos g) *ᵠ int (signed z (natAbs z / g)) ≡ int z
-factor-times z zero m e = zero-mul _ ∙ ap int (sym (abs-zero z (e ∙ ℕ-zero-mul m)))
-factor-times z (suc g) m e = ap (λ n. int (pos (suc g)) *ᵠ int (signed z n)) (ap (λ n. n / suc g) e ∙ mul-div-cancel-left m {n = suc g} (omega arith))
+-- the divided condition times g
+condition-times : (z : ℤ) (g m : ℕ) → natAbs z ≡ g * m → int (pos g) *ᵠ int (signed z (natAbs z / g)) ≡ int z
+condition-times z zero m e = zero-mul _ ∙ ap int (sym (abs-zero z (e ∙ ℕ-zero-mul m)))
+condition-times z (suc g) m e = ap (λ n. int (pos (suc g)) *ᵠ int (signed z n)) (ap (λ n. n / suc g) e ∙ mul-div-cancel-left m {n = suc g} (omega arith))
     ∙ sym (int-mul (pos (suc g)) (signed z m)) ∙ ap int (signed-times z (suc g) m e)
 
 applied-divided : (g : ℕ) {es : List Entry} (z : ℕ → ℚ) → Divides g es → int (pos g) *ᵠ applied (map (divided g) es) z ≡ applied es z
 unfolding applied
-applied-divided g z no-factor = mul-zero _
-applied-divided g z (one-factor {e = e} {es = es} m h d) =
-    distribute (int (pos g)) (z (e .column)) (int (signed (e .factor) (natAbs (e .factor) / g))) (applied (map (divided g) es) z)
-    ∙ ap₂ (λ a b. z (e .column) *ᵠ a +ᵠ b) (factor-times (e .factor) g m h) (applied-divided g z d)
+applied-divided g z no-entry = mul-zero _
+applied-divided g z (one-entry {e = e} {es = es} m h d) =
+    distribute (int (pos g)) (z (e .column)) (int (signed (e .condition) (natAbs (e .condition) / g))) (applied (map (divided g) es) z)
+    ∙ ap₂ (λ a b. z (e .column) *ᵠ a +ᵠ b) (condition-times (e .condition) g m h) (applied-divided g z d)
   where
     distribute : (a b c d : ℚ) → a *ᵠ (b *ᵠ c +ᵠ d) ≡ b *ᵠ (a *ᵠ c) +ᵠ a *ᵠ d
     distribute a b c d = ring ℚ-ring (a ∷ b ∷ c ∷ d ∷ []) (search reads depth 20) (search reads depth 20) refl
@@ -126,19 +126,19 @@ pub applied-conditions : (s : Space) (j k : ℕ) (z : ℕ → ℚ) → int (pos 
 unfolding conditions divisor
 applied-conditions s j k z = applied-divided (commonDivisor (undivided s j k)) z (common-divides (undivided s j k)) ∙ applied-undivided s j k z
 
--- ---- positive factors
+-- ---- positive conditions
 
-common-pos : (e : Entry) (es : List Entry) → 0 < natAbs (e .factor) → 0 < commonDivisor (e ∷ es)
+common-pos : (e : Entry) (es : List Entry) → 0 < natAbs (e .condition) → 0 < commonDivisor (e ∷ es)
 unfolding commonDivisor
-common-pos e es h = rw (gcd-comm (natAbs (e .factor)) (commonDivisor es)) (gcd-pos (commonDivisor es) (natAbs (e .factor)) h)
+common-pos e es h = rw (gcd-comm (natAbs (e .condition)) (commonDivisor es)) (gcd-pos (commonDivisor es) (natAbs (e .condition)) h)
 
-first-factor : (s : Space) (j k : ℕ) → natAbs (leftEntry s j k 0 .factor) ≡ leftScale s j k
+first-entry : (s : Space) (j k : ℕ) → natAbs (leftEntry s j k 0 .condition) ≡ leftScale s j k
 unfolding leftScale binomial
-first-factor s j k = abs-mul (pos (leftScale s j k * 1)) (alternating (k - 0)) ∙ ap (λ n. leftScale s j k * 1 * n) (alternating-abs (k - 0)) ∙ omega arith
+first-entry s j k = abs-mul (pos (leftScale s j k * 1)) (alternating (k - 0)) ∙ ap (λ n. leftScale s j k * 1 * n) (alternating-abs (k - 0)) ∙ omega arith
 
 pub divisor-pos : (s : Space) (j k : ℕ) → k ≤ degree s j → 0 < width s (suc j) → 0 < divisor s j k
 unfolding divisor undivided tab leftScale
-divisor-pos s j k h l = common-pos (leftEntry s j k 0) _ (rw (first-factor s j k) (scale-pos (degree s j) k (width s (suc j)) h l))
+divisor-pos s j k h l = common-pos (leftEntry s j k 0) _ (rw (first-entry s j k) (scale-pos (degree s j) k (width s (suc j)) h l))
 
 -- ---- equal ordinates
 

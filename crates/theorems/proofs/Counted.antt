@@ -84,7 +84,7 @@ addProducts-judged : (j : ℕ) (r : Row) (s : ℚ) (κ : List Entry) → Judged 
 unfolding addProducts jumpTests pairing judged
 addProducts-judged j r s [] = record { is = ap answer (sym (add-zero s)) }
 addProducts-judged j r s (e ∷ es) =
-    let p = entry r (e .column) *ᵠ int (e .factor) in
+    let p = entry r (e .column) *ᵠ int (e .condition) in
     renamed (add-assoc s p (pairing r es)) (chained (λ p. count j (s +ᵠ p) then λ t. addProducts j r t es) (count-judged j p) (chained (λ t. addProducts j r t es) (count-judged j (s +ᵠ p)) (addProducts-judged j r (s +ᵠ p) es)))
 
 jumps-judged : (j : ℕ) (κ : List Entry) (t : Table) → Judged (jumps j κ t) (joined (length t) (λ i. jumpTests j (row t i) (int (pos 0)) κ)) (exactJumps κ t)

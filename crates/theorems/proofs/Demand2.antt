@@ -1,4 +1,4 @@
--- Demand 2 on the weights, proved: from the basis that the build ends with to lists of ordinates and factors.
+-- Demand 2 on the weights, proved: from the basis that the build ends with to lists of ordinates and multipliers.
 use mathlib.Core.Path.{_≡_, refl, sym, _∙_, ap}
 use mathlib.Core.Logic.{_⊎_, inl, inr}
 use mathlib.Core.List.{List, [], _∷_}
@@ -34,7 +34,7 @@ rows-and-columns s a = let b = built s (a .table) (a .is) in let n = row-count s
 pub pairing-applied : (o : Row) (κ : List Entry) → pairing o κ ≡ applied κ (entry o)
 unfolding pairing applied
 pairing-applied o [] = refl
-pairing-applied o (e ∷ es) = ap (λ t. entry o (e .column) *ᵠ int (e .factor) +ᵠ t) (pairing-applied o es)
+pairing-applied o (e ∷ es) = ap (λ t. entry o (e .column) *ᵠ int (e .condition) +ᵠ t) (pairing-applied o es)
 
 module _ (columns : ℕ) (t : Table) (wide : Wide columns t) where
   -- past the last column all entries are zero
@@ -48,29 +48,29 @@ module _ (columns : ℕ) (t : Table) (wide : Wide columns t) where
   combined-past : (a : ℕ → ℚ) (c : ℕ) → columns ≤ c → combined a t c ≡ int (pos 0)
   combined-past a c h = sum-zero (length t) (λ i k. ap (λ u. a i *ᵠ u) (cell-beside i c h) ∙ mul-zero (a i))
 
-  pub combination-at : (factors : List ℚ) (c : ℕ) → entry (combination columns factors t) c ≡ combined (entry factors) t c
+  pub combination-at : (multipliers : List ℚ) (c : ℕ) → entry (combination columns multipliers t) c ≡ combined (entry multipliers) t c
   unfolding combination
-  combination-at factors c = go (le-or-lt columns c)
+  combination-at multipliers c = go (le-or-lt columns c)
     where
-      go : (columns ≤ c) ⊎ (c < columns) → entry (combination columns factors t) c ≡ combined (entry factors) t c
-      go (inl h) = entry-past (combination columns factors t) c (rw (tab-length columns (λ c. sum (length t) (λ i. entry factors i *ᵠ cell t i c))) h) ∙ sym (combined-past (entry factors) c h)
-      go (inr h) = tab-getD columns (λ c. sum (length t) (λ i. entry factors i *ᵠ cell t i c)) c (int (pos 0)) h
+      go : (columns ≤ c) ⊎ (c < columns) → entry (combination columns multipliers t) c ≡ combined (entry multipliers) t c
+      go (inl h) = entry-past (combination columns multipliers t) c (rw (tab-length columns (λ c. sum (length t) (λ i. entry multipliers i *ᵠ cell t i c))) h) ∙ sym (combined-past (entry multipliers) c h)
+      go (inr h) = tab-getD columns (λ c. sum (length t) (λ i. entry multipliers i *ᵠ cell t i c)) c (int (pos 0)) h
 
-combination-length : (columns : ℕ) (factors : List ℚ) (t : Table) → length (combination columns factors t) ≡ columns
+combination-length : (columns : ℕ) (multipliers : List ℚ) (t : Table) → length (combination columns multipliers t) ≡ columns
 unfolding combination
-combination-length columns factors t = tab-length columns _
+combination-length columns multipliers t = tab-length columns _
 
 pub combinations-meet-conditions : CombinationsMeetConditions
-combinations-meet-conditions s a factors = record { columns = combination-length (columnCount s) factors (a .table); meets = met }
+combinations-meet-conditions s a multipliers = record { columns = combination-length (columnCount s) multipliers (a .table); meets = met }
   where
     b : Built s (a .table)
     b = built s (a .table) (a .is)
 
-    met : (j k : ℕ) → j < segments s - 1 → k < conditionCount s j → pairing (combination (columnCount s) factors (a .table)) (conditions s j k) ≡ int (pos 0)
-    met j k h l = pairing-applied (combination (columnCount s) factors (a .table)) (conditions s j k)
-        ∙ applied-ext (conditions s j k) (combination-at (columnCount s) (a .table) (b .basis .wide) factors)
-        ∙ applied-sum (conditions s j k) (length (a .table)) (entry factors) (cell (a .table))
-        ∙ sum-zero (length (a .table)) (λ i m. ap (λ u. entry factors i *ᵠ u) (b .basis .meets (conditions s j k) (earlier j k h l refl) i) ∙ mul-zero (entry factors i))
+    met : (j k : ℕ) → j < segments s - 1 → k < conditionCount s j → pairing (combination (columnCount s) multipliers (a .table)) (conditions s j k) ≡ int (pos 0)
+    met j k h l = pairing-applied (combination (columnCount s) multipliers (a .table)) (conditions s j k)
+        ∙ applied-ext (conditions s j k) (combination-at (columnCount s) (a .table) (b .basis .wide) multipliers)
+        ∙ applied-sum (conditions s j k) (length (a .table)) (entry multipliers) (cell (a .table))
+        ∙ sum-zero (length (a .table)) (λ i m. ap (λ u. entry multipliers i *ᵠ u) (b .basis .meets (conditions s j k) (earlier j k h l refl) i) ∙ mul-zero (entry multipliers i))
 
 pub conditions-give-one-combination : ConditionsGiveOneCombination
 conditions-give-one-combination s a o M = go (built s (a .table) (a .is))
@@ -87,16 +87,16 @@ conditions-give-one-combination s a o M = go (built s (a .table) (a .is))
 
         finish : (f : ℕ → ℚ) × ((c : ℕ) → combined f (a .table) c ≡ entry o c) → OneCombination s (a .table) o
         finish f = record {
-          factors = factors;
+          multipliers = multipliers;
           count = tab-length (rowCount s) (f .0);
-          gives = ext-getD (int (pos 0)) (combination (columnCount s) factors (a .table)) o (combination-length (columnCount s) factors (a .table) ∙ sym (M .columns))
-              (λ c h. combination-at (columnCount s) (a .table) (b .basis .wide) factors c ∙ same c ∙ f .1 c);
-          only = λ others h e. ext-getD (int (pos 0)) others factors (h ∙ sym (tab-length (rowCount s) (f .0)))
-              (λ i l. b .basis .unique (entry others) (entry factors) (λ c. sym (combination-at (columnCount s) (a .table) (b .basis .wide) others c) ∙ ap (λ r. entry r c) e ∙ sym (f .1 c) ∙ sym (same c)) i (rw n (rw h at l)));
+          gives = ext-getD (int (pos 0)) (combination (columnCount s) multipliers (a .table)) o (combination-length (columnCount s) multipliers (a .table) ∙ sym (M .columns))
+              (λ c h. combination-at (columnCount s) (a .table) (b .basis .wide) multipliers c ∙ same c ∙ f .1 c);
+          only = λ others h e. ext-getD (int (pos 0)) others multipliers (h ∙ sym (tab-length (rowCount s) (f .0)))
+              (λ i l. b .basis .unique (entry others) (entry multipliers) (λ c. sym (combination-at (columnCount s) (a .table) (b .basis .wide) others c) ∙ ap (λ r. entry r c) e ∙ sym (f .1 c) ∙ sym (same c)) i (rw n (rw h at l)));
         }
           where
-            factors : List ℚ
-            factors = tab (rowCount s) (f .0)
+            multipliers : List ℚ
+            multipliers = tab (rowCount s) (f .0)
 
-            same : (c : ℕ) → combined (entry factors) (a .table) c ≡ combined (f .0) (a .table) c
+            same : (c : ℕ) → combined (entry multipliers) (a .table) c ≡ combined (f .0) (a .table) c
             same c = sum-ext (length (a .table)) (λ i h. ap (λ u. u *ᵠ cell (a .table) i c) (tab-getD (rowCount s) (f .0) i (int (pos 0)) (rw n at h)))

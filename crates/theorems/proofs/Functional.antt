@@ -17,23 +17,23 @@ use Rattle.spline.proofs.Step.{count-answers}
 -- The sum of ordinate times condition.
 unfoldable pub applied : List Entry → (ℕ → ℚ) → ℚ
 applied [] z = int (pos 0)
-applied (e ∷ es) z = z (e .column) *ᵠ int (e .factor) +ᵠ applied es z
+applied (e ∷ es) z = z (e .column) *ᵠ int (e .condition) +ᵠ applied es z
 
 pub applied-ext : (κ : List Entry) {x y : ℕ → ℚ} → ((c : ℕ) → x c ≡ y c) → applied κ x ≡ applied κ y
 unfolding applied
 applied-ext [] h = refl
-applied-ext (e ∷ es) h = ap₂ (λ s t. s *ᵠ int (e .factor) +ᵠ t) (h (e .column)) (applied-ext es h)
+applied-ext (e ∷ es) h = ap₂ (λ s t. s *ᵠ int (e .condition) +ᵠ t) (h (e .column)) (applied-ext es h)
 
 pub applied-zero : (κ : List Entry) → applied κ (λ c. int (pos 0)) ≡ int (pos 0)
 unfolding applied
 applied-zero [] = refl
-applied-zero (e ∷ es) = ap (λ t. int (pos 0) *ᵠ int (e .factor) +ᵠ t) (applied-zero es) ∙ ring ℚ-ring (int (e .factor) ∷ []) (search readsℚ depth 20) (search readsℚ depth 20) refl
+applied-zero (e ∷ es) = ap (λ t. int (pos 0) *ᵠ int (e .condition) +ᵠ t) (applied-zero es) ∙ ring ℚ-ring (int (e .condition) ∷ []) (search readsℚ depth 20) (search readsℚ depth 20) refl
 
 pub applied-mix : (κ : List Entry) (a b : ℚ) (x y : ℕ → ℚ) → applied κ (λ c. a *ᵠ x c +ᵠ b *ᵠ y c) ≡ a *ᵠ applied κ x +ᵠ b *ᵠ applied κ y
 unfolding applied
 applied-mix [] a b x y = ring ℚ-ring (a ∷ b ∷ []) (search readsℚ depth 20) (search readsℚ depth 20) refl
-applied-mix (e ∷ es) a b x y = ap (λ t. (a *ᵠ x (e .column) +ᵠ b *ᵠ y (e .column)) *ᵠ int (e .factor) +ᵠ t) (applied-mix es a b x y)
-    ∙ ring ℚ-ring (a ∷ b ∷ x (e .column) ∷ y (e .column) ∷ int (e .factor) ∷ applied es x ∷ applied es y ∷ []) (search readsℚ depth 30) (search readsℚ depth 30) refl
+applied-mix (e ∷ es) a b x y = ap (λ t. (a *ᵠ x (e .column) +ᵠ b *ᵠ y (e .column)) *ᵠ int (e .condition) +ᵠ t) (applied-mix es a b x y)
+    ∙ ring ℚ-ring (a ∷ b ∷ x (e .column) ∷ y (e .column) ∷ int (e .condition) ∷ applied es x ∷ applied es y ∷ []) (search readsℚ depth 30) (search readsℚ depth 30) refl
 
 one-times : (s p : ℚ) → s +ᵠ p ≡ int (pos 1) *ᵠ s +ᵠ p
 one-times s p = ring ℚ-ring (s ∷ p ∷ []) (search readsℚ) (search readsℚ) refl
@@ -53,13 +53,13 @@ applied-sum κ (suc n) a x =
 pub addProducts-inverts : (j : ℕ) (r : Row) (s : ℚ) (κ : List Entry) {q : ℚ} → addProducts j r s κ ≡ answer q → q ≡ s +ᵠ applied κ (entry r)
 unfolding addProducts applied
 addProducts-inverts j r s [] e = answer-unique e refl ∙ sym (add-zero s)
-addProducts-inverts j r s (e ∷ es) {q} h = go (then-inverts (count j (entry r (e .column) *ᵠ int (e .factor))) (λ p. count j (s +ᵠ p) then λ t. addProducts j r t es) h) (λ t. addProducts-inverts j r t es)
+addProducts-inverts j r s (e ∷ es) {q} h = go (then-inverts (count j (entry r (e .column) *ᵠ int (e .condition))) (λ p. count j (s +ᵠ p) then λ t. addProducts j r t es) h) (λ t. addProducts-inverts j r t es)
   where
-    go : Chained (count j (entry r (e .column) *ᵠ int (e .factor))) (λ p. count j (s +ᵠ p) then λ t. addProducts j r t es) q
-        → ((t : ℚ) → addProducts j r t es ≡ answer q → q ≡ t +ᵠ applied es (entry r)) → q ≡ s +ᵠ (entry r (e .column) *ᵠ int (e .factor) +ᵠ applied es (entry r))
+    go : Chained (count j (entry r (e .column) *ᵠ int (e .condition))) (λ p. count j (s +ᵠ p) then λ t. addProducts j r t es) q
+        → ((t : ℚ) → addProducts j r t es ≡ answer q → q ≡ t +ᵠ applied es (entry r)) → q ≡ s +ᵠ (entry r (e .column) *ᵠ int (e .condition) +ᵠ applied es (entry r))
     go c ih = let d = then-inverts (count j (s +ᵠ c .middle)) (λ t. addProducts j r t es) (c .after) in
         ih (d .middle) (d .after)
-        ∙ ap (λ t. t +ᵠ applied es (entry r)) (count-answers j (s +ᵠ c .middle) (d .before) .0 ∙ ap (λ t. s +ᵠ t) (count-answers j (entry r (e .column) *ᵠ int (e .factor)) (c .before) .0))
+        ∙ ap (λ t. t +ᵠ applied es (entry r)) (count-answers j (s +ᵠ c .middle) (d .before) .0 ∙ ap (λ t. s +ᵠ t) (count-answers j (entry r (e .column) *ᵠ int (e .condition)) (c .before) .0))
         ∙ add-assoc s _ _
 
 -- the jump of a row is the functional's value there

@@ -109,15 +109,15 @@ column-sum4 : sum 5 (λ i. cell table4 i 2) ≡ int (pos 1)
 unfolding accepted4 firstColumn conditionsBefore
 column-sum4 = column-sums-one space4 accepted4 2 (omega arith)
 
--- any factors, also fractions and negative ones, give ordinates that meet the two conditions of the join
-pub factors4 : List ℚ
-factors4 = pos 2 // 4 ∷ negsuc 6 // 0 ∷ q0 ∷ q1 ∷ pos 5 // 1 ∷ []
+-- any multipliers, also fractions and negative ones, give ordinates that meet the two conditions of the join
+pub multipliers4 : List ℚ
+multipliers4 = pos 2 // 4 ∷ negsuc 6 // 0 ∷ q0 ∷ q1 ∷ pos 5 // 1 ∷ []
 
-combination4 : MeetsAll space4 (combination 7 factors4 table4)
+combination4 : MeetsAll space4 (combination 7 multipliers4 table4)
 unfolding accepted4 firstColumn
-combination4 = combinations-meet-conditions space4 accepted4 factors4
+combination4 = combinations-meet-conditions space4 accepted4 multipliers4
 
--- ordinates that meet them, and the only factors that give these ordinates
+-- ordinates that meet them, and the only multipliers that give these ordinates
 abbrev pub ordinates4 : Row
 ordinates4 = q0 ∷ int (pos 7) ∷ int (pos 4) ∷ int (pos 4) ∷ q0 ∷ q1 ∷ int (pos 2) ∷ []
 
@@ -175,9 +175,9 @@ column-sum5 : sum 5 (λ i. cell table5 i 4) ≡ int (pos 1)
 unfolding accepted5 firstColumn conditionsBefore
 column-sum5 = column-sums-one space5 accepted5 4 (omega arith)
 
-combination5 : MeetsAll space5 (combination 8 factors4 table5)
+combination5 : MeetsAll space5 (combination 8 multipliers4 table5)
 unfolding accepted5 firstColumn
-combination5 = combinations-meet-conditions space5 accepted5 factors4
+combination5 = combinations-meet-conditions space5 accepted5 multipliers4
 
 abbrev pub ordinates5 : Row
 ordinates5 = q0 ∷ int (pos 4) ∷ int (pos 3) ∷ int (pos 4) ∷ int (pos 4) ∷ int (pos 5) ∷ int (pos 8) ∷ q1 ∷ []

@@ -54,9 +54,9 @@ joined (suc n) f = joined n f ++ f n
 unfoldable pub jumpTests : ℕ → Row → ℚ → List Entry → List Test
 jumpTests join r s [] = []
 jumpTests join r s (e ∷ es) =
-    counted join (entry r (e .column) *ᵠ int (e .factor)) ∷
-    counted join (s +ᵠ entry r (e .column) *ᵠ int (e .factor)) ∷
-    jumpTests join r (s +ᵠ entry r (e .column) *ᵠ int (e .factor)) es
+    counted join (entry r (e .column) *ᵠ int (e .condition)) ∷
+    counted join (s +ᵠ entry r (e .column) *ᵠ int (e .condition)) ∷
+    jumpTests join r (s +ᵠ entry r (e .column) *ᵠ int (e .condition)) es
 
 -- The jumps.
 unfoldable pub exactJumps : List Entry → Table → List ℚ

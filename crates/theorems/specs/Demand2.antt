@@ -1,5 +1,5 @@
 -- Demand 2 on the weights: they are the published construction's, each combination of rows meets every join condition,
--- and each piecewise curve that meets them all is a combination in exactly one way. The factors are any fractions.
+-- and each piecewise curve that meets them all is a combination in exactly one way. The multipliers are any fractions.
 use mathlib.Core.Path.{_≡_}
 use mathlib.Core.List.{List}
 use Prim.Native.Nat.{ℕ, _<_}
@@ -20,14 +20,14 @@ RowsAndColumns = (s : Space) (a : Accepted s) → (length (a .table) ≡ rowCoun
 
 -- Every combination of the rows meets every join condition.
 abbrev pub CombinationsMeetConditions : Type 0
-CombinationsMeetConditions = (s : Space) (a : Accepted s) (factors : List ℚ) → MeetsAll s (combination (columnCount s) factors (a .table))
+CombinationsMeetConditions = (s : Space) (a : Accepted s) (multipliers : List ℚ) → MeetsAll s (combination (columnCount s) multipliers (a .table))
 
--- o is the combination with these n factors, and with no others.
+-- o is the combination with these n multipliers, and with no others.
 pub record OneCombination (s : Space) (t : Table) (o : Row) : Type 0 where
-  pub factors : List ℚ
-  pub count : length factors ≡ rowCount s
-  pub gives : combination (columnCount s) factors t ≡ o
-  pub only : (others : List ℚ) → length others ≡ rowCount s → combination (columnCount s) others t ≡ o → others ≡ factors
+  pub multipliers : List ℚ
+  pub count : length multipliers ≡ rowCount s
+  pub gives : combination (columnCount s) multipliers t ≡ o
+  pub only : (others : List ℚ) → length others ≡ rowCount s → combination (columnCount s) others t ≡ o → others ≡ multipliers
 
 -- Every piecewise curve that meets all join conditions is one and only one combination of the rows.
 abbrev pub ConditionsGiveOneCombination : Type 0

@@ -1,11 +1,8 @@
 // The engine for C and Rust: the public calls with their answers as a struct by value.
 ghost use mathlib.Core.Path.{_≡_};
-ghost use lib.ListN.{length};
 ghost use Rattle.space.specs.Reply.{space};
-ghost use Rattle.spline.specs.Outcome.{with-answer};
-ghost use Rattle.spline.specs.Space.{rowCount};
-ghost use Rattle.spline.specs.Build.{built, numeratorsAfter, denominatorsAfter};
-ghost use Rattle.spline.specs.CurveCall.{curveOutcome, returned, curveNumerators, curveDenominators, valuesAfter};
+ghost use Rattle.spline.specs.Build.{buildEnd};
+ghost use Rattle.spline.specs.CurveCall.{curveEnd};
 ghost use Rattle.walzhik.specs.Reply.{replied};
 
 // The count of rows or values, with number 0 and place 0; or count 0 with a refusal's number and place.
@@ -45,9 +42,8 @@ pub extern "C" fn walzhik_build(
     num: &mut [i64],
     den: &mut [i64],
 ) -> Reply
-    ensures answer { λ r. ⌜ r ≡ replied (with-answer (λ _. rowCount (space (now (breaks .entry)) (now (degrees .entry)) (now (orders .entry)))) (built (space (now (breaks .entry)) (now (degrees .entry)) (now (orders .entry))) (length (now (num .entry))) (length (now (den .entry))))) ⌝ }
-    ensures numerators { λ r. ⌜ now (num .exit) ≡ numeratorsAfter (built (space (now (breaks .entry)) (now (degrees .entry)) (now (orders .entry))) (length (now (num .entry))) (length (now (den .entry)))) (now (num .entry)) ⌝ }
-    ensures denominators { λ r. ⌜ now (den .exit) ≡ denominatorsAfter (built (space (now (breaks .entry)) (now (degrees .entry)) (now (orders .entry))) (length (now (num .entry))) (length (now (den .entry)))) (now (den .entry)) ⌝ }
+    ensures { λ r. ⌜ (let e = buildEnd (space (now (breaks .entry)) (now (degrees .entry)) (now (orders .entry))) (now (num .entry)) (now (den .entry)) in
+        (r ≡ replied (e .answers)) × ((now (num .exit) ≡ e .numerators) × (now (den .exit) ≡ e .denominators))) ⌝ }
 {
     let built = weights::build(breaks, degrees, orders, num, den);
     match built {
@@ -68,10 +64,8 @@ pub extern "C" fn walzhik_curve(
     den: &mut [i64],
     values: &mut [i32],
 ) -> Reply
-    ensures answer { λ r. ⌜ r ≡ replied (returned (curveOutcome (space (now (breaks .entry)) (now (degrees .entry)) (now (orders .entry))) (now (coefs .entry)) (now (positions .entry)) (length (now (num .entry))) (length (now (den .entry))) (length (now (values .entry))))) ⌝ }
-    ensures numerators { λ r. ⌜ now (num .exit) ≡ curveNumerators (curveOutcome (space (now (breaks .entry)) (now (degrees .entry)) (now (orders .entry))) (now (coefs .entry)) (now (positions .entry)) (length (now (num .entry))) (length (now (den .entry))) (length (now (values .entry)))) (now (num .entry)) ⌝ }
-    ensures denominators { λ r. ⌜ now (den .exit) ≡ curveDenominators (curveOutcome (space (now (breaks .entry)) (now (degrees .entry)) (now (orders .entry))) (now (coefs .entry)) (now (positions .entry)) (length (now (num .entry))) (length (now (den .entry))) (length (now (values .entry)))) (now (den .entry)) ⌝ }
-    ensures values { λ r. ⌜ now (values .exit) ≡ valuesAfter (curveOutcome (space (now (breaks .entry)) (now (degrees .entry)) (now (orders .entry))) (now (coefs .entry)) (now (positions .entry)) (length (now (num .entry))) (length (now (den .entry))) (length (now (values .entry)))) (now (values .entry)) ⌝ }
+    ensures { λ r. ⌜ (let e = curveEnd (space (now (breaks .entry)) (now (degrees .entry)) (now (orders .entry))) (now (coefs .entry)) (now (positions .entry)) (now (num .entry)) (now (den .entry)) (now (values .entry)) in
+        (r ≡ replied (e .answers)) × ((now (num .exit) ≡ e .numerators) × ((now (den .exit) ≡ e .denominators) × (now (values .exit) ≡ e .values)))) ⌝ }
 {
     let answer = curve::curve(breaks, degrees, orders, coefs, positions, num, den, values);
     match answer {

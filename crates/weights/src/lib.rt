@@ -1,9 +1,6 @@
 // The weights of a multi-degree spline space: exact fractions in two lent buffers, by document 01's steps.
 ghost use mathlib.Core.Path.{_≡_};
-ghost use lib.ListN.{length};
-ghost use Rattle.spline.specs.Outcome.{with-answer};
-ghost use Rattle.spline.specs.Space.{rowCount};
-ghost use Rattle.spline.specs.Build.{built, numeratorsAfter, denominatorsAfter};
+ghost use Rattle.spline.specs.Build.{buildEnd};
 ghost use Rattle.space.specs.Reply.{space};
 ghost use Rattle.weights.specs.Reply.{reply};
 
@@ -24,9 +21,8 @@ pub fn build(
     num: &mut [i64],
     den: &mut [i64],
 ) -> Built
-    ensures answer { λ r. ⌜ reply r ≡ with-answer (λ _. rowCount (space (now (breaks .entry)) (now (degrees .entry)) (now (orders .entry)))) (built (space (now (breaks .entry)) (now (degrees .entry)) (now (orders .entry))) (length (now (num .entry))) (length (now (den .entry)))) ⌝ }
-    ensures numerators { λ r. ⌜ now (num .exit) ≡ numeratorsAfter (built (space (now (breaks .entry)) (now (degrees .entry)) (now (orders .entry))) (length (now (num .entry))) (length (now (den .entry)))) (now (num .entry)) ⌝ }
-    ensures denominators { λ r. ⌜ now (den .exit) ≡ denominatorsAfter (built (space (now (breaks .entry)) (now (degrees .entry)) (now (orders .entry))) (length (now (num .entry))) (length (now (den .entry)))) (now (den .entry)) ⌝ }
+    ensures { λ r. ⌜ (let e = buildEnd (space (now (breaks .entry)) (now (degrees .entry)) (now (orders .entry))) (now (num .entry)) (now (den .entry)) in
+        (reply r ≡ e .answers) × ((now (num .exit) ≡ e .numerators) × (now (den .exit) ≡ e .denominators))) ⌝ }
 {
     if num.len() < cells::TABLE_CELLS {
         return Built::Refused(1, 0);

@@ -8,7 +8,7 @@ ghost use Rattle.exact.specs.Rational.{ℚ};
 ghost use Rattle.spline.specs.Outcome.{with-answer};
 ghost use Rattle.spline.specs.Space.{Space, rowCount};
 ghost use Rattle.spline.specs.Conditions;
-ghost use Rattle.spline.specs.Table.{Table};
+ghost use Rattle.spline.specs.Table.{Table, tableCells};
 ghost use Rattle.spline.specs.Step;
 ghost use Rattle.spline.specs.Build;
 ghost use Rattle.space.specs.Reply.{space};
@@ -182,7 +182,7 @@ pub fn build_legal(
     num: &mut [i64],
     den: &mut [i64],
 ) -> Built
-    requires { ⌜ ListsLegal (now breaks) (now degrees) (now orders) × ((5184 ≤ length (now num)) × (5184 ≤ length (now den))) ⌝ }
+    requires { ⌜ ListsLegal (now breaks) (now degrees) (now orders) × ((tableCells ≤ length (now num)) × (tableCells ≤ length (now den))) ⌝ }
     ensures { λ r. ⌜ reply r ≡ with-answer (λ _. rowCount (space (now (breaks .entry)) (now (degrees .entry)) (now (orders .entry)))) (Build.weights (space (now (breaks .entry)) (now (degrees .entry)) (now (orders .entry)))) ⌝ }
     ensures { λ r. ⌜ now (num .exit) ≡ Build.numeratorsAfter (Build.weights (space (now (breaks .entry)) (now (degrees .entry)) (now (orders .entry)))) (now (num .entry)) ⌝ }
     ensures { λ r. ⌜ now (den .exit) ≡ Build.denominatorsAfter (Build.weights (space (now (breaks .entry)) (now (degrees .entry)) (now (orders .entry)))) (now (den .entry)) ⌝ }

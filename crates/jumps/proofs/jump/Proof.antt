@@ -29,7 +29,7 @@ use Rattle.cells.proofs.Buffer.{holds-cell}
 use Rattle.conditions.specs.Sides.{JoinIs}
 use Rattle.conditions.specs.Terms.{noEntry}
 use Rattle.conditions.specs.declared.Join.{Join}
-use Rattle.conditions.proofs.Terms.{conditions-length, factors-getD, factor-small}
+use Rattle.conditions.proofs.Terms.{conditions-length, entries-getD, entry-small}
 use Rattle.jumps.specs.Reply.{counted}
 use Rattle.jumps.proofs.Counted.{fits-answered, large-refused, refused-large, then-count-sized}
 use Rattle.jumps.proofs.jump.Statement.{statement}
@@ -43,10 +43,10 @@ record Inv (num den : List ℤ) (at : ℕ) (join : Join) (k : ℕ) (sum : Fracti
       → addProducts j (row t at) (int (pos 0)) (conditions s j k) ≡ addProducts j (row t at) (value sum) (drop e (conditions s j k))
 
 abbrev Inv-loop : tie.InvT-loop
-Inv-loop num den at join k factors count sum₀ e₀ sum e = Inv num den at join k sum e
+Inv-loop num den at join k entries count sum₀ e₀ sum e = Inv num den at join k sum e
 
 abbrev μ-loop : tie.MeasureT-loop
-μ-loop num den at join k factors count sum₀ e₀ sum e = 2 * k + 2 - e
+μ-loop num den at join k entries count sum₀ e₀ sum e = 2 * k + 2 - e
 
 mul-count : tie.Need-mul-count Inv-loop μ-loop
 mul-count c = omega arith
@@ -74,14 +74,14 @@ add-cell c = omega arith
 read-requires : tie.Need-read-requires Inv-loop μ-loop
 read-requires c κs = omega (arith, c .before .before .before .pre .1 .1 .1 .num-long, c .before .before .before .pre .1 .1 .1 .den-long)
 
-mul-f : tie.Need-mul-f Inv-loop μ-loop
-mul-f c = omega arith
+mul-condition : tie.Need-mul-condition Inv-loop μ-loop
+mul-condition c = omega arith
 
-array-copy-out-f : tie.Need-array-copy-out-f Inv-loop μ-loop
-array-copy-out-f c = omega arith
+array-copy-out-condition : tie.Need-array-copy-out-condition Inv-loop μ-loop
+array-copy-out-condition c = omega arith
 
 -- the product's two factors, in the definition's terms
-module _ (c : tie.After-f Inv-loop μ-loop) where
+module _ (c : tie.After-condition Inv-loop μ-loop) where
   abbrev start : tie.Start Inv-loop μ-loop
   start = c .before .before .before .before .before
 
@@ -92,14 +92,14 @@ module _ (c : tie.After-f Inv-loop μ-loop) where
   sum = c .before .before .before .before .loop .sum
 
   read-fits : SFits w64 (getD (start .args .t6) place (pos 0))
-  read-fits = record { sfits = c .f .given }
+  read-fits = record { sfits = c .condition .given }
 
-module _ (c : tie.After-f Inv-loop μ-loop) (s : Space) (j : ℕ) (i : JoinIs (start c .args .join) s j) where
+module _ (c : tie.After-condition Inv-loop μ-loop) (s : Space) (j : ℕ) (i : JoinIs (start c .args .join) s j) where
   abbrev this : Entry
   this = getD (conditions s j (start c .args .k)) (place c) noEntry
 
-  factor-is : getD (start c .args .t6) (place c) (pos 0) ≡ this .factor
-  factor-is = ap (λ xs. getD xs (place c) (pos 0)) (start c .pre .1 .0 s j i) ∙ factors-getD (conditions s j (start c .args .k)) (place c) (omega arith)
+  condition-is : getD (start c .args .t6) (place c) (pos 0) ≡ this .condition
+  condition-is = ap (λ xs. getD xs (place c) (pos 0)) (start c .pre .1 .0 s j i) ∙ entries-getD (conditions s j (start c .args .k)) (place c) (omega arith)
 
   weight-is : (t : Table) → Holds (start c .args .num .now) (start c .args .den .now) t → c .before .read .result ≡ fraction (entry (row t (start c .args .at)) (this .column))
   weight-is t h =
@@ -116,7 +116,7 @@ add-product-requires c κs =
       c .before .before .before .before .loop .inv .sized,
       (
         rw (weight-is c (f .space) (f .index) (f .is) (h .0) (h .1)) (fits-sized (cell (h .0) (start c .args .at) (this c (f .space) (f .index) (f .is) .column)) (h .1 .fit (start c .args .at) (this c (f .space) (f .index) (f .is) .column))),
-        simp toZ-ofZ (rw (factor-is c (f .space) (f .index) (f .is)) (factor-small f (place c))),
+        simp toZ-ofZ (rw (condition-is c (f .space) (f .index) (f .is)) (entry-small f (place c))),
       ),
     )
 
@@ -135,10 +135,10 @@ module _ (c : tie.After-add-product Inv-loop μ-loop) (s : Space) (j : ℕ) (t :
   more-is =
       let x = read-fits (c .before) in
       (simp toZ-ofZ at (c .add-product .ensures j))
-      ∙ ap₂ (λ q z. counted (count j (q *ᵠ int z) then λ p. count j (value (sum (c .before)) +ᵠ p))) (ap value (weight-is (c .before) s j i t h) ∙ value-fraction _) (factor-is (c .before) s j i)
+      ∙ ap₂ (λ q z. counted (count j (q *ᵠ int z) then λ p. count j (value (sum (c .before)) +ᵠ p))) (ap value (weight-is (c .before) s j i t h) ∙ value-fraction _) (condition-is (c .before) s j i)
 
   more-sized : (f : Fraction) → c .add-product .result ≡ Fits f → Sized f
-  more-sized f e = then-count-sized j (count j (entry cells (this (c .before) s j i .column) *ᵠ int (this (c .before) s j i .factor))) (λ p. value (sum (c .before)) +ᵠ p) f (sym more-is ∙ e)
+  more-sized f e = then-count-sized j (count j (entry cells (this (c .before) s j i .column) *ᵠ int (this (c .before) s j i .condition))) (λ p. value (sum (c .before)) +ᵠ p) f (sym more-is ∙ e)
 
   -- the jump, from this entry on
   jump-from : addProducts j cells (int (pos 0)) κ ≡ addProducts j cells (value (sum (c .before))) (this (c .before) s j i ∷ drop (suc (place (c .before))) κ)
@@ -205,8 +205,8 @@ jump-spec =
     mul-cell
     add-cell
     read-requires
-    mul-f
-    array-copy-out-f
+    mul-condition
+    array-copy-out-condition
     add-product-requires
     enum-known-next
     enum-told

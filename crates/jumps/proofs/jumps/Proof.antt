@@ -44,13 +44,13 @@ record Inv (num den : List ℤ) (rows : ℕ) (join : Join) (k : ℕ) (js : Fract
   rest : (s : Space) (j : ℕ) (t : Table) → JoinIs join s j → Holds num den t → Collected s j k t js i
 
 abbrev Inv-loop : tie.InvT-loop
-Inv-loop num den rows join k factors js₀ i₀ js i = Inv num den rows join k js i
+Inv-loop num den rows join k entries js₀ i₀ js i = Inv num den rows join k js i
 
 abbrev μ-loop : tie.MeasureT-loop
-μ-loop num den rows join k factors js₀ i₀ js i = rows - i
+μ-loop num den rows join k entries js₀ i₀ js i = rows - i
 
-factors-requires : tie.Need-factors-requires Inv-loop μ-loop
-factors-requires c κs = c .pre .0 .1
+entries-requires : tie.Need-entries-requires Inv-loop μ-loop
+entries-requires c κs = c .pre .0 .1
 
 no-fractions-requires : tie.Need-no-fractions-requires Inv-loop μ-loop
 no-fractions-requires c κs = search needs
@@ -64,7 +64,7 @@ loop-holds c = record {
 jump-requires : tie.Need-jump-requires Inv-loop μ-loop
 jump-requires c κs =
     let s = c .before .before .before .before in
-    ((omega arith, s .pre .0 .1), (c .before .before .before .factors .ensures, s .pre .1))
+    ((omega arith, s .pre .0 .1), (c .before .before .before .entries .ensures, s .pre .1))
 
 enum-known-j : tie.Need-enum-known-j Inv-loop μ-loop
 enum-known-j c = search needs
@@ -137,7 +137,7 @@ jumps-spec =
     (tie.spec
     Inv-loop
     μ-loop
-    factors-requires
+    entries-requires
     no-fractions-requires
     loop-holds
     jump-requires

@@ -1,4 +1,4 @@
--- Below e stand the factors, from e on the zeros of the start; the entries of the column end where the loop does.
+-- Below e stand the entries, from e on the zeros of the start; the entries of the column end where the loop does.
 use borrow.Author.Needs.{needs}
 use native.Mathlib.Omega.{arith}
 use mathlib.Core.Path.{_≡_, sym, ap, ap₂, _∙_}
@@ -16,21 +16,21 @@ use Rattle.spline.specs.Space.{Space, degree, width}
 use Rattle.spline.specs.Conditions.{Entry, conditions}
 use Rattle.conditions.specs.Sides.{JoinFits}
 use Rattle.conditions.specs.declared.Join.{Join}
-use Rattle.conditions.specs.Terms.{scaleOf, ScaledOf, factorsOf}
+use Rattle.conditions.specs.Terms.{scaleOf, ScaledOf, entriesOf}
 use Rattle.conditions.specs.declared.Scaled.{Scaled}
-use Rattle.conditions.proofs.Terms.{leftScale, rightScale, divisor, scale-le, factor-is, entry-none}
-use Rattle.conditions.proofs.factors.Statement.{statement}
-use Rattle.conditions.proofs.factors.Tie as tie
+use Rattle.conditions.proofs.Terms.{leftScale, rightScale, divisor, scale-le, entry-is, entry-none}
+use Rattle.conditions.proofs.entries.Statement.{statement}
+use Rattle.conditions.proofs.entries.Tie as tie
 
--- The first e factors in front of zeros.
+-- The first e entries in front of zeros.
 abbrev filled : Scaled → ℕ → ℕ → List ℤ
 filled r k e = tab e (scaleOf (r .left) (r .right) k) ++ drop e (replicate 6 (pos 0))
 
-all-filled : (r : Scaled) (s : Space) (j k : ℕ) → k ≤ 2 → ScaledOf r s j k → filled r k (2 * k + 2) ≡ factorsOf (conditions s j k)
-unfolding factorsOf
+all-filled : (r : Scaled) (s : Space) (j k : ℕ) → k ≤ 2 → ScaledOf r s j k → filled r k (2 * k + 2) ≡ entriesOf (conditions s j k)
+unfolding entriesOf
 all-filled r s j k h q = tab-rest 6 (2 * k + 2) (omega arith)
-    (λ e l. ap₂ (λ x y. scaleOf x y k e) (q .left-is) (q .right-is) ∙ sym (factor-is s j k e l))
-    (λ e l. ap (λ (x : Entry). x .factor) (entry-none s j k e l))
+    (λ e l. ap₂ (λ x y. scaleOf x y k e) (q .left-is) (q .right-is) ∙ sym (entry-is s j k e l))
+    (λ e l. ap (λ (x : Entry). x .condition) (entry-none s j k e l))
 
 scaled-small : (r : Scaled) {join : Join} {k : ℕ} (f : JoinFits join k) → ScaledOf r (f .space) (f .index) k → (natAbs (r .left) < 2 ^ 31) × (natAbs (r .right) < 2 ^ 31)
 scaled-small r {k = k} f q =
@@ -58,8 +58,8 @@ add-count c = omega arith
 loop-holds : tie.Need-loop-holds Inv-loop μ-loop
 loop-holds c = (omega arith, tab-none _ _)
 
-factor-requires : tie.Need-factor-requires Inv-loop μ-loop
-factor-requires c κs =
+entry-requires : tie.Need-entry-requires Inv-loop μ-loop
+entry-requires c κs =
     let b = c .before .before in
     let f = b .before .pre in
     let z = scaled-small (b .scales .result) f (b .scales .ensures (f .space) (f .index) (f .is)) in
@@ -82,10 +82,10 @@ loop-again c =
     let b = c .before .before in
     let r = b .before .scales .result in
     let k = b .before .before .args .k in
-    let f : SFits w64 (c .factor .result) = record { sfits = c .factor .ok } in (
+    let f : SFits w64 (c .entry .result) = record { sfits = c .entry .ok } in (
       omega arith,
       simp toZ-ofZ (
-          ap₂ (λ (l : List ℤ) (z : ℤ). set l (b .loop .e) z) (b .loop .inv .1) (c .factor .ensures)
+          ap₂ (λ (l : List ℤ) (z : ℤ). set l (b .loop .e) z) (b .loop .inv .1) (c .entry .ensures)
           ∙ tab-more (scaleOf (r .left) (r .right) k) (b .loop .e) (replicate 6 (pos 0)) (omega arith)),
     )
 
@@ -97,8 +97,8 @@ returns c = λ s j i.
     c .before .loop .inv .1 ∙ ap (filled (b .scales .result) k) e
     ∙ all-filled (b .scales .result) s j k (b .before .pre .order) (b .scales .ensures s j i)
 
-pub factors-spec : {M : Type 1} → statement M
-factors-spec =
+pub entries-spec : {M : Type 1} → statement M
+entries-spec =
     tie.close
     (tie.spec
     Inv-loop
@@ -107,7 +107,7 @@ factors-spec =
     mul-count
     add-count
     loop-holds
-    factor-requires
+    entry-requires
     mul-values
     array-set-from-values
     add-e

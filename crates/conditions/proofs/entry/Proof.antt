@@ -10,8 +10,8 @@ use mir.Val.{SFits}
 use mir.ValLaws.{toZ-ofZ}
 use Rattle.exact.proofs.Word.{sfits-abs, abs-mul-le, abs-sub}
 use Rattle.conditions.proofs.Terms.{signedBinomial, signed-binomial-le, scale-left, scale-right}
-use Rattle.conditions.proofs.factor.Statement.{statement}
-use Rattle.conditions.proofs.factor.Tie as tie
+use Rattle.conditions.proofs.entry.Statement.{statement}
+use Rattle.conditions.proofs.entry.Tie as tie
 
 term-abs : (z u : ℤ) (k t : ℕ) → natAbs z < 2 ^ 31 → k ≤ 2 → u ≡ signedBinomial k t → natAbs (z *ℤ u) ≤ 2 ^ 33
 term-abs z u k t h l e = rw e (abs-mul-le z (signedBinomial k t) (2 ^ 31) 4 (le-of-lt h) (signed-binomial-le k t l))
@@ -103,8 +103,8 @@ returns-2 c =
     ∙ ap (λ (z : ℤ). negℤ (right c *ℤ z)) (c .before .before .signed-binomial2 .ensures)
     ∙ sym (scale-right (a .sides .left) (a .sides .right) (a .k) (a .e) (omega arith)))
 
-pub factor-spec : {M : Type 1} → statement M
-factor-spec =
+pub entry-spec : {M : Type 1} → statement M
+entry-spec =
     tie.close
     (tie.spec
     signed-binomial-requires
