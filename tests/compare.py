@@ -6,8 +6,8 @@ The driver executable runs each call; its line must equal the model's byte for
 byte, so every answer and every lent cell is compared. Every value of every
 answered curve call is held against the exact curve as demand 3 asks. The
 first difference is shown with its call line, which --case runs again. With
---valgrind the driver runs under it, and any read or write outside the lent
-memory is a failure.
+--valgrind the driver runs under it, each list and buffer in a block of its own
+length, so that any read or write outside the lent memory is a failure.
 """
 
 import argparse
@@ -73,16 +73,22 @@ def check_closeness(call, outcome, line):
     return len(outcome.values)
 
 
+def culprit_of(command, lines):
+    """The first call line on which the driver ends badly by itself, or all of them together."""
+    alone = (line for line in lines if driven(command, [line])[1] != 0)
+    return next(alone, f"no call alone, all {len(lines)} from: {lines[0]}")
+
+
 def compare_batch(command, batch, seen):
-    lines, code, errors = driven(command, [call_line(call) for call in batch])
+    asked = [call_line(call) for call in batch]
+    lines, code, errors = driven(command, asked)
     for call, line in zip(batch, lines):
         outcome = call.outcome()
         check_line(call, outcome, line)
         seen["values"] += check_closeness(call, outcome, line)
         seen[call.kind, outcome.reply.number] += 1
     if code != 0 or len(lines) != len(batch):
-        culprit = call_line(batch[min(len(lines), len(batch) - 1)])
-        raise Difference(f"call: {culprit}\n  the driver ended with {code} after "
+        raise Difference(f"call: {culprit_of(command, asked)}\n  the driver ended with {code} after "
                          f"{len(lines)} of {len(batch)} results: {errors.strip()}")
 
 
@@ -128,8 +134,9 @@ def main():
     print(f"compare: seed {seed}")
     every_call = ([read_call(chosen.case)] if chosen.case
                   else itertools.chain(fixed_calls(), calls(seed, chosen.count)))
+    command = [*VALGRIND, chosen.driver, "--exact"] if chosen.valgrind else [chosen.driver]
     try:
-        compare_all(VALGRIND * chosen.valgrind + [chosen.driver], every_call, seen)
+        compare_all(command, every_call, seen)
     except Difference as difference:
         print(difference)
         print(f"compare: {compared(seen)} passed, 1 failed (seed {seed})")

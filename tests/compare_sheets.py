@@ -4,8 +4,10 @@ usage: compare_sheets.py SHEET [--count N] [--seed S] [--case FILE]
 
 Each sheet is one process. Everything it prints up to its low lines must equal
 the model's text byte for byte; the low lines, whose order is free, are
-compared as a multiset and must come last. The first difference is shown, and
-its sheet is kept in a file, which --case runs again.
+compared as a multiset and must come last. It must end with status 0 and write
+nothing to standard error. The first difference is shown, and its sheet is kept
+in a file, which --case runs again. From 2,000 sheets on, every number that a
+sheet can show, and every place of number 10, must have come up.
 """
 
 import argparse
@@ -29,13 +31,18 @@ SECONDS = 60
 JOBS = 4
 SHOWN = 400               # bytes of each text that a difference shows
 LOW = b"low="
+ENOUGH = 2_000            # sheets from which each of these must have come up
+REACHABLE = {"answers", *(f"number {number}" for number in range(2, 9)),
+             *(f"number 10,{place}" for place in range(7))}
 
 
 def run_sheet(program, data):
-    """What the program prints, with a word of its own where a signal ended it."""
+    """What the program prints, with words of its own where it ended badly or complained."""
     run = subprocess.run([program], input=data, capture_output=True, timeout=SECONDS,
                          check=False)
-    return run.stdout if run.returncode >= 0 else run.stdout + b"ended by a signal\n"
+    if run.returncode != 0 or run.stderr:
+        return run.stdout + b"status %d, standard error: %b\n" % (run.returncode, run.stderr)
+    return run.stdout
 
 
 def low_apart(text):
@@ -94,6 +101,12 @@ def print_summary(seen, seconds):
     print(f"  {sum(seen.values()) / seconds:.0f} sheets a second")
 
 
+def missing_replies(seen):
+    """What a sheet can show and none showed; 10 counts by its place, the others by their number."""
+    shown = set(seen) | {reply.partition(",")[0] for reply in seen}
+    return sorted(REACHABLE - shown)
+
+
 def arguments():
     parser = argparse.ArgumentParser(description="compare the sheet program with the model")
     parser.add_argument("program")
@@ -118,8 +131,12 @@ def main():
         print(f"compare_sheets: {sum(seen.values())} passed, 1 failed (seed {seed})")
         return 1
     print_summary(seen, time.monotonic() - start)
-    print(f"compare_sheets: {sum(seen.values())} passed, 0 failed")
-    return 0
+    total = sum(seen.values())
+    missing = missing_replies(seen) if total >= ENOUGH else []
+    if missing:
+        print(f"compare_sheets: never seen: {', '.join(missing)}")
+    print(f"compare_sheets: {total} passed, {len(missing)} failed")
+    return 1 if missing else 0
 
 
 if __name__ == "__main__":

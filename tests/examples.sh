@@ -12,14 +12,19 @@ same() {
 }
 
 for input in examples/*.sheet; do
-    same "$input" <("$sheet" <"$input") "${input%.sheet}.out"
+    kept=${input%.sheet}.out
+    [ -s "$kept" ] || { printf 'missing: %s\n' "$kept"; failed=1; continue; }
+    same "$input" <("$sheet" <"$input") "$kept"
+done
+for kept in examples/*.out; do
+    [ -s "${kept%.out}.sheet" ] || { printf 'a printout without its sheet: %s\n' "$kept"; failed=1; }
 done
 values=$(sed -n 's/^v=//p' examples/w1.out)
 [ "$("$from_c")" = "$values" ] || { echo 'differs: examples/curve.c'; failed=1; }
 [ "$("$from_rust")" = "$values" ] || { echo 'differs: examples/curve.rs'; failed=1; }
 same docs/growth.svg <(python3 tools/plot examples/growth.sheet examples/growth.out) docs/growth.svg
 while IFS= read -r line; do
-    grep -qF -- "    $line" README.md || { printf 'not in the README: %s\n' "$line"; failed=1; }
+    grep -qxF -- "    $line" README.md || { printf 'not in the README: %s\n' "$line"; failed=1; }
 done <examples/w1.out
 for line in $(grep -oE '`[nwv]=[^`]+`' README.md | tr -d '`'); do
     grep -qxF -- "$line" examples/growth.out || { printf 'in the README, but not printed: %s\n' "$line"; failed=1; }

@@ -2,8 +2,10 @@
  *
  * Standard input holds one call a line, standard output gets one result a
  * line; tests/reference/protocol.py says what both look like. Each list and
- * each lent buffer lies between guard cells, and a call that touches a guard
- * or a list that is not lent adds a word that no right result has. */
+ * each lent buffer lies between guard cells, and a call that writes to a guard
+ * or to a list that is not lent adds a word that no right result has. With the
+ * argument --exact there are no guards: each block is as long as what it holds,
+ * so that a checker of memory sees a read or write outside. */
 
 #define _POSIX_C_SOURCE 200809L
 
@@ -16,6 +18,8 @@
 #include "walzhik.h"
 
 enum { CELLS = 5184, GUARDS = 64, DECIMAL = 10 };
+
+static size_t guards = GUARDS;
 
 static const uint64_t GUARD = UINT64_C(0x5A17C0DE0B5E55ED);
 
@@ -50,7 +54,7 @@ static void give_up(const char *why, const char *text)
 
 static void *block_of(size_t length, size_t cell_size)
 {
-    void *block = malloc((length + 2 * GUARDS) * cell_size);
+    void *block = malloc((length + 2 * guards) * cell_size);
     if (block == NULL)
         give_up("out of memory", "");
     return block;
@@ -61,32 +65,32 @@ static int64_t wide_guard(size_t i) { return (int64_t)(GUARD + i); }
 
 static void set_narrow_guards(int32_t *block, size_t length)
 {
-    for (size_t i = 0; i < GUARDS; i++) {
+    for (size_t i = 0; i < guards; i++) {
         block[i] = narrow_guard(i);
-        block[GUARDS + length + i] = narrow_guard(i);
+        block[guards + length + i] = narrow_guard(i);
     }
 }
 
 static bool narrow_guards_hold(const int32_t *block, size_t length)
 {
-    for (size_t i = 0; i < GUARDS; i++)
-        if (block[i] != narrow_guard(i) || block[GUARDS + length + i] != narrow_guard(i))
+    for (size_t i = 0; i < guards; i++)
+        if (block[i] != narrow_guard(i) || block[guards + length + i] != narrow_guard(i))
             return false;
     return true;
 }
 
 static void set_wide_guards(int64_t *block, size_t length)
 {
-    for (size_t i = 0; i < GUARDS; i++) {
+    for (size_t i = 0; i < guards; i++) {
         block[i] = wide_guard(i);
-        block[GUARDS + length + i] = wide_guard(i);
+        block[guards + length + i] = wide_guard(i);
     }
 }
 
 static bool wide_guards_hold(const int64_t *block, size_t length)
 {
-    for (size_t i = 0; i < GUARDS; i++)
-        if (block[i] != wide_guard(i) || block[GUARDS + length + i] != wide_guard(i))
+    for (size_t i = 0; i < guards; i++)
+        if (block[i] != wide_guard(i) || block[guards + length + i] != wide_guard(i))
             return false;
     return true;
 }
@@ -134,11 +138,11 @@ static list read_list(const char **line, const char *name)
         long long number = read_number(line);
         if (number < INT32_MIN || number > INT32_MAX)
             give_up("not a 32-bit number in", name);
-        read.block[GUARDS + i] = (int32_t)number;
+        read.block[guards + i] = (int32_t)number;
         if (**line == ',')
             ++*line;
     }
-    memcpy(read.expected, read.block + GUARDS, length * sizeof(int32_t));
+    memcpy(read.expected, read.block + guards, length * sizeof(int32_t));
     return read;
 }
 
@@ -166,7 +170,7 @@ static wide_buffer read_wide(const char **line, const char *name)
     lent.block = block_of(lent.length, sizeof(int64_t));
     set_wide_guards(lent.block, lent.length);
     for (size_t i = 0; i < lent.length; i++)
-        lent.block[GUARDS + i] = wide_old(&lent, i);
+        lent.block[guards + i] = wide_old(&lent, i);
     return lent;
 }
 
@@ -177,7 +181,7 @@ static narrow_buffer read_narrow(const char **line, const char *name)
     lent.block = block_of(lent.length, sizeof(int32_t));
     set_narrow_guards(lent.block, lent.length);
     for (size_t i = 0; i < lent.length; i++)
-        lent.block[GUARDS + i] = narrow_old(&lent, i);
+        lent.block[guards + i] = narrow_old(&lent, i);
     return lent;
 }
 
@@ -191,7 +195,7 @@ static void print_reply(walzhik_reply reply)
 static bool wide_unchanged(const wide_buffer *lent)
 {
     for (size_t i = 0; i < lent->length; i++)
-        if (lent->block[GUARDS + i] != wide_old(lent, i))
+        if (lent->block[guards + i] != wide_old(lent, i))
             return false;
     return true;
 }
@@ -206,7 +210,7 @@ static void print_wide(const wide_buffer *lent, int64_t blank)
     }
     const char *comma = "";
     for (size_t i = 0; i < lent->length; i++) {
-        int64_t cell = lent->block[GUARDS + i];
+        int64_t cell = lent->block[guards + i];
         if (cell != (i < CELLS ? blank : wide_old(lent, i))) {
             printf("%s%zu:%" PRId64, comma, i, cell);
             comma = ",";
@@ -219,7 +223,7 @@ static void print_narrow(const narrow_buffer *lent)
     printf(" %s=", lent->name);
     const char *comma = "";
     for (size_t i = 0; i < lent->length; i++) {
-        int32_t cell = lent->block[GUARDS + i];
+        int32_t cell = lent->block[guards + i];
         if (cell != narrow_old(lent, i)) {
             printf("%s%zu:%" PRId32, comma, i, cell);
             comma = ",";
@@ -233,7 +237,7 @@ static void print_narrow(const narrow_buffer *lent)
 
 static void end_list(list *read)
 {
-    bool kept = memcmp(read->expected, read->block + GUARDS, read->length * sizeof(int32_t)) == 0;
+    bool kept = memcmp(read->expected, read->block + guards, read->length * sizeof(int32_t)) == 0;
     if (!kept || !narrow_guards_hold(read->block, read->length))
         printf(" broken=%s", read->name);
     free(read->block);
@@ -264,11 +268,11 @@ static void run_build(const char *line)
     wide_buffer num = read_wide(&line, "num");
     wide_buffer den = read_wide(&line, "den");
 
-    print_reply(walzhik_build(breaks.block + GUARDS, breaks.length,
-                              degrees.block + GUARDS, degrees.length,
-                              orders.block + GUARDS, orders.length,
-                              num.block + GUARDS, num.length,
-                              den.block + GUARDS, den.length));
+    print_reply(walzhik_build(breaks.block + guards, breaks.length,
+                              degrees.block + guards, degrees.length,
+                              orders.block + guards, orders.length,
+                              num.block + guards, num.length,
+                              den.block + guards, den.length));
     print_wide(&num, 0);
     print_wide(&den, 1);
 
@@ -290,14 +294,14 @@ static void run_curve(const char *line)
     wide_buffer den = read_wide(&line, "den");
     narrow_buffer values = read_narrow(&line, "values");
 
-    print_reply(walzhik_curve(breaks.block + GUARDS, breaks.length,
-                              degrees.block + GUARDS, degrees.length,
-                              orders.block + GUARDS, orders.length,
-                              coefs.block + GUARDS, coefs.length,
-                              positions.block + GUARDS, positions.length,
-                              num.block + GUARDS, num.length,
-                              den.block + GUARDS, den.length,
-                              values.block + GUARDS, values.length));
+    print_reply(walzhik_curve(breaks.block + guards, breaks.length,
+                              degrees.block + guards, degrees.length,
+                              orders.block + guards, orders.length,
+                              coefs.block + guards, coefs.length,
+                              positions.block + guards, positions.length,
+                              num.block + guards, num.length,
+                              den.block + guards, den.length,
+                              values.block + guards, values.length));
     print_wide(&num, 0);
     print_wide(&den, 1);
     print_narrow(&values);
@@ -325,8 +329,10 @@ static void run_line(const char *line)
     fflush(stdout);
 }
 
-int main(void)
+int main(int count, char **words)
 {
+    if (count > 1 && strcmp(words[1], "--exact") == 0)
+        guards = 0;
     char *line = NULL;
     size_t room = 0;
     while (getline(&line, &room, stdin) > 0)

@@ -1,0 +1,49 @@
+/* Not the engine: calls that read one cell outside what they are lent, so that
+ * tests/outside.sh can show that such a read is seen. The environment names
+ * the argument, numbered from 0 in the order of the header, and the side. */
+
+#include <stdlib.h>
+#include <string.h>
+
+#include "walzhik.h"
+
+/* Reads the cell after argument `at` where the side is "after", before it where it is "before". */
+static void look_outside(int at, const volatile void *block, size_t length, size_t cell_size)
+{
+    const char *argument = getenv("OUTSIDE_ARGUMENT"), *side = getenv("OUTSIDE_SIDE");
+    if (argument == NULL || side == NULL || atoi(argument) != at)
+        return;
+    const volatile unsigned char *bytes = block;
+    if (strcmp(side, "after") == 0)
+        (void)bytes[length * cell_size];
+    if (strcmp(side, "before") == 0)
+        (void)*(bytes - 1);
+}
+
+walzhik_reply walzhik_build(const int32_t *breaks, size_t breaks_len, const int32_t *degrees, size_t degrees_len,
+                            const int32_t *orders, size_t orders_len, int64_t *num, size_t num_len, int64_t *den,
+                            size_t den_len)
+{
+    look_outside(0, breaks, breaks_len, sizeof *breaks);
+    look_outside(1, degrees, degrees_len, sizeof *degrees);
+    look_outside(2, orders, orders_len, sizeof *orders);
+    look_outside(3, num, num_len, sizeof *num);
+    look_outside(4, den, den_len, sizeof *den);
+    return (walzhik_reply){0, 0, 0};
+}
+
+walzhik_reply walzhik_curve(const int32_t *breaks, size_t breaks_len, const int32_t *degrees, size_t degrees_len,
+                            const int32_t *orders, size_t orders_len, const int32_t *coefs, size_t coefs_len,
+                            const int32_t *positions, size_t positions_len, int64_t *num, size_t num_len, int64_t *den,
+                            size_t den_len, int32_t *values, size_t values_len)
+{
+    look_outside(0, breaks, breaks_len, sizeof *breaks);
+    look_outside(1, degrees, degrees_len, sizeof *degrees);
+    look_outside(2, orders, orders_len, sizeof *orders);
+    look_outside(3, coefs, coefs_len, sizeof *coefs);
+    look_outside(4, positions, positions_len, sizeof *positions);
+    look_outside(5, num, num_len, sizeof *num);
+    look_outside(6, den, den_len, sizeof *den);
+    look_outside(7, values, values_len, sizeof *values);
+    return (walzhik_reply){0, 0, 0};
+}

@@ -1,0 +1,91 @@
+/* Measures the stack that each call of the engine needs, and fails where a call
+ * needs more than docs/DECISIONS.md says.
+ *
+ * A call runs on a thread whose stack is painted before and searched after it,
+ * on the space that goes deepest: twelve segments of degree 5 and order 2, with
+ * the most positions a call takes. What the thread itself needs is taken off,
+ * by a first run that calls nothing. */
+
+#define _GNU_SOURCE
+
+#include <pthread.h>
+#include <stdio.h>
+#include <stdlib.h>
+#include <string.h>
+
+#include "walzhik.h"
+
+enum { SEGMENTS = 12, COLUMNS = 72, POSITIONS = 4096, STACK = 1 << 20, PAINT = 0xA5 };
+
+/* The most bytes that a call may need. */
+enum { BUILD_LIMIT = 16384, CURVE_LIMIT = 16384 };
+
+static int32_t breaks[SEGMENTS + 1], degrees[SEGMENTS], orders[SEGMENTS - 1];
+static int32_t coefs[COLUMNS], positions[POSITIONS], values[POSITIONS];
+static int64_t num[WALZHIK_CELLS], den[WALZHIK_CELLS];
+static walzhik_reply reply;
+
+static void make_space(void)
+{
+    for (int i = 0; i <= SEGMENTS; i++)
+        breaks[i] = i;
+    for (int i = 0; i < SEGMENTS; i++)
+        degrees[i] = 5;
+    for (int i = 0; i < SEGMENTS - 1; i++)
+        orders[i] = 2;
+    for (int i = 0; i < POSITIONS; i++)
+        positions[i] = i % (256 * SEGMENTS + 1);
+}
+
+static void *nothing(void *unused) { return unused; }
+
+static void *build(void *unused)
+{
+    reply = walzhik_build(breaks, SEGMENTS + 1, degrees, SEGMENTS, orders, SEGMENTS - 1, num, WALZHIK_CELLS, den,
+                          WALZHIK_CELLS);
+    return unused;
+}
+
+static void *curve(void *unused)
+{
+    size_t rows = 6 * SEGMENTS - 3 * (SEGMENTS - 1);
+    reply = walzhik_curve(breaks, SEGMENTS + 1, degrees, SEGMENTS, orders, SEGMENTS - 1, coefs, rows, positions, POSITIONS,
+                          num, WALZHIK_CELLS, den, WALZHIK_CELLS, values, POSITIONS);
+    return unused;
+}
+
+/* The bytes of a painted stack that a thread running `work` changed. */
+static size_t used_by(void *(*work)(void *))
+{
+    unsigned char *stack = aligned_alloc(4096, STACK);
+    pthread_attr_t attributes;
+    pthread_t thread;
+    if (stack == NULL)
+        abort();
+    memset(stack, PAINT, STACK);
+    if (pthread_attr_init(&attributes) != 0 || pthread_attr_setstack(&attributes, stack, STACK) != 0 ||
+        pthread_create(&thread, &attributes, work, NULL) != 0 || pthread_join(thread, NULL) != 0)
+        abort();
+    size_t untouched = 0;
+    while (untouched < STACK && stack[untouched] == PAINT)
+        untouched++;
+    free(stack);
+    return STACK - untouched;
+}
+
+static int measured(const char *name, void *(*work)(void *), size_t limit)
+{
+    size_t bytes = used_by(work) - used_by(nothing);
+    printf("  %-6s %6zu bytes of stack, at most %zu\n", name, bytes, limit);
+    if (reply.number != 0 || bytes > limit) {
+        printf("FAILED: %s (number %u)\n", name, (unsigned)reply.number);
+        return 1;
+    }
+    return 0;
+}
+
+int main(void)
+{
+    make_space();
+    return measured("build", build, BUILD_LIMIT) | measured("curve", curve, CURVE_LIMIT);
+}
