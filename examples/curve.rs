@@ -45,7 +45,7 @@ mod walzhik {
             (3, at) => Refusal::Breakpoint(at),
             (4, at) => Refusal::Degree(at),
             (5, at) => Refusal::Order(at),
-            (6, 255) => Refusal::CoefficientCount,
+            (6, u32::MAX) => Refusal::CoefficientCount,
             (6, at) => Refusal::Coefficient(at),
             (7, at) => Refusal::Position(at),
             (8, join) => Refusal::TooLarge { join },
@@ -59,7 +59,8 @@ mod walzhik {
         let mut num = vec![0i64; CELLS];
         let mut den = vec![0i64; CELLS];
         let mut values = vec![0i32; positions.len()];
-        // SAFETY: every pointer comes from a live slice with the length given beside it, and the call keeps none of them.
+        // SAFETY: every pointer comes from a live slice with the length given beside it, the three buffers are vectors of their
+        // own, so that none overlaps another or a list, and the call keeps no pointer.
         let reply = unsafe {
             walzhik_curve(
                 breaks.as_ptr(), breaks.len(), degrees.as_ptr(), degrees.len(), orders.as_ptr(), orders.len(),

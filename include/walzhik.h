@@ -2,7 +2,9 @@
  *
  * The static library libwalzhik.a has two calls. Lists and buffers may have any length and any content: a call always
  * returns, reads and writes only what it is lent, and answers or refuses with a number and a place. A list or buffer of
- * length 0 still needs a valid (non-null, aligned) pointer.
+ * length 0 still needs a valid (non-null, aligned) pointer. In every call the lent buffers must lie apart from each other and
+ * from the lists: no call can see that they overlap, and nothing is promised where they do. A call needs at most 16,384
+ * bytes of stack, and keeps nothing from one call to the next.
  *
  * A space has m segments, 1 to 12:
  *   breaks   m + 1 breakpoints in rings, strictly rising, each from -10000 to 10000, over a span of at most 2000
@@ -18,14 +20,14 @@
  * values     at least one cell for each position: the curve in 256ths of a thousandth of a millimetre, in list order.
  *            Cells past the positions' count keep what they held.
  *
- * Numbers of a refusal, tested in this order (8 and 9 as the build meets them), with their places (255 stands for
- * anything larger):
+ * Numbers of a refusal, tested in this order (8 and 9 as the build meets them), with their places
+ * (WALZHIK_LARGEST_PLACE also stands for anything larger):
  *   1  a buffer is too short: num (0), den (1), values (2)
  *   2  the list lengths don't fit one m from 1 to 12 (0); over 4096 positions (1)
  *   3  breakpoint: out of range or not above the one before; then, place m, a span over 2000
  *   4  segment: degree out of range
  *   5  join: order out of range
- *   6  entry: coefficient out of range; place 255, tested first: the count is not n
+ *   6  entry: coefficient out of range; WALZHIK_LARGEST_PLACE, tested first: the count is not n
  *   7  entry: position outside the span
  *   8  join: a counted fraction has a numerator's size or a denominator of 2^31 or more
  *   9  join: the jumps lack the needed shape
@@ -43,6 +45,7 @@ extern "C" {
 #endif
 
 #define WALZHIK_CELLS 5184
+#define WALZHIK_LARGEST_PLACE UINT32_C(4294967295)
 
 /* An answer: number 0, place 0, and the count of rows (build) or of values written (curve). A refusal: count 0. */
 typedef struct {

@@ -31,7 +31,9 @@ BATCH = 1_000             # calls given to one run of the driver
 BATCH_SECONDS = 300
 VALGRIND = ["valgrind", "--quiet", "--error-exitcode=9"]
 REACHABLE = range(9)      # numbers that a call on random lists must show
+FAR = range(2 ** 8, 2 ** 32 - 1)  # places that need more than a byte; one must come up too
 ENOUGH = 2_000            # calls from which each of them must have come up
+SUMS = ("values", "far places")   # what is counted beside the calls
 BEFORE, AFTER = 40, 80    # characters shown around a difference
 
 
@@ -86,6 +88,7 @@ def compare_batch(command, batch, seen):
         outcome = call.outcome()
         check_line(call, outcome, line)
         seen["values"] += check_closeness(call, outcome, line)
+        seen["far places"] += outcome.reply.place in FAR
         seen[call.kind, outcome.reply.number] += 1
     if code != 0 or len(lines) != len(batch):
         raise Difference(f"call: {culprit_of(command, asked)}\n  the driver ended with {code} after "
@@ -99,21 +102,23 @@ def compare_all(command, every_call, seen):
 
 
 def print_summary(seen, seconds):
-    for number in sorted({key[1] for key in seen if key != "values"}):
+    for number in sorted({key[1] for key in seen if key not in SUMS}):
         name = f"number {number}" if number else "answers"
         print(f"  {name:9} build {seen['build', number]:6}  curve {seen['curve', number]:6}")
     total = compared(seen)
+    print(f"  {seen['far places']} places of more than a byte")
     print(f"  {seen['values']} values held against the exact curve")
     print(f"  {total / seconds:.0f} calls a second")
 
 
 def compared(seen):
-    return sum(count for key, count in seen.items() if key != "values")
+    return sum(count for key, count in seen.items() if key not in SUMS)
 
 
 def missing_numbers(seen):
-    return [number for number in REACHABLE
-            if not seen["build", number] + seen["curve", number]]
+    missing = [number for number in REACHABLE
+               if not seen["build", number] + seen["curve", number]]
+    return missing if seen["far places"] else [*missing, "a place of more than a byte"]
 
 
 def arguments():

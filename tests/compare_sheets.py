@@ -32,6 +32,7 @@ JOBS = 4
 SHOWN = 400               # bytes of each text that a difference shows
 LOW = b"low="
 ENOUGH = 2_000            # sheets from which each of these must have come up
+FAR = range(2 ** 8, 2 ** 32 - 1)  # places that need more than a byte
 REACHABLE = {"answers", *(f"number {number}" for number in range(2, 9)),
              *(f"number 10,{place}" for place in range(7))}
 
@@ -104,7 +105,8 @@ def print_summary(seen, seconds):
 def missing_replies(seen):
     """What a sheet can show and none showed; 10 counts by its place, the others by their number."""
     shown = set(seen) | {reply.partition(",")[0] for reply in seen}
-    return sorted(REACHABLE - shown)
+    far = any(int(reply.partition(",")[2] or 0) in FAR for reply in seen)
+    return sorted(REACHABLE - shown) + ["a place of more than a byte"] * (not far)
 
 
 def arguments():

@@ -7,7 +7,7 @@ stated facts stand here, none that the model worked out.
 from fractions import Fraction
 from typing import NamedTuple
 
-from limits import CELLS
+from limits import CELLS, LARGEST_PLACE
 from protocol import Call, Lent
 
 
@@ -54,7 +54,7 @@ CASES = [
     Case("W8 accepted", [0, 1, 2], [1, 2], [0]),
     Case("W8 refused", [0, 1, 2], [1, 2], [1], number=5, place=0),
     Case("W9", [0, 1, 2], [1, 1], [-1], [0, 10, 20, 30], [256], values={256: 5120}),
-    Case("W10 count", *W1_SPACE, [0, 100, 0], [256, 512], number=6, place=255),
+    Case("W10 count", *W1_SPACE, [0, 100, 0], [256, 512], number=6, place=LARGEST_PLACE),
     Case("W10 outside", *W1_SPACE, [0, 100, 0, 0], [769], number=7, place=0),
     Case("W10 end", *W1_SPACE, [0, 100, 0, 0], [768], rows=4, weights=W1_WEIGHTS),
 ]

@@ -20,7 +20,7 @@ MOST_POSITIONS = 4_096
 UNIT = 256                   # positions are 256ths of a ring, values 256ths too
 
 SIZE_LIMIT = 2 ** 31         # counted numerators and denominators stay below
-LARGEST_PLACE = 255          # stands for every larger place too
+LARGEST_PLACE = 2 ** 32 - 1  # stands for every larger place too
 
 MOST_SHEET_BYTES = 65_536
 MOST_LIST_ENTRIES = 4_096    # of one line of a sheet

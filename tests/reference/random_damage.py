@@ -113,10 +113,10 @@ def bad_coefficient(rng, call):
 
 
 def bad_position(rng, call):
-    """A position outside the span; the place is past 255 now and then."""
+    """A position outside the span; now and then far down a long list."""
     positions = call.positions or [UNIT * call.breaks[0]]
-    if rng.random() < 0.15:
-        positions = (positions * MANY)[:MANY]
+    if rng.random() < 0.3:
+        positions = (positions * MOST_POSITIONS)[:rng.choice((MANY, MOST_POSITIONS))]
     entry = rng.choice((UNIT * call.breaks[0] - 1, UNIT * call.breaks[-1] + 1,
                         UNIT * call.breaks[-1] + UNIT, rng.choice(EXTREMES)))
     lent = call.values._replace(length=max(call.values.length, len(positions)))

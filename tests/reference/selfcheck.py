@@ -16,7 +16,7 @@ from random import SystemRandom
 from cases import (CASES, SIZE_CASES, W1_PRINTOUT, W1_SHEET, W3_PLAIN_SUM, case_call,
                    case_sheet, stated_lines)
 from generate import calls
-from limits import CELLS, MOST_LIST_ENTRIES, MOST_SHEET_BYTES, SIDE, UNIT
+from limits import CELLS, LARGEST_PLACE, MOST_LIST_ENTRIES, MOST_SHEET_BYTES, SIDE, UNIT
 from protocol import (SAME, VALUE_BITS, WEIGHT_BITS, call_line, listed_cells, read_call,
                       result_line)
 from random_sheets import padded
@@ -108,7 +108,7 @@ def check_sheet_text(tally):
         tally.check(sheet(text) == b"no=10,%d\n" % place, "sheet", text[:60], place)
     full = padded(lines, MOST_SHEET_BYTES)
     tally.check(len(full) == MOST_SHEET_BYTES, "full sheet")
-    tally.check(sheet(full) == b"no=6,255\n", "full sheet is read")
+    tally.check(sheet(full) == b"no=6,%d\n" % LARGEST_PLACE, "full sheet is read")
     tally.check(sheet(long_line(MOST_LIST_ENTRIES)).startswith(b"n=4\n"), "longest list")
 
 

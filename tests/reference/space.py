@@ -17,7 +17,7 @@ BAD_COEFFICIENT, BAD_POSITION, TOO_LARGE, BAD_JUMPS, BAD_TEXT = 6, 7, 8, 9, 10
 
 
 class Refusal(Exception):
-    """A number and its place; a place is one byte."""
+    """A number and its place; a place has 32 bits."""
 
     def __init__(self, number, place):
         super().__init__(number, place)

@@ -10,7 +10,7 @@ mod reading;
 // What the curve call answers: the number of values written, or a refusal's number and place.
 pub enum Answer {
     Values(usize),
-    Refused(u8, u8),
+    Refused(u8, u32),
 }
 
 // Builds the weights and writes the value at each position, in list order. Lists and buffers may have any length and

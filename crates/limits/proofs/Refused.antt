@@ -25,7 +25,7 @@ use Rattle.limits.specs.Limits.{coefficientsChecked, outside, positionsC
 -- ---- number 6
 
 module _ (s : Space) (coefs : List ℤ) where
-  pub coefficients-count : (length coefs ≡ rowCount s → ⊥) → coefficientsChecked s coefs ≡ refusal 6 255
+  pub coefficients-count : (length coefs ≡ rowCount s → ⊥) → coefficientsChecked s coefs ≡ refusal 6 largestPlace
   unfolding coefficientsChecked capped
   coefficients-count h = cond-false _ _ (ne-eqb _ _ h)
 

@@ -6,7 +6,7 @@ ghost use lib.IntN.{pos};
 ghost use lib.ListN.{length, getD};
 ghost use Rattle.space.specs.Reply.{space, found, legality};
 ghost use Rattle.space.specs.Legal.{BreaksLegal, JoinsLegal, ListsLegal};
-ghost use Rattle.spline.specs.Outcome.{answer, capped};
+ghost use Rattle.spline.specs.Outcome.{answer};
 ghost use Rattle.spline.specs.Search;
 ghost use Rattle.spline.specs.Reading.{fine};
 ghost use Rattle.spline.specs.CurveCall.{badCoefficient, legalEntries, curveChecked};
@@ -17,18 +17,6 @@ use space::Legality;
 const MAX_POSITIONS: usize = 4096;
 
 const COEFFICIENT_LIMIT: i32 = 1000000;
-
-const NO_PLACE: usize = 255;
-
-// A place is one byte; the largest also stands for anything larger.
-fn place(i: usize) -> u8
-    ensures { λ r. ⌜ r ≡ capped i ⌝ }
-{
-    if i < NO_PLACE {
-        return i as u8;
-    }
-    255
-}
 
 fn coefficient_is_bad(coefs: &[i32], i: usize) -> bool
     requires { ⌜ i < length (now coefs) ⌝ }
@@ -87,11 +75,11 @@ fn check_coefficients(degrees: &[i32], orders: &[i32], coefs: &[i32]) -> Legalit
 {
     let n = space::row_count(degrees, orders);
     if coefs.len() != n {
-        return Legality::Refused(6, 255);
+        return Legality::Refused(6, space::LARGEST_PLACE);
     }
     let bad = first_bad_coefficient(coefs);
     match bad {
-        Found::At(i) => Legality::Refused(6, place(i)),
+        Found::At(i) => Legality::Refused(6, space::place(i)),
         Found::Nothing => Legality::Legal,
     }
 }
@@ -105,7 +93,7 @@ fn check_positions(breaks: &[i32], m: usize, positions: &[i32]) -> Legality
     let high = 256 * breaks[m];
     let bad = first_bad_position(positions, low, high);
     match bad {
-        Found::At(i) => Legality::Refused(7, place(i)),
+        Found::At(i) => Legality::Refused(7, space::place(i)),
         Found::Nothing => Legality::Legal,
     }
 }

@@ -249,7 +249,7 @@ pub fn answer(
 }
 
 // The printout of a refusal: no=number,place
-pub fn refusal(number: u8, place: u8, out: &mut [u8]) -> usize
+pub fn refusal(number: u8, place: u32, out: &mut [u8]) -> usize
     ensures { λ r. ⌜ r ≡ length (refusalLine number place) ⌝ }
     ensures { λ r. ⌜ now (out .exit) ≡ written 0 (refusalLine number place) (now (out .entry)) ⌝ }
     ensures { λ r. ⌜ r ≤ printoutLimit ⌝ }

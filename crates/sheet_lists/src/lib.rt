@@ -17,7 +17,7 @@ const LIST_LIMIT: usize = 4096;
 // The number of entries of the five lists, or the place of number 10.
 pub enum Lists {
     Read(usize, usize, usize, usize, usize),
-    Refused(u8),
+    Refused(u32),
 }
 
 // How many numbers a list has, if it is one.
@@ -35,7 +35,7 @@ enum LineSpan {
 // Where the five lists begin and end, or the place of number 10.
 enum Places {
     Lists(usize, usize, usize, usize, usize, usize, usize, usize, usize, usize),
-    Refused(u8),
+    Refused(u32),
 }
 
 // Looks through a list.

@@ -22,8 +22,8 @@ use Rattle.space.proofs.Partial.{bad-break-partial, bad-degree-partial,
 -- ---- one refusal
 
 module _ {A : Type 0} (number : ℕ) where
-  refuse-at : {o : Option ℕ} {i : ℕ} (rest : Outcome A) → o ≡ some i → i ≤ 255 → refuseFirst number o rest ≡ refusal number i
-  refuse-at {i = i} rest e h = ap (λ q. refuseFirst number q rest) e ∙ ap (refusal number) (capped-small i h)
+  refuse-at : {o : Option ℕ} {i : ℕ} (rest : Outcome A) → o ≡ some i → refuseFirst number o rest ≡ refuse number i
+  refuse-at rest e = ap (λ q. refuseFirst number q rest) e
 
   refuse-none : {o : Option ℕ} (rest : Outcome A) → o ≡ none → refuseFirst number o rest ≡ rest
   refuse-none rest e = ap (λ q. refuseFirst number q rest) e
@@ -35,13 +35,13 @@ module _ (breaks : List ℤ) (m : ℕ) where
   abbrev pub tooLong : Bool
   tooLong = ltZ (pos 2000) (getD breaks m (pos 0) -ℤ getD breaks 0 (pos 0))
 
-  pub breaks-refused : {i : ℕ} → first (m + 1) (badBreak (space breaks [] [])) ≡ some i → i ≤ 255 → breaksChecked breaks m ≡ refusal 3 i
+  pub breaks-refused : {i : ℕ} → first (m + 1) (badBreak (space breaks [] [])) ≡ some i → breaksChecked breaks m ≡ refuse 3 i
   unfolding breaksChecked
-  breaks-refused e h = refuse-at 3 (cond tooLong (refuse 3 m) (answer tt)) e h
+  breaks-refused e = refuse-at 3 (cond tooLong (refuse 3 m) (answer tt)) e
 
-  pub span-refused : first (m + 1) (badBreak (space breaks [] [])) ≡ none → m ≤ 255 → tooLong ≡ true → breaksChecked breaks m ≡ refusal 3 m
+  pub span-refused : first (m + 1) (badBreak (space breaks [] [])) ≡ none → tooLong ≡ true → breaksChecked breaks m ≡ refuse 3 m
   unfolding breaksChecked
-  span-refused e h t = refuse-none 3 (cond tooLong (refuse 3 m) (answer tt)) e ∙ ap (λ c. cond c (refuse 3 m) (answer tt)) t ∙ ap (refusal 3) (capped-small m h)
+  span-refused e t = refuse-none 3 (cond tooLong (refuse 3 m) (answer tt)) e ∙ ap (λ c. cond c (refuse 3 m) (answer tt)) t
 
   pub breaks-pass : first (m + 1) (badBreak (space breaks [] [])) ≡ none → tooLong ≡ false → breaksChecked breaks m ≡ answer tt
   unfolding breaksChecked
@@ -50,18 +50,18 @@ module _ (breaks : List ℤ) (m : ℕ) where
 -- ---- numbers 4 and 5
 
 module _ (degrees : List ℤ) where
-  pub degrees-refused : {i : ℕ} → first (length degrees) (badDegree (space [] degrees [])) ≡ some i → i ≤ 255 → degreesChecked degrees ≡ refusal 4 i
+  pub degrees-refused : {i : ℕ} → first (length degrees) (badDegree (space [] degrees [])) ≡ some i → degreesChecked degrees ≡ refuse 4 i
   unfolding degreesChecked
-  degrees-refused e h = refuse-at 4 (answer tt) e h
+  degrees-refused e = refuse-at 4 (answer tt) e
 
   pub degrees-pass : first (length degrees) (badDegree (space [] degrees [])) ≡ none → degreesChecked degrees ≡ answer tt
   unfolding degreesChecked
   degrees-pass e = refuse-none 4 (answer tt) e
 
 module _ (degrees orders : List ℤ) where
-  pub orders-refused : {i : ℕ} → first (length orders) (badOrder (space [] degrees orders)) ≡ some i → i ≤ 255 → ordersChecked degrees orders ≡ refusal 5 i
+  pub orders-refused : {i : ℕ} → first (length orders) (badOrder (space [] degrees orders)) ≡ some i → ordersChecked degrees orders ≡ refuse 5 i
   unfolding ordersChecked
-  orders-refused e h = refuse-at 5 (answer tt) e h
+  orders-refused e = refuse-at 5 (answer tt) e
 
   pub orders-pass : first (length orders) (badOrder (space [] degrees orders)) ≡ none → ordersChecked degrees orders ≡ answer tt
   unfolding ordersChecked

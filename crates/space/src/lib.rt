@@ -6,6 +6,7 @@ ghost use Prim.Native.Nat.{ℕ, _+_, _<_, _≤_};
 ghost use lib.IntN.{pos, _-ℤ_};
 ghost use lib.ListN.{length, getD};
 ghost use lib.Signed.{ltZ};
+ghost use Rattle.spline.specs.Outcome.{capped};
 ghost use Rattle.spline.specs.Search.{first};
 ghost use Rattle.spline.specs.Space.{segmentLimit, spanLimit, lengthsFit, badBreak, badDegree, badOrder, checked, degree, width, conditionCount, firstColumn, conditionsBefore, rowCount};
 ghost use Rattle.space.specs.Reply.{space, legality, found};
@@ -21,15 +22,28 @@ const MAX_DEGREE: i32 = 5;
 
 const MAX_ORDER: i32 = 2;
 
+// The largest place, which also stands for anything larger.
+pub const LARGEST_PLACE: u32 = 4294967295;
+
 pub enum Legality {
     Legal,
-    Refused(u8, u8),
+    Refused(u8, u32),
 }
 
 // The first entry that breaks a rule, if any does.
 pub enum Found {
     At(usize),
     Nothing,
+}
+
+// The place of an index.
+pub fn place(i: usize) -> u32
+    ensures { λ r. ⌜ r ≡ capped i ⌝ }
+{
+    if i < LARGEST_PLACE as usize {
+        return i as u32;
+    }
+    LARGEST_PLACE
 }
 
 pub fn lengths_fit(breaks: &[i32], degrees: &[i32], orders: &[i32]) -> bool
@@ -161,16 +175,15 @@ fn first_bad_order(degrees: &[i32], orders: &[i32]) -> Found
 
 // Number 3, of m + 1 breakpoints.
 fn check_breaks(breaks: &[i32], m: usize) -> Legality
-    requires { ⌜ (length (now breaks) ≡ m + 1) × (m ≤ segmentLimit) ⌝ }
+    requires { ⌜ length (now breaks) ≡ m + 1 ⌝ }
     ensures { λ r. ⌜ r ≡ legality (breaksChecked (now (breaks .entry)) m) ⌝ }
 {
     let bad = first_bad_break(breaks);
     match bad {
-        Found::At(i) => Legality::Refused(3, i as u8),
+        Found::At(i) => Legality::Refused(3, place(i)),
         Found::Nothing => {
             if span_is_too_long(breaks, m) {
-                let place = m as u8;
-                return Legality::Refused(3, place);
+                return Legality::Refused(3, place(m));
             }
             Legality::Legal
         }
@@ -179,24 +192,23 @@ fn check_breaks(breaks: &[i32], m: usize) -> Legality
 
 // Number 4.
 fn check_degrees(degrees: &[i32]) -> Legality
-    requires { ⌜ length (now degrees) ≤ segmentLimit ⌝ }
     ensures { λ r. ⌜ r ≡ legality (degreesChecked (now (degrees .entry))) ⌝ }
 {
     let bad = first_bad_degree(degrees);
     match bad {
-        Found::At(i) => Legality::Refused(4, i as u8),
+        Found::At(i) => Legality::Refused(4, place(i)),
         Found::Nothing => Legality::Legal,
     }
 }
 
 // Number 5.
 fn check_orders(degrees: &[i32], orders: &[i32]) -> Legality
-    requires { ⌜ (length (now degrees) ≡ length (now orders) + 1) × (length (now degrees) ≤ segmentLimit) ⌝ }
+    requires { ⌜ length (now degrees) ≡ length (now orders) + 1 ⌝ }
     ensures { λ r. ⌜ r ≡ legality (ordersChecked (now (degrees .entry)) (now (orders .entry))) ⌝ }
 {
     let bad = first_bad_order(degrees, orders);
     match bad {
-        Found::At(i) => Legality::Refused(5, i as u8),
+        Found::At(i) => Legality::Refused(5, place(i)),
         Found::Nothing => Legality::Legal,
     }
 }

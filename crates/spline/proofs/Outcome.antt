@@ -10,7 +10,7 @@ use lib.ListN.{length, getD, length-append, List·getD-append}
 use lib.Seq.{getD-at}
 use Rattle.exact.specs.Tabulate.{tab}
 use Rattle.exact.proofs.Tabulate.{tab-snoc}
-use Rattle.spline.specs.Outcome.{Outcome, answer, refusal, capped, _then_, collect, repeat}
+use Rattle.spline.specs.Outcome.{Outcome, answer, refusal, largestPlace, capped, _then_, collect, repeat}
 
 -- ---- one outcome
 
@@ -22,7 +22,7 @@ pub answer-not-refusal : {A : Type 0} {o : Outcome A} {a : A} {number place : �
 answer-not-refusal p q = let z : _≡_ {A = ℕ} 0 1 = cc in omega arith
 
 -- a place that fits a byte stays
-pub capped-small : (n : ℕ) → n ≤ 255 → capped n ≡ n
+pub capped-small : (n : ℕ) → n ≤ largestPlace → capped n ≡ n
 unfolding capped
 capped-small n h = omega arith
 

@@ -138,8 +138,8 @@ cases =
     line (space8 1) building (refusal 5 0) ∷
     -- W9: "coefs 0,10,20,30: at 256, 5120"
     line space9 (reading (pos 0 ∷ pos 10 ∷ pos 20 ∷ pos 30 ∷ []) (pos 256 ∷ [])) (answers 4 weights9 (pos 5120 ∷ [])) ∷
-    -- W10: "three coefficients: 6, place 255"; "the sole position 769: 7, place 0"; "with 768 accepted"
-    line space1 (reading (pos 0 ∷ pos 100 ∷ pos 0 ∷ []) (pos 256 ∷ pos 512 ∷ [])) (refusal 6 255) ∷
+    -- W10: "three coefficients: 6", with place 4,294,967,295; "the sole position 769: 7, place 0"; "with 768 accepted"
+    line space1 (reading (pos 0 ∷ pos 100 ∷ pos 0 ∷ []) (pos 256 ∷ pos 512 ∷ [])) (refusal 6 4294967295) ∷
     line space1 (reading (pos 0 ∷ pos 100 ∷ pos 0 ∷ pos 0 ∷ []) (pos 769 ∷ [])) (refusal 7 0) ∷
     line space1 (reading (pos 0 ∷ pos 100 ∷ pos 0 ∷ pos 0 ∷ []) (pos 768 ∷ [])) (answers 4 weights1 (pos 0 ∷ [])) ∷ []
 

@@ -35,7 +35,7 @@ allLongEnough positions numLength denLength valuesLength rest =
     longEnough numLength denLength
     (cond (ltb valuesLength (length positions)) (refuse 1 2) rest)
 
--- Numbers 6 and 7 of a legal space, "place 255 and tested first: count is not n", or the value given.
+-- Numbers 6 and 7 of a legal space, the largest place "and tested first: count is not n", or the value given.
 abbrev pub legalEntries : {A : Type 0} → Space → List ℤ → List ℤ → Outcome A → Outcome A
 legalEntries s coefs positions rest =
     cond (eqb (length coefs) (rowCount s))

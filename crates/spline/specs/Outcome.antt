@@ -8,9 +8,9 @@ pub data Outcome (A : Type 0) : Type 0 where
   answer : A → Outcome A
   refusal : ℕ → ℕ → Outcome A
 
--- "Place is one byte; 255 also stands for anything larger": the largest place.
+-- A place is an unsigned 32-bit number, and "4,294,967,295 also stands for anything larger": the largest place.
 abbrev pub largestPlace : ℕ
-largestPlace = 255
+largestPlace = 4294967295
 
 -- The place as it is given.
 unfoldable pub capped : ℕ → ℕ

@@ -23,13 +23,13 @@ fn answered(count: usize) -> Reply
     }
 }
 
-fn refused(number: u8, place: u8) -> Reply
+fn refused(number: u8, place: u32) -> Reply
     ensures { λ r. ⌜ (r .count ≡ 0) × ((r .number ≡ number) × (r .place ≡ place)) ⌝ }
 {
     Reply {
         count: 0,
         number: number as u32,
-        place: place as u32,
+        place: place,
     }
 }
 

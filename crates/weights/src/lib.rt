@@ -9,7 +9,7 @@ mod step;
 // What building answers: the row count n, or a refusal's number and place.
 pub enum Built {
     Rows(usize),
-    Refused(u8, u8),
+    Refused(u8, u32),
 }
 
 // Builds the weights of the space with these breakpoints, degrees and orders. Lists and buffers may have any length and

@@ -157,7 +157,7 @@ fn join_steps(
         let n = space::condition_count(orders, j);
         let join = join_at(breaks, degrees, j);
         let refusal = order_steps(num, den, join, n, rows, columns);
-        let place = j as u8;
+        let place = space::place(j);
         match refusal {
             Refusal::None => {
                 rows -= n;

@@ -24,7 +24,7 @@ lengths-fit-requires : tie.Need-lengths-fit-requires
 lengths-fit-requires c κs = search needs
 
 check-breaks-requires : tie.Need-check-breaks-requires
-check-breaks-requires c κs = let h = lengths c in (h .break-count, h .few-segments)
+check-breaks-requires c κs = lengths c .break-count
 
 enum-known-b : tie.Need-enum-known-b
 enum-known-b c = search needs
@@ -33,7 +33,7 @@ enum-told : tie.Need-enum-told
 enum-told c = search needs
 
 check-degrees-requires : tie.Need-check-degrees-requires
-check-degrees-requires c κs = lengths (c .before .before .before) .few-segments
+check-degrees-requires c κs = search needs
 
 enum-known-d : tie.Need-enum-known-d
 enum-known-d c = search needs
@@ -42,7 +42,7 @@ enum-told-2 : tie.Need-enum-told-2
 enum-told-2 c = search needs
 
 check-orders-requires : tie.Need-check-orders-requires
-check-orders-requires c κs = let h = lengths (c .before .before .before .before .before .before) in (sym (h .order-count), h .few-segments)
+check-orders-requires c κs = sym (lengths (c .before .before .before .before .before .before) .order-count)
 
 returns : tie.Need-returns
 returns c = sym (refusal-refused _ (checked-breaks-refused _ _ _ (lengths (c .before .before .before .before)) (refused-refuses _ (sym (c .before .before .before .check-breaks .ensures) ∙ c .before .b .given .1))))

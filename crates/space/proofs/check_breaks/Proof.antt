@@ -4,11 +4,12 @@ use native.Mathlib.Omega.{arith}
 use mathlib.Core.List.{[]}
 use mathlib.Core.Option.{some, none}
 use mathlib.Core.Path.{_≡_, sym, ap, _∙_}
-use Prim.Native.Nat.{ℕ, _+_, _≤_}
+use Prim.Native.Nat.{ℕ, _+_}
 use lib.ListN.{length}
+use Rattle.spline.specs.Outcome.{refusal}
 use Rattle.spline.specs.Search.{first}
 use Rattle.spline.specs.Space.{badBreak}
-use Rattle.spline.proofs.Search.{first-some-inverts, first-none-inverts}
+use Rattle.spline.proofs.Search.{first-none-inverts}
 use Rattle.space.specs.Reply.{space}
 use Rattle.space.proofs.Checks.{breaks-refused, span-refused, breaks-pass}
 use Rattle.space.proofs.Reply.{found-some-inverts, found-none-inverts, answer-legal, refusal-refused}
@@ -17,14 +18,11 @@ use Rattle.space.proofs.check_breaks.Tie as tie
 
 -- the search goes over m + 1 breakpoints
 as-many : (s : tie.Start) → first (s .args .m + 1) (badBreak (space (s .args .breaks .now) [] [])) ≡ first (length (s .args .breaks .now)) (badBreak (space (s .args .breaks .now) [] []))
-as-many s = ap (λ (n : ℕ). first n (badBreak (space (s .args .breaks .now) [] []))) (sym (s .pre .0))
+as-many s = ap (λ (n : ℕ). first n (badBreak (space (s .args .breaks .now) [] []))) (sym (s .pre))
 
 module _ (c : tie.After-bad) where
   found-bad : first (c .before .before .before .args .m + 1) (badBreak (space (c .before .before .before .args .breaks .now) [] [])) ≡ some (c .bad .given .0 .0)
   found-bad = as-many (c .before .before .before) ∙ found-some-inverts _ (sym (c .before .before .first-bad-break .ensures) ∙ c .bad .given .1)
-
-  place-small : c .bad .given .0 .0 ≤ 255
-  place-small = omega (arith, first-some-inverts _ _ found-bad .below)
 
 none-bad : (c : tie.After-enum-told) → first (c .before .before .before .args .m + 1) (badBreak (space (c .before .before .before .args .breaks .now) [] [])) ≡ none
 none-bad c = as-many (c .before .before .before) ∙ found-none-inverts _ (sym (c .before .before .first-bad-break .ensures) ∙ c .enum-told .given .1)
@@ -35,23 +33,27 @@ first-bad-break-requires c κs = search needs
 enum-known-bad : tie.Need-enum-known-bad
 enum-known-bad c = search needs
 
-cast-t7 : tie.Need-cast-t7
-cast-t7 c = omega (arith, place-small (c .before))
+place-requires : tie.Need-place-requires
+place-requires c κs = search needs
 
 enum-told : tie.Need-enum-told
 enum-told c = search needs
 
 span-is-too-long-requires : tie.Need-span-is-too-long-requires
-span-is-too-long-requires c κs = (c .before .before .before .pre .0, λ i h. first-none-inverts _ _ (none-bad c) i (omega arith))
+span-is-too-long-requires c κs = (c .before .before .before .pre, λ i h. first-none-inverts _ _ (none-bad c) i (omega arith))
 
-cast-place : tie.Need-cast-place
-cast-place c = search needs
+place-requires-2 : tie.Need-place-requires-2
+place-requires-2 c κs = search needs
 
 returns : tie.Need-returns
-returns c = sym (refusal-refused _ (span-refused (c .before .before .before .before .before .args .breaks .now) (c .before .before .before .before .before .args .m) (none-bad (c .before .before)) (omega arith) (sym (c .before .span-is-too-long .ensures) ∙ c .if1 .taken)))
+returns c =
+    let s = c .before .before .before .before .before .before in
+    sym (refusal-refused _ (span-refused (s .args .breaks .now) (s .args .m) (none-bad (c .before .before .before)) (sym (c .before .before .span-is-too-long .ensures) ∙ c .before .if1 .taken) ∙ ap (refusal 3) (sym (c .place2 .ensures))))
 
 returns-2 : tie.Need-returns-2
-returns-2 c = sym (refusal-refused _ (breaks-refused (c .before .before .before .before .args .breaks .now) (c .before .before .before .before .args .m) (found-bad (c .before)) (place-small (c .before))))
+returns-2 c =
+    let s = c .before .before .before .before .before in
+    sym (refusal-refused _ (breaks-refused (s .args .breaks .now) (s .args .m) (found-bad (c .before .before)) ∙ ap (refusal 3) (sym (c .place .ensures))))
 
 returns-3 : tie.Need-returns-3
 returns-3 c = sym (answer-legal _ (breaks-pass (c .before .before .before .before .before .args .breaks .now) (c .before .before .before .before .before .args .m) (none-bad (c .before .before)) (sym (c .before .span-is-too-long .ensures) ∙ c .if1 .left)))
@@ -62,10 +64,10 @@ check-breaks-spec =
     (tie.spec
     first-bad-break-requires
     enum-known-bad
-    cast-t7
+    place-requires
     enum-told
     span-is-too-long-requires
-    cast-place
+    place-requires-2
     returns
     returns-2
     returns-3)

@@ -9,11 +9,11 @@ use native.Mathlib.Omega.{arith}
 use native.Mathlib.Numerals.{add-one}
 use lib.IntN.{ℤ}
 use lib.ListN.{length}
-use Rattle.spline.specs.Outcome.{answer, repeat}
+use Rattle.spline.specs.Outcome.{answer, capped, repeat}
 use Rattle.spline.specs.Space.{Space, segments, columnCount, conditionCount, conditionsBefore, rowCount}
 use Rattle.spline.specs.Table.{Table, identity, numerators, denominators}
 use Rattle.spline.specs.Build.{orderSteps, joinSteps, weights}
-use Rattle.spline.proofs.Outcome.{repeat-more, repeat-stops, capped-small}
+use Rattle.spline.proofs.Outcome.{repeat-more, repeat-stops}
 use Rattle.space.specs.Reply.{space}
 use Rattle.space.proofs.Bounds.{conditions-before-zero, conditions-before-next}
 use Rattle.space.proofs.Legal.{legal-row-count-sum}
@@ -74,12 +74,12 @@ module _ {s : Space} {num₀ den₀ : List ℤ} {columns : ℕ} {num dens : List
 
   -- one is refused: so is the build
   ends : j < segments s - 1 → (num′ dens′ : List ℤ) {reason : Refusal} {number : ℕ} → (h : Halted num dens num′ dens′ (orderSteps s j (conditionCount s j) (st .reached)) reason)
-      → h .ended .number ≡ number → j ≤ 255 → JoinsLeave (weights s) (rowCount s) (Refused number j) num₀ den₀ num′ dens′
+      → h .ended .number ≡ number → {place : ℕ} → place ≡ capped j → JoinsLeave (weights s) (rowCount s) (Refused number place) num₀ den₀ num′ dens′
   unfolding joinSteps weights
-  ends l num′ dens′ {number = number} h e small =
+  ends l num′ dens′ {number = number} h e placed =
       joins-refusal (rowCount s) num₀ den₀ num′ dens′
       (repeat-stops (segments s - 1) j (λ j. orderSteps s j (conditionCount s j)) (identity (columnCount s)) l (st .answers) (h .ended .refuses))
-      (ap₂ Refused (sym e) (sym (orders-refuse s j (conditionCount s j) (st .reached) (h .ended .number) (h .ended .place) (h .ended .refuses) .1 ∙ capped-small j small)))
+      (ap₂ Refused (sym e) (placed ∙ sym (orders-refuse s j (conditionCount s j) (st .reached) (h .ended .number) (h .ended .place) (h .ended .refuses) .1)))
       (kept-then (subst (Kept num₀) (sym (st .num-is)) (kept-numerators (st .reached) num₀ (start .holds .num-long))) (h .num-kept))
       (kept-then (subst (Kept den₀) (sym (st .den-is)) (kept-denominators (st .reached) den₀ (start .holds .den-long))) (h .den-kept))
 
@@ -176,22 +176,18 @@ order-steps-requires c κs =
     let x = st d in
     (room d, (fitting d, record { table = x .reached; holds = holds (start d .pre .1) x; shaped = x .proper .shaped }))
 
--- a join's index is a byte
-place-small : (c : tie.After-den Inv-loop μ-loop) → j (sides c) < 12
-place-small c = let t = turn (sides c .before .before) in omega (arith, t .taken, t .count, t .few)
+-- a join's index is small
+join-small : (c : tie.After-den Inv-loop μ-loop) → j (sides c) < 12
+join-small c = let t = turn (sides c .before .before) in omega (arith, t .taken, t .count, t .few)
 
--- and so is the count of its conditions
-count-small : (c : tie.After-den Inv-loop μ-loop) → sides c .before .condition-count .result ≤ 72
-count-small c = omega (arith, room (sides c), st (sides c) .proper .shaped .rows-fit)
-
-cast-place : tie.Need-cast-place Inv-loop μ-loop
-cast-place c = omega (arith, place-small c, count-small c)
+place-requires : tie.Need-place-requires Inv-loop μ-loop
+place-requires c κs = search needs
 
 enum-told : tie.Need-enum-told Inv-loop μ-loop
 enum-told c = search needs
 
 sub-rows : tie.Need-sub-rows Inv-loop μ-loop
-sub-rows c = room (sides (c .before .before))
+sub-rows c = room (sides (c .before .before .before))
 
 enum-told-2 : tie.Need-enum-told-2 Inv-loop μ-loop
 enum-told-2 c = search needs
@@ -200,41 +196,41 @@ before-last : (c : tie.After-den Inv-loop μ-loop) → j (sides c) < segments (s
 before-last c = let t = turn (sides c .before .before) in omega (arith, t .taken, t .count)
 
 same-length : tie.Need-same-length Inv-loop μ-loop
-same-length c = num-same (c .before .before)
+same-length c = num-same (c .before .before .before)
 
 same-length-2 : tie.Need-same-length-2 Inv-loop μ-loop
-same-length-2 c = den-same (c .before .before)
+same-length-2 c = den-same (c .before .before .before)
 
 returns : tie.Need-returns Inv-loop μ-loop
 returns c =
-    let d = c .before .before in
+    let d = c .before .before .before in
     let h = halted d refusals.TooLarge (c .enum-told2 .given .1) (λ z. let x : _≡_ {A = ℕ} 0 1 = cc in omega arith) in
-    ends (start (sides d) .pre .1) (st (sides d)) (before-last d) _ _ h (named-eight (numbered d refusals.TooLarge h) (h .ended .named)) (omega (arith, place-small d))
+    ends (start (sides d) .pre .1) (st (sides d)) (before-last d) _ _ h (named-eight (numbered d refusals.TooLarge h) (h .ended .named)) (c .before .before .place .ensures)
 
 enum-told-3 : tie.Need-enum-told-3 Inv-loop μ-loop
 enum-told-3 c = search needs
 
 same-length-3 : tie.Need-same-length-3 Inv-loop μ-loop
-same-length-3 c = num-same (c .before .before)
+same-length-3 c = num-same (c .before .before .before)
 
 same-length-4 : tie.Need-same-length-4 Inv-loop μ-loop
-same-length-4 c = den-same (c .before .before)
+same-length-4 c = den-same (c .before .before .before)
 
 returns-2 : tie.Need-returns-2 Inv-loop μ-loop
 returns-2 c =
-    let d = c .before .before in
+    let d = c .before .before .before in
     let h = halted d refusals.Shape (c .enum-told3 .given .1) (λ z. let x : _≡_ {A = ℕ} 0 1 = cc in omega arith) in
-    ends (start (sides d) .pre .1) (st (sides d)) (before-last d) _ _ h (named-nine (numbered d refusals.Shape h) (h .ended .named)) (omega (arith, place-small d))
+    ends (start (sides d) .pre .1) (st (sides d)) (before-last d) _ _ h (named-nine (numbered d refusals.Shape h) (h .ended .named)) (c .before .before .place .ensures)
 
 add-j : tie.Need-add-j Inv-loop μ-loop
-add-j c = omega (arith, place-small (c .before .before))
+add-j c = omega (arith, join-small (c .before .before .before))
 
 loop-less : tie.Need-loop-less Inv-loop μ-loop
-loop-less c = let t = turn (sides (c .before .before) .before .before) in omega (arith, t .taken)
+loop-less c = let t = turn (sides (c .before .before .before) .before .before) in omega (arith, t .taken)
 
 loop-again : tie.Need-loop-again Inv-loop μ-loop
 loop-again c =
-    let d = c .before .before in
+    let d = c .before .before .before in
     let x = sides d in
     let t = turn (x .before .before) in
     let n = x .before .condition-count .ensures in
@@ -274,7 +270,7 @@ join-steps-spec =
     condition-count-requires
     join-at-requires
     order-steps-requires
-    cast-place
+    place-requires
     enum-told
     sub-rows
     enum-told-2

@@ -1,9 +1,12 @@
--- `curve::limits::place` meets its contract. Assumes nothing.
+-- `space::place` meets its contract. Assumes nothing.
 use borrow.Author.Needs.{needs}
 use native.Mathlib.Omega.{arith}
 use Rattle.spline.specs.Outcome.{capped}
-use Rattle.limits.proofs.place.Statement.{statement}
-use Rattle.limits.proofs.place.Tie as tie
+use Rattle.space.proofs.place.Statement.{statement}
+use Rattle.space.proofs.place.Tie as tie
+
+cast-if1 : tie.Need-cast-if1
+cast-if1 c = search needs
 
 cast-result : tie.Need-cast-result
 cast-result c = search needs
@@ -17,4 +20,4 @@ unfolding capped
 returns-2 c = omega arith
 
 pub place-spec : {M : Type 1} → statement M
-place-spec = tie.close (tie.spec cast-result returns returns-2)
+place-spec = tie.close (tie.spec cast-if1 cast-result returns returns-2)
