@@ -9,7 +9,7 @@ use lib.ListN.{length, drop}
 use lib.Seq.{slice}
 use Rattle.spline.specs.Outcome.{Outcome, answer, refusal, with-answer}
 use Rattle.numerals.specs.Bytes.{Text, Part}
-use Rattle.sheet_lists.specs.Reading.{listOf, Line, Lists}
+use Rattle.sheet_lists.specs.Reading.{listOf, Line, Lists, read}
 use Rattle.sheet_lists.specs.declared.Count.{Count}
 use Rattle.sheet_lists.specs.declared.Count.the-variants as count-cases
 use Rattle.sheet_lists.specs.declared.LineSpan.{LineSpan}
@@ -97,3 +97,25 @@ counted o = with-answer lengths o
 unfoldable pub after : (Lists → List ℤ) → Outcome Lists → List ℤ → List ℤ
 after list (answer l) before = overwritten (list l) before
 after list (refusal number place) before = before
+
+-- What reading ends with: the answer and all five lent buffers.
+pub record ReadEnd : Type 0 where
+  pub answers : Outcome Lengths
+  pub breaks : List ℤ
+  pub degrees : List ℤ
+  pub orders : List ℤ
+  pub coefs : List ℤ
+  pub positions : List ℤ
+
+-- The end of the call on this text with these five buffers lent.
+abbrev pub readEnd : Text → List ℤ → List ℤ → List ℤ → List ℤ → List ℤ → ReadEnd
+readEnd text breaks degrees orders coefs positions =
+    let o = read text in
+    record {
+      answers = counted o;
+      breaks = after (λ l. l .breaks) o breaks;
+      degrees = after (λ l. l .degrees) o degrees;
+      orders = after (λ l. l .orders) o orders;
+      coefs = after (λ l. l .coefs) o coefs;
+      positions = after (λ l. l .positions) o positions;
+    }

@@ -7,7 +7,7 @@ ghost use lib.Seq.{slice};
 ghost use Rattle.numerals.specs.Bytes.{Part};
 ghost use Rattle.sheet_lists.specs.Reading;
 ghost use Rattle.sheet_lists.specs.Reading.{listOf};
-ghost use Rattle.sheet_lists.specs.Reply.{count, numbers, overwritten, LineAt, Scanned, reply, counted, after};
+ghost use Rattle.sheet_lists.specs.Reply.{count, numbers, overwritten, LineAt, Scanned, reply, readEnd};
 use numerals::numeral::Field;
 
 const TEXT_LIMIT: usize = 65536;
@@ -160,12 +160,8 @@ pub fn read(
     coefs: &mut [i32; 4096],
     positions: &mut [i32; 4096],
 ) -> Lists
-    ensures answer { λ r. ⌜ reply r ≡ counted (Reading.read (now (text .entry))) ⌝ }
-    ensures breaks { λ r. ⌜ now (breaks .exit) ≡ after (λ l. l .breaks) (Reading.read (now (text .entry))) (now (breaks .entry)) ⌝ }
-    ensures degrees { λ r. ⌜ now (degrees .exit) ≡ after (λ l. l .degrees) (Reading.read (now (text .entry))) (now (degrees .entry)) ⌝ }
-    ensures orders { λ r. ⌜ now (orders .exit) ≡ after (λ l. l .orders) (Reading.read (now (text .entry))) (now (orders .entry)) ⌝ }
-    ensures coefs { λ r. ⌜ now (coefs .exit) ≡ after (λ l. l .coefs) (Reading.read (now (text .entry))) (now (coefs .entry)) ⌝ }
-    ensures positions { λ r. ⌜ now (positions .exit) ≡ after (λ l. l .positions) (Reading.read (now (text .entry))) (now (positions .entry)) ⌝ }
+    ensures { λ r. ⌜ (let e = readEnd (now (text .entry)) (now (breaks .entry)) (now (degrees .entry)) (now (orders .entry)) (now (coefs .entry)) (now (positions .entry)) in
+        (reply r ≡ e .answers) × ((now (breaks .exit) ≡ e .breaks) × ((now (degrees .exit) ≡ e .degrees) × ((now (orders .exit) ≡ e .orders) × ((now (coefs .exit) ≡ e .coefs) × (now (positions .exit) ≡ e .positions)))))) ⌝ }
 {
     let scanned = scan(text);
     match scanned {
