@@ -7,7 +7,7 @@ use mathlib.Core.Bool.{Bool, true, false, not, cond}
 use mathlib.Core.List.{List}
 use Prim.Native.Nat.{ℕ, zero, suc, _+_, _*_, _-_, _/_, _<_, _≤_}
 use native.Mathlib.Omega.{arith}
-use native.Mathlib.Nat.{mul-pos, mul-le-mul, mul-le-mul-right, mul-lt-mul-of-pos-right, le-of-mul-le-mul-right, eq-of-mul-eq-mul-right, div-add-mod', mod-lt}
+use native.Mathlib.Nat.{eq-or-lt-of-le, mul-pos, mul-le-mul, mul-le-mul-right, mul-lt-mul-of-pos-right, le-of-mul-le-mul-right, eq-of-mul-eq-mul-right, div-add-mod', mod-lt}
 use lib.Dec.{T, ltb, ltb→lt, nltb→le, leb→le, le→leb, lt→ltb}
 use lib.IntN.{ℤ, pos, negsuc, subℕ, _+ℤ_, _-ℤ_, _*ℤ_, negℤ, natAbs}
 use lib.Signed.{_≤ℤ_, _<ℤ_, nonNeg, yes-nonNeg}
@@ -175,6 +175,15 @@ pub ≤-total : (x y : ℤ) → (x ≤ℤ y) ⊎ (y ≤ℤ x)
     go : (x ≤ℤ y) ⊎ (y <ℤ x) → (x ≤ℤ y) ⊎ (y ≤ℤ x)
     go (inl h) = inl h
     go (inr h) = inr (<-≤ y x h)
+
+-- a sequence that rises at each step up to n rises from any index to any later one
+pub rises : (f : ℕ → ℤ) (n : ℕ) → ((i : ℕ) → i < n → f i <ℤ f (suc i)) → (i j : ℕ) → i < j → j ≤ n → f i <ℤ f j
+rises f n step i zero k l = absurd (omega arith)
+rises f n step i (suc j) k l = go (λ t. rises f n step i j t (omega arith)) (eq-or-lt-of-le k)
+  where
+    go : (i < j → f i <ℤ f j) → (suc i ≡ suc j) ⊎ (suc i < suc j) → f i <ℤ f (suc j)
+    go before (inl e) = rw (let z : i ≡ j = omega arith in z) (step j l)
+    go before (inr t) = ≤-<-trans (f i) (f j) (f (suc j)) (<-≤ (f i) (f j) (before (omega arith))) (step j l)
 
 -- ---- the order and the ring
 

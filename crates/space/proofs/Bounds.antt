@@ -7,7 +7,7 @@ use native.Mathlib.Nat.{eq-or-lt-of-le}
 use lib.IntN.{ℤ, pos, negℤ, natAbs, _+ℤ_, _-ℤ_}
 use lib.ListN.{length}
 use lib.Signed.{_≤ℤ_, _<ℤ_}
-use Rattle.exact.proofs.Integer.{≤-in, ≤-out, <-out, ≤-refl, ≤-trans, ≤-<-trans, <-≤, <-suc, abs-parts, abs-le, abs-mono, abs-sub, bal-+, bal-neg}
+use Rattle.exact.proofs.Integer.{≤-in, ≤-out, <-out, ≤-refl, ≤-trans, <-≤, <-suc, rises, abs-parts, abs-le, abs-mono, abs-sub, bal-+, bal-neg}
 use Rattle.exact.proofs.Word.{is-pos}
 use Rattle.spline.specs.Space.{Space, segments, break, degreeEntry, order, degree, width, conditionCount, firstColumn, columnCount, conditionsBefore, rowCount}
 use Rattle.space.specs.Legal.{BreaksLegal, DegreesLegal, OrdersLegal, JoinsLegal}
@@ -21,12 +21,7 @@ breaks-apart x y h k = omega (arith, abs-sub x y)
 module _ (s : Space) (h : BreaksLegal (s .breaks)) where
   -- they rise
   pub breaks-rise : (i j : ℕ) → i < j → j < length (s .breaks) → break s i <ℤ break s j
-  breaks-rise i zero k l = absurd (omega arith)
-  breaks-rise i (suc j) k l = go (λ t. breaks-rise i j t (omega arith)) (eq-or-lt-of-le k)
-    where
-      go : (i < j → break s i <ℤ break s j) → (suc i ≡ suc j) ⊎ (suc i < suc j) → break s i <ℤ break s (suc j)
-      go ih (inl e) = rw (let z : i ≡ j = omega arith in z) (h .rise j l)
-      go ih (inr t) = ≤-<-trans _ (break s j) _ (<-≤ _ _ (ih (omega arith))) (h .rise j l)
+  breaks-rise i j k l = rises (break s) (length (s .breaks) - 1) (λ i l. h .rise i (omega arith)) i j k (omega arith)
 
   pub breaks-mono : (i j : ℕ) → i ≤ j → j < length (s .breaks) → break s i ≤ℤ break s j
   breaks-mono i j k l = go (eq-or-lt-of-le k)
