@@ -16,7 +16,9 @@
  * num, den   at least WALZHIK_CELLS cells each: row i, column j of the weights is num[72 i + j] / den[72 i + j], in lowest
  *            terms with positive denominator; 0/1 in all unused cells. Cells past WALZHIK_CELLS are never touched.
  * coefs      n coefficients, each from -1000000 to 1000000 thousandths of a millimetre
- * positions  up to 4096 positions in 256ths of a ring, in any order, each within the span
+ * positions  up to 4096 positions in 256ths of a ring, in any order, each within the span. A position on a join is read
+ *            from the segment that starts there, on a discontinuity from the segment that ends there, on the last
+ *            breakpoint from the last segment.
  * values     at least one cell for each position: the curve in 256ths of a thousandth of a millimetre, in list order.
  *            Cells past the positions' count keep what they held.
  *

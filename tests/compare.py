@@ -4,8 +4,9 @@ usage: compare.py DRIVER [--count N] [--seed S] [--case LINE] [--valgrind]
 
 The driver executable runs each call; its line must equal the model's byte for
 byte, so every answer and every lent cell is compared. Every value of every
-answered curve call is held against the exact curve as demand 3 asks. The
-first difference is shown with its call line, which --case runs again. With
+answered curve call is held against the exact curve as demand 3 asks. Values on
+joins of each order and beside them on both sides must come up. The first
+difference is shown with its call line, which --case runs again. With
 --valgrind the driver runs under it, each list and buffer in a block of its own
 length, so that any read or write outside the lent memory is a failure.
 """
@@ -23,6 +24,7 @@ sys.path.insert(0, str(Path(__file__).resolve().parent / "reference"))
 
 from cases import fixed_calls
 from generate import calls
+from limits import DISCONTINUITY, MOST_ORDER, UNIT
 from protocol import call_line, printed_values, read_call, result_line
 from walzhik_reference import ClosenessTest, Space, by_column
 
@@ -32,6 +34,8 @@ BATCH_SECONDS = 300
 VALGRIND = ["valgrind", "--quiet", "--error-exitcode=9"]
 REACHABLE = range(9)      # numbers that a call on random lists must show
 FAR = range(2 ** 8, 2 ** 32 - 1)  # places that need more than a byte; one must come up too
+SIDES = {-1: "before", 0: "on", 1: "after"}
+JOINS = [(order, side) for order in range(DISCONTINUITY, MOST_ORDER + 1) for side in SIDES]
 ENOUGH = 2_000            # calls from which each of them must have come up
 SUMS = ("values", "far places")   # what is counted beside the calls
 BEFORE, AFTER = 40, 80    # characters shown around a difference
@@ -81,7 +85,16 @@ def culprit_of(command, lines):
     return next(alone, f"no call alone, all {len(lines)} from: {lines[0]}")
 
 
-def compare_batch(command, batch, seen):
+def count_joins(call, outcome, joins):
+    """How many values were read on a join and one beside it, by its order."""
+    if not outcome.values:
+        return
+    near = {UNIT * point + side: (order, side)
+            for point, order in zip(call.breaks[1:], call.orders) for side in SIDES}
+    joins.update(near[position] for position in call.positions if position in near)
+
+
+def compare_batch(command, batch, seen, joins):
     asked = [call_line(call) for call in batch]
     lines, code, errors = driven(command, asked)
     for call, line in zip(batch, lines):
@@ -89,16 +102,23 @@ def compare_batch(command, batch, seen):
         check_line(call, outcome, line)
         seen["values"] += check_closeness(call, outcome, line)
         seen["far places"] += outcome.reply.place in FAR
+        count_joins(call, outcome, joins)
         seen[call.kind, outcome.reply.number] += 1
     if code != 0 or len(lines) != len(batch):
         raise Difference(f"call: {culprit_of(command, asked)}\n  the driver ended with {code} after "
                          f"{len(lines)} of {len(batch)} results: {errors.strip()}")
 
 
-def compare_all(command, every_call, seen):
+def compare_all(command, every_call, seen, joins):
     batches = iter(every_call)
     while batch := list(itertools.islice(batches, BATCH)):
-        compare_batch(command, batch, seen)
+        compare_batch(command, batch, seen, joins)
+
+
+def print_joins(joins):
+    for order in sorted({order for order, _ in joins}):
+        counts = ", ".join(f"{joins[order, side]} {name}" for side, name in SIDES.items())
+        print(f"  joins of order {order}: {counts}")
 
 
 def print_summary(seen, seconds):
@@ -115,10 +135,12 @@ def compared(seen):
     return sum(count for key, count in seen.items() if key not in SUMS)
 
 
-def missing_numbers(seen):
-    missing = [number for number in REACHABLE
-               if not seen["build", number] + seen["curve", number]]
-    return missing if seen["far places"] else [*missing, "a place of more than a byte"]
+def never_seen(seen, joins):
+    """Numbers, far places, and (order, side) of joins, that did not come up."""
+    return ([number for number in REACHABLE
+             if not seen["build", number] + seen["curve", number]]
+            + ["a place of more than a byte"] * (not seen["far places"])
+            + [join for join in JOINS if not joins[join]])
 
 
 def arguments():
@@ -134,20 +156,21 @@ def arguments():
 def main():
     chosen = arguments()
     seed = SystemRandom().randrange(2 ** 32) if chosen.seed is None else chosen.seed
-    seen = Counter()
+    seen, joins = Counter(), Counter()
     start = time.monotonic()
     print(f"compare: seed {seed}")
     every_call = ([read_call(chosen.case)] if chosen.case
                   else itertools.chain(fixed_calls(), calls(seed, chosen.count)))
     command = [*VALGRIND, chosen.driver, "--exact"] if chosen.valgrind else [chosen.driver]
     try:
-        compare_all(command, every_call, seen)
+        compare_all(command, every_call, seen, joins)
     except Difference as difference:
         print(difference)
         print(f"compare: {compared(seen)} passed, 1 failed (seed {seed})")
         return 1
     print_summary(seen, time.monotonic() - start)
-    missing = missing_numbers(seen) if compared(seen) >= ENOUGH else []
+    print_joins(joins)
+    missing = never_seen(seen, joins) if compared(seen) >= ENOUGH else []
     if missing:
         print(f"compare: never seen: {missing}")
     print(f"compare: {compared(seen)} passed, {len(missing)} failed")

@@ -1,4 +1,5 @@
-"""W1 to W10 of document 01, as one table of what the paper states of them.
+"""W1 to W10 of document 01, as one table of what the papers state of them: W9
+as document 02's CR 5 has it.
 
 A case without coefficients is a build; every other is a curve call. Only
 stated facts stand here, none that the model worked out.
@@ -53,7 +54,7 @@ CASES = [
     Case("W7 refused", [0, 2001], [1], [], number=3, place=1),
     Case("W8 accepted", [0, 1, 2], [1, 2], [0]),
     Case("W8 refused", [0, 1, 2], [1, 2], [1], number=5, place=0),
-    Case("W9", [0, 1, 2], [1, 1], [-1], [0, 10, 20, 30], [256], values={256: 5120}),
+    Case("W9", [0, 1, 2], [1, 1], [-1], [0, 10, 20, 30], [256], values={256: 2560}),
     Case("W10 count", *W1_SPACE, [0, 100, 0], [256, 512], number=6, place=LARGEST_PLACE),
     Case("W10 outside", *W1_SPACE, [0, 100, 0, 0], [769], number=7, place=0),
     Case("W10 end", *W1_SPACE, [0, 100, 0, 0], [768], rows=4, weights=W1_WEIGHTS),

@@ -190,8 +190,20 @@ def arranged(rng, positions):
     return sorted(positions, reverse=style == "falling")
 
 
+def around_breakpoints(breaks):
+    """Every breakpoint, and the positions beside it on both sides."""
+    first, last = UNIT * breaks[0], UNIT * breaks[-1]
+    return [UNIT * point + side for point in breaks for side in (-1, 0, 1)
+            if first <= UNIT * point + side <= last]
+
+
 def position_list(rng, breaks):
-    return arranged(rng, [one_position(rng, breaks) for _ in range(position_count(rng))])
+    style = pick(rng, [(85, "drawn"), (15, "around every breakpoint")])
+    if style == "drawn":
+        return arranged(rng, [one_position(rng, breaks) for _ in range(position_count(rng))])
+    positions = around_breakpoints(breaks)
+    rng.shuffle(positions)
+    return positions
 
 
 def fill(rng):

@@ -1,4 +1,4 @@
-"""Curve values, by document 01's "Reading the curve".
+"""Curve values, by document 01's "Reading the curve" and document 02's CR 5.
 
 Step 1 turns the coefficients into a segment's Bernstein ordinates in whole
 256ths; step 2 blends them in a de Casteljau triangle. Every division is
@@ -7,12 +7,17 @@ Python's floor, towards minus infinity.
 
 from bisect import bisect_right
 
-from limits import UNIT
+from limits import DISCONTINUITY, UNIT
 
 
 def segment_of(space, position):
-    """The last segment that starts at or before the position."""
-    return bisect_right(space.breaks, position // UNIT, 0, len(space.degrees)) - 1
+    """The last segment that starts at or before the position; exactly on a
+    discontinuity the segment that ends there."""
+    segment = bisect_right(space.breaks, position // UNIT, 0, len(space.degrees)) - 1
+    on_start = position == UNIT * space.breaks[segment]
+    if on_start and segment > 0 and space.orders[segment - 1] == DISCONTINUITY:
+        return segment - 1
+    return segment
 
 
 def ordinate(column, coefs):

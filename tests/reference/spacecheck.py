@@ -12,7 +12,7 @@ from math import perm
 from random import Random
 
 from generate import call_on
-from limits import UNIT
+from limits import DISCONTINUITY, UNIT
 from random_spaces import sized_space_lists, space_lists
 from reading import blend, local, segment_ordinates
 from space import TOO_LARGE
@@ -65,6 +65,16 @@ def check_weights(tally, space, rows, columns):
     tally.check(all(a < b for a, b in zip(leads, leads[1:])), "independent rows", space)
 
 
+def check_segment(tally, space, position):
+    """The position's segment, by all segments that hold it: two do on a join,
+    the later one counts, on a discontinuity the earlier one."""
+    held = [segment for segment in range(len(space.degrees))
+            if UNIT * space.breaks[segment] <= position <= UNIT * space.breaks[segment + 1]]
+    scar = len(held) == 2 and space.orders[held[0]] == DISCONTINUITY
+    tally.check(local(space, position)[0] == (held[0] if scar else held[-1]),
+                "segment", space, position)
+
+
 def other_blend(ordinates, u, whole):
     level = ordinates
     while len(level) > 1:
@@ -101,6 +111,8 @@ def check_space(tally, rng, lists, seen):
     tally.check(len(outcome.values) == len(call.positions), "value count", space)
     fault = ClosenessTest(space, columns, call.coefs).first_fault(call.positions, outcome.values)
     tally.check(fault is None, "closeness of all values", space, call.coefs, fault)
+    for position in call.positions:
+        check_segment(tally, space, position)
     for position, value in list(zip(call.positions, outcome.values))[:POSITIONS]:
         check_value(tally, space, outcome.rows, columns, call.coefs, position, value)
 

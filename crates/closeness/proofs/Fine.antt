@@ -2,7 +2,7 @@
 use mathlib.Core.Path.{_≡_, refl, subst}
 use mathlib.Core.List.{[], _∷_}
 use lib.IntN.{ℤ, pos, _-ℤ_, _*ℤ_}
-use lib.Signed.{_≤ℤ_}
+use lib.Signed.{_≤ℤ_, _<ℤ_}
 use Rattle.exact.proofs.Integer as Z
 use Rattle.exact.proofs.Integer.{ℤ-ring}
 use Rattle.exact.proofs.Ring.{ring, reads}
@@ -10,6 +10,9 @@ use Rattle.spline.specs.Reading.{parts, fine}
 
 pub fine-mono : (x y : ℤ) → x ≤ℤ y → fine x ≤ℤ fine y
 fine-mono x y h = subst (λ t. t ≤ℤ fine y) (Z.*-comm x (pos parts)) (subst (λ t. (x *ℤ pos parts) ≤ℤ t) (Z.*-comm y (pos parts)) (Z.*-mono x y parts h))
+
+pub fine-mono-< : (x y : ℤ) → x <ℤ y → fine x <ℤ fine y
+fine-mono-< x y h = subst (λ t. t <ℤ fine y) (Z.*-comm x (pos parts)) (subst (λ t. (x *ℤ pos parts) <ℤ t) (Z.*-comm y (pos parts)) (Z.*-mono-< x y 255 h))
 
 pub fine-sub : (x y : ℤ) → fine (x -ℤ y) ≡ fine x -ℤ fine y
 fine-sub x y = alg (pos parts) x y

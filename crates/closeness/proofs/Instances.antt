@@ -1,5 +1,5 @@
--- The theorems at document 01's cases W1, W2 and W3 with numbers: the hypotheses can be met, and W1's values 17066 and 4266
--- are below the exact 51200/3 and 12800/3 by less than s + p = 4 and between 0 and 25600.
+-- The theorems at document 01's cases W1, W2, W3 and W9 with numbers: the hypotheses can be met, and W1's values 17066 and
+-- 4266 are below the exact 51200/3 and 12800/3 by less than s + p = 4 and between 0 and 25600.
 use mathlib.Core.Path.{_≡_, refl, _∙_, ap, subst}
 use mathlib.Core.Bool.{not}
 use mathlib.Core.List.{List, [], _∷_}
@@ -8,13 +8,14 @@ use native.Mathlib.Omega.{arith}
 use lib.Dec.{T}
 use lib.IntN.{ℤ, pos, negsuc, natAbs}
 use lib.ListN.{length, getD}
-use lib.Signed.{_≤ℤ_}
+use lib.Signed.{_≤ℤ_, ltZ-yes}
 use Rattle.exact.specs.Gcd.{gcd, gcdF}
 use Rattle.exact.specs.Rational.{den, mk, int, inv, _+ᵠ_, _*ᵠ_, -ᵠ_, _//_}
 use Rattle.exact.specs.Order.{isZero, ltᵠ, _≤ᵠ_, _<ᵠ_}
 use Rattle.exact.specs.Sum.{sum}
 use Rattle.exact.specs.Tabulate.{tab}
 use Rattle.exact.proofs.Integer as Z
+use Rattle.exact.proofs.Integer.{up}
 use Rattle.fraction.specs.Size.{fits}
 use Rattle.spline.specs.Outcome.{answer, capped, collect, repeat}
 use Rattle.spline.specs.Search.{first, last, howMany}
@@ -24,13 +25,14 @@ use Rattle.spline.specs.Table.{Table, cell, identity}
 use Rattle.spline.specs.Step.{count, addProducts, span, partialSum, quotientFactor, factors, newEntry, newRows, step}
 use Rattle.spline.specs.Build.{orderSteps, joinSteps, weights, spaceWeights}
 use Rattle.spline.specs.Piecewise.{Accepted}
-use Rattle.spline.specs.Reading.{fine, segmentAt, rounded, term, termSum, best, ordinate, ordinates, blend, triangle, blended, valueAt, values}
+use Rattle.spline.specs.Reading.{fine, startsAtDiscontinuity, startsBy, segmentAt, rounded, term, termSum, best, ordinate, ordinates, blend, triangle, blended, valueAt, values}
 use Rattle.spline.specs.CurveCall.{badCoefficient, badPosition, curveOutcome, returned, valuesAfter}
-use Rattle.spline.specs.Cases.{space1}
+use Rattle.spline.specs.Cases.{space1, space9}
 use Rattle.spline.specs.ExactCurve.{power, bernsteinAt, exactTerm, exactOn, exactCurve, largest, mostWeights, weighsOn, leastOn, greatestOn, Legal}
 use Rattle.theorems.proofs.Instances.{q0, q1}
 use Rattle.closeness.specs.Demand3.{closeness, Close}
 use Rattle.closeness.proofs.Weights.{weight-num-le-den}
+use Rattle.closeness.proofs.Positions.{positions-between-belong-between, discontinuities-belong-before, other-joins-belong-after, first-breakpoint-belongs-first, last-breakpoint-belongs-last}
 use Rattle.closeness.proofs.LegalCall.{legal-calls-answer, legal-calls-return-count, answered-calls-are-legal}
 use Rattle.closeness.proofs.Demand3.{value-at-most-exact, exact-below-value-and-closeness, value-at-least-least, value-at-most-greatest}
 use Rattle.closeness.proofs.Cells.{cells-are-close, cells-past-are-kept}
@@ -85,20 +87,20 @@ legal1 = record {
 -- ---- what the definitions give there
 
 values1 : values space1 table1 coefs1 positions1 ≡ pos 17066 ∷ pos 4266 ∷ []
-unfolding gcd gcdF mk int _//_ isZero tab firstColumn last segmentAt rounded term termSum best ordinate ordinates blend triangle blended valueAt values
+unfolding gcd gcdF mk int _//_ isZero tab firstColumn last startsAtDiscontinuity startsBy segmentAt rounded term termSum best ordinate ordinates blend triangle blended valueAt values
 values1 = refl
 
 exact1 : exactCurve space1 table1 coefs1 (pos 256) ≡ pos 51200 // 2
-unfolding gcd gcdF mk int inv _+ᵠ_ _*ᵠ_ -ᵠ_ _//_ sum firstColumn last segmentAt binomial power bernsteinAt exactTerm exactOn exactCurve
+unfolding gcd gcdF mk int inv _+ᵠ_ _*ᵠ_ -ᵠ_ _//_ sum firstColumn last startsAtDiscontinuity startsBy segmentAt binomial power bernsteinAt exactTerm exactOn exactCurve
 exact1 = refl
 
 exact1-later : exactCurve space1 table1 coefs1 (pos 512) ≡ pos 12800 // 2
-unfolding gcd gcdF mk int inv _+ᵠ_ _*ᵠ_ -ᵠ_ _//_ sum firstColumn last segmentAt binomial power bernsteinAt exactTerm exactOn exactCurve
+unfolding gcd gcdF mk int inv _+ᵠ_ _*ᵠ_ -ᵠ_ _//_ sum firstColumn last startsAtDiscontinuity startsBy segmentAt binomial power bernsteinAt exactTerm exactOn exactCurve
 exact1-later = refl
 
 -- s = 2 and p = 2 on the second segment
 closeness1 : closeness space1 table1 (pos 512) ≡ 4
-unfolding gcd gcdF mk int _//_ isZero firstColumn last segmentAt howMany largest mostWeights
+unfolding gcd gcdF mk int _//_ isZero firstColumn last startsAtDiscontinuity startsBy segmentAt howMany largest mostWeights
 closeness1 = refl
 
 least1 : leastOn space1 table1 coefs1 1 ≡ pos 0
@@ -142,11 +144,11 @@ exact-below1 : pos 12800 // 2 <ᵠ int (pos 4266) +ᵠ int (pos 4)
 exact-below1 = subst (λ e. e <ᵠ int (pos 4266) +ᵠ int (pos 4)) exact1-later (subst (λ n. exactCurve space1 table1 coefs1 (pos 512) <ᵠ int (pos 4266) +ᵠ int (pos n)) closeness1 (close1 .exact-below))
 
 at-least1 : pos 0 ≤ℤ pos 4266
-unfolding segmentAt last
+unfolding startsAtDiscontinuity startsBy segmentAt last
 at-least1 = subst (λ z. fine z ≤ℤ pos 4266) least1 (close1 .at-least-least)
 
 at-most1 : pos 4266 ≤ℤ pos 25600
-unfolding segmentAt last
+unfolding startsAtDiscontinuity startsBy segmentAt last
 at-most1 = subst (λ z. pos 4266 ≤ℤ fine z) greatest1 (close1 .at-most-greatest)
 
 last-cell1 : getD (valuesAfter (curveOutcome space1 coefs1 positions1 5184 5184 3) (pos 7 ∷ pos 8 ∷ pos 9 ∷ [])) 2 (pos 0) ≡ pos 9
@@ -162,11 +164,11 @@ abbrev coefs2 : List ℤ
 coefs2 = pos 0 ∷ negsuc 99 ∷ pos 0 ∷ pos 0 ∷ []
 
 value2 : valueAt space1 table1 coefs2 (pos 512) ≡ negsuc 4266
-unfolding gcd gcdF mk int _//_ isZero tab firstColumn last segmentAt rounded term termSum best ordinate ordinates blend triangle blended valueAt
+unfolding gcd gcdF mk int _//_ isZero tab firstColumn last startsAtDiscontinuity startsBy segmentAt rounded term termSum best ordinate ordinates blend triangle blended valueAt
 value2 = refl
 
 exact2 : exactCurve space1 table1 coefs2 (pos 512) ≡ negsuc 12799 // 2
-unfolding gcd gcdF mk int inv _+ᵠ_ _*ᵠ_ -ᵠ_ _//_ sum firstColumn last segmentAt binomial power bernsteinAt exactTerm exactOn exactCurve
+unfolding gcd gcdF mk int inv _+ᵠ_ _*ᵠ_ -ᵠ_ _//_ sum firstColumn last startsAtDiscontinuity startsBy segmentAt binomial power bernsteinAt exactTerm exactOn exactCurve
 exact2 = refl
 
 at-most-exact2 : int (negsuc 4266) ≤ᵠ negsuc 12799 // 2
@@ -193,7 +195,52 @@ unfolding gcd gcdF mk int _//_ isZero firstColumn first best weighsOn leastOn gr
 limits3 = (refl, refl)
 
 value3 : valueAt space1 table1 coefs3 (pos 256) ≡ pos 256
-unfolding accepted1 segmentAt last
+unfolding accepted1 startsAtDiscontinuity startsBy segmentAt last
 value3 = Z.≤-antisym (valueAt space1 table1 coefs3 (pos 256)) (pos 256)
     (subst (λ z. valueAt space1 table1 coefs3 (pos 256) ≤ℤ fine z) (limits3 .1) (value-at-most-greatest space1 accepted1 coefs3 (pos 256) tt))
     (subst (λ z. fine z ≤ℤ valueAt space1 table1 coefs3 (pos 256)) (limits3 .0) (value-at-least-least space1 accepted1 coefs3 (pos 256) tt))
+
+-- ---- W9: the position on the discontinuity is read from the segment that ends there, the one beside it from the next
+
+abbrev pub table9 : Table
+table9 =
+    (q1 ∷ q0 ∷ q0 ∷ q0 ∷ []) ∷
+    (q0 ∷ q1 ∷ q0 ∷ q0 ∷ []) ∷
+    (q0 ∷ q0 ∷ q1 ∷ q0 ∷ []) ∷
+    (q0 ∷ q0 ∷ q0 ∷ q1 ∷ []) ∷ []
+
+abbrev pub coefs9 : List ℤ
+coefs9 = pos 0 ∷ pos 10 ∷ pos 20 ∷ pos 30 ∷ []
+
+checked9 : checked space9 ≡ answer space9
+unfolding capped first lengthsFit badBreak spanTooLong badDegree badOrder checkedEntries checked
+checked9 = refl
+
+unfoldable pub accepted9 : Accepted space9
+unfolding gcd gcdF mk int tab capped collect repeat first lengthsFit badBreak spanTooLong badDegree badOrder checkedEntries checked firstColumn conditionsBefore identity orderSteps joinSteps weights spaceWeights
+accepted9 = record { table = table9; is = refl }
+
+segments9 : (segmentAt space9 (pos 0) ≡ 0) × ((segmentAt space9 (pos 256) ≡ 0) × ((segmentAt space9 (pos 257) ≡ 1) × (suc (segmentAt space9 (pos 512)) ≡ 2)))
+segments9 = (first-breakpoint-belongs-first space9 checked9, (discontinuities-belong-before space9 checked9 0 (omega arith) refl, (positions-between-belong-between space9 checked9 1 (omega arith) (pos 257) (ltZ-yes tt) (ltZ-yes tt), last-breakpoint-belongs-last space9 checked9)))
+
+-- the exact curve is at that segment's end, 256 times 10, and the value is no more
+pub exact9 : exactCurve space9 table9 coefs9 (pos 256) ≡ int (pos 2560)
+unfolding gcd gcdF mk int inv _+ᵠ_ _*ᵠ_ -ᵠ_ _//_ sum firstColumn last startsAtDiscontinuity startsBy segmentAt binomial power bernsteinAt exactTerm exactOn exactCurve
+exact9 = refl
+
+greatest9 : greatestOn space9 table9 coefs9 0 ≡ pos 10
+unfolding gcd gcdF mk int _//_ isZero firstColumn first best weighsOn greatestOn
+greatest9 = refl
+
+at-most9 : valueAt space9 table9 coefs9 (pos 256) ≤ℤ pos 2560
+unfolding accepted9
+at-most9 = subst (λ z. valueAt space9 table9 coefs9 (pos 256) ≤ℤ fine z) (ap (greatestOn space9 table9 coefs9) (segments9 .1 .0) ∙ greatest9) (value-at-most-greatest space9 accepted9 coefs9 (pos 256) tt)
+
+-- ---- W1: the join of order 1 belongs to the segment that starts there
+
+checked1 : checked space1 ≡ answer space1
+unfolding capped first lengthsFit badBreak spanTooLong badDegree badOrder checkedEntries checked
+checked1 = refl
+
+join1 : segmentAt space1 (pos 256) ≡ 1
+join1 = other-joins-belong-after space1 checked1 0 (omega arith) (λ e. let z : _≡_ {A = ℕ} 1 0 = ap up e in absurd (omega arith))

@@ -1,5 +1,6 @@
--- The laws behind the second half of demand 3, from the rounding up to the cells after a call. Other crates cite
--- Weights for the size of a weight, Segment for a position's offset, LegalCall and Cells for a call, Demand3 for a value.
+-- The laws behind the second half of demand 3, from the rounding up to the cells after a call, and the segments of positions.
+-- Other crates cite Weights for the size of a weight, Segment and Positions for a position's segment, LegalCall and Cells for
+-- a call, Demand3 for a value.
 pub mod Rounding
 pub mod Fine
 pub mod Bernstein
@@ -10,6 +11,7 @@ pub mod Weights
 pub mod Terms
 pub mod Ordinate
 pub mod Segment
+pub mod Positions
 pub mod ExactSum
 pub mod OnSegment
 pub mod Value

@@ -2,7 +2,7 @@
 -- offset u is from 0 to D, and D is positive. These are what a blend needs of its factors.
 use mathlib.Core.Path.{_≡_, sym, _∙_, ap, subst}
 use mathlib.Core.Logic.{_⊎_, inl, inr}
-use mathlib.Core.Bool.{Bool, true}
+use mathlib.Core.Bool.{true}
 use mathlib.Core.Option.{Option·getD}
 use Prim.Native.Nat.{ℕ, suc, _<_}
 use native.Mathlib.Omega.{arith}
@@ -11,16 +11,17 @@ use lib.IntN.{ℤ, pos, _-ℤ_, _*ℤ_, negℤ}
 use lib.Signed.{leZ, _≤ℤ_, _<ℤ_, pos-natAbs}
 use Rattle.exact.proofs.Decide.{and-true, holds-true, true-not-false}
 use Rattle.exact.proofs.Integer as Z
-use Rattle.exact.proofs.Word.{leZ-true, leZ-false}
+use Rattle.exact.proofs.Word.{leZ-true}
 use Rattle.spline.specs.Outcome.{answer}
 use Rattle.spline.specs.Search.{last}
 use Rattle.spline.specs.Space.{Space, segments, break, checked}
 use Rattle.spline.specs.Build.{weights, spaceWeights}
 use Rattle.spline.specs.Piecewise.{Accepted}
-use Rattle.spline.specs.Reading.{parts, fine, segmentAt, fineWidth, offset}
+use Rattle.spline.specs.Reading.{parts, fine, startsBy, segmentAt, fineWidth, offset}
 use Rattle.spline.proofs.Outcome.{then-inverts}
 use Rattle.spline.proofs.Search.{SearchedBack, at, nowhere, search-last}
 use Rattle.spline.proofs.Legal.{Checked, checked-inverts, legal, good-break-rises}
+use Rattle.spline.proofs.Reading.{starts-by-le, not-starts-by-le, starts-by-first}
 use Rattle.closeness.specs.Demand3.{InSpan}
 use Rattle.closeness.proofs.Fine.{fine-sub}
 
@@ -58,18 +59,15 @@ located-between s c x j h p q = record {
 
 pub located : (s : Space) → Checked s → (x : ℤ) → InSpan s x → Located s x (segmentAt s x)
 unfolding segmentAt
-located s c x inside = go (search-last starts (segments s))
+located s c x inside = go (search-last (startsBy s x) (segments s))
   where
-    starts : ℕ → Bool
-    starts i = leZ (fine (break s i)) x
-
     ends : (leZ (fine (break s 0)) x ≡ true) × (leZ x (fine (break s (segments s))) ≡ true)
     ends = and-true (leZ (fine (break s 0)) x) (leZ x (fine (break s (segments s)))) (holds-true _ inside)
 
-    go : SearchedBack starts (segments s) → Located s x (Option·getD (last (segments s) (λ i. leZ (fine (break s i)) x)) 0)
-    go (nowhere none-starts e) = absurd (true-not-false (ends .0) (none-starts 0 (legal s c .lengths .some-segment)))
-    go (at i L e) = subst (Located s x) (sym (ap (λ o. Option·getD o 0) e)) (located-between s c x i (L .below) (leZ-true (fine (break s i)) x (L .meets)) (end (eq-or-lt-of-le (L .below))))
+    go : SearchedBack (startsBy s x) (segments s) → Located s x (Option·getD (last (segments s) (startsBy s x)) 0)
+    go (nowhere none-starts e) = absurd (true-not-false (starts-by-first s x ∙ ends .0) (none-starts 0 (legal s c .lengths .some-segment)))
+    go (at i L e) = subst (Located s x) (sym (ap (λ o. Option·getD o 0) e)) (located-between s c x i (L .below) (starts-by-le s x i (L .meets)) (end (eq-or-lt-of-le (L .below))))
       where
         end : (suc i ≡ segments s) ⊎ (suc i < segments s) → x ≤ℤ fine (break s (suc i))
         end (inl z) = subst (λ k. x ≤ℤ fine (break s k)) (sym z) (leZ-true x (fine (break s (segments s))) (ends .1))
-        end (inr l) = Z.<-≤ x (fine (break s (suc i))) (leZ-false (fine (break s (suc i))) x (L .after (suc i) (omega arith) l))
+        end (inr l) = not-starts-by-le s x (suc i) (L .after (suc i) (omega arith) l)

@@ -1,4 +1,5 @@
--- The statements of the theorems on the values, each a type that cites definitions only; the proofs are in proofs/.
+-- The statements of the theorems on positions and values, each a type that cites definitions only; the proofs are in proofs/.
+pub mod Positions
 pub mod Demand3
 pub mod SegmentWeights
 pub mod WeightCells

@@ -1,19 +1,18 @@
 -- What the curve call ends with, case by case, and what the machine answers and leaves in each.
 use mathlib.Core.Path.{_≡_, refl, sym, _∙_, ap}
 use mathlib.Core.Logic.{_⊎_, inl, inr}
-use mathlib.Core.List.{List, [], _++_, map}
-use Prim.Native.Nat.{ℕ, _+_, _<_, _≤_}
+use mathlib.Core.List.{List, [], _++_}
+use Prim.Native.Nat.{ℕ, _<_, _≤_}
 use native.Mathlib.Omega.{arith}
 use borrow.Author.Tests.{lt-ltb, le-ltb}
 use lib.IntN.{ℤ, pos, natAbs}
 use lib.ListN.{length, getD, drop, List·getD-eq-default}
-use Rattle.exact.specs.Tabulate.{tab}
 use Rattle.exact.proofs.Decide.{le-or-lt, cond-true, cond-false}
 use Rattle.spline.specs.Outcome.{Outcome, answer, refusal, capped, with-answer, _then_}
-use Rattle.spline.specs.Space.{Space, degree, firstColumn, columnCount, rowCount}
+use Rattle.spline.specs.Space.{Space, columnCount, rowCount}
 use Rattle.spline.specs.Table.{Table, tableCells, numerators, denominators}
 use Rattle.spline.specs.Build.{weights, spaceWeights, numeratorsAfter, denominatorsAfter}
-use Rattle.spline.specs.Reading.{coefficient, ordinate, ordinates, segmentAt, fineWidth, offset, triangle, blended, valueAt, values}
+use Rattle.spline.specs.Reading.{values}
 use Rattle.spline.specs.CurveCall.{CurveResult, badCoefficient, badPosition, curveChecked, curveRead, curveOutcome, returned, curveNumerators, curveDenominators, valuesAfter}
 use Rattle.spline.proofs.Outcome.{then-answers, then-refuses}
 use Rattle.spline.proofs.Search.{first-none-inverts}
@@ -25,7 +24,6 @@ use Rattle.space.specs.Legal.{ListsLegal}
 use Rattle.space.specs.declared.Legality.the-variants.{Legal}
 use Rattle.space.proofs.Reply.{legal-answers}
 use Rattle.space.proofs.Legal.{checked-legal, legal-column-count-high}
-use Rattle.space.proofs.Partial.{first-column-partial}
 use Rattle.cells.specs.Held.{Holds}
 use Rattle.weights.specs.Reply as building
 use Rattle.weights.specs.declared.Built.the-variants as builts
@@ -153,7 +151,7 @@ module _ (b d o coefs positions : List ℤ) (e : legality (curveChecked (space b
       small i (inl h) = rw (List·getD-eq-default coefs (pos 0) {n = i} h) (omega arith)
       small i (inr h) = good-coefficient coefs i (first-none-inverts (badCoefficient coefs) (length coefs) (passed .0 .entries .coefficients) i h)
 
-  pub positions-good : (k : ℕ) → k < length positions → Within (space b d []) (getD positions k (pos 0))
+  pub positions-good : (k : ℕ) → k < length positions → Within s (getD positions k (pos 0))
   positions-good k h = let w = good-position s positions k (first-none-inverts (badPosition s positions) (length positions) (passed .0 .entries .positions-inside) k h) in record { low = w .0; high = w .1 }
 
   -- the weights that were built
@@ -177,13 +175,3 @@ module _ (b d o coefs positions : List ℤ) (e : legality (curveChecked (space b
         few = proper .shaped .rows-fit;
         unit = λ i c. weight-num-le-den s (record { table = t; is = then-answers weights (passed .0 .space) ∙ w }) i c;
       }
-
--- ---- the orders do not matter to the values
-
-pub values-orders : (b d o : List ℤ) (t : Table) (coefs positions : List ℤ) → values (space b d []) t coefs positions ≡ values (space b d o) t coefs positions
-unfolding values valueAt blended ordinates segmentAt
-values-orders b d o t coefs positions = λ z. map (λ x. triangle (fineWidth (space b d o) (segmentAt (space b d o) x)) (offset (space b d o) (segmentAt (space b d o) x) x)
-    (λ k. getD (tab (column (length d) z) (ordinate t (coefficient coefs))) (column (segmentAt (space b d o) x) z + k) (pos 0)) (degree (space b d o) (segmentAt (space b d o) x)) 0) positions
-  where
-    column : (i : ℕ) → firstColumn (space b d []) i ≡ firstColumn (space b d o) i
-    column i = sym (first-column-partial b d [] i) ∙ first-column-partial b d o i

@@ -45,7 +45,17 @@ pub fn curve(
             match built {
                 weights::Built::Refused(number, place) => Answer::Refused(number, place),
                 weights::Built::Rows(n) => {
-                    reading::write_values(breaks, degrees, coefs, positions, num, den, n, values);
+                    reading::write_values(
+                        breaks,
+                        degrees,
+                        orders,
+                        coefs,
+                        positions,
+                        num,
+                        den,
+                        n,
+                        values,
+                    );
                     Answer::Values(positions.len())
                 }
             }

@@ -1,4 +1,5 @@
--- Document 01's exact curve is, on each segment, the polynomial with the ordinates that the rows and the coefficients give.
+-- Document 01's exact curve is, on each segment, the polynomial with the ordinates that the rows and the coefficients give; at
+-- a join it is the value of the polynomial before it or after it.
 use mathlib.Core.Path.{_≡_, refl, sym, _∙_, ap, ap₂, fun-ext}
 use mathlib.Core.List.{List, [], _∷_, map}
 use Prim.Native.Nat.{ℕ, zero, suc, _+_, _*_, _<_}
@@ -7,22 +8,25 @@ use lib.IntN.{ℤ, pos}
 use lib.ListN.{length}
 use Rattle.exact.specs.Rational.{ℚ, int, inv, _*ᵠ_, -ᵠ_, _-ᵠ_, _/ᵠ_}
 use Rattle.exact.proofs.Ring.{ring, by-eq}
-use Rattle.exact.proofs.Rational.{ℚ-ring, readsℚ, int-mul, int-sub, int-nonzero, inv-mul, mul-inv, mul-assoc}
+use Rattle.exact.proofs.Integer.{+-neg}
+use Rattle.exact.proofs.Rational.{ℚ-ring, readsℚ, int-mul, int-sub, int-nonzero, inv-mul, mul-inv, mul-comm, mul-assoc, mul-div}
 use Rattle.exact.proofs.Sum.{sum-ext}
-use Rattle.spline.specs.Space.{Space, degree, width, firstColumn, columnCount}
+use Rattle.spline.specs.Space.{Space, break, degree, width, firstColumn, columnCount}
 use Rattle.spline.specs.Table.{entry, cell}
 use Rattle.spline.specs.Piecewise.{Accepted}
 use Rattle.spline.specs.Reading.{parts, fine, segmentAt, coefficient, fineWidth, offset}
 use Rattle.spline.specs.ExactCurve.{exactOn, exactCurve}
 use Rattle.theorems.proofs.Built.{built}
 use Rattle.theorems.proofs.Demand2.{combination-at}
-use Rattle.closeness.proofs.Segment.{Located, located, accepted-checked}
+use Rattle.closeness.specs.Demand3.{InSpan}
+use Rattle.closeness.proofs.Segment.{Located, located, accepted-checked, fineWidth-is}
+use Rattle.closeness.proofs.Positions.{discontinuities-belong-before, other-joins-belong-after, breakpoint-in-span}
 use Rattle.closeness.proofs.Bernstein.{exactTriangle}
 use Rattle.closeness.proofs.Triangle.{leftFactor, rightFactor}
 use Rattle.closeness.proofs.Ordinate.{exactOrdinate}
 use Rattle.closeness.proofs.ExactSum.{exactOrdinates, exactOn-is-triangle}
-use Rattle.smoothness.specs.Polynomial.{value}
-use Rattle.smoothness.specs.Smoothness.{piece, curveOrdinates, ExactCurveIsPolynomial}
+use Rattle.smoothness.specs.Polynomial.{value, iterated}
+use Rattle.smoothness.specs.Smoothness.{piece, curveOrdinates, ExactCurveIsPolynomial, ExactCurveAtDiscontinuity, ExactCurveAtOtherJoin}
 use Rattle.smoothness.proofs.Bernstein.{bernsteinForm-value}
 
 -- 256 times the coefficients, as multipliers
@@ -61,3 +65,28 @@ exact-curve-is-polynomial s a coefs x inside = go (segmentAt s x) (located s (ac
 
         β : rightFactor (fineWidth s j) (offset s j x) ≡ y /ᵠ int (pos (width s j))
         β = right-factor (width s j) (offset s j x) (L .positive)
+
+-- ---- at a join
+
+-- 256 positions are a ring
+fine-over-parts : (z : ℤ) → int (fine z) /ᵠ int (pos parts) ≡ int z
+fine-over-parts z = ap (λ q. q /ᵠ int (pos parts)) (int-mul (pos parts) z ∙ mul-comm (int (pos parts)) (int z)) ∙ mul-div (int z) (int (pos parts)) (int-nonzero 255)
+
+-- z rings after the start of the position's segment
+curve-after : (s : Space) (a : Accepted s) (coefs : List ℤ) (x z : ℤ) → InSpan s x → (i : ℕ) → segmentAt s x ≡ i → offset s i x ≡ fine z
+    → exactCurve s (a .table) coefs x ≡ value (piece s (curveOrdinates s (a .table) coefs) i) (int z)
+curve-after s a coefs x z inside i at o = exact-curve-is-polynomial s a coefs x inside
+    ∙ ap (λ j. value (piece s (curveOrdinates s (a .table) coefs) j) (int (offset s j x) /ᵠ int (pos parts))) at
+    ∙ ap (value (piece s (curveOrdinates s (a .table) coefs) i)) (ap (λ y. int y /ᵠ int (pos parts)) o ∙ fine-over-parts z)
+
+pub exact-curve-at-discontinuity : ExactCurveAtDiscontinuity
+unfolding iterated
+exact-curve-at-discontinuity s a coefs j h o =
+    let c = accepted-checked s a in
+    curve-after s a coefs (fine (break s (suc j))) (pos (width s j)) (breakpoint-in-span s (c .1) (suc j) (omega arith)) j (discontinuities-belong-before s (c .0) j h o) (sym (fineWidth-is s (c .1) j (omega arith)))
+
+pub exact-curve-at-other-join : ExactCurveAtOtherJoin
+unfolding iterated
+exact-curve-at-other-join s a coefs j h o =
+    let c = accepted-checked s a in
+    curve-after s a coefs (fine (break s (suc j))) (pos 0) (breakpoint-in-span s (c .1) (suc j) (omega arith)) (suc j) (other-joins-belong-after s (c .0) j h o) (+-neg (fine (break s (suc j))))

@@ -1,5 +1,5 @@
--- The theorems at two spaces of document 01's cases, W4 and W5, with numbers: ordinates that join smoothly, ordinates that
--- do not, and the derivatives from both sides.
+-- The theorems at three spaces of document 01's cases, W4, W5 and W9, with numbers: ordinates that join smoothly, ordinates
+-- that do not, the derivatives from both sides, and the exact curve at a join.
 use mathlib.Core.Path.{_≡_, refl, sym, _∙_, ap}
 use mathlib.Core.List.{List, [], _∷_}
 use Prim.Native.Nat.{ℕ, zero, suc, _<_, _-_}
@@ -10,21 +10,23 @@ use Rattle.exact.specs.Gcd.{gcd, gcdF}
 use Rattle.exact.specs.Rational.{ℚ, mk, int, inv, _+ᵠ_, _*ᵠ_, -ᵠ_, _/ᵠ_, _//_}
 use Rattle.exact.specs.Sum.{sum}
 use Rattle.exact.specs.Tabulate.{tab}
+use Rattle.exact.proofs.Integer.{up}
 use Rattle.exact.proofs.Rational.{int-inj}
 use Rattle.spline.specs.Search.{last}
 use Rattle.spline.specs.Space.{segments, conditionCount, firstColumn, conditionsBefore}
 use Rattle.spline.specs.Conditions.{falling, binomial, alternating, undivided, commonDivisor, conditions}
 use Rattle.spline.specs.Table.{Row}
 use Rattle.spline.specs.Piecewise.{Meets, pairing, combination}
-use Rattle.spline.specs.Reading.{parts, segmentAt, offset}
+use Rattle.spline.specs.Reading.{parts, startsAtDiscontinuity, startsBy, segmentAt, offset}
 use Rattle.spline.specs.ExactCurve.{exactCurve}
-use Rattle.spline.specs.Cases.{space4, space5}
+use Rattle.spline.specs.Cases.{space4, space5, space9}
 use Rattle.theorems.proofs.Instances.{q0, q1, multipliers4, ordinates4, checked4, table5, ordinates5, accepted5, given5, checked5}
+use Rattle.closeness.proofs.Instances.{table9, coefs9, accepted9, exact9}
 use Rattle.smoothness.specs.Polynomial.{value, _+ᵖ_, _·ᵖ_, _*ᵖ_, power, total, derivative, iterated}
 use Rattle.smoothness.specs.Bernstein.{bernsteinPolynomial, bernsteinForm}
 use Rattle.smoothness.specs.Smoothness.{piece, leftDerivative, rightDerivative, Smooth, curveOrdinates}
 use Rattle.smoothness.proofs.Smoothness.{conditions-are-smoothness, combinations-are-smooth, smooth-curves-are-combinations}
-use Rattle.smoothness.proofs.Curve.{exact-curve-is-polynomial}
+use Rattle.smoothness.proofs.Curve.{exact-curve-is-polynomial, exact-curve-at-discontinuity, exact-curve-at-other-join}
 
 -- ---- polynomials
 
@@ -114,13 +116,24 @@ coefs5 = pos 0 ∷ pos 4 ∷ pos 2 ∷ pos 8 ∷ pos 1 ∷ []
 
 -- after half a ring the polynomial, times 256, is 256 (12/2 - 15/4 + 7/8) = 800
 half5 : value (piece space5 (curveOrdinates space5 table5 coefs5) (segmentAt space5 (pos 128))) (int (offset space5 (segmentAt space5 (pos 128)) (pos 128)) /ᵠ int (pos parts)) ≡ int (pos 800)
-unfolding gcd gcdF mk int inv _+ᵠ_ _*ᵠ_ -ᵠ_ _//_ sum tab last firstColumn binomial combination segmentAt value _+ᵖ_ _·ᵖ_ _*ᵖ_ power total bernsteinPolynomial bernsteinForm piece
+unfolding gcd gcdF mk int inv _+ᵠ_ _*ᵠ_ -ᵠ_ _//_ sum tab last firstColumn binomial combination startsAtDiscontinuity startsBy segmentAt value _+ᵖ_ _·ᵖ_ _*ᵖ_ power total bernsteinPolynomial bernsteinForm piece
 half5 = refl
 
 -- and so is the exact curve
 exact5 : exactCurve space5 table5 coefs5 (pos 128) ≡ int (pos 800)
 unfolding accepted5
 exact5 = exact-curve-is-polynomial space5 accepted5 coefs5 (pos 128) tt ∙ half5
+
+-- at the join of order 2 it is where the second polynomial starts
+join5 : exactCurve space5 table5 coefs5 (pos 256) ≡ rightDerivative space5 (curveOrdinates space5 table5 coefs5) 0 0
+unfolding accepted5
+join5 = exact-curve-at-other-join space5 accepted5 coefs5 0 (omega arith) (λ e. let z : _≡_ {A = ℕ} 2 0 = ap up e in absurd (omega arith))
+
+-- ---- W9: at the discontinuity the exact curve, 2560, is where the first polynomial ends
+
+end9 : leftDerivative space9 (curveOrdinates space9 table9 coefs9) 0 0 ≡ int (pos 2560)
+unfolding accepted9
+end9 = sym (exact-curve-at-discontinuity space9 accepted9 coefs9 0 (omega arith) refl) ∙ exact9
 
 -- ---- W4: breaks 0,1,3, degrees 2,3, order 1
 

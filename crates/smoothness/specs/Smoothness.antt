@@ -4,11 +4,11 @@ use mathlib.Core.Path.{_≡_}
 use mathlib.Core.Logic.{_↔_}
 use mathlib.Core.List.{List, map}
 use Prim.Native.Nat.{ℕ, suc, _+_, _-_, _<_}
-use lib.IntN.{ℤ, pos}
+use lib.IntN.{ℤ, pos, negsuc}
 use lib.ListN.{length}
 use Rattle.exact.specs.Rational.{ℚ, int, _/ᵠ_}
 use Rattle.spline.specs.Outcome.{answer}
-use Rattle.spline.specs.Space.{Space, segments, degree, width, firstColumn, columnCount, conditionCount, checked}
+use Rattle.spline.specs.Space.{Space, segments, break, degree, order, width, firstColumn, columnCount, conditionCount, checked}
 use Rattle.spline.specs.Table.{Row, Table, entry}
 use Rattle.spline.specs.Piecewise.{Meets, Accepted, combination}
 use Rattle.spline.specs.Reading.{parts, fine, segmentAt, offset}
@@ -58,3 +58,13 @@ curveOrdinates s t coefs = combination (columnCount s) (map (λ c. int (fine c))
 abbrev pub ExactCurveIsPolynomial : Type 0
 ExactCurveIsPolynomial = (s : Space) (a : Accepted s) (coefs : List ℤ) (x : ℤ) → InSpan s x
     → exactCurve s (a .table) coefs x ≡ value (piece s (curveOrdinates s (a .table) coefs) (segmentAt s x)) (int (offset s (segmentAt s x) x) /ᵠ int (pos parts))
+
+-- At a join of order -1 it is where the piece before the join ends.
+abbrev pub ExactCurveAtDiscontinuity : Type 0
+ExactCurveAtDiscontinuity = (s : Space) (a : Accepted s) (coefs : List ℤ) (j : ℕ) → suc j < segments s → order s j ≡ negsuc 0
+    → exactCurve s (a .table) coefs (fine (break s (suc j))) ≡ leftDerivative s (curveOrdinates s (a .table) coefs) j 0
+
+-- At a join of any other order it is where the piece after the join starts.
+abbrev pub ExactCurveAtOtherJoin : Type 0
+ExactCurveAtOtherJoin = (s : Space) (a : Accepted s) (coefs : List ℤ) (j : ℕ) → suc j < segments s → ¬ (order s j ≡ negsuc 0)
+    → exactCurve s (a .table) coefs (fine (break s (suc j))) ≡ rightDerivative s (curveOrdinates s (a .table) coefs) j 0

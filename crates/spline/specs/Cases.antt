@@ -1,5 +1,6 @@
--- The cases W1 to W10 (document 01, "Sheet and printout" for W1 and "Cases" for the others) as one table of inputs and
--- outcomes. The two statements at the end are proved by computation in proofs/Cases.
+-- The cases W1 to W10 (document 01, "Sheet and printout" for W1 and "Cases" for the others; W9 as document 02, CR 5, has it)
+-- as one table of inputs and outcomes, and the segments of positions on joins of each kind and beside them. The statements at
+-- the end are proved by computation in proofs/Cases.
 use mathlib.Core.Path.{_≡_}
 use mathlib.Core.List.{List, [], _∷_, map}
 use Prim.Native.Nat.{ℕ}
@@ -10,6 +11,7 @@ use Rattle.spline.specs.Space.{Space}
 use Rattle.spline.specs.Table.{Table, tableCells}
 use Rattle.spline.specs.Build.{built}
 use Rattle.spline.specs.Published.{extraction}
+use Rattle.spline.specs.Reading.{segmentAt}
 use Rattle.spline.specs.CurveCall.{curveOutcome}
 use Rattle.spline.specs.Listing.{Weight, tableWeights}
 
@@ -113,9 +115,17 @@ space9 = space (0 ∷ 1 ∷ 2 ∷ []) (1 ∷ 1 ∷ []) (negℤ (pos 1) ∷ [])
 abbrev pub weights9 : List Weight
 weights9 = weightAt 0 0 1 1 ∷ weightAt 1 1 1 1 ∷ weightAt 2 2 1 1 ∷ weightAt 3 3 1 1 ∷ []
 
+-- Three segments of degree 1, one ring each, with these orders at their two joins.
+abbrev pub threeLines : ℤ → ℤ → Space
+threeLines first second = space (0 ∷ 1 ∷ 2 ∷ 3 ∷ []) (1 ∷ 1 ∷ 1 ∷ []) (first ∷ second ∷ [])
+
+-- With two discontinuities every weight is the identity's.
+abbrev pub threeLinesWeights : List Weight
+threeLinesWeights = weightAt 0 0 1 1 ∷ weightAt 1 1 1 1 ∷ weightAt 2 2 1 1 ∷ weightAt 3 3 1 1 ∷ weightAt 4 4 1 1 ∷ weightAt 5 5 1 1 ∷ []
+
 -- ---- the table
 
--- W1 to W10, in document 01's words where it gives a case in a sentence.
+-- W1 to W10, in the papers' words where they give a case in a sentence, and a space beside W9 with two discontinuities.
 unfoldable pub cases : List Case
 cases =
     -- W1
@@ -136,17 +146,45 @@ cases =
     -- W8: "order 0 accepted, order 1 gives 5, place 0"
     line (space8 0) building (answers 4 weights8 []) ∷
     line (space8 1) building (refusal 5 0) ∷
-    -- W9: "coefs 0,10,20,30: at 256, 5120"
-    line space9 (reading (pos 0 ∷ pos 10 ∷ pos 20 ∷ pos 30 ∷ []) (pos 256 ∷ [])) (answers 4 weights9 (pos 5120 ∷ [])) ∷
+    -- W9: "The scar case with coefficients 0, 10, 20, 30 reads 2560 at 256"
+    line space9 (reading (pos 0 ∷ pos 10 ∷ pos 20 ∷ pos 30 ∷ []) (pos 256 ∷ [])) (answers 4 weights9 (pos 2560 ∷ [])) ∷
+    -- two discontinuities with one segment between them, each read from the segment that ends there
+    line (threeLines (negℤ (pos 1)) (negℤ (pos 1))) (reading (pos 0 ∷ pos 10 ∷ pos 20 ∷ pos 30 ∷ pos 40 ∷ pos 50 ∷ []) (pos 256 ∷ pos 512 ∷ [])) (answers 6 threeLinesWeights (pos 2560 ∷ pos 7680 ∷ [])) ∷
     -- W10: "three coefficients: 6", with place 4,294,967,295; "the sole position 769: 7, place 0"; "with 768 accepted"
     line space1 (reading (pos 0 ∷ pos 100 ∷ pos 0 ∷ []) (pos 256 ∷ pos 512 ∷ [])) (refusal 6 4294967295) ∷
     line space1 (reading (pos 0 ∷ pos 100 ∷ pos 0 ∷ pos 0 ∷ []) (pos 769 ∷ [])) (refusal 7 0) ∷
     line space1 (reading (pos 0 ∷ pos 100 ∷ pos 0 ∷ pos 0 ∷ []) (pos 768 ∷ [])) (answers 4 weights1 (pos 0 ∷ [])) ∷ []
 
--- ---- the two statements
+-- ---- the segments of positions
+
+-- A space, positions and the segment of each.
+pub record Segments : Type 0 where
+  pub space : Space
+  pub positions : List ℕ
+  pub belong : List ℕ
+
+-- One line of the table of positions.
+abbrev pub among : Space → List ℕ → List ℕ → Segments
+among s positions segments = record { space = s; positions = positions; belong = segments }
+
+-- On the first and the last breakpoint, on the joins and beside them. Both sides of a join of order 0 or more have the same
+-- value there, so that no value shows which segment the join itself belongs to.
+unfoldable pub positionCases : List Segments
+positionCases =
+    -- orders 1 and 0: the segment that starts there
+    among space1 (0 ∷ 255 ∷ 256 ∷ 257 ∷ 768 ∷ []) (0 ∷ 0 ∷ 1 ∷ 1 ∷ 1 ∷ []) ∷
+    among (space8 0) (0 ∷ 255 ∷ 256 ∷ 257 ∷ 512 ∷ []) (0 ∷ 0 ∷ 1 ∷ 1 ∷ 1 ∷ []) ∷
+    -- order -1: the segment that ends there
+    among space9 (0 ∷ 255 ∷ 256 ∷ 257 ∷ 512 ∷ []) (0 ∷ 0 ∷ 0 ∷ 1 ∷ 1 ∷ []) ∷
+    -- two joins with one segment between them
+    among (threeLines (negℤ (pos 1)) (negℤ (pos 1))) (256 ∷ 257 ∷ 511 ∷ 512 ∷ 513 ∷ []) (0 ∷ 1 ∷ 1 ∷ 1 ∷ 2 ∷ []) ∷
+    among (threeLines (negℤ (pos 1)) (pos 0)) (256 ∷ 257 ∷ 511 ∷ 512 ∷ 513 ∷ []) (0 ∷ 1 ∷ 1 ∷ 2 ∷ 2 ∷ []) ∷
+    among (threeLines (pos 0) (negℤ (pos 1))) (255 ∷ 256 ∷ 511 ∷ 512 ∷ 513 ∷ []) (0 ∷ 1 ∷ 1 ∷ 1 ∷ 2 ∷ []) ∷ []
+
+-- ---- the statements
 
 -- P holds of every line of a table.
-abbrev pub Every : (Case → Type 0) → List Case → Type 0
+abbrev pub Every : {A : Type 0} → (A → Type 0) → List A → Type 0
 Every P [] = Unit {0}
 Every P (c ∷ cs) = P c × Every P cs
 
@@ -162,10 +200,18 @@ withPublished c = with-answer (λ r. shown (extraction (c .space)) (r .values)) 
 abbrev pub AsPublished : Case → Type 0
 AsPublished c = withPublished c ≡ c .ends
 
--- All that document 01 says of its cases.
+-- Each position belongs to the segment that its line says.
+abbrev pub Belongs : Segments → Type 0
+Belongs c = map (λ x. segmentAt (c .space) (pos x)) (c .positions) ≡ c .belong
+
+-- All that the papers say of their cases.
 abbrev pub EveryCaseHolds : Type 0
 EveryCaseHolds = Every Holds cases
 
 -- The published construction agrees on them.
 abbrev pub EveryCasePublished : Type 0
 EveryCasePublished = Every AsPublished cases
+
+-- The segments of positions are these.
+abbrev pub EveryPositionBelongs : Type 0
+EveryPositionBelongs = Every Belongs positionCases

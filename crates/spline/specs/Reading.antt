@@ -1,7 +1,7 @@
 -- Reading the curve (document 01, "Reading the curve", up to the exact curve): the segment of a position, the ordinates,
 -- the de Casteljau triangle and the values. Two rules stand in one definition each: `segmentAt` says which segment a
 -- position belongs to, and `rounded` how a quotient becomes a whole number. Coefficients come as a function of the row.
-use mathlib.Core.Bool.{Bool, cond, not}
+use mathlib.Core.Bool.{Bool, false, cond, not}
 use mathlib.Core.List.{List, map}
 use mathlib.Core.Option.{Option, some, none, Option·getD}
 use Prim.Native.Nat.{ℕ, zero, suc, _+_, _*_}
@@ -13,7 +13,7 @@ use Rattle.exact.specs.Order.{isZero}
 use Rattle.exact.specs.Floor.{floorDiv}
 use Rattle.exact.specs.Tabulate.{tab}
 use Rattle.spline.specs.Search.{last}
-use Rattle.spline.specs.Space.{Space, segments, break, degree, width, firstColumn, columnCount}
+use Rattle.spline.specs.Space.{Space, segments, break, degree, width, isDiscontinuity, firstColumn, columnCount}
 use Rattle.spline.specs.Table.{Table, cell}
 
 -- Positions count 256ths of a ring, values 256ths of a thousandth of a millimetre.
@@ -24,10 +24,20 @@ parts = 256
 abbrev pub fine : ℤ → ℤ
 fine z = pos parts *ℤ z
 
--- "A position belongs to the last stretch that starts at or before it"; the last breakpoint, where no segment starts,
--- thereby to the last one. Before the first breakpoint, where number 7 refuses, it is segment 0.
+-- Segment i starts at a discontinuity; the first breakpoint is no join.
+unfoldable pub startsAtDiscontinuity : Space → ℕ → Bool
+startsAtDiscontinuity s zero = false
+startsAtDiscontinuity s (suc i) = isDiscontinuity s i
+
+-- Segment i "starts at or before" the position; where it starts at a discontinuity, before it.
+unfoldable pub startsBy : Space → ℤ → ℕ → Bool
+startsBy s x i = cond (startsAtDiscontinuity s i) (ltZ (fine (break s i)) x) (leZ (fine (break s i)) x)
+
+-- "A position belongs to the last stretch that starts at or before it", and "exactly on" a discontinuity "to the stretch
+-- that ends there" (document 02, CR 5). The last breakpoint, where no segment starts, thereby belongs to the last one. Before
+-- the first breakpoint, where number 7 refuses, it is segment 0.
 unfoldable pub segmentAt : Space → ℤ → ℕ
-segmentAt s x = Option·getD (last (segments s) (λ i. leZ (fine (break s i)) x)) 0
+segmentAt s x = Option·getD (last (segments s) (startsBy s x)) 0
 
 -- "floor": the whole number that stands for z / d.
 unfoldable pub rounded : ℤ → ℕ → ℤ

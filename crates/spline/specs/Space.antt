@@ -109,6 +109,10 @@ width s i = natAbs (break s (suc i) -ℤ break s i)
 abbrev pub conditionCount : Space → ℕ → ℕ
 conditionCount s i = natAbs (order s i +ℤ pos 1)
 
+-- Join i is a discontinuity, document 01's "scar, no condition": its order is -1.
+abbrev pub isDiscontinuity : Space → ℕ → Bool
+isDiscontinuity s i = eqb (conditionCount s i) 0
+
 -- The first column of segment i: the segments before it have degree + 1 columns each.
 unfoldable pub firstColumn : Space → ℕ → ℕ
 firstColumn s zero = 0

@@ -29,16 +29,14 @@ use Rattle.triangle.proofs.Local.{local-at}
 both : (a b : Bool) → T a → T b → T (a && b)
 both true b p q = q
 
-module _ (b d o : List ℤ) (h : ListsLegal b d o) (x : ℤ) (w : Within (space b d []) x) (i : ℕ) (at : i ≡ segmentAt (space b d []) x) where
+module _ (b d o : List ℤ) (h : ListsLegal b d o) (x : ℤ) (w : Within (space b d o) x) (i : ℕ) (at : i ≡ segmentAt (space b d o) x) where
   checks : Checked (space b d o)
   checks = checked-inverts (space b d o) (legal-checked b d o h) .1
 
   inside : InSpan (space b d o) x
   inside = both (leZ (fine (getD b 0 (pos 0))) x) _ (w .low .le) (w .high .le)
 
-  -- the orders do not matter
   held : Located (space b d o) x i
-  unfolding segmentAt
   held = subst (Located (space b d o) x) (sym at) (located (space b d o) checks x inside)
 
   pub segment-within : i < length d
@@ -76,11 +74,11 @@ module _ (b d o : List ℤ) (h : ListsLegal b d o) (i : ℕ) (l : i < length d) 
 
 -- ---- the value, from the segment's ordinates in an array of six
 
-pub blended-local : (b d os : List ℤ) (x : ℤ) (i c p : ℕ) (u e : ℤ) → p < 6 → c ≡ firstColumn (space [] d []) i → p ≡ degree (space [] d []) i
+pub blended-local : (b d o os : List ℤ) (x : ℤ) (i c p : ℕ) (u e : ℤ) → p < 6 → c ≡ firstColumn (space [] d []) i → p ≡ degree (space [] d []) i
     → u ≡ offset (space b [] []) i x → e ≡ pos (fineWidth (space b [] []) i)
-    → triangle (natAbs e) u (λ k. getD (localOf os c p) k (pos 0)) p 0 ≡ blended (space b d []) os i x
+    → triangle (natAbs e) u (λ k. getD (localOf os c p) k (pos 0)) p 0 ≡ blended (space b d o) os i x
 unfolding blended
-blended-local b d os x i c p u e l c-is p-is u-is e-is =
+blended-local b d o os x i c p u e l c-is p-is u-is e-is =
     triangle-ext (natAbs e) u (λ k. getD (localOf os c p) k (pos 0)) (λ k. getD os (c + k) (pos 0)) p (λ k h. local-at os c p k l h) p 0 (omega arith)
-    ∙ ap₂ (λ z n. triangle (natAbs z) u (λ k. getD os (n + k) (pos 0)) p 0) e-is (c-is ∙ first-column-partial b d [] i)
-    ∙ ap₂ (λ z n. triangle (fineWidth (space b [] []) i) z (λ k. getD os (firstColumn (space b d []) i + k) (pos 0)) n 0) u-is p-is
+    ∙ ap₂ (λ z n. triangle (natAbs z) u (λ k. getD os (n + k) (pos 0)) p 0) e-is (c-is ∙ first-column-partial b d o i)
+    ∙ ap₂ (λ z n. triangle (fineWidth (space b [] []) i) z (λ k. getD os (firstColumn (space b d o) i + k) (pos 0)) n 0) u-is p-is

@@ -1,11 +1,10 @@
 // The value at one position: its segment, the segment's ordinates, and the de Casteljau triangle on them.
 ghost use mathlib.Core.Path.{_≡_};
-ghost use mathlib.Core.List.{List, []};
+ghost use mathlib.Core.List.{[]};
 ghost use mathlib.Core.Option.{Option·getD};
 ghost use Prim.Native.Nat.{_+_, _<_, _≤_};
-ghost use lib.IntN.{ℤ, pos};
-ghost use lib.ListN.{length, getD};
-ghost use lib.Signed.{leZ};
+ghost use lib.IntN.{pos};
+ghost use lib.ListN.{length};
 ghost use Rattle.space.specs.Reply.{space};
 ghost use Rattle.space.specs.Legal.{BreaksLegal, ListsLegal};
 ghost use Rattle.spline.specs.Search;
@@ -15,10 +14,36 @@ ghost use Rattle.triangle.specs.Reading.{columnsOf, localOf, Within};
 
 mod triangle;
 
-// The last segment that starts at or before position x.
-fn segment_at(breaks: &[i32], m: usize, x: i32) -> usize
-    requires { ⌜ (m < length (now breaks)) × BreaksLegal (now breaks) ⌝ }
-    ensures { λ r. ⌜ r ≡ Option·getD (Search.last m (λ i. leZ (Reading.fine (getD (now (breaks .entry)) i (pos 0))) x)) 0 ⌝ }
+const DISCONTINUITY: i32 = -1;
+
+// Whether segment i starts at a discontinuity.
+fn starts_at_discontinuity(orders: &[i32], i: usize) -> bool
+    requires { ⌜ i ≤ length (now orders) ⌝ }
+    ensures { λ r. ⌜ r ≡ Reading.startsAtDiscontinuity (space [] [] (now (orders .entry))) i ⌝ }
+{
+    if i == 0 {
+        return false;
+    }
+    let order = orders[i - 1];
+    order == DISCONTINUITY
+}
+
+// Whether segment i starts before position x, or at it where that is no discontinuity.
+fn starts_by(breaks: &[i32], orders: &[i32], i: usize, x: i32) -> bool
+    requires { ⌜ ((i < length (now breaks)) × (i ≤ length (now orders))) × BreaksLegal (now breaks) ⌝ }
+    ensures { λ r. ⌜ r ≡ Reading.startsBy (space (now (breaks .entry)) [] (now (orders .entry))) x i ⌝ }
+{
+    let start = 256 * breaks[i];
+    if starts_at_discontinuity(orders, i) {
+        return start < x;
+    }
+    start <= x
+}
+
+// The last of m segments that starts by position x.
+fn segment_at(breaks: &[i32], orders: &[i32], m: usize, x: i32) -> usize
+    requires { ⌜ ((m < length (now breaks)) × (m ≤ length (now orders) + 1)) × BreaksLegal (now breaks) ⌝ }
+    ensures { λ r. ⌜ r ≡ Option·getD (Search.last m (Reading.startsBy (space (now (breaks .entry)) [] (now (orders .entry))) x)) 0 ⌝ }
 {
     let mut i = m;
     let at = loop {
@@ -26,8 +51,7 @@ fn segment_at(breaks: &[i32], m: usize, x: i32) -> usize
             break 0;
         }
         i -= 1;
-        let start = 256 * breaks[i];
-        if start <= x {
+        if starts_by(breaks, orders, i, x) {
             break i;
         }
     };
@@ -71,15 +95,16 @@ fn offset(breaks: &[i32], i: usize, x: i32) -> i64
 pub fn value_at(
     breaks: &[i32],
     degrees: &[i32],
+    orders: &[i32],
     columns: &[usize],
     ordinates: &[i64],
     x: i32,
 ) -> i32
-    requires { ⌜ ((orders : List ℤ) × ListsLegal (now breaks) (now degrees) orders) × Within (space (now breaks) (now degrees) []) x ⌝ }
+    requires { ⌜ ListsLegal (now breaks) (now degrees) (now orders) × Within (space (now breaks) (now degrees) (now orders)) x ⌝ }
     requires { ⌜ (now columns ≡ columnsOf (space [] (now degrees) [])) × ((length (now ordinates) ≡ 72) × Bounded (now ordinates)) ⌝ }
-    ensures { λ r. ⌜ r ≡ Reading.blended (space (now (breaks .entry)) (now (degrees .entry)) []) (now (ordinates .entry)) (Reading.segmentAt (space (now (breaks .entry)) (now (degrees .entry)) []) x) x ⌝ }
+    ensures { λ r. ⌜ r ≡ Reading.blended (space (now (breaks .entry)) (now (degrees .entry)) (now (orders .entry))) (now (ordinates .entry)) (Reading.segmentAt (space (now (breaks .entry)) (now (degrees .entry)) (now (orders .entry))) x) x ⌝ }
 {
-    let i = segment_at(breaks, degrees.len(), x);
+    let i = segment_at(breaks, orders, degrees.len(), x);
     let p = space::degree_at(degrees, i);
     let u = offset(breaks, i, x);
     let d = fine_width(breaks, i);

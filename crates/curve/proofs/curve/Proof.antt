@@ -2,9 +2,8 @@
 use borrow.Author.Needs.{needs}
 use native.Mathlib.Omega.{arith}
 use mathlib.Core.Path.{_≡_, sym, _∙_, ap, subst}
-use mathlib.Core.List.{_++_}
 use Prim.Native.Nat.{_≤_}
-use lib.ListN.{length, drop}
+use lib.ListN.{length}
 use Rattle.spline.specs.Outcome.{Outcome, answer}
 use Rattle.spline.specs.Space.{Space, rowCount}
 use Rattle.spline.specs.Table.{tableCells, numerators, denominators}
@@ -20,7 +19,7 @@ use Rattle.weights.specs.Reply as building
 use Rattle.weights.proofs.Building.{built-weights}
 use Rattle.ordinates.specs.Ordinates.{Weighs, Coefficients}
 use Rattle.limits.proofs.Refused.{curve-numbers}
-use Rattle.curve.proofs.Call.{ends-refused, ends-unchanged, ends-written, first-short, second-short, third-short, call-refused, call-stopped, call-answers, HasRows, refused-inverts, rows-inverts, checks-answer, lists-legal, coefficients-good, positions-good, weights-rows, weights-held, weights-good, values-orders}
+use Rattle.curve.proofs.Call.{ends-refused, ends-unchanged, ends-written, first-short, second-short, third-short, call-refused, call-stopped, call-answers, HasRows, refused-inverts, rows-inverts, checks-answer, lists-legal, coefficients-good, positions-good, weights-rows, weights-held, weights-good}
 use Rattle.curve.proofs.curve.Statement.{statement}
 use Rattle.curve.proofs.curve.Tie as tie
 
@@ -134,7 +133,7 @@ write-values-requires c κs =
     let b = done k in
     let p = passes (told b) in
     let a = s b .args in (
-      ((a .orders .now, lists-legal _ _ _ _ _ p), positions-good (a .breaks .now) (a .degrees .now) (a .orders .now) (a .coefs .now) (a .positions .now) p),
+      (lists-legal _ _ _ _ _ p, positions-good (a .breaks .now) (a .degrees .now) (a .orders .now) (a .coefs .now) (a .positions .now) p),
       (
         (subst (Weighs (b .build .last .1 .1 .1 .0) (b .build .last .1 .1 .1 .1 .0)) (sym (has-rows k .rows)) (weighed k), subst (Coefficients (a .coefs .now)) (sym (has-rows k .rows)) (coefficients-good (a .breaks .now) (a .degrees .now) (a .orders .now) (a .coefs .now) (a .positions .now) p)),
         third-long (long (told b)),
@@ -182,7 +181,7 @@ returns-6 c =
     let l = long (told b) in
     let a = s b .args in
     let o = call-answers (lists (s b)) (a .coefs .now) (a .positions .now) _ _ _ (first-long l) (second-long l) (third-long l) (checks-answer _ _ _ _ _ (passes (told b))) (weights-are k) in
-    let v = c .before .write-values .ensures (has-rows k .table) (held k) (counted k) ∙ ap (λ vs. vs ++ drop (length (a .positions .now)) (a .values .now)) (values-orders (a .breaks .now) (a .degrees .now) (a .orders .now) (has-rows k .table) (a .coefs .now) (a .positions .now)) in
+    let v = c .before .write-values .ensures (has-rows k .table) (held k) (counted k) in
     let e = ends-written {o = outcome (s b)} (a .num .now) (a .den .now) (a .values .now) o (values-length (lists (s b)) (has-rows k .table) (a .coefs .now) (a .positions .now)) (numerators-are k) (denominators-are k) v in
     (e .answers, (e .numerators-are, (e .denominators-are, e .values-are)))
 

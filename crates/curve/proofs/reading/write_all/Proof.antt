@@ -1,7 +1,7 @@
 -- `curve::reading::write_all` meets its contract: below k stand the values of the first k positions, from k on what the cells
 -- held. Assumes nothing.
 use native.Mathlib.Omega.{arith}
-use mathlib.Core.List.{List, [], _++_, map}
+use mathlib.Core.List.{List, _++_, map}
 use mathlib.Core.Path.{_≡_, sym, ap, ap₂, _∙_}
 use Prim.Native.Nat.{ℕ, _≤_, _-_}
 use lib.IntN.{ℤ, pos}
@@ -17,15 +17,15 @@ use Rattle.curve.proofs.reading.write_all.Statement.{statement}
 use Rattle.curve.proofs.reading.write_all.Tie as tie
 
 -- the value at position x
-abbrev value : List ℤ → List ℤ → List ℤ → ℤ → ℤ
-value breaks degrees ordinates x = blended (space breaks degrees []) ordinates (segmentAt (space breaks degrees []) x) x
+abbrev value : List ℤ → List ℤ → List ℤ → List ℤ → ℤ → ℤ
+value breaks degrees orders ordinates x = blended (space breaks degrees orders) ordinates (segmentAt (space breaks degrees orders) x) x
 
 abbrev Inv-loop : tie.InvT-loop
-Inv-loop breaks degrees columns ordinates positions values₀ k₀ values k =
-    (k ≤ length positions) × ((length values ≡ length values₀) × (values ≡ tab k (λ j. value breaks degrees ordinates (getD positions j (pos 0))) ++ drop k values₀))
+Inv-loop breaks degrees orders columns ordinates positions values₀ k₀ values k =
+    (k ≤ length positions) × ((length values ≡ length values₀) × (values ≡ tab k (λ j. value breaks degrees orders ordinates (getD positions j (pos 0))) ++ drop k values₀))
 
 abbrev μ-loop : tie.MeasureT-loop
-μ-loop breaks degrees columns ordinates positions values₀ k₀ values k = length positions - k
+μ-loop breaks degrees orders columns ordinates positions values₀ k₀ values k = length positions - k
 
 loop-holds : tie.Need-loop-holds Inv-loop μ-loop
 loop-holds c = (omega arith, (omega arith, tab-none _ _))
@@ -63,12 +63,12 @@ loop-less c = omega arith
 
 -- the values in list order
 values-of : tie.Start Inv-loop μ-loop → ℕ → ℤ
-values-of s j = value (s .args .breaks .now) (s .args .degrees .now) (s .args .ordinates .now) (getD (s .args .positions .now) j (pos 0))
+values-of s j = value (s .args .breaks .now) (s .args .degrees .now) (s .args .orders .now) (s .args .ordinates .now) (getD (s .args .positions .now) j (pos 0))
 
 module _ (c : tie.After-value-at Inv-loop μ-loop) where
   stored : toZ w32 (ofZ w32 (c .value-at .result)) ≡ values-of (start (c .before)) (c .before .before .before .loop .k)
   unfolding values-of
-  stored = toZ-ofZ w32 (c .value-at .result) (record { sfits = c .value-at .ok }) ∙ c .value-at .ensures ∙ ap (value (start (c .before) .args .breaks .now) (start (c .before) .args .degrees .now) (start (c .before) .args .ordinates .now)) (x-is (c .before))
+  stored = toZ-ofZ w32 (c .value-at .result) (record { sfits = c .value-at .ok }) ∙ c .value-at .ensures ∙ ap (value (start (c .before) .args .breaks .now) (start (c .before) .args .degrees .now) (start (c .before) .args .orders .now) (start (c .before) .args .ordinates .now)) (x-is (c .before))
 
 loop-again : tie.Need-loop-again Inv-loop μ-loop
 unfolding values-of
@@ -84,7 +84,7 @@ returns : tie.Need-returns Inv-loop μ-loop
 returns c =
     let s = c .before .before .before in
     let ps = s .args .positions .now in
-    let f = value (s .args .breaks .now) (s .args .degrees .now) (s .args .ordinates .now) in
+    let f = value (s .args .breaks .now) (s .args .degrees .now) (s .args .orders .now) (s .args .ordinates .now) in
     c .before .loop .inv .1 .1
     ∙ ap (λ (k : ℕ). tab k (λ j. f (getD ps j (pos 0))) ++ drop k (s .args .values .now)) (let e : c .before .loop .k ≡ length ps = omega arith in e)
     ∙ ap (λ (l : List ℤ). l ++ drop (length ps) (s .args .values .now)) (sym (map-tab f (length ps) (λ j. getD ps j (pos 0))) ∙ ap (map f) (tab-self ps (pos 0)))

@@ -2,7 +2,7 @@
 -- nothing.
 use borrow.Author.Needs.{needs}
 use native.Mathlib.Omega.{arith}
-use mathlib.Core.List.{List, [], _++_, map}
+use mathlib.Core.List.{List, _++_, map}
 use mathlib.Core.Path.{_≡_, sym, ap, _∙_}
 use Prim.Native.Nat.{_≤_}
 use lib.IntN.{ℤ}
@@ -18,13 +18,13 @@ use Rattle.curve.proofs.reading.write_values.Tie as tie
 
 module _ (c : tie.After-first-column) where
   abbrev whole : Space
-  whole = space (c .before .args .breaks .now) (c .before .args .degrees .now) []
+  whole = space (c .before .args .breaks .now) (c .before .args .degrees .now) (c .before .args .orders .now)
 
   count-is : columnCount whole ≡ c .first-column .result
-  count-is = sym (column-count-partial (whole .breaks) (whole .degrees) []) ∙ sym (c .first-column .ensures)
+  count-is = sym (column-count-partial (whole .breaks) (whole .degrees) (whole .orders)) ∙ sym (c .first-column .ensures)
 
   count-small : columnCount whole ≤ 72
-  count-small = omega (arith, column-count-partial (whole .breaks) (whole .degrees) [], column-count-partial (whole .breaks) (whole .degrees) (c .before .pre .0 .0 .0), legal-column-count-high (whole .breaks) (whole .degrees) (c .before .pre .0 .0 .0) (c .before .pre .0 .0 .1))
+  count-small = legal-column-count-high (whole .breaks) (whole .degrees) (whole .orders) (c .before .pre .0 .0)
 
 first-column-requires : tie.Need-first-column-requires
 first-column-requires c κs = search needs
