@@ -8,7 +8,7 @@ use Rattle.exact.specs.Gcd.{gcdF, gcd}
 use Rattle.exact.specs.Rational.{mk, int, _+ᵠ_, _*ᵠ_, -ᵠ_, _-ᵠ_, inv, _/ᵠ_, _//_}
 use Rattle.exact.specs.Order.{leᵠ, ltᵠ, isZero, absᵠ}
 use Rattle.exact.specs.Sum.{sum}
-use Rattle.exact.specs.Floor.{floorDiv, floor}
+use Rattle.exact.specs.Floor.{floorDiv, nearest, floor}
 use Rattle.exact.specs.Tabulate.{tab, updated}
 
 gcd-84-30 : gcd 84 30 ≡ 6
@@ -56,6 +56,16 @@ quotient-rounds-down = refl
 floor-rounds-down : floor (negsuc 0 // 1) ≡ negsuc 0
 unfolding floor _//_ mk gcd gcdF
 floor-rounds-down = refl
+
+-- to the nearest, above and below zero: 7/3 is 2, 8/3 is 3, -7/3 is -2, -8/3 is -3
+nearest-of-thirds : nearest (pos 7) 3 ∷ nearest (pos 8) 3 ∷ nearest (negsuc 6) 3 ∷ nearest (negsuc 7) 3 ∷ [] ≡ pos 2 ∷ pos 3 ∷ negsuc 1 ∷ negsuc 2 ∷ []
+unfolding nearest
+nearest-of-thirds = refl
+
+-- a half goes up: 1/2 is 1, -1/2 is 0, -3/2 is -1
+nearest-of-halves : nearest (pos 1) 2 ∷ nearest (negsuc 0) 2 ∷ nearest (negsuc 2) 2 ∷ [] ≡ pos 1 ∷ pos 0 ∷ negsuc 0 ∷ []
+unfolding nearest
+nearest-of-halves = refl
 
 -- 0, 1, 2, 3 with 9 stored at place 2
 table-after-store : tab 4 (updated (λ i. i) 2 9) ≡ 0 ∷ 1 ∷ 9 ∷ 3 ∷ []

@@ -1,15 +1,16 @@
--- Laws of rounding down: the floored quotient of integers and the floor of a rational number, each determined by its two
--- bounds. The bounds of the quotient alone are Integer's, and are passed on here.
+-- Laws of rounding down and to the nearest: the floored quotient of integers, the nearest integer to a quotient and the
+-- floor of a rational number, each determined by its two bounds. The bounds of the floored quotient alone are Integer's, and
+-- are passed on here.
 use mathlib.Core.Path.{_≡_, refl, sym, _∙_, ap, subst}
 use mathlib.Core.List.{[], _∷_}
-use Prim.Native.Nat.{ℕ, zero, suc, _*_, _<_, _≤_}
+use Prim.Native.Nat.{ℕ, zero, suc, _+_, _*_, _<_, _≤_}
 use native.Mathlib.Omega.{arith}
 use native.Mathlib.Nat.{mul-pos}
-use lib.IntN.{ℤ, pos, negsuc, negℤ, natAbs, _+ℤ_, _*ℤ_}
+use lib.IntN.{ℤ, pos, negsuc, negℤ, natAbs, _+ℤ_, _-ℤ_, _*ℤ_}
 use lib.Signed.{_≤ℤ_, _<ℤ_, shrZ, ≤ℤ-refl}
 use Rattle.exact.specs.Rational.{ℚ, den, mk, _+ᵠ_, -ᵠ_, _-ᵠ_, int}
 use Rattle.exact.specs.Order.{_≤ᵠ_, _<ᵠ_}
-use Rattle.exact.specs.Floor.{floorDiv, floor}
+use Rattle.exact.specs.Floor.{floorDiv, nearest, floor}
 use Rattle.exact.proofs.Integer as Z
 use Rattle.exact.proofs.Integer.{ℤ-ring, readsℤ}
 use Rattle.exact.proofs.Ring.{ring, reads}
@@ -58,6 +59,58 @@ pub floorDiv-abs : (z : ℤ) (d k : ℕ) → 0 < d → natAbs z ≤ k * d → na
 floorDiv-abs z d k p h = Z.abs-le-in (floorDiv z d) k
     (le-floorDiv (negℤ (pos k)) z d p (Z.≤-in _ _ (omega (arith, Z.bal-* (negℤ (pos k)) (pos d), ap (λ t. t * d) (Z.bal-neg (pos k) .0), ap (λ t. t * d) (Z.bal-neg (pos k) .1), Z.abs-parts z))))
     (subst (λ t. floorDiv z d ≤ℤ t) (floorDiv-exact (pos k) d p) (floorDiv-mono z (pos k *ℤ pos d) d p (Z.≤-in _ _ (omega (arith, Z.abs-parts z)))))
+
+-- ---- the nearest integer to a quotient
+
+-- twice the error of q as the quotient z / d, by its parts
+error-parts : (q z : ℤ) (d : ℕ) → Z.up (pos 2 *ℤ (z -ℤ q *ℤ pos d)) + 2 * Z.dn z + 2 * Z.up q * d ≡ Z.dn (pos 2 *ℤ (z -ℤ q *ℤ pos d)) + 2 * Z.up z + 2 * Z.dn q * d
+error-parts q z d = omega (arith, Z.bal-* (pos 2) (z -ℤ q *ℤ pos d), Z.bal-+ z (negℤ (q *ℤ pos d)), Z.bal-neg (q *ℤ pos d), Z.bal-* q (pos d))
+
+-- 2 z + d by its parts
+shifted-parts : (z : ℤ) (d : ℕ) → Z.up (pos 2 *ℤ z +ℤ pos d) + 2 * Z.dn z ≡ Z.dn (pos 2 *ℤ z +ℤ pos d) + 2 * Z.up z + d
+shifted-parts z d = omega (arith, Z.bal-+ (pos 2 *ℤ z) (pos d), Z.bal-* (pos 2) z)
+
+-- it is at most half the divisor away, and half of it only where a half goes up
+pub nearest-error : (z : ℤ) (d : ℕ) → 0 < d → (negℤ (pos d) ≤ℤ (pos 2 *ℤ (z -ℤ nearest z d *ℤ pos d))) × ((pos 2 *ℤ (z -ℤ nearest z d *ℤ pos d)) <ℤ pos d)
+unfolding nearest
+nearest-error z d p = let q = floorDiv (pos 2 *ℤ z +ℤ pos d) (2 * d) in (
+  Z.≤-in (negℤ (pos d)) (pos 2 *ℤ (z -ℤ q *ℤ pos d)) (omega (arith, Z.≤-out _ _ (floorDiv-le (pos 2 *ℤ z +ℤ pos d) (2 * d) (omega arith)), Z.bal-neg (pos d), error-parts q z d, shifted-parts z d, Z.bal-* q (pos (2 * d)))),
+  Z.<-in (pos 2 *ℤ (z -ℤ q *ℤ pos d)) (pos d) (omega (arith, Z.<-out _ _ (lt-floorDiv (pos 2 *ℤ z +ℤ pos d) (2 * d) (omega arith)), error-parts q z d, shifted-parts z d, Z.bal-* (q +ℤ pos 1) (pos (2 * d)), ap (λ t. t * d) (Z.bal-+ q (pos 1)))),
+)
+
+-- and no other number is
+pub nearest-unique : (q z : ℤ) (d : ℕ) → 0 < d → negℤ (pos d) ≤ℤ (pos 2 *ℤ (z -ℤ q *ℤ pos d)) → (pos 2 *ℤ (z -ℤ q *ℤ pos d)) <ℤ pos d → q ≡ nearest z d
+unfolding nearest
+nearest-unique q z d p h k = floorDiv-unique q (pos 2 *ℤ z +ℤ pos d) (2 * d) (omega arith)
+    (Z.≤-in (q *ℤ pos (2 * d)) (pos 2 *ℤ z +ℤ pos d) (omega (arith, Z.≤-out _ _ h, Z.bal-neg (pos d), error-parts q z d, shifted-parts z d, Z.bal-* q (pos (2 * d)))))
+    (Z.<-in (pos 2 *ℤ z +ℤ pos d) ((q +ℤ pos 1) *ℤ pos (2 * d)) (omega (arith, Z.<-out _ _ k, error-parts q z d, shifted-parts z d, Z.bal-* (q +ℤ pos 1) (pos (2 * d)), ap (λ t. t * d) (Z.bal-+ q (pos 1)))))
+
+pub nearest-mono : (x y : ℤ) (d : ℕ) → 0 < d → x ≤ℤ y → nearest x d ≤ℤ nearest y d
+unfolding nearest
+nearest-mono x y d p h = floorDiv-mono (pos 2 *ℤ x +ℤ pos d) (pos 2 *ℤ y +ℤ pos d) (2 * d) (omega arith)
+    (Z.≤-in (pos 2 *ℤ x +ℤ pos d) (pos 2 *ℤ y +ℤ pos d) (omega (arith, Z.≤-out x y h, Z.bal-+ (pos 2 *ℤ x) (pos d), Z.bal-+ (pos 2 *ℤ y) (pos d), Z.bal-* (pos 2) x, Z.bal-* (pos 2) y)))
+
+-- a multiple of the divisor comes out
+pub nearest-add : (x z : ℤ) (d : ℕ) → 0 < d → nearest (x +ℤ z *ℤ pos d) d ≡ nearest x d +ℤ z
+unfolding nearest
+nearest-add x z d p = ap (λ t. floorDiv t (2 * d)) (alg x z (pos d)) ∙ floorDiv-add (pos 2 *ℤ x +ℤ pos d) z (2 * d) (omega arith)
+  where
+    alg : (x z d : ℤ) → pos 2 *ℤ (x +ℤ z *ℤ d) +ℤ d ≡ pos 2 *ℤ x +ℤ d +ℤ z *ℤ (pos 2 *ℤ d)
+    alg x z d = ring ℤ-ring (x ∷ z ∷ d ∷ []) (search readsℤ depth 20) (search readsℤ depth 20) refl
+
+pub nearest-exact : (z : ℤ) (d : ℕ) → 0 < d → nearest (z *ℤ pos d) d ≡ z
+nearest-exact z d p = sym (nearest-unique z (z *ℤ pos d) d p
+    (Z.≤-in (negℤ (pos d)) (pos 2 *ℤ (z *ℤ pos d -ℤ z *ℤ pos d)) (omega (arith, Z.bal-neg (pos d), none)))
+    (Z.<-in (pos 2 *ℤ (z *ℤ pos d -ℤ z *ℤ pos d)) (pos d) (omega (arith, none))))
+  where
+    none : Z.up (pos 2 *ℤ (z *ℤ pos d -ℤ z *ℤ pos d)) ≡ Z.dn (pos 2 *ℤ (z *ℤ pos d -ℤ z *ℤ pos d))
+    none = omega (arith, error-parts z (z *ℤ pos d) d, Z.bal-* z (pos d))
+
+-- a number at most k times the divisor in size
+pub nearest-abs : (z : ℤ) (d k : ℕ) → 0 < d → natAbs z ≤ k * d → natAbs (nearest z d) ≤ k
+nearest-abs z d k p h = Z.abs-le-in (nearest z d) k
+    (subst (λ t. t ≤ℤ nearest z d) (nearest-exact (negℤ (pos k)) d p) (nearest-mono (negℤ (pos k) *ℤ pos d) z d p (Z.≤-in (negℤ (pos k) *ℤ pos d) z (omega (arith, Z.bal-* (negℤ (pos k)) (pos d), ap (λ t. t * d) (Z.bal-neg (pos k) .0), ap (λ t. t * d) (Z.bal-neg (pos k) .1), Z.abs-parts z)))))
+    (subst (λ t. nearest z d ≤ℤ t) (nearest-exact (pos k) d p) (nearest-mono z (pos k *ℤ pos d) d p (Z.≤-in _ _ (omega (arith, Z.abs-parts z)))))
 
 -- ---- the floor of a rational number: its two bounds
 pub int-le : (z : ℤ) (q : ℚ) → (z *ℤ pos (den q)) ≤ℤ (q .num) → int z ≤ᵠ q

@@ -1,22 +1,23 @@
 -- Laws of signed machine words. A machine number is bits, a contract's is an integer: bounds by the absolute value give
--- `SFits`, flags give the order, and the quotients that code takes give the floored quotient. `toZ-ofZ` and `toZ-pos`, which
--- read a word back, are the machine logic's, and the laws of the absolute value Integer's: both are passed on.
-use mathlib.Core.Path.{_≡_, refl, sym, ap, _∙_}
+-- `SFits`, flags give the order, and the quotients that code takes give the floored quotient and the nearest number.
+-- `toZ-ofZ` and `toZ-pos`, which read a word back, are the machine logic's, and the laws of the absolute value Integer's:
+-- both are passed on.
+use mathlib.Core.Path.{_≡_, refl, sym, ap, ap₂, _∙_}
 use mathlib.Core.Logic.{_⊎_, inl, inr}
 use mathlib.Core.Bool.{true, false, not}
-use Prim.Native.Nat.{ℕ, zero, suc, _+_, _-_, _/_, _<_, _≤_, _^_}
+use Prim.Native.Nat.{ℕ, zero, suc, _+_, _*_, _-_, _/_, _<_, _≤_, _^_}
 use native.Mathlib.Nat.{lt-of-le-of-lt, div-le-self}
 use native.Mathlib.Omega.{arith}
 use lib.Dec.{T}
-use lib.IntN.{ℤ, pos, negsuc, negℤ, natAbs, _-ℤ_, +ℤ-idl}
+use lib.IntN.{ℤ, pos, negsuc, negℤ, natAbs, _+ℤ_, _-ℤ_, _*ℤ_, +ℤ-idl}
 use lib.Signed.{mag, mag-shr, natAbs-le, quotZ, ltZ, leZ, nonNeg, _≤ℤ_, _<ℤ_, ltZ-yes, ltZ-no, leZ-yes, clashℤ}
 use mir.Syntax.{Width, w32, w64}
 use mir.Val.{Fits, SFits, hbits, ofZ, toZ}
 use mir.ValLaws.{sfits-le, half-full}
 use Rattle.exact.specs.Rational.{signed, signed-abs}
-use Rattle.exact.specs.Floor.{floorDiv}
+use Rattle.exact.specs.Floor.{floorDiv, nearest}
 use Rattle.exact.proofs.Decide.{true-holds, false-fails, holds-true, refuted-false}
-use Rattle.exact.proofs.Integer.{bal-+, bal-neg, ext, <-out, ≤-or->}
+use Rattle.exact.proofs.Integer.{bal-+, bal-*, bal-neg, ext, <-out, ≤-or->}
 use Rattle.exact.proofs.Floor.{floorDiv-shrZ}
 pub use mir.ValLaws.{toZ-ofZ, toZ-pos}
 pub use Rattle.exact.proofs.Integer.{abs-neg, abs-add, abs-sub, abs-mul, abs-mul-le}
@@ -149,6 +150,15 @@ pub flip-floor : (a d : ℤ) → a <ℤ pos 0 → pos 0 <ℤ d → negsuc 0 -ℤ
 flip-floor (pos a) d h k = absurd (omega (arith, <-out (pos a) (pos 0) h))
 flip-floor (negsuc a) (pos d) h k = ap (λ (z : ℤ). negsuc 0 -ℤ quotZ z (pos d)) (flip-neg a) ∙ flip-pos (a / d)
 flip-floor (negsuc a) (negsuc d) h k = absurd (k .lt)
+
+-- the nearest number is the floored quotient of two sums
+pub floor-nearest : (a d : ℤ) → pos 0 <ℤ d → floorDiv (a +ℤ a +ℤ d) (natAbs (d +ℤ d)) ≡ nearest a (natAbs d)
+unfolding nearest
+floor-nearest a (pos n) h = ap₂ floorDiv (ap (λ (z : ℤ). z +ℤ pos n) twice) (let e : n + n ≡ 2 * n = omega arith in e)
+  where
+    twice : a +ℤ a ≡ pos 2 *ℤ a
+    twice = ext (a +ℤ a) (pos 2 *ℤ a) (omega (arith, bal-+ a a, bal-* (pos 2) a))
+floor-nearest a (negsuc n) h = absurd (h .lt)
 
 -- a quotient by a positive number fits where the dividend does
 pub quot-fits : (w : Width) (a : ℤ) (g : ℕ) → 0 < g → SFits w a → SFits w (quotZ a (pos g))

@@ -2,11 +2,12 @@
 // Operands have parts below 2^31 and need not be in lowest terms; every answer is in lowest terms.
 ghost use mathlib.Core.Path.{_≡_};
 ghost use mathlib.Core.Logic.{_≢_};
+ghost use Prim.Native.Nat.{_^_, _<_};
 ghost use lib.IntN.{pos, natAbs};
 ghost use lib.Signed.{_<ℤ_};
 ghost use Rattle.exact.specs.Gcd;
 ghost use Rattle.exact.specs.Rational.{int, _+ᵠ_, _*ᵠ_, _/ᵠ_};
-ghost use Rattle.exact.specs.Floor.{floorDiv};
+ghost use Rattle.exact.specs.Floor.{floorDiv, nearest};
 ghost use Rattle.exact.specs.Order.{ltᵠ};
 ghost use Rattle.fraction.specs.Size.{count};
 ghost use Rattle.fraction.specs.Machine.{fraction, ratio, value, answer, Sized};
@@ -52,6 +53,14 @@ pub fn floor_div(a: i64, d: i64) -> i64
     ensures { λ r. ⌜ r ≡ floorDiv a (natAbs d) ⌝ }
 {
     if a < 0 { -1 - (-1 - a) / d } else { a / d }
+}
+
+// The nearest whole number to the quotient, a half going up: one division, and no product.
+pub fn round_div(a: i64, d: i64) -> i64
+    requires { ⌜ (natAbs a < 2 ^ 61) × ((pos 0 <ℤ d) × (natAbs d < 2 ^ 61)) ⌝ }
+    ensures { λ r. ⌜ r ≡ nearest a (natAbs d) ⌝ }
+{
+    floor_div(a + a + d, d + d)
 }
 
 // n over d in lowest terms.
