@@ -20,7 +20,9 @@
  *            from the segment that starts there, on a discontinuity from the segment that ends there, on the last
  *            breakpoint from the last segment.
  * values     at least one cell for each position: the curve in 256ths of a thousandth of a millimetre, in list order.
- *            Cells past the positions' count keep what they held.
+ *            Each differs from the exact curve by at most (s + p) / 2, on either side, where p is the degree of the
+ *            position's segment and s the most non-zero weights on one of its ordinates, and lies between 256 times the
+ *            least and the greatest coefficient with weight there. Cells past the positions' count keep what they held.
  *
  * Numbers of a refusal, tested in this order (8 and 9 as the build meets them), with their places
  * (WALZHIK_LARGEST_PLACE also stands for anything larger):

@@ -70,12 +70,11 @@ def fault(call, outcome, values):
     """The first value that scipy's curve does not allow, as text, or None."""
     space = Space(call.breaks, call.degrees, call.orders)
     columns = by_column(space, outcome.rows)
-    slack = [most_weights(space, columns, segment) + space.degrees[segment]
+    slack = [(most_weights(space, columns, segment) + space.degrees[segment]) / 2
              for segment in range(len(space.degrees))]
     exact = scipy_values(space, call.coefs, call.positions)
     for position, value, curve in zip(call.positions, values, exact):
-        below = curve - value
-        if not -TOLERANCE <= below < slack[segment_of(space, position)] + TOLERANCE:
+        if abs(curve - value) > slack[segment_of(space, position)] + TOLERANCE:
             return f"at {position}: value {value}, scipy {curve}"
     return None
 

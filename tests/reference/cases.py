@@ -1,5 +1,6 @@
-"""W1 to W10 of document 01, as one table of what the papers state of them: W9
-as document 02's CR 5 has it.
+"""W1 to W10 of document 01, as one table of what the papers state of them, with
+the values of document 02's CR 5 and CR 8, and two in which a limit of step 1
+acts.
 
 A case without coefficients is a build; every other is a curve call. Only
 stated facts stand here, none that the model worked out.
@@ -36,14 +37,16 @@ W1_WEIGHTS = {
     (2, 2): Fraction(1, 3), (2, 3): Fraction(1, 3),
     (2, 4): Fraction(1), (3, 5): Fraction(1),
 }
+UPPER_LIMIT_SPACE = ([0, 1, 512], [2, 2], [1])
+LOWER_LIMIT_SPACE = ([0, 1, 2], [3, 4], [2])
 W4_JOIN = [Fraction(4, 7), Fraction(3, 7)]
 W5_JOIN = [Fraction(1, 4), Fraction(1, 2), Fraction(1, 4)]
 
 CASES = [
     Case("W1", *W1_SPACE, [0, 100, 0, 0], [256, 512],
-         rows=4, weights=W1_WEIGHTS, values={256: 17066, 512: 4266}),
+         rows=4, weights=W1_WEIGHTS, values={256: 17067, 512: 4267}),
     Case("W2", *W1_SPACE, [0, -100, 0, 0], [256, 512],
-         rows=4, weights=W1_WEIGHTS, values={512: -4267}),
+         rows=4, weights=W1_WEIGHTS, values={512: -4266}),
     Case("W3", *W1_SPACE, [1, 1, 1, 1], [256, 512],
          rows=4, weights=W1_WEIGHTS, values={256: 256, 512: 256}),
     # The join has two ordinates, the left segment's last and the right one's first.
@@ -58,10 +61,17 @@ CASES = [
     Case("W10 count", *W1_SPACE, [0, 100, 0], [256, 512], number=6, place=LARGEST_PLACE),
     Case("W10 outside", *W1_SPACE, [0, 100, 0, 0], [769], number=7, place=0),
     Case("W10 end", *W1_SPACE, [0, 100, 0, 0], [768], rows=4, weights=W1_WEIGHTS),
+    Case("upper limit", *UPPER_LIMIT_SPACE, [1] * 4, [256], rows=4, values={256: 256}),
+    Case("lower limit", *LOWER_LIMIT_SPACE, [1] * 6, [256], rows=6, values={256: 256}),
 ]
 
-# Step 1's plain sum at the join of W3, before its limits raise it to 256.
-W3_PLAIN_SUM = 255
+# Step 1's plain sum on the column right of a space's first join, with every
+# coefficient 1, before the limits bring it to 256.
+PLAIN_SUMS = [
+    (W1_SPACE, 3, 256),
+    (UPPER_LIMIT_SPACE, 3, 257),
+    (LOWER_LIMIT_SPACE, 4, 255),
+]
 
 W1_SHEET = b"""\
 breaks=0,1,3
@@ -81,8 +91,8 @@ w=2,2,1/3
 w=2,3,1/3
 w=2,4,1/1
 w=3,5,1/1
-v=256,17066
-v=512,4266
+v=256,17067
+v=512,4267
 """
 
 # (breaks, degrees, orders, number) from the readings of document 01: a span of

@@ -1,4 +1,5 @@
-"""The exact curve of document 01 and the limits that demand 3 sets around it.
+"""The exact curve of document 01 and the limits that demand 3 sets around it,
+with the closeness of document 02's CR 8.
 
 `exact_curve` is document 01's double sum word for word. `ClosenessTest` holds
 the same sum grouped by ordinate over one common denominator, which is quick
@@ -57,7 +58,7 @@ class SegmentTest:
                         for t, o in enumerate(ordinates)]
         self.scale = denominator * whole ** degree
         self.whole = whole
-        self.slack = most_weights(space, columns, segment) + degree
+        self.twice_slack = most_weights(space, columns, segment) + degree
         least, greatest = coefficient_limits(space, columns, coefs, segment)
         self.least, self.greatest = UNIT * least, UNIT * greatest
 
@@ -68,12 +69,10 @@ class SegmentTest:
                    for t, factor in enumerate(self.factors))
 
     def fault(self, u, value):
-        """What demand 3 the value breaks, or None."""
-        below = self.exact_over_scale(u) - value * self.scale
-        if below < 0:
-            return "above the exact curve"
-        if below >= self.slack * self.scale:
-            return "s + p units or more below the exact curve"
+        """What of demand 3 the value breaks, or None."""
+        apart = self.exact_over_scale(u) - value * self.scale
+        if 2 * abs(apart) > self.twice_slack * self.scale:
+            return "more than (s + p)/2 units from the exact curve"
         if not self.least <= value <= self.greatest:
             return "outside the coefficients with weight on the segment"
         return None

@@ -1,8 +1,8 @@
-"""Curve values, by document 01's "Reading the curve" and document 02's CR 5.
+"""Curve values, by document 01's "Reading the curve" and document 02's CR 5 and CR 8.
 
 Step 1 turns the coefficients into a segment's Bernstein ordinates in whole
-256ths; step 2 blends them in a de Casteljau triangle. Every division is
-Python's floor, towards minus infinity.
+256ths; step 2 blends them in a de Casteljau triangle. Every quotient is rounded
+to the nearest whole number, halves upwards.
 """
 
 from bisect import bisect_right
@@ -20,9 +20,14 @@ def segment_of(space, position):
     return segment
 
 
+def rounded(top, bottom):
+    """The whole number nearest to top / bottom; a half goes up, also below zero."""
+    return (2 * top + bottom) // (2 * bottom)
+
+
 def ordinate(column, coefs):
     """Step 1 for one column, given as its (row, weight) pairs."""
-    total = sum(UNIT * coefs[row] * weight.numerator // weight.denominator
+    total = sum(rounded(UNIT * coefs[row] * weight.numerator, weight.denominator)
                 for row, weight in column)
     near = [coefs[row] for row, _ in column]
     return min(max(total, UNIT * min(near)), UNIT * max(near))
@@ -38,7 +43,7 @@ def blend(ordinates, u, whole):
     """Step 2: the de Casteljau triangle at u of `whole`."""
     level = ordinates
     while len(level) > 1:
-        level = [((whole - u) * g + u * h) // whole for g, h in zip(level, level[1:])]
+        level = [rounded((whole - u) * g + u * h, whole) for g, h in zip(level, level[1:])]
     return level[0]
 
 

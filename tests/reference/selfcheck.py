@@ -13,18 +13,21 @@ from collections import Counter
 from fractions import Fraction
 from random import SystemRandom
 
-from cases import (CASES, SIZE_CASES, W1_PRINTOUT, W1_SHEET, W3_PLAIN_SUM, case_call,
+from cases import (CASES, PLAIN_SUMS, SIZE_CASES, W1_PRINTOUT, W1_SHEET, case_call,
                    case_sheet, stated_lines)
 from generate import calls
 from limits import CELLS, LARGEST_PLACE, MOST_LIST_ENTRIES, MOST_SHEET_BYTES, SIDE, UNIT
 from protocol import (SAME, VALUE_BITS, WEIGHT_BITS, call_line, listed_cells, read_call,
                       result_line)
 from random_sheets import padded
+from reading import rounded
 from spacecheck import check_spaces
 from walzhik_reference import build, build_outcome, curve, sheet
 
 SPACES = 3_000
 EXPANDED = 300           # random calls whose full buffers are compared
+ROUNDED = 20             # size of the parts of the quotients that are rounded
+HALF = Fraction(1, 2)
 
 
 class Tally:
@@ -75,9 +78,20 @@ def check_cases(tally):
         check_case(tally, case)
         check_case_sheet(tally, case)
     tally.check(sheet(W1_SHEET) == W1_PRINTOUT, "W1 printout")
-    plain = sum(UNIT * weight.numerator // weight.denominator
-                for weight in (Fraction(2, 3), Fraction(1, 3)))
-    tally.check(plain == W3_PLAIN_SUM, "W3 plain sum")
+    for lists, column, stated in PLAIN_SUMS:
+        weights = column_weights(build_outcome(*lists, CELLS, CELLS), column)
+        plain = sum(rounded(UNIT * weight.numerator, weight.denominator) for weight in weights)
+        tally.check(plain == stated, "plain sum", lists, plain)
+
+
+def check_rounding(tally):
+    """Halves go up on both sides of zero; elsewhere it is the nearest."""
+    halves = {-3: -1, -1: 0, 1: 1, 3: 2}
+    tally.check(all(rounded(top, 2) == whole for top, whole in halves.items()), "halves")
+    for bottom in range(1, ROUNDED):
+        for top in range(-ROUNDED, ROUNDED):
+            apart = Fraction(top, bottom) - rounded(top, bottom)
+            tally.check(-HALF <= apart < HALF, "rounding", top, bottom)
 
 
 def check_size_cases(tally):
@@ -156,6 +170,7 @@ def main():
     seed = SystemRandom().randrange(2 ** 32) if chosen.seed is None else chosen.seed
     print(f"selfcheck: seed {seed}")
     tally = Tally()
+    check_rounding(tally)
     check_cases(tally)
     check_size_cases(tally)
     check_sheet_text(tally)

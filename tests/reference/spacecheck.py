@@ -14,7 +14,7 @@ from random import Random
 from generate import call_on
 from limits import DISCONTINUITY, UNIT
 from random_spaces import sized_space_lists, space_lists
-from reading import blend, local, segment_ordinates
+from reading import blend, local, rounded, segment_ordinates
 from space import TOO_LARGE
 from walzhik_reference import (ClosenessTest, Space, by_column, coefficient_limits,
                                exact_curve, join_conditions, most_weights)
@@ -78,7 +78,7 @@ def check_segment(tally, space, position):
 def other_blend(ordinates, u, whole):
     level = ordinates
     while len(level) > 1:
-        level = [g + u * (h - g) // whole for g, h in zip(level, level[1:])]
+        level = [g + rounded(u * (h - g), whole) for g, h in zip(level, level[1:])]
     return level[0]
 
 
@@ -86,9 +86,9 @@ def check_value(tally, space, rows, columns, coefs, position, value):
     """Demand 3 on one value, by the double sum itself."""
     segment, u, whole = local(space, position)
     exact = exact_curve(space, rows, coefs, position)
-    slack = most_weights(space, columns, segment) + space.degrees[segment]
+    twice_slack = most_weights(space, columns, segment) + space.degrees[segment]
     least, greatest = coefficient_limits(space, columns, coefs, segment)
-    tally.check(0 <= exact - value < slack, "closeness", space, coefs, position)
+    tally.check(2 * abs(exact - value) <= twice_slack, "closeness", space, coefs, position)
     tally.check(UNIT * least <= value <= UNIT * greatest, "limits", space, coefs, position)
     test = ClosenessTest(space, columns, coefs).segments[segment]
     tally.check(Fraction(test.exact_over_scale(u), test.scale) == exact,

@@ -27,7 +27,7 @@ use Rattle.closeness.proofs.Segment.{accepted-checked, located}
 use Rattle.closeness.proofs.OnSegment.{leastOn-is, greatestOn-is}
 use Rattle.closeness.proofs.SegmentWeights.{every-segment-has-weight}
 use Rattle.closeness.proofs.LegalCall.{legal-calls-answer}
-use Rattle.closeness.proofs.Demand3.{value-at-most-exact, exact-below-value-and-closeness, value-at-least-least, value-at-most-greatest}
+use Rattle.closeness.proofs.Demand3.{exact-at-most-value-and-closeness, value-at-most-exact-and-closeness, value-at-least-least, value-at-most-greatest}
 
 -- ---- the cells as a table
 
@@ -87,8 +87,8 @@ module _ (s : Space) (a : Accepted s) (coefs : List ℤ) (count : length coefs �
 pub value-close : (s : Space) (coefs positions : List ℤ) (numLength denLength valuesLength : ℕ) (l : Legal s coefs positions numLength denLength valuesLength) (k : ℕ) → k < length positions
     → Close s (l .accepted .table) coefs (getD positions k (pos 0)) (valueAt s (l .accepted .table) coefs (getD positions k (pos 0)))
 value-close s coefs positions numLength denLength valuesLength l k h = let inside = position-inside s positions k (l .inSpan k h) in record {
-  at-most-exact = value-at-most-exact s (l .accepted) coefs (getD positions k (pos 0)) inside;
-  exact-below = exact-below-value-and-closeness s (l .accepted) coefs (getD positions k (pos 0)) inside;
+  exact-at-most = exact-at-most-value-and-closeness s (l .accepted) coefs (getD positions k (pos 0)) inside;
+  at-most-exact = value-at-most-exact-and-closeness s (l .accepted) coefs (getD positions k (pos 0)) inside;
   at-least-least = value-at-least-least s (l .accepted) coefs (getD positions k (pos 0)) inside;
   at-most-greatest = value-at-most-greatest s (l .accepted) coefs (getD positions k (pos 0)) inside;
   size = value-size s (l .accepted) coefs (l .coefficientCount) (l .coefficients) (getD positions k (pos 0)) inside;

@@ -1,13 +1,13 @@
 -- The second half of demand 3, proved: of each value, of a curve call, and of the cells after it.
 use mathlib.Core.List.{List}
-use lib.IntN.{ℤ, pos}
-use Rattle.exact.specs.Rational.{int}
+use lib.IntN.{ℤ}
 use Rattle.spline.specs.Space.{Space}
 use Rattle.spline.specs.Piecewise.{Accepted}
 use Rattle.spline.specs.Reading.{fine, segmentAt, valueAt}
 use Rattle.spline.specs.ExactCurve.{exactCurve, leastOn, greatestOn}
-use Rattle.closeness.specs.Demand3.{InSpan, closeness, ValueAtMostExact, ExactBelowValueAndCloseness, ValueAtLeastLeast, ValueAtMostGreatest}
-use Rattle.closeness.proofs.Triangle.{Within, Between}
+use Rattle.closeness.specs.Demand3.{InSpan, closeness, ExactAtMostValueAndCloseness, ValueAtMostExactAndCloseness, ValueAtLeastLeast, ValueAtMostGreatest}
+use Rattle.closeness.proofs.Within.{Within}
+use Rattle.closeness.proofs.Triangle.{Between}
 use Rattle.closeness.proofs.Segment.{Located, accepted-checked, located}
 use Rattle.closeness.proofs.Value.{blended-within, blended-between}
 
@@ -17,7 +17,7 @@ module _ (s : Space) (a : Accepted s) (coefs : List ℤ) (x : ℤ) (inside : InS
   at : Located s x (segmentAt s x)
   at = located s (accepted-checked s a .1) x inside
 
-  value-within : Within (int (pos (closeness s (a .table) x))) (exactCurve s (a .table) coefs x) (valueAt s (a .table) coefs x)
+  value-within : Within (closeness s (a .table) x) (exactCurve s (a .table) coefs x) (valueAt s (a .table) coefs x)
   unfolding exactCurve valueAt
   value-within = blended-within s a coefs x (segmentAt s x) at
 
@@ -25,11 +25,11 @@ module _ (s : Space) (a : Accepted s) (coefs : List ℤ) (x : ℤ) (inside : InS
   unfolding valueAt
   value-between = blended-between s a coefs x (segmentAt s x) at
 
-pub value-at-most-exact : ValueAtMostExact
-value-at-most-exact s a coefs x inside = value-within s a coefs x inside .below
+pub exact-at-most-value-and-closeness : ExactAtMostValueAndCloseness
+exact-at-most-value-and-closeness s a coefs x inside = value-within s a coefs x inside .not-below
 
-pub exact-below-value-and-closeness : ExactBelowValueAndCloseness
-exact-below-value-and-closeness s a coefs x inside = value-within s a coefs x inside .above
+pub value-at-most-exact-and-closeness : ValueAtMostExactAndCloseness
+value-at-most-exact-and-closeness s a coefs x inside = value-within s a coefs x inside .not-above
 
 pub value-at-least-least : ValueAtLeastLeast
 value-at-least-least s a coefs x inside = value-between s a coefs x inside .at-least

@@ -1,13 +1,13 @@
--- Means of two rational numbers with factors that are not negative and sum to one: they keep both orders, and bounds.
+-- Means of two rational numbers with factors that are not negative and sum to one: they keep the order, and bounds.
 -- A blend of the triangle is the rounded one of these.
 use mathlib.Core.Path.{_≡_, refl, subst}
 use mathlib.Core.List.{[], _∷_}
 use lib.IntN.{pos}
-use Rattle.exact.specs.Rational.{ℚ, int, _+ᵠ_, _*ᵠ_, -ᵠ_, _-ᵠ_}
-use Rattle.exact.specs.Order.{_≤ᵠ_, _<ᵠ_, Nn}
+use Rattle.exact.specs.Rational.{ℚ, int, _+ᵠ_, _*ᵠ_}
+use Rattle.exact.specs.Order.{_≤ᵠ_, Nn}
 use Rattle.exact.proofs.Ring.{ring, reads, by-eq}
-use Rattle.exact.proofs.Rational.{ℚ-ring, readsℚ, ℚ-discrete}
-use Rattle.exact.proofs.Order.{nn-add, nn-mul, nn-pos, le-nn, le-by, lt-by, lt-pos, pos-add, pos-mul, <-≤}
+use Rattle.exact.proofs.Rational.{ℚ-ring, readsℚ}
+use Rattle.exact.proofs.Order.{nn-add, nn-mul, le-nn, le-by}
 
 -- The factors of a mean.
 pub record Factors (α β : ℚ) : Type 0 where
@@ -20,16 +20,6 @@ module _ {α β : ℚ} (F : Factors α β) where
   mean-mono {x} {y} {X} {Y} h k = le-by (nn-add (nn-mul (F .left) (le-nn h)) (nn-mul (F .right) (le-nn k)))
       (ring ℚ-ring (α ∷ β ∷ x ∷ y ∷ X ∷ Y ∷ []) (search reads depth 20) (search reads depth 20) refl)
 
-  -- one of the factors is above zero
-  pub mean-mono-< : {x y X Y : ℚ} → x <ᵠ X → y <ᵠ Y → α *ᵠ x +ᵠ β *ᵠ y <ᵠ α *ᵠ X +ᵠ β *ᵠ Y
-  mean-mono-< {x} {y} {X} {Y} h k = go (ℚ-discrete α (int (pos 0)))
-    where
-      go : Dec (α ≡ int (pos 0)) → α *ᵠ x +ᵠ β *ᵠ y <ᵠ α *ᵠ X +ᵠ β *ᵠ Y
-      go (yes z) = lt-by (lt-pos k) (by-eq ℚ-ring (Y -ᵠ y -ᵠ (X -ᵠ x)) z (by-eq ℚ-ring (-ᵠ (Y -ᵠ y)) (F .whole)
-          (ring ℚ-ring (α ∷ β ∷ x ∷ y ∷ X ∷ Y ∷ []) (search readsℚ depth 20) (search readsℚ depth 20) refl)))
-      go (no n) = lt-by (pos-add (pos-mul (nn-pos (F .left) n) (lt-pos h)) (nn-mul (F .right) (le-nn (<-≤ k))))
-          (ring ℚ-ring (α ∷ β ∷ x ∷ y ∷ X ∷ Y ∷ []) (search reads depth 20) (search reads depth 20) refl)
-
   -- a mean of two equal numbers
   pub mean-same : (b : ℚ) → α *ᵠ b +ᵠ β *ᵠ b ≡ b
   mean-same b = by-eq ℚ-ring b (F .whole) (ring ℚ-ring (α ∷ β ∷ b ∷ []) (search readsℚ depth 20) (search readsℚ depth 20) refl)
@@ -40,7 +30,7 @@ module _ {α β : ℚ} (F : Factors α β) where
   pub mean-at-most : {b x y : ℚ} → x ≤ᵠ b → y ≤ᵠ b → α *ᵠ x +ᵠ β *ᵠ y ≤ᵠ b
   mean-at-most {b} {x} {y} h k = subst (λ t. α *ᵠ x +ᵠ β *ᵠ y ≤ᵠ t) (mean-same b) (mean-mono h k)
 
-  -- numbers that are each less than b above others have a mean that is
-  pub mean-within : (b x y : ℚ) {X Y : ℚ} → X <ᵠ x +ᵠ b → Y <ᵠ y +ᵠ b → α *ᵠ X +ᵠ β *ᵠ Y <ᵠ α *ᵠ x +ᵠ β *ᵠ y +ᵠ b
-  mean-within b x y {X} {Y} h k = subst (λ t. α *ᵠ X +ᵠ β *ᵠ Y <ᵠ t)
-      (by-eq ℚ-ring b (F .whole) (ring ℚ-ring (α ∷ β ∷ x ∷ y ∷ b ∷ []) (search readsℚ depth 20) (search readsℚ depth 20) refl)) (mean-mono-< h k)
+  -- numbers that are each at most b above others have a mean that is
+  pub mean-within : (b x y : ℚ) {X Y : ℚ} → X ≤ᵠ x +ᵠ b → Y ≤ᵠ y +ᵠ b → α *ᵠ X +ᵠ β *ᵠ Y ≤ᵠ α *ᵠ x +ᵠ β *ᵠ y +ᵠ b
+  mean-within b x y {X} {Y} h k = subst (λ t. α *ᵠ X +ᵠ β *ᵠ Y ≤ᵠ t)
+      (by-eq ℚ-ring b (F .whole) (ring ℚ-ring (α ∷ β ∷ x ∷ y ∷ b ∷ []) (search readsℚ depth 20) (search readsℚ depth 20) refl)) (mean-mono h k)

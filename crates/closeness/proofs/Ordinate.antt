@@ -1,31 +1,29 @@
 -- The ordinates against the exact ones: the limits only move the sum of the terms towards the exact ordinate, which lies
--- between them, so an ordinate too is less than the count of its weights below it, and it is within the limits.
+-- between them, so an ordinate too is off by at most half the count of its weights, and it is within the limits.
 use mathlib.Core.Path.{_≡_, refl, sym, _∙_, ap, ap₂, subst}
 use mathlib.Core.Bool.{Bool, true, false, cond}
-use mathlib.Core.List.{[], _∷_}
 use mathlib.Core.Option.{some}
 use Prim.Native.Nat.{ℕ, _<_}
 use lib.IntN.{ℤ, pos}
 use lib.ListN.{length}
 use lib.Signed.{leZ, ltZ, _≤ℤ_}
-use Rattle.exact.specs.Rational.{ℚ, int, _+ᵠ_, _*ᵠ_}
-use Rattle.exact.specs.Order.{_≤ᵠ_, _<ᵠ_}
+use Rattle.exact.specs.Rational.{ℚ, int, _*ᵠ_}
+use Rattle.exact.specs.Order.{_≤ᵠ_, Nn}
 use Rattle.exact.specs.Sum.{sum}
 use Rattle.exact.proofs.Integer as Z
-use Rattle.exact.proofs.Ring.{ring, reads}
-use Rattle.exact.proofs.Rational.{ℚ-ring, mul-one, mul-zero}
-use Rattle.exact.proofs.Order.{≤-refl, ≤-trans, <-≤-trans, ≤-<-trans, int-mono, +-mono, *-mono, lt-by}
+use Rattle.exact.proofs.Rational.{mul-one, mul-zero}
+use Rattle.exact.proofs.Order.{≤-refl, ≤-trans, int-mono, +-mono, *-mono}
 use Rattle.exact.proofs.Sum.{sum-mono, sum-mul}
 use Rattle.exact.proofs.Word.{ltZ-true, ltZ-false}
 use Rattle.spline.specs.Search.{howMany}
 use Rattle.spline.specs.Table.{Table, cell}
 use Rattle.spline.specs.Reading.{fine, hasWeight, termSum, atLeast, atMost, ordinate}
-use Rattle.closeness.proofs.Rounding.{pos-of-nat}
+use Rattle.closeness.proofs.Within.{Within, halves, nn-halves, le-add}
 use Rattle.closeness.proofs.Fine.{fine-mono}
 use Rattle.closeness.proofs.Extremum.{Extreme, least-exists, greatest-exists, least-le, le-greatest}
 use Rattle.closeness.proofs.Weights.{Column, no-weight-zero, Passing, howMany-some, some-weight}
-use Rattle.closeness.proofs.Triangle.{Within, Between}
-use Rattle.closeness.proofs.Terms.{Summed, summed}
+use Rattle.closeness.proofs.Triangle.{Between}
+use Rattle.closeness.proofs.Terms.{sum-within}
 
 -- The sum that an ordinate stands for.
 unfoldable pub exactOrdinate : Table → (ℕ → ℤ) → ℕ → ℚ
@@ -57,16 +55,14 @@ lower z b = go (ltZ b z) refl
     go true e = lowered (Z.<-≤ b z (ltZ-true b z e))
     go false e = kept (ltZ-false b z e)
 
--- an exact number at or below a whole one is below it and a positive one
-above-by : (e : ℚ) (y : ℤ) (n : ℕ) → 0 < n → e ≤ᵠ int y → e <ᵠ int y +ᵠ int (pos n)
-above-by e y n p h = ≤-<-trans h (lt-by (pos-of-nat n p) (ring ℚ-ring (int y ∷ int (pos n) ∷ []) (search reads) (search reads) refl))
+-- each limit keeps a number within b of an exact one that meets it
+raised-within : {b e : ℚ} {z low y : ℤ} → Nn b → int low ≤ᵠ e → Within b e z → Raised z low y → Within b e y
+raised-within n from w (kept h) = w
+raised-within n from w (raised h) = record { not-above = ≤-trans from (le-add n); not-below = ≤-trans (w .not-below) (+-mono (int-mono h) (≤-refl _)) }
 
--- a sum of n terms stays within n of the exact one where that is between the limits
-limited-within : {z low high y x : ℤ} {e : ℚ} {n : ℕ} → Summed z e n → 0 < n → int low ≤ᵠ e → e ≤ᵠ int high → Raised z low y → Lowered y high x → Within (int (pos n)) e x
-limited-within S p from to (kept h) (kept k) = record { below = S .below; above = S .strict p }
-limited-within S p from to (raised h) (kept k) = record { below = from; above = <-≤-trans (S .strict p) (+-mono (int-mono h) (≤-refl _)) }
-limited-within {high = high} {e = e} {n} S p from to (kept h) (lowered k) = record { below = ≤-trans (int-mono k) (S .below); above = above-by e high n p to }
-limited-within {high = high} {e = e} {n} S p from to (raised h) (lowered k) = record { below = ≤-trans (int-mono k) from; above = above-by e high n p to }
+lowered-within : {b e : ℚ} {z high y : ℤ} → Nn b → e ≤ᵠ int high → Within b e z → Lowered z high y → Within b e y
+lowered-within n to w (kept h) = w
+lowered-within n to w (lowered h) = record { not-above = ≤-trans (int-mono h) (w .not-above); not-below = ≤-trans to (le-add n) }
 
 -- and it is within all bounds that hold of the limits
 limited-between : {z low high y x l u : ℤ} → Raised z low y → Lowered y high x → l ≤ℤ low → l ≤ℤ high → high ≤ℤ u → Between l u x
@@ -116,14 +112,14 @@ module _ (t : Table) (a : ℕ → ℤ) (c : ℕ) where
     unfolding ordinate sum-of-terms
     ordinate-is = ap₂ (λ h l. atMost h (atLeast l (termSum t a c (length t)))) (sym (high .found)) (sym (low .found))
 
-    -- the exact ordinate is less than the count of its weights above the ordinate, and never below it
-    pub ordinate-within : Within (int (pos (howMany (length t) (hasWeight t c)))) (exactOrdinate t a c) (ordinate t a c)
+    -- the ordinate is off by at most half the count of its weights
+    pub ordinate-within : Within (halves (howMany (length t) (hasWeight t c))) (exactOrdinate t a c) (ordinate t a c)
     unfolding sum-of-terms exactOrdinate
-    ordinate-within = subst (Within (int (pos (howMany (length t) (hasWeight t c)))) (exactOrdinate t a c)) ordinate-is
-        (limited-within (summed t a c (length t)) (some-weight t c C)
-        (exact-at-least (low .value) (least-le (hasWeight t c) a (length t) (low .is-best)))
-        (exact-at-most (high .value) (le-greatest (hasWeight t c) a (length t) (high .is-best)))
-        (raise (termSum t a c (length t)) (fine (low .value))) (lower _ (fine (high .value))))
+    ordinate-within = subst (Within (halves (howMany (length t) (hasWeight t c))) (exactOrdinate t a c)) ordinate-is
+        (lowered-within (nn-halves (howMany (length t) (hasWeight t c))) (exact-at-most (high .value) (le-greatest (hasWeight t c) a (length t) (high .is-best)))
+        (raised-within (nn-halves (howMany (length t) (hasWeight t c))) (exact-at-least (low .value) (least-le (hasWeight t c) a (length t) (low .is-best)))
+        (sum-within t a c (length t))
+        (raise (termSum t a c (length t)) (fine (low .value)))) (lower _ (fine (high .value))))
 
     -- and the ordinate is between 256 times any bounds of the coefficients with weight
     pub ordinate-between : (l u : ℤ) → ((i : ℕ) → i < length t → hasWeight t c i ≡ true → l ≤ℤ a i) → ((i : ℕ) → i < length t → hasWeight t c i ≡ true → a i ≤ℤ u) → Between (fine l) (fine u) (ordinate t a c)

@@ -1,5 +1,6 @@
--- The rounded triangle against the exact one: a blend of numbers at most so far below exact ones is at most one further
--- below, and a blend of numbers within whole limits stays within them. By induction so is every number of the triangle.
+-- The rounded triangle against the exact one: a blend of numbers that differ from exact ones by at most so much differs by at
+-- most one half more, and a blend of numbers within whole limits stays within them. By induction so is every number of the
+-- triangle.
 use mathlib.Core.Path.{_≡_, refl, sym, _∙_, ap, ap₂, subst}
 use mathlib.Core.List.{[], _∷_}
 use Prim.Native.Nat.{ℕ, zero, suc, _+_, _<_, _≤_}
@@ -7,14 +8,15 @@ use native.Mathlib.Omega.{arith}
 use lib.IntN.{ℤ, pos, _+ℤ_, _-ℤ_, _*ℤ_}
 use lib.Signed.{_≤ℤ_}
 use Rattle.exact.specs.Rational.{ℚ, int, inv, _+ᵠ_, _*ᵠ_}
-use Rattle.exact.specs.Order.{_≤ᵠ_, _<ᵠ_, Nn}
+use Rattle.exact.specs.Order.{_≤ᵠ_, Nn}
 use Rattle.exact.proofs.Integer as Z
 use Rattle.exact.proofs.Ring.{ring, reads, by-eq}
 use Rattle.exact.proofs.Rational.{ℚ-ring, readsℚ, int-add, int-mul, int-sub, mul-inv}
-use Rattle.exact.proofs.Order.{nn-mul, nn-inv, nn-int, zero-le-nn, int-mono, ≤-trans, <-trans, +-mono-<, ≤-refl, pos-nonzero}
+use Rattle.exact.proofs.Order.{nn-mul, nn-inv, nn-int, zero-le-nn, int-mono, pos-nonzero}
 use Rattle.spline.specs.Reading.{rounded, blend, triangle}
-use Rattle.closeness.proofs.Rounding.{quotient, pos-of-nat, rounded-le, lt-rounded-one, rounded-at-least, rounded-at-most}
-use Rattle.closeness.proofs.Mean.{Factors, mean-mono, mean-at-least, mean-at-most, mean-within}
+use Rattle.closeness.proofs.Within.{Within, halves, halves-add, within-chain}
+use Rattle.closeness.proofs.Rounding.{quotient, pos-of-nat, rounded-within, rounded-at-least, rounded-at-most}
+use Rattle.closeness.proofs.Mean.{Factors, mean-at-least, mean-at-most, mean-within}
 use Rattle.closeness.proofs.Bernstein.{exactTriangle}
 
 -- (D - u)/D and u/D.
@@ -23,11 +25,6 @@ leftFactor d u = int (pos d -ℤ u) *ᵠ inv (int (pos d))
 
 abbrev pub rightFactor : ℕ → ℤ → ℚ
 rightFactor d u = int u *ᵠ inv (int (pos d))
-
--- The whole number g is at or below e, and e is less than b above it.
-pub record Within (b e : ℚ) (g : ℤ) : Type 0 where
-  pub below : int g ≤ᵠ e
-  pub above : e <ᵠ int g +ᵠ b
 
 -- The whole number g is neither below low nor above high.
 pub record Between (low high g : ℤ) : Type 0 where
@@ -54,23 +51,15 @@ module _ (d : ℕ) (u : ℤ) (positive : 0 < d) (from : pos 0 ≤ℤ u) (to : u 
 
   -- ---- one blend
 
-  pub blend-within : {b e e′ : ℚ} {g g′ : ℤ} → Within b e g → Within b e′ g′ → Within (b +ᵠ int (pos 1)) (leftFactor d u *ᵠ e +ᵠ rightFactor d u *ᵠ e′) (blend d u g g′)
+  pub blend-within : {b e e′ : ℚ} {g g′ : ℤ} → Within b e g → Within b e′ g′ → Within (b +ᵠ halves 1) (leftFactor d u *ᵠ e +ᵠ rightFactor d u *ᵠ e′) (blend d u g g′)
   unfolding blend
-  blend-within {b} {e} {e′} {g} {g′} w w′ = record {
-    below = ≤-trans (subst (λ t. int (rounded z d) ≤ᵠ t) (quotient-is-mean g g′) (rounded-le z d positive)) (mean-mono factors (w .below) (w′ .below));
-    above = <-trans (mean-within factors b (int g) (int g′) (w .above) (w′ .above))
-        (subst (λ t. mean +ᵠ b <ᵠ t) (regroup (int (rounded z d)) (int (pos 1)) b)
-        (+-mono-< (subst (λ t. t <ᵠ int (rounded z d) +ᵠ int (pos 1)) (quotient-is-mean g g′) (lt-rounded-one z d positive)) (≤-refl b)));
-  }
+  blend-within {b} {e} {e′} {g} {g′} w w′ = within-chain b
+      (mean-within factors b e e′ (w .not-above) (w′ .not-above))
+      (mean-within factors b (int g) (int g′) (w .not-below) (w′ .not-below))
+      (subst (λ q. Within (halves 1) q (rounded z d)) (quotient-is-mean g g′) (rounded-within z d positive))
     where
       z : ℤ
       z = (pos d -ℤ u) *ℤ g +ℤ u *ℤ g′
-
-      mean : ℚ
-      mean = leftFactor d u *ᵠ int g +ᵠ rightFactor d u *ᵠ int g′
-
-      regroup : (r o b : ℚ) → r +ᵠ o +ᵠ b ≡ r +ᵠ (b +ᵠ o)
-      regroup r o b = ring ℚ-ring (r ∷ o ∷ b ∷ []) (search reads) (search reads) refl
 
   pub blend-between : {low high g g′ : ℤ} → Between low high g → Between low high g′ → Between low high (blend d u g g′)
   unfolding blend
@@ -84,13 +73,13 @@ module _ (d : ℕ) (u : ℤ) (positive : 0 < d) (from : pos 0 ≤ℤ u) (to : u 
 
   -- ---- the triangle of the numbers 0 to p
 
-  -- each blend loses less than one
-  pub triangle-within : (p s : ℕ) (e : ℕ → ℚ) (g : ℕ → ℤ) → ((k : ℕ) → k ≤ p → Within (int (pos s)) (e k) (g k))
-      → (n k : ℕ) → k + n ≤ p → Within (int (pos (s + n))) (exactTriangle (leftFactor d u) (rightFactor d u) e n k) (triangle d u g n k)
+  -- each blend adds at most one half
+  pub triangle-within : (p s : ℕ) (e : ℕ → ℚ) (g : ℕ → ℤ) → ((k : ℕ) → k ≤ p → Within (halves s) (e k) (g k))
+      → (n k : ℕ) → k + n ≤ p → Within (halves (s + n)) (exactTriangle (leftFactor d u) (rightFactor d u) e n k) (triangle d u g n k)
   unfolding triangle exactTriangle
-  triangle-within p s e g all zero k h = subst (λ n. Within (int (pos n)) (e k) (g k)) (let z : s ≡ s + 0 = omega arith in z) (all k (omega arith))
+  triangle-within p s e g all zero k h = subst (λ n. Within (halves n) (e k) (g k)) (let z : s ≡ s + 0 = omega arith in z) (all k (omega arith))
   triangle-within p s e g all (suc n) k h = subst (λ b. Within b (exactTriangle (leftFactor d u) (rightFactor d u) e (suc n) k) (triangle d u g (suc n) k))
-      (sym (int-add (pos (s + n)) (pos 1)) ∙ ap (λ m. int (pos m)) (let z : s + n + 1 ≡ s + suc n = omega arith in z))
+      (halves-add (s + n) 1 ∙ ap halves (let z : s + n + 1 ≡ s + suc n = omega arith in z))
       (blend-within (triangle-within p s e g all n k (omega arith)) (triangle-within p s e g all n (suc k) (omega arith)))
 
   pub triangle-between : (p : ℕ) (low high : ℤ) (g : ℕ → ℤ) → ((k : ℕ) → k ≤ p → Between low high (g k))

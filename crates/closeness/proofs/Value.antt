@@ -1,5 +1,5 @@
--- A value against the exact curve on a segment that holds the position: the ordinates are within s of the exact ones and
--- between 256 times the coefficients with weight, so p blends leave a number within s + p and between the same limits.
+-- A value against the exact curve on a segment that holds the position: the ordinates are within s/2 of the exact ones and
+-- between 256 times the coefficients with weight, so p blends leave a number within (s + p)/2 and between the same limits.
 -- Which segment a position belongs to is not used.
 use mathlib.Core.Path.{_≡_, sym, subst}
 use mathlib.Core.List.{List}
@@ -7,16 +7,14 @@ use Prim.Native.Nat.{ℕ, suc, _+_, _<_, _≤_}
 use native.Mathlib.Omega.{arith}
 use lib.IntN.{ℤ, pos}
 use lib.ListN.{getD}
-use Rattle.exact.specs.Rational.{ℚ, int}
-use Rattle.exact.proofs.Integer as Z
-use Rattle.exact.proofs.Order.{≤-refl, <-≤-trans, +-mono, int-mono}
 use Rattle.exact.proofs.Tabulate.{tab-getD}
 use Rattle.spline.specs.Space.{Space, segments, degree, firstColumn, columnCount}
 use Rattle.spline.specs.Piecewise.{Accepted}
 use Rattle.spline.specs.Reading.{fine, coefficient, ordinate, ordinates, fineWidth, offset, triangle, blended}
 use Rattle.spline.specs.ExactCurve.{exactOn, mostWeights, leastOn, greatestOn}
 use Rattle.spline.proofs.Space.{firstColumn-mono}
-use Rattle.closeness.proofs.Triangle.{Within, Between, triangle-within, triangle-between}
+use Rattle.closeness.proofs.Within.{Within, halves, halves-mono, within-more}
+use Rattle.closeness.proofs.Triangle.{Between, triangle-within, triangle-between}
 use Rattle.closeness.proofs.Weights.{Column, accepted-column}
 use Rattle.closeness.proofs.Ordinate.{ordinate-within, ordinate-between}
 use Rattle.closeness.proofs.Segment.{Located}
@@ -27,10 +25,6 @@ use Rattle.closeness.proofs.OnSegment.{column-at-most-s, weighs-in-colu
 pub segment-column : (s : Space) (j k : ℕ) → j < segments s → k ≤ degree s j → firstColumn s j + k < columnCount s
 unfolding firstColumn
 segment-column s j k h l = omega (arith, firstColumn-mono s (suc j) (segments s) h)
-
--- a greater bound serves too
-within-more : {e : ℚ} {g : ℤ} (m n : ℕ) → m ≤ n → Within (int (pos m)) e g → Within (int (pos n)) e g
-within-more m n h w = record { below = w .below; above = <-≤-trans (w .above) (+-mono (≤-refl _) (int-mono (Z.≤-in (pos m) (pos n) (omega arith)))) }
 
 module _ (s : Space) (a : Accepted s) (coefs : List ℤ) (x : ℤ) (j : ℕ) (at : Located s x j) where
   abbrev given : ℕ → ℤ
@@ -43,9 +37,9 @@ module _ (s : Space) (a : Accepted s) (coefs : List ℤ) (x : ℤ) (j : ℕ) (at
   column : (k : ℕ) → k ≤ degree s j → Column (a .table) (firstColumn s j + k)
   column k h = accepted-column s a (firstColumn s j + k) (segment-column s j k (at .below) h)
 
-  given-within : (k : ℕ) → k ≤ degree s j → Within (int (pos (mostWeights s (a .table) j))) (exactOrdinates s (a .table) coefs j k) (given k)
-  given-within k h = subst (Within (int (pos (mostWeights s (a .table) j))) (exactOrdinates s (a .table) coefs j k)) (sym (given-is k h))
-      (within-more _ _ (column-at-most-s s (a .table) j k h) (ordinate-within (a .table) (coefficient coefs) (firstColumn s j + k) (column k h)))
+  given-within : (k : ℕ) → k ≤ degree s j → Within (halves (mostWeights s (a .table) j)) (exactOrdinates s (a .table) coefs j k) (given k)
+  given-within k h = subst (Within (halves (mostWeights s (a .table) j)) (exactOrdinates s (a .table) coefs j k)) (sym (given-is k h))
+      (within-more (halves-mono _ _ (column-at-most-s s (a .table) j k h)) (ordinate-within (a .table) (coefficient coefs) (firstColumn s j + k) (column k h)))
 
   given-between : (k : ℕ) → k ≤ degree s j → Between (fine (leastOn s (a .table) coefs j)) (fine (greatestOn s (a .table) coefs j)) (given k)
   given-between k h = subst (Between (fine (leastOn s (a .table) coefs j)) (fine (greatestOn s (a .table) coefs j))) (sym (given-is k h))
@@ -53,10 +47,10 @@ module _ (s : Space) (a : Accepted s) (coefs : List ℤ) (x : ℤ) (j : ℕ) (at
       (λ i l p. leastOn-le s (a .table) j coefs i l (weighs-in-column s (a .table) j k i h p))
       (λ i l p. le-greatestOn s (a .table) j coefs i l (weighs-in-column s (a .table) j k i h p)))
 
-  -- the value is within s + p of the exact curve
-  pub blended-within : Within (int (pos (mostWeights s (a .table) j + degree s j))) (exactOn s (a .table) coefs j x) (blended s (ordinates s (a .table) (coefficient coefs)) j x)
+  -- the value is within (s + p)/2 of the exact curve
+  pub blended-within : Within (halves (mostWeights s (a .table) j + degree s j)) (exactOn s (a .table) coefs j x) (blended s (ordinates s (a .table) (coefficient coefs)) j x)
   unfolding blended
-  blended-within = subst (λ e. Within (int (pos (mostWeights s (a .table) j + degree s j))) e (triangle (fineWidth s j) (offset s j x) given (degree s j) 0)) (sym (exactOn-is-triangle s (a .table) coefs j x (at .positive)))
+  blended-within = subst (λ e. Within (halves (mostWeights s (a .table) j + degree s j)) e (triangle (fineWidth s j) (offset s j x) given (degree s j) 0)) (sym (exactOn-is-triangle s (a .table) coefs j x (at .positive)))
       (triangle-within (fineWidth s j) (offset s j x) (at .positive) (at .from) (at .to) (degree s j) (mostWeights s (a .table) j) (exactOrdinates s (a .table) coefs j) given given-within (degree s j) 0 (omega arith))
 
   -- and between 256 times the coefficients with weight on the segment

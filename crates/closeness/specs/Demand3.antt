@@ -1,6 +1,7 @@
--- The second half of demand 3: a curve call within document 01's limits on an accepted space answers with a value for each
--- position, at or below the exact curve, lower by less than s + p, and between 256 times the least and the greatest
--- coefficient with weight on the position's segment. `CellsAreClose` says all this of the cells after a call.
+-- The second half of demand 3, with the closeness of document 02, CR 8: a curve call within document 01's limits on an
+-- accepted space answers with a value for each position, on either side of the exact curve by at most (s + p)/2, and between
+-- 256 times the least and the greatest coefficient with weight on the position's segment. `CellsAreClose` says all this of
+-- the cells after a call.
 use mathlib.Core.Path.{_≡_}
 use mathlib.Core.List.{List}
 use Prim.Native.Nat.{ℕ, _+_, _<_, _≤_}
@@ -8,8 +9,8 @@ use lib.Dec.{T}
 use lib.IntN.{ℤ, pos, natAbs}
 use lib.ListN.{length, getD}
 use lib.Signed.{_≤ℤ_}
-use Rattle.exact.specs.Rational.{int, _+ᵠ_}
-use Rattle.exact.specs.Order.{_≤ᵠ_, _<ᵠ_}
+use Rattle.exact.specs.Rational.{ℚ, int, _+ᵠ_, _/ᵠ_}
+use Rattle.exact.specs.Order.{_≤ᵠ_}
 use Rattle.spline.specs.Outcome.{answer}
 use Rattle.spline.specs.Space.{Space, segments, break, between, degree}
 use Rattle.spline.specs.Table.{Table}
@@ -22,21 +23,21 @@ use Rattle.spline.specs.ExactCurve.{exactCurve, mostWeights, leastOn, greatestO
 abbrev pub InSpan : Space → ℤ → Type 0
 InSpan s x = T (between (fine (break s 0)) (fine (break s (segments s))) x)
 
--- s + p of the position's segment.
-abbrev pub closeness : Space → Table → ℤ → ℕ
-closeness s t x = mostWeights s t (segmentAt s x) + degree s (segmentAt s x)
+-- (s + p)/2 of the position's segment.
+abbrev pub closeness : Space → Table → ℤ → ℚ
+closeness s t x = int (pos (mostWeights s t (segmentAt s x) + degree s (segmentAt s x))) /ᵠ int (pos 2)
 
 -- ---- a value, whatever the coefficients
 
--- "Each value is at or below document 01's exact curve at its position".
-abbrev pub ValueAtMostExact : Type 0
-ValueAtMostExact = (s : Space) (a : Accepted s) (coefs : List ℤ) (x : ℤ) → InSpan s x
-    → int (valueAt s (a .table) coefs x) ≤ᵠ exactCurve s (a .table) coefs x
+-- "A value may now lie on either side of the exact curve, by at most (s + p)/2 units": below it,
+abbrev pub ExactAtMostValueAndCloseness : Type 0
+ExactAtMostValueAndCloseness = (s : Space) (a : Accepted s) (coefs : List ℤ) (x : ℤ) → InSpan s x
+    → exactCurve s (a .table) coefs x ≤ᵠ int (valueAt s (a .table) coefs x) +ᵠ closeness s (a .table) x
 
--- "lower by less than s + p units of 1/256".
-abbrev pub ExactBelowValueAndCloseness : Type 0
-ExactBelowValueAndCloseness = (s : Space) (a : Accepted s) (coefs : List ℤ) (x : ℤ) → InSpan s x
-    → exactCurve s (a .table) coefs x <ᵠ int (valueAt s (a .table) coefs x) +ᵠ int (pos (closeness s (a .table) x))
+-- and above it.
+abbrev pub ValueAtMostExactAndCloseness : Type 0
+ValueAtMostExactAndCloseness = (s : Space) (a : Accepted s) (coefs : List ℤ) (x : ℤ) → InSpan s x
+    → int (valueAt s (a .table) coefs x) ≤ᵠ exactCurve s (a .table) coefs x +ᵠ closeness s (a .table) x
 
 -- "no less than 256 times the least .. coefficient with weight on that position's stretch".
 abbrev pub ValueAtLeastLeast : Type 0
@@ -80,8 +81,8 @@ valueLimit = 256000000
 
 -- All that demand 3 says of the number v written for position x, and its size.
 pub record Close (s : Space) (t : Table) (coefs : List ℤ) (x v : ℤ) : Type 0 where
-  pub at-most-exact : int v ≤ᵠ exactCurve s t coefs x
-  pub exact-below : exactCurve s t coefs x <ᵠ int v +ᵠ int (pos (closeness s t x))
+  pub exact-at-most : exactCurve s t coefs x ≤ᵠ int v +ᵠ closeness s t x
+  pub at-most-exact : int v ≤ᵠ exactCurve s t coefs x +ᵠ closeness s t x
   pub at-least-least : fine (leastOn s t coefs (segmentAt s x)) ≤ℤ v
   pub at-most-greatest : v ≤ℤ fine (greatestOn s t coefs (segmentAt s x))
   pub size : natAbs v ≤ valueLimit

@@ -54,12 +54,6 @@ pub floorDiv-exact : (z : ℤ) (d : ℕ) → 0 < d → floorDiv (z *ℤ pos d) d
 floorDiv-exact z d p = sym (floorDiv-unique z (z *ℤ pos d) d p (≤ℤ-refl _)
     (Z.<-in _ _ (omega (arith, Z.bal-* z (pos d), Z.bal-* (z +ℤ pos 1) (pos d), ap (λ t. t * d) (Z.bal-+ z (pos 1))))))
 
--- a number at most k times the divisor in size
-pub floorDiv-abs : (z : ℤ) (d k : ℕ) → 0 < d → natAbs z ≤ k * d → natAbs (floorDiv z d) ≤ k
-floorDiv-abs z d k p h = Z.abs-le-in (floorDiv z d) k
-    (le-floorDiv (negℤ (pos k)) z d p (Z.≤-in _ _ (omega (arith, Z.bal-* (negℤ (pos k)) (pos d), ap (λ t. t * d) (Z.bal-neg (pos k) .0), ap (λ t. t * d) (Z.bal-neg (pos k) .1), Z.abs-parts z))))
-    (subst (λ t. floorDiv z d ≤ℤ t) (floorDiv-exact (pos k) d p) (floorDiv-mono z (pos k *ℤ pos d) d p (Z.≤-in _ _ (omega (arith, Z.abs-parts z)))))
-
 -- ---- the nearest integer to a quotient
 
 -- twice the error of q as the quotient z / d, by its parts

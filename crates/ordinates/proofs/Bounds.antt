@@ -8,7 +8,7 @@ use lib.IntN.{ℤ, pos, natAbs, _*ℤ_}
 use lib.Signed.{ltZ, _≤ℤ_}
 use Rattle.exact.proofs.Decide.{cond-true, cond-false}
 use Rattle.exact.proofs.Integer.{abs-mul-le, abs-le-in, abs-le-out, ≤-trans}
-use Rattle.exact.proofs.Floor.{floorDiv-abs}
+use Rattle.exact.proofs.Floor.{nearest-abs}
 use Rattle.exact.proofs.Word.{ltZ-false}
 use Rattle.spline.specs.Reading.{fine, atLeast, atMost, rounded}
 use Rattle.ordinates.specs.Ordinates.{given, ordinateLimit}
@@ -49,4 +49,4 @@ limits-abs true s l g hl hg z = go (ltZ s (fine l)) refl
 -- a coefficient in range times a weight of at most one
 pub term-abs : (a num : ℤ) (d : ℕ) → 0 < d → natAbs a ≤ 1000000 → natAbs num ≤ d → natAbs (rounded (fine a *ℤ num) d) ≤ ordinateLimit
 unfolding rounded
-term-abs a num d positive h l = floorDiv-abs (fine a *ℤ num) d ordinateLimit positive (abs-mul-le (fine a) num ordinateLimit d (abs-mul-le (pos 256) a 256 1000000 (omega arith) h) l)
+term-abs a num d positive h l = nearest-abs (fine a *ℤ num) d ordinateLimit positive (abs-mul-le (fine a) num ordinateLimit d (abs-mul-le (pos 256) a 256 1000000 (omega arith) h) l)

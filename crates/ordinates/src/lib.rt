@@ -46,10 +46,10 @@ fn greater(some: bool, a: i64, b: i64) -> i64
 
 // One more coefficient with weight num / den.
 fn with_term(before: Terms, a: i64, num: i64, den: i64) -> Terms
-    requires { ⌜ (natAbs a ≤ 1000000) × ((natAbs num < 2 ^ 31) × ((pos 0 <ℤ den) × ((natAbs num ≤ natAbs den) × (natAbs (before .sum) < 2 ^ 62)))) ⌝ }
+    requires { ⌜ (natAbs a ≤ 1000000) × ((natAbs den < 2 ^ 31) × ((pos 0 <ℤ den) × ((natAbs num ≤ natAbs den) × (natAbs (before .sum) < 2 ^ 62)))) ⌝ }
     ensures { λ r. ⌜ Added before a num den r ⌝ }
 {
-    let term = fraction::floor_div(256 * a * num, den);
+    let term = fraction::round_div(256 * a * num, den);
     let least = lesser(before.some, before.least, a);
     let greatest = greater(before.some, before.greatest, a);
     Terms {

@@ -28,13 +28,13 @@ w1 =
     (119 ∷ 61 ∷ 50 ∷ 44 ∷ 52 ∷ 44 ∷ 49 ∷ 47 ∷ 49 ∷ 10 ∷ []) ∷
     -- w=3,5,1/1
     (119 ∷ 61 ∷ 51 ∷ 44 ∷ 53 ∷ 44 ∷ 49 ∷ 47 ∷ 49 ∷ 10 ∷ []) ∷
-    -- v=256,17066
-    (118 ∷ 61 ∷ 50 ∷ 53 ∷ 54 ∷ 44 ∷ 49 ∷ 55 ∷ 48 ∷ 54 ∷ 54 ∷ 10 ∷ []) ∷
-    -- v=512,4266
-    (118 ∷ 61 ∷ 53 ∷ 49 ∷ 50 ∷ 44 ∷ 52 ∷ 50 ∷ 54 ∷ 54 ∷ 10 ∷ []) ∷
+    -- v=256,17067
+    (118 ∷ 61 ∷ 50 ∷ 53 ∷ 54 ∷ 44 ∷ 49 ∷ 55 ∷ 48 ∷ 54 ∷ 55 ∷ 10 ∷ []) ∷
+    -- v=512,4267
+    (118 ∷ 61 ∷ 53 ∷ 49 ∷ 50 ∷ 44 ∷ 52 ∷ 50 ∷ 54 ∷ 55 ∷ 10 ∷ []) ∷
     []
 
-pub w1-printed : countLine 4 ++ (weightLines weights1 ++ (valueLines (pos 256 ∷ pos 512 ∷ []) (pos 17066 ∷ pos 4266 ∷ []) ++ lowLines [])) ≡ joined w1
+pub w1-printed : countLine 4 ++ (weightLines weights1 ++ (valueLines (pos 256 ∷ pos 512 ∷ []) (pos 17067 ∷ pos 4267 ∷ []) ++ lowLines [])) ≡ joined w1
 unfolding joined digitsUpTo digits decimal countLine weightLine weightLines valueLine valueLines lowLine lowLines
 w1-printed = refl
 

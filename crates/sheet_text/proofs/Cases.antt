@@ -27,7 +27,7 @@ w1 = record {
 }
 
 abbrev w1-values : List ℤ
-w1-values = pos 17066 ∷ pos 4266 ∷ []
+w1-values = pos 17067 ∷ pos 4267 ∷ []
 
 w1-reads : read w1Text ≡ answer w1
 unfolding capped cut fields stripped allDigits digitsValue isNatural numeral numerals listOf line readLine fiveLines read bytes lines w1Text

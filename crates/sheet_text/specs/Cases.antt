@@ -25,8 +25,8 @@ w1Printout = lines (
     "w=2,3,1/3" ∷
     "w=2,4,1/1" ∷
     "w=3,5,1/1" ∷
-    "v=256,17066" ∷
-    "v=512,4266" ∷ [])
+    "v=256,17067" ∷
+    "v=512,4267" ∷ [])
 
 -- The sheet of W1 gives its printout.
 abbrev pub SheetCaseHolds : Type 0

@@ -1,9 +1,11 @@
--- The cases W1 to W10 and the segments of positions, by computation: one `refl` for each line of the table, so that a refusal shows which one fails.
+-- The cases W1 to W10, the two limits and the segments of positions, by computation: one `refl` for each line of the table, so that a
+-- refusal shows which one fails.
 use mathlib.Core.Path.{refl}
 use Rattle.exact.specs.Gcd.{gcd, gcdF}
 use Rattle.exact.specs.Rational.{mk, int, inv, _+ᵠ_, _*ᵠ_, -ᵠ_}
 use Rattle.exact.specs.Order.{isZero, ltᵠ}
 use Rattle.exact.specs.Sum.{sum}
+use Rattle.exact.specs.Floor.{nearest}
 use Rattle.exact.specs.Tabulate.{tab}
 use Rattle.fraction.specs.Size.{fits}
 use Rattle.spline.specs.Outcome.{capped, collect, repeat}
@@ -21,13 +23,13 @@ use Rattle.spline.specs.Cases.{outcome, cases, positionCases, EveryCaseH
 
 -- Weights, counts, values and refusals of document 01's cases.
 pub every-case-holds : EveryCaseHolds
-unfolding gcd gcdF mk int inv _+ᵠ_ _*ᵠ_ -ᵠ_ isZero ltᵠ sum tab fits capped collect repeat first last lengthsFit badBreak spanTooLong badDegree badOrder checkedEntries checked firstColumn conditionsBefore falling binomial alternating undivided commonDivisor conditions identity count addProducts span partialSum quotientFactor factors newEntry newRows step orderSteps joinSteps weights spaceWeights built startsAtDiscontinuity startsBy segmentAt rounded term termSum best ordinate ordinates blend triangle blended valueAt values badCoefficient badPosition curveChecked curveRead curveOutcome rowWeights tableWeights outcome cases
-every-case-holds = (refl, (refl, (refl, (refl, (refl, (refl, (refl, (refl, (refl, (refl, (refl, (refl, (refl, (refl, (refl, tt)))))))))))))))
+unfolding gcd gcdF mk int inv _+ᵠ_ _*ᵠ_ -ᵠ_ isZero ltᵠ sum nearest tab fits capped collect repeat first last lengthsFit badBreak spanTooLong badDegree badOrder checkedEntries checked firstColumn conditionsBefore falling binomial alternating undivided commonDivisor conditions identity count addProducts span partialSum quotientFactor factors newEntry newRows step orderSteps joinSteps weights spaceWeights built startsAtDiscontinuity startsBy segmentAt rounded term termSum best ordinate ordinates blend triangle blended valueAt values badCoefficient badPosition curveChecked curveRead curveOutcome rowWeights tableWeights outcome cases
+every-case-holds = (refl, (refl, (refl, (refl, (refl, (refl, (refl, (refl, (refl, (refl, (refl, (refl, (refl, (refl, (refl, (refl, (refl, tt)))))))))))))))))
 
 -- The same weights by the published construction.
 pub every-case-published : EveryCasePublished
 unfolding gcd gcdF mk int inv _+ᵠ_ _*ᵠ_ -ᵠ_ isZero sum tab first last firstColumn identity derivativeCoefficient leftConstraint rightConstraint constraint constraints diagonal aboveDiagonal bidiagonal nullspace product constrain for smooth extraction rowWeights tableWeights cases
-every-case-published = (refl, (refl, (refl, (refl, (refl, (refl, (refl, (refl, (refl, (refl, (refl, (refl, (refl, (refl, (refl, tt)))))))))))))))
+every-case-published = (refl, (refl, (refl, (refl, (refl, (refl, (refl, (refl, (refl, (refl, (refl, (refl, (refl, (refl, (refl, (refl, (refl, tt)))))))))))))))))
 
 -- The segments of positions on joins and beside them.
 pub every-position-belongs : EveryPositionBelongs

@@ -1,6 +1,7 @@
--- The cases W1 to W10 (document 01, "Sheet and printout" for W1 and "Cases" for the others; W9 as document 02, CR 5, has it)
--- as one table of inputs and outcomes, and the segments of positions on joins of each kind and beside them. The statements at
--- the end are proved by computation in proofs/Cases.
+-- The cases W1 to W10 (document 01, "Sheet and printout" for W1 and "Cases" for the others; document 02 for the values of W1
+-- and W2 (CR 8) and of W9 (CR 5)), and two in which a limit of step 1 acts, as one table of inputs and outcomes; and the
+-- segments of positions on joins of each kind and beside them. The statements at the end are proved by computation in
+-- proofs/Cases.
 use mathlib.Core.Path.{_≡_}
 use mathlib.Core.List.{List, [], _∷_, map}
 use Prim.Native.Nat.{ℕ}
@@ -123,15 +124,40 @@ threeLines first second = space (0 ∷ 1 ∷ 2 ∷ 3 ∷ []) (1 ∷ 1 ∷ 1 ∷ 
 abbrev pub threeLinesWeights : List Weight
 threeLinesWeights = weightAt 0 0 1 1 ∷ weightAt 1 1 1 1 ∷ weightAt 2 2 1 1 ∷ weightAt 3 3 1 1 ∷ weightAt 4 4 1 1 ∷ weightAt 5 5 1 1 ∷ []
 
+-- Where the upper limit of step 1 acts: with coefficients 1 the terms of the join's ordinate, 511/2 and 1/2, both go up.
+abbrev pub upperLimitSpace : Space
+upperLimitSpace = space (0 ∷ 1 ∷ 512 ∷ []) (2 ∷ 2 ∷ []) (pos 1 ∷ [])
+
+abbrev pub upperLimitWeights : List Weight
+upperLimitWeights =
+    weightAt 0 0 1 1 ∷
+    weightAt 1 1 1 1 ∷ weightAt 1 2 511 512 ∷ weightAt 1 3 511 512 ∷
+    weightAt 2 2 1 512 ∷ weightAt 2 3 1 512 ∷ weightAt 2 4 1 1 ∷
+    weightAt 3 5 1 1 ∷ []
+
+-- Where the lower limit acts: with coefficients 1 the three terms of the join's ordinate all go down.
+abbrev pub lowerLimitSpace : Space
+lowerLimitSpace = space (0 ∷ 1 ∷ 2 ∷ []) (3 ∷ 4 ∷ []) (pos 2 ∷ [])
+
+abbrev pub lowerLimitWeights : List Weight
+lowerLimitWeights =
+    weightAt 0 0 1 1 ∷
+    weightAt 1 1 1 1 ∷ weightAt 1 2 7 17 ∷ weightAt 1 3 3 17 ∷ weightAt 1 4 3 17 ∷
+    weightAt 2 2 10 17 ∷ weightAt 2 3 25 51 ∷ weightAt 2 4 25 51 ∷ weightAt 2 5 5 12 ∷
+    weightAt 3 3 1 3 ∷ weightAt 3 4 1 3 ∷ weightAt 3 5 7 12 ∷ weightAt 3 6 1 1 ∷
+    weightAt 4 7 1 1 ∷
+    weightAt 5 8 1 1 ∷ []
+
 -- ---- the table
 
--- W1 to W10, in the papers' words where they give a case in a sentence, and a space beside W9 with two discontinuities.
+-- W1 to W10, in the papers' words where they give a case in a sentence, a space beside W9 with two discontinuities, and the
+-- two limits.
 unfoldable pub cases : List Case
 cases =
     -- W1
-    line space1 (reading (pos 0 ∷ pos 100 ∷ pos 0 ∷ pos 0 ∷ []) (pos 256 ∷ pos 512 ∷ [])) (answers 4 weights1 (pos 17066 ∷ pos 4266 ∷ [])) ∷
-    -- W2: "W1 with coefficient -100: at 512, -4267"
-    line space1 (reading (pos 0 ∷ negℤ (pos 100) ∷ pos 0 ∷ pos 0 ∷ []) (pos 512 ∷ [])) (answers 4 weights1 (negℤ (pos 4267) ∷ [])) ∷
+    line space1 (reading (pos 0 ∷ pos 100 ∷ pos 0 ∷ pos 0 ∷ []) (pos 256 ∷ pos 512 ∷ [])) (answers 4 weights1 (pos 17067 ∷ pos 4267 ∷ [])) ∷
+    -- W2: "W1 with coefficient -100", and document 02: "at 512 becomes -4266"
+    line space1 (reading (pos 0 ∷ negℤ (pos 100) ∷ pos 0 ∷ pos 0 ∷ []) (pos 512 ∷ [])) (answers 4 weights1 (negℤ (pos 4266) ∷ [])) ∷
     -- W3: "W1 with four coefficients 1: 256 at both"
     line space1 (reading (pos 1 ∷ pos 1 ∷ pos 1 ∷ pos 1 ∷ []) (pos 256 ∷ pos 512 ∷ [])) (answers 4 weights1 (pos 256 ∷ pos 256 ∷ [])) ∷
     -- W4
@@ -153,7 +179,11 @@ cases =
     -- W10: "three coefficients: 6", with place 4,294,967,295; "the sole position 769: 7, place 0"; "with 768 accepted"
     line space1 (reading (pos 0 ∷ pos 100 ∷ pos 0 ∷ []) (pos 256 ∷ pos 512 ∷ [])) (refusal 6 4294967295) ∷
     line space1 (reading (pos 0 ∷ pos 100 ∷ pos 0 ∷ pos 0 ∷ []) (pos 769 ∷ [])) (refusal 7 0) ∷
-    line space1 (reading (pos 0 ∷ pos 100 ∷ pos 0 ∷ pos 0 ∷ []) (pos 768 ∷ [])) (answers 4 weights1 (pos 0 ∷ [])) ∷ []
+    line space1 (reading (pos 0 ∷ pos 100 ∷ pos 0 ∷ pos 0 ∷ []) (pos 768 ∷ [])) (answers 4 weights1 (pos 0 ∷ [])) ∷
+    -- the plain sum of the join's ordinate is 257, above 256 times the greatest coefficient
+    line upperLimitSpace (reading (pos 1 ∷ pos 1 ∷ pos 1 ∷ pos 1 ∷ []) (pos 256 ∷ [])) (answers 4 upperLimitWeights (pos 256 ∷ [])) ∷
+    -- the plain sum of the join's ordinate is 255, under 256 times the least coefficient
+    line lowerLimitSpace (reading (pos 1 ∷ pos 1 ∷ pos 1 ∷ pos 1 ∷ pos 1 ∷ pos 1 ∷ []) (pos 256 ∷ [])) (answers 6 lowerLimitWeights (pos 256 ∷ [])) ∷ []
 
 -- ---- the segments of positions
 

@@ -1,6 +1,7 @@
--- Reading the curve (document 01, "Reading the curve", up to the exact curve): the segment of a position, the ordinates,
--- the de Casteljau triangle and the values. Two rules stand in one definition each: `segmentAt` says which segment a
--- position belongs to, and `rounded` how a quotient becomes a whole number. Coefficients come as a function of the row.
+-- Reading the curve (document 01, "Reading the curve", up to the exact curve; document 02, CR 5 and CR 8, for positions on
+-- discontinuities and for the rounding): the segment of a position, the ordinates, the de Casteljau triangle and the values.
+-- Two rules stand in one definition each: `segmentAt` says which segment a position belongs to, and `rounded` how a quotient
+-- becomes a whole number. Coefficients come as a function of the row.
 use mathlib.Core.Bool.{Bool, false, cond, not}
 use mathlib.Core.List.{List, map}
 use mathlib.Core.Option.{Option, some, none, Option·getD}
@@ -10,7 +11,7 @@ use lib.ListN.{length, getD}
 use lib.Signed.{leZ, ltZ}
 use Rattle.exact.specs.Rational.{ℚ, den}
 use Rattle.exact.specs.Order.{isZero}
-use Rattle.exact.specs.Floor.{floorDiv}
+use Rattle.exact.specs.Floor.{nearest}
 use Rattle.exact.specs.Tabulate.{tab}
 use Rattle.spline.specs.Search.{last}
 use Rattle.spline.specs.Space.{Space, segments, break, degree, width, isDiscontinuity, firstColumn, columnCount}
@@ -39,9 +40,9 @@ startsBy s x i = cond (startsAtDiscontinuity s i) (ltZ (fine (break s i)) x) (le
 unfoldable pub segmentAt : Space → ℤ → ℕ
 segmentAt s x = Option·getD (last (segments s) (startsBy s x)) 0
 
--- "floor": the whole number that stands for z / d.
+-- "rounding to the nearest whole number, halves upwards": the whole number that stands for z / d.
 unfoldable pub rounded : ℤ → ℕ → ℤ
-rounded z d = floorDiv z d
+rounded z d = nearest z d
 
 -- ---- the ordinates (step 1)
 
@@ -53,7 +54,7 @@ coefficient coefs i = getD coefs i (pos 0)
 abbrev pub hasWeight : Table → ℕ → ℕ → Bool
 hasWeight t c i = not (isZero (cell t i c))
 
--- "floor(256·coefficient·numerator/denominator)".
+-- "256·coefficient·numerator/denominator", rounded.
 unfoldable pub term : ℚ → ℤ → ℤ
 term weight a = rounded (fine a *ℤ weight .num) (den weight)
 
@@ -111,7 +112,7 @@ fineWidth s i = parts * width s i
 abbrev pub offset : Space → ℕ → ℤ → ℤ
 offset s i x = x -ℤ fine (break s i)
 
--- "neighbours g, h become floor(((D - u)·g + u·h)/D)".
+-- Neighbours g, h become "((D - u)·g + u·h)/D", rounded.
 unfoldable pub blend : ℕ → ℤ → ℤ → ℤ → ℤ
 blend d u g h = rounded ((pos d -ℤ u) *ℤ g +ℤ u *ℤ h) d
 

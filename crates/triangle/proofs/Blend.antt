@@ -1,16 +1,16 @@
 -- The blend of two neighbours: it is no larger in size than they are, and one product and one division give it.
 use mathlib.Core.Path.{_≡_, refl, sym, _∙_, ap}
 use mathlib.Core.List.{[], _∷_}
-use Prim.Native.Nat.{ℕ, _<_, _≤_}
+use Prim.Native.Nat.{ℕ, _*_, _<_, _≤_}
 use native.Mathlib.Omega.{arith}
 use lib.IntN.{ℤ, pos, negℤ, natAbs, _+ℤ_, _-ℤ_, _*ℤ_}
 use lib.Signed.{_≤ℤ_}
 use mir.Syntax.{w64}
 use mir.Val.{SFits}
-use Rattle.exact.specs.Floor.{floorDiv}
+use Rattle.exact.specs.Floor.{nearest}
 use Rattle.exact.proofs.Ring.{ring, reads}
-use Rattle.exact.proofs.Integer.{ℤ-ring, ≤-out, +-comm, abs-le, abs-le-in, abs-le-out, abs-sub, abs-mul-le}
-use Rattle.exact.proofs.Floor.{floorDiv-add}
+use Rattle.exact.proofs.Integer.{ℤ-ring, ≤-out, <-≤, +-comm, abs-le, abs-le-in, abs-le-out, abs-mono, abs-sub, abs-mul-le}
+use Rattle.exact.proofs.Floor.{nearest-add}
 use Rattle.exact.proofs.Word.{sfits-abs, pos-of}
 use Rattle.spline.specs.Reading.{blend, rounded}
 use Rattle.closeness.proofs.Triangle.{Between, blend-between}
@@ -26,9 +26,9 @@ blend-abs d u g h positive from to k p q = let b = blend-between d u positive fr
 
 -- ---- one product and one division
 
-pub blend-is : (d : ℕ) (u g h : ℤ) → 0 < d → g +ℤ floorDiv (u *ℤ (h -ℤ g)) d ≡ blend d u g h
+pub blend-is : (d : ℕ) (u g h : ℤ) → 0 < d → g +ℤ nearest (u *ℤ (h -ℤ g)) d ≡ blend d u g h
 unfolding blend rounded
-blend-is d u g h positive = sym (ap (λ t. floorDiv t d) (alg (pos d)) ∙ floorDiv-add (u *ℤ (h -ℤ g)) g d positive ∙ +-comm _ g)
+blend-is d u g h positive = sym (ap (λ t. nearest t d) (alg (pos d)) ∙ nearest-add (u *ℤ (h -ℤ g)) g d positive ∙ +-comm _ g)
   where
     alg : (d : ℤ) → (d -ℤ u) *ℤ g +ℤ u *ℤ h ≡ u *ℤ (h -ℤ g) +ℤ g *ℤ d
     alg d = ring ℤ-ring (d ∷ u ∷ g ∷ h ∷ []) (search reads) (search reads) refl
@@ -42,10 +42,16 @@ module _ (u d g h : ℤ) (o : Offset u d) (p : natAbs g ≤ ordinateLimit) (q : 
   pub rise-fits : SFits w64 (h -ℤ g)
   rise-fits = sfits-abs (omega (arith, abs-sub h g))
 
-  pub run-fits : SFits w64 (u *ℤ (h -ℤ g))
-  run-fits = sfits-abs (omega (arith, abs-mul-le u (h -ℤ g) 512000 512000000 offset-abs (omega (arith, abs-sub h g))))
+  pub run-abs : natAbs (u *ℤ (h -ℤ g)) ≤ 512000 * 512000000
+  run-abs = abs-mul-le u (h -ℤ g) 512000 512000000 offset-abs (omega (arith, abs-sub h g))
 
-  pub step-is : g +ℤ floorDiv (u *ℤ (h -ℤ g)) (natAbs d) ≡ blend (natAbs d) u g h
+  pub run-fits : SFits w64 (u *ℤ (h -ℤ g))
+  run-fits = sfits-abs (omega (arith, run-abs))
+
+  pub width-abs : natAbs d ≤ 512000
+  width-abs = abs-mono d (pos 512000) (<-≤ (pos 0) d (o .long)) (o .short)
+
+  pub step-is : g +ℤ nearest (u *ℤ (h -ℤ g)) (natAbs d) ≡ blend (natAbs d) u g h
   step-is = blend-is (natAbs d) u g h (pos-of d (o .long) .1)
 
   pub step-abs : natAbs (blend (natAbs d) u g h) ≤ ordinateLimit

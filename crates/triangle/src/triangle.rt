@@ -12,7 +12,7 @@ fn blend(g: i64, h: i64, u: i64, d: i64) -> i64
     requires { ⌜ (natAbs g ≤ ordinateLimit) × ((natAbs h ≤ ordinateLimit) × Offset u d) ⌝ }
     ensures { λ r. ⌜ (r ≡ Reading.blend (natAbs d) u g h) × (natAbs r ≤ ordinateLimit) ⌝ }
 {
-    g + fraction::floor_div(u * (h - g), d)
+    g + fraction::round_div(u * (h - g), d)
 }
 
 // One stage: the first n numbers are blended with their neighbours.

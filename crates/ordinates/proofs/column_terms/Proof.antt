@@ -13,7 +13,7 @@ use mir.ValLaws.{toZ-ofZ}
 use Rattle.exact.specs.Rational
 use Rattle.exact.proofs.Word.{sfits-widen, ofZ-inj, sfits-abs}
 use Rattle.exact.proofs.Integer.{<-in}
-use Rattle.fraction.proofs.Size.{fits-num}
+use Rattle.fraction.proofs.Size.{fits-den}
 use Rattle.spline.specs.Table.{cell}
 use Rattle.spline.specs.Reading.{coefficient}
 use Rattle.ordinates.specs.Ordinates.{termsOf}
@@ -86,8 +86,8 @@ module _ (c : tie.In-loop Inv-loop μ-loop) where
   d-is : d ≡ pos (Rational.den (cell (start .pre .1 .0 .table) row (start .args .c)))
   d-is = cell-den (start .pre .1 .0 .holds) row (start .args .c) row-within (start .pre .0)
 
-  x-small : natAbs x < 2 ^ 31
-  x-small = rw x-is (fits-num _ (start .pre .1 .0 .holds .fit row (start .args .c)))
+  d-small : natAbs d < 2 ^ 31
+  d-small = rw d-is (fits-den _ (start .pre .1 .0 .holds .fit row (start .args .c)))
 
   d-positive : pos 0 <ℤ d
   d-positive = rw d-is (<-in _ _ (omega arith))
@@ -117,7 +117,7 @@ with-term-requires c κs =
     let f = a-fits l in
     let g = x-fits (c .before .before .before) in
     let h = d-fits c in
-    simp toZ-ofZ (a-small l, (x-small l, (d-positive l, (x-unit l, omega (arith, l .before .loop .inv .1 .small, start l .pre .1 .0 .few)))))
+    simp toZ-ofZ (a-small l, (d-small l, (d-positive l, (x-unit l, omega (arith, l .before .loop .inv .1 .small, start l .pre .1 .0 .few)))))
 
 add-i : tie.Need-add-i Inv-loop μ-loop
 add-i c = omega (arith, c .before .before .before .before .pre .1 .0 .few)

@@ -3,13 +3,13 @@
 use borrow.Author.Needs.{needs}
 use native.Mathlib.Omega.{arith}
 use mathlib.Core.Path.{_≡_, refl, ap, ap₂, _∙_}
-use Prim.Native.Nat.{_≤_}
+use Prim.Native.Nat.{_*_, _≤_}
 use lib.IntN.{ℤ, pos, natAbs, _+ℤ_, _*ℤ_}
 use lib.Signed.{leZ}
 use mir.Syntax.{w64}
 use mir.Val.{SFits, ofZ, toZ}
 use mir.ValLaws.{toZ-ofZ}
-use Rattle.exact.specs.Floor.{floorDiv}
+use Rattle.exact.specs.Floor.{nearest}
 use Rattle.exact.proofs.Word.{sfits-abs, abs-add, abs-mul-le, pos-of}
 use Rattle.spline.specs.Reading.{fine, rounded, preferred}
 use Rattle.ordinates.specs.Ordinates.{given, ordinateLimit}
@@ -31,20 +31,29 @@ module _ (s : tie.Start) where
   scaled-fits : SFits w64 (pos 256 *ℤ s .args .a)
   scaled-fits = sfits-abs (omega (arith, scaled-abs))
 
+  product-abs : natAbs (pos 256 *ℤ s .args .a *ℤ s .args .num) ≤ 256000000 * 2147483647
+  product-abs = abs-mul-le (pos 256 *ℤ s .args .a) (s .args .num) 256000000 2147483647 scaled-abs (omega (arith, s .pre .1 .0, s .pre .1 .1 .1 .0))
+
   product-fits : SFits w64 (pos 256 *ℤ s .args .a *ℤ s .args .num)
-  product-fits = sfits-abs (omega (arith, abs-mul-le (pos 256 *ℤ s .args .a) (s .args .num) 256000000 2147483647 scaled-abs (omega (arith, s .pre .1 .0))))
+  product-fits = sfits-abs (omega (arith, product-abs))
 
   term-small : natAbs term ≤ ordinateLimit
   term-small = term-abs (s .args .a) (s .args .num) (natAbs (s .args .den)) (pos-of (s .args .den) (s .pre .1 .1 .0) .1) (s .pre .0) (s .pre .1 .1 .1 .0)
 
-mul-floor-div : tie.Need-mul-floor-div
-mul-floor-div c = let f = c .fits .a in simp toZ-ofZ (scaled-fits c)
+mul-round-div : tie.Need-mul-round-div
+mul-round-div c = let f = c .fits .a in simp toZ-ofZ (scaled-fits c)
 
-mul-floor-div-2 : tie.Need-mul-floor-div-2
-mul-floor-div-2 c = let f = c .fits .a in let g = c .fits .num in let h = scaled-fits c in simp toZ-ofZ (product-fits c)
+mul-round-div-2 : tie.Need-mul-round-div-2
+mul-round-div-2 c = let f = c .fits .a in let g = c .fits .num in let h = scaled-fits c in simp toZ-ofZ (product-fits c)
 
-floor-div-requires : tie.Need-floor-div-requires
-floor-div-requires c κs = search needs
+round-div-requires : tie.Need-round-div-requires
+round-div-requires c κs =
+    let f = c .fits .a in
+    let g = c .fits .num in
+    let h = c .fits .den in
+    let k = scaled-fits c in
+    let l = product-fits c in
+    simp toZ-ofZ (omega (arith, product-abs c), (c .pre .1 .1 .0, omega (arith, c .pre .1 .0)))
 
 lesser-requires : tie.Need-lesser-requires
 lesser-requires c κs = search needs
@@ -52,9 +61,9 @@ lesser-requires c κs = search needs
 greater-requires : tie.Need-greater-requires
 greater-requires c κs = search needs
 
-module _ (c : tie.After-floor-div) where
-  -- the floored quotient is the rounded term
-  divided : c .floor-div .result ≡ term (c .before)
+module _ (c : tie.After-round-div) where
+  -- the nearest number is the rounded term
+  divided : c .round-div .result ≡ term (c .before)
   unfolding rounded
   divided =
       let s = c .before in
@@ -63,19 +72,19 @@ module _ (c : tie.After-floor-div) where
       let h = scaled-fits s in
       let k = product-fits s in
       let e : word (word (pos 256 *ℤ word (s .args .a)) *ℤ word (s .args .num)) ≡ pos 256 *ℤ s .args .a *ℤ s .args .num = simp toZ-ofZ in
-      c .floor-div .ensures ∙ ap₂ (λ (a b : ℤ). floorDiv a (natAbs b)) e (toZ-ofZ w64 (s .args .den) (s .fits .den))
+      c .round-div .ensures ∙ ap₂ (λ (a b : ℤ). nearest a (natAbs b)) e (toZ-ofZ w64 (s .args .den) (s .fits .den))
 
-  summed : c .before .args .before .sum +ℤ c .floor-div .result ≡ c .before .args .before .sum +ℤ term (c .before)
+  summed : c .before .args .before .sum +ℤ c .round-div .result ≡ c .before .args .before .sum +ℤ term (c .before)
   summed = ap (λ (z : ℤ). c .before .args .before .sum +ℤ z) divided
 
-  sum-fits : SFits w64 (c .before .args .before .sum +ℤ c .floor-div .result)
+  sum-fits : SFits w64 (c .before .args .before .sum +ℤ c .round-div .result)
   sum-fits = rw summed (sfits-abs (omega (arith, abs-add (c .before .args .before .sum) (term (c .before)), term-small (c .before), c .before .pre .1 .1 .1 .1)))
 
   before-fits : SFits w64 (c .before .args .before .sum)
   before-fits = sfits-abs (omega (arith, c .before .pre .1 .1 .1 .1))
 
-  result-fits : SFits w64 (c .floor-div .result)
-  result-fits = record { sfits = c .floor-div .ok }
+  result-fits : SFits w64 (c .round-div .result)
+  result-fits = record { sfits = c .round-div .ok }
 
 add-t8 : tie.Need-add-t8
 add-t8 c = let d = c .before .before .before .before .before .before in let f = before-fits d in let g = result-fits d in simp toZ-ofZ (sum-fits d)
@@ -109,9 +118,9 @@ pub with-term-spec : {M : Type 1} → statement M
 with-term-spec =
     tie.close
     (tie.spec
-    mul-floor-div
-    mul-floor-div-2
-    floor-div-requires
+    mul-round-div
+    mul-round-div-2
+    round-div-requires
     lesser-requires
     greater-requires
     add-t8

@@ -1,5 +1,4 @@
 -- `curve::triangle::blend` meets its contract: with ordinates within their limit nothing leaves 64 bits. Assumes nothing.
-use borrow.Author.Needs.{needs}
 use mathlib.Core.Path.{_≡_, ap, ap₂, _∙_}
 use native.Mathlib.Omega.{arith}
 use Prim.Native.Nat.{_≤_}
@@ -7,11 +6,11 @@ use lib.IntN.{ℤ, natAbs, _+ℤ_, _-ℤ_, _*ℤ_}
 use mir.Syntax.{w64}
 use mir.Val.{SFits, ofZ, toZ}
 use mir.ValLaws.{toZ-ofZ}
-use Rattle.exact.specs.Floor.{floorDiv}
+use Rattle.exact.specs.Floor.{nearest}
 use Rattle.exact.proofs.Word.{sfits-abs}
 use Rattle.spline.specs.Reading.{blend}
 use Rattle.ordinates.specs.Ordinates.{ordinateLimit}
-use Rattle.triangle.proofs.Blend.{rise-fits, run-fits, step-is, step-abs}
+use Rattle.triangle.proofs.Blend.{rise-fits, run-abs, run-fits, width-abs, step-is, step-abs}
 use Rattle.triangle.proofs.triangle.blend.Statement.{statement}
 use Rattle.triangle.proofs.triangle.blend.Tie as tie
 
@@ -26,45 +25,44 @@ module _ (c : tie.Start) where
   run : SFits w64 (c .args .u *ℤ (c .args .h -ℤ c .args .g))
   run = run-fits (c .args .u) (c .args .d) (c .args .g) (c .args .h) (c .pre .1 .1) (c .pre .0) (c .pre .1 .0)
 
-sub-floor-div : tie.Need-sub-floor-div
-sub-floor-div c = let f = c .fits .h in let k = c .fits .g in simp toZ-ofZ (rise c)
+  -- the dividend, as it is passed on
+  run-is : word (word (c .args .u) *ℤ word (word (c .args .h) -ℤ word (c .args .g))) ≡ c .args .u *ℤ (c .args .h -ℤ c .args .g)
+  run-is = let f = c .fits .h in let k = c .fits .g in let l = c .fits .u in let m = rise in let r = run in simp toZ-ofZ
 
-mul-floor-div : tie.Need-mul-floor-div
-mul-floor-div c = let f = c .fits .h in let k = c .fits .g in let l = c .fits .u in let m = rise c in simp toZ-ofZ (run c)
+sub-round-div : tie.Need-sub-round-div
+sub-round-div c = let f = c .fits .h in let k = c .fits .g in simp toZ-ofZ (rise c)
 
-floor-div-requires : tie.Need-floor-div-requires
-floor-div-requires c κs = search needs
+mul-round-div : tie.Need-mul-round-div
+mul-round-div c = let f = c .fits .h in let k = c .fits .g in let l = c .fits .u in let m = rise c in simp toZ-ofZ (run c)
 
-module _ (c : tie.After-floor-div) where
+round-div-requires : tie.Need-round-div-requires
+round-div-requires c κs =
+    let bounds = run-abs (c .args .u) (c .args .d) (c .args .g) (c .args .h) (c .pre .1 .1) (c .pre .0) (c .pre .1 .0) in
+    let width = width-abs (c .args .u) (c .args .d) (c .args .g) (c .args .h) (c .pre .1 .1) (c .pre .0) (c .pre .1 .0) in
+    rw (run-is c, toZ-ofZ w64 (c .args .d) (c .fits .d)) (omega (arith, bounds), (c .pre .1 .1 .long, omega (arith, width)))
+
+module _ (c : tie.After-round-div) where
   abbrev result : ℤ
   result = blend (natAbs (c .before .args .d)) (c .before .args .u) (c .before .args .g) (c .before .args .h)
 
-  divided : c .floor-div .result ≡ floorDiv (c .before .args .u *ℤ (c .before .args .h -ℤ c .before .args .g)) (natAbs (c .before .args .d))
-  divided =
-      let s = c .before in
-      let f = s .fits .h in
-      let k = s .fits .g in
-      let l = s .fits .u in
-      let m = rise s in
-      let r = run s in
-      let e : word (word (s .args .u) *ℤ word (word (s .args .h) -ℤ word (s .args .g))) ≡ s .args .u *ℤ (s .args .h -ℤ s .args .g) = simp toZ-ofZ in
-      c .floor-div .ensures ∙ ap₂ (λ (a b : ℤ). floorDiv a (natAbs b)) e (toZ-ofZ w64 (s .args .d) (s .fits .d))
+  divided : c .round-div .result ≡ nearest (c .before .args .u *ℤ (c .before .args .h -ℤ c .before .args .g)) (natAbs (c .before .args .d))
+  divided = let s = c .before in c .round-div .ensures ∙ ap₂ (λ (a b : ℤ). nearest a (natAbs b)) (run-is s) (toZ-ofZ w64 (s .args .d) (s .fits .d))
 
   -- the sum is the blend
-  is : c .before .args .g +ℤ c .floor-div .result ≡ result
+  is : c .before .args .g +ℤ c .round-div .result ≡ result
   is = let s = c .before in ap (λ (z : ℤ). s .args .g +ℤ z) divided ∙ step-is (s .args .u) (s .args .d) (s .args .g) (s .args .h) (s .pre .1 .1) (s .pre .0) (s .pre .1 .0)
 
   abs : natAbs result ≤ ordinateLimit
   abs = let s = c .before in step-abs (s .args .u) (s .args .d) (s .args .g) (s .args .h) (s .pre .1 .1) (s .pre .0) (s .pre .1 .0)
 
-  sum-fits : SFits w64 (c .before .args .g +ℤ c .floor-div .result)
+  sum-fits : SFits w64 (c .before .args .g +ℤ c .round-div .result)
   sum-fits = rw is (sfits-abs (omega (arith, abs)))
 
 add-result : tie.Need-add-result
-add-result c = let f = c .before .fits .g in let k : SFits w64 (c .floor-div .result) = record { sfits = c .floor-div .ok } in simp toZ-ofZ (sum-fits c)
+add-result c = let f = c .before .fits .g in let k : SFits w64 (c .round-div .result) = record { sfits = c .round-div .ok } in simp toZ-ofZ (sum-fits c)
 
 returns : tie.Need-returns
-returns c = let f = c .before .fits .g in let k : SFits w64 (c .floor-div .result) = record { sfits = c .floor-div .ok } in let l = sum-fits c in simp toZ-ofZ (is c, rw (is c) (abs c))
+returns c = let f = c .before .fits .g in let k : SFits w64 (c .round-div .result) = record { sfits = c .round-div .ok } in let l = sum-fits c in simp toZ-ofZ (is c, rw (is c) (abs c))
 
 pub blend-spec : {M : Type 1} → statement M
-blend-spec = tie.close (tie.spec sub-floor-div mul-floor-div floor-div-requires add-result returns)
+blend-spec = tie.close (tie.spec sub-round-div mul-round-div round-div-requires add-result returns)
