@@ -21,13 +21,13 @@ use Rattle.spline.specs.CurveCall.{coefficientLimit, badCoefficient, badPositio
 use Rattle.spline.specs.ExactCurve.{leastOn, greatestOn, Legal}
 use Rattle.spline.proofs.Space.{between-inverts}
 use Rattle.theorems.proofs.Built.{built, row-count}
-use Rattle.closeness.specs.Demand3.{InSpan, valueLimit, Close, CellsAreClose, CellsPastAreKept}
+use Rattle.closeness.specs.Demand3Values.{InSpan, valueLimit, Close, CellsAreClose, CellsPastAreKept}
 use Rattle.closeness.proofs.Fine.{fine-mono}
 use Rattle.closeness.proofs.Segment.{accepted-checked, located}
 use Rattle.closeness.proofs.OnSegment.{leastOn-is, greatestOn-is}
 use Rattle.closeness.proofs.SegmentWeights.{every-segment-has-weight}
 use Rattle.closeness.proofs.LegalCall.{legal-calls-answer}
-use Rattle.closeness.proofs.Demand3.{exact-at-most-value-and-closeness, value-at-most-exact-and-closeness, value-at-least-least, value-at-most-greatest}
+use Rattle.closeness.proofs.Demand3Values.{exact-at-most-value-and-closeness, value-at-most-exact-and-closeness, value-at-least-least, value-at-most-greatest}
 
 -- ---- the cells as a table
 

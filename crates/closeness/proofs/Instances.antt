@@ -32,11 +32,11 @@ use Rattle.spline.specs.CurveCall.{badCoefficient, badPosition, curveOutcome, r
 use Rattle.spline.specs.Cases.{space, space1, space9, upperLimitSpace, lowerLimitSpace}
 use Rattle.spline.specs.ExactCurve.{power, bernsteinAt, exactTerm, exactOn, exactCurve, largest, mostWeights, weighsOn, leastOn, greatestOn, Legal}
 use Rattle.theorems.proofs.Instances.{q0, q1}
-use Rattle.closeness.specs.Demand3.{closeness, Close}
+use Rattle.closeness.specs.Demand3Values.{closeness, Close}
 use Rattle.closeness.proofs.Weights.{weight-num-le-den}
 use Rattle.closeness.proofs.Positions.{positions-between-belong-between, discontinuities-belong-before, other-joins-belong-after, first-breakpoint-belongs-first, last-breakpoint-belongs-last}
 use Rattle.closeness.proofs.LegalCall.{legal-calls-answer, legal-calls-return-count, answered-calls-are-legal}
-use Rattle.closeness.proofs.Demand3.{exact-at-most-value-and-closeness, value-at-most-exact-and-closeness, value-at-least-least, value-at-most-greatest}
+use Rattle.closeness.proofs.Demand3Values.{exact-at-most-value-and-closeness, value-at-most-exact-and-closeness, value-at-least-least, value-at-most-greatest}
 use Rattle.closeness.proofs.Cells.{cells-are-close, cells-past-are-kept}
 
 -- ---- W1: breaks 0,1,3, degrees 2,2, order 1

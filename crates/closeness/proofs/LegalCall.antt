@@ -22,7 +22,7 @@ use Rattle.spline.proofs.Outcome.{answer-unique, answer-not-refusal, then-answe
 use Rattle.spline.proofs.Search.{first-none, first-none-inverts}
 use Rattle.spline.proofs.Legal.{checked-inverts, refuseFirst-inverts, cond-refuse-inverts, fitting-inverts}
 use Rattle.theorems.proofs.Built.{built}
-use Rattle.closeness.specs.Demand3.{legalResult, LegalCallsAnswer, LegalCallsReturnCount, AnsweredCallsAreLegal}
+use Rattle.closeness.specs.Demand3Values.{legalResult, LegalCallsAnswer, LegalCallsReturnCount, AnsweredCallsAreLegal}
 use Rattle.closeness.proofs.Segment.{accepted-checked}
 
 not-below : {m n : ℕ} → n ≤ m → ltb m n ≡ false

@@ -1,6 +1,6 @@
 -- The laws behind the second half of demand 3, from the rounding up to the cells after a call, and the segments of positions.
 -- Other crates cite Weights for the size of a weight, Segment and Positions for a position's segment, LegalCall and Cells for
--- a call, Demand3 for a value.
+-- a call, Demand3Values for a value.
 pub mod Within
 pub mod Rounding
 pub mod Fine
@@ -16,7 +16,7 @@ pub mod Positions
 pub mod ExactSum
 pub mod OnSegment
 pub mod Value
-pub mod Demand3
+pub mod Demand3Values
 pub mod SegmentWeights
 pub mod LegalCall
 pub mod Cells

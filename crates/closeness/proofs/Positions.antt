@@ -17,7 +17,7 @@ use Rattle.spline.proofs.Space.{is-discontinuity, is-no-discontinuity}
 use Rattle.spline.proofs.Search.{last-at}
 use Rattle.spline.proofs.Legal.{Checked, checked-inverts, legal}
 use Rattle.spline.proofs.Reading.{after-start, before-start, starts-by-first, on-discontinuity, on-join}
-use Rattle.closeness.specs.Demand3.{InSpan}
+use Rattle.closeness.specs.Demand3Values.{InSpan}
 use Rattle.closeness.specs.Positions.{PositionsBetweenBelongBetween, DiscontinuitiesBelongBefore, OtherJoinsBelongAfter, FirstBreakpointBelongsFirst, LastBreakpointBelongsLast}
 use Rattle.closeness.proofs.Fine.{fine-mono-<}
 use Rattle.closeness.proofs.Segment.{breaks-rise}

@@ -22,7 +22,7 @@ use Rattle.spline.proofs.Outcome.{then-inverts}
 use Rattle.spline.proofs.Search.{SearchedBack, at, nowhere, search-last}
 use Rattle.spline.proofs.Legal.{Checked, checked-inverts, legal, good-break-rises}
 use Rattle.spline.proofs.Reading.{starts-by-le, not-starts-by-le, starts-by-first}
-use Rattle.closeness.specs.Demand3.{InSpan}
+use Rattle.closeness.specs.Demand3Values.{InSpan}
 use Rattle.closeness.proofs.Fine.{fine-sub}
 
 -- ---- the checks of an accepted space

@@ -31,7 +31,7 @@ use Rattle.cells.proofs.Buffer.{holds-left}
 use Rattle.weights.proofs.Stepped.{Proper, weights-proper}
 use Rattle.curve.specs.Reply.{reply}
 use Rattle.ordinates.specs.Ordinates.{Weighs, Coefficients}
-use Rattle.triangle.specs.Reading.{Within}
+use Rattle.triangle.specs.Offsets.{Within}
 use Rattle.curve.specs.declared.Answer.{Answer}
 use Rattle.curve.specs.declared.Answer.the-variants.{Values, Refused}
 use Rattle.limits.proofs.Entries.{good-coefficient, good-position}

@@ -6,18 +6,19 @@ ghost use lib.IntN.{pos};
 ghost use lib.ListN.{length, getD, drop};
 ghost use Rattle.space.specs.Reply.{space};
 ghost use Rattle.space.specs.Legal.{DegreesLegal, ListsLegal};
-ghost use Rattle.spline.specs.Table.{Table};
+ghost use Rattle.spline.specs.Space.{segmentLimit};
+ghost use Rattle.spline.specs.Table.{Table, rowCells};
 ghost use Rattle.spline.specs.Reading;
 ghost use Rattle.cells.specs.Held.{Holds};
 ghost use Rattle.ordinates.specs.Ordinates.{Weighs, Coefficients, Bounded};
-ghost use Rattle.triangle.specs.Reading.{columnsOf, Within};
+ghost use Rattle.triangle.specs.Offsets.{columnsOf, Within};
 
 // The first columns of the segments.
-fn first_columns(degrees: &[i32]) -> [usize; 12]
-    requires { ⌜ (length (now degrees) ≤ 12) × DegreesLegal (now degrees) ⌝ }
+fn first_columns(degrees: &[i32]) -> [usize; space::MAX_SEGMENTS]
+    requires { ⌜ (length (now degrees) ≤ segmentLimit) × DegreesLegal (now degrees) ⌝ }
     ensures { λ r. ⌜ r ≡ columnsOf (space [] (now (degrees .entry)) []) ⌝ }
 {
-    let mut columns = [0; 12];
+    let mut columns = [0; space::MAX_SEGMENTS];
     let mut i = 0;
     while i < degrees.len() {
         let c = space::first_column(degrees, i);
@@ -38,7 +39,7 @@ fn write_all(
     values: &mut [i32],
 )
     requires { ⌜ ListsLegal (now breaks) (now degrees) (now orders) × ((k : ℕ) → k < length (now positions) → Within (space (now breaks) (now degrees) (now orders)) (getD (now positions) k (pos 0))) ⌝ }
-    requires { ⌜ (now columns ≡ columnsOf (space [] (now degrees) [])) × ((length (now ordinates) ≡ 72) × Bounded (now ordinates)) ⌝ }
+    requires { ⌜ (now columns ≡ columnsOf (space [] (now degrees) [])) × ((length (now ordinates) ≡ rowCells) × Bounded (now ordinates)) ⌝ }
     requires { ⌜ length (now positions) ≤ length (now values) ⌝ }
     ensures { λ _. ⌜ now (values .exit) ≡ map (λ x. Reading.blended (space (now (breaks .entry)) (now (degrees .entry)) (now (orders .entry))) (now (ordinates .entry)) (Reading.segmentAt (space (now (breaks .entry)) (now (degrees .entry)) (now (orders .entry))) x) x) (now (positions .entry)) ++ drop (length (now (positions .entry))) (now (values .entry)) ⌝ }
 {

@@ -3,20 +3,21 @@ use mathlib.Core.Bool.{Bool, true, false}
 use mathlib.Core.List.{List}
 use mathlib.Core.Option.{Option, some, none, Option·getD}
 use mathlib.Core.Path.{_≡_}
-use Prim.Native.Nat.{ℕ, _≤_}
+use Prim.Native.Nat.{ℕ, _*_, _≤_}
 use lib.IntN.{ℤ, pos, natAbs, _+ℤ_, _*ℤ_}
 use lib.ListN.{length, getD}
 use lib.Signed.{leZ}
 use Rattle.exact.specs.Rational.{den}
 use Rattle.exact.specs.Tabulate.{tab}
 use Rattle.spline.specs.Table.{Table, cell, rowCells}
-use Rattle.spline.specs.Reading.{fine, rounded, preferred, least, greatest, hasWeight, termSum}
+use Rattle.spline.specs.Reading.{parts, fine, rounded, preferred, least, greatest, hasWeight, termSum}
+use Rattle.spline.specs.CurveCall.{coefficientLimit}
 use Rattle.cells.specs.Held.{Holds}
 use Rattle.ordinates.specs.declared.Terms.{Terms}
 
 -- 256 times the largest coefficient: no ordinate and no value is larger in size.
 abbrev pub ordinateLimit : ℕ
-ordinateLimit = 256000000
+ordinateLimit = parts * coefficientLimit
 
 -- Whether there is a number.
 abbrev pub known : Option ℤ → Bool
@@ -60,7 +61,7 @@ pub record Weighs (num den : List ℤ) (n : ℕ) : Type 0 where
 -- n coefficients in their range.
 pub record Coefficients (coefs : List ℤ) (n : ℕ) : Type 0 where
   pub count : length coefs ≡ n
-  pub small : (i : ℕ) → natAbs (getD coefs i (pos 0)) ≤ 1000000
+  pub small : (i : ℕ) → natAbs (getD coefs i (pos 0)) ≤ coefficientLimit
 
 -- A list in an array of 72, 0 past its end.
 unfoldable pub padded : List ℤ → List ℤ

@@ -7,8 +7,9 @@ ghost use lib.IntN.{pos, natAbs};
 ghost use lib.ListN.{length};
 ghost use lib.Signed.{leZ, ltZ, _<ℤ_};
 ghost use Rattle.spline.specs.Space.{Space, columnCount};
-ghost use Rattle.spline.specs.Table.{Table};
+ghost use Rattle.spline.specs.Table.{Table, rowCells};
 ghost use Rattle.spline.specs.Reading;
+ghost use Rattle.spline.specs.CurveCall.{coefficientLimit};
 ghost use Rattle.cells.specs.Held.{Holds};
 ghost use Rattle.ordinates.specs.Ordinates.{given, termsOf, Added, Weighs, Coefficients, padded, Bounded};
 
@@ -46,7 +47,7 @@ fn greater(some: bool, a: i64, b: i64) -> i64
 
 // One more coefficient with weight num / den.
 fn with_term(before: Terms, a: i64, num: i64, den: i64) -> Terms
-    requires { ⌜ (natAbs a ≤ 1000000) × ((natAbs den < 2 ^ 31) × ((pos 0 <ℤ den) × ((natAbs num ≤ natAbs den) × (natAbs (before .sum) < 2 ^ 62)))) ⌝ }
+    requires { ⌜ (natAbs a ≤ coefficientLimit) × ((natAbs den < 2 ^ 31) × ((pos 0 <ℤ den) × ((natAbs num ≤ natAbs den) × (natAbs (before .sum) < 2 ^ 62)))) ⌝ }
     ensures { λ r. ⌜ Added before a num den r ⌝ }
 {
     let term = fraction::round_div(256 * a * num, den);
@@ -71,7 +72,7 @@ fn at_most(high: i64, x: i64) -> i64
 
 // The sum within 256 times the least and the greatest coefficient.
 fn limited(terms: Terms) -> i64
-    requires { ⌜ (natAbs (terms .least) ≤ 1000000) × (natAbs (terms .greatest) ≤ 1000000) ⌝ }
+    requires { ⌜ (natAbs (terms .least) ≤ coefficientLimit) × (natAbs (terms .greatest) ≤ coefficientLimit) ⌝ }
     ensures { λ r. ⌜ r ≡ Reading.atMost (given (terms .some) (terms .greatest)) (Reading.atLeast (given (terms .some) (terms .least)) (terms .sum)) ⌝ }
 {
     let sum = terms.sum;
@@ -88,7 +89,7 @@ fn limited(terms: Terms) -> i64
 
 // The terms of column c over the first n rows.
 fn column_terms(num: &[i64], den: &[i64], coefs: &[i32], n: usize, c: usize) -> Terms
-    requires { ⌜ (c < 72) × (Weighs (now num) (now den) n × Coefficients (now coefs) n) ⌝ }
+    requires { ⌜ (c < rowCells) × (Weighs (now num) (now den) n × Coefficients (now coefs) n) ⌝ }
     ensures { λ r. ⌜ ((t : Table) → Holds (now (num .entry)) (now (den .entry)) t → r ≡ termsOf t (Reading.coefficient (now (coefs .entry))) c n) ⌝ }
 {
     let mut all = Terms {
@@ -99,7 +100,7 @@ fn column_terms(num: &[i64], den: &[i64], coefs: &[i32], n: usize, c: usize) -> 
     };
     let mut i = 0;
     while i < n {
-        let at = 72 * i + c;
+        let at = cells::ROW_CELLS * i + c;
         let x = num[at];
         if x != 0 {
             let a = coefs[i] as i64;
@@ -112,12 +113,18 @@ fn column_terms(num: &[i64], den: &[i64], coefs: &[i32], n: usize, c: usize) -> 
 }
 
 // The ordinates of the first `columns` columns, 0 past them.
-pub fn ordinates(num: &[i64], den: &[i64], coefs: &[i32], n: usize, columns: usize) -> [i64; 72]
-    requires { ⌜ (columns ≤ 72) × (Weighs (now num) (now den) n × Coefficients (now coefs) n) ⌝ }
+pub fn ordinates(
+    num: &[i64],
+    den: &[i64],
+    coefs: &[i32],
+    n: usize,
+    columns: usize,
+) -> [i64; cells::ROW_CELLS]
+    requires { ⌜ (columns ≤ rowCells) × (Weighs (now num) (now den) n × Coefficients (now coefs) n) ⌝ }
     ensures { λ r. ⌜ ((s : Space) (t : Table) → Holds (now (num .entry)) (now (den .entry)) t → length t ≡ n → columnCount s ≡ columns
         → r ≡ padded (Reading.ordinates s t (Reading.coefficient (now (coefs .entry))))) × Bounded r ⌝ }
 {
-    let mut os = [0; 72];
+    let mut os = [0; cells::ROW_CELLS];
     let mut c = 0;
     while c < columns {
         let all = column_terms(num, den, coefs, n, c);

@@ -16,7 +16,7 @@ use Rattle.spline.specs.ExactCurve.{Legal}
 use Rattle.spline.specs.Reading.{values}
 use Rattle.spline.proofs.Outcome.{answer-unique, answer-not-refusal, then-inverts}
 use Rattle.theorems.proofs.Demand2.{rows-and-columns}
-use Rattle.closeness.specs.Demand3.{legalResult}
+use Rattle.closeness.specs.Demand3Values.{legalResult}
 use Rattle.closeness.proofs.LegalCall.{answered-calls-are-legal, legal-calls-answer, values-length}
 use Rattle.space.proofs.Legal.{checked-legal, legal-column-count-high, legal-row-count-sum}
 use Rattle.curve.specs.Reply as curve

@@ -18,7 +18,7 @@ use Rattle.spline.specs.Reading.{parts, fine, segmentAt, coefficient, fineWidth
 use Rattle.spline.specs.ExactCurve.{exactOn, exactCurve}
 use Rattle.theorems.proofs.Built.{built}
 use Rattle.theorems.proofs.Demand2.{combination-at}
-use Rattle.closeness.specs.Demand3.{InSpan}
+use Rattle.closeness.specs.Demand3Values.{InSpan}
 use Rattle.closeness.proofs.Segment.{Located, located, accepted-checked, fineWidth-is}
 use Rattle.closeness.proofs.Positions.{discontinuities-belong-before, other-joins-belong-after, breakpoint-in-span}
 use Rattle.closeness.proofs.Bernstein.{exactTriangle}

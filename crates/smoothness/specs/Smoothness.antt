@@ -14,7 +14,7 @@ use Rattle.spline.specs.Piecewise.{Meets, Accepted, combination}
 use Rattle.spline.specs.Reading.{parts, fine, segmentAt, offset}
 use Rattle.spline.specs.ExactCurve.{exactCurve}
 use Rattle.theorems.specs.Demand2.{OneCombination}
-use Rattle.closeness.specs.Demand3.{InSpan}
+use Rattle.closeness.specs.Demand3Values.{InSpan}
 use Rattle.smoothness.specs.Polynomial.{Polynomial, value, iterated}
 use Rattle.smoothness.specs.Bernstein.{bernsteinForm}
 

@@ -12,7 +12,7 @@ ghost use Rattle.spline.specs.Space.{segmentLimit, spanLimit, lengthsFit, badBr
 ghost use Rattle.space.specs.Reply.{space, legality, found};
 ghost use Rattle.space.specs.Legal.{BreaksLegal, DegreesLegal, OrdersLegal, JoinsLegal, breaksChecked, degreesChecked, ordersChecked};
 
-const MAX_SEGMENTS: usize = 12;
+pub const MAX_SEGMENTS: usize = 12;
 
 const BREAK_LIMIT: i32 = 10000;
 

@@ -29,7 +29,7 @@ use Rattle.spline.specs.Piecewise.{Accepted, MeetsAll, Meets, pairing, combinat
 use Rattle.spline.proofs.Outcome.{answer-not-refusal}
 use Rattle.theorems.specs.Counted.{Test, counted, shaped, numberOf, passes, joined, jumpTests, exactJumps, firstJump, lastJump, shapeTest, quotient, factorTests, innerRows, innerRow, exactFactors, entryTests, rowTests, exactRow, stepTests, exactStep, exactOrders, exactJoins, buildTests, exactWeights, allPass, FirstTooLarge, FirstFailure}
 use Rattle.theorems.proofs.Demand2.{rows-and-columns, combinations-meet-conditions, conditions-give-one-combination}
-use Rattle.theorems.proofs.Demand3.{no-weight-negative, column-sums-one}
+use Rattle.theorems.proofs.Demand3Weights.{no-weight-negative, column-sums-one}
 use Rattle.theorems.proofs.Published.{weights-are-published}
 use Rattle.theorems.proofs.Cells.{accepted-spaces-are-built, cells-hold-published-weights}
 use Rattle.theorems.proofs.Counted.{refused-by-first-failure, eight-is-first-too-large, first-failure-refuses, passing-is-accepted}

@@ -1,6 +1,6 @@
 -- The proofs of the statements in specs/. NullSpace is the step theorem on functions; Functional to Stepped bring a step
 -- of the build into its form; Basis to Built go through the steps; Derivative to Published compare with the published
--- construction; Counted is about refusals; Demand2 and Demand3 state the results, Instances are examples with numbers.
+-- construction; Counted is about refusals; Demand2 and Demand3Weights state the results, Instances are examples with numbers.
 pub mod NullSpace
 pub mod Functional
 pub mod Extended
@@ -16,6 +16,6 @@ pub mod Bidiagonal
 pub mod Published
 pub mod Counted
 pub mod Demand2
-pub mod Demand3
+pub mod Demand3Weights
 pub mod Cells
 pub mod Instances

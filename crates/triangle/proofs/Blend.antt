@@ -15,7 +15,7 @@ use Rattle.exact.proofs.Word.{sfits-abs, pos-of}
 use Rattle.spline.specs.Reading.{blend, rounded}
 use Rattle.closeness.proofs.Triangle.{Between, blend-between}
 use Rattle.ordinates.specs.Ordinates.{ordinateLimit}
-use Rattle.triangle.specs.Reading.{Offset}
+use Rattle.triangle.specs.Offsets.{Offset}
 
 -- sizes keep within a bound
 pub blend-abs : (d : ℕ) (u g h : ℤ) → 0 < d → pos 0 ≤ℤ u → u ≤ℤ pos d → (k : ℕ) → natAbs g ≤ k → natAbs h ≤ k → natAbs (blend d u g h) ≤ k

@@ -13,7 +13,7 @@ use Rattle.exact.specs.Tabulate.{tab}
 use Rattle.exact.proofs.Decide.{le-or-lt, cond-true, cond-false}
 use Rattle.exact.proofs.Tabulate.{tab-length, tab-getD, tab-rest}
 use Rattle.ordinates.specs.Ordinates.{Bounded, ordinateLimit}
-use Rattle.triangle.specs.Reading.{localOf}
+use Rattle.triangle.specs.Offsets.{localOf}
 
 module _ (os : List ℤ) (c p : ℕ) where
   -- the copy

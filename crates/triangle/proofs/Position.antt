@@ -16,13 +16,13 @@ use Rattle.exact.proofs.Tabulate.{tab-length, tab-getD, tab-rest}
 use Rattle.spline.specs.Space.{degree, firstColumn}
 use Rattle.spline.specs.Reading.{fine, segmentAt, fineWidth, offset, triangle, blended}
 use Rattle.spline.proofs.Legal.{Checked, checked-inverts}
-use Rattle.closeness.specs.Demand3.{InSpan}
+use Rattle.closeness.specs.Demand3Values.{InSpan}
 use Rattle.closeness.proofs.Segment.{Located, located}
 use Rattle.space.specs.Reply.{space}
 use Rattle.space.specs.Legal.{ListsLegal}
 use Rattle.space.proofs.Legal.{legal-checked, legal-width-high, legal-degree-high, legal-columns-within, legal-column-count-high}
 use Rattle.space.proofs.Partial.{first-column-partial}
-use Rattle.triangle.specs.Reading.{columnsOf, localOf, Within, Offset}
+use Rattle.triangle.specs.Offsets.{columnsOf, localOf, Within, Offset}
 use Rattle.triangle.proofs.Stages.{triangle-ext}
 use Rattle.triangle.proofs.Local.{local-at}
 

@@ -1,2 +1,2 @@
 -- What the contracts of triangle cite beside the definitions of crate spline.
-pub mod Reading
+pub mod Offsets

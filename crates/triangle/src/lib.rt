@@ -8,9 +8,10 @@ ghost use lib.ListN.{length};
 ghost use Rattle.space.specs.Reply.{space};
 ghost use Rattle.space.specs.Legal.{BreaksLegal, ListsLegal};
 ghost use Rattle.spline.specs.Search;
+ghost use Rattle.spline.specs.Table.{rowCells};
 ghost use Rattle.spline.specs.Reading;
 ghost use Rattle.ordinates.specs.Ordinates.{Bounded};
-ghost use Rattle.triangle.specs.Reading.{columnsOf, localOf, Within};
+ghost use Rattle.triangle.specs.Offsets.{columnsOf, localOf, Within};
 
 mod triangle;
 
@@ -101,7 +102,7 @@ pub fn value_at(
     x: i32,
 ) -> i32
     requires { ⌜ ListsLegal (now breaks) (now degrees) (now orders) × Within (space (now breaks) (now degrees) (now orders)) x ⌝ }
-    requires { ⌜ (now columns ≡ columnsOf (space [] (now degrees) [])) × ((length (now ordinates) ≡ 72) × Bounded (now ordinates)) ⌝ }
+    requires { ⌜ (now columns ≡ columnsOf (space [] (now degrees) [])) × ((length (now ordinates) ≡ rowCells) × Bounded (now ordinates)) ⌝ }
     ensures { λ r. ⌜ r ≡ Reading.blended (space (now (breaks .entry)) (now (degrees .entry)) (now (orders .entry))) (now (ordinates .entry)) (Reading.segmentAt (space (now (breaks .entry)) (now (degrees .entry)) (now (orders .entry))) x) x ⌝ }
 {
     let i = segment_at(breaks, orders, degrees.len(), x);

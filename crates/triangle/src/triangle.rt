@@ -5,7 +5,7 @@ ghost use lib.IntN.{pos, natAbs};
 ghost use lib.ListN.{getD};
 ghost use Rattle.spline.specs.Reading;
 ghost use Rattle.ordinates.specs.Ordinates.{Bounded, ordinateLimit};
-ghost use Rattle.triangle.specs.Reading.{Offset};
+ghost use Rattle.triangle.specs.Offsets.{Offset};
 
 // Neighbours g, h at u of d: one product and one division.
 fn blend(g: i64, h: i64, u: i64, d: i64) -> i64

@@ -18,7 +18,7 @@ use Rattle.spline.specs.Space.{Space, firstColumn}
 use Rattle.spline.specs.Reading.{startsBy, segmentAt, fineWidth, offset, triangle, blended}
 use Rattle.space.specs.Reply.{space}
 use Rattle.space.proofs.Partial.{starts-by-partial}
-use Rattle.triangle.specs.Reading.{Offset}
+use Rattle.triangle.specs.Offsets.{Offset}
 use Rattle.triangle.proofs.Local.{local-bounded}
 use Rattle.triangle.proofs.Position.{segment-within, offset-within, column-at, columns-within, degree-within, columns-long, blended-local}
 use Rattle.triangle.proofs.value_at.Statement.{statement}

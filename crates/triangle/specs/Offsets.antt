@@ -1,18 +1,18 @@
 -- What the functions over the positions ask and leave.
 use mathlib.Core.Bool.{cond}
 use mathlib.Core.List.{List}
-use Prim.Native.Nat.{ℕ, _+_}
+use Prim.Native.Nat.{ℕ, _+_, _*_}
 use lib.Dec.{leb, ltb}
 use lib.IntN.{ℤ, pos}
 use lib.ListN.{getD}
 use lib.Signed.{_<ℤ_, _≤ℤ_}
 use Rattle.exact.specs.Tabulate.{tab}
-use Rattle.spline.specs.Space.{Space, break, segments, firstColumn}
-use Rattle.spline.specs.Reading.{fine}
+use Rattle.spline.specs.Space.{Space, segmentLimit, spanLimit, break, segments, firstColumn}
+use Rattle.spline.specs.Reading.{parts, fine}
 
--- The first columns of the segments in an array of twelve, 0 past them.
+-- The first columns of the segments in an array, 0 past them.
 unfoldable pub columnsOf : Space → List ℕ
-columnsOf s = tab 12 (λ i. cond (ltb i (segments s)) (firstColumn s i) 0)
+columnsOf s = tab segmentLimit (λ i. cond (ltb i (segments s)) (firstColumn s i) 0)
 
 -- The p + 1 numbers from index c on in an array of six, 0 past them.
 unfoldable pub localOf : List ℤ → ℕ → ℕ → List ℤ
@@ -28,4 +28,4 @@ pub record Offset (u d : ℤ) : Type 0 where
   pub above : pos 0 ≤ℤ u
   pub below : u ≤ℤ d
   pub long : pos 0 <ℤ d
-  pub short : d ≤ℤ pos 512000
+  pub short : d ≤ℤ pos (parts * spanLimit)

@@ -4,7 +4,7 @@
 -- the cells after a call.
 use mathlib.Core.Path.{_≡_}
 use mathlib.Core.List.{List}
-use Prim.Native.Nat.{ℕ, _+_, _<_, _≤_}
+use Prim.Native.Nat.{ℕ, _+_, _*_, _<_, _≤_}
 use lib.Dec.{T}
 use lib.IntN.{ℤ, pos, natAbs}
 use lib.ListN.{length, getD}
@@ -15,8 +15,8 @@ use Rattle.spline.specs.Outcome.{answer}
 use Rattle.spline.specs.Space.{Space, segments, break, between, degree}
 use Rattle.spline.specs.Table.{Table}
 use Rattle.spline.specs.Piecewise.{Accepted}
-use Rattle.spline.specs.Reading.{fine, segmentAt, valueAt, values}
-use Rattle.spline.specs.CurveCall.{CurveResult, curveOutcome, returned, valuesAfter}
+use Rattle.spline.specs.Reading.{parts, fine, segmentAt, valueAt, values}
+use Rattle.spline.specs.CurveCall.{coefficientLimit, CurveResult, curveOutcome, returned, valuesAfter}
 use Rattle.spline.specs.ExactCurve.{exactCurve, mostWeights, leastOn, greatestOn, Legal}
 
 -- The position is neither below 256·x0 nor above 256·xm.
@@ -77,7 +77,7 @@ AnsweredCallsAreLegal = (s : Space) (coefs positions : List ℤ) (numLength denL
 
 -- 256 times the largest coefficient.
 abbrev pub valueLimit : ℕ
-valueLimit = 256000000
+valueLimit = parts * coefficientLimit
 
 -- All that demand 3 says of the number v written for position x, and its size.
 pub record Close (s : Space) (t : Table) (coefs : List ℤ) (x v : ℤ) : Type 0 where

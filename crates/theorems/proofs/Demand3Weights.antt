@@ -3,7 +3,7 @@ use mathlib.Core.Path.{sym, _∙_, ap}
 use Rattle.exact.specs.Sum.{sum}
 use Rattle.exact.proofs.Order.{nn-zero-le}
 use Rattle.spline.specs.Table.{cell}
-use Rattle.theorems.specs.Demand3.{NoWeightNegative, ColumnSumsOne}
+use Rattle.theorems.specs.Demand3Weights.{NoWeightNegative, ColumnSumsOne}
 use Rattle.theorems.proofs.Built.{built, row-count}
 
 pub no-weight-negative : NoWeightNegative

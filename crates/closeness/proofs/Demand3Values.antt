@@ -5,7 +5,7 @@ use Rattle.spline.specs.Space.{Space}
 use Rattle.spline.specs.Piecewise.{Accepted}
 use Rattle.spline.specs.Reading.{fine, segmentAt, valueAt}
 use Rattle.spline.specs.ExactCurve.{exactCurve, leastOn, greatestOn}
-use Rattle.closeness.specs.Demand3.{InSpan, closeness, ExactAtMostValueAndCloseness, ValueAtMostExactAndCloseness, ValueAtLeastLeast, ValueAtMostGreatest}
+use Rattle.closeness.specs.Demand3Values.{InSpan, closeness, ExactAtMostValueAndCloseness, ValueAtMostExactAndCloseness, ValueAtLeastLeast, ValueAtMostGreatest}
 use Rattle.closeness.proofs.Within.{Within}
 use Rattle.closeness.proofs.Triangle.{Between}
 use Rattle.closeness.proofs.Segment.{Located, accepted-checked, located}
