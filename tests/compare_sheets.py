@@ -2,12 +2,11 @@
 
 usage: compare_sheets.py SHEET [--count N] [--seed S] [--case FILE]
 
-Each sheet is one process. Everything it prints up to its low lines must equal
-the model's text byte for byte; the low lines, whose order is free, are
-compared as a multiset and must come last. It must end with status 0 and write
-nothing to standard error. The first difference is shown, and its sheet is kept
-in a file, which --case runs again. From 2,000 sheets on, every number that a
-sheet can show, and every place of number 10, must have come up.
+Each sheet is one process. Everything it prints must equal the model's text
+byte for byte, and it must end with status 0 and write nothing to standard
+error. The first difference is shown, and its sheet is kept in a file, which
+--case runs again. From 2,000 sheets on, every number that a sheet can show, and
+every place of number 10, must have come up.
 """
 
 import argparse
@@ -30,7 +29,6 @@ GATE_COUNT = 2_000
 SECONDS = 60
 JOBS = 4
 SHOWN = 400               # bytes of each text that a difference shows
-LOW = b"low="
 ENOUGH = 2_000            # sheets from which each of these must have come up
 FAR = range(2 ** 8, 2 ** 32 - 1)  # places that need more than a byte
 REACHABLE = {"answers", *(f"number {number}" for number in range(2, 9)),
@@ -44,17 +42,6 @@ def run_sheet(program, data):
     if run.returncode != 0 or run.stderr:
         return run.stdout + b"status %d, standard error: %b\n" % (run.returncode, run.stderr)
     return run.stdout
-
-
-def low_apart(text):
-    """The text before the first low line, and all lines from it on."""
-    lines = text.splitlines(keepends=True)
-    first = next((i for i, line in enumerate(lines) if line.startswith(LOW)), len(lines))
-    return b"".join(lines[:first]), Counter(lines[first:])
-
-
-def same_printout(expected, got):
-    return low_apart(expected) == low_apart(got)
 
 
 def reply_of(printout):
@@ -84,7 +71,7 @@ def compare_all(program, texts, seen):
         printed = pool.map(lambda data: run_sheet(program, data), texts)
         for data, got in zip(texts, printed):
             expected = sheet(data)
-            if not same_printout(expected, got):
+            if got != expected:
                 pool.shutdown(cancel_futures=True)
                 return difference(data, expected, got)
             seen[reply_of(expected)] += 1

@@ -1,7 +1,7 @@
 """The sheet program's text, by document 01's "Sheet and printout".
 
 `sheet` takes everything on standard input and gives everything printed. The
-order of the low lines is free; here they follow the list of positions.
+low lines come by rising position, a repeated one as often as it was listed.
 """
 
 import re
@@ -51,8 +51,8 @@ def weight_lines(rows):
 
 def value_lines(positions, values):
     lines = [f"v={position},{value}" for position, value in zip(positions, values)]
-    low = [f"low={position}" for position, value in zip(positions, values) if value <= 0]
-    return lines + low
+    low = sorted(position for position, value in zip(positions, values) if value <= 0)
+    return lines + [f"low={position}" for position in low]
 
 
 def refusal_lines(number, place):

@@ -4,6 +4,7 @@ use mathlib.Core.Path.{_≡_, refl, sym, ap, _∙_}
 use mathlib.Core.Logic.{_⊎_, inl, inr}
 use mathlib.Core.List.{List, [], _∷_, _++_}
 use Prim.Native.Nat.{ℕ, _+_, _-_, _<_, _≤_}
+use native.Mathlib.Nat.{zero-add}
 use native.Mathlib.Omega.{arith}
 use lib.ListN.{length, getD, set, length-append, length-set, List·getD-append}
 use lib.Seq.{ext-getD, getD-append-add, getD-set-same, getD-set-other, set-out}
@@ -140,3 +141,10 @@ puts-length {at} {t} {out} p = ap length (p .contents) ∙ written-length at t o
 -- the same text in other words
 pub puts-as : {l at : ℕ} {t u : Text} {out end : List ℕ} {next : ℕ} → t ≡ u → Puts l at t out end next → Puts l at u out end next
 puts-as e p = rw e at p
+
+-- ---- a text from the buffer's start on, with its length
+pub written-as : {t u : Text} (out : List ℕ) {end : List ℕ} {count : ℕ} → t ≡ u → count ≡ length t → end ≡ written 0 t out → (count ≡ length u) × (end ≡ written 0 u out)
+written-as out e p q = (p ∙ ap length e, q ∙ ap (λ v. written 0 v out) e)
+
+pub puts-whole : {l : ℕ} {t u : Text} {out end : List ℕ} {count : ℕ} → t ≡ u → Puts l 0 t out end count → (count ≡ length u) × (end ≡ written 0 u out)
+puts-whole {out} e p = written-as out e (p .behind ∙ zero-add _) (p .contents)

@@ -2,10 +2,12 @@
 use mathlib.Core.Path.{_≡_, refl}
 use mathlib.Core.List.{List, [], _∷_, _++_}
 use lib.IntN.{pos, negsuc}
+use Rattle.spline.specs.Listing.{tableWeights}
 use Rattle.spline.specs.Cases.{weights1}
-use Rattle.numerals.specs.Bytes.{Text}
+use Rattle.sorting.specs.Sorted.{inserted, sorted}
+use Rattle.numerals.specs.Bytes.{Text, bytes, lines}
 use Rattle.numerals.specs.Numeral.{digitsUpTo, digits, decimal}
-use Rattle.printout.specs.Printout.{joined, countLine, weightLine, weightLines, valueLine, valueLines, lowLine, lowLines, lowPositions, refusalLine}
+use Rattle.printout.specs.Printout.{joined, countLine, weightLine, weightLines, valueLine, valueLines, lowLine, lowLines, lowPositions, refusalLine, answerText}
 
 -- The lines as document 01 prints them.
 abbrev w1 : List Text
@@ -38,9 +40,19 @@ pub w1-printed : countLine 4 ++ (weightLines weights1 ++ (valueLines (pos 256 �
 unfolding joined digitsUpTo digits decimal countLine weightLine weightLines valueLine valueLines lowLine lowLines
 w1-printed = refl
 
--- low=-5 and low=0 for the values 0 and -1, and no line for the value 1
-pub lows-printed : lowLines (lowPositions (negsuc 4 ∷ pos 0 ∷ pos 1 ∷ []) (pos 0 ∷ negsuc 0 ∷ pos 1 ∷ [])) ≡ 108 ∷ 111 ∷ 119 ∷ 61 ∷ 45 ∷ 53 ∷ 10 ∷ 108 ∷ 111 ∷ 119 ∷ 61 ∷ 48 ∷ 10 ∷ []
-unfolding joined digitsUpTo digits decimal lowLine lowLines lowPositions
+-- The values come in list order, then the low lines by rising position, a repeated one twice, and none for the value 1.
+pub lows-printed : answerText [] (pos 7 ∷ negsuc 4 ∷ pos 1 ∷ pos 0 ∷ pos 7 ∷ []) (negsuc 1 ∷ pos 0 ∷ pos 1 ∷ negsuc 0 ∷ negsuc 1 ∷ []) ≡ lines (
+    "n=0" ∷
+    "v=7,-2" ∷
+    "v=-5,0" ∷
+    "v=1,1" ∷
+    "v=0,-1" ∷
+    "v=7,-2" ∷
+    "low=-5" ∷
+    "low=0" ∷
+    "low=7" ∷
+    "low=7" ∷ [])
+unfolding joined digitsUpTo digits decimal countLine weightLine weightLines valueLine valueLines lowLine lowLines lowPositions answerText inserted sorted tableWeights bytes lines
 lows-printed = refl
 
 -- no=10,6

@@ -1,19 +1,17 @@
 -- Laws of an answer's printout: what it takes to be an answer, the line of one cell, and one more cell behind others.
-use mathlib.Core.Path.{_≡_, refl, ap, _∙_}
+use mathlib.Core.Path.{_≡_, ap, _∙_}
 use mathlib.Core.Bool.{true, false}
 use mathlib.Core.List.{List, [], _++_, append-assoc}
 use Prim.Native.Nat.{ℕ, suc, _*_, _/_, _%_, _≤_}
-use native.Mathlib.Nat.{zero-add}
 use lib.Dec.{leb}
 use lib.IntN.{ℤ, pos, natAbs}
 use lib.ListN.{length, getD}
 use borrow.Author.Tests.{le-leb, leb-true, eq-eqb, ne-eqb}
 use Rattle.exact.proofs.Decide.{and-true}
 use Rattle.exact.proofs.Integer.{abs-zero}
-use Rattle.printout.specs.Printout.{countLine, weightLine, weightLines, valueLines, lowLines, lowPositions, LowOrder}
-use Rattle.printout.specs.Printed.{placeText, fractionText, storedWeight, storedWeights, isAnswer, printed, Answered}
-use Rattle.printout.specs.Buffer.{Puts}
-use Rattle.printout.proofs.Buffer.{written-none}
+use Rattle.sorting.specs.Sorted.{sorted}
+use Rattle.printout.specs.Printout.{countLine, weightLine, weightLines, valueLines, lowLines, lowPositions}
+use Rattle.printout.specs.Printed.{placeText, fractionText, storedWeight, storedWeights, isAnswer, printed}
 use Rattle.printout.proofs.Printout.{weightLines-append, weightLines-one, weightLines-none}
 
 -- ---- the tests of an answer
@@ -63,27 +61,13 @@ pub cells-more : (k : ℕ) (num den : List ℤ) → weightLines (storedWeights (
 unfolding storedWeights
 cells-more k num den = weightLines-append (storedWeights k num den) (storedWeight k (getD num k (pos 0)) (getD den k (pos 0)))
 
--- ---- the whole, with the low lines in list order
+-- ---- the whole
 module _ (n : ℕ) (num den xs vs : List ℤ) where
-  order-kept : LowOrder xs vs (lowPositions xs vs)
-  order-kept = record { each = λ x. refl }
-
-  pub answered-none : (out : List ℕ) → isAnswer n num den xs vs ≡ false → Answered n num den xs vs out out 0
+  pub printed-none : isAnswer n num den xs vs ≡ false → printed n num den xs vs ≡ []
   unfolding printed
-  answered-none out e = record {
-    lows = lowPositions xs vs;
-    order = order-kept;
-    contents = rw e (written-none 0 out);
-    length-is = rw e;
-  }
+  printed-none e = rw e
 
-  pub answered-all : {l : ℕ} {out end : List ℕ} {count : ℕ} → isAnswer n num den xs vs ≡ true
-      → Puts l 0 (countLine n ++ (weightLines (storedWeights (72 * n) num den) ++ (valueLines xs vs ++ lowLines (lowPositions xs vs)))) out end count
-      → Answered n num den xs vs out end count
+  pub printed-all : isAnswer n num den xs vs ≡ true
+      → printed n num den xs vs ≡ countLine n ++ (weightLines (storedWeights (72 * n) num den) ++ (valueLines xs vs ++ lowLines (sorted (lowPositions xs vs))))
   unfolding printed
-  answered-all e p = record {
-    lows = lowPositions xs vs;
-    order = order-kept;
-    contents = rw e (p .contents);
-    length-is = rw e (p .behind ∙ zero-add _);
-  }
+  printed-all e = rw e

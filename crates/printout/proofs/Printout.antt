@@ -2,10 +2,11 @@
 use mathlib.Core.Path.{_≡_, refl, sym, ap, _∙_}
 use mathlib.Core.Bool.{Bool, true, false, cond}
 use mathlib.Core.List.{List, [], _∷_, _++_, append-assoc, append-nil, map}
-use Prim.Native.Nat.{ℕ, zero, suc, _<_}
+use Prim.Native.Nat.{ℕ, zero, suc, _<_, _≤_}
 use native.Mathlib.Omega.{arith}
 use lib.IntN.{ℤ, pos}
 use lib.ListN.{length, getD, take}
+use lib.Seq.{take-suc}
 use lib.Signed.{leZ}
 use Rattle.spline.specs.Listing.{Weight}
 use Rattle.numerals.specs.Bytes.{Text}
@@ -45,7 +46,7 @@ lowLines-one : (x : ℤ) → lowLines (x ∷ []) ≡ lowLine x
 unfolding lowLines
 lowLines-one x = joined-one lowLine x
 
-lowLines-none : lowLines [] ≡ []
+pub lowLines-none : lowLines [] ≡ []
 unfolding lowLines
 lowLines-none = joined-none lowLine
 
@@ -63,16 +64,20 @@ valueLines-more (x ∷ xs) (v ∷ vs) (suc k) h l =
     ap (λ t. valueLine x v ++ t) (valueLines-more xs vs k (omega arith) (omega arith))
     ∙ sym (append-assoc (valueLine x v) (valueLines (take k xs) vs) (valueLine (getD xs k (pos 0)) (getD vs k (pos 0))))
 
--- the low line of one entry, by the test of its value
-pub low-line : (x v : ℤ) → leZ v (pos 0) ≡ true → lowLines (lowPositions (x ∷ []) (v ∷ [])) ≡ lowLine x
+-- an entry is low or not, by the test of its value
+pub entry-low : (x v : ℤ) → leZ v (pos 0) ≡ true → lowPositions (x ∷ []) (v ∷ []) ≡ x ∷ []
 unfolding lowPositions
-low-line x v e = rw e (lowLines-one x)
+entry-low x v e = rw e
 
-pub low-no-line : (x v : ℤ) → leZ v (pos 0) ≡ false → lowLines (lowPositions (x ∷ []) (v ∷ [])) ≡ []
+pub entry-not-low : (x v : ℤ) → leZ v (pos 0) ≡ false → lowPositions (x ∷ []) (v ∷ []) ≡ []
 unfolding lowPositions
-low-no-line x v e = rw e lowLines-none
+entry-not-low x v e = rw e
 
-lowPositions-more : (xs vs : List ℤ) (k : ℕ) → k < length xs → k < length vs → lowPositions (take (suc k) xs) vs ≡ lowPositions (take k xs) vs ++ lowPositions (getD xs k (pos 0) ∷ []) (getD vs k (pos 0) ∷ [])
+pub lowPositions-none : (vs : List ℤ) → lowPositions [] vs ≡ []
+unfolding lowPositions
+lowPositions-none vs = refl
+
+pub lowPositions-more : (xs vs : List ℤ) (k : ℕ) → k < length xs → k < length vs → lowPositions (take (suc k) xs) vs ≡ lowPositions (take k xs) vs ++ lowPositions (getD xs k (pos 0) ∷ []) (getD vs k (pos 0) ∷ [])
 unfolding lowPositions
 lowPositions-more [] vs k h l = absurd (omega arith)
 lowPositions-more (x ∷ xs) [] k h l = absurd (omega arith)
@@ -84,9 +89,17 @@ lowPositions-more (x ∷ xs) (v ∷ vs) (suc k) h l =
     behind true t u = refl
     behind false t u = refl
 
-pub lows-none : (vs : List ℤ) → lowLines (lowPositions [] vs) ≡ []
+-- no more low positions than positions
+pub lowPositions-few : (xs vs : List ℤ) → length (lowPositions xs vs) ≤ length xs
 unfolding lowPositions
-lows-none vs = lowLines-none
+lowPositions-few [] vs = omega arith
+lowPositions-few (x ∷ xs) [] = omega arith
+lowPositions-few (x ∷ xs) (v ∷ vs) = go (leZ v (pos 0)) (lowPositions-few xs vs)
+  where
+    go : (b : Bool) → length (lowPositions xs vs) ≤ length xs → length (cond b (x ∷ lowPositions xs vs) (lowPositions xs vs)) ≤ suc (length xs)
+    go true h = omega arith
+    go false h = omega arith
 
-pub lows-more : (xs vs : List ℤ) (k : ℕ) → k < length xs → k < length vs → lowLines (lowPositions (take (suc k) xs) vs) ≡ lowLines (lowPositions (take k xs) vs) ++ lowLines (lowPositions (getD xs k (pos 0) ∷ []) (getD vs k (pos 0) ∷ []))
-lows-more xs vs k h l = ap lowLines (lowPositions-more xs vs k h l) ∙ lowLines-append (lowPositions (take k xs) vs) (lowPositions (getD xs k (pos 0) ∷ []) (getD vs k (pos 0) ∷ []))
+pub lowLines-more : (xs : List ℤ) (k : ℕ) → k < length xs → lowLines (take (suc k) xs) ≡ lowLines (take k xs) ++ lowLine (getD xs k (pos 0))
+lowLines-more xs k h =
+    ap lowLines (take-suc xs k (pos 0) h) ∙ lowLines-append (take k xs) (getD xs k (pos 0) ∷ []) ∙ ap (λ t. lowLines (take k xs) ++ t) (lowLines-one (getD xs k (pos 0)))

@@ -17,7 +17,8 @@ use Rattle.exact.proofs.Tabulate.{getD-tab, length-tab}
 use Rattle.spline.specs.Table.{Row, Table, entry, row, cell, stored, rowCells, tableCells, numerators, denominators}
 use Rattle.spline.specs.Listing.{listed, rowWeights, tableWeights}
 use Rattle.spline.specs.CurveCall.{positionLimit}
-use Rattle.printout.specs.Printout.{countLine, weightLines, valueLines, lowLines, answerText}
+use Rattle.sorting.specs.Sorted.{sorted}
+use Rattle.printout.specs.Printout.{countLine, weightLines, valueLines, lowPositions, lowLines, answerText}
 use Rattle.printout.specs.Printed.{storedWeight, storedWeights, printed}
 use Rattle.printout.proofs.Printed.{answer-last}
 
@@ -130,12 +131,12 @@ module _ (t : Table) (num den : List ℤ) where
       ∙ sym (table-rows 0 t)
 
   -- so what is printed from the buffers of an answered call is the printout of its table
-  pub printed-table : (xs vs lows : List ℤ) → length t ≤ rowCells → ((i : ℕ) → i < length t → length (row t i) ≤ rowCells)
+  pub printed-table : (xs vs : List ℤ) → length t ≤ rowCells → ((i : ℕ) → i < length t → length (row t i) ≤ rowCells)
       → tableCells ≤ length num → tableCells ≤ length den → length xs ≤ positionLimit → length xs ≤ length vs
-      → printed (length t) (numerators t num) (denominators t den) xs vs lows ≡ answerText t xs vs lows
+      → printed (length t) (numerators t num) (denominators t den) xs vs ≡ answerText t xs vs
   unfolding printed answerText
-  printed-table xs vs lows h w a b e f =
+  printed-table xs vs h w a b e f =
       let n-long : length (numerators t num) ≡ length num = numerators-length t num a in
       let d-long : length (denominators t den) ≡ length den = denominators-length t den b in
       rw (answer-last (length t) (numerators t num) (denominators t den) xs vs h (omega arith) (omega arith) e, le-leb (length xs) (length vs) f)
-      (ap (λ ws. countLine (length t) ++ (weightLines ws ++ (valueLines xs vs ++ lowLines lows))) (stored-table h w))
+      (ap (λ ws. countLine (length t) ++ (weightLines ws ++ (valueLines xs vs ++ lowLines (sorted (lowPositions xs vs))))) (stored-table h w))

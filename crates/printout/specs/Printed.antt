@@ -2,7 +2,6 @@
 -- are taken as they are, whatever they hold: proofs/Stored shows that where they hold a table these are its weights.
 use mathlib.Core.Bool.{Bool, cond, _&&_}
 use mathlib.Core.List.{List, [], _∷_, _++_}
-use mathlib.Core.Path.{_≡_}
 use Prim.Native.Nat.{ℕ, zero, suc, _+_, _*_, _/_, _%_}
 use lib.Dec.{eqb, leb}
 use lib.IntN.{ℤ, pos, natAbs}
@@ -10,10 +9,10 @@ use lib.ListN.{length, getD}
 use Rattle.spline.specs.Listing.{Weight}
 use Rattle.spline.specs.Table.{rowCells, tableCells}
 use Rattle.spline.specs.CurveCall.{positionLimit}
+use Rattle.sorting.specs.Sorted.{sorted}
 use Rattle.numerals.specs.Bytes.{Text, newline, comma, slash}
 use Rattle.numerals.specs.Numeral.{digits, decimal}
-use Rattle.printout.specs.Printout.{weightKey, countLine, weightLines, valueLines, lowLines, LowOrder}
-use Rattle.printout.specs.Buffer.{written}
+use Rattle.printout.specs.Printout.{weightKey, countLine, weightLines, valueLines, lowPositions, lowLines}
 
 -- The most bytes that a printout has, 745,943: at most 23 for the n line, 87 for each weight, and 46 and 26 for the v line and
 -- the low line of each position. A number is counted with the 20 digits and the sign that 64 bits can have.
@@ -42,16 +41,9 @@ unfoldable pub isAnswer : ℕ → List ℤ → List ℤ → List ℤ → List �
 isAnswer n num den xs vs =
     leb n rowCells && leb tableCells (length num) && leb tableCells (length den) && leb (length xs) positionLimit && leb (length xs) (length vs)
 
--- What is printed: the lines of the answer, with the low lines in the order given; nothing where there is no answer.
-unfoldable pub printed : ℕ → List ℤ → List ℤ → List ℤ → List ℤ → List ℤ → Text
-printed n num den xs vs lows =
+-- What is printed: the lines of the answer; nothing where there is no answer.
+unfoldable pub printed : ℕ → List ℤ → List ℤ → List ℤ → List ℤ → Text
+printed n num den xs vs =
     cond (isAnswer n num den xs vs)
-    (countLine n ++ (weightLines (storedWeights (rowCells * n) num den) ++ (valueLines xs vs ++ lowLines lows)))
+    (countLine n ++ (weightLines (storedWeights (rowCells * n) num den) ++ (valueLines xs vs ++ lowLines (sorted (lowPositions xs vs)))))
     []
-
--- What printing an answer leaves. The order of the low lines is free: `lows` is one that has each of them.
-pub record Answered (n : ℕ) (num den xs vs : List ℤ) (before after : List ℕ) (count : ℕ) : Type 0 where
-  pub lows : List ℤ
-  pub order : LowOrder xs vs lows
-  pub contents : after ≡ written 0 (printed n num den xs vs lows) before
-  pub length-is : count ≡ length (printed n num den xs vs lows)

@@ -1,13 +1,13 @@
 -- The printout (document 01, "Sheet and printout"): n, the w lines, the v lines and the low lines, or the refusal alone.
-use mathlib.Core.Bool.{cond, _&&_}
+use mathlib.Core.Bool.{cond}
 use mathlib.Core.List.{List, [], _∷_, _++_, map}
-use mathlib.Core.Path.{_≡_}
-use Prim.Native.Nat.{ℕ, suc}
+use Prim.Native.Nat.{ℕ}
 use lib.IntN.{ℤ, pos}
 use lib.ListN.{length}
 use lib.Signed.{leZ}
 use Rattle.spline.specs.Table.{Table}
 use Rattle.spline.specs.Listing.{Weight, tableWeights}
+use Rattle.sorting.specs.Sorted.{sorted}
 use Rattle.numerals.specs.Bytes.{Text, newline, comma, slash}
 use Rattle.numerals.specs.Numeral.{digits, decimal}
 
@@ -68,23 +68,15 @@ lowPositions [] vs = []
 lowPositions (x ∷ xs) [] = []
 lowPositions (x ∷ xs) (v ∷ vs) = cond (leZ v (pos 0)) (x ∷ lowPositions xs vs) (lowPositions xs vs)
 
--- The low lines, in the order given.
+-- A low line for each of these positions.
 unfoldable pub lowLines : List ℤ → Text
 lowLines xs = joined (map lowLine xs)
-
--- How often x occurs.
-unfoldable pub occurrences : ℤ → List ℤ → ℕ
-occurrences x [] = 0
-occurrences x (y ∷ ys) = cond (leZ x y && leZ y x) (suc (occurrences x ys)) (occurrences x ys)
-
--- "each list entry whose value is zero or less has exactly one line, and no other entry has any": an order of these lines.
-pub record LowOrder (xs vs lows : List ℤ) : Type 0 where
-  pub each : (x : ℤ) → occurrences x lows ≡ occurrences x (lowPositions xs vs)
 
 -- "A refusal prints only no=number,place."
 unfoldable pub refusalLine : ℕ → ℕ → Text
 refusalLine number place = refusalKey ++ (digits number ++ (comma ∷ (digits place ++ (newline ∷ []))))
 
--- The whole printout of an answer, with the low lines in the order given.
-unfoldable pub answerText : Table → List ℤ → List ℤ → List ℤ → Text
-answerText t xs vs lows = countLine (length t) ++ (weightLines (tableWeights 0 t) ++ (valueLines xs vs ++ lowLines lows))
+-- The whole printout of an answer. "Low lines now come by rising position, a repeated position once for each time it was
+-- listed" (change request 6).
+unfoldable pub answerText : Table → List ℤ → List ℤ → Text
+answerText t xs vs = countLine (length t) ++ (weightLines (tableWeights 0 t) ++ (valueLines xs vs ++ lowLines (sorted (lowPositions xs vs))))

@@ -4,11 +4,12 @@ ghost use mathlib.Core.Path.{_≡_};
 ghost use mathlib.Core.List.{[], _∷_};
 ghost use Prim.Native.Nat.{_+_, _*_, _^_, _<_, _≤_};
 ghost use lib.IntN.{natAbs};
-ghost use lib.ListN.{length};
+ghost use lib.ListN.{length, take};
 ghost use Rattle.printout.specs.Buffer.{written, Puts};
+ghost use Rattle.sorting.specs.Sorted.{sorted};
 ghost use Rattle.numerals.specs.Numeral.{digits, decimal};
 ghost use Rattle.printout.specs.Printout.{countLine, weightLines, valueLine, valueLines, lowLine, lowLines, lowPositions, refusalLine};
-ghost use Rattle.printout.specs.Printed.{placeText, fractionText, storedWeight, storedWeights, isAnswer, Answered, printoutLimit};
+ghost use Rattle.printout.specs.Printed.{placeText, fractionText, storedWeight, storedWeights, isAnswer, printed, printoutLimit};
 
 // Cells of a row, cells of a table, and the most positions of a call.
 const ROW: usize = 72;
@@ -182,29 +183,48 @@ fn put_low_line(out: &mut [u8], at: usize, x: i32) -> usize
     put(out, b, 10)
 }
 
-// The low line of position x, if its value is zero or less.
-fn put_low(out: &mut [u8], at: usize, x: i32, v: i32) -> usize
-    requires { ⌜ at ≤ 2 ^ 42 ⌝ }
-    ensures { λ r. ⌜ Puts 26 at (lowLines (lowPositions (x ∷ []) (v ∷ []))) (now (out .entry)) (now (out .exit)) r ⌝ }
+// The positions of the entries whose value is zero or less, in list order, at the start of the lent list, and their count.
+// Every position is stored, and counted if it is low.
+fn low_positions(positions: &[i32], values: &[i32], lows: &mut [i32]) -> usize
+    requires { ⌜ (length (now positions) ≤ length (now values)) × (length (now positions) ≤ length (now lows)) ⌝ }
+    ensures { λ r. ⌜ r ≡ length (lowPositions (now (positions .entry)) (now (values .entry))) ⌝ }
+    ensures { λ r. ⌜ take r (now (lows .exit)) ≡ lowPositions (now (positions .entry)) (now (values .entry)) ⌝ }
 {
-    if v <= 0 {
-        return put_low_line(out, at, x);
+    let mut count = 0;
+    let mut k = 0;
+    while k < positions.len() {
+        lows[count] = positions[k];
+        if values[k] <= 0 {
+            count += 1;
+        }
+        k += 1;
     }
-    at
+    count
 }
 
-// A low line for each entry whose value is zero or less, in list order.
-fn put_lows(out: &mut [u8], at: usize, positions: &[i32], values: &[i32]) -> usize
-    requires { ⌜ (at ≤ 2 ^ 41) × (length (now positions) ≤ 4096) × (length (now positions) ≤ length (now values)) ⌝ }
-    ensures { λ r. ⌜ Puts (26 * length (now (positions .entry))) at (lowLines (lowPositions (now (positions .entry)) (now (values .entry)))) (now (out .entry)) (now (out .exit)) r ⌝ }
+// A low line for each of these positions.
+fn put_low_lines(out: &mut [u8], at: usize, lows: &[i32]) -> usize
+    requires { ⌜ (at ≤ 2 ^ 41) × (length (now lows) ≤ 4096) ⌝ }
+    ensures { λ r. ⌜ Puts (26 * length (now (lows .entry))) at (lowLines (now (lows .entry))) (now (out .entry)) (now (out .exit)) r ⌝ }
 {
     let mut next = at;
     let mut k = 0;
-    while k < positions.len() {
-        next = put_low(out, next, positions[k], values[k]);
+    while k < lows.len() {
+        next = put_low_line(out, next, lows[k]);
         k += 1;
     }
     next
+}
+
+// A low line for each entry whose value is zero or less, by rising position.
+fn put_lows(out: &mut [u8], at: usize, positions: &[i32], values: &[i32]) -> usize
+    requires { ⌜ (at ≤ 2 ^ 41) × (length (now positions) ≤ 4096) × (length (now positions) ≤ length (now values)) ⌝ }
+    ensures { λ r. ⌜ Puts (26 * length (now (positions .entry))) at (lowLines (sorted (lowPositions (now (positions .entry)) (now (values .entry))))) (now (out .entry)) (now (out .exit)) r ⌝ }
+{
+    let mut lows = [0; POSITIONS];
+    let count = low_positions(positions, values, &mut lows);
+    sorting::sort(&mut lows, count);
+    put_low_lines(out, at, &lows[..count])
 }
 
 // The arguments are those of an answered call.
@@ -226,8 +246,8 @@ fn is_answer(n: usize, num: &[i64], den: &[i64], positions: &[i32], values: &[i3
     positions.len() <= values.len()
 }
 
-// The printout of an answer: the first n rows of the two buffers, the values at the positions, and the low lines. Where the
-// arguments are not those of an answered call nothing is printed.
+// The printout of an answer: the first n rows of the two buffers, the values at the positions, and the low lines by rising
+// position. Where the arguments are not those of an answered call nothing is printed.
 pub fn answer(
     n: usize,
     num: &[i64],
@@ -236,7 +256,8 @@ pub fn answer(
     values: &[i32],
     out: &mut [u8],
 ) -> usize
-    ensures { λ r. ⌜ Answered n (now (num .entry)) (now (den .entry)) (now (positions .entry)) (now (values .entry)) (now (out .entry)) (now (out .exit)) r ⌝ }
+    ensures { λ r. ⌜ r ≡ length (printed n (now (num .entry)) (now (den .entry)) (now (positions .entry)) (now (values .entry))) ⌝ }
+    ensures { λ r. ⌜ now (out .exit) ≡ written 0 (printed n (now (num .entry)) (now (den .entry)) (now (positions .entry)) (now (values .entry))) (now (out .entry)) ⌝ }
     ensures { λ r. ⌜ r ≤ printoutLimit ⌝ }
 {
     if !is_answer(n, num, den, positions, values) {

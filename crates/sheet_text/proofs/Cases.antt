@@ -1,7 +1,7 @@
 -- The sheet of W1 in three steps: the text is read by computation, the call on the five lists is crate spline's case, and
 -- what it shows is printed by computation.
 use mathlib.Core.List.{List, [], _∷_, _++_}
-use mathlib.Core.Path.{_≡_, refl, sym, ap}
+use mathlib.Core.Path.{_≡_, refl, ap, _∙_}
 use Prim.Native.Nat.{ℕ}
 use native.Mathlib.Omega.{arith}
 use lib.IntN.{ℤ, pos}
@@ -9,11 +9,12 @@ use Rattle.spline.specs.Outcome.{Outcome, answer, refusal, capped, with-answer}
 use Rattle.spline.specs.CurveCall.{CurveResult, curveOutcome}
 use Rattle.spline.specs.Cases.{Answered, shown, answers, weights1, outcome, cases}
 use Rattle.spline.proofs.Cases.{every-case-holds}
+use Rattle.sorting.specs.Sorted.{inserted, sorted}
 use Rattle.numerals.specs.Bytes.{bytes, lines, cut, fields, stripped}
 use Rattle.numerals.specs.Numeral.{allDigits, digitsValue, isNatural, numeral, digitsUpTo, digits, decimal}
 use Rattle.sheet_lists.specs.Reading.{numerals, listOf, line, readLine, Lists, fiveLines, read}
-use Rattle.printout.specs.Printout.{joined, countLine, weightLine, weightLines, valueLine, valueLines, lowPositions, lowLines, occurrences, LowOrder, answerText}
-use Rattle.sheet_text.specs.Sheet.{called, Prints, answered, called-on}
+use Rattle.printout.specs.Printout.{joined, countLine, weightLine, weightLines, valueLine, valueLines, lowPositions, lowLine, lowLines, answerText}
+use Rattle.sheet_text.specs.Sheet.{called, outcomeText, readText, printout}
 use Rattle.sheet_text.specs.Cases.{w1Text, w1Printout, SheetCaseHolds}
 
 -- the five lists of W1, and its values
@@ -39,19 +40,14 @@ unfolding called curveOutcome outcome cases
 w1-called = every-case-holds .0
 
 -- what the call shows is what is printed
-module _ (r : CurveResult) (e : shown (r .table) (r .values) ≡ record { rows = 4; weights = weights1; values = w1-values }) where
-  w1-text : answerText (r .table) (w1 .positions) (r .values) [] ≡ w1Printout
-  unfolding joined countLine weightLine weightLines valueLine valueLines lowLines answerText digitsUpTo digits decimal bytes lines w1Printout
-  w1-text = ap (λ (a : Answered). countLine (a .rows) ++ (weightLines (a .weights) ++ (valueLines (w1 .positions) (a .values) ++ lowLines []))) e
-
-  w1-lows : LowOrder (w1 .positions) (r .values) []
-  unfolding lowPositions occurrences
-  w1-lows = record { each = λ x. ap (λ (a : Answered). occurrences x (lowPositions (w1 .positions) (a .values))) (sym e) }
-
-w1-prints : (o : Outcome CurveResult) → with-answer (λ r. shown (r .table) (r .values)) o ≡ answers 4 weights1 w1-values → Prints (w1 .positions) o w1Printout
-w1-prints (answer r) e = let same : shown (r .table) (r .values) ≡ record { rows = 4; weights = weights1; values = w1-values } = cc in rw (← w1-text r same) (answered r [] (w1-lows r same))
+w1-prints : (o : Outcome CurveResult) → with-answer (λ r. shown (r .table) (r .values)) o ≡ answers 4 weights1 w1-values → outcomeText (w1 .positions) o ≡ w1Printout
+unfolding outcomeText joined countLine weightLine weightLines valueLine valueLines lowPositions lowLine lowLines inserted sorted answerText digitsUpTo digits decimal bytes lines w1Printout
+w1-prints (answer r) e =
+    let same : shown (r .table) (r .values) ≡ record { rows = 4; weights = weights1; values = w1-values } = cc in
+    ap (λ (a : Answered). countLine (a .rows) ++ (weightLines (a .weights) ++ (valueLines (w1 .positions) (a .values) ++ lowLines (sorted (lowPositions (w1 .positions) (a .values)))))) same
 w1-prints (refusal number place) e = absurd (let x : _≡_ {A = ℕ} 0 1 = cc in omega arith)
 
 -- W1 of document 01, from the text of its sheet to the text of its printout.
 pub sheet-case-holds : SheetCaseHolds
-sheet-case-holds = called-on w1 w1Printout w1-reads (w1-prints (called w1) w1-called)
+unfolding printout readText
+sheet-case-holds = ap readText w1-reads ∙ w1-prints (called w1) w1-called

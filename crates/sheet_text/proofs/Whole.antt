@@ -1,5 +1,5 @@
--- From the contracts of the curve call and of reading to what the whole program shows: a refused call prints its refusal,
--- an answered one prints its table, positions and values from the buffers, and a sheet's parts are its five lists.
+-- From the contract of the curve call to the printout of its outcome: a refused call prints its refusal, and an answered one
+-- its table, positions and values from the buffers.
 use mathlib.Core.Path.{_≡_, refl, sym, ap, ap₂, _∙_}
 use mathlib.Core.List.{List, _++_}
 use Prim.Native.Nat.{ℕ, _<_, _≤_}
@@ -23,11 +23,9 @@ use Rattle.curve.specs.Reply as curve
 use Rattle.curve.specs.declared.Answer.{Answer}
 use Rattle.curve.specs.declared.Answer.the-variants.{Values, Refused}
 use Rattle.sheet_lists.specs.Reading.{Lists}
-use Rattle.sheet_text.specs.Sheet.{spaceOf, called, Prints, answered, refused}
-use Rattle.sheet_text.specs.Shows.{Shows}
-use Rattle.printout.specs.Buffer.{written}
-use Rattle.printout.specs.Printout.{answerText, refusalLine}
-use Rattle.printout.specs.Printed.{Answered}
+use Rattle.sheet_text.specs.Sheet.{spaceOf, called, outcomeText, calledText}
+use Rattle.printout.specs.Printout.{refusalLine}
+use Rattle.printout.specs.Printed.{printed}
 use Rattle.printout.proofs.Stored.{printed-table}
 
 -- ---- an answered call
@@ -98,15 +96,9 @@ reply-refused (refusal n p) a number place e v = same (sym e ∙ ap curve.reply 
 
 module _ (l : Lists) (m : Answer) (e : curve.reply m ≡ returned (called l)) where
   -- a refusal is printed as it is
-  pub refused-shows : (number place : ℕ) → m ≡ Refused number place → {out out′ : List ℕ} {count : ℕ}
-      → count ≡ length (refusalLine number place) → out′ ≡ written 0 (refusalLine number place) out
-      → Shows (Prints (l .positions) (called l)) out out′ count
-  refused-shows number place r p q = record {
-    text = refusalLine number place;
-    is = rw (reply-refused (called l) m number place e r) (refused number place);
-    contents = q;
-    length-is = p;
-  }
+  pub refused-prints : (number place : ℕ) → m ≡ Refused number place → refusalLine number place ≡ calledText l
+  unfolding outcomeText
+  refused-prints number place r = ap (outcomeText (l .positions)) (sym (reply-refused (called l) m number place e r))
 
   module _ (n : ℕ) (r : m ≡ Values n) where
     counted : Counted (called l) n
@@ -136,19 +128,13 @@ module _ (l : Lists) (m : Answer) (e : curve.reply m ≡ returned (called l)) wh
     denominators-are before = ap (λ o. curveDenominators o before) (counted .is)
 
     -- an answer is printed from its buffers
-    pub answered-shows : (num den vs : List ℤ) {num′ den′ vs′ : List ℤ} → tableCells ≤ length num → tableCells ≤ length den → length (l .positions) ≤ positionLimit
+    pub answered-prints : (num den vs : List ℤ) {num′ den′ vs′ : List ℤ} → tableCells ≤ length num → tableCells ≤ length den → length (l .positions) ≤ positionLimit
         → num′ ≡ curveNumerators (called l) num → den′ ≡ curveDenominators (called l) den → vs′ ≡ valuesAfter (called l) vs
-        → {out out′ : List ℕ} {count : ℕ} → Answered (length (l .coefs)) num′ den′ (l .positions) (take n vs′) out out′ count
-        → Shows (Prints (l .positions) (called l)) out out′ count
-    answered-shows num den vs {num′} {den′} {vs′} x y z p q s {out} {out′} {count} w =
+        → printed (length (l .coefs)) num′ den′ (l .positions) (take n vs′) ≡ calledText l
+    unfolding outcomeText
+    answered-prints num den vs {num′} {den′} {vs′} x y z p q s =
         let t = counted .result .table in
         let us = counted .result .values in
         let vs-are : take n vs′ ≡ us = ap (take n) s ∙ values-part vs in
-        let w′ : Answered (length t) (numerators t num) (denominators t den) (l .positions) us out out′ count = rw (told .rows, ← numerators-are num, ← denominators-are den, ← p, ← q, ← vs-are) w in
-        let text-is = printed-table t num den (l .positions) us (w′ .lows) (told .few) (told .narrow) x y z (omega (arith, told .count)) in
-        record {
-          text = answerText t (l .positions) us (w′ .lows);
-          is = rw (counted .is) (answered (counted .result) (w′ .lows) (w′ .order));
-          contents = w′ .contents ∙ ap (λ u. written 0 u out) text-is;
-          length-is = w′ .length-is ∙ ap length text-is;
-        }
+        rw (← told .rows, p ∙ numerators-are num, q ∙ denominators-are den, vs-are)
+        (printed-table t num den (l .positions) us (told .few) (told .narrow) x y z (omega (arith, told .count)) ∙ ap (outcomeText (l .positions)) (sym (counted .is)))

@@ -1,8 +1,9 @@
 -- Case W1 as a sheet and its printout (document 01, "Sheet and printout"), byte for byte. The statement at the end is proved
 -- by computation in proofs/Cases; the cases of the calls alone are crate spline's.
 use mathlib.Core.List.{[], _∷_}
+use mathlib.Core.Path.{_≡_}
 use Rattle.numerals.specs.Bytes.{Text, lines}
-use Rattle.sheet_text.specs.Sheet.{Printout}
+use Rattle.sheet_text.specs.Sheet.{printout}
 
 -- The sheet of W1.
 unfoldable pub w1Text : Text
@@ -30,4 +31,4 @@ w1Printout = lines (
 
 -- The sheet of W1 gives its printout.
 abbrev pub SheetCaseHolds : Type 0
-SheetCaseHolds = Printout w1Text w1Printout
+SheetCaseHolds = printout w1Text ≡ w1Printout

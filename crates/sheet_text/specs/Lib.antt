@@ -1,4 +1,3 @@
 -- What the contracts of sheet_text cite beside the definitions of the crates below.
 pub mod Sheet
-pub mod Shows
 pub mod Cases

@@ -1,9 +1,10 @@
 // The sheet: five lines of text in, the printout out, on bytes.
-ghost use lib.ListN.{length};
+ghost use mathlib.Core.Path.{_≡_};
 ghost use Prim.Native.Nat.{_≤_};
+ghost use lib.ListN.{length};
+ghost use Rattle.printout.specs.Buffer.{written};
 ghost use Rattle.printout.specs.Printed.{printoutLimit};
-ghost use Rattle.sheet_text.specs.Sheet.{Prints, Printout, called};
-ghost use Rattle.sheet_text.specs.Shows.{Shows};
+ghost use Rattle.sheet_text.specs.Sheet.{calledText, printout};
 
 // The curve call on the five lists, and its printout.
 fn run(
@@ -15,7 +16,8 @@ fn run(
     out: &mut [u8],
 ) -> usize
     requires { ⌜ length (now positions) ≤ 4096 ⌝ }
-    ensures { λ r. ⌜ Shows (Prints (now (positions .entry)) (called (record { breaks = now (breaks .entry); degrees = now (degrees .entry); orders = now (orders .entry); coefs = now (coefs .entry); positions = now (positions .entry) }))) (now (out .entry)) (now (out .exit)) r ⌝ }
+    ensures { λ r. ⌜ r ≡ length (calledText (record { breaks = now (breaks .entry); degrees = now (degrees .entry); orders = now (orders .entry); coefs = now (coefs .entry); positions = now (positions .entry) })) ⌝ }
+    ensures { λ r. ⌜ now (out .exit) ≡ written 0 (calledText (record { breaks = now (breaks .entry); degrees = now (degrees .entry); orders = now (orders .entry); coefs = now (coefs .entry); positions = now (positions .entry) })) (now (out .entry)) ⌝ }
     ensures { λ r. ⌜ r ≤ printoutLimit ⌝ }
 {
     let mut num = [0; 5184];
@@ -47,7 +49,8 @@ fn run(
 // The whole program: the printout of a sheet's text, written into the lent buffer as far as it fits. The answer is the
 // printout's length, which no sheet takes past the limit.
 pub fn sheet(input: &[u8], out: &mut [u8]) -> usize
-    ensures { λ r. ⌜ Shows (Printout (now (input .entry))) (now (out .entry)) (now (out .exit)) r ⌝ }
+    ensures { λ r. ⌜ r ≡ length (printout (now (input .entry))) ⌝ }
+    ensures { λ r. ⌜ now (out .exit) ≡ written 0 (printout (now (input .entry))) (now (out .entry)) ⌝ }
     ensures { λ r. ⌜ r ≤ printoutLimit ⌝ }
 {
     let mut breaks = [0; 4096];

@@ -5,8 +5,8 @@ use mathlib.Core.Path.{_≡_, sym, _∙_}
 use mathlib.Core.Bool.{true}
 use borrow.Author.Tests.{not-true, not-false}
 use Rattle.printout.specs.Printed.{isAnswer}
-use Rattle.printout.proofs.Buffer.{puts-then}
-use Rattle.printout.proofs.Printed.{Answers, answer-fits, answered-none, answered-all}
+use Rattle.printout.proofs.Buffer.{puts-none, puts-then, puts-whole}
+use Rattle.printout.proofs.Printed.{Answers, answer-fits, printed-none, printed-all}
 use Rattle.printout.proofs.answer.Statement.{statement}
 use Rattle.printout.proofs.answer.Tie as tie
 
@@ -21,7 +21,10 @@ is-answer-requires : tie.Need-is-answer-requires
 is-answer-requires c κs = search needs
 
 returns : tie.Need-returns
-returns c = (answered-none _ _ _ _ _ _ (sym (c .before .is-answer .ensures) ∙ not-true _ (c .if1 .taken)), omega arith)
+returns c =
+    let none = printed-none _ _ _ _ _ (sym (c .before .is-answer .ensures) ∙ not-true _ (c .if1 .taken)) in
+    let w = puts-whole (sym none) (puts-none 0 _) in
+    (w .0, (w .1, omega arith))
 
 put-count-requires : tie.Need-put-count-requires
 put-count-requires c κs = search needs
@@ -56,7 +59,8 @@ returns-2 c =
     (puts-then (d .put-values .ensures)
     (e .put-lows .ensures))) in
     let k = fits (a .before .before) in
-    (answered-all _ _ _ _ _ (passed (a .before .before)) p, omega (arith, p .near, k .rows, k .positions))
+    let w = puts-whole (sym (printed-all _ _ _ _ _ (passed (a .before .before)))) p in
+    (w .0, (w .1, omega (arith, p .near, k .rows, k .positions)))
 
 pub answer-spec : {M : Type 1} → statement M
 answer-spec = tie.close (tie.spec is-answer-requires returns put-count-requires put-weights-requires put-values-requires put-lows-requires same-length returns-2)

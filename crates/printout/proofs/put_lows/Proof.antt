@@ -1,77 +1,90 @@
--- `put_lows` meets its contract: after k turns the low lines of the first k entries are printed.
-use native.Mathlib.Numerals.{add-one}
+-- `put_lows` meets its contract: the low positions are collected, sorted and printed.
+use borrow.Author.Needs.{needs}
 use native.Mathlib.Omega.{arith}
-use mathlib.Core.Path.{sym}
-use mathlib.Core.List.{List}
-use Prim.Native.Nat.{ℕ, _*_, _-_, _≤_}
-use lib.IntN.{ℤ, pos}
-use lib.ListN.{length, getD, take}
-use lib.Seq.{take-all}
-use mir.Syntax.{w32}
-use mir.Val.{SFits}
-use Rattle.exact.proofs.Word.{toZ-ofZ}
-use Rattle.printout.specs.Buffer.{Puts}
-use Rattle.printout.specs.Printout.{lowLines, lowPositions}
-use Rattle.printout.proofs.Buffer.{puts-none, puts-then, puts-within, puts-as, puts-length}
-use Rattle.printout.proofs.Printout.{lows-none, lows-more}
+use mathlib.Core.Path.{_≡_, sym, ap, _∙_}
+use mathlib.Core.List.{List, _++_}
+use Prim.Native.Nat.{ℕ, _≤_}
+use lib.IntN.{ℤ}
+use lib.ListN.{length, take, drop, length-append}
+use lib.Seq.{take-at, length-take-le}
+use Rattle.sorting.specs.Sorted.{sorted}
+use Rattle.sorting.proofs.Sorted.{sorted-length}
+use Rattle.printout.specs.Printout.{lowPositions, lowLines}
+use Rattle.printout.proofs.Buffer.{puts-within, puts-as}
+use Rattle.printout.proofs.Printout.{lowPositions-few}
 use Rattle.printout.proofs.put_lows.Statement.{statement}
 use Rattle.printout.proofs.put_lows.Tie as tie
 
-record Inv (out₀ : List ℕ) (at : ℕ) (positions values : List ℤ) (out : List ℕ) (next k : ℕ) : Type 0 where
-  within : k ≤ length positions
-  put : Puts (26 * k) at (lowLines (lowPositions (take k positions) values)) out₀ out next
+-- the array before and after its first numbers are sorted, where these are the low positions
+module _ (xs vs before after : List ℤ) (count : ℕ) (is : count ≡ length (lowPositions xs vs)) (kept : take count before ≡ lowPositions xs vs) (done : after ≡ sorted (take count before) ++ drop count before) where
+  first-count : length (sorted (take count before)) ≡ count
+  first-count = sorted-length (take count before) ∙ ap length kept ∙ sym is
 
-abbrev Inv-loop : tie.InvT-loop
-Inv-loop out₀ at positions values next₀ k₀ out next k = Inv out₀ at positions values out next k
+  lows-fit : count ≤ length after
+  lows-fit = omega (arith, ap length done, length-append (sorted (take count before)) (drop count before), first-count)
 
-abbrev μ-loop : tie.MeasureT-loop
-μ-loop out₀ at positions values next₀ k₀ out next k = length positions - k
+  lows-are : take count after ≡ sorted (lowPositions xs vs)
+  lows-are = ap (take count) done ∙ take-at (sorted (take count before)) (drop count before) count first-count ∙ ap sorted kept
 
-loop-holds : tie.Need-loop-holds Inv-loop μ-loop
-loop-holds c = record { within = omega arith; put = puts-as (sym (lows-none _)) (puts-none _ _) }
+slice-aggregate-low-positions : tie.Need-slice-aggregate-low-positions
+slice-aggregate-low-positions c = search needs
 
-mul-put-low : tie.Need-mul-put-low Inv-loop μ-loop
-mul-put-low c = omega arith
+low-positions-requires : tie.Need-low-positions-requires
+low-positions-requires c κs = search needs
 
-shared-slice-copy-out-put-low : tie.Need-shared-slice-copy-out-put-low Inv-loop μ-loop
-shared-slice-copy-out-put-low c = omega arith
+sort-requires : tie.Need-sort-requires
+sort-requires c κs = search needs
 
-mul-put-low-2 : tie.Need-mul-put-low-2 Inv-loop μ-loop
-mul-put-low-2 c = omega arith
+-- where the array has been sorted
+module _ (k : tie.After-sort) where
+  abbrev collected : tie.After-low-positions
+  collected = k .before .before .before
 
-shared-slice-copy-out-put-low-2 : tie.Need-shared-slice-copy-out-put-low-2 Inv-loop μ-loop
-shared-slice-copy-out-put-low-2 c = omega arith
+  abbrev positions : List ℤ
+  positions = collected .before .before .before .args .positions .now
 
-put-low-requires : tie.Need-put-low-requires Inv-loop μ-loop
-put-low-requires c κs = omega arith
+  abbrev values : List ℤ
+  values = collected .before .before .before .args .values .now
 
-add-k : tie.Need-add-k Inv-loop μ-loop
-add-k c = omega arith
+  abbrev count : ℕ
+  count = collected .low-positions .result
 
-loop-less : tie.Need-loop-less Inv-loop μ-loop
-loop-less c = omega arith
+  fits : count ≤ length (k .sort .last .0)
+  fits = lows-fit positions values _ _ count (collected .low-positions .ensures .0) (collected .low-positions .ensures .1) (k .sort .ensures)
 
-loop-again : tie.Need-loop-again Inv-loop μ-loop
-loop-again c =
-    let l = c .before .before .before .before .before .before .before .loop in
-    let a = c .before .before .before .before .before .before .before .before .before .args in
-    let f : SFits w32 (getD (a .positions .now) (l .k) (pos 0)) = record { sfits = c .before .before .before .before .put-low-arg2 .given } in
-    let g : SFits w32 (getD (a .values .now) (l .k) (pos 0)) = record { sfits = c .before .before .before .put-low-arg3 .given } in
-    record {
-      within = omega arith;
-      put =
-          rw (add-one, lows-more (a .positions .now) (a .values .now) (l .k) (omega arith) (omega arith))
-          (puts-within (omega arith) (puts-then (l .inv .put) (simp toZ-ofZ at (c .before .before .put-low .ensures))));
-    }
+  are : take count (k .sort .last .0) ≡ sorted (lowPositions positions values)
+  are = lows-are positions values _ _ count (collected .low-positions .ensures .0) (collected .low-positions .ensures .1) (k .sort .ensures)
 
-same-length : tie.Need-same-length Inv-loop μ-loop
-same-length c = puts-length (c .before .loop .inv .put)
+  few : length (take count (k .sort .last .0)) ≤ length positions
+  few = omega (arith, length-take-le count (k .sort .last .0) fits, collected .low-positions .ensures .0, lowPositions-few positions values)
 
-returns : tie.Need-returns Inv-loop μ-loop
+array-share-prefix-lows : tie.Need-array-share-prefix-lows
+array-share-prefix-lows c = fits (c .before)
+
+slice-aggregate-put-low-lines : tie.Need-slice-aggregate-put-low-lines
+slice-aggregate-put-low-lines c = let k = c .before .before in sym (length-take-le (count k) _ (fits k))
+
+put-low-lines-requires : tie.Need-put-low-lines-requires
+put-low-lines-requires c κs = omega (arith, few (c .before .before), c .before .before .before .before .before .before .before .before .pre)
+
+same-length : tie.Need-same-length
+same-length c = search needs
+
+returns : tie.Need-returns
 returns c =
-    let l = c .before .loop in
-    let positions = c .before .before .before .args .positions .now in
-    puts-within (omega arith) (rw (take-all (l .k) positions (omega arith)) at (l .inv .put))
+    let p = c .before .before in
+    let k = p .before .before .before in
+    puts-within (omega (arith, few k)) (puts-as (ap lowLines (are k)) (p .put-low-lines .ensures))
 
 pub put-lows-spec : {M : Type 1} → statement M
-put-lows-spec = tie.close (tie.spec Inv-loop μ-loop loop-holds mul-put-low shared-slice-copy-out-put-low mul-put-low-2 shared-slice-copy-out-put-low-2 put-low-requires add-k loop-less loop-again same-length returns)
+put-lows-spec =
+    tie.close
+    (tie.spec
+    slice-aggregate-low-positions
+    low-positions-requires
+    sort-requires
+    array-share-prefix-lows
+    slice-aggregate-put-low-lines
+    put-low-lines-requires
+    same-length
+    returns)

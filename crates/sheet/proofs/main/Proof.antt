@@ -32,7 +32,7 @@ within : {count size : ℕ} → count ≤ printoutLimit → size ≡ printoutLim
 within h e = omega arith
 
 fits : (c : tie.After-out2) → c .before .sheet .result ≤ length (c .before .sheet .last .1 .0)
-fits c = within (c .before .sheet .ensures .1) (c .out2 .given)
+fits c = within (c .before .sheet .ensures .1 .1) (c .out2 .given)
 
 array-share-prefix-out : tie.Need-array-share-prefix-out
 array-share-prefix-out c = fits c

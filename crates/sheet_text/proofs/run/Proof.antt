@@ -7,8 +7,9 @@ use Prim.Native.Nat.{ℕ, _≤_}
 use lib.ListN.{length}
 use lib.Seq.{length-take-le}
 use Rattle.sheet_lists.specs.Reading.{Lists}
+use Rattle.printout.proofs.Buffer.{written-as}
 use Rattle.sheet_text.specs.Sheet.{called}
-use Rattle.sheet_text.proofs.Whole.{refused-shows, answered-shows, count-positions}
+use Rattle.sheet_text.proofs.Whole.{refused-prints, answered-prints, count-positions}
 use Rattle.sheet_text.proofs.run.Statement.{statement}
 use Rattle.sheet_text.proofs.run.Tie as tie
 
@@ -84,7 +85,9 @@ returns c =
     let k = c .before .before .before .before .before .before .before .before .before .before in
     let x = c .before .before .before .before .before .answer .given in
     let p = c .before .before .refusal .ensures in
-    (refused-shows (lists k) (k .curve .result) (k .curve .ensures .0) _ _ (x .1) (p .0) (p .1 .0), p .1 .1)
+    let t = refused-prints (lists k) (k .curve .result) (k .curve .ensures .0) _ _ (x .1) in
+    let w = written-as _ t (p .0) (p .1 .0) in
+    (w .0, (w .1, p .1 .1))
 
 same-length-2 : tie.Need-same-length-2
 same-length-2 c = search needs
@@ -94,11 +97,12 @@ unfolding called
 returns-2 c =
     let a = c .before .before .before .before .before .before .before .before in
     let k = returned a in
-    let p = c .before .before .answer3 .ensures in (
-      answered-shows (lists k) (k .curve .result) (k .curve .ensures .0) (count a) (a .answer2 .given .1)
-          _ _ _ (search needs) (search needs) (few a) (k .curve .ensures .1 .0) (k .curve .ensures .1 .1 .0) (k .curve .ensures .1 .1 .1) (p .0),
-      p .1,
-    )
+    let p = c .before .before .answer3 .ensures in
+    let t =
+    answered-prints (lists k) (k .curve .result) (k .curve .ensures .0) (count a) (a .answer2 .given .1)
+    _ _ _ (search needs) (search needs) (few a) (k .curve .ensures .1 .0) (k .curve .ensures .1 .1 .0) (k .curve .ensures .1 .1 .1) in
+    let w = written-as _ t (p .0) (p .1 .0) in
+    (w .0, (w .1, p .1 .1))
 
 pub run-spec : {M : Type 1} → statement M
 run-spec =

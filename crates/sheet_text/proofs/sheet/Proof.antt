@@ -9,7 +9,8 @@ use Rattle.numerals.specs.Bytes.{Text}
 use Rattle.sheet_lists.specs.Reading.{read}
 use Rattle.sheet_lists.specs.Reply.{Lengths}
 use Rattle.sheet_lists.proofs.Answers.{Listed, reply-read, positions-few, part-fits, part-is}
-use Rattle.sheet_text.proofs.Parts.{called-shows, malformed-shows}
+use Rattle.printout.proofs.Buffer.{written-as}
+use Rattle.sheet_text.proofs.Parts.{called-prints, malformed-prints}
 use Rattle.sheet_text.proofs.sheet.Statement.{statement}
 use Rattle.sheet_text.proofs.sheet.Tie as tie
 
@@ -97,7 +98,9 @@ returns c =
     let a = c .before .before .before .before .before in
     let k = a .before .before in
     let p = c .before .before .refusal .ensures in
-    (malformed-shows _ (k .read .result) _ (k .read .ensures .0) (a .lists .given .1) (p .0) (p .1 .0), p .1 .1)
+    let t = malformed-prints _ (k .read .result) _ (k .read .ensures .0) (a .lists .given .1) in
+    let w = written-as _ t (p .0) (p .1 .0) in
+    (w .0, (w .1, p .1 .1))
 
 same-length-2 : tie.Need-same-length-2
 same-length-2 c = search needs
@@ -106,16 +109,16 @@ returns-2 : tie.Need-returns-2
 returns-2 c =
     let a = c .before .before .before .before .before .before .before .before .before .before in
     let k = done a in
-    let p = c .before .before .run .ensures in (
-      called-shows (text a) (listed a .lists) (listed a .is) _
-          (part-is (λ l. l .breaks) (listed a .is) _ (k .read .ensures .1 .0) (ap (λ n. n .breaks) (listed a .counts)))
-          (part-is (λ l. l .degrees) (listed a .is) _ (k .read .ensures .1 .1 .0) (ap (λ n. n .degrees) (listed a .counts)))
-          (part-is (λ l. l .orders) (listed a .is) _ (k .read .ensures .1 .1 .1 .0) (ap (λ n. n .orders) (listed a .counts)))
-          (part-is (λ l. l .coefs) (listed a .is) _ (k .read .ensures .1 .1 .1 .1 .0) (ap (λ n. n .coefs) (listed a .counts)))
-          (part-is (λ l. l .positions) (listed a .is) _ (k .read .ensures .1 .1 .1 .1 .1) (ap (λ n. n .positions) (listed a .counts)))
-          (p .0),
-      p .1,
-    )
+    let p = c .before .before .run .ensures in
+    let t =
+    called-prints (text a) (listed a .lists) (listed a .is) _
+    (part-is (λ l. l .breaks) (listed a .is) _ (k .read .ensures .1 .0) (ap (λ n. n .breaks) (listed a .counts)))
+    (part-is (λ l. l .degrees) (listed a .is) _ (k .read .ensures .1 .1 .0) (ap (λ n. n .degrees) (listed a .counts)))
+    (part-is (λ l. l .orders) (listed a .is) _ (k .read .ensures .1 .1 .1 .0) (ap (λ n. n .orders) (listed a .counts)))
+    (part-is (λ l. l .coefs) (listed a .is) _ (k .read .ensures .1 .1 .1 .1 .0) (ap (λ n. n .coefs) (listed a .counts)))
+    (part-is (λ l. l .positions) (listed a .is) _ (k .read .ensures .1 .1 .1 .1 .1) (ap (λ n. n .positions) (listed a .counts))) in
+    let w = written-as _ t (p .0) (p .1 .0) in
+    (w .0, (w .1, p .1 .1))
 
 pub sheet-spec : {M : Type 1} → statement M
 sheet-spec =
