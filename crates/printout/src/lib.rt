@@ -5,17 +5,15 @@ ghost use mathlib.Core.List.{[], _∷_};
 ghost use Prim.Native.Nat.{_+_, _*_, _^_, _<_, _≤_};
 ghost use lib.IntN.{natAbs};
 ghost use lib.ListN.{length, take};
+ghost use Rattle.spline.specs.Table.{rowCells, tableCells};
+ghost use Rattle.spline.specs.CurveCall.{positionLimit};
 ghost use Rattle.printout.specs.Buffer.{written, Puts};
 ghost use Rattle.sorting.specs.Sorted.{sorted};
 ghost use Rattle.numerals.specs.Numeral.{digits, decimal};
 ghost use Rattle.printout.specs.Printout.{countLine, weightLines, valueLine, valueLines, lowLine, lowLines, lowPositions, refusalLine};
 ghost use Rattle.printout.specs.Printed.{placeText, fractionText, storedWeight, storedWeights, isAnswer, printed, printoutLimit};
 
-// Cells of a row, cells of a table, and the most positions of a call.
-const ROW: usize = 72;
-
-const CELLS: usize = 5184;
-
+// The most positions of a call.
 const POSITIONS: usize = 4096;
 
 // One byte.
@@ -128,16 +126,16 @@ fn put_cell(out: &mut [u8], at: usize, k: usize, num: i64, den: i64) -> usize
     if num == 0 {
         return at;
     }
-    let a = put_place(out, at, k / ROW, k % ROW);
+    let a = put_place(out, at, k / cells::ROW_CELLS, k % cells::ROW_CELLS);
     put_fraction(out, a, num, den)
 }
 
 // The lines of the non-zero weights of the first n rows.
 fn put_weights(out: &mut [u8], at: usize, n: usize, num: &[i64], den: &[i64]) -> usize
-    requires { ⌜ (at ≤ 2 ^ 41) × (n ≤ 72) × (5184 ≤ length (now num)) × (5184 ≤ length (now den)) ⌝ }
-    ensures { λ r. ⌜ Puts (87 * (72 * n)) at (weightLines (storedWeights (72 * n) (now (num .entry)) (now (den .entry)))) (now (out .entry)) (now (out .exit)) r ⌝ }
+    requires { ⌜ (at ≤ 2 ^ 41) × (n ≤ rowCells) × (tableCells ≤ length (now num)) × (tableCells ≤ length (now den)) ⌝ }
+    ensures { λ r. ⌜ Puts (87 * (rowCells * n)) at (weightLines (storedWeights (rowCells * n) (now (num .entry)) (now (den .entry)))) (now (out .entry)) (now (out .exit)) r ⌝ }
 {
-    let cells = ROW * n;
+    let cells = cells::ROW_CELLS * n;
     let mut next = at;
     let mut k = 0;
     while k < cells {
@@ -161,7 +159,7 @@ fn put_value(out: &mut [u8], at: usize, x: i32, v: i32) -> usize
 
 // A line for each position with its value.
 fn put_values(out: &mut [u8], at: usize, positions: &[i32], values: &[i32]) -> usize
-    requires { ⌜ (at ≤ 2 ^ 41) × (length (now positions) ≤ 4096) × (length (now positions) ≤ length (now values)) ⌝ }
+    requires { ⌜ (at ≤ 2 ^ 41) × (length (now positions) ≤ positionLimit) × (length (now positions) ≤ length (now values)) ⌝ }
     ensures { λ r. ⌜ Puts (46 * length (now (positions .entry))) at (valueLines (now (positions .entry)) (now (values .entry))) (now (out .entry)) (now (out .exit)) r ⌝ }
 {
     let mut next = at;
@@ -204,7 +202,7 @@ fn low_positions(positions: &[i32], values: &[i32], lows: &mut [i32]) -> usize
 
 // A low line for each of these positions.
 fn put_low_lines(out: &mut [u8], at: usize, lows: &[i32]) -> usize
-    requires { ⌜ (at ≤ 2 ^ 41) × (length (now lows) ≤ 4096) ⌝ }
+    requires { ⌜ (at ≤ 2 ^ 41) × (length (now lows) ≤ positionLimit) ⌝ }
     ensures { λ r. ⌜ Puts (26 * length (now (lows .entry))) at (lowLines (now (lows .entry))) (now (out .entry)) (now (out .exit)) r ⌝ }
 {
     let mut next = at;
@@ -218,7 +216,7 @@ fn put_low_lines(out: &mut [u8], at: usize, lows: &[i32]) -> usize
 
 // A low line for each entry whose value is zero or less, by rising position.
 fn put_lows(out: &mut [u8], at: usize, positions: &[i32], values: &[i32]) -> usize
-    requires { ⌜ (at ≤ 2 ^ 41) × (length (now positions) ≤ 4096) × (length (now positions) ≤ length (now values)) ⌝ }
+    requires { ⌜ (at ≤ 2 ^ 41) × (length (now positions) ≤ positionLimit) × (length (now positions) ≤ length (now values)) ⌝ }
     ensures { λ r. ⌜ Puts (26 * length (now (positions .entry))) at (lowLines (sorted (lowPositions (now (positions .entry)) (now (values .entry))))) (now (out .entry)) (now (out .exit)) r ⌝ }
 {
     let mut lows = [0; POSITIONS];
@@ -231,13 +229,13 @@ fn put_lows(out: &mut [u8], at: usize, positions: &[i32], values: &[i32]) -> usi
 fn is_answer(n: usize, num: &[i64], den: &[i64], positions: &[i32], values: &[i32]) -> bool
     ensures { λ r. ⌜ r ≡ isAnswer n (now (num .entry)) (now (den .entry)) (now (positions .entry)) (now (values .entry)) ⌝ }
 {
-    if n > ROW {
+    if n > cells::ROW_CELLS {
         return false;
     }
-    if num.len() < CELLS {
+    if num.len() < cells::TABLE_CELLS {
         return false;
     }
-    if den.len() < CELLS {
+    if den.len() < cells::TABLE_CELLS {
         return false;
     }
     if positions.len() > POSITIONS {

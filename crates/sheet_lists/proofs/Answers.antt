@@ -13,7 +13,7 @@ use Rattle.spline.specs.Outcome.{Outcome, answer, refusal, refuse}
 use Rattle.spline.proofs.Outcome.{answer-unique, answer-not-refusal, then-inverts}
 use Rattle.spline.proofs.Legal.{cond-refuse-inverts}
 use Rattle.numerals.specs.Bytes.{Text, newline, Cut, cut, stripped, Part}
-use Rattle.sheet_lists.specs.Reading.{Lists, Line, listOf, lineOf, bodyOf, cutLine, line, readLine, breaksKey, degreesKey, ordersKey, coefsKey, atKey, ended, fiveLines, listLimit, textLimit, read}
+use Rattle.sheet_lists.specs.SheetReading.{Lists, Line, listOf, lineOf, bodyOf, cutLine, line, readLine, breaksKey, degreesKey, ordersKey, coefsKey, atKey, ended, fiveLines, listLimit, textLimit, read}
 use Rattle.sheet_lists.specs.Reply.{ListAt, numbers, overwritten, Lengths, lengths, reply, counted, after}
 use Rattle.sheet_lists.specs.declared.Lists.{Lists as Answer}
 use Rattle.sheet_lists.specs.declared.Lists.the-variants.{Read, Refused}

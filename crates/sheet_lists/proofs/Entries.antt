@@ -15,7 +15,7 @@ use lib.Seq.{slice, slice-empty, length-slice}
 use Rattle.exact.proofs.Decide.{le-or-lt}
 use Rattle.numerals.specs.Bytes.{Text, comma, Part, fields, indexOf}
 use Rattle.numerals.specs.Numeral.{numeral}
-use Rattle.sheet_lists.specs.Reading.{prepended, numerals, limitedList, listOf, listLimit}
+use Rattle.sheet_lists.specs.SheetReading.{prepended, numerals, limitedList, listOf, listLimit}
 use Rattle.sheet_lists.specs.Reply.{count}
 use Rattle.sheet_lists.specs.declared.Count.{Count}
 use Rattle.sheet_lists.specs.declared.Count.the-variants.{Numbers, Bad}

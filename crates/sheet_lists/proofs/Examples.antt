@@ -10,7 +10,7 @@ use lib.ListN.{take, length, getD}
 use Rattle.spline.specs.Outcome.{answer, refusal, capped}
 use Rattle.numerals.specs.Bytes.{Text, newline, bytes, lines, cut, fields, stripped}
 use Rattle.numerals.specs.Numeral.{allDigits, digitsValue, isNatural, numeral, digitsUpTo, digits, decimal, numberLimit}
-use Rattle.sheet_lists.specs.Reading.{numerals, listOf, line, readLine, fiveLines, read, Lists, listLimit, textLimit}
+use Rattle.sheet_lists.specs.SheetReading.{numerals, listOf, line, readLine, fiveLines, read, Lists, listLimit, textLimit}
 use Rattle.sheet_lists.specs.SheetText.{commaJoined, listText, lineText, sheetText, Writable}
 use Rattle.sheet_lists.proofs.RoundTrip.{sheet-reads-back}
 

@@ -13,7 +13,7 @@ use lib.ListN.{length, getD, take, drop, set, length-drop}
 use lib.Seq.{drop-cons, take-suc, set-at, length-take-le, length-front, take-length}
 use Rattle.numerals.specs.Bytes.{Text, fields}
 use Rattle.numerals.specs.Numeral.{numeral}
-use Rattle.sheet_lists.specs.Reading.{prepended, numerals, limitedList, listOf, listLimit}
+use Rattle.sheet_lists.specs.SheetReading.{prepended, numerals, limitedList, listOf, listLimit}
 use Rattle.sheet_lists.specs.Reply.{overwritten}
 use Rattle.sheet_lists.proofs.Entries.{list-fields}
 

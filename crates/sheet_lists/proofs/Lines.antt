@@ -10,7 +10,7 @@ use lib.IntN.{ℤ}
 use lib.ListN.{length, drop, length-drop}
 use lib.Seq.{slice, drop-drop, length-slice}
 use Rattle.numerals.specs.Bytes.{Text, newline, Part, stripped, indexOf, beginsWith}
-use Rattle.sheet_lists.specs.Reading.{listOf, Line, lineOf, bodyOf, cutLine, line}
+use Rattle.sheet_lists.specs.SheetReading.{listOf, Line, lineOf, bodyOf, cutLine, line}
 use Rattle.sheet_lists.specs.Reply.{count, LineAt}
 use Rattle.sheet_lists.specs.declared.Count.the-variants as count-cases
 use Rattle.sheet_lists.specs.declared.LineSpan.the-variants as span-cases

@@ -14,7 +14,7 @@ use Rattle.numerals.specs.Bytes.{Text, newline, comma, cut, fields}
 use Rattle.numerals.specs.Numeral.{decimal, numberLimit}
 use Rattle.numerals.proofs.RoundTrip.{numeral-reads-back, decimal-any}
 use Rattle.numerals.proofs.Lacking.{lacks, lacks-append, decimal-lacks, cut-first, fields-only, fields-first, stripped-key}
-use Rattle.sheet_lists.specs.Reading.{prepended, numerals, limitedList, listOf, listLimit, Line, lineOf, bodyOf, cutLine, line, readLine, breaksKey, degreesKey, ordersKey, coefsKey, atKey, Lists, fiveLines}
+use Rattle.sheet_lists.specs.SheetReading.{prepended, numerals, limitedList, listOf, listLimit, Line, lineOf, bodyOf, cutLine, line, readLine, breaksKey, degreesKey, ordersKey, coefsKey, atKey, Lists, fiveLines}
 use Rattle.sheet_lists.specs.SheetText.{commaJoined, listText, lineText, sheetText, Writable, SheetReadsBack}
 use Rattle.sheet_lists.proofs.Entries.{list-fields}
 use Rattle.sheet_lists.proofs.Sheets.{read-short, line-answers, lists, after-one, after-two, after-three, after-four, after-five}

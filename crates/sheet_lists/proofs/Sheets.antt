@@ -10,7 +10,7 @@ use lib.ListN.{length, drop}
 use lib.Seq.{drop-length, drop-cons}
 use Rattle.spline.specs.Outcome.{Outcome, answer, refusal, refuse, _then_}
 use Rattle.numerals.specs.Bytes.{Text}
-use Rattle.sheet_lists.specs.Reading.{textLimit, Line, line, readLine, breaksKey, degreesKey, ordersKey, coefsKey, atKey, Lists, ended, fiveLines, read}
+use Rattle.sheet_lists.specs.SheetReading.{textLimit, Line, line, readLine, breaksKey, degreesKey, ordersKey, coefsKey, atKey, Lists, ended, fiveLines, read}
 use Rattle.sheet_lists.specs.Reply.{Spans, LineAt, ListsAt, Scanned}
 use Rattle.sheet_lists.specs.declared.LineSpan.{LineSpan}
 use Rattle.sheet_lists.specs.declared.LineSpan.the-variants as span-cases

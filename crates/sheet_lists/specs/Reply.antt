@@ -9,7 +9,7 @@ use lib.ListN.{length, drop}
 use lib.Seq.{slice}
 use Rattle.spline.specs.Outcome.{Outcome, answer, refusal, with-answer}
 use Rattle.numerals.specs.Bytes.{Text, Part}
-use Rattle.sheet_lists.specs.Reading.{listOf, Line, Lists, read}
+use Rattle.sheet_lists.specs.SheetReading.{listOf, Line, Lists, read}
 use Rattle.sheet_lists.specs.declared.Count.{Count}
 use Rattle.sheet_lists.specs.declared.Count.the-variants as count-cases
 use Rattle.sheet_lists.specs.declared.LineSpan.{LineSpan}

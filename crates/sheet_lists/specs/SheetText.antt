@@ -8,7 +8,7 @@ use lib.ListN.{length, getD}
 use Rattle.spline.specs.Outcome.{answer}
 use Rattle.numerals.specs.Bytes.{Text, newline, comma}
 use Rattle.numerals.specs.Numeral.{decimal, numberLimit}
-use Rattle.sheet_lists.specs.Reading.{listLimit, textLimit, breaksKey, degreesKey, ordersKey, coefsKey, atKey, Lists, read}
+use Rattle.sheet_lists.specs.SheetReading.{listLimit, textLimit, breaksKey, degreesKey, ordersKey, coefsKey, atKey, Lists, read}
 
 -- The texts with commas between.
 unfoldable pub commaJoined : List Text → Text

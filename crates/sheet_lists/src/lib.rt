@@ -5,14 +5,14 @@ ghost use Prim.Native.Nat.{_≤_};
 ghost use lib.ListN.{length, drop};
 ghost use lib.Seq.{slice};
 ghost use Rattle.numerals.specs.Bytes.{Part};
-ghost use Rattle.sheet_lists.specs.Reading;
-ghost use Rattle.sheet_lists.specs.Reading.{listOf};
+ghost use Rattle.sheet_lists.specs.SheetReading;
+ghost use Rattle.sheet_lists.specs.SheetReading.{listOf};
 ghost use Rattle.sheet_lists.specs.Reply.{count, numbers, overwritten, LineAt, Scanned, reply, readEnd};
 use numerals::numeral::Field;
 
 const TEXT_LIMIT: usize = 65536;
 
-const LIST_LIMIT: usize = 4096;
+pub const LIST_LIMIT: usize = 4096;
 
 // The number of entries of the five lists, or the place of number 10.
 pub enum Lists {
@@ -72,7 +72,7 @@ fn count_list(text: &[u8], from: usize, to: usize) -> Count
 // The line that begins at the index: it has this key, a list, and byte 10 at its end.
 fn line(text: &[u8], from: usize, key: &[u8]) -> LineSpan
     requires { ⌜ from ≤ length (now text) ⌝ }
-    ensures { λ r. ⌜ LineAt (now (text .entry)) (Reading.line (now (key .entry)) (drop from (now (text .entry)))) r ⌝ }
+    ensures { λ r. ⌜ LineAt (now (text .entry)) (SheetReading.line (now (key .entry)) (drop from (now (text .entry)))) r ⌝ }
 {
     let end = numerals::fields::find(text, from, text.len(), b'\n');
     if end == text.len() {
@@ -124,7 +124,7 @@ fn fill(text: &[u8], from: usize, to: usize, list: &mut [i32]) -> usize
 
 // Looks through the whole text.
 fn scan(text: &[u8]) -> Places
-    ensures { λ r. ⌜ Scanned (now (text .entry)) (Reading.read (now (text .entry))) r ⌝ }
+    ensures { λ r. ⌜ Scanned (now (text .entry)) (SheetReading.read (now (text .entry))) r ⌝ }
 {
     if text.len() > TEXT_LIMIT {
         return Places::Refused(0);
@@ -154,11 +154,11 @@ fn scan(text: &[u8]) -> Places
 // buffer is changed.
 pub fn read(
     text: &[u8],
-    breaks: &mut [i32; 4096],
-    degrees: &mut [i32; 4096],
-    orders: &mut [i32; 4096],
-    coefs: &mut [i32; 4096],
-    positions: &mut [i32; 4096],
+    breaks: &mut [i32; LIST_LIMIT],
+    degrees: &mut [i32; LIST_LIMIT],
+    orders: &mut [i32; LIST_LIMIT],
+    coefs: &mut [i32; LIST_LIMIT],
+    positions: &mut [i32; LIST_LIMIT],
 ) -> Lists
     ensures { λ r. ⌜ (let e = readEnd (now (text .entry)) (now (breaks .entry)) (now (degrees .entry)) (now (orders .entry)) (now (coefs .entry)) (now (positions .entry)) in
         (reply r ≡ e .answers) × ((now (breaks .exit) ≡ e .breaks) × ((now (degrees .exit) ≡ e .degrees) × ((now (orders .exit) ≡ e .orders) × ((now (coefs .exit) ≡ e .coefs) × (now (positions .exit) ≡ e .positions)))))) ⌝ }

@@ -12,7 +12,7 @@ use Rattle.spline.proofs.Cases.{every-case-holds}
 use Rattle.sorting.specs.Sorted.{inserted, sorted}
 use Rattle.numerals.specs.Bytes.{bytes, lines, cut, fields, stripped}
 use Rattle.numerals.specs.Numeral.{allDigits, digitsValue, isNatural, numeral, digitsUpTo, digits, decimal}
-use Rattle.sheet_lists.specs.Reading.{numerals, listOf, line, readLine, Lists, fiveLines, read}
+use Rattle.sheet_lists.specs.SheetReading.{numerals, listOf, line, readLine, Lists, fiveLines, read}
 use Rattle.printout.specs.Printout.{joined, countLine, weightLine, weightLines, valueLine, valueLines, lowPositions, lowLine, lowLines, answerText}
 use Rattle.sheet_text.specs.Sheet.{called, outcomeText, readText, printout}
 use Rattle.sheet_text.specs.Cases.{w1Text, w1Printout, SheetCaseHolds}

@@ -4,7 +4,7 @@ use mathlib.Core.Path.{_≡_, sym, ap, _∙_}
 use Prim.Native.Nat.{ℕ}
 use Rattle.spline.specs.Outcome.{answer}
 use Rattle.numerals.specs.Bytes.{Text}
-use Rattle.sheet_lists.specs.Reading.{Lists, read}
+use Rattle.sheet_lists.specs.SheetReading.{Lists, read}
 use Rattle.sheet_lists.specs.Reply.{reply, counted}
 use Rattle.sheet_lists.specs.declared.Lists.{Lists as Answer}
 use Rattle.sheet_lists.specs.declared.Lists.the-variants.{Refused}

@@ -22,7 +22,7 @@ use Rattle.space.proofs.Legal.{checked-legal, legal-column-count-high, legal-ro
 use Rattle.curve.specs.Reply as curve
 use Rattle.curve.specs.declared.Answer.{Answer}
 use Rattle.curve.specs.declared.Answer.the-variants.{Values, Refused}
-use Rattle.sheet_lists.specs.Reading.{Lists}
+use Rattle.sheet_lists.specs.SheetReading.{Lists}
 use Rattle.sheet_text.specs.Sheet.{spaceOf, called, outcomeText, calledText}
 use Rattle.printout.specs.Printout.{refusalLine}
 use Rattle.printout.specs.Printed.{printed}

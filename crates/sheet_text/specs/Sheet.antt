@@ -6,7 +6,7 @@ use Rattle.spline.specs.Space.{Space}
 use Rattle.spline.specs.Table.{tableCells}
 use Rattle.spline.specs.CurveCall.{CurveResult, curveOutcome, positionLimit}
 use Rattle.numerals.specs.Bytes.{Text}
-use Rattle.sheet_lists.specs.Reading.{Lists, read}
+use Rattle.sheet_lists.specs.SheetReading.{Lists, read}
 use Rattle.printout.specs.Printout.{answerText, refusalLine}
 
 -- The space of the first three lines.

@@ -3,6 +3,7 @@ ghost use mathlib.Core.Path.{_≡_};
 ghost use Prim.Native.Nat.{_≤_};
 ghost use lib.ListN.{length};
 ghost use Rattle.printout.specs.Buffer.{written};
+ghost use Rattle.spline.specs.CurveCall.{positionLimit};
 ghost use Rattle.printout.specs.Printed.{printoutLimit};
 ghost use Rattle.sheet_text.specs.Sheet.{calledText, printout};
 
@@ -15,14 +16,14 @@ fn run(
     positions: &[i32],
     out: &mut [u8],
 ) -> usize
-    requires { ⌜ length (now positions) ≤ 4096 ⌝ }
+    requires { ⌜ length (now positions) ≤ positionLimit ⌝ }
     ensures { λ r. ⌜ r ≡ length (calledText (record { breaks = now (breaks .entry); degrees = now (degrees .entry); orders = now (orders .entry); coefs = now (coefs .entry); positions = now (positions .entry) })) ⌝ }
     ensures { λ r. ⌜ now (out .exit) ≡ written 0 (calledText (record { breaks = now (breaks .entry); degrees = now (degrees .entry); orders = now (orders .entry); coefs = now (coefs .entry); positions = now (positions .entry) })) (now (out .entry)) ⌝ }
     ensures { λ r. ⌜ r ≤ printoutLimit ⌝ }
 {
-    let mut num = [0; 5184];
-    let mut den = [1; 5184];
-    let mut values = [0; 4096];
+    let mut num = [0; cells::TABLE_CELLS];
+    let mut den = [1; cells::TABLE_CELLS];
+    let mut values = [0; sheet_lists::LIST_LIMIT];
     let answer = curve::curve(
         breaks,
         degrees,
@@ -53,11 +54,11 @@ pub fn sheet(input: &[u8], out: &mut [u8]) -> usize
     ensures { λ r. ⌜ now (out .exit) ≡ written 0 (printout (now (input .entry))) (now (out .entry)) ⌝ }
     ensures { λ r. ⌜ r ≤ printoutLimit ⌝ }
 {
-    let mut breaks = [0; 4096];
-    let mut degrees = [0; 4096];
-    let mut orders = [0; 4096];
-    let mut coefs = [0; 4096];
-    let mut positions = [0; 4096];
+    let mut breaks = [0; sheet_lists::LIST_LIMIT];
+    let mut degrees = [0; sheet_lists::LIST_LIMIT];
+    let mut orders = [0; sheet_lists::LIST_LIMIT];
+    let mut coefs = [0; sheet_lists::LIST_LIMIT];
+    let mut positions = [0; sheet_lists::LIST_LIMIT];
     let lists = sheet_lists::read(
         input,
         &mut breaks,

@@ -9,7 +9,7 @@ use lib.IntN.{ℤ}
 use lib.Seq.{slice, length-slice}
 use Rattle.numerals.specs.Bytes.{Text, Part, fields}
 use Rattle.numerals.specs.Numeral.{numeral}
-use Rattle.sheet_lists.specs.Reading.{listOf, numerals, listLimit}
+use Rattle.sheet_lists.specs.SheetReading.{listOf, numerals, listLimit}
 use Rattle.sheet_lists.specs.Reply.{count}
 use Rattle.numerals.proofs.Numerals.{field-none, field-some}
 use Rattle.sheet_lists.proofs.Entries.{stop-part, stop-within, field-last, field-more, field-first, tally, tally-bad, tally-next, tally-full, tally-end, list-empty, list-count}

@@ -13,7 +13,7 @@ use mir.Val.{SFits}
 use Rattle.exact.proofs.Word.{toZ-ofZ}
 use Rattle.numerals.specs.Bytes.{Text, Part, fields}
 use Rattle.numerals.specs.Numeral.{numeral}
-use Rattle.sheet_lists.specs.Reading.{listOf}
+use Rattle.sheet_lists.specs.SheetReading.{listOf}
 use Rattle.sheet_lists.specs.Reply.{numbers, overwritten}
 use Rattle.numerals.specs.declared.numeral.Field.the-variants as field-cases
 use Rattle.numerals.proofs.Numerals.{field-none, field-some}

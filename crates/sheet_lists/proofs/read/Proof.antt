@@ -3,7 +3,7 @@ use borrow.Author.Needs.{needs}
 use mathlib.Core.Path.{_≡_}
 use Rattle.spline.specs.Outcome.{answer}
 use Rattle.numerals.specs.Bytes.{Text}
-use Rattle.sheet_lists.specs.Reading.{Lists, read}
+use Rattle.sheet_lists.specs.SheetReading.{Lists, read}
 use Rattle.sheet_lists.specs.Reply.{ListsAt}
 use Rattle.sheet_lists.proofs.Sheets.{scanned-refusal, scanned-lists}
 use Rattle.sheet_lists.proofs.Answers.{refused, answered, replied, fill-ready, fill-count, fill-written}

@@ -5,7 +5,7 @@ use native.Mathlib.Omega.{arith}
 use lib.ListN.{length}
 use Rattle.spline.specs.Outcome.{capped}
 use Rattle.numerals.specs.Bytes.{Text}
-use Rattle.sheet_lists.specs.Reading.{textLimit, degreesKey, ordersKey, coefsKey, atKey, Line, Lists}
+use Rattle.sheet_lists.specs.SheetReading.{textLimit, degreesKey, ordersKey, coefsKey, atKey, Line, Lists}
 use Rattle.sheet_lists.proofs.Sheets.{Reached, read-long, first-line, first-bad, next-line, next-bad, last-line, last-more, after-one, after-two, after-three, after-four, after-five, lists, scan-refused, scan-lists}
 use Rattle.sheet_lists.proofs.scan.Statement.{statement}
 use Rattle.sheet_lists.proofs.scan.Tie as tie

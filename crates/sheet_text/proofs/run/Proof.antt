@@ -6,7 +6,7 @@ use mathlib.Core.Path.{sym}
 use Prim.Native.Nat.{ℕ, _≤_}
 use lib.ListN.{length}
 use lib.Seq.{length-take-le}
-use Rattle.sheet_lists.specs.Reading.{Lists}
+use Rattle.sheet_lists.specs.SheetReading.{Lists}
 use Rattle.printout.proofs.Buffer.{written-as}
 use Rattle.sheet_text.specs.Sheet.{called}
 use Rattle.sheet_text.proofs.Whole.{refused-prints, answered-prints, count-positions}

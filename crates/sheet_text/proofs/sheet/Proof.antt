@@ -6,7 +6,7 @@ use Prim.Native.Nat.{_≤_}
 use lib.ListN.{length}
 use lib.Seq.{length-take-le}
 use Rattle.numerals.specs.Bytes.{Text}
-use Rattle.sheet_lists.specs.Reading.{read}
+use Rattle.sheet_lists.specs.SheetReading.{read}
 use Rattle.sheet_lists.specs.Reply.{Lengths}
 use Rattle.sheet_lists.proofs.Answers.{Listed, reply-read, positions-few, part-fits, part-is}
 use Rattle.printout.proofs.Buffer.{written-as}
