@@ -178,6 +178,16 @@ judged-refuses (t ∷ xs) a {number} {place} h = go (passes t) refl h (λ e. jud
       place-is = cc;
     }
 
+-- ---- one step by itself
+
+-- a step that refuses does so by its first test that fails
+pub step-refuses : (j : ℕ) (κ : List Entry) (t : Table) {number place : ℕ} → step j κ t ≡ refusal number place → FirstFailure (stepTests j κ t) number place
+step-refuses j κ t e = judged-refuses (stepTests j κ t) (exactStep κ t) (sym (step-judged j κ t .is) ∙ e)
+
+-- a step whose tests all pass answers
+pub step-passes : (j : ℕ) (κ : List Entry) (t : Table) → allPass (stepTests j κ t) ≡ true → step j κ t ≡ answer (exactStep κ t)
+step-passes j κ t h = step-judged j κ t .is ∙ judged-pass (stepTests j κ t) (answer (exactStep κ t)) h
+
 -- ---- the statements
 
 pub passing-is-accepted : PassingIsAccepted

@@ -63,19 +63,19 @@ pub record Stepped (κ : List Entry) (width : ℕ) (t t′ : Table) : Type 0 whe
 -- ---- the step
 
 -- The intermediate results of a step.
-record Parts (j : ℕ) (κ : List Entry) (t t′ : Table) : Type 0 where
-  js : List ℚ
-  f : ℕ
-  l : ℕ
-  ws : List ℚ
-  rs : Table
-  has-jumps : jumps j κ t ≡ answer js
-  has-span : span j js ≡ answer (record { f = f; l = l })
-  has-factors : factors j js (record { f = f; l = l }) ≡ answer ws
-  has-rows : collect (l - f) (λ d. newRow j (entry ws d) (entry ws (suc d)) (row t (f + d)) (row t (f + suc d))) ≡ answer rs
-  whole : take f t ++ (rs ++ drop (suc l) t) ≡ t′
+pub record Parts (j : ℕ) (κ : List Entry) (t t′ : Table) : Type 0 where
+  pub js : List ℚ
+  pub f : ℕ
+  pub l : ℕ
+  pub ws : List ℚ
+  pub rs : Table
+  pub has-jumps : jumps j κ t ≡ answer js
+  pub has-span : span j js ≡ answer (record { f = f; l = l })
+  pub has-factors : factors j js (record { f = f; l = l }) ≡ answer ws
+  pub has-rows : collect (l - f) (λ d. newRow j (entry ws d) (entry ws (suc d)) (row t (f + d)) (row t (f + suc d))) ≡ answer rs
+  pub whole : take f t ++ (rs ++ drop (suc l) t) ≡ t′
 
-parts-of : (j : ℕ) (κ : List Entry) (t : Table) {t′ : Table} → step j κ t ≡ answer t′ → Parts j κ t t′
+pub parts-of : (j : ℕ) (κ : List Entry) (t : Table) {t′ : Table} → step j κ t ≡ answer t′ → Parts j κ t t′
 unfolding step newRows
 parts-of j κ t {t′} e = go-jumps (then-inverts (jumps j κ t) after-jumps e)
   where
