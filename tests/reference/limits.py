@@ -25,3 +25,14 @@ LARGEST_PLACE = 2 ** 32 - 1  # stands for every larger place too
 MOST_SHEET_BYTES = 65_536
 MOST_LIST_ENTRIES = 4_096    # of one line of a sheet
 MOST_DIGITS = 7              # of one number of a sheet
+
+# Tucson decadal files (change request 1).
+NAME_COLUMNS = 8
+YEAR_COLUMNS = 4
+FIELD_COLUMNS = 6
+MOST_FIELDS = 10             # of one line
+DECADE = 10                  # years
+LEAST_PRINTABLE, MOST_PRINTABLE = 32, 126
+HUNDREDTHS_CLOSING, THOUSANDTHS_CLOSING = 999, -9_999
+MOST_HUNDREDTHS, MOST_THOUSANDTHS = 9_999, 99_999
+LEAST_YEAR, MOST_YEAR = -999, 9_999

@@ -4,7 +4,8 @@ usage: selfcheck.py [--count N] [--seed S]
 
 First W1 to W10 with all that is stated of them and the sheet's number 10, then
 the sparse form of random calls against full buffers, then random spaces with
-all that the demands promise. Exits non-zero on any difference.
+all that the demands promise, then Tucson texts and lists. Exits non-zero on any
+difference.
 """
 
 import argparse
@@ -22,6 +23,7 @@ from protocol import (SAME, VALUE_BITS, WEIGHT_BITS, call_line, listed_cells, re
 from random_sheets import padded
 from reading import rounded
 from spacecheck import check_spaces
+from tucsoncheck import check_tucson
 from walzhik_reference import build, build_outcome, curve, sheet
 
 SPACES = 3_000
@@ -176,6 +178,7 @@ def main():
     check_sheet_text(tally)
     check_protocol(tally, seed, EXPANDED)
     check_spaces(tally, seed, chosen.count)
+    check_tucson(tally, seed, chosen.count)
     print(f"selfcheck: {tally.passed} passed, {tally.failed} failed")
     return 1 if tally.failed else 0
 

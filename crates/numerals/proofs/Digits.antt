@@ -69,7 +69,7 @@ unfolding digitsValue
 value-grows v [] = omega arith
 value-grows v (c ∷ cs) = omega (arith, value-grows (v * 10 + (c - 48)) cs)
 
-value-below : (v : ℕ) (t : Text) → allDigits t ≡ true → digitsValue v t < (v + 1) * 10 ^ length t
+pub value-below : (v : ℕ) (t : Text) → allDigits t ≡ true → digitsValue v t < (v + 1) * 10 ^ length t
 unfolding digitsValue allDigits
 value-below v [] e = omega arith
 value-below v (c ∷ cs) e =

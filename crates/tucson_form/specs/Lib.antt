@@ -1,0 +1,9 @@
+-- Tucson decadal files (document 02, change request 1): what a line, a series and a text are, and what reading and writing end
+-- with, the lent cells too. What is proved of these definitions is in crate tucson_theorems.
+pub mod Columns
+pub mod Line
+pub mod Series
+pub mod Reading
+pub mod ReadCall
+pub mod Writing
+pub mod WriteCall

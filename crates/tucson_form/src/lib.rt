@@ -1,0 +1,1 @@
+// Tucson decadal files as definitions, in specs/. This crate has no code.
