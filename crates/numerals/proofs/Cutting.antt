@@ -2,17 +2,17 @@
 -- `stripped` give once the search's index or the comparison's answer is known.
 use mathlib.Core.Path.{_≡_, refl, sym, _∙_, ap, ap₂}
 use mathlib.Core.Bool.{Bool, true, false, cond}
-use mathlib.Core.List.{[], _∷_}
-use mathlib.Core.Option.{some, none}
+use mathlib.Core.List.{[], _∷_, _++_}
+use mathlib.Core.Option.{Option, some, none, Option·some-injective}
 use Prim.Native.Nat.{ℕ, suc, _+_, _<_, _≤_}
 use native.Mathlib.Nat.{add-assoc}
 use native.Mathlib.Numerals.{add-one}
 use native.Mathlib.Omega.{arith}
-use borrow.Author.Tests.{eq-eqb, ne-eqb}
+use borrow.Author.Tests.{eq-eqb, ne-eqb, eqb-true}
 use lib.Dec.{eqb}
 use lib.ListN.{length, getD, take, drop, drop-of-length-le}
 use lib.Seq.{slice, slice-empty, drop-cons}
-use Rattle.numerals.specs.Bytes.{Text, comma, withByte, cut, onFirst, fields, stripped, indexOf, beginsWith}
+use Rattle.numerals.specs.Bytes.{Text, comma, Cut, withByte, cut, onFirst, fields, stripped, indexOf, beginsWith}
 use Rattle.numerals.proofs.Slice.{slice-step}
 
 -- ---- the index of a byte
@@ -66,6 +66,24 @@ cut-some b (c ∷ cs) h = go (eqb c b) h (cut-some b cs)
         ≡ some (record { before = take (cond s 0 (suc (indexOf b cs))) (c ∷ cs); after = drop (suc (cond s 0 (suc (indexOf b cs)))) (c ∷ cs) })
     go true h ih = refl
     go false h ih = ap (withByte c) (ih (omega arith))
+
+-- the two parts of a cut with its byte between
+abbrev pub joined : ℕ → Cut → Text
+joined b c = c .before ++ (b ∷ c .after)
+
+with-byte-joins : (b d : ℕ) (t : Text) (o : Option Cut) (c : Cut) → ((r : Cut) → o ≡ some r → t ≡ joined b r) → withByte d o ≡ some c → d ∷ t ≡ joined b c
+with-byte-joins b d t none c ih e = absurd (let x : _≡_ {A = ℕ} 0 1 = cc in omega arith)
+with-byte-joins b d t (some r) c ih e = ap (λ (s : Text). d ∷ s) (ih r refl) ∙ ap (joined b) (Option·some-injective (record { before = d ∷ r .before; after = r .after }) c e)
+
+-- a text that is cut is its two parts
+pub cut-joins : (b : ℕ) (t : Text) (c : Cut) → cut b t ≡ some c → t ≡ joined b c
+unfolding cut
+cut-joins b [] c e = absurd (let x : _≡_ {A = ℕ} 0 1 = cc in omega arith)
+cut-joins b (d ∷ t) c e = go (eqb d b) refl e (cut-joins b t)
+  where
+    go : (s : Bool) → eqb d b ≡ s → cond s (some (record { before = []; after = t })) (withByte d (cut b t)) ≡ some c → ((r : Cut) → cut b t ≡ some r → t ≡ joined b r) → d ∷ t ≡ joined b c
+    go true w e ih = ap (λ (x : ℕ). x ∷ t) (eqb-true d b w) ∙ ap (joined b) (Option·some-injective (record { before = []; after = t }) c e)
+    go false w e ih = with-byte-joins b d t (cut b t) c ih e
 
 -- ---- the fields: the one before the first comma, and those after it
 pub fields-one : (t : Text) → indexOf comma t ≡ length t → fields t ≡ t ∷ []

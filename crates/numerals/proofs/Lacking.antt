@@ -25,7 +25,7 @@ lacks-append b (c ∷ s) t h k =
     let both = and-true (not (eqb c b)) (lacks b s) h in
     ap₂ (λ (x y : Bool). x && y) (both .0) (lacks-append b s t (both .1) k)
 
-lacks-first : (b c : ℕ) (cs : Text) → lacks b (c ∷ cs) ≡ true → (eqb c b ≡ false) × (lacks b cs ≡ true)
+pub lacks-first : (b c : ℕ) (cs : Text) → lacks b (c ∷ cs) ≡ true → (eqb c b ≡ false) × (lacks b cs ≡ true)
 lacks-first b c cs h = let both = and-true (not (eqb c b)) (lacks b cs) h in (not-true (eqb c b) (both .0), both .1)
 
 -- ---- numbers

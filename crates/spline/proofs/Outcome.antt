@@ -10,7 +10,7 @@ use lib.ListN.{length, getD, length-append, List·getD-append}
 use lib.Seq.{getD-at}
 use Rattle.exact.specs.Tabulate.{tab}
 use Rattle.exact.proofs.Tabulate.{tab-snoc}
-use Rattle.spline.specs.Outcome.{Outcome, answer, refusal, largestPlace, capped, _then_, collect, repeat}
+use Rattle.spline.specs.Outcome.{Outcome, answer, refusal, largestPlace, capped, _then_, with-answer, collect, repeat}
 
 -- ---- one outcome
 
@@ -58,6 +58,19 @@ module _ {A B : Type 0} where
 pub then-assoc : {A B C : Type 0} (o : Outcome A) (f : A → Outcome B) (g : B → Outcome C) → ((o then f) then g) ≡ (o then λ a. f a then g)
 then-assoc (answer a) f g = refl
 then-assoc (refusal number place) f g = refl
+
+-- ---- a changed answer
+
+module _ {A B : Type 0} where
+  -- an answer that a function has changed: what it was before
+  pub record Changed (f : A → B) (o : Outcome A) (b : B) : Type 0 where
+    pub before : A
+    pub answers : o ≡ answer before
+    pub changed : f before ≡ b
+
+  pub with-inverts : (f : A → B) (o : Outcome A) {b : B} → with-answer f o ≡ answer b → Changed f o b
+  with-inverts f (answer a) e = record { before = a; answers = refl; changed = answer-unique refl e }
+  with-inverts f (refusal number place) e = absurd (answer-not-refusal e refl)
 
 -- ---- a collection
 

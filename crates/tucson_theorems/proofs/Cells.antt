@@ -14,7 +14,7 @@ use lib.Seq.{take-at, drop-at, length-take-le}
 use Rattle.exact.proofs.Decide.{and-true, cond-true}
 use Rattle.spline.specs.Outcome.{Outcome, answer, refuse, with-answer}
 use Rattle.spline.specs.Space.{refuseFirst}
-use Rattle.spline.proofs.Outcome.{answer-unique, answer-not-refusal, then-inverts, then-answers}
+use Rattle.spline.proofs.Outcome.{answer-unique, answer-not-refusal, then-inverts, then-answers, Changed, with-inverts}
 use Rattle.numerals.specs.Bytes.{Text}
 use Rattle.tucson_form.specs.Line.{nameColumns}
 use Rattle.tucson_form.specs.Series.{Series}
@@ -26,7 +26,7 @@ use Rattle.tucson_theorems.specs.RoundTrip.{Writable}
 use Rattle.tucson_theorems.specs.Cells.{WrittenCellsReadBack, rewriteEnd, ReadCellsAreWritten, RewrittenCellsReadBack}
 use Rattle.tucson_theorems.proofs.Lines.{name-parts}
 use Rattle.tucson_theorems.proofs.ReadsBack.{first-parts, written-reads-back}
-use Rattle.tucson_theorems.proofs.Rewritten.{Changed, with-inverts, read-is-writable, read-keeps-length, rewritten-reads-back}
+use Rattle.tucson_theorems.proofs.Rewritten.{read-is-writable, read-keeps-length, rewritten-reads-back}
 
 -- ---- four lists and their series
 
@@ -151,7 +151,7 @@ module _ (t names : Text) (years : List ℤ) (counts : List ℕ) (widths : List 
 
   has-read : (n : ℕ) → readEnd t names years counts widths .answers ≡ answer n → HasRead n
   unfolding readOutcome
-  has-read n e = go (with-inverts length outcome n e)
+  has-read n e = go (with-inverts length outcome e)
     where
       room : (ss : List Series) → readText t ≡ answer ss → (b : Bool) → roomFor ss (length names) (length years) (length counts) (length widths) ≡ b → (us : List Series) → cond b (answer ss) (refuse 1 0) ≡ answer us → length us ≡ n → HasRead n
       room ss r true w us e c = record { series = ss; reads = r; roomy = w; count = ap length (answer-unique refl e) ∙ c }
@@ -202,7 +202,7 @@ module _ (names : Text) (years : List ℤ) (counts : List ℕ) (widths : List �
 
   has-written : (n : ℕ) → writeEnd names years counts widths text .answers ≡ answer n → HasWritten n
   unfolding writeOutcome seriesOutcome
-  has-written n e = go (with-inverts length textOutcome n e)
+  has-written n e = go (with-inverts length textOutcome e)
     where
       short : Fitting names years counts widths → Writable listed → (b : Bool) (t : Text) → cond b (answer (written listed)) (refuse 1 0) ≡ answer t → textOutcome ≡ answer t → length t ≡ n → HasWritten n
       short f w true t e a c = let same : written listed ≡ t = answer-unique refl e in record { fitting = f; writable = w; answers = a ∙ ap answer (sym same); count = ap length same ∙ c }

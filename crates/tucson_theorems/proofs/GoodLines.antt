@@ -12,7 +12,8 @@ use lib.IntN.{ℤ}
 use lib.ListN.{length, take, drop, length-append, length-take}
 use lib.Seq.{take-append-le}
 use Rattle.exact.proofs.Decide.{and-true, true-not-false}
-use Rattle.numerals.specs.Bytes.{Text, newline, Cut, withByte, cut, onFirst}
+use Rattle.numerals.specs.Bytes.{Text, newline, Cut, cut, onFirst}
+use Rattle.numerals.proofs.Cutting.{joined, cut-joins}
 use Rattle.tucson_form.specs.Columns.{inColumns}
 use Rattle.tucson_form.specs.Line.{Line, nameColumns, yearColumns, fieldColumns, decade, linesOf, isName, withField, fieldNumbers, fieldCount, columnsFit, withNumbers, lineInColumns, ofCut, lineOf, yearInDecade, withinDecade, same, isWidth, fieldsAllowed, ifAllowed, goodLine}
 use Rattle.tucson_form.specs.Reading.{lastField}
@@ -68,23 +69,6 @@ lines-bytes (c ∷ t) = go (eqb c newline) (lines-bytes t)
     go false h = bytes-more c (linesOf t) ∙ omega arith
 
 -- ---- a line cut before its byte 10
-
--- the two parts with byte 10 between
-abbrev joinedCut : Cut → Text
-joinedCut c = c .before ++ (newline ∷ c .after)
-
-with-byte-is : (d : ℕ) (t : Text) (o : Option Cut) (c : Cut) → ((r : Cut) → o ≡ some r → t ≡ joinedCut r) → withByte d o ≡ some c → d ∷ t ≡ joinedCut c
-with-byte-is d t none c ih e = absurd (let x : _≡_ {A = ℕ} 0 1 = cc in omega arith)
-with-byte-is d t (some r) c ih e = ap (λ (s : Text). d ∷ s) (ih r refl) ∙ ap joinedCut (Option·some-injective (record { before = d ∷ r .before; after = r .after }) c e)
-
-cut-is : (t : Text) (c : Cut) → cut newline t ≡ some c → t ≡ joinedCut c
-unfolding cut
-cut-is [] c e = absurd (let x : _≡_ {A = ℕ} 0 1 = cc in omega arith)
-cut-is (d ∷ t) c e = go (eqb d newline) refl e (cut-is t)
-  where
-    go : (b : Bool) → eqb d newline ≡ b → cond b (some (record { before = []; after = t })) (withByte d (cut newline t)) ≡ some c → ((r : Cut) → cut newline t ≡ some r → t ≡ joinedCut r) → d ∷ t ≡ joinedCut c
-    go true w e ih = ap (λ (x : ℕ). x ∷ t) (eqb-true d newline w) ∙ ap joinedCut (Option·some-injective (record { before = []; after = t }) c e)
-    go false w e ih = with-byte-is d t (cut newline t) c ih e
 
 -- nothing follows byte 10 where it stands at the end at most
 nothing-after : (s t : Text) → atEndOnly (s ++ (newline ∷ t)) ≡ true → t ≡ []
@@ -167,7 +151,7 @@ allowed-inverted last (some m) l e = go (withinDecade m && fieldsAllowed last (m
         let same = Option·some-injective m l e in
         (e, ap withinDecade (sym same) ∙ both .0, ap (λ (n : Line). fieldsAllowed last (n .fields)) (sym same) ∙ both .1)
 
-body-good : (last : Bool) (t : Text) (c : Cut) (l : Line) → atEndOnly t ≡ true → t ≡ joinedCut c → InBody (c .before) l → withinDecade l ≡ true → fieldsAllowed last (l .fields) ≡ true → Good last t l
+body-good : (last : Bool) (t : Text) (c : Cut) (l : Line) → atEndOnly t ≡ true → t ≡ joined newline c → InBody (c .before) l → withinDecade l ≡ true → fieldsAllowed last (l .fields) ≡ true → Good last t l
 unfolding withinDecade
 body-good last t c l once e i within allowed =
     let end : c .after ≡ [] = nothing-after (c .before) (c .after) (ap atEndOnly (sym e) ∙ once) in
@@ -187,7 +171,7 @@ good-inverted last t l once e = let parts = allowed-inverted last (ofCut (cut ne
   where
     go : (o : Option Cut) → cut newline t ≡ o → ofCut o ≡ some l → Good last t l
     go none w f = absurd (let x : _≡_ {A = ℕ} 0 1 = cc in omega arith)
-    go (some c) w f = let parts = allowed-inverted last (ofCut (cut newline t)) l e in body-good last t c l once (cut-is t c w) (body-inverted (c .before) l f) (parts .1) (parts .2)
+    go (some c) w f = let parts = allowed-inverted last (ofCut (cut newline t)) l e in body-good last t c l once (cut-joins newline t c w) (body-inverted (c .before) l f) (parts .1) (parts .2)
 
 -- ---- its fields
 

@@ -1,13 +1,15 @@
 -- Columns, Decade, Lines and InDecades are laws of numbers in columns, of years, of one line and of a series cut into lines;
--- ReadsBack proves that what is written reads back. GoodLines is what is known of an accepted line; Rewritten proves the
--- reverse. Cells carries both to the two calls, Instances shows all with numbers. Sizes gives a series' years and bytes by its
--- first year and its count, for programs.
+-- ReadsBack proves that what is written reads back. GoodLines, Rescaled and FirstSeries are what is known of accepted lines, of
+-- widths brought into thousandths and of accepted series; Rewritten proves the reverse. Cells carries both to the two calls.
+-- Sizes gives a series' years and bytes by its first year and its count, for programs. Instances shows the theorems with numbers.
 pub mod Columns
 pub mod Decade
 pub mod Lines
 pub mod InDecades
 pub mod ReadsBack
 pub mod GoodLines
+pub mod Rescaled
+pub mod FirstSeries
 pub mod Rewritten
 pub mod Cells
 pub mod Sizes

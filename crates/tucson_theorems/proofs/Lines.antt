@@ -12,7 +12,7 @@ use lib.ListN.{length, take, drop, length-append}
 use lib.Seq.{take-at, drop-at, drop-drop}
 use Rattle.exact.proofs.Decide.{and-true, cond-true}
 use Rattle.numerals.specs.Bytes.{Text, newline, cut, onFirst}
-use Rattle.numerals.proofs.Lacking.{lacks, lacks-append, cut-first}
+use Rattle.numerals.proofs.Lacking.{lacks, lacks-append, lacks-first, cut-first}
 use Rattle.tucson_form.specs.Columns.{blank, inColumns, columns}
 use Rattle.tucson_form.specs.Line.{Line, nameColumns, yearColumns, fieldColumns, decade, lastPrintable, linesOf, allPrintable, allBlank, isName, withField, fieldNumbers, fieldCount, columnsFit, withNumbers, lineInColumns, ofCut, lineOf}
 use Rattle.tucson_form.specs.Writing.{fieldsText, lineText}
@@ -28,13 +28,10 @@ lineBytes n = headColumns + n * fieldColumns + 1
 
 -- ---- a text cut into lines
 
-lacks-parts : (b c : ℕ) (cs : Text) → lacks b (c ∷ cs) ≡ true → (eqb c b ≡ false) × (lacks b cs ≡ true)
-lacks-parts b c cs h = let both = and-true (not (eqb c b)) (lacks b cs) h in (not-true (eqb c b) (both .0), both .1)
-
 pub lines-first : (s rest : Text) → lacks newline s ≡ true → linesOf (s ++ (newline ∷ rest)) ≡ (s ++ (newline ∷ [])) ∷ linesOf rest
 unfolding linesOf
 lines-first [] rest h = refl
-lines-first (c ∷ s) rest h = let parts = lacks-parts newline c s h in rw (parts .0) (ap (onFirst c) (lines-first s rest (parts .1)))
+lines-first (c ∷ s) rest h = let parts = lacks-first newline c s h in rw (parts .0) (ap (onFirst c) (lines-first s rest (parts .1)))
 
 -- ---- names
 

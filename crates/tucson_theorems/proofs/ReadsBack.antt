@@ -6,8 +6,7 @@ use mathlib.Core.List.{List, [], _∷_, _++_, map, dropLast, append-assoc}
 use mathlib.Core.Option.{Option, some, none}
 use Prim.Native.Nat.{ℕ, suc, _+_, _-_, _<_, _≤_}
 use native.Mathlib.Omega.{arith}
-use borrow.Author.Tests.{eq-eqb, ne-eqb, eqb-true, eqb-false, le-leb, not-true}
-use lib.Dec.{eqb}
+use borrow.Author.Tests.{eq-eqb, le-leb, not-true}
 use lib.IntN.{ℤ, pos, negsuc, _+ℤ_, +ℤ-idr, +ℤ-assoc, pos-+ℤ-pos}
 use lib.ListN.{length, length-append}
 use lib.Signed.{leZ, ≤ℤ-refl}
@@ -17,6 +16,7 @@ use Rattle.exact.proofs.Word.{leZ-true, le-test}
 use Rattle.spline.specs.Outcome.{Outcome, answer, refuse, _then_, with-answer}
 use Rattle.spline.specs.Space.{between}
 use Rattle.numerals.specs.Bytes.{Text, beginsWith}
+use Rattle.numerals.proofs.Beginning.{begins-self, begins-other}
 use Rattle.tucson_form.specs.Line.{Line, decade, thousandths, widthLimit, linesOf, isName, yearInDecade, withinDecade, same, isWidth, fieldsAllowed, ifAllowed, goodLine}
 use Rattle.tucson_form.specs.Series.{Series, closedBy}
 use Rattle.tucson_form.specs.Reading.{goesOn, Begun, begunBy, nextYear, yearFollows, Step, opened, closed, extended, lastField, wholeSeries, closing, lineStep, ifGood, readLine, after, readLines, readText}
@@ -134,11 +134,6 @@ year-follows b l year e due begins =
 
 -- ---- names of neighbours
 
-begins-self : (name t : Text) → beginsWith name (name ++ t) ≡ true
-unfolding beginsWith
-begins-self [] t = refl
-begins-self (c ∷ name) t = rw (eq-eqb c c refl) (begins-self name t)
-
 -- the text of a line begins with its name
 begins-line : (l : Line) → beginsWith (l .name) (lineText l) ≡ true
 unfolding lineText
@@ -207,18 +202,6 @@ module _ (name : Text) (named : isName name ≡ true) where
       ap linesOf (append-assoc (lineText l) others rest)
       ∙ line-first l f (others ++ rest)
       ∙ ap (λ (ts : List Text). lineText l ∷ ts) (lines-cut (year +ℤ pos (length fs)) (omega arith) d (both .1) rest)
-
--- names that differ, whatever follows the second
-pub begins-other : (a b t : Text) → length a ≡ length b → beginsWith b a ≡ false → beginsWith a (b ++ t) ≡ false
-unfolding beginsWith
-begins-other [] [] t e h = absurd (true-not-false refl h)
-begins-other [] (d ∷ b) t e h = absurd (omega arith)
-begins-other (c ∷ a) [] t e h = absurd (omega arith)
-begins-other (c ∷ a) (d ∷ b) t e h = go (eqb c d) refl h (begins-other a b t (omega arith))
-  where
-    go : (x : Bool) → eqb c d ≡ x → cond x (beginsWith b a) false ≡ false → (beginsWith b a ≡ false → beginsWith a (b ++ t) ≡ false) → cond (eqb d c) (beginsWith a (b ++ t)) false ≡ false
-    go true w h ih = ap (λ (x : Bool). cond x (beginsWith a (b ++ t)) false) (eq-eqb d c (sym (eqb-true c d w))) ∙ ih h
-    go false w h ih = ap (λ (x : Bool). cond x (beginsWith a (b ++ t)) false) (ne-eqb d c (λ (z : d ≡ c). eqb-false c d w (sym z)))
 
 -- a line does not go on where those of another name come
 parted : (name other : Text) → isName name ≡ true → isName other ≡ true → beginsWith other name ≡ false → (year : ℤ) {c : ℤ} {room : ℕ} {lines : List (List ℤ)} {ws : List ℤ} (rest : List Text) → InDecades c room lines ws

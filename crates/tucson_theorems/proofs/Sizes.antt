@@ -20,7 +20,7 @@ use Rattle.tucson_theorems.proofs.Decade.{year-below, years-later}
 use Rattle.tucson_theorems.proofs.Lines.{headColumns}
 use Rattle.tucson_theorems.proofs.InDecades.{InDecades, ends, goes, lines-in-decades, sizes, same-years, bytesOf}
 use Rattle.tucson_theorems.proofs.ReadsBack.{CanBeWritten, roomOf, cutOf, cut-in-decades}
-use Rattle.tucson_theorems.proofs.Rewritten.{lines-length}
+use Rattle.tucson_theorems.proofs.Rescaled.{lines-length}
 
 -- ---- the years
 
