@@ -26,12 +26,15 @@ REFUSED = {
     b" " * 8 + b"1903 -9999\n": (11, 1), A + b"19 3 -9999\n": (11, 1),
     A + b"1903 -9999   999\n": (11, 1), A + b"1903    -1 -9999\n": (11, 1),
     A + b"1903100000 -9999\n": (11, 1), A + b"  -1     1   999\n": (11, 1),
-    A + b"1908   999\n\n": (11, 2), A + b"1908   999\n" + B + b"1908     1     2   999\n": (11, 2),
-    A + b"1909 -9999\n" + A + b"1910   999\n": (11, 1), A + b"1909     7\n" + A + b"\n": (11, 2),
+    A + b"1908   999\n\n": (11, 2),
+    A + b"1908   999\n" + B + b"1908     1     2   999\n": (11, 2),
+    A + b"1909 -9999\n" + A + b"1910   999\n": (11, 1),
+    A + b"1909     7\n" + A + b"\n": (11, 2),
     A + b"1908     7     8\n" + A + b"1920   999\n": (12, 2),
     A + b"1908     7\n" + A + b"1909   999\n": (12, 2),
     A + b"1908     7\n" + B + b"1909   999\n": (13, 1),
-    A + b"1909 10000\n" + A + b"1910   999\n": (13, 2), A + b"1909     7\n" + A[:7] + b"\n": (13, 1),
+    A + b"1909 10000\n" + A + b"1910   999\n": (13, 2),
+    A + b"1909     7\n" + A[:7] + b"\n": (13, 1),
 }
 UNWRITABLE = (Series(b" " * 8, 1908, ()), Series(b"ABC\t01  ", 1908, ()), Series(A, -1000, ()),
               Series(A, 9999, (1,)), Series(A, 1908, (-1,)), Series(A, 1908, (100_000,)))
@@ -51,8 +54,10 @@ def check_stated(tally):
     for text, refusal in REFUSED.items():
         tally.check(refusal_of(read_tucson, text) == refusal, "tucson", text, refusal)
     for series in UNWRITABLE:
-        tally.check(refusal_of(write_tucson, [Series(B, 1, ()), series]) == (11, 1), "tucson", series)
-    tally.check(refusal_of(write_tucson, [Series(B, 1, ()), Series(B, 2, ())]) == (11, 1), "name again")
+        refusal = refusal_of(write_tucson, [Series(B, 1, ()), series])
+        tally.check(refusal == (11, 1), "tucson", series)
+    again = refusal_of(write_tucson, [Series(B, 1, ()), Series(B, 2, ())])
+    tally.check(again == (11, 1), "tucson name again")
 
 
 def check_text(tally, text):

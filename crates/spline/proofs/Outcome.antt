@@ -72,6 +72,10 @@ module _ {A B : Type 0} where
   with-inverts f (answer a) e = record { before = a; answers = refl; changed = answer-unique refl e }
   with-inverts f (refusal number place) e = absurd (answer-not-refusal e refl)
 
+  pub with-refuses : (f : A → B) (o : Outcome A) {number place : ℕ} → with-answer f o ≡ refusal number place → o ≡ refusal number place
+  with-refuses f (answer a) e = absurd (answer-not-refusal refl e)
+  with-refuses f (refusal number place) e = cc
+
 -- ---- a collection
 
 module _ {A : Type 0} where
