@@ -1,13 +1,13 @@
 -- The theorems with numbers: series that are written and read back, with an absent ring, a last width of 999 and years across 0;
--- a text in hundredths that is written in thousandths, in as many bytes; and the cells after the two calls. The hypotheses are
--- met by computation.
+-- a text in hundredths that is written in thousandths, in as many bytes; the cells after the two calls; and two refusals. The
+-- hypotheses are met by computation.
 use mathlib.Core.List.{List, [], _∷_}
 use mathlib.Core.Path.{_≡_, refl}
 use Prim.Native.Nat.{_≤_}
 use native.Mathlib.Omega.{arith}
 use lib.IntN.{pos, negℤ}
 use lib.ListN.{length, take}
-use Rattle.spline.specs.Outcome.{answer}
+use Rattle.spline.specs.Outcome.{answer, refusal, capped}
 use Rattle.numerals.specs.Bytes.{Text, bytes, lines, cut, beginsWith}
 use Rattle.numerals.specs.Numeral.{allDigits, digitsValue, isNatural, numeral, digitsUpTo, digits, decimal}
 use Rattle.tucson_form.specs.Columns.{inColumns, columns}
@@ -19,9 +19,11 @@ use Rattle.tucson_form.specs.Writing.{inLines, linesFrom, seriesLines, fieldsTe
 use Rattle.tucson_form.specs.WriteCall.{total, listsFit, seriesOf, seriesOutcome, writeOutcome, textAfter, writeEnd}
 use Rattle.tucson_theorems.specs.RoundTrip.{Writable}
 use Rattle.tucson_theorems.specs.Cells.{rewriteEnd}
+use Rattle.tucson_theorems.specs.Refusals.{ReadRefusal, WriteRefusal}
 use Rattle.tucson_theorems.proofs.ReadsBack.{written-reads-back}
 use Rattle.tucson_theorems.proofs.Rewritten.{read-is-writable, read-keeps-length, rewritten-reads-back}
 use Rattle.tucson_theorems.proofs.Cells.{written-cells-read-back, read-cells-are-written, rewritten-cells-read-back}
+use Rattle.tucson_theorems.proofs.Refusals.{read-refuses, write-refuses}
 
 -- ---- two series, the first across the year 0
 
@@ -94,3 +96,22 @@ module _ (text : Text) (long : 50 ≤ length text) where
 
   one-series-again : readEnd (take (length measured) (rewriteEnd readOne 1 text .text)) (bytes "........") (pos 1 ∷ []) (2 ∷ []) (pos 3 ∷ pos 4 ∷ pos 5 ∷ pos 6 ∷ []) ≡ readOne
   one-series-again = rewritten-cells-read-back measured (bytes "........") (pos 1 ∷ []) (2 ∷ []) (pos 3 ∷ pos 4 ∷ pos 5 ∷ pos 6 ∷ []) 1 one-series text fifty
+
+-- ---- refusals: a year that is not the next, on line 2, and a name again, the third series
+
+skipped : Text
+skipped = lines ("ABC01   1908     7     8" ∷ "ABC01   1920   999" ∷ [])
+
+skipped-refused : readEnd skipped [] [] [] [] .answers ≡ refusal 12 2
+unfolding skipped bytes lines cut beginsWith allDigits digitsValue isNatural numeral inColumns linesOf allPrintable allBlank isName fieldNumbers columnsFit lineInColumns lineOf yearInDecade withinDecade isWidth fieldsAllowed goodLine allHundredths fromHundredths closedBy goesOn yearFollows lastField closing lineStep readLine readLines readText capped namesOf yearsOf countsOf widthsOf roomFor readOutcome filled
+skipped-refused = refl
+
+skipped-refusal : ReadRefusal skipped 12 2
+skipped-refusal = read-refuses skipped [] [] [] [] 12 2 skipped-refused .0
+
+named-again : writeEnd (bytes "ABC01   ABC02   ABC02   ") (pos 1 ∷ pos 1 ∷ pos 1 ∷ []) (0 ∷ 0 ∷ 0 ∷ []) [] [] .answers ≡ refusal 11 2
+unfolding bytes beginsWith digitsUpTo digits decimal columns allPrintable allBlank isName yearInDecade isWidth inLines linesFrom seriesLines fieldsText lineText linesText written yearsFit allWidths isWritable firstUnwritable capped total listsFit seriesOf seriesOutcome writeOutcome textAfter
+named-again = refl
+
+named-again-refusal : WriteRefusal (pos 1 ∷ pos 1 ∷ pos 1 ∷ []) 11 2
+named-again-refusal = write-refuses (bytes "ABC01   ABC02   ABC02   ") (pos 1 ∷ pos 1 ∷ pos 1 ∷ []) (0 ∷ 0 ∷ 0 ∷ []) [] [] 11 2 named-again .0
