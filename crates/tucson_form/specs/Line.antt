@@ -103,6 +103,7 @@ lineInColumns body =
     (fieldNumbers (fieldCount body) (drop (nameColumns + yearColumns) body)))
     none
 
+-- The line of what stands before byte 10, if that byte is there.
 abbrev pub ofCut : Option Cut → Option Line
 ofCut none = none
 ofCut (some c) = lineInColumns (c .before)
@@ -140,6 +141,7 @@ fieldsAllowed last (f ∷ g ∷ fs) = isWidth f && fieldsAllowed last (g ∷ fs)
 
 -- ---- number 11
 
+-- A well-formed line, if it ends within its decade and its fields are allowed.
 abbrev pub ifAllowed : Bool → Option Line → Option Line
 ifAllowed last none = none
 ifAllowed last (some l) = cond (withinDecade l && fieldsAllowed last (l .fields)) (some l) none

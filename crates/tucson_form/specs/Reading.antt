@@ -22,7 +22,7 @@ pub record Begun : Type 0 where
   pub firstYear : ℤ
   pub widths : List ℤ
 
--- The series with this line's first field as its first, where none is begun.
+-- What is begun where a line stands: the series so far, or one that begins with the line's year.
 abbrev pub begunBy : Option Begun → Line → Begun
 begunBy none l = record { firstYear = l .year; widths = [] }
 begunBy (some b) l = b
@@ -67,6 +67,7 @@ lineStep place b more l =
     (cond more (answer (opened (extended (begunBy b l) l))) (closing place (begunBy b l) l))
     (refuse 12 place)
 
+-- Number 11, or what a good line leaves.
 abbrev pub ifGood : ℕ → Option Begun → Bool → Option Line → Outcome Step
 ifGood place b more none = refuse 11 place
 ifGood place b more (some l) = lineStep place b more l

@@ -24,6 +24,7 @@ use Rattle.tucson_form.specs.Line.{Line, nameColumns, decade, thousandths, isNa
 use Rattle.tucson_form.specs.Series.{Series, closedBy}
 use Rattle.tucson_form.specs.Reading.{goesOn, Begun, begunBy, nextYear, yearFollows, Step, opened, closed, extended, lastField, wholeSeries, closing, lineStep, ifGood, readLine, after, readLines}
 use Rattle.tucson_form.specs.Writing.{linesFrom, seriesLines, linesText, written, yearsFit, allWidths, isWritable, firstUnwritable}
+use Rattle.tucson_theorems.specs.Refusals.{NextYearByLine}
 use Rattle.tucson_theorems.proofs.Columns.{fits-year}
 use Rattle.tucson_theorems.proofs.Decade.{year-below, years-later}
 use Rattle.tucson_theorems.proofs.Lines.{name-parts}
@@ -231,6 +232,17 @@ module _ (t : Text) (ts : List Text) (place : ℕ) (b : Option Begun) (ss : List
 due-next : (b : Option Begun) (l : Line) → Due b (l .year) → nextYear (begunBy b l) ≡ l .year
 due-next none l d = +ℤ-idr (l .year)
 due-next (some b) l d = sym (d .0)
+
+-- the year that is due after a line that goes on
+pub next-year-by-line : NextYearByLine
+next-year-by-line place b t c e =
+    let a = line-accepted place b true t (opened c) e in
+    let l = a .line in
+    let leaves : _≡_ {A = Outcome Step} (answer (opened (extended (begunBy b l) l))) (answer (opened c)) = a .leaves in
+    (l, a .good, next c (extended (begunBy b l) l) leaves ∙ next-extended (begunBy b l) l (due-next b l (follows-due b l (a .follows))))
+  where
+    next : (c d : Begun) → _≡_ {A = Outcome Step} (answer (opened d)) (answer (opened c)) → nextYear c ≡ nextYear d
+    next c d e = ap nextYear (let same : c ≡ d = cc in same)
 
 module _ (t next : Text) (ts : List Text) (b : Option Begun) (ss : List Series) where
   -- what the line leaves begun

@@ -1,13 +1,16 @@
 -- Which refusals the two calls can give (document 02, change request 1), whatever the text, the lists and the buffers are. The
 -- proofs are in proofs/Refusals.
+use mathlib.Core.Bool.{true, false}
 use mathlib.Core.List.{List}
+use mathlib.Core.Option.{Option, some}
 use mathlib.Core.Path.{_≡_}
 use Prim.Native.Nat.{ℕ, _≤_, _<_}
-use lib.IntN.{ℤ}
+use lib.IntN.{ℤ, pos, _+ℤ_}
 use lib.ListN.{length}
-use Rattle.spline.specs.Outcome.{refusal, capped}
+use Rattle.spline.specs.Outcome.{answer, refusal, capped}
 use Rattle.numerals.specs.Bytes.{Text}
-use Rattle.tucson_form.specs.Line.{linesOf}
+use Rattle.tucson_form.specs.Line.{Line, linesOf, goodLine}
+use Rattle.tucson_form.specs.Reading.{Begun, nextYear, opened, readLine}
 use Rattle.tucson_form.specs.ReadCall.{readEnd}
 use Rattle.tucson_form.specs.WriteCall.{writeEnd}
 
@@ -22,6 +25,12 @@ ReadRefuses =
     (t names : Text) (years : List ℤ) (counts : List ℕ) (widths : List ℤ) (number place : ℕ) →
     readEnd t names years counts widths .answers ≡ refusal number place →
     ReadRefusal t number place × (readEnd t names years counts widths ≡ record { answers = refusal number place; names = names; years = years; counts = counts; widths = widths })
+
+-- The year that number 12 asks of the line after one that goes on: that line's year and its count of fields.
+abbrev pub NextYearByLine : Type 0
+NextYearByLine =
+    (place : ℕ) (b : Option Begun) (t : Text) (c : Begun) → readLine place b true t ≡ answer (opened c) →
+    (l : Line) × (goodLine false t ≡ some l) × (nextYear c ≡ l .year +ℤ pos (length (l .fields)))
 
 -- A refusal of the write call: 2 or 1 at place 0, or 11 at a series, from 0.
 pub data WriteRefusal (years : List ℤ) : ℕ → ℕ → Type 0 where
