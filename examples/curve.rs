@@ -1,8 +1,16 @@
-//! The curve of case W1 from Rust, through a safe wrapper: prints position and value, one pair a line.
+//! The curves of case W1 from Rust, through a safe wrapper, each coefficient for both wood parts: prints a position with its
+//! two values a line.
 
-/// The safe wrapper: slices in, values or a refusal out.
+/// The safe wrapper: slices in, pairs of values or a refusal out.
 mod walzhik {
     const CELLS: usize = 5184;
+
+    /// A number for each part of a ring: a coefficient, or a value.
+    #[derive(Clone, Copy, Debug, PartialEq)]
+    pub struct Pair {
+        pub earlywood: i32,
+        pub latewood: i32,
+    }
 
     #[repr(C)]
     struct Reply {
@@ -21,8 +29,8 @@ mod walzhik {
         ) -> Reply;
     }
 
-    /// Why a call is refused, with the place of the entry that is at fault. (The wrapper lends buffers that are long
-    /// enough, so number 1 can't come.)
+    /// Why a call is refused, with the place of the entry that is at fault; a coefficient's place counts the numbers of the
+    /// pairs. (The wrapper lends buffers that are long enough, so number 1 can't come.)
     #[derive(Debug, PartialEq)]
     pub enum Refusal {
         ListLengths,
@@ -54,34 +62,36 @@ mod walzhik {
         }
     }
 
-    /// The values of the curve at the positions, in list order.
-    pub fn curve(breaks: &[i32], degrees: &[i32], orders: &[i32], coefs: &[i32], positions: &[i32]) -> Result<Vec<i32>, Refusal> {
+    /// The values of both curves at the positions, in list order.
+    pub fn curve(breaks: &[i32], degrees: &[i32], orders: &[i32], coefs: &[Pair], positions: &[i32]) -> Result<Vec<Pair>, Refusal> {
+        let numbers: Vec<i32> = coefs.iter().flat_map(|pair| [pair.earlywood, pair.latewood]).collect();
         let mut num = vec![0i64; CELLS];
         let mut den = vec![0i64; CELLS];
-        let mut values = vec![0i32; positions.len()];
+        let mut values = vec![0i32; 2 * positions.len()];
         // SAFETY: every pointer comes from a live slice with the length given beside it, the three buffers are vectors of their
         // own, so that none overlaps another or a list, and the call keeps no pointer.
         let reply = unsafe {
             walzhik_curve(
                 breaks.as_ptr(), breaks.len(), degrees.as_ptr(), degrees.len(), orders.as_ptr(), orders.len(),
-                coefs.as_ptr(), coefs.len(), positions.as_ptr(), positions.len(), num.as_mut_ptr(), num.len(),
+                numbers.as_ptr(), numbers.len(), positions.as_ptr(), positions.len(), num.as_mut_ptr(), num.len(),
                 den.as_mut_ptr(), den.len(), values.as_mut_ptr(), values.len(),
             )
         };
         if reply.number != 0 {
             return Err(refusal(reply.number, reply.place));
         }
-        values.truncate(reply.count as usize);
-        Ok(values)
+        let written = values.chunks_exact(2).take(reply.count as usize);
+        Ok(written.map(|pair| Pair { earlywood: pair[0], latewood: pair[1] }).collect())
     }
 }
 
 fn main() {
+    let coefs = [0, 100, 0, 0].map(|coef| walzhik::Pair { earlywood: coef, latewood: coef });
     let positions = [256, 512];
-    match walzhik::curve(&[0, 1, 3], &[2, 2], &[1], &[0, 100, 0, 0], &positions) {
+    match walzhik::curve(&[0, 1, 3], &[2, 2], &[1], &coefs, &positions) {
         Ok(values) => {
             for (position, value) in positions.iter().zip(values) {
-                println!("{position},{value}");
+                println!("{position},{}:{}", value.earlywood, value.latewood);
             }
         }
         Err(refusal) => {

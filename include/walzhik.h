@@ -1,4 +1,4 @@
-/* Walzhik: growth curves in segments of different degree, with exact weights.
+/* Walzhik: growth curves of earlywood and latewood in segments of different degree, with exact weights.
  *
  * The static library libwalzhik.a has two calls. Lists and buffers may have any length and any content: a call always
  * returns, reads and writes only what it is lent, and answers or refuses with a number and a place. A list or buffer of
@@ -15,23 +15,26 @@
  *
  * num, den   at least WALZHIK_CELLS cells each: row i, column j of the weights is num[72 i + j] / den[72 i + j], in lowest
  *            terms with positive denominator; 0/1 in all unused cells. Cells past WALZHIK_CELLS are never touched.
- * coefs      n coefficients, each from -1000000 to 1000000 thousandths of a millimetre
+ * coefs      2 n numbers, each from -1000000 to 1000000 thousandths of a millimetre: the earlywood and the latewood
+ *            coefficient of each row, side by side. Each wood part has a curve of its own over the same weights.
  * positions  up to 4096 positions in 256ths of a ring, in any order, each within the span. A position on a join is read
  *            from the segment that starts there, on a discontinuity from the segment that ends there, on the last
  *            breakpoint from the last segment.
- * values     at least one cell for each position: the curve in 256ths of a thousandth of a millimetre, in list order.
- *            Each differs from the exact curve by at most (s + p) / 2, on either side, where p is the degree of the
- *            position's segment and s the most non-zero weights on one of its ordinates, and lies between 256 times the
- *            least and the greatest coefficient with weight there. Cells past the positions' count keep what they held.
+ * values     at least two cells for each position: both curves in 256ths of a thousandth of a millimetre, earlywood first,
+ *            in list order. Each value differs from the exact curve of its wood part by at most (s + p) / 2, on either
+ *            side, where p is the degree of the position's segment and s the most non-zero weights on one of its
+ *            ordinates, and lies between 256 times the part's least and greatest coefficient with weight there. Cells past
+ *            twice the positions' count keep what they held.
  *
  * Numbers of a refusal, tested in this order (8 and 9 as the build meets them), with their places
  * (WALZHIK_LARGEST_PLACE also stands for anything larger):
- *   1  a buffer is too short: num (0), den (1), values (2)
+ *   1  a buffer is too short: num (0), den (1), values, with fewer than two cells a position (2)
  *   2  the list lengths don't fit one m from 1 to 12 (0); over 4096 positions (1)
  *   3  breakpoint: out of range or not above the one before; then, place m, a span over 2000
  *   4  segment: degree out of range
  *   5  join: order out of range
- *   6  entry: coefficient out of range; WALZHIK_LARGEST_PLACE, tested first: the count is not n
+ *   6  entry, each number of a pair by itself: coefficient out of range; WALZHIK_LARGEST_PLACE, tested first: the count
+ *      of numbers is not 2 n
  *   7  entry: position outside the span
  *   8  join: a counted fraction has a numerator's size or a denominator of 2^31 or more
  *   9  join: the jumps lack the needed shape
@@ -51,7 +54,7 @@ extern "C" {
 #define WALZHIK_CELLS 5184
 #define WALZHIK_LARGEST_PLACE UINT32_C(4294967295)
 
-/* An answer: number 0, place 0, and the count of rows (build) or of values written (curve). A refusal: count 0. */
+/* An answer: number 0, place 0, and the count of rows (build) or of positions (curve). A refusal: count 0. */
 typedef struct {
     uint64_t count;
     uint32_t number;

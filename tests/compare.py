@@ -4,8 +4,10 @@ usage: compare.py DRIVER [--count N] [--seed S] [--case LINE] [--valgrind]
 
 The driver executable runs each call; its line must equal the model's byte for
 byte, so every answer and every lent cell is compared. Every value of every
-answered curve call is held against the exact curve as demand 3 asks. Values on
-joins of each order and beside them on both sides must come up. The first
+answered curve call is held against the exact curve of its part as demand 3 asks.
+Values on joins of each order and beside them on both sides must come up, and so
+must pairs of which one is low, an odd count of coefficients, a latewood
+coefficient out of range and a values buffer one cell short. The first
 difference is shown with its call line, which --case runs again. With
 --valgrind the driver runs under it, each list and buffer in a block of its own
 length, so that any read or write outside the lent memory is a failure.
@@ -24,9 +26,10 @@ sys.path.insert(0, str(Path(__file__).resolve().parent / "reference"))
 
 from cases import fixed_calls
 from generate import calls
-from limits import DISCONTINUITY, MOST_ORDER, UNIT
+from limits import DISCONTINUITY, LARGEST_PLACE, MOST_ORDER, PARTS, UNIT
 from protocol import call_line, printed_values, read_call, result_line
-from walzhik_reference import ClosenessTest, Space, by_column
+from space import BAD_COEFFICIENT, SHORT_BUFFER
+from walzhik_reference import Space, by_column, first_pair_fault, pair_tests
 
 GATE_COUNT = 20_000
 BATCH = 1_000             # calls given to one run of the driver
@@ -37,7 +40,9 @@ FAR = range(2 ** 8, 2 ** 32 - 1)  # places that need more than a byte; one must 
 SIDES = {-1: "before", 0: "on", 1: "after"}
 JOINS = [(order, side) for order in range(DISCONTINUITY, MOST_ORDER + 1) for side in SIDES]
 ENOUGH = 2_000            # calls from which each of them must have come up
-SUMS = ("values", "far places")   # what is counted beside the calls
+PAIRS = ("pairs with one low value", "odd counts of coefficients",
+         "latewood coefficients out of range", "value buffers one cell short")
+SUMS = ("values", "far places") + PAIRS   # what is counted beside the calls
 BEFORE, AFTER = 40, 80    # characters shown around a difference
 
 
@@ -72,11 +77,11 @@ def check_closeness(call, outcome, line):
     if not outcome.values:
         return 0
     space = Space(call.breaks, call.degrees, call.orders)
-    test = ClosenessTest(space, by_column(space, outcome.rows), call.coefs)
-    fault = test.first_fault(call.positions, printed_values(call, line))
+    tests = pair_tests(space, by_column(space, outcome.rows), call.coefs)
+    fault = first_pair_fault(tests, call.positions, printed_values(call, line))
     if fault:
-        raise Difference(f"call: {call_line(call)}\n  value {fault[0]} is {fault[1]}")
-    return len(outcome.values)
+        raise Difference(f"call: {call_line(call)}\n  {fault[0]} value {fault[1]} is {fault[2]}")
+    return PARTS * len(outcome.values)
 
 
 def culprit_of(command, lines):
@@ -94,6 +99,18 @@ def count_joins(call, outcome, joins):
     joins.update(near[position] for position in call.positions if position in near)
 
 
+def count_pairs(call, outcome, seen):
+    """What only lists of pairs can show, by the names above."""
+    one_low, odd_count, latewood, one_short = PAIRS
+    _, number, place = outcome.reply
+    seen[one_low] += sum(min(pair) <= 0 < max(pair) for pair in outcome.values or [])
+    if number == BAD_COEFFICIENT:
+        seen[odd_count] += place == LARGEST_PLACE and len(call.coefs) % PARTS == 1
+        seen[latewood] += place != LARGEST_PLACE and place % PARTS == 1
+    if number == SHORT_BUFFER:
+        seen[one_short] += place == 2 and call.values.length == PARTS * len(call.positions) - 1
+
+
 def compare_batch(command, batch, seen, joins):
     asked = [call_line(call) for call in batch]
     lines, code, errors = driven(command, asked)
@@ -103,6 +120,7 @@ def compare_batch(command, batch, seen, joins):
         seen["values"] += check_closeness(call, outcome, line)
         seen["far places"] += outcome.reply.place in FAR
         count_joins(call, outcome, joins)
+        count_pairs(call, outcome, seen)
         seen[call.kind, outcome.reply.number] += 1
     if code != 0 or len(lines) != len(batch):
         raise Difference(f"call: {culprit_of(command, asked)}\n  the driver ended with {code} after "
@@ -127,6 +145,8 @@ def print_summary(seen, seconds):
         print(f"  {name:9} build {seen['build', number]:6}  curve {seen['curve', number]:6}")
     total = compared(seen)
     print(f"  {seen['far places']} places of more than a byte")
+    for name in PAIRS:
+        print(f"  {seen[name]} {name}")
     print(f"  {seen['values']} values held against the exact curve")
     print(f"  {total / seconds:.0f} calls a second")
 
@@ -140,6 +160,7 @@ def never_seen(seen, joins):
     return ([number for number in REACHABLE
              if not seen["build", number] + seen["curve", number]]
             + ["a place of more than a byte"] * (not seen["far places"])
+            + [name for name in PAIRS if not seen[name]]
             + [join for join in JOINS if not joins[join]])
 
 

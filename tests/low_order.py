@@ -18,7 +18,7 @@ from random import Random
 
 COUNT = 4_096
 SPACING = 100             # 256ths of a ring from one position to the next
-SPACE = "breaks=0,2000\ndegrees=1\norders=\ncoefs=-1000,-1000\n"
+SPACE = "breaks=0,2000\ndegrees=1\norders=\ncoefs=-1000:-1000,-1000:-1000\n"
 SHUFFLED_SEED = 1
 MOST_RATIO = 2
 FACTOR = 2.5

@@ -14,7 +14,7 @@ seen() {
 
 lists='breaks=0,1,3 degrees=2,2 orders=1'
 build="build $lists num=5184:7 den=5184:9"
-curve="curve $lists coefs=0,100,0,0 at=256,512 num=5184:7 den=5184:9 values=2:5"
+curve="curve $lists coefs=0,0,100,-100,0,0,0,0 at=256,512 num=5184:7 den=5184:9 values=4:5"
 
 for call in "$build" "$curve"; do
     seen "$call" -1 after && { echo "seen, though nothing is read outside: $call"; failed=1; }

@@ -15,13 +15,13 @@
 
 #include "walzhik.h"
 
-enum { SEGMENTS = 12, COLUMNS = 72, POSITIONS = 4096, STACK = 1 << 20, PAINT = 0xA5 };
+enum { SEGMENTS = 12, COLUMNS = 72, POSITIONS = 4096, PARTS = 2, STACK = 1 << 20, PAINT = 0xA5 };
 
 /* The most bytes that a call may need. */
 enum { BUILD_LIMIT = 16384, CURVE_LIMIT = 16384 };
 
 static int32_t breaks[SEGMENTS + 1], degrees[SEGMENTS], orders[SEGMENTS - 1];
-static int32_t coefs[COLUMNS], positions[POSITIONS], values[POSITIONS];
+static int32_t coefs[PARTS * COLUMNS], positions[POSITIONS], values[PARTS * POSITIONS];
 static int64_t num[WALZHIK_CELLS], den[WALZHIK_CELLS];
 static walzhik_reply reply;
 
@@ -49,8 +49,8 @@ static void *build(void *unused)
 static void *curve(void *unused)
 {
     size_t rows = 6 * SEGMENTS - 3 * (SEGMENTS - 1);
-    reply = walzhik_curve(breaks, SEGMENTS + 1, degrees, SEGMENTS, orders, SEGMENTS - 1, coefs, rows, positions, POSITIONS,
-                          num, WALZHIK_CELLS, den, WALZHIK_CELLS, values, POSITIONS);
+    reply = walzhik_curve(breaks, SEGMENTS + 1, degrees, SEGMENTS, orders, SEGMENTS - 1, coefs, PARTS * rows, positions,
+                          POSITIONS, num, WALZHIK_CELLS, den, WALZHIK_CELLS, values, PARTS * POSITIONS);
     return unused;
 }
 

@@ -27,7 +27,7 @@ from limits import MOST_ORDER, UNIT
 from protocol import call_line, printed_values
 from random_spaces import any_degree, breaks_from, length_list, segment_count
 from reading import segment_of
-from walzhik_reference import Space, by_column, most_weights
+from walzhik_reference import Space, by_column, most_weights, part_coefs
 
 CURVES = 3_000
 # Floating point errors on curves of size up to 256,000,000 stay far below this.
@@ -72,10 +72,11 @@ def fault(call, outcome, values):
     columns = by_column(space, outcome.rows)
     slack = [(most_weights(space, columns, segment) + space.degrees[segment]) / 2
              for segment in range(len(space.degrees))]
-    exact = scipy_values(space, call.coefs, call.positions)
-    for position, value, curve in zip(call.positions, values, exact):
-        if abs(curve - value) > slack[segment_of(space, position)] + TOLERANCE:
-            return f"at {position}: value {value}, scipy {curve}"
+    exact = zip(*(scipy_values(space, coefs, call.positions) for coefs in part_coefs(call.coefs)))
+    for position, pair, curves in zip(call.positions, values, exact):
+        allowed = slack[segment_of(space, position)] + TOLERANCE
+        if any(abs(curve - value) > allowed for value, curve in zip(pair, curves)):
+            return f"at {position}: values {tuple(pair)}, scipy {curves}"
     return None
 
 
@@ -108,7 +109,7 @@ def main():
             failed += 1
             print(f"call: {call_line(call)}\n  {wrong}")
     tested = sum(len(call.positions) for call, _ in found)
-    print(f"bspline: {tested} values of {len(found)} curves tested")
+    print(f"bspline: {tested} pairs of values of {len(found)} spaces tested")
     print(f"bspline: {len(found) - failed} passed, {failed} failed")
     return 1 if failed else 0
 

@@ -1,14 +1,14 @@
 """The two public calls of document 01, modelled with every lent cell.
 
 An `Outcome` is the sparse form: the reply, the non-zero weights by cell and
-the values. `build` and `curve` expand it to the full lent buffers. Comparing
+the pairs of values. `build` and `curve` expand it to the full lent buffers. Comparing
 many calls uses the sparse form, since a full table has 5,184 cells.
 """
 
 from typing import NamedTuple, Optional
 
 from limits import CELLS, SIDE
-from reading import curve_values
+from reading import curve_values, side_by_side
 from space import (Refusal, Space, check_build_buffers, check_coefs,
                    check_curve_buffers, check_lengths, check_position_count,
                    check_positions, check_space)
@@ -27,7 +27,7 @@ class Outcome(NamedTuple):
 
     `rows` is None where the weight buffers are unchanged, an empty list where
     all 5,184 cells are 0/1, else the weight rows. `values` is None where the
-    values buffer is unchanged.
+    values buffer is unchanged, else a pair for each position.
     """
     reply: Reply
     rows: Optional[list] = None
@@ -92,10 +92,11 @@ def expand_weights(outcome, num, den):
 
 
 def expand_values(outcome, values):
-    """The values buffer after the call; cells past the count stay."""
+    """The values buffer after the call; cells past twice the count stay."""
     if outcome.values is None:
         return list(values)
-    return outcome.values + values[len(outcome.values):]
+    written = side_by_side(outcome.values)
+    return written + values[len(written):]
 
 
 def build(breaks, degrees, orders, num, den):

@@ -1,21 +1,24 @@
 """W1 to W10 of document 01, as one table of what the papers state of them, with
-the values of document 02's CR 5 and CR 8, and two in which a limit of step 1
-acts.
+the values of document 02's CR 5 and CR 8, two in which a limit of step 1 acts,
+and some in which the parts of CR 10 differ.
 
-A case without coefficients is a build; every other is a curve call. Only
+In document 01's cases each coefficient stands for both parts. A case without
+coefficients is a build; every other is a curve call. Only
 stated facts stand here, none that the model worked out.
 """
 
 from fractions import Fraction
 from typing import NamedTuple
 
-from limits import CELLS, LARGEST_PLACE
+from limits import CELLS, COEFFICIENT_LIMIT, LARGEST_PLACE, PARTS
 from protocol import Call, Lent
+from reading import Pair, side_by_side
 
 
 class Case(NamedTuple):
     """`weights` maps (row, column) to a weight, `rows` is n, and `columns`
-    maps a column to all its non-zero weights, rows rising."""
+    maps a column to all its non-zero weights, rows rising. `coefs` holds the
+    numbers of the pairs side by side, `values` maps a position to its pair."""
     name: str
     breaks: list
     degrees: list
@@ -28,6 +31,15 @@ class Case(NamedTuple):
     weights: dict = {}
     columns: dict = {}
     values: dict = {}
+
+
+def alike(number):
+    return Pair(number, number)
+
+
+def both(coefs):
+    """The numbers of pairs whose parts are alike."""
+    return side_by_side(map(alike, coefs))
 
 
 W1_SPACE = ([0, 1, 3], [2, 2], [1])
@@ -43,26 +55,41 @@ W4_JOIN = [Fraction(4, 7), Fraction(3, 7)]
 W5_JOIN = [Fraction(1, 4), Fraction(1, 2), Fraction(1, 4)]
 
 CASES = [
-    Case("W1", *W1_SPACE, [0, 100, 0, 0], [256, 512],
-         rows=4, weights=W1_WEIGHTS, values={256: 17067, 512: 4267}),
-    Case("W2", *W1_SPACE, [0, -100, 0, 0], [256, 512],
-         rows=4, weights=W1_WEIGHTS, values={512: -4266}),
-    Case("W3", *W1_SPACE, [1, 1, 1, 1], [256, 512],
-         rows=4, weights=W1_WEIGHTS, values={256: 256, 512: 256}),
+    Case("W1", *W1_SPACE, both([0, 100, 0, 0]), [256, 512],
+         rows=4, weights=W1_WEIGHTS, values={256: alike(17067), 512: alike(4267)}),
+    Case("W2", *W1_SPACE, both([0, -100, 0, 0]), [256, 512],
+         rows=4, weights=W1_WEIGHTS, values={512: alike(-4266)}),
+    Case("W3", *W1_SPACE, both([1, 1, 1, 1]), [256, 512],
+         rows=4, weights=W1_WEIGHTS, values={256: alike(256), 512: alike(256)}),
     # The join has two ordinates, the left segment's last and the right one's first.
     Case("W4", [0, 1, 3], [2, 3], [1], columns={2: W4_JOIN, 3: W4_JOIN}),
     Case("W5", [0, 1, 2], [3, 3], [2], rows=5, columns={3: W5_JOIN, 4: W5_JOIN}),
-    Case("W6", [0, 10], [1], [], [0, 10], [1], values={1: 1}),
+    Case("W6", [0, 10], [1], [], both([0, 10]), [1], values={1: alike(1)}),
     Case("W7 accepted", [0, 2000], [1], []),
     Case("W7 refused", [0, 2001], [1], [], number=3, place=1),
     Case("W8 accepted", [0, 1, 2], [1, 2], [0]),
     Case("W8 refused", [0, 1, 2], [1, 2], [1], number=5, place=0),
-    Case("W9", [0, 1, 2], [1, 1], [-1], [0, 10, 20, 30], [256], values={256: 2560}),
-    Case("W10 count", *W1_SPACE, [0, 100, 0], [256, 512], number=6, place=LARGEST_PLACE),
-    Case("W10 outside", *W1_SPACE, [0, 100, 0, 0], [769], number=7, place=0),
-    Case("W10 end", *W1_SPACE, [0, 100, 0, 0], [768], rows=4, weights=W1_WEIGHTS),
-    Case("upper limit", *UPPER_LIMIT_SPACE, [1] * 4, [256], rows=4, values={256: 256}),
-    Case("lower limit", *LOWER_LIMIT_SPACE, [1] * 6, [256], rows=6, values={256: 256}),
+    Case("W9", [0, 1, 2], [1, 1], [-1], both([0, 10, 20, 30]), [256], values={256: alike(2560)}),
+    Case("W10 count", *W1_SPACE, both([0, 100, 0]), [256, 512], number=6, place=LARGEST_PLACE),
+    Case("W10 outside", *W1_SPACE, both([0, 100, 0, 0]), [769], number=7, place=0),
+    Case("W10 end", *W1_SPACE, both([0, 100, 0, 0]), [768], rows=4, weights=W1_WEIGHTS),
+    # The parts differ: W1 and W2 at once; the third pair's latewood is out of range.
+    Case("W1 and W2", *W1_SPACE, [0, 0, 100, -100, 0, 0, 0, 0], [512],
+         rows=4, weights=W1_WEIGHTS, values={512: Pair(4267, -4266)}),
+    Case("W2 and W1", *W1_SPACE, [0, 0, -100, 100, 0, 0, 0, 0], [512],
+         rows=4, weights=W1_WEIGHTS, values={512: Pair(-4266, 4267)}),
+    Case("latewood out of range", *W1_SPACE,
+         [0, 0, 100, 100, 0, COEFFICIENT_LIMIT + 1, 0, 0], [512], number=6, place=5),
+    Case("upper limit", *UPPER_LIMIT_SPACE, both([1] * 4), [256], rows=4, values={256: alike(256)}),
+    Case("lower limit", *LOWER_LIMIT_SPACE, both([1] * 6), [256], rows=6, values={256: alike(256)}),
+]
+
+# One number fewer and one more than 2n; no sheet can hold them.
+ODD_CASES = [
+    Case("a number fewer", *W1_SPACE, [0, 0, 100, 100, 0, 0, 0], [512],
+         number=6, place=LARGEST_PLACE),
+    Case("a number more", *W1_SPACE, [0, 0, 100, 100, 0, 0, 0, 0, 0], [512],
+         number=6, place=LARGEST_PLACE),
 ]
 
 # Step 1's plain sum on the column right of a space's first join, with every
@@ -77,7 +104,7 @@ W1_SHEET = b"""\
 breaks=0,1,3
 degrees=2,2
 orders=1
-coefs=0,100,0,0
+coefs=0:0,100:100,0:0,0:0
 at=256,512
 """
 
@@ -91,8 +118,8 @@ w=2,2,1/3
 w=2,3,1/3
 w=2,4,1/1
 w=3,5,1/1
-v=256,17067
-v=512,4267
+v=256,17067:17067
+v=512,4267:4267
 """
 
 # (breaks, degrees, orders, number) from the readings of document 01: a span of
@@ -117,17 +144,33 @@ def case_call(case):
     if case.coefs is None:
         return call
     return call._replace(kind="curve", coefs=case.coefs, positions=case.positions,
-                         values=Lent(len(case.positions) + 1, VALUES_FILL))
+                         values=Lent(PARTS * len(case.positions) + 1, VALUES_FILL))
+
+
+def short_calls():
+    """W1 with a cell for each position, and with one cell fewer than two for each:
+    both are number 1, place 2."""
+    call = case_call(CASES[0])
+    needed = PARTS * len(call.positions)
+    return [call._replace(values=Lent(length, VALUES_FILL)) for length in (len(call.positions), needed - 1)]
 
 
 def fixed_calls():
     """The calls every comparison starts with."""
     sized = [build_call(lists) for *lists, _ in SIZE_CASES]
-    return [case_call(case) for case in CASES] + sized
+    return [case_call(case) for case in CASES + ODD_CASES] + sized + short_calls()
 
 
 def numbers_text(numbers):
     return ",".join(map(str, numbers))
+
+
+def pair_text(pair):
+    return ":".join(map(str, pair))
+
+
+def pairs_text(coefs):
+    return ",".join(pair_text(coefs[first:first + PARTS]) for first in range(0, len(coefs), PARTS))
 
 
 def case_sheet(case):
@@ -135,11 +178,11 @@ def case_sheet(case):
     coefs = case.coefs
     if coefs is None:
         columns = sum(case.degrees) + len(case.degrees)
-        coefs = [0] * (columns - sum(order + 1 for order in case.orders))
-    lists = {"breaks": case.breaks, "degrees": case.degrees, "orders": case.orders,
-             "coefs": coefs, "at": case.positions}
-    return "".join(f"{name}={numbers_text(entries)}\n"
-                   for name, entries in lists.items()).encode("ascii")
+        coefs = both([0] * (columns - sum(order + 1 for order in case.orders)))
+    lists = {"breaks": numbers_text(case.breaks), "degrees": numbers_text(case.degrees),
+             "orders": numbers_text(case.orders), "coefs": pairs_text(coefs),
+             "at": numbers_text(case.positions)}
+    return "".join(f"{name}={text}\n" for name, text in lists.items()).encode("ascii")
 
 
 def stated_lines(case):
@@ -149,6 +192,6 @@ def stated_lines(case):
     lines = [f"n={case.rows}"] if case.rows is not None else []
     lines += [f"w={row},{column},{weight.numerator}/{weight.denominator}"
               for (row, column), weight in case.weights.items()]
-    lines += [f"v={position},{value}" for position, value in case.values.items()]
-    return lines + [f"low={position}" for position, value in case.values.items()
-                    if value <= 0]
+    lines += [f"v={position},{pair_text(pair)}" for position, pair in case.values.items()]
+    return lines + [f"low={position}" for position, pair in case.values.items()
+                    if min(pair) <= 0]

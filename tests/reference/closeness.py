@@ -1,5 +1,6 @@
 """The exact curve of document 01 and the limits that demand 3 sets around it,
-with the closeness of document 02's CR 8.
+with the closeness of document 02's CR 8, for each part of CR 10 apart: all
+coefficients and values here are those of one part, except where pairs are named.
 
 `exact_curve` is document 01's double sum word for word. `ClosenessTest` holds
 the same sum grouped by ordinate over one common denominator, which is quick
@@ -10,7 +11,7 @@ from fractions import Fraction
 from math import comb, lcm
 
 from limits import UNIT
-from reading import local
+from reading import Pair, local, part_coefs
 
 
 def exact_curve(space, rows, coefs, position):
@@ -97,3 +98,17 @@ class ClosenessTest:
             if fault:
                 return entry, fault
         return None
+
+
+def pair_tests(space, columns, coefs):
+    """Demand 3 for each part, given the numbers of the pairs of coefficients."""
+    return Pair(*(ClosenessTest(space, columns, part) for part in part_coefs(coefs)))
+
+
+def first_pair_fault(tests, positions, pairs):
+    """(part, list entry, what is wrong) of the first bad value, or None."""
+    for part, test in tests._asdict().items():
+        fault = test.first_fault(positions, [getattr(pair, part) for pair in pairs])
+        if fault:
+            return part, *fault
+    return None

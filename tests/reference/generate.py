@@ -15,8 +15,8 @@ from random import Random
 from protocol import Call, call_line
 from random_damage import damaged, extreme_entries, huge_list, wild_lists
 from random_sheets import call_sheet, damaged_text
-from random_spaces import (coef_list, long_enough, pick, position_list, row_count,
-                           sized_space_lists, space_lists, weight_buffer)
+from random_spaces import (coef_list, pick, position_list, row_count, sized_space_lists,
+                           space_lists, value_buffer, weight_buffer)
 
 BUILD_SHARE = 1 / 3
 
@@ -30,7 +30,7 @@ def call_on(rng, lists, kind):
     positions = position_list(rng, breaks)
     return Call(kind, breaks, degrees, orders, *buffers,
                 coef_list(rng, row_count(degrees, orders)), positions,
-                long_enough(rng, len(positions)))
+                value_buffer(rng, positions))
 
 
 def any_kind(rng):

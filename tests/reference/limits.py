@@ -18,6 +18,7 @@ MOST_ORDER = 2
 COEFFICIENT_LIMIT = 1_000_000
 MOST_POSITIONS = 4_096
 UNIT = 256                   # positions are 256ths of a ring, values 256ths too
+PARTS = 2                    # of a ring: earlywood and latewood, side by side in lists
 
 SIZE_LIMIT = 2 ** 31         # counted numerators and denominators stay below
 LARGEST_PLACE = 2 ** 32 - 1  # stands for every larger place too

@@ -1,8 +1,9 @@
 """The text between the comparison and the driver: one call a line, one result a line.
 
 A call line is `build breaks=0,1,3 degrees=2,2 orders=1 num=5184:7 den=5184:9`
-or `curve` with `coefs=`, `at=` and `values=` besides; a lent buffer is its
-length and its fill, and its cell i holds fill + i before the call, wrapped to
+or `curve` with `coefs=`, `at=` and `values=` besides; `coefs=` lists the numbers
+of the pairs side by side, as the call takes them; a lent buffer is its length
+and its fill, and its cell i holds fill + i before the call, wrapped to
 the cell's width. driver.c reads such lines and holds the other end.
 
 A result line is `reply=count,number,place num=.. den=.. values=..`. A buffer
@@ -15,7 +16,8 @@ left out, so equal lines are equal buffers.
 
 from typing import NamedTuple
 
-from walzhik_reference import build_outcome, curve_outcome
+from limits import PARTS
+from walzhik_reference import Pair, build_outcome, curve_outcome, side_by_side
 
 SAME = "same"
 WEIGHT_BITS = 64
@@ -99,8 +101,8 @@ def weight_words(outcome):
     return [f"num={num}", f"den={den}"]
 
 
-def value_word(values, lent):
-    changed = [(cell, value) for cell, value in enumerate(values or [])
+def value_word(pairs, lent):
+    changed = [(cell, value) for cell, value in enumerate(side_by_side(pairs or []))
                if value != lent.old(cell, VALUE_BITS)]
     return f"values={listed_cells(changed) or SAME}"
 
@@ -114,11 +116,11 @@ def result_line(call, outcome):
 
 
 def printed_values(call, line):
-    """The values of an answered curve call, from its result line."""
+    """The pairs of values of an answered curve call, from its result line."""
     text = line.rpartition(" values=")[2]
-    values = [call.values.old(cell, VALUE_BITS) for cell in range(len(call.positions))]
+    values = [call.values.old(cell, VALUE_BITS) for cell in range(PARTS * len(call.positions))]
     if text != SAME:
         for entry in text.split(","):
             cell, value = map(int, entry.split(":"))
             values[cell] = value
-    return values
+    return [Pair(*pair) for pair in zip(values[::PARTS], values[1::PARTS])]

@@ -6,7 +6,7 @@ is answered, so nothing here promises a number.
 """
 
 from limits import (BREAKPOINT_LIMIT, CELLS, COEFFICIENT_LIMIT, MOST_DEGREE,
-                    MOST_ORDER, MOST_POSITIONS, MOST_SEGMENTS, SPAN_LIMIT, UNIT)
+                    MOST_ORDER, MOST_POSITIONS, MOST_SEGMENTS, PARTS, SPAN_LIMIT, UNIT)
 from protocol import Lent
 from random_spaces import MANY, SHORT, breaks_from, fill, pick
 
@@ -32,9 +32,11 @@ def short_buffer(rng, call):
     """Number 1, one buffer or several."""
     names = ["num", "den"] + ["values"] * bool(call.positions)
     chosen = rng.sample(names, rng.choice((1, 1, 1, len(names))))
-    needs = {"num": CELLS, "den": CELLS, "values": len(call.positions)}
-    return call._replace(**{name: Lent(short_length(rng, needs[name]), fill(rng))
-                            for name in chosen})
+    needs = {"num": CELLS, "den": CELLS, "values": PARTS * len(call.positions)}
+    short = {name: short_length(rng, needs[name]) for name in chosen}
+    if "values" in chosen and rng.random() < 0.3:
+        short["values"] = len(call.positions)     # a cell for each position
+    return call._replace(**{name: Lent(length, fill(rng)) for name, length in short.items()})
 
 
 def one_list_off(rng, call):
@@ -56,7 +58,8 @@ def too_many_positions(rng, call):
     """Number 2, place 1; number 1, place 2, where the values are short too;
     number 2, place 0, where the lists don't fit either."""
     count = MOST_POSITIONS + rng.choice((1, 1, rng.randint(1, MANY)))
-    lent = pick(rng, [(70, count), (15, count - 1), (10, MOST_POSITIONS), (5, 0)])
+    needed = PARTS * count
+    lent = pick(rng, [(70, needed), (15, needed - 1), (10, PARTS * MOST_POSITIONS), (5, 0)])
     call = call._replace(positions=[rng.choice(call.positions or [0])] * count,
                          values=Lent(lent, fill(rng)))
     return call if rng.random() < 0.6 else one_list_off(rng, call)
@@ -105,7 +108,9 @@ def bad_order(rng, call):
 
 def bad_coefficient(rng, call):
     if rng.random() < 0.4 or not call.coefs:
-        count = rng.choice((0, len(call.coefs) - 1, len(call.coefs) + 1, rng.randint(0, MANY)))
+        given = len(call.coefs)
+        count = rng.choice((0, given - 1, given + 1, given - PARTS, given + PARTS,
+                            given // PARTS, rng.randint(0, MANY)))
         return call._replace(coefs=(call.coefs * MANY)[:max(count, 0)])
     beyond = COEFFICIENT_LIMIT + 1
     entry = rng.choice((beyond, -beyond, rng.choice(EXTREMES)))
@@ -119,7 +124,7 @@ def bad_position(rng, call):
         positions = (positions * MOST_POSITIONS)[:rng.choice((MANY, MOST_POSITIONS))]
     entry = rng.choice((UNIT * call.breaks[0] - 1, UNIT * call.breaks[-1] + 1,
                         UNIT * call.breaks[-1] + UNIT, rng.choice(EXTREMES)))
-    lent = call.values._replace(length=max(call.values.length, len(positions)))
+    lent = call.values._replace(length=max(call.values.length, PARTS * len(positions)))
     return call._replace(positions=with_entry(positions, any_place(rng, positions), entry),
                          values=lent)
 

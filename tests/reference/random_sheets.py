@@ -1,15 +1,16 @@
 """Random sheets: legal text of random calls, and damage to the text itself.
 
-Text damage aims at number 10 in each way document 01 names, at every line;
-damage to the lists aims at the other numbers. As with calls, the model
+Text damage aims at number 10 in each way document 01 names, at every line, and
+at the forms that a pair can't have; damage to the lists aims at the other numbers. As with calls, the model
 decides what the program must print.
 """
 
+from cases import numbers_text, pairs_text
 from limits import MOST_DIGITS, MOST_LIST_ENTRIES, MOST_SHEET_BYTES
-from protocol import listed
 from random_spaces import pick
 
 NAMES = (b"breaks", b"degrees", b"orders", b"coefs", b"at")
+COEFS = NAMES.index(b"coefs")
 BAD_NUMBERS = (b"12345678", b"-12345678", b"00", b"01", b"-01", b"007", b"-0", b"+1",
                b"0000000", b"-", b"--1", b"1-", b"1 ", b" 1", b"1.0", b"1e3", b"0x1",
                b"", b"a", b"1\r", b"1\t", b"1\x00", b"\xd9\xa1", b"1;2", b"99999999999999999999")
@@ -21,9 +22,10 @@ BAD_NAMES = (b"", b"Breaks", b"break", b"breakss", b"ats", b" at", b"at ", b"ord
 
 
 def call_lines(call):
-    lists = (call.breaks, call.degrees, call.orders, call.coefs, call.positions)
-    return [name + b"=" + listed(entries).encode("ascii")
-            for name, entries in zip(NAMES, lists)]
+    """The sheet's lines; an odd count of coefficients leaves a plain number at the end."""
+    texts = (numbers_text(call.breaks), numbers_text(call.degrees), numbers_text(call.orders),
+             pairs_text(call.coefs), numbers_text(call.positions))
+    return [name + b"=" + text.encode("ascii") for name, text in zip(NAMES, texts)]
 
 
 def joined(lines):
@@ -34,14 +36,43 @@ def any_line(rng, lines):
     return rng.randrange(len(lines))
 
 
-def number_in(rng, lines, numbers):
-    """One number of one line replaced."""
-    place = any_line(rng, lines)
+def entry_in(rng, lines, place, replaced):
+    """One entry of a line replaced by what the function makes of it."""
     head, _, text = lines[place].partition(b"=")
     entries = text.split(b",")
-    entries[rng.randrange(len(entries))] = rng.choice(numbers)
+    chosen = rng.randrange(len(entries))
+    entries[chosen] = replaced(entries[chosen])
     lines[place] = head + b"=" + b",".join(entries)
     return joined(lines)
+
+
+def number_in(rng, lines, numbers):
+    """One number of one line replaced, on either side of a pair."""
+    def replaced(entry):
+        sides = entry.split(b":")
+        sides[rng.randrange(len(sides))] = rng.choice(numbers)
+        return b":".join(sides)
+    return entry_in(rng, lines, any_line(rng, lines), replaced)
+
+
+def bad_pair(rng, lines):
+    """A pair in a form that it can't have."""
+    def replaced(entry):
+        early, _, late = entry.partition(b":")
+        return rng.choice((early, early + b":", b":" + late, b":", early + b"," + late,
+                           early + b"::" + late, entry + b":" + early, b":" + entry,
+                           entry + b":", early + b": " + late, early + b" :" + late,
+                           entry + b" ", early + b";" + late))
+    return entry_in(rng, lines, COEFS, replaced)
+
+
+def misplaced_pair(rng, lines):
+    """A pair in a line of plain numbers, or plain numbers in the line of pairs."""
+    place = any_line(rng, lines)
+    if place == COEFS:
+        lines[place] = lines[place].replace(b":", b",")
+        return joined(lines)
+    return entry_in(rng, lines, place, lambda entry: entry + b":" + entry)
 
 
 def bad_number(rng, lines):
@@ -64,7 +95,8 @@ def entry_count(rng, lines):
     """A line with about as many entries as a list may have."""
     place = any_line(rng, lines)
     count = MOST_LIST_ENTRIES + rng.choice((-1, 0, 1, 1, 2))
-    lines[place] = NAMES[place] + b"=" + b",".join([b"0"] * count)
+    entry = b"0:0" if place == COEFS else b"0"
+    lines[place] = NAMES[place] + b"=" + b",".join([entry] * count)
     return joined(lines)
 
 
@@ -124,10 +156,13 @@ def entries_of(size):
     return b",".join(entries)
 
 
+LONGEST_PAIR = b"1" * MOST_DIGITS + b":" + b"1" * MOST_DIGITS
+
+
 def padded(lines, size):
     """A sheet of exactly `size` bytes with good text, by long coefs and at lists."""
     *front, _, _ = lines
-    coefs = b"coefs=" + entries_of(MOST_LIST_ENTRIES * (MOST_DIGITS + 1))
+    coefs = b"coefs=" + b",".join([LONGEST_PAIR] * (MOST_LIST_ENTRIES // 2))
     head = joined(front + [coefs]) + b"at="
     return head + entries_of(size - len(head)) + b"\n"
 
@@ -145,9 +180,10 @@ def noise(rng, lines):
     return bytes(rng.randrange(256) for _ in range(rng.randrange(len(joined(lines)))))
 
 
-TEXT_DAMAGE = [(18, bad_number), (6, edge_number), (8, bad_comma), (3, entry_count),
-               (8, bad_name), (8, bad_line_order), (6, bad_line_end), (12, cut_short),
-               (10, bad_tail), (14, one_byte), (4, about_full), (3, noise)]
+TEXT_DAMAGE = [(18, bad_number), (6, edge_number), (10, bad_pair), (4, misplaced_pair),
+               (8, bad_comma), (3, entry_count), (8, bad_name), (8, bad_line_order),
+               (6, bad_line_end), (12, cut_short), (10, bad_tail), (14, one_byte),
+               (4, about_full), (3, noise)]
 
 
 def damaged_text(rng, call):

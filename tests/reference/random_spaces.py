@@ -1,4 +1,4 @@
-"""Random legal input: spaces, coefficients, positions and lent buffers.
+"""Random legal input: spaces, pairs of coefficients, positions and lent buffers.
 
 Each function draws one style first and then the numbers, so that the rare
 ends of the limits (longest span, edge of the breakpoint range, positions on
@@ -7,8 +7,9 @@ joins and discontinuities) come up as often as the plain middle.
 
 from limits import (BREAKPOINT_LIMIT, CELLS, COEFFICIENT_LIMIT, DISCONTINUITY,
                     LEAST_DEGREE, MOST_DEGREE, MOST_ORDER, MOST_POSITIONS,
-                    MOST_SEGMENTS, SPAN_LIMIT, UNIT)
+                    MOST_SEGMENTS, PARTS, SPAN_LIMIT, UNIT)
 from protocol import Lent
+from reading import side_by_side
 
 LOW_FILL, HIGH_FILL = -(2 ** 63), 2 ** 63 - 1
 FEW, SOME, MANY = 3, 40, 300      # counts of positions
@@ -143,7 +144,8 @@ def row_count(degrees, orders):
     return sum(degrees) + len(degrees) - sum(order + 1 for order in orders)
 
 
-def coef_list(rng, count):
+def part_list(rng, count):
+    """The coefficients of one part."""
     top = COEFFICIENT_LIMIT
     style = pick(rng, [(25, "any"), (20, "ends"), (20, "small"), (10, "one"),
                        (15, "growth"), (10, "spike")])
@@ -160,6 +162,16 @@ def coef_list(rng, count):
     coefs = [0] * count
     coefs[rng.randrange(count)] = rng.choice((-top, -1, 1, top))
     return coefs
+
+
+def coef_list(rng, count):
+    """The numbers of `count` pairs: drawn apart, with opposite signs (one part
+    low where the other is not), one part flat, or alike."""
+    early = part_list(rng, count)
+    style = pick(rng, [(60, "apart"), (15, "opposite"), (15, "flat"), (10, "alike")])
+    late = {"apart": part_list(rng, count), "opposite": [-coef for coef in early],
+            "flat": [rng.choice((-1, 0, 1))] * count, "alike": early}[style]
+    return side_by_side(rng.choice((zip(early, late), zip(late, early))))
 
 
 def one_position(rng, breaks):
@@ -214,6 +226,10 @@ def fill(rng):
 
 def long_enough(rng, needed):
     return Lent(needed + rng.choice((0, 0, 1, rng.randint(0, SPARE_CELLS))), fill(rng))
+
+
+def value_buffer(rng, positions):
+    return long_enough(rng, PARTS * len(positions))
 
 
 def weight_buffer(rng):

@@ -1,13 +1,31 @@
-"""Curve values, by document 01's "Reading the curve" and document 02's CR 5 and CR 8.
+"""Curve values, by document 01's "Reading the curve" and document 02's CR 5, 8 and 10.
 
-Step 1 turns the coefficients into a segment's Bernstein ordinates in whole
-256ths; step 2 blends them in a de Casteljau triangle. Every quotient is rounded
-to the nearest whole number, halves upwards.
+Step 1 turns the coefficients of a wood part into a segment's Bernstein ordinates
+in whole 256ths; step 2 blends them in a de Casteljau triangle. Every quotient is
+rounded to the nearest whole number, halves upwards. The two parts of a ring are
+two curves over the same space: here each is read by itself, from first to last.
 """
 
 from bisect import bisect_right
+from typing import NamedTuple
 
-from limits import DISCONTINUITY, UNIT
+from limits import DISCONTINUITY, PARTS, UNIT
+
+
+class Pair(NamedTuple):
+    """A number for each part of a ring."""
+    earlywood: int
+    latewood: int
+
+
+def side_by_side(pairs):
+    """The numbers of the pairs in list order, earlywood first."""
+    return [number for pair in pairs for number in pair]
+
+
+def part_coefs(coefs):
+    """The coefficients of each part apart, as a pair of lists."""
+    return Pair(*(coefs[part::PARTS] for part in range(PARTS)))
 
 
 def segment_of(space, position):
@@ -53,8 +71,8 @@ def local(space, position):
     return segment, position - UNIT * space.breaks[segment], UNIT * space.length(segment)
 
 
-def curve_values(space, columns, coefs, positions):
-    """One value per position, in list order."""
+def part_values(space, columns, coefs, positions):
+    """One part's value at each position, in list order."""
     ordinates = [segment_ordinates(space, columns, coefs, segment)
                  for segment in range(len(space.degrees))] if positions else []
     values = []
@@ -62,3 +80,9 @@ def curve_values(space, columns, coefs, positions):
         segment, u, whole = local(space, position)
         values.append(blend(ordinates[segment], u, whole))
     return values
+
+
+def curve_values(space, columns, coefs, positions):
+    """A pair of values per position, in list order."""
+    return [Pair(*pair) for pair in zip(*(part_values(space, columns, part, positions)
+                                          for part in part_coefs(coefs)))]

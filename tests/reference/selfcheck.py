@@ -14,8 +14,8 @@ from collections import Counter
 from fractions import Fraction
 from random import SystemRandom
 
-from cases import (CASES, PLAIN_SUMS, SIZE_CASES, W1_PRINTOUT, W1_SHEET, case_call,
-                   case_sheet, stated_lines)
+from cases import (CASES, ODD_CASES, PLAIN_SUMS, SIZE_CASES, W1_PRINTOUT, W1_SHEET,
+                   case_call, case_sheet, short_calls, stated_lines)
 from generate import calls
 from limits import CELLS, LARGEST_PLACE, MOST_LIST_ENTRIES, MOST_SHEET_BYTES, SIDE, UNIT
 from protocol import (SAME, VALUE_BITS, WEIGHT_BITS, call_line, listed_cells, read_call,
@@ -79,6 +79,10 @@ def check_cases(tally):
     for case in CASES:
         check_case(tally, case)
         check_case_sheet(tally, case)
+    for case in ODD_CASES:
+        check_case(tally, case)
+    for call in short_calls():
+        tally.check(call.outcome().reply == (0, 1, 2), "short values", call_line(call))
     tally.check(sheet(W1_SHEET) == W1_PRINTOUT, "W1 printout")
     for lists, column, stated in PLAIN_SUMS:
         weights = column_weights(build_outcome(*lists, CELLS, CELLS), column)
@@ -114,7 +118,10 @@ def check_sheet_text(tally):
         b"": 1, b"\n": 1, W1_SHEET[:-1]: 5, W1_SHEET + b"\n": 6, W1_SHEET + b"x": 6,
         b"breaks=0,1,3\n": 2, W1_SHEET.replace(b"\n", b"\r\n"): 1,
         W1_SHEET.replace(b"=1\n", b"=01\n"): 3, W1_SHEET.replace(b"=1\n", b"=+1\n"): 3,
-        W1_SHEET.replace(b"=0,100", b"=-0,100"): 4, W1_SHEET.replace(b"512", b"512,"): 5,
+        W1_SHEET.replace(b"=0:0", b"=-0:0"): 4, W1_SHEET.replace(b"=0:0", b"=0:-0"): 4,
+        W1_SHEET.replace(b"=0:0", b"=0"): 4, W1_SHEET.replace(b"=0:0", b"=0:"): 4,
+        W1_SHEET.replace(b"=0:0", b"=:0"): 4, W1_SHEET.replace(b"=0:0", b"=0:0:0"): 4,
+        W1_SHEET.replace(b"256", b"256:256"): 5, W1_SHEET.replace(b"512", b"512,"): 5,
         W1_SHEET.replace(b"512", b"12345678"): 5, W1_SHEET.replace(b"2,2", b"2,,2"): 2,
         W1_SHEET.replace(b"2,2", b"2,\xd9\xa1"): 2, W1_SHEET.replace(b"coefs", b"Coefs"): 4,
         long_line(MOST_LIST_ENTRIES + 1): 5, b"x" * (MOST_SHEET_BYTES + 1): 0,

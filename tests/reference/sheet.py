@@ -1,6 +1,7 @@
-"""The sheet program's text, by document 01's "Sheet and printout".
+"""The sheet program's text, by document 01's "Sheet and printout" and document 02's CR 6 and 10.
 
-`sheet` takes everything on standard input and gives everything printed. The
+`sheet` takes everything on standard input and gives everything printed. Each
+coefficient is a pair earlywood:latewood, and so is each position's value. The
 low lines come by rising position, a repeated one as often as it was listed.
 """
 
@@ -8,23 +9,26 @@ import re
 
 from calls import curve_outcome
 from limits import (CELLS, MOST_DIGITS, MOST_LIST_ENTRIES, MOST_POSITIONS,
-                    MOST_SHEET_BYTES)
+                    MOST_SHEET_BYTES, PARTS)
 from space import BAD_TEXT, Refusal
 
 LINE_END = b"\n"
-LINE_NAMES = (b"breaks", b"degrees", b"orders", b"coefs", b"at")
 NUMBER = b"(?:0|-?[1-9][0-9]{0,%d})" % (MOST_DIGITS - 1)
-LIST = re.compile(b"(?:%b(?:,%b)*)?" % (NUMBER, NUMBER))
+PAIR = b"%b:%b" % (NUMBER, NUMBER)
+LINES = ((b"breaks", NUMBER), (b"degrees", NUMBER), (b"orders", NUMBER), (b"coefs", PAIR),
+         (b"at", NUMBER))
+SEPARATOR = re.compile(b"[,:]")
 
 
-def read_list(text, line_number):
-    """The numbers of one line after its equals sign."""
-    if not LIST.fullmatch(text):
+def read_list(text, entry, line_number):
+    """The numbers of one line after its equals sign, those of a pair side by side."""
+    if not text:
+        return []
+    if not re.fullmatch(b"%b(?:,%b)*" % (entry, entry), text):
         raise Refusal(BAD_TEXT, line_number)
-    numbers = [int(entry) for entry in text.split(b",")] if text else []
-    if len(numbers) > MOST_LIST_ENTRIES:
+    if len(text.split(b",")) > MOST_LIST_ENTRIES:
         raise Refusal(BAD_TEXT, line_number)
-    return numbers
+    return [int(number) for number in SEPARATOR.split(text)]
 
 
 def read_sheet(data):
@@ -33,14 +37,14 @@ def read_sheet(data):
         raise Refusal(BAD_TEXT, 0)
     lists = []
     rest = data
-    for line_number, name in enumerate(LINE_NAMES, start=1):
+    for line_number, (name, entry) in enumerate(LINES, start=1):
         line, end, rest = rest.partition(LINE_END)
         head = name + b"="
         if not end or not line.startswith(head):
             raise Refusal(BAD_TEXT, line_number)
-        lists.append(read_list(line[len(head):], line_number))
+        lists.append(read_list(line[len(head):], entry, line_number))
     if rest:
-        raise Refusal(BAD_TEXT, len(LINE_NAMES) + 1)
+        raise Refusal(BAD_TEXT, len(LINES) + 1)
     return lists
 
 
@@ -50,8 +54,9 @@ def weight_lines(rows):
 
 
 def value_lines(positions, values):
-    lines = [f"v={position},{value}" for position, value in zip(positions, values)]
-    low = sorted(position for position, value in zip(positions, values) if value <= 0)
+    lines = [f"v={position},{pair.earlywood}:{pair.latewood}"
+             for position, pair in zip(positions, values)]
+    low = sorted(position for position, pair in zip(positions, values) if min(pair) <= 0)
     return lines + [f"low={position}" for position in low]
 
 
@@ -64,7 +69,7 @@ def sheet_lines(data):
         lists = read_sheet(data)
     except Refusal as refusal:
         return refusal_lines(refusal.number, refusal.place)
-    outcome = curve_outcome(*lists, CELLS, CELLS, MOST_POSITIONS)
+    outcome = curve_outcome(*lists, CELLS, CELLS, PARTS * MOST_POSITIONS)
     if outcome.reply.number:
         return refusal_lines(outcome.reply.number, outcome.reply.place)
     positions = lists[-1]

@@ -1,4 +1,5 @@
-"""Multi-degree spline spaces and the refusals 1 to 7 of document 01.
+"""Multi-degree spline spaces and the refusals 1 to 7 of document 01, with the
+pairs of document 02's CR 10.
 
 A space is three lists: breakpoints, degrees and continuity orders. Every
 test here looks at lists and lengths only and comes before anything is built.
@@ -9,7 +10,7 @@ from typing import NamedTuple
 
 from limits import (BREAKPOINT_LIMIT, CELLS, COEFFICIENT_LIMIT, DISCONTINUITY,
                     LARGEST_PLACE, LEAST_DEGREE, MOST_DEGREE, MOST_ORDER,
-                    MOST_POSITIONS, MOST_SEGMENTS, SPAN_LIMIT, UNIT)
+                    MOST_POSITIONS, MOST_SEGMENTS, PARTS, SPAN_LIMIT, UNIT)
 
 # The numbers of document 01's table.
 SHORT_BUFFER, BAD_LENGTHS, BAD_BREAKPOINT, BAD_DEGREE, BAD_ORDER = 1, 2, 3, 4, 5
@@ -57,7 +58,7 @@ def check_build_buffers(num_length, den_length):
 
 def check_curve_buffers(num_length, den_length, values_length, position_count):
     check_buffers([(num_length, CELLS), (den_length, CELLS),
-                   (values_length, position_count)])
+                   (values_length, PARTS * position_count)])
 
 
 def check_lengths(space):
@@ -105,7 +106,8 @@ def check_space(space):
 
 
 def check_coefs(coefs, row_count):
-    if len(coefs) != row_count:
+    """Number 6: the numbers of the pairs, counted and placed singly."""
+    if len(coefs) != PARTS * row_count:
         raise Refusal(BAD_COEFFICIENT, LARGEST_PLACE)
     for place, coef in enumerate(coefs):
         if abs(coef) > COEFFICIENT_LIMIT:

@@ -17,7 +17,8 @@ from random_spaces import sized_space_lists, space_lists
 from reading import blend, local, rounded, segment_ordinates
 from space import TOO_LARGE
 from walzhik_reference import (ClosenessTest, Space, by_column, coefficient_limits,
-                               exact_curve, join_conditions, most_weights)
+                               exact_curve, first_pair_fault, join_conditions,
+                               most_weights, pair_tests, part_coefs)
 
 POSITIONS = 5            # positions of a space held against the double sum
 
@@ -83,7 +84,7 @@ def other_blend(ordinates, u, whole):
 
 
 def check_value(tally, space, rows, columns, coefs, position, value):
-    """Demand 3 on one value, by the double sum itself."""
+    """Demand 3 on one part's value, by the double sum itself."""
     segment, u, whole = local(space, position)
     exact = exact_curve(space, rows, coefs, position)
     twice_slack = most_weights(space, columns, segment) + space.degrees[segment]
@@ -109,12 +110,13 @@ def check_space(tally, rng, lists, seen):
     check_weights(tally, space, outcome.rows, columns)
     seen["s"] = max(seen["s"], max(map(len, columns)))
     tally.check(len(outcome.values) == len(call.positions), "value count", space)
-    fault = ClosenessTest(space, columns, call.coefs).first_fault(call.positions, outcome.values)
+    fault = first_pair_fault(pair_tests(space, columns, call.coefs), call.positions, outcome.values)
     tally.check(fault is None, "closeness of all values", space, call.coefs, fault)
     for position in call.positions:
         check_segment(tally, space, position)
-    for position, value in list(zip(call.positions, outcome.values))[:POSITIONS]:
-        check_value(tally, space, outcome.rows, columns, call.coefs, position, value)
+    for position, pair in list(zip(call.positions, outcome.values))[:POSITIONS]:
+        for coefs, value in zip(part_coefs(call.coefs), pair):
+            check_value(tally, space, outcome.rows, columns, coefs, position, value)
 
 
 def check_spaces(tally, seed, count):

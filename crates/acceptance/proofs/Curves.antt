@@ -3,7 +3,7 @@ use mathlib.Core.Path.{_≡_, refl, _∙_, ap}
 use mathlib.Core.Bool.{Bool, true, false, cond}
 use mathlib.Core.List.{List}
 use mathlib.Core.Option.{Option, some, none}
-use Prim.Native.Nat.{ℕ, _≤_}
+use Prim.Native.Nat.{ℕ, _*_, _/_, _≤_}
 use native.Mathlib.Omega.{arith}
 use lib.Dec.{ltb, eqb}
 use lib.IntN.{ℤ}
@@ -38,7 +38,7 @@ curve-checks s coefs positions {number} {place} e = fit (lengthsFit s) refl e
 
     listed : lengthsFit s ≡ true → Broken (checkedEntries s) (λ legal. legalEntries legal coefs positions (answer legal)) number place → number ≤ 7
     listed f (first-refuses p) = omega (arith, checked-numbers s (ap (λ b. cond b (checkedEntries s) (refuse 2 0)) f ∙ p))
-    listed f (second-refuses legal p q) = entries legal (eqb (length coefs) (rowCount legal)) q
+    listed f (second-refuses legal p q) = entries legal (eqb (length coefs) (2 * rowCount legal)) q
 
     few : lengthsFit s ≡ true → (b : Bool) → cond b (refuse 2 1) (checkedEntries s then λ legal. legalEntries legal coefs positions (answer legal)) ≡ refusal number place → number ≤ 7
     few f true r = omega (arith, refused-number 2 1 r)
@@ -50,7 +50,7 @@ curve-checks s coefs positions {number} {place} e = fit (lengthsFit s) refl e
 
 pub curves-never-give-nine : CurvesNeverGiveNine
 unfolding curveOutcome curveRead
-curves-never-give-nine s coefs positions place numLength denLength valuesLength e = long (ltb numLength tableCells) (ltb denLength tableCells) (ltb valuesLength (length positions)) e
+curves-never-give-nine s coefs positions place numLength denLength valuesLength e = long (ltb numLength tableCells) (ltb denLength tableCells) (ltb (valuesLength / 2) (length positions)) e
   where
     read : (o : Outcome Table) (g : Table → CurveResult) → with-answer g o ≡ refusal 9 place → o ≡ refusal 9 place
     read (answer t) g r = absurd (answer-not-refusal refl r)

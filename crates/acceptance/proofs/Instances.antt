@@ -25,6 +25,7 @@ use Rattle.spline.specs.Table.{Table, cell, identity}
 use Rattle.spline.specs.Step.{count, addProducts, span, partialSum, quotientFactor, factors, newEntry, newRows, step}
 use Rattle.spline.specs.Build.{orderSteps, joinSteps, weights, spaceWeights}
 use Rattle.spline.specs.Cases.{space, space1, space5}
+use Rattle.spline.specs.Reading.{latewood}
 use Rattle.spline.specs.CurveCall.{badCoefficient, badPosition, curveOutcome, returned, valuesAfter}
 use Rattle.spline.specs.ExactCurve.{Legal}
 use Rattle.spline.specs.Piecewise.{Accepted}
@@ -160,12 +161,12 @@ orders1 zero h = ≤-refl (pos 1)
 orders1 (suc j) h = absurd (omega arith)
 
 abbrev coefs1 : List ℤ
-coefs1 = pos 1000000 ∷ negsuc 999999 ∷ pos 0 ∷ pos 7 ∷ []
+coefs1 = pos 1000000 ∷ pos 7 ∷ negsuc 999999 ∷ pos 0 ∷ pos 0 ∷ negsuc 999999 ∷ pos 7 ∷ pos 1000000 ∷ []
 
 abbrev positions1 : List ℤ
 positions1 = pos 256 ∷ pos 512 ∷ []
 
-within1 : WithinLimits space1 coefs1 positions1 5184 5184 2
+within1 : WithinLimits space1 coefs1 positions1 5184 5184 4
 unfolding lengthsFit badBreak spanTooLong badDegree badOrder checkedEntries checked first firstColumn conditionsBefore badCoefficient badPosition
 within1 = record { lists = refl; coefficientCount = refl; coefficients = coefficients; positionCount = omega arith; inSpan = inside; numerators = omega arith; denominators = omega arith; values = omega arith }
   where
@@ -174,17 +175,21 @@ within1 = record { lists = refl; coefficientCount = refl; coefficients = coeffic
     coefficients (suc zero) h = tt
     coefficients (suc (suc zero)) h = tt
     coefficients (suc (suc (suc zero))) h = tt
-    coefficients (suc (suc (suc (suc i)))) h = absurd (omega arith)
+    coefficients (suc (suc (suc (suc zero)))) h = tt
+    coefficients (suc (suc (suc (suc (suc zero))))) h = tt
+    coefficients (suc (suc (suc (suc (suc (suc zero)))))) h = tt
+    coefficients (suc (suc (suc (suc (suc (suc (suc zero))))))) h = tt
+    coefficients (suc (suc (suc (suc (suc (suc (suc (suc i)))))))) h = absurd (omega arith)
 
     inside : (i : ℕ) → i < length positions1 → T (not (badPosition space1 positions1 i))
     inside zero h = tt
     inside (suc zero) h = tt
     inside (suc (suc i)) h = absurd (omega arith)
 
-answers1 : returned (curveOutcome space1 coefs1 positions1 5184 5184 2) ≡ answer 2
-answers1 = low-order-calls-answer space1 coefs1 positions1 5184 5184 2 within1 orders1
+answers1 : returned (curveOutcome space1 coefs1 positions1 5184 5184 4) ≡ answer 2
+answers1 = low-order-calls-answer space1 coefs1 positions1 5184 5184 4 within1 orders1
 
-legal1 : Legal space1 coefs1 positions1 5184 5184 2
+legal1 : Legal space1 coefs1 positions1 5184 5184 4
 legal1 = record {
   accepted = low-orders-are-accepted space1 (within1 .lists) orders1;
   coefficientCount = within1 .coefficientCount;
@@ -196,5 +201,5 @@ legal1 = record {
   values = within1 .values;
 }
 
-near1 : (before : List ℤ) → Near space1 (legal1 .accepted .table) coefs1 (pos 512) (getD (valuesAfter (curveOutcome space1 coefs1 positions1 5184 5184 2) before) 1 (pos 0))
-near1 before = values-are-near space1 coefs1 positions1 5184 5184 2 legal1 before 1 (omega arith)
+near1 : (before : List ℤ) → Near space1 (legal1 .accepted .table) latewood coefs1 (pos 512) (getD (valuesAfter (curveOutcome space1 coefs1 positions1 5184 5184 4) before) 3 (pos 0))
+near1 before = values-are-near space1 coefs1 positions1 5184 5184 4 legal1 before 1 (omega arith) latewood

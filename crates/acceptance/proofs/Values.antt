@@ -42,7 +42,7 @@ closeness-at-most-four s a x inside = let c = accepted-checked s a .1 in let b =
     half-at-most (mostWeights s (a .table) (segmentAt s x) + degree s (segmentAt s x)) unitLimit (omega (arith, most-weights-three s a (segmentAt s x) b, limits s c .low-degree (segmentAt s x) b))
 
 pub values-are-near : ValuesAreNear
-values-are-near s coefs positions numLength denLength valuesLength l before k h =
-    let c = cells-are-close s coefs positions numLength denLength valuesLength l before k h in
+values-are-near s coefs positions numLength denLength valuesLength l before k h part =
+    let c = cells-are-close s coefs positions numLength denLength valuesLength l before k h part in
     let e = closeness-at-most-four s (l .accepted) (getD positions k (pos 0)) (position-inside s positions k (l .inSpan k h)) in
     record { exact-at-most = ≤-trans (c .exact-at-most) (+-mono (≤-refl _) e); at-most-exact = ≤-trans (c .at-most-exact) (+-mono (≤-refl _) e) }

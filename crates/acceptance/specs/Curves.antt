@@ -3,7 +3,7 @@
 use mathlib.Core.Path.{_≡_}
 use mathlib.Core.Bool.{not}
 use mathlib.Core.List.{List}
-use Prim.Native.Nat.{ℕ, _<_, _≤_}
+use Prim.Native.Nat.{ℕ, _*_, _<_, _≤_}
 use lib.Dec.{T}
 use lib.IntN.{ℤ}
 use lib.ListN.{length}
@@ -16,13 +16,13 @@ use Rattle.acceptance.specs.Acceptance.{OrdersAtMostOne}
 -- Lists, coefficients, positions and buffers within document 01's limits: what the numbers 1 to 7 ask for.
 pub record WithinLimits (s : Space) (coefs positions : List ℤ) (numLength denLength valuesLength : ℕ) : Type 0 where
   pub lists : checked s ≡ answer s
-  pub coefficientCount : length coefs ≡ rowCount s
+  pub coefficientCount : length coefs ≡ 2 * rowCount s
   pub coefficients : (i : ℕ) → i < length coefs → T (not (badCoefficient coefs i))
   pub positionCount : length positions ≤ positionLimit
   pub inSpan : (i : ℕ) → i < length positions → T (not (badPosition s positions i))
   pub numerators : tableCells ≤ numLength
   pub denominators : tableCells ≤ denLength
-  pub values : length positions ≤ valuesLength
+  pub values : 2 * length positions ≤ valuesLength
 
 -- Such a call on such a space answers, with the count of positions.
 abbrev pub LowOrderCallsAnswer : Type 0

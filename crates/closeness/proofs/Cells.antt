@@ -1,63 +1,75 @@
--- The value cells after a legal call: cell k holds the value at position k, the cells past the positions' count hold what
--- they held, and no value is larger than 256 times the largest coefficient allowed.
+-- The value cells after a legal call: cells 2 k and 2 k + 1 hold the values of earlywood and latewood at position k, the cells
+-- past twice the positions' count hold what they held, and no value is larger than 256 times the largest coefficient allowed.
 use mathlib.Core.Path.{_≡_, sym, _∙_, ap, subst}
 use mathlib.Core.Bool.{Bool, true, false, not}
 use mathlib.Core.List.{List, _++_, map}
-use Prim.Native.Nat.{ℕ, _+_, _<_, _≤_}
+use Prim.Native.Nat.{ℕ, _+_, _*_, _<_, _≤_}
 use native.Mathlib.Omega.{arith}
 use lib.Dec.{T}
 use lib.IntN.{ℤ, pos, negℤ, natAbs}
 use lib.ListN.{length, getD, drop}
 use lib.Signed.{_≤ℤ_}
-use Rattle.exact.specs.Tabulate.{tab}
 use Rattle.exact.proofs.Decide.{fails-false}
 use Rattle.exact.proofs.Integer as Z
-use Rattle.exact.proofs.Tabulate.{tab-length, tab-self, map-tab, getD-tab, length-tab, getD-past-tab}
+use Rattle.exact.proofs.Tabulate.{tab-self, map-tab, tab-getD}
 use Rattle.spline.specs.Space.{Space, segments, break, between, rowCount}
 use Rattle.spline.specs.Table.{Table}
 use Rattle.spline.specs.Piecewise.{Accepted}
-use Rattle.spline.specs.Reading.{fine, segmentAt, coefficient, valueAt, values}
+use Rattle.spline.specs.Reading.{fine, segmentAt, WoodPart, partIndex, Pair, sideBySide, coefficient, valueAt, pairAt, values}
 use Rattle.spline.specs.CurveCall.{coefficientLimit, badCoefficient, badPosition, curveOutcome, valuesAfter}
 use Rattle.spline.specs.ExactCurve.{leastOn, greatestOn, Legal}
 use Rattle.spline.proofs.Space.{between-inverts}
+use Rattle.spline.proofs.Pairs.{part-below, partOf, pairAt-part, getD-pairs, length-pairs, getD-past-pairs}
 use Rattle.theorems.proofs.Built.{built, row-count}
 use Rattle.closeness.specs.Demand3Values.{InSpan, valueLimit, Close, CellsAreClose, CellsPastAreKept}
 use Rattle.closeness.proofs.Fine.{fine-mono}
 use Rattle.closeness.proofs.Segment.{accepted-checked, located}
 use Rattle.closeness.proofs.OnSegment.{leastOn-is, greatestOn-is}
 use Rattle.closeness.proofs.SegmentWeights.{every-segment-has-weight}
-use Rattle.closeness.proofs.LegalCall.{legal-calls-answer}
+use Rattle.closeness.proofs.LegalCall.{legal-calls-answer, values-length}
 use Rattle.closeness.proofs.Demand3Values.{exact-at-most-value-and-closeness, value-at-most-exact-and-closeness, value-at-least-least, value-at-most-greatest}
 
--- ---- the cells as a table
+-- ---- the cells
 
-values-tab : (s : Space) (t : Table) (coefs positions : List ℤ) → values s t coefs positions ≡ tab (length positions) (λ k. valueAt s t coefs (getD positions k (pos 0)))
+-- the pair of position k
+pub pair-of-position : (s : Space) (t : Table) (coefs positions : List ℤ) (k : ℕ) (e : Pair) → k < length positions → getD (values s t coefs positions) k e ≡ pairAt s t coefs (getD positions k (pos 0))
 unfolding values
-values-tab s t coefs positions = ap (map (valueAt s t coefs)) (sym (tab-self positions (pos 0))) ∙ map-tab (valueAt s t coefs) (length positions) (λ k. getD positions k (pos 0))
+pair-of-position s t coefs positions k e h =
+    ap (λ xs. getD (map (pairAt s t coefs) xs) k e) (sym (tab-self positions (pos 0)))
+    ∙ ap (λ ps. getD ps k e) (map-tab (pairAt s t coefs) (length positions) (λ i. getD positions i (pos 0)))
+    ∙ tab-getD (length positions) (λ i. pairAt s t coefs (getD positions i (pos 0))) k e h
 
 module _ (s : Space) (coefs positions : List ℤ) (numLength denLength valuesLength : ℕ) (l : Legal s coefs positions numLength denLength valuesLength) (before : List ℤ) where
-  -- the values in list order, and then the old cells
-  pub values-after : valuesAfter (curveOutcome s coefs positions numLength denLength valuesLength) before
-      ≡ tab (length positions) (λ k. valueAt s (l .accepted .table) coefs (getD positions k (pos 0))) ++ drop (length positions) before
+  abbrev pairs : List Pair
+  pairs = values s (l .accepted .table) coefs positions
+
+  twice-count : 2 * length pairs ≡ 2 * length positions
+  twice-count = ap (λ n. 2 * n) (values-length s (l .accepted .table) coefs positions)
+
+  -- the pairs side by side in list order, and then the old cells
+  values-after : valuesAfter (curveOutcome s coefs positions numLength denLength valuesLength) before ≡ sideBySide pairs ++ drop (2 * length pairs) before
   unfolding valuesAfter
   values-after = ap (λ o. valuesAfter o before) (legal-calls-answer s coefs positions numLength denLength valuesLength l)
-      ∙ ap (λ vs. vs ++ drop (length vs) before) (values-tab s (l .accepted .table) coefs positions)
-      ∙ ap (λ n. tab (length positions) (λ k. valueAt s (l .accepted .table) coefs (getD positions k (pos 0))) ++ drop n before) (tab-length (length positions) _)
 
-  pub cell-holds-value : (k : ℕ) → k < length positions → getD (valuesAfter (curveOutcome s coefs positions numLength denLength valuesLength) before) k (pos 0) ≡ valueAt s (l .accepted .table) coefs (getD positions k (pos 0))
-  cell-holds-value k h = ap (λ cells. getD cells k (pos 0)) values-after ∙ getD-tab (length positions) _ (drop (length positions) before) k (pos 0) h
+  pub cell-holds-value : (k : ℕ) → k < length positions → (part : WoodPart)
+      → getD (valuesAfter (curveOutcome s coefs positions numLength denLength valuesLength) before) (2 * k + partIndex part) (pos 0) ≡ valueAt s (l .accepted .table) part coefs (getD positions k (pos 0))
+  cell-holds-value k h part = let e = pairAt s (l .accepted .table) coefs (pos 0) in
+      ap (λ cells. getD cells (2 * k + partIndex part) (pos 0)) values-after
+      ∙ getD-pairs pairs (drop (2 * length pairs) before) part k (pos 0) e (rw (values-length s (l .accepted .table) coefs positions) h)
+      ∙ ap (partOf part) (pair-of-position s (l .accepted .table) coefs positions k e h)
+      ∙ pairAt-part s (l .accepted .table) part coefs (getD positions k (pos 0))
 
-  pub cells-past-kept : (k : ℕ) → length positions ≤ k → getD (valuesAfter (curveOutcome s coefs positions numLength denLength valuesLength) before) k (pos 0) ≡ getD before k (pos 0)
-  cells-past-kept k h = ap (λ cells. getD cells k (pos 0)) values-after ∙ getD-past-tab (length positions) _ before k (pos 0) h
+  pub cells-past-kept : (k : ℕ) → 2 * length positions ≤ k → getD (valuesAfter (curveOutcome s coefs positions numLength denLength valuesLength) before) k (pos 0) ≡ getD before k (pos 0)
+  cells-past-kept k h = ap (λ cells. getD cells k (pos 0)) values-after ∙ getD-past-pairs pairs before k (pos 0) (omega (arith, twice-count))
 
   pub cells-length : length before ≡ valuesLength → length (valuesAfter (curveOutcome s coefs positions numLength denLength valuesLength) before) ≡ valuesLength
-  cells-length e = ap length values-after ∙ length-tab (length positions) _ before (omega (arith, l .values)) ∙ e
+  cells-length e = ap length values-after ∙ length-pairs pairs before (omega (arith, twice-count, l .values)) ∙ e
 
 -- ---- what the tests leave of coefficients and positions
 
-coefficient-size : (coefs : List ℤ) (i : ℕ) → T (not (badCoefficient coefs i)) → (negℤ (pos coefficientLimit) ≤ℤ coefficient coefs i) × (coefficient coefs i ≤ℤ pos coefficientLimit)
+number-size : (coefs : List ℤ) (i : ℕ) → T (not (badCoefficient coefs i)) → (negℤ (pos coefficientLimit) ≤ℤ getD coefs i (pos 0)) × (getD coefs i (pos 0) ≤ℤ pos coefficientLimit)
 unfolding badCoefficient
-coefficient-size coefs i h = between-inverts (negℤ (pos coefficientLimit)) (pos coefficientLimit) (coefficient coefs i) (fails-false _ h)
+number-size coefs i h = between-inverts (negℤ (pos coefficientLimit)) (pos coefficientLimit) (getD coefs i (pos 0)) (fails-false _ h)
 
 twice-not : (b : Bool) → T (not (not b)) → T b
 twice-not true h = tt
@@ -69,35 +81,35 @@ position-inside s positions i h = twice-not (between (fine (break s 0)) (fine (b
 
 -- ---- the size of a value
 
-module _ (s : Space) (a : Accepted s) (coefs : List ℤ) (count : length coefs ≡ rowCount s) (legal : (i : ℕ) → i < length coefs → T (not (badCoefficient coefs i))) (x : ℤ) (inside : InSpan s x) where
-  size-of-row : (i : ℕ) → i < length (a .table) → (negℤ (pos coefficientLimit) ≤ℤ coefficient coefs i) × (coefficient coefs i ≤ℤ pos coefficientLimit)
-  size-of-row i h = coefficient-size coefs i (legal i (omega (arith, row-count s (a .table) (built s (a .table) (a .is)))))
+module _ (s : Space) (a : Accepted s) (part : WoodPart) (coefs : List ℤ) (count : length coefs ≡ 2 * rowCount s) (legal : (i : ℕ) → i < length coefs → T (not (badCoefficient coefs i))) (x : ℤ) (inside : InSpan s x) where
+  size-of-row : (i : ℕ) → i < length (a .table) → (negℤ (pos coefficientLimit) ≤ℤ coefficient part coefs i) × (coefficient part coefs i ≤ℤ pos coefficientLimit)
+  size-of-row i h = number-size coefs (2 * i + partIndex part) (legal (2 * i + partIndex part) (omega (arith, part-below part h, row-count s (a .table) (built s (a .table) (a .is)))))
 
-  pub value-size : natAbs (valueAt s (a .table) coefs x) ≤ valueLimit
+  pub value-size : natAbs (valueAt s (a .table) part coefs x) ≤ valueLimit
   value-size =
       let w = every-segment-has-weight s a (segmentAt s x) (located s (accepted-checked s a .1) x inside .below) in
-      let low = leastOn-is s (a .table) (segmentAt s x) coefs (w .row) (w .below) (w .weighs) in
-      let high = greatestOn-is s (a .table) (segmentAt s x) coefs (w .row) (w .below) (w .weighs) in
-      Z.abs-le-in (valueAt s (a .table) coefs x) valueLimit
-      (Z.≤-trans _ _ _ (fine-mono (negℤ (pos coefficientLimit)) (leastOn s (a .table) coefs (segmentAt s x)) (subst (λ z. negℤ (pos coefficientLimit) ≤ℤ z) (low .is) (size-of-row (low .index) (low .below) .0))) (value-at-least-least s a coefs x inside))
-      (Z.≤-trans _ _ _ (value-at-most-greatest s a coefs x inside) (fine-mono (greatestOn s (a .table) coefs (segmentAt s x)) (pos coefficientLimit) (subst (λ z. z ≤ℤ pos coefficientLimit) (high .is) (size-of-row (high .index) (high .below) .1))))
+      let low = leastOn-is s (a .table) (segmentAt s x) part coefs (w .row) (w .below) (w .weighs) in
+      let high = greatestOn-is s (a .table) (segmentAt s x) part coefs (w .row) (w .below) (w .weighs) in
+      Z.abs-le-in (valueAt s (a .table) part coefs x) valueLimit
+      (Z.≤-trans _ _ _ (fine-mono (negℤ (pos coefficientLimit)) (leastOn s (a .table) part coefs (segmentAt s x)) (subst (λ z. negℤ (pos coefficientLimit) ≤ℤ z) (low .is) (size-of-row (low .index) (low .below) .0))) (value-at-least-least s a part coefs x inside))
+      (Z.≤-trans _ _ _ (value-at-most-greatest s a part coefs x inside) (fine-mono (greatestOn s (a .table) part coefs (segmentAt s x)) (pos coefficientLimit) (subst (λ z. z ≤ℤ pos coefficientLimit) (high .is) (size-of-row (high .index) (high .below) .1))))
 
 -- ---- all of it, of a cell
 
-pub value-close : (s : Space) (coefs positions : List ℤ) (numLength denLength valuesLength : ℕ) (l : Legal s coefs positions numLength denLength valuesLength) (k : ℕ) → k < length positions
-    → Close s (l .accepted .table) coefs (getD positions k (pos 0)) (valueAt s (l .accepted .table) coefs (getD positions k (pos 0)))
-value-close s coefs positions numLength denLength valuesLength l k h = let inside = position-inside s positions k (l .inSpan k h) in record {
-  exact-at-most = exact-at-most-value-and-closeness s (l .accepted) coefs (getD positions k (pos 0)) inside;
-  at-most-exact = value-at-most-exact-and-closeness s (l .accepted) coefs (getD positions k (pos 0)) inside;
-  at-least-least = value-at-least-least s (l .accepted) coefs (getD positions k (pos 0)) inside;
-  at-most-greatest = value-at-most-greatest s (l .accepted) coefs (getD positions k (pos 0)) inside;
-  size = value-size s (l .accepted) coefs (l .coefficientCount) (l .coefficients) (getD positions k (pos 0)) inside;
+pub value-close : (s : Space) (coefs positions : List ℤ) (numLength denLength valuesLength : ℕ) (l : Legal s coefs positions numLength denLength valuesLength) (k : ℕ) → k < length positions → (part : WoodPart)
+    → Close s (l .accepted .table) part coefs (getD positions k (pos 0)) (valueAt s (l .accepted .table) part coefs (getD positions k (pos 0)))
+value-close s coefs positions numLength denLength valuesLength l k h part = let inside = position-inside s positions k (l .inSpan k h) in record {
+  exact-at-most = exact-at-most-value-and-closeness s (l .accepted) part coefs (getD positions k (pos 0)) inside;
+  at-most-exact = value-at-most-exact-and-closeness s (l .accepted) part coefs (getD positions k (pos 0)) inside;
+  at-least-least = value-at-least-least s (l .accepted) part coefs (getD positions k (pos 0)) inside;
+  at-most-greatest = value-at-most-greatest s (l .accepted) part coefs (getD positions k (pos 0)) inside;
+  size = value-size s (l .accepted) part coefs (l .coefficientCount) (l .coefficients) (getD positions k (pos 0)) inside;
 }
 
 pub cells-are-close : CellsAreClose
-cells-are-close s coefs positions numLength denLength valuesLength l before k h =
-    subst (Close s (l .accepted .table) coefs (getD positions k (pos 0))) (sym (cell-holds-value s coefs positions numLength denLength valuesLength l before k h))
-    (value-close s coefs positions numLength denLength valuesLength l k h)
+cells-are-close s coefs positions numLength denLength valuesLength l before k h part =
+    subst (Close s (l .accepted .table) part coefs (getD positions k (pos 0))) (sym (cell-holds-value s coefs positions numLength denLength valuesLength l before k h part))
+    (value-close s coefs positions numLength denLength valuesLength l k h part)
 
 pub cells-past-are-kept : CellsPastAreKept
 cells-past-are-kept s coefs positions numLength denLength valuesLength l before e = (cells-length s coefs positions numLength denLength valuesLength l before e, cells-past-kept s coefs positions numLength denLength valuesLength l before)

@@ -13,7 +13,7 @@ use Rattle.exact.proofs.Order.{pos-nonzero}
 use Rattle.exact.proofs.Sum.{sum-ext, sum-swap, sum-mul-right}
 use Rattle.spline.specs.Space.{Space, degree, firstColumn}
 use Rattle.spline.specs.Table.{Table, cell}
-use Rattle.spline.specs.Reading.{fine, coefficient, fineWidth, offset}
+use Rattle.spline.specs.Reading.{fine, WoodPart, coefficient, fineWidth, offset}
 use Rattle.spline.specs.ExactCurve.{power, bernsteinAt, exactTerm, exactOn}
 use Rattle.closeness.proofs.Rounding.{pos-of-nat}
 use Rattle.closeness.proofs.Bernstein.{power-inv, bernstein, bernsteinSum, bernsteinSum-ext, exactTriangle, triangle-is-sum, triangle-scale}
@@ -26,33 +26,33 @@ unfolding bernsteinAt bernstein
 bernsteinAt-is p d u t = refl
 
 -- The exact ordinates of segment j.
-abbrev pub exactOrdinates : Space → Table → List ℤ → ℕ → ℕ → ℚ
-exactOrdinates s w coefs j k = exactOrdinate w (coefficient coefs) (firstColumn s j + k)
+abbrev pub exactOrdinates : Space → Table → WoodPart → List ℤ → ℕ → ℕ → ℚ
+exactOrdinates s w part coefs j k = exactOrdinate w (coefficient part coefs) (firstColumn s j + k)
 
-module _ (s : Space) (w : Table) (coefs : List ℤ) (j : ℕ) (x : ℤ) where
+module _ (s : Space) (w : Table) (part : WoodPart) (coefs : List ℤ) (j : ℕ) (x : ℤ) where
   -- the sum over the rows first
-  ordinate-term : (t : ℕ) → sum (length w) (λ i. exactTerm s w coefs j x i t)
-      ≡ bernstein (int (pos (fineWidth s j) -ℤ offset s j x)) (int (offset s j x)) (degree s j) t *ᵠ exactOrdinates s w coefs j t *ᵠ inv (power (int (pos (fineWidth s j))) (degree s j))
+  ordinate-term : (t : ℕ) → sum (length w) (λ i. exactTerm s w part coefs j x i t)
+      ≡ bernstein (int (pos (fineWidth s j) -ℤ offset s j x)) (int (offset s j x)) (degree s j) t *ᵠ exactOrdinates s w part coefs j t *ᵠ inv (power (int (pos (fineWidth s j))) (degree s j))
   unfolding exactTerm exactOrdinate
   ordinate-term t =
-      sum-mul-right (length w) (bernsteinAt (degree s j) (fineWidth s j) (offset s j x) t) (λ i. int (fine (coefficient coefs i)) *ᵠ cell w i (firstColumn s j + t))
-      ∙ ap (λ b. sum (length w) (λ i. int (fine (coefficient coefs i)) *ᵠ cell w i (firstColumn s j + t)) *ᵠ b) (bernsteinAt-is (degree s j) (fineWidth s j) (offset s j x) t)
-      ∙ swap (sum (length w) (λ i. int (fine (coefficient coefs i)) *ᵠ cell w i (firstColumn s j + t))) (bernstein (int (pos (fineWidth s j) -ℤ offset s j x)) (int (offset s j x)) (degree s j) t) (inv (power (int (pos (fineWidth s j))) (degree s j)))
+      sum-mul-right (length w) (bernsteinAt (degree s j) (fineWidth s j) (offset s j x) t) (λ i. int (fine (coefficient part coefs i)) *ᵠ cell w i (firstColumn s j + t))
+      ∙ ap (λ b. sum (length w) (λ i. int (fine (coefficient part coefs i)) *ᵠ cell w i (firstColumn s j + t)) *ᵠ b) (bernsteinAt-is (degree s j) (fineWidth s j) (offset s j x) t)
+      ∙ swap (sum (length w) (λ i. int (fine (coefficient part coefs i)) *ᵠ cell w i (firstColumn s j + t))) (bernstein (int (pos (fineWidth s j) -ℤ offset s j x)) (int (offset s j x)) (degree s j) t) (inv (power (int (pos (fineWidth s j))) (degree s j)))
     where
       swap : (e b δ : ℚ) → e *ᵠ (b *ᵠ δ) ≡ b *ᵠ e *ᵠ δ
       swap e b δ = ring ℚ-ring (e ∷ b ∷ δ ∷ []) (search reads) (search reads) refl
 
-  exactOn-is-sum : exactOn s w coefs j x ≡ bernsteinSum (int (pos (fineWidth s j) -ℤ offset s j x)) (int (offset s j x)) (degree s j) (exactOrdinates s w coefs j) *ᵠ inv (power (int (pos (fineWidth s j))) (degree s j))
+  exactOn-is-sum : exactOn s w part coefs j x ≡ bernsteinSum (int (pos (fineWidth s j) -ℤ offset s j x)) (int (offset s j x)) (degree s j) (exactOrdinates s w part coefs j) *ᵠ inv (power (int (pos (fineWidth s j))) (degree s j))
   unfolding exactOn bernsteinSum
-  exactOn-is-sum = sum-swap (length w) (suc (degree s j)) (λ i t. exactTerm s w coefs j x i t)
+  exactOn-is-sum = sum-swap (length w) (suc (degree s j)) (λ i t. exactTerm s w part coefs j x i t)
       ∙ sum-ext (suc (degree s j)) (λ t h. ordinate-term t)
-      ∙ sum-mul-right (suc (degree s j)) (inv (power (int (pos (fineWidth s j))) (degree s j))) (λ t. bernstein (int (pos (fineWidth s j) -ℤ offset s j x)) (int (offset s j x)) (degree s j) t *ᵠ exactOrdinates s w coefs j t)
+      ∙ sum-mul-right (suc (degree s j)) (inv (power (int (pos (fineWidth s j))) (degree s j))) (λ t. bernstein (int (pos (fineWidth s j) -ℤ offset s j x)) (int (offset s j x)) (degree s j) t *ᵠ exactOrdinates s w part coefs j t)
 
-  pub exactOn-is-triangle : 0 < fineWidth s j → exactOn s w coefs j x ≡ exactTriangle (leftFactor (fineWidth s j) (offset s j x)) (rightFactor (fineWidth s j) (offset s j x)) (exactOrdinates s w coefs j) (degree s j) 0
+  pub exactOn-is-triangle : 0 < fineWidth s j → exactOn s w part coefs j x ≡ exactTriangle (leftFactor (fineWidth s j) (offset s j x)) (rightFactor (fineWidth s j) (offset s j x)) (exactOrdinates s w part coefs j) (degree s j) 0
   exactOn-is-triangle h = exactOn-is-sum
-      ∙ ap₂ _*ᵠ_ (bernsteinSum-ext α β p (λ t. ap (exactOrdinates s w coefs j) (let z : t ≡ 0 + t = omega arith in z)) ∙ sym (triangle-is-sum α β (exactOrdinates s w coefs j) p 0))
+      ∙ ap₂ _*ᵠ_ (bernsteinSum-ext α β p (λ t. ap (exactOrdinates s w part coefs j) (let z : t ≡ 0 + t = omega arith in z)) ∙ sym (triangle-is-sum α β (exactOrdinates s w part coefs j) p 0))
       (sym (power-inv D p (pos-nonzero (pos-of-nat (fineWidth s j) h))))
-      ∙ sym (triangle-scale α β (inv D) (exactOrdinates s w coefs j) p 0)
+      ∙ sym (triangle-scale α β (inv D) (exactOrdinates s w part coefs j) p 0)
     where
       p : ℕ
       p = degree s j

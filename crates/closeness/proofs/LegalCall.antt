@@ -4,7 +4,7 @@ use mathlib.Core.Path.{_≡_, refl, sym, _∙_, ap, subst}
 use mathlib.Core.Bool.{Bool, true, false, cond, not}
 use mathlib.Core.List.{List}
 use mathlib.Core.Option.{none}
-use Prim.Native.Nat.{ℕ, _≤_}
+use Prim.Native.Nat.{ℕ, _*_, _/_, _≤_}
 use lib.Arith.{le→nltb}
 use lib.Dec.{T, eqb, ltb, eqb-refl, eqb→eq, nltb→le}
 use lib.IntN.{ℤ}
@@ -15,12 +15,13 @@ use Rattle.spline.specs.Search.{first}
 use Rattle.spline.specs.Space.{Space, lengthsFit, refuseFirst, checkedEntries, checked, rowCount}
 use Rattle.spline.specs.Table.{Table, tableCells}
 use Rattle.spline.specs.Build.{weights, spaceWeights}
-use Rattle.spline.specs.Reading.{valueAt, values}
+use Rattle.spline.specs.Reading.{pairAt, values}
 use Rattle.spline.specs.CurveCall.{positionLimit, badCoefficient, badPosition, legalEntries, curveChecked, curveRead, curveOutcome}
 use Rattle.spline.specs.ExactCurve.{Legal}
 use Rattle.spline.proofs.Outcome.{answer-unique, answer-not-refusal, then-answers, Chained, then-inverts}
 use Rattle.spline.proofs.Search.{first-none, first-none-inverts}
 use Rattle.spline.proofs.Legal.{checked-inverts, refuseFirst-inverts, cond-refuse-inverts, fitting-inverts}
+use Rattle.spline.proofs.Pairs.{le-half, half-le}
 use Rattle.theorems.proofs.Built.{built}
 use Rattle.closeness.specs.Demand3Values.{legalResult, LegalCallsAnswer, LegalCallsReturnCount, AnsweredCallsAreLegal}
 use Rattle.closeness.proofs.Segment.{accepted-checked}
@@ -39,7 +40,7 @@ not-holds e = rw e tt
 module _ {s : Space} {coefs positions : List ℤ} {numLength denLength valuesLength : ℕ} (l : Legal s coefs positions numLength denLength valuesLength) where
   entries-pass : legalEntries s coefs positions (answer s) ≡ answer s
   entries-pass =
-      cond-true _ (refuse 6 largestPlace) (holds-true (eqb (length coefs) (rowCount s)) (subst (λ n. T (eqb (length coefs) n)) (l .coefficientCount) (eqb-refl (length coefs))))
+      cond-true _ (refuse 6 largestPlace) (holds-true (eqb (length coefs) (2 * rowCount s)) (subst (λ n. T (eqb (length coefs) n)) (l .coefficientCount) (eqb-refl (length coefs))))
       ∙ ap (λ o. refuseFirst 6 o (refuseFirst 7 (first (length positions) (badPosition s positions)) (answer s))) (first-none (badCoefficient coefs) (length coefs) (λ k h. fails-false _ (l .coefficients k h)))
       ∙ ap (λ o. refuseFirst 7 o (answer s)) (first-none (badPosition s positions) (length positions) (λ k h. fails-false _ (l .inSpan k h)))
 
@@ -56,7 +57,7 @@ module _ {s : Space} {coefs positions : List ℤ} {numLength denLength valuesLen
   call-answers =
       cond-false (refuse 1 0) _ (not-below (l .numerators))
       ∙ cond-false (refuse 1 1) _ (not-below (l .denominators))
-      ∙ cond-false (refuse 1 2) _ (not-below (l .values))
+      ∙ cond-false (refuse 1 2) _ (not-below (le-half (length positions) valuesLength (l .values)))
       ∙ then-answers (curveRead coefs positions) checks-pass
       ∙ ap (with-answer (λ t. record { table = t; values = values s t coefs positions })) (built s (l .accepted .table) (l .accepted .is) .weights-are)
 
@@ -65,7 +66,7 @@ legal-calls-answer s coefs positions numLength denLength valuesLength l = call-a
 
 pub values-length : (s : Space) (t : Table) (coefs positions : List ℤ) → length (values s t coefs positions) ≡ length positions
 unfolding values
-values-length s t coefs positions = length-map positions (valueAt s t coefs)
+values-length s t coefs positions = length-map positions (pairAt s t coefs)
 
 pub legal-calls-return-count : LegalCallsReturnCount
 legal-calls-return-count s coefs positions numLength denLength valuesLength l =
@@ -75,17 +76,17 @@ legal-calls-return-count s coefs positions numLength denLength valuesLength l =
 
 -- What the answer of the tests 6 and 7 tells.
 pub record EntriesPassed (s : Space) (coefs positions : List ℤ) : Type 0 where
-  pub count : length coefs ≡ rowCount s
+  pub count : length coefs ≡ 2 * rowCount s
   pub coefficients : first (length coefs) (badCoefficient coefs) ≡ none
   pub positions-inside : first (length positions) (badPosition s positions) ≡ none
 
 entries-passed : (s : Space) (coefs positions : List ℤ) {s′ : Space} → legalEntries s coefs positions (answer s) ≡ answer s′ → EntriesPassed s coefs positions × (s ≡ s′)
 entries-passed s coefs positions e =
     let inner = refuseFirst 7 (first (length positions) (badPosition s positions)) (answer s) in
-    let a = fitting-inverts (eqb (length coefs) (rowCount s)) 6 largestPlace (refuseFirst 6 (first (length coefs) (badCoefficient coefs)) inner) e in
+    let a = fitting-inverts (eqb (length coefs) (2 * rowCount s)) 6 largestPlace (refuseFirst 6 (first (length coefs) (badCoefficient coefs)) inner) e in
     let b = refuseFirst-inverts 6 (first (length coefs) (badCoefficient coefs)) inner (a .1) in
     let c = refuseFirst-inverts 7 (first (length positions) (badPosition s positions)) (answer s) (b .1) in
-    (record { count = eqb→eq (length coefs) (rowCount s) (true-holds (a .0)); coefficients = b .0; positions-inside = c .0 }, answer-unique refl (c .1))
+    (record { count = eqb→eq (length coefs) (2 * rowCount s) (true-holds (a .0)); coefficients = b .0; positions-inside = c .0 }, answer-unique refl (c .1))
 
 -- What the answer of the tests 2 to 7 tells.
 pub record ChecksPassed (s : Space) (coefs positions : List ℤ) : Type 0 where
@@ -112,18 +113,18 @@ pub answered-calls-are-legal : AnsweredCallsAreLegal
 unfolding curveOutcome curveRead spaceWeights
 answered-calls-are-legal s coefs positions numLength denLength valuesLength r e =
     let rest = curveChecked s coefs positions then curveRead coefs positions in
-    let third = cond (ltb valuesLength (length positions)) (refuse 1 2) rest in
+    let third = cond (ltb (valuesLength / 2) (length positions)) (refuse 1 2) rest in
     let second = cond (ltb denLength tableCells) (refuse 1 1) third in
     let a = cond-refuse-inverts (ltb numLength tableCells) 1 0 second e in
     let b = cond-refuse-inverts (ltb denLength tableCells) 1 1 third (a .1) in
-    let c = cond-refuse-inverts (ltb valuesLength (length positions)) 1 2 rest (b .1) in
+    let c = cond-refuse-inverts (ltb (valuesLength / 2) (length positions)) 1 2 rest (b .1) in
     go (a .0) (b .0) (c .0) (then-inverts (curveChecked s coefs positions) (curveRead coefs positions) (c .1))
   where
     with-table : (o : Outcome Table) → with-answer (λ t. record { table = t; values = values s t coefs positions }) o ≡ answer r → o ≡ answer (r .table)
     with-table (answer t) p = ap (λ q. answer (q .table)) (answer-unique {a = record { table = t; values = values s t coefs positions }} refl p)
     with-table (refusal number place) p = absurd (answer-not-refusal p refl)
 
-    go : ltb numLength tableCells ≡ false → ltb denLength tableCells ≡ false → ltb valuesLength (length positions) ≡ false → Chained (curveChecked s coefs positions) (curveRead coefs positions) r
+    go : ltb numLength tableCells ≡ false → ltb denLength tableCells ≡ false → ltb (valuesLength / 2) (length positions) ≡ false → Chained (curveChecked s coefs positions) (curveRead coefs positions) r
         → Legal s coefs positions numLength denLength valuesLength
     go n d v c = finish (checks-passed s coefs positions (c .before))
       where
@@ -136,5 +137,5 @@ answered-calls-are-legal s coefs positions numLength denLength valuesLength r e 
           inSpan = λ i h. not-holds (first-none-inverts (badPosition s positions) (length positions) (m .positions-inside) i h);
           numerators = below-not numLength tableCells n;
           denominators = below-not denLength tableCells d;
-          values = below-not valuesLength (length positions) v;
+          values = half-le (length positions) valuesLength (below-not (valuesLength / 2) (length positions) v);
         }

@@ -15,7 +15,7 @@ use Rattle.exact.proofs.Decide.{true-not-false}
 use Rattle.spline.specs.Search.{first, found, howMany}
 use Rattle.spline.specs.Space.{Space, degree, firstColumn}
 use Rattle.spline.specs.Table.{Table}
-use Rattle.spline.specs.Reading.{coefficient, hasWeight}
+use Rattle.spline.specs.Reading.{WoodPart, coefficient, hasWeight}
 use Rattle.spline.specs.ExactCurve.{largest, mostWeights, weighsOn, leastOn, greatestOn}
 use Rattle.spline.proofs.Search.{Searched, at, nowhere, search-first}
 use Rattle.closeness.proofs.Extremum.{Best, least-exists, greatest-exists, least-le, le-greatest}
@@ -45,19 +45,19 @@ module _ (s : Space) (w : Table) (j : ℕ) where
       go (nowhere f e) = absurd (true-not-false p (f k (omega arith)))
 
   -- where a row has weight on the segment, the two are coefficients of such rows
-  module _ (coefs : List ℤ) (i : ℕ) (below : i < length w) (weighs : weighsOn s w j i ≡ true) where
-    pub leastOn-is : Best leZ (weighsOn s w j) (coefficient coefs) (length w) (leastOn s w coefs j)
+  module _ (part : WoodPart) (coefs : List ℤ) (i : ℕ) (below : i < length w) (weighs : weighsOn s w j i ≡ true) where
+    pub leastOn-is : Best leZ (weighsOn s w j) (coefficient part coefs) (length w) (leastOn s w part coefs j)
     unfolding leastOn
-    leastOn-is = let e = least-exists (weighsOn s w j) (coefficient coefs) (length w) i below weighs in
-        subst (Best leZ (weighsOn s w j) (coefficient coefs) (length w)) (sym (ap (λ o. Option·getD o (pos 0)) (e .found))) (e .is-best)
+    leastOn-is = let e = least-exists (weighsOn s w j) (coefficient part coefs) (length w) i below weighs in
+        subst (Best leZ (weighsOn s w j) (coefficient part coefs) (length w)) (sym (ap (λ o. Option·getD o (pos 0)) (e .found))) (e .is-best)
 
-    pub greatestOn-is : Best (λ y z. leZ z y) (weighsOn s w j) (coefficient coefs) (length w) (greatestOn s w coefs j)
+    pub greatestOn-is : Best (λ y z. leZ z y) (weighsOn s w j) (coefficient part coefs) (length w) (greatestOn s w part coefs j)
     unfolding greatestOn
-    greatestOn-is = let e = greatest-exists (weighsOn s w j) (coefficient coefs) (length w) i below weighs in
-        subst (Best (λ y z. leZ z y) (weighsOn s w j) (coefficient coefs) (length w)) (sym (ap (λ o. Option·getD o (pos 0)) (e .found))) (e .is-best)
+    greatestOn-is = let e = greatest-exists (weighsOn s w j) (coefficient part coefs) (length w) i below weighs in
+        subst (Best (λ y z. leZ z y) (weighsOn s w j) (coefficient part coefs) (length w)) (sym (ap (λ o. Option·getD o (pos 0)) (e .found))) (e .is-best)
 
-    pub leastOn-le : leastOn s w coefs j ≤ℤ coefficient coefs i
-    leastOn-le = least-le (weighsOn s w j) (coefficient coefs) (length w) leastOn-is i below weighs
+    pub leastOn-le : leastOn s w part coefs j ≤ℤ coefficient part coefs i
+    leastOn-le = least-le (weighsOn s w j) (coefficient part coefs) (length w) leastOn-is i below weighs
 
-    pub le-greatestOn : coefficient coefs i ≤ℤ greatestOn s w coefs j
-    le-greatestOn = le-greatest (weighsOn s w j) (coefficient coefs) (length w) greatestOn-is i below weighs
+    pub le-greatestOn : coefficient part coefs i ≤ℤ greatestOn s w part coefs j
+    le-greatestOn = le-greatest (weighsOn s w j) (coefficient part coefs) (length w) greatestOn-is i below weighs

@@ -22,14 +22,14 @@ every-segment-has-weight s a j h =
 
 pub leastOn-is-least : LeastOnIsLeast
 unfolding leastOn
-leastOn-is-least s a coefs j h =
+leastOn-is-least s a part coefs j h =
     let w = every-segment-has-weight s a j h in
-    let e = least-exists (weighsOn s (a .table) j) (coefficient coefs) (length (a .table)) (w .row) (w .below) (w .weighs) in
+    let e = least-exists (weighsOn s (a .table) j) (coefficient part coefs) (length (a .table)) (w .row) (w .below) (w .weighs) in
     e .found ∙ sym (ap (λ o. some (Option·getD o (pos 0))) (e .found))
 
 pub greatestOn-is-greatest : GreatestOnIsGreatest
 unfolding greatestOn
-greatestOn-is-greatest s a coefs j h =
+greatestOn-is-greatest s a part coefs j h =
     let w = every-segment-has-weight s a j h in
-    let e = greatest-exists (weighsOn s (a .table) j) (coefficient coefs) (length (a .table)) (w .row) (w .below) (w .weighs) in
+    let e = greatest-exists (weighsOn s (a .table) j) (coefficient part coefs) (length (a .table)) (w .row) (w .below) (w .weighs) in
     e .found ∙ sym (ap (λ o. some (Option·getD o (pos 0))) (e .found))

@@ -10,7 +10,7 @@ use lib.ListN.{getD}
 use Rattle.exact.proofs.Tabulate.{tab-getD}
 use Rattle.spline.specs.Space.{Space, segments, degree, firstColumn, columnCount}
 use Rattle.spline.specs.Piecewise.{Accepted}
-use Rattle.spline.specs.Reading.{fine, coefficient, ordinate, ordinates, fineWidth, offset, triangle, blended}
+use Rattle.spline.specs.Reading.{fine, WoodPart, coefficient, ordinate, ordinates, fineWidth, offset, triangle, blended}
 use Rattle.spline.specs.ExactCurve.{exactOn, mostWeights, leastOn, greatestOn}
 use Rattle.spline.proofs.Space.{firstColumn-mono}
 use Rattle.closeness.proofs.Within.{Within, halves, halves-mono, within-more}
@@ -26,34 +26,34 @@ pub segment-column : (s : Space) (j k : ℕ) → j < segments s → k ≤ degree
 unfolding firstColumn
 segment-column s j k h l = omega (arith, firstColumn-mono s (suc j) (segments s) h)
 
-module _ (s : Space) (a : Accepted s) (coefs : List ℤ) (x : ℤ) (j : ℕ) (at : Located s x j) where
+module _ (s : Space) (a : Accepted s) (part : WoodPart) (coefs : List ℤ) (x : ℤ) (j : ℕ) (at : Located s x j) where
   abbrev given : ℕ → ℤ
-  given k = getD (ordinates s (a .table) (coefficient coefs)) (firstColumn s j + k) (pos 0)
+  given k = getD (ordinates s (a .table) (coefficient part coefs)) (firstColumn s j + k) (pos 0)
 
-  given-is : (k : ℕ) → k ≤ degree s j → given k ≡ ordinate (a .table) (coefficient coefs) (firstColumn s j + k)
+  given-is : (k : ℕ) → k ≤ degree s j → given k ≡ ordinate (a .table) (coefficient part coefs) (firstColumn s j + k)
   unfolding ordinates
-  given-is k h = tab-getD (columnCount s) (ordinate (a .table) (coefficient coefs)) (firstColumn s j + k) (pos 0) (segment-column s j k (at .below) h)
+  given-is k h = tab-getD (columnCount s) (ordinate (a .table) (coefficient part coefs)) (firstColumn s j + k) (pos 0) (segment-column s j k (at .below) h)
 
   column : (k : ℕ) → k ≤ degree s j → Column (a .table) (firstColumn s j + k)
   column k h = accepted-column s a (firstColumn s j + k) (segment-column s j k (at .below) h)
 
-  given-within : (k : ℕ) → k ≤ degree s j → Within (halves (mostWeights s (a .table) j)) (exactOrdinates s (a .table) coefs j k) (given k)
-  given-within k h = subst (Within (halves (mostWeights s (a .table) j)) (exactOrdinates s (a .table) coefs j k)) (sym (given-is k h))
-      (within-more (halves-mono _ _ (column-at-most-s s (a .table) j k h)) (ordinate-within (a .table) (coefficient coefs) (firstColumn s j + k) (column k h)))
+  given-within : (k : ℕ) → k ≤ degree s j → Within (halves (mostWeights s (a .table) j)) (exactOrdinates s (a .table) part coefs j k) (given k)
+  given-within k h = subst (Within (halves (mostWeights s (a .table) j)) (exactOrdinates s (a .table) part coefs j k)) (sym (given-is k h))
+      (within-more (halves-mono _ _ (column-at-most-s s (a .table) j k h)) (ordinate-within (a .table) (coefficient part coefs) (firstColumn s j + k) (column k h)))
 
-  given-between : (k : ℕ) → k ≤ degree s j → Between (fine (leastOn s (a .table) coefs j)) (fine (greatestOn s (a .table) coefs j)) (given k)
-  given-between k h = subst (Between (fine (leastOn s (a .table) coefs j)) (fine (greatestOn s (a .table) coefs j))) (sym (given-is k h))
-      (ordinate-between (a .table) (coefficient coefs) (firstColumn s j + k) (column k h) (leastOn s (a .table) coefs j) (greatestOn s (a .table) coefs j)
-      (λ i l p. leastOn-le s (a .table) j coefs i l (weighs-in-column s (a .table) j k i h p))
-      (λ i l p. le-greatestOn s (a .table) j coefs i l (weighs-in-column s (a .table) j k i h p)))
+  given-between : (k : ℕ) → k ≤ degree s j → Between (fine (leastOn s (a .table) part coefs j)) (fine (greatestOn s (a .table) part coefs j)) (given k)
+  given-between k h = subst (Between (fine (leastOn s (a .table) part coefs j)) (fine (greatestOn s (a .table) part coefs j))) (sym (given-is k h))
+      (ordinate-between (a .table) (coefficient part coefs) (firstColumn s j + k) (column k h) (leastOn s (a .table) part coefs j) (greatestOn s (a .table) part coefs j)
+      (λ i l p. leastOn-le s (a .table) j part coefs i l (weighs-in-column s (a .table) j k i h p))
+      (λ i l p. le-greatestOn s (a .table) j part coefs i l (weighs-in-column s (a .table) j k i h p)))
 
   -- the value is within (s + p)/2 of the exact curve
-  pub blended-within : Within (halves (mostWeights s (a .table) j + degree s j)) (exactOn s (a .table) coefs j x) (blended s (ordinates s (a .table) (coefficient coefs)) j x)
+  pub blended-within : Within (halves (mostWeights s (a .table) j + degree s j)) (exactOn s (a .table) part coefs j x) (blended s (ordinates s (a .table) (coefficient part coefs)) j x)
   unfolding blended
-  blended-within = subst (λ e. Within (halves (mostWeights s (a .table) j + degree s j)) e (triangle (fineWidth s j) (offset s j x) given (degree s j) 0)) (sym (exactOn-is-triangle s (a .table) coefs j x (at .positive)))
-      (triangle-within (fineWidth s j) (offset s j x) (at .positive) (at .from) (at .to) (degree s j) (mostWeights s (a .table) j) (exactOrdinates s (a .table) coefs j) given given-within (degree s j) 0 (omega arith))
+  blended-within = subst (λ e. Within (halves (mostWeights s (a .table) j + degree s j)) e (triangle (fineWidth s j) (offset s j x) given (degree s j) 0)) (sym (exactOn-is-triangle s (a .table) part coefs j x (at .positive)))
+      (triangle-within (fineWidth s j) (offset s j x) (at .positive) (at .from) (at .to) (degree s j) (mostWeights s (a .table) j) (exactOrdinates s (a .table) part coefs j) given given-within (degree s j) 0 (omega arith))
 
   -- and between 256 times the coefficients with weight on the segment
-  pub blended-between : Between (fine (leastOn s (a .table) coefs j)) (fine (greatestOn s (a .table) coefs j)) (blended s (ordinates s (a .table) (coefficient coefs)) j x)
+  pub blended-between : Between (fine (leastOn s (a .table) part coefs j)) (fine (greatestOn s (a .table) part coefs j)) (blended s (ordinates s (a .table) (coefficient part coefs)) j x)
   unfolding blended
-  blended-between = triangle-between (fineWidth s j) (offset s j x) (at .positive) (at .from) (at .to) (degree s j) (fine (leastOn s (a .table) coefs j)) (fine (greatestOn s (a .table) coefs j)) given given-between (degree s j) 0 (omega arith)
+  blended-between = triangle-between (fineWidth s j) (offset s j x) (at .positive) (at .from) (at .to) (degree s j) (fine (leastOn s (a .table) part coefs j)) (fine (greatestOn s (a .table) part coefs j)) given given-between (degree s j) 0 (omega arith)

@@ -5,7 +5,7 @@ use lib.ListN.{length}
 use Rattle.spline.specs.Table.{cell, rowCells}
 use Rattle.spline.specs.Build.{built, numeratorsAfter, denominatorsAfter}
 use Rattle.spline.specs.Published.{extraction}
-use Rattle.spline.specs.CurveCall.{curveOutcome, tableOf, curveEnd}
+use Rattle.spline.specs.CurveCall.{curveOutcome, tableOf}
 use Rattle.theorems.specs.Cells.{HoldsFraction}
 use Rattle.theorems.proofs.Cells.{accepted-spaces-are-built, cells-hold-published-weights}
 use Rattle.closeness.specs.WeightCells.{CurveCellsHoldPublishedWeights}

@@ -1,7 +1,7 @@
 -- The second half of demand 3, with the closeness of document 02, CR 8: a curve call within document 01's limits on an
--- accepted space answers with a value for each position, on either side of the exact curve by at most (s + p)/2, and between
--- 256 times the least and the greatest coefficient with weight on the position's segment. `CellsAreClose` says all this of
--- the cells after a call.
+-- accepted space answers with two values for each position, each on either side of the exact curve by at most (s + p)/2, and
+-- between 256 times the least and the greatest coefficient with weight on the position's segment; for each wood part apart
+-- (document 02, CR 10). `CellsAreClose` says all this of the cells after a call.
 use mathlib.Core.Path.{_≡_}
 use mathlib.Core.List.{List}
 use Prim.Native.Nat.{ℕ, _+_, _*_, _<_, _≤_}
@@ -15,7 +15,7 @@ use Rattle.spline.specs.Outcome.{answer}
 use Rattle.spline.specs.Space.{Space, segments, break, between, degree}
 use Rattle.spline.specs.Table.{Table}
 use Rattle.spline.specs.Piecewise.{Accepted}
-use Rattle.spline.specs.Reading.{parts, fine, segmentAt, valueAt, values}
+use Rattle.spline.specs.Reading.{parts, fine, segmentAt, WoodPart, partIndex, valueAt, values}
 use Rattle.spline.specs.CurveCall.{coefficientLimit, CurveResult, curveOutcome, returned, valuesAfter}
 use Rattle.spline.specs.ExactCurve.{exactCurve, mostWeights, leastOn, greatestOn, Legal}
 
@@ -31,27 +31,27 @@ closeness s t x = int (pos (mostWeights s t (segmentAt s x) + degree s (segmentA
 
 -- "A value may now lie on either side of the exact curve, by at most (s + p)/2 units": below it,
 abbrev pub ExactAtMostValueAndCloseness : Type 0
-ExactAtMostValueAndCloseness = (s : Space) (a : Accepted s) (coefs : List ℤ) (x : ℤ) → InSpan s x
-    → exactCurve s (a .table) coefs x ≤ᵠ int (valueAt s (a .table) coefs x) +ᵠ closeness s (a .table) x
+ExactAtMostValueAndCloseness = (s : Space) (a : Accepted s) (part : WoodPart) (coefs : List ℤ) (x : ℤ) → InSpan s x
+    → exactCurve s (a .table) part coefs x ≤ᵠ int (valueAt s (a .table) part coefs x) +ᵠ closeness s (a .table) x
 
 -- and above it.
 abbrev pub ValueAtMostExactAndCloseness : Type 0
-ValueAtMostExactAndCloseness = (s : Space) (a : Accepted s) (coefs : List ℤ) (x : ℤ) → InSpan s x
-    → int (valueAt s (a .table) coefs x) ≤ᵠ exactCurve s (a .table) coefs x +ᵠ closeness s (a .table) x
+ValueAtMostExactAndCloseness = (s : Space) (a : Accepted s) (part : WoodPart) (coefs : List ℤ) (x : ℤ) → InSpan s x
+    → int (valueAt s (a .table) part coefs x) ≤ᵠ exactCurve s (a .table) part coefs x +ᵠ closeness s (a .table) x
 
 -- "no less than 256 times the least .. coefficient with weight on that position's stretch".
 abbrev pub ValueAtLeastLeast : Type 0
-ValueAtLeastLeast = (s : Space) (a : Accepted s) (coefs : List ℤ) (x : ℤ) → InSpan s x
-    → fine (leastOn s (a .table) coefs (segmentAt s x)) ≤ℤ valueAt s (a .table) coefs x
+ValueAtLeastLeast = (s : Space) (a : Accepted s) (part : WoodPart) (coefs : List ℤ) (x : ℤ) → InSpan s x
+    → fine (leastOn s (a .table) part coefs (segmentAt s x)) ≤ℤ valueAt s (a .table) part coefs x
 
 -- "and no more than 256 times the greatest".
 abbrev pub ValueAtMostGreatest : Type 0
-ValueAtMostGreatest = (s : Space) (a : Accepted s) (coefs : List ℤ) (x : ℤ) → InSpan s x
-    → valueAt s (a .table) coefs x ≤ℤ fine (greatestOn s (a .table) coefs (segmentAt s x))
+ValueAtMostGreatest = (s : Space) (a : Accepted s) (part : WoodPart) (coefs : List ℤ) (x : ℤ) → InSpan s x
+    → valueAt s (a .table) part coefs x ≤ℤ fine (greatestOn s (a .table) part coefs (segmentAt s x))
 
 -- ---- a call within document 01's limits
 
--- What such a call has worked out: the accepted weights, and one value per position.
+-- What such a call has worked out: the accepted weights, and a pair of values for each position.
 abbrev pub legalResult : (s : Space) → Accepted s → List ℤ → List ℤ → CurveResult
 legalResult s a coefs positions = record { table = a .table; values = values s (a .table) coefs positions }
 
@@ -79,25 +79,26 @@ AnsweredCallsAreLegal = (s : Space) (coefs positions : List ℤ) (numLength denL
 abbrev pub valueLimit : ℕ
 valueLimit = parts * coefficientLimit
 
--- All that demand 3 says of the number v written for position x, and its size.
-pub record Close (s : Space) (t : Table) (coefs : List ℤ) (x v : ℤ) : Type 0 where
-  pub exact-at-most : exactCurve s t coefs x ≤ᵠ int v +ᵠ closeness s t x
-  pub at-most-exact : int v ≤ᵠ exactCurve s t coefs x +ᵠ closeness s t x
-  pub at-least-least : fine (leastOn s t coefs (segmentAt s x)) ≤ℤ v
-  pub at-most-greatest : v ≤ℤ fine (greatestOn s t coefs (segmentAt s x))
+-- All that demand 3 says of the number v written for a wood part at position x, and its size.
+pub record Close (s : Space) (t : Table) (part : WoodPart) (coefs : List ℤ) (x v : ℤ) : Type 0 where
+  pub exact-at-most : exactCurve s t part coefs x ≤ᵠ int v +ᵠ closeness s t x
+  pub at-most-exact : int v ≤ᵠ exactCurve s t part coefs x +ᵠ closeness s t x
+  pub at-least-least : fine (leastOn s t part coefs (segmentAt s x)) ≤ℤ v
+  pub at-most-greatest : v ≤ℤ fine (greatestOn s t part coefs (segmentAt s x))
   pub size : natAbs v ≤ valueLimit
 
--- After a legal call value cell k holds such a number for position k: "writes a value for each, in list order".
+-- After a legal call the value cells 2 k and 2 k + 1 hold such numbers for earlywood and latewood at position k: "each position
+-- gives two values, written side by side, earlywood first".
 abbrev pub CellsAreClose : Type 0
 CellsAreClose = (s : Space) (coefs positions : List ℤ) (numLength denLength valuesLength : ℕ)
-    (l : Legal s coefs positions numLength denLength valuesLength) (before : List ℤ) (k : ℕ) → k < length positions
-    → Close s (l .accepted .table) coefs (getD positions k (pos 0))
-    (getD (valuesAfter (curveOutcome s coefs positions numLength denLength valuesLength) before) k (pos 0))
+    (l : Legal s coefs positions numLength denLength valuesLength) (before : List ℤ) (k : ℕ) → k < length positions → (part : WoodPart)
+    → Close s (l .accepted .table) part coefs (getD positions k (pos 0))
+    (getD (valuesAfter (curveOutcome s coefs positions numLength denLength valuesLength) before) (2 * k + partIndex part) (pos 0))
 
--- The buffer is as long as it was, and "value cells past that count keep what they held".
+-- The buffer is as long as it was, and the cells past twice the positions' count keep what they held.
 abbrev pub CellsPastAreKept : Type 0
 CellsPastAreKept = (s : Space) (coefs positions : List ℤ) (numLength denLength valuesLength : ℕ)
     → Legal s coefs positions numLength denLength valuesLength → (before : List ℤ) → length before ≡ valuesLength
     → (length (valuesAfter (curveOutcome s coefs positions numLength denLength valuesLength) before) ≡ valuesLength)
-    × ((k : ℕ) → length positions ≤ k
+    × ((k : ℕ) → 2 * length positions ≤ k
     → getD (valuesAfter (curveOutcome s coefs positions numLength denLength valuesLength) before) k (pos 0) ≡ getD before k (pos 0))

@@ -10,7 +10,7 @@ use lib.ListN.{length}
 use Rattle.spline.specs.Space.{Space, segments}
 use Rattle.spline.specs.Table.{Table}
 use Rattle.spline.specs.Piecewise.{Accepted}
-use Rattle.spline.specs.Reading.{coefficient, least, greatest}
+use Rattle.spline.specs.Reading.{WoodPart, coefficient, least, greatest}
 use Rattle.spline.specs.ExactCurve.{weighsOn, leastOn, greatestOn}
 
 -- A row with weight on segment j.
@@ -25,10 +25,10 @@ EverySegmentHasWeight = (s : Space) (a : Accepted s) (j : ℕ) → j < segments 
 
 -- There is a least coefficient with weight on the segment.
 abbrev pub LeastOnIsLeast : Type 0
-LeastOnIsLeast = (s : Space) (a : Accepted s) (coefs : List ℤ) (j : ℕ) → j < segments s
-    → least (length (a .table)) (weighsOn s (a .table) j) (coefficient coefs) ≡ some (leastOn s (a .table) coefs j)
+LeastOnIsLeast = (s : Space) (a : Accepted s) (part : WoodPart) (coefs : List ℤ) (j : ℕ) → j < segments s
+    → least (length (a .table)) (weighsOn s (a .table) j) (coefficient part coefs) ≡ some (leastOn s (a .table) part coefs j)
 
 -- And a greatest.
 abbrev pub GreatestOnIsGreatest : Type 0
-GreatestOnIsGreatest = (s : Space) (a : Accepted s) (coefs : List ℤ) (j : ℕ) → j < segments s
-    → greatest (length (a .table)) (weighsOn s (a .table) j) (coefficient coefs) ≡ some (greatestOn s (a .table) coefs j)
+GreatestOnIsGreatest = (s : Space) (a : Accepted s) (part : WoodPart) (coefs : List ℤ) (j : ℕ) → j < segments s
+    → greatest (length (a .table)) (weighsOn s (a .table) j) (coefficient part coefs) ≡ some (greatestOn s (a .table) part coefs j)

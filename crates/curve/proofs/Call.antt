@@ -2,7 +2,7 @@
 use mathlib.Core.Path.{_≡_, refl, sym, _∙_, ap}
 use mathlib.Core.Logic.{_⊎_, inl, inr}
 use mathlib.Core.List.{List, [], _++_}
-use Prim.Native.Nat.{ℕ, _<_, _≤_}
+use Prim.Native.Nat.{ℕ, _*_, _/_, _<_, _≤_}
 use native.Mathlib.Omega.{arith}
 use borrow.Author.Tests.{lt-ltb, le-ltb}
 use lib.IntN.{ℤ, pos, natAbs}
@@ -12,7 +12,7 @@ use Rattle.spline.specs.Outcome.{Outcome, answer, refusal, capped, with-answer,
 use Rattle.spline.specs.Space.{Space, columnCount, rowCount}
 use Rattle.spline.specs.Table.{Table, tableCells, numerators, denominators}
 use Rattle.spline.specs.Build.{weights, spaceWeights, numeratorsAfter, denominatorsAfter}
-use Rattle.spline.specs.Reading.{values}
+use Rattle.spline.specs.Reading.{Pair, sideBySide, values}
 use Rattle.spline.specs.CurveCall.{CurveResult, badCoefficient, badPosition, curveChecked, curveRead, curveOutcome, returned, curveNumerators, curveDenominators, valuesAfter}
 use Rattle.spline.proofs.Outcome.{then-answers, then-refuses}
 use Rattle.spline.proofs.Search.{first-none-inverts}
@@ -61,15 +61,15 @@ module _ {o : Outcome CurveResult} (num den vs : List ℤ) where
   unfolding numeratorsAfter denominatorsAfter
   ends-unchanged {number} e h = ends-refused e (sym (cond-false (numerators [] num) num (not-cleared number h))) (sym (cond-false (denominators [] den) den (not-cleared number h)))
 
-  -- the values of m positions
-  pub ends-written : {t : Table} {written : List ℤ} {m : ℕ} {num′ den′ vs′ : List ℤ} → o ≡ answer (record { table = t; values = written }) → length written ≡ m
-      → num′ ≡ numerators t num → den′ ≡ denominators t den → vs′ ≡ written ++ drop m vs → Ends o (Values m) num den vs num′ den′ vs′
+  -- the pairs of m positions
+  pub ends-written : {t : Table} {written : List Pair} {m : ℕ} {num′ den′ vs′ : List ℤ} → o ≡ answer (record { table = t; values = written }) → length written ≡ m
+      → num′ ≡ numerators t num → den′ ≡ denominators t den → vs′ ≡ sideBySide written ++ drop (2 * m) vs → Ends o (Values m) num den vs num′ den′ vs′
   unfolding reply valuesAfter numeratorsAfter denominatorsAfter
   ends-written {written = written} e l p q w = record {
     answers = ap answer (sym l) ∙ sym (ap returned e);
     numerators-are = p ∙ sym (ap (λ x. curveNumerators x num) e);
     denominators-are = q ∙ sym (ap (λ x. curveDenominators x den) e);
-    values-are = w ∙ ap (λ n. written ++ drop n vs) (sym l) ∙ sym (ap (λ x. valuesAfter x vs) e);
+    values-are = w ∙ ap (λ n. sideBySide written ++ drop (2 * n) vs) (sym l) ∙ sym (ap (λ x. valuesAfter x vs) e);
   }
 
 -- ---- the call's outcome
@@ -86,14 +86,14 @@ module _ (s : Space) (coefs positions : List ℤ) (numLength denLength valuesLen
   unfolding curveOutcome capped
   second-short h k = cond-false _ _ (le-ltb numLength tableCells h) ∙ cond-true _ _ (lt-ltb denLength tableCells k)
 
-  pub third-short : tableCells ≤ numLength → tableCells ≤ denLength → valuesLength < length positions → outcome ≡ refusal 1 2
+  pub third-short : tableCells ≤ numLength → tableCells ≤ denLength → valuesLength / 2 < length positions → outcome ≡ refusal 1 2
   unfolding curveOutcome capped
-  third-short h k l = long-enough numLength denLength _ h k ∙ cond-true _ _ (lt-ltb valuesLength (length positions) l)
+  third-short h k l = long-enough numLength denLength _ h k ∙ cond-true _ _ (lt-ltb (valuesLength / 2) (length positions) l)
 
-  module _ (h : tableCells ≤ numLength) (k : tableCells ≤ denLength) (l : length positions ≤ valuesLength) where
+  module _ (h : tableCells ≤ numLength) (k : tableCells ≤ denLength) (l : length positions ≤ valuesLength / 2) where
     all-long : outcome ≡ (curveChecked s coefs positions then curveRead coefs positions)
     unfolding curveOutcome
-    all-long = long-enough numLength denLength _ h k ∙ cond-false _ _ (le-ltb valuesLength (length positions) l)
+    all-long = long-enough numLength denLength _ h k ∙ cond-false _ _ (le-ltb (valuesLength / 2) (length positions) l)
 
     pub call-refused : {number place : ℕ} → curveChecked s coefs positions ≡ refusal number place → outcome ≡ refusal number place
     call-refused e = all-long ∙ then-refuses (curveRead coefs positions) e

@@ -1,2 +1,3 @@
 -- The laws behind the curve call.
 pub mod Call
+pub mod Pairs

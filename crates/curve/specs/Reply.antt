@@ -4,7 +4,7 @@ use Rattle.spline.specs.Outcome.{Outcome, answer, refusal}
 use Rattle.curve.specs.declared.Answer.{Answer}
 use Rattle.curve.specs.declared.Answer.the-variants.{Values, Refused}
 
--- The count of values, or the number and place of a refusal.
+-- The count of positions, or the number and place of a refusal.
 unfoldable pub reply : Answer → Outcome ℕ
 reply (Values n) = answer n
 reply (Refused number place) = refusal number place

@@ -1,5 +1,5 @@
-// The curve of a multi-degree spline space at given positions: the weights, the ordinates of all columns once, and then a
-// de Casteljau triangle for each position.
+// The curves of earlywood and latewood over one multi-degree spline space at given positions: the weights, the ordinates of
+// all columns once for each wood part, and then two de Casteljau triangles for each position.
 ghost use mathlib.Core.Path.{_≡_};
 ghost use Rattle.space.specs.Reply.{space};
 ghost use Rattle.spline.specs.CurveCall.{curveEnd};
@@ -7,14 +7,14 @@ ghost use Rattle.curve.specs.Reply.{reply};
 
 mod reading;
 
-// What the curve call answers: the number of values written, or a refusal's number and place.
+// What the curve call answers: the number of positions, each of which has two values, or a refusal's number and place.
 pub enum Answer {
     Values(usize),
     Refused(u8, u32),
 }
 
-// Builds the weights and writes the value at each position, in list order. Lists and buffers may have any length and
-// content: what the definition refuses is refused, and the buffers are then as it says.
+// Builds the weights and writes the values at each position, earlywood first, in list order. Lists and buffers may have any
+// length and content: what the definition refuses is refused, and the buffers are then as it says.
 pub fn curve(
     breaks: &[i32],
     degrees: &[i32],
@@ -34,7 +34,7 @@ pub fn curve(
     if den.len() < cells::TABLE_CELLS {
         return Answer::Refused(1, 1);
     }
-    if values.len() < positions.len() {
+    if values.len() / 2 < positions.len() {
         return Answer::Refused(1, 2);
     }
     let checked = limits::check(breaks, degrees, orders, coefs, positions);

@@ -1,7 +1,7 @@
-// The values at the positions: the first columns and the ordinates once, and then position by position.
+// The values at the positions: the first columns and the ordinates of both wood parts once, and then position by position.
 ghost use mathlib.Core.Path.{_≡_};
 ghost use mathlib.Core.List.{[], _++_, map};
-ghost use Prim.Native.Nat.{ℕ, _<_, _≤_};
+ghost use Prim.Native.Nat.{ℕ, _*_, _<_, _≤_};
 ghost use lib.IntN.{pos};
 ghost use lib.ListN.{length, getD, drop};
 ghost use Rattle.space.specs.Reply.{space};
@@ -12,6 +12,8 @@ ghost use Rattle.spline.specs.Reading;
 ghost use Rattle.cells.specs.Held.{Holds};
 ghost use Rattle.ordinates.specs.Ordinates.{Weighs, Coefficients, Bounded};
 ghost use Rattle.triangle.specs.Offsets.{columnsOf, Within};
+ghost use Rattle.curve.specs.Pairs.{pairOf};
+use ordinates::Part;
 
 // The first columns of the segments.
 fn first_columns(degrees: &[i32]) -> [usize; space::MAX_SEGMENTS]
@@ -28,31 +30,35 @@ fn first_columns(degrees: &[i32]) -> [usize; space::MAX_SEGMENTS]
     columns
 }
 
-// The values at the positions, in list order.
+// Both values at each of the positions, side by side in list order.
 fn write_all(
     breaks: &[i32],
     degrees: &[i32],
     orders: &[i32],
     columns: &[usize],
-    ordinates: &[i64],
+    earlywood: &[i64],
+    latewood: &[i64],
     positions: &[i32],
     values: &mut [i32],
 )
     requires { ⌜ ListsLegal (now breaks) (now degrees) (now orders) × ((k : ℕ) → k < length (now positions) → Within (space (now breaks) (now degrees) (now orders)) (getD (now positions) k (pos 0))) ⌝ }
-    requires { ⌜ (now columns ≡ columnsOf (space [] (now degrees) [])) × ((length (now ordinates) ≡ rowCells) × Bounded (now ordinates)) ⌝ }
-    requires { ⌜ length (now positions) ≤ length (now values) ⌝ }
-    ensures { λ _. ⌜ now (values .exit) ≡ map (λ x. Reading.blended (space (now (breaks .entry)) (now (degrees .entry)) (now (orders .entry))) (now (ordinates .entry)) (Reading.segmentAt (space (now (breaks .entry)) (now (degrees .entry)) (now (orders .entry))) x) x) (now (positions .entry)) ++ drop (length (now (positions .entry))) (now (values .entry)) ⌝ }
+    requires { ⌜ (now columns ≡ columnsOf (space [] (now degrees) [])) × (2 * length (now positions) ≤ length (now values)) ⌝ }
+    requires { ⌜ ((length (now earlywood) ≡ rowCells) × Bounded (now earlywood)) × ((length (now latewood) ≡ rowCells) × Bounded (now latewood)) ⌝ }
+    ensures { λ _. ⌜ now (values .exit) ≡ Reading.sideBySide (map (pairOf (space (now (breaks .entry)) (now (degrees .entry)) (now (orders .entry))) (now (earlywood .entry)) (now (latewood .entry))) (now (positions .entry))) ++ drop (2 * length (now (positions .entry))) (now (values .entry)) ⌝ }
 {
     let mut k = 0;
     while k < positions.len() {
         let x = positions[k];
-        let v = triangle::value_at(breaks, degrees, orders, columns, ordinates, x);
-        values[k] = v;
+        let place = triangle::place_at(breaks, degrees, orders, columns, x);
+        let early = triangle::value_at(earlywood, place);
+        let late = triangle::value_at(latewood, place);
+        values[2 * k] = early;
+        values[2 * k + 1] = late;
         k += 1;
     }
 }
 
-// The ordinates of all columns, and then the values.
+// The ordinates of all columns for each wood part, and then the values.
 pub fn write_values(
     breaks: &[i32],
     degrees: &[i32],
@@ -65,12 +71,22 @@ pub fn write_values(
     values: &mut [i32],
 )
     requires { ⌜ ListsLegal (now breaks) (now degrees) (now orders) × ((k : ℕ) → k < length (now positions) → Within (space (now breaks) (now degrees) (now orders)) (getD (now positions) k (pos 0))) ⌝ }
-    requires { ⌜ (Weighs (now num) (now den) n × Coefficients (now coefs) n) × (length (now positions) ≤ length (now values)) ⌝ }
+    requires { ⌜ (Weighs (now num) (now den) n × Coefficients (now coefs) n) × (2 * length (now positions) ≤ length (now values)) ⌝ }
     ensures { λ _. ⌜ ((t : Table) → Holds (now (num .entry)) (now (den .entry)) t → length t ≡ n
-        → now (values .exit) ≡ Reading.values (space (now (breaks .entry)) (now (degrees .entry)) (now (orders .entry))) t (now (coefs .entry)) (now (positions .entry)) ++ drop (length (now (positions .entry))) (now (values .entry))) ⌝ }
+        → now (values .exit) ≡ Reading.sideBySide (Reading.values (space (now (breaks .entry)) (now (degrees .entry)) (now (orders .entry))) t (now (coefs .entry)) (now (positions .entry))) ++ drop (2 * length (now (positions .entry))) (now (values .entry))) ⌝ }
 {
     let count = space::first_column(degrees, degrees.len());
     let columns = first_columns(degrees);
-    let os = ordinates::ordinates(num, den, coefs, n, count);
-    write_all(breaks, degrees, orders, &columns, &os, positions, values);
+    let early = ordinates::ordinates(num, den, coefs, Part::Earlywood, n, count);
+    let late = ordinates::ordinates(num, den, coefs, Part::Latewood, n, count);
+    write_all(
+        breaks,
+        degrees,
+        orders,
+        &columns,
+        &early,
+        &late,
+        positions,
+        values,
+    );
 }

@@ -4,7 +4,7 @@ use mathlib.Core.Logic.{_⊎_, inl, inr}
 use mathlib.Core.Bool.{Bool, true, false, cond}
 use mathlib.Core.List.{List, []}
 use mathlib.Core.Option.{Option, some, none}
-use Prim.Native.Nat.{ℕ, _<_, _≤_}
+use Prim.Native.Nat.{ℕ, _*_, _<_, _≤_}
 use native.Mathlib.Omega.{arith}
 use borrow.Author.Tests.{eq-eqb, ne-eqb, lt-ltb, le-ltb}
 use lib.Dec.{eqb}
@@ -25,11 +25,11 @@ use Rattle.limits.specs.Limits.{coefficientsChecked, outside, positionsC
 -- ---- number 6
 
 module _ (s : Space) (coefs : List ℤ) where
-  pub coefficients-count : (length coefs ≡ rowCount s → ⊥) → coefficientsChecked s coefs ≡ refusal 6 largestPlace
+  pub coefficients-count : (length coefs ≡ 2 * rowCount s → ⊥) → coefficientsChecked s coefs ≡ refusal 6 largestPlace
   unfolding coefficientsChecked capped
   coefficients-count h = cond-false _ _ (ne-eqb _ _ h)
 
-  module _ (h : length coefs ≡ rowCount s) where
+  module _ (h : length coefs ≡ 2 * rowCount s) where
     pub coefficients-refused : {i : ℕ} → first (length coefs) (badCoefficient coefs) ≡ some i → coefficientsChecked s coefs ≡ refusal 6 (capped i)
     unfolding coefficientsChecked
     coefficients-refused e = cond-true _ _ (eq-eqb _ _ h) ∙ ap (λ o. refuseFirst 6 o (answer tt)) e
@@ -64,12 +64,12 @@ module _ (s : Space) (coefs positions : List ℤ) where
   -- the coefficients, then the positions
   pub entries-chain : {A : Type 0} (rest : Outcome A) → legalEntries s coefs positions rest ≡ (coefficientsChecked s coefs then λ _. (positionsChecked positions (fine (break s 0)) (fine (break s (segments s))) then λ _. rest))
   unfolding coefficientsChecked positionsChecked badPosition
-  entries-chain rest = chain rest (eqb (length coefs) (rowCount s)) (first (length coefs) (badCoefficient coefs)) (first (length positions) (badPosition s positions))
+  entries-chain rest = chain rest (eqb (length coefs) (2 * rowCount s)) (first (length coefs) (badCoefficient coefs)) (first (length positions) (badPosition s positions))
 
 -- the breakpoints do not matter to the coefficients
 pub coefficients-partial : (b d o coefs : List ℤ) → coefficientsChecked (space [] d o) coefs ≡ coefficientsChecked (space b d o) coefs
 unfolding coefficientsChecked
-coefficients-partial b d o coefs = ap (λ n. cond (eqb (length coefs) n) (refuseFirst 6 (first (length coefs) (badCoefficient coefs)) passed) (refuse 6 largestPlace)) (row-count-partial b d o)
+coefficients-partial b d o coefs = ap (λ n. cond (eqb (length coefs) (2 * n)) (refuseFirst 6 (first (length coefs) (badCoefficient coefs)) passed) (refuse 6 largestPlace)) (row-count-partial b d o)
 
 -- ---- the numbers 2 to 7
 
@@ -103,7 +103,7 @@ module _ (s : Space) (coefs positions : List ℤ) where
   entries-numbers : RefusedAs (λ number place. number ≤ 7) (legalEntries s coefs positions (answer s))
   unfolding coefficientsChecked positionsChecked
   entries-numbers = subst (RefusedAs (λ number place. number ≤ 7)) (sym (entries-chain s coefs positions (answer s)))
-      (then-refused (λ number place. number ≤ 7) (coefficientsChecked s coefs) _ (at-six (eqb (length coefs) (rowCount s)) (first (length coefs) (badCoefficient coefs)))
+      (then-refused (λ number place. number ≤ 7) (coefficientsChecked s coefs) _ (at-six (eqb (length coefs) (2 * rowCount s)) (first (length coefs) (badCoefficient coefs)))
       (λ _ _. then-refused (λ number place. number ≤ 7) (positionsChecked positions (fine (break s 0)) (fine (break s (segments s)))) _ (at-seven (first (length positions) (outside positions (fine (break s 0)) (fine (break s (segments s)))))) (λ _ _. answer-refused (λ number place. number ≤ 7) s)))
 
 pub curve-numbers : (s : Space) (coefs positions : List ℤ) → RefusedAs (λ number place. number ≤ 7) (curveChecked s coefs positions)

@@ -1,7 +1,7 @@
 -- The refusals 6 and 7 of a legal space, each by itself.
 use mathlib.Core.Bool.{Bool, cond, not}
 use mathlib.Core.List.{List}
-use Prim.Native.Nat.{ℕ}
+use Prim.Native.Nat.{ℕ, _*_}
 use lib.Dec.{eqb}
 use lib.IntN.{ℤ, pos}
 use lib.ListN.{length, getD}
@@ -10,9 +10,9 @@ use Rattle.spline.specs.Search.{first}
 use Rattle.spline.specs.Space.{Space, between, refuseFirst, rowCount}
 use Rattle.spline.specs.CurveCall.{badCoefficient}
 
--- Number 6: the count first.
+-- Number 6: the count first, two numbers a row.
 unfoldable pub coefficientsChecked : Space → List ℤ → Outcome (Unit {0})
-coefficientsChecked s coefs = cond (eqb (length coefs) (rowCount s)) (refuseFirst 6 (first (length coefs) (badCoefficient coefs)) (answer tt)) (refuse 6 largestPlace)
+coefficientsChecked s coefs = cond (eqb (length coefs) (2 * rowCount s)) (refuseFirst 6 (first (length coefs) (badCoefficient coefs)) (answer tt)) (refuse 6 largestPlace)
 
 -- Entry i of the positions lies outside the two bounds.
 abbrev pub outside : List ℤ → ℤ → ℤ → ℕ → Bool

@@ -68,13 +68,13 @@ fn first_bad_position(positions: &[i32], low: i32, high: i32) -> Found
     found
 }
 
-// Number 6 of a legal space: the count first.
+// Number 6 of a legal space: the count first, two numbers a row.
 fn check_coefficients(degrees: &[i32], orders: &[i32], coefs: &[i32]) -> Legality
     requires { ⌜ JoinsLegal (now degrees) (now orders) ⌝ }
     ensures { λ r. ⌜ r ≡ legality (coefficientsChecked (space [] (now (degrees .entry)) (now (orders .entry))) (now (coefs .entry))) ⌝ }
 {
     let n = space::row_count(degrees, orders);
-    if coefs.len() != n {
+    if coefs.len() != 2 * n {
         return Legality::Refused(6, space::LARGEST_PLACE);
     }
     let bad = first_bad_coefficient(coefs);

@@ -12,16 +12,16 @@ use borrow.Author.Tests.{eq-eqb, ne-eqb, eqb-true}
 use lib.Dec.{eqb}
 use lib.ListN.{length, getD, take, drop, drop-of-length-le}
 use lib.Seq.{slice, slice-empty, drop-cons}
-use Rattle.numerals.specs.Bytes.{Text, comma, Cut, withByte, cut, onFirst, fields, stripped, indexOf, beginsWith}
+use Rattle.numerals.specs.Bytes.{Text, Cut, withByte, cut, onFirst, fieldsBetween, stripped, indexWhere, indexOf, beginsWith}
 use Rattle.numerals.proofs.Slice.{slice-step}
 
 -- ---- the index of a byte
 index-here : (b c : ℕ) (cs : Text) → c ≡ b → indexOf b (c ∷ cs) ≡ 0
-unfolding indexOf
+unfolding indexWhere
 index-here b c cs e = rw (eq-eqb c b e)
 
 index-past : (b c : ℕ) (cs : Text) → (c ≡ b → ⊥) → indexOf b (c ∷ cs) ≡ suc (indexOf b cs)
-unfolding indexOf
+unfolding indexWhere
 index-past b c cs h = rw (ne-eqb c b h)
 
 module _ (b : ℕ) (text : Text) (i to : ℕ) (before : i < to) (within : to ≤ length text) where
@@ -32,21 +32,21 @@ module _ (b : ℕ) (text : Text) (i to : ℕ) (before : i < to) (within : to ≤
   index-next h = ap (indexOf b) (slice-step i to text 0 before within) ∙ index-past b _ _ h
 
 pub index-end : (b : ℕ) (text : Text) (to : ℕ) → indexOf b (slice to to text) ≡ 0
-unfolding indexOf
+unfolding indexWhere
 index-end b text to = ap (indexOf b) (slice-empty to text)
 
-pub index-within : (b : ℕ) (t : Text) → indexOf b t ≤ length t
-unfolding indexOf
-index-within b [] = omega arith
-index-within b (c ∷ cs) = go (eqb c b) (index-within b cs)
+pub index-within : (picks : ℕ → Bool) (t : Text) → indexWhere picks t ≤ length t
+unfolding indexWhere
+index-within picks [] = omega arith
+index-within picks (c ∷ cs) = go (picks c) (index-within picks cs)
   where
-    go : (e : Bool) → indexOf b cs ≤ length cs → cond e 0 (suc (indexOf b cs)) ≤ suc (length cs)
+    go : (e : Bool) → indexWhere picks cs ≤ length cs → cond e 0 (suc (indexWhere picks cs)) ≤ suc (length cs)
     go true h = omega arith
     go false h = omega arith
 
 -- ---- cutting at the index
 pub cut-none : (b : ℕ) (t : Text) → indexOf b t ≡ length t → cut b t ≡ none
-unfolding indexOf cut
+unfolding indexWhere cut
 cut-none b [] e = refl
 cut-none b (c ∷ cs) e = go (eqb c b) e (cut-none b cs)
   where
@@ -56,7 +56,7 @@ cut-none b (c ∷ cs) e = go (eqb c b) e (cut-none b cs)
     go false e ih = ap (withByte c) (ih (omega arith))
 
 pub cut-some : (b : ℕ) (t : Text) → indexOf b t < length t → cut b t ≡ some (record { before = take (indexOf b t) t; after = drop (suc (indexOf b t)) t })
-unfolding indexOf cut
+unfolding indexWhere cut
 cut-some b [] h = absurd (omega arith)
 cut-some b (c ∷ cs) h = go (eqb c b) h (cut-some b cs)
   where
@@ -85,28 +85,29 @@ cut-joins b (d ∷ t) c e = go (eqb d b) refl e (cut-joins b t)
     go true w e ih = ap (λ (x : ℕ). x ∷ t) (eqb-true d b w) ∙ ap (joined b) (Option·some-injective (record { before = []; after = t }) c e)
     go false w e ih = with-byte-joins b d t (cut b t) c ih e
 
--- ---- the fields: the one before the first comma, and those after it
-pub fields-one : (t : Text) → indexOf comma t ≡ length t → fields t ≡ t ∷ []
-unfolding indexOf fields
-fields-one [] e = refl
-fields-one (c ∷ cs) e = go (eqb c comma) e (fields-one cs)
-  where
-    go : (s : Bool) → cond s 0 (suc (indexOf comma cs)) ≡ suc (length cs) → (indexOf comma cs ≡ length cs → fields cs ≡ cs ∷ []) →
-        cond s ([] ∷ fields cs) (onFirst c (fields cs)) ≡ (c ∷ cs) ∷ []
-    go true e ih = absurd (omega arith)
-    go false e ih = ap (onFirst c) (ih (omega arith))
+-- ---- the fields: the one before the first byte that is picked, and those after it
+module _ (picks : ℕ → Bool) where
+  pub fields-one : (t : Text) → indexWhere picks t ≡ length t → fieldsBetween picks t ≡ t ∷ []
+  unfolding indexWhere fieldsBetween
+  fields-one [] e = refl
+  fields-one (c ∷ cs) e = go (picks c) e (fields-one cs)
+    where
+      go : (s : Bool) → cond s 0 (suc (indexWhere picks cs)) ≡ suc (length cs) → (indexWhere picks cs ≡ length cs → fieldsBetween picks cs ≡ cs ∷ []) →
+          cond s ([] ∷ fieldsBetween picks cs) (onFirst c (fieldsBetween picks cs)) ≡ (c ∷ cs) ∷ []
+      go true e ih = absurd (omega arith)
+      go false e ih = ap (onFirst c) (ih (omega arith))
 
-pub fields-more : (t : Text) → indexOf comma t < length t → fields t ≡ take (indexOf comma t) t ∷ fields (drop (suc (indexOf comma t)) t)
-unfolding indexOf fields
-fields-more [] h = absurd (omega arith)
-fields-more (c ∷ cs) h = go (eqb c comma) h (fields-more cs)
-  where
-    go : (s : Bool) → cond s 0 (suc (indexOf comma cs)) < suc (length cs) →
-        (indexOf comma cs < length cs → fields cs ≡ take (indexOf comma cs) cs ∷ fields (drop (suc (indexOf comma cs)) cs)) →
-        cond s ([] ∷ fields cs) (onFirst c (fields cs))
-        ≡ take (cond s 0 (suc (indexOf comma cs))) (c ∷ cs) ∷ fields (drop (suc (cond s 0 (suc (indexOf comma cs)))) (c ∷ cs))
-    go true h ih = refl
-    go false h ih = ap (onFirst c) (ih (omega arith))
+  pub fields-more : (t : Text) → indexWhere picks t < length t → fieldsBetween picks t ≡ take (indexWhere picks t) t ∷ fieldsBetween picks (drop (suc (indexWhere picks t)) t)
+  unfolding indexWhere fieldsBetween
+  fields-more [] h = absurd (omega arith)
+  fields-more (c ∷ cs) h = go (picks c) h (fields-more cs)
+    where
+      go : (s : Bool) → cond s 0 (suc (indexWhere picks cs)) < suc (length cs) →
+          (indexWhere picks cs < length cs → fieldsBetween picks cs ≡ take (indexWhere picks cs) cs ∷ fieldsBetween picks (drop (suc (indexWhere picks cs)) cs)) →
+          cond s ([] ∷ fieldsBetween picks cs) (onFirst c (fieldsBetween picks cs))
+          ≡ take (cond s 0 (suc (indexWhere picks cs))) (c ∷ cs) ∷ fieldsBetween picks (drop (suc (cond s 0 (suc (indexWhere picks cs)))) (c ∷ cs))
+      go true h ih = refl
+      go false h ih = ap (onFirst c) (ih (omega arith))
 
 -- ---- a key at the beginning
 key-same : (p c : ℕ) (ps cs : Text) → c ≡ p → beginsWith (p ∷ ps) (c ∷ cs) ≡ beginsWith ps cs

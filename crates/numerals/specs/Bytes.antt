@@ -26,6 +26,9 @@ minus = 45
 abbrev pub slash : ℕ
 slash = 47
 
+abbrev pub colon : ℕ
+colon = 58
+
 -- The digit 0.
 abbrev pub digitZero : ℕ
 digitZero = 48
@@ -58,10 +61,14 @@ abbrev pub onFirst : ℕ → List Text → List Text
 onFirst c [] = (c ∷ []) ∷ []
 onFirst c (f ∷ fs) = (c ∷ f) ∷ fs
 
--- The fields between the commas: one more than there are commas.
-unfoldable pub fields : Text → List Text
-fields [] = [] ∷ []
-fields (c ∷ cs) = cond (eqb c comma) ([] ∷ fields cs) (onFirst c (fields cs))
+-- The fields between the bytes that the test picks: one more than there are such bytes.
+unfoldable pub fieldsBetween : (ℕ → Bool) → Text → List Text
+fieldsBetween picks [] = [] ∷ []
+fieldsBetween picks (c ∷ cs) = cond (picks c) ([] ∷ fieldsBetween picks cs) (onFirst c (fieldsBetween picks cs))
+
+-- The fields between the commas.
+abbrev pub fields : Text → List Text
+fields = fieldsBetween (λ c. eqb c comma)
 
 -- What follows the given beginning, if the text begins so.
 unfoldable pub stripped : Text → Text → Option Text
@@ -76,10 +83,14 @@ pub record Part (text : Text) (from to : ℕ) : Type 0 where
   pub ordered : from ≤ to
   pub within : to ≤ length text
 
--- The index of the first byte b, or the length where there is none.
-unfoldable pub indexOf : ℕ → Text → ℕ
-indexOf b [] = 0
-indexOf b (c ∷ cs) = cond (eqb c b) 0 (suc (indexOf b cs))
+-- The index of the first byte that the test picks, or the length where there is none.
+unfoldable pub indexWhere : (ℕ → Bool) → Text → ℕ
+indexWhere picks [] = 0
+indexWhere picks (c ∷ cs) = cond (picks c) 0 (suc (indexWhere picks cs))
+
+-- The index of the first byte b, or the length.
+abbrev pub indexOf : ℕ → Text → ℕ
+indexOf b = indexWhere (λ c. eqb c b)
 
 -- Whether the text begins with the key.
 unfoldable pub beginsWith : Text → Text → Bool

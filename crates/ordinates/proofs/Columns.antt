@@ -3,7 +3,7 @@
 use mathlib.Core.Path.{_≡_, refl, sym, _∙_, ap, ap₂}
 use mathlib.Core.Logic.{_⊎_, inl, inr}
 use mathlib.Core.Bool.{Bool, true, false}
-use mathlib.Core.List.{List, _++_, map}
+use mathlib.Core.List.{List, _++_}
 use mathlib.Core.Option.{Option·getD}
 use Prim.Native.Nat.{ℕ, zero, suc, _+_, _<_, _≤_}
 use native.Mathlib.Omega.{arith}
@@ -17,7 +17,7 @@ use Rattle.exact.proofs.Integer.{+-zero}
 use Rattle.exact.proofs.Tabulate.{tab-length, tab-getD, tab-none, tab-more, tab-rest}
 use Rattle.spline.specs.Space.{Space, degree, firstColumn, columnCount}
 use Rattle.spline.specs.Table.{Table, cell, rowCells}
-use Rattle.spline.specs.Reading.{coefficient, least, greatest, hasWeight, term, termSum, atLeast, atMost, ordinate, ordinates, segmentAt, fineWidth, offset, triangle, blended, valueAt, values}
+use Rattle.spline.specs.Reading.{least, greatest, hasWeight, term, termSum, atLeast, atMost, ordinate, ordinates, fineWidth, offset, triangle, blended}
 use Rattle.spline.proofs.Reading.{best-skips, best-takes}
 use Rattle.cells.specs.Held.{Holds}
 use Rattle.ordinates.specs.Ordinates.{known, given, termsOf, padded, Bounded, ordinateLimit}
@@ -79,29 +79,29 @@ zeros (suc n) (suc j) = zeros n j
 
 -- ---- an array of 72: below c the ordinates, from c on 0
 
-module _ (num den coefs : List ℤ) (n : ℕ) where
+module _ (num den : List ℤ) (a : ℕ → ℤ) (n : ℕ) where
   pub record Filled (os : List ℤ) (c : ℕ) : Type 0 where
-    pub is : (t : Table) → Holds num den t → length t ≡ n → os ≡ tab c (ordinate t (coefficient coefs)) ++ drop c (replicate rowCells (pos 0))
+    pub is : (t : Table) → Holds num den t → length t ≡ n → os ≡ tab c (ordinate t a) ++ drop c (replicate rowCells (pos 0))
     pub long : length os ≡ rowCells
     pub bounded : Bounded os
 
   pub filled-none : Filled (replicate rowCells (pos 0)) 0
   filled-none = record { is = λ t h m. tab-none _ _; long = length-replicate rowCells (pos 0); bounded = λ j. rw (zeros rowCells j) (omega arith) }
 
-  pub filled-more : (os : List ℤ) (c : ℕ) (v : ℤ) → Filled os c → c < rowCells → ((t : Table) → Holds num den t → length t ≡ n → v ≡ ordinate t (coefficient coefs) c) → natAbs v ≤ ordinateLimit → Filled (set os c v) (c + 1)
+  pub filled-more : (os : List ℤ) (c : ℕ) (v : ℤ) → Filled os c → c < rowCells → ((t : Table) → Holds num den t → length t ≡ n → v ≡ ordinate t a c) → natAbs v ≤ ordinateLimit → Filled (set os c v) (c + 1)
   filled-more os c v f h e b = record {
-    is = λ t k m. ap₂ (λ xs x. set xs c x) (f .is t k m) (e t k m) ∙ tab-more (ordinate t (coefficient coefs)) c (replicate rowCells (pos 0)) (rw (length-replicate rowCells (pos 0)) h);
+    is = λ t k m. ap₂ (λ xs x. set xs c x) (f .is t k m) (e t k m) ∙ tab-more (ordinate t a) c (replicate rowCells (pos 0)) (rw (length-replicate rowCells (pos 0)) h);
     long = length-set os c v ∙ f .long;
     bounded = bounded-set os c v (f .bounded) b (rw (f .long) h);
   }
 
   -- all columns
-  pub filled-all : (os : List ℤ) (s : Space) (t : Table) → columnCount s ≤ rowCells → Filled os (columnCount s) → Holds num den t → length t ≡ n → os ≡ padded (ordinates s t (coefficient coefs))
+  pub filled-all : (os : List ℤ) (s : Space) (t : Table) → columnCount s ≤ rowCells → Filled os (columnCount s) → Holds num den t → length t ≡ n → os ≡ padded (ordinates s t a)
   unfolding padded ordinates
   filled-all os s t w f h m = f .is t h m ∙ tab-rest rowCells (columnCount s) w (λ j l. sym (tab-getD (columnCount s) column j (pos 0) l)) (λ j l. List·getD-eq-default (tab (columnCount s) column) (pos 0) {n = j} (rw (tab-length (columnCount s) column) l))
     where
       column : ℕ → ℤ
-      column = ordinate t (coefficient coefs)
+      column = ordinate t a
 
 -- ---- reading the array of 72
 
@@ -117,11 +117,10 @@ pub ordinates-length : (s : Space) (t : Table) (a : ℕ → ℤ) → length (ord
 unfolding ordinates
 ordinates-length s t a = tab-length (columnCount s) (ordinate t a)
 
--- the values from the padded ordinates
-pub values-padded : (s : Space) (t : Table) (coefs positions : List ℤ) → columnCount s ≤ rowCells
-    → map (λ x. blended s (padded (ordinates s t (coefficient coefs))) (segmentAt s x) x) positions ≡ values s t coefs positions
-unfolding values valueAt blended
-values-padded s t coefs positions h = λ z. map (λ x. triangle (fineWidth s (segmentAt s x)) (offset s (segmentAt s x) x) (λ k. same (firstColumn s (segmentAt s x) + k) z) (degree s (segmentAt s x)) 0) positions
+-- a value from the padded ordinates
+pub blended-padded : (s : Space) (t : Table) (a : ℕ → ℤ) (i : ℕ) (x : ℤ) → columnCount s ≤ rowCells → blended s (padded (ordinates s t a)) i x ≡ blended s (ordinates s t a) i x
+unfolding blended
+blended-padded s t a i x h = λ z. triangle (fineWidth s i) (offset s i x) (λ k. same (firstColumn s i + k) z) (degree s i) 0
   where
-    same : (j : ℕ) → getD (padded (ordinates s t (coefficient coefs))) j (pos 0) ≡ getD (ordinates s t (coefficient coefs)) j (pos 0)
-    same j = padded-at (ordinates s t (coefficient coefs)) (rw (ordinates-length s t (coefficient coefs)) h) j
+    same : (j : ℕ) → getD (padded (ordinates s t a)) j (pos 0) ≡ getD (ordinates s t a) j (pos 0)
+    same j = padded-at (ordinates s t a) (rw (ordinates-length s t a) h) j

@@ -18,7 +18,7 @@ use Rattle.exact.proofs.Decide.{cond-true, cond-false}
 use Rattle.exact.proofs.Integer.{abs-zero, abs-add, +-zero}
 use Rattle.fraction.specs.Machine.{fraction}
 use Rattle.spline.specs.Table.{Table, cell, rowCells}
-use Rattle.spline.specs.Reading.{best, least, greatest, preferred, hasWeight, termSum, term, rounded, fine, coefficient}
+use Rattle.spline.specs.Reading.{best, least, greatest, preferred, hasWeight, termSum, term, rounded, fine}
 use Rattle.spline.proofs.Reading.{best-skips, best-takes}
 use Rattle.cells.specs.Held.{Holds}
 use Rattle.cells.proofs.Buffer.{holds-cell}
@@ -75,25 +75,25 @@ module _ (t : Table) (a : ℕ → ℤ) (c : ℕ) where
 
 -- ---- the first rows of the buffers
 
-module _ (num den coefs : List ℤ) (c : ℕ) where
+module _ (num den : List ℤ) (a : ℕ → ℤ) (c : ℕ) where
   pub record Gathered (all : Terms) (i : ℕ) : Type 0 where
-    pub is : (t : Table) → Holds num den t → all ≡ termsOf t (coefficient coefs) c i
+    pub is : (t : Table) → Holds num den t → all ≡ termsOf t a c i
     pub small : natAbs (all .sum) ≤ i * ordinateLimit
 
   pub gathered-none : Gathered (record { some = false; sum = pos 0; least = pos 0; greatest = pos 0 }) 0
-  gathered-none = record { is = λ t h. terms-none t (coefficient coefs) c; small = omega arith }
+  gathered-none = record { is = λ t h. terms-none t a c; small = omega arith }
 
   module _ (i : ℕ) (k : i < rowCells) (l : c < rowCells) (all : Terms) (g : Gathered all i) where
     -- a cell of 0
     pub gathered-skip : getD num (72 * i + c) (pos 0) ≡ pos 0 → Gathered all (i + 1)
     gathered-skip e = record {
-      is = λ t h. g .is t h ∙ terms-skip t (coefficient coefs) c i (weightless t c i (sym (cell-num h i c k l) ∙ e)) ∙ ap (termsOf t (coefficient coefs) c) (sym (add-one i));
+      is = λ t h. g .is t h ∙ terms-skip t a c i (weightless t c i (sym (cell-num h i c k l) ∙ e)) ∙ ap (termsOf t a c) (sym (add-one i));
       small = omega (arith, g .small);
     }
 
     -- a cell of another number
-    pub gathered-more : (after : Terms) → getD num (72 * i + c) (pos 0) ≢ pos 0 → Added all (getD coefs i (pos 0)) (getD num (72 * i + c) (pos 0)) (getD den (72 * i + c) (pos 0)) after → Gathered after (i + 1)
+    pub gathered-more : (after : Terms) → getD num (72 * i + c) (pos 0) ≢ pos 0 → Added all (a i) (getD num (72 * i + c) (pos 0)) (getD den (72 * i + c) (pos 0)) after → Gathered after (i + 1)
     gathered-more after e m = record {
-      is = λ t h. terms-more t (coefficient coefs) c i all after (weighted t c i (λ z. e (cell-num h i c k l ∙ z))) (g .is t h) (rw (cell-num h i c k l, cell-den h i c k l) at m) ∙ ap (termsOf t (coefficient coefs) c) (sym (add-one i));
-      small = rw (m .is-sum) (omega (arith, g .small, m .small, abs-add (all .sum) (rounded (fine (getD coefs i (pos 0)) *ℤ getD num (72 * i + c) (pos 0)) (natAbs (getD den (72 * i + c) (pos 0))))));
+      is = λ t h. terms-more t a c i all after (weighted t c i (λ z. e (cell-num h i c k l ∙ z))) (g .is t h) (rw (cell-num h i c k l, cell-den h i c k l) at m) ∙ ap (termsOf t a c) (sym (add-one i));
+      small = rw (m .is-sum) (omega (arith, g .small, m .small, abs-add (all .sum) (rounded (fine (a i) *ℤ getD num (72 * i + c) (pos 0)) (natAbs (getD den (72 * i + c) (pos 0))))));
     }

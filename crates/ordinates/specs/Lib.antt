@@ -1,2 +1,3 @@
 -- What the contracts of ordinates cite beside the definitions of crate spline.
+pub mod Part
 pub mod Ordinates

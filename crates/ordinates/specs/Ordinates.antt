@@ -3,7 +3,7 @@ use mathlib.Core.Bool.{Bool, true, false}
 use mathlib.Core.List.{List}
 use mathlib.Core.Option.{Option, some, none, Option·getD}
 use mathlib.Core.Path.{_≡_}
-use Prim.Native.Nat.{ℕ, _*_, _≤_}
+use Prim.Native.Nat.{ℕ, _+_, _*_, _≤_}
 use lib.IntN.{ℤ, pos, natAbs, _+ℤ_, _*ℤ_}
 use lib.ListN.{length, getD}
 use lib.Signed.{leZ}
@@ -58,9 +58,13 @@ pub record Weighs (num den : List ℤ) (n : ℕ) : Type 0 where
   pub few : n ≤ rowCells
   pub unit : AtMostOne table
 
--- n coefficients in their range.
+-- The coefficients at this index among each row's two.
+abbrev pub entries : List ℤ → ℕ → ℕ → ℤ
+entries coefs index i = getD coefs (2 * i + index) (pos 0)
+
+-- n pairs of coefficients, each of the 2 n numbers in their range.
 pub record Coefficients (coefs : List ℤ) (n : ℕ) : Type 0 where
-  pub count : length coefs ≡ n
+  pub count : length coefs ≡ 2 * n
   pub small : (i : ℕ) → natAbs (getD coefs i (pos 0)) ≤ coefficientLimit
 
 -- A list in an array of 72, 0 past its end.

@@ -1,5 +1,5 @@
-// The Bernstein ordinates of the curve, in 256ths: for each column the sum of the rounded terms, within the limits of the
-// coefficients with weight on it.
+// The Bernstein ordinates of the curve of one wood part, in 256ths: for each column the sum of the rounded terms, within the
+// limits of the part's coefficients with weight on it.
 ghost use mathlib.Core.Path.{_≡_};
 ghost use mathlib.Core.Bool.{cond};
 ghost use Prim.Native.Nat.{_^_, _<_, _≤_};
@@ -11,7 +11,14 @@ ghost use Rattle.spline.specs.Table.{Table, rowCells};
 ghost use Rattle.spline.specs.Reading;
 ghost use Rattle.spline.specs.CurveCall.{coefficientLimit};
 ghost use Rattle.cells.specs.Held.{Holds};
-ghost use Rattle.ordinates.specs.Ordinates.{given, termsOf, Added, Weighs, Coefficients, padded, Bounded};
+ghost use Rattle.ordinates.specs.Ordinates.{given, termsOf, Added, Weighs, entries, Coefficients, padded, Bounded};
+ghost use Rattle.ordinates.specs.Part.{woodPart};
+
+// A wood part.
+pub enum Part {
+    Earlywood,
+    Latewood,
+}
 
 // A column's terms so far: their sum, and the least and greatest coefficient with weight. `some` is false before the first.
 pub struct Terms {
@@ -87,10 +94,20 @@ fn limited(terms: Terms) -> i64
     at_most(high, sum)
 }
 
-// The terms of column c over the first n rows.
-fn column_terms(num: &[i64], den: &[i64], coefs: &[i32], n: usize, c: usize) -> Terms
-    requires { ⌜ (c < rowCells) × (Weighs (now num) (now den) n × Coefficients (now coefs) n) ⌝ }
-    ensures { λ r. ⌜ ((t : Table) → Holds (now (num .entry)) (now (den .entry)) t → r ≡ termsOf t (Reading.coefficient (now (coefs .entry))) c n) ⌝ }
+// Which of each row's two coefficients is the part's.
+fn part_index(part: Part) -> usize
+    ensures { λ r. ⌜ r ≡ Reading.partIndex (woodPart part) ⌝ }
+{
+    match part {
+        Part::Earlywood => 0,
+        Part::Latewood => 1,
+    }
+}
+
+// The terms of column c over the first n rows, each with the coefficient at this index among its two.
+fn column_terms(num: &[i64], den: &[i64], coefs: &[i32], index: usize, n: usize, c: usize) -> Terms
+    requires { ⌜ ((c < rowCells) × (index < 2)) × (Weighs (now num) (now den) n × Coefficients (now coefs) n) ⌝ }
+    ensures { λ r. ⌜ ((t : Table) → Holds (now (num .entry)) (now (den .entry)) t → r ≡ termsOf t (entries (now (coefs .entry)) index) c n) ⌝ }
 {
     let mut all = Terms {
         some: false,
@@ -103,7 +120,8 @@ fn column_terms(num: &[i64], den: &[i64], coefs: &[i32], n: usize, c: usize) -> 
         let at = cells::ROW_CELLS * i + c;
         let x = num[at];
         if x != 0 {
-            let a = coefs[i] as i64;
+            let entry = 2 * i + index;
+            let a = coefs[entry] as i64;
             let d = den[at];
             all = with_term(all, a, x, d);
         }
@@ -112,22 +130,24 @@ fn column_terms(num: &[i64], den: &[i64], coefs: &[i32], n: usize, c: usize) -> 
     all
 }
 
-// The ordinates of the first `columns` columns, 0 past them.
+// The ordinates of a wood part in the first `columns` columns, 0 past them.
 pub fn ordinates(
     num: &[i64],
     den: &[i64],
     coefs: &[i32],
+    part: Part,
     n: usize,
     columns: usize,
 ) -> [i64; cells::ROW_CELLS]
     requires { ⌜ (columns ≤ rowCells) × (Weighs (now num) (now den) n × Coefficients (now coefs) n) ⌝ }
     ensures { λ r. ⌜ ((s : Space) (t : Table) → Holds (now (num .entry)) (now (den .entry)) t → length t ≡ n → columnCount s ≡ columns
-        → r ≡ padded (Reading.ordinates s t (Reading.coefficient (now (coefs .entry))))) × Bounded r ⌝ }
+        → r ≡ padded (Reading.ordinates s t (Reading.coefficient (woodPart part) (now (coefs .entry))))) × Bounded r ⌝ }
 {
+    let index = part_index(part);
     let mut os = [0; cells::ROW_CELLS];
     let mut c = 0;
     while c < columns {
-        let all = column_terms(num, den, coefs, n, c);
+        let all = column_terms(num, den, coefs, index, n, c);
         let o = limited(all);
         os[c] = o;
         c += 1;

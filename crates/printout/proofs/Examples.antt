@@ -3,11 +3,11 @@ use mathlib.Core.Path.{_≡_, refl}
 use mathlib.Core.List.{List, [], _∷_, _++_}
 use lib.IntN.{pos, negsuc}
 use Rattle.spline.specs.Listing.{tableWeights}
-use Rattle.spline.specs.Cases.{weights1}
+use Rattle.spline.specs.Cases.{pair, forBoth, weights1}
 use Rattle.sorting.specs.Sorted.{inserted, sorted}
 use Rattle.numerals.specs.Bytes.{Text, bytes, lines}
 use Rattle.numerals.specs.Numeral.{digitsUpTo, digits, decimal}
-use Rattle.printout.specs.Printout.{joined, countLine, weightLine, weightLines, valueLine, valueLines, lowLine, lowLines, lowPositions, refusalLine, answerText}
+use Rattle.printout.specs.Printout.{joined, countLine, weightLine, weightLines, valueLine, valueLines, isLow, lowLine, lowLines, lowPositions, refusalLine, answerText}
 
 -- The lines as document 01 prints them.
 abbrev w1 : List Text
@@ -30,29 +30,30 @@ w1 =
     (119 ∷ 61 ∷ 50 ∷ 44 ∷ 52 ∷ 44 ∷ 49 ∷ 47 ∷ 49 ∷ 10 ∷ []) ∷
     -- w=3,5,1/1
     (119 ∷ 61 ∷ 51 ∷ 44 ∷ 53 ∷ 44 ∷ 49 ∷ 47 ∷ 49 ∷ 10 ∷ []) ∷
-    -- v=256,17067
-    (118 ∷ 61 ∷ 50 ∷ 53 ∷ 54 ∷ 44 ∷ 49 ∷ 55 ∷ 48 ∷ 54 ∷ 55 ∷ 10 ∷ []) ∷
-    -- v=512,4267
-    (118 ∷ 61 ∷ 53 ∷ 49 ∷ 50 ∷ 44 ∷ 52 ∷ 50 ∷ 54 ∷ 55 ∷ 10 ∷ []) ∷
+    -- v=256,17067:17067
+    (118 ∷ 61 ∷ 50 ∷ 53 ∷ 54 ∷ 44 ∷ 49 ∷ 55 ∷ 48 ∷ 54 ∷ 55 ∷ 58 ∷ 49 ∷ 55 ∷ 48 ∷ 54 ∷ 55 ∷ 10 ∷ []) ∷
+    -- v=512,4267:4267
+    (118 ∷ 61 ∷ 53 ∷ 49 ∷ 50 ∷ 44 ∷ 52 ∷ 50 ∷ 54 ∷ 55 ∷ 58 ∷ 52 ∷ 50 ∷ 54 ∷ 55 ∷ 10 ∷ []) ∷
     []
 
-pub w1-printed : countLine 4 ++ (weightLines weights1 ++ (valueLines (pos 256 ∷ pos 512 ∷ []) (pos 17067 ∷ pos 4267 ∷ []) ++ lowLines [])) ≡ joined w1
+pub w1-printed : countLine 4 ++ (weightLines weights1 ++ (valueLines (pos 256 ∷ pos 512 ∷ []) (forBoth (pos 17067 ∷ pos 4267 ∷ [])) ++ lowLines [])) ≡ joined w1
 unfolding joined digitsUpTo digits decimal countLine weightLine weightLines valueLine valueLines lowLine lowLines
 w1-printed = refl
 
--- The values come in list order, then the low lines by rising position, a repeated one twice, and none for the value 1.
-pub lows-printed : answerText [] (pos 7 ∷ negsuc 4 ∷ pos 1 ∷ pos 0 ∷ pos 7 ∷ []) (negsuc 1 ∷ pos 0 ∷ pos 1 ∷ negsuc 0 ∷ negsuc 1 ∷ []) ≡ lines (
+-- The values come in list order, then the low lines by rising position, a repeated one twice: one line where both values are
+-- low, or either one, and none where both are 1 or more.
+pub lows-printed : answerText [] (pos 7 ∷ negsuc 4 ∷ pos 1 ∷ pos 0 ∷ pos 7 ∷ []) (pair (negsuc 1) (negsuc 2) ∷ pair (pos 0) (pos 9) ∷ pair (pos 1) (pos 2) ∷ pair (pos 3) (negsuc 0) ∷ pair (negsuc 1) (negsuc 2) ∷ []) ≡ lines (
     "n=0" ∷
-    "v=7,-2" ∷
-    "v=-5,0" ∷
-    "v=1,1" ∷
-    "v=0,-1" ∷
-    "v=7,-2" ∷
+    "v=7,-2:-3" ∷
+    "v=-5,0:9" ∷
+    "v=1,1:2" ∷
+    "v=0,3:-1" ∷
+    "v=7,-2:-3" ∷
     "low=-5" ∷
     "low=0" ∷
     "low=7" ∷
     "low=7" ∷ [])
-unfolding joined digitsUpTo digits decimal countLine weightLine weightLines valueLine valueLines lowLine lowLines lowPositions answerText inserted sorted tableWeights bytes lines
+unfolding joined digitsUpTo digits decimal countLine weightLine weightLines valueLine valueLines isLow lowLine lowLines lowPositions answerText inserted sorted tableWeights bytes lines
 lows-printed = refl
 
 -- no=10,6

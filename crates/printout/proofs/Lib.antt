@@ -3,5 +3,6 @@
 pub mod Buffer
 pub mod Printout
 pub mod Printed
+pub mod Pairs
 pub mod Stored
 pub mod Examples

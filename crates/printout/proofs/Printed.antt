@@ -11,7 +11,7 @@ use Rattle.exact.proofs.Decide.{and-true}
 use Rattle.exact.proofs.Integer.{abs-zero}
 use Rattle.sorting.specs.Sorted.{sorted}
 use Rattle.printout.specs.Printout.{countLine, weightLine, weightLines, valueLines, lowLines, lowPositions}
-use Rattle.printout.specs.Printed.{placeText, fractionText, storedWeight, storedWeights, isAnswer, printed}
+use Rattle.printout.specs.Printed.{placeText, fractionText, storedWeight, storedWeights, paired, isAnswer, printed}
 use Rattle.printout.proofs.Printout.{weightLines-append, weightLines-one, weightLines-none}
 
 -- ---- the tests of an answer
@@ -22,12 +22,12 @@ module _ (n : ℕ) (num den xs vs : List ℤ) where
     pub numerators : 5184 ≤ length num
     pub denominators : 5184 ≤ length den
     pub positions : length xs ≤ 4096
-    pub values : length xs ≤ length vs
+    pub values : length xs ≤ length vs / 2
 
   pub answer-fits : isAnswer n num den xs vs ≡ true → Answers
   unfolding isAnswer
   answer-fits e =
-      let a = and-true _ (leb (length xs) (length vs)) e in
+      let a = and-true _ (leb (length xs) (length vs / 2)) e in
       let b = and-true _ (leb (length xs) 4096) (a .0) in
       let d = and-true _ (leb 5184 (length den)) (b .0) in
       let f = and-true (leb n 72) (leb 5184 (length num)) (d .0) in
@@ -40,7 +40,7 @@ module _ (n : ℕ) (num den xs vs : List ℤ) where
       }
 
   -- the last of them, where the others pass
-  pub answer-last : n ≤ 72 → 5184 ≤ length num → 5184 ≤ length den → length xs ≤ 4096 → isAnswer n num den xs vs ≡ leb (length xs) (length vs)
+  pub answer-last : n ≤ 72 → 5184 ≤ length num → 5184 ≤ length den → length xs ≤ 4096 → isAnswer n num den xs vs ≡ leb (length xs) (length vs / 2)
   unfolding isAnswer
   answer-last a b d e = rw (le-leb n 72 a, le-leb 5184 (length num) b, le-leb 5184 (length den) d, le-leb (length xs) 4096 e)
 
@@ -68,6 +68,6 @@ module _ (n : ℕ) (num den xs vs : List ℤ) where
   printed-none e = rw e
 
   pub printed-all : isAnswer n num den xs vs ≡ true
-      → printed n num den xs vs ≡ countLine n ++ (weightLines (storedWeights (72 * n) num den) ++ (valueLines xs vs ++ lowLines (sorted (lowPositions xs vs))))
+      → printed n num den xs vs ≡ countLine n ++ (weightLines (storedWeights (72 * n) num den) ++ (valueLines xs (paired vs) ++ lowLines (sorted (lowPositions xs (paired vs)))))
   unfolding printed
   printed-all e = rw e

@@ -7,10 +7,10 @@ use native.Mathlib.Omega.{arith}
 use lib.IntN.{ℤ, pos}
 use lib.ListN.{length, getD, take}
 use lib.Seq.{take-suc}
-use lib.Signed.{leZ}
 use Rattle.spline.specs.Listing.{Weight}
+use Rattle.spline.specs.Reading.{Pair}
 use Rattle.numerals.specs.Bytes.{Text}
-use Rattle.printout.specs.Printout.{joined, weightLine, weightLines, valueLine, valueLines, lowLine, lowLines, lowPositions}
+use Rattle.printout.specs.Printout.{joined, weightLine, weightLines, valueLine, valueLines, isLow, lowLine, lowLines, lowPositions}
 
 -- ---- lines of lists
 joined-append : {A : Type 0} (line : A → Text) (a b : List A) → joined (map line (a ++ b)) ≡ joined (map line a) ++ joined (map line b)
@@ -51,50 +51,55 @@ unfolding lowLines
 lowLines-none = joined-none lowLine
 
 -- ---- one entry more
-pub valueLines-none : (vs : List ℤ) → valueLines [] vs ≡ []
+
+-- What stands past the end of a list of pairs.
+abbrev pub zeros : Pair
+zeros = record { early = pos 0; late = pos 0 }
+
+pub valueLines-none : (vs : List Pair) → valueLines [] vs ≡ []
 unfolding valueLines
 valueLines-none vs = refl
 
-pub valueLines-more : (xs vs : List ℤ) (k : ℕ) → k < length xs → k < length vs → valueLines (take (suc k) xs) vs ≡ valueLines (take k xs) vs ++ valueLine (getD xs k (pos 0)) (getD vs k (pos 0))
+pub valueLines-more : (xs : List ℤ) (vs : List Pair) (k : ℕ) → k < length xs → k < length vs → valueLines (take (suc k) xs) vs ≡ valueLines (take k xs) vs ++ valueLine (getD xs k (pos 0)) (getD vs k zeros)
 unfolding valueLines
 valueLines-more [] vs k h l = absurd (omega arith)
 valueLines-more (x ∷ xs) [] k h l = absurd (omega arith)
 valueLines-more (x ∷ xs) (v ∷ vs) zero h l = append-nil (valueLine x v)
 valueLines-more (x ∷ xs) (v ∷ vs) (suc k) h l =
     ap (λ t. valueLine x v ++ t) (valueLines-more xs vs k (omega arith) (omega arith))
-    ∙ sym (append-assoc (valueLine x v) (valueLines (take k xs) vs) (valueLine (getD xs k (pos 0)) (getD vs k (pos 0))))
+    ∙ sym (append-assoc (valueLine x v) (valueLines (take k xs) vs) (valueLine (getD xs k (pos 0)) (getD vs k zeros)))
 
--- an entry is low or not, by the test of its value
-pub entry-low : (x v : ℤ) → leZ v (pos 0) ≡ true → lowPositions (x ∷ []) (v ∷ []) ≡ x ∷ []
+-- an entry is low or not, by the test of its values
+pub entry-low : (x : ℤ) (v : Pair) → isLow v ≡ true → lowPositions (x ∷ []) (v ∷ []) ≡ x ∷ []
 unfolding lowPositions
 entry-low x v e = rw e
 
-pub entry-not-low : (x v : ℤ) → leZ v (pos 0) ≡ false → lowPositions (x ∷ []) (v ∷ []) ≡ []
+pub entry-not-low : (x : ℤ) (v : Pair) → isLow v ≡ false → lowPositions (x ∷ []) (v ∷ []) ≡ []
 unfolding lowPositions
 entry-not-low x v e = rw e
 
-pub lowPositions-none : (vs : List ℤ) → lowPositions [] vs ≡ []
+pub lowPositions-none : (vs : List Pair) → lowPositions [] vs ≡ []
 unfolding lowPositions
 lowPositions-none vs = refl
 
-pub lowPositions-more : (xs vs : List ℤ) (k : ℕ) → k < length xs → k < length vs → lowPositions (take (suc k) xs) vs ≡ lowPositions (take k xs) vs ++ lowPositions (getD xs k (pos 0) ∷ []) (getD vs k (pos 0) ∷ [])
+pub lowPositions-more : (xs : List ℤ) (vs : List Pair) (k : ℕ) → k < length xs → k < length vs → lowPositions (take (suc k) xs) vs ≡ lowPositions (take k xs) vs ++ lowPositions (getD xs k (pos 0) ∷ []) (getD vs k zeros ∷ [])
 unfolding lowPositions
 lowPositions-more [] vs k h l = absurd (omega arith)
 lowPositions-more (x ∷ xs) [] k h l = absurd (omega arith)
 lowPositions-more (x ∷ xs) (v ∷ vs) zero h l = refl
 lowPositions-more (x ∷ xs) (v ∷ vs) (suc k) h l =
-    ap (λ t. cond (leZ v (pos 0)) (x ∷ t) t) (lowPositions-more xs vs k (omega arith) (omega arith)) ∙ behind (leZ v (pos 0)) _ _
+    ap (λ t. cond (isLow v) (x ∷ t) t) (lowPositions-more xs vs k (omega arith) (omega arith)) ∙ behind (isLow v) _ _
   where
     behind : (b : Bool) (t u : List ℤ) → cond b (x ∷ (t ++ u)) (t ++ u) ≡ cond b (x ∷ t) t ++ u
     behind true t u = refl
     behind false t u = refl
 
 -- no more low positions than positions
-pub lowPositions-few : (xs vs : List ℤ) → length (lowPositions xs vs) ≤ length xs
+pub lowPositions-few : (xs : List ℤ) (vs : List Pair) → length (lowPositions xs vs) ≤ length xs
 unfolding lowPositions
 lowPositions-few [] vs = omega arith
 lowPositions-few (x ∷ xs) [] = omega arith
-lowPositions-few (x ∷ xs) (v ∷ vs) = go (leZ v (pos 0)) (lowPositions-few xs vs)
+lowPositions-few (x ∷ xs) (v ∷ vs) = go (isLow v) (lowPositions-few xs vs)
   where
     go : (b : Bool) → length (lowPositions xs vs) ≤ length xs → length (cond b (x ∷ lowPositions xs vs) (lowPositions xs vs)) ≤ suc (length xs)
     go true h = omega arith

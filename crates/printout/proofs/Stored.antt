@@ -16,11 +16,14 @@ use Rattle.exact.proofs.Order.{zero-test}
 use Rattle.exact.proofs.Tabulate.{getD-tab, length-tab}
 use Rattle.spline.specs.Table.{Row, Table, entry, row, cell, stored, rowCells, tableCells, numerators, denominators}
 use Rattle.spline.specs.Listing.{listed, rowWeights, tableWeights}
+use Rattle.spline.specs.Reading.{Pair, sideBySide}
 use Rattle.spline.specs.CurveCall.{positionLimit}
+use Rattle.spline.proofs.Pairs.{sideBySide-length}
 use Rattle.sorting.specs.Sorted.{sorted}
 use Rattle.printout.specs.Printout.{countLine, weightLines, valueLines, lowPositions, lowLines, answerText}
 use Rattle.printout.specs.Printed.{storedWeight, storedWeights, printed}
 use Rattle.printout.proofs.Printed.{answer-last}
+use Rattle.printout.proofs.Pairs.{paired-sideBySide}
 
 -- f 0 ++ f 1 ++ .. ++ f (n - 1)
 concat : {A : Type 0} → ℕ → (ℕ → List A) → List A
@@ -130,13 +133,14 @@ module _ (t : Table) (num den : List ℤ) where
       ∙ concat-ext (length t) (λ i l. row-listed i (omega arith) (w i l) ∙ ap (λ k. rowWeights k 0 (row t i)) (let e : i ≡ 0 + i = omega arith in e))
       ∙ sym (table-rows 0 t)
 
-  -- so what is printed from the buffers of an answered call is the printout of its table
-  pub printed-table : (xs vs : List ℤ) → length t ≤ rowCells → ((i : ℕ) → i < length t → length (row t i) ≤ rowCells)
+  -- so what is printed from the buffers of an answered call is the printout of its table and its pairs of values
+  pub printed-table : (xs : List ℤ) (vs : List Pair) → length t ≤ rowCells → ((i : ℕ) → i < length t → length (row t i) ≤ rowCells)
       → tableCells ≤ length num → tableCells ≤ length den → length xs ≤ positionLimit → length xs ≤ length vs
-      → printed (length t) (numerators t num) (denominators t den) xs vs ≡ answerText t xs vs
+      → printed (length t) (numerators t num) (denominators t den) xs (sideBySide vs) ≡ answerText t xs vs
   unfolding printed answerText
   printed-table xs vs h w a b e f =
       let n-long : length (numerators t num) ≡ length num = numerators-length t num a in
       let d-long : length (denominators t den) ≡ length den = denominators-length t den b in
-      rw (answer-last (length t) (numerators t num) (denominators t den) xs vs h (omega arith) (omega arith) e, le-leb (length xs) (length vs) f)
-      (ap (λ ws. countLine (length t) ++ (weightLines ws ++ (valueLines xs vs ++ lowLines (sorted (lowPositions xs vs))))) (stored-table h w))
+      let enough : length xs ≤ length (sideBySide vs) / 2 = omega (arith, sideBySide-length vs) in
+      rw (answer-last (length t) (numerators t num) (denominators t den) xs (sideBySide vs) h (omega arith) (omega arith) e, le-leb (length xs) (length (sideBySide vs) / 2) enough)
+      (ap₂ (λ ws ps. countLine (length t) ++ (weightLines ws ++ (valueLines xs ps ++ lowLines (sorted (lowPositions xs ps))))) (stored-table h w) (paired-sideBySide vs))

@@ -1,5 +1,6 @@
--- The printout (document 01, "Sheet and printout"): n, the w lines, the v lines and the low lines, or the refusal alone.
-use mathlib.Core.Bool.{cond}
+-- The printout (document 01, "Sheet and printout"; document 02, CR 10, for the two wood parts): n, the w lines, the v lines and
+-- the low lines, or the refusal alone.
+use mathlib.Core.Bool.{Bool, cond, _||_}
 use mathlib.Core.List.{List, [], _∷_, _++_, map}
 use Prim.Native.Nat.{ℕ}
 use lib.IntN.{ℤ, pos}
@@ -7,8 +8,9 @@ use lib.ListN.{length}
 use lib.Signed.{leZ}
 use Rattle.spline.specs.Table.{Table}
 use Rattle.spline.specs.Listing.{Weight, tableWeights}
+use Rattle.spline.specs.Reading.{Pair}
 use Rattle.sorting.specs.Sorted.{sorted}
-use Rattle.numerals.specs.Bytes.{Text, newline, comma, slash}
+use Rattle.numerals.specs.Bytes.{Text, newline, comma, slash, colon}
 use Rattle.numerals.specs.Numeral.{digits, decimal}
 
 -- The texts one after the other.
@@ -48,12 +50,12 @@ weightLine w = weightKey ++ (digits (w .row) ++ (comma ∷ (digits (w .column) +
 unfoldable pub weightLines : List Weight → Text
 weightLines ws = joined (map weightLine ws)
 
--- v=position,value
-unfoldable pub valueLine : ℤ → ℤ → Text
-valueLine x v = valueKey ++ (decimal x ++ (comma ∷ (decimal v ++ (newline ∷ []))))
+-- v=position,earlywood:latewood
+unfoldable pub valueLine : ℤ → Pair → Text
+valueLine x v = valueKey ++ (decimal x ++ (comma ∷ (decimal (v .early) ++ (colon ∷ (decimal (v .late) ++ (newline ∷ []))))))
 
 -- The values, in list order.
-unfoldable pub valueLines : List ℤ → List ℤ → Text
+unfoldable pub valueLines : List ℤ → List Pair → Text
 valueLines [] vs = []
 valueLines (x ∷ xs) [] = []
 valueLines (x ∷ xs) (v ∷ vs) = valueLine x v ++ valueLines xs vs
@@ -62,11 +64,15 @@ valueLines (x ∷ xs) (v ∷ vs) = valueLine x v ++ valueLines xs vs
 unfoldable pub lowLine : ℤ → Text
 lowLine x = lowKey ++ (decimal x ++ (newline ∷ []))
 
--- The positions of the list entries whose value is zero or less, in list order.
-unfoldable pub lowPositions : List ℤ → List ℤ → List ℤ
+-- "A position is low if either value is zero or less."
+unfoldable pub isLow : Pair → Bool
+isLow v = leZ (v .early) (pos 0) || leZ (v .late) (pos 0)
+
+-- The positions of the list entries that are low, in list order.
+unfoldable pub lowPositions : List ℤ → List Pair → List ℤ
 lowPositions [] vs = []
 lowPositions (x ∷ xs) [] = []
-lowPositions (x ∷ xs) (v ∷ vs) = cond (leZ v (pos 0)) (x ∷ lowPositions xs vs) (lowPositions xs vs)
+lowPositions (x ∷ xs) (v ∷ vs) = cond (isLow v) (x ∷ lowPositions xs vs) (lowPositions xs vs)
 
 -- A low line for each of these positions.
 unfoldable pub lowLines : List ℤ → Text
@@ -78,5 +84,5 @@ refusalLine number place = refusalKey ++ (digits number ++ (comma ∷ (digits pl
 
 -- The whole printout of an answer. "Low lines now come by rising position, a repeated position once for each time it was
 -- listed" (change request 6).
-unfoldable pub answerText : Table → List ℤ → List ℤ → Text
+unfoldable pub answerText : Table → List ℤ → List Pair → Text
 answerText t xs vs = countLine (length t) ++ (weightLines (tableWeights 0 t) ++ (valueLines xs vs ++ lowLines (sorted (lowPositions xs vs))))

@@ -2,7 +2,7 @@
 // the index after it. The limits on the index keep every sum from overflowing; a caller's limit is below its callees'.
 ghost use mathlib.Core.Path.{_≡_};
 ghost use mathlib.Core.List.{[], _∷_};
-ghost use Prim.Native.Nat.{_+_, _*_, _^_, _<_, _≤_};
+ghost use Prim.Native.Nat.{_+_, _*_, _/_, _^_, _<_, _≤_};
 ghost use lib.IntN.{natAbs};
 ghost use lib.ListN.{length, take};
 ghost use Rattle.spline.specs.Table.{rowCells, tableCells};
@@ -10,14 +10,14 @@ ghost use Rattle.spline.specs.CurveCall.{positionLimit};
 ghost use Rattle.printout.specs.Buffer.{written, Puts};
 ghost use Rattle.sorting.specs.Sorted.{sorted};
 ghost use Rattle.numerals.specs.Numeral.{digits, decimal};
-ghost use Rattle.printout.specs.Printout.{countLine, weightLines, valueLine, valueLines, lowLine, lowLines, lowPositions, refusalLine};
-ghost use Rattle.printout.specs.Printed.{placeText, fractionText, storedWeight, storedWeights, isAnswer, printed, printoutLimit};
+ghost use Rattle.printout.specs.Printout.{countLine, weightLines, valueLine, valueLines, isLow, lowLine, lowLines, lowPositions, refusalLine};
+ghost use Rattle.printout.specs.Printed.{countLineLimit, weightLineLimit, valueLineLimit, lowLineLimit, placeText, fractionText, storedWeight, storedWeights, paired, isAnswer, printed, printoutLimit};
 
 // The most positions of a call.
 const POSITIONS: usize = 4096;
 
 // One byte.
-fn put(out: &mut [u8], at: usize, byte: u8) -> usize
+pub fn put(out: &mut [u8], at: usize, byte: u8) -> usize
     requires { ⌜ at < 18446744073709551615 ⌝ }
     ensures { λ r. ⌜ Puts 1 at (byte ∷ []) (now (out .entry)) (now (out .exit)) r ⌝ }
 {
@@ -28,8 +28,8 @@ fn put(out: &mut [u8], at: usize, byte: u8) -> usize
 }
 
 // A key.
-fn put_text(out: &mut [u8], at: usize, text: &[u8]) -> usize
-    requires { ⌜ at ≤ 2 ^ 44 ⌝ }
+pub fn put_text(out: &mut [u8], at: usize, text: &[u8]) -> usize
+    requires { ⌜ at ≤ 2 ^ 63 ⌝ }
     ensures { λ r. ⌜ Puts (length (now (text .entry))) at (now (text .entry)) (now (out .entry)) (now (out .exit)) r ⌝ }
 {
     let mut next = at;
@@ -42,7 +42,7 @@ fn put_text(out: &mut [u8], at: usize, text: &[u8]) -> usize
 }
 
 // How many decimal digits a number has.
-fn digit_count(n: u64) -> usize
+pub fn digit_count(n: u64) -> usize
     ensures { λ r. ⌜ r ≡ length (digits n) ⌝ }
     ensures { λ r. ⌜ r ≤ 20 ⌝ }
 {
@@ -56,8 +56,8 @@ fn digit_count(n: u64) -> usize
 }
 
 // The digits of a number, from the last to the first.
-fn put_digits(out: &mut [u8], at: usize, n: u64) -> usize
-    requires { ⌜ at ≤ 2 ^ 44 ⌝ }
+pub fn put_digits(out: &mut [u8], at: usize, n: u64) -> usize
+    requires { ⌜ at ≤ 2 ^ 63 ⌝ }
     ensures { λ r. ⌜ Puts 20 at (digits n) (now (out .entry)) (now (out .exit)) r ⌝ }
 {
     let count = digit_count(n);
@@ -72,8 +72,8 @@ fn put_digits(out: &mut [u8], at: usize, n: u64) -> usize
 }
 
 // A signed number.
-fn put_decimal(out: &mut [u8], at: usize, z: i64) -> usize
-    requires { ⌜ at ≤ 2 ^ 43 ⌝ }
+pub fn put_decimal(out: &mut [u8], at: usize, z: i64) -> usize
+    requires { ⌜ at < 2 ^ 63 ⌝ }
     ensures { λ r. ⌜ Puts 21 at (decimal z) (now (out .entry)) (now (out .exit)) r ⌝ }
 {
     let size = fraction::magnitude(z);
@@ -87,7 +87,7 @@ fn put_decimal(out: &mut [u8], at: usize, z: i64) -> usize
 // n=rows
 fn put_count(out: &mut [u8], at: usize, n: usize) -> usize
     requires { ⌜ at ≤ 2 ^ 42 ⌝ }
-    ensures { λ r. ⌜ Puts 23 at (countLine n) (now (out .entry)) (now (out .exit)) r ⌝ }
+    ensures { λ r. ⌜ Puts countLineLimit at (countLine n) (now (out .entry)) (now (out .exit)) r ⌝ }
 {
     let a = put_text(out, at, b"n=");
     let b = put_digits(out, a, n as u64);
@@ -121,7 +121,7 @@ fn put_fraction(out: &mut [u8], at: usize, num: i64, den: i64) -> usize
 // The line of the weight in cell k, unless it is zero.
 fn put_cell(out: &mut [u8], at: usize, k: usize, num: i64, den: i64) -> usize
     requires { ⌜ at ≤ 2 ^ 42 ⌝ }
-    ensures { λ r. ⌜ Puts 87 at (weightLines (storedWeight k num den)) (now (out .entry)) (now (out .exit)) r ⌝ }
+    ensures { λ r. ⌜ Puts weightLineLimit at (weightLines (storedWeight k num den)) (now (out .entry)) (now (out .exit)) r ⌝ }
 {
     if num == 0 {
         return at;
@@ -133,7 +133,7 @@ fn put_cell(out: &mut [u8], at: usize, k: usize, num: i64, den: i64) -> usize
 // The lines of the non-zero weights of the first n rows.
 fn put_weights(out: &mut [u8], at: usize, n: usize, num: &[i64], den: &[i64]) -> usize
     requires { ⌜ (at ≤ 2 ^ 41) × (n ≤ rowCells) × (tableCells ≤ length (now num)) × (tableCells ≤ length (now den)) ⌝ }
-    ensures { λ r. ⌜ Puts (87 * (rowCells * n)) at (weightLines (storedWeights (rowCells * n) (now (num .entry)) (now (den .entry)))) (now (out .entry)) (now (out .exit)) r ⌝ }
+    ensures { λ r. ⌜ Puts (weightLineLimit * (rowCells * n)) at (weightLines (storedWeights (rowCells * n) (now (num .entry)) (now (den .entry)))) (now (out .entry)) (now (out .exit)) r ⌝ }
 {
     let cells = cells::ROW_CELLS * n;
     let mut next = at;
@@ -145,27 +145,29 @@ fn put_weights(out: &mut [u8], at: usize, n: usize, num: &[i64], den: &[i64]) ->
     next
 }
 
-// v=position,value
-fn put_value(out: &mut [u8], at: usize, x: i32, v: i32) -> usize
+// v=position,earlywood:latewood
+fn put_value(out: &mut [u8], at: usize, x: i32, early: i32, late: i32) -> usize
     requires { ⌜ at ≤ 2 ^ 42 ⌝ }
-    ensures { λ r. ⌜ Puts 46 at (valueLine x v) (now (out .entry)) (now (out .exit)) r ⌝ }
+    ensures { λ r. ⌜ Puts valueLineLimit at (valueLine x (record { early = early; late = late })) (now (out .entry)) (now (out .exit)) r ⌝ }
 {
     let a = put_text(out, at, b"v=");
     let b = put_decimal(out, a, x as i64);
     let c = put(out, b, b',');
-    let d = put_decimal(out, c, v as i64);
-    put(out, d, 10)
+    let d = put_decimal(out, c, early as i64);
+    let e = put(out, d, b':');
+    let f = put_decimal(out, e, late as i64);
+    put(out, f, 10)
 }
 
-// A line for each position with its value.
+// A line for each position with its two values.
 fn put_values(out: &mut [u8], at: usize, positions: &[i32], values: &[i32]) -> usize
-    requires { ⌜ (at ≤ 2 ^ 41) × (length (now positions) ≤ positionLimit) × (length (now positions) ≤ length (now values)) ⌝ }
-    ensures { λ r. ⌜ Puts (46 * length (now (positions .entry))) at (valueLines (now (positions .entry)) (now (values .entry))) (now (out .entry)) (now (out .exit)) r ⌝ }
+    requires { ⌜ (at ≤ 2 ^ 41) × (length (now positions) ≤ positionLimit) × (length (now positions) ≤ length (now values) / 2) ⌝ }
+    ensures { λ r. ⌜ Puts (valueLineLimit * length (now (positions .entry))) at (valueLines (now (positions .entry)) (paired (now (values .entry)))) (now (out .entry)) (now (out .exit)) r ⌝ }
 {
     let mut next = at;
     let mut k = 0;
     while k < positions.len() {
-        next = put_value(out, next, positions[k], values[k]);
+        next = put_value(out, next, positions[k], values[2 * k], values[2 * k + 1]);
         k += 1;
     }
     next
@@ -174,25 +176,32 @@ fn put_values(out: &mut [u8], at: usize, positions: &[i32], values: &[i32]) -> u
 // low=position
 fn put_low_line(out: &mut [u8], at: usize, x: i32) -> usize
     requires { ⌜ at ≤ 2 ^ 42 ⌝ }
-    ensures { λ r. ⌜ Puts 26 at (lowLine x) (now (out .entry)) (now (out .exit)) r ⌝ }
+    ensures { λ r. ⌜ Puts lowLineLimit at (lowLine x) (now (out .entry)) (now (out .exit)) r ⌝ }
 {
     let a = put_text(out, at, b"low=");
     let b = put_decimal(out, a, x as i64);
     put(out, b, 10)
 }
 
-// The positions of the entries whose value is zero or less, in list order, at the start of the lent list, and their count.
-// Every position is stored, and counted if it is low.
+// Whether either value is zero or less.
+fn is_low(early: i32, late: i32) -> bool
+    ensures { λ r. ⌜ r ≡ isLow (record { early = early; late = late }) ⌝ }
+{
+    early <= 0 || late <= 0
+}
+
+// The low positions, in list order, at the start of the lent list, and their count. Every position is stored, and counted if
+// it is low.
 fn low_positions(positions: &[i32], values: &[i32], lows: &mut [i32]) -> usize
-    requires { ⌜ (length (now positions) ≤ length (now values)) × (length (now positions) ≤ length (now lows)) ⌝ }
-    ensures { λ r. ⌜ r ≡ length (lowPositions (now (positions .entry)) (now (values .entry))) ⌝ }
-    ensures { λ r. ⌜ take r (now (lows .exit)) ≡ lowPositions (now (positions .entry)) (now (values .entry)) ⌝ }
+    requires { ⌜ (length (now positions) ≤ length (now values) / 2) × (length (now positions) ≤ length (now lows)) ⌝ }
+    ensures { λ r. ⌜ r ≡ length (lowPositions (now (positions .entry)) (paired (now (values .entry)))) ⌝ }
+    ensures { λ r. ⌜ take r (now (lows .exit)) ≡ lowPositions (now (positions .entry)) (paired (now (values .entry))) ⌝ }
 {
     let mut count = 0;
     let mut k = 0;
     while k < positions.len() {
         lows[count] = positions[k];
-        if values[k] <= 0 {
+        if is_low(values[2 * k], values[2 * k + 1]) {
             count += 1;
         }
         k += 1;
@@ -203,7 +212,7 @@ fn low_positions(positions: &[i32], values: &[i32], lows: &mut [i32]) -> usize
 // A low line for each of these positions.
 fn put_low_lines(out: &mut [u8], at: usize, lows: &[i32]) -> usize
     requires { ⌜ (at ≤ 2 ^ 41) × (length (now lows) ≤ positionLimit) ⌝ }
-    ensures { λ r. ⌜ Puts (26 * length (now (lows .entry))) at (lowLines (now (lows .entry))) (now (out .entry)) (now (out .exit)) r ⌝ }
+    ensures { λ r. ⌜ Puts (lowLineLimit * length (now (lows .entry))) at (lowLines (now (lows .entry))) (now (out .entry)) (now (out .exit)) r ⌝ }
 {
     let mut next = at;
     let mut k = 0;
@@ -214,10 +223,10 @@ fn put_low_lines(out: &mut [u8], at: usize, lows: &[i32]) -> usize
     next
 }
 
-// A low line for each entry whose value is zero or less, by rising position.
+// A low line for each entry with a value of zero or less, by rising position.
 fn put_lows(out: &mut [u8], at: usize, positions: &[i32], values: &[i32]) -> usize
-    requires { ⌜ (at ≤ 2 ^ 41) × (length (now positions) ≤ positionLimit) × (length (now positions) ≤ length (now values)) ⌝ }
-    ensures { λ r. ⌜ Puts (26 * length (now (positions .entry))) at (lowLines (sorted (lowPositions (now (positions .entry)) (now (values .entry))))) (now (out .entry)) (now (out .exit)) r ⌝ }
+    requires { ⌜ (at ≤ 2 ^ 41) × (length (now positions) ≤ positionLimit) × (length (now positions) ≤ length (now values) / 2) ⌝ }
+    ensures { λ r. ⌜ Puts (lowLineLimit * length (now (positions .entry))) at (lowLines (sorted (lowPositions (now (positions .entry)) (paired (now (values .entry)))))) (now (out .entry)) (now (out .exit)) r ⌝ }
 {
     let mut lows = [0; POSITIONS];
     let count = low_positions(positions, values, &mut lows);
@@ -241,11 +250,11 @@ fn is_answer(n: usize, num: &[i64], den: &[i64], positions: &[i32], values: &[i3
     if positions.len() > POSITIONS {
         return false;
     }
-    positions.len() <= values.len()
+    positions.len() <= values.len() / 2
 }
 
-// The printout of an answer: the first n rows of the two buffers, the values at the positions, and the low lines by rising
-// position. Where the arguments are not those of an answered call nothing is printed.
+// The printout of an answer: the first n rows of the two buffers, the two values at each position, side by side in the list,
+// and the low lines by rising position. Where the arguments are not those of an answered call nothing is printed.
 pub fn answer(
     n: usize,
     num: &[i64],

@@ -3,21 +3,24 @@
 use mathlib.Core.Path.{_≡_, refl, sym, _∙_, ap, ap₂, subst}
 use mathlib.Core.List.{List, [], _∷_, _++_}
 use mathlib.Core.Option.{Option, some, none}
-use Prim.Native.Nat.{ℕ, _+_, _≤_}
+use Prim.Native.Nat.{ℕ, _+_, _*_, _≤_}
 use native.Mathlib.Omega.{arith}
 use lib.Dec.{ltb}
 use lib.IntN.{ℤ}
 use lib.ListN.{length, take, drop, length-append}
 use lib.Seq.{slice, take-append-seam}
 use Rattle.spline.specs.Outcome.{Outcome, answer, refusal, refuse}
+use Rattle.spline.specs.Reading.{Pair, sideBySide}
 use Rattle.spline.proofs.Outcome.{answer-unique, answer-not-refusal, then-inverts}
+use Rattle.spline.proofs.Pairs.{sideBySide-length}
 use Rattle.spline.proofs.Legal.{cond-refuse-inverts}
 use Rattle.numerals.specs.Bytes.{Text, newline, Cut, cut, stripped, Part}
-use Rattle.sheet_lists.specs.SheetReading.{Lists, Line, listOf, lineOf, bodyOf, cutLine, line, readLine, breaksKey, degreesKey, ordersKey, coefsKey, atKey, ended, fiveLines, listLimit, textLimit, read}
-use Rattle.sheet_lists.specs.Reply.{ListAt, numbers, overwritten, Lengths, lengths, reply, counted, after}
+use Rattle.numerals.specs.Numeral.{numeral}
+use Rattle.sheet_lists.specs.SheetReading.{pair, Lists, Line, listOf, lineOf, bodyOf, cutLine, line, readLine, breaksKey, degreesKey, ordersKey, coefsKey, atKey, ended, fiveLines, listLimit, textLimit, read}
+use Rattle.sheet_lists.specs.Reply.{ListAt, numbersOf, numbers, overwritten, Lengths, lengths, reply, counted, after}
 use Rattle.sheet_lists.specs.declared.Lists.{Lists as Answer}
 use Rattle.sheet_lists.specs.declared.Lists.the-variants.{Read, Refused}
-use Rattle.sheet_lists.proofs.Filling.{list-few}
+use Rattle.sheet_lists.proofs.Numbers.{list-few, plain-numbers, pair-numbers}
 
 -- ---- from the outcome to the answer and the buffers
 pub refused : (text : Text) (place : ℕ) → read text ≡ refusal 10 place → (b d o c p : List ℤ) →
@@ -25,7 +28,7 @@ pub refused : (text : Text) (place : ℕ) → read text ≡ refusal 10 place →
     × ((b ≡ after (λ l. l .breaks) (read text) b)
     × ((d ≡ after (λ l. l .degrees) (read text) d)
     × ((o ≡ after (λ l. l .orders) (read text) o)
-    × ((c ≡ after (λ l. l .coefs) (read text) c)
+    × ((c ≡ after (λ l. sideBySide (l .coefs)) (read text) c)
     × (p ≡ after (λ l. l .positions) (read text) p)))))
 unfolding reply after
 refused text place e b d o c p = rw e (refl, (refl, (refl, (refl, (refl, refl)))))
@@ -34,21 +37,40 @@ pub answered : (text : Text) (l : Lists) → read text ≡ answer l → (list : 
 unfolding after
 answered text l e list before now h = rw e h
 
-pub replied : (text : Text) (l : Lists) → read text ≡ answer l → (b d o c p : ℕ) → b ≡ length (l .breaks) → d ≡ length (l .degrees) → o ≡ length (l .orders) → c ≡ length (l .coefs) → p ≡ length (l .positions) →
+pub replied : (text : Text) (l : Lists) → read text ≡ answer l → (b d o c p : ℕ) → b ≡ length (l .breaks) → d ≡ length (l .degrees) → o ≡ length (l .orders) → c ≡ length (sideBySide (l .coefs)) → p ≡ length (l .positions) →
     reply (Read b d o c p) ≡ counted (read text)
 unfolding reply
 replied text l e b d o c p hb hd ho hc hp = rw (e, hb, hd, ho, hc, hp)
 
 -- ---- writing a list
-module _ (text : Text) (zs : List ℤ) (start end : ℕ) (at : ListAt text zs start end) where
-  pub fill-ready : (room : ℕ) → room ≡ listLimit → Part text start end × ((listOf (slice start end text) ≡ some (numbers (listOf (slice start end text)))) × (length (numbers (listOf (slice start end text))) ≤ room))
-  fill-ready room h = (at .part, (rw (at .list), rw (at .list) (omega (arith, list-few (slice start end text) zs (at .list)))))
 
-  pub fill-count : (n : ℕ) → n ≡ length (numbers (listOf (slice start end text))) → n ≡ length zs
-  fill-count n e = e ∙ ap (λ (o : Option (List ℤ)). length (numbers o)) (at .list)
+-- A list with these numbers, at most so many, in a part of the text.
+pub record NumbersAt (limit : ℕ) (text : Text) (zs : List ℤ) (start end : ℕ) : Type 0 where
+  pub part : Part text start end
+  pub are : numbersOf (slice start end text) ≡ some zs
+  pub few : length zs ≤ limit
 
-  pub fill-written : (before now : List ℤ) → now ≡ overwritten (numbers (listOf (slice start end text))) before → now ≡ overwritten zs before
-  fill-written before now e = e ∙ ap (λ (o : Option (List ℤ)). overwritten (numbers o) before) (at .list)
+pub numbers-at : {text : Text} {zs : List ℤ} {start end : ℕ} → ListAt numeral text zs start end → NumbersAt listLimit text zs start end
+numbers-at {text} {zs} {start} {end} at = record { part = at .part; are = plain-numbers (slice start end text) zs (at .list); few = list-few numeral (slice start end text) zs (at .list) }
+
+-- two numbers for each pair
+pub pairs-at : {text : Text} {ps : List Pair} {start end : ℕ} → ListAt pair text ps start end → NumbersAt (2 * listLimit) text (sideBySide ps) start end
+pairs-at {text} {ps} {start} {end} at =
+    record {
+      part = at .part;
+      are = pair-numbers (slice start end text) ps (at .list);
+      few = omega (arith, sideBySide-length ps, list-few pair (slice start end text) ps (at .list));
+    }
+
+module _ (limit : ℕ) (text : Text) (zs : List ℤ) (start end : ℕ) (at : NumbersAt limit text zs start end) where
+  pub fill-ready : (room : ℕ) → room ≡ limit → Part text start end × ((numbersOf (slice start end text) ≡ some (numbers (numbersOf (slice start end text)))) × (length (numbers (numbersOf (slice start end text))) ≤ room))
+  fill-ready room h = (at .part, (rw (at .are), rw (at .are) (omega (arith, at .few))))
+
+  pub fill-count : (n : ℕ) → n ≡ length (numbers (numbersOf (slice start end text))) → n ≡ length zs
+  fill-count n e = e ∙ ap (λ (o : Option (List ℤ)). length (numbers o)) (at .are)
+
+  pub fill-written : (before now : List ℤ) → now ≡ overwritten (numbers (numbersOf (slice start end text))) before → now ≡ overwritten zs before
+  fill-written before now e = e ∙ ap (λ (o : Option (List ℤ)). overwritten (numbers o) before) (at .are)
 
 -- ---- from the answer and the buffers back to the outcome
 
@@ -88,25 +110,26 @@ module _ (list : Lists → List ℤ) {o : Outcome Lists} {l : Lists} (e : o ≡ 
 
 -- ---- the lengths of the lists
 
-record Found (key text : Text) (r : Line) : Type 0 where
+record Found {A : Type 0} (entry : Text → Option A) (r : Line A) : Type 0 where
   body : Text
-  is : listOf body ≡ some (r .list)
+  is : listOf entry body ≡ some (r .list)
 
-line-body : (key text : Text) (place : ℕ) (r : Line) → readLine place key text ≡ answer r → Found key text r
-unfolding readLine line
-line-body key text place r e = cuts (cut newline text) e
-  where
-    lists : (o : Option (List ℤ)) (rest : Text) → elim (lineOf o rest) [ none ↦ refuse 10 place | some l ↦ answer l ] ≡ answer r → o ≡ some (r .list)
-    lists none rest f = absurd (answer-not-refusal f refl)
-    lists (some zs) rest f = ap (λ l. some (l .list)) (answer-unique {a = record { list = zs; rest = rest }} refl f)
+module _ {A : Type 0} (entry : Text → Option A) (key text : Text) (place : ℕ) (r : Line A) where
+  line-body : readLine place entry key text ≡ answer r → Found entry r
+  unfolding readLine line
+  line-body e = cuts (cut newline text) e
+    where
+      lists : (o : Option (List A)) (rest : Text) → elim (lineOf o rest) [ none ↦ refuse 10 place | some l ↦ answer l ] ≡ answer r → o ≡ some (r .list)
+      lists none rest f = absurd (answer-not-refusal f refl)
+      lists (some xs) rest f = ap (λ l. some (l .list)) (answer-unique {a = record { list = xs; rest = rest }} refl f)
 
-    bodies : (o : Option Text) (rest : Text) → elim (lineOf (bodyOf o) rest) [ none ↦ refuse 10 place | some l ↦ answer l ] ≡ answer r → Found key text r
-    bodies none rest f = absurd (answer-not-refusal f refl)
-    bodies (some t) rest f = record { body = t; is = lists (listOf t) rest f }
+      bodies : (o : Option Text) (rest : Text) → elim (lineOf (bodyOf entry o) rest) [ none ↦ refuse 10 place | some l ↦ answer l ] ≡ answer r → Found entry r
+      bodies none rest f = absurd (answer-not-refusal f refl)
+      bodies (some t) rest f = record { body = t; is = lists (listOf entry t) rest f }
 
-    cuts : (o : Option Cut) → elim (cutLine key o) [ none ↦ refuse 10 place | some l ↦ answer l ] ≡ answer r → Found key text r
-    cuts none f = absurd (answer-not-refusal f refl)
-    cuts (some c) f = bodies (stripped key (c .before)) (c .after) f
+      cuts : (o : Option Cut) → elim (cutLine entry key o) [ none ↦ refuse 10 place | some l ↦ answer l ] ≡ answer r → Found entry r
+      cuts none f = absurd (answer-not-refusal f refl)
+      cuts (some c) f = bodies (stripped key (c .before)) (c .after) f
 
 ended-positions : (rest : Text) (m l : Lists) → ended rest m ≡ answer l → m .positions ≡ l .positions
 ended-positions [] m l e = ap (λ q. q .positions) (answer-unique {a = m} {b = l} refl e)
@@ -117,13 +140,13 @@ pub positions-few : (text : Text) (l : Lists) → read text ≡ answer l → len
 unfolding read fiveLines
 positions-few text l e =
     let f = cond-refuse-inverts (ltb textLimit (length text)) 10 0 (fiveLines text) e .1 in
-    let b = then-inverts (readLine 1 breaksKey text) _ f in
-    let d = then-inverts (readLine 2 degreesKey (b .middle .rest)) _ (b .after) in
-    let o = then-inverts (readLine 3 ordersKey (d .middle .rest)) _ (d .after) in
-    let c = then-inverts (readLine 4 coefsKey (o .middle .rest)) _ (o .after) in
-    let p = then-inverts (readLine 5 atKey (c .middle .rest)) _ (c .after) in
-    let t = line-body atKey (c .middle .rest) 5 (p .middle) (p .before) in
-    let few : length (p .middle .list) ≤ listLimit = list-few (t .body) (p .middle .list) (t .is) in
+    let b = then-inverts (readLine 1 numeral breaksKey text) _ f in
+    let d = then-inverts (readLine 2 numeral degreesKey (b .middle .rest)) _ (b .after) in
+    let o = then-inverts (readLine 3 numeral ordersKey (d .middle .rest)) _ (d .after) in
+    let c = then-inverts (readLine 4 pair coefsKey (o .middle .rest)) _ (o .after) in
+    let p = then-inverts (readLine 5 numeral atKey (c .middle .rest)) _ (c .after) in
+    let t = line-body numeral atKey (c .middle .rest) 5 (p .middle) (p .before) in
+    let few : length (p .middle .list) ≤ listLimit = list-few numeral (t .body) (p .middle .list) (t .is) in
     let m : Lists = record { breaks = b .middle .list; degrees = d .middle .list; orders = o .middle .list; coefs = c .middle .list; positions = p .middle .list } in
     let same : p .middle .list ≡ l .positions = ended-positions (p .middle .rest) m l (p .after) in
     subst (λ xs. length xs ≤ listLimit) same few

@@ -1,53 +1,44 @@
 -- Writing a list's numbers into a buffer from the front, one field at a time.
 use mathlib.Core.Path.{_≡_, refl, sym, _∙_, ap}
-use mathlib.Core.Bool.{Bool, true, false, cond}
 use mathlib.Core.List.{List, [], _∷_, _++_, append-assoc}
 use mathlib.Core.Option.{Option, some, none}
 use Prim.Native.Nat.{ℕ, suc, _+_, _<_, _≤_}
 use native.Mathlib.Numerals.{add-one}
 use native.Mathlib.Omega.{arith}
-use borrow.Author.Tests.{leb-true}
-use lib.Dec.{leb}
 use lib.IntN.{ℤ}
 use lib.ListN.{length, getD, take, drop, set, length-drop}
-use lib.Seq.{drop-cons, take-suc, set-at, length-take-le, length-front, take-length}
-use Rattle.numerals.specs.Bytes.{Text, fields}
+use lib.Seq.{slice, slice-empty, drop-cons, take-suc, set-at, length-take-le, length-front, take-length}
+use Rattle.numerals.specs.Bytes.{Text, fieldsBetween}
 use Rattle.numerals.specs.Numeral.{numeral}
-use Rattle.sheet_lists.specs.SheetReading.{prepended, numerals, limitedList, listOf, listLimit}
-use Rattle.sheet_lists.specs.Reply.{overwritten}
-use Rattle.sheet_lists.proofs.Entries.{list-fields}
+use Rattle.sheet_lists.specs.SheetReading.{prepended, entries}
+use Rattle.sheet_lists.specs.Reply.{isSeparator, numbersOf, overwritten}
 
 -- The buffer holds the first n numbers of a list in front of what it held before, and the text that is left is the list of
 -- the others.
 pub record Filled (zs : List ℤ) (left : Text) (before now : List ℤ) (n : ℕ) : Type 0 where
   pub up-to : n ≤ length zs
   pub room : length zs ≤ length before
-  pub others : numerals (fields left) ≡ some (drop n zs)
+  pub others : entries numeral (fieldsBetween isSeparator left) ≡ some (drop n zs)
   pub written : now ≡ take n zs ++ drop n before
 
-limited-some : (o : Option (List ℤ)) (zs : List ℤ) → limitedList o ≡ some zs → (o ≡ some zs) × (length zs ≤ listLimit)
-limited-some none zs e = absurd (let x : _≡_ {A = ℕ} 0 1 = cc in omega arith)
-limited-some (some ys) zs e = go (leb (length ys) listLimit) refl e
-  where
-    go : (b : Bool) → leb (length ys) listLimit ≡ b → cond b (some ys) none ≡ some zs → (some ys ≡ some zs) × (length zs ≤ listLimit)
-    go true k e = (e, let same : ys ≡ zs = cc in rw same at (leb-true (length ys) listLimit k))
-    go false k e = absurd (let x : _≡_ {A = ℕ} 0 1 = cc in omega arith)
+-- the numbers of a text that is not empty
+pub numbers-fields : (t : Text) → 0 < length t → numbersOf t ≡ entries numeral (fieldsBetween isSeparator t)
+unfolding numbersOf
+numbers-fields [] h = absurd (omega arith)
+numbers-fields (c ∷ cs) h = refl
 
--- no list has more numbers than the limit
-pub list-few : (t : Text) (zs : List ℤ) → listOf t ≡ some zs → length zs ≤ listLimit
-unfolding listOf
-list-few [] zs e = let empty : zs ≡ [] = cc in rw empty (omega arith)
-list-few (c ∷ cs) zs e = limited-some (numerals (fields (c ∷ cs))) zs e .1
+pub numbers-empty : (text : Text) (to : ℕ) → numbersOf (slice to to text) ≡ some []
+unfolding numbersOf
+numbers-empty text to = ap numbersOf (slice-empty to text)
 
-pub filled-start : (t : Text) → 0 < length t → (zs before : List ℤ) → listOf t ≡ some zs → length zs ≤ length before → Filled zs t before before 0
+pub filled-start : (t : Text) → 0 < length t → (zs before : List ℤ) → numbersOf t ≡ some zs → length zs ≤ length before → Filled zs t before before 0
 filled-start t h zs before e room =
-    let good = limited-some (numerals (fields t)) zs (sym (list-fields t h) ∙ e) in
-    record { up-to = omega arith; room = room; others = good .0; written = refl }
+    record { up-to = omega arith; room = room; others = sym (numbers-fields t h) ∙ e; written = refl }
 
-prepended-some : (a : Option ℤ) (o : Option (List ℤ)) (l : List ℤ) → prepended a o ≡ some l → (z : ℤ) × (ws : List ℤ) × (a ≡ some z) × (o ≡ some ws) × (l ≡ z ∷ ws)
+pub prepended-some : {A : Type 0} (a : Option A) (o : Option (List A)) (l : List A) → prepended a o ≡ some l → (x : A) × (ys : List A) × (a ≡ some x) × (o ≡ some ys) × (l ≡ x ∷ ys)
 prepended-some none o l e = absurd (let x : _≡_ {A = ℕ} 0 1 = cc in omega arith)
-prepended-some (some z) none l e = absurd (let x : _≡_ {A = ℕ} 0 1 = cc in omega arith)
-prepended-some (some z) (some ws) l e = (z, ws, refl, refl, cc)
+prepended-some (some x) none l e = absurd (let x : _≡_ {A = ℕ} 0 1 = cc in omega arith)
+prepended-some (some x) (some ys) l e = (x, ys, refl, refl, cc)
 
 -- one store behind the first n numbers
 module _ (zs before : List ℤ) (n : ℕ) (z : ℤ) (ws : List ℤ) (next : drop n zs ≡ z ∷ ws) (room : length zs ≤ length before) where
@@ -69,13 +60,13 @@ module _ (zs before : List ℤ) (n : ℕ) (z : ℤ) (ws : List ℤ) (next : drop
 -- One more number.
 pub record Stored (zs : List ℤ) (fs : List Text) (before now : List ℤ) (n : ℕ) (z : ℤ) : Type 0 where
   pub below : n < length zs
-  pub others : numerals fs ≡ some (drop (n + 1) zs)
+  pub others : entries numeral fs ≡ some (drop (n + 1) zs)
   pub written : set now n z ≡ take (n + 1) zs ++ drop (n + 1) before
 
-module _ (zs : List ℤ) (left : Text) (before now : List ℤ) (n : ℕ) (filled : Filled zs left before now n) (f : Text) (fs : List Text) (first : fields left ≡ f ∷ fs) where
-  parts : (z : ℤ) × (ws : List ℤ) × (numeral f ≡ some z) × (numerals fs ≡ some ws) × (drop n zs ≡ z ∷ ws)
-  unfolding numerals
-  parts = prepended-some (numeral f) (numerals fs) (drop n zs) (ap numerals (sym first) ∙ filled .others)
+module _ (zs : List ℤ) (left : Text) (before now : List ℤ) (n : ℕ) (filled : Filled zs left before now n) (f : Text) (fs : List Text) (first : fieldsBetween isSeparator left ≡ f ∷ fs) where
+  parts : (z : ℤ) × (ws : List ℤ) × (numeral f ≡ some z) × (entries numeral fs ≡ some ws) × (drop n zs ≡ z ∷ ws)
+  unfolding entries
+  parts = prepended-some (numeral f) (entries numeral fs) (drop n zs) (ap (entries numeral) (sym first) ∙ filled .others)
 
   pub field-good : numeral f ≡ none → ⊥
   field-good e = let q = parts .2 in let x : _≡_ {A = ℕ} 0 1 = cc in omega arith
@@ -97,12 +88,12 @@ filled-length zs left before now n f =
     ap length (f .written) ∙ length-front before (take n zs) n (length-take-le n zs (f .up-to) ∙ sym (length-take-le n before short))
 
 -- between two fields
-pub filled-next : (zs : List ℤ) (left : Text) (before now : List ℤ) (n : ℕ) (z : ℤ) → length zs ≤ length before → Stored zs (fields left) before now n z → Filled zs left before (set now n z) (n + 1)
+pub filled-next : (zs : List ℤ) (left : Text) (before now : List ℤ) (n : ℕ) (z : ℤ) → length zs ≤ length before → Stored zs (fieldsBetween isSeparator left) before now n z → Filled zs left before (set now n z) (n + 1)
 filled-next zs left before now n z room s = record { up-to = omega (arith, s .below); room = room; others = s .others; written = s .written }
 
 -- after the last field the whole list is written
 pub filled-last : (zs before now : List ℤ) (n : ℕ) (z : ℤ) → Stored zs [] before now n z → (n + 1 ≡ length zs) × (set now n z ≡ overwritten zs before)
-unfolding numerals
+unfolding entries
 filled-last zs before now n z s =
     let none-left : drop (n + 1) zs ≡ [] = cc (s .others) in
     let all : n + 1 ≡ length zs = omega (arith, s .below, length-drop (n + 1) zs, ap length none-left) in

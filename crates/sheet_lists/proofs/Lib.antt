@@ -1,7 +1,9 @@
 -- Laws of lists, lines and the sheet that the proofs of sheet_lists share; Answers is also for a caller, RoundTrip and
 -- Examples are of the definitions alone.
 pub mod Entries
+pub mod Parts
 pub mod Filling
+pub mod Numbers
 pub mod Lines
 pub mod Sheets
 pub mod Answers

@@ -1,106 +1,168 @@
--- What is written for lists reads back to them: a list's fields are its numbers, a line gives its list and what follows it,
+-- What is written for lists reads back to them: a list's fields are its entries, a line gives its list and what follows it,
 -- and so the five lines give the five lists.
 use mathlib.Core.Path.{_≡_, refl, sym, _∙_, ap, ap₂}
-use mathlib.Core.Bool.{Bool, true, cond}
+use mathlib.Core.Bool.{Bool, true, false, cond, _&&_, not}
 use mathlib.Core.List.{List, [], _∷_, _++_, map, append-assoc, append-nil}
 use mathlib.Core.Option.{Option, some, none}
 use Prim.Native.Nat.{ℕ, suc, _<_, _≤_}
 use native.Mathlib.Omega.{arith}
 use borrow.Author.Tests.{le-leb}
+use lib.Dec.{eqb}
 use lib.IntN.{ℤ, pos, natAbs}
 use lib.ListN.{length, length-append, getD}
 use Rattle.spline.specs.Outcome.{Outcome, _then_}
-use Rattle.numerals.specs.Bytes.{Text, newline, comma, cut, fields}
-use Rattle.numerals.specs.Numeral.{decimal, numberLimit}
+use Rattle.spline.specs.Reading.{Pair, sideBySide}
+use Rattle.numerals.specs.Bytes.{Text, newline, comma, minus, colon, cut, fields}
+use Rattle.numerals.specs.Numeral.{isDigit, numeral, decimal, numberLimit}
 use Rattle.numerals.proofs.RoundTrip.{numeral-reads-back, decimal-any}
-use Rattle.numerals.proofs.Lacking.{lacks, lacks-append, decimal-lacks, cut-first, fields-only, fields-first, stripped-key}
-use Rattle.sheet_lists.specs.SheetReading.{prepended, numerals, limitedList, listOf, listLimit, Line, lineOf, bodyOf, cutLine, line, readLine, breaksKey, degreesKey, ordersKey, coefsKey, atKey, Lists, fiveLines}
-use Rattle.sheet_lists.specs.SheetText.{commaJoined, listText, lineText, sheetText, Writable, SheetReadsBack}
+use Rattle.numerals.proofs.Lacking.{lacks, byte, byte-outside, lacks-append, decimal-lacks, cut-first, fields-only, fields-first, stripped-key}
+use Rattle.sheet_lists.specs.SheetReading.{bothOf, sidesOf, pair, prepended, entries, limitedList, listOf, listLimit, Line, lineOf, bodyOf, cutLine, line, readLine, breaksKey, degreesKey, ordersKey, coefsKey, atKey, Lists, fiveLines}
+use Rattle.sheet_lists.specs.SheetText.{pairText, commaJoined, listText, lineText, sheetText, WritableNumbers, WritablePairs, SheetReadsBack}
 use Rattle.sheet_lists.proofs.Entries.{list-fields}
-use Rattle.sheet_lists.proofs.Sheets.{read-short, line-answers, lists, after-one, after-two, after-three, after-four, after-five}
+use Rattle.sheet_lists.proofs.Sheets.{NumberLine, PairLine, read-short, line-answers, lists, after-one, after-two, after-three, after-four, after-five}
+
+-- ---- entries
+
+-- What is written for an entry: no comma, no byte 10, not empty, and it reads back.
+record Shown {A : Type 0} (entry : Text → Option A) (text : A → Text) (x : A) : Type 0 where
+  no-comma : lacks (byte comma) (text x) ≡ true
+  no-newline : lacks (byte newline) (text x) ≡ true
+  any : 1 ≤ length (text x)
+  back : entry (text x) ≡ some x
+
+-- All entries of a list are written so.
+abbrev AllShown : {A : Type 0} → (Text → Option A) → (A → Text) → List A → Type 0
+AllShown entry text [] = Unit {0}
+AllShown entry text (x ∷ xs) = Shown entry text x × AllShown entry text xs
+
+number-shown : (z : ℤ) → natAbs z < numberLimit → Shown numeral decimal z
+number-shown z h =
+    record {
+      no-comma = decimal-lacks (byte comma) (byte-outside comma refl refl) z;
+      no-newline = decimal-lacks (byte newline) (byte-outside newline refl refl) z;
+      any = decimal-any z;
+      back = numeral-reads-back z h;
+    }
+
+pair-lacks : (b : ℕ) → isDigit b ≡ false → eqb minus b ≡ false → eqb colon b ≡ false → (p : Pair) → lacks (byte b) (pairText p) ≡ true
+unfolding pairText
+pair-lacks b d m k p =
+    let side = decimal-lacks (byte b) (byte-outside b d m) in
+    lacks-append (byte b) (decimal (p .early)) (colon ∷ decimal (p .late)) (side (p .early))
+    (ap₂ (λ (x y : Bool). not x && y) k (side (p .late)))
+
+pair-shown : (p : Pair) → natAbs (p .early) < numberLimit → natAbs (p .late) < numberLimit → Shown pair pairText p
+unfolding pair pairText
+pair-shown p h k =
+    record {
+      no-comma = pair-lacks comma refl refl refl p;
+      no-newline = pair-lacks newline refl refl refl p;
+      any = omega (arith, length-append (decimal (p .early)) (colon ∷ decimal (p .late)));
+      back =
+          ap sidesOf (cut-first colon (decimal (p .early)) (decimal (p .late)) (decimal-lacks (byte colon) (byte-outside colon refl refl) (p .early)))
+          ∙ ap₂ bothOf (numeral-reads-back (p .early) h) (numeral-reads-back (p .late) k);
+    }
+
+all-numbers : (zs : List ℤ) → ((i : ℕ) → natAbs (getD zs i (pos 0)) < numberLimit) → AllShown numeral decimal zs
+all-numbers [] h = tt
+all-numbers (z ∷ zs) h = (number-shown z (h 0), all-numbers zs (λ i. h (suc i)))
+
+all-pairs : (ps : List Pair) → ((i : ℕ) → natAbs (getD (sideBySide ps) i (pos 0)) < numberLimit) → AllShown pair pairText ps
+unfolding sideBySide
+all-pairs [] h = tt
+all-pairs (p ∷ ps) h = (pair-shown p (h 0) (h 1), all-pairs ps (λ i. h (suc (suc i))))
 
 -- ---- lists
-fields-joined : (z : ℤ) (zs : List ℤ) → fields (listText (z ∷ zs)) ≡ map decimal (z ∷ zs)
-unfolding listText commaJoined
-fields-joined z [] = fields-only (decimal z) (decimal-lacks comma z (omega arith))
-fields-joined z (y ∷ zs) =
-    fields-first (decimal z) (listText (y ∷ zs)) (decimal-lacks comma z (omega arith))
-    ∙ ap (λ (fs : List Text). decimal z ∷ fs) (fields-joined y zs)
+module _ {A : Type 0} (entry : Text → Option A) (text : A → Text) where
+  fields-joined : (x : A) (xs : List A) → AllShown entry text (x ∷ xs) → fields (listText text (x ∷ xs)) ≡ map text (x ∷ xs)
+  unfolding listText commaJoined
+  fields-joined x [] h = fields-only (byte comma) (text x) (h .0 .no-comma)
+  fields-joined x (y ∷ xs) h =
+      fields-first (byte comma) (text x) comma (listText text (y ∷ xs)) refl (h .0 .no-comma)
+      ∙ ap (λ (fs : List Text). text x ∷ fs) (fields-joined y xs (h .1))
 
-list-lacks-newline : (zs : List ℤ) → lacks newline (listText zs) ≡ true
-unfolding listText commaJoined
-list-lacks-newline [] = refl
-list-lacks-newline (z ∷ []) = decimal-lacks newline z (omega arith)
-list-lacks-newline (z ∷ y ∷ zs) = lacks-append newline (decimal z) (comma ∷ listText (y ∷ zs)) (decimal-lacks newline z (omega arith)) (list-lacks-newline (y ∷ zs))
+  list-lacks-newline : (xs : List A) → AllShown entry text xs → lacks (byte newline) (listText text xs) ≡ true
+  unfolding listText commaJoined
+  list-lacks-newline [] h = refl
+  list-lacks-newline (x ∷ []) h = h .0 .no-newline
+  list-lacks-newline (x ∷ y ∷ xs) h = lacks-append (byte newline) (text x) (comma ∷ listText text (y ∷ xs)) (h .0 .no-newline) (list-lacks-newline (y ∷ xs) (h .1))
 
-numerals-decimal : (zs : List ℤ) → ((i : ℕ) → natAbs (getD zs i (pos 0)) < numberLimit) → numerals (map decimal zs) ≡ some zs
-unfolding numerals
-numerals-decimal [] h = refl
-numerals-decimal (z ∷ zs) h = ap₂ prepended (numeral-reads-back z (h 0)) (numerals-decimal zs (λ i. h (suc i)))
+  entries-back : (xs : List A) → AllShown entry text xs → entries entry (map text xs) ≡ some xs
+  unfolding entries
+  entries-back [] h = refl
+  entries-back (x ∷ xs) h = ap₂ prepended (h .0 .back) (entries-back xs (h .1))
 
--- a list of one number or more is no empty text
-list-any : (z : ℤ) (zs : List ℤ) → 1 ≤ length (listText (z ∷ zs))
-unfolding listText commaJoined
-list-any z [] = decimal-any z
-list-any z (y ∷ zs) = omega (arith, decimal-any z, length-append (decimal z) (comma ∷ listText (y ∷ zs)))
+  -- a list of one entry or more is no empty text
+  list-any : (x : A) (xs : List A) → AllShown entry text (x ∷ xs) → 1 ≤ length (listText text (x ∷ xs))
+  unfolding listText commaJoined
+  list-any x [] h = h .0 .any
+  list-any x (y ∷ xs) h = omega (arith, h .0 .any, length-append (text x) (comma ∷ listText text (y ∷ xs)))
 
-pub list-reads-back : (zs : List ℤ) → Writable zs → listOf (listText zs) ≡ some zs
-unfolding listOf listText commaJoined
-list-reads-back [] w = refl
-list-reads-back (z ∷ zs) w =
-    list-fields (listText (z ∷ zs)) (list-any z zs)
-    ∙ ap limitedList (ap numerals (fields-joined z zs) ∙ numerals-decimal (z ∷ zs) (w .small))
-    ∙ ap (λ (b : Bool). cond b (some (z ∷ zs)) none) (le-leb (length (z ∷ zs)) listLimit (w .few))
+  list-reads-back : (xs : List A) → length xs ≤ listLimit → AllShown entry text xs → listOf entry (listText text xs) ≡ some xs
+  unfolding listOf listText commaJoined
+  list-reads-back [] few h = refl
+  list-reads-back (x ∷ xs) few h =
+      list-fields entry (listText text (x ∷ xs)) (list-any x xs h)
+      ∙ ap limitedList (ap (entries entry) (fields-joined x xs h) ∙ entries-back (x ∷ xs) h)
+      ∙ ap (λ (b : Bool). cond b (some (x ∷ xs)) none) (le-leb (length (x ∷ xs)) listLimit few)
 
--- ---- lines
-pub line-reads-back : (key : Text) → lacks newline key ≡ true → (zs : List ℤ) → Writable zs → (rest : Text) → line key (lineText key zs ++ rest) ≡ some (record { list = zs; rest = rest })
-unfolding line lineText
-line-reads-back key h zs w rest =
-    let shape : (key ++ (listText zs ++ (newline ∷ []))) ++ rest ≡ (key ++ listText zs) ++ (newline ∷ rest) = simp append-assoc in
-    ap (λ (t : Text). cutLine key (cut newline t)) shape
-    ∙ ap (cutLine key) (cut-first newline (key ++ listText zs) rest (lacks-append newline key (listText zs) h (list-lacks-newline zs)))
-    ∙ ap (λ (o : Option Text). lineOf (bodyOf o) rest) (stripped-key key (listText zs))
-    ∙ ap (λ (o : Option (List ℤ)). lineOf o rest) (list-reads-back zs w)
+  -- ---- lines
+  line-reads-back : (key : Text) → lacks (byte newline) key ≡ true → (xs : List A) → length xs ≤ listLimit → AllShown entry text xs → (rest : Text) → line entry key (lineText text key xs ++ rest) ≡ some (record { list = xs; rest = rest })
+  unfolding line lineText
+  line-reads-back key k xs few h rest =
+      let shape : (key ++ (listText text xs ++ (newline ∷ []))) ++ rest ≡ (key ++ listText text xs) ++ (newline ∷ rest) = simp append-assoc in
+      ap (λ (t : Text). cutLine entry key (cut newline t)) shape
+      ∙ ap (cutLine entry key) (cut-first newline (key ++ listText text xs) rest (lacks-append (byte newline) key (listText text xs) k (list-lacks-newline xs h)))
+      ∙ ap (λ (o : Option Text). lineOf (bodyOf entry o) rest) (stripped-key key (listText text xs))
+      ∙ ap (λ (o : Option (List A)). lineOf o rest) (list-reads-back xs few h)
 
--- a line at the head of what is left to read
-module _ (place : ℕ) (key : Text) (h : lacks newline key ≡ true) (zs : List ℤ) (w : Writable zs) (next : Line → Outcome Lists) where
-  goes-on : (rest : Text) → (readLine place key (lineText key zs ++ rest) then next) ≡ next (record { list = zs; rest = rest })
-  goes-on rest = ap (λ (o : Outcome Line). o then next) (line-answers place key (lineText key zs ++ rest) (line-reads-back key h zs w rest))
+  -- a line at the head of what is left to read
+  module _ (place : ℕ) (key : Text) (k : lacks (byte newline) key ≡ true) (xs : List A) (few : length xs ≤ listLimit) (h : AllShown entry text xs) (next : Line A → Outcome Lists) where
+    goes-on : (rest : Text) → (readLine place entry key (lineText text key xs ++ rest) then next) ≡ next (record { list = xs; rest = rest })
+    goes-on rest = ap (λ (o : Outcome (Line A)). o then next) (line-answers entry place key (lineText text key xs ++ rest) (line-reads-back key k xs few h rest))
+
+abbrev numbers-go-on : (place : ℕ) (key : Text) → lacks (byte newline) key ≡ true → (zs : List ℤ) → WritableNumbers zs → (next : NumberLine → Outcome Lists) (rest : Text) →
+    (readLine place numeral key (lineText decimal key zs ++ rest) then next) ≡ next (record { list = zs; rest = rest })
+numbers-go-on place key k zs w = goes-on numeral decimal place key k zs (w .few) (all-numbers zs (w .small))
+
+abbrev pairs-go-on : (place : ℕ) (key : Text) → lacks (byte newline) key ≡ true → (ps : List Pair) → WritablePairs ps → (next : PairLine → Outcome Lists) (rest : Text) →
+    (readLine place pair key (lineText pairText key ps ++ rest) then next) ≡ next (record { list = ps; rest = rest })
+pairs-go-on place key k ps w = goes-on pair pairText place key k ps (w .few) (all-pairs ps (w .small))
 
 -- ---- the sheet
 -- The lines of a sheet, each with the text after it.
 module _ (l : Lists) where
   abbrev after-coefs : Text
-  after-coefs = lineText atKey (l .positions)
+  after-coefs = lineText decimal atKey (l .positions)
 
   abbrev after-orders : Text
-  after-orders = lineText coefsKey (l .coefs) ++ after-coefs
+  after-orders = lineText pairText coefsKey (l .coefs) ++ after-coefs
 
   abbrev after-degrees : Text
-  after-degrees = lineText ordersKey (l .orders) ++ after-orders
+  after-degrees = lineText decimal ordersKey (l .orders) ++ after-orders
 
   abbrev after-breaks : Text
-  after-breaks = lineText degreesKey (l .degrees) ++ after-degrees
+  after-breaks = lineText decimal degreesKey (l .degrees) ++ after-degrees
 
-  abbrev first : Line
+  abbrev first : NumberLine
   first = record { list = l .breaks; rest = after-breaks }
 
-  abbrev second : Line
+  abbrev second : NumberLine
   second = record { list = l .degrees; rest = after-degrees }
 
-  abbrev third : Line
+  abbrev third : NumberLine
   third = record { list = l .orders; rest = after-orders }
 
-  abbrev fourth : Line
+  abbrev fourth : PairLine
   fourth = record { list = l .coefs; rest = after-coefs }
 
 pub sheet-reads-back : SheetReadsBack
 unfolding sheetText fiveLines
 sheet-reads-back l b d o c p short =
     read-short (sheetText l) short
-    ∙ goes-on 1 breaksKey refl (l .breaks) b (after-one lists) (after-breaks l)
-    ∙ goes-on 2 degreesKey refl (l .degrees) d (after-two (lists (first l))) (after-degrees l)
-    ∙ goes-on 3 ordersKey refl (l .orders) o (after-three (lists (first l) (second l))) (after-orders l)
-    ∙ goes-on 4 coefsKey refl (l .coefs) c (after-four (lists (first l) (second l) (third l))) (after-coefs l)
-    ∙ ap (λ (t : Text). readLine 5 atKey t then after-five (lists (first l) (second l) (third l) (fourth l))) (sym (append-nil (after-coefs l)))
-    ∙ goes-on 5 atKey refl (l .positions) p (after-five (lists (first l) (second l) (third l) (fourth l))) []
+    ∙ numbers-go-on 1 breaksKey refl (l .breaks) b (after-one lists) (after-breaks l)
+    ∙ numbers-go-on 2 degreesKey refl (l .degrees) d (after-two (lists (first l))) (after-degrees l)
+    ∙ numbers-go-on 3 ordersKey refl (l .orders) o (after-three (lists (first l) (second l))) (after-orders l)
+    ∙ pairs-go-on 4 coefsKey refl (l .coefs) c (after-four (lists (first l) (second l) (third l))) (after-coefs l)
+    ∙ ap (λ (t : Text). readLine 5 numeral atKey t then after-five (lists (first l) (second l) (third l) (fourth l))) (sym (append-nil (after-coefs l)))
+    ∙ numbers-go-on 5 atKey refl (l .positions) p (after-five (lists (first l) (second l) (third l) (fourth l))) []

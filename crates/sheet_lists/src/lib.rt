@@ -1,28 +1,39 @@
 // Reading the five lines: first all of them are looked through, and only then are the lists written.
 ghost use mathlib.Core.Option.{some};
 ghost use mathlib.Core.Path.{_≡_};
-ghost use Prim.Native.Nat.{_≤_};
+ghost use Prim.Native.Nat.{_+_, _≤_};
 ghost use lib.ListN.{length, drop};
 ghost use lib.Seq.{slice};
-ghost use Rattle.numerals.specs.Bytes.{Part};
+ghost use Rattle.numerals.specs.Bytes.{Part, indexWhere};
+ghost use Rattle.numerals.specs.Numeral;
 ghost use Rattle.sheet_lists.specs.SheetReading;
 ghost use Rattle.sheet_lists.specs.SheetReading.{listOf};
-ghost use Rattle.sheet_lists.specs.Reply.{count, numbers, overwritten, LineAt, Scanned, reply, readEnd};
+ghost use Rattle.sheet_lists.specs.Reply.{entryOf, isSome, count, numbersOf, numbers, isSeparator, overwritten, LineAt, Scanned, reply, readEnd};
 use numerals::numeral::Field;
 
 const TEXT_LIMIT: usize = 65536;
 
+// The most entries of a list.
 pub const LIST_LIMIT: usize = 4096;
 
-// The number of entries of the five lists, or the place of number 10.
+// The most numbers of the list of coefficients, two a pair.
+pub const COEFFICIENT_NUMBERS: usize = 8192;
+
+// How many numbers the five lists have, two for each pair of coefficients, or the place of number 10.
 pub enum Lists {
     Read(usize, usize, usize, usize, usize),
     Refused(u32),
 }
 
-// How many numbers a list has, if it is one.
+// What the entries of a list are: numbers, or pairs earlywood:latewood.
+enum Entry {
+    Number,
+    Pair,
+}
+
+// How many entries a list has, if it is one.
 enum Count {
-    Numbers(usize),
+    Entries(usize),
     Bad,
 }
 
@@ -38,41 +49,74 @@ enum Places {
     Refused(u32),
 }
 
-// Looks through a list.
-fn count_list(text: &[u8], from: usize, to: usize) -> Count
+// Whether the part of the text is a numeral.
+fn is_number(text: &[u8], from: usize, to: usize) -> bool
     requires { ⌜ Part (now text) from to ⌝ }
-    ensures { λ r. ⌜ r ≡ count (listOf (slice from to (now (text .entry)))) ⌝ }
+    ensures { λ r. ⌜ r ≡ isSome (Numeral.numeral (slice from to (now (text .entry)))) ⌝ }
+{
+    let field = numerals::numeral::numeral(text, from, to);
+    match field {
+        Field::Bad => false,
+        Field::Number(_) => true,
+    }
+}
+
+// Whether the part is a pair: a numeral on either side of its first colon.
+fn is_pair(text: &[u8], from: usize, to: usize) -> bool
+    requires { ⌜ Part (now text) from to ⌝ }
+    ensures { λ r. ⌜ r ≡ isSome (SheetReading.pair (slice from to (now (text .entry)))) ⌝ }
+{
+    let colon = numerals::fields::find(text, from, to, b':');
+    if colon == to {
+        return false;
+    }
+    if !is_number(text, from, colon) {
+        return false;
+    }
+    is_number(text, colon + 1, to)
+}
+
+// Whether the part is an entry of this kind.
+fn is_entry(text: &[u8], from: usize, to: usize, kind: Entry) -> bool
+    requires { ⌜ Part (now text) from to ⌝ }
+    ensures { λ r. ⌜ r ≡ isSome (entryOf kind (slice from to (now (text .entry)))) ⌝ }
+{
+    match kind {
+        Entry::Number => is_number(text, from, to),
+        Entry::Pair => is_pair(text, from, to),
+    }
+}
+
+// Looks through a list.
+fn count_list(text: &[u8], from: usize, to: usize, kind: Entry) -> Count
+    requires { ⌜ Part (now text) from to ⌝ }
+    ensures { λ r. ⌜ r ≡ count (listOf (entryOf kind) (slice from to (now (text .entry)))) ⌝ }
 {
     if from == to {
-        return Count::Numbers(0);
+        return Count::Entries(0);
     }
     let mut n = 0;
     let mut start = from;
     loop {
         let stop = numerals::fields::find(text, start, to, b',');
-        let field = numerals::numeral::numeral(text, start, stop);
-        match field {
-            Field::Bad => {
-                return Count::Bad;
-            }
-            Field::Number(_) => {
-                if n == LIST_LIMIT {
-                    return Count::Bad;
-                }
-                n += 1;
-            }
+        if !is_entry(text, start, stop, kind) {
+            return Count::Bad;
         }
+        if n == LIST_LIMIT {
+            return Count::Bad;
+        }
+        n += 1;
         if stop == to {
-            return Count::Numbers(n);
+            return Count::Entries(n);
         }
         start = stop + 1;
     }
 }
 
-// The line that begins at the index: it has this key, a list, and byte 10 at its end.
-fn line(text: &[u8], from: usize, key: &[u8]) -> LineSpan
+// The line that begins at the index: it has this key, a list of such entries, and byte 10 at its end.
+fn line(text: &[u8], from: usize, key: &[u8], kind: Entry) -> LineSpan
     requires { ⌜ from ≤ length (now text) ⌝ }
-    ensures { λ r. ⌜ LineAt (now (text .entry)) (SheetReading.line (now (key .entry)) (drop from (now (text .entry)))) r ⌝ }
+    ensures { λ r. ⌜ LineAt (entryOf kind) (now (text .entry)) (SheetReading.line (entryOf kind) (now (key .entry)) (drop from (now (text .entry)))) r ⌝ }
 {
     let end = numerals::fields::find(text, from, text.len(), b'\n');
     if end == text.len() {
@@ -82,21 +126,30 @@ fn line(text: &[u8], from: usize, key: &[u8]) -> LineSpan
         return LineSpan::Bad;
     }
     let start = from + key.len();
-    let counted = count_list(text, start, end);
+    let counted = count_list(text, start, end, kind);
     match counted {
         Count::Bad => LineSpan::Bad,
-        Count::Numbers(_) => LineSpan::List(start, end),
+        Count::Entries(_) => LineSpan::List(start, end),
     }
 }
 
-// Writes the numbers of a good list to the front of the buffer, and answers how many they are. Each field of such a list is
-// a number, so the bad case is never met.
+// The first index from the one up to the other with a comma or a colon, or the end.
+fn separator(text: &[u8], from: usize, to: usize) -> usize
+    requires { ⌜ Part (now text) from to ⌝ }
+    ensures { λ r. ⌜ r ≡ from + indexWhere isSeparator (slice from to (now (text .entry))) ⌝ }
+{
+    let comma = numerals::fields::find(text, from, to, b',');
+    numerals::fields::find(text, from, comma, b':')
+}
+
+// Writes the numbers of a good list to the front of the buffer, those of a pair side by side, and answers how many they are.
+// What stands between the commas and colons of such a list are numbers, so the bad case is never met.
 fn fill(text: &[u8], from: usize, to: usize, list: &mut [i32]) -> usize
     requires { ⌜ Part (now text) from to ⌝ }
-    requires { ⌜ listOf (slice from to (now text)) ≡ some (numbers (listOf (slice from to (now text)))) ⌝ }
-    requires { ⌜ length (numbers (listOf (slice from to (now text)))) ≤ length (now list) ⌝ }
-    ensures { λ r. ⌜ r ≡ length (numbers (listOf (slice from to (now (text .entry))))) ⌝ }
-    ensures { λ r. ⌜ now (list .exit) ≡ overwritten (numbers (listOf (slice from to (now (text .entry))))) (now (list .entry)) ⌝ }
+    requires { ⌜ numbersOf (slice from to (now text)) ≡ some (numbers (numbersOf (slice from to (now text)))) ⌝ }
+    requires { ⌜ length (numbers (numbersOf (slice from to (now text)))) ≤ length (now list) ⌝ }
+    ensures { λ r. ⌜ r ≡ length (numbers (numbersOf (slice from to (now (text .entry))))) ⌝ }
+    ensures { λ r. ⌜ now (list .exit) ≡ overwritten (numbers (numbersOf (slice from to (now (text .entry))))) (now (list .entry)) ⌝ }
 {
     if from == to {
         return 0;
@@ -104,7 +157,7 @@ fn fill(text: &[u8], from: usize, to: usize, list: &mut [i32]) -> usize
     let mut n = 0;
     let mut start = from;
     loop {
-        let stop = numerals::fields::find(text, start, to, b',');
+        let stop = separator(text, start, to);
         let field = numerals::numeral::numeral(text, start, stop);
         match field {
             Field::Bad => {
@@ -129,19 +182,19 @@ fn scan(text: &[u8]) -> Places
     if text.len() > TEXT_LIMIT {
         return Places::Refused(0);
     }
-    let LineSpan::List(b, b_end) = line(text, 0, b"breaks=") else {
+    let LineSpan::List(b, b_end) = line(text, 0, b"breaks=", Entry::Number) else {
         return Places::Refused(1);
     };
-    let LineSpan::List(d, d_end) = line(text, b_end + 1, b"degrees=") else {
+    let LineSpan::List(d, d_end) = line(text, b_end + 1, b"degrees=", Entry::Number) else {
         return Places::Refused(2);
     };
-    let LineSpan::List(o, o_end) = line(text, d_end + 1, b"orders=") else {
+    let LineSpan::List(o, o_end) = line(text, d_end + 1, b"orders=", Entry::Number) else {
         return Places::Refused(3);
     };
-    let LineSpan::List(c, c_end) = line(text, o_end + 1, b"coefs=") else {
+    let LineSpan::List(c, c_end) = line(text, o_end + 1, b"coefs=", Entry::Pair) else {
         return Places::Refused(4);
     };
-    let LineSpan::List(p, p_end) = line(text, c_end + 1, b"at=") else {
+    let LineSpan::List(p, p_end) = line(text, c_end + 1, b"at=", Entry::Number) else {
         return Places::Refused(5);
     };
     if p_end + 1 != text.len() {
@@ -150,14 +203,14 @@ fn scan(text: &[u8]) -> Places
     Places::Lists(b, b_end, d, d_end, o, o_end, c, c_end, p, p_end)
 }
 
-// The five lists of a sheet's text, each written to the front of its buffer. The text may be any bytes: after number 10 no
-// buffer is changed.
+// The five lists of a sheet's text, each written to the front of its buffer, the coefficients as the numbers of their pairs
+// side by side. The text may be any bytes: after number 10 no buffer is changed.
 pub fn read(
     text: &[u8],
     breaks: &mut [i32; LIST_LIMIT],
     degrees: &mut [i32; LIST_LIMIT],
     orders: &mut [i32; LIST_LIMIT],
-    coefs: &mut [i32; LIST_LIMIT],
+    coefs: &mut [i32; COEFFICIENT_NUMBERS],
     positions: &mut [i32; LIST_LIMIT],
 ) -> Lists
     ensures { λ r. ⌜ (let e = readEnd (now (text .entry)) (now (breaks .entry)) (now (degrees .entry)) (now (orders .entry)) (now (coefs .entry)) (now (positions .entry)) in

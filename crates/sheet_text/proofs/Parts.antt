@@ -3,6 +3,7 @@
 use mathlib.Core.Path.{_≡_, sym, ap, _∙_}
 use Prim.Native.Nat.{ℕ}
 use Rattle.spline.specs.Outcome.{answer}
+use Rattle.spline.specs.Reading.{sideBySide}
 use Rattle.numerals.specs.Bytes.{Text}
 use Rattle.sheet_lists.specs.SheetReading.{Lists, read}
 use Rattle.sheet_lists.specs.Reply.{reply, counted}
@@ -10,18 +11,18 @@ use Rattle.sheet_lists.specs.declared.Lists.{Lists as Answer}
 use Rattle.sheet_lists.specs.declared.Lists.the-variants.{Refused}
 use Rattle.sheet_lists.proofs.Answers.{reply-malformed}
 use Rattle.printout.specs.Printout.{refusalLine}
-use Rattle.sheet_text.specs.Sheet.{calledText, readText, printout}
+use Rattle.sheet_text.specs.Sheet.{Arguments, argumentsOf, calledText, readText, printout}
 
-same-lists : (l m : Lists) → m .breaks ≡ l .breaks → m .degrees ≡ l .degrees → m .orders ≡ l .orders → m .coefs ≡ l .coefs → m .positions ≡ l .positions → m ≡ l
-same-lists l m b d r c p i = record { breaks = b i; degrees = d i; orders = r i; coefs = c i; positions = p i }
+same-arguments : (a b : Arguments) → a .breaks ≡ b .breaks → a .degrees ≡ b .degrees → a .orders ≡ b .orders → a .coefs ≡ b .coefs → a .positions ≡ b .positions → a ≡ b
+same-arguments a b hb hd ho hc hp i = record { breaks = hb i; degrees = hd i; orders = ho i; coefs = hc i; positions = hp i }
 
 module _ (text : Text) where
   -- a call on the lists of the text prints the text's printout
-  pub called-prints : (l : Lists) → read text ≡ answer l → (m : Lists)
-      → m .breaks ≡ l .breaks → m .degrees ≡ l .degrees → m .orders ≡ l .orders → m .coefs ≡ l .coefs → m .positions ≡ l .positions
-      → calledText m ≡ printout text
+  pub called-prints : (l : Lists) → read text ≡ answer l → (a : Arguments)
+      → a .breaks ≡ l .breaks → a .degrees ≡ l .degrees → a .orders ≡ l .orders → a .coefs ≡ sideBySide (l .coefs) → a .positions ≡ l .positions
+      → calledText a ≡ printout text
   unfolding printout readText
-  called-prints l e m b d r c p = ap calledText (same-lists l m b d r c p) ∙ ap readText (sym e)
+  called-prints l e a b d o c p = ap calledText (same-arguments a (argumentsOf l) b d o c p) ∙ ap readText (sym e)
 
   pub malformed-prints : (a : Answer) (place : ℕ) → reply a ≡ counted (read text) → a ≡ Refused place → refusalLine 10 place ≡ printout text
   unfolding printout readText

@@ -7,7 +7,10 @@ ghost use Rattle.spline.specs.CurveCall.{positionLimit};
 ghost use Rattle.printout.specs.Printed.{printoutLimit};
 ghost use Rattle.sheet_text.specs.Sheet.{calledText, printout};
 
-// The curve call on the five lists, and its printout.
+// The cells of the values' buffer, two for each of the most positions of a call.
+const VALUE_CELLS: usize = 8192;
+
+// The curve call on the five lists, the coefficients as the numbers of their pairs side by side, and its printout.
 fn run(
     breaks: &[i32],
     degrees: &[i32],
@@ -23,7 +26,7 @@ fn run(
 {
     let mut num = [0; cells::TABLE_CELLS];
     let mut den = [1; cells::TABLE_CELLS];
-    let mut values = [0; sheet_lists::LIST_LIMIT];
+    let mut values = [0; VALUE_CELLS];
     let answer = curve::curve(
         breaks,
         degrees,
@@ -36,14 +39,17 @@ fn run(
     );
     match answer {
         curve::Answer::Refused(number, place) => printout::refusal(number, place, out),
-        curve::Answer::Values(n) => printout::answer(
-            coefs.len(),
-            &num,
-            &den,
-            positions,
-            &values[..n],
-            out,
-        ),
+        curve::Answer::Values(n) => {
+            let cells = 2 * n;
+            printout::answer(
+                coefs.len() / 2,
+                &num,
+                &den,
+                positions,
+                &values[..cells],
+                out,
+            )
+        }
     }
 }
 
@@ -57,7 +63,7 @@ pub fn sheet(input: &[u8], out: &mut [u8]) -> usize
     let mut breaks = [0; sheet_lists::LIST_LIMIT];
     let mut degrees = [0; sheet_lists::LIST_LIMIT];
     let mut orders = [0; sheet_lists::LIST_LIMIT];
-    let mut coefs = [0; sheet_lists::LIST_LIMIT];
+    let mut coefs = [0; sheet_lists::COEFFICIENT_NUMBERS];
     let mut positions = [0; sheet_lists::LIST_LIMIT];
     let lists = sheet_lists::read(
         input,

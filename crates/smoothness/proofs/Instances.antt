@@ -17,9 +17,9 @@ use Rattle.spline.specs.Space.{segments, conditionCount, firstColumn, condition
 use Rattle.spline.specs.Conditions.{falling, binomial, alternating, undivided, commonDivisor, conditions}
 use Rattle.spline.specs.Table.{Row}
 use Rattle.spline.specs.Piecewise.{Meets, pairing, combination}
-use Rattle.spline.specs.Reading.{parts, startsAtDiscontinuity, startsBy, segmentAt, offset}
+use Rattle.spline.specs.Reading.{parts, startsAtDiscontinuity, startsBy, segmentAt, earlywood, latewood, sideBySide, offset}
 use Rattle.spline.specs.ExactCurve.{exactCurve}
-use Rattle.spline.specs.Cases.{space4, space5, space9}
+use Rattle.spline.specs.Cases.{pair, space4, space5, space9}
 use Rattle.theorems.proofs.Instances.{q0, q1, multipliers4, ordinates4, checked4, table5, ordinates5, accepted5, given5, checked5}
 use Rattle.closeness.proofs.Instances.{table9, coefs9, accepted9, exact9}
 use Rattle.smoothness.specs.Polynomial.{value, _+ᵖ_, _·ᵖ_, _*ᵖ_, power, total, derivative, iterated}
@@ -109,31 +109,31 @@ only5 : (others : List ℚ) → length others ≡ 5 → combination 8 others tab
 unfolding accepted5 firstColumn conditionsBefore
 only5 others h e = let o = smooth-curves-are-combinations space5 accepted5 ordinates5 smooth5 in o .only others h e ∙ sym (o .only (q0 ∷ int (pos 4) ∷ int (pos 2) ∷ int (pos 8) ∷ q1 ∷ []) refl given5)
 
--- ---- the exact curve of W5 with coefficients 0, 4, 2, 8, 1
+-- ---- the exact curve of W5 with coefficients 0, 4, 2, 8, 1 of latewood, all of earlywood's being 7
 
 abbrev coefs5 : List ℤ
-coefs5 = pos 0 ∷ pos 4 ∷ pos 2 ∷ pos 8 ∷ pos 1 ∷ []
+coefs5 = sideBySide (pair (pos 7) (pos 0) ∷ pair (pos 7) (pos 4) ∷ pair (pos 7) (pos 2) ∷ pair (pos 7) (pos 8) ∷ pair (pos 7) (pos 1) ∷ [])
 
 -- after half a ring the polynomial, times 256, is 256 (12/2 - 15/4 + 7/8) = 800
-half5 : value (piece space5 (curveOrdinates space5 table5 coefs5) (segmentAt space5 (pos 128))) (int (offset space5 (segmentAt space5 (pos 128)) (pos 128)) /ᵠ int (pos parts)) ≡ int (pos 800)
-unfolding gcd gcdF mk int inv _+ᵠ_ _*ᵠ_ -ᵠ_ _//_ sum tab last firstColumn binomial combination startsAtDiscontinuity startsBy segmentAt value _+ᵖ_ _·ᵖ_ _*ᵖ_ power total bernsteinPolynomial bernsteinForm piece
+half5 : value (piece space5 (curveOrdinates space5 table5 latewood coefs5) (segmentAt space5 (pos 128))) (int (offset space5 (segmentAt space5 (pos 128)) (pos 128)) /ᵠ int (pos parts)) ≡ int (pos 800)
+unfolding sideBySide gcd gcdF mk int inv _+ᵠ_ _*ᵠ_ -ᵠ_ _//_ sum tab last firstColumn binomial combination startsAtDiscontinuity startsBy segmentAt value _+ᵖ_ _·ᵖ_ _*ᵖ_ power total bernsteinPolynomial bernsteinForm piece
 half5 = refl
 
 -- and so is the exact curve
-exact5 : exactCurve space5 table5 coefs5 (pos 128) ≡ int (pos 800)
+exact5 : exactCurve space5 table5 latewood coefs5 (pos 128) ≡ int (pos 800)
 unfolding accepted5
-exact5 = exact-curve-is-polynomial space5 accepted5 coefs5 (pos 128) tt ∙ half5
+exact5 = exact-curve-is-polynomial space5 accepted5 latewood coefs5 (pos 128) tt ∙ half5
 
 -- at the join of order 2 it is where the second polynomial starts
-join5 : exactCurve space5 table5 coefs5 (pos 256) ≡ rightDerivative space5 (curveOrdinates space5 table5 coefs5) 0 0
+join5 : exactCurve space5 table5 latewood coefs5 (pos 256) ≡ rightDerivative space5 (curveOrdinates space5 table5 latewood coefs5) 0 0
 unfolding accepted5
-join5 = exact-curve-at-other-join space5 accepted5 coefs5 0 (omega arith) (λ e. let z : _≡_ {A = ℕ} 2 0 = ap up e in absurd (omega arith))
+join5 = exact-curve-at-other-join space5 accepted5 latewood coefs5 0 (omega arith) (λ e. let z : _≡_ {A = ℕ} 2 0 = ap up e in absurd (omega arith))
 
 -- ---- W9: at the discontinuity the exact curve, 2560, is where the first polynomial ends
 
-end9 : leftDerivative space9 (curveOrdinates space9 table9 coefs9) 0 0 ≡ int (pos 2560)
+end9 : leftDerivative space9 (curveOrdinates space9 table9 earlywood coefs9) 0 0 ≡ int (pos 2560)
 unfolding accepted9
-end9 = sym (exact-curve-at-discontinuity space9 accepted9 coefs9 0 (omega arith) refl) ∙ exact9
+end9 = sym (exact-curve-at-discontinuity space9 accepted9 earlywood coefs9 0 (omega arith) refl) ∙ exact9
 
 -- ---- W4: breaks 0,1,3, degrees 2,3, order 1
 

@@ -2,16 +2,17 @@
 -- combinations of the rows are exactly the smooth piecewise curves, and the exact curve is made of such polynomials.
 use mathlib.Core.Path.{_≡_}
 use mathlib.Core.Logic.{_↔_}
-use mathlib.Core.List.{List, map}
+use mathlib.Core.List.{List}
 use Prim.Native.Nat.{ℕ, suc, _+_, _-_, _<_}
 use lib.IntN.{ℤ, pos, negsuc}
 use lib.ListN.{length}
 use Rattle.exact.specs.Rational.{ℚ, int, _/ᵠ_}
+use Rattle.exact.specs.Tabulate.{tab}
 use Rattle.spline.specs.Outcome.{answer}
 use Rattle.spline.specs.Space.{Space, segments, break, degree, order, width, firstColumn, columnCount, conditionCount, checked}
 use Rattle.spline.specs.Table.{Row, Table, entry}
 use Rattle.spline.specs.Piecewise.{Meets, Accepted, combination}
-use Rattle.spline.specs.Reading.{parts, fine, segmentAt, offset}
+use Rattle.spline.specs.Reading.{parts, fine, segmentAt, WoodPart, coefficient, offset}
 use Rattle.spline.specs.ExactCurve.{exactCurve}
 use Rattle.theorems.specs.Demand2.{OneCombination}
 use Rattle.closeness.specs.Demand3Values.{InSpan}
@@ -50,21 +51,21 @@ SmoothCurvesAreCombinations = (s : Space) (a : Accepted s) (o : Row) → Smooth 
 
 -- ---- the exact curve
 
--- The combination whose multipliers are 256 times the coefficients.
-abbrev pub curveOrdinates : Space → Table → List ℤ → Row
-curveOrdinates s t coefs = combination (columnCount s) (map (λ c. int (fine c)) coefs) t
+-- The combination whose multipliers are 256 times a wood part's coefficients.
+abbrev pub curveOrdinates : Space → Table → WoodPart → List ℤ → Row
+curveOrdinates s t part coefs = combination (columnCount s) (tab (length t) (λ i. int (fine (coefficient part coefs i)))) t
 
 -- Document 01's exact curve at a position is the value of its segment's polynomial with these ordinates, 256 positions being a ring.
 abbrev pub ExactCurveIsPolynomial : Type 0
-ExactCurveIsPolynomial = (s : Space) (a : Accepted s) (coefs : List ℤ) (x : ℤ) → InSpan s x
-    → exactCurve s (a .table) coefs x ≡ value (piece s (curveOrdinates s (a .table) coefs) (segmentAt s x)) (int (offset s (segmentAt s x) x) /ᵠ int (pos parts))
+ExactCurveIsPolynomial = (s : Space) (a : Accepted s) (part : WoodPart) (coefs : List ℤ) (x : ℤ) → InSpan s x
+    → exactCurve s (a .table) part coefs x ≡ value (piece s (curveOrdinates s (a .table) part coefs) (segmentAt s x)) (int (offset s (segmentAt s x) x) /ᵠ int (pos parts))
 
 -- At a join of order -1 it is where the piece before the join ends.
 abbrev pub ExactCurveAtDiscontinuity : Type 0
-ExactCurveAtDiscontinuity = (s : Space) (a : Accepted s) (coefs : List ℤ) (j : ℕ) → suc j < segments s → order s j ≡ negsuc 0
-    → exactCurve s (a .table) coefs (fine (break s (suc j))) ≡ leftDerivative s (curveOrdinates s (a .table) coefs) j 0
+ExactCurveAtDiscontinuity = (s : Space) (a : Accepted s) (part : WoodPart) (coefs : List ℤ) (j : ℕ) → suc j < segments s → order s j ≡ negsuc 0
+    → exactCurve s (a .table) part coefs (fine (break s (suc j))) ≡ leftDerivative s (curveOrdinates s (a .table) part coefs) j 0
 
 -- At a join of any other order it is where the piece after the join starts.
 abbrev pub ExactCurveAtOtherJoin : Type 0
-ExactCurveAtOtherJoin = (s : Space) (a : Accepted s) (coefs : List ℤ) (j : ℕ) → suc j < segments s → ¬ (order s j ≡ negsuc 0)
-    → exactCurve s (a .table) coefs (fine (break s (suc j))) ≡ rightDerivative s (curveOrdinates s (a .table) coefs) j 0
+ExactCurveAtOtherJoin = (s : Space) (a : Accepted s) (part : WoodPart) (coefs : List ℤ) (j : ℕ) → suc j < segments s → ¬ (order s j ≡ negsuc 0)
+    → exactCurve s (a .table) part coefs (fine (break s (suc j))) ≡ rightDerivative s (curveOrdinates s (a .table) part coefs) j 0

@@ -1,7 +1,7 @@
 -- Laws of the definitions in specs/, for other crates to cite as `Rattle.spline.proofs.M`. A module has the name of the
 -- definitions that its laws are about; Legal is about spaces that pass the checks, Splice about a list with some elements
--- replaced, Answers and NewRows about what a step that answers has done, Refusals about where a step refuses, Cases proves
--- the cases W1 to W10.
+-- replaced, Pairs about the two wood parts and pairs side by side, Answers and NewRows about what a step that answers has
+-- done, Refusals about where a step refuses, Cases proves the cases W1 to W10.
 pub mod Outcome
 pub mod Search
 pub mod Space
@@ -10,6 +10,7 @@ pub mod Conditions
 pub mod Table
 pub mod Splice
 pub mod Reading
+pub mod Pairs
 pub mod Step
 pub mod Build
 pub mod Answers

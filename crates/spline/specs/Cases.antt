@@ -1,10 +1,10 @@
 -- The cases W1 to W10 (document 01, "Sheet and printout" for W1 and "Cases" for the others; document 02 for the values of W1
--- and W2 (CR 8) and of W9 (CR 5)), and two in which a limit of step 1 acts, as one table of inputs and outcomes; and the
--- segments of positions on joins of each kind and beside them. The statements at the end are proved by computation in
--- proofs/Cases.
+-- and W2 (CR 8) and of W9 (CR 5)), two in which a limit of step 1 acts and some in which the wood parts differ (CR 10), as one
+-- table of inputs and outcomes; and the segments of positions on joins of each kind and beside them. The statements at the end
+-- are proved by computation in proofs/Cases.
 use mathlib.Core.Path.{_≡_}
 use mathlib.Core.List.{List, [], _∷_, map}
-use Prim.Native.Nat.{ℕ}
+use Prim.Native.Nat.{ℕ, _*_, _-_}
 use lib.IntN.{ℤ, pos, negℤ}
 use lib.ListN.{length}
 use Rattle.spline.specs.Outcome.{Outcome, answer, refusal, with-answer}
@@ -12,7 +12,7 @@ use Rattle.spline.specs.Space.{Space}
 use Rattle.spline.specs.Table.{Table, tableCells}
 use Rattle.spline.specs.Build.{built}
 use Rattle.spline.specs.Published.{extraction}
-use Rattle.spline.specs.Reading.{segmentAt}
+use Rattle.spline.specs.Reading.{Pair, sideBySide, segmentAt}
 use Rattle.spline.specs.CurveCall.{curveOutcome}
 use Rattle.spline.specs.Listing.{Weight, tableWeights}
 
@@ -20,21 +20,21 @@ use Rattle.spline.specs.Listing.{Weight, tableWeights}
 pub record Answered : Type 0 where
   pub rows : ℕ
   pub weights : List Weight
-  pub values : List ℤ
+  pub values : List Pair
 
 -- That of a table and a list of values; n is the number of the table's rows.
-abbrev pub shown : Table → List ℤ → Answered
+abbrev pub shown : Table → List Pair → Answered
 shown t values = record { rows = length t; weights = tableWeights 0 t; values = values }
 
--- Building alone, or the curve call with its coefficients and positions.
+-- Building alone, or the curve call with the numbers of its coefficients, side by side, and its positions.
 pub data Call : Type 0 where
   building : Call
-  reading : List ℤ → List ℤ → Call
+  curve : List ℤ → List ℤ → Call
 
 -- What the definitions say of a call on a space, with buffers just long enough.
 unfoldable pub outcome : Space → Call → Outcome Answered
 outcome s building = with-answer (λ t. shown t []) (built s tableCells tableCells)
-outcome s (reading coefs positions) = with-answer (λ r. shown (r .table) (r .values)) (curveOutcome s coefs positions tableCells tableCells (length positions))
+outcome s (curve coefs positions) = with-answer (λ r. shown (r .table) (r .values)) (curveOutcome s coefs positions tableCells tableCells (2 * length positions))
 
 -- One line of the table of cases.
 pub record Case : Type 0 where
@@ -50,9 +50,29 @@ line s c o = record { space = s; call = c; ends = o }
 abbrev pub space : List ℕ → List ℕ → List ℤ → Space
 space breaks degrees orders = record { breaks = map pos breaks; degrees = map pos degrees; orders = orders }
 
--- An answer with this n, these weights and these values.
+-- The curve call with these pairs of coefficients.
+abbrev pub readingPairs : List Pair → List ℤ → Call
+readingPairs coefs positions = curve (sideBySide coefs) positions
+
+-- An answer with this n, these weights and these pairs of values.
+abbrev pub answerPairs : ℕ → List Weight → List Pair → Outcome Answered
+answerPairs n weights values = answer (record { rows = n; weights = weights; values = values })
+
+-- A number for each wood part.
+abbrev pub pair : ℤ → ℤ → Pair
+pair early late = record { early = early; late = late }
+
+-- "In 01's cases each coefficient now stands for both parts."
+abbrev pub forBoth : List ℤ → List Pair
+forBoth zs = map (λ z. pair z z) zs
+
+-- The curve call with these coefficients, each for both parts.
+abbrev pub reading : List ℤ → List ℤ → Call
+reading coefs positions = readingPairs (forBoth coefs) positions
+
+-- An answer with this n, these weights and these values, each for both parts.
 abbrev pub answers : ℕ → List Weight → List ℤ → Outcome Answered
-answers n weights values = answer (record { rows = n; weights = weights; values = values })
+answers n weights values = answerPairs n weights (forBoth values)
 
 -- n over d in row r and column c.
 abbrev pub weightAt : ℕ → ℕ → ℕ → ℕ → Weight
@@ -180,6 +200,12 @@ cases =
     line space1 (reading (pos 0 ∷ pos 100 ∷ pos 0 ∷ []) (pos 256 ∷ pos 512 ∷ [])) (refusal 6 4294967295) ∷
     line space1 (reading (pos 0 ∷ pos 100 ∷ pos 0 ∷ pos 0 ∷ []) (pos 769 ∷ [])) (refusal 7 0) ∷
     line space1 (reading (pos 0 ∷ pos 100 ∷ pos 0 ∷ pos 0 ∷ []) (pos 768 ∷ [])) (answers 4 weights1 (pos 0 ∷ [])) ∷
+    -- W1 for earlywood and W2 for latewood
+    line space1 (readingPairs (pair (pos 0) (pos 0) ∷ pair (pos 100) (negℤ (pos 100)) ∷ pair (pos 0) (pos 0) ∷ pair (pos 0) (pos 0) ∷ []) (pos 512 ∷ [])) (answerPairs 4 weights1 (pair (pos 4267) (negℤ (pos 4266)) ∷ [])) ∷
+    -- the latewood number of the second pair is out of range: "2n numbers, which 6 counts and places singly"
+    line space1 (readingPairs (pair (pos 0) (pos 0) ∷ pair (pos 100) (pos 1000001) ∷ pair (pos 0) (pos 0) ∷ pair (pos 0) (pos 0) ∷ []) (pos 512 ∷ [])) (refusal 6 3) ∷
+    -- an odd count
+    line space1 (curve (pos 0 ∷ pos 0 ∷ pos 100 ∷ pos 100 ∷ pos 0 ∷ pos 0 ∷ pos 0 ∷ []) (pos 512 ∷ [])) (refusal 6 4294967295) ∷
     -- the plain sum of the join's ordinate is 257, above 256 times the greatest coefficient
     line upperLimitSpace (reading (pos 1 ∷ pos 1 ∷ pos 1 ∷ pos 1 ∷ []) (pos 256 ∷ [])) (answers 4 upperLimitWeights (pos 256 ∷ [])) ∷
     -- the plain sum of the join's ordinate is 255, under 256 times the least coefficient
@@ -230,6 +256,11 @@ withPublished c = with-answer (λ r. shown (extraction (c .space)) (r .values)) 
 abbrev pub AsPublished : Case → Type 0
 AsPublished c = withPublished c ≡ c .ends
 
+-- With one value cell less than two a position the call ends with number 1, place 2.
+abbrev pub NeedsTwoCellsEach : Space → Call → Type 0
+NeedsTwoCellsEach s building = Unit {0}
+NeedsTwoCellsEach s (curve coefs positions) = curveOutcome s coefs positions tableCells tableCells (2 * length positions - 1) ≡ refusal 1 2
+
 -- Each position belongs to the segment that its line says.
 abbrev pub Belongs : Segments → Type 0
 Belongs c = map (λ x. segmentAt (c .space) (pos x)) (c .positions) ≡ c .belong
@@ -241,6 +272,10 @@ EveryCaseHolds = Every Holds cases
 -- The published construction agrees on them.
 abbrev pub EveryCasePublished : Type 0
 EveryCasePublished = Every AsPublished cases
+
+-- Their curve calls, each with at least one position, need two cells a position.
+abbrev pub EveryCaseNeedsTwoCellsEach : Type 0
+EveryCaseNeedsTwoCellsEach = Every (λ c. NeedsTwoCellsEach (c .space) (c .call)) cases
 
 -- The segments of positions are these.
 abbrev pub EveryPositionBelongs : Type 0

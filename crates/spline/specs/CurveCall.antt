@@ -1,8 +1,8 @@
--- The curve call (document 01, "What the engine takes" and "Numbers and places"): what it ends with, and what the three
--- lent buffers hold afterwards. The refusals are tested in number order, within a number by place.
+-- The curve call (document 01, "What the engine takes" and "Numbers and places"; document 02, CR 10): what it ends with, and
+-- what the three lent buffers hold afterwards. The refusals are tested in number order, within a number by place.
 use mathlib.Core.Bool.{Bool, cond, not}
 use mathlib.Core.List.{List, _++_}
-use Prim.Native.Nat.{ℕ}
+use Prim.Native.Nat.{ℕ, _*_, _/_}
 use lib.Dec.{eqb, ltb}
 use lib.IntN.{ℤ, pos, negℤ}
 use lib.ListN.{length, getD, drop}
@@ -11,7 +11,7 @@ use Rattle.spline.specs.Search.{first}
 use Rattle.spline.specs.Space.{Space, segments, break, between, fitting, refuseFirst, checkedEntries, rowCount}
 use Rattle.spline.specs.Table.{Table}
 use Rattle.spline.specs.Build.{weights, longEnough, numeratorsAfter, denominatorsAfter}
-use Rattle.spline.specs.Reading.{fine, values}
+use Rattle.spline.specs.Reading.{fine, Pair, sideBySide, values}
 
 -- "up to 4,096 positions".
 abbrev pub positionLimit : ℕ
@@ -29,16 +29,17 @@ badCoefficient coefs i = not (between (negℤ (pos coefficientLimit)) (pos coeff
 unfoldable pub badPosition : Space → List ℤ → ℕ → Bool
 badPosition s positions i = not (between (fine (break s 0)) (fine (break s (segments s))) (getD positions i (pos 0)))
 
--- Number 1, all three places, or the value given.
+-- Number 1, all three places, or the value given; it "counts two cells a position".
 abbrev pub allLongEnough : {A : Type 0} → List ℤ → ℕ → ℕ → ℕ → Outcome A → Outcome A
 allLongEnough positions numLength denLength valuesLength rest =
     longEnough numLength denLength
-    (cond (ltb valuesLength (length positions)) (refuse 1 2) rest)
+    (cond (ltb (valuesLength / 2) (length positions)) (refuse 1 2) rest)
 
--- Numbers 6 and 7 of a legal space, the largest place "and tested first: count is not n", or the value given.
+-- Numbers 6 and 7 of a legal space, or the value given. 6 counts and places the "2n numbers" singly; the count is tested first
+-- and has the largest place.
 abbrev pub legalEntries : {A : Type 0} → Space → List ℤ → List ℤ → Outcome A → Outcome A
 legalEntries s coefs positions rest =
-    cond (eqb (length coefs) (rowCount s))
+    cond (eqb (length coefs) (2 * rowCount s))
     (refuseFirst 6 (first (length coefs) (badCoefficient coefs))
     (refuseFirst 7 (first (length positions) (badPosition s positions))
     rest))
@@ -51,12 +52,12 @@ curveChecked s coefs positions =
     (cond (ltb positionLimit (length positions)) (refuse 2 1)
     (checkedEntries s then λ legal. legalEntries legal coefs positions (answer legal)))
 
--- What an answered call has worked out: the weights, and one value per position.
+-- What an answered call has worked out: the weights, and a pair of values for each position.
 pub record CurveResult : Type 0 where
   pub table : Table
-  pub values : List ℤ
+  pub values : List Pair
 
--- "It builds, then writes one value per position": 8 or 9 from the build, or the result.
+-- It builds, then gives each position its two values: 8 or 9 from the build, or the result.
 unfoldable pub curveRead : List ℤ → List ℤ → Space → Outcome CurveResult
 curveRead coefs positions s = with-answer (λ t. record { table = t; values = values s t coefs positions }) (weights s)
 
@@ -66,7 +67,7 @@ curveOutcome s coefs positions numLength denLength valuesLength =
     allLongEnough positions numLength denLength valuesLength
     (curveChecked s coefs positions then curveRead coefs positions)
 
--- "returns their count".
+-- "the answer still counts positions".
 abbrev pub returned : Outcome CurveResult → Outcome ℕ
 returned o = with-answer (λ r. length (r .values)) o
 
@@ -82,10 +83,10 @@ curveNumerators o before = numeratorsAfter (tableOf o) before
 abbrev pub curveDenominators : Outcome CurveResult → List ℤ → List ℤ
 curveDenominators o before = denominatorsAfter (tableOf o) before
 
--- The values' buffer after the call: the values in list order, and "value cells past that count keep what they held";
--- unchanged after every refusal.
+-- The values' buffer after the call: the pairs in list order, "written side by side", and "the value cells that keep what they
+-- held are those past twice that count"; unchanged after every refusal.
 unfoldable pub valuesAfter : Outcome CurveResult → List ℤ → List ℤ
-valuesAfter (answer r) before = r .values ++ drop (length (r .values)) before
+valuesAfter (answer r) before = sideBySide (r .values) ++ drop (2 * length (r .values)) before
 valuesAfter (refusal number place) before = before
 
 -- What a curve call ends with: the answer and all three lent buffers.

@@ -1,11 +1,11 @@
--- The exact curve, and the words of demand 3 (document 01, the second half of "Reading the curve"): the sum that values
--- are held against, s, the coefficients with weight on a segment, and which curve calls are within document 01's limits.
--- p is `degree s (segmentAt s x)`.
+-- The exact curve, and the words of demand 3 (document 01, the second half of "Reading the curve"; document 02, CR 10: "for
+-- each part apart"): the sum that values are held against, s, the coefficients with weight on a segment, and which curve calls
+-- are within document 01's limits. p is `degree s (segmentAt s x)`.
 use mathlib.Core.Path.{_≡_}
 use mathlib.Core.Bool.{Bool, not}
 use mathlib.Core.List.{List}
 use mathlib.Core.Option.{Option·getD}
-use Prim.Native.Nat.{ℕ, zero, suc, _+_, _-_, _<_, _≤_, max}
+use Prim.Native.Nat.{ℕ, zero, suc, _+_, _*_, _-_, _<_, _≤_, max}
 use lib.Dec.{T}
 use lib.IntN.{ℤ, pos, _-ℤ_}
 use lib.ListN.{length}
@@ -16,7 +16,7 @@ use Rattle.spline.specs.Space.{Space, degree, firstColumn, rowCount}
 use Rattle.spline.specs.Conditions.{binomial}
 use Rattle.spline.specs.Table.{Table, cell, tableCells}
 use Rattle.spline.specs.Piecewise.{Accepted}
-use Rattle.spline.specs.Reading.{fine, segmentAt, coefficient, hasWeight, least, greatest, fineWidth, offset}
+use Rattle.spline.specs.Reading.{WoodPart, fine, segmentAt, coefficient, hasWeight, least, greatest, fineWidth, offset}
 use Rattle.spline.specs.CurveCall.{positionLimit, badCoefficient, badPosition}
 
 -- q to the power n, "where 0^0 is 1".
@@ -29,16 +29,16 @@ unfoldable pub bernsteinAt : ℕ → ℕ → ℤ → ℕ → ℚ
 bernsteinAt p d u t = int (pos (binomial p t)) *ᵠ power (int u) t *ᵠ power (int (pos d -ℤ u)) (p - t) /ᵠ power (int (pos d)) p
 
 -- "256·(coefficient i)·(weight of row i on ordinate t)·C(p, t)·u^t·(D - u)^(p - t)/D^p", at a position x of segment j.
-unfoldable pub exactTerm : Space → Table → List ℤ → ℕ → ℤ → ℕ → ℕ → ℚ
-exactTerm s w coefs j x i t = int (fine (coefficient coefs i)) *ᵠ cell w i (firstColumn s j + t) *ᵠ bernsteinAt (degree s j) (fineWidth s j) (offset s j x) t
+unfoldable pub exactTerm : Space → Table → WoodPart → List ℤ → ℕ → ℤ → ℕ → ℕ → ℚ
+exactTerm s w part coefs j x i t = int (fine (coefficient part coefs i)) *ᵠ cell w i (firstColumn s j + t) *ᵠ bernsteinAt (degree s j) (fineWidth s j) (offset s j x) t
 
 -- "the sum, over all rows i and the ordinates t = 0 to p" of segment j.
-unfoldable pub exactOn : Space → Table → List ℤ → ℕ → ℤ → ℚ
-exactOn s w coefs j x = sum (length w) (λ i. sum (suc (degree s j)) (λ t. exactTerm s w coefs j x i t))
+unfoldable pub exactOn : Space → Table → WoodPart → List ℤ → ℕ → ℤ → ℚ
+exactOn s w part coefs j x = sum (length w) (λ i. sum (suc (degree s j)) (λ t. exactTerm s w part coefs j x i t))
 
--- "The exact curve, in the units of the values": on "the position's stretch".
-unfoldable pub exactCurve : Space → Table → List ℤ → ℤ → ℚ
-exactCurve s w coefs x = exactOn s w coefs (segmentAt s x) x
+-- "The exact curve, in the units of the values", of a wood part: on "the position's stretch".
+unfoldable pub exactCurve : Space → Table → WoodPart → List ℤ → ℤ → ℚ
+exactCurve s w part coefs x = exactOn s w part coefs (segmentAt s x) x
 
 -- The greatest of f 0, .., f (n - 1), and 0 for n = 0.
 unfoldable pub largest : ℕ → (ℕ → ℕ) → ℕ
@@ -53,21 +53,21 @@ mostWeights s w j = largest (suc (degree s j)) (λ t. howMany (length w) (hasWei
 unfoldable pub weighsOn : Space → Table → ℕ → ℕ → Bool
 weighsOn s w j i = found (first (suc (degree s j)) (λ t. hasWeight w (firstColumn s j + t) i))
 
--- The least coefficient with weight on segment j; 0 if there is none, which no accepted space has.
-unfoldable pub leastOn : Space → Table → List ℤ → ℕ → ℤ
-leastOn s w coefs j = Option·getD (least (length w) (weighsOn s w j) (coefficient coefs)) (pos 0)
+-- The least coefficient of a wood part with weight on segment j; 0 if there is none, which no accepted space has.
+unfoldable pub leastOn : Space → Table → WoodPart → List ℤ → ℕ → ℤ
+leastOn s w part coefs j = Option·getD (least (length w) (weighsOn s w j) (coefficient part coefs)) (pos 0)
 
 -- The greatest coefficient with weight on segment j, likewise.
-unfoldable pub greatestOn : Space → Table → List ℤ → ℕ → ℤ
-greatestOn s w coefs j = Option·getD (greatest (length w) (weighsOn s w j) (coefficient coefs)) (pos 0)
+unfoldable pub greatestOn : Space → Table → WoodPart → List ℤ → ℕ → ℤ
+greatestOn s w part coefs j = Option·getD (greatest (length w) (weighsOn s w j) (coefficient part coefs)) (pos 0)
 
 -- "Whatever coefficients, positions and buffers within document 01's limits go with" an accepted space.
 pub record Legal (s : Space) (coefs positions : List ℤ) (numLength denLength valuesLength : ℕ) : Type 0 where
   pub accepted : Accepted s
-  pub coefficientCount : length coefs ≡ rowCount s
+  pub coefficientCount : length coefs ≡ 2 * rowCount s
   pub coefficients : (i : ℕ) → i < length coefs → T (not (badCoefficient coefs i))
   pub positionCount : length positions ≤ positionLimit
   pub inSpan : (i : ℕ) → i < length positions → T (not (badPosition s positions i))
   pub numerators : tableCells ≤ numLength
   pub denominators : tableCells ≤ denLength
-  pub values : length positions ≤ valuesLength
+  pub values : 2 * length positions ≤ valuesLength

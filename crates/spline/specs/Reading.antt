@@ -1,9 +1,10 @@
 -- Reading the curve (document 01, "Reading the curve", up to the exact curve; document 02, CR 5 and CR 8, for positions on
--- discontinuities and for the rounding): the segment of a position, the ordinates, the de Casteljau triangle and the values.
+-- discontinuities and for the rounding, CR 10 for the two wood parts): the segment of a position, the ordinates, the de
+-- Casteljau triangle and the values.
 -- Two rules stand in one definition each: `segmentAt` says which segment a position belongs to, and `rounded` how a quotient
 -- becomes a whole number. Coefficients come as a function of the row.
 use mathlib.Core.Bool.{Bool, false, cond, not}
-use mathlib.Core.List.{List, map}
+use mathlib.Core.List.{List, [], _∷_, map}
 use mathlib.Core.Option.{Option, some, none, Option·getD}
 use Prim.Native.Nat.{ℕ, zero, suc, _+_, _*_}
 use lib.IntN.{ℤ, pos, _+ℤ_, _-ℤ_, _*ℤ_}
@@ -44,11 +45,33 @@ segmentAt s x = Option·getD (last (segments s) (startsBy s x)) 0
 unfoldable pub rounded : ℤ → ℕ → ℤ
 rounded z d = nearest z d
 
+-- ---- the two wood parts
+
+-- "Earlywood and latewood. The two parts of a ring get a curve each over the same space."
+pub data WoodPart : Type 0 where
+  earlywood : WoodPart
+  latewood : WoodPart
+
+-- "side by side", "earlywood first".
+abbrev pub partIndex : WoodPart → ℕ
+partIndex earlywood = 0
+partIndex latewood = 1
+
+-- "a record of two numbers".
+pub record Pair : Type 0 where
+  pub early : ℤ
+  pub late : ℤ
+
+-- A list of pairs as its numbers, side by side.
+unfoldable pub sideBySide : List Pair → List ℤ
+sideBySide [] = []
+sideBySide (p ∷ ps) = p .early ∷ p .late ∷ sideBySide ps
+
 -- ---- the ordinates (step 1)
 
--- The coefficient of row i.
-abbrev pub coefficient : List ℤ → ℕ → ℤ
-coefficient coefs i = getD coefs i (pos 0)
+-- The coefficient of row i for a wood part: of each row's two, "side by side in the list", its own.
+abbrev pub coefficient : WoodPart → List ℤ → ℕ → ℤ
+coefficient part coefs i = getD coefs (2 * i + partIndex part) (pos 0)
 
 -- The weight of row i on column c is not zero.
 abbrev pub hasWeight : Table → ℕ → ℕ → Bool
@@ -125,10 +148,14 @@ triangle d u g (suc n) k = blend d u (triangle d u g n k) (triangle d u g n (suc
 unfoldable pub blended : Space → List ℤ → ℕ → ℤ → ℤ
 blended s os i x = triangle (fineWidth s i) (offset s i x) (λ k. getD os (firstColumn s i + k) (pos 0)) (degree s i) 0
 
--- The value at a position.
-unfoldable pub valueAt : Space → Table → List ℤ → ℤ → ℤ
-valueAt s t coefs x = blended s (ordinates s t (coefficient coefs)) (segmentAt s x) x
+-- The value of a wood part at a position.
+unfoldable pub valueAt : Space → Table → WoodPart → List ℤ → ℤ → ℤ
+valueAt s t part coefs x = blended s (ordinates s t (coefficient part coefs)) (segmentAt s x) x
 
--- "one value per position, in list order".
-unfoldable pub values : Space → Table → List ℤ → List ℤ → List ℤ
-values s t coefs positions = map (valueAt s t coefs) positions
+-- "each position gives two values".
+unfoldable pub pairAt : Space → Table → List ℤ → ℤ → Pair
+pairAt s t coefs x = record { early = valueAt s t earlywood coefs x; late = valueAt s t latewood coefs x }
+
+-- Both values for each position, in list order.
+unfoldable pub values : Space → Table → List ℤ → List ℤ → List Pair
+values s t coefs positions = map (pairAt s t coefs) positions

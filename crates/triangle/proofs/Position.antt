@@ -1,5 +1,6 @@
--- A position within the span of legal lists: the segment that holds it, its offset there, and the segment's columns.
-use mathlib.Core.Path.{_≡_, sym, _∙_, ap₂, subst}
+-- A position within the span of legal lists: the segment that holds it, its offset there and the segment's columns, which are
+-- its place; and the value at a place.
+use mathlib.Core.Path.{_≡_, refl, sym, _∙_, ap, subst}
 use mathlib.Core.Bool.{Bool, true, _&&_}
 use mathlib.Core.List.{List, [], _++_}
 use Prim.Native.Nat.{ℕ, _+_, _<_, _≤_}
@@ -13,7 +14,7 @@ use Rattle.exact.specs.Tabulate.{tab}
 use Rattle.exact.proofs.Decide.{cond-true, cond-false}
 use Rattle.exact.proofs.Integer.{≤-in, <-in}
 use Rattle.exact.proofs.Tabulate.{tab-length, tab-getD, tab-rest}
-use Rattle.spline.specs.Space.{degree, firstColumn}
+use Rattle.spline.specs.Space.{Space, degree, firstColumn}
 use Rattle.spline.specs.Reading.{fine, segmentAt, fineWidth, offset, triangle, blended}
 use Rattle.spline.proofs.Legal.{Checked, checked-inverts}
 use Rattle.closeness.specs.Demand3Values.{InSpan}
@@ -23,6 +24,8 @@ use Rattle.space.specs.Legal.{ListsLegal}
 use Rattle.space.proofs.Legal.{legal-checked, legal-width-high, legal-degree-high, legal-columns-within, legal-column-count-high}
 use Rattle.space.proofs.Partial.{first-column-partial}
 use Rattle.triangle.specs.Offsets.{columnsOf, localOf, Within, Offset}
+use Rattle.triangle.specs.Place.{placeOf, valueOf}
+use Rattle.triangle.specs.declared.Place.{Place}
 use Rattle.triangle.proofs.Stages.{triangle-ext}
 use Rattle.triangle.proofs.Local.{local-at}
 
@@ -72,13 +75,27 @@ module _ (b d o : List ℤ) (h : ListsLegal b d o) (i : ℕ) (l : i < length d) 
   pub degree-within : degree (space [] d []) i ≤ 5
   degree-within = legal-degree-high b d o h i l
 
--- ---- the value, from the segment's ordinates in an array of six
+-- ---- the place
 
-pub blended-local : (b d o os : List ℤ) (x : ℤ) (i c p : ℕ) (u e : ℤ) → p < 6 → c ≡ firstColumn (space [] d []) i → p ≡ degree (space [] d []) i
-    → u ≡ offset (space b [] []) i x → e ≡ pos (fineWidth (space b [] []) i)
-    → triangle (natAbs e) u (λ k. getD (localOf os c p) k (pos 0)) p 0 ≡ blended (space b d o) os i x
-unfolding blended
-blended-local b d o os x i c p u e l c-is p-is u-is e-is =
-    triangle-ext (natAbs e) u (λ k. getD (localOf os c p) k (pos 0)) (λ k. getD os (c + k) (pos 0)) p (λ k h. local-at os c p k l h) p 0 (omega arith)
-    ∙ ap₂ (λ z n. triangle (natAbs z) u (λ k. getD os (n + k) (pos 0)) p 0) e-is (c-is ∙ first-column-partial b d o i)
-    ∙ ap₂ (λ z n. triangle (fineWidth (space b [] []) i) z (λ k. getD os (firstColumn (space b d o) i + k) (pos 0)) n 0) u-is p-is
+module _ (b d o : List ℤ) (x : ℤ) (i : ℕ) (at : i ≡ segmentAt (space b d o) x) where
+  pub place-is : {c p : ℕ} {u e : ℤ} → c ≡ firstColumn (space [] d []) i → p ≡ degree (space [] d []) i → u ≡ offset (space b [] []) i x → e ≡ pos (fineWidth (space b [] []) i)
+      → record { column = c; degree = p; offset = u; width = e } ≡ placeOf (space b d o) x
+  unfolding placeOf
+  place-is c-is p-is u-is e-is = λ z. record {
+    column = (c-is ∙ first-column-partial b d o i ∙ ap (firstColumn (space b d o)) at) z;
+    degree = (p-is ∙ ap (degree (space b d o)) at) z;
+    offset = (u-is ∙ ap (λ n. offset (space b d o) n x) at) z;
+    width = (e-is ∙ ap (λ n. pos (fineWidth (space b d o) n)) at) z;
+  }
+
+-- ---- the value
+
+-- from the segment's ordinates in an array of six
+pub value-local : (os : List ℤ) (p : Place) → p .degree < 6 → triangle (natAbs (p .width)) (p .offset) (λ k. getD (localOf os (p .column) (p .degree)) k (pos 0)) (p .degree) 0 ≡ valueOf os p
+unfolding valueOf
+value-local os p l = triangle-ext (natAbs (p .width)) (p .offset) (λ k. getD (localOf os (p .column) (p .degree)) k (pos 0)) (λ k. getD os (p .column + k) (pos 0)) (p .degree) (λ k h. local-at os (p .column) (p .degree) k l h) (p .degree) 0 (omega arith)
+
+-- at a position's place it is the definition's
+pub value-blended : (s : Space) (os : List ℤ) (x : ℤ) → valueOf os (placeOf s x) ≡ blended s os (segmentAt s x) x
+unfolding valueOf placeOf blended
+value-blended s os x = refl

@@ -1,4 +1,5 @@
-// The value at one position: its segment, the segment's ordinates, and the de Casteljau triangle on them.
+// The values at one position: its place, found once for both wood parts, and for each part the segment's ordinates and the
+// de Casteljau triangle on them.
 ghost use mathlib.Core.Path.{_≡_};
 ghost use mathlib.Core.List.{[]};
 ghost use mathlib.Core.Option.{Option·getD};
@@ -12,8 +13,18 @@ ghost use Rattle.spline.specs.Table.{rowCells};
 ghost use Rattle.spline.specs.Reading;
 ghost use Rattle.ordinates.specs.Ordinates.{Bounded};
 ghost use Rattle.triangle.specs.Offsets.{columnsOf, localOf, Within};
+ghost use Rattle.triangle.specs.Place.{placeOf, Sound, valueOf};
 
 mod triangle;
+
+// Where a position lies: its segment's first column and degree, how far past the segment's start it is and how long the
+// segment is, both in 256ths of a ring.
+pub struct Place {
+    pub column: usize,
+    pub degree: usize,
+    pub offset: i64,
+    pub width: i64,
+}
 
 const DISCONTINUITY: i32 = -1;
 
@@ -92,25 +103,31 @@ fn offset(breaks: &[i32], i: usize, x: i32) -> i64
     x as i64 - 256 * start
 }
 
-// The value at position x.
-pub fn value_at(
-    breaks: &[i32],
-    degrees: &[i32],
-    orders: &[i32],
-    columns: &[usize],
-    ordinates: &[i64],
-    x: i32,
-) -> i32
+// The place of position x.
+pub fn place_at(breaks: &[i32], degrees: &[i32], orders: &[i32], columns: &[usize], x: i32) -> Place
     requires { ⌜ ListsLegal (now breaks) (now degrees) (now orders) × Within (space (now breaks) (now degrees) (now orders)) x ⌝ }
-    requires { ⌜ (now columns ≡ columnsOf (space [] (now degrees) [])) × ((length (now ordinates) ≡ rowCells) × Bounded (now ordinates)) ⌝ }
-    ensures { λ r. ⌜ r ≡ Reading.blended (space (now (breaks .entry)) (now (degrees .entry)) (now (orders .entry))) (now (ordinates .entry)) (Reading.segmentAt (space (now (breaks .entry)) (now (degrees .entry)) (now (orders .entry))) x) x ⌝ }
+    requires { ⌜ now columns ≡ columnsOf (space [] (now degrees) []) ⌝ }
+    ensures { λ r. ⌜ (r ≡ placeOf (space (now (breaks .entry)) (now (degrees .entry)) (now (orders .entry))) x) × Sound r ⌝ }
 {
     let i = segment_at(breaks, orders, degrees.len(), x);
     let p = space::degree_at(degrees, i);
     let u = offset(breaks, i, x);
     let d = fine_width(breaks, i);
     let c = columns[i];
-    let o = local_ordinates(ordinates, c, p);
-    let v = crate::triangle::triangle(o, p, u, d);
+    Place {
+        column: c,
+        degree: p,
+        offset: u,
+        width: d,
+    }
+}
+
+// The value at a place of the curve with these ordinates.
+pub fn value_at(ordinates: &[i64], place: Place) -> i32
+    requires { ⌜ Sound place × ((length (now ordinates) ≡ rowCells) × Bounded (now ordinates)) ⌝ }
+    ensures { λ r. ⌜ r ≡ valueOf (now (ordinates .entry)) place ⌝ }
+{
+    let o = local_ordinates(ordinates, place.column, place.degree);
+    let v = crate::triangle::triangle(o, place.degree, place.offset, place.width);
     v as i32
 }

@@ -36,7 +36,7 @@ pub record Fitting (names : Text) (years : List ℤ) (counts : List ℕ) (widths
   pub counts-fit : length counts ≡ length years
   pub widths-fit : total counts ≡ length widths
 
-fits-parts : (names : Text) (years : List ℤ) (counts : List ℕ) (widths : List ℤ) → listsFit names years counts widths ≡ true → Fitting names years counts widths
+pub fits-parts : (names : Text) (years : List ℤ) (counts : List ℕ) (widths : List ℤ) → listsFit names years counts widths ≡ true → Fitting names years counts widths
 unfolding listsFit
 fits-parts names years counts widths e =
     let outer = and-true (eqb (length names) (length years * nameColumns) && eqb (length counts) (length years)) (eqb (total counts) (length widths)) e in

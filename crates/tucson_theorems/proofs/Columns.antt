@@ -20,7 +20,7 @@ use Rattle.numerals.specs.Bytes.{Text, newline, minus}
 use Rattle.numerals.specs.Numeral.{digitsValue, isNatural, negated, numeral, decimal, numberLimit}
 use Rattle.numerals.proofs.Decimal.{digits-length-le}
 use Rattle.numerals.proofs.Digits.{value-below, natural-parts}
-use Rattle.numerals.proofs.Lacking.{lacks, lacks-append, decimal-lacks}
+use Rattle.numerals.proofs.Lacking.{lacks, byte, byte-outside, lacks-append, decimal-lacks}
 use Rattle.numerals.proofs.RoundTrip.{numeral-reads-back, decimal-any}
 use Rattle.tucson_form.specs.Columns.{blank, inColumns, columns}
 use Rattle.tucson_form.specs.Writing.{leastYear, greatestYear}
@@ -33,17 +33,17 @@ blanks-skipped zero t = refl
 blanks-skipped (suc k) t = blanks-skipped k t
 
 -- a text that is not empty and has no blank is read as a numeral
-full-columns : (t : Text) → 1 ≤ length t → lacks blank t ≡ true → inColumns t ≡ numeral t
+full-columns : (t : Text) → 1 ≤ length t → lacks (byte blank) t ≡ true → inColumns t ≡ numeral t
 unfolding inColumns
 full-columns [] h l = absurd (omega arith)
 full-columns (c ∷ cs) h l =
-    cond-false (inColumns cs) (numeral (c ∷ cs)) (not-true (eqb c blank) (and-true (not (eqb c blank)) (lacks blank cs) l .0))
+    cond-false (inColumns cs) (numeral (c ∷ cs)) (not-true (eqb c blank) (and-true (not (eqb c blank)) (lacks (byte blank) cs) l .0))
 
 pub columns-read : (n : ℕ) (z : ℤ) → natAbs z < numberLimit → inColumns (columns n z) ≡ some z
 unfolding columns
 columns-read n z h =
     blanks-skipped (n - length (decimal z)) (decimal z)
-    ∙ full-columns (decimal z) (decimal-any z) (decimal-lacks blank z (omega arith))
+    ∙ full-columns (decimal z) (decimal-any z) (decimal-lacks (byte blank) (byte-outside blank refl refl) z)
     ∙ numeral-reads-back z h
 
 -- ---- the columns that are filled
@@ -52,13 +52,13 @@ pub columns-length : (n : ℕ) (z : ℤ) → length (decimal z) ≤ n → length
 unfolding columns
 columns-length n z h = length-append (replicate (n - length (decimal z)) blank) (decimal z) ∙ omega (arith, length-replicate (n - length (decimal z)) blank)
 
-blanks-lack : (k : ℕ) → lacks newline (replicate k blank) ≡ true
+blanks-lack : (k : ℕ) → lacks (byte newline) (replicate k blank) ≡ true
 blanks-lack zero = refl
 blanks-lack (suc k) = blanks-lack k
 
-pub columns-lack : (n : ℕ) (z : ℤ) → lacks newline (columns n z) ≡ true
+pub columns-lack : (n : ℕ) (z : ℤ) → lacks (byte newline) (columns n z) ≡ true
 unfolding columns
-columns-lack n z = lacks-append newline (replicate (n - length (decimal z)) blank) (decimal z) (blanks-lack (n - length (decimal z))) (decimal-lacks newline z (omega arith))
+columns-lack n z = lacks-append (byte newline) (replicate (n - length (decimal z)) blank) (decimal z) (blanks-lack (n - length (decimal z))) (decimal-lacks (byte newline) (byte-outside newline refl refl) z)
 
 -- ---- the digits of years and fields
 

@@ -12,7 +12,7 @@ use lib.ListN.{length, take, drop, length-append}
 use lib.Seq.{take-at, drop-at, drop-drop}
 use Rattle.exact.proofs.Decide.{and-true, cond-true}
 use Rattle.numerals.specs.Bytes.{Text, newline, cut, onFirst}
-use Rattle.numerals.proofs.Lacking.{lacks, lacks-append, lacks-first, cut-first}
+use Rattle.numerals.proofs.Lacking.{lacks, byte, lacks-append, lacks-first, cut-first}
 use Rattle.tucson_form.specs.Columns.{blank, inColumns, columns}
 use Rattle.tucson_form.specs.Line.{Line, nameColumns, yearColumns, fieldColumns, decade, lastPrintable, linesOf, allPrintable, allBlank, isName, withField, fieldNumbers, fieldCount, columnsFit, withNumbers, lineInColumns, ofCut, lineOf}
 use Rattle.tucson_form.specs.Writing.{fieldsText, lineText}
@@ -28,10 +28,10 @@ lineBytes n = headColumns + n * fieldColumns + 1
 
 -- ---- a text cut into lines
 
-pub lines-first : (s rest : Text) → lacks newline s ≡ true → linesOf (s ++ (newline ∷ rest)) ≡ (s ++ (newline ∷ [])) ∷ linesOf rest
+pub lines-first : (s rest : Text) → lacks (byte newline) s ≡ true → linesOf (s ++ (newline ∷ rest)) ≡ (s ++ (newline ∷ [])) ∷ linesOf rest
 unfolding linesOf
 lines-first [] rest h = refl
-lines-first (c ∷ s) rest h = let parts = lacks-first newline c s h in rw (parts .0) (ap (onFirst c) (lines-first s rest (parts .1)))
+lines-first (c ∷ s) rest h = let parts = lacks-first (byte newline) c s h in rw (parts .0) (ap (onFirst c) (lines-first s rest (parts .1)))
 
 -- ---- names
 
@@ -42,7 +42,7 @@ name-parts t e =
     let inner = and-true (eqb (length t) nameColumns) (allPrintable t) (outer .0) in
     (eqb-true (length t) nameColumns (inner .0), inner .1, not-true (allBlank t) (outer .1))
 
-printable-lacks : (t : Text) → allPrintable t ≡ true → lacks newline t ≡ true
+printable-lacks : (t : Text) → allPrintable t ≡ true → lacks (byte newline) t ≡ true
 unfolding allPrintable
 printable-lacks [] e = refl
 printable-lacks (c ∷ cs) e =
@@ -65,10 +65,10 @@ unfolding fieldsText
 fields-length [] h = refl
 fields-length (f ∷ fs) h = length-append (columns fieldColumns f) (fieldsText fs) ∙ omega (arith, field-length f (h .0), fields-length fs (h .1))
 
-fields-lack : (fs : List ℤ) → lacks newline (fieldsText fs) ≡ true
+fields-lack : (fs : List ℤ) → lacks (byte newline) (fieldsText fs) ≡ true
 unfolding fieldsText
 fields-lack [] = refl
-fields-lack (f ∷ fs) = lacks-append newline (columns fieldColumns f) (fieldsText fs) (columns-lack fieldColumns f) (fields-lack fs)
+fields-lack (f ∷ fs) = lacks-append (byte newline) (columns fieldColumns f) (fieldsText fs) (columns-lack fieldColumns f) (fields-lack fs)
 
 fields-read : (fs : List ℤ) → AllFit fs → fieldNumbers (length fs) (fieldsText fs) ≡ some fs
 unfolding fieldsText fieldNumbers
@@ -118,11 +118,11 @@ module _ (l : Line) (f : Fit l) where
       length-append (l .name) (columns yearColumns (l .year) ++ fieldsText (l .fields))
       ∙ omega (arith, length-append (columns yearColumns (l .year)) (fieldsText (l .fields)), name-length, year-length, fields-length (l .fields) (f .small))
 
-  body-lacks : lacks newline (bodyText l) ≡ true
+  body-lacks : lacks (byte newline) (bodyText l) ≡ true
   body-lacks =
-      lacks-append newline (l .name) (columns yearColumns (l .year) ++ fieldsText (l .fields))
+      lacks-append (byte newline) (l .name) (columns yearColumns (l .year) ++ fieldsText (l .fields))
       (printable-lacks (l .name) (name-parts (l .name) (f .named) .1))
-      (lacks-append newline (columns yearColumns (l .year)) (fieldsText (l .fields)) (columns-lack yearColumns (l .year)) (fields-lack (l .fields)))
+      (lacks-append (byte newline) (columns yearColumns (l .year)) (fieldsText (l .fields)) (columns-lack yearColumns (l .year)) (fields-lack (l .fields)))
 
   pub line-length : length (lineText l) ≡ lineBytes (length (l .fields))
   line-length = ap length (body-is l) ∙ length-append (bodyText l) (newline ∷ []) ∙ omega (arith, body-length)

@@ -29,12 +29,12 @@ use Rattle.tucson_theorems.proofs.InDecades.{InDecades, ends, goes, wid
 
 -- ---- fields of widths, and of widths and a closing
 
-width-fits : (w : ℤ) → isWidth w ≡ true → FitsColumns 5 w
+pub width-fits : (w : ℤ) → isWidth w ≡ true → FitsColumns 5 w
 unfolding isWidth
 width-fits (pos n) e = omega (arith, ≤-out (pos n) (pos widthLimit) (leZ-true (pos n) (pos widthLimit) (and-true (leZ (pos 0) (pos n)) _ e .1)))
 width-fits (negsuc n) e = absurd (true-not-false e refl)
 
-widths-fit : (ws : List ℤ) → allWidths ws ≡ true → AllFit ws
+pub widths-fit : (ws : List ℤ) → allWidths ws ≡ true → AllFit ws
 widths-fit [] h = tt
 widths-fit (w ∷ ws) h = let parts = widths-parts w ws h in (width-fits w (parts .0), widths-fit ws (parts .1))
 

@@ -5,7 +5,7 @@ ghost use Rattle.spline.specs.Build.{buildEnd};
 ghost use Rattle.spline.specs.CurveCall.{curveEnd};
 ghost use Rattle.walzhik.specs.Reply.{replied};
 
-// The count of rows or values, with number 0 and place 0; or count 0 with a refusal's number and place.
+// The count of rows or positions, with number 0 and place 0; or count 0 with a refusal's number and place.
 #[repr(C)]
 pub struct Reply {
     pub count: u64,

@@ -2,13 +2,14 @@
 use borrow.Author.Needs.{needs}
 use native.Mathlib.Omega.{arith}
 use mathlib.Core.Path.{_≡_, sym, _∙_, ap, subst}
-use Prim.Native.Nat.{_≤_}
+use Prim.Native.Nat.{_/_, _≤_}
 use lib.ListN.{length}
 use Rattle.spline.specs.Outcome.{Outcome, answer}
 use Rattle.spline.specs.Space.{Space, rowCount}
 use Rattle.spline.specs.Table.{tableCells, numerators, denominators}
 use Rattle.spline.specs.Build.{weights, built, numeratorsAfter, denominatorsAfter}
 use Rattle.spline.specs.CurveCall.{CurveResult, curveChecked, curveOutcome}
+use Rattle.spline.proofs.Pairs.{half-le}
 use Rattle.closeness.proofs.LegalCall.{values-length}
 use Rattle.space.specs.Reply.{space, legality}
 use Rattle.space.specs.declared.Legality.the-variants.{Legal}
@@ -59,8 +60,8 @@ module _ (c : tie.Else3) where
   second-long : tableCells ≤ length (start .args .den .now)
   second-long = omega arith
 
-  third-long : length (start .args .positions .now) ≤ length (start .args .values .now)
-  third-long = omega arith
+  third-long : length (start .args .positions .now) ≤ length (start .args .values .now) / 2
+  third-long = c .if3 .left
 
 check-requires : tie.Need-check-requires
 check-requires c κs = search needs
@@ -136,7 +137,7 @@ write-values-requires c κs =
       (lists-legal _ _ _ _ _ p, positions-good (a .breaks .now) (a .degrees .now) (a .orders .now) (a .coefs .now) (a .positions .now) p),
       (
         (subst (Weighs (b .build .last .1 .1 .1 .0) (b .build .last .1 .1 .1 .1 .0)) (sym (has-rows k .rows)) (weighed k), subst (Coefficients (a .coefs .now)) (sym (has-rows k .rows)) (coefficients-good (a .breaks .now) (a .degrees .now) (a .orders .now) (a .coefs .now) (a .positions .now) p)),
-        third-long (long (told b)),
+        half-le (length (a .positions .now)) (length (a .values .now)) (third-long (long (told b))),
       ),
     )
 

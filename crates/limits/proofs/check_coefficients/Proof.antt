@@ -1,8 +1,10 @@
 -- `curve::limits::check_coefficients` meets its contract: the count first, then what the search found. Assumes nothing.
 use borrow.Author.Needs.{needs}
+use native.Mathlib.Omega.{arith}
 use mathlib.Core.List.{[]}
 use mathlib.Core.Option.{some, none}
 use mathlib.Core.Path.{_≡_, sym, ap, _∙_}
+use Prim.Native.Nat.{ℕ, _*_}
 use lib.ListN.{length}
 use Rattle.spline.specs.Outcome.{refusal}
 use Rattle.spline.specs.Search.{first}
@@ -10,6 +12,7 @@ use Rattle.spline.specs.Space.{Space, rowCount}
 use Rattle.spline.specs.CurveCall.{badCoefficient}
 use Rattle.space.specs.Reply.{space}
 use Rattle.space.proofs.Reply.{found-some-inverts, found-none-inverts, answer-legal, refusal-refused}
+use Rattle.space.proofs.Bounds.{first-column-high}
 use Rattle.limits.proofs.Refused.{coefficients-count, coefficients-refused, coefficients-pass}
 use Rattle.limits.proofs.check_coefficients.Statement.{statement}
 use Rattle.limits.proofs.check_coefficients.Tie as tie
@@ -17,9 +20,9 @@ use Rattle.limits.proofs.check_coefficients.Tie as tie
 abbrev joined : tie.Start → Space
 joined s = space [] (s .args .degrees .now) (s .args .orders .now)
 
--- as many coefficients as rows
-counted : (c : tie.Else1) → length (c .before .before .args .coefs .now) ≡ rowCount (joined (c .before .before))
-counted c = c .if1 .left ∙ c .before .row-count .ensures
+-- two numbers a row
+counted : (c : tie.Else1) → length (c .before .before .args .coefs .now) ≡ 2 * rowCount (joined (c .before .before))
+counted c = c .if1 .left ∙ ap (λ (n : ℕ). 2 * n) (c .before .row-count .ensures)
 
 found-bad : (c : tie.After-bad) → first (length (c .before .before .before .before .before .args .coefs .now)) (badCoefficient (c .before .before .before .before .before .args .coefs .now)) ≡ some (c .bad .given .0 .0)
 found-bad c = found-some-inverts _ (sym (c .before .before .first-bad-coefficient .ensures) ∙ c .bad .given .1)
@@ -30,8 +33,12 @@ none-bad c = found-none-inverts _ (sym (c .before .before .first-bad-coefficient
 row-count-requires : tie.Need-row-count-requires
 row-count-requires c κs = search needs
 
+-- at most six columns a segment
+mul-if1 : tie.Need-mul-if1
+mul-if1 c = omega (arith, c .row-count .ensures, first-column-high (joined (c .before)) (c .before .pre .degrees-legal) (length (c .before .args .degrees .now)) (omega arith), c .before .pre .few)
+
 returns : tie.Need-returns
-returns c = sym (refusal-refused _ (coefficients-count (joined (c .before .before)) (c .before .before .args .coefs .now) (λ e. c .if1 .taken (e ∙ sym (c .before .row-count .ensures)))))
+returns c = sym (refusal-refused _ (coefficients-count (joined (c .before .before)) (c .before .before .args .coefs .now) (λ e. c .if1 .taken (e ∙ sym (ap (λ (n : ℕ). 2 * n) (c .before .row-count .ensures))))))
 
 first-bad-coefficient-requires : tie.Need-first-bad-coefficient-requires
 first-bad-coefficient-requires c κs = search needs
@@ -60,6 +67,7 @@ check-coefficients-spec =
     tie.close
     (tie.spec
     row-count-requires
+    mul-if1
     returns
     first-bad-coefficient-requires
     enum-known-bad

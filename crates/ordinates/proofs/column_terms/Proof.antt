@@ -15,17 +15,16 @@ use Rattle.exact.proofs.Word.{sfits-widen, ofZ-inj, sfits-abs}
 use Rattle.exact.proofs.Integer.{<-in}
 use Rattle.fraction.proofs.Size.{fits-den}
 use Rattle.spline.specs.Table.{cell}
-use Rattle.spline.specs.Reading.{coefficient}
-use Rattle.ordinates.specs.Ordinates.{termsOf}
+use Rattle.ordinates.specs.Ordinates.{termsOf, entries}
 use Rattle.ordinates.proofs.Gathered.{Gathered, gathered-none, gathered-skip, gathered-more, cell-num, cell-den}
 use Rattle.ordinates.proofs.column_terms.Statement.{statement}
 use Rattle.ordinates.proofs.column_terms.Tie as tie
 
 abbrev Inv-loop : tie.InvT-loop
-Inv-loop num den coefs n c all₀ i₀ all i = (i ≤ n) × Gathered num den coefs c all i
+Inv-loop num den coefs index n c all₀ i₀ all i = (i ≤ n) × Gathered num den (entries coefs index) c all i
 
 abbrev μ-loop : tie.MeasureT-loop
-μ-loop num den coefs n c all₀ i₀ all i = n - i
+μ-loop num den coefs index n c all₀ i₀ all i = n - i
 
 loop-holds : tie.Need-loop-holds Inv-loop μ-loop
 loop-holds c = (omega arith, gathered-none _ _ _ _)
@@ -42,6 +41,12 @@ mul-x c = omega (arith, c .before .before .pre .1 .0 .few)
 shared-slice-copy-out-x : tie.Need-shared-slice-copy-out-x Inv-loop μ-loop
 shared-slice-copy-out-x c = omega (arith, c .before .before .pre .1 .0 .few, c .before .before .pre .1 .0 .holds .num-long)
 
+mul-entry : tie.Need-mul-entry Inv-loop μ-loop
+mul-entry c = omega (arith, c .before .before .before .before .pre .1 .0 .few)
+
+add-entry : tie.Need-add-entry Inv-loop μ-loop
+add-entry c = omega (arith, c .before .before .before .before .pre .1 .0 .few)
+
 mul-a : tie.Need-mul-a Inv-loop μ-loop
 mul-a c = omega (arith, c .before .before .before .before .pre .1 .0 .few)
 
@@ -49,7 +54,7 @@ shared-slice-copy-out-a : tie.Need-shared-slice-copy-out-a Inv-loop μ-loop
 shared-slice-copy-out-a c = omega (arith, c .before .before .before .before .pre .1 .1 .count)
 
 cast-a : tie.Need-cast-a Inv-loop μ-loop
-cast-a c = let f : SFits w32 (getD (c .before .before .before .before .before .args .coefs .now) (c .before .before .before .before .loop .i) (pos 0)) = record { sfits = c .a .given } in simp toZ-ofZ (sfits-widen f)
+cast-a c = let f : SFits w32 (entries (c .before .before .before .before .before .args .coefs .now) (c .before .before .before .before .before .args .index) (c .before .before .before .before .loop .i)) = record { sfits = c .a .given } in simp toZ-ofZ (sfits-widen f)
 
 mul-d : tie.Need-mul-d Inv-loop μ-loop
 mul-d c = omega (arith, c .before .before .before .before .before .pre .1 .0 .few)
@@ -75,16 +80,16 @@ module _ (c : tie.In-loop Inv-loop μ-loop) where
   d = getD (start .args .den .now) at (pos 0)
 
   abbrev a : ℤ
-  a = getD (start .args .coefs .now) row (pos 0)
+  a = entries (start .args .coefs .now) (start .args .index) row
 
   row-within : row < 72
   row-within = omega (arith, start .pre .1 .0 .few)
 
   x-is : x ≡ (cell (start .pre .1 .0 .table) row (start .args .c)) .num
-  x-is = cell-num (start .pre .1 .0 .holds) row (start .args .c) row-within (start .pre .0)
+  x-is = cell-num (start .pre .1 .0 .holds) row (start .args .c) row-within (start .pre .0 .0)
 
   d-is : d ≡ pos (Rational.den (cell (start .pre .1 .0 .table) row (start .args .c)))
-  d-is = cell-den (start .pre .1 .0 .holds) row (start .args .c) row-within (start .pre .0)
+  d-is = cell-den (start .pre .1 .0 .holds) row (start .args .c) row-within (start .pre .0 .0)
 
   d-small : natAbs d < 2 ^ 31
   d-small = rw d-is (fits-den _ (start .pre .1 .0 .holds .fit row (start .args .c)))
@@ -96,7 +101,7 @@ module _ (c : tie.In-loop Inv-loop μ-loop) where
   x-unit = rw (x-is, d-is) (start .pre .1 .0 .unit row (start .args .c))
 
   a-small : natAbs a ≤ 1000000
-  a-small = start .pre .1 .1 .small row
+  a-small = start .pre .1 .1 .small (2 * row + start .args .index)
 
   a-fits-32 : SFits w32 a
   a-fits-32 = sfits-abs (omega (arith, a-small))
@@ -126,21 +131,21 @@ loop-less : tie.Need-loop-less Inv-loop μ-loop
 loop-less c = omega arith
 
 -- a row with weight on the column
-more : (c : tie.After-with-term Inv-loop μ-loop) → let l = c .before .before .before .before .before in Gathered (start l .args .num .now) (start l .args .den .now) (start l .args .coefs .now) (start l .args .c) (c .with-term .result) (row l + 1)
+more : (c : tie.After-with-term Inv-loop μ-loop) → let l = c .before .before .before .before .before in Gathered (start l .args .num .now) (start l .args .den .now) (entries (start l .args .coefs .now) (start l .args .index)) (start l .args .c) (c .with-term .result) (row l + 1)
 more c =
     let l = c .before .before .before .before .before in
     let e = a-fits-32 l in
     let f = a-fits l in
     let g = x-fits (c .before .before .before .before) in
     let h = d-fits (c .before) in
-    gathered-more (start l .args .num .now) (start l .args .den .now) (start l .args .coefs .now) (start l .args .c) (row l) (row-within l) (start l .pre .0) (l .before .loop .all) (l .before .loop .inv .1) (c .with-term .result)
+    gathered-more (start l .args .num .now) (start l .args .den .now) (entries (start l .args .coefs .now) (start l .args .index)) (start l .args .c) (row l) (row-within l) (start l .pre .0 .0) (l .before .loop .all) (l .before .loop .inv .1) (c .with-term .result)
     (λ z. c .before .before .before .if1 .taken (ap (ofZ w64) z)) (simp toZ-ofZ at (c .with-term .ensures))
 
 -- a row without
-skip : (c : tie.Else1 Inv-loop μ-loop) → let l = c .before .before in Gathered (start l .args .num .now) (start l .args .den .now) (start l .args .coefs .now) (start l .args .c) (l .before .loop .all) (row l + 1)
+skip : (c : tie.Else1 Inv-loop μ-loop) → let l = c .before .before in Gathered (start l .args .num .now) (start l .args .den .now) (entries (start l .args .coefs .now) (start l .args .index)) (start l .args .c) (l .before .loop .all) (row l + 1)
 skip c =
     let l = c .before .before in
-    gathered-skip (start l .args .num .now) (start l .args .den .now) (start l .args .coefs .now) (start l .args .c) (row l) (row-within l) (start l .pre .0) (l .before .loop .all) (l .before .loop .inv .1)
+    gathered-skip (start l .args .num .now) (start l .args .den .now) (entries (start l .args .coefs .now) (start l .args .index)) (start l .args .c) (row l) (row-within l) (start l .pre .0 .0) (l .before .loop .all) (l .before .loop .inv .1)
     (ofZ-inj w64 (x l) (pos 0) (x-fits (c .before)) (sfits-abs (omega arith)) (c .if1 .left))
 
 loop-again : tie.Need-loop-again Inv-loop μ-loop
@@ -153,7 +158,7 @@ loop-again c = (
 )
 
 returns : tie.Need-returns Inv-loop μ-loop
-returns c = λ t h. c .before .loop .inv .1 .is t h ∙ ap (λ (n : ℕ). termsOf t (coefficient (c .before .before .args .coefs .now)) (c .before .before .args .c) n) (let e : c .before .loop .i ≡ c .before .before .args .n = omega arith in e)
+returns c = λ t h. c .before .loop .inv .1 .is t h ∙ ap (λ (n : ℕ). termsOf t (entries (c .before .before .args .coefs .now) (c .before .before .args .index)) (c .before .before .args .c) n) (let e : c .before .loop .i ≡ c .before .before .args .n = omega arith in e)
 
 pub column-terms-spec : {M : Type 1} → statement M
 column-terms-spec =
@@ -166,6 +171,8 @@ column-terms-spec =
     add-at
     mul-x
     shared-slice-copy-out-x
+    mul-entry
+    add-entry
     mul-a
     shared-slice-copy-out-a
     cast-a

@@ -1,20 +1,23 @@
 -- `low_positions` meets its contract: after k turns the low positions of the first k entries stand at the array's start.
+use borrow.Author.Needs.{needs}
 use native.Mathlib.Numerals.{add-one}
 use native.Mathlib.Omega.{arith}
 use mathlib.Core.Path.{_≡_, refl, sym, ap, _∙_}
 use mathlib.Core.Bool.{true, false}
 use mathlib.Core.Logic.{⊎-elim}
 use mathlib.Core.List.{List, [], _∷_, _++_, append-nil}
-use Prim.Native.Nat.{ℕ, suc, _-_, _<_, _≤_}
+use Prim.Native.Nat.{ℕ, suc, _+_, _*_, _-_, _/_, _<_, _≤_}
 use lib.IntN.{ℤ, pos}
 use lib.ListN.{length, getD, take, set, length-set}
 use lib.Seq.{take-all, length-take-le, take-suc-set, take-set-le}
-use lib.Signed.{leZ}
 use mir.Syntax.{w32}
 use mir.Val.{SFits}
 use Rattle.exact.proofs.Word.{toZ-ofZ}
-use Rattle.printout.specs.Printout.{lowPositions}
+use Rattle.spline.specs.Reading.{Pair}
+use Rattle.printout.specs.Printout.{isLow, lowPositions}
+use Rattle.printout.specs.Printed.{paired}
 use Rattle.printout.proofs.Printout.{entry-low, entry-not-low, lowPositions-none, lowPositions-more}
+use Rattle.printout.proofs.Pairs.{paired-length, paired-at}
 use Rattle.printout.proofs.low_positions.Statement.{statement}
 use Rattle.printout.proofs.low_positions.Tie as tie
 
@@ -22,29 +25,31 @@ record Inv (positions values lows₀ lows : List ℤ) (count k : ℕ) : Type 0 w
   within : k ≤ length positions
   few : count ≤ k
   same : length lows ≡ length lows₀
-  kept : take count lows ≡ lowPositions (take k positions) values
+  kept : take count lows ≡ lowPositions (take k positions) (paired values)
 
-module _ (xs vs lows₀ lows : List ℤ) (count k : ℕ) (i : Inv xs vs lows₀ lows count k) (h : k < length xs) (l : k < length vs) (r : count < length lows) where
+module _ (xs vs lows₀ lows : List ℤ) (count k : ℕ) (i : Inv xs vs lows₀ lows count k) (h : k < length xs) (l : k < length vs / 2) (r : count < length lows) where
   abbrev x : ℤ
   x = getD xs k (pos 0)
 
-  abbrev v : ℤ
-  v = getD vs k (pos 0)
+  abbrev v : Pair
+  v = record { early = getD vs (2 * k) (pos 0); late = getD vs (2 * k + 1) (pos 0) }
+
+  -- one entry more
+  more : {ys : List ℤ} → lowPositions (x ∷ []) (v ∷ []) ≡ ys → lowPositions (take k xs) (paired vs) ++ ys ≡ lowPositions (take (suc k) xs) (paired vs)
+  more e =
+      ap (λ t. lowPositions (take k xs) (paired vs) ++ t) (sym e ∙ ap (λ (w : Pair). lowPositions (x ∷ []) (w ∷ [])) (sym (paired-at vs k l)))
+      ∙ sym (lowPositions-more xs (paired vs) k h (omega (arith, paired-length vs)))
 
   -- a low entry is counted, another is not
-  counted : leZ v (pos 0) ≡ true → Inv xs vs lows₀ (set lows count x) (suc count) (suc k)
+  counted : isLow v ≡ true → Inv xs vs lows₀ (set lows count x) (suc count) (suc k)
   counted e = record {
     within = h;
     few = omega (arith, i .few);
     same = length-set lows count x ∙ i .same;
-    kept =
-        take-suc-set lows count x r
-        ∙ ap (λ t. t ++ (x ∷ [])) (i .kept)
-        ∙ ap (λ t. lowPositions (take k xs) vs ++ t) (sym (entry-low x v e))
-        ∙ sym (lowPositions-more xs vs k h l);
+    kept = take-suc-set lows count x r ∙ ap (λ t. t ++ (x ∷ [])) (i .kept) ∙ more (entry-low x v e);
   }
 
-  passed : leZ v (pos 0) ≡ false → Inv xs vs lows₀ (set lows count x) count (suc k)
+  passed : isLow v ≡ false → Inv xs vs lows₀ (set lows count x) count (suc k)
   passed e = record {
     within = h;
     few = omega (arith, i .few);
@@ -52,9 +57,8 @@ module _ (xs vs lows₀ lows : List ℤ) (count k : ℕ) (i : Inv xs vs lows₀ 
     kept =
         take-set-le count lows count x (omega arith)
         ∙ i .kept
-        ∙ sym (append-nil (lowPositions (take k xs) vs))
-        ∙ ap (λ t. lowPositions (take k xs) vs ++ t) (sym (entry-not-low x v e))
-        ∙ sym (lowPositions-more xs vs k h l);
+        ∙ sym (append-nil (lowPositions (take k xs) (paired vs)))
+        ∙ more (entry-not-low x v e);
   }
 
 abbrev Inv-loop : tie.InvT-loop
@@ -72,17 +76,35 @@ mul-lows c = omega arith
 shared-slice-copy-out-lows : tie.Need-shared-slice-copy-out-lows Inv-loop μ-loop
 shared-slice-copy-out-lows c = omega arith
 
-mul-if1 : tie.Need-mul-if1 Inv-loop μ-loop
-mul-if1 c = omega arith
+mul-is-low : tie.Need-mul-is-low Inv-loop μ-loop
+mul-is-low c = omega arith
 
-slice-set-from-if1 : tie.Need-slice-set-from-if1 Inv-loop μ-loop
-slice-set-from-if1 c = omega arith
+slice-set-from-is-low : tie.Need-slice-set-from-is-low Inv-loop μ-loop
+slice-set-from-is-low c = omega arith
 
-mul-if1-2 : tie.Need-mul-if1-2 Inv-loop μ-loop
-mul-if1-2 c = omega arith
+mul-is-low-2 : tie.Need-mul-is-low-2 Inv-loop μ-loop
+mul-is-low-2 c = omega arith
 
-shared-slice-copy-out-if1 : tie.Need-shared-slice-copy-out-if1 Inv-loop μ-loop
-shared-slice-copy-out-if1 c = omega arith
+mul-is-low-3 : tie.Need-mul-is-low-3 Inv-loop μ-loop
+mul-is-low-3 c = omega arith
+
+shared-slice-copy-out-is-low : tie.Need-shared-slice-copy-out-is-low Inv-loop μ-loop
+shared-slice-copy-out-is-low c = omega arith
+
+mul-is-low-4 : tie.Need-mul-is-low-4 Inv-loop μ-loop
+mul-is-low-4 c = omega arith
+
+add-is-low : tie.Need-add-is-low Inv-loop μ-loop
+add-is-low c = omega arith
+
+mul-is-low-5 : tie.Need-mul-is-low-5 Inv-loop μ-loop
+mul-is-low-5 c = omega arith
+
+shared-slice-copy-out-is-low-2 : tie.Need-shared-slice-copy-out-is-low-2 Inv-loop μ-loop
+shared-slice-copy-out-is-low-2 c = omega arith
+
+is-low-requires : tie.Need-is-low-requires Inv-loop μ-loop
+is-low-requires c κs = search needs
 
 add-count : tie.Need-add-count Inv-loop μ-loop
 add-count c = omega arith
@@ -95,17 +117,20 @@ loop-less c = omega arith
 
 loop-again : tie.Need-loop-again Inv-loop μ-loop
 loop-again c =
-    let l = c .before .before .before .before .loop in
-    let a = c .before .before .before .before .before .args in
+    let q = c .before in
+    let l = q .before .before .before .before .before .loop in
+    let a = q .before .before .before .before .before .before .args in
     let xs = a .positions .now in
     let vs = a .values .now in
-    let f : SFits w32 (getD xs (l .k) (pos 0)) = record { sfits = c .before .before .lows .given } in
-    let g : SFits w32 (getD vs (l .k) (pos 0)) = record { sfits = c .before .if12 .given } in
+    let f : SFits w32 (getD xs (l .k) (pos 0)) = record { sfits = q .before .before .before .lows .given } in
+    let g : SFits w32 (getD vs (2 * l .k) (pos 0)) = record { sfits = q .before .before .is-low-arg .given } in
+    let h : SFits w32 (getD vs (2 * l .k + 1) (pos 0)) = record { sfits = q .before .is-low-arg2 .given } in
     let room : l .count < length (l .lows) = omega arith in
+    let low = simp toZ-ofZ at (q .is-low .ensures) in
     simp toZ-ofZ (
     ⊎-elim
-    (λ w. rw (w .1, add-one (l .count), add-one (l .k)) (counted xs vs _ (l .lows) (l .count) (l .k) (l .inv) (omega arith) (omega arith) room (simp toZ-ofZ at (w .0 .taken))))
-    (λ w. rw (w .1, add-one (l .k)) (passed xs vs _ (l .lows) (l .count) (l .k) (l .inv) (omega arith) (omega arith) room (simp toZ-ofZ at (w .0 .left))))
+    (λ w. rw (w .1, add-one (l .count), add-one (l .k)) (counted xs vs _ (l .lows) (l .count) (l .k) (l .inv) (omega arith) (omega arith) room (sym low ∙ w .0 .taken)))
+    (λ w. rw (w .1, add-one (l .k)) (passed xs vs _ (l .lows) (l .count) (l .k) (l .inv) (omega arith) (omega arith) room (sym low ∙ w .0 .left)))
     (c .if1 .came)
     )
 
@@ -129,10 +154,16 @@ low-positions-spec =
     loop-holds
     mul-lows
     shared-slice-copy-out-lows
-    mul-if1
-    slice-set-from-if1
-    mul-if1-2
-    shared-slice-copy-out-if1
+    mul-is-low
+    slice-set-from-is-low
+    mul-is-low-2
+    mul-is-low-3
+    shared-slice-copy-out-is-low
+    mul-is-low-4
+    add-is-low
+    mul-is-low-5
+    shared-slice-copy-out-is-low-2
+    is-low-requires
     add-count
     add-k
     loop-less

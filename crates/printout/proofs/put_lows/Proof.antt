@@ -7,16 +7,18 @@ use Prim.Native.Nat.{ℕ, _≤_}
 use lib.IntN.{ℤ}
 use lib.ListN.{length, take, drop, length-append}
 use lib.Seq.{take-at, length-take-le}
+use Rattle.spline.specs.Reading.{Pair}
 use Rattle.sorting.specs.Sorted.{sorted}
 use Rattle.sorting.proofs.Sorted.{sorted-length}
 use Rattle.printout.specs.Printout.{lowPositions, lowLines}
+use Rattle.printout.specs.Printed.{paired}
 use Rattle.printout.proofs.Buffer.{puts-within, puts-as}
 use Rattle.printout.proofs.Printout.{lowPositions-few}
 use Rattle.printout.proofs.put_lows.Statement.{statement}
 use Rattle.printout.proofs.put_lows.Tie as tie
 
 -- the array before and after its first numbers are sorted, where these are the low positions
-module _ (xs vs before after : List ℤ) (count : ℕ) (is : count ≡ length (lowPositions xs vs)) (kept : take count before ≡ lowPositions xs vs) (done : after ≡ sorted (take count before) ++ drop count before) where
+module _ (xs : List ℤ) (vs : List Pair) (before after : List ℤ) (count : ℕ) (is : count ≡ length (lowPositions xs vs)) (kept : take count before ≡ lowPositions xs vs) (done : after ≡ sorted (take count before) ++ drop count before) where
   first-count : length (sorted (take count before)) ≡ count
   first-count = sorted-length (take count before) ∙ ap length kept ∙ sym is
 
@@ -43,8 +45,8 @@ module _ (k : tie.After-sort) where
   abbrev positions : List ℤ
   positions = collected .before .before .before .args .positions .now
 
-  abbrev values : List ℤ
-  values = collected .before .before .before .args .values .now
+  abbrev values : List Pair
+  values = paired (collected .before .before .before .args .values .now)
 
   abbrev count : ℕ
   count = collected .low-positions .result

@@ -1,9 +1,9 @@
--- `put_values` meets its contract: after k turns the first k positions are printed with their values.
+-- `put_values` meets its contract: after k turns the first k positions are printed with their two values each.
 use native.Mathlib.Numerals.{add-one}
 use native.Mathlib.Omega.{arith}
 use mathlib.Core.Path.{sym}
 use mathlib.Core.List.{List}
-use Prim.Native.Nat.{ℕ, _*_, _-_, _≤_}
+use Prim.Native.Nat.{ℕ, _+_, _*_, _-_, _≤_}
 use lib.IntN.{ℤ, pos}
 use lib.ListN.{length, getD, take}
 use lib.Seq.{take-all}
@@ -12,14 +12,16 @@ use mir.Val.{SFits}
 use Rattle.exact.proofs.Word.{toZ-ofZ}
 use Rattle.printout.specs.Buffer.{Puts}
 use Rattle.printout.specs.Printout.{valueLines}
+use Rattle.printout.specs.Printed.{valueLineLimit, paired}
 use Rattle.printout.proofs.Buffer.{puts-none, puts-then, puts-within, puts-as, puts-length}
 use Rattle.printout.proofs.Printout.{valueLines-none, valueLines-more}
+use Rattle.printout.proofs.Pairs.{paired-length, paired-at}
 use Rattle.printout.proofs.put_values.Statement.{statement}
 use Rattle.printout.proofs.put_values.Tie as tie
 
 record Inv (out₀ : List ℕ) (at : ℕ) (positions values : List ℤ) (out : List ℕ) (next k : ℕ) : Type 0 where
   within : k ≤ length positions
-  put : Puts (46 * k) at (valueLines (take k positions) values) out₀ out next
+  put : Puts (valueLineLimit * k) at (valueLines (take k positions) (paired values)) out₀ out next
 
 abbrev Inv-loop : tie.InvT-loop
 Inv-loop out₀ at positions values next₀ k₀ out next k = Inv out₀ at positions values out next k
@@ -39,8 +41,23 @@ shared-slice-copy-out-put-value c = omega arith
 mul-put-value-2 : tie.Need-mul-put-value-2 Inv-loop μ-loop
 mul-put-value-2 c = omega arith
 
+mul-put-value-3 : tie.Need-mul-put-value-3 Inv-loop μ-loop
+mul-put-value-3 c = omega arith
+
 shared-slice-copy-out-put-value-2 : tie.Need-shared-slice-copy-out-put-value-2 Inv-loop μ-loop
 shared-slice-copy-out-put-value-2 c = omega arith
+
+mul-put-value-4 : tie.Need-mul-put-value-4 Inv-loop μ-loop
+mul-put-value-4 c = omega arith
+
+add-put-value : tie.Need-add-put-value Inv-loop μ-loop
+add-put-value c = omega arith
+
+mul-put-value-5 : tie.Need-mul-put-value-5 Inv-loop μ-loop
+mul-put-value-5 c = omega arith
+
+shared-slice-copy-out-put-value-3 : tie.Need-shared-slice-copy-out-put-value-3 Inv-loop μ-loop
+shared-slice-copy-out-put-value-3 c = omega arith
 
 put-value-requires : tie.Need-put-value-requires Inv-loop μ-loop
 put-value-requires c κs = omega arith
@@ -53,14 +70,16 @@ loop-less c = omega arith
 
 loop-again : tie.Need-loop-again Inv-loop μ-loop
 loop-again c =
-    let l = c .before .before .before .before .before .before .before .loop in
-    let a = c .before .before .before .before .before .before .before .before .before .args in
-    let f : SFits w32 (getD (a .positions .now) (l .k) (pos 0)) = record { sfits = c .before .before .before .before .put-value-arg2 .given } in
-    let g : SFits w32 (getD (a .values .now) (l .k) (pos 0)) = record { sfits = c .before .before .before .put-value-arg3 .given } in
+    let l = c .before .before .before .before .before .before .before .before .loop in
+    let a = c .before .before .before .before .before .before .before .before .before .before .args in
+    let vs = a .values .now in
+    let f : SFits w32 (getD (a .positions .now) (l .k) (pos 0)) = record { sfits = c .before .before .before .before .before .put-value-arg2 .given } in
+    let g : SFits w32 (getD vs (2 * l .k) (pos 0)) = record { sfits = c .before .before .before .before .put-value-arg3 .given } in
+    let h : SFits w32 (getD vs (2 * l .k + 1) (pos 0)) = record { sfits = c .before .before .before .put-value-arg4 .given } in
     record {
       within = omega arith;
       put =
-          rw (add-one, valueLines-more (a .positions .now) (a .values .now) (l .k) (omega arith) (omega arith))
+          rw (add-one, valueLines-more (a .positions .now) (paired vs) (l .k) (omega arith) (omega (arith, paired-length vs)), paired-at vs (l .k) (omega arith))
           (puts-within (omega arith) (puts-then (l .inv .put) (simp toZ-ofZ at (c .before .before .put-value .ensures))));
     }
 
@@ -74,4 +93,4 @@ returns c =
     puts-within (omega arith) (rw (take-all (l .k) positions (omega arith)) at (l .inv .put))
 
 pub put-values-spec : {M : Type 1} → statement M
-put-values-spec = tie.close (tie.spec Inv-loop μ-loop loop-holds mul-put-value shared-slice-copy-out-put-value mul-put-value-2 shared-slice-copy-out-put-value-2 put-value-requires add-k loop-less loop-again same-length returns)
+put-values-spec = tie.close (tie.spec Inv-loop μ-loop loop-holds mul-put-value shared-slice-copy-out-put-value mul-put-value-2 mul-put-value-3 shared-slice-copy-out-put-value-2 mul-put-value-4 add-put-value mul-put-value-5 shared-slice-copy-out-put-value-3 put-value-requires add-k loop-less loop-again same-length returns)

@@ -11,19 +11,17 @@ use lib.Seq.{slice, length-slice}
 use mir.Syntax.{w32}
 use mir.Val.{SFits}
 use Rattle.exact.proofs.Word.{toZ-ofZ}
-use Rattle.numerals.specs.Bytes.{Text, Part, fields}
-use Rattle.numerals.specs.Numeral.{numeral}
-use Rattle.sheet_lists.specs.SheetReading.{listOf}
-use Rattle.sheet_lists.specs.Reply.{numbers, overwritten}
+use Rattle.numerals.specs.Bytes.{Text, Part, fieldsBetween}
+use Rattle.sheet_lists.specs.Reply.{isSeparator, numbersOf, numbers, overwritten}
 use Rattle.numerals.specs.declared.numeral.Field.the-variants as field-cases
 use Rattle.numerals.proofs.Numerals.{field-none, field-some}
-use Rattle.sheet_lists.proofs.Entries.{stop-part, stop-within, field-last, field-more, field-first, list-empty}
-use Rattle.sheet_lists.proofs.Filling.{Filled, Stored, filled-start, filled-length, filled-next, filled-last, field-good, stored}
+use Rattle.sheet_lists.proofs.Entries.{stop-part, stop-within, field-last, field-more, field-first}
+use Rattle.sheet_lists.proofs.Filling.{Filled, Stored, filled-start, filled-length, filled-next, filled-last, numbers-empty, field-good, stored}
 use Rattle.sheet_lists.proofs.fill.Statement.{statement}
 use Rattle.sheet_lists.proofs.fill.Tie as tie
 
 abbrev Inv-loop : tie.InvT-loop
-Inv-loop text from to list₀ n₀ start₀ list n start = (start ≤ to) × Filled (numbers (listOf (slice from to text))) (slice start to text) list₀ list n
+Inv-loop text from to list₀ n₀ start₀ list n start = (start ≤ to) × Filled (numbers (numbersOf (slice from to text))) (slice start to text) list₀ list n
 
 abbrev μ-loop : tie.MeasureT-loop
 μ-loop text from to list₀ n₀ start₀ list n start = to + 1 - start
@@ -31,8 +29,8 @@ abbrev μ-loop : tie.MeasureT-loop
 returns : tie.Need-returns Inv-loop μ-loop
 returns c =
     let a = c .before .before .args in
-    let empty : listOf (slice (a .from) (a .to) (a .text .now)) ≡ some [] =
-    ap (λ (n : ℕ). listOf (slice n (a .to) (a .text .now))) (c .if1 .taken) ∙ list-empty (a .text .now) (a .to) in
+    let empty : numbersOf (slice (a .from) (a .to) (a .text .now)) ≡ some [] =
+    ap (λ (n : ℕ). numbersOf (slice n (a .to) (a .text .now))) (c .if1 .taken) ∙ numbers-empty (a .text .now) (a .to) in
     rw empty (refl, refl)
 
 loop-holds : tie.Need-loop-holds Inv-loop μ-loop
@@ -41,13 +39,13 @@ loop-holds c =
     let a = s .args in
     (omega arith, filled-start (slice (a .from) (a .to) (a .text .now)) (omega (arith, length-slice (a .from) (a .to) (a .text .now) (s .pre .0 .within))) _ (a .list .now) (s .pre .1 .0) (s .pre .1 .1))
 
-find-requires : tie.Need-find-requires Inv-loop μ-loop
-find-requires c κs = omega arith
+separator-requires : tie.Need-separator-requires Inv-loop μ-loop
+separator-requires c κs = omega arith
 
 numeral-requires : tie.Need-numeral-requires Inv-loop μ-loop
 numeral-requires c κs =
     let s = c .before .before .before .before in
-    stop-part (s .args .text .now) (c .before .loop .start) (s .args .to) (c .find .result) (omega arith) (c .find .ensures)
+    stop-part isSeparator (s .args .text .now) (c .before .loop .start) (s .args .to) (c .separator .result) (omega arith) (c .separator .ensures)
 
 -- a turn's field, and the buffer before it
 module _ (c : tie.After-numeral Inv-loop μ-loop) where
@@ -70,16 +68,16 @@ module _ (c : tie.After-numeral Inv-loop μ-loop) where
   start = c .before .before .loop .start
 
   abbrev stop : ℕ
-  stop = c .before .find .result
+  stop = c .before .separator .result
 
   abbrev zs : List ℤ
-  zs = numbers (listOf (slice (c .before .before .before .before .before .args .from) to text))
+  zs = numbers (numbersOf (slice (c .before .before .before .before .before .args .from) to text))
 
   part : Part text start to
   part = omega arith
 
   stops : (start ≤ stop) × (stop ≤ to)
-  stops = (stop-part text start to stop part (c .before .find .ensures) .ordered, stop-within text start to stop part (c .before .find .ensures))
+  stops = (stop-part isSeparator text start to stop part (c .before .separator .ensures) .ordered, stop-within isSeparator text start to stop part (c .before .separator .ensures))
 
   abbrev filled : Filled zs (slice start to text) before list n
   filled = c .before .before .loop .inv .1
@@ -89,23 +87,23 @@ module _ (c : tie.After-numeral Inv-loop μ-loop) where
 
   not-bad : c .numeral .result ≡ field-cases.Bad → ⊥
   not-bad e =
-      let first = field-first text start to stop part (c .before .find .ensures) in
+      let first = field-first isSeparator text start to stop part (c .before .separator .ensures) in
       field-good zs (slice start to text) before list n filled (slice start stop text) (first .0) (first .1) (field-none _ (sym (c .numeral .ensures) ∙ e))
 
   module _ (z : ℤ) (e : c .numeral .result ≡ field-cases.Number z) where
-    store : (fs : List Text) → fields (slice start to text) ≡ slice start stop text ∷ fs → Stored zs fs before list n z
+    store : (fs : List Text) → fieldsBetween isSeparator (slice start to text) ≡ slice start stop text ∷ fs → Stored zs fs before list n z
     store fs first = stored zs (slice start to text) before list n filled (slice start stop text) fs first z (field-some _ z (sym (c .numeral .ensures) ∙ e))
 
     below : n < length list
     below =
-        let first = field-first text start to stop part (c .before .find .ensures) in
+        let first = field-first isSeparator text start to stop part (c .before .separator .ensures) in
         omega (arith, store (first .0) (first .1) .below, filled .room, filled-length zs (slice start to text) before list n filled)
 
     last : stop ≡ to → (n + 1 ≡ length zs) × (set list n z ≡ overwritten zs before)
-    last h = filled-last zs before list n z (store [] (field-last text start to stop part (c .before .find .ensures) h))
+    last h = filled-last zs before list n z (store [] (field-last isSeparator text start to stop part (c .before .separator .ensures) h))
 
     more : (stop ≡ to → ⊥) → Filled zs (slice (stop + 1) to text) before (set list n z) (n + 1)
-    more h = filled-next zs (slice (stop + 1) to text) before list n z (filled .room) (store _ (field-more text start to stop part (c .before .find .ensures) h))
+    more h = filled-next zs (slice (stop + 1) to text) before list n z (filled .room) (store _ (field-more isSeparator text start to stop part (c .before .separator .ensures) h))
 
 enum-told : tie.Need-enum-told Inv-loop μ-loop
 enum-told c = search needs
@@ -158,7 +156,7 @@ fill-spec =
     μ-loop
     returns
     loop-holds
-    find-requires
+    separator-requires
     numeral-requires
     enum-told
     same-length

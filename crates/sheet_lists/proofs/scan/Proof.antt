@@ -5,8 +5,9 @@ use native.Mathlib.Omega.{arith}
 use lib.ListN.{length}
 use Rattle.spline.specs.Outcome.{capped}
 use Rattle.numerals.specs.Bytes.{Text}
-use Rattle.sheet_lists.specs.SheetReading.{textLimit, degreesKey, ordersKey, coefsKey, atKey, Line, Lists}
-use Rattle.sheet_lists.proofs.Sheets.{Reached, read-long, first-line, first-bad, next-line, next-bad, last-line, last-more, after-one, after-two, after-three, after-four, after-five, lists, scan-refused, scan-lists}
+use Rattle.numerals.specs.Numeral.{numeral}
+use Rattle.sheet_lists.specs.SheetReading.{textLimit, pair, degreesKey, ordersKey, coefsKey, atKey, Lists}
+use Rattle.sheet_lists.proofs.Sheets.{NumberLine, PairLine, Reached, read-long, first-line, first-bad, next-line, next-bad, last-line, last-more, after-one, after-two, after-three, after-four, after-five, lists, scan-refused, scan-lists}
 use Rattle.sheet_lists.proofs.scan.Statement.{statement}
 use Rattle.sheet_lists.proofs.scan.Tie as tie
 
@@ -51,10 +52,10 @@ module _ (c : tie.After-known-told) where
   abbrev short-1 : length text-1 ≤ textLimit
   short-1 = short line-1
 
-  one : Reached text-1 (after-one lists) (c .before .b .given .0 .0) (c .before .b .given .0 .1 .0)
+  one : Reached numeral text-1 (after-one lists) (c .before .b .given .0 .0) (c .before .b .given .0 .1 .0)
   one = first-line text-1 short-1 (line-1 .line .result) (line-1 .line .ensures) _ _ (c .before .b .given .1)
 
-  abbrev make-1 : Line → Line → Line → Line → Lists
+  abbrev make-1 : NumberLine → NumberLine → PairLine → NumberLine → Lists
   make-1 = lists (one .line)
 
 add-line : tie.Need-add-line
@@ -77,7 +78,7 @@ unfolding capped
 returns-3 c =
     let l = c .before .before in
     let k = l .before .before in
-    scan-refused (text-1 k) 2 (next-bad (text-1 k) 2 degreesKey (λ l. after-two (lists l)) _ _ (one k) (l .line2 .result) (l .line2 .ensures) (c .enum-told2 .given .1))
+    scan-refused (text-1 k) 2 (next-bad numeral numeral (text-1 k) 2 degreesKey (λ l. after-two (lists l)) _ _ (one k) (l .line2 .result) (l .line2 .ensures) (c .enum-told2 .given .1))
 
 -- a good second line
 module _ (c : tie.After-known-told2) where
@@ -90,12 +91,12 @@ module _ (c : tie.After-known-told2) where
   abbrev short-2 : length text-2 ≤ textLimit
   short-2 = short-1 known-1
 
-  two : Reached text-2 (after-two (make-1 known-1)) (c .before .d .given .0 .0) (c .before .d .given .0 .1 .0)
+  two : Reached numeral text-2 (after-two (make-1 known-1)) (c .before .d .given .0 .0) (c .before .d .given .0 .1 .0)
   two =
       let l = c .before .before .before in
-      next-line text-2 2 degreesKey (λ l. after-two (lists l)) _ _ (one known-1) (l .line2 .result) (l .line2 .ensures) _ _ (c .before .d .given .1)
+      next-line numeral numeral text-2 2 degreesKey (λ l. after-two (lists l)) _ _ (one known-1) (l .line2 .result) (l .line2 .ensures) _ _ (c .before .d .given .1)
 
-  abbrev make-2 : Line → Line → Line → Lists
+  abbrev make-2 : NumberLine → PairLine → NumberLine → Lists
   make-2 = make-1 known-1 (two .line)
 
 add-line-2 : tie.Need-add-line-2
@@ -118,7 +119,7 @@ unfolding capped
 returns-4 c =
     let l = c .before .before in
     let k = l .before .before in
-    scan-refused (text-2 k) 3 (next-bad (text-2 k) 3 ordersKey (λ l. after-three (make-1 (known-1 k) l)) _ _ (two k) (l .line3 .result) (l .line3 .ensures) (c .enum-told3 .given .1))
+    scan-refused (text-2 k) 3 (next-bad numeral numeral (text-2 k) 3 ordersKey (λ l. after-three (make-1 (known-1 k) l)) _ _ (two k) (l .line3 .result) (l .line3 .ensures) (c .enum-told3 .given .1))
 
 -- a good third line
 module _ (c : tie.After-known-told3) where
@@ -131,12 +132,12 @@ module _ (c : tie.After-known-told3) where
   abbrev short-3 : length text-3 ≤ textLimit
   short-3 = short-2 known-2
 
-  three : Reached text-3 (after-three (make-2 known-2)) (c .before .o .given .0 .0) (c .before .o .given .0 .1 .0)
+  three : Reached numeral text-3 (after-three (make-2 known-2)) (c .before .o .given .0 .0) (c .before .o .given .0 .1 .0)
   three =
       let l = c .before .before .before in
-      next-line text-3 3 ordersKey (λ l. after-three (make-1 (known-1 known-2) l)) _ _ (two known-2) (l .line3 .result) (l .line3 .ensures) _ _ (c .before .o .given .1)
+      next-line numeral numeral text-3 3 ordersKey (λ l. after-three (make-1 (known-1 known-2) l)) _ _ (two known-2) (l .line3 .result) (l .line3 .ensures) _ _ (c .before .o .given .1)
 
-  abbrev make-3 : Line → Line → Lists
+  abbrev make-3 : PairLine → NumberLine → Lists
   make-3 = make-2 known-2 (three .line)
 
 add-line-3 : tie.Need-add-line-3
@@ -159,7 +160,7 @@ unfolding capped
 returns-5 c =
     let l = c .before .before in
     let k = l .before .before in
-    scan-refused (text-3 k) 4 (next-bad (text-3 k) 4 coefsKey (λ l. after-four (make-2 (known-2 k) l)) _ _ (three k) (l .line4 .result) (l .line4 .ensures) (c .enum-told4 .given .1))
+    scan-refused (text-3 k) 4 (next-bad numeral pair (text-3 k) 4 coefsKey (λ l. after-four (make-2 (known-2 k) l)) _ _ (three k) (l .line4 .result) (l .line4 .ensures) (c .enum-told4 .given .1))
 
 -- a good fourth line
 module _ (c : tie.After-known-told4) where
@@ -172,12 +173,12 @@ module _ (c : tie.After-known-told4) where
   abbrev short-4 : length text-4 ≤ textLimit
   short-4 = short-3 known-3
 
-  four : Reached text-4 (after-four (make-3 known-3)) (c .before .c .given .0 .0) (c .before .c .given .0 .1 .0)
+  four : Reached pair text-4 (after-four (make-3 known-3)) (c .before .c .given .0 .0) (c .before .c .given .0 .1 .0)
   four =
       let l = c .before .before .before in
-      next-line text-4 4 coefsKey (λ l. after-four (make-2 (known-2 known-3) l)) _ _ (three known-3) (l .line4 .result) (l .line4 .ensures) _ _ (c .before .c .given .1)
+      next-line numeral pair text-4 4 coefsKey (λ l. after-four (make-2 (known-2 known-3) l)) _ _ (three known-3) (l .line4 .result) (l .line4 .ensures) _ _ (c .before .c .given .1)
 
-  abbrev make-4 : Line → Lists
+  abbrev make-4 : NumberLine → Lists
   make-4 = make-3 known-3 (four .line)
 
 add-line-4 : tie.Need-add-line-4
@@ -200,7 +201,7 @@ unfolding capped
 returns-6 c =
     let l = c .before .before in
     let k = l .before .before in
-    scan-refused (text-4 k) 5 (next-bad (text-4 k) 5 atKey (λ l. after-five (make-3 (known-3 k) l)) _ _ (four k) (l .line5 .result) (l .line5 .ensures) (c .enum-told5 .given .1))
+    scan-refused (text-4 k) 5 (next-bad pair numeral (text-4 k) 5 atKey (λ l. after-five (make-3 (known-3 k) l)) _ _ (four k) (l .line5 .result) (l .line5 .ensures) (c .enum-told5 .given .1))
 
 -- a good fifth line
 module _ (c : tie.After-known-told5) where
@@ -213,10 +214,10 @@ module _ (c : tie.After-known-told5) where
   abbrev short-5 : length text-5 ≤ textLimit
   short-5 = short-4 known-4
 
-  five : Reached text-5 (after-five (make-4 known-4)) (c .before .p .given .0 .0) (c .before .p .given .0 .1 .0)
+  five : Reached numeral text-5 (after-five (make-4 known-4)) (c .before .p .given .0 .0) (c .before .p .given .0 .1 .0)
   five =
       let l = c .before .before .before in
-      next-line text-5 5 atKey (λ l. after-five (make-3 (known-3 known-4) l)) _ _ (four known-4) (l .line5 .result) (l .line5 .ensures) _ _ (c .before .p .given .1)
+      next-line pair numeral text-5 5 atKey (λ l. after-five (make-3 (known-3 known-4) l)) _ _ (four known-4) (l .line5 .result) (l .line5 .ensures) _ _ (c .before .p .given .1)
 
 add-if2 : tie.Need-add-if2
 add-if2 c = omega (arith, five c .spans .ended, short-5 c)

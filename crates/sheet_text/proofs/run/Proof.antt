@@ -3,12 +3,11 @@
 use borrow.Author.Needs.{needs}
 use native.Mathlib.Omega.{arith}
 use mathlib.Core.Path.{sym}
-use Prim.Native.Nat.{ℕ, _≤_}
+use Prim.Native.Nat.{ℕ, _*_, _≤_}
 use lib.ListN.{length}
 use lib.Seq.{length-take-le}
-use Rattle.sheet_lists.specs.SheetReading.{Lists}
 use Rattle.printout.proofs.Buffer.{written-as}
-use Rattle.sheet_text.specs.Sheet.{called}
+use Rattle.sheet_text.specs.Sheet.{Arguments, called}
 use Rattle.sheet_text.proofs.Whole.{refused-prints, answered-prints, count-positions}
 use Rattle.sheet_text.proofs.run.Statement.{statement}
 use Rattle.sheet_text.proofs.run.Tie as tie
@@ -41,7 +40,7 @@ slice-aggregate-answer-2 : tie.Need-slice-aggregate-answer-2
 slice-aggregate-answer-2 c = search needs
 
 -- the five lists, where the call has returned
-abbrev lists : tie.After-curve → Lists
+abbrev lists : tie.After-curve → Arguments
 lists k =
     let x = k .before .before .before .before .before .args in
     record { breaks = x .breaks .now; degrees = x .degrees .now; orders = x .orders .now; coefs = x .coefs .now; positions = x .positions .now }
@@ -57,7 +56,7 @@ module _ (a : tie.After-answer2) where
   few : length (lists returned .positions) ≤ 4096
   few = returned .before .before .before .before .before .pre
 
-  fits : count ≤ length (returned .curve .last .1 .1 .1 .1 .1 .1 .1 .0)
+  fits : 2 * count ≤ length (returned .curve .last .1 .1 .1 .1 .1 .1 .1 .0)
   unfolding called
   fits =
       omega (
@@ -67,11 +66,14 @@ module _ (a : tie.After-answer2) where
         count-positions (lists returned) (returned .curve .result) (returned .curve .ensures .0) count (a .answer2 .given .1),
       )
 
+mul-cells : tie.Need-mul-cells
+mul-cells c = omega (arith, fits (c .before), few (c .before), c .before .before .before .values2 .given)
+
 array-share-prefix-values : tie.Need-array-share-prefix-values
 array-share-prefix-values c = fits (c .before .before .before)
 
 slice-aggregate-answer-3 : tie.Need-slice-aggregate-answer-3
-slice-aggregate-answer-3 c = let a = c .before .before .before .before in sym (length-take-le (count a) _ (fits a))
+slice-aggregate-answer-3 c = let a = c .before .before .before .before in sym (length-take-le (2 * count a) _ (fits a))
 
 answer-requires : tie.Need-answer-requires
 answer-requires c κs = search needs
@@ -115,6 +117,7 @@ run-spec =
     enum-known-answer
     refusal-requires
     enum-known-answer-2
+    mul-cells
     slice-aggregate-answer
     slice-aggregate-answer-2
     array-share-prefix-values

@@ -5,6 +5,7 @@ use mathlib.Core.Path.{sym, ap}
 use Prim.Native.Nat.{_≤_}
 use lib.ListN.{length}
 use lib.Seq.{length-take-le}
+use Rattle.spline.specs.Reading.{sideBySide}
 use Rattle.numerals.specs.Bytes.{Text}
 use Rattle.sheet_lists.specs.SheetReading.{read}
 use Rattle.sheet_lists.specs.Reply.{Lengths}
@@ -50,7 +51,7 @@ module _ (a : tie.After-lists2) where
   orders-fit = part-fits (λ l. l .orders) (listed .is) _ (done .read .ensures .1 .1 .1 .0) (ap (λ n. n .orders) (listed .counts))
 
   coefs-fit : counts .coefs ≤ length (done .read .last .1 .1 .1 .1 .0)
-  coefs-fit = part-fits (λ l. l .coefs) (listed .is) _ (done .read .ensures .1 .1 .1 .1 .0) (ap (λ n. n .coefs) (listed .counts))
+  coefs-fit = part-fits (λ l. sideBySide (l .coefs)) (listed .is) _ (done .read .ensures .1 .1 .1 .1 .0) (ap (λ n. n .coefs) (listed .counts))
 
   positions-fit : counts .positions ≤ length (done .read .last .1 .1 .1 .1 .1 .0)
   positions-fit = part-fits (λ l. l .positions) (listed .is) _ (done .read .ensures .1 .1 .1 .1 .1) (ap (λ n. n .positions) (listed .counts))
@@ -115,7 +116,7 @@ returns-2 c =
     (part-is (λ l. l .breaks) (listed a .is) _ (k .read .ensures .1 .0) (ap (λ n. n .breaks) (listed a .counts)))
     (part-is (λ l. l .degrees) (listed a .is) _ (k .read .ensures .1 .1 .0) (ap (λ n. n .degrees) (listed a .counts)))
     (part-is (λ l. l .orders) (listed a .is) _ (k .read .ensures .1 .1 .1 .0) (ap (λ n. n .orders) (listed a .counts)))
-    (part-is (λ l. l .coefs) (listed a .is) _ (k .read .ensures .1 .1 .1 .1 .0) (ap (λ n. n .coefs) (listed a .counts)))
+    (part-is (λ l. sideBySide (l .coefs)) (listed a .is) _ (k .read .ensures .1 .1 .1 .1 .0) (ap (λ n. n .coefs) (listed a .counts)))
     (part-is (λ l. l .positions) (listed a .is) _ (k .read .ensures .1 .1 .1 .1 .1) (ap (λ n. n .positions) (listed a .counts))) in
     let w = written-as _ t (p .0) (p .1 .0) in
     (w .0, (w .1, p .1 .1))
