@@ -1,0 +1,6 @@
+-- Laws of a line's columns, numbers and end that the proofs of tucson_lines share; those of Lines are also for a caller.
+pub mod Steps
+pub mod Fields
+pub mod Lines
+pub mod LineNumbers
+pub mod GoodLines

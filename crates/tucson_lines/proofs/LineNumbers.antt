@@ -1,0 +1,286 @@
+-- The year and the fields of a line: what is told of them, from the fields but the last and from the last, and what a line
+-- that passes the tests is.
+use mathlib.Core.Path.{_≡_, refl, sym, _∙_, ap, ap₂}
+use mathlib.Core.Bool.{Bool, true, false, cond, _&&_, _||_, not, and-assoc, and-false}
+use mathlib.Core.Bool.{and-true as and-true-right}
+use mathlib.Core.List.{List, [], _∷_, _++_, dropLast}
+use mathlib.Core.Option.{Option, some, none}
+use Prim.Native.Nat.{ℕ, zero, suc, _+_, _*_, _-_, _/_, _<_, _≤_}
+use native.Mathlib.Nat.{mod-lt}
+use native.Mathlib.Omega.{arith}
+use borrow.Author.Tests.{eq-eqb, ne-eqb, le-leb, lt-leb, leb-true, eqb-true}
+use lib.Dec.{eqb, leb}
+use lib.IntN.{ℤ, pos, negsuc, natAbs}
+use lib.ListN.{length, take, drop, length-append}
+use lib.Seq.{slice, drop-drop, length-slice}
+use Rattle.exact.proofs.Decide.{and-true}
+use Rattle.numerals.specs.Bytes.{Text}
+use Rattle.numerals.specs.Numeral.{numeral, isNatural, digitsValue, negated, numberLimit}
+use Rattle.numerals.proofs.Digits.{natural-small}
+use Rattle.numerals.proofs.Slice.{take-slice, drop-slice}
+use Rattle.tucson_form.specs.Columns.{inColumns}
+use Rattle.tucson_form.specs.Line.{Line, nameColumns, yearColumns, fieldColumns, decade, thousandths, withField, fieldNumbers, fieldCount, columnsFit, isName, isWidth, same, withNumbers, lineInColumns, yearInDecade, withinDecade, fieldsAllowed, ifAllowed, goodLine}
+use Rattle.tucson_form.specs.Series.{allHundredths}
+use Rattle.tucson_form.specs.Reading.{lastField}
+use Rattle.tucson_form.specs.Writing.{allWidths}
+use Rattle.tucson_lines.specs.Reply.{widthsTold, lineTold, numbersTold, LineEnd}
+use Rattle.tucson_lines.specs.declared.WidthsAnswer.the-variants as widths-cases
+use Rattle.tucson_lines.specs.declared.LineAnswer.{LineAnswer}
+use Rattle.tucson_lines.specs.declared.LineAnswer.the-variants as line-cases
+use Rattle.tucson_lines.proofs.Lines.{end-within, good-unended, good-columns}
+
+-- ---- the last field behind the others
+abbrev behind : Option (List ℤ) → Option ℤ → Option (List ℤ)
+behind none o = none
+behind (some ws) none = none
+behind (some ws) (some f) = some (ws ++ (f ∷ []))
+
+behind-with : (a : Option ℤ) (x : Option (List ℤ)) (b : Option ℤ) → withField a (behind x b) ≡ behind (withField a x) b
+behind-with none x b = refl
+behind-with (some z) none b = refl
+behind-with (some z) (some ws) none = refl
+behind-with (some z) (some ws) (some f) = refl
+
+behind-none : (a : Option ℤ) → withField a (some []) ≡ behind (some []) a
+behind-none none = refl
+behind-none (some z) = refl
+
+fields-behind : (n : ℕ) (t : Text) → fieldNumbers (suc n) t ≡ behind (fieldNumbers n t) (inColumns (take fieldColumns (drop (n * fieldColumns) t)))
+unfolding fieldNumbers
+fields-behind zero t = behind-none (inColumns (take fieldColumns t))
+fields-behind (suc n) t =
+    let e : fieldColumns + n * fieldColumns ≡ suc n * fieldColumns = omega arith in
+    ap (withField (inColumns (take fieldColumns t))) (fields-behind n (drop fieldColumns t))
+    ∙ behind-with (inColumns (take fieldColumns t)) (fieldNumbers n (drop fieldColumns t)) _
+    ∙ ap (λ (u : Text). behind (fieldNumbers (suc n) t) (inColumns (take fieldColumns u))) (drop-drop (n * fieldColumns) fieldColumns t ∙ ap (λ (k : ℕ). drop k t) e)
+
+-- ---- a list and its last field
+allowed-behind : (ws : List ℤ) (f : ℤ) → fieldsAllowed true (ws ++ (f ∷ [])) ≡ (allWidths ws && (isWidth f || same f thousandths))
+unfolding fieldsAllowed allWidths
+allowed-behind [] f = refl
+allowed-behind (w ∷ []) f = ap (λ (b : Bool). b && (isWidth f || same f thousandths)) (sym (and-true-right (isWidth w)))
+allowed-behind (w ∷ v ∷ vs) f = ap (λ (b : Bool). isWidth w && b) (allowed-behind (v ∷ vs) f) ∙ sym (and-assoc (isWidth w) (allWidths (v ∷ vs)) _)
+
+last-behind : (ws : List ℤ) (f : ℤ) → lastField (ws ++ (f ∷ [])) ≡ f
+unfolding lastField
+last-behind [] f = refl
+last-behind (w ∷ []) f = refl
+last-behind (w ∷ v ∷ vs) f = last-behind (v ∷ vs) f
+
+front-behind : (ws : List ℤ) (f : ℤ) → dropLast (ws ++ (f ∷ [])) ≡ ws
+front-behind [] f = refl
+front-behind (w ∷ []) f = refl
+front-behind (w ∷ v ∷ vs) f = ap (λ (l : List ℤ). w ∷ l) (front-behind (v ∷ vs) f)
+
+pub fields-count : (n : ℕ) (t : Text) (fs : List ℤ) → fieldNumbers n t ≡ some fs → length fs ≡ n
+unfolding fieldNumbers
+fields-count zero t fs e = let z : fs ≡ [] = cc in ap length z
+fields-count (suc n) t fs e = go (inColumns (take fieldColumns t)) (fieldNumbers n (drop fieldColumns t)) e (fields-count n (drop fieldColumns t))
+  where
+    go : (a : Option ℤ) (x : Option (List ℤ)) → withField a x ≡ some fs → ((gs : List ℤ) → x ≡ some gs → length gs ≡ n) → length fs ≡ suc n
+    go none x e ih = absurd (let z : _≡_ {A = ℕ} 0 1 = cc in omega arith)
+    go (some z) none e ih = absurd (let z : _≡_ {A = ℕ} 0 1 = cc in omega arith)
+    go (some z) (some gs) e ih = let z : z ∷ gs ≡ fs = cc in omega (arith, ap length z, ih gs refl)
+
+-- the fields but the last
+behind-front : (x : Option (List ℤ)) (o : Option ℤ) (fs : List ℤ) → behind x o ≡ some fs → x ≡ some (dropLast fs)
+behind-front none o fs e = absurd (let z : _≡_ {A = ℕ} 0 1 = cc in omega arith)
+behind-front (some ws) none fs e = absurd (let z : _≡_ {A = ℕ} 0 1 = cc in omega arith)
+behind-front (some ws) (some f) fs e = let is : ws ++ (f ∷ []) ≡ fs = cc in ap some (sym (front-behind ws f) ∙ ap dropLast is)
+
+pub fields-front : (n : ℕ) (t : Text) (fs : List ℤ) → 1 ≤ n → fieldNumbers n t ≡ some fs → fieldNumbers (n - 1) t ≡ some (dropLast fs)
+fields-front n t fs h e =
+    let k : n ≡ suc (n - 1) = omega arith in
+    behind-front (fieldNumbers (n - 1) t) _ fs (sym (fields-behind (n - 1) t) ∙ ap (λ (m : ℕ). fieldNumbers m t) (sym k) ∙ e)
+
+-- ---- a year's place in its decade is below ten
+pub year-below : (z : ℤ) → yearInDecade z < decade
+unfolding yearInDecade
+year-below (pos n) = mod-lt n (omega arith)
+year-below (negsuc n) = omega arith
+
+-- ---- what is told of a year, the fields but the last, and the last
+abbrev told : Text → Option ℤ → Option (List ℤ) → Option ℤ → LineAnswer
+told name y front last = lineTold (ifAllowed true (withNumbers name y (behind front last)))
+
+told-no-year : (name : Text) (front : Option (List ℤ)) (last : Option ℤ) → told name none front last ≡ line-cases.Bad
+unfolding lineTold
+told-no-year name front last = refl
+
+told-no-last : (name : Text) (y : ℤ) (front : Option (List ℤ)) → told name (some y) front none ≡ line-cases.Bad
+unfolding lineTold
+told-no-last name y none = refl
+told-no-last name y (some ws) = refl
+
+-- the line that these make up passes the tests, or not
+module _ (name : Text) (y : ℤ) (ws : List ℤ) (f : ℤ) where
+  abbrev made : Line
+  made = record { name = name; year = y; fields = ws ++ (f ∷ []) }
+
+  tested : (b : Bool) → (withinDecade made && fieldsAllowed true (made .fields)) ≡ b → told name (some y) (some ws) (some f) ≡ lineTold (cond b (some made) none)
+  tested b e = ap (λ (t : Bool). lineTold (cond t (some made) none)) e
+
+  count-made : yearInDecade y + length (ws ++ (f ∷ [])) ≡ yearInDecade y + (length ws + 1)
+  count-made = ap (λ (n : ℕ). yearInDecade y + n) (length-append ws (f ∷ []))
+
+  told-late : decade < yearInDecade y + (length ws + 1) → told name (some y) (some ws) (some f) ≡ line-cases.Bad
+  unfolding lineTold withinDecade
+  told-late h = tested false (ap (λ (b : Bool). b && fieldsAllowed true (made .fields)) (lt-leb (yearInDecade y + length (made .fields)) decade (rw count-made h)))
+
+  told-no-width : allWidths ws ≡ false → told name (some y) (some ws) (some f) ≡ line-cases.Bad
+  unfolding lineTold
+  told-no-width h = tested false (ap (λ (b : Bool). withinDecade made && b) (allowed-behind ws f ∙ ap (λ (b : Bool). b && (isWidth f || same f thousandths)) h) ∙ and-false (withinDecade made))
+
+  told-no-end : (isWidth f || same f thousandths) ≡ false → told name (some y) (some ws) (some f) ≡ line-cases.Bad
+  unfolding lineTold
+  told-no-end h = tested false (ap (λ (b : Bool). withinDecade made && b) (allowed-behind ws f ∙ ap (λ (b : Bool). allWidths ws && b) h ∙ and-false (allWidths ws)) ∙ and-false (withinDecade made))
+
+  told-good : yearInDecade y + (length ws + 1) ≤ decade → allWidths ws ≡ true → (isWidth f || same f thousandths) ≡ true → told name (some y) (some ws) (some f) ≡ line-cases.Good y (length ws + 1) (allHundredths ws) f
+  unfolding lineTold withinDecade
+  told-good h k e =
+      tested true (ap₂ _&&_ (le-leb (yearInDecade y + length (made .fields)) decade (rw count-made h)) (allowed-behind ws f ∙ ap₂ _&&_ k e))
+      ∙ rw (length-append ws (f ∷ []), front-behind ws f, last-behind ws f)
+
+-- fields that are no widths
+told-bad-widths : (name : Text) (y : ℤ) (front : Option (List ℤ)) (last : Option ℤ) → widthsTold true front ≡ widths-cases.Bad → told name (some y) front last ≡ line-cases.Bad
+unfolding widthsTold lineTold
+told-bad-widths name y none last e = refl
+told-bad-widths name y (some ws) none e = refl
+told-bad-widths name y (some ws) (some f) e = go (allWidths ws) refl e
+  where
+    go : (b : Bool) → allWidths ws ≡ b → cond b (widths-cases.Small (allHundredths ws)) widths-cases.Bad ≡ widths-cases.Bad → told name (some y) (some ws) (some f) ≡ line-cases.Bad
+    go true k e = absurd (let z : _≡_ {A = ℕ} 0 1 = cc in omega arith)
+    go false k e = told-no-width name y ws f k
+
+-- fields that are widths
+pub record AreWidths (front : Option (List ℤ)) (small : Bool) : Type 0 where
+  pub list : List ℤ
+  pub is : front ≡ some list
+  pub all : allWidths list ≡ true
+  pub below : allHundredths list ≡ small
+
+are-widths : (front : Option (List ℤ)) (small : Bool) → widthsTold true front ≡ widths-cases.Small small → AreWidths front small
+unfolding widthsTold
+are-widths none small e = absurd (let z : _≡_ {A = ℕ} 0 1 = cc in omega arith)
+are-widths (some ws) small e = go (allWidths ws) refl e
+  where
+    go : (b : Bool) → allWidths ws ≡ b → cond b (widths-cases.Small (allHundredths ws)) widths-cases.Bad ≡ widths-cases.Small small → AreWidths (some ws) small
+    go true k e = record { list = ws; is = refl; all = k; below = cc }
+    go false k e = absurd (let z : _≡_ {A = ℕ} 0 1 = cc in omega arith)
+
+-- ---- the numbers of a line between two indices
+module _ (text : Text) (from end n : ℕ) (some-field : 1 ≤ n) (size : end ≡ from + 12 + n * fieldColumns) where
+  abbrev name-text : Text
+  name-text = take nameColumns (slice from end text)
+
+  abbrev pub year-number : Option ℤ
+  year-number = inColumns (slice (from + nameColumns) (from + 12) text)
+
+  abbrev pub front-numbers : Option (List ℤ)
+  front-numbers = fieldNumbers (n - 1) (slice (from + 12) end text)
+
+  abbrev pub last-number : Option ℤ
+  last-number = inColumns (slice (end - fieldColumns) end text)
+
+  year-at : inColumns (take yearColumns (drop nameColumns (slice from end text))) ≡ year-number
+  year-at =
+      let e : from + nameColumns + yearColumns ≡ from + 12 = omega arith in
+      ap (λ (t : Text). inColumns (take yearColumns t)) (drop-slice nameColumns from end text)
+      ∙ ap inColumns (take-slice yearColumns (from + nameColumns) end text (omega arith) ∙ ap (λ (k : ℕ). slice (from + nameColumns) k text) e)
+
+  last-at : take fieldColumns (drop ((n - 1) * fieldColumns) (slice (from + 12) end text)) ≡ slice (end - fieldColumns) end text
+  last-at =
+      let e : from + 12 + (n - 1) * fieldColumns ≡ end - fieldColumns = omega arith in
+      let f : end - fieldColumns + fieldColumns ≡ end = omega arith in
+      ap (take fieldColumns) (drop-slice ((n - 1) * fieldColumns) (from + 12) end text ∙ ap (λ (k : ℕ). slice k end text) e)
+      ∙ take-slice fieldColumns (end - fieldColumns) end text (omega arith) ∙ ap (λ (k : ℕ). slice (end - fieldColumns) k text) f
+
+  fields-at : fieldNumbers n (drop (nameColumns + yearColumns) (slice from end text)) ≡ behind front-numbers last-number
+  fields-at =
+      let e : n ≡ suc (n - 1) = omega arith in
+      ap₂ fieldNumbers e (drop-slice (nameColumns + yearColumns) from end text)
+      ∙ fields-behind (n - 1) (slice (from + 12) end text)
+      ∙ ap (λ (t : Text). behind front-numbers (inColumns t)) last-at
+
+  parts : numbersTold (slice from end text) n ≡ told name-text year-number front-numbers last-number
+  parts = ap₂ (λ (y : Option ℤ) (fs : Option (List ℤ)). lineTold (ifAllowed true (withNumbers name-text y fs))) year-at fields-at
+
+  pub numbers-no-year : year-number ≡ none → numbersTold (slice from end text) n ≡ line-cases.Bad
+  numbers-no-year e = parts ∙ ap (λ (y : Option ℤ). told name-text y front-numbers last-number) e ∙ told-no-year name-text front-numbers last-number
+
+  module _ (y : ℤ) (is-year : year-number ≡ some y) where
+    with-year : numbersTold (slice from end text) n ≡ told name-text (some y) front-numbers last-number
+    with-year = parts ∙ ap (λ (o : Option ℤ). told name-text o front-numbers last-number) is-year
+
+    pub numbers-no-widths : widthsTold true front-numbers ≡ widths-cases.Bad → numbersTold (slice from end text) n ≡ line-cases.Bad
+    numbers-no-widths e = with-year ∙ told-bad-widths name-text y front-numbers last-number e
+
+    pub numbers-no-last : last-number ≡ none → numbersTold (slice from end text) n ≡ line-cases.Bad
+    numbers-no-last e = with-year ∙ ap (told name-text (some y) front-numbers) e ∙ told-no-last name-text y front-numbers
+
+    module _ (small : Bool) (are : widthsTold true front-numbers ≡ widths-cases.Small small) (f : ℤ) (is-last : last-number ≡ some f) where
+      abbrev widths : AreWidths front-numbers small
+      widths = are-widths front-numbers small are
+
+      front-count : length (widths .list) + 1 ≡ n
+      front-count = omega (arith, fields-count (n - 1) (slice (from + 12) end text) (widths .list) (widths .is))
+
+      with-all : numbersTold (slice from end text) n ≡ told name-text (some y) (some (widths .list)) (some f)
+      with-all = with-year ∙ ap₂ (told name-text (some y)) (widths .is) is-last
+
+      pub numbers-late : decade < yearInDecade y + n → numbersTold (slice from end text) n ≡ line-cases.Bad
+      numbers-late h = with-all ∙ told-late name-text y (widths .list) f (rw front-count h)
+
+      pub numbers-no-end : (isWidth f || same f thousandths) ≡ false → numbersTold (slice from end text) n ≡ line-cases.Bad
+      numbers-no-end h = with-all ∙ told-no-end name-text y (widths .list) f h
+
+      pub numbers-good : yearInDecade y + n ≤ decade → (isWidth f || same f thousandths) ≡ true → numbersTold (slice from end text) n ≡ line-cases.Good y n small f
+      numbers-good h k =
+          with-all ∙ told-good name-text y (widths .list) f (rw front-count h) (widths .all) k
+          ∙ ap₂ (λ (m : ℕ) (s : Bool). line-cases.Good y m s f) front-count (widths .below)
+
+-- ---- the columns of a line between two indices
+module _ (text : Text) (from end : ℕ) (at : LineEnd text from end) (ended : end < length text) where
+  abbrev pub body : Text
+  body = slice from end text
+
+  body-length : length body ≡ end - from
+  body-length = length-slice from end text (end-within text from end at .1)
+
+  pub count-is : fieldCount body ≡ (end - from - 12) / fieldColumns
+  count-is = ap (λ (k : ℕ). (k - 12) / fieldColumns) body-length
+
+  abbrev column-line : Option Line
+  column-line = withNumbers (take nameColumns body) (inColumns (take yearColumns (drop nameColumns body))) (fieldNumbers (fieldCount body) (drop (nameColumns + yearColumns) body))
+
+  good-is : goodLine true (slice from (end + 1) text) ≡ ifAllowed true (lineInColumns body)
+  good-is = good-columns text from end at true ended
+
+  pub good-misfits : (columnsFit body && isName (take nameColumns body)) ≡ false → goodLine true (slice from (end + 1) text) ≡ none
+  unfolding lineInColumns
+  good-misfits e = good-is ∙ ap (λ (b : Bool). ifAllowed true (cond b column-line none)) e
+
+  pub good-fits : (columnsFit body && isName (take nameColumns body)) ≡ true → lineTold (goodLine true (slice from (end + 1) text)) ≡ numbersTold body (fieldCount body)
+  unfolding lineInColumns
+  good-fits e = ap lineTold (good-is ∙ ap (λ (b : Bool). ifAllowed true (cond b column-line none)) e)
+
+  -- too short, columns over, too many fields
+  pub misfit-short : end - from < 18 → columnsFit body ≡ false
+  unfolding columnsFit
+  misfit-short h = rw (lt-leb 1 (fieldCount body) (rw count-is (omega arith)), and-false (eqb (length body) (12 + fieldCount body * fieldColumns)))
+
+  module _ (n : ℕ) (is : n ≡ (end - from - 12) / fieldColumns) where
+    count-n : fieldCount body ≡ n
+    count-n = count-is ∙ sym is
+
+    pub misfit-over : (end - from ≡ 12 + n * fieldColumns → ⊥) → columnsFit body ≡ false
+    unfolding columnsFit
+    misfit-over h = rw (count-n, ne-eqb (length body) (12 + n * fieldColumns) (λ e. h (sym body-length ∙ e)))
+
+    pub misfit-many : decade < n → columnsFit body ≡ false
+    unfolding columnsFit
+    misfit-many h = rw (count-n, lt-leb n decade h, and-false (eqb (length body) (12 + n * fieldColumns) && leb 1 n))
+
+    pub fit : end - from ≡ 12 + n * fieldColumns → 1 ≤ n → n ≤ decade → columnsFit body ≡ true
+    unfolding columnsFit
+    fit h k l = rw (count-n, eq-eqb (length body) (12 + n * fieldColumns) (body-length ∙ h), le-leb 1 n k, le-leb n decade l)

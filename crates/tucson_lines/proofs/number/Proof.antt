@@ -1,0 +1,55 @@
+-- A blank leaves the number to the columns behind it.
+use mathlib.Core.Path.{_≡_, refl, sym, _∙_, ap}
+use Prim.Native.Nat.{ℕ, _-_, _≤_}
+use native.Mathlib.Omega.{arith}
+use lib.Seq.{slice}
+use Rattle.numerals.specs.Reply.{field}
+use Rattle.tucson_form.specs.Columns.{inColumns}
+use Rattle.tucson_lines.proofs.Steps.{columns-blank, columns-number, columns-end}
+use Rattle.tucson_lines.proofs.number.Statement.{statement}
+use Rattle.tucson_lines.proofs.number.Tie as tie
+
+abbrev Inv-loop : tie.InvT-loop
+Inv-loop text from to i₀ i = (i ≤ to) × (inColumns (slice from to text) ≡ inColumns (slice i to text))
+
+abbrev μ-loop : tie.MeasureT-loop
+μ-loop text from to i₀ i = to - i
+
+loop-holds : tie.Need-loop-holds Inv-loop μ-loop
+loop-holds c = (c .before .pre .ordered, refl)
+
+shared-slice-read-if1 : tie.Need-shared-slice-read-if1 Inv-loop μ-loop
+shared-slice-read-if1 c = omega arith
+
+numeral-requires : tie.Need-numeral-requires Inv-loop μ-loop
+numeral-requires c κs = omega arith
+
+returns : tie.Need-returns Inv-loop μ-loop
+returns c =
+    let s = c .before .before .before .before .before .before in
+    let l = c .before .before .before .before .loop in
+    c .numeral .ensures
+    ∙ sym (ap field (l .inv .1 ∙ columns-number (s .args .text .now) (l .i) (s .args .to) (omega arith) (s .pre .within) (c .before .if1 .taken)))
+
+add-i : tie.Need-add-i Inv-loop μ-loop
+add-i c = omega arith
+
+loop-less : tie.Need-loop-less Inv-loop μ-loop
+loop-less c = omega arith
+
+loop-again : tie.Need-loop-again Inv-loop μ-loop
+loop-again c =
+    let s = c .before .before .before .before .before in
+    let l = c .before .before .before .loop in
+    (omega arith, l .inv .1 ∙ columns-blank (s .args .text .now) (l .i) (s .args .to) (omega arith) (s .pre .within) (c .if1 .left))
+
+returns-2 : tie.Need-returns-2 Inv-loop μ-loop
+unfolding field
+returns-2 c =
+    let s = c .before .before .before in
+    let e : c .before .loop .i ≡ s .args .to = omega arith in
+    sym (ap field (c .before .loop .inv .1 ∙ ap (λ (n : ℕ). inColumns (slice n (s .args .to) (s .args .text .now))) e ∙ columns-end (s .args .text .now) (s .args .to)))
+
+pub number-spec : {M : Type 1} → statement M
+number-spec =
+    tie.close (tie.spec Inv-loop μ-loop loop-holds shared-slice-read-if1 numeral-requires returns add-i loop-less loop-again returns-2)

@@ -1,0 +1,216 @@
+-- The year, the fields but the last and the last one are read; then come the decade's end and the last field's test.
+use borrow.Author.Needs.{needs}
+use borrow.Author.Tests.{not-true, not-false}
+use mathlib.Core.Bool.{Bool, true, false, _||_}
+use mathlib.Core.Option.{some}
+use mathlib.Core.Path.{_≡_, sym, _∙_, ap}
+use Prim.Native.Nat.{ℕ, _+_, _*_, _-_, _≤_, _<_}
+use native.Mathlib.Omega.{arith}
+use lib.IntN.{ℤ}
+use mir.Syntax.{w32}
+use mir.Val.{SFits}
+use Rattle.exact.proofs.Word.{toZ-ofZ}
+use Rattle.numerals.specs.Bytes.{Text}
+use Rattle.numerals.proofs.Numerals.{field-none, field-some}
+use Rattle.tucson_form.specs.Line.{decade, isWidth, same, thousandths, yearInDecade}
+use Rattle.tucson_lines.specs.Reply.{widthsTold}
+use Rattle.tucson_lines.specs.declared.WidthsAnswer.the-variants.{Small}
+use Rattle.tucson_lines.proofs.LineNumbers.{year-below, year-number, front-numbers, last-number, numbers-no-year, numbers-no-widths, numbers-no-last, numbers-late, numbers-no-end, numbers-good}
+use Rattle.tucson_lines.proofs.numbers.Statement.{statement}
+use Rattle.tucson_lines.proofs.numbers.Tie as tie
+
+-- where the year's columns are read
+module _ (c : tie.After-number) where
+  abbrev s : tie.Start
+  s = c .before .before
+
+  abbrev text : Text
+  text = s .args .text .now
+
+  abbrev from : ℕ
+  from = s .args .from
+
+  abbrev end : ℕ
+  end = s .args .end
+
+  abbrev n : ℕ
+  n = s .args .n
+
+  abbrev some-field : 1 ≤ n
+  some-field = s .pre .1 .0
+
+  abbrev size : end ≡ from + 12 + n * 6
+  size = s .pre .1 .1
+
+-- a year
+module _ (c : tie.After-known-told) where
+  abbrev f : tie.After-number
+  f = c .before .before .before
+
+  abbrev year : ℤ
+  year = c .before .year .given .0 .0
+
+  year-fits : SFits w32 year
+  year-fits = record { sfits = c .known-told .given .0 .1 }
+
+  is-year : year-number (text f) (from f) (end f) (n f) (some-field f) (size f) ≡ some year
+  is-year = field-some _ year (sym (f .number .ensures) ∙ c .before .year .given .1)
+
+-- widths before the last field
+module _ (c : tie.After-known-told2) where
+  abbrev y : tie.After-known-told
+  y = c .before .before .before .before
+
+  abbrev small : Bool
+  small = c .before .small .given .0 .0
+
+  are-widths : widthsTold true (front-numbers (text (f y)) (from (f y)) (end (f y)) (n (f y)) (some-field (f y)) (size (f y))) ≡ Small small
+  are-widths = sym (c .before .before .before .widths .ensures) ∙ c .before .small .given .1
+
+-- a last field
+module _ (c : tie.After-known-told3) where
+  abbrev w : tie.After-known-told2
+  w = c .before .before .before .before
+
+  abbrev last : ℤ
+  last = c .before .last .given .0 .0
+
+  last-fits : SFits w32 last
+  last-fits = record { sfits = c .known-told3 .given .0 .1 }
+
+  is-last : last-number (text (f (y w))) (from (f (y w))) (end (f (y w))) (n (f (y w))) (some-field (f (y w))) (size (f (y w))) ≡ some last
+  is-last = field-some _ last (sym (c .before .before .before .number2 .ensures) ∙ c .before .last .given .1)
+
+-- the year's place in its decade
+in-decade : (c : tie.After-year-in-decade) → c .year-in-decade .result ≡ yearInDecade (year (y (w (c .before))))
+in-decade c = let g = year-fits (y (w (c .before))) in simp toZ-ofZ at (c .year-in-decade .ensures)
+
+add-number : tie.Need-add-number
+add-number c = search needs
+
+add-number-2 : tie.Need-add-number-2
+add-number-2 c = search needs
+
+number-requires : tie.Need-number-requires
+number-requires c κs = search needs
+
+enum-known-year : tie.Need-enum-known-year
+enum-known-year c = search needs
+
+enum-told : tie.Need-enum-told
+enum-told c = search needs
+
+returns : tie.Need-returns
+returns c =
+    let k = c .before .before in
+    sym (numbers-no-year (text k) (from k) (end k) (n k) (some-field k) (size k) (field-none _ (sym (k .number .ensures) ∙ c .enum-told .given .1)))
+
+add-widths : tie.Need-add-widths
+add-widths c = search needs
+
+sub-widths : tie.Need-sub-widths
+sub-widths c = search needs
+
+widths-requires : tie.Need-widths-requires
+widths-requires c κs = omega arith
+
+enum-known-small : tie.Need-enum-known-small
+enum-known-small c = search needs
+
+enum-told-2 : tie.Need-enum-told-2
+enum-told-2 c = search needs
+
+returns-2 : tie.Need-returns-2
+returns-2 c =
+    let l = c .before .before in
+    let k = f (l .before) in
+    sym (numbers-no-widths (text k) (from k) (end k) (n k) (some-field k) (size k) (year (l .before)) (is-year (l .before)) (sym (l .widths .ensures) ∙ c .enum-told2 .given .1))
+
+sub-number : tie.Need-sub-number
+sub-number c = search needs
+
+number-requires-2 : tie.Need-number-requires-2
+number-requires-2 c κs = search needs
+
+enum-known-last : tie.Need-enum-known-last
+enum-known-last c = search needs
+
+enum-told-3 : tie.Need-enum-told-3
+enum-told-3 c = search needs
+
+returns-3 : tie.Need-returns-3
+returns-3 c =
+    let l = c .before .before in
+    let m = y (l .before) in
+    let k = f m in
+    sym (numbers-no-last (text k) (from k) (end k) (n k) (some-field k) (size k) (year m) (is-year m) (field-none _ (sym (l .number2 .ensures) ∙ c .enum-told3 .given .1)))
+
+year-in-decade-requires : tie.Need-year-in-decade-requires
+year-in-decade-requires c κs = search needs
+
+add-if1 : tie.Need-add-if1
+add-if1 c =
+    let k = f (y (w (c .before))) in
+    omega (arith, in-decade c, year-below (year (y (w (c .before)))), s k .pre .0 .within, s k .good .0)
+
+returns-4 : tie.Need-returns-4
+returns-4 c =
+    let l = c .before .before in
+    let v = w l in
+    let m = y v in
+    let k = f m in
+    sym (numbers-late (text k) (from k) (end k) (n k) (some-field k) (size k) (year m) (is-year m) (small v) (are-widths v) (last l) (is-last l) (omega (arith, in-decade (c .before), c .if1 .taken)))
+
+ends-series-requires : tie.Need-ends-series-requires
+ends-series-requires c κs = search needs
+
+-- what the last field's test says
+end-test : (c : tie.After-ends-series) → c .ends-series .result ≡ (isWidth (last (c .before .before .before)) || same (last (c .before .before .before)) thousandths)
+end-test c = let g = last-fits (c .before .before .before) in simp toZ-ofZ at (c .ends-series .ensures)
+
+returns-5 : tie.Need-returns-5
+returns-5 c =
+    let l = c .before .before .before .before in
+    let v = w l in
+    let m = y v in
+    let k = f m in
+    sym (numbers-no-end (text k) (from k) (end k) (n k) (some-field k) (size k) (year m) (is-year m) (small v) (are-widths v) (last l) (is-last l) (sym (end-test (c .before)) ∙ not-true _ (c .if2 .taken)))
+
+returns-6 : tie.Need-returns-6
+returns-6 c =
+    let l = c .before .before .before .before in
+    let v = w l in
+    let m = y v in
+    let k = f m in
+    let g = year-fits m in
+    let h = last-fits l in
+    simp toZ-ofZ
+    (sym (numbers-good (text k) (from k) (end k) (n k) (some-field k) (size k) (year m) (is-year m) (small v) (are-widths v) (last l) (is-last l) (omega (arith, in-decade (c .before .before .before), c .before .before .if1 .left)) (sym (end-test (c .before)) ∙ not-false _ (c .if2 .left))))
+
+pub numbers-spec : {M : Type 1} → statement M
+numbers-spec =
+    tie.close
+    (tie.spec
+    add-number
+    add-number-2
+    number-requires
+    enum-known-year
+    enum-told
+    returns
+    add-widths
+    sub-widths
+    widths-requires
+    enum-known-small
+    enum-told-2
+    returns-2
+    sub-number
+    number-requires-2
+    enum-known-last
+    enum-told-3
+    returns-3
+    year-in-decade-requires
+    add-if1
+    returns-4
+    ends-series-requires
+    returns-5
+    returns-6)

@@ -1,0 +1,230 @@
+// One line of a Tucson text: its columns and end, its name, the numbers of its year and fields, and whether the next line has
+// the same name.
+ghost use mathlib.Core.Bool.{true, _&&_, _||_};
+ghost use mathlib.Core.Path.{_≡_};
+ghost use Prim.Native.Nat.{_+_, _*_, _≤_};
+ghost use lib.ListN.{length, drop};
+ghost use lib.Seq.{slice};
+ghost use Rattle.numerals.specs.Bytes.{Part};
+ghost use Rattle.numerals.specs.Reply;
+ghost use Rattle.tucson_form.specs.Columns.{inColumns};
+ghost use Rattle.tucson_form.specs.Line.{fieldColumns, nameColumns, linesOf, allPrintable, allBlank, isName, fieldNumbers, yearInDecade, isWidth, thousandths, lineInColumns, goodLine};
+ghost use Rattle.tucson_form.specs.Line;
+ghost use Rattle.tucson_form.specs.Reading.{goesOn};
+ghost use Rattle.tucson_lines.specs.Reply.{widthsTold, numbersTold, lineTold, LineEnd};
+use numerals::numeral::Field;
+
+pub const NAME: usize = 8;
+
+const YEAR: usize = 4;
+
+pub const FIELD: usize = 6;
+
+// The columns before the first field.
+pub const HEAD: usize = 12;
+
+const DECADE: usize = 10;
+
+const DECADE_YEARS: u32 = 10;
+
+const WIDTH_LIMIT: i32 = 99999;
+
+pub const HUNDREDTHS_LIMIT: i32 = 9999;
+
+pub const THOUSANDTHS: i32 = -9999;
+
+// A good line: its year, how many fields it has, whether all fields but the last are at most 9,999, and the last field.
+pub enum LineAnswer {
+    Good(i32, usize, bool, i32),
+    Bad,
+}
+
+// Whether some fields are widths, and if so whether all are at most 9,999.
+enum WidthsAnswer {
+    Small(bool),
+    Bad,
+}
+
+pub fn both(a: bool, b: bool) -> bool
+    ensures { λ r. ⌜ r ≡ (a && b) ⌝ }
+{
+    if a {
+        return b;
+    }
+    false
+}
+
+// Whether two signed numbers are the same.
+pub fn same(a: i32, b: i32) -> bool
+    ensures { λ r. ⌜ r ≡ Line.same a b ⌝ }
+{
+    both(a <= b, b <= a)
+}
+
+// The number that stands right-aligned in some columns.
+pub fn number(text: &[u8], from: usize, to: usize) -> Field
+    requires { ⌜ Part (now text) from to ⌝ }
+    ensures { λ r. ⌜ r ≡ Reply.field (inColumns (slice from to (now (text .entry)))) ⌝ }
+{
+    let mut i = from;
+    while i < to {
+        if text[i] != b' ' {
+            return numerals::numeral::numeral(text, i, to);
+        }
+        i += 1;
+    }
+    Field::Bad
+}
+
+fn all_printable(text: &[u8], from: usize, to: usize) -> bool
+    requires { ⌜ Part (now text) from to ⌝ }
+    ensures { λ r. ⌜ r ≡ allPrintable (slice from to (now (text .entry))) ⌝ }
+{
+    let mut i = from;
+    while i < to {
+        if text[i] < b' ' {
+            return false;
+        }
+        if text[i] > b'~' {
+            return false;
+        }
+        i += 1;
+    }
+    true
+}
+
+fn all_blank(text: &[u8], from: usize, to: usize) -> bool
+    requires { ⌜ Part (now text) from to ⌝ }
+    ensures { λ r. ⌜ r ≡ allBlank (slice from to (now (text .entry))) ⌝ }
+{
+    let mut i = from;
+    while i < to {
+        if text[i] != b' ' {
+            return false;
+        }
+        i += 1;
+    }
+    true
+}
+
+// Whether the eight bytes from the index on are a series name.
+fn is_name(text: &[u8], from: usize) -> bool
+    requires { ⌜ from + nameColumns ≤ length (now text) ⌝ }
+    ensures { λ r. ⌜ r ≡ isName (slice from (from + nameColumns) (now (text .entry))) ⌝ }
+{
+    if !all_printable(text, from, from + NAME) {
+        return false;
+    }
+    !all_blank(text, from, from + NAME)
+}
+
+pub fn year_in_decade(year: i32) -> usize
+    ensures { λ r. ⌜ r ≡ yearInDecade year ⌝ }
+{
+    if year < 0 {
+        return DECADE - 1 - ((-1 - year) as u32 % DECADE_YEARS) as usize;
+    }
+    (year as u32 % DECADE_YEARS) as usize
+}
+
+pub fn is_width(field: i32) -> bool
+    ensures { λ r. ⌜ r ≡ isWidth field ⌝ }
+{
+    both(0 <= field, field <= WIDTH_LIMIT)
+}
+
+// Whether a series' last field may be this one.
+fn ends_series(field: i32) -> bool
+    ensures { λ r. ⌜ r ≡ (isWidth field || Line.same field thousandths) ⌝ }
+{
+    if is_width(field) {
+        return true;
+    }
+    same(field, THOUSANDTHS)
+}
+
+// Looks through the first n fields from the index on.
+fn widths(text: &[u8], from: usize, to: usize, n: usize) -> WidthsAnswer
+    requires { ⌜ Part (now text) from to ⌝ }
+    requires { ⌜ from + n * fieldColumns ≤ to ⌝ }
+    ensures { λ r. ⌜ r ≡ widthsTold true (fieldNumbers n (slice from to (now (text .entry)))) ⌝ }
+{
+    let mut small = true;
+    let mut at = from;
+    let mut left = n;
+    while left > 0 {
+        let field = number(text, at, at + FIELD);
+        match field {
+            Field::Bad => {
+                return WidthsAnswer::Bad;
+            }
+            Field::Number(z) => {
+                if !is_width(z) {
+                    return WidthsAnswer::Bad;
+                }
+                small = both(small, z <= HUNDREDTHS_LIMIT);
+                at += FIELD;
+                left -= 1;
+            }
+        }
+    }
+    WidthsAnswer::Small(small)
+}
+
+// The year and the n fields of the line from the one index up to the other, the decade's end and the last field tested too.
+pub fn numbers(text: &[u8], from: usize, end: usize, n: usize) -> LineAnswer
+    requires { ⌜ Part (now text) from end ⌝ }
+    requires { ⌜ (1 ≤ n) × (end ≡ from + 12 + n * fieldColumns) ⌝ }
+    ensures { λ r. ⌜ r ≡ numbersTold (slice from end (now (text .entry))) n ⌝ }
+{
+    let Field::Number(year) = number(text, from + NAME, from + HEAD) else {
+        return LineAnswer::Bad;
+    };
+    let WidthsAnswer::Small(small) = widths(text, from + HEAD, end, n - 1) else {
+        return LineAnswer::Bad;
+    };
+    let Field::Number(last) = number(text, end - FIELD, end) else {
+        return LineAnswer::Bad;
+    };
+    if year_in_decade(year) + n > DECADE {
+        return LineAnswer::Bad;
+    }
+    if !ends_series(last) {
+        return LineAnswer::Bad;
+    }
+    LineAnswer::Good(year, n, small, last)
+}
+
+// The line from the one index up to its byte 10, or to the end of the text, tested as if it were its series' last.
+pub fn line(text: &[u8], from: usize, end: usize) -> LineAnswer
+    requires { ⌜ LineEnd (now text) from end ⌝ }
+    ensures { λ r. ⌜ r ≡ lineTold (goodLine true (slice from (end + 1) (now (text .entry)))) ⌝ }
+{
+    if end == text.len() {
+        return LineAnswer::Bad;
+    }
+    let size = end - from;
+    if size < HEAD + FIELD {
+        return LineAnswer::Bad;
+    }
+    let n = (size - HEAD) / FIELD;
+    if size != HEAD + n * FIELD {
+        return LineAnswer::Bad;
+    }
+    if n > DECADE {
+        return LineAnswer::Bad;
+    }
+    if !is_name(text, from) {
+        return LineAnswer::Bad;
+    }
+    numbers(text, from, end, n)
+}
+
+// Whether the line from the one index on, whose name is good, goes on in the one that begins at the other.
+pub fn goes_on(text: &[u8], from: usize, end: usize) -> bool
+    requires { ⌜ (from + nameColumns ≤ end) × (end + 1 ≤ length (now text)) ⌝ }
+    requires { ⌜ isName (slice from (from + nameColumns) (now text)) ≡ true ⌝ }
+    ensures { λ r. ⌜ r ≡ goesOn (slice from (end + 1) (now (text .entry))) (linesOf (drop (end + 1) (now (text .entry)))) ⌝ }
+{
+    numerals::fields::begins(text, end + 1, text.len(), &text[from..from + NAME])
+}

@@ -1,0 +1,112 @@
+-- The first pass refuses, or finds what the buffers must have room for; then the second writes.
+use borrow.Author.Needs.{needs}
+use mathlib.Core.Path.{_≡_, sym, _∙_}
+use Prim.Native.Nat.{ℕ, _/_, _<_, _≤_}
+use native.Mathlib.Omega.{arith}
+use lib.ListN.{length}
+use Rattle.numerals.specs.Bytes.{Text}
+use Rattle.tucson_form.specs.Line.{nameColumns}
+use Rattle.tucson_form.specs.Reading.{readText}
+use Rattle.tucson_form.specs.ReadCall.{widthsOf}
+use Rattle.tucson_read.proofs.Answers.{Found, scan-refused, scan-found, read-refused, short-names, short-years, short-counts, short-widths, write-ready, read-answers}
+use Rattle.tucson_read.proofs.read.Statement.{statement}
+use Rattle.tucson_read.proofs.read.Tie as tie
+
+-- the text is good
+module _ (c : tie.After-known-told2) where
+  abbrev s : tie.Start
+  s = c .before .before .before .before .before .before .before
+
+  abbrev series : ℕ
+  series = c .before .scanned2 .given .0 .0
+
+  abbrev total : ℕ
+  total = c .before .scanned2 .given .0 .1 .0
+
+  found : Found (readText (s .args .text .now)) series total
+  found = scan-found (readText (s .args .text .now)) series total (sym (c .before .scanned2 .given .1) ∙ c .before .before .before .scan .ensures)
+
+-- the buffers are long enough
+module _ (c : tie.Else4) where
+  abbrev k : tie.After-known-told2
+  k = c .before .before .before .before
+
+  names-long : length (found k .list) ≤ length (s k .args .names .now) / nameColumns
+  names-long = omega (arith, found k .series-is, c .before .before .before .if1 .left)
+
+  years-long : length (found k .list) ≤ length (s k .args .years .now)
+  years-long = omega (arith, found k .series-is, c .before .before .if2 .left)
+
+  counts-long : length (found k .list) ≤ length (s k .args .counts .now)
+  counts-long = omega (arith, found k .series-is, c .before .if3 .left)
+
+  widths-long : length (widthsOf (found k .list)) ≤ length (s k .args .widths .now)
+  widths-long = omega (arith, found k .total-is, c .if4 .left)
+
+scan-requires : tie.Need-scan-requires
+scan-requires c κs = search needs
+
+enum-known-scanned : tie.Need-enum-known-scanned
+enum-known-scanned c = search needs
+
+enum-known-scanned-2 : tie.Need-enum-known-scanned-2
+enum-known-scanned-2 c = search needs
+
+returns : tie.Need-returns
+returns c = let k = c .before in short-names (s k .args .text .now) (s k .args .names .now) (s k .args .years .now) (s k .args .counts .now) (s k .args .widths .now) (found k .list) (found k .is) (omega (arith, found k .series-is, c .if1 .taken))
+
+returns-2 : tie.Need-returns-2
+returns-2 c = let k = c .before .before in short-years (s k .args .text .now) (s k .args .names .now) (s k .args .years .now) (s k .args .counts .now) (s k .args .widths .now) (found k .list) (found k .is) (omega (arith, found k .series-is, c .if2 .taken))
+
+returns-3 : tie.Need-returns-3
+returns-3 c = let k = c .before .before .before in short-counts (s k .args .text .now) (s k .args .names .now) (s k .args .years .now) (s k .args .counts .now) (s k .args .widths .now) (found k .list) (found k .is) (omega (arith, found k .series-is, c .if3 .taken))
+
+returns-4 : tie.Need-returns-4
+returns-4 c = let k = c .before .before .before .before in short-widths (s k .args .text .now) (s k .args .names .now) (s k .args .years .now) (s k .args .counts .now) (s k .args .widths .now) (found k .list) (found k .is) (omega (arith, found k .total-is, c .if4 .taken))
+
+write-requires : tie.Need-write-requires
+write-requires c κs = let e = c .before .before .before .before in let h = k e in write-ready (s h .args .text .now) (s h .args .names .now) (s h .args .years .now) (s h .args .counts .now) (s h .args .widths .now) (found h .list) (found h .is) (names-long e) (years-long e) (counts-long e) (widths-long e)
+
+returns-5 : tie.Need-returns-5
+returns-5 c =
+    let s = c .before .before .before .before .before .before .before in
+    read-refused (s .args .text .now) (s .args .names .now) (s .args .years .now) (s .args .counts .now) (s .args .widths .now) _ _ (scan-refused (readText (s .args .text .now)) _ _ (sym (c .before .scanned .given .1) ∙ c .before .before .before .scan .ensures))
+
+same-length : tie.Need-same-length
+same-length c = search needs
+
+same-length-2 : tie.Need-same-length-2
+same-length-2 c = search needs
+
+same-length-3 : tie.Need-same-length-3
+same-length-3 c = search needs
+
+same-length-4 : tie.Need-same-length-4
+same-length-4 c = search needs
+
+returns-6 : tie.Need-returns-6
+returns-6 c =
+    let w = c .before .before .before .before .before .before in
+    let e = w .before .before .before .before .before in
+    let h = k e in
+    let r = w .write .ensures in
+    read-answers (s h .args .text .now) (s h .args .names .now) (s h .args .years .now) (s h .args .counts .now) (s h .args .widths .now) (found h .list) (found h .is) (names-long e) (years-long e) (counts-long e) (widths-long e) (series h) (found h .series-is) (w .write .last .1 .0) (w .write .last .1 .1 .0) (w .write .last .1 .1 .1 .0) (w .write .last .1 .1 .1 .1 .0) (r .0) (r .1 .0) (r .1 .1 .0) (r .1 .1 .1)
+
+pub read-spec : {M : Type 1} → statement M
+read-spec =
+    tie.close
+    (tie.spec
+    scan-requires
+    enum-known-scanned
+    enum-known-scanned-2
+    returns
+    returns-2
+    returns-3
+    returns-4
+    write-requires
+    returns-5
+    same-length
+    same-length-2
+    same-length-3
+    same-length-4
+    returns-6)

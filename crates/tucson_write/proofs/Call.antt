@@ -1,0 +1,69 @@
+-- The write call's end by the tests that led there.
+use mathlib.Core.Path.{_≡_, sym, ap, _∙_}
+use mathlib.Core.Bool.{true, false, cond}
+use mathlib.Core.List.{List}
+use mathlib.Core.Option.{Option, some, none}
+use Prim.Native.Nat.{ℕ, _≤_}
+use native.Mathlib.Omega.{arith}
+use lib.Dec.{leb}
+use lib.IntN.{ℤ}
+use lib.ListN.{length}
+use Rattle.exact.proofs.Decide.{cond-true, cond-false}
+use Rattle.spline.specs.Outcome.{Outcome, answer, refusal, refuse, capped, with-answer}
+use Rattle.spline.specs.Space.{refuseFirst}
+use Rattle.numerals.specs.Bytes.{Text}
+use Rattle.printout.specs.Buffer
+use Rattle.tucson_form.specs.Series.{Series}
+use Rattle.tucson_form.specs.Writing.{written, unwritable}
+use Rattle.tucson_form.specs.WriteCall.{listsFit, seriesOf, seriesOutcome, writeOutcome, textAfter, writeEnd}
+use Rattle.tucson_write.specs.declared.Answer.the-variants.{Bytes, Refused}
+use Rattle.tucson_write.specs.Putting.{Wrote}
+use Rattle.tucson_write.specs.Reply.{reply}
+use Rattle.tucson_write.proofs.Wrote.{written-whole}
+
+module _ (names : Text) (years : List ℤ) (counts : List ℕ) (widths : List ℤ) (text : Text) where
+  abbrev outcome : Outcome Text
+  outcome = writeOutcome names years counts widths (length text)
+
+  abbrev listed : List Series
+  listed = seriesOf names years counts widths
+
+  -- ---- what the call ends with
+
+  pub lists-misfit : listsFit names years counts widths ≡ false → outcome ≡ refusal 2 0
+  unfolding writeOutcome capped
+  lists-misfit e = cond-false (seriesOutcome listed (length text)) (refuse 2 0) e
+
+  module _ (fit : listsFit names years counts widths ≡ true) where
+    goes-on : outcome ≡ seriesOutcome listed (length text)
+    unfolding writeOutcome
+    goes-on = cond-true (seriesOutcome listed (length text)) (refuse 2 0) fit
+
+    pub series-unwritable : (k : ℕ) → unwritable listed ≡ some k → outcome ≡ refusal 11 (capped k)
+    unfolding seriesOutcome
+    series-unwritable k e = goes-on ∙ ap (λ (o : Option ℕ). refuseFirst 11 o (cond (leb (length (written listed)) (length text)) (answer (written listed)) (refuse 1 0))) e
+
+    module _ (all : unwritable listed ≡ none) where
+      room-decides : outcome ≡ cond (leb (length (written listed)) (length text)) (answer (written listed)) (refuse 1 0)
+      unfolding seriesOutcome
+      room-decides = goes-on ∙ ap (λ (o : Option ℕ). refuseFirst 11 o (cond (leb (length (written listed)) (length text)) (answer (written listed)) (refuse 1 0))) all
+
+      pub text-short : leb (length (written listed)) (length text) ≡ false → outcome ≡ refusal 1 0
+      unfolding capped
+      text-short e = room-decides ∙ cond-false (answer (written listed)) (refuse 1 0) e
+
+      pub text-answers : leb (length (written listed)) (length text) ≡ true → outcome ≡ answer (written listed)
+      text-answers e = room-decides ∙ cond-true (answer (written listed)) (refuse 1 0) e
+
+  -- ---- the answer and the text
+
+  pub ends-refused : (number place : ℕ) → outcome ≡ refusal number place → (reply (Refused number place) ≡ writeEnd names years counts widths text .answers) × (text ≡ writeEnd names years counts widths text .text)
+  unfolding reply textAfter
+  ends-refused number place e = (sym (ap (with-answer length) e), sym (ap (λ (o : Outcome Text). textAfter o text) e))
+
+  pub ends-written : (count : ℕ) (after : List ℕ) → outcome ≡ answer (written listed) → length (written listed) ≤ length text → Wrote 0 (written listed) text after count → (reply (Bytes count) ≡ writeEnd names years counts widths text .answers) × (after ≡ writeEnd names years counts widths text .text)
+  unfolding reply textAfter
+  ends-written count after e h w = (
+    ap answer (w .behind ∙ omega arith) ∙ sym (ap (with-answer length) e),
+    w .contents ∙ written-whole (written listed) text h ∙ sym (ap (λ (o : Outcome Text). textAfter o text) e),
+  )

@@ -1,0 +1,39 @@
+// Writing Tucson decadal files (document 02, change request 1): four lists of series into a lent text. What can be refused is
+// tested before the first byte is written.
+ghost use mathlib.Core.Path.{_≡_};
+ghost use Rattle.tucson_form.specs.WriteCall.{writeEnd};
+ghost use Rattle.tucson_write.specs.Reply.{reply};
+
+mod lists;
+mod putting;
+mod room;
+mod writable;
+
+// What the write call answers: the number of bytes written, or a refusal's number and place.
+pub enum Answer {
+    Bytes(usize),
+    Refused(u8, u32),
+}
+
+// Writes the series with these names, eight bytes each, first years, counts of widths, and widths in thousandths, one series
+// after another. Lists and buffers may have any length and content: what the definition refuses is refused, and nothing is
+// written then.
+pub fn write(names: &[u8], years: &[i32], counts: &[u32], widths: &[i32], text: &mut [u8]) -> Answer
+    ensures { λ r. ⌜ (let e = writeEnd (now (names .entry)) (now (years .entry)) (now (counts .entry)) (now (widths .entry)) (now (text .entry)) in
+        (reply r ≡ e .answers) × (now (text .exit) ≡ e .text)) ⌝ }
+{
+    if !lists::lists_fit(names, years, counts, widths) {
+        return Answer::Refused(2, 0);
+    }
+    let found = writable::first_unwritable(names, years, counts, widths);
+    match found {
+        space::Found::At(k) => Answer::Refused(11, space::place(k)),
+        space::Found::Nothing => {
+            if !room::text_fits(years, counts, text.len()) {
+                return Answer::Refused(1, 0);
+            }
+            let count = putting::put_all(names, years, counts, widths, text);
+            Answer::Bytes(count)
+        }
+    }
+}
