@@ -1,0 +1,172 @@
+-- What the call ends with, case by case, and what the machine answers and leaves in each.
+use mathlib.Core.Path.{_≡_, refl, sym, _∙_, ap, ap₂}
+use mathlib.Core.Bool.{false}
+use mathlib.Core.List.{List, [], _++_}
+use mathlib.Core.Option.{Option, some, none}
+use Prim.Native.Nat.{ℕ, _+_, _*_, _/_, _<_, _≤_}
+use native.Mathlib.Omega.{arith}
+use borrow.Author.Tests.{lt-ltb, le-ltb}
+use lib.IntN.{ℤ, pos}
+use lib.ListN.{length, getD, drop}
+use Rattle.exact.specs.Tabulate.{tab}
+use Rattle.exact.proofs.Decide.{cond-true, cond-false}
+use Rattle.exact.proofs.Tabulate.{tab-length, tab-ext}
+use Rattle.spline.specs.Outcome.{Outcome, answer, refusal, refuse, capped, with-answer, _then_}
+use Rattle.spline.specs.Search.{first}
+use Rattle.spline.specs.Space.{Space, refuseFirst}
+use Rattle.spline.specs.Table.{tableCells, numerators, denominators}
+use Rattle.spline.specs.Build.{numeratorsAfter, denominatorsAfter}
+use Rattle.spline.specs.Reading.{WoodPart, earlywood, latewood, partIndex, Pair, sideBySide}
+use Rattle.spline.specs.CurveCall.{CurveResult, positionLimit, curveOutcome, returned, curveNumerators, curveDenominators, valuesAfter}
+use Rattle.spline.proofs.Outcome.{then-answers, then-refuses, capped-small, answer-unique}
+use Rattle.spline.proofs.Search.{first-ext, first-some-inverts}
+use Rattle.spline.proofs.Pairs.{partOf, getD-pairs, half-le, length-pairs}
+use Rattle.spline.proofs.Build.{long-enough, not-cleared}
+use Rattle.closeness.proofs.LegalCall.{answered-calls-are-legal, legal-calls-answer, values-length}
+use Rattle.curve.specs.Reply as curves
+use Rattle.curve.specs.declared.Answer.{Answer}
+use Rattle.curve.specs.declared.Answer.the-variants as answered
+use Rattle.indices.specs.Indices.{ringPositions, ringWidth, ofPart, noPair, ringValue, isRefused, badRing, indexOf, ringIndices, ringsRead, ringsIndexed, indicesReturned, indicesAfter}
+use Rattle.indices.specs.Machine.{reply, wordPositions, ringsTaken, badCell, cellIndex, cellsIndexed}
+use Rattle.indices.specs.declared.Answer as ours
+use Rattle.indices.specs.declared.Answer.the-variants.{Indices, Refused}
+use Rattle.indices.proofs.Positions.{exact-length, words-length, outcome-same}
+
+-- ---- number 14 and the indices by the cells
+
+module _ (widths cells : List ℤ) (offset : ℕ) where
+  pub cells-refused : {i : ℕ} → first (length widths) (badCell widths cells offset) ≡ some i → length widths ≤ positionLimit → cellsIndexed widths cells offset ≡ refusal 14 i
+  unfolding cellsIndexed
+  cells-refused {i} e h =
+      ap (λ (o : Option ℕ). refuseFirst 14 o (answer (tab (length widths) (cellIndex widths cells offset)))) e
+      ∙ ap (refusal 14) (capped-small i (omega (arith, first-some-inverts (badCell widths cells offset) (length widths) e .below)))
+
+  pub cells-answered : first (length widths) (badCell widths cells offset) ≡ none → cellsIndexed widths cells offset ≡ answer (tab (length widths) (cellIndex widths cells offset))
+  unfolding cellsIndexed
+  cells-answered e = ap (λ (o : Option ℕ). refuseFirst 14 o (answer (tab (length widths) (cellIndex widths cells offset)))) e
+
+-- by the values, where the cells hold them
+part-same : (part : WoodPart) (p : Pair) → partOf part p ≡ ofPart part p
+part-same earlywood p = refl
+part-same latewood p = refl
+
+module _ (part : WoodPart) (widths : List ℤ) (r : CurveResult) (before : List ℤ) (count : length (r .values) ≡ length widths) where
+  abbrev cellsAfter : List ℤ
+  cellsAfter = valuesAfter (answer r) before
+
+  pub value-cell : (i : ℕ) → i < length widths → getD cellsAfter (2 * i + partIndex part) (pos 0) ≡ ringValue part (r .values) i
+  unfolding valuesAfter
+  value-cell i h = getD-pairs (r .values) (drop (2 * length (r .values)) before) part i (pos 0) noPair (rw count h) ∙ part-same part (getD (r .values) i noPair)
+
+  pub indexed-by-cells : cellsIndexed widths cellsAfter (partIndex part) ≡ ringsIndexed part widths r
+  unfolding cellsIndexed ringsIndexed badCell badRing cellIndex ringIndices
+  indexed-by-cells = ap₂ (λ (o : Option ℕ) (zs : List ℤ). refuseFirst 14 o (answer zs))
+      (first-ext (length widths) (λ i h. ap (isRefused (ringWidth widths i)) (value-cell i h)))
+      (tab-ext (length widths) (λ i h. ap (indexOf (ringWidth widths i)) (value-cell i h)))
+
+-- ---- what a call answers and leaves, by its outcome
+
+pub record Ends (part : WoodPart) (widths : List ℤ) (o : Outcome CurveResult) (r : ours.Answer) (num den vs is num′ den′ vs′ is′ : List ℤ) : Type 0 where
+  pub answers : reply r ≡ indicesReturned (o then ringsIndexed part widths)
+  pub numerators-are : num′ ≡ curveNumerators o num
+  pub denominators-are : den′ ≡ curveDenominators o den
+  pub values-are : vs′ ≡ valuesAfter o vs
+  pub indices-are : is′ ≡ indicesAfter (o then ringsIndexed part widths) is
+
+module _ (part : WoodPart) (widths : List ℤ) {o : Outcome CurveResult} (num den vs is : List ℤ) where
+  -- a refusal of the curve call: the buffers as it leaves them, the indices as they were
+  pub ends-refused : {number place : ℕ} {num′ den′ vs′ : List ℤ} → o ≡ refusal number place → num′ ≡ curveNumerators o num → den′ ≡ curveDenominators o den → vs′ ≡ valuesAfter o vs
+      → Ends part widths o (Refused number place) num den vs is num′ den′ vs′ is
+  unfolding reply indicesAfter
+  ends-refused e p q w = record {
+    answers = sym (ap (λ x. indicesReturned (x then ringsIndexed part widths)) e);
+    numerators-are = p;
+    denominators-are = q;
+    values-are = w;
+    indices-are = sym (ap (λ x. indicesAfter (x then ringsIndexed part widths) is) e);
+  }
+
+  -- number 1 leaves all
+  pub ends-unchanged : {place : ℕ} → o ≡ refusal 1 place → Ends part widths o (Refused 1 place) num den vs is num den vs is
+  unfolding numeratorsAfter denominatorsAfter valuesAfter
+  ends-unchanged e = ends-refused e
+      (sym (ap (λ x. curveNumerators x num) e ∙ cond-false (numerators [] num) num (not-cleared 1 (omega arith))))
+      (sym (ap (λ x. curveDenominators x den) e ∙ cond-false (denominators [] den) den (not-cleared 1 (omega arith))))
+      (sym (ap (λ x. valuesAfter x vs) e))
+
+  -- an answer of the curve call: number 14 or the indices, by the cells after it
+  pub ends-indexed : {r : CurveResult} {a : ours.Answer} {num′ den′ vs′ is′ : List ℤ} → o ≡ answer r → length (r .values) ≡ length widths → num′ ≡ curveNumerators o num → den′ ≡ curveDenominators o den → vs′ ≡ valuesAfter o vs
+      → reply a ≡ indicesReturned (cellsIndexed widths vs′ (partIndex part)) → is′ ≡ indicesAfter (cellsIndexed widths vs′ (partIndex part)) is
+      → Ends part widths o a num den vs is num′ den′ vs′ is′
+  ends-indexed {r} {vs′ = vs′} e count p q w x y =
+      let same : cellsIndexed widths vs′ (partIndex part) ≡ (o then ringsIndexed part widths)
+      = ap (λ (l : List ℤ). cellsIndexed widths l (partIndex part)) (w ∙ ap (λ z. valuesAfter z vs) e) ∙ indexed-by-cells part widths r vs count ∙ sym (then-answers (ringsIndexed part widths) e) in
+      record { answers = x ∙ ap indicesReturned same; numerators-are = p; denominators-are = q; values-are = w; indices-are = y ∙ ap (λ z. indicesAfter z is) same }
+
+-- ---- the call's outcome
+
+module _ (s : Space) (coefs : List ℤ) (firstRing : ℤ) (widths : List ℤ) (numLength denLength valuesLength indicesLength : ℕ) where
+  abbrev outcome : Outcome CurveResult
+  outcome = ringsRead s coefs firstRing widths numLength denLength valuesLength indicesLength
+
+  abbrev handed : Outcome CurveResult
+  handed = curveOutcome s coefs (wordPositions firstRing (ringsTaken (length widths))) numLength denLength valuesLength
+
+  pub first-short : numLength < tableCells → outcome ≡ refusal 1 0
+  unfolding ringsRead capped
+  first-short h = cond-true _ _ (lt-ltb numLength tableCells h)
+
+  pub second-short : tableCells ≤ numLength → denLength < tableCells → outcome ≡ refusal 1 1
+  unfolding ringsRead capped
+  second-short h k = cond-false _ _ (le-ltb numLength tableCells h) ∙ cond-true _ _ (lt-ltb denLength tableCells k)
+
+  module _ (h : tableCells ≤ numLength) (k : tableCells ≤ denLength) where
+    pub third-short : valuesLength / 2 < length widths → outcome ≡ refusal 1 2
+    unfolding ringsRead capped
+    third-short l = long-enough numLength denLength _ h k ∙ cond-true _ _ (lt-ltb (valuesLength / 2) (length (ringPositions firstRing (length widths))) (rw (exact-length firstRing (length widths)) l))
+
+    module _ (l : length widths ≤ valuesLength / 2) where
+      pub fourth-short : indicesLength < length widths → outcome ≡ refusal 1 3
+      unfolding ringsRead capped
+      fourth-short m =
+          long-enough numLength denLength _ h k
+          ∙ cond-false _ _ (le-ltb (valuesLength / 2) (length (ringPositions firstRing (length widths))) (rw (exact-length firstRing (length widths)) l))
+          ∙ cond-true _ _ (lt-ltb indicesLength (length widths) m)
+
+      pub handed-on : length widths ≤ indicesLength → handed ≡ outcome
+      unfolding ringsRead
+      handed-on m =
+          outcome-same s coefs firstRing (length widths) numLength denLength valuesLength h k l
+          ∙ sym (long-enough numLength denLength _ h k
+          ∙ cond-false _ _ (le-ltb (valuesLength / 2) (length (ringPositions firstRing (length widths))) (rw (exact-length firstRing (length widths)) l))
+          ∙ cond-false _ _ (le-ltb indicesLength (length widths) m))
+
+  -- an answer has a pair for each ring
+  pub rings-answered : {r : CurveResult} → handed ≡ answer r → (length widths ≤ positionLimit) × (length (r .values) ≡ length widths)
+  rings-answered {r} e =
+      let p = wordPositions firstRing (ringsTaken (length widths)) in
+      let l = answered-calls-are-legal s coefs p numLength denLength valuesLength r e in
+      let few : ringsTaken (length widths) ≤ positionLimit = rw (words-length firstRing (ringsTaken (length widths))) at (l .positionCount) in
+      let count : length (r .values) ≡ ringsTaken (length widths) = ap (λ q. length (q .values)) (answer-unique e (legal-calls-answer s coefs p numLength denLength valuesLength l)) ∙ values-length s (l .accepted .table) coefs p ∙ words-length firstRing (ringsTaken (length widths)) in
+      (omega arith, count ∙ omega arith)
+
+-- the values' buffer is as long as it was
+pub values-kept : (r : CurveResult) (before : List ℤ) → 2 * length (r .values) ≤ length before → length (valuesAfter (answer r) before) ≡ length before
+unfolding valuesAfter
+values-kept r before h = length-pairs (r .values) before h
+
+-- ---- what the curve call answered
+
+pub refused-inverts : (o : Outcome CurveResult) {number place : ℕ} → curves.reply (answered.Refused number place) ≡ returned o → o ≡ refusal number place
+unfolding curves.reply
+refused-inverts (answer t) e = absurd (let z : _≡_ {A = ℕ} 0 1 = cc in omega arith)
+refused-inverts (refusal a b) e = cc
+
+pub record HasResult (o : Outcome CurveResult) : Type 0 where
+  pub result : CurveResult
+  pub is : o ≡ answer result
+
+pub values-inverts : (o : Outcome CurveResult) (n : ℕ) → curves.reply (answered.Values n) ≡ returned o → HasResult o
+unfolding curves.reply
+values-inverts (answer t) n e = record { result = t; is = refl }
+values-inverts (refusal a b) n e = absurd (let z : _≡_ {A = ℕ} 0 1 = cc in omega arith)

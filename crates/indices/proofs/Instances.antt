@@ -1,0 +1,172 @@
+-- The theorems with numbers: W1 as the earlywood and W2 as the latewood of rings 1 and 2. Ring 1 is 50 wide under 17067, so
+-- that 256,000·50/17067 = 749.98.. gives 749; ring 2 is absent. By the latewood, whose values are below zero, a present ring
+-- gives 14 with its place, and all values are written.
+use mathlib.Core.Path.{_≡_, refl, _∙_, ap, subst}
+use mathlib.Core.Logic.{_≢_}
+use mathlib.Core.Bool.{not}
+use mathlib.Core.List.{List, [], _∷_}
+use Prim.Native.Nat.{ℕ, zero, suc, _<_}
+use native.Mathlib.Omega.{arith}
+use lib.Dec.{T}
+use lib.IntN.{ℤ, pos, negsuc, natAbs}
+use lib.ListN.{length, getD}
+use Rattle.exact.specs.Gcd.{gcd, gcdF}
+use Rattle.exact.specs.Rational.{mk, int, inv, _+ᵠ_, _-ᵠ_, _*ᵠ_, _/ᵠ_, -ᵠ_, _//_}
+use Rattle.exact.specs.Order.{isZero, ltᵠ, _≤ᵠ_, _<ᵠ_}
+use Rattle.exact.specs.Floor.{nearest}
+use Rattle.exact.specs.Sum.{sum}
+use Rattle.exact.specs.Tabulate.{tab}
+use Rattle.exact.proofs.Order.{ltᵠ-true}
+use Rattle.fraction.specs.Size.{fits}
+use Rattle.spline.specs.Outcome.{answer, refusal, capped, collect, repeat, _then_}
+use Rattle.spline.specs.Search.{first, last, howMany}
+use Rattle.spline.specs.Space.{lengthsFit, badBreak, spanTooLong, badDegree, badOrder, checkedEntries, checked, firstColumn, conditionsBefore}
+use Rattle.spline.specs.Conditions.{falling, binomial, alternating, undivided, commonDivisor, conditions}
+use Rattle.spline.specs.Table.{Table, tableCells, identity}
+use Rattle.spline.specs.Step.{count, addProducts, span, partialSum, quotientFactor, factors, newEntry, newRows, step}
+use Rattle.spline.specs.Build.{orderSteps, joinSteps, weights, spaceWeights}
+use Rattle.spline.specs.Piecewise.{Accepted}
+use Rattle.spline.specs.Reading.{startsAtDiscontinuity, startsBy, segmentAt, WoodPart, earlywood, latewood, Pair, sideBySide, rounded, term, termSum, best, ordinate, ordinates, blend, triangle, blended, valueAt, pairAt, values}
+use Rattle.spline.specs.CurveCall.{badCoefficient, badPosition, valuesAfter}
+use Rattle.spline.specs.Cases.{pair, space1}
+use Rattle.spline.specs.ExactCurve.{power, bernsteinAt, exactTerm, exactOn, exactCurve, largest, mostWeights}
+use Rattle.closeness.specs.Demand3Values.{closeness}
+use Rattle.theorems.proofs.Instances.{q0, q1}
+use Rattle.indices.specs.Indices.{ringPositions, isRefused, badRing, indexOf, ringIndices, ringsIndexed, indicesReturned, indicesAfter}
+use Rattle.indices.specs.Rings.{RingsCall, endOf, CurveIsLegal}
+use Rattle.indices.proofs.Rings.{read, read-answers, index-is-above, index-is-at-most}
+
+abbrev table1 : Table
+table1 =
+    (q1 ∷ q0 ∷ q0 ∷ q0 ∷ q0 ∷ q0 ∷ []) ∷
+    (q0 ∷ q1 ∷ pos 2 // 2 ∷ pos 2 // 2 ∷ q0 ∷ q0 ∷ []) ∷
+    (q0 ∷ q0 ∷ pos 1 // 2 ∷ pos 1 // 2 ∷ q1 ∷ q0 ∷ []) ∷
+    (q0 ∷ q0 ∷ q0 ∷ q0 ∷ q0 ∷ q1 ∷ []) ∷ []
+
+abbrev coefs1 : List ℤ
+coefs1 = pos 0 ∷ pos 0 ∷ pos 100 ∷ negsuc 99 ∷ pos 0 ∷ pos 0 ∷ pos 0 ∷ pos 0 ∷ []
+
+accepted1 : Accepted space1
+unfolding gcd gcdF mk int inv _+ᵠ_ _*ᵠ_ -ᵠ_ _//_ isZero ltᵠ sum tab fits capped collect repeat first last lengthsFit badBreak spanTooLong badDegree badOrder checkedEntries checked firstColumn conditionsBefore falling binomial alternating undivided commonDivisor conditions identity count addProducts span partialSum quotientFactor factors newEntry newRows step orderSteps joinSteps weights spaceWeights
+accepted1 = record { table = table1; is = refl }
+
+coefficients1 : (i : ℕ) → i < length coefs1 → T (not (badCoefficient coefs1 i))
+unfolding badCoefficient
+coefficients1 zero h = tt
+coefficients1 (suc zero) h = tt
+coefficients1 (suc (suc zero)) h = tt
+coefficients1 (suc (suc (suc zero))) h = tt
+coefficients1 (suc (suc (suc (suc zero)))) h = tt
+coefficients1 (suc (suc (suc (suc (suc zero))))) h = tt
+coefficients1 (suc (suc (suc (suc (suc (suc zero)))))) h = tt
+coefficients1 (suc (suc (suc (suc (suc (suc (suc zero))))))) h = tt
+coefficients1 (suc (suc (suc (suc (suc (suc (suc (suc i)))))))) h = absurd (omega arith)
+
+-- rings 1 and 2
+inside1 : (i : ℕ) → i < length (ringPositions (pos 1) 2) → T (not (badPosition space1 (ringPositions (pos 1) 2) i))
+unfolding badPosition ringPositions tab
+inside1 zero h = tt
+inside1 (suc zero) h = tt
+inside1 (suc (suc i)) h = absurd (omega arith)
+
+abbrev pairs1 : List Pair
+pairs1 = pair (pos 17067) (negsuc 17066) ∷ pair (pos 4267) (negsuc 4265) ∷ []
+
+values1 : values space1 table1 coefs1 (ringPositions (pos 1) 2) ≡ pairs1
+unfolding ringPositions gcd gcdF mk int _//_ isZero nearest tab firstColumn last startsAtDiscontinuity startsBy segmentAt rounded term termSum best ordinate ordinates blend triangle blended valueAt pairAt values
+values1 = refl
+
+-- ---- a call with any two weight buffers that are long enough
+
+module _ (num den : List ℤ) (h : length num ≡ tableCells) (k : length den ≡ tableCells) where
+  abbrev call : WoodPart → ℤ → ℤ → RingsCall
+  call part w v = record {
+    part = part;
+    space = space1;
+    coefs = coefs1;
+    firstRing = pos 1;
+    widths = w ∷ v ∷ [];
+    num = num;
+    den = den;
+    values = pos 5 ∷ pos 6 ∷ pos 7 ∷ pos 8 ∷ pos 9 ∷ [];
+    indices = pos 6 ∷ pos 7 ∷ pos 8 ∷ [];
+  }
+
+  legal1 : (part : WoodPart) (w v : ℤ) → CurveIsLegal (call part w v)
+  unfolding ringPositions tab firstColumn conditionsBefore
+  legal1 part w v = record {
+    accepted = accepted1;
+    coefficientCount = refl;
+    coefficients = coefficients1;
+    positionCount = omega arith;
+    inSpan = inside1;
+    numerators = omega arith;
+    denominators = omega arith;
+    values = omega arith;
+  }
+
+  read1 : (part : WoodPart) (w v : ℤ) → read (call part w v) ≡ answer (record { table = table1; values = pairs1 })
+  unfolding legal1 accepted1
+  read1 part w v = read-answers (call part w v) (legal1 part w v) (omega arith) ∙ ap (λ vs. answer (record { table = table1; values = vs })) values1
+
+  values-after1 : (part : WoodPart) (w v : ℤ) → endOf (call part w v) .values ≡ pos 17067 ∷ negsuc 17066 ∷ pos 4267 ∷ negsuc 4265 ∷ pos 9 ∷ []
+  unfolding valuesAfter sideBySide
+  values-after1 part w v = ap (λ o. valuesAfter o (pos 5 ∷ pos 6 ∷ pos 7 ∷ pos 8 ∷ pos 9 ∷ [])) (read1 part w v)
+
+  -- earlywood: 749, and an absent ring
+  answers1 : endOf (call earlywood (pos 50) (pos 0)) .answers ≡ answer 2
+  unfolding ringsIndexed first badRing isRefused ringIndices tab
+  answers1 = ap (λ o. indicesReturned (o then ringsIndexed earlywood (pos 50 ∷ pos 0 ∷ []))) (read1 earlywood (pos 50) (pos 0))
+
+  indices1 : endOf (call earlywood (pos 50) (pos 0)) .indices ≡ pos 749 ∷ negsuc 0 ∷ pos 8 ∷ []
+  unfolding ringsIndexed first badRing isRefused ringIndices tab indexOf indicesAfter
+  indices1 = ap (λ o. indicesAfter (o then ringsIndexed earlywood (pos 50 ∷ pos 0 ∷ [])) (pos 6 ∷ pos 7 ∷ pos 8 ∷ [])) (read1 earlywood (pos 50) (pos 0))
+
+  -- latewood: ring 1 is absent, and ring 2 has a value below zero
+  answers14 : endOf (call latewood (pos 0) (pos 7)) .answers ≡ refusal 14 1
+  unfolding ringsIndexed first badRing isRefused ringIndices tab capped
+  answers14 = ap (λ o. indicesReturned (o then ringsIndexed latewood (pos 0 ∷ pos 7 ∷ []))) (read1 latewood (pos 0) (pos 7))
+
+  indices14 : endOf (call latewood (pos 0) (pos 7)) .indices ≡ pos 6 ∷ pos 7 ∷ pos 8 ∷ []
+  unfolding ringsIndexed first badRing isRefused ringIndices tab capped indicesAfter
+  indices14 = ap (λ o. indicesAfter (o then ringsIndexed latewood (pos 0 ∷ pos 7 ∷ [])) (pos 6 ∷ pos 7 ∷ pos 8 ∷ [])) (read1 latewood (pos 0) (pos 7))
+
+  -- widths beyond the range come before the value, also where the ring before is fine
+  answers-wide : endOf (call earlywood (pos 50) (pos 100000)) .answers ≡ refusal 14 1
+  unfolding ringsIndexed first badRing isRefused ringIndices tab capped
+  answers-wide = ap (λ o. indicesReturned (o then ringsIndexed earlywood (pos 50 ∷ pos 100000 ∷ []))) (read1 earlywood (pos 50) (pos 100000))
+
+  -- ---- the bounds on 749, from the exact 51200/3 and its error 2
+  exact1 : exactCurve space1 table1 earlywood coefs1 (pos 256) ≡ pos 51200 // 2
+  unfolding gcd gcdF mk int inv _+ᵠ_ _*ᵠ_ -ᵠ_ _//_ sum firstColumn last startsAtDiscontinuity startsBy segmentAt binomial power bernsteinAt exactTerm exactOn exactCurve
+  exact1 = refl
+
+  error1 : closeness space1 table1 (pos 256) ≡ int (pos 2)
+  unfolding gcd gcdF mk int inv _*ᵠ_ _//_ isZero firstColumn last startsAtDiscontinuity startsBy segmentAt howMany largest mostWeights
+  error1 = refl
+
+  above-error1 : int (pos 2) <ᵠ pos 51200 // 2
+  unfolding gcd gcdF mk int _//_ ltᵠ
+  above-error1 = ltᵠ-true _ _ refl
+
+  present1 : pos 50 ≢ pos 0
+  present1 e = let z : _≡_ {A = ℕ} 50 0 = ap natAbs e in omega arith
+
+  lower-bound1 : int (pos 12800000) /ᵠ (pos 51200 // 2 +ᵠ int (pos 2)) -ᵠ int (pos 1) <ᵠ int (pos 749)
+  unfolding legal1 accepted1
+  lower-bound1 =
+      let c = call earlywood (pos 50) (pos 0) in
+      let b = index-is-above c (legal1 earlywood (pos 50) (pos 0)) 2 answers1 0 (omega arith) present1 in
+      subst (λ x. int (pos 12800000) /ᵠ (x +ᵠ int (pos 2)) -ᵠ int (pos 1) <ᵠ int (pos 749)) exact1
+      (subst (λ x. int (pos 12800000) /ᵠ (exactCurve space1 table1 earlywood coefs1 (pos 256) +ᵠ x) -ᵠ int (pos 1) <ᵠ int (pos 749)) error1
+      (subst (λ (l : List ℤ). int (pos 12800000) /ᵠ (exactCurve space1 table1 earlywood coefs1 (pos 256) +ᵠ closeness space1 table1 (pos 256)) -ᵠ int (pos 1) <ᵠ int (getD l 0 (pos 0))) indices1 b))
+
+  upper-bound1 : int (pos 749) ≤ᵠ int (pos 12800000) /ᵠ (pos 51200 // 2 -ᵠ int (pos 2))
+  unfolding legal1 accepted1
+  upper-bound1 =
+      let c = call earlywood (pos 50) (pos 0) in
+      let low : closeness space1 table1 (pos 256) <ᵠ exactCurve space1 table1 earlywood coefs1 (pos 256) = rw (error1, exact1) above-error1 in
+      let b = index-is-at-most c (legal1 earlywood (pos 50) (pos 0)) 2 answers1 0 (omega arith) present1 low in
+      subst (λ x. int (pos 749) ≤ᵠ int (pos 12800000) /ᵠ (x -ᵠ int (pos 2))) exact1
+      (subst (λ x. int (pos 749) ≤ᵠ int (pos 12800000) /ᵠ (exactCurve space1 table1 earlywood coefs1 (pos 256) -ᵠ x)) error1
+      (subst (λ (l : List ℤ). int (getD l 0 (pos 0)) ≤ᵠ int (pos 12800000) /ᵠ (exactCurve space1 table1 earlywood coefs1 (pos 256) -ᵠ closeness space1 table1 (pos 256))) indices1 b))

@@ -1,0 +1,7 @@
+-- Laws of ring indices.
+pub mod Ring
+pub mod Searching
+pub mod Positions
+pub mod Call
+pub mod Rings
+pub mod Instances

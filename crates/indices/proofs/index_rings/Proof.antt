@@ -1,0 +1,110 @@
+-- `indices::index_rings` meets its contract: the search ends before the first index is written. Assumes nothing.
+use borrow.Author.Needs.{needs}
+use native.Mathlib.Omega.{arith}
+use mathlib.Core.Path.{_≡_, sym, _∙_, ap}
+use mathlib.Core.List.{List, _++_}
+use mathlib.Core.Option.{some, none}
+use Prim.Native.Nat.{ℕ, _<_}
+use lib.IntN.{ℤ}
+use lib.ListN.{length, drop}
+use Rattle.exact.specs.Tabulate.{tab}
+use Rattle.exact.proofs.Tabulate.{tab-length}
+use Rattle.spline.specs.Outcome.{answer}
+use Rattle.spline.specs.Search.{first}
+use Rattle.spline.specs.Reading.{partIndex}
+use Rattle.spline.proofs.Search.{first-some-inverts, first-none-inverts}
+use Rattle.spline.proofs.Pairs.{partIndex-below}
+use Rattle.indices.specs.Indices.{indicesReturned, indicesAfter}
+use Rattle.indices.specs.Machine.{woodPart, reply, badCell, cellIndex, cellsIndexed}
+use Rattle.indices.proofs.Searching.{found-some-inverts, found-none-inverts}
+use Rattle.indices.proofs.Call.{cells-refused, cells-answered}
+use Rattle.indices.proofs.index_rings.Statement.{statement}
+use Rattle.indices.proofs.index_rings.Tie as tie
+
+part-index-requires : tie.Need-part-index-requires
+part-index-requires c κs = search needs
+
+offset-small : (c : tie.After-part-index) → c .part-index .result < 2
+offset-small c = rw (c .part-index .ensures) (partIndex-below (woodPart (c .before .args .part)))
+
+first-bad-ring-requires : tie.Need-first-bad-ring-requires
+first-bad-ring-requires c κs = (c .before .pre .0 .0, offset-small c)
+
+enum-known-bad : tie.Need-enum-known-bad
+enum-known-bad c = search needs
+
+-- the first ring that is refused
+module _ (c : tie.After-known-told) where
+  abbrev searched : tie.After-first-bad-ring
+  searched = c .before .before .before
+
+  abbrev start : tie.Start
+  start = searched .before .before
+
+  abbrev place : ℕ
+  place = c .before .bad .given .0 .0
+
+  refused-at : first (length (start .args .widths .now)) (badCell (start .args .widths .now) (start .args .values .now) (searched .before .part-index .result)) ≡ some place
+  refused-at = found-some-inverts _ (sym (searched .first-bad-ring .ensures) ∙ c .before .bad .given .1)
+
+  place-below : place < length (start .args .widths .now)
+  place-below = first-some-inverts _ _ refused-at .below
+
+cast-t9 : tie.Need-cast-t9
+cast-t9 c = record { fits = omega (arith, place-below c, start c .pre .1) }
+
+enum-told : tie.Need-enum-told
+enum-told c = search needs
+
+-- no ring is refused
+module _ (c : tie.After-enum-told) where
+  abbrev passed : tie.After-first-bad-ring
+  passed = c .before .before
+
+  abbrev begin : tie.Start
+  begin = passed .before .before
+
+  none-refused : first (length (begin .args .widths .now)) (badCell (begin .args .widths .now) (begin .args .values .now) (passed .before .part-index .result)) ≡ none
+  none-refused = found-none-inverts _ (sym (passed .first-bad-ring .ensures) ∙ c .enum-told .given .1)
+
+write-indices-requires : tie.Need-write-indices-requires
+write-indices-requires c κs =
+    let p = begin (c .before) .pre in
+    (((p .0 .0, offset-small (passed (c .before) .before)), p .0 .1), first-none-inverts _ _ (none-refused (c .before)))
+
+returns : tie.Need-returns
+unfolding reply indicesAfter
+returns c =
+    let a = start c .args in
+    let e = ap (cellsIndexed (a .widths .now) (a .values .now)) (sym (searched c .before .part-index .ensures)) ∙ cells-refused (a .widths .now) (a .values .now) (searched c .before .part-index .result) (refused-at c) (start c .pre .1) in
+    (sym (ap indicesReturned e), sym (ap (λ o. indicesAfter o (a .indices .now)) e))
+
+same-length : tie.Need-same-length
+same-length c = search needs
+
+returns-2 : tie.Need-returns-2
+unfolding reply indicesAfter
+returns-2 c =
+    let w = c .before in
+    let t = w .before .before in
+    let a = begin t .args in
+    let f = cellIndex (a .widths .now) (a .values .now) (passed t .before .part-index .result) in
+    let n = length (a .widths .now) in
+    let e = ap (cellsIndexed (a .widths .now) (a .values .now)) (sym (passed t .before .part-index .ensures)) ∙ cells-answered (a .widths .now) (a .values .now) (passed t .before .part-index .result) (none-refused t) in (
+      sym (ap indicesReturned e ∙ ap answer (tab-length n f)),
+      w .write-indices .ensures ∙ ap (λ (k : ℕ). tab n f ++ drop k (a .indices .now)) (sym (tab-length n f)) ∙ sym (ap (λ o. indicesAfter o (a .indices .now)) e),
+    )
+
+pub index-rings-spec : {M : Type 1} → statement M
+index-rings-spec =
+    tie.close
+    (tie.spec
+    part-index-requires
+    first-bad-ring-requires
+    enum-known-bad
+    cast-t9
+    enum-told
+    write-indices-requires
+    returns
+    same-length
+    returns-2)

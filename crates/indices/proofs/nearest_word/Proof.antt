@@ -1,0 +1,37 @@
+-- `indices::nearest_word` meets its contract. Assumes nothing.
+use borrow.Author.Needs.{needs}
+use mir.Syntax.{w32}
+use mir.Val.{SFits}
+use mir.ValLaws.{toZ-ofZ}
+use Rattle.indices.proofs.Ring.{nearest-below, nearest-above, nearest-inside, word-fits}
+use Rattle.indices.proofs.nearest_word.Statement.{statement}
+use Rattle.indices.proofs.nearest_word.Tie as tie
+
+cast-result : tie.Need-cast-result
+cast-result c = search needs
+
+returns : tie.Need-returns
+returns c = let f = c .before .fits .z in nearest-below _ (simp toZ-ofZ at (c .if1 .taken))
+
+cast-result-2 : tie.Need-cast-result-2
+cast-result-2 c = search needs
+
+returns-2 : tie.Need-returns-2
+returns-2 c = let f = c .before .before .fits .z in nearest-above _ (simp toZ-ofZ at (c .before .if1 .left)) (simp toZ-ofZ at (c .if2 .taken))
+
+module _ (c : tie.Else2) where
+  z-fits : SFits w32 (c .before .before .args .z)
+  z-fits = let f = c .before .before .fits .z in word-fits _ (simp toZ-ofZ at (c .before .if1 .left)) (simp toZ-ofZ at (c .if2 .left))
+
+cast-result-3 : tie.Need-cast-result-3
+cast-result-3 c = let f = c .before .before .fits .z in simp toZ-ofZ (z-fits c)
+
+returns-3 : tie.Need-returns-3
+returns-3 c =
+    let f = c .before .before .fits .z in
+    let g = z-fits c in
+    simp toZ-ofZ (nearest-inside _ (simp toZ-ofZ at (c .before .if1 .left)) (simp toZ-ofZ at (c .if2 .left)))
+
+pub nearest-word-spec : {M : Type 1} → statement M
+nearest-word-spec =
+    tie.close (tie.spec cast-result returns cast-result-2 returns-2 cast-result-3 returns-3)

@@ -1,0 +1,53 @@
+-- `indices::read_rings` meets its contract: what the curve call promises at the positions that were filled in. Assumes nothing.
+use borrow.Author.Needs.{needs}
+use mathlib.Core.Path.{_≡_, ap, _∙_}
+use mathlib.Core.List.{List}
+use lib.IntN.{ℤ}
+use lib.ListN.{length}
+use mir.Syntax.{w32}
+use mir.ValLaws.{toZ-ofZ}
+use Rattle.space.specs.Reply.{space}
+use Rattle.spline.specs.CurveCall.{CurveEnd, curveEnd}
+use Rattle.indices.specs.Machine.{wordPositions}
+use Rattle.indices.proofs.read_rings.Statement.{statement}
+use Rattle.indices.proofs.read_rings.Tie as tie
+
+fill-positions-requires : tie.Need-fill-positions-requires
+fill-positions-requires c κs = search needs
+
+curve-requires : tie.Need-curve-requires
+curve-requires c κs = search needs
+
+same-length : tie.Need-same-length
+same-length c = search needs
+
+same-length-2 : tie.Need-same-length-2
+same-length-2 c = search needs
+
+same-length-3 : tie.Need-same-length-3
+same-length-3 c = search needs
+
+same-length-4 : tie.Need-same-length-4
+same-length-4 c = search needs
+
+returns : tie.Need-returns
+returns c =
+    let k = c .before .before .before in
+    let f = c .before .before .before .before .before .before .before .before .before in
+    let a = f .before .before .args in
+    let e = k .curve .ensures in
+    let p = f .fill-positions .ensures ∙ ap (λ (z : ℤ). wordPositions z (length (a .positions .now))) (toZ-ofZ w32 (a .first) (f .before .before .fits .first)) in
+    let end : List ℤ → CurveEnd = λ (l : List ℤ). curveEnd (space (a .breaks .now) (a .degrees .now) (a .orders .now)) (a .coefs .now) l (a .num .now) (a .den .now) (a .values .now) in
+    (e .0 ∙ ap (λ (l : List ℤ). end l .answers) p, (e .1 .0 ∙ ap (λ (l : List ℤ). end l .numerators) p, (e .1 .1 .0 ∙ ap (λ (l : List ℤ). end l .denominators) p, e .1 .1 .1 ∙ ap (λ (l : List ℤ). end l .values) p)))
+
+pub read-rings-spec : {M : Type 1} → statement M
+read-rings-spec =
+    tie.close
+    (tie.spec
+    fill-positions-requires
+    curve-requires
+    same-length
+    same-length-2
+    same-length-3
+    same-length-4
+    returns)

@@ -1,0 +1,80 @@
+-- `indices::write_indices` meets its contract: below i stand the indices of the first i rings, from there on what the cells
+-- held. Assumes nothing.
+use native.Mathlib.Omega.{arith}
+use mathlib.Core.List.{List, _++_}
+use mathlib.Core.Path.{_≡_, ap, ap₂, _∙_}
+use Prim.Native.Nat.{ℕ, _≤_, _-_}
+use lib.IntN.{ℤ}
+use lib.ListN.{length, set, drop, length-set}
+use mir.Syntax.{w64}
+use mir.Val.{ofZ, toZ}
+use mir.ValLaws.{toZ-ofZ}
+use Rattle.exact.specs.Tabulate.{tab}
+use Rattle.exact.proofs.Tabulate.{tab-none, tab-more}
+use Rattle.indices.specs.Machine.{cellIndex}
+use Rattle.indices.proofs.write_indices.Statement.{statement}
+use Rattle.indices.proofs.write_indices.Tie as tie
+
+abbrev Inv-loop : tie.InvT-loop
+Inv-loop widths values offset indices₀ i₀ indices i =
+    (i ≤ length widths) × ((length indices ≡ length indices₀) × (indices ≡ tab i (cellIndex widths values offset) ++ drop i indices₀))
+
+abbrev μ-loop : tie.MeasureT-loop
+μ-loop widths values offset indices₀ i₀ indices i = length widths - i
+
+loop-holds : tie.Need-loop-holds Inv-loop μ-loop
+loop-holds c = (omega arith, (omega arith, tab-none _ _))
+
+index-requires : tie.Need-index-requires Inv-loop μ-loop
+index-requires c κs = ((omega arith, omega arith), c .before .before .pre .1 (c .before .loop .i) (omega arith))
+
+mul-z : tie.Need-mul-z Inv-loop μ-loop
+mul-z c = omega arith
+
+slice-set-from-z : tie.Need-slice-set-from-z Inv-loop μ-loop
+slice-set-from-z c = omega arith
+
+add-i : tie.Need-add-i Inv-loop μ-loop
+add-i c = omega arith
+
+loop-less : tie.Need-loop-less Inv-loop μ-loop
+loop-less c = omega arith
+
+loop-again : tie.Need-loop-again Inv-loop μ-loop
+loop-again c =
+    let l = c .before .before in
+    let a = l .before .args in
+    let i = l .loop .i in (
+      omega arith,
+      (
+        length-set (l .loop .indices) i (toZ w64 (ofZ w64 (c .index .result))) ∙ l .loop .inv .1 .0,
+        ap₂ (λ (t : List ℤ) (v : ℤ). set t i v) (l .loop .inv .1 .1) (toZ-ofZ w64 (c .index .result) (record { sfits = c .index .ok }) ∙ c .index .ensures)
+            ∙ tab-more (cellIndex (a .widths .now) (a .values .now) (a .offset)) i (a .indices .now) (omega arith),
+      ),
+    )
+
+same-length : tie.Need-same-length Inv-loop μ-loop
+same-length c = c .before .loop .inv .1 .0
+
+returns : tie.Need-returns Inv-loop μ-loop
+returns c =
+    let l = c .before in
+    let a = l .before .args in
+    l .loop .inv .1 .1
+    ∙ ap (λ (k : ℕ). tab k (cellIndex (a .widths .now) (a .values .now) (a .offset)) ++ drop k (a .indices .now)) (let e : l .loop .i ≡ length (a .widths .now) = omega arith in e)
+
+pub write-indices-spec : {M : Type 1} → statement M
+write-indices-spec =
+    tie.close
+    (tie.spec
+    Inv-loop
+    μ-loop
+    loop-holds
+    index-requires
+    mul-z
+    slice-set-from-z
+    add-i
+    loop-less
+    loop-again
+    same-length
+    returns)

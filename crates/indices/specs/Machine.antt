@@ -1,0 +1,79 @@
+-- The machine's form of what the definitions of ring indices say: the parts and answers of the code, positions that fit 32 bits,
+-- and the rings by the value cells, where the two parts stand side by side.
+use mathlib.Core.Bool.{Bool, cond}
+use mathlib.Core.List.{List}
+use mathlib.Core.Option.{Option, some, none}
+use Prim.Native.Nat.{ℕ, _+_, _*_, min}
+use lib.IntN.{ℤ, pos, negsuc, _+ℤ_}
+use lib.ListN.{length, getD}
+use lib.Signed.{ltZ}
+use Rattle.exact.specs.Tabulate.{tab}
+use Rattle.spline.specs.Outcome.{Outcome, answer, refusal}
+use Rattle.spline.specs.Search.{first}
+use Rattle.spline.specs.Space.{refuseFirst}
+use Rattle.spline.specs.Reading.{WoodPart, earlywood, latewood, fine}
+use Rattle.spline.specs.CurveCall.{positionLimit}
+use Rattle.indices.specs.Indices.{ringWidth, isRefused, indexOf}
+use Rattle.indices.specs.declared.Part.{Part}
+use Rattle.indices.specs.declared.Part.the-variants.{Earlywood, Latewood}
+use Rattle.indices.specs.declared.Answer.{Answer}
+use Rattle.indices.specs.declared.Answer.the-variants.{Indices, Refused}
+use Rattle.indices.specs.declared.Found.{Found}
+use Rattle.indices.specs.declared.Found.the-variants.{At, Nothing}
+
+-- ---- parts and answers
+
+-- The wood part that a case names.
+abbrev pub woodPart : Part → WoodPart
+woodPart Earlywood = earlywood
+woodPart Latewood = latewood
+
+-- The rings' count, or the number and place of a refusal.
+unfoldable pub reply : Answer → Outcome ℕ
+reply (Indices n) = answer n
+reply (Refused number place) = refusal number place
+
+-- What a search found.
+unfoldable pub found : Option ℕ → Found
+found none = Nothing
+found (some i) = At i
+
+-- ---- positions that fit
+
+-- The least number of 32 bits.
+abbrev pub leastWord : ℤ
+leastWord = negsuc 2147483647
+
+-- The greatest.
+abbrev pub greatestWord : ℤ
+greatestWord = pos 2147483647
+
+-- The number of 32 bits nearest to z.
+unfoldable pub nearestWord : ℤ → ℤ
+nearestWord z = cond (ltZ z leastWord) leastWord (cond (ltZ greatestWord z) greatestWord z)
+
+-- The position of ring i that is handed on.
+unfoldable pub wordPosition : ℤ → ℕ → ℤ
+wordPosition firstRing i = nearestWord (fine (firstRing +ℤ pos i))
+
+-- As many rings as are read: one more than the curve call takes stands for anything larger.
+abbrev pub ringsTaken : ℕ → ℕ
+ringsTaken n = min n (positionLimit + 1)
+
+-- The positions of so many rings.
+abbrev pub wordPositions : ℤ → ℕ → List ℤ
+wordPositions firstRing n = tab n (wordPosition firstRing)
+
+-- ---- rings by the value cells
+
+-- Number 14 of ring i, by the cell of its value.
+unfoldable pub badCell : List ℤ → List ℤ → ℕ → ℕ → Bool
+badCell widths cells offset i = isRefused (ringWidth widths i) (getD cells (2 * i + offset) (pos 0))
+
+-- The index of ring i, by the cell of its value.
+unfoldable pub cellIndex : List ℤ → List ℤ → ℕ → ℕ → ℤ
+cellIndex widths cells offset i = indexOf (ringWidth widths i) (getD cells (2 * i + offset) (pos 0))
+
+-- Number 14 at the first ring that it refuses, or the indices.
+unfoldable pub cellsIndexed : List ℤ → List ℤ → ℕ → Outcome (List ℤ)
+cellsIndexed widths cells offset = refuseFirst 14 (first (length widths) (badCell widths cells offset)) (answer (tab (length widths) (cellIndex widths cells offset)))
