@@ -15,10 +15,12 @@ seen() {
 lists='breaks=0,1,3 degrees=2,2 orders=1'
 build="build $lists num=5184:7 den=5184:9"
 curve="curve $lists coefs=0,0,100,-100,0,0,0,0 at=256,512 num=5184:7 den=5184:9 values=4:5"
+rings="$lists coefs=0,0,100,100,0,0,0,0 first=1 widths=5,7 num=5184:7 den=5184:9 values=4:5 indices=2:3"
 
-for call in "$build" "$curve"; do
+for call in "$build" "$curve" "earlywood_indices $rings" "latewood_indices $rings"; do
     seen "$call" -1 after && { echo "seen, though nothing is read outside: $call"; failed=1; }
-    arguments=$(($(wc -w <<<"$call") - 1))
+    # each word with a list or a buffer; the first ring is neither
+    arguments=$(grep -oE '[a-z]+=' <<<"$call" | grep -cv '^first=')
     for ((argument = 0; argument < arguments; argument++)); do
         for side in before after; do
             tried=$((tried + 1))

@@ -258,7 +258,7 @@ static void end_narrow(narrow_buffer *lent)
     free(lent->block);
 }
 
-/* The two calls. */
+/* The calls. */
 
 static void run_build(const char *line)
 {
@@ -316,14 +316,81 @@ static void run_curve(const char *line)
     end_narrow(&values);
 }
 
+/* The index call of a wood part, both of one type. */
+typedef walzhik_reply index_call(const int32_t *, size_t, const int32_t *, size_t, const int32_t *, size_t, const int32_t *,
+                                 size_t, int32_t, const int32_t *, size_t, int64_t *, size_t, int64_t *, size_t, int32_t *,
+                                 size_t, int64_t *, size_t);
+
+/* All cells that differ from what they held. */
+static void print_changed(const wide_buffer *lent)
+{
+    printf(" %s=", lent->name);
+    const char *comma = "";
+    for (size_t i = 0; i < lent->length; i++) {
+        int64_t cell = lent->block[guards + i];
+        if (cell != wide_old(lent, i)) {
+            printf("%s%zu:%" PRId64, comma, i, cell);
+            comma = ",";
+        }
+    }
+    if (*comma == '\0')
+        printf("same");
+}
+
+static void run_indices(const char *line, index_call *call)
+{
+    list breaks = read_list(&line, "breaks");
+    list degrees = read_list(&line, "degrees");
+    list orders = read_list(&line, "orders");
+    list coefs = read_list(&line, "coefs");
+    after_name(&line, "first");
+    int32_t first = (int32_t)read_number(&line);
+    list widths = read_list(&line, "widths");
+    wide_buffer num = read_wide(&line, "num");
+    wide_buffer den = read_wide(&line, "den");
+    narrow_buffer values = read_narrow(&line, "values");
+    wide_buffer indices = read_wide(&line, "indices");
+
+    print_reply(call(breaks.block + guards, breaks.length, degrees.block + guards, degrees.length,
+                     orders.block + guards, orders.length, coefs.block + guards, coefs.length,
+                     first, widths.block + guards, widths.length, num.block + guards, num.length,
+                     den.block + guards, den.length, values.block + guards, values.length,
+                     indices.block + guards, indices.length));
+    print_wide(&num, 0);
+    print_wide(&den, 1);
+    print_narrow(&values);
+    print_changed(&indices);
+
+    end_list(&breaks);
+    end_list(&degrees);
+    end_list(&orders);
+    end_list(&coefs);
+    end_list(&widths);
+    end_wide(&num);
+    end_wide(&den);
+    end_narrow(&values);
+    end_wide(&indices);
+}
+
+static const char *after_word(const char *line, const char *word)
+{
+    size_t length = strlen(word);
+    return strncmp(line, word, length) == 0 ? line + length : NULL;
+}
+
 static void run_line(const char *line)
 {
-    if (strncmp(line, "build ", strlen("build ")) == 0)
-        run_build(line + strlen("build "));
-    else if (strncmp(line, "curve ", strlen("curve ")) == 0)
-        run_curve(line + strlen("curve "));
+    const char *rest;
+    if ((rest = after_word(line, "build ")) != NULL)
+        run_build(rest);
+    else if ((rest = after_word(line, "curve ")) != NULL)
+        run_curve(rest);
+    else if ((rest = after_word(line, "earlywood_indices ")) != NULL)
+        run_indices(rest, walzhik_earlywood_indices);
+    else if ((rest = after_word(line, "latewood_indices ")) != NULL)
+        run_indices(rest, walzhik_latewood_indices);
     else
-        give_up("expected build or curve", line);
+        give_up("expected the name of a call", line);
     /* Each result is out before the next call, so a crash shows its line. */
     putchar('\n');
     fflush(stdout);

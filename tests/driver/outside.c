@@ -47,3 +47,43 @@ walzhik_reply walzhik_curve(const int32_t *breaks, size_t breaks_len, const int3
     look_outside(7, values, values_len, sizeof *values);
     return (walzhik_reply){0, 0, 0};
 }
+
+static walzhik_reply look_at_rings(const int32_t *breaks, size_t breaks_len, const int32_t *degrees, size_t degrees_len,
+                                   const int32_t *orders, size_t orders_len, const int32_t *coefs, size_t coefs_len,
+                                   const int32_t *widths, size_t widths_len, int64_t *num, size_t num_len, int64_t *den,
+                                   size_t den_len, int32_t *values, size_t values_len, int64_t *indices,
+                                   size_t indices_len)
+{
+    look_outside(0, breaks, breaks_len, sizeof *breaks);
+    look_outside(1, degrees, degrees_len, sizeof *degrees);
+    look_outside(2, orders, orders_len, sizeof *orders);
+    look_outside(3, coefs, coefs_len, sizeof *coefs);
+    look_outside(4, widths, widths_len, sizeof *widths);
+    look_outside(5, num, num_len, sizeof *num);
+    look_outside(6, den, den_len, sizeof *den);
+    look_outside(7, values, values_len, sizeof *values);
+    look_outside(8, indices, indices_len, sizeof *indices);
+    return (walzhik_reply){0, 0, 0};
+}
+
+walzhik_reply walzhik_earlywood_indices(const int32_t *breaks, size_t breaks_len, const int32_t *degrees, size_t degrees_len,
+                                        const int32_t *orders, size_t orders_len, const int32_t *coefs, size_t coefs_len,
+                                        int32_t first, const int32_t *widths, size_t widths_len, int64_t *num,
+                                        size_t num_len, int64_t *den, size_t den_len, int32_t *values, size_t values_len,
+                                        int64_t *indices, size_t indices_len)
+{
+    (void)first;
+    return look_at_rings(breaks, breaks_len, degrees, degrees_len, orders, orders_len, coefs, coefs_len, widths, widths_len,
+                         num, num_len, den, den_len, values, values_len, indices, indices_len);
+}
+
+walzhik_reply walzhik_latewood_indices(const int32_t *breaks, size_t breaks_len, const int32_t *degrees, size_t degrees_len,
+                                       const int32_t *orders, size_t orders_len, const int32_t *coefs, size_t coefs_len,
+                                       int32_t first, const int32_t *widths, size_t widths_len, int64_t *num,
+                                       size_t num_len, int64_t *den, size_t den_len, int32_t *values, size_t values_len,
+                                       int64_t *indices, size_t indices_len)
+{
+    (void)first;
+    return look_at_rings(breaks, breaks_len, degrees, degrees_len, orders, orders_len, coefs, coefs_len, widths, widths_len,
+                         num, num_len, den, den_len, values, values_len, indices, indices_len);
+}

@@ -18,11 +18,12 @@
 enum { SEGMENTS = 12, COLUMNS = 72, POSITIONS = 4096, PARTS = 2, STACK = 1 << 20, PAINT = 0xA5 };
 
 /* The most bytes that a call may need. */
-enum { BUILD_LIMIT = 16384, CURVE_LIMIT = 16384 };
+enum { BUILD_LIMIT = 16384, CURVE_LIMIT = 16384, INDICES_LIMIT = 32768 };
 
 static int32_t breaks[SEGMENTS + 1], degrees[SEGMENTS], orders[SEGMENTS - 1];
 static int32_t coefs[PARTS * COLUMNS], positions[POSITIONS], values[PARTS * POSITIONS];
-static int64_t num[WALZHIK_CELLS], den[WALZHIK_CELLS];
+static int32_t widths[SEGMENTS + 1];
+static int64_t num[WALZHIK_CELLS], den[WALZHIK_CELLS], rings[SEGMENTS + 1];
 static walzhik_reply reply;
 
 static void make_space(void)
@@ -54,6 +55,24 @@ static void *curve(void *unused)
     return unused;
 }
 
+static void *earlywood(void *unused)
+{
+    size_t numbers = PARTS * (6 * SEGMENTS - 3 * (SEGMENTS - 1));
+    reply = walzhik_earlywood_indices(breaks, SEGMENTS + 1, degrees, SEGMENTS, orders, SEGMENTS - 1, coefs, numbers, 0, widths,
+                                      SEGMENTS + 1, num, WALZHIK_CELLS, den, WALZHIK_CELLS, values, PARTS * POSITIONS, rings,
+                                      SEGMENTS + 1);
+    return unused;
+}
+
+static void *latewood(void *unused)
+{
+    size_t numbers = PARTS * (6 * SEGMENTS - 3 * (SEGMENTS - 1));
+    reply = walzhik_latewood_indices(breaks, SEGMENTS + 1, degrees, SEGMENTS, orders, SEGMENTS - 1, coefs, numbers, 0, widths,
+                                     SEGMENTS + 1, num, WALZHIK_CELLS, den, WALZHIK_CELLS, values, PARTS * POSITIONS, rings,
+                                     SEGMENTS + 1);
+    return unused;
+}
+
 /* The bytes of a painted stack that a thread running `work` changed. */
 static size_t used_by(void *(*work)(void *))
 {
@@ -76,7 +95,7 @@ static size_t used_by(void *(*work)(void *))
 static int measured(const char *name, void *(*work)(void *), size_t limit)
 {
     size_t bytes = used_by(work) - used_by(nothing);
-    printf("  %-6s %6zu bytes of stack, at most %zu\n", name, bytes, limit);
+    printf("  %-17s %6zu bytes of stack, at most %zu\n", name, bytes, limit);
     if (reply.number != 0 || bytes > limit) {
         printf("FAILED: %s (number %u)\n", name, (unsigned)reply.number);
         return 1;
@@ -87,5 +106,6 @@ static int measured(const char *name, void *(*work)(void *), size_t limit)
 int main(void)
 {
     make_space();
-    return measured("build", build, BUILD_LIMIT) | measured("curve", curve, CURVE_LIMIT);
+    return measured("build", build, BUILD_LIMIT) | measured("curve", curve, CURVE_LIMIT) |
+           measured("earlywood indices", earlywood, INDICES_LIMIT) | measured("latewood indices", latewood, INDICES_LIMIT);
 }

@@ -2,10 +2,12 @@
 ghost use mathlib.Core.Path.{_≡_};
 ghost use Rattle.space.specs.Reply.{space};
 ghost use Rattle.spline.specs.Build.{buildEnd};
+ghost use Rattle.spline.specs.Reading.{earlywood, latewood};
 ghost use Rattle.spline.specs.CurveCall.{curveEnd};
+ghost use Rattle.indices.specs.Indices.{indicesEnd};
 ghost use Rattle.walzhik.specs.Reply.{replied};
 
-// The count of rows or positions, with number 0 and place 0; or count 0 with a refusal's number and place.
+// The count of rows, positions or rings, with number 0 and place 0; or count 0 with a refusal's number and place.
 #[repr(C)]
 pub struct Reply {
     pub count: u64,
@@ -71,5 +73,77 @@ pub extern "C" fn walzhik_curve(
     match answer {
         curve::Answer::Values(n) => answered(n),
         curve::Answer::Refused(number, place) => refused(number, place),
+    }
+}
+
+// indices::indices by the earlywood.
+#[no_mangle]
+pub extern "C" fn walzhik_earlywood_indices(
+    breaks: &[i32],
+    degrees: &[i32],
+    orders: &[i32],
+    coefs: &[i32],
+    first: i32,
+    widths: &[i32],
+    num: &mut [i64],
+    den: &mut [i64],
+    values: &mut [i32],
+    indices: &mut [i64],
+) -> Reply
+    ensures { λ r. ⌜ (let e = indicesEnd earlywood (space (now (breaks .entry)) (now (degrees .entry)) (now (orders .entry))) (now (coefs .entry)) first (now (widths .entry)) (now (num .entry)) (now (den .entry)) (now (values .entry)) (now (indices .entry)) in
+        (r ≡ replied (e .answers)) × ((now (num .exit) ≡ e .numerators) × ((now (den .exit) ≡ e .denominators) × ((now (values .exit) ≡ e .values) × (now (indices .exit) ≡ e .indices))))) ⌝ }
+{
+    let answer = indices::indices(
+        indices::Part::Earlywood,
+        breaks,
+        degrees,
+        orders,
+        coefs,
+        first,
+        widths,
+        num,
+        den,
+        values,
+        indices,
+    );
+    match answer {
+        indices::Answer::Indices(n) => answered(n),
+        indices::Answer::Refused(number, place) => refused(number, place),
+    }
+}
+
+// indices::indices by the latewood.
+#[no_mangle]
+pub extern "C" fn walzhik_latewood_indices(
+    breaks: &[i32],
+    degrees: &[i32],
+    orders: &[i32],
+    coefs: &[i32],
+    first: i32,
+    widths: &[i32],
+    num: &mut [i64],
+    den: &mut [i64],
+    values: &mut [i32],
+    indices: &mut [i64],
+) -> Reply
+    ensures { λ r. ⌜ (let e = indicesEnd latewood (space (now (breaks .entry)) (now (degrees .entry)) (now (orders .entry))) (now (coefs .entry)) first (now (widths .entry)) (now (num .entry)) (now (den .entry)) (now (values .entry)) (now (indices .entry)) in
+        (r ≡ replied (e .answers)) × ((now (num .exit) ≡ e .numerators) × ((now (den .exit) ≡ e .denominators) × ((now (values .exit) ≡ e .values) × (now (indices .exit) ≡ e .indices))))) ⌝ }
+{
+    let answer = indices::indices(
+        indices::Part::Latewood,
+        breaks,
+        degrees,
+        orders,
+        coefs,
+        first,
+        widths,
+        num,
+        den,
+        values,
+        indices,
+    );
+    match answer {
+        indices::Answer::Indices(n) => answered(n),
+        indices::Answer::Refused(number, place) => refused(number, place),
     }
 }

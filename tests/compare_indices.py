@@ -1,0 +1,172 @@
+"""Compares the engine's index calls with the rational program on random rings.
+
+usage: compare_indices.py DRIVER [--count N] [--seed S] [--case LINE] [--valgrind]
+
+A call line is `earlywood_indices` or `latewood_indices` with the words of a
+curve line (tests/reference/protocol.py), `first=` and `widths=` in the place of
+`at=`, and `indices=` as a lent buffer. The driver's line must equal the model's:
+the reply and every lent cell. The first difference is shown with its call line,
+which --case runs again.
+"""
+
+import argparse
+import subprocess
+import sys
+from collections import Counter
+from pathlib import Path
+from random import Random, SystemRandom
+
+sys.path.insert(0, str(Path(__file__).resolve().parent / "reference"))
+
+from generate import random_call
+from indices import WOOD_PARTS, indices_outcome
+from limits import CELLS, MOST_POSITIONS, MOST_THOUSANDTHS, PARTS
+from protocol import (SAME, WEIGHT_BITS, Lent, listed, listed_cells, value_word,
+                      weight_words)
+from random_spaces import pick
+
+GATE_COUNT = 5_000
+BATCH = 500
+SECONDS = 300
+VALGRIND = ["valgrind", "--quiet", "--error-exitcode=9"]
+ENOUGH = 2_000                    # calls from which each number must have come up
+REACHABLE = {0, 1, 2, 3, 4, 5, 6, 7, 8, 14}
+BUFFERS = ("num", "den", "values", "indices")
+LISTS = ("breaks", "degrees", "orders", "coefs")
+
+
+class Rings:
+    """An index call: a wood part, lists, the first ring, widths and lent buffers."""
+
+    def __init__(self, part, lists, first, widths, buffers):
+        self.part, self.lists, self.first, self.widths, self.buffers = part, lists, first, widths, buffers
+
+    def line(self):
+        words = [f"{self.part}_indices", *(f"{name}={listed(self.lists[name])}" for name in LISTS),
+                 f"first={self.first}", f"widths={listed(self.widths)}",
+                 *(f"{name}={lent.length}:{lent.fill}" for name, lent in self.buffers.items())]
+        return " ".join(words)
+
+    def expected(self):
+        """The result line of a right engine, and its number."""
+        spaces = [self.lists[name] for name in LISTS[:3]]
+        outcome = indices_outcome(self.part, spaces, self.lists["coefs"], self.first, self.widths,
+                                  *(lent.length for lent in self.buffers.values()))
+        lent = self.buffers["indices"]
+        changed = [(cell, index) for cell, index in enumerate(outcome.indices or [])
+                   if index != lent.old(cell, WEIGHT_BITS)]
+        words = ["reply=" + listed(outcome.curve.reply), *weight_words(outcome.curve),
+                 value_word(outcome.curve.values, self.buffers["values"]),
+                 f"indices={listed_cells(changed) or SAME}"]
+        return " ".join(words), outcome.curve.reply.number
+
+
+def read_case(line):
+    """The call of a line, so that a printed case can be run again."""
+    name, *words = line.split()
+    fields = dict(word.split("=", 1) for word in words)
+    numbers = {key: [int(entry) for entry in fields[key].split(",") if entry] for key in (*LISTS, "widths")}
+    buffers = {key: Lent(*map(int, fields[key].split(":"))) for key in BUFFERS}
+    return Rings(name.partition("_")[0], numbers, int(fields["first"]), numbers["widths"], buffers)
+
+
+def a_width(rng):
+    return pick(rng, [(70, rng.randint(1, 4000)), (15, 0), (10, rng.randint(0, MOST_THOUSANDTHS)),
+                      (3, MOST_THOUSANDTHS), (1, rng.choice((-1, MOST_THOUSANDTHS + 1))),
+                      (1, rng.choice((-2 ** 31, 2 ** 31 - 1)))])
+
+
+def ring_range(rng, breaks):
+    """The first ring and how many there are: within the span, past it, or at the ends of 32 bits."""
+    start, end = (breaks[0], breaks[-1]) if len(breaks) > 1 and breaks[0] < breaks[-1] <= 10_000 else (0, 9)
+    first = rng.randint(start, end) if rng.random() < 0.9 else rng.choice(
+        (start - 1, end + 1, -2 ** 31, 2 ** 31 - 1, 2 ** 31 - 3, 8_388_607, 8_388_608, -8_388_609))
+    most = max(end - first + 1, 1)
+    count = pick(rng, [(160, rng.randint(0, min(most, 12))), (20, min(most, 60)), (10, min(most, 60) + 1),
+                       (1, MOST_POSITIONS), (1, MOST_POSITIONS + 1)])
+    return first, count
+
+
+def positive(rng, coefs):
+    """Most curves are of widths, above zero; some are as they come."""
+    return [abs(coef) + 1 if abs(coef) < 1_000_000 else coef for coef in coefs] if rng.random() < 0.7 else coefs
+
+
+def buffer(rng, needed):
+    return Lent(max(needed + rng.choice((0, 0, 0, 0, 1, 5, -1)), 0), rng.randrange(1000))
+
+
+def random_rings(rng):
+    call = random_call(rng, "curve")
+    first, count = ring_range(rng, call.breaks)
+    widths = [a_width(rng) if rng.random() < 0.5 else rng.randint(1, 3000) for _ in range(count)]
+    if rng.random() < 0.6:
+        widths = [min(max(width, 0), MOST_THOUSANDTHS) for width in widths]
+    spare = rng.random() < 0.85
+    needed = (CELLS, CELLS, PARTS * count, count)
+    buffers = {name: Lent(size + rng.randrange(3), rng.randrange(1000)) if spare else buffer(rng, size)
+               for name, size in zip(BUFFERS, needed)}
+    lists = {"breaks": call.breaks, "degrees": call.degrees, "orders": call.orders,
+             "coefs": positive(rng, call.coefs)}
+    return Rings(rng.choice(WOOD_PARTS), lists, first, widths, buffers)
+
+
+def driven(command, lines):
+    run = subprocess.run(command, input="".join(line + "\n" for line in lines), capture_output=True,
+                         text=True, timeout=SECONDS, check=False)
+    return run.stdout.splitlines(), run.returncode, run.stderr.strip()
+
+
+def first_difference(command, calls, seen):
+    """The first call on which engine and model part, as text, or None."""
+    lines, code, errors = driven(command, [call.line() for call in calls])
+    for call, line in zip(calls, lines):
+        expected, number = call.expected()
+        if line != expected:
+            place = next((i for i, (a, b) in enumerate(zip(expected, line)) if a != b), 0)
+            start = max(place - 40, 0)
+            return (f"call: {call.line()}\n  from character {start}\n  model:  {expected[start:place + 80]}\n"
+                    f"  engine: {line[start:place + 80]}")
+        seen[number] += 1
+    if code != 0 or len(lines) != len(calls):
+        alone = (call.line() for call in calls if driven(command, [call.line()])[1] != 0)
+        return f"call: {next(alone, 'none alone')}\n  the driver ended with {code}: {errors}"
+    return None
+
+
+def arguments():
+    parser = argparse.ArgumentParser(description="compare the index calls with the rational program")
+    parser.add_argument("driver")
+    parser.add_argument("--count", type=int, default=GATE_COUNT)
+    parser.add_argument("--seed", type=int, default=None)
+    parser.add_argument("--case", default=None, help="one call line to run again")
+    parser.add_argument("--valgrind", action="store_true", help="run the driver under valgrind")
+    return parser.parse_args()
+
+
+def main():
+    chosen = arguments()
+    seed = SystemRandom().randrange(2 ** 32) if chosen.seed is None else chosen.seed
+    print(f"compare_indices: seed {seed}")
+    rng, seen = Random(seed), Counter()
+    command = [*VALGRIND, chosen.driver, "--exact"] if chosen.valgrind else [chosen.driver]
+    left = 1 if chosen.case else chosen.count
+    while left:
+        calls = [read_case(chosen.case)] if chosen.case else [random_rings(rng) for _ in range(min(left, BATCH))]
+        left -= len(calls)
+        found = first_difference(command, calls, seen)
+        if found:
+            print(found)
+            print(f"compare_indices: {sum(seen.values())} passed, 1 failed (seed {seed})")
+            return 1
+    for number in sorted(seen):
+        print(f"  {f'number {number}' if number else 'answers':9} {seen[number]:6}")
+    missing = sorted(REACHABLE - set(seen)) if sum(seen.values()) >= ENOUGH else []
+    if missing:
+        print(f"compare_indices: never seen: {missing}")
+    print(f"compare_indices: {sum(seen.values())} passed, {len(missing)} failed")
+    return 1 if missing else 0
+
+
+if __name__ == "__main__":
+    sys.exit(main())
