@@ -1,0 +1,171 @@
+"""Holds tools/explain and the reading of Tucson files in tools/ against the rational program.
+
+usage: explain.py [--count N] [--seed S]
+
+For random sheets and those in examples/ the words must name the entry that the number and the place
+name and the rule that it breaks, in ASCII and in two lines; a line has a fault
+in words exactly where the model finds it bad. Random Tucson texts must be read
+to the same series, or be refused with the same number and line. Each kind of
+fault must have come up.
+"""
+
+import argparse
+import re
+import sys
+from collections import Counter
+from importlib.machinery import SourceFileLoader
+from importlib.util import module_from_spec, spec_from_loader
+from pathlib import Path
+from random import Random, SystemRandom
+
+HERE = Path(__file__).resolve().parent
+sys.path[:0] = [str(HERE / "reference"), str(HERE.parent / "tools")]
+sys.dont_write_bytecode = True
+
+import texts
+import tucson
+from generate import sheets
+from indices import ring_index
+from limits import MOST_SHEET_BYTES
+from random_tucson import random_text
+from sheet import LINES, Refusal, read_sheet, sheet
+
+GATE_COUNT = 2_000
+LONGEST = 420                # characters of a line of words
+
+
+def tool(name):
+    """A tool, which has no ending in its name, as a module."""
+    loader = SourceFileLoader(name, str(HERE.parent / "tools" / name))
+    module = module_from_spec(spec_from_loader(name, loader))
+    loader.exec_module(module)
+    return module
+
+
+explain, plot = tool("explain"), tool("plot")
+
+# What the words must say for each number, as a pattern over the entry's numbers.
+PATTERNS = {
+    2: (r"degrees= lists (no stretches|[\d,]+ stretches): a curve has 1 to 12\.",
+        r"degrees= lists \d+ stretch(es)?, which need \d+ breakpoints and (no|\d+) orders?, but breaks= lists .* and orders= .*\."),
+    3: (r"Breakpoint {place} is {entry}: each is from -10,000 to 10,000\.",
+        r"Breakpoint {place} is {entry}, but breakpoint \d+, before it, is -?\d+: each is above the one before\.",
+        r"Breakpoint {place} is {entry} and breakpoint 0 is -?\d+, a span of [\d,]+ rings: at most 2,000\."),
+    4: (r"Stretch {place}, from ring -?\d+ to ring -?\d+, has degree {entry}: each degree is from 1 to 5\.",),
+    5: (r"Join {place}, at ring -?\d+, has order {entry}: an order is -1 \(a scar\), 0, 1 or 2\.",
+        r"Join {place}, at ring -?\d+, has order {entry}, but the stretch before it has degree \d: at most \d\.",
+        r"Join {place}, at ring -?\d+, has order {entry}, but the stretch after it has degree \d: at most \d\.",
+        r"Join {place}, at ring -?\d+, has order {entry}, but the stretches on both sides have degree \d: at most \d\."),
+    6: (r"coefs= lists (no|[\d,]+) pairs?, but this curve takes \d+ pairs?: .* = \d+\.",
+        r"Pair \d+ of coefs= is -?\d+:-?\d+, with (early|late)wood {entry}: each number is from -1,000,000 to 1,000,000 .*\."),
+    7: (r"Entry {place} of at= is {entry}, ring .*, before the first breakpoint, ring -?\d+: at least -?\d+ .*\.",
+        r"Entry {place} of at= is {entry}, ring .*, past the last breakpoint, ring -?\d+: at most -?\d+ .*\."),
+    8: (r"Join {place}, at ring -?\d+, has order 2 between .*2,147,483,648 .*\.",),
+}
+LISTS = {3: "breaks", 4: "degrees", 5: "orders", 7: "at"}
+PLACES_OF_TEN = (r"The file has more than 65,536 bytes: at most 65,536\.", *(rf"Line {line}\b.*\." for line in range(1, 7)))
+
+
+def entry_at(text, number, place):
+    """The number that a place names, from the model's reading of the sheet."""
+    names = [name.decode("ascii") for name, _ in LINES]
+    lists = dict(zip(names, read_sheet(text)))
+    entries = lists["coefs"] if number == 6 else lists.get(LISTS.get(number), [])
+    return entries[place] if place < len(entries) else ""
+
+
+def bad_lines(text):
+    """Whether the model finds each of lines one to five bad, by itself among good ones."""
+    good = [b"breaks=0,1\n", b"degrees=1\n", b"orders=\n", b"coefs=\n", b"at=\n"]
+    pieces = text.split(b"\n")
+    for place in range(len(good)):
+        line = pieces[place] + (b"\n" if place + 1 < len(pieces) else b"") if place < len(pieces) else b""
+        ended = line.endswith(b"\n")
+        try:
+            read_sheet(b"".join(good[:place]) + line + (b"".join(good[place + 1:]) if ended else b""))
+            yield False
+        except Refusal:
+            yield True
+
+
+def words_fault(text, seen):
+    """What is wrong with the words for a sheet, or None."""
+    printed = sheet(text)
+    words, status = explain.explained(text, printed)
+    lines = words.split("\n")
+    if not words.isascii() or len(lines) != 2 or max(map(len, lines)) > LONGEST:
+        return f"not two short lines of ASCII: {words!r}"
+    if len(text) <= MOST_SHEET_BYTES and len(text.split(b"\n")) > len(LINES):
+        found = [explain.text_fault(text, place + 1) is not None for place in range(len(LINES))]
+        if found != list(bad_lines(text)):
+            return f"faults found in lines: {found}"
+    if not printed.startswith(b"no="):
+        seen["accepted"] += 1
+        return None if status == 0 and lines[0].startswith("Accepted: ") else f"accepted, but {words!r}"
+    number, place = (int(part) for part in printed[3:].split(b","))
+    patterns = PLACES_OF_TEN[place:place + 1] if number == 10 else PATTERNS[number]
+    entry = "" if number == 10 else entry_at(text, number, place)
+    for kind, pattern in enumerate(patterns, start=place if number == 10 else 0):
+        if re.fullmatch(pattern.replace("{place}", str(place)).replace("{entry}", str(entry)), lines[1]):
+            seen[f"{number}, kind {kind}"] += 1
+            return None if status == 1 and lines[0] == f"Refused: no={number},{place}." else f"refused, but {words!r}"
+    return f"no={number},{place} is not said: {words!r}"
+
+
+def tucson_fault(text, seen):
+    """What is wrong with the reading of a Tucson text, or None."""
+    try:
+        expected = [tuple(series) for series in tucson.read_tucson(text)]
+        reply = "read"
+    except Refusal as refusal:
+        expected, reply = None, (refusal.number, refusal.place)
+    words, status = explain.explained_tucson(text)
+    try:
+        got = [(series.name, series.first_year, tuple(series.widths)) for series in texts.read_tucson(text)]
+        if got != expected or status != 0:
+            return f"read as {got}, the model has {expected or reply}"
+    except texts.Refused as refusal:
+        if (refusal.number, refusal.place) != reply or status != 1 or not words.startswith(f"Refused: no={reply[0]},{reply[1]}.\nLine {reply[1]} "):
+            return f"{words!r}, the model has {reply}"
+    seen[f"Tucson {reply if expected is not None else reply[0]}"] += 1
+    return None if words.isascii() else f"not ASCII: {words!r}"
+
+
+def wanted():
+    return {"accepted", *(f"{number}, kind {kind}" for number, kinds in PATTERNS.items() for kind in range(len(kinds))),
+            *(f"10, kind {place}" for place in range(7)), "Tucson read", *(f"Tucson {number}" for number in (11, 12, 13))}
+
+
+def index_faults(rng, count):
+    """Rings whose index in a picture is not the model's."""
+    rings = [(rng.choice((0, rng.randint(1, 99_999))), rng.choice((1, rng.randint(1, 256_000_000)))) for _ in range(count)]
+    return [ring for ring in rings if (-1 if plot.index(*ring) is None else plot.index(*ring)) != ring_index(*ring)]
+
+
+def main():
+    parser = argparse.ArgumentParser(description="hold the words against the model")
+    parser.add_argument("--count", type=int, default=GATE_COUNT)
+    parser.add_argument("--seed", type=int, default=None)
+    chosen = parser.parse_args()
+    seed = SystemRandom().randrange(2 ** 32) if chosen.seed is None else chosen.seed
+    print(f"explain: seed {seed}")
+    rng, seen, failed = Random(seed), Counter(), 0
+    kept = [path.read_bytes() for path in sorted((HERE.parent / "examples").glob("*.sheet"))]
+    kept.append(b"x" * (MOST_SHEET_BYTES + 1))
+    cases = [(text, words_fault) for text in [*kept, *sheets(seed, chosen.count)]]
+    cases += [(random_text(rng), tucson_fault) for _ in range(chosen.count)]
+    for text, check in cases:
+        fault = check(text, seen)
+        if fault:
+            failed += 1
+            print(f"{text[:400]!r}: {fault}")
+    failed += len(index_faults(rng, chosen.count))
+    missing = sorted(wanted() - set(seen))
+    for kind in missing:
+        print(f"never seen: {kind}")
+    print(f"explain: {len(cases) - failed} passed, {failed + len(missing)} failed")
+    return 1 if failed or missing else 0
+
+
+if __name__ == "__main__":
+    sys.exit(main())
