@@ -21,6 +21,7 @@ NARROW = ["--narrow"]
 DRAWN = {"step_1": NARROW, "step_2": NARROW, "step_3": NARROW, "step_4": NARROW,
          "order_0": NARROW, "order_1": NARROW, "order_2": NARROW, "low": [],
          "roof": ["--measured", "examples/oak.rwl", "--earlywood", "ROOF04E", "--latewood", "ROOF04L"]}
+IN_README = "refused_5"
 COMMANDS = ("target/bin/sheet", "tools/explain", "tools/plot", "rt check sheet", "seq -s,")
 faults = []
 
@@ -115,6 +116,14 @@ def quotes(text, lines):
             fault(f"in the manual, but in no example: {line}")
 
 
+def readme():
+    """The README shows an explanation as it is kept."""
+    text = (ROOT / "README.md").read_text(encoding="utf-8")
+    for line in (EXAMPLES / f"{IN_README}.explained").read_text(encoding="ascii").splitlines():
+        if f"\n    {line}\n" not in text:
+            fault(f"not in the README: {line}")
+
+
 def links(text):
     """Each link leads somewhere; each refusal and each picture is shown."""
     headings = {re.sub(r"[^a-z0-9 -]", "", line.lower()).replace(" ", "-") for line in re.findall(r"^#+ (.*)$", text, re.MULTILINE)}
@@ -149,6 +158,7 @@ def main():
     quotes(text, kept_lines())
     links(text)
     numbers(text)
+    readme()
     print(f"manual: {len(sources())} explanations, {len(DRAWN)} pictures, {len(faults)} faults")
     return 1 if faults else 0
 
