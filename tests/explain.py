@@ -47,7 +47,7 @@ explain, plot = tool("explain"), tool("plot")
 # What the words must say for each number, as a pattern over the entry's numbers.
 PATTERNS = {
     2: (r"degrees= lists (no stretches|[\d,]+ stretches): a curve has 1 to 12\.",
-        r"degrees= lists \d+ stretch(es)?, which need \d+ breakpoints and (no|\d+) orders?, but breaks= lists .* and orders= .*\."),
+        r"degrees= lists \d+ stretch(es)?, which need \d+ breakpoints and (no|\d+) orders?, but breaks= lists .*\."),
     3: (r"Breakpoint {place} is {entry}: each is from -10,000 to 10,000\.",
         r"Breakpoint {place} is {entry}, but breakpoint \d+, before it, is -?\d+: each is above the one before\.",
         r"Breakpoint {place} is {entry} and breakpoint 0 is -?\d+, a span of [\d,]+ rings: at most 2,000\."),
@@ -125,7 +125,8 @@ def tucson_fault(text, seen):
         if got != expected or status != 0:
             return f"read as {got}, the model has {expected or reply}"
     except texts.Refused as refusal:
-        if (refusal.number, refusal.place) != reply or status != 1 or not words.startswith(f"Refused: no={reply[0]},{reply[1]}.\nLine {reply[1]} "):
+        said = f"Refused: no={refusal.number},{refusal.place}.\nLine {refusal.place} "
+        if (refusal.number, refusal.place) != reply or status != 1 or not words.startswith(said):
             return f"{words!r}, the model has {reply}"
     seen[f"Tucson {reply if expected is not None else reply[0]}"] += 1
     return None if words.isascii() else f"not ASCII: {words!r}"

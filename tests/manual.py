@@ -80,22 +80,19 @@ def pictures(write):
 
 def refusals_of_plot():
     """What can't be drawn is said, and nothing is drawn."""
-    roof = ["examples/roof.sheet", "examples/roof.out", "--measured"]
-    cases = [(["examples/refused_5.sheet", "examples/refused_5.out"], "the sheet was refused: no=5,0"),
-             ([*roof, "examples/oak.rwl"], "name the series"),
-             ([*roof, "examples/oak.rwl", "--earlywood", "ROOF05"], "0 series of the Tucson file are named ROOF05"),
-             ([*roof, "examples/oak.rwl", "--earlywood", "ROOF04E", "--first", "1"], "ring 1 is measured"),
-             ([*roof, "examples/refused_13.rwl", "--earlywood", "ROOF05"], "no=13,2"),
-             (["examples/low.sheet", "examples/low.out", "--measured", "examples/oak.rwl", "--latewood", "ROOF04L", "--first", "-4"],
-              "ring 7 is measured"),
-             (["examples/w1.sheet", "examples/w1.out", "--measured", "examples/few.rwl", "--earlywood", "FEW", "--first", "1"],
-              "the printout has no value at 768"),
-             (["examples/low.sheet", "examples/low.out", "--measured", "examples/few.rwl", "--earlywood", "FEW", "--first", "-4"],
-              "zero or less: no index")]
-    for arguments, words in cases:
-        said = run("tools/plot", *arguments)
+    oak, few = "--measured examples/oak.rwl", "--measured examples/few.rwl"
+    cases = (("refused_5", "", "the sheet was refused: no=5,0"),
+             ("roof", oak, "name the series"),
+             ("roof", f"{oak} --earlywood ROOF05", "0 series of the Tucson file are named ROOF05"),
+             ("roof", f"{oak} --earlywood ROOF04E --first 1", "ring 1 is measured"),
+             ("roof", "--measured examples/refused_13.rwl --earlywood ROOF05", "no=13,2"),
+             ("low", f"{oak} --latewood ROOF04L --first -4", "ring 7 is measured"),
+             ("w1", f"{few} --earlywood FEW --first 1", "the printout has no value at 768"),
+             ("low", f"{few} --earlywood FEW --first -4", "zero or less: no index"))
+    for name, options, words in cases:
+        said = run("tools/plot", f"examples/{name}.sheet", f"examples/{name}.out", *options.split())
         if said.returncode != 1 or said.stdout or words not in said.stderr.decode():
-            fault(f"tools/plot {' '.join(arguments)}: {said.stderr.decode()}")
+            fault(f"tools/plot {name} {options}: {said.stderr.decode()}")
 
 
 def kept_lines():
@@ -126,7 +123,8 @@ def readme():
 
 def links(text):
     """Each link leads somewhere; each refusal and each picture is shown."""
-    headings = {re.sub(r"[^a-z0-9 -]", "", line.lower()).replace(" ", "-") for line in re.findall(r"^#+ (.*)$", text, re.MULTILINE)}
+    headings = {re.sub(r"[^a-z0-9 -]", "", line.lower()).replace(" ", "-")
+                for line in re.findall(r"^#+ (.*)$", text, re.MULTILINE)}
     linked = set()
     for link in re.findall(r"\]\(([^)]+)\)", text):
         path, _, anchor = link.partition("#")

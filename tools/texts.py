@@ -1,5 +1,5 @@
-"""The texts that the tools read: a sheet's lists, a printout's lines and Tucson decadal files, the last with every refusal in
-words. Python's standard library only."""
+"""The texts that the tools read: a sheet's lists, a printout's lines and Tucson decadal files, the last with every refusal
+in words. Python's standard library only."""
 import re
 from typing import NamedTuple
 
@@ -31,7 +31,7 @@ def sheet_lists(text):
     lists = {}
     for name, line in zip(NAMES, text.decode("ascii").split("\n")):
         entries = [entry for entry in line[len(name) + 1:].split(",") if entry]
-        lists[name] = [tuple(map(int, entry.split(":"))) for entry in entries] if name == "coefs" else list(map(int, entries))
+        lists[name] = [tuple(map(int, each.split(":"))) for each in entries] if name == "coefs" else list(map(int, entries))
     return lists
 
 
@@ -145,7 +145,8 @@ def read_tucson(text):
         if name != body[:NAME_COLUMNS]:
             name, first, fields = body[:NAME_COLUMNS], year, []
         elif year != first + len(fields):
-            raise Refused(BAD_YEAR, place, f"starts in {year}, but the next year of series {quoted(name)} is {first + len(fields)}")
+            after = first + len(fields)
+            raise Refused(BAD_YEAR, place, f"starts in {year}, but the next year of series {quoted(name)} is {after}")
         elif year % DECADE:
             raise Refused(BAD_YEAR, place, f"starts in {year}: a later line of a series starts on a year ending in 0")
         fields = fields + numbers
