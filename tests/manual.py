@@ -82,6 +82,7 @@ def refusals_of_plot():
     """What can't be drawn is said, and nothing is drawn."""
     oak, few = "--measured examples/oak.rwl", "--measured examples/few.rwl"
     cases = (("refused_5", "", "the sheet was refused: no=5,0"),
+             ("none", "", "examples/none.out: No such file"),
              ("roof", oak, "name the series"),
              ("roof", f"{oak} --earlywood ROOF05", "0 series of the Tucson file are named ROOF05"),
              ("roof", f"{oak} --earlywood ROOF04E --first 1", "ring 1 is measured"),
@@ -93,6 +94,10 @@ def refusals_of_plot():
         said = run("tools/plot", f"examples/{name}.sheet", f"examples/{name}.out", *options.split())
         if said.returncode != 1 or said.stdout or words not in said.stderr.decode():
             fault(f"tools/plot {name} {options}: {said.stderr.decode()}")
+    for sheet in ("step_1.sheet", "refused_10_pair.sheet", "oak.rwl"):
+        said = run("tools/plot", f"examples/{sheet}", "examples/w1.out")
+        if said.returncode != 1 or said.stdout or b"is not the printout of" not in said.stderr:
+            fault(f"tools/plot {sheet} examples/w1.out: {said.stderr.decode()}")
 
 
 def kept_lines():

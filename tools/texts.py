@@ -27,12 +27,16 @@ def quoted(text):
 # Sheets and printouts that the program has accepted or refused by itself.
 
 def sheet_lists(text):
-    """The sheet's five lists by their names; coefs as pairs."""
+    """The sheet's five lists by their names, coefs as pairs; None where these are no such lists."""
+    lines = text.decode("ascii", "replace").split("\n")
     lists = {}
-    for name, line in zip(NAMES, text.decode("ascii").split("\n")):
-        entries = [entry for entry in line[len(name) + 1:].split(",") if entry]
+    for name, line in zip(NAMES, lines):
+        entry = r"-?[0-9]+:-?[0-9]+" if name == "coefs" else r"-?[0-9]+"
+        if not re.fullmatch(f"{name}=({entry}(,{entry})*)?", line, re.ASCII):
+            return None
+        entries = [each for each in line[len(name) + 1:].split(",") if each]
         lists[name] = [tuple(map(int, each.split(":"))) for each in entries] if name == "coefs" else list(map(int, entries))
-    return lists
+    return lists if len(lists) == len(NAMES) else None
 
 
 class Printout(NamedTuple):
