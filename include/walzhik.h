@@ -1,6 +1,6 @@
 /* Walzhik: growth curves of earlywood and latewood in segments of different degree, with exact weights.
  *
- * The static library libwalzhik.a has four calls. Lists and buffers may have any length and any content: a call always
+ * The static library libwalzhik.a has six calls. Lists and buffers may have any length and any content: a call always
  * returns, reads and writes only what it is lent, and answers or refuses with a number and a place. A list or buffer of
  * length 0 still needs a valid (non-null, aligned) pointer. In every call the lent buffers must lie apart from each other and
  * from the lists: no call can see that they overlap, and nothing is promised where they do. Building and the curve call
@@ -54,7 +54,8 @@ extern "C" {
 #define WALZHIK_CELLS 5184
 #define WALZHIK_LARGEST_PLACE UINT32_C(4294967295)
 
-/* An answer: number 0, place 0, and the count of rows (build) or of positions (curve). A refusal: count 0. */
+/* An answer: number 0, place 0, and the count of rows (build), positions (curve), rings (indices), series (tucson_read) or bytes
+ * (tucson_write). A refusal: count 0. */
 typedef struct {
     uint64_t count;
     uint32_t number;
@@ -92,6 +93,37 @@ walzhik_reply walzhik_latewood_indices(const int32_t *breaks, size_t breaks_len,
                                        int32_t first, const int32_t *widths, size_t widths_len, int64_t *num,
                                        size_t num_len, int64_t *den, size_t den_len, int32_t *values, size_t values_len,
                                        int64_t *indices, size_t indices_len);
+
+/* Tucson decadal files. A line has a series name in columns 1 to 8 (printable ASCII, not all blank), a year in 9 to 12 and one to
+ * ten fields of six columns, numbers right-aligned, and ends with byte 10. Consecutive lines with one name are a series, its
+ * fields consecutive years; no line passes the end of its decade, and later lines start on years ending in 0. The last field
+ * closes the series: 999 for hundredths of a millimetre, -9999 for thousandths.
+ *   text     the text, of any length
+ *   names    8 bytes a series
+ *   years    the first year of each series
+ *   counts   how many widths each series has
+ *   widths   all widths in thousandths of a millimetre, one series after another; 0 is an absent ring
+ * Reading answers with the number of series and fills the fronts of its four buffers; writing answers with the number of bytes
+ * and fills the front of text, always in thousandths. Cells behind keep what they held; refusals write nothing. A text of n bytes
+ * has at most n / 19 series and n / 6 widths, and what was read from it is written in n bytes.
+ * Numbers of reading, lines tested from the top, each in this order, the place the line from 1 (WALZHIK_LARGEST_PLACE also stands
+ * for anything larger):
+ *   11  malformed columns or end, the decade passed, or a field that is neither 0 to 99999 nor the closing
+ *   12  a later line's year is not the next one or doesn't end in 0
+ *   13  a last line without a closing field, or 999 after a width over 9999
+ *    1  after all lines: one of the four buffers is too short (0)
+ * Numbers of writing, tested in this order:
+ *    2  the lists don't fit each other: 8 bytes of names and a count for each year, and the counts add up to the widths (0)
+ *   11  series from 0: a name, a line's year or a width that the form does not allow, or a name equal to the one before
+ *    1  text is too short (0)
+ * Each of these two calls needs at most 1024 bytes of stack. */
+walzhik_reply walzhik_tucson_read(const uint8_t *text, size_t text_len, uint8_t *names, size_t names_len, int32_t *years,
+                                  size_t years_len, uint32_t *counts, size_t counts_len, int32_t *widths,
+                                  size_t widths_len);
+
+walzhik_reply walzhik_tucson_write(const uint8_t *names, size_t names_len, const int32_t *years, size_t years_len,
+                                   const uint32_t *counts, size_t counts_len, const int32_t *widths, size_t widths_len,
+                                   uint8_t *text, size_t text_len);
 
 #ifdef __cplusplus
 }

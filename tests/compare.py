@@ -13,16 +13,12 @@ difference is shown with its call line, which --case runs again. With
 length, so that any read or write outside the lent memory is a failure.
 """
 
-import argparse
 import itertools
-import subprocess
 import sys
 import time
 from collections import Counter
-from pathlib import Path
-from random import SystemRandom
 
-sys.path.insert(0, str(Path(__file__).resolve().parent / "reference"))
+from comparing import ENOUGH, arguments, bad_end, command_of, driven, line_difference
 
 from cases import fixed_calls
 from generate import calls
@@ -33,43 +29,23 @@ from walzhik_reference import Space, by_column, first_pair_fault, pair_tests
 
 GATE_COUNT = 20_000
 BATCH = 1_000             # calls given to one run of the driver
-BATCH_SECONDS = 300
-VALGRIND = ["valgrind", "--quiet", "--error-exitcode=9"]
 REACHABLE = range(9)      # numbers that a call on random lists must show
 FAR = range(2 ** 8, 2 ** 32 - 1)  # places that need more than a byte; one must come up too
 SIDES = {-1: "before", 0: "on", 1: "after"}
 JOINS = [(order, side) for order in range(DISCONTINUITY, MOST_ORDER + 1) for side in SIDES]
-ENOUGH = 2_000            # calls from which each of them must have come up
 PAIRS = ("pairs with one low value", "odd counts of coefficients",
          "latewood coefficients out of range", "value buffers one cell short")
 SUMS = ("values", "far places") + PAIRS   # what is counted beside the calls
-BEFORE, AFTER = 40, 80    # characters shown around a difference
 
 
 class Difference(Exception):
     """A call and what is wrong with it."""
 
 
-def driven(command, lines):
-    """The driver's result lines and whether it ended well."""
-    run = subprocess.run(command, input="".join(line + "\n" for line in lines),
-                         capture_output=True, text=True, timeout=BATCH_SECONDS, check=False)
-    return run.stdout.splitlines(), run.returncode, run.stderr
-
-
-def first_difference(expected, got):
-    """Where two lines part, with some text on both sides."""
-    place = next((i for i, (a, b) in enumerate(zip(expected, got)) if a != b),
-                 min(len(expected), len(got)))
-    start, end = max(place - BEFORE, 0), place + AFTER
-    return (f"  from character {start}\n  model:  {expected[start:end]}\n"
-            f"  engine: {got[start:end]}")
-
-
 def check_line(call, outcome, line):
     expected = result_line(call, outcome)
     if line != expected:
-        raise Difference(f"call: {call_line(call)}\n{first_difference(expected, line)}")
+        raise Difference(line_difference(call_line(call), expected, line))
 
 
 def check_closeness(call, outcome, line):
@@ -82,12 +58,6 @@ def check_closeness(call, outcome, line):
     if fault:
         raise Difference(f"call: {call_line(call)}\n  {fault[0]} value {fault[1]} is {fault[2]}")
     return PARTS * len(outcome.values)
-
-
-def culprit_of(command, lines):
-    """The first call line on which the driver ends badly by itself, or all of them together."""
-    alone = (line for line in lines if driven(command, [line])[1] != 0)
-    return next(alone, f"no call alone, all {len(lines)} from: {lines[0]}")
 
 
 def count_joins(call, outcome, joins):
@@ -123,8 +93,7 @@ def compare_batch(command, batch, seen, joins):
         count_pairs(call, outcome, seen)
         seen[call.kind, outcome.reply.number] += 1
     if code != 0 or len(lines) != len(batch):
-        raise Difference(f"call: {culprit_of(command, asked)}\n  the driver ended with {code} after "
-                         f"{len(lines)} of {len(batch)} results: {errors.strip()}")
+        raise Difference(bad_end(command, asked, len(lines), code, errors))
 
 
 def compare_all(command, every_call, seen, joins):
@@ -164,27 +133,16 @@ def never_seen(seen, joins):
             + [join for join in JOINS if not joins[join]])
 
 
-def arguments():
-    parser = argparse.ArgumentParser(description="compare the engine with the rational program")
-    parser.add_argument("driver")
-    parser.add_argument("--count", type=int, default=GATE_COUNT)
-    parser.add_argument("--seed", type=int, default=None)
-    parser.add_argument("--case", default=None, help="one call line to run again")
-    parser.add_argument("--valgrind", action="store_true", help="run the driver under valgrind")
-    return parser.parse_args()
-
-
 def main():
-    chosen = arguments()
-    seed = SystemRandom().randrange(2 ** 32) if chosen.seed is None else chosen.seed
+    chosen = arguments("the engine", GATE_COUNT)
+    seed = chosen.seed
     seen, joins = Counter(), Counter()
     start = time.monotonic()
     print(f"compare: seed {seed}")
     every_call = ([read_call(chosen.case)] if chosen.case
                   else itertools.chain(fixed_calls(), calls(seed, chosen.count)))
-    command = [*VALGRIND, chosen.driver, "--exact"] if chosen.valgrind else [chosen.driver]
     try:
-        compare_all(command, every_call, seen, joins)
+        compare_all(command_of(chosen), every_call, seen, joins)
     except Difference as difference:
         print(difference)
         print(f"compare: {compared(seen)} passed, 1 failed (seed {seed})")

@@ -9,14 +9,9 @@ the reply and every lent cell. The first difference is shown with its call line,
 which --case runs again.
 """
 
-import argparse
-import subprocess
 import sys
-from collections import Counter
-from pathlib import Path
-from random import Random, SystemRandom
 
-sys.path.insert(0, str(Path(__file__).resolve().parent / "reference"))
+from comparing import arguments, compare_calls, kind_of
 
 from generate import random_call
 from indices import WOOD_PARTS, indices_outcome
@@ -26,11 +21,7 @@ from protocol import (SAME, WEIGHT_BITS, Lent, listed, listed_cells, value_word,
 from random_spaces import pick
 
 GATE_COUNT = 5_000
-BATCH = 500
-SECONDS = 300
-VALGRIND = ["valgrind", "--quiet", "--error-exitcode=9"]
-ENOUGH = 2_000                    # calls from which each number must have come up
-REACHABLE = {0, 1, 2, 3, 4, 5, 6, 7, 8, 14}
+REACHABLE = set(map(kind_of, (0, 1, 2, 3, 4, 5, 6, 7, 8, 14)))
 BUFFERS = ("num", "den", "values", "indices")
 LISTS = ("breaks", "degrees", "orders", "coefs")
 
@@ -48,7 +39,7 @@ class Rings:
         return " ".join(words)
 
     def expected(self):
-        """The result line of a right engine, and its number."""
+        """The result line of a right engine, and its kind."""
         spaces = [self.lists[name] for name in LISTS[:3]]
         outcome = indices_outcome(self.part, spaces, self.lists["coefs"], self.first, self.widths,
                                   *(lent.length for lent in self.buffers.values()))
@@ -58,7 +49,7 @@ class Rings:
         words = ["reply=" + listed(outcome.curve.reply), *weight_words(outcome.curve),
                  value_word(outcome.curve.values, self.buffers["values"]),
                  f"indices={listed_cells(changed) or SAME}"]
-        return " ".join(words), outcome.curve.reply.number
+        return " ".join(words), kind_of(outcome.curve.reply.number)
 
 
 def read_case(line):
@@ -111,61 +102,9 @@ def random_rings(rng):
     return Rings(rng.choice(WOOD_PARTS), lists, first, widths, buffers)
 
 
-def driven(command, lines):
-    run = subprocess.run(command, input="".join(line + "\n" for line in lines), capture_output=True,
-                         text=True, timeout=SECONDS, check=False)
-    return run.stdout.splitlines(), run.returncode, run.stderr.strip()
-
-
-def first_difference(command, calls, seen):
-    """The first call on which engine and model part, as text, or None."""
-    lines, code, errors = driven(command, [call.line() for call in calls])
-    for call, line in zip(calls, lines):
-        expected, number = call.expected()
-        if line != expected:
-            place = next((i for i, (a, b) in enumerate(zip(expected, line)) if a != b), 0)
-            start = max(place - 40, 0)
-            return (f"call: {call.line()}\n  from character {start}\n  model:  {expected[start:place + 80]}\n"
-                    f"  engine: {line[start:place + 80]}")
-        seen[number] += 1
-    if code != 0 or len(lines) != len(calls):
-        alone = (call.line() for call in calls if driven(command, [call.line()])[1] != 0)
-        return f"call: {next(alone, 'none alone')}\n  the driver ended with {code}: {errors}"
-    return None
-
-
-def arguments():
-    parser = argparse.ArgumentParser(description="compare the index calls with the rational program")
-    parser.add_argument("driver")
-    parser.add_argument("--count", type=int, default=GATE_COUNT)
-    parser.add_argument("--seed", type=int, default=None)
-    parser.add_argument("--case", default=None, help="one call line to run again")
-    parser.add_argument("--valgrind", action="store_true", help="run the driver under valgrind")
-    return parser.parse_args()
-
-
 def main():
-    chosen = arguments()
-    seed = SystemRandom().randrange(2 ** 32) if chosen.seed is None else chosen.seed
-    print(f"compare_indices: seed {seed}")
-    rng, seen = Random(seed), Counter()
-    command = [*VALGRIND, chosen.driver, "--exact"] if chosen.valgrind else [chosen.driver]
-    left = 1 if chosen.case else chosen.count
-    while left:
-        calls = [read_case(chosen.case)] if chosen.case else [random_rings(rng) for _ in range(min(left, BATCH))]
-        left -= len(calls)
-        found = first_difference(command, calls, seen)
-        if found:
-            print(found)
-            print(f"compare_indices: {sum(seen.values())} passed, 1 failed (seed {seed})")
-            return 1
-    for number in sorted(seen):
-        print(f"  {f'number {number}' if number else 'answers':9} {seen[number]:6}")
-    missing = sorted(REACHABLE - set(seen)) if sum(seen.values()) >= ENOUGH else []
-    if missing:
-        print(f"compare_indices: never seen: {missing}")
-    print(f"compare_indices: {sum(seen.values())} passed, {len(missing)} failed")
-    return 1 if missing else 0
+    chosen = arguments("the index calls", GATE_COUNT)
+    return compare_calls("compare_indices", chosen, random_rings, read_case, REACHABLE)
 
 
 if __name__ == "__main__":

@@ -87,3 +87,26 @@ walzhik_reply walzhik_latewood_indices(const int32_t *breaks, size_t breaks_len,
     return look_at_rings(breaks, breaks_len, degrees, degrees_len, orders, orders_len, coefs, coefs_len, widths, widths_len,
                          num, num_len, den, den_len, values, values_len, indices, indices_len);
 }
+
+walzhik_reply walzhik_tucson_read(const uint8_t *text, size_t text_len, uint8_t *names, size_t names_len, int32_t *years,
+                                  size_t years_len, uint32_t *counts, size_t counts_len, int32_t *widths, size_t widths_len)
+{
+    look_outside(0, text, text_len, sizeof *text);
+    look_outside(1, names, names_len, sizeof *names);
+    look_outside(2, years, years_len, sizeof *years);
+    look_outside(3, counts, counts_len, sizeof *counts);
+    look_outside(4, widths, widths_len, sizeof *widths);
+    return (walzhik_reply){0, 0, 0};
+}
+
+walzhik_reply walzhik_tucson_write(const uint8_t *names, size_t names_len, const int32_t *years, size_t years_len,
+                                   const uint32_t *counts, size_t counts_len, const int32_t *widths, size_t widths_len,
+                                   uint8_t *text, size_t text_len)
+{
+    look_outside(0, names, names_len, sizeof *names);
+    look_outside(1, years, years_len, sizeof *years);
+    look_outside(2, counts, counts_len, sizeof *counts);
+    look_outside(3, widths, widths_len, sizeof *widths);
+    look_outside(4, text, text_len, sizeof *text);
+    return (walzhik_reply){0, 0, 0};
+}

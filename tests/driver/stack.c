@@ -3,8 +3,9 @@
  *
  * A call runs on a thread whose stack is painted before and searched after it,
  * on the space that goes deepest: twelve segments of degree 5 and order 2, with
- * the most positions a call takes. What the thread itself needs is taken off,
- * by a first run that calls nothing. */
+ * the most positions a call takes; Tucson series of several lines, in both
+ * units. What the thread itself needs is taken off, by a first run that calls
+ * nothing. */
 
 #define _GNU_SOURCE
 
@@ -18,12 +19,21 @@
 enum { SEGMENTS = 12, COLUMNS = 72, POSITIONS = 4096, PARTS = 2, STACK = 1 << 20, PAINT = 0xA5 };
 
 /* The most bytes that a call may need. */
-enum { BUILD_LIMIT = 16384, CURVE_LIMIT = 16384, INDICES_LIMIT = 32768 };
+enum { BUILD_LIMIT = 16384, CURVE_LIMIT = 16384, INDICES_LIMIT = 32768, TUCSON_LIMIT = 1024 };
 
 static int32_t breaks[SEGMENTS + 1], degrees[SEGMENTS], orders[SEGMENTS - 1];
 static int32_t coefs[PARTS * COLUMNS], positions[POSITIONS], values[PARTS * POSITIONS];
 static int32_t widths[SEGMENTS + 1];
 static int64_t num[WALZHIK_CELLS], den[WALZHIK_CELLS], rings[SEGMENTS + 1];
+static const char text[] = "ABC01   1908     7     8\n"
+                           "ABC01   1910     9     0  9999   999\n"
+                           "ABC02   -999 -9999\n"
+                           "ABC01     -3  1204     0   999\n"
+                           "ABC01      0 10000 -9999\n";
+enum { TEXT = sizeof text - 1, SERIES = TEXT / 19, NAME = 8, WIDTHS = TEXT / 6 };
+static uint8_t names[NAME * SERIES], written[TEXT];
+static int32_t years[SERIES], measured_widths[WIDTHS];
+static uint32_t counts[SERIES];
 static walzhik_reply reply;
 
 static void make_space(void)
@@ -73,6 +83,24 @@ static void *latewood(void *unused)
     return unused;
 }
 
+static void *tucson_read(void *unused)
+{
+    reply = walzhik_tucson_read((const uint8_t *)text, TEXT, names, NAME * SERIES, years, SERIES, counts, SERIES,
+                                measured_widths, WIDTHS);
+    return unused;
+}
+
+/* What tucson_read has left. */
+static void *tucson_write(void *unused)
+{
+    size_t series = reply.count, widths_read = 0;
+    for (size_t i = 0; i < series; i++)
+        widths_read += counts[i];
+    reply = walzhik_tucson_write(names, NAME * series, years, series, counts, series, measured_widths, widths_read, written,
+                                 TEXT);
+    return unused;
+}
+
 /* The bytes of a painted stack that a thread running `work` changed. */
 static size_t used_by(void *(*work)(void *))
 {
@@ -105,7 +133,14 @@ static int measured(const char *name, void *(*work)(void *), size_t limit)
 
 int main(void)
 {
+    /* tucson_write writes what tucson_read has left, so in this order */
+    int failed = 0;
     make_space();
-    return measured("build", build, BUILD_LIMIT) | measured("curve", curve, CURVE_LIMIT) |
-           measured("earlywood indices", earlywood, INDICES_LIMIT) | measured("latewood indices", latewood, INDICES_LIMIT);
+    failed |= measured("build", build, BUILD_LIMIT);
+    failed |= measured("curve", curve, CURVE_LIMIT);
+    failed |= measured("earlywood indices", earlywood, INDICES_LIMIT);
+    failed |= measured("latewood indices", latewood, INDICES_LIMIT);
+    failed |= measured("tucson_read", tucson_read, TUCSON_LIMIT);
+    failed |= measured("tucson_write", tucson_write, TUCSON_LIMIT);
+    return failed;
 }

@@ -2,8 +2,9 @@
 
 `read_tucson` gives the series of a text, `write_tucson` the text of a list of
 series; both refuse with a number and a place. `tucson_read` and `tucson_write`
-are the two public calls with every lent cell. The model splits the text into
-lines and each line by a pattern; it shares nothing with the engine.
+are the two public calls with every lent cell, `filtered` is the program. The
+model splits the text into lines and each line by a pattern; it shares nothing
+with the engine.
 """
 
 import re
@@ -11,8 +12,8 @@ from typing import NamedTuple
 
 from calls import Reply
 from limits import (DECADE, FIELD_COLUMNS, HUNDREDTHS_CLOSING, LEAST_PRINTABLE, LEAST_YEAR,
-                    MOST_FIELDS, MOST_HUNDREDTHS, MOST_PRINTABLE, MOST_THOUSANDTHS, MOST_YEAR,
-                    NAME_COLUMNS, THOUSANDTHS_CLOSING, YEAR_COLUMNS)
+                    MOST_FIELDS, MOST_HUNDREDTHS, MOST_PRINTABLE, MOST_THOUSANDTHS,
+                    MOST_TUCSON_BYTES, MOST_YEAR, NAME_COLUMNS, THOUSANDTHS_CLOSING, YEAR_COLUMNS)
 from space import BAD_LENGTHS, SHORT_BUFFER, Refusal
 
 BAD_LINE, BAD_YEAR, BAD_CLOSING = 11, 12, 13
@@ -194,3 +195,15 @@ def tucson_write(names, years, counts, widths, text):
     except Refusal as refusal:
         return Reply(0, refusal.number, refusal.place), text
     return Reply(len(written), 0, 0), over(written, text)
+
+
+# The program.
+
+def filtered(text):
+    """The same series in thousandths, or the line of a refusal."""
+    try:
+        if len(text) > MOST_TUCSON_BYTES:
+            raise Refusal(SHORT_BUFFER, 0)
+        return write_tucson(read_tucson(text))
+    except Refusal as refusal:
+        return b"no=%d,%d\n" % (refusal.number, refusal.place)

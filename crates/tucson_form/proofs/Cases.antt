@@ -11,7 +11,7 @@ use Rattle.numerals.specs.Numeral.{allDigits, digitsValue, isNatural, numeral, 
 use Rattle.tucson_form.specs.Columns.{inColumns, columns}
 use Rattle.tucson_form.specs.Line.{linesOf, allPrintable, allBlank, isName, fieldNumbers, columnsFit, lineInColumns, lineOf, yearInDecade, withinDecade, isWidth, fieldsAllowed, goodLine}
 use Rattle.tucson_form.specs.Series.{Series, allHundredths, fromHundredths, closedBy}
-use Rattle.tucson_form.specs.Reading.{goesOn, yearFollows, lastField, closing, lineStep, readLine, readLines, readText}
+use Rattle.tucson_form.specs.TextReading.{goesOn, yearFollows, lastField, closing, lineStep, readLine, readLines, readText}
 use Rattle.tucson_form.specs.ReadCall.{namesOf, yearsOf, countsOf, widthsOf, roomFor, readOutcome, filled, readEnd}
 use Rattle.tucson_form.specs.Writing.{inLines, linesFrom, seriesLines, fieldsText, lineText, linesText, written, yearsFit, allWidths, isWritable, firstUnwritable}
 use Rattle.tucson_form.specs.WriteCall.{total, listsFit, seriesOf, seriesOutcome, writeOutcome, textAfter, writeEnd}

@@ -3,7 +3,7 @@
 pub mod Columns
 pub mod Line
 pub mod Series
-pub mod Reading
+pub mod TextReading
 pub mod ReadCall
 pub mod Writing
 pub mod WriteCall

@@ -10,7 +10,7 @@ use lib.ListN.{length, drop}
 use Rattle.spline.specs.Outcome.{Outcome, answer, refusal, refuse, _then_, with-answer}
 use Rattle.numerals.specs.Bytes.{Text}
 use Rattle.tucson_form.specs.Series.{Series}
-use Rattle.tucson_form.specs.Reading.{readText}
+use Rattle.tucson_form.specs.TextReading.{readText}
 
 -- ---- series as four lists
 

@@ -19,7 +19,7 @@ use Rattle.numerals.proofs.Digits.{natural-small}
 use Rattle.numerals.proofs.Slice.{take-slice, drop-slice}
 use Rattle.tucson_form.specs.Columns.{blank, inColumns}
 use Rattle.tucson_form.specs.Line.{Line, nameColumns, yearColumns, fieldColumns, decade, thousandths, fieldNumbers, fieldCount, columnsFit, allPrintable, allBlank, isName, isWidth, same, withNumbers, lineInColumns, ofCut, lineOf, yearInDecade, withinDecade, fieldsAllowed, ifAllowed, goodLine}
-use Rattle.tucson_form.specs.Reading.{lastField}
+use Rattle.tucson_form.specs.TextReading.{lastField}
 use Rattle.tucson_lines.specs.Reply.{lineTold, LineEnd}
 use Rattle.tucson_lines.specs.declared.LineAnswer.the-variants as line-cases
 use Rattle.tucson_lines.proofs.Lines.{end-within, good-unended, good-columns}

@@ -21,7 +21,7 @@ use Rattle.numerals.proofs.Slice.{take-slice, drop-slice}
 use Rattle.tucson_form.specs.Columns.{inColumns}
 use Rattle.tucson_form.specs.Line.{Line, nameColumns, yearColumns, fieldColumns, decade, thousandths, withField, fieldNumbers, fieldCount, columnsFit, isName, isWidth, same, withNumbers, lineInColumns, yearInDecade, withinDecade, fieldsAllowed, ifAllowed, goodLine}
 use Rattle.tucson_form.specs.Series.{allHundredths}
-use Rattle.tucson_form.specs.Reading.{lastField}
+use Rattle.tucson_form.specs.TextReading.{lastField}
 use Rattle.tucson_form.specs.Writing.{allWidths}
 use Rattle.tucson_lines.specs.Reply.{widthsTold, lineTold, numbersTold, LineEnd}
 use Rattle.tucson_lines.specs.declared.WidthsAnswer.the-variants as widths-cases

@@ -17,7 +17,7 @@ use Rattle.numerals.proofs.Slice.{slice-take, slice-all, take-slice}
 use Rattle.numerals.proofs.Cutting.{index-within, cut-none}
 use Rattle.tucson_form.specs.Columns.{blank}
 use Rattle.tucson_form.specs.Line.{Line, nameColumns, lastPrintable, linesOf, allPrintable, isName, lineInColumns, ofCut, lineOf, goodLine, ifAllowed}
-use Rattle.tucson_form.specs.Reading.{goesOn}
+use Rattle.tucson_form.specs.TextReading.{goesOn}
 use Rattle.tucson_lines.specs.Reply.{LineEnd}
 
 -- ---- of a text

@@ -11,7 +11,7 @@ use Rattle.numerals.specs.Bytes.{Text, newline, indexOf}
 use Rattle.tucson_form.specs.Columns.{inColumns}
 use Rattle.tucson_form.specs.Line.{nameColumns, yearColumns, fieldNumbers, Line, withNumbers, ifAllowed}
 use Rattle.tucson_form.specs.Series.{allHundredths}
-use Rattle.tucson_form.specs.Reading.{lastField}
+use Rattle.tucson_form.specs.TextReading.{lastField}
 use Rattle.tucson_form.specs.Writing.{allWidths}
 use Rattle.tucson_lines.specs.declared.LineAnswer.{LineAnswer}
 use Rattle.tucson_lines.specs.declared.LineAnswer.the-variants as line-cases

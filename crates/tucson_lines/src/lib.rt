@@ -10,7 +10,7 @@ ghost use Rattle.numerals.specs.Reply;
 ghost use Rattle.tucson_form.specs.Columns.{inColumns};
 ghost use Rattle.tucson_form.specs.Line.{fieldColumns, nameColumns, linesOf, allPrintable, allBlank, isName, fieldNumbers, yearInDecade, isWidth, thousandths, lineInColumns, goodLine};
 ghost use Rattle.tucson_form.specs.Line;
-ghost use Rattle.tucson_form.specs.Reading.{goesOn};
+ghost use Rattle.tucson_form.specs.TextReading.{goesOn};
 ghost use Rattle.tucson_lines.specs.Reply.{widthsTold, numbersTold, lineTold, LineEnd};
 use numerals::numeral::Field;
 

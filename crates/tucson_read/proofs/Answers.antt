@@ -15,7 +15,7 @@ use Rattle.spline.proofs.Outcome.{answer-unique}
 use Rattle.numerals.specs.Bytes.{Text}
 use Rattle.tucson_form.specs.Line.{nameColumns}
 use Rattle.tucson_form.specs.Series.{Series}
-use Rattle.tucson_form.specs.Reading.{Begun, goesOn, readLines, readText}
+use Rattle.tucson_form.specs.TextReading.{Begun, goesOn, readLines, readText}
 use Rattle.tucson_form.specs.ReadCall.{namesOf, yearsOf, countsOf, widthsOf, roomFor, readOutcome, overwritten, filled}
 use Rattle.tucson_lines.proofs.GoodLines.{good-name, name-length}
 use Rattle.tucson_read.specs.Scan.{scanTold}

@@ -15,7 +15,7 @@ use Rattle.spline.specs.Outcome.{Outcome, answer, refusal, capped, _then_, with
 use Rattle.numerals.specs.Bytes.{Text}
 use Rattle.tucson_form.specs.Line.{linesOf}
 use Rattle.tucson_form.specs.Series.{Series}
-use Rattle.tucson_form.specs.Reading.{Begun, goesOn, Step, opened, closed, after, readLine, readLines, readText}
+use Rattle.tucson_form.specs.TextReading.{Begun, goesOn, Step, opened, closed, after, readLine, readLines, readText}
 use Rattle.tucson_form.specs.ReadCall.{widthsOf}
 use Rattle.tucson_lines.specs.Reply.{LineEnd}
 use Rattle.tucson_lines.proofs.Lines.{end-within, lines-step}

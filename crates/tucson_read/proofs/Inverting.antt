@@ -18,7 +18,7 @@ use Rattle.spline.proofs.Outcome.{answer-unique, answer-not-refusal, then-inver
 use Rattle.numerals.specs.Bytes.{Text}
 use Rattle.tucson_form.specs.Line.{Line, thousandths, isWidth, same, yearInDecade, withinDecade, fieldsAllowed, lineOf, ifAllowed, goodLine}
 use Rattle.tucson_form.specs.Series.{Series, hundredths, allHundredths, fromHundredths, closedBy}
-use Rattle.tucson_form.specs.Reading.{Begun, begunBy, goesOn, nextYear, yearFollows, Step, opened, closed, extended, lastField, wholeSeries, closing, lineStep, ifGood, readLine, after, readLines}
+use Rattle.tucson_form.specs.TextReading.{Begun, begunBy, goesOn, nextYear, yearFollows, Step, opened, closed, extended, lastField, wholeSeries, closing, lineStep, ifGood, readLine, after, readLines}
 use Rattle.tucson_form.specs.ReadCall.{namesOf, widthsOf}
 use Rattle.tucson_form.specs.Writing.{allWidths}
 use Rattle.tucson_lines.proofs.GoodLines.{ifWidth, good-more}

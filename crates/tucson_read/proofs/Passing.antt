@@ -18,7 +18,7 @@ use Rattle.spline.specs.Outcome.{Outcome, answer, refusal, refuse, capped}
 use Rattle.numerals.specs.Bytes.{Text}
 use Rattle.tucson_form.specs.Line.{Line, linesOf, thousandths, isWidth, same, yearInDecade, goodLine}
 use Rattle.tucson_form.specs.Series.{Series, hundredths, hundredthsLimit, allHundredths, fromHundredths, closedBy}
-use Rattle.tucson_form.specs.Reading.{Begun, goesOn, begunBy, nextYear, yearFollows, Step, opened, closed, extended, lastField, wholeSeries, closing, lineStep, ifGood, readLine}
+use Rattle.tucson_form.specs.TextReading.{Begun, goesOn, begunBy, nextYear, yearFollows, Step, opened, closed, extended, lastField, wholeSeries, closing, lineStep, ifGood, readLine}
 use Rattle.tucson_lines.specs.Reply.{lineTold}
 use Rattle.tucson_lines.specs.declared.LineAnswer.the-variants.{Good}
 use Rattle.tucson_lines.proofs.GoodLines.{ifWidth, good-more, IsLine, line-some}

@@ -18,7 +18,7 @@ use Rattle.numerals.specs.Bytes.{Text}
 use Rattle.numerals.specs.Numeral.{numberLimit}
 use Rattle.tucson_form.specs.Line.{Line, nameColumns, fieldColumns, decade, linesOf, fieldNumbers, isName, goodLine, yearInDecade, same}
 use Rattle.tucson_form.specs.Series.{Series}
-use Rattle.tucson_form.specs.Reading.{Begun, begunBy, goesOn, nextYear, yearFollows, Step, opened, closed, extended, lastField, readLine, after, readLines, readText}
+use Rattle.tucson_form.specs.TextReading.{Begun, begunBy, goesOn, nextYear, yearFollows, Step, opened, closed, extended, lastField, readLine, after, readLines, readText}
 use Rattle.tucson_form.specs.ReadCall.{namesOf, yearsOf, countsOf, widthsOf}
 use Rattle.tucson_form.specs.Writing.{allWidths}
 use Rattle.tucson_lines.specs.Reply.{LineEnd, lineTold}

@@ -10,7 +10,7 @@ use lib.ListN.{length}
 use Rattle.spline.specs.Outcome.{Outcome, answer, refusal, capped}
 use Rattle.numerals.specs.Bytes.{Text}
 use Rattle.tucson_form.specs.Series.{Series, allHundredths}
-use Rattle.tucson_form.specs.Reading.{Begun, nextYear, Step, opened, closed}
+use Rattle.tucson_form.specs.TextReading.{Begun, nextYear, Step, opened, closed}
 use Rattle.tucson_form.specs.ReadCall.{widthsOf}
 use Rattle.tucson_read.specs.declared.scanning.Passed.{Passed}
 use Rattle.tucson_read.specs.declared.scanning.Passed.the-variants as passed-cases

@@ -10,7 +10,7 @@ ghost use lib.Seq.{slice};
 ghost use Rattle.numerals.specs.Bytes.{Text};
 ghost use Rattle.numerals.specs.Numeral.{numberLimit};
 ghost use Rattle.tucson_form.specs.Line.{linesOf, decade, yearInDecade, same, goodLine};
-ghost use Rattle.tucson_form.specs.Reading.{Begun, goesOn, readLine, readText};
+ghost use Rattle.tucson_form.specs.TextReading.{Begun, goesOn, readLine, readText};
 ghost use Rattle.tucson_lines.specs.Reply.{LineEnd, lineTold};
 ghost use Rattle.tucson_lines.specs.declared.LineAnswer.the-variants.{Good};
 ghost use Rattle.tucson_read.specs.Scan.{Tracks, Told, Within, Advances, scanTold};

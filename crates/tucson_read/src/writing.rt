@@ -8,7 +8,7 @@ ghost use lib.Seq.{slice, sets};
 ghost use Rattle.spline.specs.Outcome.{answer};
 ghost use Rattle.tucson_form.specs.Line.{fieldNumbers, nameColumns};
 ghost use Rattle.tucson_form.specs.Series.{fromHundredths};
-ghost use Rattle.tucson_form.specs.Reading.{readText};
+ghost use Rattle.tucson_form.specs.TextReading.{readText};
 ghost use Rattle.tucson_form.specs.ReadCall.{namesOf, yearsOf, countsOf, widthsOf};
 ghost use Rattle.tucson_form.specs.Writing.{allWidths};
 ghost use Rattle.tucson_read.specs.Write.{numbersOf, seriesIn, FieldsAt, inThousandths};

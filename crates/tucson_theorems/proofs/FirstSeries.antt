@@ -22,7 +22,7 @@ use Rattle.numerals.specs.Bytes.{Text, beginsWith}
 use Rattle.numerals.proofs.Beginning.{begins-taken, begins-front}
 use Rattle.tucson_form.specs.Line.{Line, nameColumns, decade, thousandths, isName, yearInDecade, same, goodLine}
 use Rattle.tucson_form.specs.Series.{Series, closedBy}
-use Rattle.tucson_form.specs.Reading.{goesOn, Begun, begunBy, nextYear, yearFollows, Step, opened, closed, extended, lastField, wholeSeries, closing, lineStep, ifGood, readLine, after, readLines}
+use Rattle.tucson_form.specs.TextReading.{goesOn, Begun, begunBy, nextYear, yearFollows, Step, opened, closed, extended, lastField, wholeSeries, closing, lineStep, ifGood, readLine, after, readLines}
 use Rattle.tucson_form.specs.Writing.{linesFrom, seriesLines, linesText, written, yearsFit, allWidths, isWritable, firstUnwritable}
 use Rattle.tucson_theorems.specs.Refusals.{NextYearByLine}
 use Rattle.tucson_theorems.proofs.Columns.{fits-year}

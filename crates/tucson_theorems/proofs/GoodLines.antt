@@ -16,7 +16,7 @@ use Rattle.numerals.specs.Bytes.{Text, newline, Cut, cut, onFirst}
 use Rattle.numerals.proofs.Cutting.{joined, cut-joins}
 use Rattle.tucson_form.specs.Columns.{inColumns}
 use Rattle.tucson_form.specs.Line.{Line, nameColumns, yearColumns, fieldColumns, decade, linesOf, isName, withField, fieldNumbers, fieldCount, columnsFit, withNumbers, lineInColumns, ofCut, lineOf, yearInDecade, withinDecade, same, isWidth, fieldsAllowed, ifAllowed, goodLine}
-use Rattle.tucson_form.specs.Reading.{lastField}
+use Rattle.tucson_form.specs.TextReading.{lastField}
 use Rattle.tucson_form.specs.Writing.{allWidths}
 use Rattle.tucson_theorems.proofs.Columns.{FitsColumns, columns-fit}
 use Rattle.tucson_theorems.proofs.Lines.{headColumns, lineBytes}

@@ -13,16 +13,16 @@ use Rattle.numerals.specs.Numeral.{allDigits, digitsValue, isNatural, numeral, 
 use Rattle.tucson_form.specs.Columns.{inColumns, columns}
 use Rattle.tucson_form.specs.Line.{linesOf, allPrintable, allBlank, isName, fieldNumbers, columnsFit, lineInColumns, lineOf, yearInDecade, withinDecade, isWidth, fieldsAllowed, goodLine}
 use Rattle.tucson_form.specs.Series.{Series, allHundredths, fromHundredths, closedBy}
-use Rattle.tucson_form.specs.Reading.{goesOn, yearFollows, lastField, closing, lineStep, readLine, readLines, readText}
+use Rattle.tucson_form.specs.TextReading.{goesOn, yearFollows, lastField, closing, lineStep, readLine, readLines, readText}
 use Rattle.tucson_form.specs.ReadCall.{namesOf, yearsOf, countsOf, widthsOf, roomFor, readOutcome, filled, ReadEnd, readEnd}
 use Rattle.tucson_form.specs.Writing.{inLines, linesFrom, seriesLines, fieldsText, lineText, linesText, written, yearsFit, allWidths, isWritable, firstUnwritable}
 use Rattle.tucson_form.specs.WriteCall.{total, listsFit, seriesOf, seriesOutcome, writeOutcome, textAfter, writeEnd}
 use Rattle.tucson_theorems.specs.RoundTrip.{Writable}
-use Rattle.tucson_theorems.specs.Cells.{rewriteEnd}
+use Rattle.tucson_theorems.specs.TucsonCells.{rewriteEnd}
 use Rattle.tucson_theorems.specs.Refusals.{ReadRefusal, WriteRefusal}
 use Rattle.tucson_theorems.proofs.ReadsBack.{written-reads-back}
 use Rattle.tucson_theorems.proofs.Rewritten.{read-is-writable, read-keeps-length, rewritten-reads-back}
-use Rattle.tucson_theorems.proofs.Cells.{written-cells-read-back, read-cells-are-written, rewritten-cells-read-back}
+use Rattle.tucson_theorems.proofs.TucsonCells.{written-cells-read-back, read-cells-are-written, rewritten-cells-read-back}
 use Rattle.tucson_theorems.proofs.Refusals.{read-refuses, write-refuses}
 
 -- ---- two series, the first across the year 0

@@ -1,8 +1,7 @@
 -- Columns, Decade, Lines and InDecades are laws of numbers in columns, of years, of one line and of a series cut into lines;
 -- ReadsBack proves that what is written reads back. GoodLines, Rescaled and FirstSeries are what is known of accepted lines, of
--- widths brought into thousandths and of accepted series; Rewritten proves the reverse. Cells carries both to the two calls,
--- Refusals gives all that these can refuse with, and Instances shows the theorems with numbers. Sizes gives a series' years and
--- bytes by its first year and its count, for programs.
+-- widths brought into thousandths and of accepted series; Rewritten proves the reverse. TucsonCells carries both to the two
+-- calls, Refusals gives all that these can refuse with, and Instances shows the theorems with numbers.
 pub mod Columns
 pub mod Decade
 pub mod Lines
@@ -12,7 +11,6 @@ pub mod GoodLines
 pub mod Rescaled
 pub mod FirstSeries
 pub mod Rewritten
-pub mod Cells
+pub mod TucsonCells
 pub mod Refusals
 pub mod Instances
-pub mod Sizes

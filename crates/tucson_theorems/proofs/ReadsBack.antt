@@ -19,7 +19,7 @@ use Rattle.numerals.specs.Bytes.{Text, beginsWith}
 use Rattle.numerals.proofs.Beginning.{begins-self, begins-other}
 use Rattle.tucson_form.specs.Line.{Line, decade, thousandths, widthLimit, linesOf, isName, yearInDecade, withinDecade, same, isWidth, fieldsAllowed, ifAllowed, goodLine}
 use Rattle.tucson_form.specs.Series.{Series, closedBy}
-use Rattle.tucson_form.specs.Reading.{goesOn, Begun, begunBy, nextYear, yearFollows, Step, opened, closed, extended, lastField, wholeSeries, closing, lineStep, ifGood, readLine, after, readLines, readText}
+use Rattle.tucson_form.specs.TextReading.{goesOn, Begun, begunBy, nextYear, yearFollows, Step, opened, closed, extended, lastField, wholeSeries, closing, lineStep, ifGood, readLine, after, readLines, readText}
 use Rattle.tucson_form.specs.Writing.{inLines, linesFrom, seriesLines, lineText, linesText, written, yearsFit, allWidths, isWritable, firstUnwritable, leastYear, greatestYear}
 use Rattle.tucson_theorems.specs.RoundTrip.{WrittenReadsBack}
 use Rattle.tucson_theorems.proofs.Columns.{FitsColumns, year-fits}

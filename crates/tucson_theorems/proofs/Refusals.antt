@@ -15,7 +15,7 @@ use Rattle.spline.proofs.Outcome.{answer-not-refusal, Broken, first-refuses, se
 use Rattle.numerals.specs.Bytes.{Text}
 use Rattle.tucson_form.specs.Line.{Line, nameColumns, linesOf, goodLine}
 use Rattle.tucson_form.specs.Series.{Series, closedBy}
-use Rattle.tucson_form.specs.Reading.{goesOn, Begun, begunBy, yearFollows, Step, opened, closed, extended, wholeSeries, closing, lineStep, ifGood, readLine, after, readLines, readText}
+use Rattle.tucson_form.specs.TextReading.{goesOn, Begun, begunBy, yearFollows, Step, opened, closed, extended, wholeSeries, closing, lineStep, ifGood, readLine, after, readLines, readText}
 use Rattle.tucson_form.specs.ReadCall.{namesOf, yearsOf, countsOf, widthsOf, roomFor, readOutcome, filled, ReadEnd, readEnd}
 use Rattle.tucson_form.specs.Writing.{written, isWritable, firstUnwritable, unwritable}
 use Rattle.tucson_form.specs.WriteCall.{listsFit, seriesOf, seriesOutcome, writeOutcome, textAfter, WriteEnd, writeEnd}

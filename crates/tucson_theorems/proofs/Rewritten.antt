@@ -9,7 +9,7 @@ use Rattle.spline.specs.Outcome.{answer}
 use Rattle.numerals.specs.Bytes.{Text, beginsWith}
 use Rattle.tucson_form.specs.Line.{linesOf, isName}
 use Rattle.tucson_form.specs.Series.{Series}
-use Rattle.tucson_form.specs.Reading.{readLines, readText}
+use Rattle.tucson_form.specs.TextReading.{readLines, readText}
 use Rattle.tucson_theorems.specs.RoundTrip.{ReadIsWritable, ReadKeepsLength, RewrittenReadsBack}
 use Rattle.tucson_theorems.proofs.Lines.{name-parts}
 use Rattle.tucson_theorems.proofs.GoodLines.{AllAtEndOnly, lines-end, lines-bytes}

@@ -10,7 +10,7 @@ use lib.ListN.{length}
 use Rattle.spline.specs.Outcome.{answer, refusal, capped}
 use Rattle.numerals.specs.Bytes.{Text}
 use Rattle.tucson_form.specs.Line.{Line, linesOf, goodLine}
-use Rattle.tucson_form.specs.Reading.{Begun, nextYear, opened, readLine}
+use Rattle.tucson_form.specs.TextReading.{Begun, nextYear, opened, readLine}
 use Rattle.tucson_form.specs.ReadCall.{readEnd}
 use Rattle.tucson_form.specs.WriteCall.{writeEnd}
 

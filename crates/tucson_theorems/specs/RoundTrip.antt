@@ -7,7 +7,7 @@ use lib.ListN.{length}
 use Rattle.spline.specs.Outcome.{answer}
 use Rattle.numerals.specs.Bytes.{Text}
 use Rattle.tucson_form.specs.Series.{Series}
-use Rattle.tucson_form.specs.Reading.{readText}
+use Rattle.tucson_form.specs.TextReading.{readText}
 use Rattle.tucson_form.specs.Writing.{written, unwritable}
 
 -- Writing allows each of the series.

@@ -14,7 +14,7 @@ use Rattle.tucson_form.specs.Line.{nameColumns}
 use Rattle.tucson_form.specs.Series.{Series}
 use Rattle.tucson_form.specs.Writing.{firstUnwritable, seriesLines, linesText, written}
 use Rattle.tucson_form.specs.WriteCall.{total, seriesOf}
-use Rattle.tucson_theorems.proofs.Cells.{Fitting}
+use Rattle.tucson_theorems.proofs.TucsonCells.{Fitting}
 use Rattle.tucson_theorems.proofs.ReadsBack.{first-parts}
 use Rattle.tucson_write.specs.Sizes.{series, closingFits, closingsFit, seriesBytes, textBytes}
 use Rattle.tucson_write.proofs.Tests.{drop-step, drop-end}

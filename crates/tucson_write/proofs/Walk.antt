@@ -12,7 +12,7 @@ use Rattle.numerals.proofs.Slice.{slice-take}
 use Rattle.tucson_form.specs.Line.{nameColumns}
 use Rattle.tucson_form.specs.Series.{Series}
 use Rattle.tucson_form.specs.WriteCall.{total, seriesOf}
-use Rattle.tucson_theorems.proofs.Cells.{Fitting}
+use Rattle.tucson_theorems.proofs.TucsonCells.{Fitting}
 use Rattle.tucson_write.specs.Sizes.{series}
 use Rattle.tucson_write.proofs.Tests.{drop-step, drop-end, total-step}
 

@@ -5,9 +5,11 @@ ghost use Rattle.spline.specs.Build.{buildEnd};
 ghost use Rattle.spline.specs.Reading.{earlywood, latewood};
 ghost use Rattle.spline.specs.CurveCall.{curveEnd};
 ghost use Rattle.indices.specs.Indices.{indicesEnd};
+ghost use Rattle.tucson_form.specs.ReadCall.{readEnd};
+ghost use Rattle.tucson_form.specs.WriteCall.{writeEnd};
 ghost use Rattle.walzhik.specs.Reply.{replied};
 
-// The count of rows, positions or rings, with number 0 and place 0; or count 0 with a refusal's number and place.
+// The count of rows, positions, rings, series or bytes, with number 0 and place 0; or count 0 with a refusal's number and place.
 #[repr(C)]
 pub struct Reply {
     pub count: u64,
@@ -145,5 +147,43 @@ pub extern "C" fn walzhik_latewood_indices(
     match answer {
         indices::Answer::Indices(n) => answered(n),
         indices::Answer::Refused(number, place) => refused(number, place),
+    }
+}
+
+// tucson_read::read
+#[no_mangle]
+pub extern "C" fn walzhik_tucson_read(
+    text: &[u8],
+    names: &mut [u8],
+    years: &mut [i32],
+    counts: &mut [u32],
+    widths: &mut [i32],
+) -> Reply
+    ensures { λ r. ⌜ (let e = readEnd (now (text .entry)) (now (names .entry)) (now (years .entry)) (now (counts .entry)) (now (widths .entry)) in
+        (r ≡ replied (e .answers)) × ((now (names .exit) ≡ e .names) × ((now (years .exit) ≡ e .years) × ((now (counts .exit) ≡ e .counts) × (now (widths .exit) ≡ e .widths))))) ⌝ }
+{
+    let answer = tucson_read::read(text, names, years, counts, widths);
+    match answer {
+        tucson_read::Answer::Series(n) => answered(n),
+        tucson_read::Answer::Refused(number, place) => refused(number, place),
+    }
+}
+
+// tucson_write::write
+#[no_mangle]
+pub extern "C" fn walzhik_tucson_write(
+    names: &[u8],
+    years: &[i32],
+    counts: &[u32],
+    widths: &[i32],
+    text: &mut [u8],
+) -> Reply
+    ensures { λ r. ⌜ (let e = writeEnd (now (names .entry)) (now (years .entry)) (now (counts .entry)) (now (widths .entry)) (now (text .entry)) in
+        (r ≡ replied (e .answers)) × (now (text .exit) ≡ e .text)) ⌝ }
+{
+    let answer = tucson_write::write(names, years, counts, widths, text);
+    match answer {
+        tucson_write::Answer::Bytes(n) => answered(n),
+        tucson_write::Answer::Refused(number, place) => refused(number, place),
     }
 }

@@ -6,7 +6,7 @@ use native.Mathlib.Omega.{arith}
 use lib.ListN.{length}
 use Rattle.numerals.specs.Bytes.{Text}
 use Rattle.tucson_form.specs.Line.{nameColumns}
-use Rattle.tucson_form.specs.Reading.{readText}
+use Rattle.tucson_form.specs.TextReading.{readText}
 use Rattle.tucson_form.specs.ReadCall.{widthsOf}
 use Rattle.tucson_read.proofs.Answers.{Found, scan-refused, scan-found, read-refused, short-names, short-years, short-counts, short-widths, write-ready, read-answers}
 use Rattle.tucson_read.proofs.read.Statement.{statement}

@@ -11,7 +11,7 @@ use borrow.Author.Tests.{not-true, not-false, leb-true}
 use Rattle.space.proofs.Reply.{found-none-inverts, found-some-inverts}
 use Rattle.tucson_form.specs.Writing.{unwritable}
 use Rattle.tucson_form.specs.WriteCall.{listsFit, seriesOf}
-use Rattle.tucson_theorems.proofs.Cells.{fits-parts}
+use Rattle.tucson_theorems.proofs.TucsonCells.{fits-parts}
 use Rattle.tucson_write.specs.declared.Answer.the-variants.{Refused}
 use Rattle.tucson_write.specs.Reply.{reply}
 use Rattle.tucson_write.proofs.Bytes.{Counted, all-counted}

@@ -16,7 +16,7 @@ use Rattle.exact.proofs.Word.{toZ-ofZ}
 use Rattle.numerals.specs.Bytes.{Text}
 use Rattle.tucson_form.specs.Line.{Line, linesOf, goodLine}
 use Rattle.numerals.specs.Numeral.{numberLimit}
-use Rattle.tucson_form.specs.Reading.{Begun, goesOn, readLine}
+use Rattle.tucson_form.specs.TextReading.{Begun, goesOn, readLine}
 use Rattle.tucson_lines.specs.Reply.{lineTold}
 use Rattle.tucson_lines.specs.declared.LineAnswer.the-variants.{Good}
 use Rattle.tucson_lines.proofs.GoodLines.{GoodLine, good-line, IsLine, line-none, line-some}

@@ -13,7 +13,7 @@ use Rattle.exact.proofs.Word.{toZ-ofZ}
 use Rattle.spline.specs.Outcome.{capped}
 use Rattle.numerals.specs.Bytes.{Text}
 use Rattle.tucson_form.specs.Line.{linesOf}
-use Rattle.tucson_form.specs.Reading.{goesOn, readLine}
+use Rattle.tucson_form.specs.TextReading.{goesOn, readLine}
 use Rattle.tucson_lines.specs.Reply.{LineEnd}
 use Rattle.tucson_read.specs.Scan.{Tracks, Told, Advances, Ahead}
 use Rattle.tucson_read.specs.declared.scanning.Passed.{Passed}

@@ -13,7 +13,7 @@ use mir.Val.{SFits, toZ, ofZ}
 use Rattle.exact.proofs.Word.{toZ-ofZ}
 use Rattle.numerals.specs.Bytes.{Text}
 use Rattle.tucson_form.specs.Line.{Line, linesOf, goodLine}
-use Rattle.tucson_form.specs.Reading.{goesOn, readText}
+use Rattle.tucson_form.specs.TextReading.{goesOn, readText}
 use Rattle.tucson_form.specs.ReadCall.{namesOf, yearsOf, countsOf, widthsOf}
 use Rattle.tucson_lines.specs.Reply.{lineTold, LineEnd}
 use Rattle.tucson_lines.specs.declared.LineAnswer.the-variants.{Good, Bad}

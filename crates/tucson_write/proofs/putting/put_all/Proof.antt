@@ -14,7 +14,7 @@ use Rattle.tucson_form.specs.Line.{nameColumns}
 use Rattle.tucson_form.specs.Series.{Series}
 use Rattle.tucson_form.specs.Writing.{firstUnwritable, seriesLines, linesText, written}
 use Rattle.tucson_form.specs.WriteCall.{seriesOf}
-use Rattle.tucson_theorems.proofs.Cells.{fits-parts}
+use Rattle.tucson_theorems.proofs.TucsonCells.{fits-parts}
 use Rattle.tucson_write.specs.Putting.{Wrote}
 use Rattle.tucson_write.proofs.Tests.{part-is}
 use Rattle.tucson_write.proofs.Sizes.{series-years}

@@ -15,7 +15,7 @@ use Rattle.numerals.specs.Bytes.{Text}
 use Rattle.tucson_form.specs.Line.{nameColumns}
 use Rattle.tucson_form.specs.Writing.{isWritable, firstUnwritable, unwritable}
 use Rattle.tucson_form.specs.WriteCall.{seriesOf}
-use Rattle.tucson_theorems.proofs.Cells.{fits-parts}
+use Rattle.tucson_theorems.proofs.TucsonCells.{fits-parts}
 use Rattle.tucson_write.specs.Sizes.{series}
 use Rattle.tucson_write.proofs.Tests.{part-is}
 use Rattle.tucson_write.proofs.Walk.{Walked, seriesFrom, seriesAt, walk-begins, walk-more, name-within, widths-within, series-step, series-end}

@@ -18,12 +18,12 @@ use Rattle.spline.proofs.Outcome.{answer-unique, answer-not-refusal, then-inver
 use Rattle.numerals.specs.Bytes.{Text}
 use Rattle.tucson_form.specs.Line.{nameColumns}
 use Rattle.tucson_form.specs.Series.{Series}
-use Rattle.tucson_form.specs.Reading.{readText}
+use Rattle.tucson_form.specs.TextReading.{readText}
 use Rattle.tucson_form.specs.ReadCall.{namesOf, yearsOf, countsOf, widthsOf, roomFor, readOutcome, overwritten, filled, ReadEnd, readEnd}
 use Rattle.tucson_form.specs.Writing.{written, firstUnwritable, unwritable}
 use Rattle.tucson_form.specs.WriteCall.{total, listsFit, seriesOf, seriesOutcome, writeOutcome, textAfter, WriteEnd, writeEnd}
 use Rattle.tucson_theorems.specs.RoundTrip.{Writable}
-use Rattle.tucson_theorems.specs.Cells.{WrittenCellsReadBack, rewriteEnd, ReadCellsAreWritten, RewrittenCellsReadBack}
+use Rattle.tucson_theorems.specs.TucsonCells.{WrittenCellsReadBack, rewriteEnd, ReadCellsAreWritten, RewrittenCellsReadBack}
 use Rattle.tucson_theorems.proofs.Lines.{name-parts}
 use Rattle.tucson_theorems.proofs.ReadsBack.{first-parts, written-reads-back}
 use Rattle.tucson_theorems.proofs.Rewritten.{read-is-writable, read-keeps-length, rewritten-reads-back}
@@ -111,9 +111,13 @@ series-back (s ∷ ss) h =
     ∙ ap₂ (λ (n : Text) (ws : List ℤ). s ∷ seriesOf n (yearsOf ss) (countsOf ss) ws) (drop-at (s .name) (namesOf ss) nameColumns (h .0)) (drop-at (s .widths) (widthsOf ss) (length (s .widths)) refl)
     ∙ ap (λ (us : List Series). s ∷ us) (series-back ss (h .1))
 
+-- what reading accepts has lists that fit
+pub read-lists-fit : (t : Text) (ss : List Series) → readText t ≡ answer ss → Fitting (namesOf ss) (yearsOf ss) (countsOf ss) (widthsOf ss)
+read-lists-fit t ss e = lists-of-fit ss (writable-named ss 0 [] (read-is-writable t ss e))
+
 -- ---- a read call that answers
 
-years-count : (ss : List Series) → length (yearsOf ss) ≡ length ss
+pub years-count : (ss : List Series) → length (yearsOf ss) ≡ length ss
 unfolding yearsOf
 years-count ss = length-map ss (λ s. s .firstYear)
 
@@ -136,20 +140,20 @@ module _ (t names : Text) (years : List ℤ) (counts : List ℕ) (widths : List 
   unfolding filled end-of
   answered-end ss e = ap end-of e
 
-  roomy-reads : (ss : List Series) → readText t ≡ answer ss → roomFor ss (length names) (length years) (length counts) (length widths) ≡ true → outcome ≡ answer ss
+  pub roomy-reads : (ss : List Series) → readText t ≡ answer ss → roomFor ss (length names) (length years) (length counts) (length widths) ≡ true → outcome ≡ answer ss
   unfolding readOutcome
   roomy-reads ss e r =
       then-answers (λ us. cond (roomFor us (length names) (length years) (length counts) (length widths)) (answer us) (refuse 1 0)) e
       ∙ cond-true (answer ss) (refuse 1 0) r
 
   -- what a call that answers has read
-  record HasRead (n : ℕ) : Type 0 where
-    series : List Series
-    reads : readText t ≡ answer series
-    roomy : roomFor series (length names) (length years) (length counts) (length widths) ≡ true
-    count : length series ≡ n
+  pub record HasRead (n : ℕ) : Type 0 where
+    pub series : List Series
+    pub reads : readText t ≡ answer series
+    pub roomy : roomFor series (length names) (length years) (length counts) (length widths) ≡ true
+    pub count : length series ≡ n
 
-  has-read : (n : ℕ) → readEnd t names years counts widths .answers ≡ answer n → HasRead n
+  pub has-read : (n : ℕ) → readEnd t names years counts widths .answers ≡ answer n → HasRead n
   unfolding readOutcome
   has-read n e = go (with-inverts length outcome e)
     where
@@ -163,7 +167,7 @@ module _ (t names : Text) (years : List ℤ) (counts : List ℕ) (widths : List 
           room (m .middle) (m .before) (roomFor (m .middle) (length names) (length years) (length counts) (length widths)) refl (c .before) (m .after) (c .changed)
 
 -- four lists that fit their buffers
-room-yes : (ss : List Series) (a b c d : ℕ) → length (namesOf ss) ≤ a → length (yearsOf ss) ≤ b → length (countsOf ss) ≤ c → length (widthsOf ss) ≤ d → roomFor ss a b c d ≡ true
+pub room-yes : (ss : List Series) (a b c d : ℕ) → length (namesOf ss) ≤ a → length (yearsOf ss) ≤ b → length (countsOf ss) ≤ c → length (widthsOf ss) ≤ d → roomFor ss a b c d ≡ true
 unfolding roomFor
 room-yes ss a b c d h i j k = rw (le-leb (length (namesOf ss)) a h, le-leb (length (yearsOf ss)) b i, le-leb (length (countsOf ss)) c j, le-leb (length (widthsOf ss)) d k)
 
@@ -244,7 +248,7 @@ module _ (t names : Text) (years : List ℤ) (counts : List ℕ) (widths : List 
   can-be-written = read-is-writable t ss (r .reads)
 
   read-fit : Fitting (namesOf ss) (yearsOf ss) (countsOf ss) (widthsOf ss)
-  read-fit = lists-of-fit ss (writable-named ss 0 [] can-be-written)
+  read-fit = read-lists-fit t ss (r .reads)
 
   read-end : readEnd t names years counts widths ≡ endWith ss names years counts widths
   read-end = answered-end t names years counts widths ss (roomy-reads t names years counts widths ss (r .reads) (r .roomy))
@@ -255,12 +259,19 @@ module _ (t names : Text) (years : List ℤ) (counts : List ℕ) (widths : List 
   widths-taken : take (total (take n (overwritten (countsOf ss) counts))) (overwritten (widthsOf ss) widths) ≡ widthsOf ss
   widths-taken = take-at (widthsOf ss) (drop (length (widthsOf ss)) widths) (total (take n (overwritten (countsOf ss) counts))) (sym (ap total counts-taken ∙ read-fit .widths-fit))
 
+  -- the counts at the front of their buffer add up to the widths
+  pub counts-total : total (take n (readEnd t names years counts widths .counts)) ≡ length (widthsOf ss)
+  counts-total = ap (λ (e : ReadEnd). total (take n (e .counts))) read-end ∙ ap total counts-taken ∙ read-fit .widths-fit
+
+  names-total : length (namesOf ss) ≡ n * nameColumns
+  names-total = read-fit .names-fit ∙ ap (λ (k : ℕ). k * nameColumns) (years-count ss ∙ r .count)
+
   -- the lists at the front of the buffers are those of the series
   rewrites : (text : Text) → rewriteEnd (readEnd t names years counts widths) n text ≡ writeEnd (namesOf ss) (yearsOf ss) (countsOf ss) (widthsOf ss) text
   rewrites text =
       ap (λ (e : ReadEnd). rewriteEnd e n text) read-end
       ∙ lists (take (n * nameColumns) (overwritten (namesOf ss) names)) (take n (overwritten (yearsOf ss) years)) (take n (overwritten (countsOf ss) counts)) (take (total (take n (overwritten (countsOf ss) counts))) (overwritten (widthsOf ss) widths))
-      (take-at (namesOf ss) (drop (length (namesOf ss)) names) (n * nameColumns) (read-fit .names-fit ∙ ap (λ (k : ℕ). k * nameColumns) (years-count ss ∙ r .count)))
+      (take-at (namesOf ss) (drop (length (namesOf ss)) names) (n * nameColumns) names-total)
       (take-at (yearsOf ss) (drop (length (yearsOf ss)) years) n (years-count ss ∙ r .count))
       counts-taken widths-taken
     where
@@ -273,21 +284,23 @@ module _ (t names : Text) (years : List ℤ) (counts : List ℕ) (widths : List 
         fitting-written (namesOf ss) (yearsOf ss) (countsOf ss) (widthsOf ss) text ss read-fit (series-back ss (writable-named ss 0 [] can-be-written)) can-be-written
         (omega (arith, read-keeps-length t ss (r .reads)))
 
-    rewritten-answers : rewriteEnd (readEnd t names years counts widths) n text .answers ≡ answer (length t)
-    rewritten-answers =
-        ap (λ (e : WriteEnd). e .answers) (rewrites text)
-        ∙ ap (with-answer length) write-answers
-        ∙ ap answer (read-keeps-length t ss (r .reads))
+    -- the write call's end
+    pub rewritten-end : rewriteEnd (readEnd t names years counts widths) n text ≡ record { answers = answer (length t); text = overwritten (written ss) text }
+    unfolding textAfter
+    rewritten-end =
+        rewrites text
+        ∙ ap (λ (o : Outcome Text). record { answers = with-answer length o; text = textAfter o text }) write-answers
+        ∙ ap (λ (k : ℕ). record { answers = answer k; text = overwritten (written ss) text }) (read-keeps-length t ss (r .reads))
 
     rewritten-read : readEnd (take (length t) (rewriteEnd (readEnd t names years counts widths) n text .text)) names years counts widths ≡ readEnd t names years counts widths
     rewritten-read =
-        ap (λ (e : WriteEnd). readEnd (take (length t) (e .text)) names years counts widths) (rewrites text)
-        ∙ ap (λ (u : Text). readEnd u names years counts widths) (end-text (namesOf ss) (yearsOf ss) (countsOf ss) (widthsOf ss) text (written ss) (length t) write-answers (read-keeps-length t ss (r .reads)))
+        ap (λ (e : WriteEnd). readEnd (take (length t) (e .text)) names years counts widths) rewritten-end
+        ∙ ap (λ (u : Text). readEnd u names years counts widths) (take-at (written ss) (drop (length (written ss)) text) (length t) (read-keeps-length t ss (r .reads)))
         ∙ answered-end (written ss) names years counts widths ss (roomy-reads (written ss) names years counts widths ss (rewritten-reads-back t ss (r .reads)) (r .roomy))
         ∙ sym read-end
 
 pub read-cells-are-written : ReadCellsAreWritten
-read-cells-are-written t names years counts widths n e text long = rewritten-answers t names years counts widths n (has-read t names years counts widths n e) text long
+read-cells-are-written t names years counts widths n e text long = ap (λ (w : WriteEnd). w .answers) (rewritten-end t names years counts widths n (has-read t names years counts widths n e) text long)
 
 pub rewritten-cells-read-back : RewrittenCellsReadBack
 rewritten-cells-read-back t names years counts widths n e text long = rewritten-read t names years counts widths n (has-read t names years counts widths n e) text long

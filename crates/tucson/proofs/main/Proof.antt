@@ -1,0 +1,62 @@
+-- `main` meets its contract: the text is no longer than the buffer, so what is written is a part of it.
+use borrow.Author.Needs.{needs}
+use mathlib.Core.Path.{sym}
+use Prim.Native.Nat.{ℕ}
+use lib.ListN.{length-replicate}
+use lib.Seq.{length-take-le}
+use Rattle.tucson.proofs.main.Statement.{statement}
+use Rattle.tucson.proofs.main.Tie as tie
+
+-- by the law, since the zeros are too many to be counted one by one
+slice-aggregate-read-full : tie.Need-slice-aggregate-read-full
+slice-aggregate-read-full c = sym (length-replicate {0} {A = ℕ} _ 0)
+
+read-full-requires : tie.Need-read-full-requires
+read-full-requires c κs = search needs
+
+array-share-prefix-input : tie.Need-array-share-prefix-input
+array-share-prefix-input c = c .before .read-full .ensures .0
+
+slice-aggregate-filter : tie.Need-slice-aggregate-filter
+slice-aggregate-filter c = c .before .before .read-full .ensures .1
+
+filter-requires : tie.Need-filter-requires
+filter-requires c κs = tt
+
+array-share-prefix-out : tie.Need-array-share-prefix-out
+array-share-prefix-out c = c .filter .ensures .1 .1
+
+slice-aggregate-write-all : tie.Need-slice-aggregate-write-all
+slice-aggregate-write-all c = sym (length-take-le (c .before .filter .result) _ (c .before .filter .ensures .1 .1))
+
+write-all-requires : tie.Need-write-all-requires
+write-all-requires c κs = tt
+
+slice-aggregate-fail : tie.Need-slice-aggregate-fail
+slice-aggregate-fail c = search needs
+
+fail-requires : tie.Need-fail-requires
+fail-requires c κs = tt
+
+returns : tie.Need-returns
+returns c = tt
+
+returns-2 : tie.Need-returns-2
+returns-2 c = tt
+
+pub main-spec : {M : Type 1} → statement M
+main-spec =
+    tie.close
+    (tie.spec
+    slice-aggregate-read-full
+    read-full-requires
+    array-share-prefix-input
+    slice-aggregate-filter
+    filter-requires
+    array-share-prefix-out
+    slice-aggregate-write-all
+    write-all-requires
+    slice-aggregate-fail
+    fail-requires
+    returns
+    returns-2)

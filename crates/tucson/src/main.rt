@@ -1,0 +1,14 @@
+// Reads a Tucson text from standard input and writes its series in thousandths to standard output.
+
+// One byte more than the longest text, so that a longer one is seen to be too long.
+const INPUT_BYTES: usize = 1048577;
+
+fn main() {
+    let mut input = [0u8; INPUT_BYTES];
+    let n = io::read_full(0, &mut input);
+    let mut out = [0u8; tucson_text::TEXT_LIMIT];
+    let count = tucson_text::filter(&input[..n], &mut out);
+    if !io::write_all(1, &out[..count]) {
+        os::fail(b"write");
+    }
+}

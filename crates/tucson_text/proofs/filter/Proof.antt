@@ -1,0 +1,49 @@
+-- `filter` meets its contract: a text that is too long is refused, any other is read and written again.
+use borrow.Author.Needs.{needs}
+use native.Mathlib.Omega.{arith}
+use mathlib.Core.Path.{_≡_, sym, ap, _∙_}
+use mathlib.Core.Bool.{true, false}
+use Prim.Native.Nat.{ℕ, _<_, _≤_}
+use borrow.Author.Tests.{le-leb, lt-leb}
+use lib.ListN.{length}
+use Rattle.exact.proofs.Decide.{cond-true, cond-false}
+use Rattle.numerals.specs.Bytes.{Text}
+use Rattle.printout.specs.Printed.{printoutLimit}
+use Rattle.printout.specs.Printout.{refusalLine}
+use Rattle.printout.proofs.Buffer.{written-as, written-length}
+use Rattle.tucson_form.specs.TextReading.{readText}
+use Rattle.tucson_text.specs.Filter.{textLimit, outcomeText, filtered}
+use Rattle.tucson_text.proofs.filter.Statement.{statement}
+use Rattle.tucson_text.proofs.filter.Tie as tie
+
+too-long : (t : Text) → textLimit < length t → refusalLine 1 0 ≡ filtered t
+unfolding filtered
+too-long t h = sym (cond-false (outcomeText (readText t)) (refusalLine 1 0) (lt-leb (length t) textLimit h))
+
+held : (t : Text) → length t ≤ textLimit → outcomeText (readText t) ≡ filtered t
+unfolding filtered
+held t h = sym (cond-true (outcomeText (readText t)) (refusalLine 1 0) (le-leb (length t) textLimit h))
+
+line-fits : {count size after : ℕ} → count ≤ printoutLimit → after ≡ size → size ≡ textLimit → count ≤ after
+line-fits h e l = omega arith
+
+refusal-requires : tie.Need-refusal-requires
+refusal-requires c κs = search needs
+
+returns : tie.Need-returns
+returns c =
+    let p = c .refusal .ensures in
+    let w = written-as _ (too-long _ (c .before .before .if1 .taken)) (p .0) (p .1 .0) in
+    (w .0, (w .1, line-fits (p .1 .1) (ap length (p .1 .0) ∙ written-length 0 _ _) (c .before .refusal-arg .given .0 .1)))
+
+rewrite-requires : tie.Need-rewrite-requires
+rewrite-requires c κs = search needs
+
+returns-2 : tie.Need-returns-2
+returns-2 c =
+    let p = c .rewrite .ensures in
+    let w = written-as _ (held _ (c .before .before .if1 .left)) (p .0) (p .1 .0) in
+    (w .0, (w .1, p .1 .1))
+
+pub filter-spec : {M : Type 1} → statement M
+filter-spec = tie.close (tie.spec refusal-requires returns rewrite-requires returns-2)

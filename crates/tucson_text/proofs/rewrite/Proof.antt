@@ -1,0 +1,281 @@
+-- `rewrite` meets its contract: the buffers take what the text holds, so that number 1 never comes, and the lists at their fronts
+-- are written in full.
+use borrow.Author.Needs.{needs}
+use native.Mathlib.Omega.{arith}
+use mathlib.Core.Path.{_≡_, sym, ap, _∙_}
+use mathlib.Core.List.{List}
+use Prim.Native.Nat.{ℕ, _*_, _≤_}
+use lib.IntN.{ℤ, pos}
+use lib.ListN.{length, take, replicate, length-replicate}
+use lib.Seq.{length-take-le}
+use Rattle.spline.specs.Outcome.{answer, refusal}
+use Rattle.spline.proofs.Outcome.{answer-unique, answer-not-refusal}
+use Rattle.numerals.specs.Bytes.{Text}
+use Rattle.printout.specs.Printed.{printoutLimit}
+use Rattle.printout.specs.Printout.{refusalLine}
+use Rattle.printout.specs.Buffer.{written}
+use Rattle.printout.proofs.Buffer.{written-as, written-length}
+use Rattle.tucson_form.specs.Line.{nameColumns}
+use Rattle.tucson_form.specs.TextReading.{readText}
+use Rattle.tucson_form.specs.ReadCall.{ReadEnd, readEnd}
+use Rattle.tucson_form.specs.WriteCall.{total, WriteEnd, writeEnd}
+use Rattle.tucson_read.specs.Reply as reading
+use Rattle.tucson_write.specs.Reply as writing
+use Rattle.tucson_text.specs.Filter.{textLimit, outcomeText}
+use Rattle.tucson_text.proofs.Room.{seriesCells, nameBytes, widthCells}
+use Rattle.tucson_text.proofs.Rewriting.{refused-text, series-within, widths-within, text-length, writes-whole}
+use Rattle.tucson_text.proofs.rewrite.Statement.{statement}
+use Rattle.tucson_text.proofs.rewrite.Tie as tie
+
+-- ---- the buffers before the read call
+
+abbrev names : Text
+names = replicate nameBytes 0
+
+abbrev years : List ℤ
+years = replicate seriesCells (pos 0)
+
+abbrev counts : List ℕ
+counts = replicate seriesCells 0
+
+abbrev widths : List ℤ
+widths = replicate widthCells (pos 0)
+
+names-are : length names ≡ nameBytes
+names-are = length-replicate {0} {A = ℕ} nameBytes 0
+
+years-are : length years ≡ seriesCells
+years-are = length-replicate {0} {A = ℤ} seriesCells (pos 0)
+
+counts-are : length counts ≡ seriesCells
+counts-are = length-replicate {0} {A = ℕ} seriesCells 0
+
+widths-are : length widths ≡ widthCells
+widths-are = length-replicate {0} {A = ℤ} widthCells (pos 0)
+
+slice-aggregate-read : tie.Need-slice-aggregate-read
+slice-aggregate-read c = sym names-are
+
+slice-aggregate-read-2 : tie.Need-slice-aggregate-read-2
+slice-aggregate-read-2 c = sym years-are
+
+slice-aggregate-read-3 : tie.Need-slice-aggregate-read-3
+slice-aggregate-read-3 c = sym counts-are
+
+slice-aggregate-read-4 : tie.Need-slice-aggregate-read-4
+slice-aggregate-read-4 c = sym widths-are
+
+read-requires : tie.Need-read-requires
+read-requires c κs = tt
+
+enum-known-series : tie.Need-enum-known-series
+enum-known-series c = search needs
+
+refusal-requires : tie.Need-refusal-requires
+refusal-requires c κs = tt
+
+enum-known-series-2 : tie.Need-enum-known-series-2
+enum-known-series-2 c = search needs
+
+-- ---- what the read call has left
+
+module _ (k : tie.After-read) where
+  abbrev text : Text
+  text = k .before .before .before .before .before .before .args .input .now
+
+  abbrev end : ReadEnd
+  end = readEnd text names years counts widths
+
+  short : length text ≤ textLimit
+  short = k .before .before .before .before .before .before .pre
+
+  -- a refusal
+  refused : (number place : ℕ) → reading.reply (k .read .result) ≡ refusal number place → refusalLine number place ≡ outcomeText (readText text)
+  refused number place e =
+      refused-text text short names years counts widths names-are years-are counts-are widths-are
+      number place (sym (k .read .ensures .0) ∙ e)
+
+-- ---- the lists, where it has been answered with their count
+
+no-more : {count same most : ℕ} → count ≡ same → same ≤ most → count ≤ most
+no-more e h = omega arith
+
+module _ (a : tie.After-series2) where
+  abbrev done : tie.After-read
+  done = a .before .before .before .before .before .before
+
+  abbrev n : ℕ
+  n = a .series2 .given .0 .0
+
+  answered : end done .answers ≡ answer n
+  unfolding reading.reply
+  answered = sym (done .read .ensures .0) ∙ ap reading.reply (a .series2 .given .1)
+
+  few : n ≤ seriesCells
+  few =
+      series-within (text done) (short done) names years counts widths names-are years-are counts-are widths-are n answered
+
+  few-widths : total (take n (done .read .last .1 .1 .1 .0)) ≤ widthCells
+  few-widths =
+      no-more (ap (λ (ns : List ℕ). total (take n ns)) (done .read .ensures .1 .1 .1 .0))
+      (widths-within (text done) (short done) names years counts widths names-are years-are counts-are widths-are n answered)
+
+within : {count size most : ℕ} → count ≤ most → size ≡ most → count ≤ size
+within h e = omega arith
+
+within-names : {count size : ℕ} → count ≤ seriesCells → size ≡ nameBytes → count * 8 ≤ size
+within-names h e = omega arith
+
+below-limit : {count : ℕ} → count ≤ widthCells → count ≤ textLimit
+below-limit h = omega arith
+
+names-fit : (a : tie.After-series2) → n a * 8 ≤ length (done a .read .last .1 .0)
+names-fit a = within-names (few a) (a .before .before .before .before .before .names2 .given)
+
+years-fit : (a : tie.After-series2) → n a ≤ length (done a .read .last .1 .1 .0)
+years-fit a = within (few a) (a .before .before .before .before .years2 .given)
+
+counts-fit : (a : tie.After-series2) → n a ≤ length (done a .read .last .1 .1 .1 .0)
+counts-fit a = within (few a) (a .before .before .before .counts2 .given)
+
+widths-fit : (a : tie.After-series2) (m : ℕ) → m ≡ total (take (n a) (done a .read .last .1 .1 .1 .0)) → m ≤ length (done a .read .last .1 .1 .1 .1 .0)
+widths-fit a m e = within (no-more e (few-widths a)) (a .before .before .widths2 .given)
+
+mul-fits : {count : ℕ} → count ≤ seriesCells → count * 8 ≤ nameBytes
+mul-fits h = omega arith
+
+mul-bytes : tie.Need-mul-bytes
+mul-bytes c = let h = mul-fits (few (c .before)) in omega (arith, h)
+
+array-share-prefix-counts : tie.Need-array-share-prefix-counts
+array-share-prefix-counts c = counts-fit (c .before)
+
+slice-aggregate-sum : tie.Need-slice-aggregate-sum
+slice-aggregate-sum c = let a = c .before .before in sym (length-take-le (n a) (done a .read .last .1 .1 .1 .0) (counts-fit a))
+
+sum-requires : tie.Need-sum-requires
+sum-requires c κs = below-limit (few-widths (c .before .before))
+
+array-share-prefix-names : tie.Need-array-share-prefix-names
+array-share-prefix-names c = names-fit (c .before .before .before)
+
+slice-aggregate-write : tie.Need-slice-aggregate-write
+slice-aggregate-write c = let a = c .before .before .before .before in sym (length-take-le (n a * 8) (done a .read .last .1 .0) (names-fit a))
+
+array-share-prefix-years : tie.Need-array-share-prefix-years
+array-share-prefix-years c = years-fit (c .before .before .before .before)
+
+slice-aggregate-write-2 : tie.Need-slice-aggregate-write-2
+slice-aggregate-write-2 c = let a = c .before .before .before .before .before in sym (length-take-le (n a) (done a .read .last .1 .1 .0) (years-fit a))
+
+array-share-prefix-counts-2 : tie.Need-array-share-prefix-counts-2
+array-share-prefix-counts-2 c = counts-fit (c .before .before .before .before .before)
+
+slice-aggregate-write-3 : tie.Need-slice-aggregate-write-3
+slice-aggregate-write-3 c = let a = c .before .before .before .before .before .before in sym (length-take-le (n a) (done a .read .last .1 .1 .1 .0) (counts-fit a))
+
+array-share-prefix-widths : tie.Need-array-share-prefix-widths
+array-share-prefix-widths c = widths-fit (c .before .before .before .before .before .before) (c .before .before .before .sum .result) (c .before .before .before .sum .ensures)
+
+slice-aggregate-write-4 : tie.Need-slice-aggregate-write-4
+slice-aggregate-write-4 c =
+    let a = c .before .before .before .before .before .before .before in
+    let m = c .before .before .before .before .sum in
+    sym (length-take-le (m .result) (done a .read .last .1 .1 .1 .1 .0) (widths-fit a (m .result) (m .ensures)))
+
+write-requires : tie.Need-write-requires
+write-requires c κs = tt
+
+enum-known-text : tie.Need-enum-known-text
+enum-known-text c = search needs
+
+refusal-requires-2 : tie.Need-refusal-requires-2
+refusal-requires-2 c κs = tt
+
+enum-known-text-2 : tie.Need-enum-known-text-2
+enum-known-text-2 c = search needs
+
+-- ---- what the function ensures
+
+line-fits : {count size after : ℕ} → count ≤ printoutLimit → after ≡ size → size ≡ textLimit → count ≤ after
+line-fits h e l = omega arith
+
+text-fits : {count bytes size after : ℕ} → count ≡ bytes → bytes ≤ textLimit → after ≡ size → size ≡ textLimit → count ≤ after
+text-fits c h e l = omega arith
+
+returns : tie.Need-returns
+unfolding reading.reply
+returns c =
+    let p = c .refusal .ensures in
+    let w = written-as _ (refused (c .before .before .before .before .before .before .before .before .before) _ _ (ap reading.reply (c .before .before .before .series .given .1))) (p .0) (p .1 .0) in
+    (w .0, (w .1, line-fits (p .1 .1) (ap length (p .1 .0) ∙ written-length 0 _ _) (c .before .refusal-arg .given .0 .1)))
+
+-- the write call's end
+module _ (w : tie.After-write) where
+  abbrev a : tie.After-series2
+  a = w .before .before .before .before .before .before .before .before .before
+
+  abbrev k : tie.After-read
+  k = done a
+
+  abbrev out : Text
+  out = k .before .before .before .before .before .before .args .out .now
+
+  abbrev m : ℕ
+  m = w .before .before .before .before .before .before .sum .result
+
+  writes :
+      writeEnd (take (n a * nameColumns) (k .read .last .1 .0)) (take (n a) (k .read .last .1 .1 .0)) (take (n a) (k .read .last .1 .1 .1 .0)) (take m (k .read .last .1 .1 .1 .1 .0)) out
+      ≡ record { answers = answer (length (text k)); text = written 0 (outcomeText (readText (text k))) out }
+  writes =
+      let r = k .read .ensures .1 in
+      writes-whole (text k) (short k) names years counts widths names-are years-are counts-are widths-are (n a) (answered a)
+      out (w .before .write-arg .given .0 .1) _ _ _ _ m (r .0) (r .1 .0) (r .1 .1 .0) (r .1 .1 .1) (w .before .before .before .before .before .before .sum .ensures)
+
+returns-2 : tie.Need-returns-2
+unfolding writing.reply
+returns-2 c =
+    let w = c .before .before .before .before .before in
+    absurd (answer-not-refusal (w .write .ensures .0 ∙ ap (λ (e : WriteEnd). e .answers) (writes w)) (ap writing.reply (c .before .before .before .text .given .1)))
+
+returns-3 : tie.Need-returns-3
+unfolding writing.reply
+returns-3 c =
+    let w = c .before .before .before in
+    let k = k w in
+    let count = answer-unique (ap writing.reply (c .before .text2 .given .1)) (w .write .ensures .0 ∙ ap (λ (e : WriteEnd). e .answers) (writes w)) in
+    let size = text-length (text k) (short k) names years counts widths names-are years-are counts-are widths-are (n (a w)) (answered (a w)) in
+    let contents = w .write .ensures .1 ∙ ap (λ (e : WriteEnd). e .text) (writes w) in
+    (count ∙ sym size, (contents, text-fits count (short k) (ap length contents ∙ written-length 0 _ _) (w .before .write-arg .given .0 .1)))
+
+pub rewrite-spec : {M : Type 1} → statement M
+rewrite-spec =
+    tie.close
+    (tie.spec
+    slice-aggregate-read
+    slice-aggregate-read-2
+    slice-aggregate-read-3
+    slice-aggregate-read-4
+    read-requires
+    enum-known-series
+    refusal-requires
+    enum-known-series-2
+    mul-bytes
+    array-share-prefix-counts
+    slice-aggregate-sum
+    sum-requires
+    array-share-prefix-names
+    slice-aggregate-write
+    array-share-prefix-years
+    slice-aggregate-write-2
+    array-share-prefix-counts-2
+    slice-aggregate-write-3
+    array-share-prefix-widths
+    slice-aggregate-write-4
+    write-requires
+    enum-known-text
+    refusal-requires-2
+    enum-known-text-2
+    returns
+    returns-2
+    returns-3)

@@ -1,0 +1,26 @@
+-- The filter as one function on texts (document 02, change request 1): a Tucson text in, the same series in thousandths out, or
+-- the line of a refusal. "A program that reads a text longer than it can hold says no=1,0."
+use mathlib.Core.Bool.{cond}
+use mathlib.Core.List.{List}
+use Prim.Native.Nat.{ℕ}
+use lib.Dec.{leb}
+use lib.ListN.{length}
+use Rattle.spline.specs.Outcome.{Outcome, answer, refusal}
+use Rattle.numerals.specs.Bytes.{Text}
+use Rattle.printout.specs.Printout.{refusalLine}
+use Rattle.tucson_form.specs.Series.{Series}
+use Rattle.tucson_form.specs.TextReading.{readText}
+use Rattle.tucson_form.specs.Writing.{written}
+
+-- The most bytes that the filter holds.
+abbrev pub textLimit : ℕ
+textLimit = 1048576
+
+-- The text of what was read: the series as writing gives them, or the line of the refusal.
+unfoldable pub outcomeText : Outcome (List Series) → Text
+outcomeText (answer ss) = written ss
+outcomeText (refusal number place) = refusalLine number place
+
+-- What the filter gives for a text. A longer one than it can hold is refused, never cut.
+unfoldable pub filtered : Text → Text
+filtered t = cond (leb (length t) textLimit) (outcomeText (readText t)) (refusalLine 1 0)

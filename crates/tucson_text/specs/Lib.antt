@@ -1,0 +1,2 @@
+-- What the contracts of tucson_text cite beside the definitions of the crates below.
+pub mod Filter

@@ -1,0 +1,87 @@
+// The filter: a Tucson text in, the same series in thousandths out, on bytes.
+ghost use mathlib.Core.Path.{_≡_};
+ghost use Prim.Native.Nat.{_≤_};
+ghost use lib.ListN.{length};
+ghost use Rattle.printout.specs.Buffer.{written};
+ghost use Rattle.spline.specs.Outcome.{answer};
+ghost use Rattle.tucson_form.specs.TextReading.{readText};
+ghost use Rattle.tucson_form.specs.WriteCall.{total};
+ghost use Rattle.tucson_text.specs.Filter.{textLimit, outcomeText, filtered};
+
+// The most bytes of a text.
+pub const TEXT_LIMIT: usize = 1048576;
+
+// The most series of such a text: each has at least a line of 19 bytes.
+const SERIES: usize = 55188;
+
+// Their names, eight bytes each.
+const NAMES: usize = 441504;
+
+// The most widths: each has six columns.
+const WIDTHS: usize = 174762;
+
+const SHORT_BUFFER: u8 = 1;
+
+// The sum of the counts.
+fn sum(counts: &[u32]) -> usize
+    requires { ⌜ total (now counts) ≤ textLimit ⌝ }
+    ensures { λ r. ⌜ r ≡ total (now (counts .entry)) ⌝ }
+{
+    let mut all = 0;
+    let mut k = 0;
+    while k < counts.len() {
+        all += counts[k] as usize;
+        k += 1;
+    }
+    all
+}
+
+// The series of a text that is not too long, read and written again, or the line of its refusal. What is read can always be
+// written, so the second refusal is never met.
+fn rewrite(input: &[u8], out: &mut [u8; TEXT_LIMIT]) -> usize
+    requires { ⌜ length (now input) ≤ textLimit ⌝ }
+    ensures { λ r. ⌜ r ≡ length (outcomeText (readText (now (input .entry)))) ⌝ }
+    ensures { λ r. ⌜ now (out .exit) ≡ written 0 (outcomeText (readText (now (input .entry)))) (now (out .entry)) ⌝ }
+    ensures { λ r. ⌜ r ≤ length (now (out .exit)) ⌝ }
+{
+    let mut names = [0u8; NAMES];
+    let mut years = [0i32; SERIES];
+    let mut counts = [0u32; SERIES];
+    let mut widths = [0i32; WIDTHS];
+    let series = tucson_read::read(input, &mut names, &mut years, &mut counts, &mut widths);
+    match series {
+        tucson_read::Answer::Refused(number, place) => printout::refusal(number, place, out),
+        tucson_read::Answer::Series(n) => {
+            let bytes = n * tucson_lines::NAME;
+            let widths_read = sum(&counts[..n]);
+            let text = tucson_write::write(
+                &names[..bytes],
+                &years[..n],
+                &counts[..n],
+                &widths[..widths_read],
+                out,
+            );
+            match text {
+                tucson_write::Answer::Refused(number, place) => printout::refusal(
+                    number,
+                    place,
+                    out,
+                ),
+                tucson_write::Answer::Bytes(count) => count,
+            }
+        }
+    }
+}
+
+// The whole program: what the filter gives for a text, at the front of the lent buffer, which takes it whole. The answer is its
+// length.
+pub fn filter(input: &[u8], out: &mut [u8; TEXT_LIMIT]) -> usize
+    ensures { λ r. ⌜ r ≡ length (filtered (now (input .entry))) ⌝ }
+    ensures { λ r. ⌜ now (out .exit) ≡ written 0 (filtered (now (input .entry))) (now (out .entry)) ⌝ }
+    ensures { λ r. ⌜ r ≤ length (now (out .exit)) ⌝ }
+{
+    if input.len() > TEXT_LIMIT {
+        return printout::refusal(SHORT_BUFFER, 0, out);
+    }
+    rewrite(input, out)
+}
