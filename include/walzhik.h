@@ -6,15 +6,17 @@
  * from the lists: no call can see that they overlap, and nothing is promised where they do. Building and the curve call
  * need at most 16,384 bytes of stack each. No call keeps anything for the next.
  *
- * A space has m segments, 1 to 12:
- *   breaks   m + 1 breakpoints in rings, strictly rising, each from -10000 to 10000, over a span of at most 2000
+ * A space has m segments, 1 to 48. It is a beam of one part or more, cut at its discontinuities; a part has at most 12 segments
+ * and a span of at most 2000:
+ *   breaks   m + 1 breakpoints in rings, strictly rising, each from -10000 to 10000
  *   degrees  m degrees, each from 1 to 5
  *   orders   m - 1 continuity orders, one for each join: -1 (a discontinuity), 0, 1 or 2, and less than both
  *            neighbouring degrees
  * It has n = (sum of degrees + m) - (sum over joins of (order + 1)) rows.
  *
- * num, den   at least WALZHIK_CELLS cells each: row i, column j of the weights is num[72 i + j] / den[72 i + j], in lowest
- *            terms with positive denominator; 0/1 in all unused cells. Cells past WALZHIK_CELLS are never touched.
+ * num, den   at least WALZHIK_CELLS cells each: row i, column j of the last part's weights, both counted from the part's first,
+ *            is num[72 i + j] / den[72 i + j], in lowest terms with positive denominator; 0/1 in all unused cells. Cells
+ *            past WALZHIK_CELLS are never touched. The weights of any part are those of its own lists alone.
  * coefs      2 n numbers, each from -1000000 to 1000000 thousandths of a millimetre: the earlywood and the latewood
  *            coefficient of each row, side by side. Each wood part has a curve of its own over the same weights.
  * positions  up to 4096 positions in 256ths of a ring, in any order, each within the span. A position on a join is read
@@ -29,16 +31,17 @@
  * Numbers of a refusal, tested in this order (8 and 9 as the build meets them), with their places
  * (WALZHIK_LARGEST_PLACE also stands for anything larger):
  *   1  a buffer is too short: num (0), den (1), values, with fewer than two cells a position (2)
- *   2  the list lengths don't fit one m from 1 to 12 (0); over 4096 positions (1)
- *   3  breakpoint: out of range or not above the one before; then, place m, a span over 2000
+ *   2  the list lengths don't fit one m from 1 to 48 (0); over 4096 positions (1)
+ *   3  breakpoint: out of range or not above the one before; then the last one of a part with a span over 2000
  *   4  segment: degree out of range
  *   5  join: order out of range
+ *  15  segment: the first of a part with more than 12 segments
  *   6  entry, each number of a pair by itself: coefficient out of range; WALZHIK_LARGEST_PLACE, tested first: the count
  *      of numbers is not 2 n
  *   7  entry: position outside the span
  *   8  join: a counted fraction has a numerator's size or a denominator of 2^31 or more
  *   9  join: the jumps lack the needed shape
- * After 1 to 7 all buffers are unchanged. After 8 and 9 the first WALZHIK_CELLS cells of num and den are 0/1, and the
+ * After 1 to 7 and 15 all buffers are unchanged. After 8 and 9 the first WALZHIK_CELLS cells of num and den are 0/1, and the
  * values are unchanged. walzhik_build never gives 6, 7, or the places of 1 and 2 that name values and positions.
  */
 #ifndef WALZHIK_H

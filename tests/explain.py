@@ -46,11 +46,11 @@ explain, plot = tool("explain"), tool("plot")
 
 # What the words must say for each number, as a pattern over the entry's numbers.
 PATTERNS = {
-    2: (r"degrees= lists (no stretches|[\d,]+ stretches): a curve has 1 to 12\.",
+    2: (r"degrees= lists (no stretches|[\d,]+ stretches): a curve has 1 to 48\.",
         r"degrees= lists \d+ stretch(es)?, which need \d+ breakpoints and (no|\d+) orders?, but breaks= lists .*\."),
     3: (r"Breakpoint {place} is {entry}: each is from -10,000 to 10,000\.",
         r"Breakpoint {place} is {entry}, but breakpoint \d+, before it, is -?\d+: each is above the one before\.",
-        r"Breakpoint {place} is {entry} and breakpoint 0 is -?\d+, a span of [\d,]+ rings: at most 2,000\."),
+        r"Breakpoint {place} is {entry} and breakpoint \d+ is -?\d+, a span of [\d,]+ rings without a scar: at most 2,000\."),
     4: (r"Stretch {place}, from ring -?\d+ to ring -?\d+, has degree {entry}: each degree is from 1 to 5\.",),
     5: (r"Join {place}, at ring -?\d+, has order {entry}: an order is -1 \(a scar\), 0, 1 or 2\.",
         r"Join {place}, at ring -?\d+, has order {entry}, but the stretch before it has degree \d: at most \d\.",
@@ -61,6 +61,8 @@ PATTERNS = {
     7: (r"Entry {place} of at= is {entry}, ring .*, before the first breakpoint, ring -?\d+: at least -?\d+ .*\.",
         r"Entry {place} of at= is {entry}, ring .*, past the last breakpoint, ring -?\d+: at most -?\d+ .*\."),
     8: (r"Join {place}, at ring -?\d+, has order 2 between .*2,147,483,648 .*\.",),
+    15: (r"From stretch {place}, at ring -?\d+, \d+ stretches follow .*, to ring -?\d+: a curve has at most 12\.",
+         r"From stretch {place}, at ring -?\d+, \d+ stretches follow .*, to ring -?\d+: a part between scars has at most 12\."),
 }
 LISTS = {3: "breaks", 4: "degrees", 5: "orders", 7: "at"}
 PLACES_OF_TEN = (r"The file has more than 65,536 bytes: at most 65,536\.", *(rf"Line {line}\b.*\." for line in range(1, 7)))

@@ -19,10 +19,10 @@ ACCEPTED, REFUSED, UNREADABLE = 0, 1, 2
 # The pictures, each of the sheet of its name, with what else tools/plot is given.
 NARROW = ["--narrow"]
 DRAWN = {"step_1": NARROW, "step_2": NARROW, "step_3": NARROW, "step_4": NARROW,
-         "order_0": NARROW, "order_1": NARROW, "order_2": NARROW, "low": [],
+         "order_0": NARROW, "order_1": NARROW, "order_2": NARROW, "low": [], "beam": [],
          "roof": ["--measured", "examples/oak.rwl", "--earlywood", "ROOF04E", "--latewood", "ROOF04L"]}
 IN_README = "refused_5"
-COMMANDS = ("target/bin/sheet", "tools/explain", "tools/plot", "rt check sheet", "seq -s,")
+COMMANDS = ("target/bin/sheet", "target/bin/tucson", "tools/explain", "tools/plot", "rt check sheet", "rt check tucson", "seq -s,")
 faults = []
 
 

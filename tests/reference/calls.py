@@ -26,17 +26,20 @@ class Outcome(NamedTuple):
     """What a call leaves behind.
 
     `rows` is None where the weight buffers are unchanged, an empty list where
-    all 5,184 cells are 0/1, else the weight rows. `values` is None where the
+    all 5,184 cells are 0/1, else the weight rows of the whole beam. `corner` is
+    the row and column of the last part's first. `values` is None where the
     values buffer is unchanged, else a pair for each position.
     """
     reply: Reply
     rows: Optional[list] = None
     values: Optional[list] = None
+    corner: tuple = (0, 0)
 
     def cells(self):
-        """The non-zero weights by cell, cells rising."""
-        return {SIDE * place + column: weight
-                for place, row in enumerate(self.rows)
+        """The last part's non-zero weights by cell, cells rising."""
+        first_row, first_column = self.corner
+        return {SIDE * place + column - first_column: weight
+                for place, row in enumerate(self.rows[first_row:])
                 for column, weight in row.items()}
 
 
@@ -56,7 +59,7 @@ def build_outcome(breaks, degrees, orders, num_length, den_length):
         rows = build_rows(space)
     except Refusal as refusal:
         return refused(refusal, rows=[])
-    return Outcome(Reply(len(rows), 0, 0), rows)
+    return Outcome(Reply(len(rows), 0, 0), rows, corner=space.last_part_corner())
 
 
 def curve_outcome(breaks, degrees, orders, coefs, positions,
@@ -76,7 +79,7 @@ def curve_outcome(breaks, degrees, orders, coefs, positions,
     except Refusal as refusal:
         return refused(refusal, rows=[])
     values = curve_values(space, by_column(space, rows), coefs, positions)
-    return Outcome(Reply(len(values), 0, 0), rows, values)
+    return Outcome(Reply(len(values), 0, 0), rows, values, space.last_part_corner())
 
 
 def expand_weights(outcome, num, den):

@@ -1,7 +1,7 @@
 """Random cases from a seed: calls of build and curve, and sheets.
 
 The mix of calls: 40 in 100 legal lists, 14 of order 2 near or over the size
-limit (number 8), 28 damaged once and 10 twice (numbers 1 to 7 evenly), 5 with
+limit (number 8), 28 damaged once and 10 twice (numbers 1 to 7 and 15 evenly), 5 with
 extreme 32-bit entries, 3 with lists of any length and content. A third are
 build calls. The mix of sheets: 35 in 100 legal, 20 with lists as in the mix of
 calls, 45 with damaged text (number 10). The same seed gives the same cases.

@@ -4,12 +4,13 @@ They stand apart so that no other file of the reference model holds a bare
 number, and a change of a limit is a change of one line.
 """
 
-SIDE = 72                    # rows and columns of the weight table
+SIDE = 72                    # rows and columns of the table that the buffers hold
 CELLS = SIDE * SIDE          # cells of one weight buffer that a call may write
 
-MOST_SEGMENTS = 12           # document 01 says stretch for segment
+MOST_SEGMENTS = 48           # of a beam; document 01 says stretch for segment
+MOST_PART_SEGMENTS = 12      # of a part of a beam, between discontinuities
 BREAKPOINT_LIMIT = 10_000    # size of a breakpoint
-SPAN_LIMIT = 2_000           # last breakpoint minus first
+SPAN_LIMIT = 2_000           # last breakpoint minus first, of a part
 LEAST_DEGREE = 1
 MOST_DEGREE = 5
 DISCONTINUITY = -1           # the order of a join without condition: a scar
@@ -19,6 +20,8 @@ COEFFICIENT_LIMIT = 1_000_000
 MOST_POSITIONS = 4_096
 UNIT = 256                   # positions are 256ths of a ring, values 256ths too
 PARTS = 2                    # of a ring: earlywood and latewood, side by side in lists
+
+ORDINATE_LIMIT = 256_000_000 # of the ordinates that coefficients are recovered from
 
 SIZE_LIMIT = 2 ** 31         # counted numerators and denominators stay below
 LARGEST_PLACE = 2 ** 32 - 1  # stands for every larger place too

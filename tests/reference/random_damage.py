@@ -1,14 +1,16 @@
 """Random damage: each function breaks one rule of one call.
 
-There is one function for each number from 1 to 7. Damage to a list may
+There is one function for each number from 1 to 7 and for 15. Damage to a list may
 happen to leave it legal (a repeated draw, say); the model decides what a call
 is answered, so nothing here promises a number.
 """
 
 from limits import (BREAKPOINT_LIMIT, CELLS, COEFFICIENT_LIMIT, MOST_DEGREE,
-                    MOST_ORDER, MOST_POSITIONS, MOST_SEGMENTS, PARTS, SPAN_LIMIT, UNIT)
+                    MOST_ORDER, MOST_PART_SEGMENTS, MOST_POSITIONS, MOST_SEGMENTS, PARTS,
+                    SPAN_LIMIT, UNIT)
 from protocol import Lent
-from random_spaces import MANY, SHORT, breaks_from, fill, pick
+from random_spaces import MANY, SHORT, breaks_from, fill, joined_parts, part_lists, pick
+from space import Space
 
 EXTREMES = (-2 ** 31, -2 ** 31 + 1, 2 ** 31 - 1, 2 ** 31 - 2, -2 ** 30, 2 ** 30,
             2 ** 24, -2 ** 24, -2 ** 16, 2 ** 16, -1, 0, 1)
@@ -73,10 +75,19 @@ def bad_lengths(rng, call):
 
 
 def over_long_span(rng, call):
-    segments = len(call.degrees)
-    lengths = [rng.randint(1, SHORT) for _ in range(segments)]
-    over = rng.choice((1, 1, 2, rng.randint(1, SPAN_LIMIT)))
-    lengths[rng.randrange(segments)] += SPAN_LIMIT + over - sum(lengths)
+    """One part too long; the others short, or as long as a part may be."""
+    parts = Space(call.breaks, call.degrees, call.orders).parts()
+    chosen = rng.randrange(len(parts))
+    room = len(parts) <= SHORT
+    lengths = []
+    for place, (first, end) in enumerate(parts):
+        part = [rng.randint(1, SHORT) for _ in range(first, end)]
+        if place == chosen:
+            over = rng.choice((1, 1, 2, rng.randint(1, SPAN_LIMIT)))
+            part[rng.randrange(end - first)] += SPAN_LIMIT + over - sum(part)
+        elif room and rng.random() < 0.3:
+            part[0] += SPAN_LIMIT - sum(part)
+        lengths += part
     return call._replace(breaks=breaks_from(rng, lengths))
 
 
@@ -106,6 +117,19 @@ def bad_order(rng, call):
     return call._replace(orders=with_entry(call.orders, place, entry))
 
 
+def crowded_part(rng, call):
+    """Number 15: a part with more than 12 segments, among others or alone."""
+    crowded = MOST_PART_SEGMENTS + rng.choice((1, 1, 1, rng.randint(1, MOST_PART_SEGMENTS)))
+    others = [part_lists(rng, rng.randint(1, SHORT)) for _ in range(rng.randint(0, SHORT))]
+    degrees = [rng.randint(1, MOST_DEGREE) for _ in range(crowded)]
+    part = ([rng.randint(1, SHORT) for _ in degrees], degrees, [0] * (crowded - 1))
+    place = rng.randint(0, len(others))
+    lengths, degrees, orders = joined_parts(others[:place] + [part] + others[place:])
+    if sum(lengths) > 2 * BREAKPOINT_LIMIT:
+        lengths = [rng.randint(1, SHORT) for _ in lengths]
+    return call._replace(breaks=breaks_from(rng, lengths), degrees=degrees, orders=orders)
+
+
 def bad_coefficient(rng, call):
     if rng.random() < 0.4 or not call.coefs:
         given = len(call.coefs)
@@ -129,7 +153,7 @@ def bad_position(rng, call):
                          values=lent)
 
 
-BUILD_DAMAGE = [short_buffer, bad_lengths, bad_breakpoint, bad_degree, bad_order]
+BUILD_DAMAGE = [short_buffer, bad_lengths, bad_breakpoint, bad_degree, bad_order, crowded_part]
 CURVE_DAMAGE = BUILD_DAMAGE + [bad_coefficient, bad_position]
 
 

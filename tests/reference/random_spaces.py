@@ -6,8 +6,8 @@ joins and discontinuities) come up as often as the plain middle.
 """
 
 from limits import (BREAKPOINT_LIMIT, CELLS, COEFFICIENT_LIMIT, DISCONTINUITY,
-                    LEAST_DEGREE, MOST_DEGREE, MOST_ORDER, MOST_POSITIONS,
-                    MOST_SEGMENTS, PARTS, SPAN_LIMIT, UNIT)
+                    LEAST_DEGREE, MOST_DEGREE, MOST_ORDER, MOST_PART_SEGMENTS,
+                    MOST_POSITIONS, MOST_SEGMENTS, PARTS, SPAN_LIMIT, UNIT)
 from protocol import Lent
 from reading import side_by_side
 
@@ -26,7 +26,8 @@ def pick(rng, weighted):
 
 def segment_count(rng):
     return pick(rng, [(10, 1), (45, rng.randint(2, 4)),
-                      (30, rng.randint(5, MOST_SEGMENTS - 1)), (15, MOST_SEGMENTS)])
+                      (30, rng.randint(5, MOST_PART_SEGMENTS - 1)),
+                      (15, MOST_PART_SEGMENTS)])
 
 
 def any_degree(rng):
@@ -92,17 +93,57 @@ def breaks_from(rng, lengths):
     span = sum(lengths)
     start = pick(rng, [(30, 0), (30, rng.randint(-BREAKPOINT_LIMIT, BREAKPOINT_LIMIT - span)),
                        (15, -BREAKPOINT_LIMIT), (15, BREAKPOINT_LIMIT - span), (10, -span)])
-    breaks = [start]
+    breaks = [min(max(start, -BREAKPOINT_LIMIT), BREAKPOINT_LIMIT - span)]
     for length in lengths:
         breaks.append(breaks[-1] + length)
     return breaks
 
 
+def part_lists(rng, segments):
+    """Lengths, degrees and orders of one part, or of more where an order is -1."""
+    degrees = degree_list(rng, segments)
+    return length_list(rng, segments), degrees, order_list(rng, degrees)
+
+
+def joined_parts(parts):
+    """The lists of a beam: a discontinuity between each two of the parts."""
+    lengths, degrees, orders = [], [], []
+    for part_lengths, part_degrees, part_orders in parts:
+        orders += [DISCONTINUITY] * bool(degrees) + part_orders
+        lengths += part_lengths
+        degrees += part_degrees
+    return lengths, degrees, orders
+
+
+def part_counts(rng):
+    """The segments of each part of a beam."""
+    style = pick(rng, [(60, "few"), (15, "ones"), (15, "full"), (10, "most")])
+    if style == "ones":
+        return [1] * rng.choice((2, SOME, MOST_SEGMENTS))
+    if style == "full":
+        return [MOST_PART_SEGMENTS] * rng.randint(2, MOST_SEGMENTS // MOST_PART_SEGMENTS)
+    counts, most = [], rng.randint(2, MOST_PART_SEGMENTS if style == "few" else MOST_SEGMENTS)
+    while sum(counts) < most:
+        counts.append(rng.randint(1, min(MOST_PART_SEGMENTS, most - sum(counts))))
+    return counts
+
+
+def beam_lists(rng):
+    """Lengths, degrees and orders of a beam of several parts; the whole lies in
+    the range of the breakpoints, with parts as long as may be now and then."""
+    parts = [part_lists(rng, count) for count in part_counts(rng)]
+    lengths, degrees, orders = joined_parts(parts)
+    if sum(lengths) > 2 * BREAKPOINT_LIMIT:
+        lengths = [rng.randint(1, MIDDLE) for _ in lengths]
+    return lengths, degrees, orders
+
+
 def space_lists(rng):
     """Breakpoints, degrees and orders that break no rule for lists."""
-    segments = segment_count(rng)
-    degrees = degree_list(rng, segments)
-    return breaks_from(rng, length_list(rng, segments)), degrees, order_list(rng, degrees)
+    style = pick(rng, [(85, "one part"), (15, "beam")])
+    lists = part_lists(rng, segment_count(rng)) if style == "one part" else beam_lists(rng)
+    lengths, degrees, orders = lists
+    return breaks_from(rng, lengths), degrees, orders
 
 
 # Lengths and degrees of spaces of order 2 beside the size limit: the least spans
@@ -128,7 +169,7 @@ def near_size_limit(rng):
 
 
 def any_of_order_two(rng):
-    segments = rng.randint(2, MOST_SEGMENTS)
+    segments = rng.randint(2, MOST_PART_SEGMENTS)
     degrees = [rng.randint(MOST_ORDER + 1, MOST_DEGREE) for _ in range(segments)]
     most = rng.choice((SHORT, 2 * SHORT, MIDDLE, SPAN_LIMIT // segments))
     return [rng.randint(1, most) for _ in range(segments)], degrees
@@ -137,7 +178,13 @@ def any_of_order_two(rng):
 def sized_space_lists(rng):
     """A space of order 2 near or over the size limit of counted fractions."""
     lengths, degrees = pick(rng, [(1, near_size_limit), (2, any_of_order_two)])(rng)
-    return breaks_from(rng, lengths), degrees, highest_orders(degrees)
+    parts = [(lengths, degrees, highest_orders(degrees))]
+    if rng.random() < 0.3:                         # first, in the middle or last
+        others = [part_lists(rng, rng.randint(1, SHORT)) for _ in range(rng.randint(1, FEW))]
+        place = rng.randint(0, len(others))
+        parts = others[:place] + parts + others[place:]
+    lengths, degrees, orders = joined_parts(parts)
+    return breaks_from(rng, lengths), degrees, orders
 
 
 def row_count(degrees, orders):

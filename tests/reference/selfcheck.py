@@ -4,8 +4,8 @@ usage: selfcheck.py [--count N] [--seed S]
 
 First W1 to W10 with all that is stated of them and the sheet's number 10, then
 the sparse form of random calls against full buffers, then random spaces with
-all that the demands promise, then Tucson texts and lists. Exits non-zero on any
-difference.
+all that the demands promise, then Tucson texts and lists, then coefficients
+from ordinates. Exits non-zero on any difference.
 """
 
 import argparse
@@ -22,11 +22,13 @@ from protocol import (SAME, VALUE_BITS, WEIGHT_BITS, call_line, listed_cells, re
                       result_line)
 from random_sheets import padded
 from reading import rounded
+from recoverycheck import check_recovery
 from spacecheck import check_spaces
 from tucsoncheck import check_tucson
 from walzhik_reference import build, build_outcome, curve, sheet
 
 SPACES = 3_000
+RECOVERY_SHARE = 3       # one call that recovers coefficients for so many spaces
 EXPANDED = 300           # random calls whose full buffers are compared
 ROUNDED = 20             # size of the parts of the quotients that are rounded
 HALF = Fraction(1, 2)
@@ -186,6 +188,7 @@ def main():
     check_protocol(tally, seed, EXPANDED)
     check_spaces(tally, seed, chosen.count)
     check_tucson(tally, seed, chosen.count)
+    check_recovery(tally, seed, chosen.count // RECOVERY_SHARE)
     print(f"selfcheck: {tally.passed} passed, {tally.failed} failed")
     return 1 if tally.failed else 0
 

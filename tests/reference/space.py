@@ -1,8 +1,9 @@
 """Multi-degree spline spaces and the refusals 1 to 7 of document 01, with the
-pairs of document 02's CR 10.
+pairs of document 02's CR 10 and the beams of its CR 7.
 
-A space is three lists: breakpoints, degrees and continuity orders. Every
-test here looks at lists and lengths only and comes before anything is built.
+A space is three lists: breakpoints, degrees and continuity orders. It is a beam
+of one part or more, cut at its discontinuities. Every test here looks at lists
+and lengths only and comes before anything is built.
 """
 
 from itertools import accumulate
@@ -10,11 +11,13 @@ from typing import NamedTuple
 
 from limits import (BREAKPOINT_LIMIT, CELLS, COEFFICIENT_LIMIT, DISCONTINUITY,
                     LARGEST_PLACE, LEAST_DEGREE, MOST_DEGREE, MOST_ORDER,
-                    MOST_POSITIONS, MOST_SEGMENTS, PARTS, SPAN_LIMIT, UNIT)
+                    MOST_PART_SEGMENTS, MOST_POSITIONS, MOST_SEGMENTS, PARTS,
+                    SPAN_LIMIT, UNIT)
 
 # The numbers of document 01's table.
 SHORT_BUFFER, BAD_LENGTHS, BAD_BREAKPOINT, BAD_DEGREE, BAD_ORDER = 1, 2, 3, 4, 5
 BAD_COEFFICIENT, BAD_POSITION, TOO_LARGE, BAD_JUMPS, BAD_TEXT = 6, 7, 8, 9, 10
+TOO_MANY_SEGMENTS = 15
 
 
 class Refusal(Exception):
@@ -43,6 +46,17 @@ class Space(NamedTuple):
 
     def row_count(self):
         return self.column_count() - sum(order + 1 for order in self.orders)
+
+    def parts(self):
+        """The (first segment, segment past the last) of each part, from the left."""
+        cuts = [join + 1 for join, order in enumerate(self.orders) if order == DISCONTINUITY]
+        return list(zip([0] + cuts, cuts + [len(self.degrees)]))
+
+    def last_part_corner(self):
+        """The rows and columns of all parts but the last."""
+        first = self.parts()[-1][0]
+        columns = sum(self.degrees[:first]) + first
+        return columns - sum(order + 1 for order in self.orders[:first]), columns
 
 
 def check_buffers(lengths):
@@ -75,14 +89,16 @@ def check_position_count(positions):
         raise Refusal(BAD_LENGTHS, 1)
 
 
-def check_breaks(breaks):
-    """Number 3: every breakpoint first, the span only after all of them."""
+def check_breaks(space):
+    """Number 3: every breakpoint first, the spans of the parts only after all of them."""
+    breaks = space.breaks
     for place, point in enumerate(breaks):
         rising = place == 0 or point > breaks[place - 1]
         if abs(point) > BREAKPOINT_LIMIT or not rising:
             raise Refusal(BAD_BREAKPOINT, place)
-    if breaks[-1] - breaks[0] > SPAN_LIMIT:
-        raise Refusal(BAD_BREAKPOINT, len(breaks) - 1)
+    for first, end in space.parts():
+        if breaks[end] - breaks[first] > SPAN_LIMIT:
+            raise Refusal(BAD_BREAKPOINT, end)
 
 
 def check_degrees(degrees):
@@ -98,11 +114,19 @@ def check_orders(space):
             raise Refusal(BAD_ORDER, place)
 
 
+def check_parts(space):
+    """Number 15, at the part's first segment."""
+    for first, end in space.parts():
+        if end - first > MOST_PART_SEGMENTS:
+            raise Refusal(TOO_MANY_SEGMENTS, first)
+
+
 def check_space(space):
-    """Numbers 3 to 5, for lists whose lengths fit."""
-    check_breaks(space.breaks)
+    """Numbers 3 to 5 and 15, for lists whose lengths fit."""
+    check_breaks(space)
     check_degrees(space.degrees)
     check_orders(space)
+    check_parts(space)
 
 
 def check_coefs(coefs, row_count):

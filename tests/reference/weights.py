@@ -1,6 +1,6 @@
 """The weights of a space, by document 01's "Building the weights".
 
-A table is a list of rows; a row maps a column to its non-zero weight, columns
+A beam is built whole here, as one table, though the engine builds its parts. A table is a list of rows; a row maps a column to its non-zero weight, columns
 rising. Zero weights are left out: products, sums and mixtures of zeros are
 zero, so none of them can be counted as too large.
 """
@@ -16,9 +16,14 @@ ZERO = Fraction(0)
 ONE = Fraction(1)
 
 
+def fits(fraction):
+    """The size limit on the fraction in lowest terms."""
+    return abs(fraction.numerator) < SIZE_LIMIT and fraction.denominator < SIZE_LIMIT
+
+
 def counted(fraction, join):
-    """Number 8: the fraction itself where its size in lowest terms is allowed."""
-    if abs(fraction.numerator) >= SIZE_LIMIT or fraction.denominator >= SIZE_LIMIT:
+    """Number 8: the fraction itself where its size is allowed."""
+    if not fits(fraction):
         raise Refusal(TOO_LARGE, join)
     return fraction
 
@@ -84,14 +89,24 @@ def mix(upper, share, lower, rest, join):
     return mixed
 
 
-def step(rows, condition, join):
-    """One null-space step: one row fewer, and no row has a jump any more."""
+def step_shares(rows, condition, join):
+    """The jumps of all rows, the first and last row that jumps, and their shares."""
     jumps = [row_jump(row, condition, join) for row in rows]
     first, last = jump_range(jumps, join)
-    shares = kept_shares(jumps, first, last, join)
+    return jumps, first, last, kept_shares(jumps, first, last, join)
+
+
+def stepped(rows, first, last, shares, join):
+    """The rows with those from first to last mixed: one fewer."""
     mixed = [mix(rows[i], shares[i], rows[i + 1], 1 - shares[i + 1], join)
              for i in range(first, last)]
     return rows[:first] + mixed + rows[last + 1:]
+
+
+def step(rows, condition, join):
+    """One null-space step: one row fewer, and no row has a jump any more."""
+    _, first, last, shares = step_shares(rows, condition, join)
+    return stepped(rows, first, last, shares, join)
 
 
 def join_conditions(space):

@@ -1,25 +1,27 @@
 -- The theorems at some spaces, with numbers: one of order 1 whose counted fractions nearly reach the limit, W5 with three
 -- weights on the join's ordinate, a segment of degree 3 with order 2 at both joins, the one case in which a step changes what
--- an earlier join left, the shortest space that number 8 refuses, and
--- a curve call.
+-- an earlier join left, the shortest space that number 8 refuses, a beam of two parts, and a curve call.
 use mathlib.Core.Path.{_≡_, refl}
 use mathlib.Core.Bool.{not}
-use mathlib.Core.List.{List, [], _∷_}
-use Prim.Native.Nat.{ℕ, zero, suc, _<_}
+use mathlib.Core.List.{List, [], _∷_, _++_}
+use mathlib.Core.Option.{none}
+use Prim.Native.Nat.{ℕ, zero, suc, _-_, _*_, _<_}
 use native.Mathlib.Omega.{arith}
 use lib.Dec.{T}
 use lib.IntN.{ℤ, pos, negsuc}
 use lib.ListN.{length, getD}
+use lib.Signed.{ltZ}
 use Rattle.exact.specs.Gcd.{gcd, gcdF}
 use Rattle.exact.specs.Rational.{mk, int, inv, _+ᵠ_, _*ᵠ_, -ᵠ_, _//_}
 use Rattle.exact.specs.Order.{isZero, ltᵠ}
 use Rattle.exact.specs.Sum.{sum}
 use Rattle.exact.specs.Tabulate.{tab}
 use Rattle.exact.proofs.Integer.{≤-refl}
+use Rattle.exact.proofs.Word.{ltZ-false}
 use Rattle.fraction.specs.Size.{fits}
 use Rattle.spline.specs.Outcome.{answer, refusal, capped, collect, repeat}
 use Rattle.spline.specs.Search.{first, last}
-use Rattle.spline.specs.Space.{Space, lengthsFit, badBreak, spanTooLong, badDegree, badOrder, checkedEntries, checked, firstColumn, conditionsBefore}
+use Rattle.spline.specs.Space.{Space, segments, order, lengthsFit, badBreak, startsPart, partEnd, spanTooLong, tooManySegments, badDegree, badOrder, checkedEntries, checked, firstColumn, conditionsBefore}
 use Rattle.spline.specs.Conditions.{falling, binomial, alternating, undivided, commonDivisor, conditions}
 use Rattle.spline.specs.Table.{Table, cell, identity}
 use Rattle.spline.specs.Step.{count, addProducts, span, partialSum, quotientFactor, factors, newEntry, newRows, step}
@@ -29,6 +31,7 @@ use Rattle.spline.specs.Reading.{latewood}
 use Rattle.spline.specs.CurveCall.{badCoefficient, badPosition, curveOutcome, returned, valuesAfter}
 use Rattle.spline.specs.ExactCurve.{Legal}
 use Rattle.spline.specs.Piecewise.{Accepted}
+use Rattle.spline.proofs.Search.{first-none-inverts}
 use Rattle.theorems.proofs.Instances.{q0, q1}
 use Rattle.acceptance.specs.Acceptance.{OrdersAtMostOne, EightAtOrderTwo}
 use Rattle.acceptance.specs.Curves.{WithinLimits}
@@ -47,7 +50,7 @@ abbrev nearSpace : Space
 nearSpace = space (0 ∷ 1 ∷ 2000 ∷ []) (5 ∷ 4 ∷ []) (pos 1 ∷ [])
 
 near-checked : checked nearSpace ≡ answer nearSpace
-unfolding lengthsFit badBreak spanTooLong badDegree badOrder checkedEntries checked first
+unfolding lengthsFit badBreak startsPart partEnd spanTooLong tooManySegments badDegree badOrder checkedEntries checked first
 near-checked = refl
 
 near-orders : OrdersAtMostOne nearSpace
@@ -71,7 +74,7 @@ nearTable =
     (q0 ∷ q0 ∷ q0 ∷ q0 ∷ q0 ∷ q0 ∷ q0 ∷ q0 ∷ q0 ∷ q0 ∷ q1 ∷ []) ∷ []
 
 near-weights : spaceWeights nearSpace ≡ answer nearTable
-unfolding gcd gcdF mk int inv _+ᵠ_ _*ᵠ_ -ᵠ_ _//_ isZero ltᵠ sum tab fits capped collect repeat first last lengthsFit badBreak spanTooLong badDegree badOrder checkedEntries checked firstColumn conditionsBefore falling binomial alternating undivided commonDivisor conditions identity count addProducts span partialSum quotientFactor factors newEntry newRows step orderSteps joinSteps weights spaceWeights
+unfolding gcd gcdF mk int inv _+ᵠ_ _*ᵠ_ -ᵠ_ _//_ isZero ltᵠ sum tab fits capped collect repeat first last lengthsFit badBreak startsPart partEnd spanTooLong tooManySegments badDegree badOrder checkedEntries checked firstColumn conditionsBefore falling binomial alternating undivided commonDivisor conditions identity count addProducts span partialSum quotientFactor factors newEntry newRows step orderSteps joinSteps weights spaceWeights
 near-weights = refl
 
 -- two weights on the join's ordinate, as many as the theorem allows
@@ -90,7 +93,7 @@ table5 =
     (q0 ∷ q0 ∷ q0 ∷ q0 ∷ q0 ∷ q0 ∷ q0 ∷ q1 ∷ []) ∷ []
 
 weights5 : spaceWeights space5 ≡ answer table5
-unfolding gcd gcdF mk int inv _+ᵠ_ _*ᵠ_ -ᵠ_ _//_ isZero ltᵠ sum tab fits capped collect repeat first last lengthsFit badBreak spanTooLong badDegree badOrder checkedEntries checked firstColumn conditionsBefore falling binomial alternating undivided commonDivisor conditions identity count addProducts span partialSum quotientFactor factors newEntry newRows step orderSteps joinSteps weights spaceWeights
+unfolding gcd gcdF mk int inv _+ᵠ_ _*ᵠ_ -ᵠ_ _//_ isZero ltᵠ sum tab fits capped collect repeat first last lengthsFit badBreak startsPart partEnd spanTooLong tooManySegments badDegree badOrder checkedEntries checked firstColumn conditionsBefore falling binomial alternating undivided commonDivisor conditions identity count addProducts span partialSum quotientFactor factors newEntry newRows step orderSteps joinSteps weights spaceWeights
 weights5 = refl
 
 three5 : weightCount table5 3 ≡ 3
@@ -113,7 +116,7 @@ bothTable =
 
 -- the second join makes 1/2, 1/2 of the first one's on ordinate 1 of the middle segment into 2/3, 1/3
 both-weights : spaceWeights bothSpace ≡ answer bothTable
-unfolding gcd gcdF mk int inv _+ᵠ_ _*ᵠ_ -ᵠ_ _//_ isZero ltᵠ sum tab fits capped collect repeat first last lengthsFit badBreak spanTooLong badDegree badOrder checkedEntries checked firstColumn conditionsBefore falling binomial alternating undivided commonDivisor conditions identity count addProducts span partialSum quotientFactor factors newEntry newRows step orderSteps joinSteps weights spaceWeights
+unfolding gcd gcdF mk int inv _+ᵠ_ _*ᵠ_ -ᵠ_ _//_ isZero ltᵠ sum tab fits capped collect repeat first last lengthsFit badBreak startsPart partEnd spanTooLong tooManySegments badDegree badOrder checkedEntries checked firstColumn conditionsBefore falling binomial alternating undivided commonDivisor conditions identity count addProducts span partialSum quotientFactor factors newEntry newRows step orderSteps joinSteps weights spaceWeights
 both-weights = refl
 
 -- the ordinates of the middle segment have 3, 2, 2 and 3 weights
@@ -148,11 +151,39 @@ abbrev refusedSpace : Space
 refusedSpace = space (0 ∷ 1 ∷ 21 ∷ 22 ∷ []) (5 ∷ 3 ∷ 4 ∷ []) (pos 2 ∷ pos 2 ∷ [])
 
 refused : spaceWeights refusedSpace ≡ refusal 8 1
-unfolding gcd gcdF mk int inv _+ᵠ_ _*ᵠ_ -ᵠ_ _//_ isZero ltᵠ sum tab fits capped collect repeat first last lengthsFit badBreak spanTooLong badDegree badOrder checkedEntries checked firstColumn conditionsBefore falling binomial alternating undivided commonDivisor conditions identity count addProducts span partialSum quotientFactor factors newEntry newRows step orderSteps joinSteps weights spaceWeights
+unfolding gcd gcdF mk int inv _+ᵠ_ _*ᵠ_ -ᵠ_ _//_ isZero ltᵠ sum tab fits capped collect repeat first last lengthsFit badBreak startsPart partEnd spanTooLong tooManySegments badDegree badOrder checkedEntries checked firstColumn conditionsBefore falling binomial alternating undivided commonDivisor conditions identity count addProducts span partialSum quotientFactor factors newEntry newRows step orderSteps joinSteps weights spaceWeights
 refused = refl
 
 refused-at-two : EightAtOrderTwo refusedSpace 1
 refused-at-two = eight-comes-at-order-two refusedSpace 1 refused
+
+-- ---- a beam: two parts of 7 segments of degree 2, each with a span of 1,995, with order 1 at all joins but the one between
+
+abbrev beam : Space
+beam = record { breaks = tab 15 (λ i. pos (285 * i)); degrees = tab 14 (λ i. pos 2); orders = tab 6 (λ j. pos 1) ++ (negsuc 0 ∷ tab 6 (λ j. pos 1)) }
+
+beam-checked : checked beam ≡ answer beam
+unfolding tab lengthsFit badBreak startsPart partEnd spanTooLong tooManySegments badDegree badOrder checkedEntries checked first
+beam-checked = refl
+
+none-above : first (segments beam - 1) (λ k. ltZ (pos 1) (order beam k)) ≡ none
+unfolding tab first
+none-above = refl
+
+beam-orders : OrdersAtMostOne beam
+beam-orders j h = ltZ-false (pos 1) (order beam j) (first-none-inverts (λ k. ltZ (pos 1) (order beam k)) (segments beam - 1) none-above j h)
+
+beam-accepted : Accepted beam
+beam-accepted = low-orders-are-accepted beam beam-checked beam-orders
+
+-- two weights on the ordinate at the first part's last join, one at its end
+beam-two : weightCount (beam-accepted .table) 17 ≡ 2
+unfolding tab firstColumn rightConditions
+beam-two = weights-are-counted beam beam-accepted 5 2 (omega arith) (omega arith)
+
+beam-one : weightCount (beam-accepted .table) 20 ≡ 1
+unfolding tab firstColumn rightConditions
+beam-one = weights-are-counted beam beam-accepted 6 2 (omega arith) (omega arith)
 
 -- ---- a curve call: W1's space and positions, with any four coefficients within their limits
 
@@ -167,7 +198,7 @@ abbrev positions1 : List ℤ
 positions1 = pos 256 ∷ pos 512 ∷ []
 
 within1 : WithinLimits space1 coefs1 positions1 5184 5184 4
-unfolding lengthsFit badBreak spanTooLong badDegree badOrder checkedEntries checked first firstColumn conditionsBefore badCoefficient badPosition
+unfolding lengthsFit badBreak startsPart partEnd spanTooLong tooManySegments badDegree badOrder checkedEntries checked first firstColumn conditionsBefore badCoefficient badPosition
 within1 = record { lists = refl; coefficientCount = refl; coefficients = coefficients; positionCount = omega arith; inSpan = inside; numerators = omega arith; denominators = omega arith; values = omega arith }
   where
     coefficients : (i : ℕ) → i < length coefs1 → T (not (badCoefficient coefs1 i))

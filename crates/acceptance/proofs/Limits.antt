@@ -1,18 +1,20 @@
 -- The few facts of a legal space that this crate rests on, in one record: lengths and degrees of the segments, and at each
 -- join the count of its conditions and, where it has any, the length of its two segments together.
-use mathlib.Core.Path.{_≡_, ap}
+use mathlib.Core.Path.{_≡_, sym, _∙_, ap}
 use mathlib.Core.Logic.{_⊎_, inl, inr}
-use mathlib.Core.Bool.{false, not, _||_}
+use mathlib.Core.Bool.{false, not, _&&_, _||_}
 use Prim.Native.Nat.{ℕ, zero, suc, _+_, _-_, _<_, _≤_}
 use native.Mathlib.Omega.{arith}
 use native.Mathlib.Nat.{eq-or-lt-of-le}
+use borrow.Author.Tests.{ne-eqb}
 use lib.IntN.{ℤ, pos, negsuc, _+ℤ_, _-ℤ_, negℤ, natAbs}
-use lib.Signed.{leZ, _≤ℤ_, _<ℤ_}
-use Rattle.exact.proofs.Decide.{or-false}
+use lib.Signed.{leZ, ltZ, _≤ℤ_, _<ℤ_}
+use Rattle.exact.proofs.Decide.{true-not-false, or-false}
 use Rattle.exact.proofs.Integer.{up, dn, ext, bal-+, bal-neg, ≤-in, ≤-out, <-out, ≤-refl, <-≤, rises}
 use Rattle.exact.proofs.Word.{ltZ-false, is-pos}
-use Rattle.spline.specs.Space.{Space, segments, break, degreeEntry, order, between, spanLimit, degreeLimit, spanTooLong, badDegree, badOrder, degree, width, conditionCount}
+use Rattle.spline.specs.Space.{Space, segments, break, degreeEntry, order, between, spanLimit, degreeLimit, startsPart, partEnd, spanTooLong, badDegree, badOrder, degree, width, conditionCount}
 use Rattle.spline.proofs.Space.{between-inverts}
+use Rattle.spline.proofs.Parts.{Ends, part-ends, InPart, segment-in-part}
 use Rattle.spline.proofs.Legal.{Checked, legal, good-break-rises}
 use Rattle.acceptance.specs.Acceptance.{safeOrder}
 use Rattle.acceptance.specs.ClosedForms.{fullCount}
@@ -61,20 +63,38 @@ module _ (s : Space) (c : Checked s) where
       go (inl z) = rw z (≤-refl (break s n))
       go (inr l) = <-≤ (break s i) (break s n) (rises (break s) (segments s) step-rises i n l k)
 
-  -- two neighbouring segments lie within the whole span
-  within-span : (j : ℕ) → j < segments s - 1 → width s j + width s (suc j) ≤ spanLimit
+  -- the two segments of a join that has conditions lie in one part
+  joined : (j : ℕ) → j < segments s - 1 → 0 < conditionCount s j → (x : InPart s j) → suc j < partEnd s (x .start)
+  unfolding startsPart
+  joined j h m x = go (eq-or-lt-of-le (x .to))
+    where
+      ends : Ends s (x .start) (partEnd s (x .start))
+      ends = part-ends s (x .start) (omega (arith, x .from))
+
+      go : (suc j ≡ partEnd s (x .start)) ⊎ (suc j < partEnd s (x .start)) → suc j < partEnd s (x .start)
+      go (inl z) = absurd (true-not-false (ap (startsPart s) z ∙ ends .boundary .starts (omega arith)) (ne-eqb (conditionCount s j) 0 (λ e. omega arith)))
+      go (inr l) = l
+
+  -- and so within its span
+  within-span : (j : ℕ) → j < segments s - 1 → 0 < conditionCount s j → width s j + width s (suc j) ≤ spanLimit
   unfolding spanTooLong
-  within-span j h =
-      let a = ≤-out _ _ (mono 0 j (omega arith) (omega arith)) in
-      let b = ≤-out _ _ (mono (suc (suc j)) (segments s) (omega arith) (omega arith)) in
-      let x = <-out _ _ (step-rises j (omega arith)) in
-      let y = <-out _ _ (step-rises (suc j) (omega arith)) in
-      let g = ≤-out _ _ (ltZ-false (pos spanLimit) (break s (segments s) -ℤ break s 0) (c .span)) in
-      go (break s 0) (break s j) (break s (suc j)) (break s (suc (suc j))) (break s (segments s)) a x y b g
+  within-span j h m = among (segment-in-part s j (omega arith))
     where
       go : (o x y z e : ℤ) → up o + dn x ≤ dn o + up x → up x + dn y < dn x + up y → up y + dn z < dn y + up z → up z + dn e ≤ dn z + up e
           → up (e -ℤ o) + dn (pos spanLimit) ≤ dn (e -ℤ o) + up (pos spanLimit) → natAbs (y -ℤ x) + natAbs (z -ℤ y) ≤ spanLimit
       go o x y z e a b c d g = omega (arith, bal-+ e (negℤ o), bal-neg o, distance x y b, distance y z c)
+
+      among : InPart s j → width s j + width s (suc j) ≤ spanLimit
+      among p =
+          let end = partEnd s (p .start) in
+          let last = part-ends s (p .start) (omega (arith, p .from)) .boundary .within in
+          let a = ≤-out _ _ (mono (p .start) j (p .from) (omega arith)) in
+          let b = ≤-out _ _ (mono (suc (suc j)) end (joined j h m p) last) in
+          let x = <-out _ _ (step-rises j (omega arith)) in
+          let y = <-out _ _ (step-rises (suc j) (omega arith)) in
+          let short = sym (ap (λ t. t && ltZ (pos spanLimit) (break s end -ℤ break s (p .start))) (p .starts)) ∙ c .spans (p .start) (omega (arith, p .from)) in
+          let g = ≤-out _ _ (ltZ-false (pos spanLimit) (break s end -ℤ break s (p .start)) short) in
+          go (break s (p .start)) (break s j) (break s (suc j)) (break s (suc (suc j))) (break s end) a x y b g
 
   pub limits : Limits s
   unfolding badDegree badOrder
@@ -85,7 +105,7 @@ module _ (s : Space) (c : Checked s) where
     few-conditions = λ j h. count-size (order s j) (test j h);
     low-degree = λ i h. degree-size (degreeEntry s i) (c .degrees i h);
     count-is-order = λ j h. order-counts (order s j) (test j h);
-    neighbours = λ j h c. within-span j h;
+    neighbours = within-span;
   }
     where
       test : (j : ℕ) → j < segments s - 1 → not (between (negℤ (pos 1)) (pos 2) (order s j)) ≡ false

@@ -7,7 +7,7 @@ use native.Mathlib.Omega.{arith}
 use native.Mathlib.Decide.{decLt, ℕ-discrete}
 use lib.IntN.{pos}
 use Rattle.exact.specs.Rational.{int}
-use Rattle.exact.proofs.Decide.{le-or-lt}
+use Rattle.exact.proofs.Decide.{le-or-lt, true-not-false}
 use Rattle.fraction.specs.Size.{limit}
 use Rattle.spline.specs.Outcome.{answer, refusal, _then_, repeat}
 use Rattle.spline.specs.Space.{Space, segments, order, conditionCount, columnCount, checked}
@@ -134,5 +134,5 @@ eight-comes-at-order-two s place e = go (then-breaks (checked s) weights e)
         }
 
     go : Broken (checked s) weights 8 place → EightAtOrderTwo s place
-    go (first-refuses p) = absurd (omega (arith, checked-numbers s p))
+    go (first-refuses p) = absurd (true-not-false refl (checked-numbers s p))
     go (second-refuses s′ p q) = let c = checked-inverts s p in at (c .1) (weights-refused s (c .1) (ap weights (c .0) ∙ q))

@@ -1,11 +1,12 @@
 -- Number 9 never comes: at every stage the jumps have the shape that it asks for.
-use mathlib.Core.Path.{_≡_, _∙_, ap}
+use mathlib.Core.Path.{_≡_, refl, _∙_, ap}
 use mathlib.Core.Bool.{Bool, true, false, cond}
 use mathlib.Core.List.{List, [], _∷_}
 use Prim.Native.Nat.{ℕ, _-_, _<_}
 use native.Mathlib.Omega.{arith}
 use lib.Dec.{T, ltb}
 use Rattle.exact.specs.Rational.{ℚ}
+use Rattle.exact.proofs.Decide.{true-not-false}
 use Rattle.spline.specs.Outcome.{refusal, refuse}
 use Rattle.spline.specs.Space.{Space, segments, conditionCount, checked}
 use Rattle.spline.specs.Conditions.{Entry, conditions}
@@ -48,7 +49,7 @@ unfolding spaceWeights
 nine-never-comes s place e = go (then-breaks (checked s) weights e)
   where
     go : Broken (checked s) weights 9 place → ⊥
-    go (first-refuses p) = omega (arith, checked-numbers s p)
+    go (first-refuses p) = true-not-false refl (checked-numbers s p)
     go (second-refuses s′ p q) = let c = checked-inverts s p in weights-not-nine s (c .1) (ap weights (c .0) ∙ q)
 
 pub building-never-gives-nine : BuildingNeverGivesNine

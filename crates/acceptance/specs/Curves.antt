@@ -13,7 +13,8 @@ use Rattle.spline.specs.Table.{tableCells}
 use Rattle.spline.specs.CurveCall.{positionLimit, badCoefficient, badPosition, curveOutcome, returned}
 use Rattle.acceptance.specs.Acceptance.{OrdersAtMostOne}
 
--- Lists, coefficients, positions and buffers within document 01's limits: what the numbers 1 to 7 ask for.
+-- Lists, coefficients, positions and buffers within document 01's limits, the lists part by part: what the numbers 1 to 7 and
+-- 15 ask for.
 pub record WithinLimits (s : Space) (coefs positions : List ℤ) (numLength denLength valuesLength : ℕ) : Type 0 where
   pub lists : checked s ≡ answer s
   pub coefficientCount : length coefs ≡ 2 * rowCount s

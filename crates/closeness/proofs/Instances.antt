@@ -1,8 +1,8 @@
 -- The theorems at document 01's cases with numbers, W1 as the earlywood and W2 as the latewood of one call, and W9: the
 -- hypotheses can be met, and at 512 the values 4267 and -4266 differ from the exact 12800/3 and -12800/3 by at most
 -- (s + p)/2 = 2, the first between 0 and 25600, the second between -25600 and 0. Then two spaces in which a limit of step 1
--- acts, and one whose values differ by more than (s + p - 1)/2 on either side.
-use mathlib.Core.Path.{_≡_, refl, _∙_, ap, subst}
+-- acts, one whose values differ by more than (s + p - 1)/2 on either side, and a beam of two parts.
+use mathlib.Core.Path.{_≡_, refl, sym, _∙_, ap, subst}
 use mathlib.Core.Bool.{not}
 use mathlib.Core.List.{List, [], _∷_}
 use Prim.Native.Nat.{ℕ, zero, suc, _+_, _*_, _<_, _≤_}
@@ -22,23 +22,26 @@ use Rattle.exact.proofs.Integer.{up}
 use Rattle.fraction.specs.Size.{fits}
 use Rattle.spline.specs.Outcome.{answer, capped, collect, repeat}
 use Rattle.spline.specs.Search.{first, last, howMany}
-use Rattle.spline.specs.Space.{Space, lengthsFit, badBreak, spanTooLong, badDegree, badOrder, checkedEntries, checked, firstColumn, conditionsBefore}
+use Rattle.spline.specs.Space.{Space, lengthsFit, badBreak, startsPart, partEnd, lastPartStart, spanTooLong, tooManySegments, badDegree, badOrder, checkedEntries, checked, firstColumn, conditionsBefore}
 use Rattle.spline.specs.Conditions.{falling, binomial, alternating, undivided, commonDivisor, conditions}
 use Rattle.spline.specs.Table.{Table, cell, identity}
 use Rattle.spline.specs.Step.{count, addProducts, span, partialSum, quotientFactor, factors, newEntry, newRows, step}
 use Rattle.spline.specs.Build.{orderSteps, joinSteps, weights, spaceWeights}
 use Rattle.spline.specs.Piecewise.{Accepted}
 use Rattle.spline.specs.Reading.{fine, startsAtDiscontinuity, startsBy, segmentAt, WoodPart, earlywood, latewood, partIndex, Pair, sideBySide, rounded, term, termSum, best, ordinate, ordinates, blend, triangle, blended, valueAt, pairAt, values}
-use Rattle.spline.specs.CurveCall.{badCoefficient, badPosition, curveOutcome, returned, valuesAfter}
+use Rattle.spline.specs.CurveCall.{badCoefficient, badPosition, curveChecked, curveRead, curveOutcome, returned, valuesAfter, curveEnd}
 use Rattle.spline.specs.Cases.{space, pair, forBoth, space1, space9, upperLimitSpace, lowerLimitSpace}
 use Rattle.spline.specs.ExactCurve.{power, bernsteinAt, exactTerm, exactOn, exactCurve, largest, mostWeights, weighsOn, leastOn, greatestOn, Legal}
-use Rattle.theorems.proofs.Instances.{q0, q1}
+use Rattle.theorems.specs.Cells.{HoldsFraction, lastPartCell}
+use Rattle.theorems.proofs.Published.{weights-are-published}
+use Rattle.theorems.proofs.Instances.{q0, q1, lent, lent-length, beam, beamTable, acceptedBeam}
 use Rattle.closeness.specs.Demand3Values.{closeness, Close}
 use Rattle.closeness.proofs.Weights.{weight-num-le-den}
 use Rattle.closeness.proofs.Positions.{positions-between-belong-between, discontinuities-belong-before, other-joins-belong-after, first-breakpoint-belongs-first, last-breakpoint-belongs-last}
 use Rattle.closeness.proofs.LegalCall.{legal-calls-answer, legal-calls-return-count, answered-calls-are-legal}
 use Rattle.closeness.proofs.Demand3Values.{exact-at-most-value-and-closeness, value-at-most-exact-and-closeness, value-at-least-least, value-at-most-greatest}
 use Rattle.closeness.proofs.Cells.{cells-are-close, cells-past-are-kept}
+use Rattle.closeness.proofs.WeightCells.{curve-cells-hold-published-weights}
 
 -- ---- W1 and W2: breaks 0,1,3, degrees 2,2, order 1
 
@@ -57,7 +60,7 @@ abbrev positions1 : List ℤ
 positions1 = pos 256 ∷ pos 512 ∷ []
 
 accepted1 : Accepted space1
-unfolding gcd gcdF mk int inv _+ᵠ_ _*ᵠ_ -ᵠ_ _//_ isZero ltᵠ sum tab fits capped collect repeat first last lengthsFit badBreak spanTooLong badDegree badOrder checkedEntries checked firstColumn conditionsBefore falling binomial alternating undivided commonDivisor conditions identity count addProducts span partialSum quotientFactor factors newEntry newRows step orderSteps joinSteps weights spaceWeights
+unfolding gcd gcdF mk int inv _+ᵠ_ _*ᵠ_ -ᵠ_ _//_ isZero ltᵠ sum tab fits capped collect repeat first last lengthsFit badBreak startsPart partEnd spanTooLong tooManySegments badDegree badOrder checkedEntries checked firstColumn conditionsBefore falling binomial alternating undivided commonDivisor conditions identity count addProducts span partialSum quotientFactor factors newEntry newRows step orderSteps joinSteps weights spaceWeights
 accepted1 = record { table = table1; is = refl }
 
 coefficients1 : (i : ℕ) → i < length coefs1 → T (not (badCoefficient coefs1 i))
@@ -198,7 +201,7 @@ abbrev upperCoefs : List ℤ
 upperCoefs = pos 0 ∷ pos 1 ∷ pos 0 ∷ pos 1 ∷ pos 0 ∷ pos 1 ∷ pos 0 ∷ pos 1 ∷ []
 
 upper-accepted : Accepted upperLimitSpace
-unfolding gcd gcdF mk int inv _+ᵠ_ _*ᵠ_ -ᵠ_ _//_ isZero ltᵠ sum tab fits capped collect repeat first last lengthsFit badBreak spanTooLong badDegree badOrder checkedEntries checked firstColumn conditionsBefore falling binomial alternating undivided commonDivisor conditions identity count addProducts span partialSum quotientFactor factors newEntry newRows step orderSteps joinSteps weights spaceWeights
+unfolding gcd gcdF mk int inv _+ᵠ_ _*ᵠ_ -ᵠ_ _//_ isZero ltᵠ sum tab fits capped collect repeat first last lengthsFit badBreak startsPart partEnd spanTooLong tooManySegments badDegree badOrder checkedEntries checked firstColumn conditionsBefore falling binomial alternating undivided commonDivisor conditions identity count addProducts span partialSum quotientFactor factors newEntry newRows step orderSteps joinSteps weights spaceWeights
 upper-accepted = record { table = upperTable; is = refl }
 
 upper-sum : termSum upperTable (λ i. pos 1) 3 4 ≡ pos 257
@@ -230,7 +233,7 @@ abbrev lowerCoefs : List ℤ
 lowerCoefs = pos 1 ∷ pos 0 ∷ pos 1 ∷ pos 0 ∷ pos 1 ∷ pos 0 ∷ pos 1 ∷ pos 0 ∷ pos 1 ∷ pos 0 ∷ pos 1 ∷ pos 0 ∷ []
 
 lower-accepted : Accepted lowerLimitSpace
-unfolding gcd gcdF mk int inv _+ᵠ_ _*ᵠ_ -ᵠ_ _//_ isZero ltᵠ sum tab fits capped collect repeat first last lengthsFit badBreak spanTooLong badDegree badOrder checkedEntries checked firstColumn conditionsBefore falling binomial alternating undivided commonDivisor conditions identity count addProducts span partialSum quotientFactor factors newEntry newRows step orderSteps joinSteps weights spaceWeights
+unfolding gcd gcdF mk int inv _+ᵠ_ _*ᵠ_ -ᵠ_ _//_ isZero ltᵠ sum tab fits capped collect repeat first last lengthsFit badBreak startsPart partEnd spanTooLong tooManySegments badDegree badOrder checkedEntries checked firstColumn conditionsBefore falling binomial alternating undivided commonDivisor conditions identity count addProducts span partialSum quotientFactor factors newEntry newRows step orderSteps joinSteps weights spaceWeights
 lower-accepted = record { table = lowerTable; is = refl }
 
 lower-sum : termSum lowerTable (λ i. pos 1) 4 6 ≡ pos 255
@@ -264,7 +267,7 @@ abbrev farCoefs : List ℤ
 farCoefs = pos 0 ∷ pos 0 ∷ pos 1 ∷ negsuc 0 ∷ negsuc 0 ∷ pos 1 ∷ pos 0 ∷ pos 0 ∷ []
 
 far-accepted : Accepted farSpace
-unfolding gcd gcdF mk int inv _+ᵠ_ _*ᵠ_ -ᵠ_ _//_ isZero ltᵠ sum tab fits capped collect repeat first last lengthsFit badBreak spanTooLong badDegree badOrder checkedEntries checked firstColumn conditionsBefore falling binomial alternating undivided commonDivisor conditions identity count addProducts span partialSum quotientFactor factors newEntry newRows step orderSteps joinSteps weights spaceWeights
+unfolding gcd gcdF mk int inv _+ᵠ_ _*ᵠ_ -ᵠ_ _//_ isZero ltᵠ sum tab fits capped collect repeat first last lengthsFit badBreak startsPart partEnd spanTooLong tooManySegments badDegree badOrder checkedEntries checked firstColumn conditionsBefore falling binomial alternating undivided commonDivisor conditions identity count addProducts span partialSum quotientFactor factors newEntry newRows step orderSteps joinSteps weights spaceWeights
 far-accepted = record { table = farTable; is = refl }
 
 far-closeness : closeness farSpace farTable (pos 508) ≡ int (pos 2)
@@ -318,11 +321,11 @@ abbrev pub coefs9 : List ℤ
 coefs9 = sideBySide (forBoth (pos 0 ∷ pos 10 ∷ pos 20 ∷ pos 30 ∷ []))
 
 checked9 : checked space9 ≡ answer space9
-unfolding capped first lengthsFit badBreak spanTooLong badDegree badOrder checkedEntries checked
+unfolding capped first lengthsFit badBreak startsPart partEnd spanTooLong tooManySegments badDegree badOrder checkedEntries checked
 checked9 = refl
 
 unfoldable pub accepted9 : Accepted space9
-unfolding gcd gcdF mk int tab capped collect repeat first lengthsFit badBreak spanTooLong badDegree badOrder checkedEntries checked firstColumn conditionsBefore identity orderSteps joinSteps weights spaceWeights
+unfolding gcd gcdF mk int tab capped collect repeat first lengthsFit badBreak startsPart partEnd spanTooLong tooManySegments badDegree badOrder checkedEntries checked firstColumn conditionsBefore identity orderSteps joinSteps weights spaceWeights
 accepted9 = record { table = table9; is = refl }
 
 segments9 : (segmentAt space9 (pos 0) ≡ 0) × ((segmentAt space9 (pos 256) ≡ 0) × ((segmentAt space9 (pos 257) ≡ 1) × (suc (segmentAt space9 (pos 512)) ≡ 2)))
@@ -344,8 +347,30 @@ at-most9 = subst (λ z. valueAt space9 table9 earlywood coefs9 (pos 256) ≤ℤ 
 -- ---- W1: the join of order 1 belongs to the segment that starts there
 
 checked1 : checked space1 ≡ answer space1
-unfolding capped first lengthsFit badBreak spanTooLong badDegree badOrder checkedEntries checked
+unfolding capped first lengthsFit badBreak startsPart partEnd spanTooLong tooManySegments badDegree badOrder checkedEntries checked
 checked1 = refl
 
 join1 : segmentAt space1 (pos 256) ≡ 1
 join1 = other-joins-belong-after space1 checked1 0 (omega arith) (λ e. let z : _≡_ {A = ℕ} 1 0 = ap up e in absurd (omega arith))
+
+-- ---- a beam of two parts: after a curve call the weight buffers hold the second one, which is W4
+
+abbrev beamCoefs : List ℤ
+beamCoefs = sideBySide (forBoth (pos 0 ∷ pos 10 ∷ pos 0 ∷ pos 7 ∷ pos 7 ∷ pos 0 ∷ pos 0 ∷ []))
+
+-- on the discontinuity, and on the join of the second part
+abbrev beamPositions : List ℤ
+beamPositions = pos 256 ∷ pos 512 ∷ []
+
+beam-answers : curveOutcome beam beamCoefs beamPositions 6000 6000 6000 ≡ answer (record { table = beamTable; values = forBoth (pos 2560 ∷ pos 1792 ∷ []) })
+unfolding gcd gcdF mk int inv _+ᵠ_ _*ᵠ_ -ᵠ_ _//_ isZero ltᵠ sum nearest tab fits capped collect repeat first last lengthsFit badBreak startsPart partEnd spanTooLong tooManySegments badDegree badOrder checkedEntries checked firstColumn conditionsBefore falling binomial alternating undivided commonDivisor conditions identity count addProducts span partialSum quotientFactor factors newEntry newRows step orderSteps joinSteps weights startsAtDiscontinuity startsBy segmentAt rounded term termSum best ordinate ordinates blend triangle blended valueAt pairAt values sideBySide badCoefficient badPosition curveChecked curveRead curveOutcome
+beam-answers = refl
+
+beam-legal : Legal beam beamCoefs beamPositions (length lent) (length lent) (length lent)
+beam-legal = subst (λ n. Legal beam beamCoefs beamPositions n n n) (sym lent-length) (answered-calls-are-legal beam beamCoefs beamPositions 6000 6000 6000 (record { table = beamTable; values = forBoth (pos 2560 ∷ pos 1792 ∷ []) }) beam-answers)
+
+-- cell 74 holds 4/7
+beam-held : HoldsFraction (pos 4 // 6) (curveEnd beam beamCoefs beamPositions lent lent lent .numerators) (curveEnd beam beamCoefs beamPositions lent lent lent .denominators) 74
+unfolding last startsPart lastPartStart firstColumn conditionsBefore acceptedBeam
+beam-held = subst (λ t. HoldsFraction (lastPartCell beam t 1 2) (curveEnd beam beamCoefs beamPositions lent lent lent .numerators) (curveEnd beam beamCoefs beamPositions lent lent lent .denominators) 74) (sym (weights-are-published beam acceptedBeam))
+    (curve-cells-hold-published-weights beam beamCoefs beamPositions lent lent lent beam-legal 1 2 (omega arith) (omega arith))

@@ -14,13 +14,13 @@ use Rattle.spline.specs.Outcome.{Outcome, answer, refusal, refuse, largestPlace
 use Rattle.spline.specs.Search.{first}
 use Rattle.spline.specs.Space.{Space, lengthsFit, refuseFirst, checkedEntries, checked, rowCount}
 use Rattle.spline.specs.Table.{Table, tableCells}
-use Rattle.spline.specs.Build.{weights, spaceWeights}
+use Rattle.spline.specs.Build.{weights, spaceWeights, clears}
 use Rattle.spline.specs.Reading.{pairAt, values}
 use Rattle.spline.specs.CurveCall.{positionLimit, badCoefficient, badPosition, legalEntries, curveChecked, curveRead, curveOutcome}
 use Rattle.spline.specs.ExactCurve.{Legal}
-use Rattle.spline.proofs.Outcome.{answer-unique, answer-not-refusal, then-answers, Chained, then-inverts}
+use Rattle.spline.proofs.Outcome.{answer-unique, answer-not-refusal, then-answers, Chained, then-inverts, then-breaks, Broken, first-refuses, second-refuses}
 use Rattle.spline.proofs.Search.{first-none, first-none-inverts}
-use Rattle.spline.proofs.Legal.{checked-inverts, refuseFirst-inverts, cond-refuse-inverts, fitting-inverts}
+use Rattle.spline.proofs.Legal.{checked-inverts, checked-numbers, refuseFirst-inverts, cond-refuse-inverts, fitting-inverts, keeping-refusal, keeping-first}
 use Rattle.spline.proofs.Pairs.{le-half, half-le}
 use Rattle.theorems.proofs.Built.{built}
 use Rattle.closeness.specs.Demand3Values.{legalResult, LegalCallsAnswer, LegalCallsReturnCount, AnsweredCallsAreLegal}
@@ -88,7 +88,7 @@ entries-passed s coefs positions e =
     let c = refuseFirst-inverts 7 (first (length positions) (badPosition s positions)) (answer s) (b .1) in
     (record { count = eqb→eq (length coefs) (2 * rowCount s) (true-holds (a .0)); coefficients = b .0; positions-inside = c .0 }, answer-unique refl (c .1))
 
--- What the answer of the tests 2 to 7 tells.
+-- What the answer of the tests 2 to 7 and 15 tells.
 pub record ChecksPassed (s : Space) (coefs positions : List ℤ) : Type 0 where
   pub space : checked s ≡ answer s
   pub few : length positions ≤ positionLimit
@@ -108,6 +108,27 @@ checks-passed s coefs positions {s′} e =
     go : lengthsFit s ≡ true → length positions ≤ positionLimit → Chained (checkedEntries s) (λ legal. legalEntries legal coefs positions (answer legal)) s′ → ChecksPassed s coefs positions × (s ≡ s′)
     go fit few c = let k = cond-true (checkedEntries s) (refuse 2 0) fit ∙ c .before in
         finish (c .middle) few k (checked-inverts s k .0) (entries-passed (c .middle) coefs positions (c .after))
+
+-- the checks of a curve call give neither 8 nor 9
+pub curve-checks : (s : Space) (coefs positions : List ℤ) {number place : ℕ} → curveChecked s coefs positions ≡ refusal number place → clears number ≡ false
+unfolding curveChecked checked
+curve-checks s coefs positions {number} {place} e = fit (lengthsFit s) refl e
+  where
+    entries : (legal : Space) (b : Bool) → cond b (refuseFirst 6 (first (length coefs) (badCoefficient coefs)) (refuseFirst 7 (first (length positions) (badPosition legal positions)) (answer legal))) (refuse 6 largestPlace) ≡ refusal number place → clears number ≡ false
+    entries legal true r = keeping-first 6 (first (length coefs) (badCoefficient coefs)) _ refl (keeping-first 7 (first (length positions) (badPosition legal positions)) (answer legal) refl (λ r. absurd (answer-not-refusal refl r))) r
+    entries legal false r = keeping-refusal 6 largestPlace refl r
+
+    listed : lengthsFit s ≡ true → Broken (checkedEntries s) (λ legal. legalEntries legal coefs positions (answer legal)) number place → clears number ≡ false
+    listed f (first-refuses p) = checked-numbers s (ap (λ b. cond b (checkedEntries s) (refuse 2 0)) f ∙ p)
+    listed f (second-refuses legal p q) = entries legal (eqb (length coefs) (2 * rowCount legal)) q
+
+    few : lengthsFit s ≡ true → (b : Bool) → cond b (refuse 2 1) (checkedEntries s then λ legal. legalEntries legal coefs positions (answer legal)) ≡ refusal number place → clears number ≡ false
+    few f true r = keeping-refusal 2 1 refl r
+    few f false r = listed f (then-breaks (checkedEntries s) (λ legal. legalEntries legal coefs positions (answer legal)) r)
+
+    fit : (b : Bool) → lengthsFit s ≡ b → cond b (cond (ltb positionLimit (length positions)) (refuse 2 1) (checkedEntries s then λ legal. legalEntries legal coefs positions (answer legal))) (refuse 2 0) ≡ refusal number place → clears number ≡ false
+    fit true f r = few f (ltb positionLimit (length positions)) r
+    fit false f r = keeping-refusal 2 0 refl r
 
 pub answered-calls-are-legal : AnsweredCallsAreLegal
 unfolding curveOutcome curveRead spaceWeights

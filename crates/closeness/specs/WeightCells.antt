@@ -1,19 +1,20 @@
 -- What the theorems say of the two weight buffers after a curve call: a legal call leaves the published construction's weights
--- in them, as building does.
+-- of the last part in them, as building does.
 use mathlib.Core.List.{List}
 use Prim.Native.Nat.{ℕ, _+_, _*_, _<_}
 use lib.IntN.{ℤ}
 use lib.ListN.{length}
 use Rattle.spline.specs.Space.{Space}
-use Rattle.spline.specs.Table.{cell, rowCells}
+use Rattle.spline.specs.Table.{rowCells}
 use Rattle.spline.specs.Published.{extraction}
 use Rattle.spline.specs.CurveCall.{curveEnd}
 use Rattle.spline.specs.ExactCurve.{Legal}
-use Rattle.theorems.specs.Cells.{HoldsFraction}
+use Rattle.theorems.specs.Cells.{HoldsFraction, lastPartCell}
 
--- After a legal curve call, cell 72·i + c holds the published weight of row i on column c, and 0/1 outside the table.
+-- After a legal curve call, cell 72·i + c holds the published weight of the last part's row i on its column c, and 0/1 outside
+-- the table.
 abbrev pub CurveCellsHoldPublishedWeights : Type 0
 CurveCellsHoldPublishedWeights = (s : Space) (coefs positions num den values : List ℤ)
     → Legal s coefs positions (length num) (length den) (length values)
     → (i c : ℕ) → i < rowCells → c < rowCells
-    → HoldsFraction (cell (extraction s) i c) (curveEnd s coefs positions num den values .numerators) (curveEnd s coefs positions num den values .denominators) (rowCells * i + c)
+    → HoldsFraction (lastPartCell s (extraction s) i c) (curveEnd s coefs positions num den values .numerators) (curveEnd s coefs positions num den values .denominators) (rowCells * i + c)

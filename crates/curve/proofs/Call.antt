@@ -1,6 +1,7 @@
 -- What the curve call ends with, case by case, and what the machine answers and leaves in each.
-use mathlib.Core.Path.{_≡_, refl, sym, _∙_, ap}
+use mathlib.Core.Path.{_≡_, sym, _∙_, ap}
 use mathlib.Core.Logic.{_⊎_, inl, inr}
+use mathlib.Core.Bool.{false}
 use mathlib.Core.List.{List, [], _++_}
 use Prim.Native.Nat.{ℕ, _*_, _/_, _<_, _≤_}
 use native.Mathlib.Omega.{arith}
@@ -9,28 +10,22 @@ use lib.IntN.{ℤ, pos, natAbs}
 use lib.ListN.{length, getD, drop, List·getD-eq-default}
 use Rattle.exact.proofs.Decide.{le-or-lt, cond-true, cond-false}
 use Rattle.spline.specs.Outcome.{Outcome, answer, refusal, capped, with-answer, _then_}
-use Rattle.spline.specs.Space.{Space, columnCount, rowCount}
+use Rattle.spline.specs.Space.{Space, rowCount}
 use Rattle.spline.specs.Table.{Table, tableCells, numerators, denominators}
-use Rattle.spline.specs.Build.{weights, spaceWeights, numeratorsAfter, denominatorsAfter}
+use Rattle.spline.specs.Build.{weights, lastPart, clears, numeratorsAfter, denominatorsAfter}
 use Rattle.spline.specs.Reading.{Pair, sideBySide, values}
 use Rattle.spline.specs.CurveCall.{CurveResult, badCoefficient, badPosition, curveChecked, curveRead, curveOutcome, returned, curveNumerators, curveDenominators, valuesAfter}
 use Rattle.spline.proofs.Outcome.{then-answers, then-refuses}
 use Rattle.spline.proofs.Search.{first-none-inverts}
-use Rattle.spline.proofs.Build.{long-enough, not-cleared}
+use Rattle.spline.proofs.Build.{long-enough}
 use Rattle.closeness.proofs.LegalCall.{ChecksPassed, checks-passed}
-use Rattle.closeness.proofs.Weights.{weight-num-le-den}
 use Rattle.space.specs.Reply.{space, legality}
 use Rattle.space.specs.Legal.{ListsLegal}
 use Rattle.space.specs.declared.Legality.the-variants.{Legal}
 use Rattle.space.proofs.Reply.{legal-answers}
-use Rattle.space.proofs.Legal.{checked-legal, legal-column-count-high}
-use Rattle.cells.specs.Held.{Holds}
-use Rattle.weights.specs.Reply as building
-use Rattle.weights.specs.declared.Built.the-variants as builts
-use Rattle.cells.proofs.Buffer.{holds-left}
-use Rattle.weights.proofs.Stepped.{Proper, weights-proper}
+use Rattle.space.proofs.Legal.{checked-legal}
 use Rattle.curve.specs.Reply.{reply}
-use Rattle.ordinates.specs.Ordinates.{Weighs, Coefficients}
+use Rattle.ordinates.specs.Ordinates.{Coefficients}
 use Rattle.triangle.specs.Offsets.{Within}
 use Rattle.curve.specs.declared.Answer.{Answer}
 use Rattle.curve.specs.declared.Answer.the-variants.{Values, Refused}
@@ -38,39 +33,40 @@ use Rattle.limits.proofs.Entries.{good-coefficient, good-position}
 
 -- ---- what a call answers and leaves, by its outcome
 
-pub record Ends (o : Outcome CurveResult) (r : Answer) (num den vs num′ den′ vs′ : List ℤ) : Type 0 where
-  pub answers : reply r ≡ returned o
-  pub numerators-are : num′ ≡ curveNumerators o num
-  pub denominators-are : den′ ≡ curveDenominators o den
-  pub values-are : vs′ ≡ valuesAfter o vs
+module _ (s : Space) where
+  pub record Ends (o : Outcome CurveResult) (r : Answer) (num den vs num′ den′ vs′ : List ℤ) : Type 0 where
+    pub answers : reply r ≡ returned o
+    pub numerators-are : num′ ≡ curveNumerators s o num
+    pub denominators-are : den′ ≡ curveDenominators s o den
+    pub values-are : vs′ ≡ valuesAfter o vs
 
-module _ {o : Outcome CurveResult} (num den vs : List ℤ) where
-  -- a refusal: the two buffers as after building, the values as they were
-  pub ends-refused : {number place : ℕ} {num′ den′ : List ℤ} → o ≡ refusal number place → num′ ≡ numeratorsAfter (refusal number place) num → den′ ≡ denominatorsAfter (refusal number place) den
-      → Ends o (Refused number place) num den vs num′ den′ vs
-  unfolding reply valuesAfter
-  ends-refused e p q = record {
-    answers = sym (ap returned e);
-    numerators-are = p ∙ sym (ap (λ x. curveNumerators x num) e);
-    denominators-are = q ∙ sym (ap (λ x. curveDenominators x den) e);
-    values-are = sym (ap (λ x. valuesAfter x vs) e);
-  }
+  module _ {o : Outcome CurveResult} (num den vs : List ℤ) where
+    -- a refusal: the two buffers as after building, the values as they were
+    pub ends-refused : {number place : ℕ} {num′ den′ : List ℤ} → o ≡ refusal number place → num′ ≡ numeratorsAfter (refusal number place) num → den′ ≡ denominatorsAfter (refusal number place) den
+        → Ends o (Refused number place) num den vs num′ den′ vs
+    unfolding reply valuesAfter
+    ends-refused e p q = record {
+      answers = sym (ap returned e);
+      numerators-are = p ∙ sym (ap (λ x. curveNumerators s x num) e);
+      denominators-are = q ∙ sym (ap (λ x. curveDenominators s x den) e);
+      values-are = sym (ap (λ x. valuesAfter x vs) e);
+    }
 
-  -- a refusal that is not 8 or 9 leaves the buffers
-  pub ends-unchanged : {number place : ℕ} → o ≡ refusal number place → number ≤ 7 → Ends o (Refused number place) num den vs num den vs
-  unfolding numeratorsAfter denominatorsAfter
-  ends-unchanged {number} e h = ends-refused e (sym (cond-false (numerators [] num) num (not-cleared number h))) (sym (cond-false (denominators [] den) den (not-cleared number h)))
+    -- a refusal that is not 8 or 9 leaves the buffers
+    pub ends-unchanged : {number place : ℕ} → o ≡ refusal number place → clears number ≡ false → Ends o (Refused number place) num den vs num den vs
+    unfolding numeratorsAfter denominatorsAfter
+    ends-unchanged e h = ends-refused e (sym (cond-false (numerators [] num) num h)) (sym (cond-false (denominators [] den) den h))
 
-  -- the pairs of m positions
-  pub ends-written : {t : Table} {written : List Pair} {m : ℕ} {num′ den′ vs′ : List ℤ} → o ≡ answer (record { table = t; values = written }) → length written ≡ m
-      → num′ ≡ numerators t num → den′ ≡ denominators t den → vs′ ≡ sideBySide written ++ drop (2 * m) vs → Ends o (Values m) num den vs num′ den′ vs′
-  unfolding reply valuesAfter numeratorsAfter denominatorsAfter
-  ends-written {written = written} e l p q w = record {
-    answers = ap answer (sym l) ∙ sym (ap returned e);
-    numerators-are = p ∙ sym (ap (λ x. curveNumerators x num) e);
-    denominators-are = q ∙ sym (ap (λ x. curveDenominators x den) e);
-    values-are = w ∙ ap (λ n. sideBySide written ++ drop (2 * n) vs) (sym l) ∙ sym (ap (λ x. valuesAfter x vs) e);
-  }
+    -- the pairs of m positions
+    pub ends-written : {t : Table} {written : List Pair} {m : ℕ} {num′ den′ vs′ : List ℤ} → o ≡ answer (record { table = t; values = written }) → length written ≡ m
+        → num′ ≡ numerators (lastPart s t) num → den′ ≡ denominators (lastPart s t) den → vs′ ≡ sideBySide written ++ drop (2 * m) vs → Ends o (Values m) num den vs num′ den′ vs′
+    unfolding reply valuesAfter numeratorsAfter denominatorsAfter
+    ends-written {written = written} e l p q w = record {
+      answers = ap answer (sym l) ∙ sym (ap returned e);
+      numerators-are = p ∙ sym (ap (λ x. curveNumerators s x num) e);
+      denominators-are = q ∙ sym (ap (λ x. curveDenominators s x den) e);
+      values-are = w ∙ ap (λ n. sideBySide written ++ drop (2 * n) vs) (sym l) ∙ sym (ap (λ x. valuesAfter x vs) e);
+    }
 
 -- ---- the call's outcome
 
@@ -107,23 +103,6 @@ module _ (s : Space) (coefs positions : List ℤ) (numLength denLength valuesLen
       unfolding curveRead
       call-answers e = all-long ∙ then-answers (curveRead coefs positions) c ∙ ap (with-answer (λ t. record { table = t; values = values s t coefs positions })) e
 
--- ---- what building answered
-
-pub refused-inverts : (o : Outcome Table) (n : ℕ) {number place : ℕ} → building.reply (builts.Refused number place) ≡ with-answer (λ _. n) o → o ≡ refusal number place
-unfolding building.reply
-refused-inverts (answer t) n e = absurd (let z : _≡_ {A = ℕ} 0 1 = cc in omega arith)
-refused-inverts (refusal a b) n e = cc
-
-pub record HasRows (o : Outcome Table) (n m : ℕ) : Type 0 where
-  pub table : Table
-  pub is : o ≡ answer table
-  pub rows : m ≡ n
-
-pub rows-inverts : (o : Outcome Table) (n : ℕ) {m : ℕ} → building.reply (builts.Rows m) ≡ with-answer (λ _. n) o → HasRows o n m
-unfolding building.reply
-rows-inverts (answer t) n e = record { table = t; is = refl; rows = cc }
-rows-inverts (refusal a b) n e = absurd (let z : _≡_ {A = ℕ} 0 1 = cc in omega arith)
-
 -- ---- lists and entries that pass
 
 module _ (b d o coefs positions : List ℤ) (e : legality (curveChecked (space b d o) coefs positions) ≡ Legal) where
@@ -153,25 +132,3 @@ module _ (b d o coefs positions : List ℤ) (e : legality (curveChecked (space b
 
   pub positions-good : (k : ℕ) → k < length positions → Within s (getD positions k (pos 0))
   positions-good k h = let w = good-position s positions k (first-none-inverts (badPosition s positions) (length positions) (passed .0 .entries .positions-inside) k h) in record { low = w .0; high = w .1 }
-
-  -- the weights that were built
-  module _ {t : Table} (w : weights s ≡ answer t) where
-    proper : Proper t (rowCount s) (columnCount s)
-    proper = weights-proper s (legal-column-count-high b d o lists-legal) w
-
-    pub weights-rows : length t ≡ rowCount s
-    weights-rows = proper .shaped .row-count
-
-    module _ (num den : List ℤ) {num′ den′ : List ℤ} (h : tableCells ≤ length num) (k : tableCells ≤ length den) (p : num′ ≡ numerators t num) (q : den′ ≡ denominators t den) where
-      pub weights-held : Holds num′ den′ t
-      weights-held = holds-left num den t h k p q (proper .fit)
-
-      pub weights-good : Weighs num′ den′ (rowCount s)
-      unfolding spaceWeights
-      weights-good = record {
-        table = t;
-        holds = weights-held;
-        rows = weights-rows;
-        few = proper .shaped .rows-fit;
-        unit = λ i c. weight-num-le-den s (record { table = t; is = then-answers weights (passed .0 .space) ∙ w }) i c;
-      }

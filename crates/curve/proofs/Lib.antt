@@ -1,3 +1,5 @@
 -- The laws behind the curve call.
 pub mod Call
+pub mod Part
+pub mod Fronts
 pub mod Pairs

@@ -1,10 +1,11 @@
-// The curves of earlywood and latewood over one multi-degree spline space at given positions: the weights, the ordinates of
-// all columns once for each wood part, and then two de Casteljau triangles for each position.
+// The curves of earlywood and latewood over one multi-degree spline space at given positions: the weights part by part, the
+// ordinates of all columns once for each wood part, and then two de Casteljau triangles for each position.
 ghost use mathlib.Core.Path.{_≡_};
 ghost use Rattle.space.specs.Reply.{space};
 ghost use Rattle.spline.specs.CurveCall.{curveEnd};
 ghost use Rattle.curve.specs.Reply.{reply};
 
+mod parts;
 mod reading;
 
 // What the curve call answers: the number of positions, each of which has two values, or a refusal's number and place.
@@ -41,19 +42,28 @@ pub fn curve(
     match checked {
         space::Legality::Refused(number, place) => Answer::Refused(number, place),
         space::Legality::Legal => {
-            let built = weights::build(breaks, degrees, orders, num, den);
+            let mut early = [0; triangle::MAX_COLUMNS];
+            let mut late = [0; triangle::MAX_COLUMNS];
+            let built = parts::build_parts(
+                breaks,
+                degrees,
+                orders,
+                coefs,
+                num,
+                den,
+                &mut early,
+                &mut late,
+            );
             match built {
                 weights::Built::Refused(number, place) => Answer::Refused(number, place),
-                weights::Built::Rows(n) => {
+                weights::Built::Rows(_) => {
                     reading::write_values(
                         breaks,
                         degrees,
                         orders,
-                        coefs,
+                        &early,
+                        &late,
                         positions,
-                        num,
-                        den,
-                        n,
                         values,
                     );
                     Answer::Values(positions.len())

@@ -1,4 +1,4 @@
-// The values at the positions: the first columns and the ordinates of both wood parts once, and then position by position.
+// The values at the positions: the first columns once, and then position by position.
 ghost use mathlib.Core.Path.{_≡_};
 ghost use mathlib.Core.List.{[], _++_, map};
 ghost use Prim.Native.Nat.{ℕ, _*_, _<_, _≤_};
@@ -7,13 +7,10 @@ ghost use lib.ListN.{length, getD, drop};
 ghost use Rattle.space.specs.Reply.{space};
 ghost use Rattle.space.specs.Legal.{DegreesLegal, ListsLegal};
 ghost use Rattle.spline.specs.Space.{segmentLimit};
-ghost use Rattle.spline.specs.Table.{Table, rowCells};
 ghost use Rattle.spline.specs.Reading;
-ghost use Rattle.cells.specs.Held.{Holds};
-ghost use Rattle.ordinates.specs.Ordinates.{Weighs, Coefficients, Bounded};
-ghost use Rattle.triangle.specs.Offsets.{columnsOf, Within};
+ghost use Rattle.ordinates.specs.Ordinates.{Bounded};
+ghost use Rattle.triangle.specs.Offsets.{columnLimit, columnsOf, Within};
 ghost use Rattle.curve.specs.Pairs.{pairOf};
-use ordinates::Part;
 
 // The first columns of the segments.
 fn first_columns(degrees: &[i32]) -> [usize; space::MAX_SEGMENTS]
@@ -21,10 +18,11 @@ fn first_columns(degrees: &[i32]) -> [usize; space::MAX_SEGMENTS]
     ensures { λ r. ⌜ r ≡ columnsOf (space [] (now (degrees .entry)) []) ⌝ }
 {
     let mut columns = [0; space::MAX_SEGMENTS];
+    let mut column = 0;
     let mut i = 0;
     while i < degrees.len() {
-        let c = space::first_column(degrees, i);
-        columns[i] = c;
+        columns[i] = column;
+        column += space::degree_at(degrees, i) + 1;
         i += 1;
     }
     columns
@@ -36,14 +34,14 @@ fn write_all(
     degrees: &[i32],
     orders: &[i32],
     columns: &[usize],
-    earlywood: &[i64],
-    latewood: &[i64],
+    earlywood: &[i32],
+    latewood: &[i32],
     positions: &[i32],
     values: &mut [i32],
 )
     requires { ⌜ ListsLegal (now breaks) (now degrees) (now orders) × ((k : ℕ) → k < length (now positions) → Within (space (now breaks) (now degrees) (now orders)) (getD (now positions) k (pos 0))) ⌝ }
     requires { ⌜ (now columns ≡ columnsOf (space [] (now degrees) [])) × (2 * length (now positions) ≤ length (now values)) ⌝ }
-    requires { ⌜ ((length (now earlywood) ≡ rowCells) × Bounded (now earlywood)) × ((length (now latewood) ≡ rowCells) × Bounded (now latewood)) ⌝ }
+    requires { ⌜ ((length (now earlywood) ≡ columnLimit) × Bounded (now earlywood)) × ((length (now latewood) ≡ columnLimit) × Bounded (now latewood)) ⌝ }
     ensures { λ _. ⌜ now (values .exit) ≡ Reading.sideBySide (map (pairOf (space (now (breaks .entry)) (now (degrees .entry)) (now (orders .entry))) (now (earlywood .entry)) (now (latewood .entry))) (now (positions .entry))) ++ drop (2 * length (now (positions .entry))) (now (values .entry)) ⌝ }
 {
     let mut k = 0;
@@ -58,34 +56,29 @@ fn write_all(
     }
 }
 
-// The ordinates of all columns for each wood part, and then the values.
+// The values of the curves with these ordinates of all columns.
 pub fn write_values(
     breaks: &[i32],
     degrees: &[i32],
     orders: &[i32],
-    coefs: &[i32],
+    earlywood: &[i32],
+    latewood: &[i32],
     positions: &[i32],
-    num: &[i64],
-    den: &[i64],
-    n: usize,
     values: &mut [i32],
 )
     requires { ⌜ ListsLegal (now breaks) (now degrees) (now orders) × ((k : ℕ) → k < length (now positions) → Within (space (now breaks) (now degrees) (now orders)) (getD (now positions) k (pos 0))) ⌝ }
-    requires { ⌜ (Weighs (now num) (now den) n × Coefficients (now coefs) n) × (2 * length (now positions) ≤ length (now values)) ⌝ }
-    ensures { λ _. ⌜ ((t : Table) → Holds (now (num .entry)) (now (den .entry)) t → length t ≡ n
-        → now (values .exit) ≡ Reading.sideBySide (Reading.values (space (now (breaks .entry)) (now (degrees .entry)) (now (orders .entry))) t (now (coefs .entry)) (now (positions .entry))) ++ drop (2 * length (now (positions .entry))) (now (values .entry))) ⌝ }
+    requires { ⌜ 2 * length (now positions) ≤ length (now values) ⌝ }
+    requires { ⌜ ((length (now earlywood) ≡ columnLimit) × Bounded (now earlywood)) × ((length (now latewood) ≡ columnLimit) × Bounded (now latewood)) ⌝ }
+    ensures { λ _. ⌜ now (values .exit) ≡ Reading.sideBySide (map (pairOf (space (now (breaks .entry)) (now (degrees .entry)) (now (orders .entry))) (now (earlywood .entry)) (now (latewood .entry))) (now (positions .entry))) ++ drop (2 * length (now (positions .entry))) (now (values .entry)) ⌝ }
 {
-    let count = space::first_column(degrees, degrees.len());
     let columns = first_columns(degrees);
-    let early = ordinates::ordinates(num, den, coefs, Part::Earlywood, n, count);
-    let late = ordinates::ordinates(num, den, coefs, Part::Latewood, n, count);
     write_all(
         breaks,
         degrees,
         orders,
         &columns,
-        &early,
-        &late,
+        earlywood,
+        latewood,
         positions,
         values,
     );

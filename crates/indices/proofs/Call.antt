@@ -1,7 +1,6 @@
 -- What the call ends with, case by case, and what the machine answers and leaves in each.
 use mathlib.Core.Path.{_≡_, refl, sym, _∙_, ap, ap₂}
-use mathlib.Core.Bool.{false}
-use mathlib.Core.List.{List, [], _++_}
+use mathlib.Core.List.{List, []}
 use mathlib.Core.Option.{Option, some, none}
 use Prim.Native.Nat.{ℕ, _+_, _*_, _/_, _<_, _≤_}
 use native.Mathlib.Omega.{arith}
@@ -10,18 +9,18 @@ use lib.IntN.{ℤ, pos}
 use lib.ListN.{length, getD, drop}
 use Rattle.exact.specs.Tabulate.{tab}
 use Rattle.exact.proofs.Decide.{cond-true, cond-false}
-use Rattle.exact.proofs.Tabulate.{tab-length, tab-ext}
-use Rattle.spline.specs.Outcome.{Outcome, answer, refusal, refuse, capped, with-answer, _then_}
+use Rattle.exact.proofs.Tabulate.{tab-ext}
+use Rattle.spline.specs.Outcome.{Outcome, answer, refusal, capped, _then_}
 use Rattle.spline.specs.Search.{first}
 use Rattle.spline.specs.Space.{Space, refuseFirst}
 use Rattle.spline.specs.Table.{tableCells, numerators, denominators}
 use Rattle.spline.specs.Build.{numeratorsAfter, denominatorsAfter}
-use Rattle.spline.specs.Reading.{WoodPart, earlywood, latewood, partIndex, Pair, sideBySide}
+use Rattle.spline.specs.Reading.{WoodPart, earlywood, latewood, partIndex, Pair}
 use Rattle.spline.specs.CurveCall.{CurveResult, positionLimit, curveOutcome, returned, curveNumerators, curveDenominators, valuesAfter}
-use Rattle.spline.proofs.Outcome.{then-answers, then-refuses, capped-small, answer-unique}
+use Rattle.spline.proofs.Outcome.{then-answers, capped-small, answer-unique}
 use Rattle.spline.proofs.Search.{first-ext, first-some-inverts}
-use Rattle.spline.proofs.Pairs.{partOf, getD-pairs, half-le, length-pairs}
-use Rattle.spline.proofs.Build.{long-enough, not-cleared}
+use Rattle.spline.proofs.Pairs.{partOf, getD-pairs, length-pairs}
+use Rattle.spline.proofs.Build.{long-enough}
 use Rattle.closeness.proofs.LegalCall.{answered-calls-are-legal, legal-calls-answer, values-length}
 use Rattle.curve.specs.Reply as curves
 use Rattle.curve.specs.declared.Answer.{Answer}
@@ -29,7 +28,7 @@ use Rattle.curve.specs.declared.Answer.the-variants as answered
 use Rattle.indices.specs.Indices.{ringPositions, ringWidth, ofPart, noPair, ringValue, isRefused, badRing, indexOf, ringIndices, ringsRead, ringsIndexed, indicesReturned, indicesAfter}
 use Rattle.indices.specs.Machine.{reply, wordPositions, ringsTaken, badCell, cellIndex, cellsIndexed}
 use Rattle.indices.specs.declared.Answer as ours
-use Rattle.indices.specs.declared.Answer.the-variants.{Indices, Refused}
+use Rattle.indices.specs.declared.Answer.the-variants.{Refused}
 use Rattle.indices.proofs.Positions.{exact-length, words-length, outcome-same}
 
 -- ---- number 14 and the indices by the cells
@@ -66,17 +65,17 @@ module _ (part : WoodPart) (widths : List ℤ) (r : CurveResult) (before : List 
 
 -- ---- what a call answers and leaves, by its outcome
 
-pub record Ends (part : WoodPart) (widths : List ℤ) (o : Outcome CurveResult) (r : ours.Answer) (num den vs is num′ den′ vs′ is′ : List ℤ) : Type 0 where
+pub record Ends (s : Space) (part : WoodPart) (widths : List ℤ) (o : Outcome CurveResult) (r : ours.Answer) (num den vs is num′ den′ vs′ is′ : List ℤ) : Type 0 where
   pub answers : reply r ≡ indicesReturned (o then ringsIndexed part widths)
-  pub numerators-are : num′ ≡ curveNumerators o num
-  pub denominators-are : den′ ≡ curveDenominators o den
+  pub numerators-are : num′ ≡ curveNumerators s o num
+  pub denominators-are : den′ ≡ curveDenominators s o den
   pub values-are : vs′ ≡ valuesAfter o vs
   pub indices-are : is′ ≡ indicesAfter (o then ringsIndexed part widths) is
 
-module _ (part : WoodPart) (widths : List ℤ) {o : Outcome CurveResult} (num den vs is : List ℤ) where
+module _ (s : Space) (part : WoodPart) (widths : List ℤ) {o : Outcome CurveResult} (num den vs is : List ℤ) where
   -- a refusal of the curve call: the buffers as it leaves them, the indices as they were
-  pub ends-refused : {number place : ℕ} {num′ den′ vs′ : List ℤ} → o ≡ refusal number place → num′ ≡ curveNumerators o num → den′ ≡ curveDenominators o den → vs′ ≡ valuesAfter o vs
-      → Ends part widths o (Refused number place) num den vs is num′ den′ vs′ is
+  pub ends-refused : {number place : ℕ} {num′ den′ vs′ : List ℤ} → o ≡ refusal number place → num′ ≡ curveNumerators s o num → den′ ≡ curveDenominators s o den → vs′ ≡ valuesAfter o vs
+      → Ends s part widths o (Refused number place) num den vs is num′ den′ vs′ is
   unfolding reply indicesAfter
   ends-refused e p q w = record {
     answers = sym (ap (λ x. indicesReturned (x then ringsIndexed part widths)) e);
@@ -87,17 +86,17 @@ module _ (part : WoodPart) (widths : List ℤ) {o : Outcome CurveResult} (num de
   }
 
   -- number 1 leaves all
-  pub ends-unchanged : {place : ℕ} → o ≡ refusal 1 place → Ends part widths o (Refused 1 place) num den vs is num den vs is
+  pub ends-unchanged : {place : ℕ} → o ≡ refusal 1 place → Ends s part widths o (Refused 1 place) num den vs is num den vs is
   unfolding numeratorsAfter denominatorsAfter valuesAfter
   ends-unchanged e = ends-refused e
-      (sym (ap (λ x. curveNumerators x num) e ∙ cond-false (numerators [] num) num (not-cleared 1 (omega arith))))
-      (sym (ap (λ x. curveDenominators x den) e ∙ cond-false (denominators [] den) den (not-cleared 1 (omega arith))))
+      (sym (ap (λ x. curveNumerators s x num) e ∙ cond-false (numerators [] num) num refl))
+      (sym (ap (λ x. curveDenominators s x den) e ∙ cond-false (denominators [] den) den refl))
       (sym (ap (λ x. valuesAfter x vs) e))
 
   -- an answer of the curve call: number 14 or the indices, by the cells after it
-  pub ends-indexed : {r : CurveResult} {a : ours.Answer} {num′ den′ vs′ is′ : List ℤ} → o ≡ answer r → length (r .values) ≡ length widths → num′ ≡ curveNumerators o num → den′ ≡ curveDenominators o den → vs′ ≡ valuesAfter o vs
+  pub ends-indexed : {r : CurveResult} {a : ours.Answer} {num′ den′ vs′ is′ : List ℤ} → o ≡ answer r → length (r .values) ≡ length widths → num′ ≡ curveNumerators s o num → den′ ≡ curveDenominators s o den → vs′ ≡ valuesAfter o vs
       → reply a ≡ indicesReturned (cellsIndexed widths vs′ (partIndex part)) → is′ ≡ indicesAfter (cellsIndexed widths vs′ (partIndex part)) is
-      → Ends part widths o a num den vs is num′ den′ vs′ is′
+      → Ends s part widths o a num den vs is num′ den′ vs′ is′
   ends-indexed {r} {vs′ = vs′} e count p q w x y =
       let same : cellsIndexed widths vs′ (partIndex part) ≡ (o then ringsIndexed part widths)
       = ap (λ (l : List ℤ). cellsIndexed widths l (partIndex part)) (w ∙ ap (λ z. valuesAfter z vs) e) ∙ indexed-by-cells part widths r vs count ∙ sym (then-answers (ringsIndexed part widths) e) in

@@ -20,7 +20,7 @@ use Rattle.exact.proofs.Order.{ltᵠ-true}
 use Rattle.fraction.specs.Size.{fits}
 use Rattle.spline.specs.Outcome.{answer, refusal, capped, collect, repeat, _then_}
 use Rattle.spline.specs.Search.{first, last, howMany}
-use Rattle.spline.specs.Space.{lengthsFit, badBreak, spanTooLong, badDegree, badOrder, checkedEntries, checked, firstColumn, conditionsBefore}
+use Rattle.spline.specs.Space.{lengthsFit, badBreak, startsPart, partEnd, spanTooLong, tooManySegments, badDegree, badOrder, checkedEntries, checked, firstColumn, conditionsBefore}
 use Rattle.spline.specs.Conditions.{falling, binomial, alternating, undivided, commonDivisor, conditions}
 use Rattle.spline.specs.Table.{Table, tableCells, identity}
 use Rattle.spline.specs.Step.{count, addProducts, span, partialSum, quotientFactor, factors, newEntry, newRows, step}
@@ -47,7 +47,7 @@ abbrev coefs1 : List ℤ
 coefs1 = pos 0 ∷ pos 0 ∷ pos 100 ∷ negsuc 99 ∷ pos 0 ∷ pos 0 ∷ pos 0 ∷ pos 0 ∷ []
 
 accepted1 : Accepted space1
-unfolding gcd gcdF mk int inv _+ᵠ_ _*ᵠ_ -ᵠ_ _//_ isZero ltᵠ sum tab fits capped collect repeat first last lengthsFit badBreak spanTooLong badDegree badOrder checkedEntries checked firstColumn conditionsBefore falling binomial alternating undivided commonDivisor conditions identity count addProducts span partialSum quotientFactor factors newEntry newRows step orderSteps joinSteps weights spaceWeights
+unfolding gcd gcdF mk int inv _+ᵠ_ _*ᵠ_ -ᵠ_ _//_ isZero ltᵠ sum tab fits capped collect repeat first last lengthsFit badBreak startsPart partEnd spanTooLong tooManySegments badDegree badOrder checkedEntries checked firstColumn conditionsBefore falling binomial alternating undivided commonDivisor conditions identity count addProducts span partialSum quotientFactor factors newEntry newRows step orderSteps joinSteps weights spaceWeights
 accepted1 = record { table = table1; is = refl }
 
 coefficients1 : (i : ℕ) → i < length coefs1 → T (not (badCoefficient coefs1 i))

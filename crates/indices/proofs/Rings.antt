@@ -99,7 +99,7 @@ values-under-rings-are-close c l room i h =
 pub legal-rings-leave-the-curve : LegalRingsLeaveTheCurve
 legal-rings-leave-the-curve c l room =
     let e = read-is c l room in
-    (ap (λ o. curveNumerators o (c .num)) e, (ap (λ o. curveDenominators o (c .den)) e, ap (λ o. valuesAfter o (c .values)) e))
+    (ap (λ o. curveNumerators (c .space) o (c .num)) e, (ap (λ o. curveDenominators (c .space) o (c .den)) e, ap (λ o. valuesAfter o (c .values)) e))
 
 returned-tested : (o : Option ℕ) (zs : List ℤ) {n : ℕ} → length zs ≡ n → indicesReturned (refuseFirst 14 o (answer zs)) ≡ refuseFirst 14 o (answer n)
 returned-tested none zs e = ap answer e

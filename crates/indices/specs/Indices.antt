@@ -113,8 +113,8 @@ indicesEnd part s coefs firstRing widths num den values indices =
     let i = o then ringsIndexed part widths in
     record {
       answers = indicesReturned i;
-      numerators = curveNumerators o num;
-      denominators = curveDenominators o den;
+      numerators = curveNumerators s o num;
+      denominators = curveDenominators s o den;
       values = valuesAfter o values;
       indices = indicesAfter i indices;
     }

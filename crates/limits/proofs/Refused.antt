@@ -1,23 +1,19 @@
--- The refusals 6 and 7 from what their searches found, and the refusals 2 to 7 as one chain.
-use mathlib.Core.Path.{_≡_, refl, sym, _∙_, ap, subst}
-use mathlib.Core.Logic.{_⊎_, inl, inr}
+-- The refusals 6 and 7 from what their searches found, and the refusals 2 to 5, 15, 6 and 7 as one chain.
+use mathlib.Core.Path.{_≡_, refl, sym, _∙_, ap}
 use mathlib.Core.Bool.{Bool, true, false, cond}
 use mathlib.Core.List.{List, []}
 use mathlib.Core.Option.{Option, some, none}
 use Prim.Native.Nat.{ℕ, _*_, _<_, _≤_}
-use native.Mathlib.Omega.{arith}
 use borrow.Author.Tests.{eq-eqb, ne-eqb, lt-ltb, le-ltb}
 use lib.Dec.{eqb}
 use lib.IntN.{ℤ}
 use lib.ListN.{length}
-use Rattle.exact.proofs.Decide.{le-or-lt, cond-true, cond-false}
+use Rattle.exact.proofs.Decide.{cond-true, cond-false}
 use Rattle.spline.specs.Outcome.{Outcome, answer, refusal, refuse, largestPlace, capped, _then_}
 use Rattle.spline.specs.Search.{first}
 use Rattle.spline.specs.Space.{Space, break, segments, lengthsFit, refuseFirst, checked, rowCount}
 use Rattle.spline.specs.Reading.{fine}
 use Rattle.spline.specs.CurveCall.{positionLimit, badCoefficient, badPosition, legalEntries, curveChecked}
-use Rattle.spline.proofs.Outcome.{RefusedAs, answer-refused, then-refused}
-use Rattle.spline.proofs.Legal.{checked-numbers}
 use Rattle.space.specs.Reply.{space}
 use Rattle.space.proofs.Partial.{row-count-partial}
 use Rattle.limits.specs.Limits.{coefficientsChecked, outside, positionsChecked}
@@ -71,7 +67,7 @@ pub coefficients-partial : (b d o coefs : List ℤ) → coefficientsChecked (spa
 unfolding coefficientsChecked
 coefficients-partial b d o coefs = ap (λ n. cond (eqb (length coefs) (2 * n)) (refuseFirst 6 (first (length coefs) (badCoefficient coefs)) passed) (refuse 6 largestPlace)) (row-count-partial b d o)
 
--- ---- the numbers 2 to 7
+-- ---- all numbers of the check
 
 module _ (s : Space) (coefs positions : List ℤ) where
   pub curve-lengths : lengthsFit s ≡ false → curveChecked s coefs positions ≡ refusal 2 0
@@ -87,30 +83,3 @@ module _ (s : Space) (coefs positions : List ℤ) where
     pub curve-chain : length positions ≤ positionLimit → curveChecked s coefs positions ≡ (checked s then λ legal. legalEntries legal coefs positions (answer legal))
     unfolding curveChecked checked
     curve-chain h = cond-true _ _ fit ∙ cond-false _ _ (le-ltb _ _ h) ∙ ap (λ o. o then λ legal. legalEntries legal coefs positions (answer legal)) (sym (cond-true _ _ fit))
-
--- ---- no number above 7
-
-at-six : (b : Bool) (o : Option ℕ) → RefusedAs (λ number place. number ≤ 7) (cond b (refuseFirst 6 o passed) (refuse 6 largestPlace))
-at-six true none = answer-refused (λ number place. number ≤ 7) tt
-at-six true (some i) = λ number place e. let z : number ≡ 6 = cc in omega arith
-at-six false o = λ number place e. let z : number ≡ 6 = cc in omega arith
-
-at-seven : (o : Option ℕ) → RefusedAs (λ number place. number ≤ 7) (refuseFirst 7 o passed)
-at-seven none = answer-refused (λ number place. number ≤ 7) tt
-at-seven (some i) = λ number place e. let z : number ≡ 7 = cc in omega arith
-
-module _ (s : Space) (coefs positions : List ℤ) where
-  entries-numbers : RefusedAs (λ number place. number ≤ 7) (legalEntries s coefs positions (answer s))
-  unfolding coefficientsChecked positionsChecked
-  entries-numbers = subst (RefusedAs (λ number place. number ≤ 7)) (sym (entries-chain s coefs positions (answer s)))
-      (then-refused (λ number place. number ≤ 7) (coefficientsChecked s coefs) _ (at-six (eqb (length coefs) (2 * rowCount s)) (first (length coefs) (badCoefficient coefs)))
-      (λ _ _. then-refused (λ number place. number ≤ 7) (positionsChecked positions (fine (break s 0)) (fine (break s (segments s)))) _ (at-seven (first (length positions) (outside positions (fine (break s 0)) (fine (break s (segments s)))))) (λ _ _. answer-refused (λ number place. number ≤ 7) s)))
-
-pub curve-numbers : (s : Space) (coefs positions : List ℤ) → RefusedAs (λ number place. number ≤ 7) (curveChecked s coefs positions)
-curve-numbers s coefs positions number place e = go (lengthsFit s) refl (le-or-lt (length positions) positionLimit)
-  where
-    go : (b : Bool) → lengthsFit s ≡ b → (length positions ≤ positionLimit) ⊎ (positionLimit < length positions) → number ≤ 7
-    go false f h = let p = curve-lengths s coefs positions f in let z : number ≡ 2 = cc in omega arith
-    go true f (inr h) = let p = curve-positions s coefs positions f h in let z : number ≡ 2 = cc in omega arith
-    go true f (inl h) = then-refused (λ number place. number ≤ 7) (checked s) (λ legal. legalEntries legal coefs positions (answer legal))
-        (λ n p r. omega (arith, checked-numbers s r)) (λ legal _. entries-numbers legal coefs positions) number place (sym (curve-chain s coefs positions f h) ∙ e)

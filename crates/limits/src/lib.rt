@@ -1,4 +1,4 @@
-// The refusals 2 to 7 of a curve call, in the order of their numbers.
+// The refusals 2 to 7 and 15 of a curve call, in the order of their numbers but for 15, which follows 5.
 ghost use mathlib.Core.Path.{_≡_};
 ghost use mathlib.Core.List.{[]};
 ghost use Prim.Native.Nat.{_+_, _<_};
@@ -116,7 +116,7 @@ fn check_entries(
     }
 }
 
-// The first of the refusals 2 to 7.
+// The first of the refusals 2 to 5, 15, 6 and 7.
 pub fn check(
     breaks: &[i32],
     degrees: &[i32],

@@ -8,7 +8,6 @@ use lib.IntN.{ℤ, pos, natAbs, _+ℤ_, _*ℤ_}
 use lib.ListN.{length, getD}
 use lib.Signed.{leZ}
 use Rattle.exact.specs.Rational.{den}
-use Rattle.exact.specs.Tabulate.{tab}
 use Rattle.spline.specs.Table.{Table, cell, rowCells}
 use Rattle.spline.specs.Reading.{parts, fine, rounded, preferred, least, greatest, hasWeight, termSum}
 use Rattle.spline.specs.CurveCall.{coefficientLimit}
@@ -66,10 +65,6 @@ entries coefs index i = getD coefs (2 * i + index) (pos 0)
 pub record Coefficients (coefs : List ℤ) (n : ℕ) : Type 0 where
   pub count : length coefs ≡ 2 * n
   pub small : (i : ℕ) → natAbs (getD coefs i (pos 0)) ≤ coefficientLimit
-
--- A list in an array of 72, 0 past its end.
-unfoldable pub padded : List ℤ → List ℤ
-padded os = tab rowCells (λ c. getD os c (pos 0))
 
 -- Every number of the list is within that limit.
 abbrev pub Bounded : List ℤ → Type 0

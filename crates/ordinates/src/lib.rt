@@ -6,12 +6,12 @@ ghost use Prim.Native.Nat.{_^_, _<_, _≤_};
 ghost use lib.IntN.{pos, natAbs};
 ghost use lib.ListN.{length};
 ghost use lib.Signed.{leZ, ltZ, _<ℤ_};
-ghost use Rattle.spline.specs.Space.{Space, columnCount};
+ghost use Rattle.exact.specs.Tabulate.{tab};
 ghost use Rattle.spline.specs.Table.{Table, rowCells};
 ghost use Rattle.spline.specs.Reading;
 ghost use Rattle.spline.specs.CurveCall.{coefficientLimit};
 ghost use Rattle.cells.specs.Held.{Holds};
-ghost use Rattle.ordinates.specs.Ordinates.{given, termsOf, Added, Weighs, entries, Coefficients, padded, Bounded};
+ghost use Rattle.ordinates.specs.Ordinates.{given, termsOf, Added, Weighs, entries, Coefficients};
 ghost use Rattle.ordinates.specs.Part.{woodPart};
 
 // A wood part.
@@ -130,27 +130,18 @@ fn column_terms(num: &[i64], den: &[i64], coefs: &[i32], index: usize, n: usize,
     all
 }
 
-// The ordinates of a wood part in the first `columns` columns, 0 past them.
-pub fn ordinates(
-    num: &[i64],
-    den: &[i64],
-    coefs: &[i32],
-    part: Part,
-    n: usize,
-    columns: usize,
-) -> [i64; cells::ROW_CELLS]
-    requires { ⌜ (columns ≤ rowCells) × (Weighs (now num) (now den) n × Coefficients (now coefs) n) ⌝ }
-    ensures { λ r. ⌜ ((s : Space) (t : Table) → Holds (now (num .entry)) (now (den .entry)) t → length t ≡ n → columnCount s ≡ columns
-        → r ≡ padded (Reading.ordinates s t (Reading.coefficient (woodPart part) (now (coefs .entry))))) × Bounded r ⌝ }
+// The ordinates of a wood part in the first columns, one for each number of the list.
+pub fn ordinates(num: &[i64], den: &[i64], coefs: &[i32], part: Part, n: usize, os: &mut [i32])
+    requires { ⌜ (length (now os) ≤ rowCells) × (Weighs (now num) (now den) n × Coefficients (now coefs) n) ⌝ }
+    ensures { λ _. ⌜ ((t : Table) → Holds (now (num .entry)) (now (den .entry)) t → length t ≡ n
+        → now (os .exit) ≡ tab (length (now (os .entry))) (Reading.ordinate t (Reading.coefficient (woodPart part) (now (coefs .entry))))) ⌝ }
 {
     let index = part_index(part);
-    let mut os = [0; cells::ROW_CELLS];
     let mut c = 0;
-    while c < columns {
+    while c < os.len() {
         let all = column_terms(num, den, coefs, index, n, c);
-        let o = limited(all);
+        let o = limited(all) as i32;
         os[c] = o;
         c += 1;
     }
-    os
 }

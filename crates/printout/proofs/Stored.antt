@@ -1,5 +1,6 @@
--- Where the two buffers hold a table, the weights printed from them are the table's: cells past a row's end and past the
--- last row are zero, so they have no line. Both lists are written as one concatenation over cells to compare them.
+-- Where the two buffers hold a part of a table, the weights printed from them are the table's in the part's rows: a row has
+-- zeros beside the part's columns, and cells past a part's row and past its last row are zero, so they have no line. Both lists
+-- are written as one concatenation over cells to compare them.
 use mathlib.Core.Path.{_≡_, refl, sym, ap, ap₂, _∙_}
 use mathlib.Core.List.{List, [], _∷_, _++_, append-assoc, append-nil}
 use Prim.Native.Nat.{ℕ, zero, suc, _+_, _*_, _/_, _%_, _<_, _≤_}
@@ -7,23 +8,17 @@ use native.Mathlib.Nat.{mul-suc}
 use native.Mathlib.Omega.{arith}
 use lib.IntN.{ℤ, pos}
 use lib.ListN.{length, getD}
-use borrow.Author.Tests.{le-leb}
 use Rattle.exact.specs.Rational
 use Rattle.exact.specs.Rational.{ℚ, den, int}
 use Rattle.exact.specs.Order.{isZero}
 use Rattle.exact.proofs.Decide.{cond-true}
 use Rattle.exact.proofs.Order.{zero-test}
-use Rattle.exact.proofs.Tabulate.{getD-tab, length-tab}
+use Rattle.exact.proofs.Tabulate.{getD-tab}
 use Rattle.spline.specs.Table.{Row, Table, entry, row, cell, stored, rowCells, tableCells, numerators, denominators}
-use Rattle.spline.specs.Listing.{listed, rowWeights, tableWeights}
-use Rattle.spline.specs.Reading.{Pair, sideBySide}
-use Rattle.spline.specs.CurveCall.{positionLimit}
-use Rattle.spline.proofs.Pairs.{sideBySide-length}
-use Rattle.sorting.specs.Sorted.{sorted}
-use Rattle.printout.specs.Printout.{countLine, weightLines, valueLines, lowPositions, lowLines, answerText}
-use Rattle.printout.specs.Printed.{storedWeight, storedWeights, printed}
-use Rattle.printout.proofs.Printed.{answer-last}
-use Rattle.printout.proofs.Pairs.{paired-sideBySide}
+use Rattle.spline.specs.Listing.{Weight, listed, rowWeights, tableWeights}
+use Rattle.printout.specs.Printout.{weightLines}
+use Rattle.printout.specs.Printed.{storedWeight, storedWeights}
+use Rattle.printout.proofs.Printout.{weightLines-append, weightLines-none}
 
 -- f 0 ++ f 1 ++ .. ++ f (n - 1)
 concat : {A : Type 0} → ℕ → (ℕ → List A) → List A
@@ -83,64 +78,84 @@ table-rows r (qs ∷ t) =
     ∙ concat-ext (length t) (λ i l. ap (λ k. rowWeights k 0 (row t i)) (let e : suc r + i ≡ r + suc i = omega arith in e)))
     ∙ sym (concat-cons (length t) (λ i. rowWeights (r + i) 0 (row (qs ∷ t) i)))
 
+-- a row with zeros before column c, and from there on the entries of another
+row-from : (r c : ℕ) (qs us : Row) → ((j : ℕ) → j < c → entry qs j ≡ int (pos 0)) → ((j : ℕ) → entry qs (c + j) ≡ entry us j) → rowWeights r 0 qs ≡ rowWeights r c us
+row-from r c qs us before same =
+    let m = length qs + length us in
+    row-cells r 0 (c + m) qs (omega arith)
+    ∙ concat-add c m (λ j. listed r (0 + j) (entry qs j))
+    ∙ ap₂ _++_
+    (concat-ext c (λ j l. ap (listed r (0 + j)) (before j l) ∙ zero-listed r (0 + j)) ∙ concat-nothing c (λ _. []) (λ _. refl))
+    (concat-ext m (λ j l. ap₂ (listed r) (let e : 0 + (c + j) ≡ c + j = omega arith in e) (same j)))
+    ∙ sym (row-cells r c m us (omega arith))
+
 -- ---- the buffers' weights, cell by cell
-stored-cells : (k : ℕ) (num den : List ℤ) → storedWeights k num den ≡ concat k (λ j. storedWeight j (getD num j (pos 0)) (getD den j (pos 0)))
-unfolding storedWeights concat
-stored-cells zero num den = refl
-stored-cells (suc k) num den = ap (λ t. t ++ storedWeight k (getD num k (pos 0)) (getD den k (pos 0))) (stored-cells k num den)
+module _ (r c : ℕ) where
+  stored-cells : (k : ℕ) (num den : List ℤ) → storedWeights r c k num den ≡ concat k (λ j. storedWeight r c j (getD num j (pos 0)) (getD den j (pos 0)))
+  unfolding storedWeights concat
+  stored-cells zero num den = refl
+  stored-cells (suc k) num den = ap (λ t. t ++ storedWeight r c k (getD num k (pos 0)) (getD den k (pos 0))) (stored-cells k num den)
 
-weight-listed : (k : ℕ) (q : ℚ) → storedWeight k (q .num) (pos (den q)) ≡ listed (k / rowCells) (k % rowCells) q
-unfolding storedWeight isZero
-weight-listed k q = refl
+  weight-listed : (k : ℕ) (q : ℚ) → storedWeight r c k (q .num) (pos (den q)) ≡ listed (r + k / rowCells) (c + k % rowCells) q
+  unfolding storedWeight isZero
+  weight-listed k q = refl
 
--- a buffer that takes the table keeps its length
-numerators-length : (t : Table) (num : List ℤ) → tableCells ≤ length num → length (numerators t num) ≡ length num
-unfolding numerators
-numerators-length t num h = length-tab tableCells (λ k. (stored t k) .num) num h
-
-denominators-length : (t : Table) (den : List ℤ) → tableCells ≤ length den → length (denominators t den) ≡ length den
-unfolding denominators
-denominators-length t den h = length-tab tableCells (λ k. pos (Rational.den (stored t k))) den h
-
-module _ (t : Table) (num den : List ℤ) where
-  numerator-cell : (k : ℕ) → k < tableCells → getD (numerators t num) k (pos 0) ≡ (stored t k) .num
+module _ (u : Table) (num den : List ℤ) where
+  numerator-cell : (k : ℕ) → k < tableCells → getD (numerators u num) k (pos 0) ≡ (stored u k) .num
   unfolding numerators
-  numerator-cell k h = getD-tab tableCells (λ k. (stored t k) .num) _ k (pos 0) h
+  numerator-cell k h = getD-tab tableCells (λ k. (stored u k) .num) _ k (pos 0) h
 
-  denominator-cell : (k : ℕ) → k < tableCells → getD (denominators t den) k (pos 0) ≡ pos (Rational.den (stored t k))
+  denominator-cell : (k : ℕ) → k < tableCells → getD (denominators u den) k (pos 0) ≡ pos (Rational.den (stored u k))
   unfolding denominators
-  denominator-cell k h = getD-tab tableCells (λ k. pos (Rational.den (stored t k))) _ k (pos 0) h
+  denominator-cell k h = getD-tab tableCells (λ k. pos (Rational.den (stored u k))) _ k (pos 0) h
 
-  stored-listed : (k : ℕ) → k < tableCells → storedWeight k (getD (numerators t num) k (pos 0)) (getD (denominators t den) k (pos 0)) ≡ listed (k / rowCells) (k % rowCells) (stored t k)
-  stored-listed k h = ap₂ (storedWeight k) (numerator-cell k h) (denominator-cell k h) ∙ weight-listed k (stored t k)
+  module _ (r c : ℕ) where
+    abbrev at-cell : ℕ → List Weight
+    at-cell k = storedWeight r c k (getD (numerators u num) k (pos 0)) (getD (denominators u den) k (pos 0))
 
-  -- row i of the cells
-  row-listed : (i : ℕ) → i < rowCells → length (row t i) ≤ rowCells → concat rowCells (λ j. storedWeight (rowCells * i + j) (getD (numerators t num) (rowCells * i + j) (pos 0)) (getD (denominators t den) (rowCells * i + j) (pos 0))) ≡ rowWeights i 0 (row t i)
-  row-listed i h w = concat-ext rowCells each ∙ sym (row-cells i 0 rowCells (row t i) w)
-    where
-      each : (j : ℕ) → j < rowCells → storedWeight (rowCells * i + j) (getD (numerators t num) (rowCells * i + j) (pos 0)) (getD (denominators t den) (rowCells * i + j) (pos 0)) ≡ listed i (0 + j) (entry (row t i) j)
-      each j l =
-          let quotient : (rowCells * i + j) / rowCells ≡ i = omega arith in
-          let remainder : (rowCells * i + j) % rowCells ≡ j = omega arith in
-          stored-listed (rowCells * i + j) (omega arith)
-          ∙ ap₂ (λ a b. listed a b (cell t a b)) quotient remainder
-          ∙ ap (λ k. listed i k (cell t i j)) (let e : j ≡ 0 + j = omega arith in e)
+    stored-listed : (k : ℕ) → k < tableCells → at-cell k ≡ listed (r + k / rowCells) (c + k % rowCells) (stored u k)
+    stored-listed k h = ap₂ (storedWeight r c k) (numerator-cell k h) (denominator-cell k h) ∙ weight-listed r c k (stored u k)
 
-  pub stored-table : length t ≤ rowCells → ((i : ℕ) → i < length t → length (row t i) ≤ rowCells) → storedWeights (rowCells * length t) (numerators t num) (denominators t den) ≡ tableWeights 0 t
-  stored-table h w =
-      stored-cells (rowCells * length t) (numerators t num) (denominators t den)
-      ∙ concat-rows rowCells (length t) _
-      ∙ concat-ext (length t) (λ i l. row-listed i (omega arith) (w i l) ∙ ap (λ k. rowWeights k 0 (row t i)) (let e : i ≡ 0 + i = omega arith in e))
-      ∙ sym (table-rows 0 t)
+    -- row i of the cells
+    row-listed : (i : ℕ) → i < rowCells → length (row u i) ≤ rowCells → concat rowCells (λ j. at-cell (rowCells * i + j)) ≡ rowWeights (r + i) c (row u i)
+    row-listed i h w = concat-ext rowCells each ∙ sym (row-cells (r + i) c rowCells (row u i) w)
+      where
+        each : (j : ℕ) → j < rowCells → at-cell (rowCells * i + j) ≡ listed (r + i) (c + j) (entry (row u i) j)
+        each j l =
+            let quotient : (rowCells * i + j) / rowCells ≡ i = omega arith in
+            let remainder : (rowCells * i + j) % rowCells ≡ j = omega arith in
+            stored-listed (rowCells * i + j) (omega arith) ∙ ap₂ (λ a b. listed (r + a) (c + b) (cell u a b)) quotient remainder
 
-  -- so what is printed from the buffers of an answered call is the printout of its table and its pairs of values
-  pub printed-table : (xs : List ℤ) (vs : List Pair) → length t ≤ rowCells → ((i : ℕ) → i < length t → length (row t i) ≤ rowCells)
-      → tableCells ≤ length num → tableCells ≤ length den → length xs ≤ positionLimit → length xs ≤ length vs
-      → printed (length t) (numerators t num) (denominators t den) xs (sideBySide vs) ≡ answerText t xs vs
-  unfolding printed answerText
-  printed-table xs vs h w a b e f =
-      let n-long : length (numerators t num) ≡ length num = numerators-length t num a in
-      let d-long : length (denominators t den) ≡ length den = denominators-length t den b in
-      let enough : length xs ≤ length (sideBySide vs) / 2 = omega (arith, sideBySide-length vs) in
-      rw (answer-last (length t) (numerators t num) (denominators t den) xs (sideBySide vs) h (omega arith) (omega arith) e, le-leb (length xs) (length (sideBySide vs) / 2) enough)
-      (ap₂ (λ ws ps. countLine (length t) ++ (weightLines ws ++ (valueLines xs ps ++ lowLines (sorted (lowPositions xs ps))))) (stored-table h w) (paired-sideBySide vs))
+-- ---- a part of a table
+
+-- What table t has in its rows from r on and its columns from c on is table u, which fits the buffers, and zeros stand before
+-- column c.
+pub record Holds (t : Table) (r c : ℕ) (u : Table) : Type 0 where
+  pub few : length u ≤ rowCells
+  pub narrow : (i : ℕ) → i < length u → length (row u i) ≤ rowCells
+  pub same : (i j : ℕ) → i < length u → cell t (r + i) (c + j) ≡ cell u i j
+  pub zero-before : (i j : ℕ) → i < length u → j < c → cell t (r + i) j ≡ int (pos 0)
+
+-- The non-zero weights of the first k rows.
+pub firstRows : ℕ → Table → List Weight
+firstRows k t = concat k (λ i. rowWeights i 0 (row t i))
+
+pub rows-none : (t : Table) → weightLines (firstRows 0 t) ≡ []
+unfolding firstRows concat
+rows-none t = weightLines-none
+
+pub rows-all : (t : Table) → firstRows (length t) t ≡ tableWeights 0 t
+unfolding firstRows
+rows-all t = concat-ext (length t) (λ i l. ap (λ k. rowWeights k 0 (row t i)) (let e : i ≡ 0 + i = omega arith in e)) ∙ sym (table-rows 0 t)
+
+-- the lines of the rows before a part, then those printed from the buffers that hold the part, are those of the rows up to its end
+pub rows-more : (t : Table) (r c : ℕ) (u : Table) → Holds t r c u → (num den : List ℤ)
+    → weightLines (firstRows (r + length u) t) ≡ weightLines (firstRows r t) ++ weightLines (storedWeights r c (rowCells * length u) (numerators u num) (denominators u den))
+unfolding firstRows
+rows-more t r c u h num den =
+    ap weightLines
+    (concat-add r (length u) (λ i. rowWeights i 0 (row t i))
+    ∙ ap (λ ws. firstRows r t ++ ws)
+    (concat-ext (length u) (λ i l. row-from (r + i) c (row t (r + i)) (row u i) (λ j. h .zero-before i j l) (λ j. h .same i j l) ∙ sym (row-listed u num den r c i (omega (arith, h .few)) (h .narrow i l)))
+    ∙ sym (stored-cells r c (rowCells * length u) (numerators u num) (denominators u den) ∙ concat-rows rowCells (length u) (at-cell u num den r c))))
+    ∙ weightLines-append (firstRows r t) (storedWeights r c (rowCells * length u) (numerators u num) (denominators u den))

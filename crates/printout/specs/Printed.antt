@@ -1,22 +1,20 @@
--- The printout of an answer as its printing function is handed it: rows, the two buffers, positions and values, two numbers a
--- position. The buffers are taken as they are, whatever they hold: proofs/Stored shows that where they hold a table these are
--- its weights.
-use mathlib.Core.Bool.{Bool, cond, _&&_}
+-- What the printing functions are handed: the two buffers that hold a part of a table, with the part's first row and column, and
+-- values, two numbers a position. The buffers are taken as they are, whatever they hold: proofs/Stored shows that where they hold
+-- a part's table these are the whole table's weights in the part's rows.
+use mathlib.Core.Bool.{cond}
 use mathlib.Core.List.{List, [], _∷_, _++_}
-use Prim.Native.Nat.{ℕ, zero, suc, _+_, _*_, _/_, _%_}
-use lib.Dec.{eqb, leb}
+use Prim.Native.Nat.{ℕ, zero, suc, _+_, _/_, _%_}
+use lib.Dec.{eqb}
 use lib.IntN.{ℤ, pos, natAbs}
-use lib.ListN.{length, getD}
+use lib.ListN.{getD}
 use Rattle.spline.specs.Listing.{Weight}
 use Rattle.spline.specs.Reading.{Pair}
-use Rattle.spline.specs.Table.{rowCells, tableCells}
-use Rattle.spline.specs.CurveCall.{positionLimit}
-use Rattle.sorting.specs.Sorted.{sorted}
+use Rattle.spline.specs.Table.{rowCells}
 use Rattle.numerals.specs.Bytes.{Text, newline, comma, slash}
 use Rattle.numerals.specs.Numeral.{digits, decimal}
-use Rattle.printout.specs.Printout.{weightKey, countLine, weightLines, valueLines, lowPositions, lowLines}
+use Rattle.printout.specs.Printout.{weightKey}
 
--- The most bytes of an n line, a w line, a v line and a low line: every number is counted with the 20 digits that 64 bits can
+-- The most bytes of an n line, a w line, a v line, a low line and a refusal: every number is counted with the 20 digits that 64 bits can
 -- have, and a signed one with its minus.
 abbrev pub countLineLimit : ℕ
 countLineLimit = 23
@@ -30,9 +28,8 @@ valueLineLimit = 68
 abbrev pub lowLineLimit : ℕ
 lowLineLimit = 26
 
--- The most bytes that a printout has, 836,055.
-abbrev pub printoutLimit : ℕ
-printoutLimit = countLineLimit + weightLineLimit * tableCells + valueLineLimit * positionLimit + lowLineLimit * positionLimit
+abbrev pub refusalLineLimit : ℕ
+refusalLineLimit = 45
 
 -- A weight's line in two parts: w=row,column, and numerator/denominator with the end of the line.
 abbrev pub placeText : ℕ → ℕ → Text
@@ -41,30 +38,19 @@ placeText r c = weightKey ++ (digits r ++ (comma ∷ (digits c ++ (comma ∷ [])
 abbrev pub fractionText : ℤ → ℕ → Text
 fractionText num den = decimal num ++ (slash ∷ (digits den ++ (newline ∷ [])))
 
--- The weight in cell k, "row i, column j is cell 72·i + j", if its numerator is not zero. A denominator counts by its size.
-unfoldable pub storedWeight : ℕ → ℤ → ℤ → List Weight
-storedWeight k num den =
-    cond (eqb (natAbs num) 0) [] (record { row = k / rowCells; column = k % rowCells; numerator = num; denominator = natAbs den } ∷ [])
+-- The weight in cell k, "row i, column j is cell 72·i + j", if its numerator is not zero; r and c are the row and the column of
+-- cell 0, "n, all places and the sheet's w lines count over the beam". A denominator counts by its size.
+unfoldable pub storedWeight : ℕ → ℕ → ℕ → ℤ → ℤ → List Weight
+storedWeight r c k num den =
+    cond (eqb (natAbs num) 0) [] (record { row = r + k / rowCells; column = c + k % rowCells; numerator = num; denominator = natAbs den } ∷ [])
 
 -- The non-zero weights of the first k cells.
-unfoldable pub storedWeights : ℕ → List ℤ → List ℤ → List Weight
-storedWeights zero num den = []
-storedWeights (suc k) num den = storedWeights k num den ++ storedWeight k (getD num k (pos 0)) (getD den k (pos 0))
+unfoldable pub storedWeights : ℕ → ℕ → ℕ → List ℤ → List ℤ → List Weight
+storedWeights r c zero num den = []
+storedWeights r c (suc k) num den = storedWeights r c k num den ++ storedWeight r c k (getD num k (pos 0)) (getD den k (pos 0))
 
 -- The pairs of numbers that stand side by side.
 unfoldable pub paired : List ℤ → List Pair
 paired [] = []
 paired (early ∷ []) = []
 paired (early ∷ late ∷ vs) = record { early = early; late = late } ∷ paired vs
-
--- An answered call: at most 72 rows, buffers that take the table, at most 4,096 positions and two values for each.
-unfoldable pub isAnswer : ℕ → List ℤ → List ℤ → List ℤ → List ℤ → Bool
-isAnswer n num den xs vs =
-    leb n rowCells && leb tableCells (length num) && leb tableCells (length den) && leb (length xs) positionLimit && leb (length xs) (length vs / 2)
-
--- What is printed: the lines of the answer; nothing where there is no answer.
-unfoldable pub printed : ℕ → List ℤ → List ℤ → List ℤ → List ℤ → Text
-printed n num den xs vs =
-    cond (isAnswer n num den xs vs)
-    (countLine n ++ (weightLines (storedWeights (rowCells * n) num den) ++ (valueLines xs (paired vs) ++ lowLines (sorted (lowPositions xs (paired vs))))))
-    []

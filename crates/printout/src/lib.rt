@@ -2,7 +2,7 @@
 // the index after it. The limits on the index keep every sum from overflowing; a caller's limit is below its callees'.
 ghost use mathlib.Core.Path.{_≡_};
 ghost use mathlib.Core.List.{[], _∷_};
-ghost use Prim.Native.Nat.{_+_, _*_, _/_, _^_, _<_, _≤_};
+ghost use Prim.Native.Nat.{_*_, _/_, _^_, _<_, _≤_};
 ghost use lib.IntN.{natAbs};
 ghost use lib.ListN.{length, take};
 ghost use Rattle.spline.specs.Table.{rowCells, tableCells};
@@ -11,7 +11,7 @@ ghost use Rattle.printout.specs.Buffer.{written, Puts};
 ghost use Rattle.sorting.specs.Sorted.{sorted};
 ghost use Rattle.numerals.specs.Numeral.{digits, decimal};
 ghost use Rattle.printout.specs.Printout.{countLine, weightLines, valueLine, valueLines, isLow, lowLine, lowLines, lowPositions, refusalLine};
-ghost use Rattle.printout.specs.Printed.{countLineLimit, weightLineLimit, valueLineLimit, lowLineLimit, placeText, fractionText, storedWeight, storedWeights, paired, isAnswer, printed, printoutLimit};
+ghost use Rattle.printout.specs.Printed.{countLineLimit, weightLineLimit, valueLineLimit, lowLineLimit, refusalLineLimit, placeText, fractionText, storedWeight, storedWeights, paired};
 
 // The most positions of a call.
 const POSITIONS: usize = 4096;
@@ -85,7 +85,7 @@ pub fn put_decimal(out: &mut [u8], at: usize, z: i64) -> usize
 }
 
 // n=rows
-fn put_count(out: &mut [u8], at: usize, n: usize) -> usize
+pub fn put_count(out: &mut [u8], at: usize, n: usize) -> usize
     requires { ⌜ at ≤ 2 ^ 42 ⌝ }
     ensures { λ r. ⌜ Puts countLineLimit at (countLine n) (now (out .entry)) (now (out .exit)) r ⌝ }
 {
@@ -118,28 +118,49 @@ fn put_fraction(out: &mut [u8], at: usize, num: i64, den: i64) -> usize
     put(out, c, 10)
 }
 
-// The line of the weight in cell k, unless it is zero.
-fn put_cell(out: &mut [u8], at: usize, k: usize, num: i64, den: i64) -> usize
-    requires { ⌜ at ≤ 2 ^ 42 ⌝ }
-    ensures { λ r. ⌜ Puts weightLineLimit at (weightLines (storedWeight k num den)) (now (out .entry)) (now (out .exit)) r ⌝ }
+// The line of the weight in cell k, unless it is zero: rows and columns are counted from those of cell 0 on.
+fn put_cell(
+    out: &mut [u8],
+    at: usize,
+    row: usize,
+    column: usize,
+    k: usize,
+    num: i64,
+    den: i64,
+) -> usize
+    requires { ⌜ (at ≤ 2 ^ 42) × (row ≤ 2 ^ 41) × (column ≤ 2 ^ 41) × (k ≤ tableCells) ⌝ }
+    ensures { λ r. ⌜ Puts weightLineLimit at (weightLines (storedWeight row column k num den)) (now (out .entry)) (now (out .exit)) r ⌝ }
 {
     if num == 0 {
         return at;
     }
-    let a = put_place(out, at, k / cells::ROW_CELLS, k % cells::ROW_CELLS);
+    let a = put_place(
+        out,
+        at,
+        row + k / cells::ROW_CELLS,
+        column + k % cells::ROW_CELLS,
+    );
     put_fraction(out, a, num, den)
 }
 
-// The lines of the non-zero weights of the first n rows.
-fn put_weights(out: &mut [u8], at: usize, n: usize, num: &[i64], den: &[i64]) -> usize
-    requires { ⌜ (at ≤ 2 ^ 41) × (n ≤ rowCells) × (tableCells ≤ length (now num)) × (tableCells ≤ length (now den)) ⌝ }
-    ensures { λ r. ⌜ Puts (weightLineLimit * (rowCells * n)) at (weightLines (storedWeights (rowCells * n) (now (num .entry)) (now (den .entry)))) (now (out .entry)) (now (out .exit)) r ⌝ }
+// The lines of the non-zero weights of the first n rows of the cells, which are a table's rows and columns from these on.
+pub fn put_weights(
+    out: &mut [u8],
+    at: usize,
+    row: usize,
+    column: usize,
+    n: usize,
+    num: &[i64],
+    den: &[i64],
+) -> usize
+    requires { ⌜ (at ≤ 2 ^ 41) × (row ≤ 2 ^ 41) × (column ≤ 2 ^ 41) × (n ≤ rowCells) × (tableCells ≤ length (now num)) × (tableCells ≤ length (now den)) ⌝ }
+    ensures { λ r. ⌜ Puts (weightLineLimit * (rowCells * n)) at (weightLines (storedWeights row column (rowCells * n) (now (num .entry)) (now (den .entry)))) (now (out .entry)) (now (out .exit)) r ⌝ }
 {
     let cells = cells::ROW_CELLS * n;
     let mut next = at;
     let mut k = 0;
     while k < cells {
-        next = put_cell(out, next, k, num[k], den[k]);
+        next = put_cell(out, next, row, column, k, num[k], den[k]);
         k += 1;
     }
     next
@@ -159,15 +180,17 @@ fn put_value(out: &mut [u8], at: usize, x: i32, early: i32, late: i32) -> usize
     put(out, f, 10)
 }
 
-// A line for each position with its two values.
-fn put_values(out: &mut [u8], at: usize, positions: &[i32], values: &[i32]) -> usize
+// A line for each position with its two values, which stand side by side in the list.
+pub fn put_values(out: &mut [u8], at: usize, positions: &[i32], values: &[i32]) -> usize
     requires { ⌜ (at ≤ 2 ^ 41) × (length (now positions) ≤ positionLimit) × (length (now positions) ≤ length (now values) / 2) ⌝ }
     ensures { λ r. ⌜ Puts (valueLineLimit * length (now (positions .entry))) at (valueLines (now (positions .entry)) (paired (now (values .entry)))) (now (out .entry)) (now (out .exit)) r ⌝ }
 {
     let mut next = at;
     let mut k = 0;
     while k < positions.len() {
-        next = put_value(out, next, positions[k], values[2 * k], values[2 * k + 1]);
+        let early = values[2 * k];
+        let late = values[2 * k + 1];
+        next = put_value(out, next, positions[k], early, late);
         k += 1;
     }
     next
@@ -224,7 +247,7 @@ fn put_low_lines(out: &mut [u8], at: usize, lows: &[i32]) -> usize
 }
 
 // A low line for each entry with a value of zero or less, by rising position.
-fn put_lows(out: &mut [u8], at: usize, positions: &[i32], values: &[i32]) -> usize
+pub fn put_lows(out: &mut [u8], at: usize, positions: &[i32], values: &[i32]) -> usize
     requires { ⌜ (at ≤ 2 ^ 41) × (length (now positions) ≤ positionLimit) × (length (now positions) ≤ length (now values) / 2) ⌝ }
     ensures { λ r. ⌜ Puts (lowLineLimit * length (now (positions .entry))) at (lowLines (sorted (lowPositions (now (positions .entry)) (paired (now (values .entry)))))) (now (out .entry)) (now (out .exit)) r ⌝ }
 {
@@ -234,53 +257,11 @@ fn put_lows(out: &mut [u8], at: usize, positions: &[i32], values: &[i32]) -> usi
     put_low_lines(out, at, &lows[..count])
 }
 
-// The arguments are those of an answered call.
-fn is_answer(n: usize, num: &[i64], den: &[i64], positions: &[i32], values: &[i32]) -> bool
-    ensures { λ r. ⌜ r ≡ isAnswer n (now (num .entry)) (now (den .entry)) (now (positions .entry)) (now (values .entry)) ⌝ }
-{
-    if n > cells::ROW_CELLS {
-        return false;
-    }
-    if num.len() < cells::TABLE_CELLS {
-        return false;
-    }
-    if den.len() < cells::TABLE_CELLS {
-        return false;
-    }
-    if positions.len() > POSITIONS {
-        return false;
-    }
-    positions.len() <= values.len() / 2
-}
-
-// The printout of an answer: the first n rows of the two buffers, the two values at each position, side by side in the list,
-// and the low lines by rising position. Where the arguments are not those of an answered call nothing is printed.
-pub fn answer(
-    n: usize,
-    num: &[i64],
-    den: &[i64],
-    positions: &[i32],
-    values: &[i32],
-    out: &mut [u8],
-) -> usize
-    ensures { λ r. ⌜ r ≡ length (printed n (now (num .entry)) (now (den .entry)) (now (positions .entry)) (now (values .entry))) ⌝ }
-    ensures { λ r. ⌜ now (out .exit) ≡ written 0 (printed n (now (num .entry)) (now (den .entry)) (now (positions .entry)) (now (values .entry))) (now (out .entry)) ⌝ }
-    ensures { λ r. ⌜ r ≤ printoutLimit ⌝ }
-{
-    if !is_answer(n, num, den, positions, values) {
-        return 0;
-    }
-    let a = put_count(out, 0, n);
-    let b = put_weights(out, a, n, num, den);
-    let c = put_values(out, b, positions, values);
-    put_lows(out, c, positions, values)
-}
-
 // The printout of a refusal: no=number,place
 pub fn refusal(number: u8, place: u32, out: &mut [u8]) -> usize
     ensures { λ r. ⌜ r ≡ length (refusalLine number place) ⌝ }
     ensures { λ r. ⌜ now (out .exit) ≡ written 0 (refusalLine number place) (now (out .entry)) ⌝ }
-    ensures { λ r. ⌜ r ≤ printoutLimit ⌝ }
+    ensures { λ r. ⌜ r ≤ refusalLineLimit ⌝ }
 {
     let a = put_text(out, 0, b"no=");
     let b = put_digits(out, a, number as u64);

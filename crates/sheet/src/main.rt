@@ -4,7 +4,7 @@
 const INPUT_BYTES: usize = 65537;
 
 // The most bytes that a printout has (`printoutLimit`), so none is cut.
-const OUTPUT_BYTES: usize = 836055;
+const OUTPUT_BYTES: usize = 2189079;
 
 fn main() {
     let mut input = [0u8; INPUT_BYTES];

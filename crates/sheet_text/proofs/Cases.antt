@@ -1,13 +1,14 @@
--- The sheet of W1 in three steps: the text is read by computation, the call on the five lists is crate spline's case, and
--- what it shows is printed by computation.
+-- The sheets of W1 and W9 in three steps each: the text is read by computation, the call on the five lists is crate spline's
+-- case, and what it shows is printed by computation.
 use mathlib.Core.List.{List, [], _∷_, _++_}
 use mathlib.Core.Path.{_≡_, refl, ap, _∙_}
 use Prim.Native.Nat.{ℕ}
 use native.Mathlib.Omega.{arith}
-use lib.IntN.{ℤ, pos}
+use lib.IntN.{ℤ, pos, negsuc}
 use Rattle.spline.specs.Outcome.{Outcome, answer, refusal, capped, with-answer}
+use Rattle.spline.specs.Listing.{Weight}
 use Rattle.spline.specs.CurveCall.{CurveResult, curveOutcome}
-use Rattle.spline.specs.Cases.{Answered, forBoth, shown, answers, weights1, outcome, cases}
+use Rattle.spline.specs.Cases.{Answered, forBoth, shown, answers, weights1, weights9, outcome, cases}
 use Rattle.spline.proofs.Cases.{every-case-holds}
 use Rattle.sorting.specs.Sorted.{inserted, sorted}
 use Rattle.numerals.specs.Bytes.{bytes, lines, cut, fieldsBetween, stripped}
@@ -15,9 +16,21 @@ use Rattle.numerals.specs.Numeral.{allDigits, digitsValue, isNatural, numeral, 
 use Rattle.sheet_lists.specs.SheetReading.{pair, entries, listOf, line, readLine, Lists, fiveLines, read}
 use Rattle.printout.specs.Printout.{joined, countLine, weightLine, weightLines, valueLine, valueLines, isLow, lowPositions, lowLine, lowLines, answerText}
 use Rattle.sheet_text.specs.Sheet.{argumentsOf, called, outcomeText, readText, printout}
-use Rattle.sheet_text.specs.Cases.{w1Text, w1Printout, SheetCaseHolds}
+use Rattle.sheet_text.specs.Cases.{w1Text, w1Printout, w9Text, w9Printout, SheetCasesHold}
 
--- the five lists of W1, and its values
+-- what a call shows is what is printed
+module _ (xs : List ℤ) (n : ℕ) (ws : List Weight) (vs : List ℤ) where
+  shown-prints : (o : Outcome CurveResult) → with-answer (λ r. shown (r .table) (r .values)) o ≡ answers n ws vs
+      → outcomeText xs o ≡ countLine n ++ (weightLines ws ++ (valueLines xs (forBoth vs) ++ lowLines (sorted (lowPositions xs (forBoth vs)))))
+  unfolding outcomeText answerText
+  shown-prints (answer r) e =
+      let same : shown (r .table) (r .values) ≡ record { rows = n; weights = ws; values = forBoth vs } = cc in
+      ap (λ (a : Answered). countLine (a .rows) ++ (weightLines (a .weights) ++ (valueLines xs (a .values) ++ lowLines (sorted (lowPositions xs (a .values)))))) same
+  shown-prints (refusal number place) e = absurd (let x : _≡_ {A = ℕ} 0 1 = cc in omega arith)
+
+-- ---- W1
+
+-- its five lists, and its values
 abbrev w1 : Lists
 w1 = record {
   breaks = pos 0 ∷ pos 1 ∷ pos 3 ∷ [];
@@ -39,15 +52,40 @@ w1-called : with-answer (λ r. shown (r .table) (r .values)) (called (argumentsO
 unfolding called curveOutcome outcome cases
 w1-called = every-case-holds .0
 
--- what the call shows is what is printed
-w1-prints : (o : Outcome CurveResult) → with-answer (λ r. shown (r .table) (r .values)) o ≡ answers 4 weights1 w1-values → outcomeText (w1 .positions) o ≡ w1Printout
-unfolding outcomeText joined countLine weightLine weightLines valueLine valueLines isLow lowPositions lowLine lowLines inserted sorted answerText digitsUpTo digits decimal bytes lines w1Printout
-w1-prints (answer r) e =
-    let same : shown (r .table) (r .values) ≡ record { rows = 4; weights = weights1; values = forBoth w1-values } = cc in
-    ap (λ (a : Answered). countLine (a .rows) ++ (weightLines (a .weights) ++ (valueLines (w1 .positions) (a .values) ++ lowLines (sorted (lowPositions (w1 .positions) (a .values)))))) same
-w1-prints (refusal number place) e = absurd (let x : _≡_ {A = ℕ} 0 1 = cc in omega arith)
+w1-printed : countLine 4 ++ (weightLines weights1 ++ (valueLines (w1 .positions) (forBoth w1-values) ++ lowLines (sorted (lowPositions (w1 .positions) (forBoth w1-values))))) ≡ w1Printout
+unfolding joined countLine weightLine weightLines valueLine valueLines isLow lowPositions lowLine lowLines inserted sorted digitsUpTo digits decimal bytes lines w1Printout
+w1-printed = refl
 
--- W1 of document 01, from the text of its sheet to the text of its printout.
-pub sheet-case-holds : SheetCaseHolds
+-- ---- W9
+
+abbrev w9 : Lists
+w9 = record {
+  breaks = pos 0 ∷ pos 1 ∷ pos 2 ∷ [];
+  degrees = pos 1 ∷ pos 1 ∷ [];
+  orders = negsuc 0 ∷ [];
+  coefs = forBoth (pos 0 ∷ pos 10 ∷ pos 20 ∷ pos 30 ∷ []);
+  positions = pos 256 ∷ [];
+}
+
+abbrev w9-values : List ℤ
+w9-values = pos 2560 ∷ []
+
+w9-reads : read w9Text ≡ answer w9
+unfolding capped cut fieldsBetween stripped allDigits digitsValue isNatural numeral pair entries listOf line readLine fiveLines read bytes lines w9Text
+w9-reads = refl
+
+w9-called : with-answer (λ r. shown (r .table) (r .values)) (called (argumentsOf w9)) ≡ answers 4 weights9 w9-values
+unfolding called curveOutcome outcome cases
+w9-called = every-case-holds .1 .1 .1 .1 .1 .1 .1 .1 .1 .1 .0
+
+w9-printed : countLine 4 ++ (weightLines weights9 ++ (valueLines (w9 .positions) (forBoth w9-values) ++ lowLines (sorted (lowPositions (w9 .positions) (forBoth w9-values))))) ≡ w9Printout
+unfolding joined countLine weightLine weightLines valueLine valueLines isLow lowPositions lowLine lowLines inserted sorted digitsUpTo digits decimal bytes lines w9Printout
+w9-printed = refl
+
+-- From the text of each sheet to the text of its printout.
+pub sheet-cases-hold : SheetCasesHold
 unfolding printout readText
-sheet-case-holds = ap readText w1-reads ∙ w1-prints (called (argumentsOf w1)) w1-called
+sheet-cases-hold = (
+  ap readText w1-reads ∙ shown-prints _ 4 weights1 w1-values (called (argumentsOf w1)) w1-called ∙ w1-printed,
+  ap readText w9-reads ∙ shown-prints _ 4 weights9 w9-values (called (argumentsOf w9)) w9-called ∙ w9-printed,
+)

@@ -1,40 +1,41 @@
--- From the contract of the curve call to the printout of its outcome: a refused call prints its refusal, and an answered one
--- its table, positions and values from the buffers.
+-- From the contract of the curve call to the printout of its outcome: a refused call prints its refusal, and an answered one its
+-- table, positions and values, with the last part of the table in the buffers.
 use mathlib.Core.Path.{_≡_, refl, sym, ap, ap₂, _∙_}
 use mathlib.Core.List.{List}
-use Prim.Native.Nat.{ℕ, _*_, _/_, _<_, _≤_}
+use Prim.Native.Nat.{ℕ, _*_, _/_, _≤_}
 use native.Mathlib.Omega.{arith}
 use lib.IntN.{ℤ}
 use lib.ListN.{length, take, drop}
 use lib.Seq.{take-at}
 use Rattle.spline.specs.Outcome.{Outcome, answer, refusal}
-use Rattle.spline.specs.Space.{columnCount, rowCount, checked}
-use Rattle.spline.specs.Table.{row, rowCells, tableCells, numerators, denominators}
-use Rattle.spline.specs.Build.{spaceWeights, weights, numeratorsAfter, denominatorsAfter}
-use Rattle.spline.specs.CurveCall.{CurveResult, returned, curveNumerators, curveDenominators, valuesAfter, positionLimit}
+use Rattle.spline.specs.Space.{rowCount}
+use Rattle.spline.specs.Table.{Table, tableCells, numerators, denominators}
+use Rattle.spline.specs.Build.{spaceWeights, lastPart, numeratorsAfter, denominatorsAfter}
+use Rattle.spline.specs.Piecewise.{Accepted}
+use Rattle.spline.specs.CurveCall.{CurveResult, returned, curveNumerators, curveDenominators, valuesAfter}
 use Rattle.spline.specs.ExactCurve.{Legal}
 use Rattle.spline.specs.Reading.{sideBySide}
-use Rattle.spline.proofs.Outcome.{answer-unique, answer-not-refusal, then-inverts}
+use Rattle.spline.proofs.Outcome.{answer-unique, answer-not-refusal}
 use Rattle.spline.proofs.Pairs.{sideBySide-length}
-use Rattle.theorems.proofs.Demand2.{rows-and-columns}
 use Rattle.closeness.specs.Demand3Values.{legalResult}
 use Rattle.closeness.proofs.LegalCall.{answered-calls-are-legal, legal-calls-answer, values-length}
-use Rattle.space.proofs.Legal.{checked-legal, legal-column-count-high, legal-row-count-sum}
+use Rattle.cells.proofs.Buffer.{numerators-again, denominators-again, kept-numerators, kept-denominators}
 use Rattle.curve.specs.Reply as curve
 use Rattle.curve.specs.declared.Answer.{Answer}
 use Rattle.curve.specs.declared.Answer.the-variants.{Values, Refused}
-use Rattle.sheet_text.specs.Sheet.{Arguments, spaceOf, valueCells, called, outcomeText, calledText}
-use Rattle.printout.specs.Printout.{refusalLine}
-use Rattle.printout.specs.Printed.{printed}
-use Rattle.printout.proofs.Stored.{printed-table}
+use Rattle.printout.specs.Printout.{answerText, refusalLine}
+use Rattle.printout.specs.Printed.{paired}
+use Rattle.printout.proofs.Pairs.{paired-sideBySide}
+use Rattle.sheet_text.specs.Sheet.{Arguments, spaceOf, valueCells, tableOf, Filled, called, outcomeText, calledText}
+use Rattle.sheet_text.proofs.Beam.{table-is}
 
 -- ---- an answered call
 
--- Its table has one row per pair of coefficients, and rows and columns that the buffers take.
+-- Its space is accepted, its table has one row per pair of coefficients, and it has as many values as positions.
 pub record Told (l : Arguments) (r : CurveResult) : Type 0 where
-  pub rows : length (l .coefs) / 2 ≡ length (r .table)
-  pub few : length (r .table) ≤ rowCells
-  pub narrow : (i : ℕ) → i < length (r .table) → length (row (r .table) i) ≤ rowCells
+  pub accepted : Accepted (spaceOf l)
+  pub table-is : r .table ≡ accepted .table
+  pub rows : length (l .coefs) / 2 ≡ rowCount (spaceOf l)
   pub count : length (r .values) ≡ length (l .positions)
 
 module _ (l : Arguments) (r : CurveResult) (e : called l ≡ answer r) where
@@ -46,32 +47,13 @@ module _ (l : Arguments) (r : CurveResult) (e : called l ≡ answer r) where
   unfolding called
   result = answer-unique e (legal-calls-answer (spaceOf l) (l .coefs) (l .positions) tableCells tableCells valueCells legal)
 
-  columns-fit : columnCount (spaceOf l) ≤ rowCells
-  unfolding spaceWeights
-  columns-fit =
-      legal-column-count-high (l .breaks) (l .degrees) (l .orders)
-      (checked-legal (l .breaks) (l .degrees) (l .orders) (then-inverts (checked (spaceOf l)) weights (legal .accepted .is) .before))
-
-  rows-fit : rowCount (spaceOf l) ≤ rowCells
-  unfolding spaceWeights
-  rows-fit =
-      omega (
-        arith,
-        columns-fit,
-        legal-row-count-sum (l .breaks) (l .degrees) (l .orders)
-            (checked-legal (l .breaks) (l .degrees) (l .orders) (then-inverts (checked (spaceOf l)) weights (legal .accepted .is) .before)),
-      )
-
   pub answered-told : Told l r
-  answered-told =
-      let t = rows-and-columns (spaceOf l) (legal .accepted) in
-      let table-is : r .table ≡ legal .accepted .table = ap (λ q. q .table) result in
-      record {
-        rows = omega (arith, ap length table-is, t .0, legal .coefficientCount);
-        few = rw (table-is) (rw (t .0) rows-fit);
-        narrow = rw (table-is) (λ i h. rw (t .1 i (rw (sym (t .0)) h)) columns-fit);
-        count = ap (λ q. length (q .values)) result ∙ values-length (spaceOf l) (legal .accepted .table) (l .coefs) (l .positions);
-      }
+  answered-told = record {
+    accepted = legal .accepted;
+    table-is = ap (λ q. q .table) result;
+    rows = omega (arith, legal .coefficientCount);
+    count = ap (λ q. length (q .values)) result ∙ values-length (spaceOf l) (legal .accepted .table) (l .coefs) (l .positions);
+  }
 
 -- ---- the call, as the machine answers it
 
@@ -118,22 +100,42 @@ module _ (l : Arguments) (m : Answer) (e : curve.reply m ≡ returned (called l)
         ap (λ o. take (2 * n) (valuesAfter o before)) (counted .is)
         ∙ take-at (sideBySide us) (drop (2 * length us) before) (2 * n) (sideBySide-length us ∙ ap (λ k. 2 * k) (counted .count))
 
-    numerators-are : (before : List ℤ) → curveNumerators (called l) before ≡ numerators (counted .result .table) before
-    unfolding numeratorsAfter
-    numerators-are before = ap (λ o. curveNumerators o before) (counted .is)
+    pub values-enough : (before : List ℤ) → length (l .positions) ≤ length (take (2 * n) (valuesAfter (called l) before)) / 2
+    values-enough before = omega (arith, ap length (values-part before), sideBySide-length (counted .result .values), told .count)
 
-    denominators-are : (before : List ℤ) → curveDenominators (called l) before ≡ denominators (counted .result .table) before
-    unfolding denominatorsAfter
-    denominators-are before = ap (λ o. curveDenominators o before) (counted .is)
+    -- the buffers hold the last part
+    held : Table
+    held = lastPart (spaceOf l) (told .accepted .table)
 
-    -- an answer is printed from its buffers
-    pub answered-prints : (num den vs : List ℤ) {num′ den′ vs′ : List ℤ} → tableCells ≤ length num → tableCells ≤ length den → length (l .positions) ≤ positionLimit
-        → num′ ≡ curveNumerators (called l) num → den′ ≡ curveDenominators (called l) den → vs′ ≡ valuesAfter (called l) vs
-        → printed (length (l .coefs) / 2) num′ den′ (l .positions) (take (2 * n) vs′) ≡ calledText l
+    numerators-are : (before : List ℤ) → curveNumerators (spaceOf l) (called l) before ≡ numerators held before
+    unfolding numeratorsAfter held
+    numerators-are before = ap (λ o. curveNumerators (spaceOf l) o before) (counted .is) ∙ ap (λ t. numerators (lastPart (spaceOf l) t) before) (told .table-is)
+
+    denominators-are : (before : List ℤ) → curveDenominators (spaceOf l) (called l) before ≡ denominators held before
+    unfolding denominatorsAfter held
+    denominators-are before = ap (λ o. curveDenominators (spaceOf l) o before) (counted .is) ∙ ap (λ t. denominators (lastPart (spaceOf l) t) before) (told .table-is)
+
+    pub answered-filled : (num den : List ℤ) {num′ den′ : List ℤ} → tableCells ≤ length num → tableCells ≤ length den
+        → num′ ≡ curveNumerators (spaceOf l) (called l) num → den′ ≡ curveDenominators (spaceOf l) (called l) den
+        → Filled (spaceOf l) (length (l .coefs) / 2) num′ den′
+    unfolding held
+    answered-filled num den {num′} {den′} x y p q =
+        let e : num′ ≡ numerators held num = p ∙ numerators-are num in
+        let f : den′ ≡ denominators held den = q ∙ denominators-are den in
+        record {
+          accepted = told .accepted;
+          rows = told .rows;
+          num-long = omega (arith, ap length e, kept-numerators held num x .long);
+          den-long = omega (arith, ap length f, kept-denominators held den y .long);
+          num-is = e ∙ sym (ap (numerators held) e ∙ numerators-again held held num);
+          den-is = f ∙ sym (ap (denominators held) f ∙ denominators-again held held den);
+        }
+
+    -- an answer is printed from its table and its values
+    pub answered-prints : (vs : List ℤ) {vs′ : List ℤ} → vs′ ≡ valuesAfter (called l) vs → answerText (tableOf (spaceWeights (spaceOf l))) (l .positions) (paired (take (2 * n) vs′)) ≡ calledText l
     unfolding outcomeText
-    answered-prints num den vs {num′} {den′} {vs′} x y z p q s =
-        let t = counted .result .table in
-        let us = counted .result .values in
-        let vs-are : take (2 * n) vs′ ≡ sideBySide us = ap (take (2 * n)) s ∙ values-part vs in
-        rw (told .rows, p ∙ numerators-are num, q ∙ denominators-are den, vs-are)
-        (printed-table t num den (l .positions) us (told .few) (told .narrow) x y z (omega (arith, told .count)) ∙ ap (outcomeText (l .positions)) (sym (counted .is)))
+    answered-prints vs s =
+        ap₂ (λ t us. answerText t (l .positions) us)
+        (table-is (spaceOf l) (told .accepted) ∙ sym (told .table-is))
+        (ap paired (ap (take (2 * n)) s ∙ values-part vs) ∙ paired-sideBySide (counted .result .values))
+        ∙ ap (outcomeText (l .positions)) (sym (counted .is))

@@ -1,6 +1,6 @@
--- Case W1 as a sheet and its printout (document 01, "Sheet and printout"; document 02, CR 8 for the values, CR 10 for the
--- pairs), byte for byte. The statement at the end is proved by computation in proofs/Cases; the cases of the calls alone are
--- crate spline's.
+-- Cases W1 and W9 as sheets and their printouts (document 01, "Sheet and printout" and "Cases"; document 02, CR 8 for the values,
+-- CR 10 for the pairs), byte for byte. W9 is a beam of two parts, whose w lines count over the beam (CR 7). The statement at the
+-- end is proved by computation in proofs/Cases; the cases of the calls alone are crate spline's.
 use mathlib.Core.List.{[], _∷_}
 use mathlib.Core.Path.{_≡_}
 use Rattle.numerals.specs.Bytes.{Text, lines}
@@ -30,6 +30,25 @@ w1Printout = lines (
     "v=256,17067:17067" ∷
     "v=512,4267:4267" ∷ [])
 
--- The sheet of W1 gives its printout.
-abbrev pub SheetCaseHolds : Type 0
-SheetCaseHolds = printout w1Text ≡ w1Printout
+-- The sheet of W9.
+unfoldable pub w9Text : Text
+w9Text = lines (
+    "breaks=0,1,2" ∷
+    "degrees=1,1" ∷
+    "orders=-1" ∷
+    "coefs=0:0,10:10,20:20,30:30" ∷
+    "at=256" ∷ [])
+
+-- Its printout.
+unfoldable pub w9Printout : Text
+w9Printout = lines (
+    "n=4" ∷
+    "w=0,0,1/1" ∷
+    "w=1,1,1/1" ∷
+    "w=2,2,1/1" ∷
+    "w=3,3,1/1" ∷
+    "v=256,2560:2560" ∷ [])
+
+-- Each sheet gives its printout.
+abbrev pub SheetCasesHold : Type 0
+SheetCasesHold = (printout w1Text ≡ w1Printout) × (printout w9Text ≡ w9Printout)

@@ -1,14 +1,119 @@
 // The sheet: five lines of text in, the printout out, on bytes.
 ghost use mathlib.Core.Path.{_≡_};
-ghost use Prim.Native.Nat.{_≤_};
+ghost use Prim.Native.Nat.{_*_, _/_, _^_, _≤_};
 ghost use lib.ListN.{length};
-ghost use Rattle.printout.specs.Buffer.{written};
+ghost use Rattle.spline.specs.Space.{partEnd, rowCount};
+ghost use Rattle.spline.specs.Table.{rowCells, tableCells};
+ghost use Rattle.spline.specs.Build;
+ghost use Rattle.spline.specs.Build.{spaceWeights};
+ghost use Rattle.spline.specs.Piecewise.{Accepted};
 ghost use Rattle.spline.specs.CurveCall.{positionLimit};
-ghost use Rattle.printout.specs.Printed.{printoutLimit};
-ghost use Rattle.sheet_text.specs.Sheet.{calledText, printout};
+ghost use Rattle.beams.specs.Sections.{partAt};
+ghost use Rattle.beams.specs.Parts.{Starts};
+ghost use Rattle.space.specs.Reply.{space};
+ghost use Rattle.printout.specs.Buffer.{written, Puts};
+ghost use Rattle.printout.specs.Printout.{answerText};
+ghost use Rattle.printout.specs.Printed.{weightLineLimit, paired};
+ghost use Rattle.sheet_text.specs.Sheet.{rowLimit, tableOf, weightsText, Filled, calledText, printout, printoutLimit};
 
 // The cells of the values' buffer, two for each of the most positions of a call.
 const VALUE_CELLS: usize = 8192;
+
+// Builds the part from segment a up to segment b of an accepted beam, and answers its row count.
+fn build_rows(
+    breaks: &[i32],
+    degrees: &[i32],
+    orders: &[i32],
+    a: usize,
+    b: usize,
+    num: &mut [i64],
+    den: &mut [i64],
+) -> usize
+    requires { ⌜ Accepted (space (now breaks) (now degrees) (now orders)) × ((tableCells ≤ length (now num)) × (tableCells ≤ length (now den))) ⌝ }
+    requires { ⌜ Starts (space (now breaks) (now degrees) (now orders)) a × (b ≡ partEnd (space (now breaks) (now degrees) (now orders)) a) ⌝ }
+    ensures { λ r. ⌜ (let part = partAt (space (now (breaks .entry)) (now (degrees .entry)) (now (orders .entry))) a in
+        (r ≡ rowCount part) × ((now (num .exit) ≡ Build.numeratorsAfter (Build.weights part) (now (num .entry))) × (now (den .exit) ≡ Build.denominatorsAfter (Build.weights part) (now (den .entry))))) ⌝ }
+{
+    let built = weights::parts::build_part(breaks, degrees, orders, a, b, num, den);
+    match built {
+        weights::Built::Rows(n) => n,
+        weights::Built::Refused(_number, _place) => 0,
+    }
+}
+
+// The w lines of an accepted beam, part by part from the left: each part is built in the two lent buffers, and its rows and
+// columns are counted over the beam.
+fn put_parts(
+    breaks: &[i32],
+    degrees: &[i32],
+    orders: &[i32],
+    num: &mut [i64],
+    den: &mut [i64],
+    out: &mut [u8],
+    at: usize,
+) -> usize
+    requires { ⌜ Accepted (space (now breaks) (now degrees) (now orders)) ⌝ }
+    requires { ⌜ (at ≤ 2 ^ 40) × (tableCells ≤ length (now num)) × (tableCells ≤ length (now den)) ⌝ }
+    ensures { λ r. ⌜ Puts (weightLineLimit * (rowCells * rowLimit)) at (weightsText (space (now (breaks .entry)) (now (degrees .entry)) (now (orders .entry)))) (now (out .entry)) (now (out .exit)) r ⌝ }
+{
+    let mut next = at;
+    let mut row = 0;
+    let mut a = 0;
+    while a < degrees.len() {
+        let b = space::part_end(degrees, orders, a);
+        let column = space::first_column(degrees, a);
+        let n = build_rows(breaks, degrees, orders, a, b, num, den);
+        next = printout::put_weights(out, next, row, column, n, num, den);
+        row += n;
+        a = b;
+    }
+    next
+}
+
+// The w lines of an accepted beam whose last part is in the two buffers: a beam of one part is there as a whole.
+fn put_beam(
+    breaks: &[i32],
+    degrees: &[i32],
+    orders: &[i32],
+    n: usize,
+    num: &mut [i64],
+    den: &mut [i64],
+    out: &mut [u8],
+    at: usize,
+) -> usize
+    requires { ⌜ Filled (space (now breaks) (now degrees) (now orders)) n (now num) (now den) ⌝ }
+    requires { ⌜ at ≤ 2 ^ 40 ⌝ }
+    ensures { λ r. ⌜ Puts (weightLineLimit * (rowCells * rowLimit)) at (weightsText (space (now (breaks .entry)) (now (degrees .entry)) (now (orders .entry)))) (now (out .entry)) (now (out .exit)) r ⌝ }
+{
+    let end = space::part_end(degrees, orders, 0);
+    if end == degrees.len() {
+        return printout::put_weights(out, at, 0, 0, n, num, den);
+    }
+    put_parts(breaks, degrees, orders, num, den, out, at)
+}
+
+// The printout of an answer, from the buffer's start on: the count line, the w lines of the accepted beam whose last part is in
+// the two buffers, and the lines of the positions and their values, two a position.
+fn put_answer(
+    breaks: &[i32],
+    degrees: &[i32],
+    orders: &[i32],
+    n: usize,
+    num: &mut [i64],
+    den: &mut [i64],
+    positions: &[i32],
+    values: &[i32],
+    out: &mut [u8],
+) -> usize
+    requires { ⌜ Filled (space (now breaks) (now degrees) (now orders)) n (now num) (now den) ⌝ }
+    requires { ⌜ (length (now positions) ≤ positionLimit) × (length (now positions) ≤ length (now values) / 2) ⌝ }
+    ensures { λ r. ⌜ Puts printoutLimit 0 (answerText (tableOf (spaceWeights (space (now (breaks .entry)) (now (degrees .entry)) (now (orders .entry))))) (now (positions .entry)) (paired (now (values .entry)))) (now (out .entry)) (now (out .exit)) r ⌝ }
+{
+    let a = printout::put_count(out, 0, n);
+    let b = put_beam(breaks, degrees, orders, n, num, den, out, a);
+    let c = printout::put_values(out, b, positions, values);
+    printout::put_lows(out, c, positions, values)
+}
 
 // The curve call on the five lists, the coefficients as the numbers of their pairs side by side, and its printout.
 fn run(
@@ -41,10 +146,13 @@ fn run(
         curve::Answer::Refused(number, place) => printout::refusal(number, place, out),
         curve::Answer::Values(n) => {
             let cells = 2 * n;
-            printout::answer(
+            put_answer(
+                breaks,
+                degrees,
+                orders,
                 coefs.len() / 2,
-                &num,
-                &den,
+                &mut num,
+                &mut den,
                 positions,
                 &values[..cells],
                 out,

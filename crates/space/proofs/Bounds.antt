@@ -37,13 +37,13 @@ module _ (s : Space) (h : BreaksLegal (s .breaks)) where
   pub width-positive : (i : ℕ) → suc i < length (s .breaks) → 1 ≤ width s i
   width-positive i l = omega (arith, <-out _ _ (h .rise i l), bal-+ (break s (suc i)) (negℤ (break s i)), bal-neg (break s i), abs-parts (break s (suc i) -ℤ break s i))
 
-  -- within the whole span
-  pub width-within : (m i : ℕ) → suc i ≤ m → m < length (s .breaks) → (break s m -ℤ break s 0) ≤ℤ pos 2000 → width s i ≤ 2000
-  width-within m i k l span =
-      let a = ≤-out _ _ (breaks-mono 0 i (omega arith) (omega arith)) in
-      let b = ≤-out _ _ (breaks-mono (suc i) m k l) in
-      let e = bal-+ (break s m) (negℤ (break s 0)) in
-      let f = bal-neg (break s 0) in
+  -- within the span from breakpoint a to breakpoint e
+  pub width-within : (a e i : ℕ) → a ≤ i → suc i ≤ e → e < length (s .breaks) → (break s e -ℤ break s a) ≤ℤ pos 2000 → width s i ≤ 2000
+  width-within a e i j k l span =
+      let p = ≤-out _ _ (breaks-mono a i j (omega arith)) in
+      let q = ≤-out _ _ (breaks-mono (suc i) e k l) in
+      let r = bal-+ (break s e) (negℤ (break s a)) in
+      let f = bal-neg (break s a) in
       let g = ≤-out _ _ span in
       let u = <-out _ _ (h .rise i (omega arith)) in
       let v = bal-+ (break s (suc i)) (negℤ (break s i)) in

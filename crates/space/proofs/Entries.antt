@@ -1,15 +1,16 @@
 -- What an entry that breaks no rule is, as facts of order, and back. The definitions test by flags; the laws of legal
 -- lists and of the machine's arithmetic want the order.
-use mathlib.Core.Path.{_≡_, sym, _∙_}
-use mathlib.Core.Bool.{false}
-use Prim.Native.Nat.{ℕ, zero, suc, _≤_}
-use lib.IntN.{ℤ, pos, negsuc, natAbs}
+use mathlib.Core.Path.{_≡_, refl, sym, _∙_}
+use mathlib.Core.Bool.{Bool, true, false}
+use Prim.Native.Nat.{ℕ, zero, suc, _-_, _≤_}
+use borrow.Author.Tests.{ltb-false, le-ltb}
+use lib.IntN.{ℤ, pos, negsuc, natAbs, _-ℤ_}
 use lib.Signed.{ltZ, _≤ℤ_, _<ℤ_}
 use Rattle.exact.proofs.Decide.{or-false}
 use Rattle.exact.proofs.Integer.{abs-le-in, abs-le-out}
 use Rattle.exact.proofs.Word.{ltZ-false, leZ-false, not-lt-test, not-le-test}
-use Rattle.spline.specs.Space.{Space, break, degreeEntry, order, badBreak, badDegree, badOrder}
-use Rattle.space.proofs.Tests.{break-zero, break-suc, degree-tests, order-tests}
+use Rattle.spline.specs.Space.{Space, break, degreeEntry, order, startsPart, partEnd, badBreak, spanTooLong, badDegree, badOrder, tooManySegments}
+use Rattle.space.proofs.Tests.{break-zero, break-suc, degree-tests, order-tests, no-part-no-span, no-part-not-long, span-test, part-test}
 
 -- the range of a breakpoint, by its size
 size-of : (x : ℤ) → ltZ x (negsuc 9999) ≡ false → ltZ (pos 10000) x ≡ false → natAbs x ≤ 10000
@@ -55,3 +56,25 @@ module _ (s : Space) where
 
   pub order-good : (i : ℕ) → GoodOrder i → badOrder s i ≡ false
   order-good i h = order-tests s i ∙ simp (not-lt-test (h .low), not-lt-test (h .high), not-le-test (h .left), not-le-test (h .right))
+
+  -- ---- parts
+
+  pub good-span : (i : ℕ) → spanTooLong s i ≡ false → startsPart s i ≡ true → (break s (partEnd s i) -ℤ break s i) ≤ℤ pos 2000
+  good-span i e t = ltZ-false (pos 2000) (break s (partEnd s i) -ℤ break s i) (sym (span-test s i t) ∙ e)
+
+  pub good-part : (i : ℕ) → tooManySegments s i ≡ false → startsPart s i ≡ true → partEnd s i - i ≤ 12
+  good-part i e t = ltb-false 12 (partEnd s i - i) (sym (part-test s i t) ∙ e)
+
+  pub span-good : (i : ℕ) → (startsPart s i ≡ true → (break s (partEnd s i) -ℤ break s i) ≤ℤ pos 2000) → spanTooLong s i ≡ false
+  span-good i h = go (startsPart s i) refl
+    where
+      go : (b : Bool) → startsPart s i ≡ b → spanTooLong s i ≡ false
+      go true e = span-test s i e ∙ not-lt-test (h e)
+      go false e = sym (no-part-no-span s i e)
+
+  pub part-good : (i : ℕ) → (startsPart s i ≡ true → partEnd s i - i ≤ 12) → tooManySegments s i ≡ false
+  part-good i h = go (startsPart s i) refl
+    where
+      go : (b : Bool) → startsPart s i ≡ b → tooManySegments s i ≡ false
+      go true e = part-test s i e ∙ le-ltb 12 (partEnd s i - i) (h e)
+      go false e = sym (no-part-not-long s i e)

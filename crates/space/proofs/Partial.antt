@@ -1,13 +1,16 @@
 -- Every definition reads only the lists that it needs: on a space with the other lists left out it gives the same. The
 -- contracts of this crate name such partial spaces, the definitions of the build the whole one.
 use mathlib.Core.Path.{_≡_, refl, sym, _∙_, ap, ap₂, fun-ext}
-use mathlib.Core.Bool.{cond}
+use mathlib.Core.Bool.{cond, _&&_}
 use mathlib.Core.List.{List, []}
+use mathlib.Core.Option.{Option·getD}
 use Prim.Native.Nat.{ℕ, zero, suc, _+_, _-_}
+use lib.Dec.{ltb}
 use lib.IntN.{ℤ}
 use lib.ListN.{length}
 use lib.Signed.{ltZ, leZ}
-use Rattle.spline.specs.Space.{break, badBreak, badDegree, badOrder, degree, conditionCount, firstColumn, columnCount, conditionsBefore, rowCount}
+use Rattle.spline.specs.Space.{break, startsPart, partEnd, tooManySegments, partSegmentLimit, badBreak, badDegree, badOrder, degree, conditionCount, firstColumn, columnCount, conditionsBefore, rowCount}
+use Rattle.spline.specs.Search.{first}
 use Rattle.spline.specs.Reading.{fine, startsAtDiscontinuity, startsBy}
 use Rattle.space.specs.Reply.{space}
 
@@ -24,6 +27,24 @@ module _ (b d o : List ℤ) where
   pub bad-order-partial : (i : ℕ) → badOrder (space [] d o) i ≡ badOrder (space b d o) i
   unfolding badOrder
   bad-order-partial i = refl
+
+  pub starts-part-partial : (i : ℕ) → startsPart (space [] [] o) i ≡ startsPart (space b d o) i
+  unfolding startsPart
+  starts-part-partial zero = refl
+  starts-part-partial (suc i) = refl
+
+  starts-part-without-breaks : (i : ℕ) → startsPart (space [] d o) i ≡ startsPart (space b d o) i
+  unfolding startsPart
+  starts-part-without-breaks zero = refl
+  starts-part-without-breaks (suc i) = refl
+
+  pub part-end-partial : (i : ℕ) → partEnd (space [] d o) i ≡ partEnd (space b d o) i
+  unfolding partEnd
+  part-end-partial i = ap (λ test. Option·getD (first (length d) test) (length d)) (fun-ext (λ k. ap (λ c. ltb i k && c) (starts-part-without-breaks k)))
+
+  pub too-many-segments-partial : (i : ℕ) → tooManySegments (space [] d o) i ≡ tooManySegments (space b d o) i
+  unfolding tooManySegments
+  too-many-segments-partial i = ap₂ (λ c e. c && ltb partSegmentLimit (e - i)) (starts-part-without-breaks i) (part-end-partial i)
 
   pub first-column-partial : (i : ℕ) → firstColumn (space [] d []) i ≡ firstColumn (space b d o) i
   unfolding firstColumn

@@ -6,13 +6,15 @@ use Prim.Native.Nat.{ℕ, zero, suc, _+_, _-_, _<_, _≤_}
 use native.Mathlib.Omega.{arith}
 use native.Mathlib.Numerals.{add-one}
 use borrow.Author.Tests.{le-leb, lt-leb, eqb-true, eqb-false, eq-eqb, ne-eqb}
-use lib.Dec.{eqb}
-use lib.IntN.{ℤ, pos, negsuc}
+use mir.Syntax.{w32}
+use mir.Val.{SFits, ofZ}
+use lib.Dec.{eqb, ltb}
+use lib.IntN.{ℤ, pos, negsuc, _-ℤ_}
 use lib.ListN.{length}
 use lib.Signed.{ltZ, leZ}
-use Rattle.exact.proofs.Word.{leZ-not-ltZ}
-use Rattle.spline.specs.Space.{Space, segments, lengthsFit, break, degreeEntry, order, between, badBreak, badDegree, badOrder}
-use Rattle.spline.proofs.Legal.{Lengths}
+use Rattle.exact.proofs.Word.{leZ-not-ltZ, sfits-abs, ofZ-inj}
+use Rattle.spline.specs.Space.{Space, segments, lengthsFit, break, degreeEntry, order, between, isDiscontinuity, startsPart, partEnd, badBreak, spanTooLong, badDegree, badOrder, tooManySegments}
+use Rattle.spline.proofs.Space.{is-discontinuity, is-no-discontinuity}
 
 -- ---- a number out of its range
 
@@ -39,22 +41,17 @@ module _ (s : Space) where
   unfolding lengthsFit
   no-segment h = sym (simp (lt-leb 1 (segments s) h))
 
-  pub many-segments : 12 < segments s → false ≡ lengthsFit s
+  pub many-segments : 48 < segments s → false ≡ lengthsFit s
   unfolding lengthsFit
-  many-segments h = sym (simp (lt-leb (segments s) 12 h, and-false))
+  many-segments h = sym (simp (lt-leb (segments s) 48 h, and-false))
 
   pub wrong-breaks : (length (s .breaks) ≡ segments s + 1 → ⊥) → false ≡ lengthsFit s
   unfolding lengthsFit
   wrong-breaks h = sym (simp (ne-eqb (length (s .breaks)) (segments s + 1) h, and-false))
 
-  pub orders-left : 1 ≤ segments s → segments s ≤ 12 → length (s .breaks) ≡ segments s + 1 → eqb (length (s .orders)) (segments s - 1) ≡ lengthsFit s
+  pub orders-left : 1 ≤ segments s → segments s ≤ 48 → length (s .breaks) ≡ segments s + 1 → eqb (length (s .orders)) (segments s - 1) ≡ lengthsFit s
   unfolding lengthsFit
-  orders-left h k e = eqb-shift (length (s .orders)) (segments s) h ∙ sym (simp (le-leb 1 (segments s) h, le-leb (segments s) 12 k, eq-eqb (length (s .breaks)) (segments s + 1) e))
-
--- and all at once
-pub lengths-fit : (s : Space) → Lengths s → lengthsFit s ≡ true
-unfolding lengthsFit
-lengths-fit s h = simp (le-leb 1 (segments s) (h .some-segment), le-leb (segments s) 12 (h .few-segments), eq-eqb (length (s .breaks)) (segments s + 1) (h .break-count), eq-eqb (length (s .orders) + 1) (segments s) (h .order-count))
+  orders-left h k e = eqb-shift (length (s .orders)) (segments s) h ∙ sym (simp (le-leb 1 (segments s) h, le-leb (segments s) 48 k, eq-eqb (length (s .breaks)) (segments s + 1) e))
 
 -- ---- the tests of an entry, one by one
 
@@ -112,3 +109,42 @@ module _ (s : Space) where
   -- and where that and the range hold, against the degree on the right
   pub order-right : (i : ℕ) → ltZ (order s i) (negsuc 0) ≡ false → ltZ (pos 2) (order s i) ≡ false → leZ (degreeEntry s i) (order s i) ≡ false → leZ (degreeEntry s (i + 1)) (order s i) ≡ badOrder s i
   order-right i e f g = ap (λ k. leZ (degreeEntry s k) (order s i)) (add-one i) ∙ sym (order-tests i ∙ simp (e, f, g))
+
+-- ---- the tests of a part
+
+module _ (s : Space) where
+  -- the order of join i compared with -1, by its bits
+  pub discontinuity-test : (i : ℕ) → SFits w32 (order s i) → eqb (ofZ w32 (order s i)) (ofZ w32 (negsuc 0)) ≡ isDiscontinuity s i
+  discontinuity-test i f = go (eqb (ofZ w32 (order s i)) (ofZ w32 (negsuc 0))) refl
+    where
+      go : (b : Bool) → eqb (ofZ w32 (order s i)) (ofZ w32 (negsuc 0)) ≡ b → b ≡ isDiscontinuity s i
+      go true e = sym (is-discontinuity s i (ofZ-inj w32 (order s i) (negsuc 0) f (sfits-abs (omega arith)) (eqb-true _ _ e)))
+      go false e = sym (is-no-discontinuity s i (λ z. eqb-false _ _ e (ap (ofZ w32) z)))
+
+  pub starts-part-zero : (i : ℕ) → i ≡ 0 → true ≡ startsPart s i
+  unfolding startsPart
+  starts-part-zero zero e = refl
+  starts-part-zero (suc i) e = absurd (omega arith)
+
+  pub starts-part-later : (i : ℕ) → (i ≡ 0 → ⊥) → isDiscontinuity s (i - 1) ≡ startsPart s i
+  unfolding startsPart
+  starts-part-later zero e = absurd (e refl)
+  starts-part-later (suc i) e = ap (isDiscontinuity s) (let h : suc i - 1 ≡ i = omega arith in h)
+
+  -- a segment that starts no part
+  pub no-part-no-span : (i : ℕ) → startsPart s i ≡ false → false ≡ spanTooLong s i
+  unfolding spanTooLong
+  no-part-no-span i e = sym (ap (λ t. t && ltZ (pos 2000) (break s (partEnd s i) -ℤ break s i)) e)
+
+  pub no-part-not-long : (i : ℕ) → startsPart s i ≡ false → false ≡ tooManySegments s i
+  unfolding tooManySegments
+  no-part-not-long i e = sym (ap (λ t. t && ltb 12 (partEnd s i - i)) e)
+
+  -- and one that does
+  pub span-test : (i : ℕ) → startsPart s i ≡ true → spanTooLong s i ≡ ltZ (pos 2000) (break s (partEnd s i) -ℤ break s i)
+  unfolding spanTooLong
+  span-test i e = ap (λ t. t && ltZ (pos 2000) (break s (partEnd s i) -ℤ break s i)) e
+
+  pub part-test : (i : ℕ) → startsPart s i ≡ true → tooManySegments s i ≡ ltb 12 (partEnd s i - i)
+  unfolding tooManySegments
+  part-test i e = ap (λ t. t && ltb 12 (partEnd s i - i)) e

@@ -1,27 +1,35 @@
--- What number 3 to 5 leave of legal lists, entry by entry, and the checks of each list by itself.
-use mathlib.Core.Bool.{cond}
+-- What the numbers 3 to 5 and 15 leave of legal lists, entry by entry and part by part, and the checks of each list by itself.
+use mathlib.Core.Bool.{true}
 use mathlib.Core.List.{List, []}
 use mathlib.Core.Path.{_≡_}
-use Prim.Native.Nat.{ℕ, suc, _+_, _<_, _≤_}
+use Prim.Native.Nat.{ℕ, suc, _+_, _-_, _<_, _≤_}
 use lib.IntN.{ℤ, pos, negsuc, natAbs, _-ℤ_}
 use lib.ListN.{length, getD}
-use lib.Signed.{ltZ, _<ℤ_, _≤ℤ_}
-use Rattle.spline.specs.Outcome.{Outcome, answer, refuse}
+use lib.Signed.{_<ℤ_, _≤ℤ_}
+use Rattle.spline.specs.Outcome.{Outcome, answer}
 use Rattle.spline.specs.Search.{first}
-use Rattle.spline.specs.Space.{segmentLimit, breakLimit, spanLimit, degreeLimit, badBreak, badDegree, badOrder, refuseFirst}
+use Rattle.spline.specs.Space.{segmentLimit, partSegmentLimit, breakLimit, spanLimit, degreeLimit, break, startsPart, partEnd, badBreak, spanTooLong, badDegree, badOrder, tooManySegments, refuseFirst, partEndAt}
 use Rattle.space.specs.Reply.{space}
 
--- Number 3 of m + 1 breakpoints: the first bad one, then the span at place m.
-unfoldable pub breaksChecked : List ℤ → ℕ → Outcome (Unit {0})
-breaksChecked breaks m = refuseFirst 3 (first (m + 1) (badBreak (space breaks [] []))) (cond (ltZ (pos spanLimit) (getD breaks m (pos 0) -ℤ getD breaks 0 (pos 0))) (refuse 3 m) (answer tt))
+-- Number 3 of the parts: the first whose span is too long, at its last breakpoint.
+unfoldable pub spansChecked : List ℤ → List ℤ → List ℤ → Outcome (Unit {0})
+spansChecked breaks degrees orders = let s = space breaks degrees orders in refuseFirst 3 (partEndAt s (first (length degrees) (spanTooLong s))) (answer tt)
+
+-- Number 3: the first bad breakpoint, then the parts.
+unfoldable pub breaksChecked : List ℤ → List ℤ → List ℤ → Outcome (Unit {0})
+breaksChecked breaks degrees orders = refuseFirst 3 (first (length breaks) (badBreak (space breaks [] []))) (spansChecked breaks degrees orders)
 
 -- Number 4.
 unfoldable pub degreesChecked : List ℤ → Outcome (Unit {0})
 degreesChecked degrees = refuseFirst 4 (first (length degrees) (badDegree (space [] degrees []))) (answer tt)
 
--- Number 5.
+-- Number 15: the first part of too many segments.
+unfoldable pub partsChecked : List ℤ → List ℤ → Outcome (Unit {0})
+partsChecked degrees orders = refuseFirst 15 (first (length degrees) (tooManySegments (space [] degrees orders))) (answer tt)
+
+-- Number 5, then 15.
 unfoldable pub ordersChecked : List ℤ → List ℤ → Outcome (Unit {0})
-ordersChecked degrees orders = refuseFirst 5 (first (length orders) (badOrder (space [] degrees orders))) (answer tt)
+ordersChecked degrees orders = refuseFirst 5 (first (length orders) (badOrder (space [] degrees orders))) (partsChecked degrees orders)
 
 -- Breakpoints that rise within their range.
 pub record BreaksLegal (breaks : List ℤ) : Type 0 where
@@ -47,7 +55,7 @@ pub record JoinsLegal (degrees orders : List ℤ) : Type 0 where
   pub left : (i : ℕ) → i < length orders → getD orders i (pos 0) <ℤ getD degrees i (pos 0)
   pub right : (i : ℕ) → i < length orders → getD orders i (pos 0) <ℤ getD degrees (suc i) (pos 0)
 
--- Three lists that pass every test of document 01.
+-- Three lists that pass every test: a beam whose parts each have a span of at most 2,000 and at most 12 segments.
 pub record ListsLegal (breaks degrees orders : List ℤ) : Type 0 where
   pub some : 1 ≤ length degrees
   pub few : length degrees ≤ segmentLimit
@@ -56,6 +64,12 @@ pub record ListsLegal (breaks degrees orders : List ℤ) : Type 0 where
   pub breaks-legal : BreaksLegal breaks
   pub degrees-legal : DegreesLegal degrees
   pub orders-legal : OrdersLegal orders
-  pub span : (getD breaks (length degrees) (pos 0) -ℤ getD breaks 0 (pos 0)) ≤ℤ pos spanLimit
   pub left : (i : ℕ) → i < length orders → getD orders i (pos 0) <ℤ getD degrees i (pos 0)
   pub right : (i : ℕ) → i < length orders → getD orders i (pos 0) <ℤ getD degrees (suc i) (pos 0)
+  pub spans : (i : ℕ) → i < length degrees → let s = space breaks degrees orders in startsPart s i ≡ true → (break s (partEnd s i) -ℤ break s i) ≤ℤ pos spanLimit
+  pub part-counts : (i : ℕ) → i < length degrees → let s = space breaks degrees orders in startsPart s i ≡ true → partEnd s i - i ≤ partSegmentLimit
+
+-- The lists of one part: legal, and so few segments that the weights fit the buffers.
+pub record PartLegal (breaks degrees orders : List ℤ) : Type 0 where
+  pub lists : ListsLegal breaks degrees orders
+  pub few : length degrees ≤ partSegmentLimit

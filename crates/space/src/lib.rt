@@ -1,18 +1,19 @@
-// The three lists of a space: the refusals 2 to 5, and the columns and conditions of a legal space.
+// The three lists of a space: the refusals 2 to 5 and 15, the parts of a beam, and the columns and conditions of a legal space.
 ghost use mathlib.Core.Path.{_≡_};
 ghost use mathlib.Core.List.{[]};
 ghost use mathlib.Core.Bool.{false};
 ghost use Prim.Native.Nat.{ℕ, _+_, _<_, _≤_};
-ghost use lib.IntN.{pos, _-ℤ_};
-ghost use lib.ListN.{length, getD};
-ghost use lib.Signed.{ltZ};
+ghost use lib.IntN.{pos};
+ghost use lib.ListN.{length};
 ghost use Rattle.spline.specs.Outcome.{capped};
 ghost use Rattle.spline.specs.Search.{first};
-ghost use Rattle.spline.specs.Space.{segmentLimit, spanLimit, lengthsFit, badBreak, badDegree, badOrder, checked, degree, width, conditionCount, firstColumn, conditionsBefore, rowCount};
+ghost use Rattle.spline.specs.Space.{segmentLimit, lengthsFit, badBreak, badDegree, badOrder, isDiscontinuity, startsPart, partEnd, spanTooLong, tooManySegments, checked, degree, width, conditionCount, firstColumn, conditionsBefore, rowCount};
 ghost use Rattle.space.specs.Reply.{space, legality, found};
-ghost use Rattle.space.specs.Legal.{BreaksLegal, DegreesLegal, OrdersLegal, JoinsLegal, breaksChecked, degreesChecked, ordersChecked};
+ghost use Rattle.space.specs.Legal.{BreaksLegal, DegreesLegal, OrdersLegal, JoinsLegal, breaksChecked, spansChecked, degreesChecked, ordersChecked, partsChecked};
 
-pub const MAX_SEGMENTS: usize = 12;
+pub const MAX_SEGMENTS: usize = 48;
+
+const MAX_PART_SEGMENTS: usize = 12;
 
 const BREAK_LIMIT: i32 = 10000;
 
@@ -21,6 +22,8 @@ const SPAN_LIMIT: i32 = 2000;
 const MAX_DEGREE: i32 = 5;
 
 const MAX_ORDER: i32 = 2;
+
+const DISCONTINUITY: i32 = -1;
 
 // The largest place, which also stands for anything larger.
 pub const LARGEST_PLACE: u32 = 4294967295;
@@ -97,15 +100,109 @@ fn first_bad_break(breaks: &[i32]) -> Found
     found
 }
 
-// Whether the last of m + 1 breakpoints, each in its range, is too far from the first.
-fn span_is_too_long(breaks: &[i32], m: usize) -> bool
-    requires { ⌜ length (now breaks) ≡ m + 1 ⌝ }
-    requires { ⌜ ((i : ℕ) → i < length (now breaks) → badBreak (space (now breaks) [] []) i ≡ false) ⌝ }
-    ensures { λ r. ⌜ r ≡ ltZ (pos spanLimit) (getD (now (breaks .entry)) m (pos 0) -ℤ getD (now (breaks .entry)) 0 (pos 0)) ⌝ }
+// Whether join i is a discontinuity: its order is -1, and no other, legal or not.
+pub fn is_discontinuity(orders: &[i32], i: usize) -> bool
+    requires { ⌜ i < length (now orders) ⌝ }
+    ensures { λ r. ⌜ r ≡ isDiscontinuity (space [] [] (now (orders .entry))) i ⌝ }
 {
-    let first = breaks[0];
-    let last = breaks[m];
+    let order = orders[i];
+    order == DISCONTINUITY
+}
+
+// Whether segment i is the first of a part.
+fn starts_part(orders: &[i32], i: usize) -> bool
+    requires { ⌜ i ≤ length (now orders) ⌝ }
+    ensures { λ r. ⌜ r ≡ startsPart (space [] [] (now (orders .entry))) i ⌝ }
+{
+    if i == 0 {
+        return true;
+    }
+    is_discontinuity(orders, i - 1)
+}
+
+// Where the part of segment i ends: the first later segment that starts a part, or the number of segments.
+pub fn part_end(degrees: &[i32], orders: &[i32], i: usize) -> usize
+    requires { ⌜ (i < length (now degrees)) × (length (now degrees) ≡ length (now orders) + 1) ⌝ }
+    ensures { λ r. ⌜ r ≡ partEnd (space [] (now (degrees .entry)) (now (orders .entry))) i ⌝ }
+{
+    let m = degrees.len();
+    let mut k = i + 1;
+    let end = loop {
+        if k == m {
+            break m;
+        }
+        if starts_part(orders, k) {
+            break k;
+        }
+        k += 1;
+    };
+    end
+}
+
+// Whether segment i starts a part whose last breakpoint is too far from its first; all breakpoints are in their range.
+fn span_is_too_long(breaks: &[i32], degrees: &[i32], orders: &[i32], i: usize) -> bool
+    requires { ⌜ (i < length (now degrees)) × ((length (now degrees) ≡ length (now orders) + 1) × (length (now breaks) ≡ length (now degrees) + 1)) ⌝ }
+    requires { ⌜ ((k : ℕ) → k < length (now breaks) → badBreak (space (now breaks) [] []) k ≡ false) ⌝ }
+    ensures { λ r. ⌜ r ≡ spanTooLong (space (now (breaks .entry)) (now (degrees .entry)) (now (orders .entry))) i ⌝ }
+{
+    if !starts_part(orders, i) {
+        return false;
+    }
+    let end = part_end(degrees, orders, i);
+    let first = breaks[i];
+    let last = breaks[end];
     last - first > SPAN_LIMIT
+}
+
+// The first segment of the first part whose span is too long.
+fn first_long_span(breaks: &[i32], degrees: &[i32], orders: &[i32]) -> Found
+    requires { ⌜ (length (now degrees) ≡ length (now orders) + 1) × (length (now breaks) ≡ length (now degrees) + 1) ⌝ }
+    requires { ⌜ ((k : ℕ) → k < length (now breaks) → badBreak (space (now breaks) [] []) k ≡ false) ⌝ }
+    ensures { λ r. ⌜ r ≡ found (first (length (now (degrees .entry))) (spanTooLong (space (now (breaks .entry)) (now (degrees .entry)) (now (orders .entry))))) ⌝ }
+{
+    let n = degrees.len();
+    let mut i = 0;
+    let found = loop {
+        if i == n {
+            break Found::Nothing;
+        }
+        if span_is_too_long(breaks, degrees, orders, i) {
+            break Found::At(i);
+        }
+        i += 1;
+    };
+    found
+}
+
+// Whether segment i starts a part of too many segments.
+fn part_is_too_long(degrees: &[i32], orders: &[i32], i: usize) -> bool
+    requires { ⌜ (i < length (now degrees)) × (length (now degrees) ≡ length (now orders) + 1) ⌝ }
+    ensures { λ r. ⌜ r ≡ tooManySegments (space [] (now (degrees .entry)) (now (orders .entry))) i ⌝ }
+{
+    if !starts_part(orders, i) {
+        return false;
+    }
+    let end = part_end(degrees, orders, i);
+    end - i > MAX_PART_SEGMENTS
+}
+
+// The first segment of the first part of too many segments.
+fn first_long_part(degrees: &[i32], orders: &[i32]) -> Found
+    requires { ⌜ length (now degrees) ≡ length (now orders) + 1 ⌝ }
+    ensures { λ r. ⌜ r ≡ found (first (length (now (degrees .entry))) (tooManySegments (space [] (now (degrees .entry)) (now (orders .entry))))) ⌝ }
+{
+    let n = degrees.len();
+    let mut i = 0;
+    let found = loop {
+        if i == n {
+            break Found::Nothing;
+        }
+        if part_is_too_long(degrees, orders, i) {
+            break Found::At(i);
+        }
+        i += 1;
+    };
+    found
 }
 
 fn degree_is_bad(degrees: &[i32], i: usize) -> bool
@@ -173,20 +270,31 @@ fn first_bad_order(degrees: &[i32], orders: &[i32]) -> Found
     found
 }
 
-// Number 3, of m + 1 breakpoints.
-fn check_breaks(breaks: &[i32], m: usize) -> Legality
-    requires { ⌜ length (now breaks) ≡ m + 1 ⌝ }
-    ensures { λ r. ⌜ r ≡ legality (breaksChecked (now (breaks .entry)) m) ⌝ }
+// Number 3 of the parts, once every breakpoint has passed: the place is the last breakpoint of the part.
+fn check_spans(breaks: &[i32], degrees: &[i32], orders: &[i32]) -> Legality
+    requires { ⌜ (length (now degrees) ≡ length (now orders) + 1) × (length (now breaks) ≡ length (now degrees) + 1) ⌝ }
+    requires { ⌜ ((k : ℕ) → k < length (now breaks) → badBreak (space (now breaks) [] []) k ≡ false) ⌝ }
+    ensures { λ r. ⌜ r ≡ legality (spansChecked (now (breaks .entry)) (now (degrees .entry)) (now (orders .entry))) ⌝ }
+{
+    let long = first_long_span(breaks, degrees, orders);
+    match long {
+        Found::At(i) => {
+            let end = part_end(degrees, orders, i);
+            Legality::Refused(3, place(end))
+        }
+        Found::Nothing => Legality::Legal,
+    }
+}
+
+// Number 3: every breakpoint, then the spans.
+fn check_breaks(breaks: &[i32], degrees: &[i32], orders: &[i32]) -> Legality
+    requires { ⌜ (length (now degrees) ≡ length (now orders) + 1) × (length (now breaks) ≡ length (now degrees) + 1) ⌝ }
+    ensures { λ r. ⌜ r ≡ legality (breaksChecked (now (breaks .entry)) (now (degrees .entry)) (now (orders .entry))) ⌝ }
 {
     let bad = first_bad_break(breaks);
     match bad {
         Found::At(i) => Legality::Refused(3, place(i)),
-        Found::Nothing => {
-            if span_is_too_long(breaks, m) {
-                return Legality::Refused(3, place(m));
-            }
-            Legality::Legal
-        }
+        Found::Nothing => check_spans(breaks, degrees, orders),
     }
 }
 
@@ -201,7 +309,19 @@ fn check_degrees(degrees: &[i32]) -> Legality
     }
 }
 
-// Number 5.
+// Number 15: the place is the first segment of the part.
+fn check_parts(degrees: &[i32], orders: &[i32]) -> Legality
+    requires { ⌜ length (now degrees) ≡ length (now orders) + 1 ⌝ }
+    ensures { λ r. ⌜ r ≡ legality (partsChecked (now (degrees .entry)) (now (orders .entry))) ⌝ }
+{
+    let long = first_long_part(degrees, orders);
+    match long {
+        Found::At(i) => Legality::Refused(15, place(i)),
+        Found::Nothing => Legality::Legal,
+    }
+}
+
+// Number 5, and 15 right after it.
 fn check_orders(degrees: &[i32], orders: &[i32]) -> Legality
     requires { ⌜ length (now degrees) ≡ length (now orders) + 1 ⌝ }
     ensures { λ r. ⌜ r ≡ legality (ordersChecked (now (degrees .entry)) (now (orders .entry))) ⌝ }
@@ -209,16 +329,16 @@ fn check_orders(degrees: &[i32], orders: &[i32]) -> Legality
     let bad = first_bad_order(degrees, orders);
     match bad {
         Found::At(i) => Legality::Refused(5, place(i)),
-        Found::Nothing => Legality::Legal,
+        Found::Nothing => check_parts(degrees, orders),
     }
 }
 
-// The first of the refusals 2 to 5, in the order of their numbers.
+// The first of the refusals 2 to 5 and 15, in this order.
 pub fn check(breaks: &[i32], degrees: &[i32], orders: &[i32]) -> Legality
     ensures { λ r. ⌜ r ≡ legality (checked (space (now (breaks .entry)) (now (degrees .entry)) (now (orders .entry)))) ⌝ }
 {
     if lengths_fit(breaks, degrees, orders) {
-        let b = check_breaks(breaks, degrees.len());
+        let b = check_breaks(breaks, degrees, orders);
         match b {
             Legality::Refused(number, place) => Legality::Refused(number, place),
             Legality::Legal => {

@@ -10,7 +10,7 @@ use Rattle.exact.specs.Tabulate.{tab}
 use Rattle.fraction.specs.Size.{fits}
 use Rattle.spline.specs.Outcome.{capped, collect, repeat}
 use Rattle.spline.specs.Search.{first, last}
-use Rattle.spline.specs.Space.{lengthsFit, badBreak, spanTooLong, badDegree, badOrder, checkedEntries, checked, firstColumn, conditionsBefore}
+use Rattle.spline.specs.Space.{lengthsFit, badBreak, startsPart, partEnd, spanTooLong, tooManySegments, badDegree, badOrder, checkedEntries, checked, firstColumn, conditionsBefore}
 use Rattle.spline.specs.Conditions.{falling, binomial, alternating, undivided, commonDivisor, conditions}
 use Rattle.spline.specs.Table.{identity}
 use Rattle.spline.specs.Step.{count, addProducts, span, partialSum, quotientFactor, factors, newEntry, newRows, step}
@@ -23,18 +23,18 @@ use Rattle.spline.specs.Cases.{outcome, cases, positionCases, EveryCaseH
 
 -- Weights, counts, values and refusals of document 01's cases.
 pub every-case-holds : EveryCaseHolds
-unfolding gcd gcdF mk int inv _+ᵠ_ _*ᵠ_ -ᵠ_ isZero ltᵠ sum nearest tab fits capped collect repeat first last lengthsFit badBreak spanTooLong badDegree badOrder checkedEntries checked firstColumn conditionsBefore falling binomial alternating undivided commonDivisor conditions identity count addProducts span partialSum quotientFactor factors newEntry newRows step orderSteps joinSteps weights spaceWeights built startsAtDiscontinuity startsBy segmentAt rounded term termSum best ordinate ordinates blend triangle blended valueAt pairAt values sideBySide badCoefficient badPosition curveChecked curveRead curveOutcome rowWeights tableWeights outcome cases
-every-case-holds = (refl, (refl, (refl, (refl, (refl, (refl, (refl, (refl, (refl, (refl, (refl, (refl, (refl, (refl, (refl, (refl, (refl, (refl, (refl, (refl, tt))))))))))))))))))))
+unfolding gcd gcdF mk int inv _+ᵠ_ _*ᵠ_ -ᵠ_ isZero ltᵠ sum nearest tab fits capped collect repeat first last lengthsFit badBreak startsPart partEnd spanTooLong tooManySegments badDegree badOrder checkedEntries checked firstColumn conditionsBefore falling binomial alternating undivided commonDivisor conditions identity count addProducts span partialSum quotientFactor factors newEntry newRows step orderSteps joinSteps weights spaceWeights built startsAtDiscontinuity startsBy segmentAt rounded term termSum best ordinate ordinates blend triangle blended valueAt pairAt values sideBySide badCoefficient badPosition curveChecked curveRead curveOutcome rowWeights tableWeights outcome cases
+every-case-holds = (refl, (refl, (refl, (refl, (refl, (refl, (refl, (refl, (refl, (refl, (refl, (refl, (refl, (refl, (refl, (refl, (refl, (refl, (refl, (refl, (refl, (refl, (refl, (refl, (refl, (refl, tt))))))))))))))))))))))))))
 
 -- The same weights by the published construction.
 pub every-case-published : EveryCasePublished
 unfolding gcd gcdF mk int inv _+ᵠ_ _*ᵠ_ -ᵠ_ isZero sum tab first last firstColumn identity derivativeCoefficient leftConstraint rightConstraint constraint constraints diagonal aboveDiagonal bidiagonal nullspace product constrain for smooth extraction rowWeights tableWeights cases
-every-case-published = (refl, (refl, (refl, (refl, (refl, (refl, (refl, (refl, (refl, (refl, (refl, (refl, (refl, (refl, (refl, (refl, (refl, (refl, (refl, (refl, tt))))))))))))))))))))
+every-case-published = (refl, (refl, (refl, (refl, (refl, (refl, (refl, (refl, (refl, (refl, (refl, (refl, (refl, (refl, (refl, (refl, (refl, (refl, (refl, (refl, (refl, (refl, (refl, (refl, (refl, (refl, tt))))))))))))))))))))))))))
 
 -- One value cell short, number 1 comes first.
 pub every-case-needs-two-cells-each : EveryCaseNeedsTwoCellsEach
 unfolding capped curveOutcome cases
-every-case-needs-two-cells-each = (refl, (refl, (refl, (tt, (tt, (refl, (tt, (tt, (tt, (tt, (refl, (refl, (refl, (refl, (refl, (refl, (refl, (refl, (refl, (refl, tt))))))))))))))))))))
+every-case-needs-two-cells-each = (refl, (refl, (refl, (tt, (tt, (refl, (tt, (tt, (tt, (tt, (refl, (refl, (tt, (tt, (tt, (tt, (tt, (tt, (refl, (refl, (refl, (refl, (refl, (refl, (refl, (refl, tt))))))))))))))))))))))))))
 
 -- The segments of positions on joins and beside them.
 pub every-position-belongs : EveryPositionBelongs

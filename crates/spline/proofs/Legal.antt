@@ -1,32 +1,34 @@
--- What the checks of a space leave: a space that none of the numbers 2 to 5 refuses has lists of lengths that fit together,
--- segments of positive length, and at each join no more conditions than either neighbouring degree.
-use mathlib.Core.Path.{_≡_, refl}
+-- What the checks of a space leave: a space that none of the numbers 2 to 5 and 15 refuses has lists of lengths that fit together,
+-- segments of positive length, and at each join no more conditions than either neighbouring degree. And what the checks need.
+use mathlib.Core.Path.{_≡_, refl, sym, _∙_, ap, ap₂}
 use mathlib.Core.Bool.{Bool, true, false, cond, not, _&&_, _||_}
 use mathlib.Core.Option.{Option, some, none}
 use Prim.Native.Nat.{ℕ, zero, suc, _+_, _-_, _<_, _≤_}
 use native.Mathlib.Omega.{arith}
-use borrow.Author.Tests.{leb-true, eqb-true}
+use borrow.Author.Tests.{leb-true, eqb-true, le-leb, eq-eqb}
 use lib.Dec.{eqb, leb}
 use lib.IntN.{ℤ, pos, negsuc, _+ℤ_, _-ℤ_, negℤ, natAbs}
 use lib.ListN.{length}
 use lib.Signed.{leZ, _<ℤ_}
-use Rattle.exact.proofs.Decide.{and-true, or-false}
+use Rattle.exact.proofs.Decide.{and-true, or-false, cond-true}
 use Rattle.exact.proofs.Integer.{up, dn, bal-+, bal-neg, ≤-out, <-out, abs-parts}
 use Rattle.exact.proofs.Word.{leZ-false}
 use Rattle.spline.specs.Outcome.{Outcome, answer, refusal, refuse}
 use Rattle.spline.specs.Search.{first}
-use Rattle.spline.specs.Space.{Space, segments, break, degreeEntry, order, between, lengthsFit, badBreak, spanTooLong, badDegree, badOrder, refuseFirst, checkedEntries, checked, degree, width, conditionCount}
+use Rattle.spline.specs.Space.{Space, segments, break, degreeEntry, order, between, segmentLimit, lengthsFit, badBreak, spanTooLong, tooManySegments, badDegree, badOrder, refuseFirst, partEndAt, checkedEntries, checked, degree, width, conditionCount}
+use Rattle.spline.specs.Build.{clears}
 use Rattle.spline.proofs.Outcome.{answer-unique, answer-not-refusal}
-use Rattle.spline.proofs.Search.{first-none-inverts}
+use Rattle.spline.proofs.Search.{some-not-none, first-none, first-none-inverts}
 use Rattle.spline.proofs.Space.{between-inverts}
 
 -- The facts that the tests leave, test by test.
 pub record Checked (s : Space) : Type 0 where
   pub lengths : lengthsFit s ≡ true
   pub breaks : (i : ℕ) → i < segments s + 1 → badBreak s i ≡ false
-  pub span : spanTooLong s ≡ false
+  pub spans : (i : ℕ) → i < segments s → spanTooLong s i ≡ false
   pub degrees : (i : ℕ) → i < segments s → badDegree s i ≡ false
   pub orders : (i : ℕ) → i < segments s - 1 → badOrder s i ≡ false
+  pub few : (i : ℕ) → i < segments s → tooManySegments s i ≡ false
 
 pub refuseFirst-inverts : {A : Type 0} (number : ℕ) (o : Option ℕ) (rest : Outcome A) {a : A} → refuseFirst number o rest ≡ answer a → (o ≡ none) × (rest ≡ answer a)
 refuseFirst-inverts number none rest e = (refl, e)
@@ -40,86 +42,99 @@ pub fitting-inverts : {A : Type 0} (b : Bool) (number place : ℕ) (rest : Outco
 fitting-inverts true number place rest e = (refl, e)
 fitting-inverts false number place rest e = absurd (answer-not-refusal e refl)
 
+pub partEndAt-inverts : (s : Space) (o : Option ℕ) → partEndAt s o ≡ none → o ≡ none
+partEndAt-inverts s none e = refl
+partEndAt-inverts s (some i) e = absurd (some-not-none refl e)
+
 -- a check that answers gives the space itself
 pub checked-inverts : (s : Space) {s′ : Space} → checked s ≡ answer s′ → (s ≡ s′) × Checked s
 unfolding checked checkedEntries
 checked-inverts s {s′} e = finish (fitting-inverts (lengthsFit s) 2 0 _ e)
   where
-    after-degrees : Outcome Space
-    after-degrees = refuseFirst 5 (first (segments s - 1) (badOrder s)) (answer s)
+    after-orders : Outcome Space
+    after-orders = refuseFirst 15 (first (segments s) (tooManySegments s)) (answer s)
 
-    after-span : Outcome Space
-    after-span = refuseFirst 4 (first (segments s) (badDegree s)) after-degrees
+    after-degrees : Outcome Space
+    after-degrees = refuseFirst 5 (first (segments s - 1) (badOrder s)) after-orders
+
+    after-spans : Outcome Space
+    after-spans = refuseFirst 4 (first (segments s) (badDegree s)) after-degrees
 
     after-breaks : Outcome Space
-    after-breaks = cond (spanTooLong s) (refuse 3 (segments s)) after-span
+    after-breaks = refuseFirst 3 (partEndAt s (first (segments s) (spanTooLong s))) after-spans
 
     finish : (lengthsFit s ≡ true) × (refuseFirst 3 (first (segments s + 1) (badBreak s)) after-breaks ≡ answer s′) → (s ≡ s′) × Checked s
     finish p =
         let a = refuseFirst-inverts 3 (first (segments s + 1) (badBreak s)) after-breaks (p .1) in
-        let b = cond-refuse-inverts (spanTooLong s) 3 (segments s) after-span (a .1) in
+        let b = refuseFirst-inverts 3 (partEndAt s (first (segments s) (spanTooLong s))) after-spans (a .1) in
         let c = refuseFirst-inverts 4 (first (segments s) (badDegree s)) after-degrees (b .1) in
-        let d = refuseFirst-inverts 5 (first (segments s - 1) (badOrder s)) (answer s) (c .1) in (
-          answer-unique refl (d .1),
+        let d = refuseFirst-inverts 5 (first (segments s - 1) (badOrder s)) after-orders (c .1) in
+        let f = refuseFirst-inverts 15 (first (segments s) (tooManySegments s)) (answer s) (d .1) in (
+          answer-unique refl (f .1),
           record {
             lengths = p .0;
             breaks = first-none-inverts (badBreak s) (segments s + 1) (a .0);
-            span = b .0;
+            spans = first-none-inverts (spanTooLong s) (segments s) (partEndAt-inverts s (first (segments s) (spanTooLong s)) (b .0));
             degrees = first-none-inverts (badDegree s) (segments s) (c .0);
             orders = first-none-inverts (badOrder s) (segments s - 1) (d .0);
+            few = first-none-inverts (tooManySegments s) (segments s) (f .0);
           },
         )
 
--- the checks give no number above 5
-pub checked-numbers : (s : Space) {number place : ℕ} → checked s ≡ refusal number place → number ≤ 5
+-- a refusal by a number that does not clear the buffers, by itself or before the rest
+pub keeping-refusal : {A : Type 0} (n p : ℕ) {number place : ℕ} → clears n ≡ false → _≡_ {A = Outcome A} (refuse n p) (refusal number place) → clears number ≡ false
+keeping-refusal n p {number} h r = let z : n ≡ number = cc in ap clears (sym z) ∙ h
+
+pub keeping-first : {A : Type 0} (n : ℕ) (o : Option ℕ) (rest : Outcome A) {number place : ℕ} → clears n ≡ false → (rest ≡ refusal number place → clears number ≡ false)
+    → refuseFirst n o rest ≡ refusal number place → clears number ≡ false
+keeping-first n none rest h later r = later r
+keeping-first n (some i) rest h later r = keeping-refusal n i h r
+
+-- and a space of which each test leaves its fact is the answer
+pub checked-passes : (s : Space) → Checked s → checked s ≡ answer s
+unfolding checked checkedEntries
+checked-passes s c =
+    ap (λ b. cond b (checkedEntries s) (refuse 2 0)) (c .lengths)
+    ∙ pass 3 (first-none (badBreak s) (segments s + 1) (c .breaks))
+    ∙ pass 3 (ap (partEndAt s) (first-none (spanTooLong s) (segments s) (c .spans)))
+    ∙ pass 4 (first-none (badDegree s) (segments s) (c .degrees))
+    ∙ pass 5 (first-none (badOrder s) (segments s - 1) (c .orders))
+    ∙ pass 15 (first-none (tooManySegments s) (segments s) (c .few))
+  where
+    pass : (number : ℕ) {o : Option ℕ} {rest : Outcome Space} → o ≡ none → refuseFirst number o rest ≡ rest
+    pass number {o} {rest} e = ap (λ q. refuseFirst number q rest) e
+
+-- the checks give neither 8 nor 9, the numbers that clear the buffers
+pub checked-numbers : (s : Space) {number place : ℕ} → checked s ≡ refusal number place → clears number ≡ false
 unfolding checked checkedEntries
 checked-numbers s {number} {place} e = fitting (lengthsFit s) e
   where
-    is : (n p : ℕ) → n ≤ 5 → _≡_ {A = Outcome Space} (refuse n p) (refusal number place) → number ≤ 5
-    is n p h r = let z : n ≡ number = cc in omega arith
-
-    after-degrees : Outcome Space
-    after-degrees = refuseFirst 5 (first (segments s - 1) (badOrder s)) (answer s)
-
-    after-span : Outcome Space
-    after-span = refuseFirst 4 (first (segments s) (badDegree s)) after-degrees
-
-    orders : (o : Option ℕ) → refuseFirst 5 o (answer s) ≡ refusal number place → number ≤ 5
-    orders none r = absurd (answer-not-refusal refl r)
-    orders (some i) r = is 5 i (omega arith) r
-
-    degrees : (o : Option ℕ) → refuseFirst 4 o after-degrees ≡ refusal number place → number ≤ 5
-    degrees none r = orders (first (segments s - 1) (badOrder s)) r
-    degrees (some i) r = is 4 i (omega arith) r
-
-    spans : (b : Bool) → cond b (refuse 3 (segments s)) after-span ≡ refusal number place → number ≤ 5
-    spans true r = is 3 (segments s) (omega arith) r
-    spans false r = degrees (first (segments s) (badDegree s)) r
-
-    breaks : (o : Option ℕ) → refuseFirst 3 o (cond (spanTooLong s) (refuse 3 (segments s)) after-span) ≡ refusal number place → number ≤ 5
-    breaks none r = spans (spanTooLong s) r
-    breaks (some i) r = is 3 i (omega arith) r
-
-    fitting : (b : Bool) → cond b (refuseFirst 3 (first (segments s + 1) (badBreak s)) (cond (spanTooLong s) (refuse 3 (segments s)) after-span)) (refuse 2 0) ≡ refusal number place → number ≤ 5
-    fitting true r = breaks (first (segments s + 1) (badBreak s)) r
-    fitting false r = is 2 0 (omega arith) r
+    fitting : (b : Bool) → cond b (checkedEntries s) (refuse 2 0) ≡ refusal number place → clears number ≡ false
+    fitting false r = keeping-refusal 2 0 refl r
+    fitting true r =
+        keeping-first 3 (first (segments s + 1) (badBreak s)) _ refl
+        (keeping-first 3 (partEndAt s (first (segments s) (spanTooLong s))) _ refl
+        (keeping-first 4 (first (segments s) (badDegree s)) _ refl
+        (keeping-first 5 (first (segments s - 1) (badOrder s)) _ refl
+        (keeping-first 15 (first (segments s) (tooManySegments s)) (answer s) refl (λ z. absurd (answer-not-refusal refl z))))))
+        r
 
 -- What the lengths of the three lists are.
 pub record Lengths (s : Space) : Type 0 where
   pub some-segment : 1 ≤ segments s
-  pub few-segments : segments s ≤ 12
+  pub few-segments : segments s ≤ segmentLimit
   pub break-count : length (s .breaks) ≡ segments s + 1
   pub order-count : length (s .orders) + 1 ≡ segments s
 
 pub lengths-fit-inverts : (s : Space) → lengthsFit s ≡ true → Lengths s
 unfolding lengthsFit
 lengths-fit-inverts s e =
-    let a = and-true (leb 1 (segments s) && leb (segments s) 12 && eqb (length (s .breaks)) (segments s + 1)) (eqb (length (s .orders) + 1) (segments s)) e in
-    let b = and-true (leb 1 (segments s) && leb (segments s) 12) (eqb (length (s .breaks)) (segments s + 1)) (a .0) in
-    let d = and-true (leb 1 (segments s)) (leb (segments s) 12) (b .0) in
+    let a = and-true (leb 1 (segments s) && leb (segments s) segmentLimit && eqb (length (s .breaks)) (segments s + 1)) (eqb (length (s .orders) + 1) (segments s)) e in
+    let b = and-true (leb 1 (segments s) && leb (segments s) segmentLimit) (eqb (length (s .breaks)) (segments s + 1)) (a .0) in
+    let d = and-true (leb 1 (segments s)) (leb (segments s) segmentLimit) (b .0) in
     record {
       some-segment = leb-true 1 (segments s) (d .0);
-      few-segments = leb-true (segments s) 12 (d .1);
+      few-segments = leb-true (segments s) segmentLimit (d .1);
       break-count = eqb-true (length (s .breaks)) (segments s + 1) (b .1);
       order-count = eqb-true (length (s .orders) + 1) (segments s) (a .1);
     }
@@ -163,3 +178,10 @@ legal s c = record {
         let a = or-false (not (between (negℤ (pos 1)) (pos 2) (order s j)) || leZ (degreeEntry s j) (order s j)) (leZ (degreeEntry s (suc j)) (order s j)) (c .orders j h) in
         let b = or-false (not (between (negℤ (pos 1)) (pos 2) (order s j))) (leZ (degreeEntry s j) (order s j)) (a .0) in
         (b .0, b .1, a .1)
+
+-- ---- and back: lists that meet every test pass the checks
+
+pub lengths-fit : (s : Space) → Lengths s → lengthsFit s ≡ true
+unfolding lengthsFit
+lengths-fit s L =
+    ap₂ _&&_ (ap₂ _&&_ (ap₂ _&&_ (le-leb 1 (segments s) (L .some-segment)) (le-leb (segments s) segmentLimit (L .few-segments))) (eq-eqb (length (s .breaks)) (segments s + 1) (L .break-count))) (eq-eqb (length (s .orders) + 1) (segments s) (L .order-count))

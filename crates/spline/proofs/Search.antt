@@ -10,7 +10,7 @@ use native.Mathlib.Nat.{eq-or-lt-of-le}
 use Rattle.exact.proofs.Decide.{below-suc}
 use Rattle.spline.specs.Search.{first, last, or-else}
 
-some-not-none : {o : Option ℕ} {i : ℕ} → o ≡ some i → o ≡ none → ⊥
+pub some-not-none : {o : Option ℕ} {i : ℕ} → o ≡ some i → o ≡ none → ⊥
 some-not-none p q = let z : _≡_ {A = ℕ} 0 1 = cc in omega arith
 
 -- ---- the first index

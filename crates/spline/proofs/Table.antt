@@ -1,16 +1,17 @@
--- Tables: entries, rows and cells past the ends, the identity, and a table in a buffer, read back: cell 72·i + c holds the
--- number taken of the entry in row i and column c.
-use mathlib.Core.Path.{_≡_, refl, _∙_, ap}
+-- Tables: entries, rows and cells past the ends, the lower right of a table, the identity, and a table in a buffer, read back:
+-- cell 72·i + c holds the number taken of the entry in row i and column c.
+use mathlib.Core.Path.{_≡_, refl, sym, _∙_, ap}
 use mathlib.Core.Bool.{cond}
 use mathlib.Core.Logic.{_≢_}
-use mathlib.Core.List.{List, [], _++_}
-use Prim.Native.Nat.{ℕ, _+_, _*_, _/_, _%_, _<_, _≤_}
+use mathlib.Core.List.{List, [], _++_, map}
+use Prim.Native.Nat.{ℕ, zero, suc, _+_, _*_, _/_, _%_, _<_, _≤_}
 use native.Mathlib.Omega.{arith}
 use native.Mathlib.Decide.{decLt}
 use borrow.Author.Tests.{eq-eqb, ne-eqb}
 use lib.Dec.{eqb}
 use lib.IntN.{ℤ, pos}
-use lib.ListN.{length, getD, List·getD-eq-default}
+use lib.ListN.{length, getD, drop, List·getD-eq-default, List·getD-map}
+use lib.Seq.{getD-drop}
 use Rattle.exact.specs.Rational.{ℚ, int}
 use Rattle.exact.specs.Tabulate.{tab}
 use Rattle.exact.proofs.Decide.{cond-true, cond-false}
@@ -27,6 +28,18 @@ row-past t i h = List·getD-eq-default t [] h
 
 pub cell-past : (t : Table) (i c : ℕ) → length t ≤ i → cell t i c ≡ int (pos 0)
 cell-past t i c h = ap (λ r. entry r c) (row-past t i h)
+
+-- ---- the rows and columns from some row and some column on
+
+drop-empty : (n : ℕ) → _≡_ {A = Row} (drop n []) []
+drop-empty zero = refl
+drop-empty (suc n) = refl
+
+pub cell-drop : (rows columns : ℕ) (t : Table) (i c : ℕ) → cell (map (drop columns) (drop rows t)) i c ≡ cell t (rows + i) (columns + c)
+cell-drop rows columns t i c =
+    ap (λ r. entry (getD (map (drop columns) (drop rows t)) i r) c) (sym (drop-empty columns))
+    ∙ ap (λ r. entry r c) (List·getD-map (drop columns) (drop rows t) i [] ∙ ap (drop columns) (getD-drop rows t i []))
+    ∙ getD-drop columns (row t (rows + i)) c (int (pos 0))
 
 -- ---- the identity
 

@@ -1,13 +1,13 @@
--- The build (document 01, "Building the weights" and "Numbers and places"): the table or the first refusal, and what the
--- two lent buffers hold afterwards.
+-- The build (document 01, "Building the weights" and "Numbers and places"; document 02, CR 7, for the buffers of a beam): the
+-- table of the whole beam or the first refusal, and what the two lent buffers hold afterwards.
 use mathlib.Core.Bool.{Bool, cond, _||_}
-use mathlib.Core.List.{List, []}
+use mathlib.Core.List.{List, [], map}
 use Prim.Native.Nat.{ℕ, _-_}
 use lib.Dec.{eqb, ltb}
 use lib.IntN.{ℤ}
-use lib.ListN.{length}
+use lib.ListN.{length, drop}
 use Rattle.spline.specs.Outcome.{Outcome, answer, refusal, refuse, _then_, with-answer, repeat}
-use Rattle.spline.specs.Space.{Space, segments, checked, columnCount, conditionCount, rowCount}
+use Rattle.spline.specs.Space.{Space, segments, lastPartStart, checked, firstColumn, columnCount, conditionCount, rowCount, rowsBefore}
 use Rattle.spline.specs.Conditions.{conditions}
 use Rattle.spline.specs.Table.{Table, identity, tableCells, numerators, denominators}
 use Rattle.spline.specs.Step.{step}
@@ -24,7 +24,7 @@ joinSteps s n = repeat n (λ j. orderSteps s j (conditionCount s j)) (identity (
 unfoldable pub weights : Space → Outcome Table
 weights s = joinSteps s (segments s - 1)
 
--- The weights of any three lists, or the first of the refusals 2 to 5, 8 and 9.
+-- The weights of any three lists, or the first of the refusals 2 to 5, 15, 8 and 9.
 unfoldable pub spaceWeights : Space → Outcome Table
 spaceWeights s = checked s then weights
 
@@ -36,11 +36,15 @@ longEnough numLength denLength rest = cond (ltb numLength tableCells) (refuse 1 
 unfoldable pub built : Space → ℕ → ℕ → Outcome Table
 built s numLength denLength = longEnough numLength denLength (spaceWeights s)
 
+-- "After success these hold the last part, rows and columns from 0": the last part's rows and columns of the whole table.
+unfoldable pub lastPart : Space → Table → Table
+lastPart s t = let a = lastPartStart s in map (drop (firstColumn s a)) (drop (rowsBefore s a) t)
+
 -- "After 8 or 9 the 5,184 cells are all 0/1": the buffers are cleared.
 abbrev pub clears : ℕ → Bool
 clears number = eqb number 8 || eqb number 9
 
--- The numerators after the call: the table's, cleared after 8 or 9, unchanged after the other refusals.
+-- The numerators after the call, given the table that they are to hold: the table's, cleared after 8 or 9, unchanged after the other refusals.
 unfoldable pub numeratorsAfter : Outcome Table → List ℤ → List ℤ
 numeratorsAfter (answer t) before = numerators t before
 numeratorsAfter (refusal number place) before = cond (clears number) (numerators [] before) before
@@ -60,4 +64,5 @@ pub record BuildEnd : Type 0 where
 abbrev pub buildEnd : Space → List ℤ → List ℤ → BuildEnd
 buildEnd s num den =
     let o = built s (length num) (length den) in
-    record { answers = with-answer (λ _. rowCount s) o; numerators = numeratorsAfter o num; denominators = denominatorsAfter o den }
+    let held = with-answer (lastPart s) o in
+    record { answers = with-answer (λ _. rowCount s) o; numerators = numeratorsAfter held num; denominators = denominatorsAfter held den }

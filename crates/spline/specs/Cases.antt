@@ -7,6 +7,7 @@ use mathlib.Core.List.{List, [], _∷_, map}
 use Prim.Native.Nat.{ℕ, _*_, _-_}
 use lib.IntN.{ℤ, pos, negℤ}
 use lib.ListN.{length}
+use Rattle.exact.specs.Tabulate.{tab}
 use Rattle.spline.specs.Outcome.{Outcome, answer, refusal, with-answer}
 use Rattle.spline.specs.Space.{Space}
 use Rattle.spline.specs.Table.{Table, tableCells}
@@ -144,6 +145,14 @@ threeLines first second = space (0 ∷ 1 ∷ 2 ∷ 3 ∷ []) (1 ∷ 1 ∷ 1 ∷ 
 abbrev pub threeLinesWeights : List Weight
 threeLinesWeights = weightAt 0 0 1 1 ∷ weightAt 1 1 1 1 ∷ weightAt 2 2 1 1 ∷ weightAt 3 3 1 1 ∷ weightAt 4 4 1 1 ∷ weightAt 5 5 1 1 ∷ []
 
+-- Two segments of degree 1 with breakpoints 0, 2,000 and this one, and this order between them.
+abbrev pub twoLong : ℕ → ℤ → Space
+twoLong end order = space (0 ∷ 2000 ∷ end ∷ []) (1 ∷ 1 ∷ []) (order ∷ [])
+
+-- 14 segments of degree 1, one ring each, with this order at the first join and 0 at the others.
+abbrev pub fourteenLines : ℤ → Space
+fourteenLines first = record { breaks = tab 15 pos; degrees = tab 14 (λ i. pos 1); orders = first ∷ tab 12 (λ i. pos 0) }
+
 -- Where the upper limit of step 1 acts: with coefficients 1 the terms of the join's ordinate, 511/2 and 1/2, both go up.
 abbrev pub upperLimitSpace : Space
 upperLimitSpace = space (0 ∷ 1 ∷ 512 ∷ []) (2 ∷ 2 ∷ []) (pos 1 ∷ [])
@@ -170,8 +179,8 @@ lowerLimitWeights =
 
 -- ---- the table
 
--- W1 to W10, in the papers' words where they give a case in a sentence, a space beside W9 with two discontinuities, and the
--- two limits.
+-- W1 to W10, in the papers' words where they give a case in a sentence, a space beside W9 with two discontinuities, beams, and
+-- the two limits.
 unfoldable pub cases : List Case
 cases =
     -- W1
@@ -196,6 +205,14 @@ cases =
     line space9 (reading (pos 0 ∷ pos 10 ∷ pos 20 ∷ pos 30 ∷ []) (pos 256 ∷ [])) (answers 4 weights9 (pos 2560 ∷ [])) ∷
     -- two discontinuities with one segment between them, each read from the segment that ends there
     line (threeLines (negℤ (pos 1)) (negℤ (pos 1))) (reading (pos 0 ∷ pos 10 ∷ pos 20 ∷ pos 30 ∷ pos 40 ∷ pos 50 ∷ []) (pos 256 ∷ pos 512 ∷ [])) (answers 6 threeLinesWeights (pos 2560 ∷ pos 7680 ∷ [])) ∷
+    -- parts with spans of 2,000 each; of 2,001 in the second; a join of order 0 does not cut
+    line (twoLong 4000 (negℤ (pos 1))) building (answers 4 weights9 []) ∷
+    line (twoLong 4001 (negℤ (pos 1))) building (refusal 3 2) ∷
+    line (twoLong 4000 (pos 0)) building (refusal 3 2) ∷
+    -- a part of 14 segments, and one of 13 after a part of one; an order that is not legal comes first
+    line (fourteenLines (pos 0)) building (refusal 15 0) ∷
+    line (fourteenLines (negℤ (pos 1))) building (refusal 15 1) ∷
+    line (fourteenLines (pos 1)) building (refusal 5 0) ∷
     -- W10: "three coefficients: 6", with place 4,294,967,295; "the sole position 769: 7, place 0"; "with 768 accepted"
     line space1 (reading (pos 0 ∷ pos 100 ∷ pos 0 ∷ []) (pos 256 ∷ pos 512 ∷ [])) (refusal 6 4294967295) ∷
     line space1 (reading (pos 0 ∷ pos 100 ∷ pos 0 ∷ pos 0 ∷ []) (pos 769 ∷ [])) (refusal 7 0) ∷

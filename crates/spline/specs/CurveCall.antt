@@ -10,7 +10,7 @@ use Rattle.spline.specs.Outcome.{Outcome, answer, refusal, refuse, large
 use Rattle.spline.specs.Search.{first}
 use Rattle.spline.specs.Space.{Space, segments, break, between, fitting, refuseFirst, checkedEntries, rowCount}
 use Rattle.spline.specs.Table.{Table}
-use Rattle.spline.specs.Build.{weights, longEnough, numeratorsAfter, denominatorsAfter}
+use Rattle.spline.specs.Build.{weights, longEnough, lastPart, numeratorsAfter, denominatorsAfter}
 use Rattle.spline.specs.Reading.{fine, Pair, sideBySide, values}
 
 -- "up to 4,096 positions".
@@ -45,7 +45,7 @@ legalEntries s coefs positions rest =
     rest))
     (refuse 6 largestPlace)
 
--- The space itself, or the first of the refusals 2 to 7.
+-- The space itself, or the first of the refusals 2 to 5, 15, 6 and 7.
 unfoldable pub curveChecked : Space → List ℤ → List ℤ → Outcome Space
 curveChecked s coefs positions =
     fitting s
@@ -71,17 +71,17 @@ curveOutcome s coefs positions numLength denLength valuesLength =
 abbrev pub returned : Outcome CurveResult → Outcome ℕ
 returned o = with-answer (λ r. length (r .values)) o
 
--- The outcome of the build within the call.
-abbrev pub tableOf : Outcome CurveResult → Outcome Table
-tableOf o = with-answer (λ r. r .table) o
+-- The table that the weight buffers hold after the call: the last part's, as after building.
+abbrev pub heldBy : Space → Outcome CurveResult → Outcome Table
+heldBy s o = with-answer (λ r. lastPart s (r .table)) o
 
 -- The numerators after the call, as after building.
-abbrev pub curveNumerators : Outcome CurveResult → List ℤ → List ℤ
-curveNumerators o before = numeratorsAfter (tableOf o) before
+abbrev pub curveNumerators : Space → Outcome CurveResult → List ℤ → List ℤ
+curveNumerators s o before = numeratorsAfter (heldBy s o) before
 
 -- The denominators after the call, as after building.
-abbrev pub curveDenominators : Outcome CurveResult → List ℤ → List ℤ
-curveDenominators o before = denominatorsAfter (tableOf o) before
+abbrev pub curveDenominators : Space → Outcome CurveResult → List ℤ → List ℤ
+curveDenominators s o before = denominatorsAfter (heldBy s o) before
 
 -- The values' buffer after the call: the pairs in list order, "written side by side", and "the value cells that keep what they
 -- held are those past twice that count"; unchanged after every refusal.
@@ -100,4 +100,4 @@ pub record CurveEnd : Type 0 where
 abbrev pub curveEnd : Space → List ℤ → List ℤ → List ℤ → List ℤ → List ℤ → CurveEnd
 curveEnd s coefs positions num den values =
     let o = curveOutcome s coefs positions (length num) (length den) (length values) in
-    record { answers = returned o; numerators = curveNumerators o num; denominators = curveDenominators o den; values = valuesAfter o values }
+    record { answers = returned o; numerators = curveNumerators s o num; denominators = curveDenominators s o den; values = valuesAfter o values }

@@ -20,9 +20,11 @@ use Rattle.spline.specs.Outcome.{answer}
 use Rattle.spline.specs.Conditions.{Entry}
 use Rattle.spline.specs.Table.{Table, cell}
 use Rattle.spline.specs.Step.{step}
+use Rattle.spline.proofs.Conditions.{Inside, none, more}
+use Rattle.spline.proofs.Shape.{Wide}
 use Rattle.theorems.proofs.NullSpace.{mixed, lifted, reindex, lifted-one, first-factor, last-factor, mixed-null, coefficient, coefficient-lifts, lifted-unique}
 use Rattle.theorems.proofs.Functional.{applied, applied-ext, applied-mix, applied-sum}
-use Rattle.theorems.proofs.Stepped.{Wide, values, values-past, Stepped, step-inverts}
+use Rattle.theorems.proofs.Stepped.{values, values-past, Stepped, step-inverts}
 
 -- A combination of the rows in one column.
 abbrev pub combined : (ℕ → ℚ) → Table → ℕ → ℚ
@@ -38,11 +40,6 @@ pub record Basis (K : List Entry → Type 0) (width : ℕ) (t : Table) : Type 0 
   pub unique : (a b : ℕ → ℚ) → ((c : ℕ) → combined a t c ≡ combined b t c) → (i : ℕ) → i < length t → a i ≡ b i
 
 -- ---- a column of conditions whose entries sum to zero has jumps that sum to zero
-
--- All entries stand in the first columns.
-pub data Inside (width : ℕ) : List Entry → Type 0 where
-  none : Inside width []
-  more : {e : Entry} {es : List Entry} → e .column < width → Inside width es → Inside width (e ∷ es)
 
 applied-agree : (width : ℕ) {κ : List Entry} {x y : ℕ → ℚ} → Inside width κ → ((c : ℕ) → c < width → x c ≡ y c) → applied κ x ≡ applied κ y
 unfolding applied
@@ -61,14 +58,19 @@ shifted : (ℕ → ℚ) → ℕ → ℚ
 shifted a zero = int (pos 0)
 shifted a (suc i) = a i
 
+-- a combination of the new rows is one of the old rows
+pub combination-lifts : (width : ℕ) (κ : List Entry) (t t′ : Table) (S : Stepped κ width t t′) (c : ℕ → ℚ) (col : ℕ)
+    → sum (length t′) (λ i. c (suc i) *ᵠ cell t′ i col) ≡ sum (length t) (λ i. lifted (S .w) c i *ᵠ cell t i col)
+combination-lifts width κ t t′ S c col =
+    let G = S .null in let n = S .rows in let b = G .below in
+    sum-ext (length t′) (λ i h. ap (λ u. c (suc i) *ᵠ u) (S .cells i col))
+    ∙ reindex (S .w) c (λ k. cell t k col) (length t′) (first-factor (length t) (S .f) (S .l) (values κ t) (S .w) G) (last-factor (length t) (S .f) (S .l) (values κ t) (S .w) G (length t′) (omega arith))
+    ∙ ap (λ m. sum m (λ i. lifted (S .w) c i *ᵠ cell t i col)) (S .rows)
+
 module _ (K K′ : List Entry → Type 0) (width : ℕ) (κ : List Entry) (t t′ : Table) (B : Basis K width t) (S : Stepped κ width t t′)
     (added : (κ′ : List Entry) → K′ κ′ → K κ′ ⊎ (κ ≡ κ′)) (kept : (κ′ : List Entry) → K κ′ → K′ κ′) (new : K′ κ) where
   combined-lifts : (c : ℕ → ℚ) (col : ℕ) → sum (length t′) (λ i. c (suc i) *ᵠ cell t′ i col) ≡ sum (length t) (λ i. lifted (S .w) c i *ᵠ cell t i col)
-  combined-lifts c col =
-      let G = S .null in let n = S .rows in let b = G .below in
-      sum-ext (length t′) (λ i h. ap (λ u. c (suc i) *ᵠ u) (S .cells i col))
-      ∙ reindex (S .w) c (λ k. cell t k col) (length t′) (first-factor (length t) (S .f) (S .l) (values κ t) (S .w) G) (last-factor (length t) (S .f) (S .l) (values κ t) (S .w) G (length t′) (omega arith))
-      ∙ ap (λ m. sum m (λ i. lifted (S .w) c i *ᵠ cell t i col)) (S .rows)
+  combined-lifts = combination-lifts width κ t t′ S
 
   new-column-sums : (c : ℕ) → c < width → sum (length t′) (λ i. cell t′ i c) ≡ int (pos 1)
   new-column-sums c h =

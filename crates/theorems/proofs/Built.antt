@@ -15,11 +15,12 @@ use Rattle.spline.specs.Step.{step}
 use Rattle.spline.specs.Build.{orderSteps, joinSteps, weights, spaceWeights}
 use Rattle.spline.proofs.Outcome.{then-inverts, repeat-keeps}
 use Rattle.spline.proofs.Legal.{checked-inverts, Legal, legal}
+use Rattle.spline.proofs.Conditions.{conditions-inside}
 use Rattle.spline.proofs.Table.{identity-rows}
 use Rattle.theorems.proofs.Stepped.{Stepped}
 use Rattle.theorems.proofs.Basis.{Basis, basis-stepped, step-keeps}
 use Rattle.theorems.proofs.Identity.{identity-basis}
-use Rattle.theorems.proofs.Condition.{conditions-constant, conditions-inside}
+use Rattle.theorems.proofs.Condition.{conditions-constant}
 
 -- The conditions of the joins before this one, and the first ones at it.
 pub data Done (s : Space) (join n : ℕ) (κ : List Entry) : Type 0 where

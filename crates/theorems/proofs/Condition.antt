@@ -1,5 +1,5 @@
 -- The column of conditions of a join and an order: it is, up to a positive factor, the difference of two finite
--- differences of the ordinates on the two sides of the join; it vanishes on equal ordinates and stays inside the table.
+-- differences of the ordinates on the two sides of the join; it vanishes on equal ordinates.
 use mathlib.Core.Path.{_≡_, refl, sym, _∙_, ap, ap₂, subst}
 use mathlib.Core.List.{List, [], _∷_, _++_, map}
 use Prim.Native.Nat.{ℕ, zero, suc, _+_, _-_, _*_, _/_, _<_, _≤_}
@@ -15,13 +15,11 @@ use Rattle.exact.proofs.Integer.{neg-*, *-comm, abs-mul, abs-zero}
 use Rattle.exact.proofs.Ring.{ring, reads}
 use Rattle.exact.proofs.Rational.{ℚ-ring, readsℚ, int-mul, int-neg, int-nonzero, mul-cancel, zero-mul, mul-zero, mul-comm}
 use Rattle.exact.proofs.Sum.{sum-ext, sum-mul, sum-front}
-use Rattle.spline.specs.Space.{Space, segments, degree, width, firstColumn, columnCount}
+use Rattle.spline.specs.Space.{Space, degree, width, firstColumn}
 use Rattle.spline.specs.Conditions.{Entry, falling, binomial, alternating, scale, leftEntry, rightEntry, undivided, commonDivisor, divided, conditions}
-use Rattle.spline.proofs.Space.{firstColumn-mono}
 use Rattle.spline.proofs.Conditions.{scale-pos, alternating-abs}
 use Rattle.theorems.proofs.Functional.{applied}
 use Rattle.theorems.proofs.Difference.{signedBinomial, difference, difference-constant}
-use Rattle.theorems.proofs.Basis.{Inside, none, more}
 
 -- ---- the functional of lists of entries
 
@@ -158,24 +156,3 @@ conditions-constant s j k h l = cancel (divisor s j k) (divisor-pos s j k h l) (
         ∙ ring ℚ-ring (int (pos (rightScale s j 0)) ∷ difference 0 (λ t. int (pos 1)) ∷ []) (search readsℚ depth 20) (search readsℚ depth 20) refl
     balanced (suc k) = ap₂ (λ a b. int (pos (leftScale s j (suc k))) *ᵠ a -ᵠ int (pos (rightScale s j (suc k))) *ᵠ b) (difference-constant k (int (pos 1))) (difference-constant k (int (pos 1)))
         ∙ ring ℚ-ring (int (pos (leftScale s j (suc k))) ∷ int (pos (rightScale s j (suc k))) ∷ []) (search readsℚ depth 20) (search readsℚ depth 20) refl
-
--- ---- inside the table
-
-inside-append : (n : ℕ) {xs ys : List Entry} → Inside n xs → Inside n ys → Inside n (xs ++ ys)
-inside-append n none I = I
-inside-append n (more h J) I = more h (inside-append n J I)
-
-inside-tab : (n m : ℕ) (f : ℕ → Entry) → ((t : ℕ) → t < m → f t .column < n) → Inside n (tab m f)
-unfolding tab
-inside-tab n zero f h = none
-inside-tab n (suc m) f h = more (h 0 (omega arith)) (inside-tab n m (λ t. f (suc t)) (λ t l. h (suc t) (omega arith)))
-
-inside-divided : (n g : ℕ) {es : List Entry} → Inside n es → Inside n (map (divided g) es)
-inside-divided n g none = none
-inside-divided n g (more h I) = more h (inside-divided n g I)
-
-pub conditions-inside : (s : Space) (j k : ℕ) → suc j < segments s → k ≤ degree s j → k ≤ degree s (suc j) → Inside (columnCount s) (conditions s j k)
-unfolding conditions undivided firstColumn
-conditions-inside s j k h p q =
-    let a = firstColumn-mono s (suc (suc j)) (segments s) h in
-    inside-divided (columnCount s) _ (inside-append (columnCount s) (inside-tab (columnCount s) (suc k) (leftEntry s j k) (λ t l. omega arith)) (inside-tab (columnCount s) (suc k) (rightEntry s j k) (λ t l. omega arith)))

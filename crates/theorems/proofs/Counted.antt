@@ -224,7 +224,7 @@ eight-is-first-too-large s place e = go (refused-by-first-failure s 8 place e)
     counted-fails F (shaped join b) p = absurd (omega (arith, F .number-is ∙ ap numberOf p))
 
     go : (checked s ≡ refusal 8 place) ⊎ ((checked s ≡ answer s) × FirstFailure (buildTests s) 8 place) → FirstTooLarge s place
-    go (inl c) = absurd (omega (arith, checked-numbers s c))
+    go (inl c) = absurd (true-not-false refl (checked-numbers s c))
     go (inr F) = counted-fails (F .1) (F .1 .failing) refl
 
 pub nine-is-first-misshapen : NineIsFirstMisshapen
@@ -242,5 +242,5 @@ nine-is-first-misshapen s place e = go (refused-by-first-failure s 9 place e)
     }
 
     go : (checked s ≡ refusal 9 place) ⊎ ((checked s ≡ answer s) × FirstFailure (buildTests s) 9 place) → FirstMisshapen s place
-    go (inl c) = absurd (omega (arith, checked-numbers s c))
+    go (inl c) = absurd (true-not-false refl (checked-numbers s c))
     go (inr F) = shaped-fails (F .1) (F .1 .failing) refl

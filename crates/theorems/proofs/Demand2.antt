@@ -21,7 +21,7 @@ use Rattle.spline.specs.Piecewise.{pairing, combination}
 use Rattle.spline.proofs.Table.{entry-past, cell-past}
 use Rattle.theorems.specs.Demand2.{RowsAndColumns, CombinationsMeetConditions, OneCombination, ConditionsGiveOneCombination}
 use Rattle.theorems.proofs.Functional.{applied, applied-ext, applied-sum}
-use Rattle.theorems.proofs.Stepped.{Wide}
+use Rattle.spline.proofs.Shape.{Wide}
 use Rattle.theorems.proofs.Basis.{combined}
 use Rattle.theorems.proofs.Built.{Done, earlier, here, Built, built, row-count}
 
@@ -45,7 +45,7 @@ module _ (columns : ℕ) (t : Table) (wide : Wide columns t) where
       go (inl k) = cell-past t i c k
       go (inr k) = entry-past (row t i) c (rw (wide .each i k) h)
 
-  combined-past : (a : ℕ → ℚ) (c : ℕ) → columns ≤ c → combined a t c ≡ int (pos 0)
+  pub combined-past : (a : ℕ → ℚ) (c : ℕ) → columns ≤ c → combined a t c ≡ int (pos 0)
   combined-past a c h = sum-zero (length t) (λ i k. ap (λ u. a i *ᵠ u) (cell-beside i c h) ∙ mul-zero (a i))
 
   pub combination-at : (multipliers : List ℚ) (c : ℕ) → entry (combination columns multipliers t) c ≡ combined (entry multipliers) t c
@@ -56,7 +56,7 @@ module _ (columns : ℕ) (t : Table) (wide : Wide columns t) where
       go (inl h) = entry-past (combination columns multipliers t) c (rw (tab-length columns (λ c. sum (length t) (λ i. entry multipliers i *ᵠ cell t i c))) h) ∙ sym (combined-past (entry multipliers) c h)
       go (inr h) = tab-getD columns (λ c. sum (length t) (λ i. entry multipliers i *ᵠ cell t i c)) c (int (pos 0)) h
 
-combination-length : (columns : ℕ) (multipliers : List ℚ) (t : Table) → length (combination columns multipliers t) ≡ columns
+pub combination-length : (columns : ℕ) (multipliers : List ℚ) (t : Table) → length (combination columns multipliers t) ≡ columns
 unfolding combination
 combination-length columns multipliers t = tab-length columns _
 

@@ -32,7 +32,7 @@ module _ (n : ℕ) where
       go (yes h) (yes k) = subst (λ j. Nn (cell (identity n) i j)) h (subst Nn (sym (identity-on n i k)) (nn-int 1))
 
   -- a sum against a column picks one place
-  column-picks : (a : ℕ → ℚ) (c : ℕ) → c < n → combined a (identity n) c ≡ a c
+  pub column-picks : (a : ℕ → ℚ) (c : ℕ) → c < n → combined a (identity n) c ≡ a c
   column-picks a c h = ap (λ m. sum m (λ i. a i *ᵠ cell (identity n) i c)) (identity-rows n)
       ∙ sum-only n c {f = λ i. a i *ᵠ cell (identity n) i c} h (λ i k o. ap (λ t. a i *ᵠ t) (identity-off n i c o) ∙ mul-zero (a i))
       ∙ ap (λ t. a c *ᵠ t) (identity-on n c h) ∙ mul-one (a c)

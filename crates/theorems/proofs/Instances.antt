@@ -1,5 +1,5 @@
 -- The theorems at two spaces of document 01's cases, W4 and W5, with numbers: the hypotheses can be met, and what the
--- theorems say of these spaces is what the cases say.
+-- theorems say of these spaces is what the cases say. And at a beam of two parts, whose second part the buffers hold.
 use mathlib.Core.Path.{_≡_, refl, sym, _∙_, ap}
 use mathlib.Core.Logic.{_⊎_, inl, inr}
 use mathlib.Core.Bool.{true, false}
@@ -10,7 +10,7 @@ use lib.IntN.{ℤ, pos, negsuc}
 use lib.ListN.{length, getD, take, drop, length-take}
 use lib.Seq.{split-at}
 use Rattle.exact.specs.Gcd.{gcd, gcdF}
-use Rattle.exact.specs.Rational.{ℚ, den, mk, int, inv, _+ᵠ_, _*ᵠ_, -ᵠ_, _//_}
+use Rattle.exact.specs.Rational.{ℚ, mk, int, inv, _+ᵠ_, _*ᵠ_, -ᵠ_, _//_}
 use Rattle.exact.specs.Order.{isZero, ltᵠ, _≤ᵠ_}
 use Rattle.exact.specs.Sum.{sum}
 use Rattle.exact.specs.Tabulate.{tab}
@@ -18,15 +18,16 @@ use Rattle.exact.proofs.Tabulate.{tab-length}
 use Rattle.fraction.specs.Size.{fits}
 use Rattle.spline.specs.Outcome.{answer, refusal, capped, collect, repeat}
 use Rattle.spline.specs.Search.{first, last}
-use Rattle.spline.specs.Space.{Space, segments, conditionCount, lengthsFit, badBreak, spanTooLong, badDegree, badOrder, checkedEntries, checked, firstColumn, conditionsBefore}
+use Rattle.spline.specs.Space.{Space, segments, conditionCount, lengthsFit, badBreak, startsPart, partEnd, lastPartStart, spanTooLong, tooManySegments, badDegree, badOrder, checkedEntries, checked, firstColumn, conditionsBefore}
 use Rattle.spline.specs.Conditions.{falling, binomial, alternating, undivided, commonDivisor, conditions}
 use Rattle.spline.specs.Table.{Row, Table, row, cell, identity, rowCells}
 use Rattle.spline.specs.Step.{count, addProducts, span, partialSum, quotientFactor, factors, newEntry, newRows, step}
-use Rattle.spline.specs.Build.{orderSteps, joinSteps, weights, spaceWeights, built, numeratorsAfter, denominatorsAfter}
+use Rattle.spline.specs.Build.{orderSteps, joinSteps, weights, spaceWeights, built, buildEnd}
 use Rattle.spline.specs.Published.{for, extraction}
 use Rattle.spline.specs.Cases.{space4, space5, lineSpace}
 use Rattle.spline.specs.Piecewise.{Accepted, MeetsAll, Meets, pairing, combination}
 use Rattle.spline.proofs.Outcome.{answer-not-refusal}
+use Rattle.theorems.specs.Cells.{HoldsFraction, lastPartCell}
 use Rattle.theorems.specs.Counted.{Test, counted, shaped, numberOf, passes, joined, jumpTests, exactJumps, firstJump, lastJump, shapeTest, quotient, factorTests, innerRows, innerRow, exactFactors, entryTests, rowTests, exactRow, stepTests, exactStep, exactOrders, exactJoins, buildTests, exactWeights, allPass, FirstTooLarge, FirstFailure}
 use Rattle.theorems.proofs.Demand2.{rows-and-columns, combinations-meet-conditions, conditions-give-one-combination}
 use Rattle.theorems.proofs.Demand3Weights.{no-weight-negative, column-sums-one}
@@ -51,7 +52,7 @@ table4 =
     (q0 ∷ q0 ∷ q0 ∷ q0 ∷ q0 ∷ q0 ∷ q1 ∷ []) ∷ []
 
 accepted4 : Accepted space4
-unfolding gcd gcdF mk int inv _+ᵠ_ _*ᵠ_ -ᵠ_ _//_ isZero ltᵠ sum tab fits capped collect repeat first last lengthsFit badBreak spanTooLong badDegree badOrder checkedEntries checked firstColumn conditionsBefore falling binomial alternating undivided commonDivisor conditions identity count addProducts span partialSum quotientFactor factors newEntry newRows step orderSteps joinSteps weights spaceWeights
+unfolding gcd gcdF mk int inv _+ᵠ_ _*ᵠ_ -ᵠ_ _//_ isZero ltᵠ sum tab fits capped collect repeat first last lengthsFit badBreak startsPart partEnd spanTooLong tooManySegments badDegree badOrder checkedEntries checked firstColumn conditionsBefore falling binomial alternating undivided commonDivisor conditions identity count addProducts span partialSum quotientFactor factors newEntry newRows step orderSteps joinSteps weights spaceWeights
 accepted4 = record { table = table4; is = refl }
 
 -- the published construction has weights 4/7 and 3/7 on the join's ordinate
@@ -65,33 +66,30 @@ unfolding accepted4
 built4 = accepted-spaces-are-built space4 accepted4 5184 6000 (omega arith) (omega arith)
 
 -- a buffer of 6,000 cells that all hold 9
-lent : List ℤ
+pub lent : List ℤ
 lent = tab 6000 (λ k. pos 9)
 
-lent-length : length lent ≡ 6000
+pub lent-length : length lent ≡ 6000
 unfolding lent
 lent-length = tab-length 6000 (λ k. pos 9)
 
-module _ (i c : ℕ) (h : i < rowCells) (k : c < rowCells) where
-  numerator4 : getD (numeratorsAfter (built space4 (length lent) (length lent)) lent) (rowCells * i + c) (pos 0) ≡ cell table4 i c .num
-  numerator4 = cells-hold-published-weights space4 accepted4 lent lent (omega (arith, lent-length)) (omega (arith, lent-length)) i c h k .numerator ∙ ap (λ t. cell t i c .num) (sym published4)
-
-  denominator4 : getD (denominatorsAfter (built space4 (length lent) (length lent)) lent) (rowCells * i + c) (pos 0) ≡ pos (den (cell table4 i c))
-  denominator4 = cells-hold-published-weights space4 accepted4 lent lent (omega (arith, lent-length)) (omega (arith, lent-length)) i c h k .denominator ∙ ap (λ t. pos (den (cell t i c))) (sym published4)
+module _ (s : Space) (a : Accepted s) (i c : ℕ) (h : i < rowCells) (k : c < rowCells) where
+  held : HoldsFraction (lastPartCell s (a .table) i c) (buildEnd s lent lent .numerators) (buildEnd s lent lent .denominators) (rowCells * i + c)
+  held = rw (weights-are-published s a) (cells-hold-published-weights s a lent lent (omega (arith, lent-length)) (omega (arith, lent-length)) i c h k)
 
 -- after it cell 74, of row 1 and the join's ordinate, holds 4/7, cell 146, of row 2, holds 3/7
-weight-cell4 : (getD (numeratorsAfter (built space4 (length lent) (length lent)) lent) 74 (pos 0) ≡ pos 4) × (getD (denominatorsAfter (built space4 (length lent) (length lent)) lent) 74 (pos 0) ≡ pos 7)
-unfolding gcd gcdF mk _//_
-weight-cell4 = (numerator4 1 2 (omega arith) (omega arith), denominator4 1 2 (omega arith) (omega arith))
+weight-cell4 : (getD (buildEnd space4 lent lent .numerators) 74 (pos 0) ≡ pos 4) × (getD (buildEnd space4 lent lent .denominators) 74 (pos 0) ≡ pos 7)
+unfolding gcd gcdF mk _//_ last startsPart lastPartStart firstColumn conditionsBefore accepted4
+weight-cell4 = let w = held space4 accepted4 1 2 (omega arith) (omega arith) in (w .numerator, w .denominator)
 
-next-weight-cell4 : (getD (numeratorsAfter (built space4 (length lent) (length lent)) lent) 146 (pos 0) ≡ pos 3) × (getD (denominatorsAfter (built space4 (length lent) (length lent)) lent) 146 (pos 0) ≡ pos 7)
-unfolding gcd gcdF mk _//_
-next-weight-cell4 = (numerator4 2 2 (omega arith) (omega arith), denominator4 2 2 (omega arith) (omega arith))
+next-weight-cell4 : (getD (buildEnd space4 lent lent .numerators) 146 (pos 0) ≡ pos 3) × (getD (buildEnd space4 lent lent .denominators) 146 (pos 0) ≡ pos 7)
+unfolding gcd gcdF mk _//_ last startsPart lastPartStart firstColumn conditionsBefore accepted4
+next-weight-cell4 = let w = held space4 accepted4 2 2 (omega arith) (omega arith) in (w .numerator, w .denominator)
 
 -- and cell 5183, which is unused, holds 0/1
-unused-cell4 : (getD (numeratorsAfter (built space4 (length lent) (length lent)) lent) 5183 (pos 0) ≡ pos 0) × (getD (denominatorsAfter (built space4 (length lent) (length lent)) lent) 5183 (pos 0) ≡ pos 1)
-unfolding gcd gcdF mk int
-unused-cell4 = (numerator4 71 71 (omega arith) (omega arith), denominator4 71 71 (omega arith) (omega arith))
+unused-cell4 : (getD (buildEnd space4 lent lent .numerators) 5183 (pos 0) ≡ pos 0) × (getD (buildEnd space4 lent lent .denominators) 5183 (pos 0) ≡ pos 1)
+unfolding gcd gcdF mk int last startsPart lastPartStart firstColumn conditionsBefore accepted4
+unused-cell4 = let w = held space4 accepted4 71 71 (omega arith) (omega arith) in (w .numerator, w .denominator)
 
 rows4 : length table4 ≡ 5
 unfolding accepted4 firstColumn conditionsBefore
@@ -151,7 +149,7 @@ table5 =
     (q0 ∷ q0 ∷ q0 ∷ q0 ∷ q0 ∷ q0 ∷ q0 ∷ q1 ∷ []) ∷ []
 
 unfoldable pub accepted5 : Accepted space5
-unfolding gcd gcdF mk int inv _+ᵠ_ _*ᵠ_ -ᵠ_ _//_ isZero ltᵠ sum tab fits capped collect repeat first last lengthsFit badBreak spanTooLong badDegree badOrder checkedEntries checked firstColumn conditionsBefore falling binomial alternating undivided commonDivisor conditions identity count addProducts span partialSum quotientFactor factors newEntry newRows step orderSteps joinSteps weights spaceWeights
+unfolding gcd gcdF mk int inv _+ᵠ_ _*ᵠ_ -ᵠ_ _//_ isZero ltᵠ sum tab fits capped collect repeat first last lengthsFit badBreak startsPart partEnd spanTooLong tooManySegments badDegree badOrder checkedEntries checked firstColumn conditionsBefore falling binomial alternating undivided commonDivisor conditions identity count addProducts span partialSum quotientFactor factors newEntry newRows step orderSteps joinSteps weights spaceWeights
 accepted5 = record { table = table5; is = refl }
 
 -- the published construction has weights 1/4, 1/2 and 1/4 on the join's ordinate
@@ -202,6 +200,34 @@ only5 : (others : List ℚ) → length others ≡ 5 → combination 8 others tab
 unfolding accepted5 firstColumn conditionsBefore
 only5 others h e = let o = conditions-give-one-combination space5 accepted5 ordinates5 meets5 in o .only others h e ∙ sym (o .only (q0 ∷ int (pos 4) ∷ int (pos 2) ∷ int (pos 8) ∷ q1 ∷ []) refl given5)
 
+-- ---- a beam of two parts: breaks 0,1,2,4, degrees 1,2,3, orders -1,1; its second part is W4
+
+abbrev pub beam : Space
+beam = record { breaks = pos 0 ∷ pos 1 ∷ pos 2 ∷ pos 4 ∷ []; degrees = pos 1 ∷ pos 2 ∷ pos 3 ∷ []; orders = negsuc 0 ∷ pos 1 ∷ [] }
+
+abbrev pub beamTable : Table
+beamTable =
+    (q1 ∷ q0 ∷ q0 ∷ q0 ∷ q0 ∷ q0 ∷ q0 ∷ q0 ∷ q0 ∷ []) ∷
+    (q0 ∷ q1 ∷ q0 ∷ q0 ∷ q0 ∷ q0 ∷ q0 ∷ q0 ∷ q0 ∷ []) ∷
+    (q0 ∷ q0 ∷ q1 ∷ q0 ∷ q0 ∷ q0 ∷ q0 ∷ q0 ∷ q0 ∷ []) ∷
+    (q0 ∷ q0 ∷ q0 ∷ q1 ∷ pos 4 // 6 ∷ pos 4 // 6 ∷ q0 ∷ q0 ∷ q0 ∷ []) ∷
+    (q0 ∷ q0 ∷ q0 ∷ q0 ∷ pos 3 // 6 ∷ pos 3 // 6 ∷ q1 ∷ q0 ∷ q0 ∷ []) ∷
+    (q0 ∷ q0 ∷ q0 ∷ q0 ∷ q0 ∷ q0 ∷ q0 ∷ q1 ∷ q0 ∷ []) ∷
+    (q0 ∷ q0 ∷ q0 ∷ q0 ∷ q0 ∷ q0 ∷ q0 ∷ q0 ∷ q1 ∷ []) ∷ []
+
+unfoldable pub acceptedBeam : Accepted beam
+unfolding gcd gcdF mk int inv _+ᵠ_ _*ᵠ_ -ᵠ_ _//_ isZero ltᵠ sum tab fits capped collect repeat first last lengthsFit badBreak startsPart partEnd spanTooLong tooManySegments badDegree badOrder checkedEntries checked firstColumn conditionsBefore falling binomial alternating undivided commonDivisor conditions identity count addProducts span partialSum quotientFactor factors newEntry newRows step orderSteps joinSteps weights spaceWeights
+acceptedBeam = record { table = beamTable; is = refl }
+
+-- two rows and two columns lie before the second part: cell 74 holds 4/7, as of W4, and cell 360, below its five rows, 0/1
+weight-cell-beam : (getD (buildEnd beam lent lent .numerators) 74 (pos 0) ≡ pos 4) × (getD (buildEnd beam lent lent .denominators) 74 (pos 0) ≡ pos 7)
+unfolding gcd gcdF mk _//_ last startsPart lastPartStart firstColumn conditionsBefore acceptedBeam
+weight-cell-beam = let w = held beam acceptedBeam 1 2 (omega arith) (omega arith) in (w .numerator, w .denominator)
+
+unused-cell-beam : (getD (buildEnd beam lent lent .numerators) 360 (pos 0) ≡ pos 0) × (getD (buildEnd beam lent lent .denominators) 360 (pos 0) ≡ pos 1)
+unfolding gcd gcdF mk int last startsPart lastPartStart firstColumn conditionsBefore acceptedBeam
+unused-cell-beam = let w = held beam acceptedBeam 5 0 (omega arith) (omega arith) in (w .numerator, w .denominator)
+
 -- ---- the conditions can fail
 
 -- a step of height 1 at the join of W4 does not meet its first condition
@@ -215,7 +241,7 @@ abbrev space8 : Space
 space8 = record { breaks = pos 0 ∷ pos 1 ∷ pos 1291 ∷ []; degrees = pos 3 ∷ pos 3 ∷ []; orders = pos 2 ∷ [] }
 
 refused8 : spaceWeights space8 ≡ refusal 8 0
-unfolding gcd gcdF mk int inv _+ᵠ_ _*ᵠ_ -ᵠ_ _//_ isZero ltᵠ sum tab fits capped collect repeat first last lengthsFit badBreak spanTooLong badDegree badOrder checkedEntries checked firstColumn conditionsBefore falling binomial alternating undivided commonDivisor conditions identity count addProducts span partialSum quotientFactor factors newEntry newRows step orderSteps joinSteps weights spaceWeights
+unfolding gcd gcdF mk int inv _+ᵠ_ _*ᵠ_ -ᵠ_ _//_ isZero ltᵠ sum tab fits capped collect repeat first last lengthsFit badBreak startsPart partEnd spanTooLong tooManySegments badDegree badOrder checkedEntries checked firstColumn conditionsBefore falling binomial alternating undivided commonDivisor conditions identity count addProducts span partialSum quotientFactor factors newEntry newRows step orderSteps joinSteps weights spaceWeights
 refused8 = refl
 
 too-large8 : FirstTooLarge space8 0
@@ -252,13 +278,13 @@ failure8 = record {
 }
 
 checked8 : checked space8 ≡ answer space8
-unfolding first lengthsFit badBreak spanTooLong badDegree badOrder checkedEntries checked
+unfolding first lengthsFit badBreak startsPart partEnd spanTooLong tooManySegments badDegree badOrder checkedEntries checked
 checked8 = refl
 
 refused-again8 : spaceWeights space8 ≡ refusal 8 0
 refused-again8 = first-failure-refuses space8 8 0 checked8 failure8
 
--- the refusal comes from that test: number 8 is none of 2 to 5
+-- the refusal comes from that test: number 8 is none of 2 to 5 and 15
 by-first-failure8 : FirstFailure (buildTests space8) 8 0
 by-first-failure8 = go (refused-by-first-failure space8 8 0 refused8)
   where
@@ -268,7 +294,7 @@ by-first-failure8 = go (refused-by-first-failure space8 8 0 refused8)
 
 -- W7: a span of 2,001 is refused before the build, by number 3
 refused7 : spaceWeights (lineSpace 2001) ≡ refusal 3 1
-unfolding capped first lengthsFit badBreak spanTooLong checkedEntries checked spaceWeights
+unfolding capped first lengthsFit badBreak startsPart partEnd spanTooLong tooManySegments checkedEntries checked spaceWeights
 refused7 = refl
 
 three-is-no-test : (t : Test) → 3 ≡ numberOf t → ⊥
@@ -289,7 +315,7 @@ unfolding gcd gcdF mk int inv _+ᵠ_ _*ᵠ_ -ᵠ_ _//_ isZero ltᵠ sum tab fits
 passes4 = refl
 
 pub checked4 : checked space4 ≡ answer space4
-unfolding first lengthsFit badBreak spanTooLong badDegree badOrder checkedEntries checked
+unfolding first lengthsFit badBreak startsPart partEnd spanTooLong tooManySegments badDegree badOrder checkedEntries checked
 checked4 = refl
 
 accepted-by-tests4 : spaceWeights space4 ≡ answer (exactWeights space4)
@@ -304,7 +330,7 @@ unfolding gcd gcdF mk int inv _+ᵠ_ _*ᵠ_ -ᵠ_ _//_ isZero ltᵠ sum tab fits
 passes5 = refl
 
 pub checked5 : checked space5 ≡ answer space5
-unfolding first lengthsFit badBreak spanTooLong badDegree badOrder checkedEntries checked
+unfolding first lengthsFit badBreak startsPart partEnd spanTooLong tooManySegments badDegree badOrder checkedEntries checked
 checked5 = refl
 
 accepted-by-tests5 : spaceWeights space5 ≡ answer (exactWeights space5)

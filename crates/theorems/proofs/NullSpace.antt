@@ -85,11 +85,11 @@ module _ (J w : ℕ → ℚ) where
       (by-eq ℚ-ring (c (suc j) -ᵠ c j) H (by-eq ℚ-ring (int (pos 1)) k (by-eq ℚ-ring (int (negsuc 0)) h
       (ring ℚ-ring (sum j J ∷ J j ∷ w j ∷ c (suc j) ∷ c j ∷ sum j (λ j. x j *ᵠ J j) ∷ x j ∷ []) (search readsℚ depth 30) (search readsℚ depth 30) refl))))
 
-lifted-at-one : (w c : ℕ → ℚ) (j : ℕ) → w j ≡ int (pos 1) → lifted w c j ≡ c (suc j)
+pub lifted-at-one : (w c : ℕ → ℚ) (j : ℕ) → w j ≡ int (pos 1) → lifted w c j ≡ c (suc j)
 unfolding lifted
 lifted-at-one w c j e = ap (λ t. t *ᵠ c (suc j) +ᵠ (int (pos 1) -ᵠ t) *ᵠ c j) e ∙ ring ℚ-ring (c (suc j) ∷ c j ∷ []) (search readsℚ depth 20) (search readsℚ depth 20) refl
 
-lifted-at-zero : (w c : ℕ → ℚ) (j : ℕ) → w j ≡ int (pos 0) → lifted w c j ≡ c j
+pub lifted-at-zero : (w c : ℕ → ℚ) (j : ℕ) → w j ≡ int (pos 0) → lifted w c j ≡ c j
 unfolding lifted
 lifted-at-zero w c j e = ap (λ t. t *ᵠ c (suc j) +ᵠ (int (pos 1) -ᵠ t) *ᵠ c j) e ∙ ring ℚ-ring (c (suc j) ∷ c j ∷ []) (search readsℚ depth 20) (search readsℚ depth 20) refl
 

@@ -28,7 +28,8 @@ use Rattle.spline.proofs.Legal.{Legal}
 use Rattle.spline.proofs.Table.{entry-past, cell-past}
 use Rattle.theorems.specs.Demand2.{WeightsArePublished}
 use Rattle.theorems.proofs.NullSpace.{mixed}
-use Rattle.theorems.proofs.Stepped.{Wide, values, values-past, Stepped}
+use Rattle.spline.proofs.Shape.{Wide}
+use Rattle.theorems.proofs.Stepped.{values, values-past, Stepped}
 use Rattle.theorems.proofs.Basis.{Basis}
 use Rattle.theorems.proofs.Identity.{identity-basis}
 use Rattle.theorems.proofs.Built.{Done, order-stepped, order-kept, join-kept, nothing-done, built}

@@ -22,14 +22,11 @@ use Rattle.spline.proofs.Outcome.{then-inverts, Chained, answer-unique, collect
 use Rattle.spline.proofs.Table.{entry-past, cell-past}
 use Rattle.spline.proofs.Splice.{spliced-length, spliced-before, spliced-inside, spliced-after}
 use Rattle.spline.proofs.Answers.{Spans, span-inverts, Factors, factors-inverts}
+use Rattle.spline.proofs.Shape.{Wide}
 use Rattle.spline.proofs.NewRows.{Mixed, newRow-inverts}
 use Rattle.theorems.proofs.NullSpace.{Jumps, mixed, last-factor}
 use Rattle.theorems.proofs.Functional.{applied, applied-zero, applied-ext, jump-inverts}
 use Rattle.theorems.proofs.Extended.{extended, extended-from, null-space, w-not-negative, w-at-most-one}
-
--- All rows have this many entries.
-pub record Wide (width : ℕ) (t : Table) : Type 0 where
-  pub each : (i : ℕ) → i < length t → length (row t i) ≡ width
 
 -- The functional's values on the rows; zero past the last row.
 abbrev pub values : List Entry → Table → ℕ → ℚ
@@ -38,7 +35,7 @@ values κ t i = applied κ (cell t i)
 pub values-past : (κ : List Entry) (t : Table) (i : ℕ) → length t ≤ i → values κ t i ≡ int (pos 0)
 values-past κ t i h = applied-ext κ (λ c. cell-past t i c h) ∙ applied-zero κ
 
-jumps-inverts : (j : ℕ) (κ : List Entry) (t : Table) {js : List ℚ} → jumps j κ t ≡ answer js → (length js ≡ length t) × ((i : ℕ) → entry js i ≡ values κ t i)
+pub jumps-inverts : (j : ℕ) (κ : List Entry) (t : Table) {js : List ℚ} → jumps j κ t ≡ answer js → (length js ≡ length t) × ((i : ℕ) → entry js i ≡ values κ t i)
 jumps-inverts j κ t {js} e = (parts .size, λ i. place i (le-or-lt (length t) i))
   where
     parts : Collected (length t) (λ i. jump j κ (row t i)) js

@@ -1,5 +1,5 @@
 -- What the theorems say of the lent cells after a call: building an accepted space leaves the published construction's
--- weights in them. The contract of the build cites the same outcome and the same buffers, so this holds of the machine's cells.
+-- weights of its last part in them. The contract of the build cites the same end, so this holds of the machine's cells.
 use mathlib.Core.List.{List}
 use mathlib.Core.Path.{_≡_}
 use Prim.Native.Nat.{ℕ, _+_, _*_, _<_, _≤_}
@@ -7,9 +7,9 @@ use lib.IntN.{ℤ, pos}
 use lib.ListN.{length, getD}
 use Rattle.exact.specs.Rational.{ℚ, den}
 use Rattle.spline.specs.Outcome.{answer}
-use Rattle.spline.specs.Space.{Space}
-use Rattle.spline.specs.Table.{cell, rowCells, tableCells}
-use Rattle.spline.specs.Build.{built, numeratorsAfter, denominatorsAfter}
+use Rattle.spline.specs.Space.{Space, lastPartStart, firstColumn, rowsBefore}
+use Rattle.spline.specs.Table.{Table, cell, rowCells, tableCells}
+use Rattle.spline.specs.Build.{built, buildEnd}
 use Rattle.spline.specs.Published.{extraction}
 use Rattle.spline.specs.Piecewise.{Accepted}
 
@@ -23,8 +23,12 @@ abbrev pub AcceptedSpacesAreBuilt : Type 0
 AcceptedSpacesAreBuilt = (s : Space) (a : Accepted s) (numLength denLength : ℕ) → tableCells ≤ numLength → tableCells ≤ denLength
     → built s numLength denLength ≡ answer (a .table)
 
--- After it, cell 72·i + c holds the published weight of row i on column c, and 0/1 outside the table.
+-- Row i and column c of the last part, counted from 0, in a table of the whole beam.
+abbrev pub lastPartCell : Space → Table → ℕ → ℕ → ℚ
+lastPartCell s t i c = let a = lastPartStart s in cell t (rowsBefore s a + i) (firstColumn s a + c)
+
+-- After it, cell 72·i + c holds the published weight of the last part's row i on its column c, and 0/1 outside the table.
 abbrev pub CellsHoldPublishedWeights : Type 0
 CellsHoldPublishedWeights = (s : Space) → Accepted s → (nums dens : List ℤ) → tableCells ≤ length nums → tableCells ≤ length dens
     → (i c : ℕ) → i < rowCells → c < rowCells
-    → HoldsFraction (cell (extraction s) i c) (numeratorsAfter (built s (length nums) (length dens)) nums) (denominatorsAfter (built s (length nums) (length dens)) dens) (rowCells * i + c)
+    → HoldsFraction (lastPartCell s (extraction s) i c) (buildEnd s nums dens .numerators) (buildEnd s nums dens .denominators) (rowCells * i + c)

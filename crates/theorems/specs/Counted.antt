@@ -160,7 +160,7 @@ pub record FirstFailure (tests : List Test) (number place : ℕ) : Type 0 where
   pub number-is : number ≡ numberOf failing
   pub place-is : place ≡ capped (joinOf failing)
 
--- A space that is refused is refused by one of the numbers 2 to 5, or by the first test of the build that fails.
+-- A space that is refused is refused by one of the numbers 2 to 5 and 15, or by the first test of the build that fails.
 abbrev pub RefusedByFirstFailure : Type 0
 RefusedByFirstFailure = (s : Space) (number place : ℕ) → spaceWeights s ≡ refusal number place
     → (checked s ≡ refusal number place) ⊎ ((checked s ≡ answer s) × FirstFailure (buildTests s) number place)

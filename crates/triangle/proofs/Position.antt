@@ -56,20 +56,20 @@ module _ (b d o : List ℤ) (h : ListsLegal b d o) (x : ℤ) (w : Within (space 
 -- ---- the columns of a segment
 
 -- the array of first columns
-pub columns-filled : (d : List ℤ) → length d ≤ 12 → tab (length d) (firstColumn (space [] d [])) ++ drop (length d) (replicate 12 0) ≡ columnsOf (space [] d [])
+pub columns-filled : (d : List ℤ) → length d ≤ 48 → tab (length d) (firstColumn (space [] d [])) ++ drop (length d) (replicate 48 0) ≡ columnsOf (space [] d [])
 unfolding columnsOf
-columns-filled d h = tab-rest 12 (length d) h (λ i l. sym (cond-true (firstColumn (space [] d []) i) 0 (lt-ltb i (length d) l))) (λ i l. cond-false (firstColumn (space [] d []) i) 0 (le-ltb i (length d) l))
+columns-filled d h = tab-rest 48 (length d) h (λ i l. sym (cond-true (firstColumn (space [] d []) i) 0 (lt-ltb i (length d) l))) (λ i l. cond-false (firstColumn (space [] d []) i) 0 (le-ltb i (length d) l))
 
-pub columns-long : (d : List ℤ) → length (columnsOf (space [] d [])) ≡ 12
+pub columns-long : (d : List ℤ) → length (columnsOf (space [] d [])) ≡ 48
 unfolding columnsOf
-columns-long d = tab-length 12 _
+columns-long d = tab-length 48 _
 
 module _ (b d o : List ℤ) (h : ListsLegal b d o) (i : ℕ) (l : i < length d) where
   pub column-at : getD (columnsOf (space [] d [])) i 0 ≡ firstColumn (space [] d []) i
   unfolding columnsOf
-  column-at = tab-getD 12 _ i 0 (omega (arith, h .few)) ∙ cond-true (firstColumn (space [] d []) i) 0 (lt-ltb _ _ l)
+  column-at = tab-getD 48 _ i 0 (omega (arith, h .few)) ∙ cond-true (firstColumn (space [] d []) i) 0 (lt-ltb _ _ l)
 
-  pub columns-within : firstColumn (space [] d []) i + degree (space [] d []) i < 72
+  pub columns-within : firstColumn (space [] d []) i + degree (space [] d []) i < 288
   columns-within = omega (arith, first-column-partial b d o i, legal-columns-within b d o h i l, legal-column-count-high b d o h)
 
   pub degree-within : degree (space [] d []) i ≤ 5

@@ -7,8 +7,12 @@ use lib.IntN.{ℤ, pos}
 use lib.ListN.{getD}
 use lib.Signed.{_<ℤ_, _≤ℤ_}
 use Rattle.exact.specs.Tabulate.{tab}
-use Rattle.spline.specs.Space.{Space, segmentLimit, spanLimit, break, segments, firstColumn}
+use Rattle.spline.specs.Space.{Space, segmentLimit, spanLimit, degreeLimit, break, segments, firstColumn}
 use Rattle.spline.specs.Reading.{parts, fine}
+
+-- A beam has at most this many columns: six for each of 48 segments.
+abbrev pub columnLimit : ℕ
+columnLimit = (degreeLimit + 1) * segmentLimit
 
 -- The first columns of the segments in an array, 0 past them.
 unfoldable pub columnsOf : Space → List ℕ

@@ -9,10 +9,9 @@ ghost use lib.ListN.{length};
 ghost use Rattle.space.specs.Reply.{space};
 ghost use Rattle.space.specs.Legal.{BreaksLegal, ListsLegal};
 ghost use Rattle.spline.specs.Search;
-ghost use Rattle.spline.specs.Table.{rowCells};
 ghost use Rattle.spline.specs.Reading;
 ghost use Rattle.ordinates.specs.Ordinates.{Bounded};
-ghost use Rattle.triangle.specs.Offsets.{columnsOf, localOf, Within};
+ghost use Rattle.triangle.specs.Offsets.{columnLimit, columnsOf, localOf, Within};
 ghost use Rattle.triangle.specs.Place.{placeOf, Sound, valueOf};
 
 mod triangle;
@@ -26,7 +25,8 @@ pub struct Place {
     pub width: i64,
 }
 
-const DISCONTINUITY: i32 = -1;
+// Six columns for each of 48 segments.
+pub const MAX_COLUMNS: usize = 288;
 
 // Whether segment i starts at a discontinuity.
 fn starts_at_discontinuity(orders: &[i32], i: usize) -> bool
@@ -36,8 +36,7 @@ fn starts_at_discontinuity(orders: &[i32], i: usize) -> bool
     if i == 0 {
         return false;
     }
-    let order = orders[i - 1];
-    order == DISCONTINUITY
+    space::is_discontinuity(orders, i - 1)
 }
 
 // Whether segment i starts before position x, or at it where that is no discontinuity.
@@ -71,14 +70,14 @@ fn segment_at(breaks: &[i32], orders: &[i32], m: usize, x: i32) -> usize
 }
 
 // The p + 1 ordinates from column c on, 0 past them.
-fn local_ordinates(ordinates: &[i64], c: usize, p: usize) -> [i64; 6]
+fn local_ordinates(ordinates: &[i32], c: usize, p: usize) -> [i64; 6]
     requires { ⌜ (p ≤ 5) × (c + p < length (now ordinates)) ⌝ }
     ensures { λ r. ⌜ r ≡ localOf (now (ordinates .entry)) c p ⌝ }
 {
     let mut o = [0; 6];
     let mut k = 0;
     while k <= p {
-        let x = ordinates[c + k];
+        let x = ordinates[c + k] as i64;
         o[k] = x;
         k += 1;
     }
@@ -123,8 +122,8 @@ pub fn place_at(breaks: &[i32], degrees: &[i32], orders: &[i32], columns: &[usiz
 }
 
 // The value at a place of the curve with these ordinates.
-pub fn value_at(ordinates: &[i64], place: Place) -> i32
-    requires { ⌜ Sound place × ((length (now ordinates) ≡ rowCells) × Bounded (now ordinates)) ⌝ }
+pub fn value_at(ordinates: &[i32], place: Place) -> i32
+    requires { ⌜ Sound place × ((length (now ordinates) ≡ columnLimit) × Bounded (now ordinates)) ⌝ }
     ensures { λ r. ⌜ r ≡ valueOf (now (ordinates .entry)) place ⌝ }
 {
     let o = local_ordinates(ordinates, place.column, place.degree);

@@ -1,7 +1,7 @@
 -- What building ends with, case by case: too short a buffer, lists that are refused, and the joins' table or refusal; and
 -- what the machine answers and leaves in each.
 use mathlib.Core.Path.{_≡_, refl, sym, _∙_, ap, ap₂, subst}
-use mathlib.Core.Bool.{true, false, cond}
+use mathlib.Core.Bool.{true, cond}
 use mathlib.Core.Logic.{_⊎_, inl, inr}
 use mathlib.Core.List.{List, []}
 use Prim.Native.Nat.{ℕ, _-_, _<_, _≤_}
@@ -15,7 +15,7 @@ use Rattle.spline.specs.Space.{Space, segments, columnCount, conditionCount, ch
 use Rattle.spline.specs.Table.{Table, identity, tableCells, numerators, denominators}
 use Rattle.spline.specs.Build.{orderSteps, joinSteps, weights, spaceWeights, built, clears, numeratorsAfter, denominatorsAfter}
 use Rattle.spline.proofs.Outcome.{RefusedAs, repeat-refused, then-answers, then-refuses, capped-small}
-use Rattle.spline.proofs.Build.{long-enough, not-cleared}
+use Rattle.spline.proofs.Build.{long-enough}
 use Rattle.cells.specs.Held.{Kept}
 use Rattle.cells.specs.Part.{filled}
 use Rattle.cells.proofs.Buffer.{numerators-again, denominators-again, numerators-cleared, denominators-cleared, kept-numerators, kept-denominators, kept-then}
@@ -31,18 +31,6 @@ pub record Ends (o : Outcome Table) (n : ℕ) (r : Built) (num den num′ den′
   pub answers : reply r ≡ with-answer (λ _. n) o
   pub numerators-are : num′ ≡ numeratorsAfter o num
   pub denominators-are : den′ ≡ denominatorsAfter o den
-
--- a refusal that is not 8 or 9 leaves the buffers
-pub ends-unchanged : (o : Outcome Table) (n : ℕ) (num den : List ℤ) {number place : ℕ} → o ≡ refusal number place → number ≤ 5 → Ends o n (Refused number place) num den num den
-unfolding reply numeratorsAfter denominatorsAfter
-ends-unchanged o n num den {number} {place} e h = record {
-  answers = sym (ap (with-answer (λ _. n)) e);
-  numerators-are = sym (ap (λ x. numeratorsAfter x num) e ∙ ap (λ c. cond c (numerators [] num) num) kept);
-  denominators-are = sym (ap (λ x. denominatorsAfter x den) e ∙ ap (λ c. cond c (denominators [] den) den) kept);
-}
-  where
-    kept : clears number ≡ false
-    kept = not-cleared number (omega arith)
 
 -- ---- the call's outcome
 
@@ -85,6 +73,9 @@ clears-either : {number : ℕ} → (number ≡ 8) ⊎ (number ≡ 9) → clears 
 clears-either (inl e) = ap clears e
 clears-either (inr e) = ap clears e
 
+pub weights-cleared : (s : Space) {number place : ℕ} → weights s ≡ refusal number place → clears number ≡ true
+weights-cleared s {number} {place} e = clears-either (weights-refuse s number place e)
+
 -- what the joins leave of buffers that held a table, where they answer, and where the buffers are then cleared
 module _ (n : ℕ) (i : Table) (num₀ den₀ num den num′ den′ : List ℤ) (num-is : num ≡ numerators i num₀) (den-is : den ≡ denominators i den₀) where
   pub ends-rows : (o : Outcome Table) {m : ℕ} → JoinsLeave o n (Rows m) num den num′ den′ → Ends o n (Rows m) num₀ den₀ num′ den′
@@ -105,7 +96,7 @@ module _ (n : ℕ) (i : Table) (num₀ den₀ num den num′ den′ : List ℤ) 
       go : (o : Outcome Table) → weights s ≡ o → JoinsLeave o n (Refused number place) num den num′ den′ → Ends o n (Refused number place) num₀ den₀ num₂ den₂
       go (answer t) z left = absurd (let e = left .0 in let z : _≡_ {A = ℕ} 0 1 = cc in omega arith)
       go (refusal a b) z left =
-          let told = clears-either (weights-refuse s a b z) in
+          let told = weights-cleared s z in
           record {
             answers = ap reply (left .0);
             numerators-are = p ∙ numerators-cleared num₀ num′ long (kept-then (subst (Kept num₀) (sym num-is) (kept-numerators i num₀ long)) (left .1)) ∙ sym (ap (λ c. cond c (numerators [] num₀) num₀) told);

@@ -16,10 +16,10 @@ use Rattle.spline.specs.Build.{orderSteps}
 use Rattle.spline.proofs.Outcome.{RefusedAs, repeat-refused}
 use Rattle.spline.proofs.Refusals.{EightOrNine, step-refuses}
 use Rattle.space.specs.Reply.{space}
-use Rattle.space.specs.Legal.{ListsLegal}
+use Rattle.space.specs.Legal.{PartLegal}
 use Rattle.spline.proofs.Space.{firstColumn-mono}
 use Rattle.space.proofs.Bounds.{first-column-next, conditions-before-next}
-use Rattle.space.proofs.Legal.{legal-width-low, legal-width-high, legal-degree-high, legal-conditions-high, legal-conditions-left, legal-conditions-right, legal-columns-within, legal-column-count-high, legal-conditions-before}
+use Rattle.space.proofs.Legal.{legal-width-low, legal-width-high, legal-degree-high, legal-conditions-high, legal-conditions-left, legal-conditions-right, legal-columns-within, legal-conditions-before, part-column-count-high}
 use Rattle.space.proofs.Partial.{first-column-partial}
 use Rattle.cells.specs.Held.{Kept}
 use Rattle.conditions.specs.Sides.{SideIs, JoinIs, JoinFits}
@@ -32,7 +32,7 @@ use Rattle.weights.specs.Leaves.{JoinsLeave}
 use Rattle.weights.specs.declared.Built.{Built}
 use Rattle.weights.specs.declared.Built.the-variants.{Rows, Refused}
 
--- ---- a join of a legal space
+-- ---- a join of a legal part
 
 -- a side, and so a join, needs only the breakpoints and the degrees
 side-whole : (b d o : List ℤ) {side : Side} {i : ℕ} → SideIs side (space b d []) i → SideIs side (space b d o) i
@@ -45,23 +45,23 @@ side-whole b d o {side} {i} h = record {
 pub join-whole : (b d o : List ℤ) {join : Join} {j : ℕ} → JoinIs join (space b d []) j → JoinIs join (space b d o) j
 join-whole b d o h = record { left-is = side-whole b d o (h .left-is); right-is = side-whole b d o (h .right-is) }
 
-module _ (b d o : List ℤ) (legal : ListsLegal b d o) (j : ℕ) (within : j < length o) where
+module _ (b d o : List ℤ) (part : PartLegal b d o) (j : ℕ) (within : j < length o) where
   pub join-fits : {join : Join} → JoinIs join (space b d o) j → (k : ℕ) → k < conditionCount (space b d o) j → JoinFits join k
   join-fits is k h = record {
     space = space b d o;
     index = j;
     is = is;
-    left-short = legal-width-high b d o legal j (omega (arith, legal .order-count));
-    right-short = legal-width-high b d o legal (suc j) (omega (arith, legal .order-count));
-    left-long = legal-width-low b d o legal j (omega (arith, legal .order-count));
-    right-long = legal-width-low b d o legal (suc j) (omega (arith, legal .order-count));
-    left-degree = legal-degree-high b d o legal j (omega (arith, legal .order-count));
-    right-degree = legal-degree-high b d o legal (suc j) (omega (arith, legal .order-count));
-    order-left = omega (arith, legal-conditions-left b d o legal j within);
-    order-right = omega (arith, legal-conditions-right b d o legal j within);
-    order = omega (arith, legal-conditions-high b d o legal j within);
+    left-short = legal-width-high b d o (part .lists) j (omega (arith, part .lists .order-count));
+    right-short = legal-width-high b d o (part .lists) (suc j) (omega (arith, part .lists .order-count));
+    left-long = legal-width-low b d o (part .lists) j (omega (arith, part .lists .order-count));
+    right-long = legal-width-low b d o (part .lists) (suc j) (omega (arith, part .lists .order-count));
+    left-degree = legal-degree-high b d o (part .lists) j (omega (arith, part .lists .order-count));
+    right-degree = legal-degree-high b d o (part .lists) (suc j) (omega (arith, part .lists .order-count));
+    order-left = omega (arith, legal-conditions-left b d o (part .lists) j within);
+    order-right = omega (arith, legal-conditions-right b d o (part .lists) j within);
+    order = omega (arith, legal-conditions-high b d o (part .lists) j within);
     left-columns = omega (arith, first-column-next (space b d o) j);
-    right-columns = omega (arith, legal-columns-within b d o legal (suc j) (omega (arith, legal .order-count)), legal-column-count-high b d o legal);
+    right-columns = omega (arith, legal-columns-within b d o (part .lists) (suc j) (omega (arith, part .lists .order-count)), part-column-count-high b d o part);
   }
 
   -- the conditions up to and with this join are fewer than the columns
@@ -69,8 +69,8 @@ module _ (b d o : List ℤ) (legal : ListsLegal b d o) (j : ℕ) (within : j < l
   conditions-left = omega (
     arith,
     conditions-before-next (space b d o) j,
-    legal-conditions-before b d o legal (suc j) (omega (arith, legal .order-count)),
-    firstColumn-mono (space b d o) (suc j) (length d) (omega (arith, legal .order-count)),
+    legal-conditions-before b d o (part .lists) (suc j) (omega (arith, part .lists .order-count)),
+    firstColumn-mono (space b d o) (suc j) (length d) (omega (arith, part .lists .order-count)),
   )
 
 -- ---- the refusals of the orders at a join

@@ -3,3 +3,4 @@ pub mod Stepped
 pub mod Leaving
 pub mod Joins
 pub mod Building
+pub mod Beam

@@ -4,6 +4,7 @@ ghost use Rattle.spline.specs.Build.{buildEnd};
 ghost use Rattle.space.specs.Reply.{space};
 ghost use Rattle.weights.specs.Reply.{reply};
 
+pub mod parts;
 mod step;
 
 // What building answers: the row count n, or a refusal's number and place.
@@ -12,7 +13,7 @@ pub enum Built {
     Refused(u8, u32),
 }
 
-// Builds the weights of the space with these breakpoints, degrees and orders. Lists and buffers may have any length and
+// Builds the weights of the beam with these breakpoints, degrees and orders. Lists and buffers may have any length and
 // content: what the definition refuses is refused, and the buffers are then as it says.
 pub fn build(
     breaks: &[i32],
@@ -32,7 +33,7 @@ pub fn build(
     }
     let legality = space::check(breaks, degrees, orders);
     match legality {
-        space::Legality::Legal => step::build_legal(breaks, degrees, orders, num, den),
+        space::Legality::Legal => parts::build_parts(breaks, degrees, orders, num, den),
         space::Legality::Refused(number, place) => Built::Refused(number, place),
     }
 }

@@ -12,7 +12,7 @@ ghost use Rattle.spline.specs.Table.{Table, tableCells};
 ghost use Rattle.spline.specs.Step;
 ghost use Rattle.spline.specs.Build;
 ghost use Rattle.space.specs.Reply.{space};
-ghost use Rattle.space.specs.Legal.{ListsLegal};
+ghost use Rattle.space.specs.Legal.{ListsLegal, PartLegal};
 ghost use Rattle.cells.specs.Held.{Holds, Shaped, Held};
 ghost use Rattle.conditions.specs.Sides.{SideIs, JoinIs, JoinFits};
 ghost use Rattle.jumps.specs.Reply.{fractions};
@@ -148,7 +148,7 @@ fn join_steps(
     den: &mut [i64],
     columns: usize,
 ) -> Built
-    requires { ⌜ ListsLegal (now breaks) (now degrees) (now orders) × Start (space (now breaks) (now degrees) (now orders)) (now num) (now den) columns ⌝ }
+    requires { ⌜ PartLegal (now breaks) (now degrees) (now orders) × Start (space (now breaks) (now degrees) (now orders)) (now num) (now den) columns ⌝ }
     ensures { λ r. ⌜ JoinsLeave (Build.weights (space (now (breaks .entry)) (now (degrees .entry)) (now (orders .entry)))) (rowCount (space (now (breaks .entry)) (now (degrees .entry)) (now (orders .entry)))) r (now (num .entry)) (now (den .entry)) (now (num .exit)) (now (den .exit)) ⌝ }
 {
     let mut rows = columns;
@@ -174,7 +174,7 @@ fn join_steps(
     Built::Rows(rows)
 }
 
-// The build of a space whose lists are legal, in buffers that are long enough.
+// The build of one part whose lists are legal, in buffers that are long enough.
 pub fn build_legal(
     breaks: &[i32],
     degrees: &[i32],
@@ -182,7 +182,7 @@ pub fn build_legal(
     num: &mut [i64],
     den: &mut [i64],
 ) -> Built
-    requires { ⌜ ListsLegal (now breaks) (now degrees) (now orders) × ((tableCells ≤ length (now num)) × (tableCells ≤ length (now den))) ⌝ }
+    requires { ⌜ PartLegal (now breaks) (now degrees) (now orders) × ((tableCells ≤ length (now num)) × (tableCells ≤ length (now den))) ⌝ }
     ensures { λ r. ⌜ reply r ≡ with-answer (λ _. rowCount (space (now (breaks .entry)) (now (degrees .entry)) (now (orders .entry)))) (Build.weights (space (now (breaks .entry)) (now (degrees .entry)) (now (orders .entry)))) ⌝ }
     ensures { λ r. ⌜ now (num .exit) ≡ Build.numeratorsAfter (Build.weights (space (now (breaks .entry)) (now (degrees .entry)) (now (orders .entry)))) (now (num .entry)) ⌝ }
     ensures { λ r. ⌜ now (den .exit) ≡ Build.denominatorsAfter (Build.weights (space (now (breaks .entry)) (now (degrees .entry)) (now (orders .entry)))) (now (den .entry)) ⌝ }

@@ -35,28 +35,28 @@ returns : tie.Need-returns
 returns c =
     let s = c .before in
     let a = s .args in
-    let e = ends-unchanged (woodPart (a .part)) (a .widths .now) {o = outcome s} (a .num .now) (a .den .now) (a .values .now) (a .indices .now) (first-short (lists s) _ _ _ _ _ _ _ (c .if1 .taken)) in
+    let e = ends-unchanged (lists s) (woodPart (a .part)) (a .widths .now) {o = outcome s} (a .num .now) (a .den .now) (a .values .now) (a .indices .now) (first-short (lists s) _ _ _ _ _ _ _ (c .if1 .taken)) in
     (e .answers, (e .numerators-are, (e .denominators-are, (e .values-are, e .indices-are))))
 
 returns-2 : tie.Need-returns-2
 returns-2 c =
     let s = c .before .before in
     let a = s .args in
-    let e = ends-unchanged (woodPart (a .part)) (a .widths .now) {o = outcome s} (a .num .now) (a .den .now) (a .values .now) (a .indices .now) (second-short (lists s) _ _ _ _ _ _ _ (c .before .if1 .left) (c .if2 .taken)) in
+    let e = ends-unchanged (lists s) (woodPart (a .part)) (a .widths .now) {o = outcome s} (a .num .now) (a .den .now) (a .values .now) (a .indices .now) (second-short (lists s) _ _ _ _ _ _ _ (c .before .if1 .left) (c .if2 .taken)) in
     (e .answers, (e .numerators-are, (e .denominators-are, (e .values-are, e .indices-are))))
 
 returns-3 : tie.Need-returns-3
 returns-3 c =
     let s = c .before .before .before in
     let a = s .args in
-    let e = ends-unchanged (woodPart (a .part)) (a .widths .now) {o = outcome s} (a .num .now) (a .den .now) (a .values .now) (a .indices .now) (third-short (lists s) _ _ _ _ _ _ _ (c .before .before .if1 .left) (c .before .if2 .left) (c .if3 .taken)) in
+    let e = ends-unchanged (lists s) (woodPart (a .part)) (a .widths .now) {o = outcome s} (a .num .now) (a .den .now) (a .values .now) (a .indices .now) (third-short (lists s) _ _ _ _ _ _ _ (c .before .before .if1 .left) (c .before .if2 .left) (c .if3 .taken)) in
     (e .answers, (e .numerators-are, (e .denominators-are, (e .values-are, e .indices-are))))
 
 returns-4 : tie.Need-returns-4
 returns-4 c =
     let s = c .before .before .before .before in
     let a = s .args in
-    let e = ends-unchanged (woodPart (a .part)) (a .widths .now) {o = outcome s} (a .num .now) (a .den .now) (a .values .now) (a .indices .now) (fourth-short (lists s) _ _ _ _ _ _ _ (c .before .before .before .if1 .left) (c .before .before .if2 .left) (c .before .if3 .left) (c .if4 .taken)) in
+    let e = ends-unchanged (lists s) (woodPart (a .part)) (a .widths .now) {o = outcome s} (a .num .now) (a .den .now) (a .values .now) (a .indices .now) (fourth-short (lists s) _ _ _ _ _ _ _ (c .before .before .before .if1 .left) (c .before .before .if2 .left) (c .before .if3 .left) (c .if4 .taken)) in
     (e .answers, (e .numerators-are, (e .denominators-are, (e .values-are, e .indices-are))))
 
 rings-taken-requires : tie.Need-rings-taken-requires
@@ -107,11 +107,11 @@ module _ (k : tie.After-read-rings) where
   answers-are : curves.reply (k .read-rings .result) ≡ returned (outcome start)
   answers-are = k .read-rings .ensures .0 ∙ ap (λ p. returned (at p)) positions-are ∙ ap returned same
 
-  numerators-are : k .read-rings .last .1 .1 .1 .1 .1 .1 .0 ≡ curveNumerators (outcome start) (start .args .num .now)
-  numerators-are = k .read-rings .ensures .1 .0 ∙ ap (λ p. curveNumerators (at p) (start .args .num .now)) positions-are ∙ ap (λ o. curveNumerators o (start .args .num .now)) same
+  numerators-are : k .read-rings .last .1 .1 .1 .1 .1 .1 .0 ≡ curveNumerators (lists start) (outcome start) (start .args .num .now)
+  numerators-are = k .read-rings .ensures .1 .0 ∙ ap (λ p. curveNumerators (lists start) (at p) (start .args .num .now)) positions-are ∙ ap (λ o. curveNumerators (lists start) o (start .args .num .now)) same
 
-  denominators-are : k .read-rings .last .1 .1 .1 .1 .1 .1 .1 .0 ≡ curveDenominators (outcome start) (start .args .den .now)
-  denominators-are = k .read-rings .ensures .1 .1 .0 ∙ ap (λ p. curveDenominators (at p) (start .args .den .now)) positions-are ∙ ap (λ o. curveDenominators o (start .args .den .now)) same
+  denominators-are : k .read-rings .last .1 .1 .1 .1 .1 .1 .1 .0 ≡ curveDenominators (lists start) (outcome start) (start .args .den .now)
+  denominators-are = k .read-rings .ensures .1 .1 .0 ∙ ap (λ p. curveDenominators (lists start) (at p) (start .args .den .now)) positions-are ∙ ap (λ o. curveDenominators (lists start) o (start .args .den .now)) same
 
   values-are : k .read-rings .last .1 .1 .1 .1 .1 .1 .1 .1 .0 ≡ valuesAfter (outcome start) (start .args .values .now)
   values-are = k .read-rings .ensures .1 .1 .1 ∙ ap (λ p. valuesAfter (at p) (start .args .values .now)) positions-are ∙ ap (λ o. valuesAfter o (start .args .values .now)) same
@@ -150,7 +150,7 @@ returns-5 : tie.Need-returns-5
 returns-5 c =
     let k = c .before .before .before .before .before .before .before in
     let a = start k .args in
-    let e = ends-refused (woodPart (a .part)) (a .widths .now) (a .num .now) (a .den .now) (a .values .now) (a .indices .now) (refused-inverts (outcome (start k)) (ap curves.reply (sym (c .before .read .given .1)) ∙ answers-are k)) (numerators-are k) (denominators-are k) (values-are k) in
+    let e = ends-refused (lists (start k)) (woodPart (a .part)) (a .widths .now) (a .num .now) (a .den .now) (a .values .now) (a .indices .now) (refused-inverts (outcome (start k)) (ap curves.reply (sym (c .before .read .given .1)) ∙ answers-are k)) (numerators-are k) (denominators-are k) (values-are k) in
     (e .answers, (e .numerators-are, (e .denominators-are, (e .values-are, e .indices-are))))
 
 same-length-4 : tie.Need-same-length-4
@@ -172,7 +172,7 @@ returns-6 c =
     let k = t .before .before .before .before .before .before in
     let a = start k .args in
     let h = result-of t in
-    let e = ends-indexed (woodPart (a .part)) (a .widths .now) (a .num .now) (a .den .now) (a .values .now) (a .indices .now) (h .is) (counted k h .1) (numerators-are k) (denominators-are k) (values-are k) (x .index-rings .ensures .0) (x .index-rings .ensures .1) in
+    let e = ends-indexed (lists (start k)) (woodPart (a .part)) (a .widths .now) (a .num .now) (a .den .now) (a .values .now) (a .indices .now) (h .is) (counted k h .1) (numerators-are k) (denominators-are k) (values-are k) (x .index-rings .ensures .0) (x .index-rings .ensures .1) in
     (e .answers, (e .numerators-are, (e .denominators-are, (e .values-are, e .indices-are))))
 
 pub indices-spec : {M : Type 1} → statement M

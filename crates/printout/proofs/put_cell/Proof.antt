@@ -15,7 +15,13 @@ returns : tie.Need-returns
 returns c =
     let s = c .before .before in
     let f : SFits w64 (s .args .num) = s .fits .num in
-    puts-as (sym (cell-zero _ _ _ (ofZ-inj w64 _ (pos 0) f (sfits-nat 0 (omega arith)) (c .if1 .taken)))) (puts-within (omega arith) (puts-none _ _))
+    puts-as (sym (cell-zero _ _ _ _ _ (ofZ-inj w64 _ (pos 0) f (sfits-nat 0 (omega arith)) (c .if1 .taken)))) (puts-within (omega arith) (puts-none _ _))
+
+add-put-place : tie.Need-add-put-place
+add-put-place c = omega arith
+
+add-put-place-2 : tie.Need-add-put-place-2
+add-put-place-2 c = omega arith
 
 put-place-requires : tie.Need-put-place-requires
 put-place-requires c κs = search needs
@@ -31,7 +37,7 @@ returns-2 c =
     let s = c .before .before .before .before .before .before .before .before .before .before in
     let f : SFits w64 (s .args .num) = s .fits .num in
     let g : SFits w64 (s .args .den) = s .fits .den in
-    puts-as (sym (cell-line _ _ _ (λ e. c .before .before .before .before .before .before .before .before .if1 .left (ap (ofZ w64) e)))) (puts-within (omega arith) (puts-then (c .before .before .before .before .before .before .put-place .ensures) (simp toZ-ofZ at (c .before .before .put-fraction .ensures))))
+    puts-as (sym (cell-line _ _ _ _ _ (λ e. c .before .before .before .before .before .before .before .before .if1 .left (ap (ofZ w64) e)))) (puts-within (omega arith) (puts-then (c .before .before .before .before .before .before .put-place .ensures) (simp toZ-ofZ at (c .before .before .put-fraction .ensures))))
 
 pub put-cell-spec : {M : Type 1} → statement M
-put-cell-spec = tie.close (tie.spec returns put-place-requires put-fraction-requires same-length returns-2)
+put-cell-spec = tie.close (tie.spec returns add-put-place add-put-place-2 put-place-requires put-fraction-requires same-length returns-2)

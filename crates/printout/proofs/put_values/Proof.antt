@@ -32,32 +32,32 @@ abbrev μ-loop : tie.MeasureT-loop
 loop-holds : tie.Need-loop-holds Inv-loop μ-loop
 loop-holds c = record { within = omega arith; put = puts-as (sym (valueLines-none _)) (puts-none _ _) }
 
+mul-early : tie.Need-mul-early Inv-loop μ-loop
+mul-early c = omega arith
+
+mul-early-2 : tie.Need-mul-early-2 Inv-loop μ-loop
+mul-early-2 c = omega arith
+
+shared-slice-copy-out-early : tie.Need-shared-slice-copy-out-early Inv-loop μ-loop
+shared-slice-copy-out-early c = omega arith
+
+mul-late : tie.Need-mul-late Inv-loop μ-loop
+mul-late c = omega arith
+
+add-late : tie.Need-add-late Inv-loop μ-loop
+add-late c = omega arith
+
+mul-late-2 : tie.Need-mul-late-2 Inv-loop μ-loop
+mul-late-2 c = omega arith
+
+shared-slice-copy-out-late : tie.Need-shared-slice-copy-out-late Inv-loop μ-loop
+shared-slice-copy-out-late c = omega arith
+
 mul-put-value : tie.Need-mul-put-value Inv-loop μ-loop
 mul-put-value c = omega arith
 
 shared-slice-copy-out-put-value : tie.Need-shared-slice-copy-out-put-value Inv-loop μ-loop
 shared-slice-copy-out-put-value c = omega arith
-
-mul-put-value-2 : tie.Need-mul-put-value-2 Inv-loop μ-loop
-mul-put-value-2 c = omega arith
-
-mul-put-value-3 : tie.Need-mul-put-value-3 Inv-loop μ-loop
-mul-put-value-3 c = omega arith
-
-shared-slice-copy-out-put-value-2 : tie.Need-shared-slice-copy-out-put-value-2 Inv-loop μ-loop
-shared-slice-copy-out-put-value-2 c = omega arith
-
-mul-put-value-4 : tie.Need-mul-put-value-4 Inv-loop μ-loop
-mul-put-value-4 c = omega arith
-
-add-put-value : tie.Need-add-put-value Inv-loop μ-loop
-add-put-value c = omega arith
-
-mul-put-value-5 : tie.Need-mul-put-value-5 Inv-loop μ-loop
-mul-put-value-5 c = omega arith
-
-shared-slice-copy-out-put-value-3 : tie.Need-shared-slice-copy-out-put-value-3 Inv-loop μ-loop
-shared-slice-copy-out-put-value-3 c = omega arith
 
 put-value-requires : tie.Need-put-value-requires Inv-loop μ-loop
 put-value-requires c κs = omega arith
@@ -73,9 +73,9 @@ loop-again c =
     let l = c .before .before .before .before .before .before .before .before .loop in
     let a = c .before .before .before .before .before .before .before .before .before .before .args in
     let vs = a .values .now in
-    let f : SFits w32 (getD (a .positions .now) (l .k) (pos 0)) = record { sfits = c .before .before .before .before .before .put-value-arg2 .given } in
-    let g : SFits w32 (getD vs (2 * l .k) (pos 0)) = record { sfits = c .before .before .before .before .put-value-arg3 .given } in
-    let h : SFits w32 (getD vs (2 * l .k + 1) (pos 0)) = record { sfits = c .before .before .before .put-value-arg4 .given } in
+    let f : SFits w32 (getD (a .positions .now) (l .k) (pos 0)) = record { sfits = c .before .before .before .put-value-arg2 .given } in
+    let g : SFits w32 (getD vs (2 * l .k) (pos 0)) = record { sfits = c .before .before .before .before .before .before .early .given } in
+    let h : SFits w32 (getD vs (2 * l .k + 1) (pos 0)) = record { sfits = c .before .before .before .before .before .late .given } in
     record {
       within = omega arith;
       put =
@@ -93,4 +93,4 @@ returns c =
     puts-within (omega arith) (rw (take-all (l .k) positions (omega arith)) at (l .inv .put))
 
 pub put-values-spec : {M : Type 1} → statement M
-put-values-spec = tie.close (tie.spec Inv-loop μ-loop loop-holds mul-put-value shared-slice-copy-out-put-value mul-put-value-2 mul-put-value-3 shared-slice-copy-out-put-value-2 mul-put-value-4 add-put-value mul-put-value-5 shared-slice-copy-out-put-value-3 put-value-requires add-k loop-less loop-again same-length returns)
+put-values-spec = tie.close (tie.spec Inv-loop μ-loop loop-holds mul-early mul-early-2 shared-slice-copy-out-early mul-late add-late mul-late-2 shared-slice-copy-out-late mul-put-value shared-slice-copy-out-put-value put-value-requires add-k loop-less loop-again same-length returns)

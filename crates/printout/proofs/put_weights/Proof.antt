@@ -17,21 +17,21 @@ use Rattle.printout.proofs.Printed.{cells-none, cells-more}
 use Rattle.printout.proofs.put_weights.Statement.{statement}
 use Rattle.printout.proofs.put_weights.Tie as tie
 
-record Inv (out₀ : List ℕ) (at : ℕ) (num den : List ℤ) (cells : ℕ) (out : List ℕ) (next k : ℕ) : Type 0 where
+record Inv (out₀ : List ℕ) (at row column : ℕ) (num den : List ℤ) (cells : ℕ) (out : List ℕ) (next k : ℕ) : Type 0 where
   within : k ≤ cells
-  put : Puts (87 * k) at (weightLines (storedWeights k num den)) out₀ out next
+  put : Puts (87 * k) at (weightLines (storedWeights row column k num den)) out₀ out next
 
 abbrev Inv-loop : tie.InvT-loop
-Inv-loop out₀ at n num den cells next₀ k₀ out next k = Inv out₀ at num den cells out next k
+Inv-loop out₀ at row column n num den cells next₀ k₀ out next k = Inv out₀ at row column num den cells out next k
 
 abbrev μ-loop : tie.MeasureT-loop
-μ-loop out₀ at n num den cells next₀ k₀ out next k = cells - k
+μ-loop out₀ at row column n num den cells next₀ k₀ out next k = cells - k
 
 mul-cells : tie.Need-mul-cells Inv-loop μ-loop
 mul-cells c = omega arith
 
 loop-holds : tie.Need-loop-holds Inv-loop μ-loop
-loop-holds c = record { within = omega arith; put = puts-as (sym (cells-none _ _)) (puts-none _ _) }
+loop-holds c = record { within = omega arith; put = puts-as (sym (cells-none _ _ _ _)) (puts-none _ _) }
 
 mul-put-cell : tie.Need-mul-put-cell Inv-loop μ-loop
 mul-put-cell c = omega arith
@@ -63,7 +63,7 @@ loop-again c =
     record {
       within = omega arith;
       put =
-          rw (add-one, cells-more (l .k) (a .num .now) (a .den .now))
+          rw (add-one, cells-more (a .row) (a .column) (l .k) (a .num .now) (a .den .now))
           (puts-within (omega arith) (puts-then (l .inv .put) (simp toZ-ofZ at (c .before .before .put-cell .ensures))));
     }
 

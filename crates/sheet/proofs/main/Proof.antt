@@ -5,12 +5,13 @@ use mathlib.Core.Path.{_≡_, sym}
 use Prim.Native.Nat.{ℕ, _≤_}
 use lib.ListN.{length, length-replicate}
 use lib.Seq.{length-take-le}
-use Rattle.printout.specs.Printed.{printoutLimit}
+use Rattle.sheet_text.specs.Sheet.{printoutLimit}
 use Rattle.sheet.proofs.main.Statement.{statement}
 use Rattle.sheet.proofs.main.Tie as tie
 
+-- by the law, since the zeros are too many to be counted one by one
 slice-aggregate-read-full : tie.Need-slice-aggregate-read-full
-slice-aggregate-read-full c = search needs
+slice-aggregate-read-full c = sym (length-replicate {0} {A = ℕ} _ 0)
 
 read-full-requires : tie.Need-read-full-requires
 read-full-requires c κs = search needs
@@ -21,7 +22,6 @@ array-share-prefix-input c = search needs
 slice-aggregate-sheet : tie.Need-slice-aggregate-sheet
 slice-aggregate-sheet c = search needs
 
--- by the law, since the zeros are too many to be counted one by one
 slice-aggregate-sheet-2 : tie.Need-slice-aggregate-sheet-2
 slice-aggregate-sheet-2 c = sym (length-replicate {0} {A = ℕ} _ 0)
 

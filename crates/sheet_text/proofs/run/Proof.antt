@@ -6,9 +6,9 @@ use mathlib.Core.Path.{sym}
 use Prim.Native.Nat.{ℕ, _*_, _≤_}
 use lib.ListN.{length}
 use lib.Seq.{length-take-le}
-use Rattle.printout.proofs.Buffer.{written-as}
+use Rattle.printout.proofs.Buffer.{written-as, puts-whole}
 use Rattle.sheet_text.specs.Sheet.{Arguments, called}
-use Rattle.sheet_text.proofs.Whole.{refused-prints, answered-prints, count-positions}
+use Rattle.sheet_text.proofs.Whole.{refused-prints, answered-filled, answered-prints, values-enough, count-positions}
 use Rattle.sheet_text.proofs.run.Statement.{statement}
 use Rattle.sheet_text.proofs.run.Tie as tie
 
@@ -33,11 +33,11 @@ refusal-requires c κs = search needs
 enum-known-answer-2 : tie.Need-enum-known-answer-2
 enum-known-answer-2 c = search needs
 
-slice-aggregate-answer : tie.Need-slice-aggregate-answer
-slice-aggregate-answer c = search needs
+slice-aggregate-put-answer : tie.Need-slice-aggregate-put-answer
+slice-aggregate-put-answer c = search needs
 
-slice-aggregate-answer-2 : tie.Need-slice-aggregate-answer-2
-slice-aggregate-answer-2 c = search needs
+slice-aggregate-put-answer-2 : tie.Need-slice-aggregate-put-answer-2
+slice-aggregate-put-answer-2 c = search needs
 
 -- the five lists, where the call has returned
 abbrev lists : tie.After-curve → Arguments
@@ -72,11 +72,18 @@ mul-cells c = omega (arith, fits (c .before), few (c .before), c .before .before
 array-share-prefix-values : tie.Need-array-share-prefix-values
 array-share-prefix-values c = fits (c .before .before .before)
 
-slice-aggregate-answer-3 : tie.Need-slice-aggregate-answer-3
-slice-aggregate-answer-3 c = let a = c .before .before .before .before in sym (length-take-le (2 * count a) _ (fits a))
+slice-aggregate-put-answer-3 : tie.Need-slice-aggregate-put-answer-3
+slice-aggregate-put-answer-3 c = let a = c .before .before .before .before in sym (length-take-le (2 * count a) _ (fits a))
 
-answer-requires : tie.Need-answer-requires
-answer-requires c κs = search needs
+put-answer-requires : tie.Need-put-answer-requires
+unfolding called
+put-answer-requires c κs =
+    let a = c .before .before .before .before .before in
+    let k = returned a in
+    let m = k .curve .result in
+    let e = k .curve .ensures in
+    let v = a .answer2 .given .1 in
+    (answered-filled (lists k) m (e .0) (count a) v _ _ (search needs) (search needs) (e .1 .0) (e .1 .1 .0), (few a, rw (e .1 .1 .1) (values-enough (lists k) m (e .0) (count a) v _)))
 
 same-length : tie.Need-same-length
 same-length c = search needs
@@ -89,7 +96,7 @@ returns c =
     let p = c .before .before .refusal .ensures in
     let t = refused-prints (lists k) (k .curve .result) (k .curve .ensures .0) _ _ (x .1) in
     let w = written-as _ t (p .0) (p .1 .0) in
-    (w .0, (w .1, p .1 .1))
+    (w .0, (w .1, omega (arith, p .1 .1)))
 
 same-length-2 : tie.Need-same-length-2
 same-length-2 c = search needs
@@ -97,14 +104,11 @@ same-length-2 c = search needs
 returns-2 : tie.Need-returns-2
 unfolding called
 returns-2 c =
-    let a = c .before .before .before .before .before .before .before .before in
+    let a = c .before .before .before .before .before .before .before .before .before .before in
     let k = returned a in
-    let p = c .before .before .answer3 .ensures in
-    let t =
-    answered-prints (lists k) (k .curve .result) (k .curve .ensures .0) (count a) (a .answer2 .given .1)
-    _ _ _ (search needs) (search needs) (few a) (k .curve .ensures .1 .0) (k .curve .ensures .1 .1 .0) (k .curve .ensures .1 .1 .1) in
-    let w = written-as _ t (p .0) (p .1 .0) in
-    (w .0, (w .1, p .1 .1))
+    let p = c .before .before .before .before .put-answer .ensures in
+    let w = puts-whole (answered-prints (lists k) (k .curve .result) (k .curve .ensures .0) (count a) (a .answer2 .given .1) _ (k .curve .ensures .1 .1 .1)) p in
+    (w .0, (w .1, p .near))
 
 pub run-spec : {M : Type 1} → statement M
 run-spec =
@@ -118,11 +122,11 @@ run-spec =
     refusal-requires
     enum-known-answer-2
     mul-cells
-    slice-aggregate-answer
-    slice-aggregate-answer-2
+    slice-aggregate-put-answer
+    slice-aggregate-put-answer-2
     array-share-prefix-values
-    slice-aggregate-answer-3
-    answer-requires
+    slice-aggregate-put-answer-3
+    put-answer-requires
     same-length
     returns
     same-length-2

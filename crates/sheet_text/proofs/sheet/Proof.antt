@@ -101,7 +101,7 @@ returns c =
     let p = c .before .before .refusal .ensures in
     let t = malformed-prints _ (k .read .result) _ (k .read .ensures .0) (a .lists .given .1) in
     let w = written-as _ t (p .0) (p .1 .0) in
-    (w .0, (w .1, p .1 .1))
+    (w .0, (w .1, omega (arith, p .1 .1)))
 
 same-length-2 : tie.Need-same-length-2
 same-length-2 c = search needs

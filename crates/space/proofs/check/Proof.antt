@@ -1,7 +1,6 @@
--- `space::check` meets its contract: the first part that refuses is the answer. Assumes nothing.
+-- `space::check` meets its contract: the first list that is refused gives the answer. Assumes nothing.
 use borrow.Author.Needs.{needs}
 use mathlib.Core.Path.{_≡_, sym, ap, _∙_}
-use lib.ListN.{length}
 use Rattle.spline.specs.Outcome.{answer}
 use Rattle.spline.proofs.Legal.{Lengths, lengths-fit-inverts}
 use Rattle.space.specs.Legal.{breaksChecked, degreesChecked}
@@ -14,7 +13,7 @@ use Rattle.space.proofs.check.Tie as tie
 lengths : (c : tie.Then1) → Lengths (space (c .before .before .args .breaks .now) (c .before .before .args .degrees .now) (c .before .before .args .orders .now))
 lengths c = lengths-fit-inverts _ (sym (c .before .lengths-fit .ensures) ∙ c .if1 .taken)
 
-breaks-pass : (c : tie.After-enum-told) → breaksChecked (c .before .before .before .before .before .args .breaks .now) (length (c .before .before .before .before .before .args .degrees .now)) ≡ answer tt
+breaks-pass : (c : tie.After-enum-told) → let a = c .before .before .before .before .before .args in breaksChecked (a .breaks .now) (a .degrees .now) (a .orders .now) ≡ answer tt
 breaks-pass c = legal-answers _ (sym (c .before .before .check-breaks .ensures) ∙ c .enum-told .given .1) .is
 
 degrees-pass : (c : tie.After-enum-told2) → degreesChecked (c .before .before .before .before .before .before .before .before .args .degrees .now) ≡ answer tt
@@ -24,7 +23,7 @@ lengths-fit-requires : tie.Need-lengths-fit-requires
 lengths-fit-requires c κs = search needs
 
 check-breaks-requires : tie.Need-check-breaks-requires
-check-breaks-requires c κs = lengths c .break-count
+check-breaks-requires c κs = (sym (lengths c .order-count), lengths c .break-count)
 
 enum-known-b : tie.Need-enum-known-b
 enum-known-b c = search needs

@@ -1,4 +1,4 @@
--- `space::check_orders` meets its contract: what the search found is refused. Assumes nothing.
+-- `space::check_orders` meets its contract: what the search found is refused, then the parts. Assumes nothing.
 use borrow.Author.Needs.{needs}
 use mathlib.Core.List.{[]}
 use mathlib.Core.Option.{some, none}
@@ -7,9 +7,9 @@ use lib.ListN.{length}
 use Rattle.spline.specs.Outcome.{refusal}
 use Rattle.spline.specs.Search.{first}
 use Rattle.spline.specs.Space.{badOrder}
-use Rattle.space.specs.Reply.{space}
+use Rattle.space.specs.Reply.{space, legality}
 use Rattle.space.proofs.Checks.{orders-refused, orders-pass}
-use Rattle.space.proofs.Reply.{found-some-inverts, found-none-inverts, answer-legal, refusal-refused}
+use Rattle.space.proofs.Reply.{found-some-inverts, found-none-inverts, refusal-refused}
 use Rattle.space.proofs.check_orders.Statement.{statement}
 use Rattle.space.proofs.check_orders.Tie as tie
 
@@ -37,10 +37,13 @@ returns c =
     let s = c .before .before .before .before .before in
     sym (refusal-refused _ (orders-refused (s .args .degrees .now) (s .args .orders .now) (found-bad (c .before .before)) ∙ ap (refusal 5) (sym (c .place .ensures))))
 
+check-parts-requires : tie.Need-check-parts-requires
+check-parts-requires c κs = c .before .before .before .pre
+
 returns-2 : tie.Need-returns-2
-returns-2 c = sym (answer-legal _ (orders-pass (c .before .before .before .args .degrees .now) (c .before .before .before .args .orders .now) (none-bad c)))
+returns-2 c = c .check-parts .ensures ∙ sym (ap legality (orders-pass (c .before .before .before .before .args .degrees .now) (c .before .before .before .before .args .orders .now) (none-bad (c .before))))
 
 pub check-orders-spec : {M : Type 1} → statement M
 check-orders-spec =
     tie.close
-    (tie.spec first-bad-order-requires enum-known-bad place-requires enum-told returns returns-2)
+    (tie.spec first-bad-order-requires enum-known-bad place-requires enum-told check-parts-requires returns returns-2)

@@ -26,7 +26,7 @@ columns c = space [] (c .before .before .before .args .degrees .now) []
 degree-fits : (c : tie.After-degree-at Inv-loop μ-loop) → c .degree-at .result ≤ 5
 degree-fits c = omega (arith, c .degree-at .ensures, degree-high (columns c) (c .before .before .before .pre .1 .1) (c .before .before .loop .k) (omega arith))
 
-column-fits : (c : tie.After-degree-at Inv-loop μ-loop) → c .before .before .loop .column ≤ 72
+column-fits : (c : tie.After-degree-at Inv-loop μ-loop) → c .before .before .loop .column ≤ 288
 column-fits c = omega (arith, first-column-high (columns c) (c .before .before .before .pre .1 .1) (c .before .before .loop .k) (omega arith))
 
 degree-at-requires : tie.Need-degree-at-requires Inv-loop μ-loop

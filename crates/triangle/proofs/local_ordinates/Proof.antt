@@ -1,14 +1,16 @@
--- `curve::reading::local_ordinates` meets its contract: below k stand the ordinates from column c on, from k on 0. Assumes nothing.
+-- `triangle::local_ordinates` meets its contract: below k stand the ordinates from column c on, from k on 0. Assumes nothing.
 use native.Mathlib.Omega.{arith}
 use mathlib.Core.List.{List, _++_}
 use mathlib.Core.Path.{_≡_, ap, ap₂, _∙_}
 use Prim.Native.Nat.{ℕ, _+_, _≤_, _-_}
 use lib.IntN.{ℤ, pos}
 use lib.ListN.{getD, set, drop, replicate}
-use mir.Syntax.{w64}
+use mir.Syntax.{w32, w64}
+use mir.Val.{SFits, ofZ, toZ}
 use mir.ValLaws.{toZ-ofZ}
 use Rattle.exact.specs.Tabulate.{tab}
 use Rattle.exact.proofs.Tabulate.{tab-none, tab-more}
+use Rattle.exact.proofs.Word.{sfits-widen}
 use Rattle.triangle.proofs.Local.{local-filled}
 use Rattle.triangle.proofs.local_ordinates.Statement.{statement}
 use Rattle.triangle.proofs.local_ordinates.Tie as tie
@@ -31,6 +33,17 @@ mul-x c = omega arith
 shared-slice-copy-out-x : tie.Need-shared-slice-copy-out-x Inv-loop μ-loop
 shared-slice-copy-out-x c = omega arith
 
+-- the number that is copied
+module _ (c : tie.After-x Inv-loop μ-loop) where
+  abbrev number : ℤ
+  number = getD (c .before .before .before .args .ordinates .now) (c .before .before .before .args .c + c .before .before .loop .k) (pos 0)
+
+  number-fits : SFits w32 number
+  number-fits = record { sfits = c .x .given }
+
+cast-x : tie.Need-cast-x Inv-loop μ-loop
+cast-x c = let f = number-fits c in simp toZ-ofZ (sfits-widen (number-fits c))
+
 mul-o : tie.Need-mul-o Inv-loop μ-loop
 mul-o c = omega arith
 
@@ -48,7 +61,7 @@ loop-again c =
     let s = c .before .before .before in
     let k = c .before .before .loop .k in
     let numbers : ℕ → ℤ = λ j. getD (s .args .ordinates .now) (s .args .c + j) (pos 0) in
-    (omega arith, ap₂ (λ (l : List ℤ) (v : ℤ). set l k v) (c .before .before .loop .inv .1) (toZ-ofZ w64 (numbers k) (record { sfits = c .x .given })) ∙ tab-more numbers k (replicate 6 (pos 0)) (omega arith))
+    (omega arith, ap₂ (λ (l : List ℤ) (v : ℤ). set l k v) (c .before .before .loop .inv .1) (ap (λ (z : ℤ). toZ w64 (ofZ w64 z)) (toZ-ofZ w32 (number c) (number-fits c)) ∙ toZ-ofZ w64 (number c) (sfits-widen (number-fits c))) ∙ tab-more numbers k (replicate 6 (pos 0)) (omega arith))
 
 returns : tie.Need-returns Inv-loop μ-loop
 returns c =
@@ -67,6 +80,7 @@ local-ordinates-spec =
     add-x
     mul-x
     shared-slice-copy-out-x
+    cast-x
     mul-o
     array-set-from-o
     add-k

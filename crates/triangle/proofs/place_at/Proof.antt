@@ -81,7 +81,7 @@ module _ (c : tie.After-fine-width) where
   d-is : toZ w64 (ofZ w64 (c .fine-width .result)) ≡ pos (fineWidth (space (start place .args .breaks .now) [] []) (i place))
   d-is = toZ-ofZ w64 _ (record { sfits = c .fine-width .ok }) ∙ c .fine-width .ensures
 
-  column-within : column + c .before .before .degree-at .result < 72
+  column-within : column + c .before .before .degree-at .result < 288
   column-within = omega (arith, column-is, c .before .before .degree-at .ensures, columns-within (start place .args .breaks .now) (start place .args .degrees .now) (start place .args .orders .now) (start place .pre .0 .0) (i place) (within place))
 
 returns : tie.Need-returns

@@ -8,7 +8,7 @@ use borrow.Author.Tests.{le-leb, lt-leb}
 use lib.ListN.{length}
 use Rattle.exact.proofs.Decide.{cond-true, cond-false}
 use Rattle.numerals.specs.Bytes.{Text}
-use Rattle.printout.specs.Printed.{printoutLimit}
+use Rattle.printout.specs.Printed.{refusalLineLimit}
 use Rattle.printout.specs.Printout.{refusalLine}
 use Rattle.printout.proofs.Buffer.{written-as, written-length}
 use Rattle.tucson_form.specs.TextReading.{readText}
@@ -24,7 +24,7 @@ held : (t : Text) → length t ≤ textLimit → outcomeText (readText t) ≡ fi
 unfolding filtered
 held t h = sym (cond-true (outcomeText (readText t)) (refusalLine 1 0) (le-leb (length t) textLimit h))
 
-line-fits : {count size after : ℕ} → count ≤ printoutLimit → after ≡ size → size ≡ textLimit → count ≤ after
+line-fits : {count size after : ℕ} → count ≤ refusalLineLimit → after ≡ size → size ≡ textLimit → count ≤ after
 line-fits h e l = omega arith
 
 refusal-requires : tie.Need-refusal-requires

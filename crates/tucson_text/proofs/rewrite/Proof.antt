@@ -11,7 +11,7 @@ use lib.Seq.{length-take-le}
 use Rattle.spline.specs.Outcome.{answer, refusal}
 use Rattle.spline.proofs.Outcome.{answer-unique, answer-not-refusal}
 use Rattle.numerals.specs.Bytes.{Text}
-use Rattle.printout.specs.Printed.{printoutLimit}
+use Rattle.printout.specs.Printed.{refusalLineLimit}
 use Rattle.printout.specs.Printout.{refusalLine}
 use Rattle.printout.specs.Buffer.{written}
 use Rattle.printout.proofs.Buffer.{written-as, written-length}
@@ -197,7 +197,7 @@ enum-known-text-2 c = search needs
 
 -- ---- what the function ensures
 
-line-fits : {count size after : ℕ} → count ≤ printoutLimit → after ≡ size → size ≡ textLimit → count ≤ after
+line-fits : {count size after : ℕ} → count ≤ refusalLineLimit → after ≡ size → size ≡ textLimit → count ≤ after
 line-fits h e l = omega arith
 
 text-fits : {count bytes size after : ℕ} → count ≡ bytes → bytes ≤ textLimit → after ≡ size → size ≡ textLimit → count ≤ after

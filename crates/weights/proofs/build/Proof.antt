@@ -1,20 +1,21 @@
--- The tests in document 01's order: a buffer that is too short, lists that are refused, and the build of a legal space.
+-- The tests in document 01's order: a buffer that is too short, lists that are refused, and the build of a beam whose lists are legal.
 -- Assumes nothing.
 use borrow.Author.Needs.{needs}
-use mathlib.Core.Path.{sym, _∙_, ap}
+use mathlib.Core.Path.{refl, sym, _∙_, ap}
 use Prim.Native.Nat.{_≤_}
 use native.Mathlib.Omega.{arith}
 use lib.ListN.{length}
 use Rattle.spline.specs.Outcome.{with-answer}
 use Rattle.spline.specs.Space.{Space, checked, rowCount}
 use Rattle.spline.specs.Table.{tableCells}
-use Rattle.spline.specs.Build.{numeratorsAfter, denominatorsAfter}
+use Rattle.spline.specs.Build.{lastPart, numeratorsAfter, denominatorsAfter}
 use Rattle.spline.proofs.Legal.{checked-numbers}
 use Rattle.space.specs.Reply.{space}
 use Rattle.space.specs.Legal.{ListsLegal}
 use Rattle.space.proofs.Reply.{refused-refuses}
 use Rattle.space.proofs.Legal.{legality-legal, legal-checked}
-use Rattle.weights.proofs.Building.{ends-unchanged, built-first-short, built-second-short, built-refused, built-weights}
+use Rattle.weights.proofs.Building.{built-first-short, built-second-short, built-refused, built-weights}
+use Rattle.weights.proofs.Beam.{beam-unchanged}
 use Rattle.weights.proofs.build.Statement.{statement}
 use Rattle.weights.proofs.build.Tie as tie
 
@@ -24,13 +25,13 @@ lists c = space (c .args .breaks .now) (c .args .degrees .now) (c .args .orders 
 returns : tie.Need-returns
 returns c =
     let s = c .before in
-    let e = ends-unchanged _ (rowCount (lists s)) _ _ (built-first-short (lists s) (length (s .args .num .now)) (length (s .args .den .now)) (c .if1 .taken)) (omega arith) in
+    let e = beam-unchanged (lists s) _ _ _ (built-first-short (lists s) (length (s .args .num .now)) (length (s .args .den .now)) (c .if1 .taken)) refl in
     (e .answers, (e .numerators-are, e .denominators-are))
 
 returns-2 : tie.Need-returns-2
 returns-2 c =
     let s = c .before .before in
-    let e = ends-unchanged _ (rowCount (lists s)) _ _ (built-second-short (lists s) (length (s .args .num .now)) (length (s .args .den .now)) (c .before .if1 .left) (c .if2 .taken)) (omega arith) in
+    let e = beam-unchanged (lists s) _ _ _ (built-second-short (lists s) (length (s .args .num .now)) (length (s .args .den .now)) (c .before .if1 .left) (c .if2 .taken)) refl in
     (e .answers, (e .numerators-are, e .denominators-are))
 
 check-requires : tie.Need-check-requires
@@ -50,8 +51,8 @@ module _ (c : tie.Else2) where
 legal : (c : tie.After-enum-told) → let a = c .before .before .before .before .before .args in ListsLegal (a .breaks .now) (a .degrees .now) (a .orders .now)
 legal c = legality-legal _ _ _ (sym (c .before .before .check .ensures) ∙ c .enum-told .given .1)
 
-build-legal-requires : tie.Need-build-legal-requires
-build-legal-requires c κs = let t = c .before .before in let l = t .before .before .before in (legal t, (first-long l, second-long l))
+build-parts-requires : tie.Need-build-parts-requires
+build-parts-requires c κs = let t = c .before .before in let l = t .before .before .before in (legal t, (first-long l, second-long l))
 
 enum-known-legality : tie.Need-enum-known-legality
 enum-known-legality c = search needs
@@ -69,8 +70,8 @@ returns-3 c =
     let l = t .before .before .before in
     let s = l .before .before in
     let w = built-weights (lists s) _ _ (first-long l) (second-long l) (legal-checked _ _ _ (legal t)) in (
-      b .build-legal .ensures .0 ∙ ap (with-answer (λ _. rowCount (lists s))) (sym w),
-      (b .build-legal .ensures .1 .0 ∙ ap (λ o. numeratorsAfter o (s .args .num .now)) (sym w), b .build-legal .ensures .1 .1 ∙ ap (λ o. denominatorsAfter o (s .args .den .now)) (sym w)),
+      b .build-parts .ensures .0 ∙ ap (with-answer (λ _. rowCount (lists s))) (sym w),
+      (b .build-parts .ensures .1 .0 ∙ ap (λ o. numeratorsAfter (with-answer (lastPart (lists s)) o) (s .args .num .now)) (sym w), b .build-parts .ensures .1 .1 ∙ ap (λ o. denominatorsAfter (with-answer (lastPart (lists s)) o) (s .args .den .now)) (sym w)),
     )
 
 returns-4 : tie.Need-returns-4
@@ -79,7 +80,7 @@ returns-4 c =
     let l = a .before in
     let s = l .before .before in
     let r = refused-refuses (checked (lists s)) (sym (a .check .ensures) ∙ c .before .legality .given .1) in
-    let e = ends-unchanged _ (rowCount (lists s)) _ _ (built-refused (lists s) _ _ (first-long l) (second-long l) r) (checked-numbers (lists s) r) in
+    let e = beam-unchanged (lists s) _ _ _ (built-refused (lists s) _ _ (first-long l) (second-long l) r) (checked-numbers (lists s) r) in
     (e .answers, (e .numerators-are, e .denominators-are))
 
 pub build-spec : {M : Type 1} → statement M
@@ -90,7 +91,7 @@ build-spec =
     returns-2
     check-requires
     enum-told
-    build-legal-requires
+    build-parts-requires
     enum-known-legality
     same-length
     same-length-2

@@ -1,34 +1,56 @@
--- `curve::reading::first_columns` meets its contract: below i stand the segments' first columns, from i on 0. Assumes nothing.
+-- `curve::reading::first_columns` meets its contract: below i stand the segments' first columns, from i on 0, and the sum is
+-- the first column of segment i. Assumes nothing.
 use native.Mathlib.Omega.{arith}
 use mathlib.Core.List.{List, [], _++_}
-use mathlib.Core.Path.{_≡_, ap, ap₂, _∙_}
-use Prim.Native.Nat.{ℕ, _≤_, _-_}
+use mathlib.Core.Path.{_≡_, sym, ap, ap₂, _∙_}
+use Prim.Native.Nat.{ℕ, suc, _+_, _≤_, _-_}
 use lib.ListN.{length, set, drop, replicate}
 use Rattle.exact.specs.Tabulate.{tab}
 use Rattle.exact.proofs.Tabulate.{tab-none, tab-more}
-use Rattle.spline.specs.Space.{firstColumn}
+use Rattle.spline.specs.Space.{Space, firstColumn}
 use Rattle.space.specs.Reply.{space}
+use Rattle.space.proofs.Bounds.{degree-high, first-column-zero, first-column-next, first-column-high}
 use Rattle.triangle.proofs.Position.{columns-filled}
 use Rattle.curve.proofs.reading.first_columns.Statement.{statement}
 use Rattle.curve.proofs.reading.first_columns.Tie as tie
 
 abbrev Inv-loop : tie.InvT-loop
-Inv-loop degrees columns₀ i₀ columns i = (i ≤ length degrees) × (columns ≡ tab i (firstColumn (space [] degrees [])) ++ drop i (replicate 12 0))
+Inv-loop degrees columns₀ column₀ i₀ columns column i = let s = space [] degrees [] in
+    (i ≤ length degrees) × ((column ≡ firstColumn s i) × (columns ≡ tab i (firstColumn s) ++ drop i (replicate 48 0)))
 
 abbrev μ-loop : tie.MeasureT-loop
-μ-loop degrees columns₀ i₀ columns i = length degrees - i
+μ-loop degrees columns₀ column₀ i₀ columns column i = length degrees - i
 
 loop-holds : tie.Need-loop-holds Inv-loop μ-loop
-loop-holds c = (omega arith, tab-none _ _)
-
-first-column-requires : tie.Need-first-column-requires Inv-loop μ-loop
-first-column-requires c κs = (omega arith, c .before .before .pre)
+loop-holds c = (omega arith, (sym (first-column-zero _), tab-none _ _))
 
 mul-columns : tie.Need-mul-columns Inv-loop μ-loop
 mul-columns c = omega arith
 
 array-write-columns : tie.Need-array-write-columns Inv-loop μ-loop
 array-write-columns c = omega arith
+
+degree-at-requires : tie.Need-degree-at-requires Inv-loop μ-loop
+degree-at-requires c κs = (omega arith, c .before .before .pre .1)
+
+module _ (c : tie.After-degree-at Inv-loop μ-loop) where
+  abbrev lists : Space
+  lists = space [] (c .before .before .before .args .degrees .now) []
+
+  abbrev i : ℕ
+  i = c .before .before .loop .i
+
+  degree-fits : c .degree-at .result ≤ 5
+  degree-fits = omega (arith, c .degree-at .ensures, degree-high lists (c .before .before .before .pre .1) i (omega arith))
+
+  column-fits : c .before .before .loop .column ≤ 288
+  column-fits = omega (arith, first-column-high lists (c .before .before .before .pre .1) i (omega arith))
+
+add-column : tie.Need-add-column Inv-loop μ-loop
+add-column c = omega (arith, degree-fits c)
+
+add-column-2 : tie.Need-add-column-2 Inv-loop μ-loop
+add-column-2 c = omega (arith, degree-fits c, column-fits c)
 
 add-i : tie.Need-add-i Inv-loop μ-loop
 add-i c = omega arith
@@ -38,14 +60,19 @@ loop-less c = omega arith
 
 loop-again : tie.Need-loop-again Inv-loop μ-loop
 loop-again c =
-    let i = c .before .before .loop .i in
-    (omega arith, ap₂ (λ (l : List ℕ) (v : ℕ). set l i v) (c .before .before .loop .inv .1) (c .first-column .ensures) ∙ tab-more (firstColumn (space [] (c .before .before .before .args .degrees .now) [])) i (replicate 12 0) (omega arith))
+    let l = c .before .before .loop in (
+      omega arith,
+      (
+        omega (arith, c .degree-at .ensures, first-column-next (lists c) (i c), ap (firstColumn (lists c)) (let e : i c + 1 ≡ suc (i c) = omega arith in e)),
+        ap₂ (λ (cs : List ℕ) (v : ℕ). set cs (i c) v) (l .inv .1 .1) (l .inv .1 .0) ∙ tab-more (firstColumn (lists c)) (i c) (replicate 48 0) (omega arith),
+      ),
+    )
 
 returns : tie.Need-returns Inv-loop μ-loop
 returns c =
     let d = c .before .before .args .degrees .now in
-    c .before .loop .inv .1
-    ∙ ap (λ (i : ℕ). tab i (firstColumn (space [] d [])) ++ drop i (replicate 12 0)) (let e : c .before .loop .i ≡ length d = omega arith in e)
+    c .before .loop .inv .1 .1
+    ∙ ap (λ (i : ℕ). tab i (firstColumn (space [] d [])) ++ drop i (replicate 48 0)) (let e : c .before .loop .i ≡ length d = omega arith in e)
     ∙ columns-filled d (c .before .before .pre .0)
 
 pub first-columns-spec : {M : Type 1} → statement M
@@ -55,9 +82,11 @@ first-columns-spec =
     Inv-loop
     μ-loop
     loop-holds
-    first-column-requires
     mul-columns
     array-write-columns
+    degree-at-requires
+    add-column
+    add-column-2
     add-i
     loop-less
     loop-again

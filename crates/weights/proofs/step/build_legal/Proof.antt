@@ -8,7 +8,7 @@ use Rattle.spline.specs.Table.{identity}
 use Rattle.spline.specs.Build.{weights}
 use Rattle.space.specs.Reply.{space}
 use Rattle.space.proofs.Partial.{column-count-partial}
-use Rattle.space.proofs.Legal.{legal-column-count-high}
+use Rattle.space.proofs.Legal.{part-column-count-high}
 use Rattle.cells.proofs.Buffer.{holds-left}
 use Rattle.weights.specs.Leaves.{Start, JoinsLeave}
 use Rattle.weights.specs.declared.Built.{Built}
@@ -26,7 +26,7 @@ module _ (c : tie.After-first-column) where
   columns-are = c .first-column .ensures ∙ column-count-partial _ (c .before .args .degrees .now) _
 
   columns-fit : c .first-column .result ≤ 72
-  columns-fit = omega (arith, columns-are, legal-column-count-high _ _ _ (c .before .pre .0))
+  columns-fit = omega (arith, columns-are, part-column-count-high _ _ _ (c .before .pre .0))
 
 first-column-requires : tie.Need-first-column-requires
 first-column-requires c κs = search needs

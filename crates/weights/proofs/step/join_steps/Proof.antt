@@ -101,7 +101,7 @@ record Turn (orders degrees j : ℕ) : Type 0 where
   few : degrees ≤ 12
 
 turn : (c : tie.In-loop Inv-loop μ-loop) → Turn (length (c .before .before .args .orders .now)) (length (c .before .before .args .degrees .now)) (c .before .loop .j)
-turn c = record { taken = omega arith; count = c .before .before .pre .0 .order-count; few = c .before .before .pre .0 .few }
+turn c = record { taken = omega arith; count = c .before .before .pre .0 .lists .order-count; few = c .before .before .pre .0 .few }
 
 module _ (c : tie.After-join-at Inv-loop μ-loop) where
   abbrev s : Space
@@ -165,10 +165,10 @@ loop-holds c =
     }
 
 condition-count-requires : tie.Need-condition-count-requires Inv-loop μ-loop
-condition-count-requires c κs = (turn c .taken, c .before .before .pre .0 .orders-legal)
+condition-count-requires c κs = (turn c .taken, c .before .before .pre .0 .lists .orders-legal)
 
 join-at-requires : tie.Need-join-at-requires Inv-loop μ-loop
-join-at-requires c κs = let t = turn (c .before) in let p = c .before .before .before .pre .0 in ((_, p), omega (arith, t .taken, t .count))
+join-at-requires c κs = let t = turn (c .before) in let p = c .before .before .before .pre .0 .lists in ((_, p), omega (arith, t .taken, t .count))
 
 order-steps-requires : tie.Need-order-steps-requires Inv-loop μ-loop
 order-steps-requires c κs =
@@ -254,7 +254,7 @@ unfolding weights
 returns-3 c =
     let b = c .before .before in
     let l = c .before .loop in
-    let p = b .pre .0 in
+    let p = b .pre .0 .lists in
     let e : l .j ≡ segments (lists b) - 1 = omega (arith, p .order-count) in
     joins-answer (rowCount (lists b)) _ _ _ _ (ap (joinSteps (lists b)) (sym e) ∙ l .inv .state .answers)
     (ap Rows (omega (arith, l .inv .rows-are, legal-row-count-sum _ _ _ p, ap (conditionsBefore (lists b)) e)))

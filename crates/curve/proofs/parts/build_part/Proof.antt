@@ -1,0 +1,217 @@
+-- `curve::parts::build_part` meets its contract: the three slices are the lists of the part, which is legal; after an answer the
+-- buffers hold its weights, and the slice of the coefficients those of its rows. Assumes nothing.
+use borrow.Author.Needs.{needs}
+use native.Mathlib.Omega.{arith}
+use mathlib.Core.Path.{_≡_}
+use Prim.Native.Nat.{ℕ, _+_, _-_, _*_, _<_, _≤_}
+use lib.ListN.{length, take, drop}
+use Rattle.spline.specs.Space.{Space, columnCount, rowCount}
+use Rattle.spline.specs.Table.{rowCells}
+use Rattle.beams.specs.Sections.{partAt}
+use Rattle.space.specs.Reply.{space}
+use Rattle.ordinates.specs.Ordinates.{Weighs, Coefficients}
+use Rattle.curve.proofs.Part.{middle-coefficients, part-after, part-within, beam-rows-few, part-columns-few, rows-told, weighs-rows, leaves-rows, leaves-refused}
+use Rattle.curve.proofs.parts.build_part.Statement.{statement}
+use Rattle.curve.proofs.parts.build_part.Tie as tie
+
+-- where the part lies in the lists
+record Lies (breaks degrees orders a b : ℕ) : Type 0 where
+  some : a < b
+  within : b ≤ degrees
+  break-count : breaks ≡ degrees + 1
+  order-count : orders + 1 ≡ degrees
+  few : degrees ≤ 48
+
+module _ (c : tie.Start) where
+  abbrev lists : Space
+  lists = space (c .args .breaks .now) (c .args .degrees .now) (c .args .orders .now)
+
+  lies : Lies (length (c .args .breaks .now)) (length (c .args .degrees .now)) (length (c .args .orders .now)) (c .args .a) (c .args .b)
+  lies = let l = c .pre .0 .0 in record {
+    some = part-after _ _ _ l _ _ (c .pre .0 .1 .0) (c .pre .0 .1 .1);
+    within = part-within _ _ _ l _ _ (c .pre .0 .1 .0) (c .pre .0 .1 .1);
+    break-count = l .break-count;
+    order-count = l .order-count;
+    few = l .few;
+  }
+
+add-build : tie.Need-add-build
+add-build c = let l = lies c in omega (arith, l .some, l .within, l .break-count, l .order-count, l .few)
+
+mul-build : tie.Need-mul-build
+mul-build c = search needs
+
+sub-build : tie.Need-sub-build
+sub-build c = let l = lies c in omega (arith, l .some, l .within, l .break-count, l .order-count, l .few)
+
+part-build-start : tie.Need-part-build-start
+part-build-start c = let l = lies c in omega (arith, l .some, l .within, l .break-count, l .order-count, l .few)
+
+part-build-end : tie.Need-part-build-end
+part-build-end c = let l = lies c in omega (arith, l .some, l .within, l .break-count, l .order-count, l .few)
+
+mul-build-2 : tie.Need-mul-build-2
+mul-build-2 c = search needs
+
+sub-build-2 : tie.Need-sub-build-2
+sub-build-2 c = let l = lies (c .before) in omega (arith, l .some, l .within, l .break-count, l .order-count, l .few)
+
+part-build-start-2 : tie.Need-part-build-start-2
+part-build-start-2 c = let l = lies (c .before) in omega (arith, l .some, l .within, l .break-count, l .order-count, l .few)
+
+part-build-end-2 : tie.Need-part-build-end-2
+part-build-end-2 c = let l = lies (c .before) in omega (arith, l .some, l .within, l .break-count, l .order-count, l .few)
+
+sub-build-3 : tie.Need-sub-build-3
+sub-build-3 c = let l = lies (c .before .before) in omega (arith, l .some, l .within, l .break-count, l .order-count, l .few)
+
+mul-build-3 : tie.Need-mul-build-3
+mul-build-3 c = search needs
+
+sub-build-4 : tie.Need-sub-build-4
+sub-build-4 c = let l = lies (c .before .before) in omega (arith, l .some, l .within, l .break-count, l .order-count, l .few)
+
+part-build-start-3 : tie.Need-part-build-start-3
+part-build-start-3 c = let l = lies (c .before .before) in omega (arith, l .some, l .within, l .break-count, l .order-count, l .few)
+
+part-build-end-3 : tie.Need-part-build-end-3
+part-build-end-3 c = let l = lies (c .before .before) in omega (arith, l .some, l .within, l .break-count, l .order-count, l .few)
+
+build-requires : tie.Need-build-requires
+build-requires c κs = search needs
+
+enum-known-built : tie.Need-enum-known-built
+enum-known-built c = search needs
+
+enum-known-built-2 : tie.Need-enum-known-built-2
+enum-known-built-2 c = search needs
+
+-- the part is built
+module _ (c : tie.After-build) where
+  abbrev start : tie.Start
+  start = c .before .before .before .before .before .before
+
+  abbrev part : Space
+  part = partAt (lists start) (start .args .a)
+
+  columns-fit : {n : ℕ} → n ≡ columnCount part → n ≤ rowCells
+  columns-fit e = omega (arith, part-columns-few _ _ _ (start .pre .0 .0) _ _ (start .pre .0 .1 .0) (start .pre .0 .1 .1))
+
+module _ (c : tie.After-built2) where
+  abbrev done : tie.After-build
+  done = c .before .before .before .before
+
+  abbrev rows : ℕ
+  rows = c .built2 .given .0 .0
+
+  rows-are : rows ≡ rowCount (part done)
+  rows-are = let s = start done in rows-told _ _ _ (s .pre .0 .0) _ _ (s .pre .0 .1 .0) (s .pre .0 .1 .1) (s .args .num .now) (s .args .den .now) (s .pre .1 .0 .0) (s .pre .1 .0 .1) _ (done .build .ensures) (c .built2 .given .1)
+
+  rows-within : start done .args .row + rows ≤ rowCount (lists (start done))
+  rows-within = omega (arith, rows-are, start done .pre .1 .1 .0 .1)
+
+  rows-few : start done .args .row + rows ≤ 288
+  rows-few = let s = start done in omega (arith, rows-within, beam-rows-few _ _ _ (s .pre .0 .0) _ _ (s .pre .0 .1 .0) (s .pre .0 .1 .1))
+
+  weighed : Weighs (done .build .last .1 .1 .1 .0) (done .build .last .1 .1 .1 .1 .0) rows
+  weighed = let s = start done in weighs-rows _ _ _ (s .pre .0 .0) _ _ (s .pre .0 .1 .0) (s .pre .0 .1 .1) (s .args .num .now) (s .args .den .now) (s .pre .1 .0 .0) (s .pre .1 .0 .1) _ (done .build .ensures) (c .built2 .given .1)
+
+  own-coefficients : Coefficients (take (2 * (start done .args .row + rows) - 2 * start done .args .row) (drop (2 * start done .args .row) (start done .args .coefs .now))) rows
+  own-coefficients = middle-coefficients (start done .args .coefs .now) (rowCount (lists (start done))) (start done .args .row) rows (start done .pre .1 .1 .0 .0) rows-within
+
+mul-own : tie.Need-mul-own
+mul-own c = search needs
+
+add-own : tie.Need-add-own
+add-own c = let k = c .before in omega (arith, rows-within k, rows-few k, start (done k) .pre .1 .1 .0 .0 .count)
+
+mul-own-2 : tie.Need-mul-own-2
+mul-own-2 c = let k = c .before in omega (arith, rows-within k, rows-few k, start (done k) .pre .1 .1 .0 .0 .count)
+
+mul-own-3 : tie.Need-mul-own-3
+mul-own-3 c = search needs
+
+sub-own : tie.Need-sub-own
+sub-own c = search needs
+
+part-own-start : tie.Need-part-own-start
+part-own-start c = search needs
+
+part-own-end : tie.Need-part-own-end
+part-own-end c = let k = c .before in omega (arith, rows-within k, rows-few k, start (done k) .pre .1 .1 .0 .0 .count)
+
+ordinates-requires : tie.Need-ordinates-requires
+ordinates-requires c κs = let k = c .before .before .before .before .before in (columns-fit (done k) (start (done k) .pre .1 .1 .1 .0), (weighed k, own-coefficients k))
+
+ordinates-requires-2 : tie.Need-ordinates-requires-2
+ordinates-requires-2 c κs = let k = c .before .before .before .before .before .before .before .before .before .before in (columns-fit (done k) (start (done k) .pre .1 .1 .1 .1), (weighed k, own-coefficients k))
+
+same-length : tie.Need-same-length
+same-length c = search needs
+
+same-length-2 : tie.Need-same-length-2
+same-length-2 c = search needs
+
+returns : tie.Need-returns
+returns c =
+    let d = c .before .before .before .before .before in
+    let s = start d in
+    leaves-refused _ _ _ (s .pre .0 .0) _ _ (s .pre .0 .1 .0) (s .pre .0 .1 .1) (s .args .num .now) (s .args .den .now) (s .pre .1 .0 .0) (s .pre .1 .0 .1) _ (d .build .ensures) _ _ _ _ _ (c .before .built .given .1)
+
+same-length-3 : tie.Need-same-length-3
+same-length-3 c = search needs
+
+same-length-4 : tie.Need-same-length-4
+same-length-4 c = search needs
+
+same-length-5 : tie.Need-same-length-5
+same-length-5 c = search needs
+
+same-length-6 : tie.Need-same-length-6
+same-length-6 c = search needs
+
+returns-2 : tie.Need-returns-2
+returns-2 c =
+    let k = c .before .before .before .before .before .before .before .before .before .before .before .before in
+    let d = done k in
+    let s = start d in
+    leaves-rows _ _ _ (s .pre .0 .0) _ _ (s .pre .0 .1 .0) (s .pre .0 .1 .1) (s .args .num .now) (s .args .den .now) (s .pre .1 .0 .0) (s .pre .1 .0 .1) _ (d .build .ensures) (k .built2 .given .1) (s .args .coefs .now) (s .args .row) (s .args .early .now) (s .args .late .now) (s .pre .1 .1 .1 .0) (s .pre .1 .1 .1 .1) (c .before .before .before .before .before .before .ordinates .ensures) (c .before .ordinates2 .ensures)
+
+pub build-part-spec : {M : Type 1} → statement M
+build-part-spec =
+    tie.close
+    (tie.spec
+    add-build
+    mul-build
+    sub-build
+    part-build-start
+    part-build-end
+    mul-build-2
+    sub-build-2
+    part-build-start-2
+    part-build-end-2
+    sub-build-3
+    mul-build-3
+    sub-build-4
+    part-build-start-3
+    part-build-end-3
+    build-requires
+    enum-known-built
+    enum-known-built-2
+    mul-own
+    add-own
+    mul-own-2
+    mul-own-3
+    sub-own
+    part-own-start
+    part-own-end
+    ordinates-requires
+    ordinates-requires-2
+    same-length
+    same-length-2
+    returns
+    same-length-3
+    same-length-4
+    same-length-5
+    same-length-6
+    returns-2)

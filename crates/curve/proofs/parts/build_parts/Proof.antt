@@ -1,0 +1,266 @@
+-- `curve::parts::build_parts` meets its contract: before the turn at a the parts before segment a are built, the buffers hold the
+-- last of them, and the ordinates of their columns are at the front of the two lists. Assumes nothing.
+use borrow.Author.Needs.{needs}
+use native.Mathlib.Omega.{arith}
+use mathlib.Core.List.{List}
+use mathlib.Core.Path.{_≡_, refl, sym, _∙_, ap}
+use Prim.Native.Nat.{ℕ, _+_, _-_, _<_, _≤_}
+use lib.IntN.{ℤ}
+use lib.ListN.{length, take, drop, length-drop}
+use lib.Seq.{length-take-le}
+use borrow.Rule.Slice.PartMut.{putMid, same-len-mid}
+use Rattle.spline.specs.Space.{Space, partEnd, firstColumn, columnCount}
+use Rattle.spline.proofs.Space.{firstColumn-mono}
+use Rattle.spline.proofs.Parts.{part-ends}
+use Rattle.beams.specs.Sections.{partAt}
+use Rattle.space.specs.Reply.{space}
+use Rattle.space.proofs.Legal.{legal-column-count-high}
+use Rattle.space.proofs.Partial.{part-end-partial, first-column-partial}
+use Rattle.weights.specs.declared.Built.the-variants.{Rows}
+use Rattle.weights.proofs.Beam.{starts, rows-high}
+use Rattle.curve.proofs.Fronts.{Front, front-first, rows-within, columns-more, front-more, front-refused, front-whole}
+use Rattle.curve.proofs.parts.build_parts.Statement.{statement}
+use Rattle.curve.proofs.parts.build_parts.Tie as tie
+
+record Inv (s : Space) (coefs num₀ den₀ early₀ late₀ num den early late : List ℤ) (row column a : ℕ) : Type 0 where
+  num-long : length num ≡ length num₀
+  den-long : length den ≡ length den₀
+  early-long : length early ≡ length early₀
+  late-long : length late ≡ length late₀
+  front : Front s coefs num₀ den₀ early₀ late₀ row column a num den early late
+
+abbrev Inv-loop : tie.InvT-loop
+Inv-loop breaks degrees orders coefs num₀ den₀ early₀ late₀ row₀ column₀ a₀ num den early late row column a = Inv (space breaks degrees orders) coefs num₀ den₀ early₀ late₀ num den early late row column a
+
+abbrev μ-loop : tie.MeasureT-loop
+μ-loop breaks degrees orders coefs num₀ den₀ early₀ late₀ row₀ column₀ a₀ num den early late row column a = length degrees - a
+
+abbrev lists : tie.Start Inv-loop μ-loop → Space
+lists c = space (c .args .breaks .now) (c .args .degrees .now) (c .args .orders .now)
+
+loop-holds : tie.Need-loop-holds Inv-loop μ-loop
+loop-holds c = record { num-long = refl; den-long = refl; early-long = refl; late-long = refl; front = front-first (lists c) (c .args .coefs .now) (c .args .num .now) (c .args .den .now) (c .args .early .now) (c .args .late .now) }
+
+taken : (c : tie.In-loop Inv-loop μ-loop) → c .before .loop .a < length (c .before .before .args .degrees .now)
+taken c = omega arith
+
+part-end-requires : tie.Need-part-end-requires Inv-loop μ-loop
+part-end-requires c κs = (taken c, sym (c .before .before .pre .0 .0 .order-count))
+
+-- the part's end
+module _ (c : tie.After-part-end Inv-loop μ-loop) where
+  abbrev start : tie.Start Inv-loop μ-loop
+  start = c .before .before .before
+
+  abbrev first : ℕ
+  first = c .before .before .loop .a
+
+  abbrev part : Space
+  part = partAt (lists start) first
+
+  end-is : c .part-end .result ≡ partEnd (lists start) first
+  end-is = c .part-end .ensures ∙ part-end-partial _ _ _ first
+
+  end-within : c .part-end .result ≤ length (start .args .degrees .now)
+  end-within = omega (arith, end-is, part-ends (lists start) first (taken (c .before)) .boundary .within)
+
+first-column-requires : tie.Need-first-column-requires Inv-loop μ-loop
+first-column-requires c κs = (end-within c, (start c .pre .0 .0 .few, start c .pre .0 .0 .degrees-legal))
+
+-- the part's columns
+module _ (c : tie.After-first-column Inv-loop μ-loop) where
+  abbrev ended : tie.After-part-end Inv-loop μ-loop
+  ended = c .before
+
+  abbrev front : Front (lists (start ended)) (start ended .args .coefs .now) (start ended .args .num .now) (start ended .args .den .now) (start ended .args .early .now) (start ended .args .late .now) (ended .before .before .loop .row) (ended .before .before .loop .column) (first ended) (ended .before .before .loop .num) (ended .before .before .loop .den) (ended .before .before .loop .early) (ended .before .before .loop .late)
+  front = ended .before .before .loop .inv .front
+
+  columns-end : c .first-column .result ≡ firstColumn (lists (start ended)) (partEnd (lists (start ended)) (first ended))
+  columns-end = c .first-column .ensures ∙ first-column-partial _ _ _ (ended .part-end .result) ∙ ap (firstColumn (lists (start ended))) (end-is ended)
+
+  -- as many as the part has
+  size : ended .before .before .loop .column + columnCount (part ended) ≡ c .first-column .result
+  size = columns-more _ _ _ (start ended .pre .0 .0) _ _ _ _ _ front (taken (ended .before)) ∙ sym columns-end
+
+  columns-within : c .first-column .result ≤ columnCount (lists (start ended))
+  columns-within = omega (arith, columns-end, firstColumn-mono (lists (start ended)) (partEnd (lists (start ended)) (first ended)) (length (start ended .args .degrees .now)) (omega (arith, end-is ended, end-within ended)))
+
+  columns-few : c .first-column .result ≤ 288
+  columns-few = omega (arith, columns-within, legal-column-count-high _ _ _ (start ended .pre .0 .0))
+
+  early-room : c .first-column .result ≤ length (ended .before .before .loop .early)
+  early-room = omega (arith, columns-within, ended .before .before .loop .inv .early-long, start ended .pre .1 .1 .0)
+
+  late-room : c .first-column .result ≤ length (ended .before .before .loop .late)
+  late-room = omega (arith, columns-within, ended .before .before .loop .inv .late-long, start ended .pre .1 .1 .1)
+
+mul-build-part : tie.Need-mul-build-part Inv-loop μ-loop
+mul-build-part c = let f = c .before .before in omega (arith, size f, columns-few f, early-room f)
+
+sub-build-part : tie.Need-sub-build-part Inv-loop μ-loop
+sub-build-part c = let f = c .before .before in omega (arith, size f, columns-few f, early-room f)
+
+part-build-part-start : tie.Need-part-build-part-start Inv-loop μ-loop
+part-build-part-start c = let f = c .before .before in omega (arith, size f, columns-few f, early-room f)
+
+part-build-part-end : tie.Need-part-build-part-end Inv-loop μ-loop
+part-build-part-end c = let f = c .before .before in omega (arith, size f, columns-few f, early-room f)
+
+mul-build-part-2 : tie.Need-mul-build-part-2 Inv-loop μ-loop
+mul-build-part-2 c = let f = c .before .before .before in omega (arith, size f, columns-few f, late-room f)
+
+sub-build-part-2 : tie.Need-sub-build-part-2 Inv-loop μ-loop
+sub-build-part-2 c = let f = c .before .before .before in omega (arith, size f, columns-few f, late-room f)
+
+part-build-part-start-2 : tie.Need-part-build-part-start-2 Inv-loop μ-loop
+part-build-part-start-2 c = let f = c .before .before .before in omega (arith, size f, columns-few f, late-room f)
+
+part-build-part-end-2 : tie.Need-part-build-part-end-2 Inv-loop μ-loop
+part-build-part-end-2 c = let f = c .before .before .before in omega (arith, size f, columns-few f, late-room f)
+
+-- the cells lent for them
+middle-length : (xs : List ℤ) (a e : ℕ) {n : ℕ} → e ≤ length xs → a + n ≡ e → length (take (e - a) (drop a xs)) ≡ n
+middle-length xs a e h k = length-take-le (e - a) (drop a xs) (rw (length-drop a xs) (omega arith)) ∙ omega arith
+
+build-part-requires : tie.Need-build-part-requires Inv-loop μ-loop
+build-part-requires c κs =
+    let f = c .before .before .before .before in
+    let d = ended f in
+    let s = start d in
+    let i = d .before .before .loop .inv in (
+      (s .pre .0 .0, (starts _ _ _ (s .pre .0 .0) (i .front .state) (taken (d .before)), end-is d)),
+      (
+        (omega (arith, s .pre .1 .0 .0, i .num-long), omega (arith, s .pre .1 .0 .1, i .den-long)),
+        (
+          (s .pre .0 .1, rows-within _ _ _ (s .pre .0 .0) _ _ _ _ _ (front f) (taken (d .before))),
+          (middle-length _ _ _ (early-room f) (size f), middle-length _ _ _ (late-room f) (size f)),
+        ),
+      ),
+    )
+
+enum-known-built : tie.Need-enum-known-built Inv-loop μ-loop
+enum-known-built c = search needs
+
+-- what the part answers and leaves
+module _ (c : tie.After-build-part Inv-loop μ-loop) where
+  abbrev placed : tie.After-first-column Inv-loop μ-loop
+  placed = c .before .before .before .before .before
+
+  abbrev at : tie.After-part-end Inv-loop μ-loop
+  at = ended placed
+
+  abbrev begun : tie.Start Inv-loop μ-loop
+  begun = start at
+
+  -- one part more
+  more : {n : ℕ} → c .build-part .result ≡ Rows n
+      → Front (lists begun) (begun .args .coefs .now) (begun .args .num .now) (begun .args .den .now) (begun .args .early .now) (begun .args .late .now) (at .before .before .loop .row + n) (placed .first-column .result) (at .part-end .result)
+      (c .build-part .last .1 .1 .1 .1 .1 .1 .1 .0) (c .build-part .last .1 .1 .1 .1 .1 .1 .1 .1 .0)
+      (putMid (at .before .before .loop .column) (placed .first-column .result - at .before .before .loop .column) (at .before .before .loop .early) (c .build-part .last .1 .1 .1 .1 .1 .1 .1 .1 .1 .0)) (putMid (at .before .before .loop .column) (placed .first-column .result - at .before .before .loop .column) (at .before .before .loop .late) (c .build-part .last .1 .1 .1 .1 .1 .1 .1 .1 .1 .1 .0))
+  more e = front-more _ _ _ (begun .pre .0 .0) _ _ _ _ _ (front placed) (taken (at .before)) (placed .first-column .result) (columns-end placed) (c .build-part .result) (c .build-part .ensures) (at .part-end .result) (end-is at) e
+
+  num-kept : length (c .build-part .last .1 .1 .1 .1 .1 .1 .1 .0) ≡ length (begun .args .num .now)
+  num-kept = c .build-part .kept .1 .1 .1 .1 .1 .1 .1 .0 ∙ at .before .before .loop .inv .num-long
+
+  den-kept : length (c .build-part .last .1 .1 .1 .1 .1 .1 .1 .1 .0) ≡ length (begun .args .den .now)
+  den-kept = c .build-part .kept .1 .1 .1 .1 .1 .1 .1 .1 .0 ∙ at .before .before .loop .inv .den-long
+
+  early-kept : length (putMid (at .before .before .loop .column) (placed .first-column .result - at .before .before .loop .column) (at .before .before .loop .early) (c .build-part .last .1 .1 .1 .1 .1 .1 .1 .1 .1 .0)) ≡ length (begun .args .early .now)
+  early-kept = same-len-mid (at .before .before .loop .column) (placed .first-column .result - at .before .before .loop .column) (at .before .before .loop .early) (c .build-part .last .1 .1 .1 .1 .1 .1 .1 .1 .1 .0) (c .build-part .kept .1 .1 .1 .1 .1 .1 .1 .1 .1 .0) ∙ at .before .before .loop .inv .early-long
+
+  late-kept : length (putMid (at .before .before .loop .column) (placed .first-column .result - at .before .before .loop .column) (at .before .before .loop .late) (c .build-part .last .1 .1 .1 .1 .1 .1 .1 .1 .1 .1 .0)) ≡ length (begun .args .late .now)
+  late-kept = same-len-mid (at .before .before .loop .column) (placed .first-column .result - at .before .before .loop .column) (at .before .before .loop .late) (c .build-part .last .1 .1 .1 .1 .1 .1 .1 .1 .1 .1 .0) (c .build-part .kept .1 .1 .1 .1 .1 .1 .1 .1 .1 .1 .0) ∙ at .before .before .loop .inv .late-long
+
+add-row : tie.Need-add-row Inv-loop μ-loop
+add-row c = let m = c .before .before .before .before .before .before .before in omega (arith, rows-high _ _ _ (begun m .pre .0 .0) (more m (c .before .built .given .1) .state))
+
+enum-known-built-2 : tie.Need-enum-known-built-2 Inv-loop μ-loop
+enum-known-built-2 c = search needs
+
+cast-place : tie.Need-cast-place Inv-loop μ-loop
+cast-place c = omega arith
+
+add-place : tie.Need-add-place Inv-loop μ-loop
+add-place c = let m = c .before .before .before .before .before .before .before in omega (arith, taken (at m .before), begun m .pre .0 .0 .few)
+
+place-requires : tie.Need-place-requires Inv-loop μ-loop
+place-requires c κs = tt
+
+same-length : tie.Need-same-length Inv-loop μ-loop
+same-length c = num-kept (c .before .before .before .before .before .before .before .before)
+
+same-length-2 : tie.Need-same-length-2 Inv-loop μ-loop
+same-length-2 c = den-kept (c .before .before .before .before .before .before .before .before)
+
+same-length-3 : tie.Need-same-length-3 Inv-loop μ-loop
+same-length-3 c = early-kept (c .before .before .before .before .before .before .before .before)
+
+same-length-4 : tie.Need-same-length-4 Inv-loop μ-loop
+same-length-4 c = late-kept (c .before .before .before .before .before .before .before .before)
+
+returns : tie.Need-returns Inv-loop μ-loop
+returns c =
+    let m = c .before .before .before .before .before .before .before .before in
+    front-refused _ _ _ (begun m .pre .0 .0) _ _ _ _ _ (front (placed m)) (taken (at m .before)) (placed m .first-column .result) (columns-end (placed m)) (m .build-part .result) (m .build-part .ensures) _ _ (c .before .before .built2 .given .1) (c .place .ensures)
+
+loop-less : tie.Need-loop-less Inv-loop μ-loop
+loop-less c =
+    let m = c .before .before .before .before .before .before .before in
+    omega (arith, end-is (at m), part-ends (lists (begun m)) (first (at m)) (taken (at m .before)) .above, taken (at m .before))
+
+loop-again : tie.Need-loop-again Inv-loop μ-loop
+loop-again c =
+    let m = c .before .before .before .before .before .before .before in
+    record { num-long = num-kept m; den-long = den-kept m; early-long = early-kept m; late-long = late-kept m; front = more m (c .before .built .given .1) }
+
+same-length-5 : tie.Need-same-length-5 Inv-loop μ-loop
+same-length-5 c = c .before .loop .inv .num-long
+
+same-length-6 : tie.Need-same-length-6 Inv-loop μ-loop
+same-length-6 c = c .before .loop .inv .den-long
+
+same-length-7 : tie.Need-same-length-7 Inv-loop μ-loop
+same-length-7 c = c .before .loop .inv .early-long
+
+same-length-8 : tie.Need-same-length-8 Inv-loop μ-loop
+same-length-8 c = c .before .loop .inv .late-long
+
+returns-2 : tie.Need-returns-2 Inv-loop μ-loop
+returns-2 c = let s = c .before .before in front-whole _ _ _ (s .pre .0 .0) _ _ _ _ _ (c .before .loop .inv .front) (omega arith)
+
+pub build-parts-spec : {M : Type 1} → statement M
+build-parts-spec =
+    tie.close
+    (tie.spec
+    Inv-loop
+    μ-loop
+    loop-holds
+    part-end-requires
+    first-column-requires
+    mul-build-part
+    sub-build-part
+    part-build-part-start
+    part-build-part-end
+    mul-build-part-2
+    sub-build-part-2
+    part-build-part-start-2
+    part-build-part-end-2
+    build-part-requires
+    enum-known-built
+    add-row
+    enum-known-built-2
+    cast-place
+    add-place
+    place-requires
+    same-length
+    same-length-2
+    same-length-3
+    same-length-4
+    returns
+    loop-less
+    loop-again
+    same-length-5
+    same-length-6
+    same-length-7
+    same-length-8
+    returns-2)

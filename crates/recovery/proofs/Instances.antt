@@ -1,0 +1,115 @@
+-- The theorems at spaces with numbers, so that the hypotheses can be met: breaks 0,1,512, degrees 2,2, order 1, where the
+-- ordinates 0,256,257,257,768,0 have the coefficients 0,1,3,0 times 256; and W1's space with ordinates whose slopes differ.
+use mathlib.Core.Path.{_≡_, refl, _∙_, ap}
+use mathlib.Core.List.{List, [], _∷_, map}
+use Prim.Native.Nat.{ℕ, zero, suc, _<_}
+use native.Mathlib.Omega.{arith}
+use lib.IntN.{ℤ, pos, natAbs}
+use Rattle.exact.specs.Gcd.{gcd, gcdF}
+use Rattle.exact.specs.Rational.{ℚ, mk, int, inv, _+ᵠ_, _*ᵠ_, -ᵠ_, _//_}
+use Rattle.exact.specs.Order.{isZero, ltᵠ}
+use Rattle.exact.specs.Sum.{sum}
+use Rattle.exact.specs.Floor.{nearest}
+use Rattle.exact.specs.Tabulate.{tab}
+use Rattle.exact.proofs.Rational.{int-inj}
+use Rattle.fraction.specs.Size.{fits}
+use Rattle.spline.specs.Outcome.{answer, refusal, capped, collect, repeat}
+use Rattle.spline.specs.Search.{first, last}
+use Rattle.spline.specs.Space.{lengthsFit, badBreak, startsPart, partEnd, spanTooLong, tooManySegments, badDegree, badOrder, checkedEntries, checked, firstColumn, conditionsBefore}
+use Rattle.spline.specs.Conditions.{falling, binomial, alternating, undivided, commonDivisor, conditions}
+use Rattle.spline.specs.Table.{entry, identity}
+use Rattle.spline.specs.Step.{count, addProducts, span, partialSum, quotientFactor, factors, newEntry, newRows, step}
+use Rattle.spline.specs.Build.{weights}
+use Rattle.spline.specs.Piecewise.{combination}
+use Rattle.spline.specs.Reading.{earlywood, fine, coefficient, rounded, term, termSum, best, ordinate}
+use Rattle.spline.specs.ExactCurve.{power, bernsteinAt, exactOn}
+use Rattle.spline.specs.Cases.{space1, upperLimitSpace}
+use Rattle.recovery.specs.Recovery.{Numbered, sized, jumpSum, balanced, undoneNumber, undoneRows, undone, recoverStep, recoverOrders, recoverJoins, recovered}
+use Rattle.recovery.specs.Reproduction.{MissedCondition}
+use Rattle.recovery.proofs.Reproduction.{answers-have-the-weights, answers-reproduce, no-others-reproduce, nineteen-misses-a-condition, exact-curve-has-the-ordinates}
+
+abbrev q0 : ℚ
+q0 = int (pos 0)
+
+abbrev q1 : ℚ
+q1 = int (pos 1)
+
+-- ---- an answer
+
+abbrev ordinates : List ℤ
+ordinates = pos 0 ∷ pos 256 ∷ pos 257 ∷ pos 257 ∷ pos 768 ∷ pos 0 ∷ []
+
+abbrev coefficients : List ℚ
+coefficients = q0 ∷ int (pos 256) ∷ int (pos 768) ∷ q0 ∷ []
+
+-- The table has the weights 511/512 and 1/512 on the ordinate of the join.
+abbrev given : Numbered
+given = record {
+  table =
+      (q1 ∷ q0 ∷ q0 ∷ q0 ∷ q0 ∷ q0 ∷ []) ∷
+      (q0 ∷ q1 ∷ pos 511 // 511 ∷ pos 511 // 511 ∷ q0 ∷ q0 ∷ []) ∷
+      (q0 ∷ q0 ∷ pos 1 // 511 ∷ pos 1 // 511 ∷ q1 ∷ q0 ∷ []) ∷
+      (q0 ∷ q0 ∷ q0 ∷ q0 ∷ q0 ∷ q1 ∷ []) ∷ [];
+  numbers = coefficients;
+}
+
+legal : checked upperLimitSpace ≡ answer upperLimitSpace
+unfolding first startsPart partEnd lengthsFit badBreak spanTooLong tooManySegments badDegree badOrder checkedEntries checked
+legal = refl
+
+answered : recovered upperLimitSpace ordinates ≡ answer given
+unfolding gcd gcdF mk int inv _+ᵠ_ _*ᵠ_ -ᵠ_ _//_ isZero ltᵠ sum tab fits capped collect repeat first last firstColumn falling binomial alternating undivided commonDivisor conditions identity count addProducts span partialSum quotientFactor factors newEntry newRows step sized jumpSum balanced undoneNumber undoneRows undone recoverStep recoverOrders recoverJoins recovered
+answered = refl
+
+built : weights upperLimitSpace ≡ answer (given .table)
+unfolding firstColumn
+built = answers-have-the-weights upperLimitSpace legal ordinates refl given answered .0
+
+reproduced : combination 6 coefficients (given .table) ≡ map int ordinates
+unfolding firstColumn
+reproduced = answers-reproduce upperLimitSpace legal ordinates refl given answered
+
+-- Twice the coefficients give other ordinates, since no others give these.
+twice-differ : combination 6 (q0 ∷ int (pos 512) ∷ int (pos 1536) ∷ q0 ∷ []) (given .table) ≡ map int ordinates → ⊥
+unfolding firstColumn conditionsBefore
+twice-differ e = different (ap (λ cs. entry cs 1) (no-others-reproduce upperLimitSpace legal ordinates refl given answered (q0 ∷ int (pos 512) ∷ int (pos 1536) ∷ q0 ∷ []) refl e))
+  where
+    different : int (pos 512) ≡ int (pos 256) → ⊥
+    different z = let h : _≡_ {A = ℤ} (pos 512) (pos 256) = int-inj (pos 512) (pos 256) z in absurd (omega (arith, ap natAbs h))
+
+-- ---- the exact curve at the join is 257, though the curve call's own ordinate there is 258
+
+abbrev coefs : List ℤ
+coefs = pos 0 ∷ pos 0 ∷ pos 1 ∷ pos 1 ∷ pos 3 ∷ pos 3 ∷ pos 0 ∷ pos 0 ∷ []
+
+at-join : exactOn upperLimitSpace (given .table) earlywood coefs 1 (pos 256) ≡ int (pos 257)
+unfolding gcd gcdF mk int inv _+ᵠ_ _*ᵠ_ -ᵠ_ sum power bernsteinAt binomial firstColumn conditionsBefore
+at-join = exact-curve-has-the-ordinates upperLimitSpace legal ordinates refl given answered earlywood coefs whole 1 (omega arith) (pos 256) ∙ refl
+  where
+    whole : (i : ℕ) → i < 4 → entry coefficients i ≡ int (fine (coefficient earlywood coefs i))
+    whole zero h = refl
+    whole (suc zero) h = refl
+    whole (suc (suc zero)) h = refl
+    whole (suc (suc (suc zero))) h = refl
+    whole (suc (suc (suc (suc i)))) h = absurd (omega arith)
+
+rounded-join : ordinate (given .table) (coefficient earlywood coefs) 2 ≡ pos 258
+unfolding gcd gcdF mk int _//_ isZero nearest rounded term termSum best ordinate
+rounded-join = refl
+
+-- ---- number 19
+
+abbrev others : List ℤ
+others = pos 0 ∷ pos 300 ∷ pos 201 ∷ pos 201 ∷ pos 0 ∷ pos 0 ∷ []
+
+legal1 : checked space1 ≡ answer space1
+unfolding first startsPart partEnd lengthsFit badBreak spanTooLong tooManySegments badDegree badOrder checkedEntries checked
+legal1 = refl
+
+refused : recovered space1 others ≡ refusal 19 0
+unfolding gcd gcdF mk int inv _+ᵠ_ _*ᵠ_ -ᵠ_ _//_ isZero ltᵠ sum tab fits capped collect repeat first last firstColumn falling binomial alternating undivided commonDivisor conditions identity count addProducts span partialSum quotientFactor factors newEntry newRows step sized jumpSum balanced undoneNumber undoneRows undone recoverStep recoverOrders recoverJoins recovered
+refused = refl
+
+missed : MissedCondition space1 others
+unfolding firstColumn
+missed = nineteen-misses-a-condition space1 legal1 others refl 0 refused

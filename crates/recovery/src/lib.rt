@@ -1,0 +1,1 @@
+// Coefficients from local ordinates: the theorems alone (specs/ has the definitions and statements, proofs/ the proofs).

@@ -1,0 +1,83 @@
+-- `build_rows` meets its contract: a part of an accepted beam is accepted, so it is not refused.
+use borrow.Author.Needs.{needs}
+use mathlib.Core.Path.{_≡_, subst}
+use mathlib.Core.List.{List}
+use Prim.Native.Nat.{ℕ, _-_}
+use lib.IntN.{ℤ}
+use Rattle.spline.specs.Outcome.{with-answer}
+use Rattle.spline.specs.Space.{Space, rowCount}
+use Rattle.spline.specs.Build.{weights, numeratorsAfter, denominatorsAfter}
+use Rattle.beams.specs.Sections.{section, partAt}
+use Rattle.space.specs.Reply.{space}
+use Rattle.weights.specs.Reply.{reply}
+use Rattle.weights.specs.declared.Built.{Built}
+use Rattle.sheet_text.proofs.Beam.{beam-legal, rows-told, never-refused}
+use Rattle.sheet_text.proofs.build_rows.Statement.{statement}
+use Rattle.sheet_text.proofs.build_rows.Tie as tie
+
+-- what the build of a part leaves
+record Leaves (p : Space) (r : Built) (num den num′ den′ : List ℤ) : Type 0 where
+  answers : reply r ≡ with-answer (λ _. rowCount p) (weights p)
+  numerators : num′ ≡ numeratorsAfter (weights p) num
+  denominators : den′ ≡ denominatorsAfter (weights p) den
+
+-- where it has returned
+module _ (k : tie.After-build-part) where
+  abbrev start : tie.Start
+  start = k .before .before .before
+
+  abbrev beam : Space
+  beam = let x = start .args in space (x .breaks .now) (x .degrees .now) (x .orders .now)
+
+  left : Leaves (partAt beam (start .args .a)) (k .build-part .result) (start .args .num .now) (start .args .den .now) (k .build-part .last .1 .1 .1 .1 .1 .0) (k .build-part .last .1 .1 .1 .1 .1 .1 .0)
+  left =
+      let e = k .build-part .ensures in
+      subst (λ (b : ℕ). Leaves (section beam (start .args .a) (b - start .args .a)) (k .build-part .result) (start .args .num .now) (start .args .den .now) (k .build-part .last .1 .1 .1 .1 .1 .0) (k .build-part .last .1 .1 .1 .1 .1 .1 .0))
+      (start .pre .1 .1) (record { answers = e .0; numerators = e .1 .0; denominators = e .1 .1 })
+
+build-part-requires : tie.Need-build-part-requires
+build-part-requires c κs = let p = c .before .before .pre in ((beam-legal _ (p .0 .0), p .0 .1), p .1)
+
+enum-known-built : tie.Need-enum-known-built
+enum-known-built c = search needs
+
+enum-known-built-2 : tie.Need-enum-known-built-2
+enum-known-built-2 c = search needs
+
+same-length : tie.Need-same-length
+same-length c = search needs
+
+same-length-2 : tie.Need-same-length-2
+same-length-2 c = search needs
+
+returns : tie.Need-returns
+returns c =
+    let k = c .before .before .before .before .before in
+    let p = start k .pre in
+    (rows-told (beam k) (p .0 .0) _ (p .1 .0) (k .build-part .result) _ (left k .answers) (c .before .built .given .1), (left k .numerators, left k .denominators))
+
+same-length-3 : tie.Need-same-length-3
+same-length-3 c = search needs
+
+same-length-4 : tie.Need-same-length-4
+same-length-4 c = search needs
+
+returns-2 : tie.Need-returns-2
+returns-2 c =
+    let k = c .before .before .before .before .before in
+    let p = start k .pre in
+    absurd (never-refused (beam k) (p .0 .0) _ (p .1 .0) (k .build-part .result) _ _ (left k .answers) (c .before .built2 .given .1))
+
+pub build-rows-spec : {M : Type 1} → statement M
+build-rows-spec =
+    tie.close
+    (tie.spec
+    build-part-requires
+    enum-known-built
+    enum-known-built-2
+    same-length
+    same-length-2
+    returns
+    same-length-3
+    same-length-4
+    returns-2)
