@@ -2,3 +2,4 @@
 pub mod Part
 pub mod Tables
 pub mod Buffer
+pub mod Added

@@ -1,12 +1,12 @@
 // The two lent buffers: row i, column j of the table is cell 72 i + j of the numerators and of the denominators.
 ghost use mathlib.Core.Path.{_≡_};
 ghost use mathlib.Core.List.{_++_};
-ghost use Prim.Native.Nat.{suc, _+_, _<_, _≤_};
+ghost use Prim.Native.Nat.{ℕ, suc, _+_, _*_, _<_, _≤_};
 ghost use lib.IntN.{pos};
 ghost use lib.ListN.{length, getD, take, drop};
 ghost use Rattle.spline.specs.Table;
 ghost use Rattle.cells.specs.Held.{Holds};
-ghost use Rattle.cells.specs.Part.{filled, moved, marked};
+ghost use Rattle.cells.specs.Part.{filled, moved, marked, diagonalStep};
 use fraction::Fraction;
 
 // Cells of a row.
@@ -34,7 +34,7 @@ pub fn clear(num: &mut [i64], den: &mut [i64], from: usize, to: usize)
 
 // 1 at the first n places of the diagonal.
 pub fn mark_diagonal(num: &mut [i64], n: usize)
-    requires { ⌜ (n ≤ Table.rowCells) × (Table.tableCells ≤ length (now num)) ⌝ }
+    requires { ⌜ (n ≤ Table.rowCells) × (diagonalStep * n ≤ length (now num) + Table.rowCells) ⌝ }
     ensures { λ _. ⌜ now (num .exit) ≡ marked n (now (num .entry)) ⌝ }
 {
     let mut i = 0;
@@ -70,6 +70,16 @@ pub fn identity(num: &mut [i64], den: &mut [i64], n: usize)
 {
     clear(num, den, 0, TABLE_CELLS);
     mark_diagonal(num, n);
+}
+
+// After the rows that the table has come those of the identity for n columns from the given one on.
+pub fn add_rows(num: &mut [i64], rows: usize, column: usize, n: usize)
+    requires { ⌜ (0 < n) × ((rows + n ≤ Table.rowCells) × ((column + n ≤ Table.rowCells) × (Table.tableCells ≤ length (now num)))) ⌝ }
+    ensures { λ _. ⌜ ((t : Table.Table) (m : ℕ) → now (num .entry) ≡ Table.numerators t (now (num .entry)) → length t ≡ rows → column + n ≤ m
+        → now (num .exit) ≡ Table.numerators (t ++ take n (drop column (Table.identity m))) (now (num .entry))) ⌝ }
+{
+    let start = ROW_CELLS * rows + column;
+    mark_diagonal(&mut num[start..], n);
 }
 
 // Row l is left out: the rows after it move up, and the last row becomes 0/1.

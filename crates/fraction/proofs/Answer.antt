@@ -8,14 +8,18 @@ use Rattle.fraction.specs.Size.{fits, Counting, counted, too-large, coun
 use Rattle.fraction.specs.Machine.{fraction, value, answer, Sized}
 use Rattle.fraction.specs.declared.Fraction.{Fraction}
 use Rattle.fraction.specs.declared.Counted.the-variants.{Fits, TooLarge}
-use Rattle.fraction.proofs.Value.{den-positive, value-fraction}
-use Rattle.fraction.proofs.Size.{fits-num, fits-den, count-fits, count-large, counted-is, too-large-is}
+use Rattle.fraction.proofs.Value.{ratio-is, den-positive, value-fraction}
+use Rattle.fraction.proofs.Size.{fits-num, fits-den, is-fits, count-fits, count-large, counted-is, too-large-is}
 
 -- ---- sizes
 
 pub fits-sized : (q : ℚ) → fits q ≡ true → Sized (fraction q)
 unfolding fraction
 fits-sized q e = record { num-small = fits-num q e; den-pos = den-positive q; den-small = fits-den q e }
+
+pub sized-fits : {f : Fraction} → Sized f → fits (value f) ≡ true
+unfolding value
+sized-fits {f} s = is-fits (ratio-is (f .num) (f .den) (s .den-pos)) (s .num-small) (s .den-small)
 
 -- ---- answers
 

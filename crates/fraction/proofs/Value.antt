@@ -13,6 +13,7 @@ use Rattle.exact.proofs.Ring.{ring}
 use Rattle.exact.proofs.Integer.{ℤ-ring, readsℤ, *-one, <-in, *-pos-<}
 use Rattle.exact.proofs.Rational.{_is_over_, self, mk-is, mk-num, mk-den, is-unique, is-int, is-add, is-mul, int-num, int-den, neg-is, div-unique}
 use Rattle.fraction.specs.Machine.{fraction, ratio, value}
+use Rattle.fraction.specs.declared.Fraction.{Fraction}
 
 -- n over d stands for the fraction n / d
 pub ratio-is : (n d : ℤ) → pos 0 <ℤ d → ratio n d is n over natAbs d
@@ -83,6 +84,11 @@ ratio-zero : (n d : ℤ) → pos 0 <ℤ d → ratio n d ≡ int (pos 0) → n �
 ratio-zero n d h e =
     let z = subst (λ (q : ℚ). q is n over natAbs d) e (ratio-is n d h) in
     sym (*-one n) ∙ ap (λ (k : ℕ). n *ℤ pos k) (sym (int-den (pos 0))) ∙ sym (z .cross) ∙ ap (λ (k : ℤ). k *ℤ pos (natAbs d)) (int-num (pos 0)) ∙ zero-*ℤ (pos (natAbs d))
+
+-- and a numerator of zero does
+pub value-zero : (f : Fraction) → pos 0 <ℤ f .den → f .num ≡ pos 0 → value f ≡ int (pos 0)
+unfolding value
+value-zero f h e = is-unique (ratio-is (f .num) (f .den) h) (is-int (pos 0)) (*-one (f .num) ∙ e ∙ sym (zero-*ℤ (pos (natAbs (f .den)))))
 
 -- n / m is the quotient of a / b by c / d where n c b = a m d
 ratio-div : (a b c d n m : ℤ) → pos 0 <ℤ b → pos 0 <ℤ d → c ≢ pos 0 → pos 0 <ℤ m → n *ℤ c *ℤ b ≡ a *ℤ (m *ℤ d) → ratio n m ≡ ratio a b /ᵠ ratio c d

@@ -4,7 +4,9 @@ use mathlib.Core.Path.{_≡_, refl, sym, _∙_, ap}
 use mathlib.Core.Bool.{Bool, true, false}
 use Prim.Native.Nat.{ℕ}
 use native.Mathlib.Omega.{arith}
-use Rattle.exact.specs.Rational.{ℚ}
+use lib.IntN.{pos}
+use Rattle.exact.specs.Rational.{ℚ, int, _+ᵠ_, _*ᵠ_}
+use Rattle.exact.proofs.Rational.{add-zero, zero-mul}
 use Rattle.fraction.specs.Size as size
 use Rattle.fraction.specs.Size.{fits}
 use Rattle.fraction.specs.Machine as machine
@@ -12,7 +14,8 @@ use Rattle.fraction.specs.Machine.{fraction, value, Sized}
 use Rattle.fraction.specs.declared.Fraction.{Fraction}
 use Rattle.fraction.specs.declared.Counted.the-variants.{Fits, TooLarge}
 use Rattle.fraction.proofs.Value.{value-fraction}
-use Rattle.fraction.proofs.Answer.{fits-sized, answer-fits, answer-large, kept}
+use Rattle.fraction.proofs.Size.{int-fits}
+use Rattle.fraction.proofs.Answer.{fits-sized, sized-fits, answer-fits, answer-large, kept}
 use Rattle.spline.specs.Outcome.{Outcome, answer, refusal, _then_}
 use Rattle.spline.specs.Step.{count}
 use Rattle.spline.proofs.Outcome.{then-answers, then-refuses, then-inverts}
@@ -62,6 +65,16 @@ fits-then o f x e = ap counted (then-answers f (fits-answered o x e .answers))
 
 pub large-then : (o : Outcome ℚ) (f : ℚ → Outcome ℚ) → counted o ≡ TooLarge → counted (o then f) ≡ TooLarge
 large-then o f e = refused-large (then-refuses f (large-refused o e .refuses))
+
+-- a product with zero, and the sum with it: neither can be too large, and the sum is what it was
+pub zero-then : (j : ℕ) (w : ℚ) (z : ℚ) (f : Fraction) → w ≡ int (pos 0) → Sized f → f ≡ fraction (value f) → counted (count j (w *ᵠ z) then λ p. count j (value f +ᵠ p)) ≡ Fits f
+unfolding counted
+zero-then j w z f e s lowest =
+    ap counted (
+    then-answers (λ p. count j (value f +ᵠ p)) (ap (λ q. count j (q *ᵠ z)) e ∙ ap (count j) (zero-mul z) ∙ count-fits j (int (pos 0)) (int-fits (pos 0) (omega arith)))
+    ∙ ap (count j) (add-zero (value f))
+    ∙ count-fits j (value f) (sized-fits s))
+    ∙ ap Fits (sym lowest)
 
 -- a fraction in lowest terms that fits has parts below the limit
 pub lowest-sized : {f : Fraction} → f ≡ fraction (value f) → fits (value f) ≡ true → Sized f

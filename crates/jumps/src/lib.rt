@@ -41,11 +41,16 @@ pub enum JumpSpan {
     Nothing,
 }
 
-// The sum with one more product, weight times condition.
+// The sum with one more product, weight times condition. A product by a weight of zero is zero, and the sum stays as it is: both
+// were counted before.
 fn add_product(sum: Fraction, weight: Fraction, condition: i64) -> Counted
     requires { ⌜ Sized sum × (Sized weight × (natAbs condition < 2 ^ 31)) ⌝ }
+    requires { ⌜ sum ≡ fraction (value sum) ⌝ }
     ensures { λ r. ⌜ ((j : ℕ) → r ≡ counted (Step.count j (value weight *ᵠ int condition) then λ p. Step.count j (value sum +ᵠ p))) ⌝ }
 {
+    if weight.num == 0 {
+        return Counted::Fits(sum);
+    }
     let term = fraction::product(
         weight,
         Fraction {

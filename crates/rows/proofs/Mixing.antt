@@ -1,6 +1,6 @@
 -- The new rows of a step: that the factors are as they ask, what an entry and a row answer, and a row that is written over
 -- by its new entries in one of the buffers.
-use mathlib.Core.Path.{_≡_, sym, _∙_, ap}
+use mathlib.Core.Path.{_≡_, sym, _∙_, ap, ap₂}
 use mathlib.Core.Bool.{true}
 use mathlib.Core.Logic.{_≢_}
 use mathlib.Core.List.{List, []}
@@ -12,19 +12,23 @@ use lib.ListN.{length, getD, set}
 use lib.Seq.{getD-set-same, getD-set-other}
 use Rattle.exact.specs.Rational.{ℚ, int, _+ᵠ_, _-ᵠ_, _*ᵠ_}
 use Rattle.exact.specs.Tabulate.{tab}
+use Rattle.exact.proofs.Rational.{add-zero, mul-zero}
 use Rattle.exact.proofs.Tabulate.{tab-length, tab-getD}
 use Rattle.fraction.specs.Size.{fits}
+use Rattle.fraction.specs.declared.Counted.the-variants.{Fits}
+use Rattle.fraction.proofs.Value.{fraction-int}
 use Rattle.fraction.proofs.Size.{int-fits}
-use Rattle.spline.specs.Outcome.{answer}
+use Rattle.spline.specs.Outcome.{answer, _then_}
 use Rattle.spline.specs.Table.{Row, Table, entry, row, cell, rowCells, tableCells}
-use Rattle.spline.specs.Step.{Span, factors, newEntry, newRow}
-use Rattle.spline.proofs.Outcome.{Collected, collect-inverts}
+use Rattle.spline.specs.Step.{Span, count, factors, newEntry, newRow}
+use Rattle.spline.proofs.Outcome.{Collected, collect-inverts, then-answers}
+use Rattle.spline.proofs.Step.{count-fits}
 use Rattle.spline.proofs.Table.{entry-past}
 use Rattle.spline.proofs.NewRows.{newEntry-answers as newEntry-is}
 use Rattle.spline.proofs.Answers.{factors-unit}
 use Rattle.cells.proofs.Part.{Written}
 use Rattle.cells.proofs.Buffer.{laid, laid-by, laid-reads}
-use Rattle.jumps.specs.Reply.{fractions}
+use Rattle.jumps.specs.Reply.{counted, fractions}
 use Rattle.jumps.specs.declared.Fractions.{Fractions}
 use Rattle.rows.specs.Rows.{UnitFactors}
 
@@ -49,6 +53,21 @@ mixture w v x y = w *ᵠ x +ᵠ (int (pos 1) -ᵠ v) *ᵠ y
 pub newEntry-answers : (j : ℕ) (w v x y : ℚ) {q : ℚ} → newEntry j w v x y ≡ answer q → (q ≡ mixture w v x y) × (fits q ≡ true)
 unfolding mixture
 newEntry-answers j w v x y e = newEntry-is j w v x y e
+
+-- of two zeros
+pub zero-entry : (j : ℕ) (w v : ℚ) {x y : ℚ} → x ≡ int (pos 0) → y ≡ int (pos 0) → counted (newEntry j w v x y) ≡ Fits (record { num = pos 0; den = pos 1 })
+unfolding counted newEntry
+zero-entry j w v a b =
+    ap₂ (λ x y. counted (newEntry j w v x y)) a b
+    ∙ ap counted (
+    then-answers (λ p. count j ((int (pos 1) -ᵠ v) *ᵠ int (pos 0)) then λ q. count j (p +ᵠ q)) (none w)
+    ∙ then-answers (λ q. count j (int (pos 0) +ᵠ q)) (none (int (pos 1) -ᵠ v))
+    ∙ ap (count j) (add-zero (int (pos 0)))
+    ∙ count-fits j (int (pos 0)) (int-fits (pos 0) (omega arith)))
+    ∙ ap Fits (fraction-int (pos 0))
+  where
+    none : (u : ℚ) → count j (u *ᵠ int (pos 0)) ≡ answer (int (pos 0))
+    none u = ap (count j) (mul-zero u) ∙ count-fits j (int (pos 0)) (int-fits (pos 0) (omega arith))
 
 -- ---- one row
 

@@ -16,11 +16,16 @@ use fraction::Counted;
 use fraction::Fraction;
 use jumps::Fractions;
 
-// w x + u y, with both products and the sum counted.
+// w x + u y, with both products and the sum counted. Of two zeros it is zero, and nothing counted can be too large.
 fn new_entry(w: Fraction, u: Fraction, x: Fraction, y: Fraction) -> Counted
     requires { ⌜ Sized w × (Sized u × (Sized x × Sized y)) ⌝ }
     ensures { λ r. ⌜ ((j : ℕ) (v : ℚ) → value u ≡ int (pos 1) -ᵠ v → r ≡ counted (Step.newEntry j (value w) v (value x) (value y))) ⌝ }
 {
+    if x.num == 0 {
+        if y.num == 0 {
+            return Counted::Fits(Fraction { num: 0, den: 1 });
+        }
+    }
     let first = fraction::product(w, x);
     match first {
         Counted::TooLarge => Counted::TooLarge,

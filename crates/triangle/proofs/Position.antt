@@ -91,9 +91,13 @@ module _ (b d o : List ℤ) (x : ℤ) (i : ℕ) (at : i ≡ segmentAt (space b d
 -- ---- the value
 
 -- from the segment's ordinates in an array of six
-pub value-local : (os : List ℤ) (p : Place) → p .degree < 6 → triangle (natAbs (p .width)) (p .offset) (λ k. getD (localOf os (p .column) (p .degree)) k (pos 0)) (p .degree) 0 ≡ valueOf os p
+pub value-local : (os : List ℤ) (c p : ℕ) (u : ℤ) (d : ℕ) → p < 6 → triangle d u (λ k. getD (localOf os c p) k (pos 0)) p 0 ≡ triangle d u (λ k. getD os (c + k) (pos 0)) p 0
+value-local os c p u d l = triangle-ext d u (λ k. getD (localOf os c p) k (pos 0)) (λ k. getD os (c + k) (pos 0)) p (λ k h. local-at os c p k l h) p 0 (omega arith)
+
+-- in the arm of its degree
+pub value-arm : (os : List ℤ) (place : Place) (p : ℕ) (r : ℤ) → place .degree ≡ p → r ≡ triangle (natAbs (place .width)) (place .offset) (λ k. getD os (place .column + k) (pos 0)) p 0 → r ≡ valueOf os place
 unfolding valueOf
-value-local os p l = triangle-ext (natAbs (p .width)) (p .offset) (λ k. getD (localOf os (p .column) (p .degree)) k (pos 0)) (λ k. getD os (p .column + k) (pos 0)) (p .degree) (λ k h. local-at os (p .column) (p .degree) k l h) (p .degree) 0 (omega arith)
+value-arm os place p r e h = h ∙ ap (λ (n : ℕ). triangle (natAbs (place .width)) (place .offset) (λ k. getD os (place .column + k) (pos 0)) n 0) (sym e)
 
 -- at a position's place it is the definition's
 pub value-blended : (s : Space) (os : List ℤ) (x : ℤ) → valueOf os (placeOf s x) ≡ blended s os (segmentAt s x) x

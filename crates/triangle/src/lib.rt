@@ -4,14 +4,14 @@ ghost use mathlib.Core.Path.{_≡_};
 ghost use mathlib.Core.List.{[]};
 ghost use mathlib.Core.Option.{Option·getD};
 ghost use Prim.Native.Nat.{_+_, _<_, _≤_};
-ghost use lib.IntN.{pos};
-ghost use lib.ListN.{length};
+ghost use lib.IntN.{pos, natAbs};
+ghost use lib.ListN.{length, getD};
 ghost use Rattle.space.specs.Reply.{space};
 ghost use Rattle.space.specs.Legal.{BreaksLegal, ListsLegal};
 ghost use Rattle.spline.specs.Search;
 ghost use Rattle.spline.specs.Reading;
 ghost use Rattle.ordinates.specs.Ordinates.{Bounded};
-ghost use Rattle.triangle.specs.Offsets.{columnLimit, columnsOf, localOf, Within};
+ghost use Rattle.triangle.specs.Offsets.{columnLimit, columnsOf, localOf, Within, Offset};
 ghost use Rattle.triangle.specs.Place.{placeOf, Sound, valueOf};
 
 mod triangle;
@@ -121,12 +121,32 @@ pub fn place_at(breaks: &[i32], degrees: &[i32], orders: &[i32], columns: &[usiz
     }
 }
 
-// The value at a place of the curve with these ordinates.
+// The value of the p + 1 ordinates from column c on, at offset u of a segment of length d.
+fn value_of(ordinates: &[i32], c: usize, p: usize, u: i64, d: i64) -> i32
+    requires { ⌜ ((p ≤ 5) × (c + p < columnLimit)) × (Offset u d × ((length (now ordinates) ≡ columnLimit) × Bounded (now ordinates))) ⌝ }
+    ensures { λ r. ⌜ r ≡ Reading.triangle (natAbs d) u (λ k. getD (now (ordinates .entry)) (c + k) (pos 0)) p 0 ⌝ }
+{
+    let o = local_ordinates(ordinates, c, p);
+    let v = crate::triangle::triangle(o, p, u, d);
+    v as i32
+}
+
+// The value at a place of the curve with these ordinates. Each degree has an arm, in which the count of ordinates and of
+// stages is known, so that the ordinates stay in registers.
 pub fn value_at(ordinates: &[i32], place: Place) -> i32
     requires { ⌜ Sound place × ((length (now ordinates) ≡ columnLimit) × Bounded (now ordinates)) ⌝ }
     ensures { λ r. ⌜ r ≡ valueOf (now (ordinates .entry)) place ⌝ }
 {
-    let o = local_ordinates(ordinates, place.column, place.degree);
-    let v = crate::triangle::triangle(o, place.degree, place.offset, place.width);
-    v as i32
+    let c = place.column;
+    let p = place.degree;
+    let u = place.offset;
+    let d = place.width;
+    match p {
+        1 => value_of(ordinates, c, 1, u, d),
+        2 => value_of(ordinates, c, 2, u, d),
+        3 => value_of(ordinates, c, 3, u, d),
+        4 => value_of(ordinates, c, 4, u, d),
+        5 => value_of(ordinates, c, 5, u, d),
+        _ => value_of(ordinates, c, p, u, d),
+    }
 }

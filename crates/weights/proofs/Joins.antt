@@ -2,22 +2,21 @@
 -- orders at a join can give, and what the joins leave, from an answer or a refusal.
 use mathlib.Core.Path.{_≡_, sym, _∙_, subst}
 use mathlib.Core.Logic.{_⊎_, inl, inr}
-use mathlib.Core.List.{List, []}
-use Prim.Native.Nat.{ℕ, suc, _+_, _<_}
+use mathlib.Core.List.{List, [], _++_}
+use Prim.Native.Nat.{ℕ, suc, _+_, _<_, _≤_}
 use native.Mathlib.Omega.{arith}
 use lib.IntN.{ℤ}
-use lib.ListN.{length}
-use Rattle.spline.specs.Outcome.{Outcome, answer, refusal}
-use Rattle.spline.specs.Space.{Space, conditionCount, conditionsBefore, columnCount}
+use lib.ListN.{length, drop}
+use Rattle.spline.specs.Outcome.{Outcome, answer, refusal, with-answer}
+use Rattle.spline.specs.Space.{Space, conditionCount, conditionsBefore, firstColumn}
 use Rattle.spline.specs.Conditions.{conditions}
-use Rattle.spline.specs.Table.{Table, numerators, denominators}
+use Rattle.spline.specs.Table.{Table, identity, numerators, denominators}
 use Rattle.spline.specs.Step.{step}
 use Rattle.spline.specs.Build.{orderSteps}
 use Rattle.spline.proofs.Outcome.{RefusedAs, repeat-refused}
 use Rattle.spline.proofs.Refusals.{EightOrNine, step-refuses}
 use Rattle.space.specs.Reply.{space}
 use Rattle.space.specs.Legal.{PartLegal}
-use Rattle.spline.proofs.Space.{firstColumn-mono}
 use Rattle.space.proofs.Bounds.{first-column-next, conditions-before-next}
 use Rattle.space.proofs.Legal.{legal-width-low, legal-width-high, legal-degree-high, legal-conditions-high, legal-conditions-left, legal-conditions-right, legal-columns-within, legal-conditions-before, part-column-count-high}
 use Rattle.space.proofs.Partial.{first-column-partial}
@@ -31,6 +30,7 @@ use Rattle.factors.proofs.Answers.{eight-named, nine-named}
 use Rattle.weights.specs.Leaves.{JoinsLeave}
 use Rattle.weights.specs.declared.Built.{Built}
 use Rattle.weights.specs.declared.Built.the-variants.{Rows, Refused}
+use Rattle.weights.proofs.Later.{orders-all, row-idle}
 
 -- ---- a join of a legal part
 
@@ -46,6 +46,12 @@ pub join-whole : (b d o : List ℤ) {join : Join} {j : ℕ} → JoinIs join (spa
 join-whole b d o h = record { left-is = side-whole b d o (h .left-is); right-is = side-whole b d o (h .right-is) }
 
 module _ (b d o : List ℤ) (part : PartLegal b d o) (j : ℕ) (within : j < length o) where
+  -- the rows of later segments stay as they are
+  pub join-later : (columns : ℕ) (t : Table) → orderSteps (space b d o) j (conditionCount (space b d o) j) (t ++ drop (firstColumn (space b d o) (suc (suc j))) (identity columns))
+      ≡ with-answer (λ u. u ++ drop (firstColumn (space b d o) (suc (suc j))) (identity columns)) (orderSteps (space b d o) j (conditionCount (space b d o) j) t)
+  join-later columns t = orders-all (space b d o) j (conditionCount (space b d o) j) t (drop (firstColumn (space b d o) (suc (suc j))) (identity columns))
+      (λ k h i l. row-idle (space b d o) j k columns i (omega (arith, legal-conditions-left b d o (part .lists) j within)) (omega (arith, legal-conditions-right b d o (part .lists) j within)))
+
   pub join-fits : {join : Join} → JoinIs join (space b d o) j → (k : ℕ) → k < conditionCount (space b d o) j → JoinFits join k
   join-fits is k h = record {
     space = space b d o;
@@ -64,14 +70,9 @@ module _ (b d o : List ℤ) (part : PartLegal b d o) (j : ℕ) (within : j < len
     right-columns = omega (arith, legal-columns-within b d o (part .lists) (suc j) (omega (arith, part .lists .order-count)), part-column-count-high b d o part);
   }
 
-  -- the conditions up to and with this join are fewer than the columns
-  pub conditions-left : conditionsBefore (space b d o) j + conditionCount (space b d o) j < columnCount (space b d o)
-  conditions-left = omega (
-    arith,
-    conditions-before-next (space b d o) j,
-    legal-conditions-before b d o (part .lists) (suc j) (omega (arith, part .lists .order-count)),
-    firstColumn-mono (space b d o) (suc j) (length d) (omega (arith, part .lists .order-count)),
-  )
+  -- the conditions up to and with this join are no more than the columns of the segments up to it
+  pub conditions-left : conditionsBefore (space b d o) j + conditionCount (space b d o) j ≤ firstColumn (space b d o) (suc j)
+  conditions-left = omega (arith, conditions-before-next (space b d o) j, legal-conditions-before b d o (part .lists) (suc j) (omega (arith, part .lists .order-count)))
 
 -- ---- the refusals of the orders at a join
 

@@ -10,14 +10,14 @@ use lib.IntN.{ℤ}
 use lib.ListN.{length, take, drop}
 use Rattle.exact.specs.Rational.{ℚ}
 use Rattle.spline.specs.Outcome.{Outcome, answer, refusal, _then_, with-answer}
-use Rattle.spline.specs.Table.{Table, numerators, denominators}
+use Rattle.spline.specs.Table.{Table, tableCells, numerators, denominators}
 use Rattle.spline.specs.Conditions.{Entry}
 use Rattle.spline.specs.Step.{Span, jumps, span, factors, newRows, mixed, step}
 use Rattle.spline.proofs.Outcome.{then-answers, then-refuses}
 use Rattle.spline.proofs.Refusals.{jumps-refuse-8, span-refuses-9, newRows-refuse-8}
 use Rattle.cells.specs.Held.{Holds, Shaped, Kept}
 use Rattle.cells.proofs.Tables.{renewed-without}
-use Rattle.cells.proofs.Buffer.{holds-left, numerators-again, denominators-again}
+use Rattle.cells.proofs.Buffer.{holds-left, numerators-again, denominators-again, kept-then, kept-numerators, kept-denominators}
 use Rattle.jumps.proofs.Counted.{Refused}
 use Rattle.factors.specs.Reply.{refusalOf}
 use Rattle.factors.specs.declared.Refusal.{Refusal}
@@ -39,6 +39,14 @@ module _ (num den num′ den′ : List ℤ) where
 
   pub leaves-refusal : {o : Outcome Table} {number place : ℕ} {r : Refusal} → o ≡ refusal number place → refusalOf number ≡ r → Kept num num′ → Kept den den′ → Leaves o r num den num′ den′
   leaves-refusal {r = r} e h p q = subst (λ (o : Outcome Table). Leaves o r num den num′ den′) (sym e) (sym h, p, q)
+
+  -- from buffers that another table was laid in before
+  pub leaves-from : (r : Refusal) (g : Table) (num₀ den₀ : List ℤ) → tableCells ≤ length num₀ → tableCells ≤ length den₀ → num ≡ numerators g num₀ → den ≡ denominators g den₀
+      → (o : Outcome Table) → Leaves o r num den num′ den′ → Leaves o r num₀ den₀ num′ den′
+  leaves-from r g num₀ den₀ long long′ p q (answer t) left =
+      (left .0, left .1 ∙ ap (numerators t) p ∙ numerators-again t g num₀, left .2 ∙ ap (denominators t) q ∙ denominators-again t g den₀)
+  leaves-from r g num₀ den₀ long long′ p q (refusal number place) left =
+      (left .0, kept-then (subst (Kept num₀) (sym p) (kept-numerators g num₀ long)) (left .1), kept-then (subst (Kept den₀) (sym q) (kept-denominators g den₀ long′)) (left .2))
 
   -- ---- from what is left
 

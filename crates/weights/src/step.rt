@@ -8,7 +8,7 @@ ghost use Rattle.exact.specs.Rational.{ℚ};
 ghost use Rattle.spline.specs.Outcome.{with-answer};
 ghost use Rattle.spline.specs.Space.{Space, rowCount};
 ghost use Rattle.spline.specs.Conditions;
-ghost use Rattle.spline.specs.Table.{Table, tableCells};
+ghost use Rattle.spline.specs.Table.{Table, rowCells, tableCells};
 ghost use Rattle.spline.specs.Step;
 ghost use Rattle.spline.specs.Build;
 ghost use Rattle.space.specs.Reply.{space};
@@ -18,7 +18,7 @@ ghost use Rattle.conditions.specs.Sides.{SideIs, JoinIs, JoinFits};
 ghost use Rattle.jumps.specs.Reply.{fractions};
 ghost use Rattle.factors.specs.Jumps.{Spanned};
 ghost use Rattle.weights.specs.Reply.{reply};
-ghost use Rattle.weights.specs.Leaves.{Leaves, JoinsLeave, Start};
+ghost use Rattle.weights.specs.Leaves.{Leaves, JoinsLeave, Start, grown};
 use crate::Built;
 use conditions::Join;
 use conditions::Side;
@@ -113,6 +113,26 @@ fn order_steps(
     Refusal::None
 }
 
+// The n orders at one join, after the rows of the segment on its right have come in; `rows` is the number of rows before.
+fn join_step(
+    num: &mut [i64],
+    den: &mut [i64],
+    join: Join,
+    n: usize,
+    rows: usize,
+    columns: usize,
+) -> Refusal
+    requires { ⌜ (n ≤ rows) × (((k : ℕ) → k < n → JoinFits join k) × Held (now num) (now den) rows columns) ⌝ }
+    requires { ⌜ (rows + (join .right .degree + 1) ≤ rowCells) × (join .right .column + (join .right .degree + 1) ≤ columns) ⌝ }
+    ensures { λ r. ⌜ ((s : Space) (j : ℕ) (t : Table) → JoinIs join s j → Holds (now (num .entry)) (now (den .entry)) t → Shaped t rows columns
+        → Leaves (Build.orderSteps s j n (grown join columns t)) r (now (num .entry)) (now (den .entry)) (now (num .exit)) (now (den .exit))) ⌝ }
+{
+    let right = join.right;
+    let more = right.degree + 1;
+    cells::add_rows(num, rows, right.column, more);
+    order_steps(num, den, join, n, rows + more, columns)
+}
+
 fn side_at(breaks: &[i32], degrees: &[i32], i: usize) -> Side
     requires { ⌜ ((orders : List ℤ) × ListsLegal (now breaks) (now degrees) orders) × (i < length (now degrees)) ⌝ }
     ensures { λ r. ⌜ SideIs r (space (now (breaks .entry)) (now (degrees .entry)) []) i ⌝ }
@@ -139,7 +159,8 @@ fn join_at(breaks: &[i32], degrees: &[i32], j: usize) -> Join
     }
 }
 
-// The joins from the left: the number of rows at the end, or the refusal with its join.
+// The joins from the left: the number of rows at the end, or the refusal with its join. The rows of a segment come in with the
+// join before it: no step touches them earlier.
 fn join_steps(
     breaks: &[i32],
     degrees: &[i32],
@@ -151,16 +172,17 @@ fn join_steps(
     requires { ⌜ PartLegal (now breaks) (now degrees) (now orders) × Start (space (now breaks) (now degrees) (now orders)) (now num) (now den) columns ⌝ }
     ensures { λ r. ⌜ JoinsLeave (Build.weights (space (now (breaks .entry)) (now (degrees .entry)) (now (orders .entry)))) (rowCount (space (now (breaks .entry)) (now (degrees .entry)) (now (orders .entry)))) r (now (num .entry)) (now (den .entry)) (now (num .exit)) (now (den .exit)) ⌝ }
 {
-    let mut rows = columns;
+    let mut rows = space::degree_at(degrees, 0) + 1;
     let mut j = 0;
     while j < orders.len() {
         let n = space::condition_count(orders, j);
+        let more = space::degree_at(degrees, j + 1) + 1;
         let join = join_at(breaks, degrees, j);
-        let refusal = order_steps(num, den, join, n, rows, columns);
+        let refusal = join_step(num, den, join, n, rows, columns);
         let place = space::place(j);
         match refusal {
             Refusal::None => {
-                rows -= n;
+                rows = rows + more - n;
             }
             Refusal::TooLarge => {
                 return Built::Refused(8, place);
@@ -188,7 +210,7 @@ pub fn build_legal(
     ensures { λ r. ⌜ now (den .exit) ≡ Build.denominatorsAfter (Build.weights (space (now (breaks .entry)) (now (degrees .entry)) (now (orders .entry)))) (now (den .entry)) ⌝ }
 {
     let columns = space::first_column(degrees, degrees.len());
-    cells::identity(num, den, columns);
+    cells::identity(num, den, space::degree_at(degrees, 0) + 1);
     let built = join_steps(breaks, degrees, orders, num, den, columns);
     match built {
         Built::Rows(n) => Built::Rows(n),

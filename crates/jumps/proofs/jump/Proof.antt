@@ -112,13 +112,10 @@ add-product-requires : tie.Need-add-product-requires Inv-loop μ-loop
 add-product-requires c κs =
     let f = start c .pre .0 .1 in
     let h = start c .pre .1 .1 in
-    let x = read-fits c in (
-      c .before .before .before .before .loop .inv .sized,
-      (
-        rw (weight-is c (f .space) (f .index) (f .is) (h .0) (h .1)) (fits-sized (cell (h .0) (start c .args .at) (this c (f .space) (f .index) (f .is) .column)) (h .1 .fit (start c .args .at) (this c (f .space) (f .index) (f .is) .column))),
-        simp toZ-ofZ (rw (condition-is c (f .space) (f .index) (f .is)) (entry-small f (place c))),
-      ),
-    )
+    let x = read-fits c in
+    let l = c .before .before .before .before .loop .inv in
+    let weight : Sized (c .before .read .result) = rw (weight-is c (f .space) (f .index) (f .is) (h .0) (h .1)) (fits-sized (cell (h .0) (start c .args .at) (this c (f .space) (f .index) (f .is) .column)) (h .1 .fit (start c .args .at) (this c (f .space) (f .index) (f .is) .column))) in
+    ((l .sized, (weight, simp toZ-ofZ (rw (condition-is c (f .space) (f .index) (f .is)) (entry-small f (place c))))), l .lowest)
 
 -- what one more product and its sum answer
 module _ (c : tie.After-add-product Inv-loop μ-loop) (s : Space) (j : ℕ) (t : Table) (i : JoinIs (start (c .before) .args .join) s j) (h : Holds (start (c .before) .args .num .now) (start (c .before) .args .den .now) t) where

@@ -1,59 +1,87 @@
--- `triangle::value_at` meets its contract: the triangle of the place's ordinates. Assumes nothing.
+-- `triangle::value_at` meets its contract: in the arm of its degree, the triangle of the place's ordinates. Assumes nothing.
 use borrow.Author.Needs.{needs}
-use native.Mathlib.Omega.{arith}
+use mathlib.Core.Path.{_≡_, refl, ap₂, _∙_}
 use mathlib.Core.List.{List}
-use mathlib.Core.Path.{_≡_, ap, _∙_}
+use Prim.Native.Nat.{ℕ, _+_}
 use lib.IntN.{ℤ, pos, natAbs}
 use lib.ListN.{getD}
 use mir.Syntax.{w32, w64}
 use mir.Val.{SFits, ofZ, toZ}
 use mir.ValLaws.{toZ-ofZ}
-use Rattle.exact.proofs.Word.{sfits-abs}
 use Rattle.spline.specs.Reading.{triangle}
 use Rattle.triangle.specs.Place.{valueOf}
-use Rattle.triangle.proofs.Local.{local-bounded}
-use Rattle.triangle.proofs.Position.{value-local}
+use Rattle.triangle.specs.declared.Place.{Place}
+use Rattle.triangle.proofs.Position.{value-arm}
 use Rattle.triangle.proofs.value_at.Statement.{statement}
 use Rattle.triangle.proofs.value_at.Tie as tie
 
-local-ordinates-requires : tie.Need-local-ordinates-requires
-local-ordinates-requires c κs = search needs
+value-of-requires : tie.Need-value-of-requires
+value-of-requires c κs = search needs
+
+value-of-requires-2 : tie.Need-value-of-requires-2
+value-of-requires-2 c κs = search needs
+
+value-of-requires-3 : tie.Need-value-of-requires-3
+value-of-requires-3 c κs = search needs
+
+value-of-requires-4 : tie.Need-value-of-requires-4
+value-of-requires-4 c κs = search needs
+
+value-of-requires-5 : tie.Need-value-of-requires-5
+value-of-requires-5 c κs = search needs
+
+value-of-requires-6 : tie.Need-value-of-requires-6
+value-of-requires-6 c κs = search needs
 
 module _ (c : tie.After-struct-told2) where
-  abbrev start : tie.Start
-  start = c .before .before .before
-
-  offset-fits : SFits w64 (start .args .place .offset)
+  offset-fits : SFits w64 (c .before .before .args .place .offset)
   offset-fits = record { sfits = c .before .struct-told .given .1 .1 .0 .1 }
 
-  width-fits : SFits w64 (start .args .place .width)
+  width-fits : SFits w64 (c .before .before .args .place .width)
   width-fits = record { sfits = c .struct-told2 .given .1 .1 .1 .0 .1 }
 
-triangle-requires : tie.Need-triangle-requires
-triangle-requires c κs =
-    let s = start c in
-    let f = offset-fits c in
-    let g = width-fits c in
-    simp toZ-ofZ (s .pre .0 .low, (rw (c .before .before .local-ordinates .ensures) (local-bounded (s .args .ordinates .now) (s .args .place .column) (s .args .place .degree) (s .pre .1 .1)), s .pre .0 .inside))
+-- a number read back from its word
+abbrev word : ℤ → ℤ
+word z = toZ w64 (ofZ w64 z)
 
-module _ (c : tie.After-triangle) where
-  value-is : c .triangle .result ≡ valueOf (start (c .before) .args .ordinates .now) (start (c .before) .args .place)
-  value-is =
-      let s = start (c .before) in
-      let f = offset-fits (c .before) in
-      let g = width-fits (c .before) in
-      (simp toZ-ofZ at (c .triangle .ensures .0))
-      ∙ ap (λ (l : List ℤ). triangle (natAbs (s .args .place .width)) (s .args .place .offset) (λ k. getD l k (pos 0)) (s .args .place .degree) 0) (c .before .before .before .local-ordinates .ensures)
-      ∙ value-local (s .args .ordinates .now) (s .args .place) (omega (arith, s .pre .0 .low))
-
-  value-fits : SFits w32 (c .triangle .result)
-  value-fits = sfits-abs (omega (arith, c .triangle .ensures .1))
-
-cast-result : tie.Need-cast-result
-cast-result c = rw (toZ-ofZ w64 _ (record { sfits = c .triangle .ok })) (value-fits c)
+-- one arm: the degree is p, and its call gives the triangle
+arm : (os : List ℤ) (place : Place) (p : ℕ) (r : ℤ) → SFits w64 (place .offset) → SFits w64 (place .width) → SFits w32 r → place .degree ≡ p
+    → r ≡ triangle (natAbs (word (place .width))) (word (place .offset)) (λ k. getD os (place .column + k) (pos 0)) p 0 → toZ w32 (ofZ w32 r) ≡ valueOf os place
+arm os place p r offset-fits width-fits fits e h =
+    toZ-ofZ w32 r fits
+    ∙ value-arm os place p r e (h ∙ ap₂ (λ (d u : ℤ). triangle (natAbs d) u (λ k. getD os (place .column + k) (pos 0)) p 0) (toZ-ofZ w64 _ width-fits) (toZ-ofZ w64 _ offset-fits))
 
 returns : tie.Need-returns
-returns c = ap (λ (z : ℤ). toZ w32 (ofZ w32 z)) (toZ-ofZ w64 (c .triangle .result) (record { sfits = c .triangle .ok })) ∙ toZ-ofZ w32 (c .triangle .result) (value-fits c) ∙ value-is c
+returns c = arm _ _ 1 _ (offset-fits (c .before .before)) (width-fits (c .before .before)) (record { sfits = c .value-of .ok }) (c .before .match .keys1) (c .value-of .ensures)
+
+returns-2 : tie.Need-returns-2
+returns-2 c = arm _ _ 2 _ (offset-fits (c .before .before)) (width-fits (c .before .before)) (record { sfits = c .value-of2 .ok }) (c .before .match .keys2) (c .value-of2 .ensures)
+
+returns-3 : tie.Need-returns-3
+returns-3 c = arm _ _ 3 _ (offset-fits (c .before .before)) (width-fits (c .before .before)) (record { sfits = c .value-of3 .ok }) (c .before .match .keys3) (c .value-of3 .ensures)
+
+returns-4 : tie.Need-returns-4
+returns-4 c = arm _ _ 4 _ (offset-fits (c .before .before)) (width-fits (c .before .before)) (record { sfits = c .value-of4 .ok }) (c .before .match .keys4) (c .value-of4 .ensures)
+
+returns-5 : tie.Need-returns-5
+returns-5 c = arm _ _ 5 _ (offset-fits (c .before .before)) (width-fits (c .before .before)) (record { sfits = c .value-of5 .ok }) (c .before .match .keys5) (c .value-of5 .ensures)
+
+returns-6 : tie.Need-returns-6
+returns-6 c = arm _ _ _ _ (offset-fits (c .before .before)) (width-fits (c .before .before)) (record { sfits = c .value-of6 .ok }) refl (c .value-of6 .ensures)
 
 pub value-at-spec : {M : Type 1} → statement M
-value-at-spec = tie.close (tie.spec local-ordinates-requires triangle-requires cast-result returns)
+value-at-spec =
+    tie.close
+    (tie.spec
+    value-of-requires
+    value-of-requires-2
+    value-of-requires-3
+    value-of-requires-4
+    value-of-requires-5
+    value-of-requires-6
+    returns
+    returns-2
+    returns-3
+    returns-4
+    returns-5
+    returns-6)

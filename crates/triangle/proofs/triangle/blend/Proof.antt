@@ -1,68 +1,69 @@
--- `curve::triangle::blend` meets its contract: with ordinates within their limit nothing leaves 64 bits. Assumes nothing.
-use mathlib.Core.Path.{_≡_, ap, ap₂, _∙_}
+-- `triangle::triangle::blend` meets its contract: a blend is no larger in size than its neighbours. Assumes nothing.
 use native.Mathlib.Omega.{arith}
+use mathlib.Core.Path.{_≡_, sym, ap, _∙_, subst}
 use Prim.Native.Nat.{_≤_}
-use lib.IntN.{ℤ, natAbs, _+ℤ_, _-ℤ_, _*ℤ_}
+use lib.IntN.{ℤ, natAbs, _+ℤ_, _-ℤ_}
 use mir.Syntax.{w64}
-use mir.Val.{SFits, ofZ, toZ}
+use mir.Val.{SFits}
 use mir.ValLaws.{toZ-ofZ}
-use Rattle.exact.specs.Floor.{nearest}
 use Rattle.exact.proofs.Word.{sfits-abs}
 use Rattle.spline.specs.Reading.{blend}
 use Rattle.ordinates.specs.Ordinates.{ordinateLimit}
-use Rattle.triangle.proofs.Blend.{rise-fits, run-abs, run-fits, width-abs, step-is, step-abs}
+use Rattle.triangle.specs.Rate.{Rated}
+use Rattle.triangle.proofs.Blend.{rise-abs, step-is, step-abs}
 use Rattle.triangle.proofs.triangle.blend.Statement.{statement}
 use Rattle.triangle.proofs.triangle.blend.Tie as tie
 
--- a number read back from its word
-abbrev word : ℤ → ℤ
-word z = toZ w64 (ofZ w64 z)
-
 module _ (c : tie.Start) where
-  rise : SFits w64 (c .args .h -ℤ c .args .g)
-  rise = rise-fits (c .args .u) (c .args .d) (c .args .g) (c .args .h) (c .pre .1 .1) (c .pre .0) (c .pre .1 .0)
+  rise-size : natAbs (c .args .h -ℤ c .args .g) ≤ 512000000
+  rise-size = rise-abs _ _ (c .args .g) (c .args .h) (c .pre .1 .1 .1 .1 .inside) (c .pre .0) (c .pre .1 .0)
 
-  run : SFits w64 (c .args .u *ℤ (c .args .h -ℤ c .args .g))
-  run = run-fits (c .args .u) (c .args .d) (c .args .g) (c .args .h) (c .pre .1 .1) (c .pre .0) (c .pre .1 .0)
+  rise-fits : SFits w64 (c .args .h -ℤ c .args .g)
+  rise-fits = sfits-abs (omega (arith, rise-size))
 
-  -- the dividend, as it is passed on
-  run-is : word (word (c .args .u) *ℤ word (word (c .args .h) -ℤ word (c .args .g))) ≡ c .args .u *ℤ (c .args .h -ℤ c .args .g)
-  run-is = let f = c .fits .h in let k = c .fits .g in let l = c .fits .u in let m = rise in let r = run in simp toZ-ofZ
+sub-share-of : tie.Need-sub-share-of
+sub-share-of c = let f = c .fits .h in let g = c .fits .g in simp toZ-ofZ (rise-fits c)
 
-sub-round-div : tie.Need-sub-round-div
-sub-round-div c = let f = c .fits .h in let k = c .fits .g in simp toZ-ofZ (rise c)
+share-of-requires : tie.Need-share-of-requires
+share-of-requires c κs =
+    let f = c .fits .h in
+    let g = c .fits .g in
+    let k = c .fits .high in
+    let l = c .fits .low in
+    let m = rise-fits c in
+    simp toZ-ofZ (omega (arith, rise-size c), c .pre .1 .1)
 
-mul-round-div : tie.Need-mul-round-div
-mul-round-div c = let f = c .fits .h in let k = c .fits .g in let l = c .fits .u in let m = rise c in simp toZ-ofZ (run c)
+module _ (c : tie.After-share-of) where
+  abbrev start : tie.Start
+  start = c .before
 
-round-div-requires : tie.Need-round-div-requires
-round-div-requires c κs =
-    let bounds = run-abs (c .args .u) (c .args .d) (c .args .g) (c .args .h) (c .pre .1 .1) (c .pre .0) (c .pre .1 .0) in
-    let width = width-abs (c .args .u) (c .args .d) (c .args .g) (c .args .h) (c .pre .1 .1) (c .pre .0) (c .pre .1 .0) in
-    rw (run-is c, toZ-ofZ w64 (c .args .d) (c .fits .d)) (omega (arith, bounds), (c .pre .1 .1 .long, omega (arith, width)))
-
-module _ (c : tie.After-round-div) where
-  abbrev result : ℤ
-  result = blend (natAbs (c .before .args .d)) (c .before .args .u) (c .before .args .g) (c .before .args .h)
-
-  divided : c .round-div .result ≡ nearest (c .before .args .u *ℤ (c .before .args .h -ℤ c .before .args .g)) (natAbs (c .before .args .d))
-  divided = let s = c .before in c .round-div .ensures ∙ ap₂ (λ (a b : ℤ). nearest a (natAbs b)) (run-is s) (toZ-ofZ w64 (s .args .d) (s .fits .d))
+  share : SFits w64 (c .share-of .result)
+  share = record { sfits = c .share-of .ok }
 
   -- the sum is the blend
-  is : c .before .args .g +ℤ c .round-div .result ≡ result
-  is = let s = c .before in ap (λ (z : ℤ). s .args .g +ℤ z) divided ∙ step-is (s .args .u) (s .args .d) (s .args .g) (s .args .h) (s .pre .1 .1) (s .pre .0) (s .pre .1 .0)
+  is : (u d : ℤ) → Rated (start .args .high) (start .args .low) u d → start .args .g +ℤ c .share-of .result ≡ blend (natAbs d) u (start .args .g) (start .args .h)
+  is u d rated =
+      let f = start .fits .h in
+      let g = start .fits .g in
+      let k = start .fits .high in
+      let l = start .fits .low in
+      let m = rise-fits start in
+      ap (λ (z : ℤ). start .args .g +ℤ z) ((simp toZ-ofZ at (c .share-of .ensures)) u d rated)
+      ∙ step-is u d (start .args .g) (start .args .h) (rated .inside) (start .pre .0) (start .pre .1 .0)
 
-  abs : natAbs result ≤ ordinateLimit
-  abs = let s = c .before in step-abs (s .args .u) (s .args .d) (s .args .g) (s .args .h) (s .pre .1 .1) (s .pre .0) (s .pre .1 .0)
+  abs : natAbs (start .args .g +ℤ c .share-of .result) ≤ ordinateLimit
+  abs =
+      let rated = start .pre .1 .1 .1 .1 in
+      subst (λ (z : ℤ). natAbs z ≤ ordinateLimit) (sym (is _ _ rated)) (step-abs _ _ (start .args .g) (start .args .h) (rated .inside) (start .pre .0) (start .pre .1 .0))
 
-  sum-fits : SFits w64 (c .before .args .g +ℤ c .round-div .result)
-  sum-fits = rw is (sfits-abs (omega (arith, abs)))
+  sum-fits : SFits w64 (start .args .g +ℤ c .share-of .result)
+  sum-fits = sfits-abs (omega (arith, abs))
 
 add-result : tie.Need-add-result
-add-result c = let f = c .before .fits .g in let k : SFits w64 (c .round-div .result) = record { sfits = c .round-div .ok } in simp toZ-ofZ (sum-fits c)
+add-result c = let f = c .before .fits .g in let k = share c in simp toZ-ofZ (sum-fits c)
 
 returns : tie.Need-returns
-returns c = let f = c .before .fits .g in let k : SFits w64 (c .round-div .result) = record { sfits = c .round-div .ok } in let l = sum-fits c in simp toZ-ofZ (is c, rw (is c) (abs c))
+returns c = let f = c .before .fits .g in let k = share c in let l = sum-fits c in simp toZ-ofZ (is c, abs c)
 
 pub blend-spec : {M : Type 1} → statement M
-blend-spec = tie.close (tie.spec sub-round-div mul-round-div round-div-requires add-result returns)
+blend-spec = tie.close (tie.spec sub-share-of share-of-requires add-result returns)

@@ -1,18 +1,22 @@
--- The identity of the space's columns, then the joins' steps; after a refusal the buffers are cleared. Assumes nothing.
+-- The first segment's rows of the identity, then the joins' steps; after a refusal the buffers are cleared. Assumes nothing.
 use borrow.Author.Needs.{needs}
 use mathlib.Core.Path.{_≡_, _∙_, subst}
-use Prim.Native.Nat.{_≤_}
+use lib.ListN.{take}
+use Prim.Native.Nat.{ℕ, _+_, _≤_}
 use native.Mathlib.Omega.{arith}
-use Rattle.spline.specs.Space.{Space, columnCount, rowCount}
+use Rattle.spline.specs.Space.{Space, segments, firstColumn, columnCount, rowCount}
 use Rattle.spline.specs.Table.{identity}
 use Rattle.spline.specs.Build.{weights}
 use Rattle.space.specs.Reply.{space}
+use Rattle.spline.proofs.Space.{firstColumn-mono}
+use Rattle.space.proofs.Bounds.{first-column-zero, first-column-next}
 use Rattle.space.proofs.Partial.{column-count-partial}
 use Rattle.space.proofs.Legal.{part-column-count-high}
+use Rattle.cells.specs.Held.{Holds}
 use Rattle.cells.proofs.Buffer.{holds-left}
 use Rattle.weights.specs.Leaves.{Start, JoinsLeave}
 use Rattle.weights.specs.declared.Built.{Built}
-use Rattle.weights.proofs.Stepped.{identity-fits}
+use Rattle.weights.proofs.Grown.{first-proper, first-numerators, first-denominators}
 use Rattle.weights.proofs.Building.{ends-rows, ends-cleared}
 use Rattle.weights.proofs.step.build_legal.Statement.{statement}
 use Rattle.weights.proofs.step.build_legal.Tie as tie
@@ -31,22 +35,43 @@ module _ (c : tie.After-first-column) where
 first-column-requires : tie.Need-first-column-requires
 first-column-requires c κs = search needs
 
-identity-requires : tie.Need-identity-requires
-identity-requires c κs = let f = c .before .before in (columns-fit f, f .before .pre .1)
+degree-at-requires : tie.Need-degree-at-requires
+degree-at-requires c κs = search needs
 
--- the identity is in the buffers
-starts : (c : tie.After-identity) → Start (lists (c .before .before .before .before)) (c .identity .last .0) (c .identity .last .1 .0) (c .before .before .before .first-column .result)
+-- the first segment's rows
+module _ (c : tie.After-degree-at) where
+  abbrev counted : tie.After-first-column
+  counted = c .before .before .before
+
+  rows-are : c .degree-at .result + 1 ≡ firstColumn (lists (counted .before)) 1
+  rows-are = omega (arith, c .degree-at .ensures, first-column-zero (lists (counted .before)), first-column-next (lists (counted .before)) 0)
+
+  rows-few : c .degree-at .result + 1 ≤ counted .first-column .result
+  rows-few = omega (arith, rows-are, columns-are counted, firstColumn-mono (lists (counted .before)) 1 (segments (lists (counted .before))) (omega (arith, counted .before .pre .0 .lists .order-count)))
+
+add-identity : tie.Need-add-identity
+add-identity c = omega (arith, rows-few c, columns-fit (counted c))
+
+identity-requires : tie.Need-identity-requires
+identity-requires c κs = let f = counted c in (omega (arith, rows-few c, columns-fit f), f .before .pre .1)
+
+-- they are in the buffers
+starts : (c : tie.After-identity) → Start (lists (counted (c .before) .before)) (c .identity .last .0) (c .identity .last .1 .0) (counted (c .before) .first-column .result)
 starts c =
-    let f = c .before .before .before in
+    let d = c .before in
+    let f = counted d in
     let p = f .before .pre in
+    let n = f .first-column .result in
+    let m = d .degree-at .result + 1 in
     record {
       count = columns-are f;
       room = columns-fit f;
-      holds = holds-left _ _ (identity (f .first-column .result)) (p .1 .0) (p .1 .1) (c .identity .ensures .0) (c .identity .ensures .1) (identity-fits (f .first-column .result));
+      holds = subst (λ (k : ℕ). Holds (c .identity .last .0) (c .identity .last .1 .0) (take k (identity n))) (rows-are d)
+          (holds-left _ _ (take m (identity n)) (p .1 .0) (p .1 .1) (c .identity .ensures .0 ∙ first-numerators m n _ (rows-few d)) (c .identity .ensures .1 ∙ first-denominators m n _ (rows-few d)) (first-proper m n (rows-few d) (columns-fit f) .fit));
     }
 
 join-steps-requires : tie.Need-join-steps-requires
-join-steps-requires c κs = let i = c .before .before .before .before in (i .before .before .before .before .pre .0, starts i)
+join-steps-requires c κs = let i = c .before .before .before .before in (i .before .before .before .before .before .pre .0, starts i)
 
 enum-known-built : tie.Need-enum-known-built
 enum-known-built c = search needs
@@ -69,7 +94,7 @@ module _ (c : tie.After-join-steps) where
   before-joins = c .before .before .before .before .before
 
   abbrev whole : Space
-  whole = lists (before-joins .before .before .before .before)
+  whole = lists (counted (before-joins .before) .before)
 
   left : (r : Built) → c .join-steps .result ≡ r → JoinsLeave (weights whole) (rowCount whole) r (before-joins .identity .last .0) (before-joins .identity .last .1 .0) (c .join-steps .last .1 .1 .1 .0) (c .join-steps .last .1 .1 .1 .1 .0)
   left r e = subst (λ (x : Built). JoinsLeave (weights whole) (rowCount whole) x (before-joins .identity .last .0) (before-joins .identity .last .1 .0) (c .join-steps .last .1 .1 .1 .0) (c .join-steps .last .1 .1 .1 .1 .0)) e (c .join-steps .ensures)
@@ -93,7 +118,7 @@ returns-2 c =
     let b = d .before .before .before .before in
     let j = b .before .before .before .before in
     let i = before-joins j in
-    let p = i .before .before .before .before .pre .1 in
+    let p = counted (i .before) .before .pre .1 in
     let e = ends-cleared (rowCount (whole j)) _ _ _ _ _ _ _ (i .identity .ensures .0) (i .identity .ensures .1) (whole j) (p .0) (p .1) (left j _ (b .built2 .given .1)) (d .clear .ensures .0) (d .clear .ensures .1) in
     (e .answers, (e .numerators-are, e .denominators-are))
 
@@ -102,6 +127,8 @@ build-legal-spec =
     tie.close
     (tie.spec
     first-column-requires
+    degree-at-requires
+    add-identity
     identity-requires
     join-steps-requires
     enum-known-built
