@@ -1,6 +1,6 @@
 /* Walzhik: growth curves of earlywood and latewood in segments of different degree, with exact weights.
  *
- * The static library libwalzhik.a has six calls. Lists and buffers may have any length and any content: a call always
+ * The static library libwalzhik.a has ten calls. Lists and buffers may have any length and any content: a call always
  * returns, reads and writes only what it is lent, and answers or refuses with a number and a place. A list or buffer of
  * length 0 still needs a valid (non-null, aligned) pointer. In every call the lent buffers must lie apart from each other and
  * from the lists: no call can see that they overlap, and nothing is promised where they do. Building and the curve call
@@ -127,6 +127,55 @@ walzhik_reply walzhik_tucson_read(const uint8_t *text, size_t text_len, uint8_t 
 walzhik_reply walzhik_tucson_write(const uint8_t *names, size_t names_len, const int32_t *years, size_t years_len,
                                    const uint32_t *counts, size_t counts_len, const int32_t *widths, size_t widths_len,
                                    uint8_t *text, size_t text_len);
+
+/* When the curve reaches a width: the least position of the span, in 256ths of a ring, whose value for one wood part is 256 width
+ * or more, by the values that walzhik_curve gives. All positions count, ends included, and none before the answer reaches the
+ * width, whether the curve rises, falls, waves or jumps.
+ *   width    in thousandths of a millimetre, any 32-bit number
+ * An answer: number 0, place 0, and the position. A refusal: position 0. Numbers as in walzhik_curve without positions, so never
+ * 7 or the places of 1 and 2 that name values and positions, and after all others
+ *   16  no position of the span reaches the width (0)
+ * After 16 the weights are as after an answer. Each of these two calls needs at most 16384 bytes of stack. */
+typedef struct {
+    int32_t position;
+    uint32_t number;
+    uint32_t place;
+} walzhik_reach;
+
+walzhik_reach walzhik_earlywood_reach(const int32_t *breaks, size_t breaks_len, const int32_t *degrees, size_t degrees_len,
+                                      const int32_t *orders, size_t orders_len, const int32_t *coefs, size_t coefs_len,
+                                      int32_t width, int64_t *num, size_t num_len, int64_t *den, size_t den_len);
+
+walzhik_reach walzhik_latewood_reach(const int32_t *breaks, size_t breaks_len, const int32_t *degrees, size_t degrees_len,
+                                     const int32_t *orders, size_t orders_len, const int32_t *coefs, size_t coefs_len,
+                                     int32_t width, int64_t *num, size_t num_len, int64_t *den, size_t den_len);
+
+/* One piece of a wood part's curve for the screen: the named segment, if its degree is 1, 2 or 3.
+ *   segment  its number, counted from 0
+ * An answer has number 0, place 0, the degree, degree + 1 ordinates in thousandths of a millimetre and the segment's two
+ * breakpoints. All floats are exact: an ordinate times 256 is the whole number that the curve call blends, an end is the
+ * breakpoint itself. The polynomial with these ordinates differs from the exact curve by at most s / 512 thousandths on the
+ * segment, and at its end it is the curve call's value, as it is at its start unless a discontinuity is there. Ordinates past
+ * the degree are 0.0. Numbers as in walzhik_curve without positions, and after all others
+ *   17  the segment's number: there is no such segment, or its degree is 4 or 5
+ * After a refusal all but number and place is 0; after 17 the weights are as after an answer. Each of these two calls needs at
+ * most 16384 bytes of stack. */
+typedef struct {
+    uint32_t number;
+    uint32_t place;
+    uint32_t degree;
+    uint32_t unused;
+    double o0, o1, o2, o3;
+    double start, end;
+} walzhik_piece;
+
+walzhik_piece walzhik_earlywood_piece(const int32_t *breaks, size_t breaks_len, const int32_t *degrees, size_t degrees_len,
+                                      const int32_t *orders, size_t orders_len, const int32_t *coefs, size_t coefs_len,
+                                      uint32_t segment, int64_t *num, size_t num_len, int64_t *den, size_t den_len);
+
+walzhik_piece walzhik_latewood_piece(const int32_t *breaks, size_t breaks_len, const int32_t *degrees, size_t degrees_len,
+                                     const int32_t *orders, size_t orders_len, const int32_t *coefs, size_t coefs_len,
+                                     uint32_t segment, int64_t *num, size_t num_len, int64_t *den, size_t den_len);
 
 #ifdef __cplusplus
 }

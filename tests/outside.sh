@@ -15,8 +15,8 @@ seen() {
 # Every list and buffer of a call line, on both sides.
 try() {
     seen "$1" "$2" -1 after && { echo "seen, though nothing is read outside: $2"; failed=1; }
-    # each word with a list or a buffer; the first ring is neither
-    arguments=$(grep -oE '[a-z]+=' <<<"$2" | grep -cv '^first=')
+    # each word with a list or a buffer; the first ring, the width and the segment are neither
+    arguments=$(grep -oE '[a-z]+=' <<<"$2" | grep -cvE '^(first|width|segment)=')
     for ((argument = 0; argument < arguments; argument++)); do
         for side in before after; do
             tried=$((tried + 1))
@@ -31,6 +31,11 @@ try "$driver" "build $lists num=5184:7 den=5184:9"
 try "$driver" "curve $lists coefs=0,0,100,-100,0,0,0,0 at=256,512 num=5184:7 den=5184:9 values=4:5"
 try "$driver" "earlywood_indices $rings"
 try "$driver" "latewood_indices $rings"
+space="$lists coefs=0,0,100,100,0,0,0,0"
+for part in earlywood latewood; do
+    try "$driver" "${part}_reach $space width=5 num=5184:7 den=5184:9"
+    try "$driver" "${part}_piece $space segment=1 num=5184:7 den=5184:9"
+done
 try "$tucson" 'read text=65,66,67 names=8:1 years=1:2 counts=1:3 widths=4:5'
 try "$tucson" 'write names=65,66,67 years=1900 counts=2 widths=5,7 text=40:1'
 [ "$failed" -eq 0 ] && echo "outside: $tried reads outside, all seen"

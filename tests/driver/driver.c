@@ -106,6 +106,66 @@ static void run_indices(const char *line, index_call *call)
     end_all(held, ALL);
 }
 
+/* The reach call of a wood part, both of one type. */
+typedef walzhik_reach reach_call(const int32_t *, size_t, const int32_t *, size_t, const int32_t *, size_t, const int32_t *,
+                                 size_t, int32_t, int64_t *, size_t, int64_t *, size_t);
+
+static void run_reach(const char *line, reach_call *call)
+{
+    enum { COEFS = SPACE_LISTS, NUM, DEN, ALL };
+    cells held[ALL];
+    read_space(&line, held);
+    held[COEFS] = read_list(&line, "coefs", SIGNED_32);
+    after_name(&line, "width");
+    int32_t width = (int32_t)read_number(&line);
+    held[NUM] = read_buffer(&line, "num", SIGNED_64);
+    held[DEN] = read_buffer(&line, "den", SIGNED_64);
+
+    walzhik_reach reach = call(in(&held[BREAKS]), held[BREAKS].length, in(&held[DEGREES]), held[DEGREES].length,
+                               in(&held[ORDERS]), held[ORDERS].length, in(&held[COEFS]), held[COEFS].length, width,
+                               in(&held[NUM]), held[NUM].length, in(&held[DEN]), held[DEN].length);
+    printf("reach=%" PRId32 ",%" PRIu32 ",%" PRIu32, reach.position, reach.number, reach.place);
+    print_weights(&held[NUM], &held[DEN]);
+    end_all(held, ALL);
+}
+
+/* The piece call of a wood part, both of one type. */
+typedef walzhik_piece piece_call(const int32_t *, size_t, const int32_t *, size_t, const int32_t *, size_t, const int32_t *,
+                                 size_t, uint32_t, int64_t *, size_t, int64_t *, size_t);
+
+/* A float as its bits. */
+static void print_bits(const char *before, double number)
+{
+    uint64_t bits;
+    memcpy(&bits, &number, sizeof bits);
+    printf("%s%016" PRIx64, before, bits);
+}
+
+static void run_piece(const char *line, piece_call *call)
+{
+    enum { COEFS = SPACE_LISTS, NUM, DEN, ALL };
+    cells held[ALL];
+    read_space(&line, held);
+    held[COEFS] = read_list(&line, "coefs", SIGNED_32);
+    after_name(&line, "segment");
+    uint32_t segment = (uint32_t)read_number(&line);
+    held[NUM] = read_buffer(&line, "num", SIGNED_64);
+    held[DEN] = read_buffer(&line, "den", SIGNED_64);
+
+    walzhik_piece piece = call(in(&held[BREAKS]), held[BREAKS].length, in(&held[DEGREES]), held[DEGREES].length,
+                               in(&held[ORDERS]), held[ORDERS].length, in(&held[COEFS]), held[COEFS].length, segment,
+                               in(&held[NUM]), held[NUM].length, in(&held[DEN]), held[DEN].length);
+    printf("piece=%" PRIu32 ",%" PRIu32 ",%" PRIu32 ",%" PRIu32, piece.number, piece.place, piece.degree, piece.unused);
+    print_bits(" ordinates=", piece.o0);
+    print_bits(",", piece.o1);
+    print_bits(",", piece.o2);
+    print_bits(",", piece.o3);
+    print_bits(" ends=", piece.start);
+    print_bits(",", piece.end);
+    print_weights(&held[NUM], &held[DEN]);
+    end_all(held, ALL);
+}
+
 static void run_line(const char *line)
 {
     const char *rest;
@@ -117,6 +177,14 @@ static void run_line(const char *line)
         run_indices(rest, walzhik_earlywood_indices);
     else if ((rest = after_word(line, "latewood_indices ")) != NULL)
         run_indices(rest, walzhik_latewood_indices);
+    else if ((rest = after_word(line, "earlywood_reach ")) != NULL)
+        run_reach(rest, walzhik_earlywood_reach);
+    else if ((rest = after_word(line, "latewood_reach ")) != NULL)
+        run_reach(rest, walzhik_latewood_reach);
+    else if ((rest = after_word(line, "earlywood_piece ")) != NULL)
+        run_piece(rest, walzhik_earlywood_piece);
+    else if ((rest = after_word(line, "latewood_piece ")) != NULL)
+        run_piece(rest, walzhik_latewood_piece);
     else
         give_up("expected the name of a call", line);
 }

@@ -110,3 +110,52 @@ walzhik_reply walzhik_tucson_write(const uint8_t *names, size_t names_len, const
     look_outside(4, text, text_len, sizeof *text);
     return (walzhik_reply){0, 0, 0};
 }
+
+/* What the reach and piece calls are lent. */
+static void look_at_space(const int32_t *breaks, size_t breaks_len, const int32_t *degrees, size_t degrees_len,
+                          const int32_t *orders, size_t orders_len, const int32_t *coefs, size_t coefs_len, int64_t *num,
+                          size_t num_len, int64_t *den, size_t den_len)
+{
+    look_outside(0, breaks, breaks_len, sizeof *breaks);
+    look_outside(1, degrees, degrees_len, sizeof *degrees);
+    look_outside(2, orders, orders_len, sizeof *orders);
+    look_outside(3, coefs, coefs_len, sizeof *coefs);
+    look_outside(4, num, num_len, sizeof *num);
+    look_outside(5, den, den_len, sizeof *den);
+}
+
+walzhik_reach walzhik_earlywood_reach(const int32_t *breaks, size_t breaks_len, const int32_t *degrees, size_t degrees_len,
+                                   const int32_t *orders, size_t orders_len, const int32_t *coefs, size_t coefs_len,
+                                   int32_t width, int64_t *num, size_t num_len, int64_t *den, size_t den_len)
+{
+    (void)width;
+    look_at_space(breaks, breaks_len, degrees, degrees_len, orders, orders_len, coefs, coefs_len, num, num_len, den, den_len);
+    return (walzhik_reach){0, 0, 0};
+}
+
+walzhik_piece walzhik_earlywood_piece(const int32_t *breaks, size_t breaks_len, const int32_t *degrees, size_t degrees_len,
+                                   const int32_t *orders, size_t orders_len, const int32_t *coefs, size_t coefs_len,
+                                   uint32_t segment, int64_t *num, size_t num_len, int64_t *den, size_t den_len)
+{
+    (void)segment;
+    look_at_space(breaks, breaks_len, degrees, degrees_len, orders, orders_len, coefs, coefs_len, num, num_len, den, den_len);
+    return (walzhik_piece){0};
+}
+
+walzhik_reach walzhik_latewood_reach(const int32_t *breaks, size_t breaks_len, const int32_t *degrees, size_t degrees_len,
+                                   const int32_t *orders, size_t orders_len, const int32_t *coefs, size_t coefs_len,
+                                   int32_t width, int64_t *num, size_t num_len, int64_t *den, size_t den_len)
+{
+    (void)width;
+    look_at_space(breaks, breaks_len, degrees, degrees_len, orders, orders_len, coefs, coefs_len, num, num_len, den, den_len);
+    return (walzhik_reach){0, 0, 0};
+}
+
+walzhik_piece walzhik_latewood_piece(const int32_t *breaks, size_t breaks_len, const int32_t *degrees, size_t degrees_len,
+                                   const int32_t *orders, size_t orders_len, const int32_t *coefs, size_t coefs_len,
+                                   uint32_t segment, int64_t *num, size_t num_len, int64_t *den, size_t den_len)
+{
+    (void)segment;
+    look_at_space(breaks, breaks_len, degrees, degrees_len, orders, orders_len, coefs, coefs_len, num, num_len, den, den_len);
+    return (walzhik_piece){0};
+}

@@ -19,7 +19,7 @@
 enum { SEGMENTS = 12, COLUMNS = 72, POSITIONS = 4096, PARTS = 2, STACK = 1 << 20, PAINT = 0xA5 };
 
 /* The most bytes that a call may need. */
-enum { BUILD_LIMIT = 16384, CURVE_LIMIT = 16384, INDICES_LIMIT = 32768, TUCSON_LIMIT = 1024 };
+enum { BUILD_LIMIT = 16384, CURVE_LIMIT = 16384, INDICES_LIMIT = 32768, REACH_LIMIT = 16384, PIECE_LIMIT = 16384, TUCSON_LIMIT = 1024 };
 
 static int32_t breaks[SEGMENTS + 1], degrees[SEGMENTS], orders[SEGMENTS - 1];
 static int32_t coefs[PARTS * COLUMNS], positions[POSITIONS], values[PARTS * POSITIONS];
@@ -83,6 +83,30 @@ static void *latewood(void *unused)
     return unused;
 }
 
+/* A width that no value reaches: 16, after the whole search. */
+static const int32_t never = 1;
+
+static void *reach(void *unused)
+{
+    size_t numbers = PARTS * (6 * SEGMENTS - 3 * (SEGMENTS - 1));
+    walzhik_reach early = walzhik_earlywood_reach(breaks, SEGMENTS + 1, degrees, SEGMENTS, orders, SEGMENTS - 1, coefs, numbers,
+                                                  never, num, WALZHIK_CELLS, den, WALZHIK_CELLS);
+    walzhik_reach late = walzhik_latewood_reach(breaks, SEGMENTS + 1, degrees, SEGMENTS, orders, SEGMENTS - 1, coefs, numbers,
+                                                never, num, WALZHIK_CELLS, den, WALZHIK_CELLS);
+    reply = (walzhik_reply){0, early.number != 16 || late.number != 16, 0};
+    return unused;
+}
+
+/* A segment of degree 5 isn't drawn: the call has done all its work by then. */
+static void *drawn(void *unused)
+{
+    size_t numbers = PARTS * (6 * SEGMENTS - 3 * (SEGMENTS - 1));
+    walzhik_piece piece = walzhik_latewood_piece(breaks, SEGMENTS + 1, degrees, SEGMENTS, orders, SEGMENTS - 1, coefs, numbers,
+                                                 0, num, WALZHIK_CELLS, den, WALZHIK_CELLS);
+    reply = (walzhik_reply){0, piece.number != 17, 0};
+    return unused;
+}
+
 static void *tucson_read(void *unused)
 {
     reply = walzhik_tucson_read((const uint8_t *)text, TEXT, names, NAME * SERIES, years, SERIES, counts, SERIES,
@@ -140,6 +164,8 @@ int main(void)
     failed |= measured("curve", curve, CURVE_LIMIT);
     failed |= measured("earlywood indices", earlywood, INDICES_LIMIT);
     failed |= measured("latewood indices", latewood, INDICES_LIMIT);
+    failed |= measured("reach", reach, REACH_LIMIT);
+    failed |= measured("piece", drawn, PIECE_LIMIT);
     failed |= measured("tucson_read", tucson_read, TUCSON_LIMIT);
     failed |= measured("tucson_write", tucson_write, TUCSON_LIMIT);
     return failed;

@@ -4,8 +4,9 @@ usage: selfcheck.py [--count N] [--seed S]
 
 First W1 to W10 with all that is stated of them and the sheet's number 10, then
 the sparse form of random calls against full buffers, then random spaces with
-all that the demands promise, then Tucson texts and lists, then coefficients
-from ordinates. Exits non-zero on any difference.
+all that the demands promise, then Tucson texts and lists, coefficients from
+ordinates, widths that a curve reaches, and pieces. Exits non-zero on any
+difference.
 """
 
 import argparse
@@ -18,9 +19,11 @@ from cases import (CASES, ODD_CASES, PLAIN_SUMS, SIZE_CASES, W1_PRINTOUT, W1_SHE
                    case_call, case_sheet, short_calls, stated_lines)
 from generate import calls
 from limits import CELLS, LARGEST_PLACE, MOST_LIST_ENTRIES, MOST_SHEET_BYTES, SIDE, UNIT
+from piecescheck import check_pieces
 from protocol import (SAME, VALUE_BITS, WEIGHT_BITS, call_line, listed_cells, read_call,
                       result_line)
 from random_sheets import padded
+from reachcheck import check_reach
 from reading import rounded
 from recoverycheck import check_recovery
 from spacecheck import check_spaces
@@ -29,7 +32,9 @@ from walzhik_reference import build, build_outcome, curve, sheet
 
 SPACES = 3_000
 RECOVERY_SHARE = 3       # one call that recovers coefficients for so many spaces
+PIECES = 150             # random piece calls
 EXPANDED = 300           # random calls whose full buffers are compared
+REACHED = 150            # random reach calls
 ROUNDED = 20             # size of the parts of the quotients that are rounded
 HALF = Fraction(1, 2)
 
@@ -189,6 +194,8 @@ def main():
     check_spaces(tally, seed, chosen.count)
     check_tucson(tally, seed, chosen.count)
     check_recovery(tally, seed, chosen.count // RECOVERY_SHARE)
+    check_reach(tally, seed, REACHED)
+    check_pieces(tally, seed, PIECES)
     print(f"selfcheck: {tally.passed} passed, {tally.failed} failed")
     return 1 if tally.failed else 0
 

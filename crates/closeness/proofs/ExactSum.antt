@@ -1,4 +1,5 @@
--- Document 01's exact curve, a double sum over rows and ordinates, is what exact blends of the exact ordinates leave.
+-- A sum over the Bernstein polynomials at a position is what exact blends leave; so document 01's exact curve, a double sum over
+-- rows and ordinates, is what they leave of the exact ordinates.
 use mathlib.Core.Path.{_≡_, refl, sym, _∙_, ap, ap₂}
 use mathlib.Core.List.{List, [], _∷_}
 use Prim.Native.Nat.{ℕ, suc, _+_, _<_}
@@ -20,10 +21,27 @@ use Rattle.closeness.proofs.Bernstein.{power-inv, bernstein, bernsteinS
 use Rattle.closeness.proofs.Triangle.{leftFactor, rightFactor}
 use Rattle.closeness.proofs.Ordinate.{exactOrdinate}
 
--- the factors of the double sum are the Bernstein weights over D^p
-bernsteinAt-is : (p d : ℕ) (u : ℤ) (t : ℕ) → bernsteinAt p d u t ≡ bernstein (int (pos d -ℤ u)) (int u) p t *ᵠ inv (power (int (pos d)) p)
-unfolding bernsteinAt bernstein
-bernsteinAt-is p d u t = refl
+-- ordinates times the polynomials of degree p at u/D, summed: the blends of the ordinates
+module _ (p d : ℕ) (u : ℤ) (e : ℕ → ℚ) where
+  bernsteinAt-sum : sum (suc p) (λ t. e t *ᵠ bernsteinAt p d u t) ≡ bernsteinSum (int (pos d -ℤ u)) (int u) p e *ᵠ inv (power (int (pos d)) p)
+  unfolding bernsteinAt bernstein bernsteinSum
+  bernsteinAt-sum = sum-ext (suc p) (λ t h. swap (e t) (bernstein (int (pos d -ℤ u)) (int u) p t) (inv (power (int (pos d)) p)))
+      ∙ sum-mul-right (suc p) (inv (power (int (pos d)) p)) (λ t. bernstein (int (pos d -ℤ u)) (int u) p t *ᵠ e t)
+    where
+      swap : (e b δ : ℚ) → e *ᵠ (b *ᵠ δ) ≡ b *ᵠ e *ᵠ δ
+      swap e b δ = ring ℚ-ring (e ∷ b ∷ δ ∷ []) (search reads) (search reads) refl
+
+  pub bernsteinAt-triangle : 0 < d → sum (suc p) (λ t. e t *ᵠ bernsteinAt p d u t) ≡ exactTriangle (leftFactor d u) (rightFactor d u) e p 0
+  bernsteinAt-triangle h = bernsteinAt-sum
+      ∙ ap₂ _*ᵠ_ (bernsteinSum-ext α β p (λ t. ap e (let z : t ≡ 0 + t = omega arith in z)) ∙ sym (triangle-is-sum α β e p 0))
+      (sym (power-inv (int (pos d)) p (pos-nonzero (pos-of-nat d h))))
+      ∙ sym (triangle-scale α β (inv (int (pos d))) e p 0)
+    where
+      α : ℚ
+      α = int (pos d -ℤ u)
+
+      β : ℚ
+      β = int u
 
 -- The exact ordinates of segment j.
 abbrev pub exactOrdinates : Space → Table → WoodPart → List ℤ → ℕ → ℕ → ℚ
@@ -31,37 +49,12 @@ exactOrdinates s w part coefs j k = exactOrdinate w (coefficient part coefs) (fi
 
 module _ (s : Space) (w : Table) (part : WoodPart) (coefs : List ℤ) (j : ℕ) (x : ℤ) where
   -- the sum over the rows first
-  ordinate-term : (t : ℕ) → sum (length w) (λ i. exactTerm s w part coefs j x i t)
-      ≡ bernstein (int (pos (fineWidth s j) -ℤ offset s j x)) (int (offset s j x)) (degree s j) t *ᵠ exactOrdinates s w part coefs j t *ᵠ inv (power (int (pos (fineWidth s j))) (degree s j))
+  ordinate-term : (t : ℕ) → sum (length w) (λ i. exactTerm s w part coefs j x i t) ≡ exactOrdinates s w part coefs j t *ᵠ bernsteinAt (degree s j) (fineWidth s j) (offset s j x) t
   unfolding exactTerm exactOrdinate
-  ordinate-term t =
-      sum-mul-right (length w) (bernsteinAt (degree s j) (fineWidth s j) (offset s j x) t) (λ i. int (fine (coefficient part coefs i)) *ᵠ cell w i (firstColumn s j + t))
-      ∙ ap (λ b. sum (length w) (λ i. int (fine (coefficient part coefs i)) *ᵠ cell w i (firstColumn s j + t)) *ᵠ b) (bernsteinAt-is (degree s j) (fineWidth s j) (offset s j x) t)
-      ∙ swap (sum (length w) (λ i. int (fine (coefficient part coefs i)) *ᵠ cell w i (firstColumn s j + t))) (bernstein (int (pos (fineWidth s j) -ℤ offset s j x)) (int (offset s j x)) (degree s j) t) (inv (power (int (pos (fineWidth s j))) (degree s j)))
-    where
-      swap : (e b δ : ℚ) → e *ᵠ (b *ᵠ δ) ≡ b *ᵠ e *ᵠ δ
-      swap e b δ = ring ℚ-ring (e ∷ b ∷ δ ∷ []) (search reads) (search reads) refl
-
-  exactOn-is-sum : exactOn s w part coefs j x ≡ bernsteinSum (int (pos (fineWidth s j) -ℤ offset s j x)) (int (offset s j x)) (degree s j) (exactOrdinates s w part coefs j) *ᵠ inv (power (int (pos (fineWidth s j))) (degree s j))
-  unfolding exactOn bernsteinSum
-  exactOn-is-sum = sum-swap (length w) (suc (degree s j)) (λ i t. exactTerm s w part coefs j x i t)
-      ∙ sum-ext (suc (degree s j)) (λ t h. ordinate-term t)
-      ∙ sum-mul-right (suc (degree s j)) (inv (power (int (pos (fineWidth s j))) (degree s j))) (λ t. bernstein (int (pos (fineWidth s j) -ℤ offset s j x)) (int (offset s j x)) (degree s j) t *ᵠ exactOrdinates s w part coefs j t)
+  ordinate-term t = sum-mul-right (length w) (bernsteinAt (degree s j) (fineWidth s j) (offset s j x) t) (λ i. int (fine (coefficient part coefs i)) *ᵠ cell w i (firstColumn s j + t))
 
   pub exactOn-is-triangle : 0 < fineWidth s j → exactOn s w part coefs j x ≡ exactTriangle (leftFactor (fineWidth s j) (offset s j x)) (rightFactor (fineWidth s j) (offset s j x)) (exactOrdinates s w part coefs j) (degree s j) 0
-  exactOn-is-triangle h = exactOn-is-sum
-      ∙ ap₂ _*ᵠ_ (bernsteinSum-ext α β p (λ t. ap (exactOrdinates s w part coefs j) (let z : t ≡ 0 + t = omega arith in z)) ∙ sym (triangle-is-sum α β (exactOrdinates s w part coefs j) p 0))
-      (sym (power-inv D p (pos-nonzero (pos-of-nat (fineWidth s j) h))))
-      ∙ sym (triangle-scale α β (inv D) (exactOrdinates s w part coefs j) p 0)
-    where
-      p : ℕ
-      p = degree s j
-
-      D : ℚ
-      D = int (pos (fineWidth s j))
-
-      α : ℚ
-      α = int (pos (fineWidth s j) -ℤ offset s j x)
-
-      β : ℚ
-      β = int (offset s j x)
+  unfolding exactOn
+  exactOn-is-triangle h = sum-swap (length w) (suc (degree s j)) (λ i t. exactTerm s w part coefs j x i t)
+      ∙ sum-ext (suc (degree s j)) (λ t h. ordinate-term t)
+      ∙ bernsteinAt-triangle (degree s j) (fineWidth s j) (offset s j x) (exactOrdinates s w part coefs j) h

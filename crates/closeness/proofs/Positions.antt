@@ -27,7 +27,7 @@ module _ (s : Space) (c : Checked s) where
   fine-rises i h = fine-mono-< _ _ (breaks-rise s c i h)
 
   -- the last segment that starts by x, where x is not past its end
-  segment-is : (i : ℕ) (x : ℤ) → i < segments s → startsBy s x i ≡ true → (suc i < segments s → startsBy s x (suc i) ≡ false) → x ≤ℤ fine (break s (suc i)) → segmentAt s x ≡ i
+  pub segment-is : (i : ℕ) (x : ℤ) → i < segments s → startsBy s x i ≡ true → (suc i < segments s → startsBy s x (suc i) ≡ false) → x ≤ℤ fine (break s (suc i)) → segmentAt s x ≡ i
   unfolding segmentAt
   segment-is i x h m n u = ap (λ o. Option·getD o 0) (last-at (startsBy s x) (segments s) i h m (λ k a l. later k l (eq-or-lt-of-le a)))
     where

@@ -39,7 +39,7 @@ module _ (s : Space) (t : Table) (n : ℕ) where
   abbrev pub fronted : (ℕ → ℤ) → List ℤ
   fronted a = ordinates s t a ++ drop (columnCount s) (replicate n (pos 0))
 
-  blended-fronted : (a : ℕ → ℤ) (i : ℕ) (x : ℤ) → blended s (fronted a) i x ≡ blended s (ordinates s t a) i x
+  pub blended-fronted : (a : ℕ → ℤ) (i : ℕ) (x : ℤ) → blended s (fronted a) i x ≡ blended s (ordinates s t a) i x
   unfolding blended
   blended-fronted a i x = λ z. triangle (fineWidth s i) (offset s i x) (λ k. in-front (ordinates s t a) (columnCount s) n (firstColumn s i + k) z) (degree s i) 0
 

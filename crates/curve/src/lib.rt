@@ -5,7 +5,7 @@ ghost use Rattle.space.specs.Reply.{space};
 ghost use Rattle.spline.specs.CurveCall.{curveEnd};
 ghost use Rattle.curve.specs.Reply.{reply};
 
-mod parts;
+pub mod parts;
 mod reading;
 
 // What the curve call answers: the number of positions, each of which has two values, or a refusal's number and place.

@@ -2,13 +2,19 @@
 -- document 01's number and place for the cases of that enum.
 use mathlib.Core.Path.{_≡_, ap, _∙_}
 use Prim.Native.Nat.{ℕ}
+use lib.IntN.{ℤ}
 use Rattle.spline.specs.Outcome.{Outcome, answer, refusal}
 use Rattle.walzhik.specs.Reply.{replied}
 use Rattle.walzhik.specs.declared.Reply.{Reply}
+use Rattle.walzhik.specs.declared.Reach.{Reach}
 
 -- the three parts of a reply
 pub reply-ext : (r : Reply) (count number place : ℕ) → (r .count ≡ count) × ((r .number ≡ number) × (r .place ≡ place)) → r ≡ record { count = count; number = number; place = place }
 reply-ext r count number place e = λ i. record { count = e .0 i; number = e .1 .0 i; place = e .1 .1 i }
+
+-- and of a reach
+pub reach-ext : (r : Reach) (position : ℤ) (number place : ℕ) → (r .position ≡ position) × ((r .number ≡ number) × (r .place ≡ place)) → r ≡ record { position = position; number = number; place = place }
+reach-ext r position number place e = λ i. record { position = e .0 i; number = e .1 .0 i; place = e .1 .1 i }
 
 -- a count
 pub answer-replied : (r : Reply) (o : Outcome ℕ) (n : ℕ) → (r .count ≡ n) × ((r .number ≡ 0) × (r .place ≡ 0)) → answer n ≡ o → r ≡ replied o

@@ -1,13 +1,19 @@
 // The engine for C and Rust: the public calls with their answers as a struct by value.
 ghost use mathlib.Core.Path.{_≡_};
 ghost use Rattle.space.specs.Reply.{space};
+ghost use Rattle.spline.specs.Outcome.{answer, refusal};
 ghost use Rattle.spline.specs.Build.{buildEnd};
 ghost use Rattle.spline.specs.Reading.{earlywood, latewood};
 ghost use Rattle.spline.specs.CurveCall.{curveEnd};
 ghost use Rattle.indices.specs.Indices.{indicesEnd};
 ghost use Rattle.tucson_form.specs.ReadCall.{readEnd};
 ghost use Rattle.tucson_form.specs.WriteCall.{writeEnd};
-ghost use Rattle.walzhik.specs.Reply.{replied};
+ghost use Rattle.reach.specs.Reach.{reachEnd};
+ghost use Rattle.reach.specs.Machine.{reply};
+ghost use Rattle.pieces.specs.Pieces as pieces;
+ghost use Rattle.pieces.specs.Machine.{Shows};
+ghost use Rattle.walzhik.specs.Reply.{replied, reached};
+ghost use Rattle.walzhik.specs.Piece.{Sent};
 
 // The count of rows, positions, rings, series or bytes, with number 0 and place 0; or count 0 with a refusal's number and place.
 #[repr(C)]
@@ -15,6 +21,30 @@ pub struct Reply {
     pub count: u64,
     pub number: u32,
     pub place: u32,
+}
+
+// The position with number 0 and place 0; or position 0 with a refusal's number and place.
+#[repr(C)]
+pub struct Reach {
+    pub position: i32,
+    pub number: u32,
+    pub place: u32,
+}
+
+// A piece: number 0 and place 0, its degree from 1 to 3, degree + 1 ordinates and its ends; or a refusal's number and place. All
+// other numbers are 0.
+#[repr(C)]
+pub struct Piece {
+    pub number: u32,
+    pub place: u32,
+    pub degree: u32,
+    pub unused: u32,
+    pub o0: f64,
+    pub o1: f64,
+    pub o2: f64,
+    pub o3: f64,
+    pub start: f64,
+    pub end: f64,
 }
 
 fn answered(count: usize) -> Reply
@@ -185,5 +215,185 @@ pub extern "C" fn walzhik_tucson_write(
     match answer {
         tucson_write::Answer::Bytes(n) => answered(n),
         tucson_write::Answer::Refused(number, place) => refused(number, place),
+    }
+}
+
+fn reach_struct(position: i32, code: u32, at: u32) -> Reach
+    ensures { λ r. ⌜ (r .position ≡ position) × ((r .number ≡ code) × (r .place ≡ at)) ⌝ }
+{
+    Reach {
+        position: position,
+        number: code,
+        place: at,
+    }
+}
+
+// The struct of what a reach call answers.
+fn reach_of(answer: reach::Answer) -> Reach
+    ensures { λ r. ⌜ r ≡ reached (reply answer) ⌝ }
+{
+    match answer {
+        reach::Answer::Reached(x) => reach_struct(x, 0, 0),
+        reach::Answer::Refused(number, place) => reach_struct(0, number as u32, place),
+    }
+}
+
+// reach::reach of the earlywood.
+#[no_mangle]
+pub extern "C" fn walzhik_earlywood_reach(
+    breaks: &[i32],
+    degrees: &[i32],
+    orders: &[i32],
+    coefs: &[i32],
+    width: i32,
+    num: &mut [i64],
+    den: &mut [i64],
+) -> Reach
+    ensures { λ r. ⌜ (let e = reachEnd (space (now (breaks .entry)) (now (degrees .entry)) (now (orders .entry))) earlywood (now (coefs .entry)) width (now (num .entry)) (now (den .entry)) in
+        (r ≡ reached (e .answers)) × ((now (num .exit) ≡ e .numerators) × (now (den .exit) ≡ e .denominators))) ⌝ }
+{
+    let answer = reach::reach(
+        ordinates::Part::Earlywood,
+        breaks,
+        degrees,
+        orders,
+        coefs,
+        width,
+        num,
+        den,
+    );
+    reach_of(answer)
+}
+
+// reach::reach of the latewood.
+#[no_mangle]
+pub extern "C" fn walzhik_latewood_reach(
+    breaks: &[i32],
+    degrees: &[i32],
+    orders: &[i32],
+    coefs: &[i32],
+    width: i32,
+    num: &mut [i64],
+    den: &mut [i64],
+) -> Reach
+    ensures { λ r. ⌜ (let e = reachEnd (space (now (breaks .entry)) (now (degrees .entry)) (now (orders .entry))) latewood (now (coefs .entry)) width (now (num .entry)) (now (den .entry)) in
+        (r ≡ reached (e .answers)) × ((now (num .exit) ≡ e .numerators) × (now (den .exit) ≡ e .denominators))) ⌝ }
+{
+    let answer = reach::reach(
+        ordinates::Part::Latewood,
+        breaks,
+        degrees,
+        orders,
+        coefs,
+        width,
+        num,
+        den,
+    );
+    reach_of(answer)
+}
+
+// A piece with its degree and its four ordinates.
+fn of_degree(degree: u32, o0: f64, o1: f64, o2: f64, o3: f64, ends: pieces::Ends) -> Piece
+    ensures { λ r. ⌜ r ≡ record { number = 0; place = 0; degree = degree; unused = 0; o0 = o0; o1 = o1; o2 = o2; o3 = o3; start = ends .start; end = ends .end } ⌝ }
+{
+    Piece {
+        number: 0,
+        place: 0,
+        degree,
+        unused: 0,
+        o0,
+        o1,
+        o2,
+        o3,
+        start: ends.start,
+        end: ends.end,
+    }
+}
+
+fn sent(drawing: pieces::Drawing) -> Piece
+    ensures { λ r. ⌜ ((p : pieces.Piece) → Shows drawing p → Sent r (answer p)) ⌝ }
+{
+    let curve = drawing.curve;
+    match curve {
+        pieces::Curve::Line(a, b) => of_degree(1, a, b, 0.0, 0.0, drawing.ends),
+        pieces::Curve::Quadratic(a, b, c) => of_degree(2, a, b, c, 0.0, drawing.ends),
+        pieces::Curve::Cubic(a, b, c, d) => of_degree(3, a, b, c, d, drawing.ends),
+    }
+}
+
+fn not_sent(number: u8, place: u32) -> Piece
+    ensures { λ r. ⌜ Sent r (refusal number place) ⌝ }
+{
+    Piece {
+        number: number as u32,
+        place,
+        degree: 0,
+        unused: 0,
+        o0: 0.0,
+        o1: 0.0,
+        o2: 0.0,
+        o3: 0.0,
+        start: 0.0,
+        end: 0.0,
+    }
+}
+
+// pieces::piece of the earlywood.
+#[no_mangle]
+pub extern "C" fn walzhik_earlywood_piece(
+    breaks: &[i32],
+    degrees: &[i32],
+    orders: &[i32],
+    coefs: &[i32],
+    segment: u32,
+    num: &mut [i64],
+    den: &mut [i64],
+) -> Piece
+    ensures { λ r. ⌜ (let e = pieces.pieceEnd (space (now (breaks .entry)) (now (degrees .entry)) (now (orders .entry))) earlywood (now (coefs .entry)) segment (now (num .entry)) (now (den .entry)) in
+        Sent r (e .answers) × ((now (num .exit) ≡ e .numerators) × (now (den .exit) ≡ e .denominators))) ⌝ }
+{
+    let answer = pieces::piece(
+        ordinates::Part::Earlywood,
+        breaks,
+        degrees,
+        orders,
+        coefs,
+        segment,
+        num,
+        den,
+    );
+    match answer {
+        pieces::Answer::Drawn(drawing) => sent(drawing),
+        pieces::Answer::Refused(number, place) => not_sent(number, place),
+    }
+}
+
+// pieces::piece of the latewood.
+#[no_mangle]
+pub extern "C" fn walzhik_latewood_piece(
+    breaks: &[i32],
+    degrees: &[i32],
+    orders: &[i32],
+    coefs: &[i32],
+    segment: u32,
+    num: &mut [i64],
+    den: &mut [i64],
+) -> Piece
+    ensures { λ r. ⌜ (let e = pieces.pieceEnd (space (now (breaks .entry)) (now (degrees .entry)) (now (orders .entry))) latewood (now (coefs .entry)) segment (now (num .entry)) (now (den .entry)) in
+        Sent r (e .answers) × ((now (num .exit) ≡ e .numerators) × (now (den .exit) ≡ e .denominators))) ⌝ }
+{
+    let answer = pieces::piece(
+        ordinates::Part::Latewood,
+        breaks,
+        degrees,
+        orders,
+        coefs,
+        segment,
+        num,
+        den,
+    );
+    match answer {
+        pieces::Answer::Drawn(drawing) => sent(drawing),
+        pieces::Answer::Refused(number, place) => not_sent(number, place),
     }
 }

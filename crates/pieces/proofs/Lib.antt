@@ -1,0 +1,7 @@
+-- Pieces for the screen: the proofs of PieceCurve's statements, and the laws behind the call.
+pub mod AtEnds
+pub mod Joins
+pub mod PieceCurve
+pub mod Floats
+pub mod Held
+pub mod Leaves

@@ -1,0 +1,192 @@
+// One piece of a curve for the screen: the weights and the ordinates of all columns as for a curve call without positions, and
+// then the named segment's ordinates and ends as 64-bit floats.
+ghost use mathlib.Core.Path.{_≡_};
+ghost use Prim.Native.Nat.{_+_, _<_, _≤_};
+ghost use lib.IntN.{pos};
+ghost use lib.ListN.{length, getD};
+ghost use Rattle.exact.specs.Tabulate.{tab};
+ghost use Rattle.spline.specs.Space;
+ghost use Rattle.spline.specs.Reading.{parts};
+ghost use Rattle.space.specs.Reply.{space};
+ghost use Rattle.space.specs.Legal.{ListsLegal};
+ghost use Rattle.ordinates.specs.Part.{woodPart};
+ghost use Rattle.triangle.specs.Offsets.{columnLimit};
+ghost use Rattle.pieces.specs.Pieces.{drawableDegree, pieceEnd};
+ghost use Rattle.pieces.specs.Machine.{Is, Each, floats, Shows, pieceHeld, drawnHeld, Replies, CurvesLeave};
+use ordinates::Part;
+use weights::Built;
+
+// A line, a quadratic or a cubic, with its ordinates from the left, in thousandths of a millimetre.
+pub enum Curve {
+    Line(f64, f64),
+    Quadratic(f64, f64, f64),
+    Cubic(f64, f64, f64, f64),
+}
+
+// The two ends of a piece, in rings.
+pub struct Ends {
+    pub start: f64,
+    pub end: f64,
+}
+
+// A piece with its ends beside it.
+pub struct Drawing {
+    pub curve: Curve,
+    pub ends: Ends,
+}
+
+// What the call answers: the piece, or a refusal's number and place.
+pub enum Answer {
+    Drawn(Drawing),
+    Refused(u8, u32),
+}
+
+// The screen draws lines, quadratics and cubics.
+const MAX_DRAWN_DEGREE: usize = 3;
+
+// 1 / 256, a power of two.
+const SCALE: f64 = 0.00390625;
+
+// An ordinate in 256ths, exactly.
+fn scaled(x: i32) -> f64
+    ensures { λ r. ⌜ Is r x parts ⌝ }
+{
+    (x as f64) * SCALE
+}
+
+// A breakpoint, exactly.
+fn whole(x: i32) -> f64
+    ensures { λ r. ⌜ Is r x 1 ⌝ }
+{
+    x as f64
+}
+
+// Ordinate i.
+fn float_at(ordinates: &[i32], i: usize) -> f64
+    requires { ⌜ i < length (now ordinates) ⌝ }
+    ensures { λ r. ⌜ Is r (getD (now (ordinates .entry)) i (pos 0)) parts ⌝ }
+{
+    let o = ordinates[i];
+    scaled(o)
+}
+
+// The ordinates from this column on, as many as the degree asks.
+fn curve_at(ordinates: &[i32], column: usize, degree: usize) -> Curve
+    requires { ⌜ ((1 ≤ degree) × (degree ≤ drawableDegree)) × ((column + degree < length (now ordinates)) × (length (now ordinates) ≤ columnLimit)) ⌝ }
+    ensures { λ r. ⌜ Each parts (floats r) (tab (1 + degree) (λ i. getD (now (ordinates .entry)) (column + i) (pos 0))) ⌝ }
+{
+    let a = float_at(ordinates, column);
+    let b = float_at(ordinates, column + 1);
+    if degree == 1 {
+        return Curve::Line(a, b);
+    }
+    let c = float_at(ordinates, column + 2);
+    if degree == 2 {
+        return Curve::Quadratic(a, b, c);
+    }
+    let d = float_at(ordinates, column + 3);
+    Curve::Cubic(a, b, c, d)
+}
+
+// The piece of segment k, whose degree the screen draws.
+fn piece_at(breaks: &[i32], degrees: &[i32], orders: &[i32], ordinates: &[i32], k: usize) -> Drawing
+    requires { ⌜ ListsLegal (now breaks) (now degrees) (now orders) × ((k < length (now degrees)) × (Space.degree (space (now breaks) (now degrees) (now orders)) k ≤ drawableDegree)) ⌝ }
+    requires { ⌜ length (now ordinates) ≡ columnLimit ⌝ }
+    ensures { λ r. ⌜ Shows r (pieceHeld (space (now (breaks .entry)) (now (degrees .entry)) (now (orders .entry))) (now (ordinates .entry)) k) ⌝ }
+{
+    let column = space::first_column(degrees, k);
+    let degree = space::degree_at(degrees, k);
+    let curve = curve_at(ordinates, column, degree);
+    let start = whole(breaks[k]);
+    let end = whole(breaks[k + 1]);
+    let ends = Ends { start, end };
+    Drawing { curve, ends }
+}
+
+// The piece of the named segment, or number 17.
+fn draw(breaks: &[i32], degrees: &[i32], orders: &[i32], ordinates: &[i32], segment: u32) -> Answer
+    requires { ⌜ ListsLegal (now breaks) (now degrees) (now orders) × (length (now ordinates) ≡ columnLimit) ⌝ }
+    ensures { λ r. ⌜ Replies r (drawnHeld (space (now (breaks .entry)) (now (degrees .entry)) (now (orders .entry))) (now (ordinates .entry)) segment) ⌝ }
+{
+    let k = segment as usize;
+    if k >= degrees.len() {
+        return Answer::Refused(17, segment);
+    }
+    if space::degree_at(degrees, k) > MAX_DRAWN_DEGREE {
+        return Answer::Refused(17, segment);
+    }
+    let piece = piece_at(breaks, degrees, orders, ordinates, k);
+    Answer::Drawn(piece)
+}
+
+// The tests and the weights of a curve call without positions, and the ordinates of all columns for each wood part.
+fn build_curves(
+    breaks: &[i32],
+    degrees: &[i32],
+    orders: &[i32],
+    coefs: &[i32],
+    num: &mut [i64],
+    den: &mut [i64],
+    early: &mut [i32],
+    late: &mut [i32],
+) -> Built
+    requires { ⌜ (length (now early) ≡ columnLimit) × (length (now late) ≡ columnLimit) ⌝ }
+    ensures { λ r. ⌜ CurvesLeave (now (breaks .entry)) (now (degrees .entry)) (now (orders .entry)) (now (coefs .entry)) r (now (num .entry)) (now (den .entry)) (now (early .entry)) (now (late .entry)) (now (num .exit)) (now (den .exit)) (now (early .exit)) (now (late .exit)) ⌝ }
+{
+    if num.len() < cells::TABLE_CELLS {
+        return Built::Refused(1, 0);
+    }
+    if den.len() < cells::TABLE_CELLS {
+        return Built::Refused(1, 1);
+    }
+    let checked = limits::check(breaks, degrees, orders, coefs, &coefs[0..0]);
+    match checked {
+        space::Legality::Refused(number, place) => Built::Refused(number, place),
+        space::Legality::Legal => curve::parts::build_parts(
+            breaks,
+            degrees,
+            orders,
+            coefs,
+            num,
+            den,
+            early,
+            late,
+        ),
+    }
+}
+
+// Builds the weights, and answers the piece of the wood part's curve over the named segment. Lists and buffers may have any
+// length and content: what the definition refuses is refused, and the buffers are then as it says.
+pub fn piece(
+    part: Part,
+    breaks: &[i32],
+    degrees: &[i32],
+    orders: &[i32],
+    coefs: &[i32],
+    segment: u32,
+    num: &mut [i64],
+    den: &mut [i64],
+) -> Answer
+    ensures { λ r. ⌜ (let e = pieceEnd (space (now (breaks .entry)) (now (degrees .entry)) (now (orders .entry))) (woodPart part) (now (coefs .entry)) segment (now (num .entry)) (now (den .entry)) in
+        Replies r (e .answers) × ((now (num .exit) ≡ e .numerators) × (now (den .exit) ≡ e .denominators))) ⌝ }
+{
+    let mut early = [0; triangle::MAX_COLUMNS];
+    let mut late = [0; triangle::MAX_COLUMNS];
+    let built = build_curves(
+        breaks,
+        degrees,
+        orders,
+        coefs,
+        num,
+        den,
+        &mut early,
+        &mut late,
+    );
+    match built {
+        Built::Refused(number, place) => Answer::Refused(number, place),
+        Built::Rows(_) => match part {
+            Part::Earlywood => draw(breaks, degrees, orders, &early, segment),
+            Part::Latewood => draw(breaks, degrees, orders, &late, segment),
+        },
+    }
+}

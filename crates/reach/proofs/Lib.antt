@@ -1,0 +1,11 @@
+-- The proofs of the statements in specs/, and the laws of the search.
+pub mod Numbers
+pub mod Positions
+pub mod FirstReach
+pub mod Instances
+pub mod Steps
+pub mod Rises
+pub mod Offsets
+pub mod Passing
+pub mod Searching
+pub mod Call

@@ -1,0 +1,5 @@
+-- When the curve reaches a width (document 02, CR 11): the call in Reach, the statements in FirstReach, the machine's form in
+-- Machine.
+pub mod Reach
+pub mod FirstReach
+pub mod Machine

@@ -1,0 +1,115 @@
+// The first position at which the curve of a wood part reaches a width: the weights and the ordinates of all columns as for the
+// curve call without positions, and then a search over the segments.
+ghost use mathlib.Core.Path.{_≡_};
+ghost use lib.ListN.{length};
+ghost use Rattle.spline.specs.Search;
+ghost use Rattle.spline.specs.Reading.{fine};
+ghost use Rattle.space.specs.Reply.{space};
+ghost use Rattle.space.specs.Legal.{ListsLegal};
+ghost use Rattle.ordinates.specs.Ordinates.{Bounded};
+ghost use Rattle.ordinates.specs.Part.{woodPart};
+ghost use Rattle.triangle.specs.Offsets.{columnLimit};
+ghost use Rattle.reach.specs.Reach.{positionCount, reachedAt, reachEnd};
+ghost use Rattle.reach.specs.Machine.{reply, chosen, reachesHeld};
+
+mod search;
+
+use crate::search::Found;
+use ordinates::Part;
+
+// What the call answers: the position, or a refusal's number and place.
+pub enum Answer {
+    Reached(i32),
+    Refused(u8, u32),
+}
+
+// The first position at which the curve with these ordinates reaches the width, or number 16.
+fn first_reach(
+    breaks: &[i32],
+    degrees: &[i32],
+    orders: &[i32],
+    ordinates: &[i32],
+    width: i32,
+) -> Answer
+    requires { ⌜ ListsLegal (now breaks) (now degrees) (now orders) × ((length (now ordinates) ≡ columnLimit) × Bounded (now ordinates)) ⌝ }
+    ensures { λ r. ⌜ (let s = space (now (breaks .entry)) (now (degrees .entry)) (now (orders .entry)) in reply r ≡ reachedAt s (Search.first (positionCount s) (reachesHeld s (now (ordinates .entry)) (fine width)))) ⌝ }
+{
+    let target = 256 * width as i64;
+    let found = crate::search::search(breaks, degrees, orders, ordinates, target);
+    match found {
+        Found::At(x) => Answer::Reached(x),
+        Found::Nowhere => Answer::Refused(16, 0),
+    }
+}
+
+// The same for the wood part, given the ordinates of both.
+fn part_reach(
+    part: Part,
+    breaks: &[i32],
+    degrees: &[i32],
+    orders: &[i32],
+    early: &[i32],
+    late: &[i32],
+    width: i32,
+) -> Answer
+    requires { ⌜ ListsLegal (now breaks) (now degrees) (now orders) × (((length (now early) ≡ columnLimit) × Bounded (now early)) × ((length (now late) ≡ columnLimit) × Bounded (now late))) ⌝ }
+    ensures { λ r. ⌜ (let s = space (now (breaks .entry)) (now (degrees .entry)) (now (orders .entry)) in reply r ≡ reachedAt s (Search.first (positionCount s) (reachesHeld s (chosen (woodPart part) (now (early .entry)) (now (late .entry))) (fine width)))) ⌝ }
+{
+    match part {
+        Part::Earlywood => first_reach(breaks, degrees, orders, early, width),
+        Part::Latewood => first_reach(breaks, degrees, orders, late, width),
+    }
+}
+
+// Builds the weights, and answers the least position of the span whose value for the wood part is at least 256 times the width.
+// Lists and buffers may have any length and content: what the definition refuses is refused, and the buffers are then as it says.
+pub fn reach(
+    part: Part,
+    breaks: &[i32],
+    degrees: &[i32],
+    orders: &[i32],
+    coefs: &[i32],
+    width: i32,
+    num: &mut [i64],
+    den: &mut [i64],
+) -> Answer
+    ensures { λ r. ⌜ (let e = reachEnd (space (now (breaks .entry)) (now (degrees .entry)) (now (orders .entry))) (woodPart part) (now (coefs .entry)) width (now (num .entry)) (now (den .entry)) in
+        (reply r ≡ e .answers) × ((now (num .exit) ≡ e .numerators) × (now (den .exit) ≡ e .denominators))) ⌝ }
+{
+    if num.len() < cells::TABLE_CELLS {
+        return Answer::Refused(1, 0);
+    }
+    if den.len() < cells::TABLE_CELLS {
+        return Answer::Refused(1, 1);
+    }
+    let checked = limits::check(breaks, degrees, orders, coefs, &coefs[0..0]);
+    match checked {
+        space::Legality::Refused(number, place) => Answer::Refused(number, place),
+        space::Legality::Legal => {
+            let mut early = [0; triangle::MAX_COLUMNS];
+            let mut late = [0; triangle::MAX_COLUMNS];
+            let built = curve::parts::build_parts(
+                breaks,
+                degrees,
+                orders,
+                coefs,
+                num,
+                den,
+                &mut early,
+                &mut late,
+            );
+            match built {
+                weights::Built::Refused(number, place) => Answer::Refused(number, place),
+                weights::Built::Rows(_) => part_reach(
+                    part,
+                    breaks,
+                    degrees,
+                    orders,
+                    &early,
+                    &late,
+                    width,
+                ),
+            }
+        }
+    }
+}
