@@ -42,13 +42,14 @@ def sheet_lists(text):
 class Printout(NamedTuple):
     refusal: tuple  # number and place, or None
     rows: int
+    weights: list  # (row, column, numerator, denominator), rows rising
     values: list  # (position, earlywood, latewood) in list order
     low: list
 
 
 def read_printout(text):
     """What the program printed; None where this is no printout."""
-    refusal, rows, values, low = None, 0, [], []
+    refusal, rows, weights, values, low = None, 0, [], [], []
     for line in text.decode("ascii", "replace").splitlines():
         key, _, body = line.partition("=")
         if key not in ("no", "n", "w", "v", "low") or not re.fullmatch(r"[0-9,:/-]+", body):
@@ -57,11 +58,13 @@ def read_printout(text):
             refusal = tuple(map(int, body.split(",")))
         elif key == "n":
             rows = int(body)
+        elif key == "w":
+            weights.append(tuple(map(int, re.split("[,/]", body))))
         elif key == "v":
             values.append(tuple(map(int, re.split("[,:]", body))))
         elif key == "low":
             low.append(int(body))
-    return Printout(refusal, rows, values, low) if refusal or rows else None
+    return Printout(refusal, rows, weights, values, low) if refusal or rows else None
 
 
 # Tucson decadal files.

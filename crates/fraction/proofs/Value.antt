@@ -8,10 +8,11 @@ use native.Mathlib.Omega.{arith}
 use lib.IntN.{ℤ, pos, negsuc, natAbs, zero-*ℤ, _+ℤ_, _-ℤ_, _*ℤ_}
 use lib.Signed.{quotZ, _<ℤ_}
 use Rattle.exact.specs.Gcd.{gcd}
-use Rattle.exact.specs.Rational.{ℚ, den, signed, int, _+ᵠ_, _-ᵠ_, _*ᵠ_, _/ᵠ_, suc-pos}
+use Rattle.exact.specs.Rational.{ℚ, den, signed, int, _+ᵠ_, -ᵠ_, _-ᵠ_, _*ᵠ_, _/ᵠ_, suc-pos}
 use Rattle.exact.proofs.Ring.{ring}
 use Rattle.exact.proofs.Integer.{ℤ-ring, readsℤ, *-one, <-in, *-pos-<}
-use Rattle.exact.proofs.Rational.{_is_over_, self, mk-is, mk-num, mk-den, is-unique, is-int, is-add, is-mul, int-num, int-den, neg-is, div-unique}
+use Rattle.exact.proofs.Word.{zero-sub}
+use Rattle.exact.proofs.Rational.{_is_over_, self, mk-is, mk-num, mk-den, is-unique, is-int, is-add, is-mul, is-opp, int-num, int-den, neg-is, div-unique}
 use Rattle.fraction.specs.Machine.{fraction, ratio, value}
 use Rattle.fraction.specs.declared.Fraction.{Fraction}
 
@@ -78,6 +79,9 @@ ratio-one-minus a (pos b) h =
     alg : (a b : ℤ) → (b -ℤ a) *ℤ (pos 1 *ℤ (pos 1 *ℤ b)) ≡ (pos 1 *ℤ (pos 1 *ℤ b) +ℤ negsuc 0 *ℤ a *ℤ pos 1) *ℤ b
     alg a b = ring ℤ-ring (a ∷ b ∷ []) (search readsℤ depth 20) (search readsℤ depth 20) refl
 ratio-one-minus a (negsuc b) h = absurd (h .lt)
+
+pub ratio-neg : (a b : ℤ) → pos 0 <ℤ b → ratio (pos 0 -ℤ a) b ≡ -ᵠ ratio a b
+ratio-neg a b h = is-unique (ratio-is (pos 0 -ℤ a) b h) (is-opp (ratio-is a b h)) (ap (λ z. z *ℤ pos (natAbs b)) (zero-sub a))
 
 -- a numerator that is not zero makes no zero
 ratio-zero : (n d : ℤ) → pos 0 <ℤ d → ratio n d ≡ int (pos 0) → n ≡ pos 0

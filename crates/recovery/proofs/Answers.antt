@@ -78,7 +78,7 @@ module _ (j : ℕ) (js cs : List ℚ) where
   sum-is (suc n) {s} e = let c = then-inverts (jumpSum j js cs n) (added n) e in
       added-is n (c .middle) (c .after) ∙ ap (λ t. t +ᵠ entry cs n *ᵠ entry js n) (sum-is n (c .before))
 
-  sum-refused : (n : ℕ) → RefusedAs Twenty (jumpSum j js cs n)
+  pub sum-refused : (n : ℕ) → RefusedAs Twenty (jumpSum j js cs n)
   unfolding jumpSum added
   sum-refused zero = answer-refused Twenty (int (pos 0))
   sum-refused (suc n) = then-refused Twenty (jumpSum j js cs n) (added n) (sum-refused n) (λ s h. added-refused n s)

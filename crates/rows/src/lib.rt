@@ -77,7 +77,7 @@ fn mix_row(
 }
 
 // The complement 1 - w of a factor from 0 to 1, which is never too large.
-fn complement(w: Fraction) -> Fraction
+pub fn complement(w: Fraction) -> Fraction
     requires { ⌜ UnitFactor w ⌝ }
     ensures { λ r. ⌜ (value r ≡ int (pos 1) -ᵠ value w) × Sized r ⌝ }
 {

@@ -5,7 +5,7 @@ ghost use Rattle.space.specs.Reply.{space};
 ghost use Rattle.weights.specs.Reply.{reply};
 
 pub mod parts;
-mod step;
+pub mod step;
 
 // What building answers: the row count n, or a refusal's number and place.
 pub enum Built {

@@ -58,7 +58,7 @@ fn mix(
 }
 
 // One step: the new rows and one row less, or why it is refused.
-fn step(
+pub fn step(
     num: &mut [i64],
     den: &mut [i64],
     join: Join,
@@ -147,7 +147,7 @@ fn side_at(breaks: &[i32], degrees: &[i32], i: usize) -> Side
     }
 }
 
-fn join_at(breaks: &[i32], degrees: &[i32], j: usize) -> Join
+pub fn join_at(breaks: &[i32], degrees: &[i32], j: usize) -> Join
     requires { ⌜ ((orders : List ℤ) × ListsLegal (now breaks) (now degrees) orders) × (j + 1 < length (now degrees)) ⌝ }
     ensures { λ r. ⌜ JoinIs r (space (now (breaks .entry)) (now (degrees .entry)) []) j ⌝ }
 {

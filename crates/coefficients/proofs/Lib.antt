@@ -1,0 +1,5 @@
+-- The crate's hand-written modules.
+pub mod Refusals
+pub mod Undone
+pub mod Stepped
+pub mod Orders
