@@ -45,7 +45,7 @@ use Rattle.closeness.proofs.WeightCells.{curve-cells-hold-published-wei
 
 -- ---- W1 and W2: breaks 0,1,3, degrees 2,2, order 1
 
-abbrev table1 : Table
+abbrev pub table1 : Table
 table1 =
     (q1 ∷ q0 ∷ q0 ∷ q0 ∷ q0 ∷ q0 ∷ []) ∷
     (q0 ∷ q1 ∷ pos 2 // 2 ∷ pos 2 // 2 ∷ q0 ∷ q0 ∷ []) ∷
@@ -53,17 +53,17 @@ table1 =
     (q0 ∷ q0 ∷ q0 ∷ q0 ∷ q0 ∷ q1 ∷ []) ∷ []
 
 -- W1's coefficients for earlywood and W2's for latewood
-abbrev coefs1 : List ℤ
+abbrev pub coefs1 : List ℤ
 coefs1 = pos 0 ∷ pos 0 ∷ pos 100 ∷ negsuc 99 ∷ pos 0 ∷ pos 0 ∷ pos 0 ∷ pos 0 ∷ []
 
-abbrev positions1 : List ℤ
+abbrev pub positions1 : List ℤ
 positions1 = pos 256 ∷ pos 512 ∷ []
 
-accepted1 : Accepted space1
+unfoldable pub accepted1 : Accepted space1
 unfolding gcd gcdF mk int inv _+ᵠ_ _*ᵠ_ -ᵠ_ _//_ isZero ltᵠ sum tab fits capped collect repeat first last lengthsFit badBreak startsPart partEnd spanTooLong tooManySegments badDegree badOrder checkedEntries checked firstColumn conditionsBefore falling binomial alternating undivided commonDivisor conditions identity count addProducts span partialSum quotientFactor factors newEntry newRows step orderSteps joinSteps weights spaceWeights
 accepted1 = record { table = table1; is = refl }
 
-coefficients1 : (i : ℕ) → i < length coefs1 → T (not (badCoefficient coefs1 i))
+pub coefficients1 : (i : ℕ) → i < length coefs1 → T (not (badCoefficient coefs1 i))
 unfolding badCoefficient
 coefficients1 zero h = tt
 coefficients1 (suc zero) h = tt
@@ -75,7 +75,7 @@ coefficients1 (suc (suc (suc (suc (suc (suc zero)))))) h = tt
 coefficients1 (suc (suc (suc (suc (suc (suc (suc zero))))))) h = tt
 coefficients1 (suc (suc (suc (suc (suc (suc (suc (suc i)))))))) h = absurd (omega arith)
 
-inside1 : (i : ℕ) → i < length positions1 → T (not (badPosition space1 positions1 i))
+pub inside1 : (i : ℕ) → i < length positions1 → T (not (badPosition space1 positions1 i))
 unfolding badPosition
 inside1 zero h = tt
 inside1 (suc zero) h = tt
@@ -97,14 +97,14 @@ legal1 = record {
 
 -- ---- what the definitions give there
 
-abbrev pairs1 : List Pair
+abbrev pub pairs1 : List Pair
 pairs1 = pair (pos 17067) (negsuc 17066) ∷ pair (pos 4267) (negsuc 4265) ∷ []
 
-values1 : values space1 table1 coefs1 positions1 ≡ pairs1
+pub values1 : values space1 table1 coefs1 positions1 ≡ pairs1
 unfolding gcd gcdF mk int _//_ isZero nearest tab firstColumn last startsAtDiscontinuity startsBy segmentAt rounded term termSum best ordinate ordinates blend triangle blended valueAt pairAt values
 values1 = refl
 
-exact1 : exactCurve space1 table1 earlywood coefs1 (pos 256) ≡ pos 51200 // 2
+pub exact1 : exactCurve space1 table1 earlywood coefs1 (pos 256) ≡ pos 51200 // 2
 unfolding gcd gcdF mk int inv _+ᵠ_ _*ᵠ_ -ᵠ_ _//_ sum firstColumn last startsAtDiscontinuity startsBy segmentAt binomial power bernsteinAt exactTerm exactOn exactCurve
 exact1 = refl
 

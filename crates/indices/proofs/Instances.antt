@@ -5,7 +5,7 @@ use mathlib.Core.Path.{_≡_, refl, _∙_, ap, subst}
 use mathlib.Core.Logic.{_≢_}
 use mathlib.Core.Bool.{not}
 use mathlib.Core.List.{List, [], _∷_}
-use Prim.Native.Nat.{ℕ, zero, suc, _<_}
+use Prim.Native.Nat.{ℕ, _<_}
 use native.Mathlib.Omega.{arith}
 use lib.Dec.{T}
 use lib.IntN.{ℤ, pos, negsuc, natAbs}
@@ -13,68 +13,30 @@ use lib.ListN.{length, getD}
 use Rattle.exact.specs.Gcd.{gcd, gcdF}
 use Rattle.exact.specs.Rational.{mk, int, inv, _+ᵠ_, _-ᵠ_, _*ᵠ_, _/ᵠ_, -ᵠ_, _//_}
 use Rattle.exact.specs.Order.{isZero, ltᵠ, _≤ᵠ_, _<ᵠ_}
-use Rattle.exact.specs.Floor.{nearest}
-use Rattle.exact.specs.Sum.{sum}
 use Rattle.exact.specs.Tabulate.{tab}
 use Rattle.exact.proofs.Order.{ltᵠ-true}
-use Rattle.fraction.specs.Size.{fits}
-use Rattle.spline.specs.Outcome.{answer, refusal, capped, collect, repeat, _then_}
+use Rattle.spline.specs.Outcome.{answer, refusal, capped, _then_}
 use Rattle.spline.specs.Search.{first, last, howMany}
-use Rattle.spline.specs.Space.{lengthsFit, badBreak, startsPart, partEnd, spanTooLong, tooManySegments, badDegree, badOrder, checkedEntries, checked, firstColumn, conditionsBefore}
-use Rattle.spline.specs.Conditions.{falling, binomial, alternating, undivided, commonDivisor, conditions}
-use Rattle.spline.specs.Table.{Table, tableCells, identity}
-use Rattle.spline.specs.Step.{count, addProducts, span, partialSum, quotientFactor, factors, newEntry, newRows, step}
-use Rattle.spline.specs.Build.{orderSteps, joinSteps, weights, spaceWeights}
-use Rattle.spline.specs.Piecewise.{Accepted}
-use Rattle.spline.specs.Reading.{startsAtDiscontinuity, startsBy, segmentAt, WoodPart, earlywood, latewood, Pair, sideBySide, rounded, term, termSum, best, ordinate, ordinates, blend, triangle, blended, valueAt, pairAt, values}
-use Rattle.spline.specs.CurveCall.{badCoefficient, badPosition, valuesAfter}
-use Rattle.spline.specs.Cases.{pair, space1}
-use Rattle.spline.specs.ExactCurve.{power, bernsteinAt, exactTerm, exactOn, exactCurve, largest, mostWeights}
+use Rattle.spline.specs.Space.{firstColumn, conditionsBefore}
+use Rattle.spline.specs.Table.{tableCells}
+use Rattle.spline.specs.Reading.{startsAtDiscontinuity, startsBy, segmentAt, WoodPart, earlywood, latewood, sideBySide, values}
+use Rattle.spline.specs.CurveCall.{badPosition, valuesAfter}
+use Rattle.spline.specs.Cases.{space1}
+use Rattle.spline.specs.ExactCurve.{exactCurve, largest, mostWeights}
 use Rattle.closeness.specs.Demand3Values.{closeness}
-use Rattle.theorems.proofs.Instances.{q0, q1}
+use Rattle.closeness.proofs.Instances.{table1, coefs1, accepted1, coefficients1, inside1 as positions-inside1, pairs1, values1 as read-values1, exact1}
 use Rattle.indices.specs.Indices.{ringPositions, isRefused, badRing, indexOf, ringIndices, ringsIndexed, indicesReturned, indicesAfter}
 use Rattle.indices.specs.Rings.{RingsCall, endOf, CurveIsLegal}
 use Rattle.indices.proofs.Rings.{read, read-answers, index-is-above, index-is-at-most}
 
-abbrev table1 : Table
-table1 =
-    (q1 ∷ q0 ∷ q0 ∷ q0 ∷ q0 ∷ q0 ∷ []) ∷
-    (q0 ∷ q1 ∷ pos 2 // 2 ∷ pos 2 // 2 ∷ q0 ∷ q0 ∷ []) ∷
-    (q0 ∷ q0 ∷ pos 1 // 2 ∷ pos 1 // 2 ∷ q1 ∷ q0 ∷ []) ∷
-    (q0 ∷ q0 ∷ q0 ∷ q0 ∷ q0 ∷ q1 ∷ []) ∷ []
-
-abbrev coefs1 : List ℤ
-coefs1 = pos 0 ∷ pos 0 ∷ pos 100 ∷ negsuc 99 ∷ pos 0 ∷ pos 0 ∷ pos 0 ∷ pos 0 ∷ []
-
-accepted1 : Accepted space1
-unfolding gcd gcdF mk int inv _+ᵠ_ _*ᵠ_ -ᵠ_ _//_ isZero ltᵠ sum tab fits capped collect repeat first last lengthsFit badBreak startsPart partEnd spanTooLong tooManySegments badDegree badOrder checkedEntries checked firstColumn conditionsBefore falling binomial alternating undivided commonDivisor conditions identity count addProducts span partialSum quotientFactor factors newEntry newRows step orderSteps joinSteps weights spaceWeights
-accepted1 = record { table = table1; is = refl }
-
-coefficients1 : (i : ℕ) → i < length coefs1 → T (not (badCoefficient coefs1 i))
-unfolding badCoefficient
-coefficients1 zero h = tt
-coefficients1 (suc zero) h = tt
-coefficients1 (suc (suc zero)) h = tt
-coefficients1 (suc (suc (suc zero))) h = tt
-coefficients1 (suc (suc (suc (suc zero)))) h = tt
-coefficients1 (suc (suc (suc (suc (suc zero))))) h = tt
-coefficients1 (suc (suc (suc (suc (suc (suc zero)))))) h = tt
-coefficients1 (suc (suc (suc (suc (suc (suc (suc zero))))))) h = tt
-coefficients1 (suc (suc (suc (suc (suc (suc (suc (suc i)))))))) h = absurd (omega arith)
-
--- rings 1 and 2
+-- rings 1 and 2 are read at W1's positions
 inside1 : (i : ℕ) → i < length (ringPositions (pos 1) 2) → T (not (badPosition space1 (ringPositions (pos 1) 2) i))
-unfolding badPosition ringPositions tab
-inside1 zero h = tt
-inside1 (suc zero) h = tt
-inside1 (suc (suc i)) h = absurd (omega arith)
-
-abbrev pairs1 : List Pair
-pairs1 = pair (pos 17067) (negsuc 17066) ∷ pair (pos 4267) (negsuc 4265) ∷ []
+unfolding ringPositions tab
+inside1 = positions-inside1
 
 values1 : values space1 table1 coefs1 (ringPositions (pos 1) 2) ≡ pairs1
-unfolding ringPositions gcd gcdF mk int _//_ isZero nearest tab firstColumn last startsAtDiscontinuity startsBy segmentAt rounded term termSum best ordinate ordinates blend triangle blended valueAt pairAt values
-values1 = refl
+unfolding ringPositions tab
+values1 = read-values1
 
 -- ---- a call with any two weight buffers that are long enough
 
@@ -137,10 +99,6 @@ module _ (num den : List ℤ) (h : length num ≡ tableCells) (k : length den �
   answers-wide = ap (λ o. indicesReturned (o then ringsIndexed earlywood (pos 50 ∷ pos 100000 ∷ []))) (read1 earlywood (pos 50) (pos 100000))
 
   -- ---- the bounds on 749, from the exact 51200/3 and its error 2
-  exact1 : exactCurve space1 table1 earlywood coefs1 (pos 256) ≡ pos 51200 // 2
-  unfolding gcd gcdF mk int inv _+ᵠ_ _*ᵠ_ -ᵠ_ _//_ sum firstColumn last startsAtDiscontinuity startsBy segmentAt binomial power bernsteinAt exactTerm exactOn exactCurve
-  exact1 = refl
-
   error1 : closeness space1 table1 (pos 256) ≡ int (pos 2)
   unfolding gcd gcdF mk int inv _*ᵠ_ _//_ isZero firstColumn last startsAtDiscontinuity startsBy segmentAt howMany largest mostWeights
   error1 = refl

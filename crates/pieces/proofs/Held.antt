@@ -1,4 +1,5 @@
--- A piece by the ordinates of all columns: the floats of each case, number 17, and the piece of the definition.
+-- A piece by the ordinates of all columns: the floats of each case, number 17, the piece of the definition, and the call's
+-- outcome.
 use mathlib.Core.Path.{_≡_, refl, sym, _∙_, ap, subst}
 use mathlib.Core.Logic.{_⊎_, inl, inr}
 use mathlib.Core.Bool.{true, false, cond}
@@ -16,12 +17,15 @@ use Rattle.spline.specs.Outcome.{answer, refusal, refuse, largestPlace}
 use Rattle.spline.specs.Space.{Space, segments, break, degree, firstColumn, columnCount}
 use Rattle.spline.specs.Table.{Table}
 use Rattle.spline.specs.Reading.{parts, WoodPart, coefficient, ordinate, ordinates}
-use Rattle.spline.proofs.Outcome.{capped-small}
+use Rattle.spline.specs.CurveCall.{CurveResult}
+use Rattle.spline.proofs.Outcome.{capped-small, then-answers, then-refuses}
 use Rattle.closeness.proofs.Value.{segment-column}
 use Rattle.curve.proofs.Fronts.{ordinates-length}
-use Rattle.pieces.specs.Pieces.{isDrawable, drawableDegree, pieceOf}
+use Rattle.curve_ordinates.specs.CurveAlone.{curveAlone}
+use Rattle.pieces.specs.Pieces.{isDrawable, drawableDegree, pieceOf, pieceOutcome}
 use Rattle.pieces.specs.Machine.{Is, Each, none, more, Shows, Replies, drawn, refused, pieceHeld, drawnHeld}
 use Rattle.pieces.specs.declared.Drawing.{Drawing}
+use Rattle.pieces.specs.declared.Answer.{Answer}
 use Rattle.pieces.specs.declared.Answer.the-variants.{Drawn, Refused}
 
 -- ---- the floats of a line, a quadratic and a cubic
@@ -101,3 +105,16 @@ module _ (s : Space) (t : Table) (part : WoodPart) (coefs rest : List ℤ) (k : 
       go : (segments s ≤ k) ⊎ (k < segments s) → drawnHeld s all k ≡ cond (isDrawable s k) (answer (pieceOf s t part coefs k)) (refuse 17 k)
       go (inl h) = cond-false _ _ (missing s all k h) ∙ sym (cond-false _ _ (missing s all k h))
       go (inr h) = ap (λ p. cond (isDrawable s k) (answer p) (refuse 17 k)) (held-is h)
+
+-- ---- the call's outcome
+
+module _ (s : Space) (part : WoodPart) (coefs : List ℤ) (k numLength denLength : ℕ) where
+  pub piece-refused : {number place : ℕ} → curveAlone s coefs numLength denLength ≡ refusal number place → Replies (Refused number place) (pieceOutcome s part coefs k numLength denLength)
+  unfolding pieceOutcome
+  piece-refused {number} {place} e = subst (Replies (Refused number place)) (sym (then-refuses (λ r. cond (isDrawable s k) (answer (pieceOf s (r .table) part coefs k)) (refuse 17 k)) e)) refused
+
+  pub piece-drawn : {a : Answer} {os : List ℤ} (rest : List ℤ) (c : CurveResult) → curveAlone s coefs numLength denLength ≡ answer c → os ≡ ordinates s (c .table) (coefficient part coefs) ++ rest
+      → Replies a (drawnHeld s os k) → Replies a (pieceOutcome s part coefs k numLength denLength)
+  unfolding pieceOutcome
+  piece-drawn {a} rest c e o r = subst (Replies a)
+      (ap (λ os. drawnHeld s os k) o ∙ drawn-is s (c .table) part coefs rest k ∙ sym (then-answers (λ r. cond (isDrawable s k) (answer (pieceOf s (r .table) part coefs k)) (refuse 17 k)) e)) r

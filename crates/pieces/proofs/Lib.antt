@@ -2,6 +2,6 @@
 pub mod AtEnds
 pub mod Joins
 pub mod PieceCurve
+pub mod Instances
 pub mod Floats
 pub mod Held
-pub mod Leaves

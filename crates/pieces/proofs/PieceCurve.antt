@@ -3,7 +3,7 @@
 use mathlib.Core.Path.{_≡_, refl, sym, _∙_, ap, subst}
 use mathlib.Core.Logic.{_⊎_, inl, inr}
 use mathlib.Core.Bool.{Bool, true, false, cond}
-use mathlib.Core.List.{List, []}
+use mathlib.Core.List.{List}
 use Prim.Native.Nat.{ℕ, zero, suc, _+_, _<_, _≤_}
 use native.Mathlib.Omega.{arith}
 use native.Mathlib.Nat.{eq-or-lt-of-le, mul-pos}
@@ -36,8 +36,9 @@ use Rattle.closeness.proofs.Segment.{Located, located, accepted-checked, fineWi
 use Rattle.closeness.proofs.ExactSum.{exactOrdinates, exactOn-is-triangle, bernsteinAt-triangle}
 use Rattle.closeness.proofs.Value.{segment-column}
 use Rattle.closeness.proofs.Positions.{discontinuities-belong-before, other-joins-belong-after, first-breakpoint-belongs-first, last-breakpoint-belongs-last}
-use Rattle.closeness.proofs.LegalCall.{legal-calls-answer, answered-calls-are-legal}
-use Rattle.pieces.specs.Pieces.{isDrawable, drawableDegree, Piece, pieceOf, curveAlone, pieceOutcome}
+use Rattle.curve_ordinates.specs.CurveAlone.{curveAlone}
+use Rattle.curve_ordinates.proofs.Accepted.{accepted-by}
+use Rattle.pieces.specs.Pieces.{isDrawable, drawableDegree, Piece, pieceOf, pieceOutcome}
 use Rattle.pieces.specs.PieceCurve.{polynomialAt, halfTheWeights, WithinHalfTheWeights, PiecesAreClose, IsTheValue, PiecesEndAtTheValue, PiecesStartAtTheValue}
 use Rattle.pieces.proofs.AtEnds.{exactTriangle-start, exactTriangle-end, triangle-start, triangle-end, exactTriangle-within}
 use Rattle.pieces.proofs.Joins.{ordinates-meet}
@@ -56,12 +57,10 @@ drawn s part coefs k numLength denLength p e = go (then-inverts (curveAlone s co
     go c =
         let r = c .middle in
         let f = fitting-inverts (isDrawable s k) 17 k (answer (pieceOf s (r .table) part coefs k)) (c .after) in
-        let l = answered-calls-are-legal s coefs [] numLength denLength 0 r (c .before) in
-        let same = ap (λ q. q .table) (answer-unique (legal-calls-answer s coefs [] numLength denLength 0 l) (c .before)) in
         record {
-          accepted = l .accepted;
+          accepted = accepted-by s coefs numLength denLength r (c .before);
           below = ltb→lt k (segments s) (true-holds (and-true (ltb k (segments s)) (leb (degree s k) drawableDegree) (f .0) .0));
-          is = ap (λ t. pieceOf s t part coefs k) same ∙ answer-unique refl (f .1);
+          is = answer-unique refl (f .1);
         }
 
 -- the order of a discontinuity, and the conditions of another join

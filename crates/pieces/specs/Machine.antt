@@ -1,24 +1,18 @@
 -- The machine's form of a piece: each float is a whole number of the definition over 1 or over 256, and the answer's case is the
 -- outcome's; and a piece by the ordinates of all columns.
 use mathlib.Core.Bool.{cond, not}
-use mathlib.Core.List.{List, [], _∷_, _++_}
-use mathlib.Core.Path.{_≡_}
+use mathlib.Core.List.{List, [], _∷_}
 use Prim.Native.Nat.{ℕ, suc, _+_}
 use lib.Ieee.{Float}
 use lib.Ieee.Exact.{HasValue}
 use lib.IntN.{ℤ, pos, natAbs}
-use lib.ListN.{length, getD, drop}
+use lib.ListN.{getD}
 use lib.Signed.{nonNeg}
 use Rattle.exact.specs.Tabulate.{tab}
-use Rattle.spline.specs.Outcome.{Outcome, answer, refusal, refuse, with-answer}
-use Rattle.spline.specs.Space.{Space, break, degree, firstColumn, columnCount, rowCount}
-use Rattle.spline.specs.Reading.{parts, earlywood, latewood, coefficient, ordinates}
-use Rattle.spline.specs.CurveCall.{CurveResult, curveNumerators, curveDenominators}
-use Rattle.space.specs.Reply.{space}
-use Rattle.space.specs.Legal.{ListsLegal}
-use Rattle.weights.specs.Reply.{reply}
-use Rattle.weights.specs.declared.Built.{Built}
-use Rattle.pieces.specs.Pieces.{Piece, isDrawable, curveAlone}
+use Rattle.spline.specs.Outcome.{Outcome, answer, refusal, refuse}
+use Rattle.spline.specs.Space.{Space, break, degree, firstColumn}
+use Rattle.spline.specs.Reading.{parts}
+use Rattle.pieces.specs.Pieces.{Piece, isDrawable}
 use Rattle.pieces.specs.declared.Curve.{Curve}
 use Rattle.pieces.specs.declared.Curve.the-variants.{Line, Quadratic, Cubic}
 use Rattle.pieces.specs.declared.Drawing.{Drawing}
@@ -67,13 +61,3 @@ pieceHeld s os k = record {
 -- The same, or 17.
 abbrev pub drawnHeld : Space → List ℤ → ℕ → Outcome Piece
 drawnHeld s os k = cond (isDrawable s k) (answer (pieceHeld s os k)) (refuse 17 k)
-
--- What the curve call without positions leaves: its row count or refusal and both weight buffers; and after an answer lists that are
--- legal, and the ordinates of all columns, for each wood part at the front of its list.
-pub record CurvesLeave (b d o coefs : List ℤ) (r : Built) (num den early late num′ den′ early′ late′ : List ℤ) : Type 0 where
-  pub answers : reply r ≡ with-answer (λ _. rowCount (space b d o)) (curveAlone (space b d o) coefs (length num) (length den))
-  pub numerators-are : num′ ≡ curveNumerators (space b d o) (curveAlone (space b d o) coefs (length num) (length den)) num
-  pub denominators-are : den′ ≡ curveDenominators (space b d o) (curveAlone (space b d o) coefs (length num) (length den)) den
-  pub legal : (c : CurveResult) → curveAlone (space b d o) coefs (length num) (length den) ≡ answer c → ListsLegal b d o
-  pub early-is : (c : CurveResult) → curveAlone (space b d o) coefs (length num) (length den) ≡ answer c → early′ ≡ ordinates (space b d o) (c .table) (coefficient earlywood coefs) ++ drop (columnCount (space b d o)) early
-  pub late-is : (c : CurveResult) → curveAlone (space b d o) coefs (length num) (length den) ≡ answer c → late′ ≡ ordinates (space b d o) (c .table) (coefficient latewood coefs) ++ drop (columnCount (space b d o)) late

@@ -1,7 +1,7 @@
 -- One piece of a curve for the screen (document 02, CR 12): its ordinates are step 1's whole numbers after the limits, in 256ths,
 -- and its ends are breakpoints. The machine gives the same numbers as 64-bit floats, exactly.
 use mathlib.Core.Bool.{Bool, cond, _&&_}
-use mathlib.Core.List.{List, []}
+use mathlib.Core.List.{List}
 use Prim.Native.Nat.{ℕ, suc, _+_}
 use lib.Dec.{leb, ltb}
 use lib.IntN.{ℤ}
@@ -11,7 +11,8 @@ use Rattle.spline.specs.Outcome.{Outcome, answer, refuse, _then_}
 use Rattle.spline.specs.Space.{Space, segments, break, degree, firstColumn}
 use Rattle.spline.specs.Table.{Table}
 use Rattle.spline.specs.Reading.{WoodPart, coefficient, ordinate}
-use Rattle.spline.specs.CurveCall.{CurveResult, curveOutcome, curveNumerators, curveDenominators}
+use Rattle.spline.specs.CurveCall.{curveNumerators, curveDenominators}
+use Rattle.curve_ordinates.specs.CurveAlone.{curveAlone}
 
 -- "The screen draws lines, quadratics and cubics".
 abbrev pub drawableDegree : ℕ
@@ -34,10 +35,6 @@ pieceOf s t part coefs k = record {
   start = break s k;
   end = break s (suc k);
 }
-
--- The curve call that lends no positions and no values: its weights, or one of "the curve's own numbers".
-abbrev pub curveAlone : Space → List ℤ → ℕ → ℕ → Outcome CurveResult
-curveAlone s coefs numLength denLength = curveOutcome s coefs [] numLength denLength 0
 
 -- What the call ends with, given the lengths of the two buffers: 17 comes "after the curve's own numbers, place the number named".
 unfoldable pub pieceOutcome : Space → WoodPart → List ℤ → ℕ → ℕ → ℕ → Outcome Piece

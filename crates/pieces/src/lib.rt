@@ -12,7 +12,7 @@ ghost use Rattle.space.specs.Legal.{ListsLegal};
 ghost use Rattle.ordinates.specs.Part.{woodPart};
 ghost use Rattle.triangle.specs.Offsets.{columnLimit};
 ghost use Rattle.pieces.specs.Pieces.{drawableDegree, pieceEnd};
-ghost use Rattle.pieces.specs.Machine.{Is, Each, floats, Shows, pieceHeld, drawnHeld, Replies, CurvesLeave};
+ghost use Rattle.pieces.specs.Machine.{Is, Each, floats, Shows, pieceHeld, drawnHeld, Replies};
 use ordinates::Part;
 use weights::Built;
 
@@ -119,42 +119,6 @@ fn draw(breaks: &[i32], degrees: &[i32], orders: &[i32], ordinates: &[i32], segm
     Answer::Drawn(piece)
 }
 
-// The tests and the weights of a curve call without positions, and the ordinates of all columns for each wood part.
-fn build_curves(
-    breaks: &[i32],
-    degrees: &[i32],
-    orders: &[i32],
-    coefs: &[i32],
-    num: &mut [i64],
-    den: &mut [i64],
-    early: &mut [i32],
-    late: &mut [i32],
-) -> Built
-    requires { ⌜ (length (now early) ≡ columnLimit) × (length (now late) ≡ columnLimit) ⌝ }
-    ensures { λ r. ⌜ CurvesLeave (now (breaks .entry)) (now (degrees .entry)) (now (orders .entry)) (now (coefs .entry)) r (now (num .entry)) (now (den .entry)) (now (early .entry)) (now (late .entry)) (now (num .exit)) (now (den .exit)) (now (early .exit)) (now (late .exit)) ⌝ }
-{
-    if num.len() < cells::TABLE_CELLS {
-        return Built::Refused(1, 0);
-    }
-    if den.len() < cells::TABLE_CELLS {
-        return Built::Refused(1, 1);
-    }
-    let checked = limits::check(breaks, degrees, orders, coefs, &coefs[0..0]);
-    match checked {
-        space::Legality::Refused(number, place) => Built::Refused(number, place),
-        space::Legality::Legal => curve::parts::build_parts(
-            breaks,
-            degrees,
-            orders,
-            coefs,
-            num,
-            den,
-            early,
-            late,
-        ),
-    }
-}
-
 // Builds the weights, and answers the piece of the wood part's curve over the named segment. Lists and buffers may have any
 // length and content: what the definition refuses is refused, and the buffers are then as it says.
 pub fn piece(
@@ -172,7 +136,7 @@ pub fn piece(
 {
     let mut early = [0; triangle::MAX_COLUMNS];
     let mut late = [0; triangle::MAX_COLUMNS];
-    let built = build_curves(
+    let built = curve_ordinates::build_curves(
         breaks,
         degrees,
         orders,

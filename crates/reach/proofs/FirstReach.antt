@@ -1,6 +1,6 @@
 -- What the answer means: the position found is the first that reaches the width, and after 16 there is none. A position of the
 -- span is the start and a number of 256ths below the count.
-use mathlib.Core.Path.{_≡_, refl, _∙_, ap, subst}
+use mathlib.Core.Path.{_≡_, refl, subst}
 use mathlib.Core.Bool.{Bool, false}
 use mathlib.Core.List.{List, []}
 use mathlib.Core.Option.{Option, some, none}
@@ -13,15 +13,14 @@ use Rattle.exact.proofs.Word.{leZ-true, leZ-false}
 use Rattle.spline.specs.Outcome.{answer, refusal}
 use Rattle.spline.specs.Search.{first}
 use Rattle.spline.specs.Space.{Space, break}
-use Rattle.spline.specs.Build.{spaceWeights}
 use Rattle.spline.specs.Piecewise.{Accepted}
 use Rattle.spline.specs.Reading.{WoodPart, fine, valueAt}
-use Rattle.spline.specs.CurveCall.{CurveResult}
 use Rattle.spline.proofs.Outcome.{answer-unique, answer-not-refusal, then-inverts, Broken, first-refuses, second-refuses, then-breaks}
 use Rattle.spline.proofs.Search.{First, first-some-inverts, first-none-inverts}
 use Rattle.closeness.proofs.Segment.{accepted-checked}
-use Rattle.closeness.proofs.LegalCall.{answered-calls-are-legal, legal-calls-answer}
-use Rattle.reach.specs.Reach.{positionCount, position, reaches, reachedAt, curveAlone, reachOutcome}
+use Rattle.curve_ordinates.specs.CurveAlone.{curveAlone}
+use Rattle.curve_ordinates.proofs.Accepted.{accepted-by}
+use Rattle.reach.specs.Reach.{positionCount, position, reaches, reachedAt, reachOutcome}
 use Rattle.reach.specs.FirstReach.{FirstAt, AnswersAreFirst, NeverReached, SixteenIsNever}
 use Rattle.reach.proofs.Positions.{position-after-start, position-before-end, indexOf, position-of-index, index-below, index-in-span}
 use Rattle.reach.proofs.Numbers.{curve-numbers}
@@ -54,16 +53,11 @@ module _ (s : Space) (part : WoodPart) (coefs : List ℤ) (width : ℤ) (a : Acc
     none = λ y h k. below-width y h (first-none-inverts test (positionCount s) e (indexOf s y) (index-in-span s (accepted-checked s a .1) y h k));
   }
 
--- the space of an answered curve call, with the weights that it has worked out
-accepted-by : (s : Space) (coefs : List ℤ) (numLength denLength : ℕ) (r : CurveResult) → curveAlone s coefs numLength denLength ≡ answer r → spaceWeights s ≡ answer (r .table)
-accepted-by s coefs numLength denLength r e = let l = answered-calls-are-legal s coefs [] numLength denLength 0 r e in
-    l .accepted .is ∙ ap (λ q. answer (q .table)) (answer-unique (legal-calls-answer s coefs [] numLength denLength 0 l) e)
-
 pub answers-are-first : AnswersAreFirst
 unfolding reachOutcome
 answers-are-first s part coefs width numLength denLength x e =
     let c = then-inverts (curveAlone s coefs numLength denLength) (λ r. reachedAt s (first (positionCount s) (reaches s (r .table) part coefs width))) e in
-    searched s part coefs width (record { table = c .middle .table; is = accepted-by s coefs numLength denLength (c .middle) (c .before) }) _ x refl (c .after)
+    searched s part coefs width (accepted-by s coefs numLength denLength (c .middle) (c .before)) _ x refl (c .after)
 
 pub sixteen-is-never : SixteenIsNever
 unfolding reachOutcome
@@ -71,4 +65,4 @@ sixteen-is-never s part coefs width numLength denLength place e = go (then-break
   where
     go : Broken (curveAlone s coefs numLength denLength) (λ r. reachedAt s (first (positionCount s) (reaches s (r .table) part coefs width))) 16 place → NeverReached s part coefs width
     go (first-refuses p) = absurd (omega (arith, curve-numbers s coefs [] numLength denLength 0 16 place p))
-    go (second-refuses r p q) = nowhere s part coefs width (record { table = r .table; is = accepted-by s coefs numLength denLength r p }) _ 16 place refl q
+    go (second-refuses r p q) = nowhere s part coefs width (accepted-by s coefs numLength denLength r p) _ 16 place refl q

@@ -1,6 +1,6 @@
 -- The least position whose value reaches a width (document 02, CR 11), by the values that the curve call gives.
 use mathlib.Core.Bool.{Bool}
-use mathlib.Core.List.{List, []}
+use mathlib.Core.List.{List}
 use mathlib.Core.Option.{Option, some, none}
 use Prim.Native.Nat.{ℕ, suc}
 use lib.IntN.{ℤ, pos, _+ℤ_, _-ℤ_, natAbs}
@@ -11,7 +11,8 @@ use Rattle.spline.specs.Search.{first}
 use Rattle.spline.specs.Space.{Space, segments, break}
 use Rattle.spline.specs.Table.{Table}
 use Rattle.spline.specs.Reading.{WoodPart, fine, valueAt}
-use Rattle.spline.specs.CurveCall.{CurveResult, curveOutcome, curveNumerators, curveDenominators}
+use Rattle.spline.specs.CurveCall.{curveNumerators, curveDenominators}
+use Rattle.curve_ordinates.specs.CurveAlone.{curveAlone}
 
 -- "All positions of the span count, ends included": how many there are.
 abbrev pub positionCount : Space → ℕ
@@ -30,11 +31,7 @@ abbrev pub reachedAt : Space → Option ℕ → Outcome ℤ
 reachedAt s (some i) = answer (position s i)
 reachedAt s none = refuse 16 0
 
--- The curve call that lends no positions and no values: its weights, or "all numbers that a curve call can give".
-abbrev pub curveAlone : Space → List ℤ → ℕ → ℕ → Outcome CurveResult
-curveAlone s coefs numLength denLength = curveOutcome s coefs [] numLength denLength 0
-
--- What the call ends with, given the lengths of the two buffers.
+-- What the call ends with, given the lengths of the two buffers: 16 comes "after all numbers that a curve call can give".
 unfoldable pub reachOutcome : Space → WoodPart → List ℤ → ℤ → ℕ → ℕ → Outcome ℤ
 reachOutcome s part coefs width numLength denLength =
     curveAlone s coefs numLength denLength then λ r. reachedAt s (first (positionCount s) (reaches s (r .table) part coefs width))

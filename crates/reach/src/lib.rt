@@ -76,40 +76,20 @@ pub fn reach(
     ensures { λ r. ⌜ (let e = reachEnd (space (now (breaks .entry)) (now (degrees .entry)) (now (orders .entry))) (woodPart part) (now (coefs .entry)) width (now (num .entry)) (now (den .entry)) in
         (reply r ≡ e .answers) × ((now (num .exit) ≡ e .numerators) × (now (den .exit) ≡ e .denominators))) ⌝ }
 {
-    if num.len() < cells::TABLE_CELLS {
-        return Answer::Refused(1, 0);
-    }
-    if den.len() < cells::TABLE_CELLS {
-        return Answer::Refused(1, 1);
-    }
-    let checked = limits::check(breaks, degrees, orders, coefs, &coefs[0..0]);
-    match checked {
-        space::Legality::Refused(number, place) => Answer::Refused(number, place),
-        space::Legality::Legal => {
-            let mut early = [0; triangle::MAX_COLUMNS];
-            let mut late = [0; triangle::MAX_COLUMNS];
-            let built = curve::parts::build_parts(
-                breaks,
-                degrees,
-                orders,
-                coefs,
-                num,
-                den,
-                &mut early,
-                &mut late,
-            );
-            match built {
-                weights::Built::Refused(number, place) => Answer::Refused(number, place),
-                weights::Built::Rows(_) => part_reach(
-                    part,
-                    breaks,
-                    degrees,
-                    orders,
-                    &early,
-                    &late,
-                    width,
-                ),
-            }
-        }
+    let mut early = [0; triangle::MAX_COLUMNS];
+    let mut late = [0; triangle::MAX_COLUMNS];
+    let built = curve_ordinates::build_curves(
+        breaks,
+        degrees,
+        orders,
+        coefs,
+        num,
+        den,
+        &mut early,
+        &mut late,
+    );
+    match built {
+        weights::Built::Refused(number, place) => Answer::Refused(number, place),
+        weights::Built::Rows(_) => part_reach(part, breaks, degrees, orders, &early, &late, width),
     }
 }

@@ -1,21 +1,20 @@
 -- The curves without positions, and then the piece from the named part's ordinates. Assumes nothing.
 use borrow.Author.Needs.{needs}
 use mathlib.Core.List.{List}
-use mathlib.Core.Path.{_≡_, sym, _∙_, ap, subst}
-use lib.IntN.{ℤ}
-use lib.ListN.{length}
-use Rattle.spline.specs.Outcome.{Outcome}
-use Rattle.spline.specs.Space.{Space, rowCount}
-use Rattle.spline.specs.Reading.{earlywood, latewood, coefficient}
-use Rattle.spline.specs.CurveCall.{CurveResult}
+use mathlib.Core.Path.{_≡_, sym, ap, subst}
+use lib.IntN.{ℤ, pos}
+use lib.ListN.{length, replicate}
+use Rattle.spline.specs.Space.{Space}
+use Rattle.spline.specs.Reading.{earlywood, latewood}
 use Rattle.space.specs.Reply.{space}
-use Rattle.space.specs.Legal.{ListsLegal}
-use Rattle.weights.specs.Reply.{reply}
+use Rattle.weights.specs.declared.Built.{Built}
+use Rattle.weights.specs.declared.Built.the-variants.{Rows}
 use Rattle.ordinates.specs.Part.{woodPart}
-use Rattle.curve.proofs.Pairs.{fronted}
-use Rattle.pieces.specs.Pieces.{curveAlone, pieceOutcome}
+use Rattle.triangle.specs.Offsets.{columnLimit}
+use Rattle.curve_ordinates.specs.Machine.{CurvesTold}
+use Rattle.pieces.specs.Pieces.{pieceOutcome}
 use Rattle.pieces.specs.Machine.{Replies}
-use Rattle.pieces.proofs.Leaves.{Told, told-rows, told-refused, piece-refused, piece-drawn}
+use Rattle.pieces.proofs.Held.{piece-refused, piece-drawn}
 use Rattle.pieces.proofs.piece.Statement.{statement}
 use Rattle.pieces.proofs.piece.Tie as tie
 
@@ -40,7 +39,7 @@ enum-told-2 c = search needs
 slice-aggregate-draw : tie.Need-slice-aggregate-draw
 slice-aggregate-draw c = search needs
 
--- the call after the tests and the parts
+-- what the curves leave
 module _ (d : tie.After-build-curves) where
   abbrev start : tie.Start
   start = d .before .before .before .before .before
@@ -48,34 +47,26 @@ module _ (d : tie.After-build-curves) where
   abbrev lists : Space
   lists = space (start .args .breaks .now) (start .args .degrees .now) (start .args .orders .now)
 
-  abbrev outcome : Outcome CurveResult
-  outcome = curveAlone lists (start .args .coefs .now) (length (start .args .num .now)) (length (start .args .den .now))
-
+  -- the ordinates of earlywood and of latewood
   abbrev early : List ℤ
   early = d .build-curves .last .1 .1 .1 .1 .1 .1 .0
 
   abbrev late : List ℤ
   late = d .build-curves .last .1 .1 .1 .1 .1 .1 .1 .0
 
--- and with an answer
+  abbrev Told : Built → Type 0
+  Told r = CurvesTold (start .args .breaks .now) (start .args .degrees .now) (start .args .orders .now) (start .args .coefs .now) (start .args .num .now) (start .args .den .now) (replicate columnLimit (pos 0)) (replicate columnLimit (pos 0)) early late r
+
+-- after an answer
 module _ (t : tie.After-enum-told) where
   abbrev done : tie.After-build-curves
   done = t .before .before .before .before .before .before
 
-  told : Told (outcome done)
-  told = told-rows (outcome done) (t .enum-told .given .0 .0) (rowCount (lists done)) (ap reply (sym (t .enum-told .given .1)) ∙ done .build-curves .ensures .answers)
-
-  legal : ListsLegal (start done .args .breaks .now) (start done .args .degrees .now) (start done .args .orders .now)
-  legal = done .build-curves .ensures .legal (told .result) (told .is)
-
-  early-is : early done ≡ fronted (lists done) (told .result .table) 288 (coefficient earlywood (start done .args .coefs .now))
-  early-is = done .build-curves .ensures .early-is (told .result) (told .is)
-
-  late-is : late done ≡ fronted (lists done) (told .result .table) 288 (coefficient latewood (start done .args .coefs .now))
-  late-is = done .build-curves .ensures .late-is (told .result) (told .is)
+  held : Told done (Rows (t .enum-told .given .0 .0))
+  held = subst (Told done) (t .enum-told .given .1) (done .build-curves .ensures .told)
 
 draw-requires : tie.Need-draw-requires
-draw-requires c κs = (legal (c .before .before .before), search needs)
+draw-requires c κs = (held (c .before .before .before) .legal, search needs)
 
 enum-told-3 : tie.Need-enum-told-3
 enum-told-3 c = search needs
@@ -84,7 +75,7 @@ slice-aggregate-draw-2 : tie.Need-slice-aggregate-draw-2
 slice-aggregate-draw-2 c = search needs
 
 draw-requires-2 : tie.Need-draw-requires-2
-draw-requires-2 c κs = (legal (c .before .before .before), search needs)
+draw-requires-2 c κs = (held (c .before .before .before) .legal, search needs)
 
 same-length : tie.Need-same-length
 same-length c = search needs
@@ -97,7 +88,7 @@ returns c =
     let d = c .before .before .before .before .before .before .before in
     let a = start d .args in
     let l = d .build-curves .ensures in
-    let r = told-refused (outcome d) (rowCount (lists d)) (ap reply (sym (c .before .built .given .1)) ∙ l .answers) in
+    let r = subst (Told d) (c .before .built .given .1) (l .told) in
     (piece-refused (lists d) (woodPart (a .part)) (a .coefs .now) (a .segment) (length (a .num .now)) (length (a .den .now)) r, (l .numerators-are, l .denominators-are))
 
 same-length-3 : tie.Need-same-length-3
@@ -114,7 +105,7 @@ returns-2 c =
     let l = d .build-curves .ensures in
     let p : woodPart (a .part) ≡ earlywood = ap woodPart (c .before .before .enum-told2 .given .1) in (
       subst (λ w. Replies (c .draw .result) (pieceOutcome (lists d) w (a .coefs .now) (a .segment) (length (a .num .now)) (length (a .den .now)))) (sym p)
-          (piece-drawn (lists d) earlywood (a .coefs .now) (a .segment) (length (a .num .now)) (length (a .den .now)) _ (told t .result) (told t .is) (early-is t) (c .draw .ensures)),
+          (piece-drawn (lists d) earlywood (a .coefs .now) (a .segment) (length (a .num .now)) (length (a .den .now)) _ (held t .result) (held t .is) (held t .early-is) (c .draw .ensures)),
       (l .numerators-are, l .denominators-are),
     )
 
@@ -132,7 +123,7 @@ returns-3 c =
     let l = d .build-curves .ensures in
     let p : woodPart (a .part) ≡ latewood = ap woodPart (c .before .before .enum-told3 .given .1) in (
       subst (λ w. Replies (c .draw2 .result) (pieceOutcome (lists d) w (a .coefs .now) (a .segment) (length (a .num .now)) (length (a .den .now)))) (sym p)
-          (piece-drawn (lists d) latewood (a .coefs .now) (a .segment) (length (a .num .now)) (length (a .den .now)) _ (told t .result) (told t .is) (late-is t) (c .draw2 .ensures)),
+          (piece-drawn (lists d) latewood (a .coefs .now) (a .segment) (length (a .num .now)) (length (a .den .now)) _ (held t .result) (held t .is) (held t .late-is) (c .draw2 .ensures)),
       (l .numerators-are, l .denominators-are),
     )
 

@@ -5,7 +5,7 @@ use mathlib.Core.List.{[]}
 use mathlib.Core.Path.{_≡_, refl, sym, _∙_}
 use Prim.Native.Nat.{_≤_}
 use lib.ListN.{length}
-use Rattle.spline.specs.Space.{Space, columnCount}
+use Rattle.spline.specs.Space.{Space}
 use Rattle.spline.specs.Table.{tableCells}
 use Rattle.spline.specs.CurveCall.{curveChecked}
 use Rattle.space.specs.Reply.{space, legality}
@@ -14,9 +14,9 @@ use Rattle.space.proofs.Reply.{refused-refuses}
 use Rattle.space.proofs.Legal.{legal-column-count-high}
 use Rattle.closeness.proofs.LegalCall.{curve-checks}
 use Rattle.curve.proofs.Call.{first-short, second-short, call-refused, lists-legal, coefficients-good}
-use Rattle.pieces.proofs.Leaves.{leaves-unchanged, leaves-built}
-use Rattle.pieces.proofs.build_curves.Statement.{statement}
-use Rattle.pieces.proofs.build_curves.Tie as tie
+use Rattle.curve_ordinates.proofs.Leaves.{leaves-unchanged, leaves-built}
+use Rattle.curve_ordinates.proofs.build_curves.Statement.{statement}
+use Rattle.curve_ordinates.proofs.build_curves.Tie as tie
 
 abbrev lists : tie.Start → Space
 lists s = space (s .args .breaks .now) (s .args .degrees .now) (s .args .orders .now)
@@ -68,9 +68,7 @@ build-parts-requires c κs =
     let a = s .args in
     let l = lists-legal (a .breaks .now) (a .degrees .now) (a .orders .now) (a .coefs .now) [] (passes t) in
     let few = legal-column-count-high (a .breaks .now) (a .degrees .now) (a .orders .now) l in
-    let first : columnCount (lists s) ≤ length (a .early .now) = omega (arith, few, s .pre .0) in
-    let second : columnCount (lists s) ≤ length (a .late .now) = omega (arith, few, s .pre .1) in
-    ((l, coefficients-good (a .breaks .now) (a .degrees .now) (a .orders .now) (a .coefs .now) [] (passes t)), ((first-long t, second-long t), (first, second)))
+    ((l, coefficients-good (a .breaks .now) (a .degrees .now) (a .orders .now) (a .coefs .now) [] (passes t)), ((first-long t, second-long t), (omega (arith, few, s .pre), omega (arith, few, s .pre))))
 
 returns-3 : tie.Need-returns-3
 returns-3 c =
@@ -98,7 +96,7 @@ returns-4 c =
     let p = c .before .before .before .before in
     let t = p .before .before .before .before .before in
     let a = start t .args in
-    leaves-built (a .breaks .now) (a .degrees .now) (a .orders .now) (a .coefs .now) (a .num .now) (a .den .now) (a .early .now) (a .late .now) (first-long t) (second-long t) (passes t) (p .build-parts .ensures)
+    leaves-built (a .breaks .now) (a .degrees .now) (a .orders .now) (a .coefs .now) (a .num .now) (a .den .now) (a .early .now) (a .late .now) (first-long t) (second-long t) (passes t) (p .build-parts .result) (p .build-parts .ensures)
 
 pub build-curves-spec : {M : Type 1} → statement M
 build-curves-spec =
