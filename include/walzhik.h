@@ -1,6 +1,6 @@
 /* Walzhik: growth curves of earlywood and latewood in segments of different degree, with exact weights.
  *
- * The static library libwalzhik.a has ten calls. Lists and buffers may have any length and any content: a call always
+ * The static library libwalzhik.a has eleven calls. Lists and buffers may have any length and any content: a call always
  * returns, reads and writes only what it is lent, and answers or refuses with a number and a place. A list or buffer of
  * length 0 still needs a valid (non-null, aligned) pointer. In every call the lent buffers must lie apart from each other and
  * from the lists: no call can see that they overlap, and nothing is promised where they do. Building and the curve call
@@ -57,8 +57,8 @@ extern "C" {
 #define WALZHIK_CELLS 5184
 #define WALZHIK_LARGEST_PLACE UINT32_C(4294967295)
 
-/* An answer: number 0, place 0, and the count of rows (build), positions (curve), rings (indices), series (tucson_read) or bytes
- * (tucson_write). A refusal: count 0. */
+/* An answer: number 0, place 0, and the count of rows (build, coefficients), positions (curve), rings (indices), series
+ * (tucson_read) or bytes (tucson_write). A refusal: count 0. */
 typedef struct {
     uint64_t count;
     uint32_t number;
@@ -176,6 +176,32 @@ walzhik_piece walzhik_earlywood_piece(const int32_t *breaks, size_t breaks_len, 
 walzhik_piece walzhik_latewood_piece(const int32_t *breaks, size_t breaks_len, const int32_t *degrees, size_t degrees_len,
                                      const int32_t *orders, size_t orders_len, const int32_t *coefs, size_t coefs_len,
                                      uint32_t segment, int64_t *num, size_t num_len, int64_t *den, size_t den_len);
+
+/* Coefficients from local ordinates: the exact fractions that give the ordinates of one wood part's curve. One call takes a whole
+ * beam.
+ *   ordinates           one number for each column: the Bernstein ordinates of all segments in order, degree + 1 for each, in
+ *                       256ths of a thousandth of a millimetre, each from -256000000 to 256000000
+ *   coef_num, coef_den  at least one cell for each ordinate: the coefficient of row i is coef_num[i] / coef_den[i], also in 256ths
+ *                       of a thousandth, in lowest terms with positive denominator. Cells from n up to the ordinates' count are
+ *                       0/1, later ones keep what they held.
+ * The answer is n. The combination of the rows with these coefficients is the list of ordinates, exactly, and no other n fractions
+ * give it. Where a coefficient is 256 c with a whole number c in range, c is what walzhik_curve takes for that row; the exact curve
+ * then has exactly these ordinates, while the ordinates that walzhik_curve works with are rounded.
+ * Numbers 1 to 5 and 15 as in walzhik_build, and after place 1 of number 1
+ *    1  coef_num (3), then coef_den (4), has fewer cells than there are ordinates
+ * then, before anything is built,
+ *   18  entry: ordinate out of range; WALZHIK_LARGEST_PLACE, tested first: their count is not the sum of degrees + m
+ * and then step by step, orders rising at each join from the left, each step in this order
+ *    8  join: as in walzhik_build, and so is 9
+ *   20  join: a number times a jump, or a sum of these, has a numerator's size or a denominator of 2^31 or more
+ *   19  join: that sum is not zero: the ordinates miss a condition of the join, so that no fractions of any size give them
+ *   20  join: a share, a difference or a quotient of the undoing is as large
+ * After 1 to 5, 15 and 18 all buffers are unchanged. After 8, 9, 19 and 20 the first WALZHIK_CELLS cells of num and den, and those
+ * of coef_num and coef_den up to the ordinates' count, are 0/1. The call needs at most 32768 bytes of stack. */
+walzhik_reply walzhik_coefficients(const int32_t *breaks, size_t breaks_len, const int32_t *degrees, size_t degrees_len,
+                                   const int32_t *orders, size_t orders_len, const int32_t *ordinates, size_t ordinates_len,
+                                   int64_t *num, size_t num_len, int64_t *den, size_t den_len, int64_t *coef_num,
+                                   size_t coef_num_len, int64_t *coef_den, size_t coef_den_len);
 
 #ifdef __cplusplus
 }

@@ -16,14 +16,14 @@ from comparing import arguments, compare_calls, kind_of
 from generate import random_call
 from indices import WOOD_PARTS, indices_outcome
 from limits import CELLS, MOST_POSITIONS, MOST_THOUSANDTHS, PARTS
-from protocol import (SAME, WEIGHT_BITS, Lent, listed, listed_cells, value_word,
+from protocol import (SPACE_WORDS, WEIGHT_BITS, Lent, changed_word, line_of, listed, read_line, value_word,
                       weight_words)
 from random_spaces import pick
 
 GATE_COUNT = 5_000
 REACHABLE = set(map(kind_of, (0, 1, 2, 3, 4, 5, 6, 7, 8, 14)))
 BUFFERS = ("num", "den", "values", "indices")
-LISTS = ("breaks", "degrees", "orders", "coefs")
+LISTS = (*SPACE_WORDS, "coefs")
 
 
 class Rings:
@@ -33,32 +33,26 @@ class Rings:
         self.part, self.lists, self.first, self.widths, self.buffers = part, lists, first, widths, buffers
 
     def line(self):
-        words = [f"{self.part}_indices", *(f"{name}={listed(self.lists[name])}" for name in LISTS),
-                 f"first={self.first}", f"widths={listed(self.widths)}",
-                 *(f"{name}={lent.length}:{lent.fill}" for name, lent in self.buffers.items())]
-        return " ".join(words)
+        lists = {name: self.lists[name] for name in LISTS} | {"first": [self.first], "widths": self.widths}
+        return line_of(f"{self.part}_indices", lists, self.buffers)
 
     def expected(self):
         """The result line of a right engine, and its kind."""
-        spaces = [self.lists[name] for name in LISTS[:3]]
+        spaces = [self.lists[name] for name in SPACE_WORDS]
         outcome = indices_outcome(self.part, spaces, self.lists["coefs"], self.first, self.widths,
                                   *(lent.length for lent in self.buffers.values()))
-        lent = self.buffers["indices"]
-        changed = [(cell, index) for cell, index in enumerate(outcome.indices or [])
-                   if index != lent.old(cell, WEIGHT_BITS)]
+        before = self.buffers["indices"].contents(WEIGHT_BITS)
         words = ["reply=" + listed(outcome.curve.reply), *weight_words(outcome.curve),
                  value_word(outcome.curve.values, self.buffers["values"]),
-                 f"indices={listed_cells(changed) or SAME}"]
+                 changed_word("indices", before, outcome.indices or [])]
         return " ".join(words), kind_of(outcome.curve.reply.number)
 
 
 def read_case(line):
     """The call of a line, so that a printed case can be run again."""
-    name, *words = line.split()
-    fields = dict(word.split("=", 1) for word in words)
-    numbers = {key: [int(entry) for entry in fields[key].split(",") if entry] for key in (*LISTS, "widths")}
-    buffers = {key: Lent(*map(int, fields[key].split(":"))) for key in BUFFERS}
-    return Rings(name.partition("_")[0], numbers, int(fields["first"]), numbers["widths"], buffers)
+    name, lists, buffers = read_line(line)
+    first, = lists["first"]
+    return Rings(name.partition("_")[0], lists, first, lists["widths"], buffers)
 
 
 def a_width(rng):

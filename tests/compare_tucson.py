@@ -16,7 +16,7 @@ from itertools import count
 
 from comparing import arguments, compare_calls, kind_of
 
-from protocol import SAME, Lent, listed, listed_cells
+from protocol import Lent, changed_word, line_of, listed, read_line
 from random_spaces import pick
 from random_tucson import lists_of, random_lists, random_text
 from space import Refusal
@@ -45,32 +45,21 @@ class TucsonCall:
         self.kind, self.lists, self.buffers = kind, lists, buffers
 
     def line(self):
-        return " ".join([self.kind, *(f"{name}={listed(cells)}" for name, cells in self.lists.items()),
-                         *(f"{name}={lent.length}:{lent.fill}" for name, lent in self.buffers.items())])
+        return line_of(self.kind, self.lists, self.buffers)
 
     def expected(self):
         """The result line of a right engine, and its kind."""
         call = tucson_read if self.kind == "read" else tucson_write
         before = [contents(name, lent) for name, lent in self.buffers.items()]
         reply, *after = call(*self.lists.values(), *before)
-        words = [f"reply={listed(reply)}"]
-        for name, old, new in zip(self.buffers, before, after):
-            changed = [(cell, now) for cell, was, now in zip(count(), old, new) if was != now]
-            words.append(f"{name}={listed_cells(changed) or SAME}")
+        words = [f"reply={listed(reply)}", *map(changed_word, self.buffers, before, after)]
         return " ".join(words), f"{self.kind} {kind_of(reply.number)}"
 
 
 def read_case(line):
     """The call of a line, so that a printed case can be run again."""
-    kind, *words = line.split()
-    lists, buffers = {}, {}
-    for name, _, text in (word.partition("=") for word in words):
-        if ":" in text:
-            buffers[name] = Lent(*map(int, text.split(":")))
-        else:
-            cells = [int(entry) for entry in text.split(",") if entry]
-            lists[name] = bytes(cells) if BITS.get(name) == 8 else cells
-    return TucsonCall(kind, lists, buffers)
+    kind, lists, buffers = read_line(line)
+    return TucsonCall(kind, {name: bytes(cells) if BITS[name] == 8 else cells for name, cells in lists.items()}, buffers)
 
 
 def lent_for(rng, needed):

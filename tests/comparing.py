@@ -2,7 +2,8 @@
 
 A comparison of calls gives objects with two methods: `line()`, the call line
 that the driver reads, and `expected()`, the result line of a right engine with
-a word for its kind. A comparison of texts gives the model's function.
+a word for its kind and any further marks that are to be counted. A comparison
+of texts gives the model's function.
 """
 
 import argparse
@@ -73,15 +74,16 @@ def kind_of(number):
     return f"number {number}" if number else "answers"
 
 
-def batch_difference(command, calls, seen):
+def batch_difference(command, calls, seen, marked):
     """The first call on which engine and model part, as text, or None."""
     asked = [call.line() for call in calls]
     lines, code, errors = driven(command, asked)
     for call, line in zip(calls, lines):
-        expected, kind = call.expected()
+        expected, kind, *marks = call.expected()
         if line != expected:
             return line_difference(call.line(), expected, line)
         seen[kind] += 1
+        marked.update(marks)
     if code != 0 or len(lines) != len(calls):
         return bad_end(command, asked, len(lines), code, errors)
     return None
@@ -90,16 +92,16 @@ def batch_difference(command, calls, seen):
 def compare_calls(name, chosen, random_call, read_case, reachable):
     """Compares random calls, or the one that --case names; the exit status."""
     print(f"{name}: seed {chosen.seed}")
-    rng, seen, command = Random(chosen.seed), Counter(), command_of(chosen)
+    rng, seen, marked, command = Random(chosen.seed), Counter(), Counter(), command_of(chosen)
     left = 1 if chosen.case else chosen.count
     while left:
         calls = ([read_case(chosen.case)] if chosen.case
                  else [random_call(rng) for _ in range(min(left, BATCH))])
         left -= len(calls)
-        found = batch_difference(command, calls, seen)
+        found = batch_difference(command, calls, seen, marked)
         if found:
             return failed(name, found, seen, chosen.seed)
-    return finished(name, seen, reachable)
+    return finished(name, seen, reachable, marked)
 
 
 # Texts, by a program.
@@ -146,11 +148,13 @@ def failed(name, found, seen, seed):
     return 1
 
 
-def finished(name, seen, reachable):
+def finished(name, seen, reachable, marked=()):
     """Counts what came up; of enough cases all that is reachable must have."""
-    for kind in sorted(seen):
-        print(f"  {kind:15} {seen[kind]:6}")
-    missing = sorted(set(reachable) - set(seen)) if sum(seen.values()) >= ENOUGH else []
+    for counts in (seen, marked):
+        width = max(map(len, counts), default=0)
+        for kind in sorted(counts):
+            print(f"  {kind:{width}} {counts[kind]:6}")
+    missing = sorted(set(reachable) - set(seen) - set(marked)) if sum(seen.values()) >= ENOUGH else []
     if missing:
         print(f"{name}: never seen: {missing}")
     print(f"{name}: {sum(seen.values())} passed, {len(missing)} failed")

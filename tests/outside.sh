@@ -36,6 +36,7 @@ for part in earlywood latewood; do
     try "$driver" "${part}_reach $space width=5 num=5184:7 den=5184:9"
     try "$driver" "${part}_piece $space segment=1 num=5184:7 den=5184:9"
 done
+try "$driver" "coefficients $lists ordinates=0,300,200,200,0,0 num=5184:7 den=5184:9 coef_num=6:5 coef_den=6:3"
 try "$tucson" 'read text=65,66,67 names=8:1 years=1:2 counts=1:3 widths=4:5'
 try "$tucson" 'write names=65,66,67 years=1900 counts=2 widths=5,7 text=40:1'
 [ "$failed" -eq 0 ] && echo "outside: $tried reads outside, all seen"

@@ -6,26 +6,23 @@ values. `SpaceCall` wraps a random call for tests/comparing.py.
 """
 
 from comparing import kind_of
-from protocol import Lent, listed
+from protocol import SPACE_WORDS, line_of, read_line
 
-LISTS = ("breaks", "degrees", "orders", "coefs")
+LISTS = (*SPACE_WORDS, "coefs")
 BUFFERS = ("num", "den")
 
 
 def space_line(name, call, number):
     """The line of a call whose own number has this name."""
-    lists = [f"{key}={listed(getattr(call, key))}" for key in LISTS]
-    buffers = [f"{key}={getattr(call, key).length}:{getattr(call, key).fill}" for key in BUFFERS]
-    return " ".join([f"{call.part}_{name}", *lists, f"{number}={getattr(call, number)}", *buffers])
+    lists = {word: getattr(call, word) for word in LISTS} | {number: [getattr(call, number)]}
+    return line_of(f"{call.part}_{name}", lists, {word: getattr(call, word) for word in BUFFERS})
 
 
 def read_space_line(line, make, number):
     """The call of a line, so that a printed case can be run again."""
-    name, *words = line.split()
-    fields = dict(word.split("=", 1) for word in words)
-    lists = {key: [int(entry) for entry in fields[key].split(",") if entry] for key in LISTS}
-    buffers = {key: Lent(*map(int, fields[key].split(":"))) for key in BUFFERS}
-    return make(part=name.partition("_")[0], **{number: int(fields[number])}, **lists, **buffers)
+    name, lists, buffers = read_line(line)
+    lists[number], = lists[number]
+    return make(part=name.partition("_")[0], **lists, **buffers)
 
 
 class SpaceCall:

@@ -7,12 +7,15 @@
 //! Every mode first checks that both give the same, and stops where they do not.
 
 mod plain;
+#[path = "../../examples/walzhik.rs"]
+mod walzhik;
 
 use plain::{Refusal, Space, CELLS};
 use std::hint::black_box;
 use std::path::Path;
 use std::process::{exit, Command};
 use std::time::{Duration, Instant};
+use walzhik::raw::{walzhik_build, walzhik_curve, Reply};
 
 const MAX_SEGMENTS: usize = 12;
 const MAX_POSITIONS: usize = 4096;
@@ -24,26 +27,6 @@ const ONE_SEGMENT: usize = 8;
 const ROUNDS: usize = 41;
 
 // ---- the engine
-
-#[repr(C)]
-struct Reply {
-    count: u64,
-    number: u32,
-    place: u32,
-}
-
-#[link(name = "walzhik", kind = "static")]
-extern "C" {
-    fn walzhik_build(
-        breaks: *const i32, breaks_len: usize, degrees: *const i32, degrees_len: usize, orders: *const i32, orders_len: usize,
-        num: *mut i64, num_len: usize, den: *mut i64, den_len: usize,
-    ) -> Reply;
-    fn walzhik_curve(
-        breaks: *const i32, breaks_len: usize, degrees: *const i32, degrees_len: usize, orders: *const i32, orders_len: usize,
-        coefs: *const i32, coefs_len: usize, positions: *const i32, positions_len: usize, num: *mut i64, num_len: usize,
-        den: *mut i64, den_len: usize, values: *mut i32, values_len: usize,
-    ) -> Reply;
-}
 
 fn answer(reply: Reply) -> Result<usize, Refusal> {
     if reply.number == 0 { Ok(reply.count as usize) } else { Err((reply.number, reply.place)) }

@@ -166,6 +166,28 @@ static void run_piece(const char *line, piece_call *call)
     end_all(held, ALL);
 }
 
+static void run_coefficients(const char *line)
+{
+    enum { ORDINATES = SPACE_LISTS, NUM, DEN, COEF_NUM, COEF_DEN, ALL };
+    cells held[ALL];
+    read_space(&line, held);
+    held[ORDINATES] = read_list(&line, "ordinates", SIGNED_32);
+    held[NUM] = read_buffer(&line, "num", SIGNED_64);
+    held[DEN] = read_buffer(&line, "den", SIGNED_64);
+    held[COEF_NUM] = read_buffer(&line, "coef_num", SIGNED_64);
+    held[COEF_DEN] = read_buffer(&line, "coef_den", SIGNED_64);
+
+    print_reply(walzhik_coefficients(in(&held[BREAKS]), held[BREAKS].length, in(&held[DEGREES]), held[DEGREES].length,
+                                     in(&held[ORDERS]), held[ORDERS].length, in(&held[ORDINATES]), held[ORDINATES].length,
+                                     in(&held[NUM]), held[NUM].length, in(&held[DEN]), held[DEN].length,
+                                     in(&held[COEF_NUM]), held[COEF_NUM].length, in(&held[COEF_DEN]),
+                                     held[COEF_DEN].length));
+    print_weights(&held[NUM], &held[DEN]);
+    print_changed(&held[COEF_NUM]);
+    print_changed(&held[COEF_DEN]);
+    end_all(held, ALL);
+}
+
 static void run_line(const char *line)
 {
     const char *rest;
@@ -185,6 +207,8 @@ static void run_line(const char *line)
         run_piece(rest, walzhik_earlywood_piece);
     else if ((rest = after_word(line, "latewood_piece ")) != NULL)
         run_piece(rest, walzhik_latewood_piece);
+    else if ((rest = after_word(line, "coefficients ")) != NULL)
+        run_coefficients(rest);
     else
         give_up("expected the name of a call", line);
 }

@@ -111,7 +111,7 @@ walzhik_reply walzhik_tucson_write(const uint8_t *names, size_t names_len, const
     return (walzhik_reply){0, 0, 0};
 }
 
-/* What the reach and piece calls are lent. */
+/* What the reach and piece calls are lent, and the first six arguments of walzhik_coefficients. */
 static void look_at_space(const int32_t *breaks, size_t breaks_len, const int32_t *degrees, size_t degrees_len,
                           const int32_t *orders, size_t orders_len, const int32_t *coefs, size_t coefs_len, int64_t *num,
                           size_t num_len, int64_t *den, size_t den_len)
@@ -158,4 +158,16 @@ walzhik_piece walzhik_latewood_piece(const int32_t *breaks, size_t breaks_len, c
     (void)segment;
     look_at_space(breaks, breaks_len, degrees, degrees_len, orders, orders_len, coefs, coefs_len, num, num_len, den, den_len);
     return (walzhik_piece){0};
+}
+
+walzhik_reply walzhik_coefficients(const int32_t *breaks, size_t breaks_len, const int32_t *degrees, size_t degrees_len,
+                                   const int32_t *orders, size_t orders_len, const int32_t *ordinates, size_t ordinates_len,
+                                   int64_t *num, size_t num_len, int64_t *den, size_t den_len, int64_t *coef_num,
+                                   size_t coef_num_len, int64_t *coef_den, size_t coef_den_len)
+{
+    look_at_space(breaks, breaks_len, degrees, degrees_len, orders, orders_len, ordinates, ordinates_len, num, num_len, den,
+                  den_len);
+    look_outside(6, coef_num, coef_num_len, sizeof *coef_num);
+    look_outside(7, coef_den, coef_den_len, sizeof *coef_den);
+    return (walzhik_reply){0, 0, 0};
 }

@@ -2,10 +2,12 @@
  * needs more than docs/DECISIONS.md says.
  *
  * A call runs on a thread whose stack is painted before and searched after it,
- * on the space that goes deepest: twelve segments of degree 5 and order 2, with
- * the most positions a call takes; Tucson series of several lines, in both
- * units. What the thread itself needs is taken off, by a first run that calls
- * nothing. */
+ * on the longest part and on the longest beam: twelve segments of degree 5 and
+ * order 2, and four such parts; with the most positions a call takes; Tucson
+ * series of several lines, in both units. What the thread itself needs is taken
+ * off, by a first run that calls nothing. It must be linked with -z now, or the
+ * first call that needs a function of the C library has the dynamic linker on
+ * its stack. */
 
 #define _GNU_SOURCE
 
@@ -16,15 +18,23 @@
 
 #include "walzhik.h"
 
-enum { SEGMENTS = 12, COLUMNS = 72, POSITIONS = 4096, PARTS = 2, STACK = 1 << 20, PAINT = 0xA5 };
+enum { DEGREE = 5, ORDER = 2, PART = 12, BEAM = 48, COLUMNS = (DEGREE + 1) * BEAM };
+enum { POSITIONS = 4096, PARTS = 2, STACK = 1 << 20, PAINT = 0xA5 };
 
-/* The most bytes that a call may need. */
-enum { BUILD_LIMIT = 16384, CURVE_LIMIT = 16384, INDICES_LIMIT = 32768, REACH_LIMIT = 16384, PIECE_LIMIT = 16384, TUCSON_LIMIT = 1024 };
+/* The most bytes that a call may need. The index calls hold the rings' positions, the call for coefficients the numbers of the
+ * rows before and after a step. */
+enum { SPACE_LIMIT = 16384, INDICES_LIMIT = 32768, COEFFICIENTS_LIMIT = 32768, TUCSON_LIMIT = 1024 };
 
-static int32_t breaks[SEGMENTS + 1], degrees[SEGMENTS], orders[SEGMENTS - 1];
-static int32_t coefs[PARTS * COLUMNS], positions[POSITIONS], values[PARTS * POSITIONS];
-static int32_t widths[SEGMENTS + 1];
-static int64_t num[WALZHIK_CELLS], den[WALZHIK_CELLS], rings[SEGMENTS + 1];
+/* A space, and what the calls on it take. */
+static size_t segments, columns, rows;
+static int32_t breaks[BEAM + 1], degrees[BEAM], orders[BEAM - 1];
+static int32_t coefs[PARTS * COLUMNS], ordinates[COLUMNS], positions[POSITIONS], values[PARTS * POSITIONS], widths[BEAM + 1];
+static int64_t num[WALZHIK_CELLS], den[WALZHIK_CELLS], rings[BEAM + 1], coef_num[COLUMNS], coef_den[COLUMNS];
+#define LISTS breaks, segments + 1, degrees, segments, orders, segments - 1
+#define CURVES LISTS, coefs, PARTS * rows
+#define WEIGHTS num, WALZHIK_CELLS, den, WALZHIK_CELLS
+#define RINGS 0, widths, segments + 1, WEIGHTS, values, PARTS * POSITIONS, rings, segments + 1
+
 static const char text[] = "ABC01   1908     7     8\n"
                            "ABC01   1910     9     0  9999   999\n"
                            "ABC02   -999 -9999\n"
@@ -36,50 +46,49 @@ static int32_t years[SERIES], measured_widths[WIDTHS];
 static uint32_t counts[SERIES];
 static walzhik_reply reply;
 
-static void make_space(void)
+/* So many segments, cut into parts; the ordinates are those of a constant curve. */
+static void make_space(size_t count)
 {
-    for (int i = 0; i <= SEGMENTS; i++)
-        breaks[i] = i;
-    for (int i = 0; i < SEGMENTS; i++)
-        degrees[i] = 5;
-    for (int i = 0; i < SEGMENTS - 1; i++)
-        orders[i] = 2;
-    for (int i = 0; i < POSITIONS; i++)
-        positions[i] = i % (256 * SEGMENTS + 1);
+    segments = count;
+    columns = (DEGREE + 1) * segments;
+    rows = columns;
+    for (size_t i = 0; i <= segments; i++)
+        breaks[i] = (int32_t)i;
+    for (size_t i = 0; i < segments; i++)
+        degrees[i] = DEGREE;
+    for (size_t i = 0; i + 1 < segments; i++) {
+        orders[i] = (i + 1) % PART == 0 ? -1 : ORDER;
+        rows -= (size_t)(orders[i] + 1);
+    }
+    for (size_t i = 0; i < columns; i++)
+        ordinates[i] = 256;
+    for (size_t i = 0; i < POSITIONS; i++)
+        positions[i] = (int32_t)(i % (256 * segments + 1));
 }
 
 static void *nothing(void *unused) { return unused; }
 
 static void *build(void *unused)
 {
-    reply = walzhik_build(breaks, SEGMENTS + 1, degrees, SEGMENTS, orders, SEGMENTS - 1, num, WALZHIK_CELLS, den,
-                          WALZHIK_CELLS);
+    reply = walzhik_build(LISTS, WEIGHTS);
     return unused;
 }
 
 static void *curve(void *unused)
 {
-    size_t rows = 6 * SEGMENTS - 3 * (SEGMENTS - 1);
-    reply = walzhik_curve(breaks, SEGMENTS + 1, degrees, SEGMENTS, orders, SEGMENTS - 1, coefs, PARTS * rows, positions,
-                          POSITIONS, num, WALZHIK_CELLS, den, WALZHIK_CELLS, values, PARTS * POSITIONS);
+    reply = walzhik_curve(CURVES, positions, POSITIONS, WEIGHTS, values, PARTS * POSITIONS);
     return unused;
 }
 
 static void *earlywood(void *unused)
 {
-    size_t numbers = PARTS * (6 * SEGMENTS - 3 * (SEGMENTS - 1));
-    reply = walzhik_earlywood_indices(breaks, SEGMENTS + 1, degrees, SEGMENTS, orders, SEGMENTS - 1, coefs, numbers, 0, widths,
-                                      SEGMENTS + 1, num, WALZHIK_CELLS, den, WALZHIK_CELLS, values, PARTS * POSITIONS, rings,
-                                      SEGMENTS + 1);
+    reply = walzhik_earlywood_indices(CURVES, RINGS);
     return unused;
 }
 
 static void *latewood(void *unused)
 {
-    size_t numbers = PARTS * (6 * SEGMENTS - 3 * (SEGMENTS - 1));
-    reply = walzhik_latewood_indices(breaks, SEGMENTS + 1, degrees, SEGMENTS, orders, SEGMENTS - 1, coefs, numbers, 0, widths,
-                                     SEGMENTS + 1, num, WALZHIK_CELLS, den, WALZHIK_CELLS, values, PARTS * POSITIONS, rings,
-                                     SEGMENTS + 1);
+    reply = walzhik_latewood_indices(CURVES, RINGS);
     return unused;
 }
 
@@ -88,11 +97,8 @@ static const int32_t never = 1;
 
 static void *reach(void *unused)
 {
-    size_t numbers = PARTS * (6 * SEGMENTS - 3 * (SEGMENTS - 1));
-    walzhik_reach early = walzhik_earlywood_reach(breaks, SEGMENTS + 1, degrees, SEGMENTS, orders, SEGMENTS - 1, coefs, numbers,
-                                                  never, num, WALZHIK_CELLS, den, WALZHIK_CELLS);
-    walzhik_reach late = walzhik_latewood_reach(breaks, SEGMENTS + 1, degrees, SEGMENTS, orders, SEGMENTS - 1, coefs, numbers,
-                                                never, num, WALZHIK_CELLS, den, WALZHIK_CELLS);
+    walzhik_reach early = walzhik_earlywood_reach(CURVES, never, WEIGHTS);
+    walzhik_reach late = walzhik_latewood_reach(CURVES, never, WEIGHTS);
     reply = (walzhik_reply){0, early.number != 16 || late.number != 16, 0};
     return unused;
 }
@@ -100,10 +106,14 @@ static void *reach(void *unused)
 /* A segment of degree 5 isn't drawn: the call has done all its work by then. */
 static void *drawn(void *unused)
 {
-    size_t numbers = PARTS * (6 * SEGMENTS - 3 * (SEGMENTS - 1));
-    walzhik_piece piece = walzhik_latewood_piece(breaks, SEGMENTS + 1, degrees, SEGMENTS, orders, SEGMENTS - 1, coefs, numbers,
-                                                 0, num, WALZHIK_CELLS, den, WALZHIK_CELLS);
+    walzhik_piece piece = walzhik_latewood_piece(CURVES, 0, WEIGHTS);
     reply = (walzhik_reply){0, piece.number != 17, 0};
+    return unused;
+}
+
+static void *coefficients(void *unused)
+{
+    reply = walzhik_coefficients(LISTS, ordinates, columns, WEIGHTS, coef_num, columns, coef_den, columns);
     return unused;
 }
 
@@ -155,17 +165,26 @@ static int measured(const char *name, void *(*work)(void *), size_t limit)
     return 0;
 }
 
-int main(void)
+/* The calls on a space of so many segments. */
+static int measured_on(size_t count)
 {
-    /* tucson_write writes what tucson_read has left, so in this order */
     int failed = 0;
-    make_space();
-    failed |= measured("build", build, BUILD_LIMIT);
-    failed |= measured("curve", curve, CURVE_LIMIT);
+    make_space(count);
+    printf("  %zu segments\n", count);
+    failed |= measured("build", build, SPACE_LIMIT);
+    failed |= measured("curve", curve, SPACE_LIMIT);
     failed |= measured("earlywood indices", earlywood, INDICES_LIMIT);
     failed |= measured("latewood indices", latewood, INDICES_LIMIT);
-    failed |= measured("reach", reach, REACH_LIMIT);
-    failed |= measured("piece", drawn, PIECE_LIMIT);
+    failed |= measured("reach", reach, SPACE_LIMIT);
+    failed |= measured("piece", drawn, SPACE_LIMIT);
+    failed |= measured("coefficients", coefficients, COEFFICIENTS_LIMIT);
+    return failed;
+}
+
+int main(void)
+{
+    int failed = measured_on(PART) | measured_on(BEAM);
+    /* tucson_write writes what tucson_read has left, so in this order */
     failed |= measured("tucson_read", tucson_read, TUCSON_LIMIT);
     failed |= measured("tucson_write", tucson_write, TUCSON_LIMIT);
     return failed;

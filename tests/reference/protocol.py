@@ -9,9 +9,12 @@ the cell's width. driver.c reads such lines and holds the other end.
 A result line is `reply=count,number,place num=.. den=.. values=..`. A buffer
 is the word same where no cell changed. A changed weight buffer is the list of
 cell:content for each cell that differs from the blank table (0, or 1 for a
-denominator, in the first 5,184 cells; the old content past them). A changed
-values buffer lists each cell that differs from its old content. Nothing is
+denominator, in the first 5,184 cells; the old content past them). Any other
+changed buffer lists each cell that differs from its old content. Nothing is
 left out, so equal lines are equal buffers.
+
+The other calls have lines of the same form: a name, lists, a list of one where
+a call takes a single number, and lent buffers.
 """
 
 from typing import NamedTuple
@@ -22,9 +25,8 @@ from walzhik_reference import Pair, build_outcome, curve_outcome, side_by_side
 SAME = "same"
 WEIGHT_BITS = 64
 VALUE_BITS = 32
-LIST_WORDS = {"breaks": "breaks", "degrees": "degrees", "orders": "orders",
-              "coefs": "coefs", "at": "positions"}
-BUFFER_WORDS = ("num", "den", "values")
+SPACE_WORDS = ("breaks", "degrees", "orders")
+POSITIONS_WORD = "at"
 
 
 class Lent(NamedTuple):
@@ -63,28 +65,39 @@ def listed(numbers):
     return ",".join(map(str, numbers))
 
 
-def call_line(call):
-    words = [call.kind, f"breaks={listed(call.breaks)}",
-             f"degrees={listed(call.degrees)}", f"orders={listed(call.orders)}"]
-    if call.kind == "curve":
-        words += [f"coefs={listed(call.coefs)}", f"at={listed(call.positions)}"]
-    words += [f"num={call.num.length}:{call.num.fill}",
-              f"den={call.den.length}:{call.den.fill}"]
-    if call.kind == "curve":
-        words.append(f"values={call.values.length}:{call.values.fill}")
+def line_of(name, lists, buffers):
+    """The call line of lists and lent buffers by their words, in order."""
+    words = [name, *(f"{word}={listed(entries)}" for word, entries in lists.items()),
+             *(f"{word}={lent.length}:{lent.fill}" for word, lent in buffers.items())]
     return " ".join(words)
 
 
-def read_call(line):
-    """The call of a line, so that a printed case can be run again."""
-    kind, *words = line.split()
-    fields = {}
-    for name, _, text in (word.partition("=") for word in words):
-        if name in BUFFER_WORDS:
-            fields[name] = Lent(*map(int, text.split(":")))
+def read_line(line):
+    """The name, the lists and the lent buffers of a call line, so that a printed case can be run again."""
+    name, *words = line.split()
+    lists, buffers = {}, {}
+    for word, _, text in (word.partition("=") for word in words):
+        if ":" in text:
+            buffers[word] = Lent(*map(int, text.split(":")))
         else:
-            fields[LIST_WORDS[name]] = [int(entry) for entry in text.split(",") if entry]
-    return Call(kind=kind, **fields)
+            lists[word] = [int(entry) for entry in text.split(",") if entry]
+    return name, lists, buffers
+
+
+def call_line(call):
+    lists = {word: getattr(call, word) for word in SPACE_WORDS}
+    buffers = {"num": call.num, "den": call.den}
+    if call.kind == "curve":
+        lists |= {"coefs": call.coefs, POSITIONS_WORD: call.positions}
+        buffers |= {"values": call.values}
+    return line_of(call.kind, lists, buffers)
+
+
+def read_call(line):
+    kind, lists, buffers = read_line(line)
+    if POSITIONS_WORD in lists:
+        lists["positions"] = lists.pop(POSITIONS_WORD)
+    return Call(kind=kind, **lists, **buffers)
 
 
 def listed_cells(cells):
@@ -101,10 +114,14 @@ def weight_words(outcome):
     return [f"num={num}", f"den={den}"]
 
 
+def changed_word(word, before, after):
+    """A lent buffer by its cells that differ from their old content; cells that `after` doesn't reach have kept it."""
+    changed = [(cell, now) for cell, (old, now) in enumerate(zip(before, after)) if now != old]
+    return f"{word}={listed_cells(changed) or SAME}"
+
+
 def value_word(pairs, lent):
-    changed = [(cell, value) for cell, value in enumerate(side_by_side(pairs or []))
-               if value != lent.old(cell, VALUE_BITS)]
-    return f"values={listed_cells(changed) or SAME}"
+    return changed_word("values", lent.contents(VALUE_BITS), side_by_side(pairs or []))
 
 
 def result_line(call, outcome):

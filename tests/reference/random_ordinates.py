@@ -14,7 +14,7 @@ from math import lcm
 from typing import NamedTuple
 
 from limits import CELLS, MOST_DEGREE, MOST_ORDER, ORDINATE_LIMIT, SIZE_LIMIT, SPAN_LIMIT
-from protocol import SAME, WEIGHT_BITS, Call, Lent, listed, listed_cells, weight_words
+from protocol import SPACE_WORDS, Call, Lent, line_of, read_line
 from random_damage import damaged, with_entry
 from random_spaces import (MIDDLE, SHORT, any_of_order_two, breaks_from, fill, highest_orders, long_enough, pick,
                            sized_space_lists, space_lists, weight_buffer)
@@ -23,48 +23,34 @@ from space import Refusal, Space
 from weights import build_rows, conditions
 
 SMALL, LARGE = 9, 1_000_000       # sizes of coefficients
-LISTS = ("breaks", "degrees", "orders", "ordinates")
+LISTS = (*SPACE_WORDS, "ordinates")
 BUFFERS = ("num", "den", "coef_num", "coef_den")
+MADE, MOVED, CONSTANT, FREE, NEAR_LIMIT, CHANGED = "made", "moved", "constant", "free", "near the limit", "changed"
 EXTREMES = (2 ** 31 - 1, -2 ** 31, ORDINATE_LIMIT + 1, -ORDINATE_LIMIT - 1)
 
 
 class Ordinates(NamedTuple):
-    """A call: three lists of a space, ordinates and four lent buffers."""
+    """A call: three lists of a space, ordinates and four lent buffers; how the ordinates were drawn is no part of it."""
     lists: dict
     buffers: dict
+    drawn: str = ""
 
     def line(self):
-        words = ["coefficients", *(f"{name}={listed(self.lists[name])}" for name in LISTS),
-                 *(f"{name}={lent.length}:{lent.fill}" for name, lent in self.buffers.items())]
-        return " ".join(words)
+        return line_of("coefficients", self.lists, self.buffers)
 
-    def recovery(self):
-        space_lists = [self.lists[name] for name in LISTS[:3]]
-        lengths = (lent.length for lent in self.buffers.values())
-        return coefficients_outcome(space_lists, self.lists["ordinates"], *lengths)
+    def space(self):
+        return Space(*(self.lists[word] for word in SPACE_WORDS))
 
-    def result_line(self):
-        """The result line of a right engine, and its number."""
-        outcome, answers = self.recovery()
-        num = [answer.numerator for answer in answers or []]
-        den = [answer.denominator for answer in answers or []]
-        words = ["reply=" + listed(outcome.reply), *weight_words(outcome),
-                 answer_word("coef_num", self.buffers, num), answer_word("coef_den", self.buffers, den)]
-        return " ".join(words), outcome.reply.number
-
-
-def answer_word(name, buffers, cells):
-    """An answer buffer by its cells that differ from their old content, or the word same."""
-    changed = [(cell, content) for cell, content in enumerate(cells)
-               if content != buffers[name].old(cell, WEIGHT_BITS)]
-    return f"{name}={listed_cells(changed) or SAME}"
+    def recovery(self, lengths=None):
+        """What the call leaves behind, with its own buffers or others of these lengths."""
+        lengths = lengths or [lent.length for lent in self.buffers.values()]
+        return coefficients_outcome(self.space(), self.lists["ordinates"], *lengths)
 
 
 def read_ordinates(line):
     """The call of a line, so that a printed case can be run again."""
-    fields = dict(word.split("=", 1) for word in line.split()[1:])
-    lists = {name: [int(entry) for entry in fields[name].split(",") if entry] for name in LISTS}
-    return Ordinates(lists, {name: Lent(*map(int, fields[name].split(":"))) for name in BUFFERS})
+    _, lists, buffers = read_line(line)
+    return Ordinates(lists, buffers)
 
 
 def drawn_coefficients(rng, count):
@@ -132,13 +118,14 @@ def free_ordinates(rng, space):
 
 
 def legal_ordinates(rng, space):
-    style = pick(rng, [(55, "made"), (25, "moved"), (10, "constant"), (10, "free")])
-    if style == "constant":
-        return constant_ordinates(rng, space)
-    if style == "free":
-        return free_ordinates(rng, space)
+    """How they are drawn, and the ordinates."""
+    style = pick(rng, [(55, MADE), (25, MOVED), (10, CONSTANT), (10, FREE)])
+    if style == CONSTANT:
+        return style, constant_ordinates(rng, space)
+    if style == FREE:
+        return style, free_ordinates(rng, space)
     made = made_ordinates(rng, space)
-    return made if style == "made" else moved(rng, space, made)
+    return style, made if style == MADE else moved(rng, space, made)
 
 
 def any_size(rng, most):
@@ -224,17 +211,20 @@ def lent_buffers(rng, ordinates):
 
 
 def legal_call(rng):
+    """A space, how its ordinates are drawn, and the ordinates."""
     kind = pick(rng, [(45, space_lists), (15, sized_space_lists), (20, smooth_space_lists),
-                      (18, joined_twice), (2, near_undoing_limit)])
+                      (16, joined_twice), (4, near_undoing_limit)])
     if kind in (joined_twice, near_undoing_limit):
-        return in_range(kind, rng)
+        space, ordinates = in_range(kind, rng)
+        return space, NEAR_LIMIT, ordinates
     space = Space(*kind(rng))
-    return space, legal_ordinates(rng, space)
+    return space, *legal_ordinates(rng, space)
 
 
 def random_ordinates(rng):
-    (breaks, degrees, orders), ordinates = legal_call(rng)
+    (breaks, degrees, orders), drawn, ordinates = legal_call(rng)
     change = pick(rng, [(80, None), (9, bad_ordinates), (3, at_the_limit), (8, "lists")])
+    drawn = CHANGED if change else drawn
     if change == "lists":
         buffers = (weight_buffer(rng), weight_buffer(rng))
         call = damaged(rng, Call("build", breaks, degrees, orders, *buffers), 1)
@@ -242,4 +232,4 @@ def random_ordinates(rng):
     elif change:
         ordinates = change(rng, ordinates)
     lists = dict(zip(LISTS, (breaks, degrees, orders, ordinates)))
-    return Ordinates(lists, lent_buffers(rng, ordinates))
+    return Ordinates(lists, lent_buffers(rng, ordinates), drawn)

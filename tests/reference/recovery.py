@@ -19,17 +19,30 @@ BAD_ORDINATE, NO_COEFFICIENTS, TOO_LARGE_TO_UNDO = 18, 19, 20
 NUMERATORS_PLACE, DENOMINATORS_PLACE = 3, 4     # of number 1
 
 
+PRODUCT, SUM, SHARE, DIFFERENCE, QUOTIENT = LIMITED = "product", "partial sum", "share", "difference", "quotient"
+
+
 class Recovery(NamedTuple):
     """The reply and the weights as after a build call; `answers` is None where
-    the answer buffers are unchanged, else a fraction for each ordinate."""
+    the answer buffers are unchanged, else a fraction for each ordinate;
+    `too_large` says what kind of fraction number 20 is for."""
     outcome: Outcome
     answers: Optional[list] = None
+    too_large: Optional[str] = None
 
 
-def limited(fraction, join):
-    """Number 20: the fraction itself where its size is allowed."""
+class TooLargeToUndo(Refusal):
+    """Number 20, with the kind of fraction."""
+
+    def __init__(self, kind, join):
+        super().__init__(TOO_LARGE_TO_UNDO, join)
+        self.kind = kind
+
+
+def limited(fraction, kind, join):
+    """The fraction itself where its size is allowed."""
     if not fits(fraction):
-        raise Refusal(TOO_LARGE_TO_UNDO, join)
+        raise TooLargeToUndo(kind, join)
     return fraction
 
 
@@ -38,7 +51,7 @@ def check_balance(numbers, jumps, join):
     total = ZERO
     for number, jump in zip(numbers, jumps):
         if jump:
-            total = limited(total + limited(number * jump, join), join)
+            total = limited(total + limited(number * jump, PRODUCT, join), SUM, join)
     if total:
         raise Refusal(NO_COEFFICIENTS, join)
 
@@ -47,8 +60,9 @@ def undone(numbers, first, last, shares, join):
     """The numbers of the step's new rows: one fewer."""
     new = [numbers[first]]
     for row in range(first + 1, last):
-        earlier = limited((1 - shares[row]) * new[-1], join)
-        new.append(limited(limited(numbers[row] - earlier, join) / shares[row], join))
+        earlier = limited((1 - shares[row]) * new[-1], SHARE, join)
+        left = limited(numbers[row] - earlier, DIFFERENCE, join)
+        new.append(limited(left / shares[row], QUOTIENT, join))
     return numbers[:first] + new + numbers[last + 1:]
 
 
@@ -95,7 +109,7 @@ def coefficients_outcome(space_lists, ordinates, num_length, den_length,
     try:
         rows, numbers = recover(space, ordinates)
     except Refusal as refusal:
-        return Recovery(refused(refusal, rows=[]), [ZERO] * len(ordinates))
+        return Recovery(refused(refusal, rows=[]), [ZERO] * len(ordinates), getattr(refusal, "kind", None))
     unused = [ZERO] * (len(ordinates) - len(numbers))
     return Recovery(Outcome(Reply(len(rows), 0, 0), rows, corner=space.last_part_corner()),
                     numbers + unused)

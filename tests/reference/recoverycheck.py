@@ -17,7 +17,7 @@ from weights import build_rows, join_conditions
 
 REACHABLE = {0, 1, 2, 3, 4, 5, 8, 15, 18, 19, 20}
 BY_JOINS = (TOO_LARGE, NO_COEFFICIENTS, TOO_LARGE_TO_UNDO)
-ENOUGH = 1_000                    # calls from which each number must have come up at each place
+ENOUGH = 1_000                    # calls from which each number must have come up
 
 W1_SPACE = ([0, 1, 3], [2, 2], [1])
 # Lists of a space, ordinates, and the coefficients or the number and place.
@@ -80,34 +80,30 @@ def check_answer(tally, call, space, rows, coefs):
 
 
 def check_call(tally, call, seen):
-    outcome, answers = call.recovery()
+    outcome, answers, too_large = call.recovery()
     number, place = outcome.reply.number, outcome.reply.place
     seen[number] += 1
-    space = Space(*(call.lists[name] for name in ("breaks", "degrees", "orders")))
+    space = call.space()
     if not number:
         check_answer(tally, call, space, outcome.rows, answers[:outcome.reply.count])
         tally.check(not any(answers[outcome.reply.count:]), "unused answers", call.line())
     if number in (0, *BY_JOINS):
         ends = (number, place) if number else answers[:outcome.reply.count]
         tally.check(by_parts(space, call.lists["ordinates"]) == ends, "by parts", call.line())
-    if number in BY_JOINS:
-        joins = [join for join, order in enumerate(space.orders) if order >= 0]
-        seen[number, "first"] += place == joins[0] < joins[-1]
-        seen[number, "middle"] += joins[0] < place < joins[-1]
-        seen[number, "last"] += joins[0] < place == joins[-1]
     if number == NO_COEFFICIENTS:
         missed = missed_joins(space, call.lists["ordinates"])
         tally.check(missed[0] == place, "the join that is missed", call.line())
     cleared = outcome.rows == [] and not any(answers)
     tally.check(cleared == (number in BY_JOINS), "cleared", call.line())
     tally.check((answers is None) == (outcome.rows is None), "unchanged", call.line())
-    tally.check(read_ordinates(call.line()) == call, "call line", call.line())
+    tally.check((too_large is None) == (number != TOO_LARGE_TO_UNDO), "kind of fraction", call.line())
+    tally.check(read_ordinates(call.line()) == call._replace(drawn=""), "call line", call.line())
 
 
 def check_cases(tally):
     for lists, ordinates, ends in RECOVERED:
         lengths = (CELLS, CELLS, len(ordinates), len(ordinates))
-        outcome, answers = coefficients_outcome(lists, ordinates, *lengths)
+        outcome, answers, _ = coefficients_outcome(lists, ordinates, *lengths)
         reply = outcome.reply
         found = (reply.number, reply.place) if reply.number else answers[:reply.count]
         tally.check(found == ends, "recovered", lists, ordinates, found)
@@ -120,8 +116,6 @@ def check_recovery(tally, seed, count):
     for _ in range(count):
         check_call(tally, random_ordinates(rng), seen)
     if count >= ENOUGH:
-        wanted = REACHABLE | {(number, where) for number in BY_JOINS
-                              for where in ("first", "middle", "last")}
-        tally.check(all(seen[what] for what in wanted), "seen", seen)
+        tally.check(all(seen[number] for number in REACHABLE), "seen", seen)
     print(f"selfcheck: {seen[0]} lists of ordinates answered, "
           + ", ".join(f"{seen[number]} with {number}" for number in sorted(REACHABLE - {0})))

@@ -3,3 +3,6 @@ pub mod Refusals
 pub mod Undone
 pub mod Stepped
 pub mod Orders
+pub mod Listed
+pub mod Beam
+pub mod Calls

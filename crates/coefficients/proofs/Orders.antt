@@ -1,8 +1,7 @@
 -- The steps one after the other: what a step that is answered leaves of the numbers, which refusals end it, and what the machine's
 -- answer tells.
 use mathlib.Core.Path.{_≡_, refl, sym, _∙_, ap, subst}
-use mathlib.Core.Logic.{_≢_, _⊎_, inl, inr}
-use mathlib.Core.Bool.{Bool, true, false, cond}
+use mathlib.Core.Bool.{true}
 use mathlib.Core.List.{List, [], _∷_, _++_}
 use Prim.Native.Nat.{ℕ, zero, suc, _+_, _-_, _<_, _≤_}
 use native.Mathlib.Omega.{arith}
@@ -12,14 +11,12 @@ use lib.ListN.{length, take, drop}
 use Rattle.exact.specs.Rational.{ℚ, int}
 use Rattle.fraction.specs.Size.{fits}
 use Rattle.fraction.proofs.Size.{int-fits}
-use Rattle.spline.specs.Outcome.{Outcome, answer, refusal, capped, _then_}
+use Rattle.spline.specs.Outcome.{Outcome, answer, refusal, _then_}
 use Rattle.spline.specs.Conditions.{Entry, conditions}
 use Rattle.spline.specs.Space.{Space}
-use Rattle.spline.specs.Table.{Table, entry, numerators, denominators}
-use Rattle.spline.specs.Step.{jumps, span, factors, step}
-use Rattle.spline.proofs.Outcome.{answer-unique, Chained, then-inverts, RefusedAs, answer-refused, then-refused, repeat-keeps, repeat-refused}
+use Rattle.spline.specs.Table.{entry, numerators, denominators}
+use Rattle.spline.proofs.Outcome.{answer-unique, Chained, then-inverts, RefusedAs, repeat-keeps}
 use Rattle.spline.proofs.Answers.{jumps-length, span-inverts}
-use Rattle.spline.proofs.Refusals.{EightOrNine, step-refuses, jumps-refuse-8, span-refuses-9, factors-refuse}
 use Rattle.spline.proofs.Splice.{spliced-length, spliced-before, spliced-inside, spliced-after}
 use Rattle.cells.specs.Held.{Kept}
 use Rattle.factors.specs.Jumps.{AllFit}
@@ -27,44 +24,13 @@ use Rattle.jumps.specs.Reply.{fractions}
 use Rattle.undoing.proofs.Sized.{undone-fits}
 use Rattle.undoing.proofs.Rows.{more-fit}
 use Rattle.weights.proofs.Stepped.{Proper, step-one-less}
-use Rattle.recovery.specs.Recovery.{Numbered, balanced, undoneRow, undoneRows, undone, recoverStep, recoverOrders}
+use Rattle.recovery.specs.Recovery.{Numbered, undoneRow, undoneRows, recoverStep, recoverOrders}
 use Rattle.recovery.specs.RecoveryCall.{clearsAll}
 use Rattle.recovery.proofs.Answers.{rows-undone}
 use Rattle.recovery.proofs.Steps.{parts-of}
+use Rattle.recovery.proofs.Refusals.{Stops}
 use Rattle.coefficients.specs.Leaves.{Leaves}
 use Rattle.coefficients.specs.declared.Numbers.{Numbers}
-use Rattle.coefficients.proofs.Refusals.{Here, balanced-here, undone-here}
-
--- ---- the refusals of a step
-
--- A number after which all is cleared, with the join as its place.
-abbrev pub Stops : ℕ → ℕ → ℕ → Type 0
-Stops j number place = (clearsAll number ≡ true) × (place ≡ capped j)
-
-build-stops : {A : Type 0} (j : ℕ) (o : Outcome A) → RefusedAs (EightOrNine j) o → RefusedAs (Stops j) o
-build-stops j o H number place e = go (H number place e .0)
-  where
-    go : (number ≡ 8) ⊎ (number ≡ 9) → Stops j number place
-    go (inl z) = (ap clearsAll z, H number place e .1)
-    go (inr z) = (ap clearsAll z, H number place e .1)
-
-here-stops : {A : Type 0} (j : ℕ) (o : Outcome A) → RefusedAs (Here j) o → RefusedAs (Stops j) o
-here-stops j o H number place e = go (H number place e .0)
-  where
-    go : (number ≡ 19) ⊎ (number ≡ 20) → Stops j number place
-    go (inl z) = (ap clearsAll z, H number place e .1)
-    go (inr z) = (ap clearsAll z, H number place e .1)
-
-pub recover-stops : (j : ℕ) (κ : List Entry) (r : Numbered) → RefusedAs (Stops j) (recoverStep j κ r)
-unfolding recoverStep
-recover-stops j κ r =
-    then-refused (Stops j) (step j κ (r .table)) _ (build-stops j (step j κ (r .table)) (step-refuses j κ (r .table))) (λ t a.
-    then-refused (Stops j) (jumps j κ (r .table)) _ (λ n p e. let x = jumps-refuse-8 j κ (r .table) n p e in (ap clearsAll (x .0), x .1)) (λ js b.
-    then-refused (Stops j) (span j js) _ (λ n p e. let x = span-refuses-9 j js n p e in (ap clearsAll (x .0), x .1)) (λ g c.
-    then-refused (Stops j) (factors j js g) _ (build-stops j (factors j js g) (factors-refuse j js g)) (λ ws d.
-    then-refused (Stops j) (balanced j js (r .numbers)) _ (here-stops j (balanced j js (r .numbers)) (balanced-here j js (r .numbers))) (λ u e.
-    then-refused (Stops j) (undone j g ws (r .numbers)) _ (here-stops j (undone j g ws (r .numbers)) (undone-here j g ws (r .numbers))) (λ ds f.
-    answer-refused (Stops j) (record { table = t; numbers = ds })))))))
 
 -- ---- what the machine's answer tells
 
@@ -139,7 +105,3 @@ orders-sound s j n r {next} {rows} {columns} e sound =
     repeat-keeps (λ k u. Sound u (rows - k) columns) n (λ k. recoverStep j (conditions s j k)) r (subst (λ m. Sound r m columns) (let z : rows ≡ rows - 0 = omega arith in z) sound)
     (λ k u v h p f. subst (λ m. Sound v m columns) (let z : rows - k - 1 ≡ rows - suc k = omega arith in z) (recover-one-less j (conditions s j k) u f p))
     next e
-
-pub orders-stop : (s : Space) (j n : ℕ) (r : Numbered) → RefusedAs (Stops j) (recoverOrders s j n r)
-unfolding recoverOrders
-orders-stop s j n r = repeat-refused (Stops j) n (λ k. recoverStep j (conditions s j k)) r (λ k u h e. recover-stops j (conditions s j k) u)

@@ -1,5 +1,5 @@
 -- The numbers after a step, as the machine holds them: the new ones without row l, and factors that divide.
-use mathlib.Core.Path.{_≡_, refl, sym, _∙_, ap}
+use mathlib.Core.Path.{_≡_, sym, _∙_, ap}
 use mathlib.Core.Logic.{_≢_}
 use mathlib.Core.List.{List, [], _++_}
 use Prim.Native.Nat.{ℕ, zero, suc, _+_, _-_, _<_, _≤_}
@@ -10,9 +10,9 @@ use lib.ListN.{length, getD, take, drop}
 use Rattle.exact.specs.Rational.{ℚ, int}
 use Rattle.exact.proofs.Rational.{int-num}
 use Rattle.exact.proofs.Order.{pos-nonzero, ltᵠ-true}
-use Rattle.fraction.specs.Machine.{fraction, value}
+use Rattle.fraction.specs.Machine.{value}
 use Rattle.fraction.proofs.Value.{value-fraction}
-use Rattle.spline.specs.Outcome.{Outcome, answer, refusal, _then_}
+use Rattle.spline.specs.Outcome.{Outcome, answer, refusal}
 use Rattle.spline.specs.Table.{entry}
 use Rattle.spline.specs.Step.{Span, factors}
 use Rattle.spline.proofs.Answers.{factors-inverts}

@@ -5,15 +5,18 @@ use Prim.Native.Nat.{ℕ, _<_, _≤_}
 use lib.IntN.{ℤ}
 use lib.ListN.{length}
 use Rattle.exact.specs.Rational.{ℚ, int}
-use Rattle.spline.specs.Outcome.{Outcome, answer, refusal}
+use Rattle.spline.specs.Outcome.{Outcome, answer, refusal, with-answer}
 use Rattle.spline.specs.Step.{Span, span, factors}
-use Rattle.spline.specs.Space.{Space, columnCount}
+use Rattle.spline.specs.Space.{Space, columnCount, rowCount}
 use Rattle.spline.specs.Table.{rowCells, identity, numerators, denominators}
 use Rattle.cells.specs.Held.{Holds, Kept}
 use Rattle.factors.specs.Jumps.{AllFit, Spanned}
 use Rattle.jumps.specs.Reply.{fractions}
 use Rattle.jumps.specs.declared.Fractions.{Fractions}
+use Rattle.weights.specs.Reply.{reply}
+use Rattle.weights.specs.declared.Built.{Built}
 use Rattle.recovery.specs.Recovery.{Numbered}
+use Rattle.recovery.specs.RecoveryCall.{legalOrdinates, weightsAfter, answersAfter, numeratorOf, denominatorOf}
 use Rattle.coefficients.specs.declared.Joined.{Joined}
 use Rattle.coefficients.specs.declared.Numbers.{Numbers}
 
@@ -82,3 +85,15 @@ Leaves (refusal number place) r num den num′ den′ = (r ≡ record { refused 
 abbrev pub JoinsLeave : Outcome Numbered → ℕ → Joined → List ℤ → List ℤ → List ℤ → List ℤ → Type 0
 JoinsLeave (answer t) n r num den num′ den′ = (r ≡ record { refused = 0; place = 0; rows = n; of = fractions (t .numbers) }) × (num′ ≡ numerators (t .table) num) × (den′ ≡ denominators (t .table) den)
 JoinsLeave (refusal number place) n r num den num′ den′ = (r ≡ record { refused = number; place = place; rows = 0; of = fractions [] }) × Kept num num′ × Kept den den′
+
+-- Number 18 of a legal space, by itself.
+unfoldable pub ordinatesChecked : Space → List ℤ → Outcome (Unit {0})
+ordinatesChecked s ordinates = legalOrdinates s ordinates (answer tt)
+
+-- What a call with n ordinates answers and leaves, by the outcome of the whole beam, of which the weight buffers hold the last part.
+pub record BeamEnds (s : Space) (n : ℕ) (o : Outcome Numbered) (r : Built) (num den coefNum coefDen num′ den′ coefNum′ coefDen′ : List ℤ) : Type 0 where
+  pub answers : reply r ≡ with-answer (λ _. rowCount s) o
+  pub numerators-are : num′ ≡ weightsAfter numerators s o num
+  pub denominators-are : den′ ≡ weightsAfter denominators s o den
+  pub coefficient-numerators-are : coefNum′ ≡ answersAfter numeratorOf n o coefNum
+  pub coefficient-denominators-are : coefDen′ ≡ answersAfter denominatorOf n o coefDen

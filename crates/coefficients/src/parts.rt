@@ -15,10 +15,11 @@ ghost use Rattle.jumps.specs.Reply.{fractions};
 ghost use Rattle.factors.specs.Jumps.{AllFit};
 ghost use Rattle.recovery.specs.Recovery;
 ghost use Rattle.recovery.specs.RecoveryCall.{listed, numeratorOf, denominatorOf};
-ghost use Rattle.coefficients.specs.Leaves.{JoinsLeave};
+ghost use Rattle.coefficients.specs.Leaves.{JoinsLeave, BeamEnds};
 use crate::Joined;
 use crate::step;
 use jumps::Fractions;
+use weights::Built;
 
 // The first n numbers in the cells from `from` on.
 fn write(coef_num: &mut [i64], coef_den: &mut [i64], from: usize, cs: Fractions, n: usize)
@@ -67,4 +68,43 @@ fn recover_at(
         num,
         den,
     )
+}
+
+// A beam whose lists and ordinates are legal, in buffers that are long enough. Rows and places count over the beam.
+pub fn recover_parts(
+    breaks: &[i32],
+    degrees: &[i32],
+    orders: &[i32],
+    ordinates: &[i32],
+    num: &mut [i64],
+    den: &mut [i64],
+    coef_num: &mut [i64],
+    coef_den: &mut [i64],
+) -> Built
+    requires { ⌜ ListsLegal (now breaks) (now degrees) (now orders) × ((tableCells ≤ length (now num)) × (tableCells ≤ length (now den))) ⌝ }
+    requires { ⌜ (length (now ordinates) ≡ columnCount (space (now breaks) (now degrees) (now orders))) × AllFit (map int (now ordinates)) ⌝ }
+    requires { ⌜ (length (now ordinates) ≤ length (now «coef_num»)) × (length (now ordinates) ≤ length (now «coef_den»)) ⌝ }
+    ensures { λ r. ⌜ (let s = space (now (breaks .entry)) (now (degrees .entry)) (now (orders .entry)) in
+        BeamEnds s (length (now (ordinates .entry))) (Recovery.recovered s (now (ordinates .entry))) r (now (num .entry)) (now (den .entry)) (now («coef_num» .entry)) (now («coef_den» .entry)) (now (num .exit)) (now (den .exit)) (now («coef_num» .exit)) (now («coef_den» .exit))) ⌝ }
+{
+    let mut rows = 0;
+    let mut a = 0;
+    while a < degrees.len() {
+        let b = space::part_end(degrees, orders, a);
+        let joined = recover_at(breaks, degrees, orders, ordinates, a, b, num, den);
+        let number = joined.refused;
+        let place = joined.place;
+        let n = joined.rows;
+        let of = joined.of;
+        if number != 0 {
+            cells::clear(num, den, 0, cells::TABLE_CELLS);
+            cells::clear(coef_num, coef_den, 0, ordinates.len());
+            return Built::Refused(number, space::place(a + place as usize));
+        }
+        write(coef_num, coef_den, rows, of, n);
+        rows += n;
+        a = b;
+    }
+    cells::clear(coef_num, coef_den, rows, ordinates.len());
+    Built::Rows(rows)
 }

@@ -1,17 +1,18 @@
--- The tests of a coefficient and of a position, as the machine takes them one bound after the other.
-use mathlib.Core.Path.{_≡_, sym, _∙_, ap}
+-- The tests of an entry, as the machine takes them one bound after the other.
+use mathlib.Core.Path.{_≡_, refl, sym, _∙_, ap}
 use mathlib.Core.Bool.{true, false, not, _||_}
 use mathlib.Core.List.{List}
 use Prim.Native.Nat.{ℕ, _≤_}
-use lib.IntN.{ℤ, pos, negsuc, natAbs}
+use lib.IntN.{ℤ, pos, negℤ, natAbs}
 use lib.ListN.{getD}
 use lib.Signed.{ltZ, _≤ℤ_}
 use Rattle.exact.proofs.Integer.{abs-le-in}
 use Rattle.spline.specs.Space.{Space, segments, break, between}
 use Rattle.spline.specs.Reading.{fine}
-use Rattle.spline.specs.CurveCall.{badCoefficient, badPosition}
+use Rattle.spline.specs.CurveCall.{coefficientLimit, badCoefficient, badPosition}
 use Rattle.spline.proofs.Space.{between-inverts}
 use Rattle.space.proofs.Tests as tests
+use Rattle.limits.specs.Limits.{outside}
 
 module _ (low high z : ℤ) where
   pub below : ltZ z low ≡ true → true ≡ not (between low high z)
@@ -20,20 +21,20 @@ module _ (low high z : ℤ) where
   pub above : ltZ z low ≡ false → ltZ high z ≡ not (between low high z)
   above e = sym (tests.outside low high z ∙ ap (λ b. b || ltZ high z) e)
 
-module _ (coefs : List ℤ) (i : ℕ) where
-  pub bad-coefficient-low : ltZ (getD coefs i (pos 0)) (negsuc 999999) ≡ true → true ≡ badCoefficient coefs i
-  unfolding badCoefficient
-  bad-coefficient-low e = below (negsuc 999999) (pos 1000000) (getD coefs i (pos 0)) e
-
-  pub coefficient-high : ltZ (getD coefs i (pos 0)) (negsuc 999999) ≡ false → ltZ (pos 1000000) (getD coefs i (pos 0)) ≡ badCoefficient coefs i
-  unfolding badCoefficient
-  coefficient-high e = above (negsuc 999999) (pos 1000000) (getD coefs i (pos 0)) e
+-- the definition's test of a coefficient, as the bounds that the search takes
+pub coefficient-outside : (coefs : List ℤ) → badCoefficient coefs ≡ outside coefs (negℤ (pos coefficientLimit)) (pos coefficientLimit)
+unfolding badCoefficient
+coefficient-outside coefs = refl
 
 -- ---- entries that break no rule
 
-pub good-coefficient : (coefs : List ℤ) (i : ℕ) → badCoefficient coefs i ≡ false → natAbs (getD coefs i (pos 0)) ≤ 1000000
+-- an entry within a limit on both sides has at most its size
+pub inside-size : (list : List ℤ) (limit i : ℕ) → outside list (negℤ (pos limit)) (pos limit) i ≡ false → natAbs (getD list i (pos 0)) ≤ limit
+inside-size list limit i e = let r = between-inverts (negℤ (pos limit)) (pos limit) (getD list i (pos 0)) e in abs-le-in (getD list i (pos 0)) limit (r .0) (r .1)
+
+pub good-coefficient : (coefs : List ℤ) (i : ℕ) → badCoefficient coefs i ≡ false → natAbs (getD coefs i (pos 0)) ≤ coefficientLimit
 unfolding badCoefficient
-good-coefficient coefs i e = let r = between-inverts (negsuc 999999) (pos 1000000) (getD coefs i (pos 0)) e in abs-le-in (getD coefs i (pos 0)) 1000000 (r .0) (r .1)
+good-coefficient coefs i e = inside-size coefs coefficientLimit i e
 
 pub good-position : (s : Space) (positions : List ℤ) (i : ℕ) → badPosition s positions i ≡ false → (fine (break s 0) ≤ℤ getD positions i (pos 0)) × (getD positions i (pos 0) ≤ℤ fine (break s (segments s)))
 unfolding badPosition

@@ -14,9 +14,9 @@ use Rattle.spline.specs.CurveCall.{badCoefficient}
 unfoldable pub coefficientsChecked : Space → List ℤ → Outcome (Unit {0})
 coefficientsChecked s coefs = cond (eqb (length coefs) (2 * rowCount s)) (refuseFirst 6 (first (length coefs) (badCoefficient coefs)) (answer tt)) (refuse 6 largestPlace)
 
--- Entry i of the positions lies outside the two bounds.
+-- Entry i of a list lies outside the two bounds.
 abbrev pub outside : List ℤ → ℤ → ℤ → ℕ → Bool
-outside positions low high i = not (between low high (getD positions i (pos 0)))
+outside list low high i = not (between low high (getD list i (pos 0)))
 
 -- Number 7.
 unfoldable pub positionsChecked : List ℤ → ℤ → ℤ → Outcome (Unit {0})

@@ -1,7 +1,7 @@
 // The refusals 2 to 7 and 15 of a curve call, in the order of their numbers but for 15, which follows 5.
 ghost use mathlib.Core.Path.{_≡_};
 ghost use mathlib.Core.List.{[]};
-ghost use Prim.Native.Nat.{_+_, _<_};
+ghost use Prim.Native.Nat.{_+_};
 ghost use lib.IntN.{pos};
 ghost use lib.ListN.{length, getD};
 ghost use Rattle.space.specs.Reply.{space, found, legality};
@@ -9,7 +9,7 @@ ghost use Rattle.space.specs.Legal.{BreaksLegal, JoinsLegal, ListsLegal};
 ghost use Rattle.spline.specs.Outcome.{answer};
 ghost use Rattle.spline.specs.Search;
 ghost use Rattle.spline.specs.Reading.{fine};
-ghost use Rattle.spline.specs.CurveCall.{badCoefficient, legalEntries, curveChecked};
+ghost use Rattle.spline.specs.CurveCall.{legalEntries, curveChecked};
 ghost use Rattle.limits.specs.Limits.{coefficientsChecked, outside, positionsChecked};
 use space::Found;
 use space::Legality;
@@ -18,45 +18,17 @@ const MAX_POSITIONS: usize = 4096;
 
 const COEFFICIENT_LIMIT: i32 = 1000000;
 
-fn coefficient_is_bad(coefs: &[i32], i: usize) -> bool
-    requires { ⌜ i < length (now coefs) ⌝ }
-    ensures { λ r. ⌜ r ≡ badCoefficient (now (coefs .entry)) i ⌝ }
+// The first entry below the one bound or above the other.
+pub fn first_outside(list: &[i32], low: i32, high: i32) -> Found
+    ensures { λ r. ⌜ r ≡ found (Search.first (length (now (list .entry))) (outside (now (list .entry)) low high)) ⌝ }
 {
-    let a = coefs[i];
-    if a < 0 - COEFFICIENT_LIMIT {
-        return true;
-    }
-    a > COEFFICIENT_LIMIT
-}
-
-fn first_bad_coefficient(coefs: &[i32]) -> Found
-    ensures { λ r. ⌜ r ≡ found (Search.first (length (now (coefs .entry))) (badCoefficient (now (coefs .entry)))) ⌝ }
-{
-    let n = coefs.len();
+    let n = list.len();
     let mut i = 0;
     let found = loop {
         if i == n {
             break Found::Nothing;
         }
-        if coefficient_is_bad(coefs, i) {
-            break Found::At(i);
-        }
-        i += 1;
-    };
-    found
-}
-
-// The first position below the one bound or above the other.
-fn first_bad_position(positions: &[i32], low: i32, high: i32) -> Found
-    ensures { λ r. ⌜ r ≡ found (Search.first (length (now (positions .entry))) (outside (now (positions .entry)) low high)) ⌝ }
-{
-    let n = positions.len();
-    let mut i = 0;
-    let found = loop {
-        if i == n {
-            break Found::Nothing;
-        }
-        let x = positions[i];
+        let x = list[i];
         if x < low {
             break Found::At(i);
         }
@@ -77,7 +49,7 @@ fn check_coefficients(degrees: &[i32], orders: &[i32], coefs: &[i32]) -> Legalit
     if coefs.len() != 2 * n {
         return Legality::Refused(6, space::LARGEST_PLACE);
     }
-    let bad = first_bad_coefficient(coefs);
+    let bad = first_outside(coefs, 0 - COEFFICIENT_LIMIT, COEFFICIENT_LIMIT);
     match bad {
         Found::At(i) => Legality::Refused(6, space::place(i)),
         Found::Nothing => Legality::Legal,
@@ -91,7 +63,7 @@ fn check_positions(breaks: &[i32], m: usize, positions: &[i32]) -> Legality
 {
     let low = 256 * breaks[0];
     let high = 256 * breaks[m];
-    let bad = first_bad_position(positions, low, high);
+    let bad = first_outside(positions, low, high);
     match bad {
         Found::At(i) => Legality::Refused(7, space::place(i)),
         Found::Nothing => Legality::Legal,

@@ -179,7 +179,7 @@ module _ (s : Space) (F : OrdersFit s) (a n : ℕ) (whole : a + n ≡ segments s
         ∙ joins-cut s n stepped (λ c b e. ap (λ k. recoverOrders s c k b) e) a starts some (leftOf L R (identity R) (map int second) (start L first))
         ∙ ap (λ o. o then λ b. repeat (n - 1) (λ i. stepped (a + i)) b) before-joins
 
-    cut : startsPart s a ≡ true → 0 < n → recovered s ordinates ≡ (recovered before first then λ r. later a (recovered behind second) then λ q. answer (together before behind r q))
+    pub cut : startsPart s a ≡ true → 0 < n → recovered s ordinates ≡ (recovered before first then λ r. later a (recovered behind second) then λ q. answer (together before behind r q))
     unfolding recovered
     cut starts some = opened starts some ∙ go (recovered before first) refl
       where

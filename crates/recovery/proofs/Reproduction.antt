@@ -2,9 +2,12 @@
 -- one that the build has there.
 use mathlib.Core.Path.{_≡_, refl, sym, _∙_, ap}
 use mathlib.Core.Logic.{_⊎_, inl, inr}
+use mathlib.Core.Bool.{Bool, true, false, _||_}
 use mathlib.Core.List.{List, map}
 use Prim.Native.Nat.{ℕ, suc, _+_, _-_, _<_, _≤_}
 use native.Mathlib.Omega.{arith}
+use borrow.Author.Tests.{eqb-true}
+use lib.Dec.{eqb}
 use lib.IntN.{ℤ, pos}
 use lib.ListN.{length, getD, length-map, List·getD-map}
 use lib.Seq.{ext-getD}
@@ -12,16 +15,16 @@ use Rattle.exact.specs.Rational.{ℚ, int, _*ᵠ_}
 use Rattle.exact.specs.Sum.{sum}
 use Rattle.exact.proofs.Decide.{le-or-lt}
 use Rattle.exact.proofs.Sum.{sum-ext, sum-swap, sum-mul-right}
-use Rattle.spline.specs.Outcome.{answer, refusal, repeat}
+use Rattle.spline.specs.Outcome.{Outcome, answer, refusal, repeat}
 use Rattle.spline.specs.Space.{Space, segments, checked, degree, conditionCount, firstColumn, columnCount, rowCount}
 use Rattle.spline.specs.Conditions.{conditions}
 use Rattle.spline.specs.Table.{Table, entry, cell, identity}
 use Rattle.spline.specs.Step.{step}
-use Rattle.spline.specs.Build.{orderSteps, joinSteps, weights, spaceWeights}
+use Rattle.spline.specs.Build.{orderSteps, joinSteps, weights, spaceWeights, clears}
 use Rattle.spline.specs.Piecewise.{Meets, pairing, combination}
 use Rattle.spline.specs.Reading.{fine, coefficient, fineWidth, offset}
 use Rattle.spline.specs.ExactCurve.{bernsteinAt, exactTerm, exactOn}
-use Rattle.spline.proofs.Outcome.{then-answers, repeat-keeps, repeat-more, Halted, repeat-refuses}
+use Rattle.spline.proofs.Outcome.{answer-not-refusal, then-answers, then-inverts, repeat-keeps, repeat-more, Halted, repeat-refuses}
 use Rattle.spline.proofs.Legal.{Legal, legal, checked-inverts}
 use Rattle.spline.proofs.Table.{entry-past, identity-rows}
 use Rattle.theorems.proofs.Functional.{applied-ext, applied-sum}
@@ -31,7 +34,8 @@ use Rattle.theorems.proofs.Identity.{identity-basis, column-picks}
 use Rattle.theorems.proofs.Built.{Done, nothing-done, order-stepped, order-kept, join-kept, Built, built, row-count}
 use Rattle.theorems.proofs.Demand2.{pairing-applied, combined-past, combination-at, combination-length, combinations-meet-conditions}
 use Rattle.recovery.specs.Recovery.{Numbered, recoverStep, recoverOrders, recoverJoins, recovered}
-use Rattle.recovery.specs.Reproduction.{AnswersHaveTheWeights, AnswersReproduce, NoOthersReproduce, MissedCondition, NineteenMissesACondition, NineteenHasNoCoefficients, ExactCurveHasTheOrdinates}
+use Rattle.recovery.specs.Reproduction.{AnswersHaveTheWeights, AnswersReproduce, NoOthersReproduce, MissedCondition, NineteenMissesACondition, NineteenHasNoCoefficients, ExactCurveHasTheOrdinates, RecoveredOrTooLarge, recovers, too-large, CurvesAreRecovered}
+use Rattle.recovery.proofs.Refusals.{recovered-clears, eight-and-nine-are-the-builds}
 use Rattle.recovery.proofs.Steps.{Parts, parts-of, unbalanced, sum-of-jumps, numbers-count, combination-kept}
 
 module _ (s : Space) (L : Legal s) (ordinates : List ℤ) (columns : length ordinates ≡ columnCount s) where
@@ -182,3 +186,28 @@ exact-curve-has-the-ordinates s e ordinates n r h part coefs same j below x =
     column t =
         sum-ext (length (r .table)) (λ i m. ap (λ q. q *ᵠ cell (r .table) i (firstColumn s j + t)) (sym (same i (rw (row-count s (r .table) (table-built s e (r .table) (K .0))) at m))))
         ∙ all-kept s (legal-of s e) ordinates n r h .0 .gives (firstColumn s j + t) ∙ List·getD-map int ordinates (firstColumn s j + t) (pos 0)
+
+-- Of the four numbers that can end the steps, the space is accepted, so it is neither 8 nor 9, and the ordinates miss no condition.
+pub curves-are-recovered : CurvesAreRecovered
+unfolding spaceWeights
+curves-are-recovered s a ordinates M = go (recovered s ordinates) refl
+  where
+    size : length ordinates ≡ columnCount s
+    size = sym (length-map ordinates int) ∙ M .columns
+
+    L : Legal s
+    L = built s (a .table) (a .is) .legal-space
+
+    not-the-build : {number place : ℕ} → weights s ≡ refusal number place → ⊥
+    not-the-build e = let c = then-inverts (checked s) weights (a .is) in answer-not-refusal (c .after) (ap weights (sym (checked-inverts s (c .before) .0)) ∙ e)
+
+    decide : (number place : ℕ) (b c d : Bool) → clears number ≡ b → eqb number 19 ≡ c → eqb number 20 ≡ d → (b || c || d) ≡ true → recovered s ordinates ≡ refusal number place → RecoveredOrTooLarge (recovered s ordinates)
+    decide number place true c d p q u told e = absurd (not-the-build (eight-and-nine-are-the-builds s ordinates number place p e))
+    decide number place false true d p q u told e =
+        absurd (let N = missed s L ordinates size place (e ∙ ap (λ n. refusal n place) (eqb-true number 19 q)) in N .missed (M .meets (N .join) (N .order) (N .join-below) (N .order-below)))
+    decide number place false false true p q u told e = too-large place (e ∙ ap (λ n. refusal n place) (eqb-true number 20 u))
+    decide number place false false false p q u told e = absurd (let z : _≡_ {A = ℕ} 0 1 = cc in omega arith)
+
+    go : (o : Outcome Numbered) → recovered s ordinates ≡ o → RecoveredOrTooLarge (recovered s ordinates)
+    go (answer r) e = recovers r e
+    go (refusal number place) e = decide number place (clears number) (eqb number 19) (eqb number 20) refl refl refl (recovered-clears s ordinates number place e) e

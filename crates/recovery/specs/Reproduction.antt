@@ -1,17 +1,18 @@
 -- What recovered coefficients are good for (document 02, CR 13): they "reproduce each ordinate exactly and no others do; after
 -- 19 none of any size would". All sums are exact.
 use mathlib.Core.Path.{_≡_}
+use mathlib.Core.Bool.{true}
 use mathlib.Core.List.{List, map}
 use Prim.Native.Nat.{ℕ, suc, _+_, _-_, _<_}
 use lib.IntN.{ℤ, pos}
 use lib.ListN.{length, getD}
 use Rattle.exact.specs.Rational.{ℚ, int, _*ᵠ_}
 use Rattle.exact.specs.Sum.{sum}
-use Rattle.spline.specs.Outcome.{answer, refusal}
+use Rattle.spline.specs.Outcome.{Outcome, answer, refusal}
 use Rattle.spline.specs.Space.{Space, segments, checked, degree, conditionCount, firstColumn, columnCount, rowCount}
 use Rattle.spline.specs.Table.{entry}
-use Rattle.spline.specs.Build.{weights}
-use Rattle.spline.specs.Piecewise.{Accepted, Meets, combination}
+use Rattle.spline.specs.Build.{weights, clears}
+use Rattle.spline.specs.Piecewise.{Accepted, Meets, MeetsAll, combination}
 use Rattle.spline.specs.Reading.{WoodPart, fine, coefficient, fineWidth, offset}
 use Rattle.spline.specs.ExactCurve.{bernsteinAt, exactOn}
 use Rattle.recovery.specs.Recovery.{Numbered, recovered}
@@ -55,3 +56,16 @@ ExactCurveHasTheOrdinates = (s : Space) → checked s ≡ answer s → (ordinate
     → (part : WoodPart) (coefs : List ℤ) → ((i : ℕ) → i < rowCount s → entry (r .numbers) i ≡ int (fine (coefficient part coefs i)))
     → (j : ℕ) → j < segments s → (x : ℤ)
     → exactOn s (r .table) part coefs j x ≡ sum (suc (degree s j)) (λ t. int (getD ordinates (firstColumn s j + t) (pos 0)) *ᵠ bernsteinAt (degree s j) (fineWidth s j) (offset s j x) t)
+
+-- 8 and 9 are "the build's own work": they come where, and as, the build gives them.
+abbrev pub EightAndNineAreTheBuilds : Type 0
+EightAndNineAreTheBuilds = (s : Space) (ordinates : List ℤ) (number place : ℕ) → clears number ≡ true → recovered s ordinates ≡ refusal number place → weights s ≡ refusal number place
+
+-- What is recovered, or number 20.
+pub data RecoveredOrTooLarge (o : Outcome Numbered) : Type 0 where
+  recovers : (r : Numbered) → o ≡ answer r → RecoveredOrTooLarge o
+  too-large : (place : ℕ) → o ≡ refusal 20 place → RecoveredOrTooLarge o
+
+-- The ordinates of a piecewise curve that meets all join conditions of an accepted space are refused for their sizes alone.
+abbrev pub CurvesAreRecovered : Type 0
+CurvesAreRecovered = (s : Space) → Accepted s → (ordinates : List ℤ) → MeetsAll s (map int ordinates) → RecoveredOrTooLarge (recovered s ordinates)

@@ -1,6 +1,6 @@
 -- What the checks of a space leave: a space that none of the numbers 2 to 5 and 15 refuses has lists of lengths that fit together,
 -- segments of positive length, and at each join no more conditions than either neighbouring degree. And what the checks need.
-use mathlib.Core.Path.{_≡_, refl, sym, _∙_, ap, ap₂}
+use mathlib.Core.Path.{_≡_, refl, _∙_, ap, ap₂, subst}
 use mathlib.Core.Bool.{Bool, true, false, cond, not, _&&_, _||_}
 use mathlib.Core.Option.{Option, some, none}
 use Prim.Native.Nat.{ℕ, zero, suc, _+_, _-_, _<_, _≤_}
@@ -81,14 +81,22 @@ checked-inverts s {s′} e = finish (fitting-inverts (lengthsFit s) 2 0 _ e)
           },
         )
 
--- a refusal by a number that does not clear the buffers, by itself or before the rest
+-- what holds of the number of a test holds of the number of its refusal, where it refuses by itself or before the rest
+module _ (P : ℕ → Type 0) where
+  pub refusal-number : {A : Type 0} (n p : ℕ) {number place : ℕ} → P n → _≡_ {A = Outcome A} (refuse n p) (refusal number place) → P number
+  refusal-number n p {number} h r = let z : n ≡ number = cc in subst P z h
+
+  pub first-number : {A : Type 0} (n : ℕ) (o : Option ℕ) (rest : Outcome A) {number place : ℕ} → P n → (rest ≡ refusal number place → P number) → refuseFirst n o rest ≡ refusal number place → P number
+  first-number n none rest h later r = later r
+  first-number n (some i) rest h later r = refusal-number n i h r
+
+-- numbers that do not clear the buffers
 pub keeping-refusal : {A : Type 0} (n p : ℕ) {number place : ℕ} → clears n ≡ false → _≡_ {A = Outcome A} (refuse n p) (refusal number place) → clears number ≡ false
-keeping-refusal n p {number} h r = let z : n ≡ number = cc in ap clears (sym z) ∙ h
+keeping-refusal n p h r = refusal-number (λ k. clears k ≡ false) n p h r
 
 pub keeping-first : {A : Type 0} (n : ℕ) (o : Option ℕ) (rest : Outcome A) {number place : ℕ} → clears n ≡ false → (rest ≡ refusal number place → clears number ≡ false)
     → refuseFirst n o rest ≡ refusal number place → clears number ≡ false
-keeping-first n none rest h later r = later r
-keeping-first n (some i) rest h later r = keeping-refusal n i h r
+keeping-first n o rest h later r = first-number (λ k. clears k ≡ false) n o rest h later r
 
 -- and a space of which each test leaves its fact is the answer
 pub checked-passes : (s : Space) → Checked s → checked s ≡ answer s
@@ -104,20 +112,24 @@ checked-passes s c =
     pass : (number : ℕ) {o : Option ℕ} {rest : Outcome Space} → o ≡ none → refuseFirst number o rest ≡ rest
     pass number {o} {rest} e = ap (λ q. refuseFirst number q rest) e
 
+-- what holds of the numbers 2 to 5 and 15 holds of the number of a refusal of the checks
+pub checked-number : (P : ℕ → Type 0) (s : Space) {number place : ℕ} → P 2 → P 3 → P 4 → P 5 → P 15 → checked s ≡ refusal number place → P number
+unfolding checked checkedEntries
+checked-number P s {number} {place} two three four five fifteen e = fitting (lengthsFit s) e
+  where
+    fitting : (b : Bool) → cond b (checkedEntries s) (refuse 2 0) ≡ refusal number place → P number
+    fitting false r = refusal-number P 2 0 two r
+    fitting true r =
+        first-number P 3 (first (segments s + 1) (badBreak s)) _ three
+        (first-number P 3 (partEndAt s (first (segments s) (spanTooLong s))) _ three
+        (first-number P 4 (first (segments s) (badDegree s)) _ four
+        (first-number P 5 (first (segments s - 1) (badOrder s)) _ five
+        (first-number P 15 (first (segments s) (tooManySegments s)) (answer s) fifteen (λ z. absurd (answer-not-refusal refl z))))))
+        r
+
 -- the checks give neither 8 nor 9, the numbers that clear the buffers
 pub checked-numbers : (s : Space) {number place : ℕ} → checked s ≡ refusal number place → clears number ≡ false
-unfolding checked checkedEntries
-checked-numbers s {number} {place} e = fitting (lengthsFit s) e
-  where
-    fitting : (b : Bool) → cond b (checkedEntries s) (refuse 2 0) ≡ refusal number place → clears number ≡ false
-    fitting false r = keeping-refusal 2 0 refl r
-    fitting true r =
-        keeping-first 3 (first (segments s + 1) (badBreak s)) _ refl
-        (keeping-first 3 (partEndAt s (first (segments s) (spanTooLong s))) _ refl
-        (keeping-first 4 (first (segments s) (badDegree s)) _ refl
-        (keeping-first 5 (first (segments s - 1) (badOrder s)) _ refl
-        (keeping-first 15 (first (segments s) (tooManySegments s)) (answer s) refl (λ z. absurd (answer-not-refusal refl z))))))
-        r
+checked-numbers s e = checked-number (λ k. clears k ≡ false) s refl refl refl refl refl e
 
 -- What the lengths of the three lists are.
 pub record Lengths (s : Space) : Type 0 where

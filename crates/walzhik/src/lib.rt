@@ -3,12 +3,14 @@ ghost use mathlib.Core.Path.{_≡_};
 ghost use Rattle.space.specs.Reply.{space};
 ghost use Rattle.spline.specs.Outcome.{answer, refusal};
 ghost use Rattle.spline.specs.Build.{buildEnd};
+ghost use Rattle.recovery.specs.RecoveryCall.{recoveryEnd};
 ghost use Rattle.spline.specs.Reading.{earlywood, latewood};
 ghost use Rattle.spline.specs.CurveCall.{curveEnd};
 ghost use Rattle.indices.specs.Indices.{indicesEnd};
 ghost use Rattle.tucson_form.specs.ReadCall.{readEnd};
 ghost use Rattle.tucson_form.specs.WriteCall.{writeEnd};
 ghost use Rattle.reach.specs.Reach.{reachEnd};
+ghost use Rattle.weights.specs.Reply as weights;
 ghost use Rattle.reach.specs.Machine.{reply};
 ghost use Rattle.pieces.specs.Pieces as pieces;
 ghost use Rattle.pieces.specs.Machine.{Shows};
@@ -67,6 +69,16 @@ fn refused(number: u8, place: u32) -> Reply
     }
 }
 
+// The struct of what a call that builds answers with its rows.
+fn rows_of(built: weights::Built) -> Reply
+    ensures { λ r. ⌜ r ≡ replied (weights.reply built) ⌝ }
+{
+    match built {
+        weights::Built::Rows(n) => answered(n),
+        weights::Built::Refused(number, place) => refused(number, place),
+    }
+}
+
 // weights::build
 #[no_mangle]
 pub extern "C" fn walzhik_build(
@@ -80,10 +92,35 @@ pub extern "C" fn walzhik_build(
         (r ≡ replied (e .answers)) × ((now (num .exit) ≡ e .numerators) × (now (den .exit) ≡ e .denominators))) ⌝ }
 {
     let built = weights::build(breaks, degrees, orders, num, den);
-    match built {
-        weights::Built::Rows(n) => answered(n),
-        weights::Built::Refused(number, place) => refused(number, place),
-    }
+    rows_of(built)
+}
+
+// coefficients::coefficients
+#[no_mangle]
+pub extern "C" fn walzhik_coefficients(
+    breaks: &[i32],
+    degrees: &[i32],
+    orders: &[i32],
+    ordinates: &[i32],
+    num: &mut [i64],
+    den: &mut [i64],
+    coef_num: &mut [i64],
+    coef_den: &mut [i64],
+) -> Reply
+    ensures { λ r. ⌜ (let e = recoveryEnd (space (now (breaks .entry)) (now (degrees .entry)) (now (orders .entry))) (now (ordinates .entry)) (now (num .entry)) (now (den .entry)) (now («coef_num» .entry)) (now («coef_den» .entry)) in
+        (r ≡ replied (e .answers)) × ((now (num .exit) ≡ e .numerators) × ((now (den .exit) ≡ e .denominators) × ((now («coef_num» .exit) ≡ e .coefficientNumerators) × (now («coef_den» .exit) ≡ e .coefficientDenominators))))) ⌝ }
+{
+    let built = coefficients::coefficients(
+        breaks,
+        degrees,
+        orders,
+        ordinates,
+        num,
+        den,
+        coef_num,
+        coef_den,
+    );
+    rows_of(built)
 }
 
 // curve::curve

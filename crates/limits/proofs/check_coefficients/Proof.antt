@@ -1,4 +1,4 @@
--- `curve::limits::check_coefficients` meets its contract: the count first, then what the search found. Assumes nothing.
+-- `limits::check_coefficients` meets its contract: the count first, then what the search found. Assumes nothing.
 use borrow.Author.Needs.{needs}
 use native.Mathlib.Omega.{arith}
 use mathlib.Core.List.{[]}
@@ -13,6 +13,7 @@ use Rattle.spline.specs.CurveCall.{badCoefficient}
 use Rattle.space.specs.Reply.{space}
 use Rattle.space.proofs.Reply.{found-some-inverts, found-none-inverts, answer-legal, refusal-refused}
 use Rattle.space.proofs.Bounds.{first-column-high}
+use Rattle.limits.proofs.Entries.{coefficient-outside}
 use Rattle.limits.proofs.Refused.{coefficients-count, coefficients-refused, coefficients-pass}
 use Rattle.limits.proofs.check_coefficients.Statement.{statement}
 use Rattle.limits.proofs.check_coefficients.Tie as tie
@@ -25,10 +26,10 @@ counted : (c : tie.Else1) → length (c .before .before .args .coefs .now) ≡ 2
 counted c = c .if1 .left ∙ ap (λ (n : ℕ). 2 * n) (c .before .row-count .ensures)
 
 found-bad : (c : tie.After-bad) → first (length (c .before .before .before .before .before .args .coefs .now)) (badCoefficient (c .before .before .before .before .before .args .coefs .now)) ≡ some (c .bad .given .0 .0)
-found-bad c = found-some-inverts _ (sym (c .before .before .first-bad-coefficient .ensures) ∙ c .bad .given .1)
+found-bad c = ap (first (length (c .before .before .before .before .before .args .coefs .now))) (coefficient-outside _) ∙ found-some-inverts _ (sym (c .before .before .first-outside .ensures) ∙ c .bad .given .1)
 
 none-bad : (c : tie.After-enum-told) → first (length (c .before .before .before .before .before .args .coefs .now)) (badCoefficient (c .before .before .before .before .before .args .coefs .now)) ≡ none
-none-bad c = found-none-inverts _ (sym (c .before .before .first-bad-coefficient .ensures) ∙ c .enum-told .given .1)
+none-bad c = ap (first (length (c .before .before .before .before .before .args .coefs .now))) (coefficient-outside _) ∙ found-none-inverts _ (sym (c .before .before .first-outside .ensures) ∙ c .enum-told .given .1)
 
 row-count-requires : tie.Need-row-count-requires
 row-count-requires c κs = search needs
@@ -40,8 +41,11 @@ mul-if1 c = omega (arith, c .row-count .ensures, first-column-high (joined (c .b
 returns : tie.Need-returns
 returns c = sym (refusal-refused _ (coefficients-count (joined (c .before .before)) (c .before .before .args .coefs .now) (λ e. c .if1 .taken (e ∙ sym (ap (λ (n : ℕ). 2 * n) (c .before .row-count .ensures))))))
 
-first-bad-coefficient-requires : tie.Need-first-bad-coefficient-requires
-first-bad-coefficient-requires c κs = search needs
+sub-first-outside : tie.Need-sub-first-outside
+sub-first-outside c = search needs
+
+first-outside-requires : tie.Need-first-outside-requires
+first-outside-requires c κs = search needs
 
 enum-known-bad : tie.Need-enum-known-bad
 enum-known-bad c = search needs
@@ -69,7 +73,8 @@ check-coefficients-spec =
     row-count-requires
     mul-if1
     returns
-    first-bad-coefficient-requires
+    sub-first-outside
+    first-outside-requires
     enum-known-bad
     place-requires
     enum-told

@@ -58,8 +58,8 @@ shared-slice-copy-out-high c = search needs
 mul-high-2 : tie.Need-mul-high-2
 mul-high-2 c = let s = c .before .before in let f = break-fits s (s .args .m) (omega arith) in simp toZ-ofZ (fine-fits s (s .args .m) (omega arith))
 
-first-bad-position-requires : tie.Need-first-bad-position-requires
-first-bad-position-requires c κs = search needs
+first-outside-requires : tie.Need-first-outside-requires
+first-outside-requires c κs = search needs
 
 enum-known-bad : tie.Need-enum-known-bad
 enum-known-bad c = search needs
@@ -71,10 +71,10 @@ enum-told : tie.Need-enum-told
 enum-told c = search needs
 
 found-bad : (c : tie.After-bad) → searched (c .before .before .before .before .before) ≡ some (c .bad .given .0 .0)
-found-bad c = as-words (c .before .before .before .before .before) ∙ found-some-inverts _ (sym (c .before .before .first-bad-position .ensures) ∙ c .bad .given .1)
+found-bad c = as-words (c .before .before .before .before .before) ∙ found-some-inverts _ (sym (c .before .before .first-outside .ensures) ∙ c .bad .given .1)
 
 none-bad : (c : tie.After-enum-told) → searched (c .before .before .before .before .before) ≡ none
-none-bad c = as-words (c .before .before .before .before .before) ∙ found-none-inverts _ (sym (c .before .before .first-bad-position .ensures) ∙ c .enum-told .given .1)
+none-bad c = as-words (c .before .before .before .before .before) ∙ found-none-inverts _ (sym (c .before .before .first-outside .ensures) ∙ c .enum-told .given .1)
 
 returns : tie.Need-returns
 returns c =
@@ -95,7 +95,7 @@ check-positions-spec =
     mul-high
     shared-slice-copy-out-high
     mul-high-2
-    first-bad-position-requires
+    first-outside-requires
     enum-known-bad
     place-requires
     enum-told

@@ -9,14 +9,14 @@ use native.Mathlib.Decide.{decLt}
 use lib.IntN.{ℤ, pos}
 use lib.ListN.{length, take, drop, length-drop, length-take, List·getD-eq-default}
 use lib.Seq.{getD-take, getD-drop, length-take-le}
-use Rattle.exact.specs.Rational.{ℚ, int}
+use Rattle.exact.specs.Rational.{int}
 use Rattle.fraction.specs.Size.{fits}
 use Rattle.fraction.proofs.Size.{int-fits}
 use Rattle.spline.specs.Space.{Space, segments, partEnd, firstColumn, columnCount, rowCount}
 use Rattle.spline.specs.Table.{entry}
 use Rattle.spline.proofs.Parts.{part-ends}
 use Rattle.spline.proofs.Space.{firstColumn-mono}
-use Rattle.beams.specs.Sections.{section, partAt}
+use Rattle.beams.specs.Sections.{section}
 use Rattle.beams.proofs.Sections.{section-columnCount}
 use Rattle.space.specs.Reply.{space}
 use Rattle.space.specs.Legal.{PartLegal}

@@ -1,5 +1,4 @@
 -- Before the turn at i the cells up to from + i hold the numbers before `from` and the first i of these. Assumes nothing.
-use borrow.Author.Needs.{needs}
 use mathlib.Core.Path.{_≡_, refl, sym, _∙_, ap, ap₂}
 use mathlib.Core.List.{List, _++_}
 use Prim.Native.Nat.{ℕ, _+_, _-_, _<_, _≤_}
@@ -12,7 +11,6 @@ use mir.Val.{SFits}
 use mir.ValLaws.{toZ-ofZ}
 use Rattle.exact.specs.Rational.{ℚ, int}
 use Rattle.exact.proofs.Tabulate.{tab-ext, tab-more}
-use Rattle.exact.specs.Tabulate.{tab}
 use Rattle.fraction.specs.Machine.{fraction}
 use Rattle.fraction.specs.declared.Fraction.{Fraction}
 use Rattle.spline.specs.Table.{entry}

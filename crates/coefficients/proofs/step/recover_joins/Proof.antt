@@ -2,14 +2,14 @@
 -- orders at join j are then the next steps. Assumes nothing.
 use borrow.Author.Needs.{needs}
 use mathlib.Core.Path.{_≡_, refl, sym, _∙_, ap, ap₂, subst}
-use mathlib.Core.List.{List, [], map}
+use mathlib.Core.List.{List, map}
 use Prim.Native.Nat.{ℕ, suc, _+_, _-_, _<_, _≤_}
 use native.Mathlib.Omega.{arith}
 use native.Mathlib.Numerals.{add-one}
 use lib.IntN.{ℤ}
 use lib.ListN.{length, length-map}
 use Rattle.exact.specs.Rational.{int}
-use Rattle.spline.specs.Outcome.{Outcome, answer, refusal, capped, repeat}
+use Rattle.spline.specs.Outcome.{Outcome, answer, capped, repeat}
 use Rattle.spline.specs.Space.{Space, segments, columnCount, conditionCount, conditionsBefore, rowCount}
 use Rattle.spline.specs.Table.{identity, numerators, denominators}
 use Rattle.spline.proofs.Outcome.{repeat-more, repeat-stops}
@@ -26,10 +26,10 @@ use Rattle.weights.proofs.Stepped.{identity-shaped}
 use Rattle.spline.proofs.Space.{firstColumn-mono}
 use Rattle.weights.proofs.Joins.{join-whole, join-fits, conditions-left}
 use Rattle.recovery.specs.Recovery.{Numbered, recoverOrders, recoverJoins, recovered}
+use Rattle.recovery.proofs.Refusals.{orders-stop}
 use Rattle.coefficients.specs.Leaves.{Leaves, JoinsLeave, Started}
-use Rattle.coefficients.specs.declared.Joined.{Joined}
 use Rattle.coefficients.specs.declared.Numbers.{Numbers}
-use Rattle.coefficients.proofs.Orders.{Done, told-done, Stopped, told-stopped, Sound, orders-sound, orders-stop}
+use Rattle.coefficients.proofs.Orders.{Done, told-done, Stopped, told-stopped, Sound, orders-sound}
 use Rattle.coefficients.proofs.step.recover_joins.Statement.{statement}
 use Rattle.coefficients.proofs.step.recover_joins.Tie as tie
 

@@ -1,8 +1,7 @@
 -- Before the turn at k the orders below k are done and the buffers and arrays hold what they gave. Assumes nothing.
-use borrow.Author.Needs.{needs}
 use mathlib.Core.Path.{_≡_, refl, sym, _∙_, ap, subst}
-use mathlib.Core.List.{List, []}
-use Prim.Native.Nat.{ℕ, suc, _+_, _-_, _<_, _≤_}
+use mathlib.Core.List.{List}
+use Prim.Native.Nat.{ℕ, _+_, _-_, _<_, _≤_}
 use native.Mathlib.Omega.{arith}
 use native.Mathlib.Numerals.{add-one}
 use lib.IntN.{ℤ}
@@ -20,12 +19,12 @@ use Rattle.conditions.specs.declared.Join.{Join}
 use Rattle.factors.specs.Jumps.{AllFit}
 use Rattle.jumps.specs.Reply.{fractions}
 use Rattle.jumps.specs.declared.Fractions.{Fractions}
-use Rattle.weights.proofs.Stepped.{Proper}
 use Rattle.recovery.specs.Recovery.{Numbered, recoverStep, recoverOrders}
+use Rattle.recovery.proofs.Refusals.{recover-stops}
 use Rattle.coefficients.specs.Leaves.{Leaves}
 use Rattle.coefficients.specs.declared.Numbers.{Numbers}
 use Rattle.coefficients.proofs.Stepped.{leaves-answer, leaves-refusal}
-use Rattle.coefficients.proofs.Orders.{recover-stops, Done, told-done, Stopped, told-stopped, Sound, recover-one-less}
+use Rattle.coefficients.proofs.Orders.{Done, told-done, Stopped, told-stopped, Sound, recover-one-less}
 use Rattle.coefficients.proofs.step.recover_orders.Statement.{statement}
 use Rattle.coefficients.proofs.step.recover_orders.Tie as tie
 

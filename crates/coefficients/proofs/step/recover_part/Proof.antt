@@ -7,7 +7,7 @@ use native.Mathlib.Omega.{arith}
 use lib.IntN.{ℤ}
 use lib.ListN.{length}
 use Rattle.spline.specs.Outcome.{Outcome, answer, refusal}
-use Rattle.spline.specs.Space.{Space, columnCount, rowCount}
+use Rattle.spline.specs.Space.{Space, columnCount}
 use Rattle.spline.specs.Table.{Table, tableCells, identity, numerators, denominators}
 use Rattle.space.specs.Reply.{space}
 use Rattle.space.proofs.Partial.{column-count-partial}

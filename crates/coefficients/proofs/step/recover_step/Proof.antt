@@ -1,12 +1,11 @@
 -- The jumps before the step, the build's own step, then its undoing. Assumes nothing.
 use borrow.Author.Needs.{needs}
 use mathlib.Core.Path.{_≡_, sym, _∙_, ap}
-use mathlib.Core.List.{List, []}
+use mathlib.Core.List.{[]}
 use Prim.Native.Nat.{ℕ}
 use native.Mathlib.Omega.{arith}
 use lib.ListN.{length}
-use Rattle.exact.specs.Rational.{ℚ}
-use Rattle.spline.specs.Outcome.{Outcome, answer, refusal}
+use Rattle.spline.specs.Outcome.{Outcome}
 use Rattle.spline.specs.Space.{Space}
 use Rattle.spline.specs.Conditions.{conditions}
 use Rattle.spline.specs.Table.{Table}

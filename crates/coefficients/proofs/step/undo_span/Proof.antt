@@ -2,7 +2,7 @@
 -- Assumes nothing.
 use borrow.Author.Needs.{needs}
 use borrow.Author.Tests.{not-true, not-false}
-use mathlib.Core.Path.{_≡_, sym, _∙_, ap, subst}
+use mathlib.Core.Path.{_≡_, sym, _∙_, ap}
 use mathlib.Core.Bool.{true, false}
 use mathlib.Core.List.{List, _++_}
 use Prim.Native.Nat.{ℕ, suc, _-_, _<_}
@@ -11,18 +11,19 @@ use lib.ListN.{length, take, drop}
 use Rattle.exact.specs.Rational.{ℚ}
 use Rattle.spline.specs.Outcome.{Outcome, answer, refusal, _then_, with-answer}
 use Rattle.spline.specs.Step.{factors}
-use Rattle.spline.proofs.Outcome.{then-answers, then-refuses, Changed, with-inverts, with-refuses}
+use Rattle.spline.proofs.Outcome.{then-answers, then-refuses, with-inverts, with-refuses}
 use Rattle.jumps.specs.Reply.{fractions, rowJumps}
 use Rattle.jumps.specs.declared.Fractions.{Fractions}
-use Rattle.jumps.proofs.Answers.{InArrays, jumps-in-arrays, jumps-refused}
+use Rattle.jumps.proofs.Answers.{jumps-in-arrays, jumps-refused}
 use Rattle.factors.specs.Reply.{rowFactors}
 use Rattle.factors.specs.declared.RowFactors.{RowFactors}
 use Rattle.rows.proofs.Mixing.{unit-factors}
 use Rattle.undoing.proofs.Rows.{renewed-length}
+use Rattle.recovery.proofs.Refusals.{balanced-here}
 use Rattle.recovery.specs.Recovery.{balanced, undoneRows, undone}
 use Rattle.recovery.proofs.Answers.{rows-undone, undone-refuses-20}
 use Rattle.coefficients.specs.Leaves.{numbersOf}
-use Rattle.coefficients.proofs.Refusals.{RefusedBy, balanced-here, told-zero, told-not, told-large}
+use Rattle.coefficients.proofs.Refusals.{RefusedBy, told-zero, told-not, told-large}
 use Rattle.coefficients.proofs.Undone.{numbers-answer, numbers-refusal, factors-nonzero, renewed-without}
 use Rattle.coefficients.proofs.step.undo_span.Statement.{statement}
 use Rattle.coefficients.proofs.step.undo_span.Tie as tie

@@ -1,4 +1,4 @@
--- `curve::limits::first_bad_position` meets its contract. The loop's invariant: no position passed is bad. Assumes nothing.
+-- `limits::first_outside` meets its contract. The loop's invariant: no entry passed lies outside. Assumes nothing.
 use native.Mathlib.Omega.{arith}
 use mathlib.Core.Bool.{false}
 use mathlib.Core.Path.{_≡_, sym, ap₂, _∙_}
@@ -12,14 +12,14 @@ use mir.ValLaws.{toZ-ofZ}
 use Rattle.space.proofs.Reply.{found-at, found-none}
 use Rattle.limits.specs.Limits.{outside}
 use Rattle.limits.proofs.Entries.{below, above}
-use Rattle.limits.proofs.first_bad_position.Statement.{statement}
-use Rattle.limits.proofs.first_bad_position.Tie as tie
+use Rattle.limits.proofs.first_outside.Statement.{statement}
+use Rattle.limits.proofs.first_outside.Tie as tie
 
 abbrev Inv-loop : tie.InvT-loop
-Inv-loop positions low high n i₀ i = (i ≤ n) × ((k : ℕ) → k < i → outside positions (toZ w32 low) (toZ w32 high) k ≡ false)
+Inv-loop list low high n i₀ i = (i ≤ n) × ((k : ℕ) → k < i → outside list (toZ w32 low) (toZ w32 high) k ≡ false)
 
 abbrev μ-loop : tie.MeasureT-loop
-μ-loop positions low high n i₀ i = n - i
+μ-loop list low high n i₀ i = n - i
 
 loop-holds : tie.Need-loop-holds Inv-loop μ-loop
 loop-holds c = (omega arith, below-none _)
@@ -38,14 +38,14 @@ loop-less c = omega arith
 
 -- the bounds read back from their words
 module _ (s : tie.Start Inv-loop μ-loop) where
-  as-passed : (k : ℕ) → outside (s .args .positions .now) (toZ w32 (ofZ w32 (s .args .low))) (toZ w32 (ofZ w32 (s .args .high))) k ≡ outside (s .args .positions .now) (s .args .low) (s .args .high) k
-  as-passed k = ap₂ (λ (l h : ℤ). outside (s .args .positions .now) l h k) (toZ-ofZ w32 _ (s .fits .low)) (toZ-ofZ w32 _ (s .fits .high))
+  as-passed : (k : ℕ) → outside (s .args .list .now) (toZ w32 (ofZ w32 (s .args .low))) (toZ w32 (ofZ w32 (s .args .high))) k ≡ outside (s .args .list .now) (s .args .low) (s .args .high) k
+  as-passed k = ap₂ (λ (l h : ℤ). outside (s .args .list .now) l h k) (toZ-ofZ w32 _ (s .fits .low)) (toZ-ofZ w32 _ (s .fits .high))
 
--- no position before i
-good-before : (c : tie.At-loop Inv-loop μ-loop) (k : ℕ) → k < c .loop .i → outside (c .before .args .positions .now) (c .before .args .low) (c .before .args .high) k ≡ false
+-- no entry before i
+good-before : (c : tie.At-loop Inv-loop μ-loop) (k : ℕ) → k < c .loop .i → outside (c .before .args .list .now) (c .before .args .low) (c .before .args .high) k ≡ false
 good-before c k l = sym (as-passed (c .before) k) ∙ c .loop .inv .1 k l
 
-x-fits : (c : tie.After-x Inv-loop μ-loop) → SFits w32 (getD (c .before .before .before .args .positions .now) (c .before .before .loop .i) (pos 0))
+x-fits : (c : tie.After-x Inv-loop μ-loop) → SFits w32 (getD (c .before .before .before .args .list .now) (c .before .before .loop .i) (pos 0))
 x-fits c = record { sfits = c .x .given }
 
 loop-again : tie.Need-loop-again Inv-loop μ-loop
@@ -74,8 +74,8 @@ returns-3 c =
     let h = s .fits .high in
     found-at _ _ _ (omega arith) (sym (above (s .args .low) (s .args .high) _ (simp toZ-ofZ at (c .before .if2 .left))) ∙ (simp toZ-ofZ at (c .if3 .taken))) (good-before (c .before .before .before .before))
 
-pub first-bad-position-spec : {M : Type 1} → statement M
-first-bad-position-spec =
+pub first-outside-spec : {M : Type 1} → statement M
+first-outside-spec =
     tie.close
     (tie.spec
     Inv-loop

@@ -1,0 +1,417 @@
+//! The engine's calls for Rust: safe functions over slices, each for a call of include/walzhik.h, which says what they take and
+//! give. A program takes this file as its module `walzhik` and links with target/staticlib/libwalzhik.a. Each function lends
+//! buffers of its own that are long enough, so number 1 can't come, and gives back what an answer leaves in them.
+#![allow(dead_code)]
+
+/// The cells of a weight buffer: 72 rows of 72 columns.
+pub const CELLS: usize = SIDE * SIDE;
+const SIDE: usize = 72;
+
+/// The calls as C has them.
+pub mod raw {
+    #[repr(C)]
+    pub struct Reply {
+        pub count: u64,
+        pub number: u32,
+        pub place: u32,
+    }
+
+    #[repr(C)]
+    pub struct Reach {
+        pub position: i32,
+        pub number: u32,
+        pub place: u32,
+    }
+
+    #[repr(C)]
+    pub struct Piece {
+        pub number: u32,
+        pub place: u32,
+        pub degree: u32,
+        pub unused: u32,
+        pub ordinates: [f64; 4],
+        pub start: f64,
+        pub end: f64,
+    }
+
+    #[link(name = "walzhik", kind = "static")]
+    extern "C" {
+        pub fn walzhik_build(
+            breaks: *const i32, breaks_len: usize, degrees: *const i32, degrees_len: usize,
+            orders: *const i32, orders_len: usize, num: *mut i64, num_len: usize,
+            den: *mut i64, den_len: usize,
+        ) -> Reply;
+        pub fn walzhik_curve(
+            breaks: *const i32, breaks_len: usize, degrees: *const i32, degrees_len: usize,
+            orders: *const i32, orders_len: usize, coefs: *const i32, coefs_len: usize,
+            positions: *const i32, positions_len: usize, num: *mut i64, num_len: usize,
+            den: *mut i64, den_len: usize, values: *mut i32, values_len: usize,
+        ) -> Reply;
+        pub fn walzhik_earlywood_indices(
+            breaks: *const i32, breaks_len: usize, degrees: *const i32, degrees_len: usize,
+            orders: *const i32, orders_len: usize, coefs: *const i32, coefs_len: usize,
+            first: i32, widths: *const i32, widths_len: usize, num: *mut i64, num_len: usize,
+            den: *mut i64, den_len: usize, values: *mut i32, values_len: usize,
+            indices: *mut i64, indices_len: usize,
+        ) -> Reply;
+        pub fn walzhik_latewood_indices(
+            breaks: *const i32, breaks_len: usize, degrees: *const i32, degrees_len: usize,
+            orders: *const i32, orders_len: usize, coefs: *const i32, coefs_len: usize,
+            first: i32, widths: *const i32, widths_len: usize, num: *mut i64, num_len: usize,
+            den: *mut i64, den_len: usize, values: *mut i32, values_len: usize,
+            indices: *mut i64, indices_len: usize,
+        ) -> Reply;
+        pub fn walzhik_tucson_read(
+            text: *const u8, text_len: usize, names: *mut u8, names_len: usize, years: *mut i32, years_len: usize,
+            counts: *mut u32, counts_len: usize, widths: *mut i32, widths_len: usize,
+        ) -> Reply;
+        pub fn walzhik_tucson_write(
+            names: *const u8, names_len: usize, years: *const i32, years_len: usize, counts: *const u32, counts_len: usize,
+            widths: *const i32, widths_len: usize, text: *mut u8, text_len: usize,
+        ) -> Reply;
+        pub fn walzhik_earlywood_reach(
+            breaks: *const i32, breaks_len: usize, degrees: *const i32, degrees_len: usize,
+            orders: *const i32, orders_len: usize, coefs: *const i32, coefs_len: usize,
+            width: i32, num: *mut i64, num_len: usize, den: *mut i64, den_len: usize,
+        ) -> Reach;
+        pub fn walzhik_latewood_reach(
+            breaks: *const i32, breaks_len: usize, degrees: *const i32, degrees_len: usize,
+            orders: *const i32, orders_len: usize, coefs: *const i32, coefs_len: usize,
+            width: i32, num: *mut i64, num_len: usize, den: *mut i64, den_len: usize,
+        ) -> Reach;
+        pub fn walzhik_earlywood_piece(
+            breaks: *const i32, breaks_len: usize, degrees: *const i32, degrees_len: usize,
+            orders: *const i32, orders_len: usize, coefs: *const i32, coefs_len: usize,
+            segment: u32, num: *mut i64, num_len: usize, den: *mut i64, den_len: usize,
+        ) -> Piece;
+        pub fn walzhik_latewood_piece(
+            breaks: *const i32, breaks_len: usize, degrees: *const i32, degrees_len: usize,
+            orders: *const i32, orders_len: usize, coefs: *const i32, coefs_len: usize,
+            segment: u32, num: *mut i64, num_len: usize, den: *mut i64, den_len: usize,
+        ) -> Piece;
+        pub fn walzhik_coefficients(
+            breaks: *const i32, breaks_len: usize, degrees: *const i32, degrees_len: usize,
+            orders: *const i32, orders_len: usize, ordinates: *const i32, ordinates_len: usize,
+            num: *mut i64, num_len: usize, den: *mut i64, den_len: usize,
+            coef_num: *mut i64, coef_num_len: usize, coef_den: *mut i64, coef_den_len: usize,
+        ) -> Reply;
+    }
+}
+
+/// Why a call is refused, as an enum.
+#[derive(Clone, Copy, Debug, PartialEq)]
+pub enum Reason {
+    ListLengths,
+    TooManyPositions,
+    Breakpoint,
+    Degree,
+    Order,
+    PartTooLong,
+    CoefficientCount,
+    Coefficient,
+    Position,
+    TooLarge,
+    Jumps,
+    TucsonLine,
+    TucsonYear,
+    TucsonClosing,
+    Ring,
+    NeverReached,
+    NotDrawn,
+    OrdinateCount,
+    Ordinate,
+    NoCoefficients,
+    TooLargeToUndo,
+    Unknown,
+}
+
+/// A refusal: its number, and the place of what is at fault.
+#[derive(Clone, Copy, Debug, PartialEq)]
+pub struct Refusal {
+    pub number: u32,
+    pub place: u32,
+}
+
+impl Refusal {
+    pub fn reason(&self) -> Reason {
+        match (self.number, self.place) {
+            (2, 1) => Reason::TooManyPositions,
+            (2, _) => Reason::ListLengths,
+            (3, _) => Reason::Breakpoint,
+            (4, _) => Reason::Degree,
+            (5, _) => Reason::Order,
+            (6, u32::MAX) => Reason::CoefficientCount,
+            (6, _) => Reason::Coefficient,
+            (7, _) => Reason::Position,
+            (8, _) => Reason::TooLarge,
+            (9, _) => Reason::Jumps,
+            (11, _) => Reason::TucsonLine,
+            (12, _) => Reason::TucsonYear,
+            (13, _) => Reason::TucsonClosing,
+            (14, _) => Reason::Ring,
+            (15, _) => Reason::PartTooLong,
+            (16, _) => Reason::NeverReached,
+            (17, _) => Reason::NotDrawn,
+            (18, u32::MAX) => Reason::OrdinateCount,
+            (18, _) => Reason::Ordinate,
+            (19, _) => Reason::NoCoefficients,
+            (20, _) => Reason::TooLargeToUndo,
+            _ => Reason::Unknown,
+        }
+    }
+}
+
+impl std::fmt::Display for Refusal {
+    fn fmt(&self, f: &mut std::fmt::Formatter) -> std::fmt::Result {
+        write!(f, "refused {} at {}", self.number, self.place)
+    }
+}
+
+/// What is given for number 0.
+fn unless_refused<T>(answer: T, number: u32, place: u32) -> Result<T, Refusal> {
+    if number == 0 { Ok(answer) } else { Err(Refusal { number, place }) }
+}
+
+fn counted(reply: raw::Reply) -> Result<usize, Refusal> {
+    unless_refused(reply.count as usize, reply.number, reply.place)
+}
+
+/// A fraction in lowest terms, with a positive denominator.
+#[derive(Clone, Copy, Debug, PartialEq)]
+pub struct Fraction {
+    pub num: i64,
+    pub den: i64,
+}
+
+impl std::fmt::Display for Fraction {
+    fn fmt(&self, f: &mut std::fmt::Formatter) -> std::fmt::Result {
+        if self.den == 1 { write!(f, "{}", self.num) } else { write!(f, "{}/{}", self.num, self.den) }
+    }
+}
+
+/// The two lent weight buffers.
+struct Cells {
+    num: Vec<i64>,
+    den: Vec<i64>,
+}
+
+impl Cells {
+    fn new() -> Cells {
+        Cells { num: vec![0; CELLS], den: vec![0; CELLS] }
+    }
+}
+
+/// The weights of the last part, with the count of all rows.
+pub struct Weights {
+    pub rows: usize,
+    cells: Cells,
+}
+
+impl Weights {
+    /// Both counted from the part's first.
+    pub fn at(&self, row: usize, column: usize) -> Fraction {
+        let cell = SIDE * row + column;
+        Fraction { num: self.cells.num[cell], den: self.cells.den[cell] }
+    }
+}
+
+/// Which curve is meant, where only one is.
+#[derive(Clone, Copy, Debug, PartialEq)]
+pub enum WoodPart {
+    Earlywood,
+    Latewood,
+}
+
+/// A number for each part of a ring: a coefficient, or a value.
+#[derive(Clone, Copy, Debug, PartialEq)]
+pub struct Pair {
+    pub earlywood: i32,
+    pub latewood: i32,
+}
+
+/// The numbers of the pairs, side by side, as the calls take them.
+fn side_by_side(pairs: &[Pair]) -> Vec<i32> {
+    pairs.iter().flat_map(|pair| [pair.earlywood, pair.latewood]).collect()
+}
+
+// SAFETY, of every call below: each pointer comes from a live slice or vector with the length given beside it, the buffers are
+// vectors of their own, so that none overlaps another or a list, and no call keeps a pointer.
+
+pub fn build(breaks: &[i32], degrees: &[i32], orders: &[i32]) -> Result<Weights, Refusal> {
+    let Cells { mut num, mut den } = Cells::new();
+    let reply = unsafe {
+        raw::walzhik_build(
+            breaks.as_ptr(), breaks.len(), degrees.as_ptr(), degrees.len(), orders.as_ptr(), orders.len(),
+            num.as_mut_ptr(), num.len(), den.as_mut_ptr(), den.len(),
+        )
+    };
+    Ok(Weights { rows: counted(reply)?, cells: Cells { num, den } })
+}
+
+/// The values of both curves at the positions, in list order.
+pub fn curve(
+    breaks: &[i32], degrees: &[i32], orders: &[i32], coefs: &[Pair], positions: &[i32],
+) -> Result<Vec<Pair>, Refusal> {
+    let coefs = side_by_side(coefs);
+    let Cells { mut num, mut den } = Cells::new();
+    let mut values = vec![0; 2 * positions.len()];
+    let reply = unsafe {
+        raw::walzhik_curve(
+            breaks.as_ptr(), breaks.len(), degrees.as_ptr(), degrees.len(), orders.as_ptr(), orders.len(),
+            coefs.as_ptr(), coefs.len(), positions.as_ptr(), positions.len(), num.as_mut_ptr(), num.len(),
+            den.as_mut_ptr(), den.len(), values.as_mut_ptr(), values.len(),
+        )
+    };
+    let written = values.chunks_exact(2).take(counted(reply)?);
+    Ok(written.map(|pair| Pair { earlywood: pair[0], latewood: pair[1] }).collect())
+}
+
+/// One index for each ring, from the first one's number on; -1 for an absent ring.
+pub fn indices(
+    part: WoodPart, breaks: &[i32], degrees: &[i32], orders: &[i32], coefs: &[Pair], first: i32, widths: &[i32],
+) -> Result<Vec<i64>, Refusal> {
+    let call = match part {
+        WoodPart::Earlywood => raw::walzhik_earlywood_indices,
+        WoodPart::Latewood => raw::walzhik_latewood_indices,
+    };
+    let coefs = side_by_side(coefs);
+    let Cells { mut num, mut den } = Cells::new();
+    let mut values = vec![0; 2 * widths.len()];
+    let mut indices = vec![0; widths.len()];
+    let reply = unsafe {
+        call(
+            breaks.as_ptr(), breaks.len(), degrees.as_ptr(), degrees.len(), orders.as_ptr(), orders.len(),
+            coefs.as_ptr(), coefs.len(), first, widths.as_ptr(), widths.len(), num.as_mut_ptr(), num.len(),
+            den.as_mut_ptr(), den.len(), values.as_mut_ptr(), values.len(), indices.as_mut_ptr(), indices.len(),
+        )
+    };
+    indices.truncate(counted(reply)?);
+    Ok(indices)
+}
+
+/// The least position, in 256ths of a ring, whose value is 256 times the width or more.
+pub fn reach(
+    part: WoodPart, breaks: &[i32], degrees: &[i32], orders: &[i32], coefs: &[Pair], width: i32,
+) -> Result<i32, Refusal> {
+    let call = match part {
+        WoodPart::Earlywood => raw::walzhik_earlywood_reach,
+        WoodPart::Latewood => raw::walzhik_latewood_reach,
+    };
+    let coefs = side_by_side(coefs);
+    let Cells { mut num, mut den } = Cells::new();
+    let reach = unsafe {
+        call(
+            breaks.as_ptr(), breaks.len(), degrees.as_ptr(), degrees.len(), orders.as_ptr(), orders.len(),
+            coefs.as_ptr(), coefs.len(), width, num.as_mut_ptr(), num.len(), den.as_mut_ptr(), den.len(),
+        )
+    };
+    unless_refused(reach.position, reach.number, reach.place)
+}
+
+/// A line, a quadratic or a cubic, with its ordinates from the left in thousandths of a millimetre.
+#[derive(Debug)]
+pub enum Piece {
+    Line([f64; 2]),
+    Quadratic([f64; 3]),
+    Cubic([f64; 4]),
+}
+
+/// The ends of a piece, in rings.
+#[derive(Debug)]
+pub struct Ends {
+    pub start: f64,
+    pub end: f64,
+}
+
+/// The curve over a segment.
+pub fn piece(
+    part: WoodPart, breaks: &[i32], degrees: &[i32], orders: &[i32], coefs: &[Pair], segment: u32,
+) -> Result<(Piece, Ends), Refusal> {
+    let call = match part {
+        WoodPart::Earlywood => raw::walzhik_earlywood_piece,
+        WoodPart::Latewood => raw::walzhik_latewood_piece,
+    };
+    let coefs = side_by_side(coefs);
+    let Cells { mut num, mut den } = Cells::new();
+    let piece = unsafe {
+        call(
+            breaks.as_ptr(), breaks.len(), degrees.as_ptr(), degrees.len(), orders.as_ptr(), orders.len(),
+            coefs.as_ptr(), coefs.len(), segment, num.as_mut_ptr(), num.len(), den.as_mut_ptr(), den.len(),
+        )
+    };
+    let [a, b, c, d] = piece.ordinates;
+    let drawn = match piece.degree {
+        1 => Piece::Line([a, b]),
+        2 => Piece::Quadratic([a, b, c]),
+        _ => Piece::Cubic([a, b, c, d]),
+    };
+    unless_refused((drawn, Ends { start: piece.start, end: piece.end }), piece.number, piece.place)
+}
+
+/// The coefficient of each row, in 256ths of a thousandth of a millimetre, from the local ordinates of all columns in the same unit.
+pub fn coefficients(breaks: &[i32], degrees: &[i32], orders: &[i32], ordinates: &[i32]) -> Result<Vec<Fraction>, Refusal> {
+    let Cells { mut num, mut den } = Cells::new();
+    let mut coef_num = vec![0; ordinates.len()];
+    let mut coef_den = vec![0; ordinates.len()];
+    let reply = unsafe {
+        raw::walzhik_coefficients(
+            breaks.as_ptr(), breaks.len(), degrees.as_ptr(), degrees.len(), orders.as_ptr(), orders.len(),
+            ordinates.as_ptr(), ordinates.len(), num.as_mut_ptr(), num.len(), den.as_mut_ptr(), den.len(),
+            coef_num.as_mut_ptr(), coef_num.len(), coef_den.as_mut_ptr(), coef_den.len(),
+        )
+    };
+    let written = coef_num.into_iter().zip(coef_den).take(counted(reply)?);
+    Ok(written.map(|(num, den)| Fraction { num, den }).collect())
+}
+
+const NAME: usize = 8;
+const LEAST_SERIES: usize = 19;
+const LEAST_WIDTH: usize = 6;
+
+/// A series: its name, its first year, and its widths in thousandths of a millimetre, one for each year.
+pub struct Series {
+    pub name: [u8; NAME],
+    pub first_year: i32,
+    pub widths: Vec<i32>,
+}
+
+/// The series of a Tucson text. The buffers take those of any text of its length.
+pub fn tucson_read(text: &[u8]) -> Result<Vec<Series>, Refusal> {
+    let most = text.len() / LEAST_SERIES;
+    let mut names = vec![0; most * NAME];
+    let mut years = vec![0; most];
+    let mut counts = vec![0; most];
+    let mut widths = vec![0; text.len() / LEAST_WIDTH];
+    let reply = unsafe {
+        raw::walzhik_tucson_read(
+            text.as_ptr(), text.len(), names.as_mut_ptr(), names.len(), years.as_mut_ptr(), years.len(),
+            counts.as_mut_ptr(), counts.len(), widths.as_mut_ptr(), widths.len(),
+        )
+    };
+    let mut rest = widths.into_iter();
+    let series = names.chunks_exact(NAME).zip(years).zip(counts).take(counted(reply)?);
+    Ok(series
+        .map(|((name, first_year), count)| Series {
+            name: name.try_into().unwrap(),
+            first_year,
+            widths: rest.by_ref().take(count as usize).collect(),
+        })
+        .collect())
+}
+
+/// The Tucson text of the series, of which `most` bytes are enough.
+pub fn tucson_write(series: &[Series], most: usize) -> Result<Vec<u8>, Refusal> {
+    let names: Vec<u8> = series.iter().flat_map(|one| one.name).collect();
+    let years: Vec<i32> = series.iter().map(|one| one.first_year).collect();
+    let counts: Vec<u32> = series.iter().map(|one| one.widths.len() as u32).collect();
+    let widths: Vec<i32> = series.iter().flat_map(|one| one.widths.iter().copied()).collect();
+    let mut text = vec![0; most];
+    let reply = unsafe {
+        raw::walzhik_tucson_write(
+            names.as_ptr(), names.len(), years.as_ptr(), years.len(), counts.as_ptr(), counts.len(), widths.as_ptr(),
+            widths.len(), text.as_mut_ptr(), text.len(),
+        )
+    };
+    text.truncate(counted(reply)?);
+    Ok(text)
+}
