@@ -1,38 +1,41 @@
 -- `main` meets its contract: the printout is no longer than the buffer, so what is written is a part of it.
-use borrow.Author.Needs.{needs}
 use native.Mathlib.Omega.{arith}
-use mathlib.Core.Path.{_≡_, sym}
-use Prim.Native.Nat.{ℕ, _≤_}
-use lib.ListN.{length, length-replicate}
+use mathlib.Core.Path.{_≡_, refl, sym}
+use Prim.Native.Nat.{ℕ, _+_, _≤_}
+use lib.ListN.{length, replicate, length-replicate}
 use lib.Seq.{length-take-le}
+use Rattle.sheet_lists.specs.SheetReading.{textLimit}
 use Rattle.sheet_text.specs.Sheet.{printoutLimit}
 use Rattle.sheet.proofs.main.Statement.{statement}
 use Rattle.sheet.proofs.main.Tie as tie
-
--- by the law, since the zeros are too many to be counted one by one
-slice-aggregate-read-full : tie.Need-slice-aggregate-read-full
-slice-aggregate-read-full c = sym (length-replicate {0} {A = ℕ} _ 0)
-
-read-full-requires : tie.Need-read-full-requires
-read-full-requires c κs = search needs
-
-array-share-prefix-input : tie.Need-array-share-prefix-input
-array-share-prefix-input c = search needs
-
-slice-aggregate-sheet : tie.Need-slice-aggregate-sheet
-slice-aggregate-sheet c = search needs
-
-slice-aggregate-sheet-2 : tie.Need-slice-aggregate-sheet-2
-slice-aggregate-sheet-2 c = sym (length-replicate {0} {A = ℕ} _ 0)
-
-sheet-requires : tie.Need-sheet-requires
-sheet-requires c κs = tt
 
 within : {count size : ℕ} → count ≤ printoutLimit → size ≡ printoutLimit → count ≤ size
 within h e = omega arith
 
 fits : (c : tie.After-out2) → c .before .sheet .result ≤ length (c .before .sheet .last .1 .0)
 fits c = within (c .before .sheet .ensures .1 .1) (c .out2 .given)
+
+-- by the law and with their number, since the zeros are too many to be counted one by one
+zeros-are : (n : ℕ) → n ≡ length {A = ℕ} (replicate n 0)
+zeros-are n = sym (length-replicate {0} {A = ℕ} n 0)
+
+slice-aggregate-read-full : tie.Need-slice-aggregate-read-full
+slice-aggregate-read-full c = zeros-are (textLimit + 1)
+
+read-full-requires : tie.Need-read-full-requires
+read-full-requires c κs = tt
+
+array-share-prefix-input : tie.Need-array-share-prefix-input
+array-share-prefix-input c = c .before .read-full .ensures .0
+
+slice-aggregate-sheet : tie.Need-slice-aggregate-sheet
+slice-aggregate-sheet c = c .before .before .read-full .ensures .1
+
+slice-aggregate-sheet-2 : tie.Need-slice-aggregate-sheet-2
+slice-aggregate-sheet-2 c = zeros-are printoutLimit
+
+sheet-requires : tie.Need-sheet-requires
+sheet-requires c κs = tt
 
 array-share-prefix-out : tie.Need-array-share-prefix-out
 array-share-prefix-out c = fits c
@@ -44,7 +47,7 @@ write-all-requires : tie.Need-write-all-requires
 write-all-requires c κs = tt
 
 slice-aggregate-fail : tie.Need-slice-aggregate-fail
-slice-aggregate-fail c = search needs
+slice-aggregate-fail c = refl
 
 fail-requires : tie.Need-fail-requires
 fail-requires c κs = tt

@@ -69,13 +69,13 @@ read-requires : tie.Need-read-requires
 read-requires c κs = tt
 
 enum-known-series : tie.Need-enum-known-series
-enum-known-series c = search needs
+enum-known-series c = c .match .keys1
 
 refusal-requires : tie.Need-refusal-requires
 refusal-requires c κs = tt
 
 enum-known-series-2 : tie.Need-enum-known-series-2
-enum-known-series-2 c = search needs
+enum-known-series-2 c = c .match .keys2
 
 -- ---- what the read call has left
 
@@ -187,13 +187,13 @@ write-requires : tie.Need-write-requires
 write-requires c κs = tt
 
 enum-known-text : tie.Need-enum-known-text
-enum-known-text c = search needs
+enum-known-text c = c .match2 .keys1
 
 refusal-requires-2 : tie.Need-refusal-requires-2
 refusal-requires-2 c κs = tt
 
 enum-known-text-2 : tie.Need-enum-known-text-2
-enum-known-text-2 c = search needs
+enum-known-text-2 c = c .match2 .keys2
 
 -- ---- what the function ensures
 
