@@ -13,7 +13,7 @@ same() {
 
 # The program on each example with this ending.
 printouts() {
-    for input in examples/*."$2"; do
+    for input in examples/*/*."$2"; do
         kept=${input%."$2"}.out
         [ -s "$kept" ] || { printf 'missing: %s\n' "$kept"; failed=1; continue; }
         same "$input" <("$1" <"$input") "$kept"
@@ -22,20 +22,20 @@ printouts() {
 
 printouts "$sheet" sheet
 printouts "$tucson" rwl
-for kept in examples/*.out; do
+for kept in examples/*/*.out; do
     [ -s "${kept%.out}.sheet" ] || [ -s "${kept%.out}.rwl" ] || { printf 'a printout without its input: %s\n' "$kept"; failed=1; }
 done
-values=$(sed -n 's/^v=//p' examples/w1.out)
-[ "$("$from_c")" = "$values" ] || { echo 'differs: examples/curve.c'; failed=1; }
-[ "$("$from_rust")" = "$values" ] || { echo 'differs: examples/curve.rs'; failed=1; }
-same docs/growth.svg <(python3 tools/plot examples/growth.sheet examples/growth.out) docs/growth.svg
+values=$(sed -n 's/^v=//p' examples/sheets/w1.out)
+[ "$("$from_c")" = "$values" ] || { echo 'differs: examples/c/curve.c'; failed=1; }
+[ "$("$from_rust")" = "$values" ] || { echo 'differs: examples/rust/curve.rs'; failed=1; }
+same docs/growth.svg <(python3 tools/plot examples/sheets/growth.sheet examples/sheets/growth.out) docs/growth.svg
 while IFS= read -r line; do
     grep -qxF -- "    $line" README.md || { printf 'not in the README: %s\n' "$line"; failed=1; }
-done <examples/w1.out
+done <examples/sheets/w1.out
 for line in $(grep -oE '`[nwv]=[^`]+`' README.md | tr -d '`'); do
-    grep -qxF -- "$line" examples/growth.out || { printf 'in the README, but not printed: %s\n' "$line"; failed=1; }
+    grep -qxF -- "$line" examples/sheets/growth.out || { printf 'in the README, but not printed: %s\n' "$line"; failed=1; }
 done
 if [ -e /dev/full ]; then
-    "$sheet" <examples/w1.sheet 2>&1 >/dev/full | grep -q '^write: ' || { echo 'no message where nothing can be written'; failed=1; }
+    "$sheet" <examples/sheets/w1.sheet 2>&1 >/dev/full | grep -q '^write: ' || { echo 'no message where nothing can be written'; failed=1; }
 fi
 exit "$failed"

@@ -153,7 +153,7 @@ def main():
     seed = SystemRandom().randrange(2 ** 32) if chosen.seed is None else chosen.seed
     print(f"explain: seed {seed}")
     rng, seen, failed = Random(seed), Counter(), 0
-    kept = [path.read_bytes() for path in sorted((HERE.parent / "examples").glob("*.sheet"))]
+    kept = [path.read_bytes() for path in sorted((HERE.parent / "examples").glob("*/*.sheet"))]
     kept.append(b"x" * (MOST_SHEET_BYTES + 1))
     cases = [(text, words_fault) for text in [*kept, *sheets(seed, chosen.count)]]
     cases += [(random_text(rng), tucson_fault) for _ in range(chosen.count)]

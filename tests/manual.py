@@ -20,7 +20,7 @@ ACCEPTED, REFUSED, UNREADABLE = 0, 1, 2
 NARROW = ["--narrow"]
 DRAWN = {"step_1": NARROW, "step_2": NARROW, "step_3": NARROW, "step_4": NARROW,
          "order_0": NARROW, "order_1": NARROW, "order_2": NARROW, "low": [], "beam": [],
-         "roof": ["--measured", "examples/oak.rwl", "--earlywood", "ROOF04E", "--latewood", "ROOF04L"]}
+         "roof": ["--measured", "examples/tucson/oak.rwl", "--earlywood", "ROOF04E", "--latewood", "ROOF04L"]}
 IN_README = "refused_5"
 COMMANDS = ("target/bin/sheet", "target/bin/tucson", "tools/explain", "tools/plot", "rt check sheet", "rt check tucson", "seq -s,")
 faults = []
@@ -46,7 +46,7 @@ def keep(path, made, write):
 
 
 def sources():
-    return sorted([*EXAMPLES.glob("*.sheet"), *EXAMPLES.glob("*.rwl")])
+    return sorted([*EXAMPLES.glob("*/*.sheet"), *EXAMPLES.glob("*/*.rwl")])
 
 
 def explanations(write):
@@ -59,17 +59,17 @@ def explanations(write):
     stems = [source.stem for source in sources()]
     for stem in {stem for stem in stems if stems.count(stem) > 1}:
         fault(f"two examples with one explanation: {stem}")
-    for kept in EXAMPLES.glob("*.explained"):
+    for kept in EXAMPLES.glob("*/*.explained"):
         if kept.stem not in stems:
             fault(f"an explanation without its example: {kept.name}")
-    for unreadable in ("examples/none.sheet", "examples"):
+    for unreadable in ("examples/sheets/none.sheet", "examples"):
         if run("tools/explain", unreadable).returncode != UNREADABLE:
             fault(f"tools/explain {unreadable}: not status {UNREADABLE}")
 
 
 def pictures(write):
     for name, options in DRAWN.items():
-        drawn = run("tools/plot", f"examples/{name}.sheet", f"examples/{name}.out", *options)
+        drawn = run("tools/plot", f"examples/sheets/{name}.sheet", f"examples/sheets/{name}.out", *options)
         if drawn.returncode or drawn.stderr:
             fault(f"tools/plot {name}: {drawn.stderr.decode()}")
         keep(PICTURES / f"{name}.svg", drawn.stdout, write)
@@ -80,30 +80,31 @@ def pictures(write):
 
 def refusals_of_plot():
     """What can't be drawn is said, and nothing is drawn."""
-    oak, few = "--measured examples/oak.rwl", "--measured examples/few.rwl"
+    oak, few = "--measured examples/tucson/oak.rwl", "--measured examples/tucson/few.rwl"
     cases = (("refused_5", "", "the sheet was refused: no=5,0"),
-             ("none", "", "examples/none.out: No such file"),
+             ("none", "", "examples/sheets/none.out: No such file"),
              ("roof", oak, "name the series"),
              ("roof", f"{oak} --earlywood ROOF05", "0 series of the Tucson file are named ROOF05"),
              ("roof", f"{oak} --earlywood ROOF04E --first 1", "ring 1 is measured"),
-             ("roof", "--measured examples/refused_13.rwl --earlywood ROOF05", "no=13,2"),
+             ("roof", "--measured examples/refusals/refused_13.rwl --earlywood ROOF05", "no=13,2"),
              ("low", f"{oak} --latewood ROOF04L --first -4", "ring 7 is measured"),
              ("w1", f"{few} --earlywood FEW --first 1", "the printout has no value at 768"),
              ("low", f"{few} --earlywood FEW --first -4", "zero or less: no index"))
     for name, options, words in cases:
-        said = run("tools/plot", f"examples/{name}.sheet", f"examples/{name}.out", *options.split())
+        folder = "refusals" if name.startswith("refused") else "sheets"
+        said = run("tools/plot", f"examples/{folder}/{name}.sheet", f"examples/{folder}/{name}.out", *options.split())
         if said.returncode != 1 or said.stdout or words not in said.stderr.decode():
             fault(f"tools/plot {name} {options}: {said.stderr.decode()}")
-    for sheet in ("step_1.sheet", "refused_10_pair.sheet", "oak.rwl"):
-        said = run("tools/plot", f"examples/{sheet}", "examples/w1.out")
+    for sheet in ("sheets/step_1.sheet", "refusals/refused_10_pair.sheet", "tucson/oak.rwl"):
+        said = run("tools/plot", f"examples/{sheet}", "examples/sheets/w1.out")
         if said.returncode != 1 or said.stdout or b"is not the printout of" not in said.stderr:
-            fault(f"tools/plot {sheet} examples/w1.out: {said.stderr.decode()}")
+            fault(f"tools/plot {sheet} examples/sheets/w1.out: {said.stderr.decode()}")
 
 
 def kept_lines():
     """All lines of the examples that the manual may quote."""
     kinds = ("*.sheet", "*.out", "*.explained", "*.rwl", "*.txt")
-    return {line for kind in kinds for path in EXAMPLES.glob(kind)
+    return {line for kind in kinds for path in EXAMPLES.glob(f"*/{kind}")
             for line in path.read_bytes().decode("ascii", "replace").split("\n")}
 
 
@@ -121,7 +122,7 @@ def quotes(text, lines):
 def readme():
     """The README shows an explanation as it is kept."""
     text = (ROOT / "README.md").read_text(encoding="utf-8")
-    for line in (EXAMPLES / f"{IN_README}.explained").read_text(encoding="ascii").splitlines():
+    for line in (EXAMPLES / "refusals" / f"{IN_README}.explained").read_text(encoding="ascii").splitlines():
         if f"\n    {line}\n" not in text:
             fault(f"not in the README: {line}")
 
@@ -136,7 +137,7 @@ def links(text):
         if path and not (MANUAL.parent / path).exists() or anchor and not path and anchor not in headings:
             fault(f"a link that leads nowhere: {link}")
         linked.add(Path(path).name)
-    for shown in [*EXAMPLES.glob("refused*"), *PICTURES.glob("*")]:
+    for shown in [*EXAMPLES.glob("*/refused*"), *PICTURES.glob("*")]:
         if shown.suffix in (".sheet", ".rwl", ".c", ".svg") and shown.name not in linked:
             fault(f"not in the manual: {shown.name}")
 
@@ -144,8 +145,8 @@ def links(text):
 def numbers(text):
     """The examples of a number are refused with it."""
     for number, row in re.findall(r"^\| (\d+) \|(.*)$", text, re.MULTILINE):
-        for name in re.findall(r"\]\(\.\./examples/(refused\w*)\.(?:sheet|rwl)\)", row):
-            said = (EXAMPLES / f"{name}.explained").read_text(encoding="ascii")
+        for name in re.findall(r"\]\(\.\./examples/refusals/(refused\w*)\.(?:sheet|rwl)\)", row):
+            said = (EXAMPLES / "refusals" / f"{name}.explained").read_text(encoding="ascii")
             if not said.startswith(f"Refused: no={number},"):
                 fault(f"{name} does not show {number}")
 

@@ -7,7 +7,7 @@
 //! Every mode first checks that both give the same, and stops where they do not.
 
 mod plain;
-#[path = "../../examples/walzhik.rs"]
+#[path = "../../rust/src/lib.rs"]
 mod walzhik;
 
 use plain::{Refusal, Space, CELLS};

@@ -2,6 +2,7 @@
 //! which are multiplied by their common denominator; from these whole numbers the call gives the coefficients back. Then one
 //! ordinate is off by one, which no coefficients give. Prints the list of each step, a line each.
 
+#[path = "../../rust/src/lib.rs"]
 mod walzhik;
 
 use walzhik::{Fraction, Reason, Refusal};

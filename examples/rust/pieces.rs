@@ -1,5 +1,6 @@
 //! The pieces of case W1's earlywood curve as SVG path commands, from Rust: one piece a line.
 
+#[path = "../../rust/src/lib.rs"]
 mod walzhik;
 
 use walzhik::{Pair, Piece, WoodPart};

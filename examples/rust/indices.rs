@@ -1,5 +1,6 @@
 //! The indices of two measured rings against the earlywood curve of case W1, from Rust: prints ring and index, one pair a line.
 
+#[path = "../../rust/src/lib.rs"]
 mod walzhik;
 
 use walzhik::{Pair, WoodPart};

@@ -1,5 +1,6 @@
 //! The curves of case W1 from Rust, each coefficient for both wood parts: prints a position with its two values a line.
 
+#[path = "../../rust/src/lib.rs"]
 mod walzhik;
 
 fn main() {
