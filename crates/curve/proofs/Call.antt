@@ -8,28 +8,28 @@ use native.Mathlib.Omega.{arith}
 use borrow.Author.Tests.{lt-ltb, le-ltb}
 use lib.IntN.{ℤ, pos, natAbs}
 use lib.ListN.{length, getD, drop, List·getD-eq-default}
-use Rattle.exact.proofs.Decide.{le-or-lt, cond-true, cond-false}
-use Rattle.spline.specs.Outcome.{Outcome, answer, refusal, capped, with-answer, _then_}
-use Rattle.spline.specs.Space.{Space, rowCount}
-use Rattle.spline.specs.Table.{Table, tableCells, numerators, denominators}
-use Rattle.spline.specs.Build.{weights, lastPart, clears, numeratorsAfter, denominatorsAfter}
-use Rattle.spline.specs.Reading.{Pair, sideBySide, values}
-use Rattle.spline.specs.CurveCall.{CurveResult, badCoefficient, badPosition, curveChecked, curveRead, curveOutcome, returned, curveNumerators, curveDenominators, valuesAfter}
-use Rattle.spline.proofs.Outcome.{then-answers, then-refuses}
-use Rattle.spline.proofs.Search.{first-none-inverts}
-use Rattle.spline.proofs.Build.{long-enough}
-use Rattle.closeness.proofs.LegalCall.{ChecksPassed, checks-passed}
-use Rattle.space.specs.Reply.{space, legality}
-use Rattle.space.specs.Legal.{ListsLegal}
-use Rattle.space.specs.declared.Legality.the-variants.{Legal}
-use Rattle.space.proofs.Reply.{legal-answers}
-use Rattle.space.proofs.Legal.{checked-legal}
-use Rattle.curve.specs.Reply.{reply}
-use Rattle.ordinates.specs.Ordinates.{Coefficients}
-use Rattle.triangle.specs.Offsets.{Within}
+use Rattle.base_exact.proofs.Decide.{le-or-lt, cond-true, cond-false}
+use Rattle.spec_spline.specs.Outcome.{Outcome, answer, refusal, capped, with-answer, _then_}
+use Rattle.spec_spline.specs.Space.{Space, rowCount}
+use Rattle.spec_spline.specs.Table.{Table, tableCells, numerators, denominators}
+use Rattle.spec_spline.specs.Build.{weights, lastPart, clears, numeratorsAfter, denominatorsAfter}
+use Rattle.spec_spline.specs.Reading.{Pair, sideBySide, values}
+use Rattle.spec_spline.specs.CurveCall.{CurveResult, badCoefficient, badPosition, curveChecked, curveRead, curveOutcome, returned, curveNumerators, curveDenominators, valuesAfter}
+use Rattle.spec_spline.proofs.Outcome.{then-answers, then-refuses}
+use Rattle.spec_spline.proofs.Search.{first-none-inverts}
+use Rattle.spec_spline.proofs.Build.{long-enough}
+use Rattle.theorems_values.proofs.LegalCall.{ChecksPassed, checks-passed}
+use Rattle.build_space.specs.Machine.{space, legality}
+use Rattle.build_space.specs.Legal.{ListsLegal}
+use Rattle.build_space.specs.declared.Legality.the-variants.{Legal}
+use Rattle.build_space.proofs.Machine.{legal-answers}
+use Rattle.build_space.proofs.Legal.{checked-legal}
+use Rattle.curve.specs.Machine.{reply}
+use Rattle.curve_ordinates.specs.Ordinates.{Coefficients}
+use Rattle.curve_triangle.specs.Offsets.{Within}
 use Rattle.curve.specs.declared.Answer.{Answer}
 use Rattle.curve.specs.declared.Answer.the-variants.{Values, Refused}
-use Rattle.limits.proofs.Entries.{good-coefficient, good-position}
+use Rattle.curve_limits.proofs.Entries.{good-coefficient, good-position}
 
 -- ---- what a call answers and leaves, by its outcome
 

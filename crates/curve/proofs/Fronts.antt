@@ -7,28 +7,28 @@ use native.Mathlib.Omega.{arith}
 use lib.IntN.{ℤ}
 use lib.ListN.{length, take, drop, length-take, drop-of-length-le}
 use lib.Seq.{take-at, drop-at, drop-drop}
-use Rattle.exact.specs.Tabulate.{tab}
-use Rattle.exact.proofs.Tabulate.{tab-length}
-use Rattle.spline.specs.Outcome.{Outcome, answer, refusal, capped, with-answer}
-use Rattle.spline.specs.Space.{Space, segments, partEnd, firstColumn, columnCount, rowCount, rowsBefore}
-use Rattle.spline.specs.Table.{Table}
-use Rattle.spline.specs.Build.{weights, lastPart, numeratorsAfter, denominatorsAfter}
-use Rattle.spline.specs.Reading.{WoodPart, earlywood, latewood, coefficient, ordinate, ordinates}
-use Rattle.spline.proofs.Outcome.{answer-unique, answer-not-refusal}
-use Rattle.spline.proofs.Parts.{part-ends}
-use Rattle.spline.proofs.Legal.{Checked, checked-inverts, Lengths, lengths-fit-inverts}
-use Rattle.beams.specs.Sections.{section, partAt, beside}
-use Rattle.beams.proofs.Sections.{section-all, front-columns, OrdersFit, orders-fit}
-use Rattle.beams.proofs.PartLegal.{part-lastPart}
-use Rattle.beams.proofs.Fronts.{front-answers, part-columns, front-rows-more, front-rows, front-rows-within}
-use Rattle.beams.proofs.Reading.{front-ordinates}
-use Rattle.space.specs.Reply.{space}
-use Rattle.space.specs.Legal.{ListsLegal}
-use Rattle.space.proofs.Legal.{legal-checked}
-use Rattle.weights.specs.Reply.{reply}
-use Rattle.weights.specs.declared.Built.{Built}
-use Rattle.weights.specs.declared.Built.the-variants.{Rows, Refused}
-use Rattle.weights.proofs.Beam.{Before, before-first, starts, part-more, part-refused, parts-done, Answered, told-rows, told-refused}
+use Rattle.base_exact.specs.Tabulate.{tab}
+use Rattle.base_exact.proofs.Tabulate.{tab-length}
+use Rattle.spec_spline.specs.Outcome.{Outcome, answer, refusal, capped, with-answer}
+use Rattle.spec_spline.specs.Space.{Space, segments, partEnd, firstColumn, columnCount, rowCount, rowsBefore}
+use Rattle.spec_spline.specs.Table.{Table}
+use Rattle.spec_spline.specs.Build.{weights, lastPart, numeratorsAfter, denominatorsAfter}
+use Rattle.spec_spline.specs.Reading.{Wood, earlywood, latewood, coefficient, ordinate, ordinates}
+use Rattle.spec_spline.proofs.Outcome.{answer-unique, answer-not-refusal}
+use Rattle.spec_spline.proofs.Parts.{part-ends}
+use Rattle.spec_spline.proofs.Legal.{Checked, checked-inverts, Lengths, lengths-fit-inverts}
+use Rattle.theorems_beams.specs.Sections.{section, partAt, beside}
+use Rattle.theorems_beams.proofs.Sections.{section-all, front-columns, OrdersFit, orders-fit}
+use Rattle.theorems_beams.proofs.PartLegal.{part-lastPart}
+use Rattle.theorems_beams.proofs.Fronts.{front-answers, part-columns, front-rows-more, front-rows, front-rows-within}
+use Rattle.theorems_beams.proofs.Reading.{front-ordinates}
+use Rattle.build_space.specs.Machine.{space}
+use Rattle.build_space.specs.Legal.{ListsLegal}
+use Rattle.build_space.proofs.Legal.{legal-checked}
+use Rattle.build.specs.Machine.{reply}
+use Rattle.build.specs.declared.Built.{Built}
+use Rattle.build.specs.declared.Built.the-variants.{Rows, Refused}
+use Rattle.build.proofs.Beam.{Before, before-first, starts, part-more, part-refused, parts-done, Answered, told-rows, told-refused}
 use Rattle.curve.specs.Parts.{PartsLeave}
 
 pub ordinates-length : (s : Space) (t : Table) (a : ℕ → ℤ) → length (ordinates s t a) ≡ columnCount s
@@ -71,7 +71,7 @@ module _ (b d o : List ℤ) (legal : ListsLegal b d o) where
       abbrev part : Space
       part = partAt s a
 
-      abbrev own : WoodPart → ℕ → ℤ
+      abbrev own : Wood → ℕ → ℤ
       own wood i = coefficient wood coefs (row + i)
 
       pub columns-more : column + columnCount part ≡ firstColumn s (partEnd s a)
@@ -85,7 +85,7 @@ module _ (b d o : List ℤ) (legal : ListsLegal b d o) where
       rows-within = omega (arith, rows-are, front-rows-more s fit a (starts b d o legal (f .state) l), front-rows-within s lengths fit (partEnd s a) (part-ends s a l .boundary))
 
       -- the ordinates of a wood part, with those of the part put behind them in so many cells of the list
-      grown : (wood : WoodPart) (os₀ : List ℤ) {os mid : List ℤ} (n : ℕ) (u : Table) → n ≡ columnCount part
+      grown : (wood : Wood) (os₀ : List ℤ) {os mid : List ℤ} (n : ℕ) (u : Table) → n ≡ columnCount part
           → Fronted s a (f .state .table) (coefficient wood coefs) column os₀ os
           → mid ≡ ordinates part u (own wood) ++ drop (columnCount part) (take n (drop column os))
           → Fronted s (partEnd s a) (beside (firstColumn s a) (columnCount part) (f .state .table) u) (coefficient wood coefs) (column + n) os₀ (take column os ++ (mid ++ drop n (drop column os)))
@@ -140,7 +140,7 @@ module _ (b d o : List ℤ) (legal : ListsLegal b d o) where
             same : beside (firstColumn s a) (columnCount part) (f .state .table) (x .table) ≡ state′ .table
             same = answer-unique (front-answers s fit a (starts b d o legal (f .state) l) (f .state .answers) (x .is)) (state′ .answers)
 
-            moved : (wood : WoodPart) (os₀ : List ℤ) → ordinates (section s 0 (partEnd s a)) (beside (firstColumn s a) (columnCount part) (f .state .table) (x .table)) (coefficient wood coefs) ++ drop (column + (end - column)) os₀
+            moved : (wood : Wood) (os₀ : List ℤ) → ordinates (section s 0 (partEnd s a)) (beside (firstColumn s a) (columnCount part) (f .state .table) (x .table)) (coefficient wood coefs) ++ drop (column + (end - column)) os₀
                 ≡ ordinates (section s 0 (partEnd s a)) (state′ .table) (coefficient wood coefs) ++ drop end os₀
             moved wood os₀ = ap₂ (λ t k. ordinates (section s 0 (partEnd s a)) t (coefficient wood coefs) ++ drop k os₀) same (let z : column + (end - column) ≡ end = omega (arith, columns-more) in z)
 
@@ -177,7 +177,7 @@ module _ (b d o : List ℤ) (legal : ListsLegal b d o) where
         all : section s 0 a ≡ s
         all = ap (section s 0) end ∙ section-all s lengths
 
-        whole : (wood : WoodPart) (os₀ : List ℤ) (t : Table) → weights s ≡ answer t → ordinates (section s 0 a) (f .state .table) (coefficient wood coefs) ++ drop column os₀ ≡ ordinates s t (coefficient wood coefs) ++ drop (columnCount s) os₀
+        whole : (wood : Wood) (os₀ : List ℤ) (t : Table) → weights s ≡ answer t → ordinates (section s 0 a) (f .state .table) (coefficient wood coefs) ++ drop column os₀ ≡ ordinates s t (coefficient wood coefs) ++ drop (columnCount s) os₀
         whole wood os₀ t z =
             ap₂ (λ x k. ordinates x (f .state .table) (coefficient wood coefs) ++ drop k os₀) all (f .columns ∙ ap (firstColumn s) end)
             ∙ ap (λ u. ordinates s u (coefficient wood coefs) ++ drop (columnCount s) os₀) (answer-unique (ap weights (sym all) ∙ f .state .answers) z)

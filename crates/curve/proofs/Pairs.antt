@@ -7,13 +7,13 @@ use native.Mathlib.Omega.{arith}
 use lib.IntN.{ℤ, pos, natAbs}
 use lib.ListN.{length, getD, drop, replicate, List·getD-append, List·getD-eq-default}
 use lib.Seq.{getD-drop, getD-append-add}
-use Rattle.exact.proofs.Decide.{le-or-lt}
-use Rattle.exact.proofs.Tabulate.{tab-getD}
-use Rattle.spline.specs.Space.{Space, degree, firstColumn, columnCount}
-use Rattle.spline.specs.Table.{Table}
-use Rattle.spline.specs.Reading.{earlywood, latewood, coefficient, segmentAt, ordinate, ordinates, fineWidth, offset, triangle, blended, valueAt, pairAt, values}
-use Rattle.ordinates.specs.Ordinates.{Bounded, ordinateLimit}
-use Rattle.ordinates.proofs.Columns.{ordinate-small}
+use Rattle.base_exact.proofs.Decide.{le-or-lt}
+use Rattle.base_exact.proofs.Tabulate.{tab-getD}
+use Rattle.spec_spline.specs.Space.{Space, degree, firstColumn, columnCount}
+use Rattle.spec_spline.specs.Table.{Table}
+use Rattle.spec_spline.specs.Reading.{earlywood, latewood, coefficient, segmentAt, ordinate, ordinates, fineWidth, offset, triangle, blended, valueAt, pairAt, values}
+use Rattle.curve_ordinates.specs.Ordinates.{Bounded, ordinateLimit}
+use Rattle.curve_ordinates.proofs.Columns.{ordinate-small}
 use Rattle.curve.specs.Pairs.{pairOf}
 use Rattle.curve.proofs.Fronts.{ordinates-length}
 

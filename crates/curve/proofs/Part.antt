@@ -8,33 +8,33 @@ use native.Mathlib.Omega.{arith}
 use lib.IntN.{ℤ, pos, natAbs}
 use lib.ListN.{length, getD, take, drop, length-drop, drop-of-length-le, List·getD-eq-default}
 use lib.Seq.{length-take-le, getD-take, getD-drop}
-use Rattle.exact.specs.Tabulate.{tab}
-use Rattle.exact.proofs.Decide.{le-or-lt}
-use Rattle.exact.proofs.Tabulate.{tab-ext}
-use Rattle.spline.specs.Outcome.{answer, with-answer}
-use Rattle.spline.specs.Space.{Space, partEnd, checked, columnCount, rowCount}
-use Rattle.spline.specs.Table.{Table, rowCells, tableCells, numerators, denominators}
-use Rattle.spline.specs.Build.{weights, spaceWeights, lastPart, built, numeratorsAfter, denominatorsAfter, buildEnd}
-use Rattle.spline.specs.Reading.{WoodPart, earlywood, latewood, coefficient, ordinate, ordinates}
-use Rattle.spline.proofs.Outcome.{then-answers, answer-not-refusal}
-use Rattle.spline.proofs.Parts.{part-ends}
-use Rattle.closeness.proofs.Weights.{weight-num-le-den}
-use Rattle.beams.specs.Sections.{section, partAt}
-use Rattle.beams.specs.Parts.{Starts}
-use Rattle.beams.proofs.PartLegal.{part-lastPart, parts-are-legal}
-use Rattle.beams.proofs.Reading.{ordinate-agree, coefficient-middle}
-use Rattle.space.specs.Reply.{space}
-use Rattle.space.specs.Legal.{ListsLegal}
-use Rattle.space.proofs.Legal.{legal-checked, legal-column-count-high, legal-row-count-sum, part-column-count-high}
-use Rattle.cells.specs.Held.{Holds}
-use Rattle.cells.proofs.Buffer.{holds-left}
-use Rattle.weights.specs.Reply.{reply}
-use Rattle.weights.specs.declared.Built.{Built}
-use Rattle.weights.specs.declared.Built.the-variants.{Rows, Refused}
-use Rattle.weights.proofs.Building.{built-weights}
-use Rattle.weights.proofs.Stepped.{Proper, weights-proper}
-use Rattle.weights.proofs.Beam.{sliced, part-legal, Answered, told-rows, told-refused}
-use Rattle.ordinates.specs.Ordinates.{Weighs, Coefficients}
+use Rattle.base_exact.specs.Tabulate.{tab}
+use Rattle.base_exact.proofs.Decide.{le-or-lt}
+use Rattle.base_exact.proofs.Tabulate.{tab-ext}
+use Rattle.spec_spline.specs.Outcome.{answer, with-answer}
+use Rattle.spec_spline.specs.Space.{Space, partEnd, checked, columnCount, rowCount}
+use Rattle.spec_spline.specs.Table.{Table, rowCells, tableCells, numerators, denominators}
+use Rattle.spec_spline.specs.Build.{weights, spaceWeights, lastPart, built, numeratorsAfter, denominatorsAfter, buildEnd}
+use Rattle.spec_spline.specs.Reading.{Wood, earlywood, latewood, coefficient, ordinate, ordinates}
+use Rattle.spec_spline.proofs.Outcome.{then-answers, answer-not-refusal}
+use Rattle.spec_spline.proofs.Parts.{part-ends}
+use Rattle.theorems_values.proofs.Weights.{weight-num-le-den}
+use Rattle.theorems_beams.specs.Sections.{section, partAt}
+use Rattle.theorems_beams.specs.Parts.{Starts}
+use Rattle.theorems_beams.proofs.PartLegal.{part-lastPart, parts-are-legal}
+use Rattle.theorems_beams.proofs.Reading.{ordinate-agree, coefficient-middle}
+use Rattle.build_space.specs.Machine.{space}
+use Rattle.build_space.specs.Legal.{ListsLegal}
+use Rattle.build_space.proofs.Legal.{legal-checked, legal-column-count-high, legal-row-count-sum, part-column-count-high}
+use Rattle.build_cells.specs.Held.{Holds}
+use Rattle.build_cells.proofs.Buffer.{holds-left}
+use Rattle.build.specs.Machine.{reply}
+use Rattle.build.specs.declared.Built.{Built}
+use Rattle.build.specs.declared.Built.the-variants.{Rows, Refused}
+use Rattle.build.proofs.Building.{built-weights}
+use Rattle.build.proofs.Stepped.{Proper, weights-proper}
+use Rattle.build.proofs.Beam.{sliced, part-legal, Answered, told-rows, told-refused}
+use Rattle.curve_ordinates.specs.Ordinates.{Weighs, Coefficients}
 use Rattle.curve.specs.Parts.{PartsLeave}
 
 -- ---- the coefficients of the n rows from one on
@@ -50,7 +50,7 @@ middle-coefficients coefs all row n g h = record { count = size; small = λ i. s
     small i (inr l) = rw (getD-take (2 * (row + n) - 2 * row) (drop (2 * row) coefs) i (pos 0) (omega arith), getD-drop (2 * row) coefs i (pos 0)) (g .small (2 * row + i))
 
 -- the ordinates with them are those with the beam's coefficients
-pub middle-ordinates : (s : Space) (t : Table) (wood : WoodPart) (coefs os : List ℤ) (row n : ℕ) → length t ≡ n → length os ≡ columnCount s
+pub middle-ordinates : (s : Space) (t : Table) (wood : Wood) (coefs os : List ℤ) (row n : ℕ) → length t ≡ n → length os ≡ columnCount s
     → tab (length os) (ordinate t (coefficient wood (take (2 * (row + n) - 2 * row) (drop (2 * row) coefs)))) ≡ ordinates s t (λ i. coefficient wood coefs (row + i)) ++ drop (columnCount s) os
 unfolding ordinates
 middle-ordinates s t wood coefs os row n rows columns =
@@ -140,7 +140,7 @@ module _ (b d o : List ℤ) (h : ListsLegal b d o) (a e : ℕ) (A : Starts (spac
       weighs-rows = subst (Weighs num′ den′) (sym (answered .count)) (weighs (answered .is))
 
       -- the ordinates of a wood part in a list of the part's columns, as they are worked out from the buffers
-      abbrev WorkedOut : WoodPart → List ℤ → ℕ → List ℤ → List ℤ → Type 0
+      abbrev WorkedOut : Wood → List ℤ → ℕ → List ℤ → List ℤ → Type 0
       WorkedOut wood coefs row os os′ = (t : Table) → Holds num′ den′ t → length t ≡ n → os′ ≡ tab (length os) (ordinate t (coefficient wood (take (2 * (row + n) - 2 * row) (drop (2 * row) coefs))))
 
       pub leaves-rows : (coefs : List ℤ) (row : ℕ) (early late : List ℤ) {early′ late′ : List ℤ} → length early ≡ columnCount part → length late ≡ columnCount part
@@ -158,7 +158,7 @@ module _ (b d o : List ℤ) (h : ListsLegal b d o) (a e : ℕ) (A : Starts (spac
           size w = proper w .shaped .row-count ∙ sym (answered .count)
 
     -- it is refused
-    pub leaves-refused : {number place : ℕ} (coefs : WoodPart → ℕ → ℤ) (early late early′ late′ : List ℤ) → r ≡ Refused number place → PartsLeave part coefs (Refused number place) num den early late num′ den′ early′ late′
+    pub leaves-refused : {number place : ℕ} (coefs : Wood → ℕ → ℤ) (early late early′ late′ : List ℤ) → r ≡ Refused number place → PartsLeave part coefs (Refused number place) num den early late num′ den′ early′ late′
     leaves-refused coefs early late early′ late′ told = let answers = ap reply (sym told) ∙ part-answers in record {
       answers = answers;
       numerators-are = part-numerators;

@@ -1,8 +1,8 @@
 -- Both values at a position from the ordinates of the two wood parts.
 use mathlib.Core.List.{List}
 use lib.IntN.{ℤ}
-use Rattle.spline.specs.Space.{Space}
-use Rattle.spline.specs.Reading.{Pair, segmentAt, blended}
+use Rattle.spec_spline.specs.Space.{Space}
+use Rattle.spec_spline.specs.Reading.{Pair, segmentAt, blended}
 
 -- The pair of values at position x, given the ordinates of all columns for earlywood and for latewood.
 unfoldable pub pairOf : Space → List ℤ → List ℤ → ℤ → Pair

@@ -1,9 +1,9 @@
 // The curves of earlywood and latewood over one multi-degree spline space at given positions: the weights part by part, the
 // ordinates of all columns once for each wood part, and then two de Casteljau triangles for each position.
 ghost use mathlib.Core.Path.{_≡_};
-ghost use Rattle.space.specs.Reply.{space};
-ghost use Rattle.spline.specs.CurveCall.{curveEnd};
-ghost use Rattle.curve.specs.Reply.{reply};
+ghost use Rattle.build_space.specs.Machine.{space};
+ghost use Rattle.spec_spline.specs.CurveCall.{curveEnd};
+ghost use Rattle.curve.specs.Machine.{reply};
 
 pub mod parts;
 mod reading;
@@ -29,21 +29,21 @@ pub fn curve(
     ensures { λ r. ⌜ (let e = curveEnd (space (now (breaks .entry)) (now (degrees .entry)) (now (orders .entry))) (now (coefs .entry)) (now (positions .entry)) (now (num .entry)) (now (den .entry)) (now (values .entry)) in
         (reply r ≡ e .answers) × ((now (num .exit) ≡ e .numerators) × ((now (den .exit) ≡ e .denominators) × (now (values .exit) ≡ e .values)))) ⌝ }
 {
-    if num.len() < cells::TABLE_CELLS {
+    if num.len() < build_cells::TABLE_CELLS {
         return Answer::Refused(1, 0);
     }
-    if den.len() < cells::TABLE_CELLS {
+    if den.len() < build_cells::TABLE_CELLS {
         return Answer::Refused(1, 1);
     }
     if values.len() / 2 < positions.len() {
         return Answer::Refused(1, 2);
     }
-    let checked = limits::check(breaks, degrees, orders, coefs, positions);
+    let checked = curve_limits::check(breaks, degrees, orders, coefs, positions);
     match checked {
-        space::Legality::Refused(number, place) => Answer::Refused(number, place),
-        space::Legality::Legal => {
-            let mut early = [0; triangle::MAX_COLUMNS];
-            let mut late = [0; triangle::MAX_COLUMNS];
+        build_space::Legality::Refused(number, place) => Answer::Refused(number, place),
+        build_space::Legality::Legal => {
+            let mut early = [0; curve_triangle::MAX_COLUMNS];
+            let mut late = [0; curve_triangle::MAX_COLUMNS];
             let built = parts::build_parts(
                 breaks,
                 degrees,
@@ -55,8 +55,8 @@ pub fn curve(
                 &mut late,
             );
             match built {
-                weights::Built::Refused(number, place) => Answer::Refused(number, place),
-                weights::Built::Rows(_) => {
+                build::Built::Refused(number, place) => Answer::Refused(number, place),
+                build::Built::Rows(_) => {
                     reading::write_values(
                         breaks,
                         degrees,

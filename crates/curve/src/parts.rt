@@ -2,17 +2,17 @@
 ghost use mathlib.Core.Path.{_≡_};
 ghost use Prim.Native.Nat.{_+_, _≤_};
 ghost use lib.ListN.{length};
-ghost use Rattle.spline.specs.Space.{partEnd, columnCount, rowCount};
-ghost use Rattle.spline.specs.Table.{tableCells};
-ghost use Rattle.spline.specs.Reading;
-ghost use Rattle.beams.specs.Sections.{partAt};
-ghost use Rattle.beams.specs.Parts.{Starts};
-ghost use Rattle.space.specs.Reply.{space};
-ghost use Rattle.space.specs.Legal.{ListsLegal};
-ghost use Rattle.ordinates.specs.Ordinates.{Coefficients};
+ghost use Rattle.spec_spline.specs.Space.{partEnd, columnCount, rowCount};
+ghost use Rattle.spec_spline.specs.Table.{tableCells};
+ghost use Rattle.spec_spline.specs.Reading;
+ghost use Rattle.theorems_beams.specs.Sections.{partAt};
+ghost use Rattle.theorems_beams.specs.Parts.{Starts};
+ghost use Rattle.build_space.specs.Machine.{space};
+ghost use Rattle.build_space.specs.Legal.{ListsLegal};
+ghost use Rattle.curve_ordinates.specs.Ordinates.{Coefficients};
 ghost use Rattle.curve.specs.Parts.{PartsLeave};
-use ordinates::Part;
-use weights::Built;
+use build::Built;
+use curve_ordinates::Wood;
 
 // Builds the part from segment a up to segment b, and writes the ordinates of its columns for each wood part. Its coefficients
 // are those from row `row` on.
@@ -35,7 +35,7 @@ fn build_part(
     requires { ⌜ (length (now early) ≡ columnCount (partAt (space (now breaks) (now degrees) (now orders)) a)) × (length (now late) ≡ columnCount (partAt (space (now breaks) (now degrees) (now orders)) a)) ⌝ }
     ensures { λ r. ⌜ PartsLeave (partAt (space (now (breaks .entry)) (now (degrees .entry)) (now (orders .entry))) a) (λ wood i. Reading.coefficient wood (now (coefs .entry)) (row + i)) r (now (num .entry)) (now (den .entry)) (now (early .entry)) (now (late .entry)) (now (num .exit)) (now (den .exit)) (now (early .exit)) (now (late .exit)) ⌝ }
 {
-    let built = weights::build(
+    let built = build::build(
         &breaks[a..b + 1],
         &degrees[a..b],
         &orders[a..b - 1],
@@ -46,8 +46,8 @@ fn build_part(
         Built::Refused(number, place) => Built::Refused(number, place),
         Built::Rows(n) => {
             let own = &coefs[2 * row..2 * (row + n)];
-            ordinates::ordinates(num, den, own, Part::Earlywood, n, early);
-            ordinates::ordinates(num, den, own, Part::Latewood, n, late);
+            curve_ordinates::ordinates(num, den, own, Wood::Earlywood, n, early);
+            curve_ordinates::ordinates(num, den, own, Wood::Latewood, n, late);
             Built::Rows(n)
         }
     }
@@ -73,8 +73,8 @@ pub fn build_parts(
     let mut column = 0;
     let mut a = 0;
     while a < degrees.len() {
-        let b = space::part_end(degrees, orders, a);
-        let end = space::first_column(degrees, b);
+        let b = build_space::part_end(degrees, orders, a);
+        let end = build_space::first_column(degrees, b);
         let built = build_part(
             breaks,
             degrees,
@@ -93,7 +93,7 @@ pub fn build_parts(
                 row += n;
             }
             Built::Refused(number, place) => {
-                return Built::Refused(number, space::place(a + place as usize));
+                return Built::Refused(number, build_space::place(a + place as usize));
             }
         }
         column = end;

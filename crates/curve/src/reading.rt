@@ -4,25 +4,25 @@ ghost use mathlib.Core.List.{[], _++_, map};
 ghost use Prim.Native.Nat.{ℕ, _*_, _<_, _≤_};
 ghost use lib.IntN.{pos};
 ghost use lib.ListN.{length, getD, drop};
-ghost use Rattle.space.specs.Reply.{space};
-ghost use Rattle.space.specs.Legal.{DegreesLegal, ListsLegal};
-ghost use Rattle.spline.specs.Space.{segmentLimit};
-ghost use Rattle.spline.specs.Reading;
-ghost use Rattle.ordinates.specs.Ordinates.{Bounded};
-ghost use Rattle.triangle.specs.Offsets.{columnLimit, columnsOf, Within};
+ghost use Rattle.build_space.specs.Machine.{space};
+ghost use Rattle.build_space.specs.Legal.{DegreesLegal, ListsLegal};
+ghost use Rattle.spec_spline.specs.Space.{segmentLimit};
+ghost use Rattle.spec_spline.specs.Reading;
+ghost use Rattle.curve_ordinates.specs.Ordinates.{Bounded};
+ghost use Rattle.curve_triangle.specs.Offsets.{columnLimit, columnsOf, Within};
 ghost use Rattle.curve.specs.Pairs.{pairOf};
 
 // The first columns of the segments.
-fn first_columns(degrees: &[i32]) -> [usize; space::MAX_SEGMENTS]
+fn first_columns(degrees: &[i32]) -> [usize; build_space::MAX_SEGMENTS]
     requires { ⌜ (length (now degrees) ≤ segmentLimit) × DegreesLegal (now degrees) ⌝ }
     ensures { λ r. ⌜ r ≡ columnsOf (space [] (now (degrees .entry)) []) ⌝ }
 {
-    let mut columns = [0; space::MAX_SEGMENTS];
+    let mut columns = [0; build_space::MAX_SEGMENTS];
     let mut column = 0;
     let mut i = 0;
     while i < degrees.len() {
         columns[i] = column;
-        column += space::degree_at(degrees, i) + 1;
+        column += build_space::degree_at(degrees, i) + 1;
         i += 1;
     }
     columns
@@ -47,9 +47,9 @@ fn write_all(
     let mut k = 0;
     while k < positions.len() {
         let x = positions[k];
-        let place = triangle::place_at(breaks, degrees, orders, columns, x);
-        let early = triangle::value_at(earlywood, place);
-        let late = triangle::value_at(latewood, place);
+        let place = curve_triangle::place_at(breaks, degrees, orders, columns, x);
+        let early = curve_triangle::value_at(earlywood, place);
+        let late = curve_triangle::value_at(latewood, place);
         values[2 * k] = early;
         values[2 * k + 1] = late;
         k += 1;

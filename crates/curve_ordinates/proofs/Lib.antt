@@ -1,3 +1,5 @@
--- What an answered call says of its space, and the laws behind building the curves.
-pub mod Accepted
-pub mod Leaves
+-- The laws behind the ordinates: the terms of an ordinate, of a column and of all columns.
+pub mod Best
+pub mod Bounds
+pub mod Gathered
+pub mod Columns

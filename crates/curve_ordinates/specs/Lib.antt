@@ -1,3 +1,3 @@
--- The curve call without positions: its outcome in CurveAlone, what the code leaves in Machine.
-pub mod CurveAlone
-pub mod Machine
+-- What the contracts of ordinates cite beside the definitions of crate spline.
+pub mod Wood
+pub mod Ordinates

@@ -1,44 +1,147 @@
-// The curves of both wood parts by their ordinates: the tests and the weights of a curve call without positions, and the
-// ordinates of all columns. The calls that read a curve otherwise than at given positions start from it.
+// The Bernstein ordinates of the curve of one wood part, in 256ths: for each column the sum of the rounded terms, within the
+// limits of the part's coefficients with weight on it.
 ghost use mathlib.Core.Path.{_≡_};
+ghost use mathlib.Core.Bool.{cond};
+ghost use Prim.Native.Nat.{_^_, _<_, _≤_};
+ghost use lib.IntN.{pos, natAbs};
 ghost use lib.ListN.{length};
-ghost use Rattle.triangle.specs.Offsets.{columnLimit};
-ghost use Rattle.curve_ordinates.specs.Machine.{CurvesLeave};
-use weights::Built;
+ghost use lib.Signed.{leZ, ltZ, _<ℤ_};
+ghost use Rattle.base_exact.specs.Tabulate.{tab};
+ghost use Rattle.spec_spline.specs.Table.{Table, rowCells};
+ghost use Rattle.spec_spline.specs.Reading;
+ghost use Rattle.spec_spline.specs.CurveCall.{coefficientLimit};
+ghost use Rattle.build_cells.specs.Held.{Holds};
+ghost use Rattle.curve_ordinates.specs.Ordinates.{given, termsOf, Added, Weighs, entries, Coefficients};
+ghost use Rattle.curve_ordinates.specs.Wood.{woodOf};
 
-// Builds the weights, and writes the ordinates of all columns for each wood part. The count of rows, or a refusal's number and
-// place.
-pub fn build_curves(
-    breaks: &[i32],
-    degrees: &[i32],
-    orders: &[i32],
-    coefs: &[i32],
-    num: &mut [i64],
-    den: &mut [i64],
-    early: &mut [i32],
-    late: &mut [i32],
-) -> Built
-    requires { ⌜ (length (now early) ≡ columnLimit) × (length (now late) ≡ columnLimit) ⌝ }
-    ensures { λ r. ⌜ CurvesLeave (now (breaks .entry)) (now (degrees .entry)) (now (orders .entry)) (now (coefs .entry)) r (now (num .entry)) (now (den .entry)) (now (early .entry)) (now (late .entry)) (now (num .exit)) (now (den .exit)) (now (early .exit)) (now (late .exit)) ⌝ }
+// A wood part.
+pub enum Wood {
+    Earlywood,
+    Latewood,
+}
+
+// A column's terms so far: their sum, and the least and greatest coefficient with weight. `some` is false before the first.
+pub struct Terms {
+    pub some: bool,
+    pub sum: i64,
+    pub least: i64,
+    pub greatest: i64,
+}
+
+// The lesser of a and b, or b where a is not known.
+fn lesser(some: bool, a: i64, b: i64) -> i64
+    ensures { λ r. ⌜ r ≡ Reading.preferred leZ (given some a) b ⌝ }
 {
-    if num.len() < cells::TABLE_CELLS {
-        return Built::Refused(1, 0);
+    if some {
+        if a <= b {
+            return a;
+        }
     }
-    if den.len() < cells::TABLE_CELLS {
-        return Built::Refused(1, 1);
+    b
+}
+
+// The greater of a and b, or b where a is not known.
+fn greater(some: bool, a: i64, b: i64) -> i64
+    ensures { λ r. ⌜ r ≡ Reading.preferred (λ y z. leZ z y) (given some a) b ⌝ }
+{
+    if some {
+        if b <= a {
+            return a;
+        }
     }
-    let checked = limits::check(breaks, degrees, orders, coefs, &coefs[0..0]);
-    match checked {
-        space::Legality::Refused(number, place) => Built::Refused(number, place),
-        space::Legality::Legal => curve::parts::build_parts(
-            breaks,
-            degrees,
-            orders,
-            coefs,
-            num,
-            den,
-            early,
-            late,
-        ),
+    b
+}
+
+// One more coefficient with weight num / den.
+fn with_term(before: Terms, a: i64, num: i64, den: i64) -> Terms
+    requires { ⌜ (natAbs a ≤ coefficientLimit) × ((natAbs den < 2 ^ 31) × ((pos 0 <ℤ den) × ((natAbs num ≤ natAbs den) × (natAbs (before .sum) < 2 ^ 62)))) ⌝ }
+    ensures { λ r. ⌜ Added before a num den r ⌝ }
+{
+    let term = base_fraction::round_div(256 * a * num, den);
+    let least = lesser(before.some, before.least, a);
+    let greatest = greater(before.some, before.greatest, a);
+    Terms {
+        some: true,
+        sum: before.sum + term,
+        least: least,
+        greatest: greatest,
+    }
+}
+
+fn at_most(high: i64, x: i64) -> i64
+    ensures { λ r. ⌜ r ≡ cond (ltZ high x) high x ⌝ }
+{
+    if high < x {
+        return high;
+    }
+    x
+}
+
+// The sum within 256 times the least and the greatest coefficient.
+fn limited(terms: Terms) -> i64
+    requires { ⌜ (natAbs (terms .least) ≤ coefficientLimit) × (natAbs (terms .greatest) ≤ coefficientLimit) ⌝ }
+    ensures { λ r. ⌜ r ≡ Reading.atMost (given (terms .some) (terms .greatest)) (Reading.atLeast (given (terms .some) (terms .least)) (terms .sum)) ⌝ }
+{
+    let sum = terms.sum;
+    if !terms.some {
+        return sum;
+    }
+    let low = 256 * terms.least;
+    let high = 256 * terms.greatest;
+    if sum < low {
+        return at_most(high, low);
+    }
+    at_most(high, sum)
+}
+
+// Which of each row's two coefficients is the part's.
+fn wood_index(wood: Wood) -> usize
+    ensures { λ r. ⌜ r ≡ Reading.woodIndex (woodOf wood) ⌝ }
+{
+    match wood {
+        Wood::Earlywood => 0,
+        Wood::Latewood => 1,
+    }
+}
+
+// The terms of column c over the first n rows, each with the coefficient at this index among its two.
+fn column_terms(num: &[i64], den: &[i64], coefs: &[i32], index: usize, n: usize, c: usize) -> Terms
+    requires { ⌜ ((c < rowCells) × (index < 2)) × (Weighs (now num) (now den) n × Coefficients (now coefs) n) ⌝ }
+    ensures { λ r. ⌜ ((t : Table) → Holds (now (num .entry)) (now (den .entry)) t → r ≡ termsOf t (entries (now (coefs .entry)) index) c n) ⌝ }
+{
+    let mut all = Terms {
+        some: false,
+        sum: 0,
+        least: 0,
+        greatest: 0,
+    };
+    let mut i = 0;
+    while i < n {
+        let at = build_cells::ROW_CELLS * i + c;
+        let x = num[at];
+        if x != 0 {
+            let entry = 2 * i + index;
+            let a = coefs[entry] as i64;
+            let d = den[at];
+            all = with_term(all, a, x, d);
+        }
+        i += 1;
+    }
+    all
+}
+
+// The ordinates of a wood part in the first columns, one for each number of the list.
+pub fn ordinates(num: &[i64], den: &[i64], coefs: &[i32], wood: Wood, n: usize, os: &mut [i32])
+    requires { ⌜ (length (now os) ≤ rowCells) × (Weighs (now num) (now den) n × Coefficients (now coefs) n) ⌝ }
+    ensures { λ _. ⌜ ((t : Table) → Holds (now (num .entry)) (now (den .entry)) t → length t ≡ n
+        → now (os .exit) ≡ tab (length (now (os .entry))) (Reading.ordinate t (Reading.coefficient (woodOf wood) (now (coefs .entry))))) ⌝ }
+{
+    let index = wood_index(wood);
+    let mut c = 0;
+    while c < os.len() {
+        let all = column_terms(num, den, coefs, index, n, c);
+        let o = limited(all) as i32;
+        os[c] = o;
+        c += 1;
     }
 }

@@ -7,25 +7,25 @@ use native.Mathlib.Omega.{arith}
 use borrow.Author.Tests.{lt-ltb, le-ltb}
 use lib.IntN.{ℤ, pos}
 use lib.ListN.{length, getD, drop}
-use Rattle.exact.specs.Tabulate.{tab}
-use Rattle.exact.proofs.Decide.{cond-true, cond-false}
-use Rattle.exact.proofs.Tabulate.{tab-ext}
-use Rattle.spline.specs.Outcome.{Outcome, answer, refusal, capped, _then_}
-use Rattle.spline.specs.Search.{first}
-use Rattle.spline.specs.Space.{Space, refuseFirst}
-use Rattle.spline.specs.Table.{tableCells, numerators, denominators}
-use Rattle.spline.specs.Build.{numeratorsAfter, denominatorsAfter}
-use Rattle.spline.specs.Reading.{WoodPart, earlywood, latewood, partIndex, Pair}
-use Rattle.spline.specs.CurveCall.{CurveResult, positionLimit, curveOutcome, returned, curveNumerators, curveDenominators, valuesAfter}
-use Rattle.spline.proofs.Outcome.{then-answers, capped-small, answer-unique}
-use Rattle.spline.proofs.Search.{first-ext, first-some-inverts}
-use Rattle.spline.proofs.Pairs.{partOf, getD-pairs, length-pairs}
-use Rattle.spline.proofs.Build.{long-enough}
-use Rattle.closeness.proofs.LegalCall.{answered-calls-are-legal, legal-calls-answer, values-length}
-use Rattle.curve.specs.Reply as curves
+use Rattle.base_exact.specs.Tabulate.{tab}
+use Rattle.base_exact.proofs.Decide.{cond-true, cond-false}
+use Rattle.base_exact.proofs.Tabulate.{tab-ext}
+use Rattle.spec_spline.specs.Outcome.{Outcome, answer, refusal, capped, _then_}
+use Rattle.spec_spline.specs.Search.{first}
+use Rattle.spec_spline.specs.Space.{Space, refuseFirst}
+use Rattle.spec_spline.specs.Table.{tableCells, numerators, denominators}
+use Rattle.spec_spline.specs.Build.{numeratorsAfter, denominatorsAfter}
+use Rattle.spec_spline.specs.Reading.{Wood, earlywood, latewood, woodIndex, Pair}
+use Rattle.spec_spline.specs.CurveCall.{CurveResult, positionLimit, curveOutcome, returned, curveNumerators, curveDenominators, valuesAfter}
+use Rattle.spec_spline.proofs.Outcome.{then-answers, capped-small, answer-unique}
+use Rattle.spec_spline.proofs.Search.{first-ext, first-some-inverts}
+use Rattle.spec_spline.proofs.Pairs.{ofTheWood, getD-pairs, length-pairs}
+use Rattle.spec_spline.proofs.Build.{long-enough}
+use Rattle.theorems_values.proofs.LegalCall.{answered-calls-are-legal, legal-calls-answer, values-length}
+use Rattle.curve.specs.Machine as curves
 use Rattle.curve.specs.declared.Answer.{Answer}
 use Rattle.curve.specs.declared.Answer.the-variants as answered
-use Rattle.indices.specs.Indices.{ringPositions, ringWidth, ofPart, noPair, ringValue, isRefused, badRing, indexOf, ringIndices, ringsRead, ringsIndexed, indicesReturned, indicesAfter}
+use Rattle.indices.specs.Indices.{ringPositions, ringWidth, ofWood, noPair, ringValue, isRefused, badRing, indexOf, ringIndices, ringsRead, ringsIndexed, indicesReturned, indicesAfter}
 use Rattle.indices.specs.Machine.{reply, wordPositions, ringsTaken, badCell, cellIndex, cellsIndexed}
 use Rattle.indices.specs.declared.Answer as ours
 use Rattle.indices.specs.declared.Answer.the-variants.{Refused}
@@ -45,19 +45,19 @@ module _ (widths cells : List ℤ) (offset : ℕ) where
   cells-answered e = ap (λ (o : Option ℕ). refuseFirst 14 o (answer (tab (length widths) (cellIndex widths cells offset)))) e
 
 -- by the values, where the cells hold them
-part-same : (part : WoodPart) (p : Pair) → partOf part p ≡ ofPart part p
+part-same : (wood : Wood) (p : Pair) → ofTheWood wood p ≡ ofWood wood p
 part-same earlywood p = refl
 part-same latewood p = refl
 
-module _ (part : WoodPart) (widths : List ℤ) (r : CurveResult) (before : List ℤ) (count : length (r .values) ≡ length widths) where
+module _ (wood : Wood) (widths : List ℤ) (r : CurveResult) (before : List ℤ) (count : length (r .values) ≡ length widths) where
   abbrev cellsAfter : List ℤ
   cellsAfter = valuesAfter (answer r) before
 
-  pub value-cell : (i : ℕ) → i < length widths → getD cellsAfter (2 * i + partIndex part) (pos 0) ≡ ringValue part (r .values) i
+  pub value-cell : (i : ℕ) → i < length widths → getD cellsAfter (2 * i + woodIndex wood) (pos 0) ≡ ringValue wood (r .values) i
   unfolding valuesAfter
-  value-cell i h = getD-pairs (r .values) (drop (2 * length (r .values)) before) part i (pos 0) noPair (rw count h) ∙ part-same part (getD (r .values) i noPair)
+  value-cell i h = getD-pairs (r .values) (drop (2 * length (r .values)) before) wood i (pos 0) noPair (rw count h) ∙ part-same wood (getD (r .values) i noPair)
 
-  pub indexed-by-cells : cellsIndexed widths cellsAfter (partIndex part) ≡ ringsIndexed part widths r
+  pub indexed-by-cells : cellsIndexed widths cellsAfter (woodIndex wood) ≡ ringsIndexed wood widths r
   unfolding cellsIndexed ringsIndexed badCell badRing cellIndex ringIndices
   indexed-by-cells = ap₂ (λ (o : Option ℕ) (zs : List ℤ). refuseFirst 14 o (answer zs))
       (first-ext (length widths) (λ i h. ap (isRefused (ringWidth widths i)) (value-cell i h)))
@@ -65,28 +65,28 @@ module _ (part : WoodPart) (widths : List ℤ) (r : CurveResult) (before : List 
 
 -- ---- what a call answers and leaves, by its outcome
 
-pub record Ends (s : Space) (part : WoodPart) (widths : List ℤ) (o : Outcome CurveResult) (r : ours.Answer) (num den vs is num′ den′ vs′ is′ : List ℤ) : Type 0 where
-  pub answers : reply r ≡ indicesReturned (o then ringsIndexed part widths)
+pub record Ends (s : Space) (wood : Wood) (widths : List ℤ) (o : Outcome CurveResult) (r : ours.Answer) (num den vs is num′ den′ vs′ is′ : List ℤ) : Type 0 where
+  pub answers : reply r ≡ indicesReturned (o then ringsIndexed wood widths)
   pub numerators-are : num′ ≡ curveNumerators s o num
   pub denominators-are : den′ ≡ curveDenominators s o den
   pub values-are : vs′ ≡ valuesAfter o vs
-  pub indices-are : is′ ≡ indicesAfter (o then ringsIndexed part widths) is
+  pub indices-are : is′ ≡ indicesAfter (o then ringsIndexed wood widths) is
 
-module _ (s : Space) (part : WoodPart) (widths : List ℤ) {o : Outcome CurveResult} (num den vs is : List ℤ) where
+module _ (s : Space) (wood : Wood) (widths : List ℤ) {o : Outcome CurveResult} (num den vs is : List ℤ) where
   -- a refusal of the curve call: the buffers as it leaves them, the indices as they were
   pub ends-refused : {number place : ℕ} {num′ den′ vs′ : List ℤ} → o ≡ refusal number place → num′ ≡ curveNumerators s o num → den′ ≡ curveDenominators s o den → vs′ ≡ valuesAfter o vs
-      → Ends s part widths o (Refused number place) num den vs is num′ den′ vs′ is
+      → Ends s wood widths o (Refused number place) num den vs is num′ den′ vs′ is
   unfolding reply indicesAfter
   ends-refused e p q w = record {
-    answers = sym (ap (λ x. indicesReturned (x then ringsIndexed part widths)) e);
+    answers = sym (ap (λ x. indicesReturned (x then ringsIndexed wood widths)) e);
     numerators-are = p;
     denominators-are = q;
     values-are = w;
-    indices-are = sym (ap (λ x. indicesAfter (x then ringsIndexed part widths) is) e);
+    indices-are = sym (ap (λ x. indicesAfter (x then ringsIndexed wood widths) is) e);
   }
 
   -- number 1 leaves all
-  pub ends-unchanged : {place : ℕ} → o ≡ refusal 1 place → Ends s part widths o (Refused 1 place) num den vs is num den vs is
+  pub ends-unchanged : {place : ℕ} → o ≡ refusal 1 place → Ends s wood widths o (Refused 1 place) num den vs is num den vs is
   unfolding numeratorsAfter denominatorsAfter valuesAfter
   ends-unchanged e = ends-refused e
       (sym (ap (λ x. curveNumerators s x num) e ∙ cond-false (numerators [] num) num refl))
@@ -95,11 +95,11 @@ module _ (s : Space) (part : WoodPart) (widths : List ℤ) {o : Outcome CurveRes
 
   -- an answer of the curve call: number 14 or the indices, by the cells after it
   pub ends-indexed : {r : CurveResult} {a : ours.Answer} {num′ den′ vs′ is′ : List ℤ} → o ≡ answer r → length (r .values) ≡ length widths → num′ ≡ curveNumerators s o num → den′ ≡ curveDenominators s o den → vs′ ≡ valuesAfter o vs
-      → reply a ≡ indicesReturned (cellsIndexed widths vs′ (partIndex part)) → is′ ≡ indicesAfter (cellsIndexed widths vs′ (partIndex part)) is
-      → Ends s part widths o a num den vs is num′ den′ vs′ is′
+      → reply a ≡ indicesReturned (cellsIndexed widths vs′ (woodIndex wood)) → is′ ≡ indicesAfter (cellsIndexed widths vs′ (woodIndex wood)) is
+      → Ends s wood widths o a num den vs is num′ den′ vs′ is′
   ends-indexed {r} {vs′ = vs′} e count p q w x y =
-      let same : cellsIndexed widths vs′ (partIndex part) ≡ (o then ringsIndexed part widths)
-      = ap (λ (l : List ℤ). cellsIndexed widths l (partIndex part)) (w ∙ ap (λ z. valuesAfter z vs) e) ∙ indexed-by-cells part widths r vs count ∙ sym (then-answers (ringsIndexed part widths) e) in
+      let same : cellsIndexed widths vs′ (woodIndex wood) ≡ (o then ringsIndexed wood widths)
+      = ap (λ (l : List ℤ). cellsIndexed widths l (woodIndex wood)) (w ∙ ap (λ z. valuesAfter z vs) e) ∙ indexed-by-cells wood widths r vs count ∙ sym (then-answers (ringsIndexed wood widths) e) in
       record { answers = x ∙ ap indicesReturned same; numerators-are = p; denominators-are = q; values-are = w; indices-are = y ∙ ap (λ z. indicesAfter z is) same }
 
 -- ---- the call's outcome

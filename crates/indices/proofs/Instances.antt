@@ -10,21 +10,21 @@ use native.Mathlib.Omega.{arith}
 use lib.Dec.{T}
 use lib.IntN.{ℤ, pos, negsuc, natAbs}
 use lib.ListN.{length, getD}
-use Rattle.exact.specs.Gcd.{gcd, gcdF}
-use Rattle.exact.specs.Rational.{mk, int, inv, _+ᵠ_, _-ᵠ_, _*ᵠ_, _/ᵠ_, -ᵠ_, _//_}
-use Rattle.exact.specs.Order.{isZero, ltᵠ, _≤ᵠ_, _<ᵠ_}
-use Rattle.exact.specs.Tabulate.{tab}
-use Rattle.exact.proofs.Order.{ltᵠ-true}
-use Rattle.spline.specs.Outcome.{answer, refusal, capped, _then_}
-use Rattle.spline.specs.Search.{first, last, howMany}
-use Rattle.spline.specs.Space.{firstColumn, conditionsBefore}
-use Rattle.spline.specs.Table.{tableCells}
-use Rattle.spline.specs.Reading.{startsAtDiscontinuity, startsBy, segmentAt, WoodPart, earlywood, latewood, sideBySide, values}
-use Rattle.spline.specs.CurveCall.{badPosition, valuesAfter}
-use Rattle.spline.specs.Cases.{space1}
-use Rattle.spline.specs.ExactCurve.{exactCurve, largest, mostWeights}
-use Rattle.closeness.specs.Demand3Values.{closeness}
-use Rattle.closeness.proofs.Instances.{table1, coefs1, accepted1, coefficients1, inside1 as positions-inside1, pairs1, values1 as read-values1, exact1}
+use Rattle.base_exact.specs.Gcd.{gcd, gcdF}
+use Rattle.base_exact.specs.Rational.{mk, int, inv, _+ᵠ_, _-ᵠ_, _*ᵠ_, _/ᵠ_, -ᵠ_, _//_}
+use Rattle.base_exact.specs.Order.{isZero, ltᵠ, _≤ᵠ_, _<ᵠ_}
+use Rattle.base_exact.specs.Tabulate.{tab}
+use Rattle.base_exact.proofs.Order.{ltᵠ-true}
+use Rattle.spec_spline.specs.Outcome.{answer, refusal, capped, _then_}
+use Rattle.spec_spline.specs.Search.{first, last, howMany}
+use Rattle.spec_spline.specs.Space.{firstColumn, conditionsBefore}
+use Rattle.spec_spline.specs.Table.{tableCells}
+use Rattle.spec_spline.specs.Reading.{startsAtDiscontinuity, startsBy, segmentAt, Wood, earlywood, latewood, sideBySide, values}
+use Rattle.spec_spline.specs.CurveCall.{badPosition, valuesAfter}
+use Rattle.spec_spline.specs.Cases.{space1}
+use Rattle.spec_spline.specs.ExactCurve.{exactCurve, largest, mostWeights}
+use Rattle.theorems_values.specs.ValueLimits.{closeness}
+use Rattle.theorems_values.proofs.Instances.{table1, coefs1, accepted1, coefficients1, inside1 as positions-inside1, pairs1, values1 as read-values1, exact1}
 use Rattle.indices.specs.Indices.{ringPositions, isRefused, badRing, indexOf, ringIndices, ringsIndexed, indicesReturned, indicesAfter}
 use Rattle.indices.specs.Rings.{RingsCall, endOf, CurveIsLegal}
 use Rattle.indices.proofs.Rings.{read, read-answers, index-is-above, index-is-at-most}
@@ -41,9 +41,9 @@ values1 = read-values1
 -- ---- a call with any two weight buffers that are long enough
 
 module _ (num den : List ℤ) (h : length num ≡ tableCells) (k : length den ≡ tableCells) where
-  abbrev call : WoodPart → ℤ → ℤ → RingsCall
-  call part w v = record {
-    part = part;
+  abbrev call : Wood → ℤ → ℤ → RingsCall
+  call wood w v = record {
+    wood = wood;
     space = space1;
     coefs = coefs1;
     firstRing = pos 1;
@@ -54,9 +54,9 @@ module _ (num den : List ℤ) (h : length num ≡ tableCells) (k : length den �
     indices = pos 6 ∷ pos 7 ∷ pos 8 ∷ [];
   }
 
-  legal1 : (part : WoodPart) (w v : ℤ) → CurveIsLegal (call part w v)
+  legal1 : (wood : Wood) (w v : ℤ) → CurveIsLegal (call wood w v)
   unfolding ringPositions tab firstColumn conditionsBefore
-  legal1 part w v = record {
+  legal1 wood w v = record {
     accepted = accepted1;
     coefficientCount = refl;
     coefficients = coefficients1;
@@ -67,13 +67,13 @@ module _ (num den : List ℤ) (h : length num ≡ tableCells) (k : length den �
     values = omega arith;
   }
 
-  read1 : (part : WoodPart) (w v : ℤ) → read (call part w v) ≡ answer (record { table = table1; values = pairs1 })
+  read1 : (wood : Wood) (w v : ℤ) → read (call wood w v) ≡ answer (record { table = table1; values = pairs1 })
   unfolding legal1 accepted1
-  read1 part w v = read-answers (call part w v) (legal1 part w v) (omega arith) ∙ ap (λ vs. answer (record { table = table1; values = vs })) values1
+  read1 wood w v = read-answers (call wood w v) (legal1 wood w v) (omega arith) ∙ ap (λ vs. answer (record { table = table1; values = vs })) values1
 
-  values-after1 : (part : WoodPart) (w v : ℤ) → endOf (call part w v) .values ≡ pos 17067 ∷ negsuc 17066 ∷ pos 4267 ∷ negsuc 4265 ∷ pos 9 ∷ []
+  values-after1 : (wood : Wood) (w v : ℤ) → endOf (call wood w v) .values ≡ pos 17067 ∷ negsuc 17066 ∷ pos 4267 ∷ negsuc 4265 ∷ pos 9 ∷ []
   unfolding valuesAfter sideBySide
-  values-after1 part w v = ap (λ o. valuesAfter o (pos 5 ∷ pos 6 ∷ pos 7 ∷ pos 8 ∷ pos 9 ∷ [])) (read1 part w v)
+  values-after1 wood w v = ap (λ o. valuesAfter o (pos 5 ∷ pos 6 ∷ pos 7 ∷ pos 8 ∷ pos 9 ∷ [])) (read1 wood w v)
 
   -- earlywood: 749, and an absent ring
   answers1 : endOf (call earlywood (pos 50) (pos 0)) .answers ≡ answer 2

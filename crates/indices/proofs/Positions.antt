@@ -12,23 +12,23 @@ use lib.Dec.{ltb, eqb}
 use lib.IntN.{ℤ, pos, negsuc, negℤ, _+ℤ_, _*ℤ_}
 use lib.ListN.{length, getD}
 use lib.Signed.{leZ, ltZ, _<ℤ_, _≤ℤ_}
-use Rattle.exact.specs.Tabulate.{tab}
-use Rattle.exact.proofs.Decide.{le-or-lt, cond-true, cond-false, or-false}
-use Rattle.exact.proofs.Integer.{up, dn, bal-*, bal-neg, ≤-in, ≤-out, <-in, <-out, ≤-or->, ≤-<-trans, <-≤-trans}
-use Rattle.exact.proofs.Tabulate.{tab-length, tab-getD, tab-ext}
-use Rattle.exact.proofs.Word.{lt-test, not-lt-test, not-le-test, le-test}
-use Rattle.spline.specs.Outcome.{Outcome, answer, refusal, refuse, largestPlace, _then_}
-use Rattle.spline.specs.Search.{first}
-use Rattle.spline.specs.Space.{Space, segments, break, between, badBreak, breakLimit, fitting, lengthsFit, refuseFirst, checked, checkedEntries, rowCount}
-use Rattle.spline.specs.Reading.{fine}
-use Rattle.spline.specs.CurveCall.{CurveResult, positionLimit, badCoefficient, badPosition, legalEntries, curveChecked, curveRead, curveOutcome}
-use Rattle.spline.proofs.Outcome.{then-refuses}
-use Rattle.spline.proofs.Search.{first-ext, first-none-inverts}
-use Rattle.spline.proofs.Space.{between-inverts}
-use Rattle.spline.proofs.Build.{long-enough}
-use Rattle.spline.proofs.Legal.{Checked, checked-inverts, lengths-fit-inverts}
-use Rattle.spline.specs.Table.{tableCells}
-use Rattle.closeness.proofs.LegalCall.{checks-passed}
+use Rattle.base_exact.specs.Tabulate.{tab}
+use Rattle.base_exact.proofs.Decide.{le-or-lt, cond-true, cond-false, or-false}
+use Rattle.base_exact.proofs.Integer.{up, dn, bal-*, bal-neg, ≤-in, ≤-out, <-in, <-out, ≤-or->, ≤-<-trans, <-≤-trans}
+use Rattle.base_exact.proofs.Tabulate.{tab-length, tab-getD, tab-ext}
+use Rattle.base_exact.proofs.Word.{lt-test, not-lt-test, not-le-test, le-test}
+use Rattle.spec_spline.specs.Outcome.{Outcome, answer, refusal, refuse, largestPlace, _then_}
+use Rattle.spec_spline.specs.Search.{first}
+use Rattle.spec_spline.specs.Space.{Space, segments, break, between, badBreak, breakLimit, fitting, lengthsFit, refuseFirst, checked, checkedEntries, rowCount}
+use Rattle.spec_spline.specs.Reading.{fine}
+use Rattle.spec_spline.specs.CurveCall.{CurveResult, positionLimit, badCoefficient, badPosition, legalEntries, curveChecked, curveRead, curveOutcome}
+use Rattle.spec_spline.proofs.Outcome.{then-refuses}
+use Rattle.spec_spline.proofs.Search.{first-ext, first-none-inverts}
+use Rattle.spec_spline.proofs.Space.{between-inverts}
+use Rattle.spec_spline.proofs.Build.{long-enough}
+use Rattle.spec_spline.proofs.Legal.{Checked, checked-inverts, lengths-fit-inverts}
+use Rattle.spec_spline.specs.Table.{tableCells}
+use Rattle.theorems_values.proofs.LegalCall.{checks-passed}
 use Rattle.indices.specs.Indices.{ringPositions}
 use Rattle.indices.specs.Machine.{leastWord, greatestWord, nearestWord, wordPosition, wordPositions, ringsTaken}
 use Rattle.indices.proofs.Ring.{nearest-below, nearest-above, nearest-inside}

@@ -11,33 +11,33 @@ use lib.Dec.{ltb}
 use lib.IntN.{ℤ, pos, negsuc, natAbs, _+ℤ_, _*ℤ_}
 use lib.ListN.{length, getD, drop, List·getD-append}
 use lib.Signed.{_<ℤ_, _≤ℤ_}
-use Rattle.exact.specs.Rational.{ℚ, int, _+ᵠ_, _-ᵠ_, _*ᵠ_, _/ᵠ_, -ᵠ_}
-use Rattle.exact.specs.Order.{Nn, _≤ᵠ_, _<ᵠ_}
-use Rattle.exact.specs.Floor.{floorDiv}
-use Rattle.exact.specs.Tabulate.{tab}
-use Rattle.exact.proofs.Decide.{cond-false}
-use Rattle.exact.proofs.Integer as Z
-use Rattle.exact.proofs.Order as Q
-use Rattle.exact.proofs.Rational.{ℚ-ring, readsℚ, int-add, int-mul, div-mul, mul-comm}
-use Rattle.exact.proofs.Ring.{ring}
-use Rattle.exact.proofs.Tabulate.{tab-length, getD-tab, getD-past-tab}
-use Rattle.exact.proofs.Word.{pos-of, is-pos}
-use Rattle.spline.specs.Outcome.{Outcome, answer, refusal, refuse, _then_}
-use Rattle.spline.specs.Search.{first}
-use Rattle.spline.specs.Space.{Space, refuseFirst}
-use Rattle.spline.specs.Table.{tableCells}
-use Rattle.spline.specs.Reading as Reading
-use Rattle.spline.specs.Reading.{WoodPart, partIndex, Pair, fine, sideBySide}
-use Rattle.spline.specs.CurveCall.{CurveResult, curveOutcome, curveNumerators, curveDenominators, valuesAfter}
-use Rattle.spline.specs.ExactCurve.{Legal}
-use Rattle.spline.proofs.Outcome.{answer-unique, answer-not-refusal, then-answers, then-inverts}
-use Rattle.spline.proofs.Search.{first-ext, first-none-inverts}
-use Rattle.spline.proofs.Build.{long-enough}
-use Rattle.spline.proofs.Pairs.{le-half}
-use Rattle.spline.proofs.Legal.{refuseFirst-inverts, cond-refuse-inverts}
-use Rattle.closeness.specs.Demand3Values.{Close}
-use Rattle.closeness.proofs.LegalCall.{answered-calls-are-legal, legal-calls-answer, values-length}
-use Rattle.closeness.proofs.Cells.{cells-are-close}
+use Rattle.base_exact.specs.Rational.{ℚ, int, _+ᵠ_, _-ᵠ_, _*ᵠ_, _/ᵠ_, -ᵠ_}
+use Rattle.base_exact.specs.Order.{Nn, _≤ᵠ_, _<ᵠ_}
+use Rattle.base_exact.specs.Floor.{floorDiv}
+use Rattle.base_exact.specs.Tabulate.{tab}
+use Rattle.base_exact.proofs.Decide.{cond-false}
+use Rattle.base_exact.proofs.Integer as Z
+use Rattle.base_exact.proofs.Order as Q
+use Rattle.base_exact.proofs.Rational.{ℚ-ring, readsℚ, int-add, int-mul, div-mul, mul-comm}
+use Rattle.base_exact.proofs.Ring.{ring}
+use Rattle.base_exact.proofs.Tabulate.{tab-length, getD-tab, getD-past-tab}
+use Rattle.base_exact.proofs.Word.{pos-of, is-pos}
+use Rattle.spec_spline.specs.Outcome.{Outcome, answer, refusal, refuse, _then_}
+use Rattle.spec_spline.specs.Search.{first}
+use Rattle.spec_spline.specs.Space.{Space, refuseFirst}
+use Rattle.spec_spline.specs.Table.{tableCells}
+use Rattle.spec_spline.specs.Reading as Reading
+use Rattle.spec_spline.specs.Reading.{Wood, woodIndex, Pair, fine, sideBySide}
+use Rattle.spec_spline.specs.CurveCall.{CurveResult, curveOutcome, curveNumerators, curveDenominators, valuesAfter}
+use Rattle.spec_spline.specs.ExactCurve.{Legal}
+use Rattle.spec_spline.proofs.Outcome.{answer-unique, answer-not-refusal, then-answers, then-inverts}
+use Rattle.spec_spline.proofs.Search.{first-ext, first-none-inverts}
+use Rattle.spec_spline.proofs.Build.{long-enough}
+use Rattle.spec_spline.proofs.Pairs.{le-half}
+use Rattle.spec_spline.proofs.Legal.{refuseFirst-inverts, cond-refuse-inverts}
+use Rattle.theorems_values.specs.ValueLimits.{Close}
+use Rattle.theorems_values.proofs.LegalCall.{answered-calls-are-legal, legal-calls-answer, values-length}
+use Rattle.theorems_values.proofs.Cells.{cells-are-close}
 use Rattle.indices.specs.Indices.{ringPositions, ringWidth, ringValue, isRefused, badRing, indexScale, indexOf, ringIndices, ringsRead, ringsIndexed, indicesReturned, indicesAfter}
 use Rattle.indices.specs.Rings.{RingsCall, endOf, ringCount, positionOf, valueCell, indexCell, CurveIsLegal, LegalRingsEnd, LegalRingsLeaveTheCurve, AnsweredRingsAreLegal, RefusalsKeepTheIndices, IndicesPastAreKept, PresentRingsAreDivided, AbsentRingsHaveMinusOne, ValuesUnderRingsAreClose, exactUnder, errorUnder, scaledWidth, IndexIsAbove, IndexIsAtMost}
 use Rattle.indices.proofs.Ring.{passes-width, passes-value, index-absent, index-present}
@@ -58,7 +58,7 @@ module _ (c : RingsCall) where
   curves = curveOutcome (c .space) (c .coefs) positions (length (c .num)) (length (c .den)) (length (c .values))
 
   abbrev indexed : Outcome (List ℤ)
-  indexed = read then ringsIndexed (c .part) (c .widths)
+  indexed = read then ringsIndexed (c .wood) (c .widths)
 
   -- ---- a legal call
   module _ (l : CurveIsLegal c) (room : ringCount c ≤ length (c .indices)) where
@@ -78,23 +78,23 @@ module _ (c : RingsCall) where
     result-count : length (result .values) ≡ ringCount c
     result-count = values-length (c .space) (l .accepted .table) (c .coefs) positions ∙ exact-length (c .firstRing) (ringCount c)
 
-    value-under : (i : ℕ) → i < ringCount c → valueCell c i ≡ ringValue (c .part) (result .values) i
-    value-under i h = ap (λ o. getD (valuesAfter o (c .values)) (2 * i + partIndex (c .part)) (pos 0)) read-answers ∙ value-cell (c .part) (c .widths) result (c .values) result-count i h
+    value-under : (i : ℕ) → i < ringCount c → valueCell c i ≡ ringValue (c .wood) (result .values) i
+    value-under i h = ap (λ o. getD (valuesAfter o (c .values)) (2 * i + woodIndex (c .wood)) (pos 0)) read-answers ∙ value-cell (c .wood) (c .widths) result (c .values) result-count i h
 
-    tests-same : first (ringCount c) (badRing (c .part) (c .widths) (result .values)) ≡ first (ringCount c) (λ i. isRefused (ringWidth (c .widths) i) (valueCell c i))
+    tests-same : first (ringCount c) (badRing (c .wood) (c .widths) (result .values)) ≡ first (ringCount c) (λ i. isRefused (ringWidth (c .widths) i) (valueCell c i))
     unfolding badRing
     tests-same = first-ext (ringCount c) (λ i h. ap (isRefused (ringWidth (c .widths) i)) (sym (value-under i h)))
 
-    indexed-is : indexed ≡ refuseFirst 14 (first (ringCount c) (λ i. isRefused (ringWidth (c .widths) i) (valueCell c i))) (answer (ringIndices (c .part) (c .widths) (result .values)))
+    indexed-is : indexed ≡ refuseFirst 14 (first (ringCount c) (λ i. isRefused (ringWidth (c .widths) i) (valueCell c i))) (answer (ringIndices (c .wood) (c .widths) (result .values)))
     unfolding ringsIndexed
-    indexed-is = then-answers (ringsIndexed (c .part) (c .widths)) read-answers ∙ ap (λ (o : Option ℕ). refuseFirst 14 o (answer (ringIndices (c .part) (c .widths) (result .values)))) tests-same
+    indexed-is = then-answers (ringsIndexed (c .wood) (c .widths)) read-answers ∙ ap (λ (o : Option ℕ). refuseFirst 14 o (answer (ringIndices (c .wood) (c .widths) (result .values)))) tests-same
 
 pub values-under-rings-are-close : ValuesUnderRingsAreClose
 values-under-rings-are-close c l room i h =
     let p = positions c in
-    subst (λ (v : ℤ). Close (c .space) (l .accepted .table) (c .part) (c .coefs) (positionOf c i) v) (ap (λ o. getD (valuesAfter o (c .values)) (2 * i + partIndex (c .part)) (pos 0)) (sym (read-is c l room)))
-    (subst (λ (x : ℤ). Close (c .space) (l .accepted .table) (c .part) (c .coefs) x (getD (valuesAfter (curves c) (c .values)) (2 * i + partIndex (c .part)) (pos 0))) (exact-at (c .firstRing) (ringCount c) i h)
-    (cells-are-close (c .space) (c .coefs) p (length (c .num)) (length (c .den)) (length (c .values)) l (c .values) i (rw (exact-length (c .firstRing) (ringCount c)) h) (c .part)))
+    subst (λ (v : ℤ). Close (c .space) (l .accepted .table) (c .wood) (c .coefs) (positionOf c i) v) (ap (λ o. getD (valuesAfter o (c .values)) (2 * i + woodIndex (c .wood)) (pos 0)) (sym (read-is c l room)))
+    (subst (λ (x : ℤ). Close (c .space) (l .accepted .table) (c .wood) (c .coefs) x (getD (valuesAfter (curves c) (c .values)) (2 * i + woodIndex (c .wood)) (pos 0))) (exact-at (c .firstRing) (ringCount c) i h)
+    (cells-are-close (c .space) (c .coefs) p (length (c .num)) (length (c .den)) (length (c .values)) l (c .values) i (rw (exact-length (c .firstRing) (ringCount c)) h) (c .wood)))
 
 pub legal-rings-leave-the-curve : LegalRingsLeaveTheCurve
 legal-rings-leave-the-curve c l room =
@@ -107,7 +107,7 @@ returned-tested (some i) zs e = refl
 
 pub legal-rings-end : LegalRingsEnd
 unfolding ringIndices
-legal-rings-end c l room = ap indicesReturned (indexed-is c l room) ∙ returned-tested (first (ringCount c) (λ i. isRefused (ringWidth (c .widths) i) (valueCell c i))) (ringIndices (c .part) (c .widths) (result c l room .values)) (tab-length (ringCount c) _)
+legal-rings-end c l room = ap indicesReturned (indexed-is c l room) ∙ returned-tested (first (ringCount c) (λ i. isRefused (ringWidth (c .widths) i) (valueCell c i))) (ringIndices (c .wood) (c .widths) (result c l room .values)) (tab-length (ringCount c) _)
 
 -- ---- an answered call
 
@@ -125,7 +125,7 @@ record Answered (c : RingsCall) (n : ℕ) : Type 0 where
   legal : CurveIsLegal c
   room : ringCount c ≤ length (c .indices)
   none-refused : first (ringCount c) (λ i. isRefused (ringWidth (c .widths) i) (valueCell c i)) ≡ none
-  is : indexed c ≡ answer (ringIndices (c .part) (c .widths) (result c legal room .values))
+  is : indexed c ≡ answer (ringIndices (c .wood) (c .widths) (result c legal room .values))
   count : n ≡ ringCount c
 
 -- the lengths that an outcome had, and the curve call's
@@ -145,10 +145,10 @@ answered : (c : RingsCall) (n : ℕ) → endOf c .answers ≡ answer n → Answe
 unfolding ringIndices
 answered c n e =
     let r = returned-inverts (indexed c) e in
-    let t = then-inverts (read c) (ringsIndexed (c .part) (c .widths)) (r .is) in
+    let t = then-inverts (read c) (ringsIndexed (c .wood) (c .widths)) (r .is) in
     let p = lengths-passed c (t .before) in
     let l = answered-calls-are-legal (c .space) (c .coefs) (positions c) (length (c .num)) (length (c .den)) (length (c .values)) (t .middle) (p .1) in
-    let zs = ringIndices (c .part) (c .widths) (result c l (p .0) .values) in
+    let zs = ringIndices (c .wood) (c .widths) (result c l (p .0) .values) in
     let o = first (ringCount c) (λ i. isRefused (ringWidth (c .widths) i) (valueCell c i)) in
     let none-refused = refuseFirst-inverts 14 o (answer zs) (sym (indexed-is c l (p .0)) ∙ r .is) in
     record {
@@ -172,11 +172,11 @@ refusals-keep-the-indices c number place e = go (indexed c) e
 
 -- the index cells hold the indices, and behind them what they held
 cells-are : (c : RingsCall) (n : ℕ) (e : endOf c .answers ≡ answer n) → let a = answered c n e in
-    endOf c .indices ≡ tab (ringCount c) (λ i. indexOf (ringWidth (c .widths) i) (ringValue (c .part) (result c (a .legal) (a .room) .values) i)) ++ drop (ringCount c) (c .indices)
+    endOf c .indices ≡ tab (ringCount c) (λ i. indexOf (ringWidth (c .widths) i) (ringValue (c .wood) (result c (a .legal) (a .room) .values) i)) ++ drop (ringCount c) (c .indices)
 unfolding indicesAfter ringIndices
 cells-are c n e =
     let a = answered c n e in
-    let f : ℕ → ℤ = λ (i : ℕ). indexOf (ringWidth (c .widths) i) (ringValue (c .part) (result c (a .legal) (a .room) .values) i) in
+    let f : ℕ → ℤ = λ (i : ℕ). indexOf (ringWidth (c .widths) i) (ringValue (c .wood) (result c (a .legal) (a .room) .values) i) in
     ap (λ o. indicesAfter o (c .indices)) (a .is) ∙ ap (λ (k : ℕ). tab (ringCount c) f ++ drop k (c .indices)) (tab-length (ringCount c) f)
 
 module _ (c : RingsCall) (n : ℕ) (e : endOf c .answers ≡ answer n) (i : ℕ) (h : i < ringCount c) where
@@ -247,7 +247,7 @@ module _ (w v : ℤ) (low : pos 0 ≤ℤ w) (above : pos 0 <ℤ v) where
       regroup x = ring ℚ-ring (x ∷ []) (search readsℚ depth 20) (search readsℚ depth 20) refl
 
 module _ (c : RingsCall) (l : CurveIsLegal c) (n : ℕ) (e : endOf c .answers ≡ answer n) (i : ℕ) (h : i < ringCount c) (present : ringWidth (c .widths) i ≢ pos 0) where
-  close : Close (c .space) (l .accepted .table) (c .part) (c .coefs) (positionOf c i) (valueCell c i)
+  close : Close (c .space) (l .accepted .table) (c .wood) (c .coefs) (positionOf c i) (valueCell c i)
   close = values-under-rings-are-close c l (answered c n e .room) i h
 
   divided : (pos 0 <ℤ valueCell c i) × (indexCell c i ≡ floorDiv (indexScale *ℤ ringWidth (c .widths) i) (natAbs (valueCell c i)))

@@ -4,8 +4,8 @@ use mathlib.Core.Bool.{Bool, true, false}
 use mathlib.Core.Option.{Option, some, none}
 use Prim.Native.Nat.{ℕ, _<_}
 use native.Mathlib.Omega.{arith}
-use Rattle.spline.specs.Search.{first}
-use Rattle.spline.proofs.Search.{first-at, first-none}
+use Rattle.spec_spline.specs.Search.{first}
+use Rattle.spec_spline.proofs.Search.{first-at, first-none}
 use Rattle.indices.specs.Machine.{found}
 use Rattle.indices.specs.declared.Found.the-variants.{At, Nothing}
 

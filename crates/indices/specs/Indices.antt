@@ -9,13 +9,13 @@ use lib.Dec.{eqb, ltb}
 use lib.IntN.{ℤ, pos, negsuc, natAbs, _+ℤ_, _*ℤ_}
 use lib.ListN.{length, getD, drop}
 use lib.Signed.{leZ, ltZ}
-use Rattle.exact.specs.Floor.{floorDiv}
-use Rattle.exact.specs.Tabulate.{tab}
-use Rattle.spline.specs.Outcome.{Outcome, answer, refusal, refuse, _then_}
-use Rattle.spline.specs.Search.{first}
-use Rattle.spline.specs.Space.{Space, between, refuseFirst}
-use Rattle.spline.specs.Reading.{WoodPart, earlywood, latewood, Pair, fine}
-use Rattle.spline.specs.CurveCall.{CurveResult, allLongEnough, curveOutcome, curveNumerators, curveDenominators, valuesAfter}
+use Rattle.base_exact.specs.Floor.{floorDiv}
+use Rattle.base_exact.specs.Tabulate.{tab}
+use Rattle.spec_spline.specs.Outcome.{Outcome, answer, refusal, refuse, _then_}
+use Rattle.spec_spline.specs.Search.{first}
+use Rattle.spec_spline.specs.Space.{Space, between, refuseFirst}
+use Rattle.spec_spline.specs.Reading.{Wood, earlywood, latewood, Pair, fine}
+use Rattle.spec_spline.specs.CurveCall.{CurveResult, allLongEnough, curveOutcome, curveNumerators, curveDenominators, valuesAfter}
 
 -- ---- the rings
 
@@ -32,13 +32,13 @@ abbrev pub noPair : Pair
 noPair = record { early = pos 0; late = pos 0 }
 
 -- "Index work names which part it uses": that part's number of a pair.
-abbrev pub ofPart : WoodPart → Pair → ℤ
-ofPart earlywood p = p .early
-ofPart latewood p = p .late
+abbrev pub ofWood : Wood → Pair → ℤ
+ofWood earlywood p = p .early
+ofWood latewood p = p .late
 
 -- The named part's value under ring i.
-abbrev pub ringValue : WoodPart → List Pair → ℕ → ℤ
-ringValue part values i = ofPart part (getD values i noPair)
+abbrev pub ringValue : Wood → List Pair → ℕ → ℤ
+ringValue wood values i = ofWood wood (getD values i noPair)
 
 -- ---- number 14
 
@@ -55,8 +55,8 @@ unfoldable pub isRefused : ℤ → ℤ → Bool
 isRefused width value = not (between (pos 0) (pos widthLimit) width) || (not (isAbsent width) && leZ value (pos 0))
 
 -- Ring i is such an entry.
-unfoldable pub badRing : WoodPart → List ℤ → List Pair → ℕ → Bool
-badRing part widths values i = isRefused (ringWidth widths i) (ringValue part values i)
+unfoldable pub badRing : Wood → List ℤ → List Pair → ℕ → Bool
+badRing wood widths values i = isRefused (ringWidth widths i) (ringValue wood values i)
 
 -- ---- the indices
 
@@ -69,8 +69,8 @@ unfoldable pub indexOf : ℤ → ℤ → ℤ
 indexOf width value = cond (isAbsent width) (negsuc 0) (floorDiv (indexScale *ℤ width) (natAbs value))
 
 -- The indices of all rings, in list order.
-unfoldable pub ringIndices : WoodPart → List ℤ → List Pair → List ℤ
-ringIndices part widths values = tab (length widths) (λ i. indexOf (ringWidth widths i) (ringValue part values i))
+unfoldable pub ringIndices : Wood → List ℤ → List Pair → List ℤ
+ringIndices wood widths values = tab (length widths) (λ i. indexOf (ringWidth widths i) (ringValue wood values i))
 
 -- ---- the call
 
@@ -84,8 +84,8 @@ ringsRead s coefs firstRing widths numLength denLength valuesLength indicesLengt
     (curveOutcome s coefs positions numLength denLength valuesLength))
 
 -- And then 14, "place the first such entry", or the indices.
-unfoldable pub ringsIndexed : WoodPart → List ℤ → CurveResult → Outcome (List ℤ)
-ringsIndexed part widths r = refuseFirst 14 (first (length widths) (badRing part widths (r .values))) (answer (ringIndices part widths (r .values)))
+unfoldable pub ringsIndexed : Wood → List ℤ → CurveResult → Outcome (List ℤ)
+ringsIndexed wood widths r = refuseFirst 14 (first (length widths) (badRing wood widths (r .values))) (answer (ringIndices wood widths (r .values)))
 
 -- "The call returns the rings' count".
 abbrev pub indicesReturned : Outcome (List ℤ) → Outcome ℕ
@@ -107,10 +107,10 @@ pub record IndicesEnd : Type 0 where
   pub indices : List ℤ
 
 -- The end of the call for a wood part with these lists and these four buffers lent.
-abbrev pub indicesEnd : WoodPart → Space → List ℤ → ℤ → List ℤ → List ℤ → List ℤ → List ℤ → List ℤ → IndicesEnd
-indicesEnd part s coefs firstRing widths num den values indices =
+abbrev pub indicesEnd : Wood → Space → List ℤ → ℤ → List ℤ → List ℤ → List ℤ → List ℤ → List ℤ → IndicesEnd
+indicesEnd wood s coefs firstRing widths num den values indices =
     let o = ringsRead s coefs firstRing widths (length num) (length den) (length values) (length indices) in
-    let i = o then ringsIndexed part widths in
+    let i = o then ringsIndexed wood widths in
     record {
       answers = indicesReturned i;
       numerators = curveNumerators s o num;

@@ -7,15 +7,15 @@ use Prim.Native.Nat.{ℕ, _+_, _*_, min}
 use lib.IntN.{ℤ, pos, negsuc, _+ℤ_}
 use lib.ListN.{length, getD}
 use lib.Signed.{ltZ}
-use Rattle.exact.specs.Tabulate.{tab}
-use Rattle.spline.specs.Outcome.{Outcome, answer, refusal}
-use Rattle.spline.specs.Search.{first}
-use Rattle.spline.specs.Space.{refuseFirst}
-use Rattle.spline.specs.Reading.{WoodPart, earlywood, latewood, fine}
-use Rattle.spline.specs.CurveCall.{positionLimit}
+use Rattle.base_exact.specs.Tabulate.{tab}
+use Rattle.spec_spline.specs.Outcome.{Outcome, answer, refusal}
+use Rattle.spec_spline.specs.Search.{first}
+use Rattle.spec_spline.specs.Space.{refuseFirst}
+use Rattle.spec_spline.specs.Reading.{Wood, earlywood, latewood, fine}
+use Rattle.spec_spline.specs.CurveCall.{positionLimit}
 use Rattle.indices.specs.Indices.{ringWidth, isRefused, indexOf}
-use Rattle.indices.specs.declared.Part.{Part}
-use Rattle.indices.specs.declared.Part.the-variants.{Earlywood, Latewood}
+use Rattle.indices.specs.declared.Wood as machine
+use Rattle.indices.specs.declared.Wood.the-variants.{Earlywood, Latewood}
 use Rattle.indices.specs.declared.Answer.{Answer}
 use Rattle.indices.specs.declared.Answer.the-variants.{Indices, Refused}
 use Rattle.indices.specs.declared.Found.{Found}
@@ -24,9 +24,9 @@ use Rattle.indices.specs.declared.Found.the-variants.{At, Nothing}
 -- ---- parts and answers
 
 -- The wood part that a case names.
-abbrev pub woodPart : Part → WoodPart
-woodPart Earlywood = earlywood
-woodPart Latewood = latewood
+abbrev pub woodOf : machine.Wood → Wood
+woodOf Earlywood = earlywood
+woodOf Latewood = latewood
 
 -- The rings' count, or the number and place of a refusal.
 unfoldable pub reply : Answer → Outcome ℕ

@@ -9,21 +9,21 @@ use Prim.Native.Nat.{ℕ, _+_, _*_, _<_, _≤_}
 use lib.IntN.{ℤ, pos, negsuc, natAbs, _+ℤ_, _*ℤ_}
 use lib.ListN.{length, getD}
 use lib.Signed.{_<ℤ_}
-use Rattle.exact.specs.Rational.{ℚ, int, _+ᵠ_, _-ᵠ_, _/ᵠ_}
-use Rattle.exact.specs.Order.{_≤ᵠ_, _<ᵠ_}
-use Rattle.exact.specs.Floor.{floorDiv}
-use Rattle.spline.specs.Outcome.{answer, refusal}
-use Rattle.spline.specs.Search.{first}
-use Rattle.spline.specs.Space.{Space, refuseFirst}
-use Rattle.spline.specs.Reading.{WoodPart, partIndex, fine}
-use Rattle.spline.specs.CurveCall.{curveEnd}
-use Rattle.spline.specs.ExactCurve.{exactCurve, Legal}
-use Rattle.closeness.specs.Demand3Values.{closeness, Close}
+use Rattle.base_exact.specs.Rational.{ℚ, int, _+ᵠ_, _-ᵠ_, _/ᵠ_}
+use Rattle.base_exact.specs.Order.{_≤ᵠ_, _<ᵠ_}
+use Rattle.base_exact.specs.Floor.{floorDiv}
+use Rattle.spec_spline.specs.Outcome.{answer, refusal}
+use Rattle.spec_spline.specs.Search.{first}
+use Rattle.spec_spline.specs.Space.{Space, refuseFirst}
+use Rattle.spec_spline.specs.Reading.{Wood, woodIndex, fine}
+use Rattle.spec_spline.specs.CurveCall.{curveEnd}
+use Rattle.spec_spline.specs.ExactCurve.{exactCurve, Legal}
+use Rattle.theorems_values.specs.ValueLimits.{closeness, Close}
 use Rattle.indices.specs.Indices.{ringPositions, ringWidth, isRefused, indexScale, IndicesEnd, indicesEnd}
 
 -- What a call is given.
 pub record RingsCall : Type 0 where
-  pub part : WoodPart
+  pub wood : Wood
   pub space : Space
   pub coefs : List ℤ
   pub firstRing : ℤ
@@ -35,7 +35,7 @@ pub record RingsCall : Type 0 where
 
 -- What it ends with.
 abbrev pub endOf : RingsCall → IndicesEnd
-endOf c = indicesEnd (c .part) (c .space) (c .coefs) (c .firstRing) (c .widths) (c .num) (c .den) (c .values) (c .indices)
+endOf c = indicesEnd (c .wood) (c .space) (c .coefs) (c .firstRing) (c .widths) (c .num) (c .den) (c .values) (c .indices)
 
 -- The rings' count.
 abbrev pub ringCount : RingsCall → ℕ
@@ -47,7 +47,7 @@ positionOf c i = fine (c .firstRing +ℤ pos i)
 
 -- The named part's value cell of ring i after the call.
 abbrev pub valueCell : RingsCall → ℕ → ℤ
-valueCell c i = getD (endOf c .values) (2 * i + partIndex (c .part)) (pos 0)
+valueCell c i = getD (endOf c .values) (2 * i + woodIndex (c .wood)) (pos 0)
 
 -- The index cell of ring i after the call.
 abbrev pub indexCell : RingsCall → ℕ → ℤ
@@ -97,13 +97,13 @@ AbsentRingsHaveMinusOne = (c : RingsCall) (n : ℕ) → endOf c .answers ≡ ans
 -- "a value with the closeness voted for": all that demand 3 says of the value under ring i.
 abbrev pub ValuesUnderRingsAreClose : Type 0
 ValuesUnderRingsAreClose = (c : RingsCall) (l : CurveIsLegal c) → ringCount c ≤ length (c .indices) → (i : ℕ) → i < ringCount c
-    → Close (c .space) (l .accepted .table) (c .part) (c .coefs) (positionOf c i) (valueCell c i)
+    → Close (c .space) (l .accepted .table) (c .wood) (c .coefs) (positionOf c i) (valueCell c i)
 
 -- ---- the bounds on an index
 
 -- The exact curve under ring i.
 abbrev pub exactUnder : (c : RingsCall) → CurveIsLegal c → ℕ → ℚ
-exactUnder c l i = exactCurve (c .space) (l .accepted .table) (c .part) (c .coefs) (positionOf c i)
+exactUnder c l i = exactCurve (c .space) (l .accepted .table) (c .wood) (c .coefs) (positionOf c i)
 
 -- Its error, (s + p)/2.
 abbrev pub errorUnder : (c : RingsCall) → CurveIsLegal c → ℕ → ℚ

@@ -6,21 +6,21 @@ ghost use mathlib.Core.Bool.{false};
 ghost use Prim.Native.Nat.{ℕ, _+_, _*_, _<_, _≤_};
 ghost use lib.IntN.{pos};
 ghost use lib.ListN.{length, getD, drop};
-ghost use Rattle.exact.specs.Tabulate.{tab};
-ghost use Rattle.spline.specs.Search;
-ghost use Rattle.spline.specs.Reading.{partIndex};
-ghost use Rattle.spline.specs.CurveCall.{positionLimit, curveEnd};
-ghost use Rattle.space.specs.Reply.{space};
-ghost use Rattle.curve.specs.Reply;
+ghost use Rattle.base_exact.specs.Tabulate.{tab};
+ghost use Rattle.spec_spline.specs.Search;
+ghost use Rattle.spec_spline.specs.Reading.{woodIndex};
+ghost use Rattle.spec_spline.specs.CurveCall.{positionLimit, curveEnd};
+ghost use Rattle.build_space.specs.Machine.{space};
+ghost use Rattle.curve.specs.Machine;
 ghost use Rattle.indices.specs.Indices.{indicesReturned, indicesAfter, indicesEnd};
-ghost use Rattle.indices.specs.Machine.{woodPart, reply, found, nearestWord, wordPosition, ringsTaken, wordPositions, badCell, cellIndex, cellsIndexed};
+ghost use Rattle.indices.specs.Machine.{woodOf, reply, found, nearestWord, wordPosition, ringsTaken, wordPositions, badCell, cellIndex, cellsIndexed};
 
 // One more than the curve call takes: it refuses these as it would refuse more.
 const MOST_RINGS: usize = 4097;
 
 const TABLE_CELLS: usize = 5184;
 
-const PARTS: i64 = 256;
+const FINENESS: i64 = 256;
 
 const WORD_LEAST: i64 = -2147483648;
 
@@ -32,7 +32,7 @@ const WIDTH_LIMIT: i32 = 99999;
 const INDEX_SCALE: i64 = 256000;
 
 // The wood part whose curve the rings are divided by.
-pub enum Part {
+pub enum Wood {
     Earlywood,
     Latewood,
 }
@@ -77,7 +77,7 @@ fn fill_positions(first: i32, positions: &mut [i32])
     let mut i = 0;
     while i < positions.len() {
         let ring = first as i64 + i as i64;
-        let x = nearest_word(PARTS * ring);
+        let x = nearest_word(FINENESS * ring);
         positions[i] = x;
         i += 1;
     }
@@ -97,19 +97,19 @@ fn read_rings(
 ) -> curve::Answer
     requires { ⌜ length (now positions) ≤ positionLimit + 1 ⌝ }
     ensures { λ r. ⌜ (let e = curveEnd (space (now (breaks .entry)) (now (degrees .entry)) (now (orders .entry))) (now (coefs .entry)) (wordPositions first (length (now (positions .entry)))) (now (num .entry)) (now (den .entry)) (now (values .entry)) in
-        (Reply.reply r ≡ e .answers) × ((now (num .exit) ≡ e .numerators) × ((now (den .exit) ≡ e .denominators) × (now (values .exit) ≡ e .values)))) ⌝ }
+        (Machine.reply r ≡ e .answers) × ((now (num .exit) ≡ e .numerators) × ((now (den .exit) ≡ e .denominators) × (now (values .exit) ≡ e .values)))) ⌝ }
 {
     fill_positions(first, positions);
     curve::curve(breaks, degrees, orders, coefs, positions, num, den, values)
 }
 
 // The part's cell in each pair of values.
-fn part_index(part: Part) -> usize
-    ensures { λ r. ⌜ r ≡ partIndex (woodPart part) ⌝ }
+fn wood_index(wood: Wood) -> usize
+    ensures { λ r. ⌜ r ≡ woodIndex (woodOf wood) ⌝ }
 {
-    match part {
-        Part::Earlywood => 0,
-        Part::Latewood => 1,
+    match wood {
+        Wood::Earlywood => 0,
+        Wood::Latewood => 1,
     }
 }
 
@@ -160,7 +160,7 @@ fn index(widths: &[i32], values: &[i32], offset: usize, i: usize) -> i64
         return -1;
     }
     let value = values[2 * i + offset];
-    fraction::floor_div(INDEX_SCALE * (width as i64), value as i64)
+    base_fraction::floor_div(INDEX_SCALE * (width as i64), value as i64)
 }
 
 // The indices of all rings, none of which is refused.
@@ -178,11 +178,11 @@ fn write_indices(widths: &[i32], values: &[i32], offset: usize, indices: &mut [i
 }
 
 // Number 14, or the indices, of rings whose values have been written.
-fn index_rings(part: Part, widths: &[i32], values: &[i32], indices: &mut [i64]) -> Answer
+fn index_rings(wood: Wood, widths: &[i32], values: &[i32], indices: &mut [i64]) -> Answer
     requires { ⌜ ((2 * length (now widths) ≤ length (now values)) × (length (now widths) ≤ length (now indices))) × (length (now widths) ≤ positionLimit) ⌝ }
-    ensures { λ r. ⌜ (let i = cellsIndexed (now (widths .entry)) (now (values .entry)) (partIndex (woodPart part)) in (reply r ≡ indicesReturned i) × (now (indices .exit) ≡ indicesAfter i (now (indices .entry)))) ⌝ }
+    ensures { λ r. ⌜ (let i = cellsIndexed (now (widths .entry)) (now (values .entry)) (woodIndex (woodOf wood)) in (reply r ≡ indicesReturned i) × (now (indices .exit) ≡ indicesAfter i (now (indices .entry)))) ⌝ }
 {
-    let offset = part_index(part);
+    let offset = wood_index(wood);
     let bad = first_bad_ring(widths, values, offset);
     match bad {
         Found::At(i) => Answer::Refused(14, i as u32),
@@ -196,7 +196,7 @@ fn index_rings(part: Part, widths: &[i32], values: &[i32], indices: &mut [i64]) 
 // Builds the weights, writes both values of each ring, and then the named part's indices, one a ring. Lists and buffers may have
 // any length and content: what the definition refuses is refused, and the buffers are then as it says.
 pub fn indices(
-    part: Part,
+    wood: Wood,
     breaks: &[i32],
     degrees: &[i32],
     orders: &[i32],
@@ -208,7 +208,7 @@ pub fn indices(
     values: &mut [i32],
     indices: &mut [i64],
 ) -> Answer
-    ensures { λ r. ⌜ (let e = indicesEnd (woodPart part) (space (now (breaks .entry)) (now (degrees .entry)) (now (orders .entry))) (now (coefs .entry)) first (now (widths .entry)) (now (num .entry)) (now (den .entry)) (now (values .entry)) (now (indices .entry)) in
+    ensures { λ r. ⌜ (let e = indicesEnd (woodOf wood) (space (now (breaks .entry)) (now (degrees .entry)) (now (orders .entry))) (now (coefs .entry)) first (now (widths .entry)) (now (num .entry)) (now (den .entry)) (now (values .entry)) (now (indices .entry)) in
         (reply r ≡ e .answers) × ((now (num .exit) ≡ e .numerators) × ((now (den .exit) ≡ e .denominators) × ((now (values .exit) ≡ e .values) × (now (indices .exit) ≡ e .indices))))) ⌝ }
 {
     if num.len() < TABLE_CELLS {
@@ -238,6 +238,6 @@ pub fn indices(
     );
     match read {
         curve::Answer::Refused(number, place) => Answer::Refused(number, place),
-        curve::Answer::Values(_) => index_rings(part, widths, values, indices),
+        curve::Answer::Values(_) => index_rings(wood, widths, values, indices),
     }
 }

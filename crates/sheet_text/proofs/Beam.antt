@@ -8,38 +8,38 @@ use native.Mathlib.Nat.{zero-add}
 use native.Mathlib.Omega.{arith}
 use lib.IntN.{ℤ}
 use lib.ListN.{length}
-use Rattle.exact.proofs.Decide.{le-or-lt}
-use Rattle.spline.specs.Outcome.{answer, with-answer}
-use Rattle.spline.specs.Space.{Space, segments, partEnd, firstColumn, columnCount, conditionsBefore, rowCount, rowsBefore}
-use Rattle.spline.specs.Table.{Table, row, cell, rowCells, tableCells, numerators, denominators}
-use Rattle.spline.specs.Build.{spaceWeights, weights, lastPart, numeratorsAfter, denominatorsAfter}
-use Rattle.spline.specs.Piecewise.{Accepted}
-use Rattle.spline.specs.Reading.{Pair}
-use Rattle.spline.proofs.Outcome.{answer-not-refusal}
-use Rattle.spline.proofs.Parts.{Boundary, first-starts, part-ends}
-use Rattle.spline.proofs.Legal.{Checked, Lengths, lengths-fit-inverts, checked-passes}
-use Rattle.spline.proofs.Table.{entry-past}
-use Rattle.theorems.proofs.Demand2.{rows-and-columns}
-use Rattle.space.specs.Legal.{ListsLegal, PartLegal}
-use Rattle.space.proofs.Legal.{checked-legal, legal-first-column-high, legal-row-count-sum, part-column-count-high}
-use Rattle.weights.specs.Reply.{reply}
-use Rattle.weights.specs.declared.Built.{Built}
-use Rattle.weights.specs.declared.Built.the-variants.{Rows, Refused}
-use Rattle.weights.proofs.Beam.{told-rows, told-refused, part-legal}
-use Rattle.beams.specs.Sections.{section, partAt}
-use Rattle.beams.specs.Parts.{Starts, PartOf}
-use Rattle.beams.proofs.Sections.{section-all, front-columns, OrdersFit, orders-fit}
-use Rattle.beams.proofs.Ends.{boundary-starts}
-use Rattle.beams.proofs.PartLegal.{part-lastPart}
-use Rattle.beams.proofs.Fronts.{part-columns, front-rows, front-rows-more}
-use Rattle.beams.proofs.Parts.{accepted-checked, weights-by-parts}
-use Rattle.cells.proofs.Buffer.{kept-numerators, kept-denominators}
-use Rattle.printout.specs.Buffer.{Puts}
-use Rattle.sorting.specs.Sorted.{sorted}
-use Rattle.printout.specs.Printout.{countLine, weightLines, valueLines, lowPositions, lowLines, answerText}
-use Rattle.printout.specs.Printed.{weightLineLimit, storedWeights}
-use Rattle.printout.proofs.Buffer.{puts-none, puts-then, puts-within, puts-as}
-use Rattle.printout.proofs.Stored.{Holds, firstRows, rows-none, rows-all, rows-more}
+use Rattle.base_exact.proofs.Decide.{le-or-lt}
+use Rattle.spec_spline.specs.Outcome.{answer, with-answer}
+use Rattle.spec_spline.specs.Space.{Space, segments, partEnd, firstColumn, columnCount, conditionsBefore, rowCount, rowsBefore}
+use Rattle.spec_spline.specs.Table.{Table, row, cell, rowCells, tableCells, numerators, denominators}
+use Rattle.spec_spline.specs.Build.{spaceWeights, weights, lastPart, numeratorsAfter, denominatorsAfter}
+use Rattle.spec_spline.specs.Piecewise.{Accepted}
+use Rattle.spec_spline.specs.Reading.{Pair}
+use Rattle.spec_spline.proofs.Outcome.{answer-not-refusal}
+use Rattle.spec_spline.proofs.Parts.{Boundary, first-starts, part-ends}
+use Rattle.spec_spline.proofs.Legal.{Checked, Lengths, lengths-fit-inverts, checked-passes}
+use Rattle.spec_spline.proofs.Table.{entry-past}
+use Rattle.theorems_weights.proofs.PublishedBasis.{rows-and-columns}
+use Rattle.build_space.specs.Legal.{ListsLegal, PartLegal}
+use Rattle.build_space.proofs.Legal.{checked-legal, legal-first-column-high, legal-row-count-sum, part-column-count-high}
+use Rattle.build.specs.Machine.{reply}
+use Rattle.build.specs.declared.Built.{Built}
+use Rattle.build.specs.declared.Built.the-variants.{Rows, Refused}
+use Rattle.build.proofs.Beam.{told-rows, told-refused, part-legal}
+use Rattle.theorems_beams.specs.Sections.{section, partAt}
+use Rattle.theorems_beams.specs.Parts.{Starts, PartOf}
+use Rattle.theorems_beams.proofs.Sections.{section-all, front-columns, OrdersFit, orders-fit}
+use Rattle.theorems_beams.proofs.Ends.{boundary-starts}
+use Rattle.theorems_beams.proofs.PartLegal.{part-lastPart}
+use Rattle.theorems_beams.proofs.Fronts.{part-columns, front-rows, front-rows-more}
+use Rattle.theorems_beams.proofs.Parts.{accepted-checked, weights-by-parts}
+use Rattle.build_cells.proofs.Buffer.{kept-numerators, kept-denominators}
+use Rattle.sheet_print.specs.Buffer.{Puts}
+use Rattle.base_sorting.specs.Sorted.{sorted}
+use Rattle.sheet_print.specs.Printout.{countLine, weightLines, valueLines, lowPositions, lowLines, answerText}
+use Rattle.sheet_print.specs.Printed.{weightLineLimit, storedWeights}
+use Rattle.sheet_print.proofs.Buffer.{puts-none, puts-then, puts-within, puts-as}
+use Rattle.sheet_print.proofs.Stored.{Holds, firstRows, rows-none, rows-all, rows-more}
 use Rattle.sheet_text.specs.Sheet.{tableOf, weightsText, Filled}
 
 -- ---- an accepted beam

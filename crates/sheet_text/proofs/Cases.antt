@@ -5,16 +5,16 @@ use mathlib.Core.Path.{_≡_, refl, ap, _∙_}
 use Prim.Native.Nat.{ℕ}
 use native.Mathlib.Omega.{arith}
 use lib.IntN.{ℤ, pos, negsuc}
-use Rattle.spline.specs.Outcome.{Outcome, answer, refusal, capped, with-answer}
-use Rattle.spline.specs.Listing.{Weight}
-use Rattle.spline.specs.CurveCall.{CurveResult, curveOutcome}
-use Rattle.spline.specs.Cases.{Answered, forBoth, shown, answers, weights1, weights9, outcome, cases}
-use Rattle.spline.proofs.Cases.{every-case-holds}
-use Rattle.sorting.specs.Sorted.{inserted, sorted}
-use Rattle.numerals.specs.Bytes.{bytes, lines, cut, fieldsBetween, stripped}
-use Rattle.numerals.specs.Numeral.{allDigits, digitsValue, isNatural, numeral, digitsUpTo, digits, decimal}
-use Rattle.sheet_lists.specs.SheetReading.{pair, entries, listOf, line, readLine, Lists, fiveLines, read}
-use Rattle.printout.specs.Printout.{joined, countLine, weightLine, weightLines, valueLine, valueLines, isLow, lowPositions, lowLine, lowLines, answerText}
+use Rattle.spec_spline.specs.Outcome.{Outcome, answer, refusal, capped, with-answer}
+use Rattle.spec_spline.specs.Listing.{Weight}
+use Rattle.spec_spline.specs.CurveCall.{CurveResult, curveOutcome}
+use Rattle.spec_spline.specs.Cases.{Answered, forBoth, shown, answers, weights1, weights9, outcome, cases}
+use Rattle.spec_spline.proofs.Cases.{every-case-holds}
+use Rattle.base_sorting.specs.Sorted.{inserted, sorted}
+use Rattle.base_text.specs.Bytes.{bytes, lines, cut, fieldsBetween, stripped}
+use Rattle.base_text.specs.Numeral.{allDigits, digitsValue, isNatural, numeral, digitsUpTo, digits, decimal}
+use Rattle.sheet_read.specs.SheetReading.{pair, entries, listOf, line, readLine, Lists, fiveLines, read}
+use Rattle.sheet_print.specs.Printout.{joined, countLine, weightLine, weightLines, valueLine, valueLines, isLow, lowPositions, lowLine, lowLines, answerText}
 use Rattle.sheet_text.specs.Sheet.{argumentsOf, called, outcomeText, readText, printout}
 use Rattle.sheet_text.specs.Cases.{w1Text, w1Printout, w9Text, w9Printout, SheetCasesHold}
 

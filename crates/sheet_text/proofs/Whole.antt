@@ -7,25 +7,25 @@ use native.Mathlib.Omega.{arith}
 use lib.IntN.{ℤ}
 use lib.ListN.{length, take, drop}
 use lib.Seq.{take-at}
-use Rattle.spline.specs.Outcome.{Outcome, answer, refusal}
-use Rattle.spline.specs.Space.{rowCount}
-use Rattle.spline.specs.Table.{Table, tableCells, numerators, denominators}
-use Rattle.spline.specs.Build.{spaceWeights, lastPart, numeratorsAfter, denominatorsAfter}
-use Rattle.spline.specs.Piecewise.{Accepted}
-use Rattle.spline.specs.CurveCall.{CurveResult, returned, curveNumerators, curveDenominators, valuesAfter}
-use Rattle.spline.specs.ExactCurve.{Legal}
-use Rattle.spline.specs.Reading.{sideBySide}
-use Rattle.spline.proofs.Outcome.{answer-unique, answer-not-refusal}
-use Rattle.spline.proofs.Pairs.{sideBySide-length}
-use Rattle.closeness.specs.Demand3Values.{legalResult}
-use Rattle.closeness.proofs.LegalCall.{answered-calls-are-legal, legal-calls-answer, values-length}
-use Rattle.cells.proofs.Buffer.{numerators-again, denominators-again, kept-numerators, kept-denominators}
-use Rattle.curve.specs.Reply as curve
+use Rattle.spec_spline.specs.Outcome.{Outcome, answer, refusal}
+use Rattle.spec_spline.specs.Space.{rowCount}
+use Rattle.spec_spline.specs.Table.{Table, tableCells, numerators, denominators}
+use Rattle.spec_spline.specs.Build.{spaceWeights, lastPart, numeratorsAfter, denominatorsAfter}
+use Rattle.spec_spline.specs.Piecewise.{Accepted}
+use Rattle.spec_spline.specs.CurveCall.{CurveResult, returned, curveNumerators, curveDenominators, valuesAfter}
+use Rattle.spec_spline.specs.ExactCurve.{Legal}
+use Rattle.spec_spline.specs.Reading.{sideBySide}
+use Rattle.spec_spline.proofs.Outcome.{answer-unique, answer-not-refusal}
+use Rattle.spec_spline.proofs.Pairs.{sideBySide-length}
+use Rattle.theorems_values.specs.ValueLimits.{legalResult}
+use Rattle.theorems_values.proofs.LegalCall.{answered-calls-are-legal, legal-calls-answer, values-length}
+use Rattle.build_cells.proofs.Buffer.{numerators-again, denominators-again, kept-numerators, kept-denominators}
+use Rattle.curve.specs.Machine as curve
 use Rattle.curve.specs.declared.Answer.{Answer}
 use Rattle.curve.specs.declared.Answer.the-variants.{Values, Refused}
-use Rattle.printout.specs.Printout.{answerText, refusalLine}
-use Rattle.printout.specs.Printed.{paired}
-use Rattle.printout.proofs.Pairs.{paired-sideBySide}
+use Rattle.sheet_print.specs.Printout.{answerText, refusalLine}
+use Rattle.sheet_print.specs.Printed.{paired}
+use Rattle.sheet_print.proofs.Pairs.{paired-sideBySide}
 use Rattle.sheet_text.specs.Sheet.{Arguments, spaceOf, valueCells, tableOf, Filled, called, outcomeText, calledText}
 use Rattle.sheet_text.proofs.Beam.{table-is}
 

@@ -3,7 +3,7 @@
 -- end is proved by computation in proofs/Cases; the cases of the calls alone are crate spline's.
 use mathlib.Core.List.{[], _∷_}
 use mathlib.Core.Path.{_≡_}
-use Rattle.numerals.specs.Bytes.{Text, lines}
+use Rattle.base_text.specs.Bytes.{Text, lines}
 use Rattle.sheet_text.specs.Sheet.{printout}
 
 -- The sheet of W1.

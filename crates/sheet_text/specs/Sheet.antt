@@ -5,18 +5,18 @@ use mathlib.Core.Path.{_≡_}
 use Prim.Native.Nat.{ℕ, _+_, _*_, _≤_}
 use lib.IntN.{ℤ}
 use lib.ListN.{length}
-use Rattle.spline.specs.Outcome.{Outcome, answer, refusal}
-use Rattle.spline.specs.Space.{Space, segmentLimit, degreeLimit, rowCount}
-use Rattle.spline.specs.Table.{Table, rowCells, tableCells, numerators, denominators}
-use Rattle.spline.specs.Build.{spaceWeights, lastPart}
-use Rattle.spline.specs.Listing.{tableWeights}
-use Rattle.spline.specs.Piecewise.{Accepted}
-use Rattle.spline.specs.Reading.{sideBySide}
-use Rattle.spline.specs.CurveCall.{CurveResult, curveOutcome, positionLimit}
-use Rattle.numerals.specs.Bytes.{Text}
-use Rattle.sheet_lists.specs.SheetReading.{Lists, read}
-use Rattle.printout.specs.Printout.{weightLines, answerText, refusalLine}
-use Rattle.printout.specs.Printed.{countLineLimit, weightLineLimit, valueLineLimit, lowLineLimit}
+use Rattle.spec_spline.specs.Outcome.{Outcome, answer, refusal}
+use Rattle.spec_spline.specs.Space.{Space, segmentLimit, degreeLimit, rowCount}
+use Rattle.spec_spline.specs.Table.{Table, rowCells, tableCells, numerators, denominators}
+use Rattle.spec_spline.specs.Build.{spaceWeights, lastPart}
+use Rattle.spec_spline.specs.Listing.{tableWeights}
+use Rattle.spec_spline.specs.Piecewise.{Accepted}
+use Rattle.spec_spline.specs.Reading.{sideBySide}
+use Rattle.spec_spline.specs.CurveCall.{CurveResult, curveOutcome, positionLimit}
+use Rattle.base_text.specs.Bytes.{Text}
+use Rattle.sheet_read.specs.SheetReading.{Lists, read}
+use Rattle.sheet_print.specs.Printout.{weightLines, answerText, refusalLine}
+use Rattle.sheet_print.specs.Printed.{countLineLimit, weightLineLimit, valueLineLimit, lowLineLimit}
 
 -- The most rows of a beam, 288: no more than its columns, which are at most six a segment.
 abbrev pub rowLimit : ℕ

@@ -2,18 +2,18 @@
 ghost use mathlib.Core.Path.{_≡_};
 ghost use Prim.Native.Nat.{_*_, _/_, _^_, _≤_};
 ghost use lib.ListN.{length};
-ghost use Rattle.spline.specs.Space.{partEnd, rowCount};
-ghost use Rattle.spline.specs.Table.{rowCells, tableCells};
-ghost use Rattle.spline.specs.Build;
-ghost use Rattle.spline.specs.Build.{spaceWeights};
-ghost use Rattle.spline.specs.Piecewise.{Accepted};
-ghost use Rattle.spline.specs.CurveCall.{positionLimit};
-ghost use Rattle.beams.specs.Sections.{partAt};
-ghost use Rattle.beams.specs.Parts.{Starts};
-ghost use Rattle.space.specs.Reply.{space};
-ghost use Rattle.printout.specs.Buffer.{written, Puts};
-ghost use Rattle.printout.specs.Printout.{answerText};
-ghost use Rattle.printout.specs.Printed.{weightLineLimit, paired};
+ghost use Rattle.spec_spline.specs.Space.{partEnd, rowCount};
+ghost use Rattle.spec_spline.specs.Table.{rowCells, tableCells};
+ghost use Rattle.spec_spline.specs.Build;
+ghost use Rattle.spec_spline.specs.Build.{spaceWeights};
+ghost use Rattle.spec_spline.specs.Piecewise.{Accepted};
+ghost use Rattle.spec_spline.specs.CurveCall.{positionLimit};
+ghost use Rattle.theorems_beams.specs.Sections.{partAt};
+ghost use Rattle.theorems_beams.specs.Parts.{Starts};
+ghost use Rattle.build_space.specs.Machine.{space};
+ghost use Rattle.sheet_print.specs.Buffer.{written, Puts};
+ghost use Rattle.sheet_print.specs.Printout.{answerText};
+ghost use Rattle.sheet_print.specs.Printed.{weightLineLimit, paired};
 ghost use Rattle.sheet_text.specs.Sheet.{rowLimit, tableOf, weightsText, Filled, calledText, printout, printoutLimit};
 
 // The cells of the values' buffer, two for each of the most positions of a call.
@@ -34,10 +34,10 @@ fn build_rows(
     ensures { λ r. ⌜ (let part = partAt (space (now (breaks .entry)) (now (degrees .entry)) (now (orders .entry))) a in
         (r ≡ rowCount part) × ((now (num .exit) ≡ Build.numeratorsAfter (Build.weights part) (now (num .entry))) × (now (den .exit) ≡ Build.denominatorsAfter (Build.weights part) (now (den .entry))))) ⌝ }
 {
-    let built = weights::parts::build_part(breaks, degrees, orders, a, b, num, den);
+    let built = build::parts::build_part(breaks, degrees, orders, a, b, num, den);
     match built {
-        weights::Built::Rows(n) => n,
-        weights::Built::Refused(_number, _place) => 0,
+        build::Built::Rows(n) => n,
+        build::Built::Refused(_number, _place) => 0,
     }
 }
 
@@ -60,10 +60,10 @@ fn put_parts(
     let mut row = 0;
     let mut a = 0;
     while a < degrees.len() {
-        let b = space::part_end(degrees, orders, a);
-        let column = space::first_column(degrees, a);
+        let b = build_space::part_end(degrees, orders, a);
+        let column = build_space::first_column(degrees, a);
         let n = build_rows(breaks, degrees, orders, a, b, num, den);
-        next = printout::put_weights(out, next, row, column, n, num, den);
+        next = sheet_print::put_weights(out, next, row, column, n, num, den);
         row += n;
         a = b;
     }
@@ -85,9 +85,9 @@ fn put_beam(
     requires { ⌜ at ≤ 2 ^ 40 ⌝ }
     ensures { λ r. ⌜ Puts (weightLineLimit * (rowCells * rowLimit)) at (weightsText (space (now (breaks .entry)) (now (degrees .entry)) (now (orders .entry)))) (now (out .entry)) (now (out .exit)) r ⌝ }
 {
-    let end = space::part_end(degrees, orders, 0);
+    let end = build_space::part_end(degrees, orders, 0);
     if end == degrees.len() {
-        return printout::put_weights(out, at, 0, 0, n, num, den);
+        return sheet_print::put_weights(out, at, 0, 0, n, num, den);
     }
     put_parts(breaks, degrees, orders, num, den, out, at)
 }
@@ -109,10 +109,10 @@ fn put_answer(
     requires { ⌜ (length (now positions) ≤ positionLimit) × (length (now positions) ≤ length (now values) / 2) ⌝ }
     ensures { λ r. ⌜ Puts printoutLimit 0 (answerText (tableOf (spaceWeights (space (now (breaks .entry)) (now (degrees .entry)) (now (orders .entry))))) (now (positions .entry)) (paired (now (values .entry)))) (now (out .entry)) (now (out .exit)) r ⌝ }
 {
-    let a = printout::put_count(out, 0, n);
+    let a = sheet_print::put_count(out, 0, n);
     let b = put_beam(breaks, degrees, orders, n, num, den, out, a);
-    let c = printout::put_values(out, b, positions, values);
-    printout::put_lows(out, c, positions, values)
+    let c = sheet_print::put_values(out, b, positions, values);
+    sheet_print::put_lows(out, c, positions, values)
 }
 
 // The curve call on the five lists, the coefficients as the numbers of their pairs side by side, and its printout.
@@ -129,8 +129,8 @@ fn run(
     ensures { λ r. ⌜ now (out .exit) ≡ written 0 (calledText (record { breaks = now (breaks .entry); degrees = now (degrees .entry); orders = now (orders .entry); coefs = now (coefs .entry); positions = now (positions .entry) })) (now (out .entry)) ⌝ }
     ensures { λ r. ⌜ r ≤ printoutLimit ⌝ }
 {
-    let mut num = [0; cells::TABLE_CELLS];
-    let mut den = [1; cells::TABLE_CELLS];
+    let mut num = [0; build_cells::TABLE_CELLS];
+    let mut den = [1; build_cells::TABLE_CELLS];
     let mut values = [0; VALUE_CELLS];
     let answer = curve::curve(
         breaks,
@@ -143,7 +143,7 @@ fn run(
         &mut values,
     );
     match answer {
-        curve::Answer::Refused(number, place) => printout::refusal(number, place, out),
+        curve::Answer::Refused(number, place) => sheet_print::refusal(number, place, out),
         curve::Answer::Values(n) => {
             let cells = 2 * n;
             put_answer(
@@ -168,12 +168,12 @@ pub fn sheet(input: &[u8], out: &mut [u8]) -> usize
     ensures { λ r. ⌜ now (out .exit) ≡ written 0 (printout (now (input .entry))) (now (out .entry)) ⌝ }
     ensures { λ r. ⌜ r ≤ printoutLimit ⌝ }
 {
-    let mut breaks = [0; sheet_lists::LIST_LIMIT];
-    let mut degrees = [0; sheet_lists::LIST_LIMIT];
-    let mut orders = [0; sheet_lists::LIST_LIMIT];
-    let mut coefs = [0; sheet_lists::COEFFICIENT_NUMBERS];
-    let mut positions = [0; sheet_lists::LIST_LIMIT];
-    let lists = sheet_lists::read(
+    let mut breaks = [0; sheet_read::LIST_LIMIT];
+    let mut degrees = [0; sheet_read::LIST_LIMIT];
+    let mut orders = [0; sheet_read::LIST_LIMIT];
+    let mut coefs = [0; sheet_read::COEFFICIENT_NUMBERS];
+    let mut positions = [0; sheet_read::LIST_LIMIT];
+    let lists = sheet_read::read(
         input,
         &mut breaks,
         &mut degrees,
@@ -182,8 +182,8 @@ pub fn sheet(input: &[u8], out: &mut [u8]) -> usize
         &mut positions,
     );
     match lists {
-        sheet_lists::Lists::Refused(place) => printout::refusal(10, place, out),
-        sheet_lists::Lists::Read(b, d, o, c, p) => run(
+        sheet_read::Lists::Refused(place) => sheet_print::refusal(10, place, out),
+        sheet_read::Lists::Read(b, d, o, c, p) => run(
             &breaks[..b],
             &degrees[..d],
             &orders[..o],

@@ -11,13 +11,13 @@ use lib.IntN.{ℤ, pos}
 use lib.Signed.{leZ}
 use lib.ListN.{length}
 use lib.Seq.{slice, length-slice}
-use Rattle.numerals.specs.Bytes.{Text}
-use Rattle.numerals.proofs.Slice.{take-slice, drop-slice}
-use Rattle.tucson_form.specs.Columns.{inColumns}
-use Rattle.tucson_form.specs.Line.{nameColumns, fieldColumns, allPrintable, allBlank, isName, withField, fieldNumbers, isWidth}
-use Rattle.tucson_form.specs.Series.{hundredthsLimit, allHundredths}
-use Rattle.tucson_form.specs.Writing.{allWidths}
-use Rattle.tucson_lines.specs.Reply.{widthsTold}
+use Rattle.base_text.specs.Bytes.{Text}
+use Rattle.base_text.proofs.Slice.{take-slice, drop-slice}
+use Rattle.spec_tucson.specs.Columns.{inColumns}
+use Rattle.spec_tucson.specs.Line.{nameColumns, fieldColumns, allPrintable, allBlank, isName, withField, fieldNumbers, isWidth}
+use Rattle.spec_tucson.specs.Series.{hundredthsLimit, allHundredths}
+use Rattle.spec_tucson.specs.Writing.{allWidths}
+use Rattle.tucson_lines.specs.Machine.{widthsTold}
 use Rattle.tucson_lines.specs.declared.WidthsAnswer.the-variants.{Small, Bad}
 
 -- ---- a name of the right length

@@ -12,15 +12,15 @@ use lib.Dec.{eqb, leb}
 use lib.IntN.{ℤ, pos, negsuc, natAbs}
 use lib.ListN.{length, take, drop}
 use lib.Seq.{slice, length-slice}
-use Rattle.exact.proofs.Decide.{and-true, le-or-lt}
-use Rattle.numerals.specs.Bytes.{Text, minus, newline, Cut, cut}
-use Rattle.numerals.specs.Numeral.{numeral, isNatural, digitsValue, negated, numberLimit}
-use Rattle.numerals.proofs.Digits.{natural-small}
-use Rattle.numerals.proofs.Slice.{take-slice, drop-slice}
-use Rattle.tucson_form.specs.Columns.{blank, inColumns}
-use Rattle.tucson_form.specs.Line.{Line, nameColumns, yearColumns, fieldColumns, decade, thousandths, fieldNumbers, fieldCount, columnsFit, allPrintable, allBlank, isName, isWidth, same, withNumbers, lineInColumns, ofCut, lineOf, yearInDecade, withinDecade, fieldsAllowed, ifAllowed, goodLine}
-use Rattle.tucson_form.specs.TextReading.{lastField}
-use Rattle.tucson_lines.specs.Reply.{lineTold, LineEnd}
+use Rattle.base_exact.proofs.Decide.{and-true, le-or-lt}
+use Rattle.base_text.specs.Bytes.{Text, minus, newline, Cut, cut}
+use Rattle.base_text.specs.Numeral.{numeral, isNatural, digitsValue, negated, numberLimit}
+use Rattle.base_text.proofs.Digits.{natural-small}
+use Rattle.base_text.proofs.Slice.{take-slice, drop-slice}
+use Rattle.spec_tucson.specs.Columns.{blank, inColumns}
+use Rattle.spec_tucson.specs.Line.{Line, nameColumns, yearColumns, fieldColumns, decade, thousandths, fieldNumbers, fieldCount, columnsFit, allPrintable, allBlank, isName, isWidth, same, withNumbers, lineInColumns, ofCut, lineOf, yearInDecade, withinDecade, fieldsAllowed, ifAllowed, goodLine}
+use Rattle.spec_tucson.specs.TextReading.{lastField}
+use Rattle.tucson_lines.specs.Machine.{lineTold, LineEnd}
 use Rattle.tucson_lines.specs.declared.LineAnswer.the-variants as line-cases
 use Rattle.tucson_lines.proofs.Lines.{end-within, good-unended, good-columns}
 use Rattle.tucson_lines.proofs.LineNumbers.{fields-count}

@@ -13,17 +13,17 @@ use lib.Dec.{eqb, leb}
 use lib.IntN.{ℤ, pos, negsuc, natAbs}
 use lib.ListN.{length, take, drop, length-append}
 use lib.Seq.{slice, drop-drop, length-slice}
-use Rattle.exact.proofs.Decide.{and-true}
-use Rattle.numerals.specs.Bytes.{Text}
-use Rattle.numerals.specs.Numeral.{numeral, isNatural, digitsValue, negated, numberLimit}
-use Rattle.numerals.proofs.Digits.{natural-small}
-use Rattle.numerals.proofs.Slice.{take-slice, drop-slice}
-use Rattle.tucson_form.specs.Columns.{inColumns}
-use Rattle.tucson_form.specs.Line.{Line, nameColumns, yearColumns, fieldColumns, decade, thousandths, withField, fieldNumbers, fieldCount, columnsFit, isName, isWidth, same, withNumbers, lineInColumns, yearInDecade, withinDecade, fieldsAllowed, ifAllowed, goodLine}
-use Rattle.tucson_form.specs.Series.{allHundredths}
-use Rattle.tucson_form.specs.TextReading.{lastField}
-use Rattle.tucson_form.specs.Writing.{allWidths}
-use Rattle.tucson_lines.specs.Reply.{widthsTold, lineTold, numbersTold, LineEnd}
+use Rattle.base_exact.proofs.Decide.{and-true}
+use Rattle.base_text.specs.Bytes.{Text}
+use Rattle.base_text.specs.Numeral.{numeral, isNatural, digitsValue, negated, numberLimit}
+use Rattle.base_text.proofs.Digits.{natural-small}
+use Rattle.base_text.proofs.Slice.{take-slice, drop-slice}
+use Rattle.spec_tucson.specs.Columns.{inColumns}
+use Rattle.spec_tucson.specs.Line.{Line, nameColumns, yearColumns, fieldColumns, decade, thousandths, withField, fieldNumbers, fieldCount, columnsFit, isName, isWidth, same, withNumbers, lineInColumns, yearInDecade, withinDecade, fieldsAllowed, ifAllowed, goodLine}
+use Rattle.spec_tucson.specs.Series.{allHundredths}
+use Rattle.spec_tucson.specs.TextReading.{lastField}
+use Rattle.spec_tucson.specs.Writing.{allWidths}
+use Rattle.tucson_lines.specs.Machine.{widthsTold, lineTold, numbersTold, LineEnd}
 use Rattle.tucson_lines.specs.declared.WidthsAnswer.the-variants as widths-cases
 use Rattle.tucson_lines.specs.declared.LineAnswer.{LineAnswer}
 use Rattle.tucson_lines.specs.declared.LineAnswer.the-variants as line-cases

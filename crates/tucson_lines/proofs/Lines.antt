@@ -11,14 +11,14 @@ use borrow.Author.Tests.{leb-true, eqb-true}
 use lib.Dec.{eqb, leb}
 use lib.ListN.{length, take, drop, length-drop}
 use lib.Seq.{slice, take-all, drop-drop, length-slice}
-use Rattle.exact.proofs.Decide.{and-true}
-use Rattle.numerals.specs.Bytes.{Text, newline, Cut, cut, withByte, onFirst, indexWhere, indexOf, beginsWith}
-use Rattle.numerals.proofs.Slice.{slice-take, slice-all, take-slice}
-use Rattle.numerals.proofs.Cutting.{index-within, cut-none}
-use Rattle.tucson_form.specs.Columns.{blank}
-use Rattle.tucson_form.specs.Line.{Line, nameColumns, lastPrintable, linesOf, allPrintable, isName, lineInColumns, ofCut, lineOf, goodLine, ifAllowed}
-use Rattle.tucson_form.specs.TextReading.{goesOn}
-use Rattle.tucson_lines.specs.Reply.{LineEnd}
+use Rattle.base_exact.proofs.Decide.{and-true}
+use Rattle.base_text.specs.Bytes.{Text, newline, Cut, cut, withByte, onFirst, indexWhere, indexOf, beginsWith}
+use Rattle.base_text.proofs.Slice.{slice-take, slice-all, take-slice}
+use Rattle.base_text.proofs.Cutting.{index-within, cut-none}
+use Rattle.spec_tucson.specs.Columns.{blank}
+use Rattle.spec_tucson.specs.Line.{Line, nameColumns, lastPrintable, linesOf, allPrintable, isName, lineInColumns, ofCut, lineOf, goodLine, ifAllowed}
+use Rattle.spec_tucson.specs.TextReading.{goesOn}
+use Rattle.tucson_lines.specs.Machine.{LineEnd}
 
 -- ---- of a text
 

@@ -10,11 +10,11 @@ use lib.Dec.{leb, eqb}
 use lib.ListN.{length, getD}
 use lib.IntN.{ℤ}
 use lib.Seq.{slice, slice-empty}
-use Rattle.numerals.specs.Bytes.{Text}
-use Rattle.numerals.specs.Numeral.{numeral}
-use Rattle.numerals.proofs.Slice.{slice-step}
-use Rattle.tucson_form.specs.Columns.{blank, inColumns}
-use Rattle.tucson_form.specs.Line.{lastPrintable, allPrintable, allBlank}
+use Rattle.base_text.specs.Bytes.{Text}
+use Rattle.base_text.specs.Numeral.{numeral}
+use Rattle.base_text.proofs.Slice.{slice-step}
+use Rattle.spec_tucson.specs.Columns.{blank, inColumns}
+use Rattle.spec_tucson.specs.Line.{lastPrintable, allPrintable, allBlank}
 
 module _ (text : Text) (i to : ℕ) (before : i < to) (within : to ≤ length text) where
   abbrev byte : ℕ

@@ -5,14 +5,14 @@ ghost use mathlib.Core.Path.{_≡_};
 ghost use Prim.Native.Nat.{_+_, _*_, _≤_};
 ghost use lib.ListN.{length, drop};
 ghost use lib.Seq.{slice};
-ghost use Rattle.numerals.specs.Bytes.{Part};
-ghost use Rattle.numerals.specs.Reply;
-ghost use Rattle.tucson_form.specs.Columns.{inColumns};
-ghost use Rattle.tucson_form.specs.Line.{fieldColumns, nameColumns, linesOf, allPrintable, allBlank, isName, fieldNumbers, yearInDecade, isWidth, thousandths, lineInColumns, goodLine};
-ghost use Rattle.tucson_form.specs.Line;
-ghost use Rattle.tucson_form.specs.TextReading.{goesOn};
-ghost use Rattle.tucson_lines.specs.Reply.{widthsTold, numbersTold, lineTold, LineEnd};
-use numerals::numeral::Field;
+ghost use Rattle.base_text.specs.Bytes.{Range};
+ghost use Rattle.base_text.specs.Machine;
+ghost use Rattle.spec_tucson.specs.Columns.{inColumns};
+ghost use Rattle.spec_tucson.specs.Line.{fieldColumns, nameColumns, linesOf, allPrintable, allBlank, isName, fieldNumbers, yearInDecade, isWidth, thousandths, lineInColumns, goodLine};
+ghost use Rattle.spec_tucson.specs.Line;
+ghost use Rattle.spec_tucson.specs.TextReading.{goesOn};
+ghost use Rattle.tucson_lines.specs.Machine.{widthsTold, numbersTold, lineTold, LineEnd};
+use base_text::numeral::Field;
 
 pub const NAME: usize = 8;
 
@@ -63,13 +63,13 @@ pub fn same(a: i32, b: i32) -> bool
 
 // The number that stands right-aligned in some columns.
 pub fn number(text: &[u8], from: usize, to: usize) -> Field
-    requires { ⌜ Part (now text) from to ⌝ }
-    ensures { λ r. ⌜ r ≡ Reply.field (inColumns (slice from to (now (text .entry)))) ⌝ }
+    requires { ⌜ Range (now text) from to ⌝ }
+    ensures { λ r. ⌜ r ≡ Machine.field (inColumns (slice from to (now (text .entry)))) ⌝ }
 {
     let mut i = from;
     while i < to {
         if text[i] != b' ' {
-            return numerals::numeral::numeral(text, i, to);
+            return base_text::numeral::numeral(text, i, to);
         }
         i += 1;
     }
@@ -77,7 +77,7 @@ pub fn number(text: &[u8], from: usize, to: usize) -> Field
 }
 
 fn all_printable(text: &[u8], from: usize, to: usize) -> bool
-    requires { ⌜ Part (now text) from to ⌝ }
+    requires { ⌜ Range (now text) from to ⌝ }
     ensures { λ r. ⌜ r ≡ allPrintable (slice from to (now (text .entry))) ⌝ }
 {
     let mut i = from;
@@ -94,7 +94,7 @@ fn all_printable(text: &[u8], from: usize, to: usize) -> bool
 }
 
 fn all_blank(text: &[u8], from: usize, to: usize) -> bool
-    requires { ⌜ Part (now text) from to ⌝ }
+    requires { ⌜ Range (now text) from to ⌝ }
     ensures { λ r. ⌜ r ≡ allBlank (slice from to (now (text .entry))) ⌝ }
 {
     let mut i = from;
@@ -145,7 +145,7 @@ fn ends_series(field: i32) -> bool
 
 // Looks through the first n fields from the index on.
 fn widths(text: &[u8], from: usize, to: usize, n: usize) -> WidthsAnswer
-    requires { ⌜ Part (now text) from to ⌝ }
+    requires { ⌜ Range (now text) from to ⌝ }
     requires { ⌜ from + n * fieldColumns ≤ to ⌝ }
     ensures { λ r. ⌜ r ≡ widthsTold true (fieldNumbers n (slice from to (now (text .entry)))) ⌝ }
 {
@@ -173,7 +173,7 @@ fn widths(text: &[u8], from: usize, to: usize, n: usize) -> WidthsAnswer
 
 // The year and the n fields of the line from the one index up to the other, the decade's end and the last field tested too.
 pub fn numbers(text: &[u8], from: usize, end: usize, n: usize) -> LineAnswer
-    requires { ⌜ Part (now text) from end ⌝ }
+    requires { ⌜ Range (now text) from end ⌝ }
     requires { ⌜ (1 ≤ n) × (end ≡ from + 12 + n * fieldColumns) ⌝ }
     ensures { λ r. ⌜ r ≡ numbersTold (slice from end (now (text .entry))) n ⌝ }
 {
@@ -226,5 +226,5 @@ pub fn goes_on(text: &[u8], from: usize, end: usize) -> bool
     requires { ⌜ isName (slice from (from + nameColumns) (now text)) ≡ true ⌝ }
     ensures { λ r. ⌜ r ≡ goesOn (slice from (end + 1) (now (text .entry))) (linesOf (drop (end + 1) (now (text .entry)))) ⌝ }
 {
-    numerals::fields::begins(text, end + 1, text.len(), &text[from..from + NAME])
+    base_text::fields::begins(text, end + 1, text.len(), &text[from..from + NAME])
 }

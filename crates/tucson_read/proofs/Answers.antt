@@ -10,17 +10,17 @@ use lib.Dec.{leb}
 use lib.IntN.{ℤ}
 use lib.ListN.{length, drop, length-append, length-map}
 use lib.Seq.{sets}
-use Rattle.spline.specs.Outcome.{Outcome, answer, refusal, capped, with-answer, _then_}
-use Rattle.spline.proofs.Outcome.{answer-unique}
-use Rattle.numerals.specs.Bytes.{Text}
-use Rattle.tucson_form.specs.Line.{nameColumns}
-use Rattle.tucson_form.specs.Series.{Series}
-use Rattle.tucson_form.specs.TextReading.{Begun, goesOn, readLines, readText}
-use Rattle.tucson_form.specs.ReadCall.{namesOf, yearsOf, countsOf, widthsOf, roomFor, readOutcome, overwritten, filled}
+use Rattle.spec_spline.specs.Outcome.{Outcome, answer, refusal, capped, with-answer, _then_}
+use Rattle.spec_spline.proofs.Outcome.{answer-unique}
+use Rattle.base_text.specs.Bytes.{Text}
+use Rattle.spec_tucson.specs.Line.{nameColumns}
+use Rattle.spec_tucson.specs.Series.{Series}
+use Rattle.spec_tucson.specs.TextReading.{Begun, goesOn, readLines, readText}
+use Rattle.spec_tucson.specs.ReadCall.{namesOf, yearsOf, countsOf, widthsOf, roomFor, readOutcome, overwritten, filled}
 use Rattle.tucson_lines.proofs.GoodLines.{good-name, name-length}
 use Rattle.tucson_read.specs.Scan.{scanTold}
 use Rattle.tucson_read.specs.Write.{seriesIn}
-use Rattle.tucson_read.specs.Reply.{reply}
+use Rattle.tucson_read.specs.Machine.{reply}
 use Rattle.tucson_read.specs.declared.Answer.{Answer}
 use Rattle.tucson_read.specs.declared.Answer.the-variants as answer-cases
 use Rattle.tucson_read.specs.declared.scanning.Scanned.the-variants as scanned-cases

@@ -10,14 +10,14 @@ use native.Mathlib.Omega.{arith}
 use lib.IntN.{ℤ}
 use lib.ListN.{length, drop, length-append, drop-of-length-le}
 use lib.Seq.{slice}
-use Rattle.exact.proofs.Decide.{true-not-false}
-use Rattle.spline.specs.Outcome.{Outcome, answer, refusal, capped, _then_, with-answer}
-use Rattle.numerals.specs.Bytes.{Text}
-use Rattle.tucson_form.specs.Line.{linesOf}
-use Rattle.tucson_form.specs.Series.{Series}
-use Rattle.tucson_form.specs.TextReading.{Begun, goesOn, Step, opened, closed, after, readLine, readLines, readText}
-use Rattle.tucson_form.specs.ReadCall.{widthsOf}
-use Rattle.tucson_lines.specs.Reply.{LineEnd}
+use Rattle.base_exact.proofs.Decide.{true-not-false}
+use Rattle.spec_spline.specs.Outcome.{Outcome, answer, refusal, capped, _then_, with-answer}
+use Rattle.base_text.specs.Bytes.{Text}
+use Rattle.spec_tucson.specs.Line.{linesOf}
+use Rattle.spec_tucson.specs.Series.{Series}
+use Rattle.spec_tucson.specs.TextReading.{Begun, goesOn, Step, opened, closed, after, readLine, readLines, readText}
+use Rattle.spec_tucson.specs.ReadCall.{widthsOf}
+use Rattle.tucson_lines.specs.Machine.{LineEnd}
 use Rattle.tucson_lines.proofs.Lines.{end-within, lines-step}
 use Rattle.tucson_read.specs.Scan.{soFar, Kept, Tracks, Told, Ahead, scanTold}
 use Rattle.tucson_read.specs.declared.scanning.Passed.the-variants as passed-cases

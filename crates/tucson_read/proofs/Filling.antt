@@ -12,15 +12,15 @@ use lib.Seq.{slice, sets, slice-empty}
 use lib.Signed.{leZ}
 use mir.Syntax.{w32}
 use mir.Val.{SFits}
-use Rattle.exact.proofs.Decide.{and-true}
-use Rattle.exact.proofs.Integer.{abs-mono, abs-mul}
-use Rattle.exact.proofs.Word.{leZ-true, sfits-abs}
-use Rattle.numerals.specs.Bytes.{Text}
-use Rattle.numerals.proofs.Slice.{slice-step}
-use Rattle.tucson_form.specs.Columns.{inColumns}
-use Rattle.tucson_form.specs.Line.{fieldColumns, widthLimit, withField, fieldNumbers, isWidth}
-use Rattle.tucson_form.specs.Series.{fromHundredths}
-use Rattle.tucson_form.specs.Writing.{allWidths}
+use Rattle.base_exact.proofs.Decide.{and-true}
+use Rattle.base_exact.proofs.Integer.{abs-mono, abs-mul}
+use Rattle.base_exact.proofs.Word.{leZ-true, sfits-abs}
+use Rattle.base_text.specs.Bytes.{Text}
+use Rattle.base_text.proofs.Slice.{slice-step}
+use Rattle.spec_tucson.specs.Columns.{inColumns}
+use Rattle.spec_tucson.specs.Line.{fieldColumns, widthLimit, withField, fieldNumbers, isWidth}
+use Rattle.spec_tucson.specs.Series.{fromHundredths}
+use Rattle.spec_tucson.specs.Writing.{allWidths}
 use Rattle.tucson_lines.proofs.Fields.{fields-first}
 use Rattle.tucson_read.specs.Write.{numbersOf}
 use Rattle.tucson_read.proofs.Sets.{slice-set}

@@ -11,16 +11,16 @@ use lib.Dec.{eqb}
 use lib.IntN.{ℤ, pos, natAbs, _+ℤ_}
 use lib.ListN.{length, length-append, length-map}
 use lib.Signed.{leZ}
-use Rattle.exact.proofs.Decide.{and-true, true-not-false}
-use Rattle.exact.proofs.Integer.{bal-+, abs-parts}
-use Rattle.spline.specs.Outcome.{Outcome, answer, refusal, refuse, _then_, with-answer}
-use Rattle.spline.proofs.Outcome.{answer-unique, answer-not-refusal, then-inverts}
-use Rattle.numerals.specs.Bytes.{Text}
-use Rattle.tucson_form.specs.Line.{Line, thousandths, isWidth, same, yearInDecade, withinDecade, fieldsAllowed, lineOf, ifAllowed, goodLine}
-use Rattle.tucson_form.specs.Series.{Series, hundredths, allHundredths, fromHundredths, closedBy}
-use Rattle.tucson_form.specs.TextReading.{Begun, begunBy, goesOn, nextYear, yearFollows, Step, opened, closed, extended, lastField, wholeSeries, closing, lineStep, ifGood, readLine, after, readLines}
-use Rattle.tucson_form.specs.ReadCall.{namesOf, widthsOf}
-use Rattle.tucson_form.specs.Writing.{allWidths}
+use Rattle.base_exact.proofs.Decide.{and-true, true-not-false}
+use Rattle.base_exact.proofs.Integer.{bal-+, abs-parts}
+use Rattle.spec_spline.specs.Outcome.{Outcome, answer, refusal, refuse, _then_, with-answer}
+use Rattle.spec_spline.proofs.Outcome.{answer-unique, answer-not-refusal, then-inverts}
+use Rattle.base_text.specs.Bytes.{Text}
+use Rattle.spec_tucson.specs.Line.{Line, thousandths, isWidth, same, yearInDecade, withinDecade, fieldsAllowed, lineOf, ifAllowed, goodLine}
+use Rattle.spec_tucson.specs.Series.{Series, hundredths, allHundredths, fromHundredths, closedBy}
+use Rattle.spec_tucson.specs.TextReading.{Begun, begunBy, goesOn, nextYear, yearFollows, Step, opened, closed, extended, lastField, wholeSeries, closing, lineStep, ifGood, readLine, after, readLines}
+use Rattle.spec_tucson.specs.ReadCall.{namesOf, widthsOf}
+use Rattle.spec_tucson.specs.Writing.{allWidths}
 use Rattle.tucson_lines.proofs.GoodLines.{ifWidth, good-more}
 use Rattle.tucson_read.specs.Scan.{soFar}
 use Rattle.tucson_read.specs.Write.{inThousandths}

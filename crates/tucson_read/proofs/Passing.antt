@@ -11,15 +11,15 @@ use lib.Dec.{eqb}
 use lib.IntN.{ℤ, pos, _+ℤ_}
 use lib.ListN.{length, drop, length-append, length-map, drop-of-length-le}
 use lib.Signed.{leZ}
-use Rattle.exact.proofs.Decide.{and-true, le-or-lt, true-not-false}
-use Rattle.exact.proofs.Integer.{ext, bal-+, ≤-antisym}
-use Rattle.exact.proofs.Word.{leZ-true}
-use Rattle.spline.specs.Outcome.{Outcome, answer, refusal, refuse, capped}
-use Rattle.numerals.specs.Bytes.{Text}
-use Rattle.tucson_form.specs.Line.{Line, linesOf, thousandths, isWidth, same, yearInDecade, goodLine}
-use Rattle.tucson_form.specs.Series.{Series, hundredths, hundredthsLimit, allHundredths, fromHundredths, closedBy}
-use Rattle.tucson_form.specs.TextReading.{Begun, goesOn, begunBy, nextYear, yearFollows, Step, opened, closed, extended, lastField, wholeSeries, closing, lineStep, ifGood, readLine}
-use Rattle.tucson_lines.specs.Reply.{lineTold}
+use Rattle.base_exact.proofs.Decide.{and-true, le-or-lt, true-not-false}
+use Rattle.base_exact.proofs.Integer.{ext, bal-+, ≤-antisym}
+use Rattle.base_exact.proofs.Word.{leZ-true}
+use Rattle.spec_spline.specs.Outcome.{Outcome, answer, refusal, refuse, capped}
+use Rattle.base_text.specs.Bytes.{Text}
+use Rattle.spec_tucson.specs.Line.{Line, linesOf, thousandths, isWidth, same, yearInDecade, goodLine}
+use Rattle.spec_tucson.specs.Series.{Series, hundredths, hundredthsLimit, allHundredths, fromHundredths, closedBy}
+use Rattle.spec_tucson.specs.TextReading.{Begun, goesOn, begunBy, nextYear, yearFollows, Step, opened, closed, extended, lastField, wholeSeries, closing, lineStep, ifGood, readLine}
+use Rattle.tucson_lines.specs.Machine.{lineTold}
 use Rattle.tucson_lines.specs.declared.LineAnswer.the-variants.{Good}
 use Rattle.tucson_lines.proofs.GoodLines.{ifWidth, good-more, IsLine, line-some}
 use Rattle.tucson_read.specs.Scan.{soFar, Kept, Tracks, Told, Within, Advances}

@@ -8,7 +8,7 @@ use native.Mathlib.Numerals.{add-one}
 use native.Mathlib.Omega.{arith}
 use lib.ListN.{length, getD, take, drop, set, length-append, length-set}
 use lib.Seq.{slice, sets, sets-eq, length-sets, take-set-le, take-set-lt, drop-set-lt, take-at, drop-at, drop-append-le, length-take-le, set-getD, slice-cons, slice-empty}
-use Rattle.numerals.proofs.Slice.{slice-step}
+use Rattle.base_text.proofs.Slice.{slice-step}
 
 module _ {A : Type 0} where
   pub sets-append : (l : List A) (i : ℕ) (xs ys : List A) → sets l i (xs ++ ys) ≡ sets (sets l i xs) (i + length xs) ys

@@ -10,18 +10,18 @@ use native.Mathlib.Omega.{arith}
 use lib.IntN.{ℤ, pos, natAbs, _+ℤ_}
 use lib.ListN.{length, drop, set, length-append, length-map, length-set, drop-of-length-le}
 use lib.Seq.{slice, sets, length-sets, length-slice, slice-empty}
-use Rattle.exact.proofs.Decide.{and-true, true-not-false}
-use Rattle.exact.proofs.Integer.{bal-+, abs-parts}
-use Rattle.spline.specs.Outcome.{Outcome, answer, refusal, _then_, with-answer}
-use Rattle.spline.proofs.Outcome.{answer-unique, answer-not-refusal, then-inverts}
-use Rattle.numerals.specs.Bytes.{Text}
-use Rattle.numerals.specs.Numeral.{numberLimit}
-use Rattle.tucson_form.specs.Line.{Line, nameColumns, fieldColumns, decade, linesOf, fieldNumbers, isName, goodLine, yearInDecade, same}
-use Rattle.tucson_form.specs.Series.{Series}
-use Rattle.tucson_form.specs.TextReading.{Begun, begunBy, goesOn, nextYear, yearFollows, Step, opened, closed, extended, lastField, readLine, after, readLines, readText}
-use Rattle.tucson_form.specs.ReadCall.{namesOf, yearsOf, countsOf, widthsOf}
-use Rattle.tucson_form.specs.Writing.{allWidths}
-use Rattle.tucson_lines.specs.Reply.{LineEnd, lineTold}
+use Rattle.base_exact.proofs.Decide.{and-true, true-not-false}
+use Rattle.base_exact.proofs.Integer.{bal-+, abs-parts}
+use Rattle.spec_spline.specs.Outcome.{Outcome, answer, refusal, _then_, with-answer}
+use Rattle.spec_spline.proofs.Outcome.{answer-unique, answer-not-refusal, then-inverts}
+use Rattle.base_text.specs.Bytes.{Text}
+use Rattle.base_text.specs.Numeral.{numberLimit}
+use Rattle.spec_tucson.specs.Line.{Line, nameColumns, fieldColumns, decade, linesOf, fieldNumbers, isName, goodLine, yearInDecade, same}
+use Rattle.spec_tucson.specs.Series.{Series}
+use Rattle.spec_tucson.specs.TextReading.{Begun, begunBy, goesOn, nextYear, yearFollows, Step, opened, closed, extended, lastField, readLine, after, readLines, readText}
+use Rattle.spec_tucson.specs.ReadCall.{namesOf, yearsOf, countsOf, widthsOf}
+use Rattle.spec_tucson.specs.Writing.{allWidths}
+use Rattle.tucson_lines.specs.Machine.{LineEnd, lineTold}
 use Rattle.tucson_lines.specs.declared.LineAnswer.the-variants.{Good}
 use Rattle.tucson_lines.proofs.Lines.{end-within, lines-step}
 use Rattle.tucson_lines.proofs.GoodLines.{GoodLine, good-line, ifWidth, good-more}

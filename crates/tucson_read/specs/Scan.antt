@@ -7,11 +7,11 @@ use mathlib.Core.Path.{_≡_}
 use Prim.Native.Nat.{ℕ, _+_, _<_, _≤_}
 use lib.IntN.{ℤ}
 use lib.ListN.{length}
-use Rattle.spline.specs.Outcome.{Outcome, answer, refusal, capped}
-use Rattle.numerals.specs.Bytes.{Text}
-use Rattle.tucson_form.specs.Series.{Series, allHundredths}
-use Rattle.tucson_form.specs.TextReading.{Begun, nextYear, Step, opened, closed}
-use Rattle.tucson_form.specs.ReadCall.{widthsOf}
+use Rattle.spec_spline.specs.Outcome.{Outcome, answer, refusal, capped}
+use Rattle.base_text.specs.Bytes.{Text}
+use Rattle.spec_tucson.specs.Series.{Series, allHundredths}
+use Rattle.spec_tucson.specs.TextReading.{Begun, nextYear, Step, opened, closed}
+use Rattle.spec_tucson.specs.ReadCall.{widthsOf}
 use Rattle.tucson_read.specs.declared.scanning.Passed.{Passed}
 use Rattle.tucson_read.specs.declared.scanning.Passed.the-variants as passed-cases
 use Rattle.tucson_read.specs.declared.scanning.Scanned.{Scanned}

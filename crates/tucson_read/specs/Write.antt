@@ -7,10 +7,10 @@ use Prim.Native.Nat.{ℕ, _+_, _*_, _≤_}
 use lib.IntN.{ℤ}
 use lib.ListN.{length}
 use lib.Seq.{slice}
-use Rattle.spline.specs.Outcome.{Outcome, answer, refusal}
-use Rattle.numerals.specs.Bytes.{Text}
-use Rattle.tucson_form.specs.Line.{fieldColumns, fieldNumbers, same}
-use Rattle.tucson_form.specs.Series.{Series, hundredths, fromHundredths}
+use Rattle.spec_spline.specs.Outcome.{Outcome, answer, refusal}
+use Rattle.base_text.specs.Bytes.{Text}
+use Rattle.spec_tucson.specs.Line.{fieldColumns, fieldNumbers, same}
+use Rattle.spec_tucson.specs.Series.{Series, hundredths, fromHundredths}
 
 -- The numbers of some fields; none if they are no numbers.
 abbrev pub numbersOf : Option (List ℤ) → List ℤ

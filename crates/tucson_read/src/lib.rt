@@ -1,8 +1,8 @@
 // Reading a Tucson text: first all lines are looked through, then the lent buffers are compared with what was found, and only
 // then are they written.
 ghost use mathlib.Core.Path.{_≡_};
-ghost use Rattle.tucson_form.specs.ReadCall.{readEnd};
-ghost use Rattle.tucson_read.specs.Reply.{reply};
+ghost use Rattle.spec_tucson.specs.ReadCall.{readEnd};
+ghost use Rattle.tucson_read.specs.Machine.{reply};
 use scanning::Scanned;
 
 mod scanning;

@@ -7,11 +7,11 @@ ghost use lib.Dec.{eqb};
 ghost use lib.IntN.{natAbs};
 ghost use lib.ListN.{drop};
 ghost use lib.Seq.{slice};
-ghost use Rattle.numerals.specs.Bytes.{Text};
-ghost use Rattle.numerals.specs.Numeral.{numberLimit};
-ghost use Rattle.tucson_form.specs.Line.{linesOf, decade, yearInDecade, same, goodLine};
-ghost use Rattle.tucson_form.specs.TextReading.{Begun, goesOn, readLine, readText};
-ghost use Rattle.tucson_lines.specs.Reply.{LineEnd, lineTold};
+ghost use Rattle.base_text.specs.Bytes.{Text};
+ghost use Rattle.base_text.specs.Numeral.{numberLimit};
+ghost use Rattle.spec_tucson.specs.Line.{linesOf, decade, yearInDecade, same, goodLine};
+ghost use Rattle.spec_tucson.specs.TextReading.{Begun, goesOn, readLine, readText};
+ghost use Rattle.tucson_lines.specs.Machine.{LineEnd, lineTold};
 ghost use Rattle.tucson_lines.specs.declared.LineAnswer.the-variants.{Good};
 ghost use Rattle.tucson_read.specs.Scan.{Tracks, Told, Within, Advances, scanTold};
 use tucson_lines::LineAnswer;
@@ -137,11 +137,11 @@ pub fn scan(text: &[u8]) -> Scanned
     let mut next = 0;
     let mut small = true;
     while from < text.len() {
-        let end = numerals::fields::find(text, from, text.len(), b'\n');
+        let end = base_text::fields::find(text, from, text.len(), b'\n');
         let passed = pass(text, from, end, begun, next, small);
         match passed {
             Passed::Refused(number) => {
-                return Scanned::Refused(number, space::place(lines));
+                return Scanned::Refused(number, build_space::place(lines));
             }
             Passed::On(more, n, year, all) => {
                 series += whole(more);

@@ -5,14 +5,14 @@ ghost use Prim.Native.Nat.{_+_, _*_, _-_, _<_, _≤_};
 ghost use lib.IntN.{pos};
 ghost use lib.ListN.{length, set};
 ghost use lib.Seq.{slice, sets};
-ghost use Rattle.spline.specs.Outcome.{answer};
-ghost use Rattle.tucson_form.specs.Line.{fieldNumbers, nameColumns};
-ghost use Rattle.tucson_form.specs.Series.{fromHundredths};
-ghost use Rattle.tucson_form.specs.TextReading.{readText};
-ghost use Rattle.tucson_form.specs.ReadCall.{namesOf, yearsOf, countsOf, widthsOf};
-ghost use Rattle.tucson_form.specs.Writing.{allWidths};
+ghost use Rattle.spec_spline.specs.Outcome.{answer};
+ghost use Rattle.spec_tucson.specs.Line.{fieldNumbers, nameColumns};
+ghost use Rattle.spec_tucson.specs.Series.{fromHundredths};
+ghost use Rattle.spec_tucson.specs.TextReading.{readText};
+ghost use Rattle.spec_tucson.specs.ReadCall.{namesOf, yearsOf, countsOf, widthsOf};
+ghost use Rattle.spec_tucson.specs.Writing.{allWidths};
 ghost use Rattle.tucson_read.specs.Write.{numbersOf, seriesIn, FieldsAt, inThousandths};
-use numerals::numeral::Field;
+use base_text::numeral::Field;
 use tucson_lines::LineAnswer;
 
 const TEN: i32 = 10;
@@ -130,7 +130,7 @@ pub fn write(
     let mut begun = false;
     let mut first = 0;
     while from < text.len() {
-        let end = numerals::fields::find(text, from, text.len(), b'\n');
+        let end = base_text::fields::find(text, from, text.len(), b'\n');
         let line = tucson_lines::line(text, from, end);
         match line {
             LineAnswer::Bad => {

@@ -6,20 +6,20 @@ use Prim.Native.Nat.{ℕ, _+_, _*_, _≤_}
 use native.Mathlib.Omega.{arith}
 use lib.IntN.{ℤ}
 use lib.ListN.{length, take}
-use Rattle.spline.specs.Outcome.{Outcome, answer, refusal}
-use Rattle.spline.proofs.Outcome.{then-refuses, with-refuses}
-use Rattle.numerals.specs.Bytes.{Text}
-use Rattle.printout.specs.Buffer
-use Rattle.printout.specs.Printout.{refusalLine}
-use Rattle.tucson_form.specs.Line.{nameColumns}
-use Rattle.tucson_form.specs.Series.{Series}
-use Rattle.tucson_form.specs.TextReading.{readText}
-use Rattle.tucson_form.specs.ReadCall.{widthsOf, readOutcome, overwritten, readEnd}
-use Rattle.tucson_form.specs.Writing.{written}
-use Rattle.tucson_form.specs.WriteCall.{total, writeEnd}
-use Rattle.tucson_theorems.specs.TucsonCells.{rewriteEnd}
-use Rattle.tucson_theorems.proofs.Rewritten.{read-is-writable, read-keeps-length}
-use Rattle.tucson_theorems.proofs.TucsonCells.{HasRead, has-read, roomy-reads, room-yes, read-lists-fit, years-count, rewritten-end, counts-total}
+use Rattle.spec_spline.specs.Outcome.{Outcome, answer, refusal}
+use Rattle.spec_spline.proofs.Outcome.{then-refuses, with-refuses}
+use Rattle.base_text.specs.Bytes.{Text}
+use Rattle.sheet_print.specs.Buffer
+use Rattle.sheet_print.specs.Printout.{refusalLine}
+use Rattle.spec_tucson.specs.Line.{nameColumns}
+use Rattle.spec_tucson.specs.Series.{Series}
+use Rattle.spec_tucson.specs.TextReading.{readText}
+use Rattle.spec_tucson.specs.ReadCall.{widthsOf, readOutcome, overwritten, readEnd}
+use Rattle.spec_tucson.specs.Writing.{written}
+use Rattle.spec_tucson.specs.WriteCall.{total, writeEnd}
+use Rattle.theorems_tucson.specs.TucsonCells.{rewriteEnd}
+use Rattle.theorems_tucson.proofs.Rewritten.{read-is-writable, read-keeps-length}
+use Rattle.theorems_tucson.proofs.TucsonCells.{HasRead, has-read, roomy-reads, room-yes, read-lists-fit, years-count, rewritten-end, counts-total}
 use Rattle.tucson_write.proofs.Wrote.{written-whole}
 use Rattle.tucson_text.specs.Filter.{textLimit, outcomeText}
 use Rattle.tucson_text.proofs.Room.{seriesCells, nameBytes, widthCells, bytes-at-least}

@@ -6,11 +6,11 @@ use mathlib.Core.Option.{none}
 use Prim.Native.Nat.{ℕ, suc, _+_, _*_, _≤_}
 use native.Mathlib.Omega.{arith}
 use lib.ListN.{length, length-append}
-use Rattle.numerals.specs.Bytes.{Text}
-use Rattle.tucson_form.specs.Series.{Series}
-use Rattle.tucson_form.specs.Writing.{firstUnwritable, seriesLines, linesText, written}
-use Rattle.tucson_form.specs.ReadCall.{widthsOf}
-use Rattle.tucson_theorems.proofs.ReadsBack.{CanBeWritten, first-parts}
+use Rattle.base_text.specs.Bytes.{Text}
+use Rattle.spec_tucson.specs.Series.{Series}
+use Rattle.spec_tucson.specs.Writing.{firstUnwritable, seriesLines, linesText, written}
+use Rattle.spec_tucson.specs.ReadCall.{widthsOf}
+use Rattle.theorems_tucson.proofs.ReadsBack.{CanBeWritten, first-parts}
 use Rattle.tucson_write.specs.Sizes.{seriesBytes}
 use Rattle.tucson_write.proofs.Sizes.{series-years, series-length}
 

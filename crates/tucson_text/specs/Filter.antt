@@ -5,12 +5,12 @@ use mathlib.Core.List.{List}
 use Prim.Native.Nat.{ℕ}
 use lib.Dec.{leb}
 use lib.ListN.{length}
-use Rattle.spline.specs.Outcome.{Outcome, answer, refusal}
-use Rattle.numerals.specs.Bytes.{Text}
-use Rattle.printout.specs.Printout.{refusalLine}
-use Rattle.tucson_form.specs.Series.{Series}
-use Rattle.tucson_form.specs.TextReading.{readText}
-use Rattle.tucson_form.specs.Writing.{written}
+use Rattle.spec_spline.specs.Outcome.{Outcome, answer, refusal}
+use Rattle.base_text.specs.Bytes.{Text}
+use Rattle.sheet_print.specs.Printout.{refusalLine}
+use Rattle.spec_tucson.specs.Series.{Series}
+use Rattle.spec_tucson.specs.TextReading.{readText}
+use Rattle.spec_tucson.specs.Writing.{written}
 
 -- The most bytes that the filter holds.
 abbrev pub textLimit : ℕ

@@ -8,14 +8,14 @@ use native.Mathlib.Omega.{arith}
 use lib.IntN.{ℤ, pos}
 use lib.ListN.{length, getD, take, drop, length-append, length-drop}
 use lib.Seq.{length-take-le}
-use Rattle.exact.proofs.Decide.{and-true}
-use Rattle.numerals.specs.Bytes.{Text}
-use Rattle.tucson_form.specs.Line.{nameColumns}
-use Rattle.tucson_form.specs.Series.{Series}
-use Rattle.tucson_form.specs.Writing.{firstUnwritable, seriesLines, linesText, written}
-use Rattle.tucson_form.specs.WriteCall.{total, seriesOf}
-use Rattle.tucson_theorems.proofs.TucsonCells.{Fitting}
-use Rattle.tucson_theorems.proofs.ReadsBack.{first-parts}
+use Rattle.base_exact.proofs.Decide.{and-true}
+use Rattle.base_text.specs.Bytes.{Text}
+use Rattle.spec_tucson.specs.Line.{nameColumns}
+use Rattle.spec_tucson.specs.Series.{Series}
+use Rattle.spec_tucson.specs.Writing.{firstUnwritable, seriesLines, linesText, written}
+use Rattle.spec_tucson.specs.WriteCall.{total, seriesOf}
+use Rattle.theorems_tucson.proofs.TucsonCells.{Fitting}
+use Rattle.theorems_tucson.proofs.ReadsBack.{first-parts}
 use Rattle.tucson_write.specs.Sizes.{series, closingFits, closingsFit, seriesBytes, textBytes}
 use Rattle.tucson_write.proofs.Tests.{drop-step, drop-end}
 use Rattle.tucson_write.proofs.Sizes.{series-years, series-length}

@@ -8,17 +8,17 @@ use native.Mathlib.Omega.{arith}
 use lib.Dec.{leb}
 use lib.IntN.{ℤ}
 use lib.ListN.{length}
-use Rattle.exact.proofs.Decide.{cond-true, cond-false}
-use Rattle.spline.specs.Outcome.{Outcome, answer, refusal, refuse, capped, with-answer}
-use Rattle.spline.specs.Space.{refuseFirst}
-use Rattle.numerals.specs.Bytes.{Text}
-use Rattle.printout.specs.Buffer
-use Rattle.tucson_form.specs.Series.{Series}
-use Rattle.tucson_form.specs.Writing.{written, unwritable}
-use Rattle.tucson_form.specs.WriteCall.{listsFit, seriesOf, seriesOutcome, writeOutcome, textAfter, writeEnd}
+use Rattle.base_exact.proofs.Decide.{cond-true, cond-false}
+use Rattle.spec_spline.specs.Outcome.{Outcome, answer, refusal, refuse, capped, with-answer}
+use Rattle.spec_spline.specs.Space.{refuseFirst}
+use Rattle.base_text.specs.Bytes.{Text}
+use Rattle.sheet_print.specs.Buffer
+use Rattle.spec_tucson.specs.Series.{Series}
+use Rattle.spec_tucson.specs.Writing.{written, unwritable}
+use Rattle.spec_tucson.specs.WriteCall.{listsFit, seriesOf, seriesOutcome, writeOutcome, textAfter, writeEnd}
 use Rattle.tucson_write.specs.declared.Answer.the-variants.{Bytes, Refused}
 use Rattle.tucson_write.specs.Putting.{Wrote}
-use Rattle.tucson_write.specs.Reply.{reply}
+use Rattle.tucson_write.specs.Machine.{reply}
 use Rattle.tucson_write.proofs.Wrote.{written-whole}
 
 module _ (names : Text) (years : List ℤ) (counts : List ℕ) (widths : List ℤ) (text : Text) where

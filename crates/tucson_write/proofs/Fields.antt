@@ -8,15 +8,15 @@ use native.Mathlib.Omega.{arith}
 use lib.IntN.{ℤ, pos}
 use lib.ListN.{length, getD, take}
 use lib.Seq.{take-suc, take-all, length-take-le}
-use Rattle.numerals.specs.Bytes.{Text}
-use Rattle.numerals.specs.Numeral.{decimal}
-use Rattle.tucson_form.specs.Columns.{columns}
-use Rattle.tucson_form.specs.Line.{fieldColumns, isWidth}
-use Rattle.tucson_form.specs.Writing.{fieldsText, allWidths}
-use Rattle.tucson_theorems.proofs.Columns.{fits-length}
-use Rattle.tucson_theorems.proofs.Lines.{fields-length}
-use Rattle.tucson_theorems.proofs.InDecades.{widths-parts}
-use Rattle.tucson_theorems.proofs.ReadsBack.{width-fits, widths-fit}
+use Rattle.base_text.specs.Bytes.{Text}
+use Rattle.base_text.specs.Numeral.{decimal}
+use Rattle.spec_tucson.specs.Columns.{columns}
+use Rattle.spec_tucson.specs.Line.{fieldColumns, isWidth}
+use Rattle.spec_tucson.specs.Writing.{fieldsText, allWidths}
+use Rattle.theorems_tucson.proofs.Columns.{fits-length}
+use Rattle.theorems_tucson.proofs.Lines.{fields-length}
+use Rattle.theorems_tucson.proofs.InDecades.{widths-parts}
+use Rattle.theorems_tucson.proofs.ReadsBack.{width-fits, widths-fit}
 
 pub fields-append : (fs gs : List ℤ) → fieldsText (fs ++ gs) ≡ fieldsText fs ++ fieldsText gs
 unfolding fieldsText

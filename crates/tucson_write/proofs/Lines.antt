@@ -7,16 +7,16 @@ use native.Mathlib.Omega.{arith}
 use lib.IntN.{ℤ}
 use lib.ListN.{length, take, drop, length-append, length-drop}
 use lib.Seq.{slice, drop-drop, length-take-le}
-use Rattle.spline.specs.Space.{between}
-use Rattle.numerals.specs.Bytes.{Text, newline}
-use Rattle.numerals.specs.Numeral.{decimal}
-use Rattle.numerals.proofs.Slice.{slice-take}
-use Rattle.tucson_form.specs.Columns.{columns}
-use Rattle.tucson_form.specs.Line.{yearColumns, fieldColumns, decade, thousandths, isName, yearInDecade}
-use Rattle.tucson_form.specs.Writing.{leastYear, greatestYear, ontoFirst, inLines, linesFrom, seriesLines, fieldsText, lineText, linesText, allWidths}
-use Rattle.tucson_theorems.proofs.Columns.{year-fits, fits-length, columns-length}
-use Rattle.tucson_theorems.proofs.Lines.{name-parts}
-use Rattle.tucson_theorems.proofs.InDecades.{widths-parts}
+use Rattle.spec_spline.specs.Space.{between}
+use Rattle.base_text.specs.Bytes.{Text, newline}
+use Rattle.base_text.specs.Numeral.{decimal}
+use Rattle.base_text.proofs.Slice.{slice-take}
+use Rattle.spec_tucson.specs.Columns.{columns}
+use Rattle.spec_tucson.specs.Line.{yearColumns, fieldColumns, decade, thousandths, isName, yearInDecade}
+use Rattle.spec_tucson.specs.Writing.{leastYear, greatestYear, ontoFirst, inLines, linesFrom, seriesLines, fieldsText, lineText, linesText, allWidths}
+use Rattle.theorems_tucson.proofs.Columns.{year-fits, fits-length, columns-length}
+use Rattle.theorems_tucson.proofs.Lines.{name-parts}
+use Rattle.theorems_tucson.proofs.InDecades.{widths-parts}
 use Rattle.tucson_write.specs.Sizes.{series, yearsLeft, yearAt, mostLeft, headBytes, lineBytes}
 use Rattle.tucson_write.specs.Putting.{line, begun}
 use Rattle.tucson_write.proofs.Years.{year-at, year-dated, years-later-at, room-at}

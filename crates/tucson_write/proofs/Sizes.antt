@@ -9,13 +9,13 @@ use borrow.Author.Tests.{le-leb, lt-leb}
 use lib.Dec.{leb}
 use lib.IntN.{ℤ, pos, _+ℤ_}
 use lib.ListN.{length, length-append}
-use Rattle.exact.proofs.Decide.{le-or-lt, and-true}
-use Rattle.spline.specs.Space.{between}
-use Rattle.numerals.specs.Bytes.{Text}
-use Rattle.tucson_form.specs.Line.{Line, decade, thousandths, isName, yearInDecade}
-use Rattle.tucson_form.specs.Writing.{leastYear, greatestYear, inLines, linesFrom, seriesLines, linesText, yearsFit, allWidths}
-use Rattle.tucson_theorems.proofs.InDecades.{InDecades, ends, goes, lines-in-decades, sizes, bytesOf}
-use Rattle.tucson_theorems.proofs.Rescaled.{lines-length}
+use Rattle.base_exact.proofs.Decide.{le-or-lt, and-true}
+use Rattle.spec_spline.specs.Space.{between}
+use Rattle.base_text.specs.Bytes.{Text}
+use Rattle.spec_tucson.specs.Line.{Line, decade, thousandths, isName, yearInDecade}
+use Rattle.spec_tucson.specs.Writing.{leastYear, greatestYear, inLines, linesFrom, seriesLines, linesText, yearsFit, allWidths}
+use Rattle.theorems_tucson.proofs.InDecades.{InDecades, ends, goes, lines-in-decades, sizes, bytesOf}
+use Rattle.theorems_tucson.proofs.Rescaled.{lines-length}
 use Rattle.tucson_write.specs.Sizes.{series, yearsLeft, yearAt, mostLeft, lineRoom, closingFits, seriesBytes}
 use Rattle.tucson_write.proofs.Years.{year-at, year-dated, years-later-at, years-too-late, room-at}
 

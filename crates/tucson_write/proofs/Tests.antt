@@ -12,13 +12,13 @@ use lib.IntN.{ℤ, pos}
 use lib.ListN.{length, getD, take, drop, length-drop}
 use lib.Seq.{slice, drop-cons, drop-length, take-all}
 use lib.Signed.{ltZ}
-use Rattle.exact.proofs.Word.{leZ-not-ltZ}
-use Rattle.numerals.specs.Bytes.{Text}
-use Rattle.numerals.proofs.Slice.{slice-take}
-use Rattle.tucson_form.specs.Columns.{blank}
-use Rattle.tucson_form.specs.Line.{lastPrintable, widthLimit, allPrintable, allBlank, isWidth}
-use Rattle.tucson_form.specs.Writing.{allWidths}
-use Rattle.tucson_form.specs.WriteCall.{total}
+use Rattle.base_exact.proofs.Word.{leZ-not-ltZ}
+use Rattle.base_text.specs.Bytes.{Text}
+use Rattle.base_text.proofs.Slice.{slice-take}
+use Rattle.spec_tucson.specs.Columns.{blank}
+use Rattle.spec_tucson.specs.Line.{lastPrintable, widthLimit, allPrintable, allBlank, isWidth}
+use Rattle.spec_tucson.specs.Writing.{allWidths}
+use Rattle.spec_tucson.specs.WriteCall.{total}
 
 -- the entries from i on, the first of them apart
 pub drop-step : {A : Type 0} (l : List A) (i : ℕ) (d : A) → i < length l → drop i l ≡ getD l i d ∷ drop (i + 1) l

@@ -7,12 +7,12 @@ use Prim.Native.Nat.{ℕ, suc, _+_}
 use native.Mathlib.Numerals.{add-one}
 use lib.IntN.{ℤ}
 use lib.ListN.{length}
-use Rattle.exact.proofs.Decide.{cond-true, cond-false}
-use Rattle.numerals.specs.Bytes.{Text, beginsWith}
-use Rattle.tucson_form.specs.Line.{isName}
-use Rattle.tucson_form.specs.Series.{Series}
-use Rattle.tucson_form.specs.Writing.{allWidths, isWritable, firstUnwritable, seriesLines, linesText, written}
-use Rattle.tucson_theorems.proofs.ReadsBack.{CanBeWritten, first-parts}
+use Rattle.base_exact.proofs.Decide.{cond-true, cond-false}
+use Rattle.base_text.specs.Bytes.{Text, beginsWith}
+use Rattle.spec_tucson.specs.Line.{isName}
+use Rattle.spec_tucson.specs.Series.{Series}
+use Rattle.spec_tucson.specs.Writing.{allWidths, isWritable, firstUnwritable, seriesLines, linesText, written}
+use Rattle.theorems_tucson.proofs.ReadsBack.{CanBeWritten, first-parts}
 use Rattle.tucson_write.specs.Sizes.{series, closingFits}
 use Rattle.tucson_write.proofs.Sizes.{series-years}
 

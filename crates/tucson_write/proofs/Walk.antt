@@ -7,12 +7,12 @@ use native.Mathlib.Omega.{arith}
 use lib.IntN.{ℤ, pos}
 use lib.ListN.{length, getD, drop}
 use lib.Seq.{slice, drop-drop}
-use Rattle.numerals.specs.Bytes.{Text}
-use Rattle.numerals.proofs.Slice.{slice-take}
-use Rattle.tucson_form.specs.Line.{nameColumns}
-use Rattle.tucson_form.specs.Series.{Series}
-use Rattle.tucson_form.specs.WriteCall.{total, seriesOf}
-use Rattle.tucson_theorems.proofs.TucsonCells.{Fitting}
+use Rattle.base_text.specs.Bytes.{Text}
+use Rattle.base_text.proofs.Slice.{slice-take}
+use Rattle.spec_tucson.specs.Line.{nameColumns}
+use Rattle.spec_tucson.specs.Series.{Series}
+use Rattle.spec_tucson.specs.WriteCall.{total, seriesOf}
+use Rattle.theorems_tucson.proofs.TucsonCells.{Fitting}
 use Rattle.tucson_write.specs.Sizes.{series}
 use Rattle.tucson_write.proofs.Tests.{drop-step, drop-end, total-step}
 

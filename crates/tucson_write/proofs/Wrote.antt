@@ -7,12 +7,12 @@ use native.Mathlib.Numerals.{add-one}
 use native.Mathlib.Omega.{arith}
 use lib.ListN.{length, getD, drop, replicate, length-append, length-drop, length-replicate, List·getD-append}
 use lib.Seq.{ext-getD, getD-append-add, getD-drop}
-use Rattle.exact.proofs.Decide.{le-or-lt}
-use Rattle.numerals.specs.Bytes.{Text}
-use Rattle.printout.specs.Buffer.{written, Puts}
-use Rattle.printout.proofs.Buffer.{written-none, written-length, written-append, written-inside, written-behind}
-use Rattle.tucson_form.specs.Columns.{blank}
-use Rattle.tucson_form.specs.ReadCall.{overwritten}
+use Rattle.base_exact.proofs.Decide.{le-or-lt}
+use Rattle.base_text.specs.Bytes.{Text}
+use Rattle.sheet_print.specs.Buffer.{written, Puts}
+use Rattle.sheet_print.proofs.Buffer.{written-none, written-length, written-append, written-inside, written-behind}
+use Rattle.spec_tucson.specs.Columns.{blank}
+use Rattle.spec_tucson.specs.ReadCall.{overwritten}
 use Rattle.tucson_write.specs.Putting.{Wrote}
 
 pub wrote-none : (at : ℕ) (out : List ℕ) → Wrote at [] out out at

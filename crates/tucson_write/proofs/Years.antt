@@ -11,12 +11,12 @@ use lib.Signed.{leZ, ltZ, nonNeg, yes-nonNeg}
 use borrow.Author.Tests.{leb-true}
 use mir.Syntax.{w32, w64}
 use mir.Val.{SFits, Fits}
-use Rattle.exact.proofs.Decide.{le-or-lt, and-true}
-use Rattle.exact.proofs.Integer.{up, dn, ext, bal-+, bal-neg, ≤-in, ≤-out, <-in}
-use Rattle.exact.proofs.Word.{leZ-true, ltZ-true, ltZ-false, le-test, not-le-test, is-pos, sfits-abs}
-use Rattle.spline.specs.Space.{between}
-use Rattle.tucson_form.specs.Line.{decade, yearInDecade}
-use Rattle.tucson_form.specs.Writing.{leastYear, greatestYear}
+use Rattle.base_exact.proofs.Decide.{le-or-lt, and-true}
+use Rattle.base_exact.proofs.Integer.{up, dn, ext, bal-+, bal-neg, ≤-in, ≤-out, <-in}
+use Rattle.base_exact.proofs.Word.{leZ-true, ltZ-true, ltZ-false, le-test, not-le-test, is-pos, sfits-abs}
+use Rattle.spec_spline.specs.Space.{between}
+use Rattle.spec_tucson.specs.Line.{decade, yearInDecade}
+use Rattle.spec_tucson.specs.Writing.{leastYear, greatestYear}
 use Rattle.tucson_write.specs.Sizes.{yearsLeft, yearAt, mostLeft, closingFits}
 
 pub year-balance : (y : ℤ) → up (greatestYear -ℤ y) + up y ≡ dn (greatestYear -ℤ y) + 9999 + dn y

@@ -5,12 +5,12 @@ use mathlib.Core.Path.{_≡_}
 use Prim.Native.Nat.{ℕ, _+_, _*_, _≤_}
 use lib.IntN.{ℤ}
 use lib.ListN.{length}
-use Rattle.spline.specs.Space.{between}
-use Rattle.numerals.specs.Bytes.{Text}
-use Rattle.printout.specs.Buffer
-use Rattle.tucson_form.specs.Columns.{columns}
-use Rattle.tucson_form.specs.Line.{Line, yearColumns, fieldColumns, isName}
-use Rattle.tucson_form.specs.Writing.{leastYear, greatestYear, allWidths, fieldsText, linesText, seriesLines}
+use Rattle.spec_spline.specs.Space.{between}
+use Rattle.base_text.specs.Bytes.{Text}
+use Rattle.sheet_print.specs.Buffer
+use Rattle.spec_tucson.specs.Columns.{columns}
+use Rattle.spec_tucson.specs.Line.{Line, yearColumns, fieldColumns, isName}
+use Rattle.spec_tucson.specs.Writing.{leastYear, greatestYear, allWidths, fieldsText, linesText, seriesLines}
 use Rattle.tucson_write.specs.Sizes.{series, closingFits}
 
 -- The buffer with the text from index `at` on, and the index `next` after it.

@@ -6,11 +6,11 @@ use mathlib.Core.List.{List, [], _∷_}
 use Prim.Native.Nat.{ℕ, _+_, _*_, _-_, _/_, _%_}
 use lib.Dec.{leb}
 use lib.IntN.{ℤ, pos, natAbs, _-ℤ_}
-use Rattle.spline.specs.Space.{between}
-use Rattle.numerals.specs.Bytes.{Text}
-use Rattle.tucson_form.specs.Line.{nameColumns, yearColumns, fieldColumns, decade}
-use Rattle.tucson_form.specs.Series.{Series}
-use Rattle.tucson_form.specs.Writing.{leastYear, greatestYear}
+use Rattle.spec_spline.specs.Space.{between}
+use Rattle.base_text.specs.Bytes.{Text}
+use Rattle.spec_tucson.specs.Line.{nameColumns, yearColumns, fieldColumns, decade}
+use Rattle.spec_tucson.specs.Series.{Series}
+use Rattle.spec_tucson.specs.Writing.{leastYear, greatestYear}
 
 -- A series of these.
 abbrev pub series : Text → ℤ → List ℤ → Series

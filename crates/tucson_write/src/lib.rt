@@ -1,8 +1,8 @@
 // Writing Tucson decadal files (document 02, change request 1): four lists of series into a lent text. What can be refused is
 // tested before the first byte is written.
 ghost use mathlib.Core.Path.{_≡_};
-ghost use Rattle.tucson_form.specs.WriteCall.{writeEnd};
-ghost use Rattle.tucson_write.specs.Reply.{reply};
+ghost use Rattle.spec_tucson.specs.WriteCall.{writeEnd};
+ghost use Rattle.tucson_write.specs.Machine.{reply};
 
 mod lists;
 mod putting;
@@ -27,8 +27,8 @@ pub fn write(names: &[u8], years: &[i32], counts: &[u32], widths: &[i32], text: 
     }
     let found = writable::first_unwritable(names, years, counts, widths);
     match found {
-        space::Found::At(k) => Answer::Refused(11, space::place(k)),
-        space::Found::Nothing => {
+        build_space::Found::At(k) => Answer::Refused(11, build_space::place(k)),
+        build_space::Found::Nothing => {
             if !room::text_fits(years, counts, text.len()) {
                 return Answer::Refused(1, 0);
             }

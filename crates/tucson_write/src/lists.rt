@@ -1,7 +1,7 @@
 // Number 2: whether the four lists fit each other.
 ghost use mathlib.Core.Path.{_≡_};
 ghost use lib.Dec.{eqb};
-ghost use Rattle.tucson_form.specs.WriteCall.{total, listsFit};
+ghost use Rattle.spec_tucson.specs.WriteCall.{total, listsFit};
 
 // The bytes of a name.
 pub const NAME_COLUMNS: usize = 8;

@@ -4,11 +4,11 @@ ghost use mathlib.Core.Bool.{true};
 ghost use Prim.Native.Nat.{_+_, _≤_};
 ghost use lib.ListN.{length};
 ghost use lib.Seq.{slice};
-ghost use Rattle.spline.specs.Space.{between};
-ghost use Rattle.space.specs.Reply.{found};
-ghost use Rattle.tucson_form.specs.Line.{nameColumns, allPrintable, allBlank, isName};
-ghost use Rattle.tucson_form.specs.Writing.{leastYear, greatestYear, allWidths, isWritable, unwritable};
-ghost use Rattle.tucson_form.specs.WriteCall.{listsFit, seriesOf};
+ghost use Rattle.spec_spline.specs.Space.{between};
+ghost use Rattle.build_space.specs.Machine.{found};
+ghost use Rattle.spec_tucson.specs.Line.{nameColumns, allPrintable, allBlank, isName};
+ghost use Rattle.spec_tucson.specs.Writing.{leastYear, greatestYear, allWidths, isWritable, unwritable};
+ghost use Rattle.spec_tucson.specs.WriteCall.{listsFit, seriesOf};
 ghost use Rattle.tucson_write.specs.Sizes.{series, yearsLeft, closingFits};
 use crate::lists::NAME_COLUMNS;
 
@@ -125,11 +125,16 @@ fn is_writable(names: &[u8], before: usize, at: usize, year: i32, widths: &[i32]
     if !years_fit(year, widths.len()) {
         return false;
     }
-    !numerals::fields::begins(names, before, at, name)
+    !base_text::fields::begins(names, before, at, name)
 }
 
 // The first series that can't be written.
-pub fn first_unwritable(names: &[u8], years: &[i32], counts: &[u32], widths: &[i32]) -> space::Found
+pub fn first_unwritable(
+    names: &[u8],
+    years: &[i32],
+    counts: &[u32],
+    widths: &[i32],
+) -> build_space::Found
     requires { ⌜ listsFit (now names) (now years) (now counts) (now widths) ≡ true ⌝ }
     ensures { λ r. ⌜ r ≡ found (unwritable (seriesOf (now (names .entry)) (now (years .entry)) (now (counts .entry)) (now (widths .entry)))) ⌝ }
 {
@@ -139,11 +144,11 @@ pub fn first_unwritable(names: &[u8], years: &[i32], counts: &[u32], widths: &[i
     let mut k = 0;
     let found = loop {
         if k == years.len() {
-            break space::Found::Nothing;
+            break build_space::Found::Nothing;
         }
         let to = from + counts[k] as usize;
         if !is_writable(names, before, at, years[k], &widths[from..to]) {
-            break space::Found::At(k);
+            break build_space::Found::At(k);
         }
         before = at;
         at += NAME_COLUMNS;

@@ -3,8 +3,8 @@
 use mathlib.Core.Path.{_≡_, ap, _∙_}
 use Prim.Native.Nat.{ℕ}
 use lib.IntN.{ℤ}
-use Rattle.spline.specs.Outcome.{Outcome, answer, refusal}
-use Rattle.walzhik.specs.Reply.{replied}
+use Rattle.spec_spline.specs.Outcome.{Outcome, answer, refusal}
+use Rattle.walzhik.specs.Machine.{replied}
 use Rattle.walzhik.specs.declared.Reply.{Reply}
 use Rattle.walzhik.specs.declared.Reach.{Reach}
 

@@ -6,15 +6,15 @@ use Prim.Native.Nat.{ℕ, _-_}
 use lib.Ieee.{Float, binary64, ofBits}
 use lib.IntN.{ℤ, pos}
 use lib.ListN.{length, replicate}
-use Rattle.spline.specs.Outcome.{Outcome, answer, refusal}
-use Rattle.spline.specs.Reading.{parts}
-use Rattle.pieces.specs.Pieces as pieces
-use Rattle.pieces.specs.Machine.{Is, Each, none, more, Shows, Replies, drawn, refused}
-use Rattle.pieces.specs.declared.Curve.the-variants.{Line, Quadratic, Cubic}
-use Rattle.pieces.specs.declared.Ends.{Ends}
-use Rattle.pieces.specs.declared.Drawing.{Drawing}
-use Rattle.pieces.specs.declared.Answer.{Answer}
-use Rattle.pieces.specs.declared.Answer.the-variants.{Drawn, Refused}
+use Rattle.spec_spline.specs.Outcome.{Outcome, answer, refusal}
+use Rattle.spec_spline.specs.Reading.{fineness}
+use Rattle.curve_pieces.specs.Pieces as pieces
+use Rattle.curve_pieces.specs.Machine.{Is, Each, none, more, Shows, Replies, drawn, refused}
+use Rattle.curve_pieces.specs.declared.Curve.the-variants.{Line, Quadratic, Cubic}
+use Rattle.curve_pieces.specs.declared.Ends.{Ends}
+use Rattle.curve_pieces.specs.declared.Drawing.{Drawing}
+use Rattle.curve_pieces.specs.declared.Answer.{Answer}
+use Rattle.curve_pieces.specs.declared.Answer.the-variants.{Drawn, Refused}
 use Rattle.walzhik.specs.declared.Piece.{Piece}
 use Rattle.walzhik.specs.Piece.{room, Sent}
 
@@ -33,15 +33,15 @@ struct degree o0 o1 o2 o3 ends = record { number = 0; place = 0; degree = degree
 -- ordinates with zeros behind them
 record Padded (degree : ℕ) (xs : List Float) (zs : List ℤ) : Type 0 where
   size : degree ≡ length zs - 1
-  each : Each parts xs (zs ++ replicate (room - length zs) (pos 0))
+  each : Each fineness xs (zs ++ replicate (room - length zs) (pos 0))
 
-two : (a b : Float) {zs : List ℤ} → Each parts (a ∷ b ∷ []) zs → Padded 1 (a ∷ b ∷ nought ∷ nought ∷ []) zs
-two a b (more x (more y none)) = record { size = refl; each = more x (more y (more (nought-is parts) (more (nought-is parts) none))) }
+two : (a b : Float) {zs : List ℤ} → Each fineness (a ∷ b ∷ []) zs → Padded 1 (a ∷ b ∷ nought ∷ nought ∷ []) zs
+two a b (more x (more y none)) = record { size = refl; each = more x (more y (more (nought-is fineness) (more (nought-is fineness) none))) }
 
-three : (a b c : Float) {zs : List ℤ} → Each parts (a ∷ b ∷ c ∷ []) zs → Padded 2 (a ∷ b ∷ c ∷ nought ∷ []) zs
-three a b c (more x (more y (more z none))) = record { size = refl; each = more x (more y (more z (more (nought-is parts) none))) }
+three : (a b c : Float) {zs : List ℤ} → Each fineness (a ∷ b ∷ c ∷ []) zs → Padded 2 (a ∷ b ∷ c ∷ nought ∷ []) zs
+three a b c (more x (more y (more z none))) = record { size = refl; each = more x (more y (more z (more (nought-is fineness) none))) }
 
-four : (a b c d : Float) {zs : List ℤ} → Each parts (a ∷ b ∷ c ∷ d ∷ []) zs → Padded 3 (a ∷ b ∷ c ∷ d ∷ []) zs
+four : (a b c d : Float) {zs : List ℤ} → Each fineness (a ∷ b ∷ c ∷ d ∷ []) zs → Padded 3 (a ∷ b ∷ c ∷ d ∷ []) zs
 four a b c d (more x (more y (more z (more w none)))) = record { size = refl; each = more x (more y (more z (more w none))) }
 
 module _ (ends : Ends) (p : pieces.Piece) where

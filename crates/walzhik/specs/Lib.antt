@@ -1,3 +1,3 @@
 -- What the contracts of walzhik cite beside the definitions of crate spline.
-pub mod Reply
+pub mod Machine
 pub mod Piece

@@ -5,10 +5,10 @@ use Prim.Native.Nat.{ℕ, _-_}
 use lib.Ieee.{Float}
 use lib.IntN.{ℤ, pos}
 use lib.ListN.{length, replicate}
-use Rattle.spline.specs.Outcome.{Outcome, answer, refusal}
-use Rattle.spline.specs.Reading.{parts}
-use Rattle.pieces.specs.Pieces as pieces
-use Rattle.pieces.specs.Machine.{Is, Each}
+use Rattle.spec_spline.specs.Outcome.{Outcome, answer, refusal}
+use Rattle.spec_spline.specs.Reading.{fineness}
+use Rattle.curve_pieces.specs.Pieces as pieces
+use Rattle.curve_pieces.specs.Machine.{Is, Each}
 use Rattle.walzhik.specs.declared.Piece.{Piece}
 
 -- The struct has room for a cubic's ordinates.
@@ -24,7 +24,7 @@ pub record Carries (r : Piece) (number place degree : ℕ) (ordinates : List ℤ
   pub place-is : r .place ≡ place
   pub degree-is : r .degree ≡ degree
   pub unused-is : r .unused ≡ 0
-  pub ordinates-are : Each parts (ordinatesOf r) (ordinates ++ replicate (room - length ordinates) (pos 0))
+  pub ordinates-are : Each fineness (ordinatesOf r) (ordinates ++ replicate (room - length ordinates) (pos 0))
   pub start-is : Is (r .start) start 1
   pub end-is : Is (r .end) end 1
 

@@ -1,20 +1,20 @@
 // The engine for C and Rust: the public calls with their answers as a struct by value.
 ghost use mathlib.Core.Path.{_≡_};
-ghost use Rattle.space.specs.Reply.{space};
-ghost use Rattle.spline.specs.Outcome.{answer, refusal};
-ghost use Rattle.spline.specs.Build.{buildEnd};
-ghost use Rattle.recovery.specs.RecoveryCall.{recoveryEnd};
-ghost use Rattle.spline.specs.Reading.{earlywood, latewood};
-ghost use Rattle.spline.specs.CurveCall.{curveEnd};
+ghost use Rattle.build_space.specs.Machine.{space};
+ghost use Rattle.spec_spline.specs.Outcome.{answer, refusal};
+ghost use Rattle.spec_spline.specs.Build.{buildEnd};
+ghost use Rattle.theorems_recovery.specs.RecoveryCall.{recoveryEnd};
+ghost use Rattle.spec_spline.specs.Reading.{earlywood, latewood};
+ghost use Rattle.spec_spline.specs.CurveCall.{curveEnd};
 ghost use Rattle.indices.specs.Indices.{indicesEnd};
-ghost use Rattle.tucson_form.specs.ReadCall.{readEnd};
-ghost use Rattle.tucson_form.specs.WriteCall.{writeEnd};
-ghost use Rattle.reach.specs.Reach.{reachEnd};
-ghost use Rattle.weights.specs.Reply as weights;
-ghost use Rattle.reach.specs.Machine.{reply};
-ghost use Rattle.pieces.specs.Pieces as pieces;
-ghost use Rattle.pieces.specs.Machine.{Shows};
-ghost use Rattle.walzhik.specs.Reply.{replied, reached};
+ghost use Rattle.spec_tucson.specs.ReadCall.{readEnd};
+ghost use Rattle.spec_tucson.specs.WriteCall.{writeEnd};
+ghost use Rattle.curve_reach.specs.Reach.{reachEnd};
+ghost use Rattle.build.specs.Machine as weights;
+ghost use Rattle.curve_reach.specs.Machine.{reply};
+ghost use Rattle.curve_pieces.specs.Pieces as pieces;
+ghost use Rattle.curve_pieces.specs.Machine.{Shows};
+ghost use Rattle.walzhik.specs.Machine.{replied, reached};
 ghost use Rattle.walzhik.specs.Piece.{Sent};
 
 // The count of rows, positions, rings, series or bytes, with number 0 and place 0; or count 0 with a refusal's number and place.
@@ -70,16 +70,16 @@ fn refused(number: u8, place: u32) -> Reply
 }
 
 // The struct of what a call that builds answers with its rows.
-fn rows_of(built: weights::Built) -> Reply
+fn rows_of(built: build::Built) -> Reply
     ensures { λ r. ⌜ r ≡ replied (weights.reply built) ⌝ }
 {
     match built {
-        weights::Built::Rows(n) => answered(n),
-        weights::Built::Refused(number, place) => refused(number, place),
+        build::Built::Rows(n) => answered(n),
+        build::Built::Refused(number, place) => refused(number, place),
     }
 }
 
-// weights::build
+// build::build
 #[no_mangle]
 pub extern "C" fn walzhik_build(
     breaks: &[i32],
@@ -91,11 +91,11 @@ pub extern "C" fn walzhik_build(
     ensures { λ r. ⌜ (let e = buildEnd (space (now (breaks .entry)) (now (degrees .entry)) (now (orders .entry))) (now (num .entry)) (now (den .entry)) in
         (r ≡ replied (e .answers)) × ((now (num .exit) ≡ e .numerators) × (now (den .exit) ≡ e .denominators))) ⌝ }
 {
-    let built = weights::build(breaks, degrees, orders, num, den);
+    let built = build::build(breaks, degrees, orders, num, den);
     rows_of(built)
 }
 
-// coefficients::coefficients
+// recover::coefficients
 #[no_mangle]
 pub extern "C" fn walzhik_coefficients(
     breaks: &[i32],
@@ -110,7 +110,7 @@ pub extern "C" fn walzhik_coefficients(
     ensures { λ r. ⌜ (let e = recoveryEnd (space (now (breaks .entry)) (now (degrees .entry)) (now (orders .entry))) (now (ordinates .entry)) (now (num .entry)) (now (den .entry)) (now («coef_num» .entry)) (now («coef_den» .entry)) in
         (r ≡ replied (e .answers)) × ((now (num .exit) ≡ e .numerators) × ((now (den .exit) ≡ e .denominators) × ((now («coef_num» .exit) ≡ e .coefficientNumerators) × (now («coef_den» .exit) ≡ e .coefficientDenominators))))) ⌝ }
 {
-    let built = coefficients::coefficients(
+    let built = recover::coefficients(
         breaks,
         degrees,
         orders,
@@ -163,7 +163,7 @@ pub extern "C" fn walzhik_earlywood_indices(
         (r ≡ replied (e .answers)) × ((now (num .exit) ≡ e .numerators) × ((now (den .exit) ≡ e .denominators) × ((now (values .exit) ≡ e .values) × (now (indices .exit) ≡ e .indices))))) ⌝ }
 {
     let answer = indices::indices(
-        indices::Part::Earlywood,
+        indices::Wood::Earlywood,
         breaks,
         degrees,
         orders,
@@ -199,7 +199,7 @@ pub extern "C" fn walzhik_latewood_indices(
         (r ≡ replied (e .answers)) × ((now (num .exit) ≡ e .numerators) × ((now (den .exit) ≡ e .denominators) × ((now (values .exit) ≡ e .values) × (now (indices .exit) ≡ e .indices))))) ⌝ }
 {
     let answer = indices::indices(
-        indices::Part::Latewood,
+        indices::Wood::Latewood,
         breaks,
         degrees,
         orders,
@@ -266,16 +266,16 @@ fn reach_struct(position: i32, code: u32, at: u32) -> Reach
 }
 
 // The struct of what a reach call answers.
-fn reach_of(answer: reach::Answer) -> Reach
+fn reach_of(answer: curve_reach::Answer) -> Reach
     ensures { λ r. ⌜ r ≡ reached (reply answer) ⌝ }
 {
     match answer {
-        reach::Answer::Reached(x) => reach_struct(x, 0, 0),
-        reach::Answer::Refused(number, place) => reach_struct(0, number as u32, place),
+        curve_reach::Answer::Reached(x) => reach_struct(x, 0, 0),
+        curve_reach::Answer::Refused(number, place) => reach_struct(0, number as u32, place),
     }
 }
 
-// reach::reach of the earlywood.
+// curve_reach::reach of the earlywood.
 #[no_mangle]
 pub extern "C" fn walzhik_earlywood_reach(
     breaks: &[i32],
@@ -289,8 +289,8 @@ pub extern "C" fn walzhik_earlywood_reach(
     ensures { λ r. ⌜ (let e = reachEnd (space (now (breaks .entry)) (now (degrees .entry)) (now (orders .entry))) earlywood (now (coefs .entry)) width (now (num .entry)) (now (den .entry)) in
         (r ≡ reached (e .answers)) × ((now (num .exit) ≡ e .numerators) × (now (den .exit) ≡ e .denominators))) ⌝ }
 {
-    let answer = reach::reach(
-        ordinates::Part::Earlywood,
+    let answer = curve_reach::reach(
+        curve_ordinates::Wood::Earlywood,
         breaks,
         degrees,
         orders,
@@ -302,7 +302,7 @@ pub extern "C" fn walzhik_earlywood_reach(
     reach_of(answer)
 }
 
-// reach::reach of the latewood.
+// curve_reach::reach of the latewood.
 #[no_mangle]
 pub extern "C" fn walzhik_latewood_reach(
     breaks: &[i32],
@@ -316,8 +316,8 @@ pub extern "C" fn walzhik_latewood_reach(
     ensures { λ r. ⌜ (let e = reachEnd (space (now (breaks .entry)) (now (degrees .entry)) (now (orders .entry))) latewood (now (coefs .entry)) width (now (num .entry)) (now (den .entry)) in
         (r ≡ reached (e .answers)) × ((now (num .exit) ≡ e .numerators) × (now (den .exit) ≡ e .denominators))) ⌝ }
 {
-    let answer = reach::reach(
-        ordinates::Part::Latewood,
+    let answer = curve_reach::reach(
+        curve_ordinates::Wood::Latewood,
         breaks,
         degrees,
         orders,
@@ -330,7 +330,7 @@ pub extern "C" fn walzhik_latewood_reach(
 }
 
 // A piece with its degree and its four ordinates.
-fn of_degree(degree: u32, o0: f64, o1: f64, o2: f64, o3: f64, ends: pieces::Ends) -> Piece
+fn of_degree(degree: u32, o0: f64, o1: f64, o2: f64, o3: f64, ends: curve_pieces::Ends) -> Piece
     ensures { λ r. ⌜ r ≡ record { number = 0; place = 0; degree = degree; unused = 0; o0 = o0; o1 = o1; o2 = o2; o3 = o3; start = ends .start; end = ends .end } ⌝ }
 {
     Piece {
@@ -347,14 +347,14 @@ fn of_degree(degree: u32, o0: f64, o1: f64, o2: f64, o3: f64, ends: pieces::Ends
     }
 }
 
-fn sent(drawing: pieces::Drawing) -> Piece
+fn sent(drawing: curve_pieces::Drawing) -> Piece
     ensures { λ r. ⌜ ((p : pieces.Piece) → Shows drawing p → Sent r (answer p)) ⌝ }
 {
     let curve = drawing.curve;
     match curve {
-        pieces::Curve::Line(a, b) => of_degree(1, a, b, 0.0, 0.0, drawing.ends),
-        pieces::Curve::Quadratic(a, b, c) => of_degree(2, a, b, c, 0.0, drawing.ends),
-        pieces::Curve::Cubic(a, b, c, d) => of_degree(3, a, b, c, d, drawing.ends),
+        curve_pieces::Curve::Line(a, b) => of_degree(1, a, b, 0.0, 0.0, drawing.ends),
+        curve_pieces::Curve::Quadratic(a, b, c) => of_degree(2, a, b, c, 0.0, drawing.ends),
+        curve_pieces::Curve::Cubic(a, b, c, d) => of_degree(3, a, b, c, d, drawing.ends),
     }
 }
 
@@ -375,7 +375,7 @@ fn not_sent(number: u8, place: u32) -> Piece
     }
 }
 
-// pieces::piece of the earlywood.
+// curve_pieces::piece of the earlywood.
 #[no_mangle]
 pub extern "C" fn walzhik_earlywood_piece(
     breaks: &[i32],
@@ -389,8 +389,8 @@ pub extern "C" fn walzhik_earlywood_piece(
     ensures { λ r. ⌜ (let e = pieces.pieceEnd (space (now (breaks .entry)) (now (degrees .entry)) (now (orders .entry))) earlywood (now (coefs .entry)) segment (now (num .entry)) (now (den .entry)) in
         Sent r (e .answers) × ((now (num .exit) ≡ e .numerators) × (now (den .exit) ≡ e .denominators))) ⌝ }
 {
-    let answer = pieces::piece(
-        ordinates::Part::Earlywood,
+    let answer = curve_pieces::piece(
+        curve_ordinates::Wood::Earlywood,
         breaks,
         degrees,
         orders,
@@ -400,12 +400,12 @@ pub extern "C" fn walzhik_earlywood_piece(
         den,
     );
     match answer {
-        pieces::Answer::Drawn(drawing) => sent(drawing),
-        pieces::Answer::Refused(number, place) => not_sent(number, place),
+        curve_pieces::Answer::Drawn(drawing) => sent(drawing),
+        curve_pieces::Answer::Refused(number, place) => not_sent(number, place),
     }
 }
 
-// pieces::piece of the latewood.
+// curve_pieces::piece of the latewood.
 #[no_mangle]
 pub extern "C" fn walzhik_latewood_piece(
     breaks: &[i32],
@@ -419,8 +419,8 @@ pub extern "C" fn walzhik_latewood_piece(
     ensures { λ r. ⌜ (let e = pieces.pieceEnd (space (now (breaks .entry)) (now (degrees .entry)) (now (orders .entry))) latewood (now (coefs .entry)) segment (now (num .entry)) (now (den .entry)) in
         Sent r (e .answers) × ((now (num .exit) ≡ e .numerators) × (now (den .exit) ≡ e .denominators))) ⌝ }
 {
-    let answer = pieces::piece(
-        ordinates::Part::Latewood,
+    let answer = curve_pieces::piece(
+        curve_ordinates::Wood::Latewood,
         breaks,
         degrees,
         orders,
@@ -430,7 +430,7 @@ pub extern "C" fn walzhik_latewood_piece(
         den,
     );
     match answer {
-        pieces::Answer::Drawn(drawing) => sent(drawing),
-        pieces::Answer::Refused(number, place) => not_sent(number, place),
+        curve_pieces::Answer::Drawn(drawing) => sent(drawing),
+        curve_pieces::Answer::Refused(number, place) => not_sent(number, place),
     }
 }

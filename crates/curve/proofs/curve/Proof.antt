@@ -6,21 +6,21 @@ use mathlib.Core.Path.{_≡_, refl, sym, _∙_, ap, ap₂}
 use Prim.Native.Nat.{_+_, _*_, _/_, _≤_}
 use lib.IntN.{ℤ}
 use lib.ListN.{length, drop}
-use Rattle.spline.specs.Outcome.{Outcome, with-answer}
-use Rattle.spline.specs.Space.{Space, rowCount}
-use Rattle.spline.specs.Table.{tableCells, numerators, denominators}
-use Rattle.spline.specs.Build.{weights, lastPart, numeratorsAfter, denominatorsAfter}
-use Rattle.spline.specs.Reading.{Pair, earlywood, latewood, coefficient, sideBySide}
-use Rattle.spline.specs.CurveCall.{CurveResult, curveChecked, curveOutcome}
-use Rattle.spline.proofs.Pairs.{half-le}
-use Rattle.closeness.proofs.LegalCall.{curve-checks, values-length}
-use Rattle.space.specs.Reply.{space, legality}
-use Rattle.space.specs.declared.Legality.the-variants.{Legal}
-use Rattle.space.proofs.Reply.{refused-refuses}
-use Rattle.space.proofs.Legal.{legal-column-count-high}
-use Rattle.weights.specs.Reply as building
-use Rattle.weights.proofs.Beam.{Answered, told-rows, told-refused}
-use Rattle.ordinates.specs.Ordinates.{Coefficients, Bounded}
+use Rattle.spec_spline.specs.Outcome.{Outcome, with-answer}
+use Rattle.spec_spline.specs.Space.{Space, rowCount}
+use Rattle.spec_spline.specs.Table.{tableCells, numerators, denominators}
+use Rattle.spec_spline.specs.Build.{weights, lastPart, numeratorsAfter, denominatorsAfter}
+use Rattle.spec_spline.specs.Reading.{Pair, earlywood, latewood, coefficient, sideBySide}
+use Rattle.spec_spline.specs.CurveCall.{CurveResult, curveChecked, curveOutcome}
+use Rattle.spec_spline.proofs.Pairs.{half-le}
+use Rattle.theorems_values.proofs.LegalCall.{curve-checks, values-length}
+use Rattle.build_space.specs.Machine.{space, legality}
+use Rattle.build_space.specs.declared.Legality.the-variants.{Legal}
+use Rattle.build_space.proofs.Machine.{refused-refuses}
+use Rattle.build_space.proofs.Legal.{legal-column-count-high}
+use Rattle.build.specs.Machine as building
+use Rattle.build.proofs.Beam.{Answered, told-rows, told-refused}
+use Rattle.curve_ordinates.specs.Ordinates.{Coefficients, Bounded}
 use Rattle.curve.specs.Pairs.{pairOf}
 use Rattle.curve.proofs.Call.{ends-refused, ends-unchanged, ends-written, first-short, second-short, third-short, call-refused, call-stopped, call-answers, checks-answer, lists-legal, coefficients-good, positions-good}
 use Rattle.curve.proofs.Pairs.{fronted, pairs-fronted, fronted-bounded}

@@ -10,10 +10,10 @@ use lib.Seq.{drop-length}
 use mir.Syntax.{w32, w64}
 use mir.Val.{SFits, ofZ, toZ}
 use mir.ValLaws.{toZ-ofZ, toZ-pos}
-use Rattle.exact.specs.Tabulate.{tab}
-use Rattle.exact.proofs.Tabulate.{tab-none, tab-more, tab-ext}
-use Rattle.exact.proofs.Word.{sfits-widen, sfits-abs, sfits-nat, abs-sfits, abs-add, abs-mul}
-use Rattle.spline.specs.Reading.{fine}
+use Rattle.base_exact.specs.Tabulate.{tab}
+use Rattle.base_exact.proofs.Tabulate.{tab-none, tab-more, tab-ext}
+use Rattle.base_exact.proofs.Word.{sfits-widen, sfits-abs, sfits-nat, abs-sfits, abs-add, abs-mul}
+use Rattle.spec_spline.specs.Reading.{fine}
 use Rattle.indices.specs.Machine.{nearestWord, wordPosition}
 use Rattle.indices.proofs.fill_positions.Statement.{statement}
 use Rattle.indices.proofs.fill_positions.Tie as tie

@@ -11,9 +11,9 @@ use lib.Signed.{_<ℤ_}
 use mir.Syntax.{w32, w64}
 use mir.Val.{SFits, ofZ, toZ}
 use mir.ValLaws.{toZ-ofZ}
-use Rattle.exact.specs.Floor.{floorDiv}
-use Rattle.exact.proofs.Integer.{abs-mul}
-use Rattle.exact.proofs.Word.{ofZ-inj, sfits-nat, sfits-widen, sfits-abs}
+use Rattle.base_exact.specs.Floor.{floorDiv}
+use Rattle.base_exact.proofs.Integer.{abs-mul}
+use Rattle.base_exact.proofs.Word.{ofZ-inj, sfits-nat, sfits-widen, sfits-abs}
 use Rattle.indices.specs.Indices.{indexScale}
 use Rattle.indices.specs.Machine.{badCell, cellIndex}
 use Rattle.indices.proofs.Ring.{passes-small, passes-value, index-absent, index-present}

@@ -7,25 +7,25 @@ use mathlib.Core.Option.{some, none}
 use Prim.Native.Nat.{ℕ, _<_}
 use lib.IntN.{ℤ}
 use lib.ListN.{length, drop}
-use Rattle.exact.specs.Tabulate.{tab}
-use Rattle.exact.proofs.Tabulate.{tab-length}
-use Rattle.spline.specs.Outcome.{answer}
-use Rattle.spline.specs.Search.{first}
-use Rattle.spline.specs.Reading.{partIndex}
-use Rattle.spline.proofs.Search.{first-some-inverts, first-none-inverts}
-use Rattle.spline.proofs.Pairs.{partIndex-below}
+use Rattle.base_exact.specs.Tabulate.{tab}
+use Rattle.base_exact.proofs.Tabulate.{tab-length}
+use Rattle.spec_spline.specs.Outcome.{answer}
+use Rattle.spec_spline.specs.Search.{first}
+use Rattle.spec_spline.specs.Reading.{woodIndex}
+use Rattle.spec_spline.proofs.Search.{first-some-inverts, first-none-inverts}
+use Rattle.spec_spline.proofs.Pairs.{woodIndex-below}
 use Rattle.indices.specs.Indices.{indicesReturned, indicesAfter}
-use Rattle.indices.specs.Machine.{woodPart, reply, badCell, cellIndex, cellsIndexed}
+use Rattle.indices.specs.Machine.{woodOf, reply, badCell, cellIndex, cellsIndexed}
 use Rattle.indices.proofs.Searching.{found-some-inverts, found-none-inverts}
 use Rattle.indices.proofs.Call.{cells-refused, cells-answered}
 use Rattle.indices.proofs.index_rings.Statement.{statement}
 use Rattle.indices.proofs.index_rings.Tie as tie
 
-part-index-requires : tie.Need-part-index-requires
-part-index-requires c κs = search needs
+wood-index-requires : tie.Need-wood-index-requires
+wood-index-requires c κs = search needs
 
-offset-small : (c : tie.After-part-index) → c .part-index .result < 2
-offset-small c = rw (c .part-index .ensures) (partIndex-below (woodPart (c .before .args .part)))
+offset-small : (c : tie.After-wood-index) → c .wood-index .result < 2
+offset-small c = rw (c .wood-index .ensures) (woodIndex-below (woodOf (c .before .args .wood)))
 
 first-bad-ring-requires : tie.Need-first-bad-ring-requires
 first-bad-ring-requires c κs = (c .before .pre .0 .0, offset-small c)
@@ -44,7 +44,7 @@ module _ (c : tie.After-known-told) where
   abbrev place : ℕ
   place = c .before .bad .given .0 .0
 
-  refused-at : first (length (start .args .widths .now)) (badCell (start .args .widths .now) (start .args .values .now) (searched .before .part-index .result)) ≡ some place
+  refused-at : first (length (start .args .widths .now)) (badCell (start .args .widths .now) (start .args .values .now) (searched .before .wood-index .result)) ≡ some place
   refused-at = found-some-inverts _ (sym (searched .first-bad-ring .ensures) ∙ c .before .bad .given .1)
 
   place-below : place < length (start .args .widths .now)
@@ -64,7 +64,7 @@ module _ (c : tie.After-enum-told) where
   abbrev begin : tie.Start
   begin = passed .before .before
 
-  none-refused : first (length (begin .args .widths .now)) (badCell (begin .args .widths .now) (begin .args .values .now) (passed .before .part-index .result)) ≡ none
+  none-refused : first (length (begin .args .widths .now)) (badCell (begin .args .widths .now) (begin .args .values .now) (passed .before .wood-index .result)) ≡ none
   none-refused = found-none-inverts _ (sym (passed .first-bad-ring .ensures) ∙ c .enum-told .given .1)
 
 write-indices-requires : tie.Need-write-indices-requires
@@ -76,7 +76,7 @@ returns : tie.Need-returns
 unfolding reply indicesAfter
 returns c =
     let a = start c .args in
-    let e = ap (cellsIndexed (a .widths .now) (a .values .now)) (sym (searched c .before .part-index .ensures)) ∙ cells-refused (a .widths .now) (a .values .now) (searched c .before .part-index .result) (refused-at c) (start c .pre .1) in
+    let e = ap (cellsIndexed (a .widths .now) (a .values .now)) (sym (searched c .before .wood-index .ensures)) ∙ cells-refused (a .widths .now) (a .values .now) (searched c .before .wood-index .result) (refused-at c) (start c .pre .1) in
     (sym (ap indicesReturned e), sym (ap (λ o. indicesAfter o (a .indices .now)) e))
 
 same-length : tie.Need-same-length
@@ -88,9 +88,9 @@ returns-2 c =
     let w = c .before in
     let t = w .before .before in
     let a = begin t .args in
-    let f = cellIndex (a .widths .now) (a .values .now) (passed t .before .part-index .result) in
+    let f = cellIndex (a .widths .now) (a .values .now) (passed t .before .wood-index .result) in
     let n = length (a .widths .now) in
-    let e = ap (cellsIndexed (a .widths .now) (a .values .now)) (sym (passed t .before .part-index .ensures)) ∙ cells-answered (a .widths .now) (a .values .now) (passed t .before .part-index .result) (none-refused t) in (
+    let e = ap (cellsIndexed (a .widths .now) (a .values .now)) (sym (passed t .before .wood-index .ensures)) ∙ cells-answered (a .widths .now) (a .values .now) (passed t .before .wood-index .result) (none-refused t) in (
       sym (ap indicesReturned e ∙ ap answer (tab-length n f)),
       w .write-indices .ensures ∙ ap (λ (k : ℕ). tab n f ++ drop k (a .indices .now)) (sym (tab-length n f)) ∙ sym (ap (λ o. indicesAfter o (a .indices .now)) e),
     )
@@ -99,7 +99,7 @@ pub index-rings-spec : {M : Type 1} → statement M
 index-rings-spec =
     tie.close
     (tie.spec
-    part-index-requires
+    wood-index-requires
     first-bad-ring-requires
     enum-known-bad
     cast-t9

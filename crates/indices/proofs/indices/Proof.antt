@@ -11,15 +11,15 @@ use lib.Seq.{length-take-le}
 use mir.Syntax.{w32}
 use mir.Val.{ofZ, toZ}
 use mir.ValLaws.{toZ-ofZ}
-use Rattle.space.specs.Reply.{space}
-use Rattle.spline.specs.Outcome.{Outcome}
-use Rattle.spline.specs.Space.{Space}
-use Rattle.spline.specs.Table.{tableCells}
-use Rattle.spline.specs.CurveCall.{CurveResult, positionLimit, curveOutcome, returned, curveNumerators, curveDenominators, valuesAfter}
-use Rattle.curve.specs.Reply as curves
-use Rattle.spline.proofs.Pairs.{half-le}
+use Rattle.build_space.specs.Machine.{space}
+use Rattle.spec_spline.specs.Outcome.{Outcome}
+use Rattle.spec_spline.specs.Space.{Space}
+use Rattle.spec_spline.specs.Table.{tableCells}
+use Rattle.spec_spline.specs.CurveCall.{CurveResult, positionLimit, curveOutcome, returned, curveNumerators, curveDenominators, valuesAfter}
+use Rattle.curve.specs.Machine as curves
+use Rattle.spec_spline.proofs.Pairs.{half-le}
 use Rattle.indices.specs.Indices.{ringsRead}
-use Rattle.indices.specs.Machine.{woodPart, wordPositions, ringsTaken}
+use Rattle.indices.specs.Machine.{woodOf, wordPositions, ringsTaken}
 use Rattle.indices.proofs.Call.{Ends, ends-refused, ends-unchanged, ends-indexed, first-short, second-short, third-short, fourth-short, handed-on, rings-answered, values-kept, refused-inverts, HasResult, values-inverts}
 use Rattle.indices.proofs.indices.Statement.{statement}
 use Rattle.indices.proofs.indices.Tie as tie
@@ -35,28 +35,28 @@ returns : tie.Need-returns
 returns c =
     let s = c .before in
     let a = s .args in
-    let e = ends-unchanged (lists s) (woodPart (a .part)) (a .widths .now) {o = outcome s} (a .num .now) (a .den .now) (a .values .now) (a .indices .now) (first-short (lists s) _ _ _ _ _ _ _ (c .if1 .taken)) in
+    let e = ends-unchanged (lists s) (woodOf (a .wood)) (a .widths .now) {o = outcome s} (a .num .now) (a .den .now) (a .values .now) (a .indices .now) (first-short (lists s) _ _ _ _ _ _ _ (c .if1 .taken)) in
     (e .answers, (e .numerators-are, (e .denominators-are, (e .values-are, e .indices-are))))
 
 returns-2 : tie.Need-returns-2
 returns-2 c =
     let s = c .before .before in
     let a = s .args in
-    let e = ends-unchanged (lists s) (woodPart (a .part)) (a .widths .now) {o = outcome s} (a .num .now) (a .den .now) (a .values .now) (a .indices .now) (second-short (lists s) _ _ _ _ _ _ _ (c .before .if1 .left) (c .if2 .taken)) in
+    let e = ends-unchanged (lists s) (woodOf (a .wood)) (a .widths .now) {o = outcome s} (a .num .now) (a .den .now) (a .values .now) (a .indices .now) (second-short (lists s) _ _ _ _ _ _ _ (c .before .if1 .left) (c .if2 .taken)) in
     (e .answers, (e .numerators-are, (e .denominators-are, (e .values-are, e .indices-are))))
 
 returns-3 : tie.Need-returns-3
 returns-3 c =
     let s = c .before .before .before in
     let a = s .args in
-    let e = ends-unchanged (lists s) (woodPart (a .part)) (a .widths .now) {o = outcome s} (a .num .now) (a .den .now) (a .values .now) (a .indices .now) (third-short (lists s) _ _ _ _ _ _ _ (c .before .before .if1 .left) (c .before .if2 .left) (c .if3 .taken)) in
+    let e = ends-unchanged (lists s) (woodOf (a .wood)) (a .widths .now) {o = outcome s} (a .num .now) (a .den .now) (a .values .now) (a .indices .now) (third-short (lists s) _ _ _ _ _ _ _ (c .before .before .if1 .left) (c .before .if2 .left) (c .if3 .taken)) in
     (e .answers, (e .numerators-are, (e .denominators-are, (e .values-are, e .indices-are))))
 
 returns-4 : tie.Need-returns-4
 returns-4 c =
     let s = c .before .before .before .before in
     let a = s .args in
-    let e = ends-unchanged (lists s) (woodPart (a .part)) (a .widths .now) {o = outcome s} (a .num .now) (a .den .now) (a .values .now) (a .indices .now) (fourth-short (lists s) _ _ _ _ _ _ _ (c .before .before .before .if1 .left) (c .before .before .if2 .left) (c .before .if3 .left) (c .if4 .taken)) in
+    let e = ends-unchanged (lists s) (woodOf (a .wood)) (a .widths .now) {o = outcome s} (a .num .now) (a .den .now) (a .values .now) (a .indices .now) (fourth-short (lists s) _ _ _ _ _ _ _ (c .before .before .before .if1 .left) (c .before .before .if2 .left) (c .before .if3 .left) (c .if4 .taken)) in
     (e .answers, (e .numerators-are, (e .denominators-are, (e .values-are, e .indices-are))))
 
 rings-taken-requires : tie.Need-rings-taken-requires
@@ -150,7 +150,7 @@ returns-5 : tie.Need-returns-5
 returns-5 c =
     let k = c .before .before .before .before .before .before .before in
     let a = start k .args in
-    let e = ends-refused (lists (start k)) (woodPart (a .part)) (a .widths .now) (a .num .now) (a .den .now) (a .values .now) (a .indices .now) (refused-inverts (outcome (start k)) (ap curves.reply (sym (c .before .read .given .1)) ∙ answers-are k)) (numerators-are k) (denominators-are k) (values-are k) in
+    let e = ends-refused (lists (start k)) (woodOf (a .wood)) (a .widths .now) (a .num .now) (a .den .now) (a .values .now) (a .indices .now) (refused-inverts (outcome (start k)) (ap curves.reply (sym (c .before .read .given .1)) ∙ answers-are k)) (numerators-are k) (denominators-are k) (values-are k) in
     (e .answers, (e .numerators-are, (e .denominators-are, (e .values-are, e .indices-are))))
 
 same-length-4 : tie.Need-same-length-4
@@ -172,7 +172,7 @@ returns-6 c =
     let k = t .before .before .before .before .before .before in
     let a = start k .args in
     let h = result-of t in
-    let e = ends-indexed (lists (start k)) (woodPart (a .part)) (a .widths .now) (a .num .now) (a .den .now) (a .values .now) (a .indices .now) (h .is) (counted k h .1) (numerators-are k) (denominators-are k) (values-are k) (x .index-rings .ensures .0) (x .index-rings .ensures .1) in
+    let e = ends-indexed (lists (start k)) (woodOf (a .wood)) (a .widths .now) (a .num .now) (a .den .now) (a .values .now) (a .indices .now) (h .is) (counted k h .1) (numerators-are k) (denominators-are k) (values-are k) (x .index-rings .ensures .0) (x .index-rings .ensures .1) in
     (e .answers, (e .numerators-are, (e .denominators-are, (e .values-are, e .indices-are))))
 
 pub indices-spec : {M : Type 1} → statement M

@@ -6,8 +6,8 @@ use lib.IntN.{ℤ}
 use lib.ListN.{length}
 use mir.Syntax.{w32}
 use mir.ValLaws.{toZ-ofZ}
-use Rattle.space.specs.Reply.{space}
-use Rattle.spline.specs.CurveCall.{CurveEnd, curveEnd}
+use Rattle.build_space.specs.Machine.{space}
+use Rattle.spec_spline.specs.CurveCall.{CurveEnd, curveEnd}
 use Rattle.indices.specs.Machine.{wordPositions}
 use Rattle.indices.proofs.read_rings.Statement.{statement}
 use Rattle.indices.proofs.read_rings.Tie as tie

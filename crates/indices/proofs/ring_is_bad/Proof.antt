@@ -8,7 +8,7 @@ use mir.Val.{SFits, ofZ}
 use mir.ValLaws.{toZ-ofZ}
 use Prim.Native.Nat.{_+_, _*_}
 use native.Mathlib.Omega.{arith}
-use Rattle.exact.proofs.Word.{ofZ-inj, sfits-nat}
+use Rattle.base_exact.proofs.Word.{ofZ-inj, sfits-nat}
 use Rattle.indices.specs.Machine.{badCell}
 use Rattle.indices.proofs.Ring.{refused-below, refused-above, absent-passes, present-by-value}
 use Rattle.indices.proofs.ring_is_bad.Statement.{statement}

@@ -9,8 +9,8 @@ use lib.ListN.{length, set, drop, length-set}
 use mir.Syntax.{w64}
 use mir.Val.{ofZ, toZ}
 use mir.ValLaws.{toZ-ofZ}
-use Rattle.exact.specs.Tabulate.{tab}
-use Rattle.exact.proofs.Tabulate.{tab-none, tab-more}
+use Rattle.base_exact.specs.Tabulate.{tab}
+use Rattle.base_exact.proofs.Tabulate.{tab-none, tab-more}
 use Rattle.indices.specs.Machine.{cellIndex}
 use Rattle.indices.proofs.write_indices.Statement.{statement}
 use Rattle.indices.proofs.write_indices.Tie as tie

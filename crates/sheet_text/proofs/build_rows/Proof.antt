@@ -4,13 +4,13 @@ use mathlib.Core.Path.{_≡_, subst}
 use mathlib.Core.List.{List}
 use Prim.Native.Nat.{ℕ, _-_}
 use lib.IntN.{ℤ}
-use Rattle.spline.specs.Outcome.{with-answer}
-use Rattle.spline.specs.Space.{Space, rowCount}
-use Rattle.spline.specs.Build.{weights, numeratorsAfter, denominatorsAfter}
-use Rattle.beams.specs.Sections.{section, partAt}
-use Rattle.space.specs.Reply.{space}
-use Rattle.weights.specs.Reply.{reply}
-use Rattle.weights.specs.declared.Built.{Built}
+use Rattle.spec_spline.specs.Outcome.{with-answer}
+use Rattle.spec_spline.specs.Space.{Space, rowCount}
+use Rattle.spec_spline.specs.Build.{weights, numeratorsAfter, denominatorsAfter}
+use Rattle.theorems_beams.specs.Sections.{section, partAt}
+use Rattle.build_space.specs.Machine.{space}
+use Rattle.build.specs.Machine.{reply}
+use Rattle.build.specs.declared.Built.{Built}
 use Rattle.sheet_text.proofs.Beam.{beam-legal, rows-told, never-refused}
 use Rattle.sheet_text.proofs.build_rows.Statement.{statement}
 use Rattle.sheet_text.proofs.build_rows.Tie as tie

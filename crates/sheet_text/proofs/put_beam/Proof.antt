@@ -3,10 +3,10 @@ use borrow.Author.Needs.{needs}
 use native.Mathlib.Omega.{arith}
 use mathlib.Core.Path.{_≡_, sym, _∙_}
 use Prim.Native.Nat.{_≤_}
-use Rattle.spline.specs.Space.{Space, segments, partEnd}
-use Rattle.space.specs.Reply.{space}
-use Rattle.space.proofs.Partial.{part-end-partial}
-use Rattle.printout.proofs.Buffer.{puts-within, puts-as}
+use Rattle.spec_spline.specs.Space.{Space, segments, partEnd}
+use Rattle.build_space.specs.Machine.{space}
+use Rattle.build_space.proofs.Partial.{part-end-partial}
+use Rattle.sheet_print.proofs.Buffer.{puts-within, puts-as}
 use Rattle.sheet_text.proofs.Beam.{beam-lengths, one-rows-fit, one-lines}
 use Rattle.sheet_text.proofs.put_beam.Statement.{statement}
 use Rattle.sheet_text.proofs.put_beam.Tie as tie

@@ -3,13 +3,13 @@ use native.Mathlib.Omega.{arith}
 use mathlib.Core.Path.{_≡_, ap, _∙_}
 use Prim.Native.Nat.{ℕ, _-_, _<_, _≤_}
 use lib.ListN.{length}
-use Rattle.spline.specs.Space.{Space, partEnd, firstColumn}
-use Rattle.spline.specs.Piecewise.{Accepted}
-use Rattle.spline.proofs.Parts.{part-ends}
-use Rattle.space.specs.Reply.{space}
-use Rattle.space.proofs.Partial.{part-end-partial, first-column-partial}
-use Rattle.space.proofs.Legal.{legal-first-column-high}
-use Rattle.printout.proofs.Buffer.{puts-length}
+use Rattle.spec_spline.specs.Space.{Space, partEnd, firstColumn}
+use Rattle.spec_spline.specs.Piecewise.{Accepted}
+use Rattle.spec_spline.proofs.Parts.{part-ends}
+use Rattle.build_space.specs.Machine.{space}
+use Rattle.build_space.proofs.Partial.{part-end-partial, first-column-partial}
+use Rattle.build_space.proofs.Legal.{legal-first-column-high}
+use Rattle.sheet_print.proofs.Buffer.{puts-length}
 use Rattle.sheet_text.proofs.Beam.{beam-lengths, beam-legal, part-rows-fit, numerators-long, denominators-long, Before, before-first, rows-few, next-near, starts, before-next, before-end}
 use Rattle.sheet_text.proofs.put_parts.Statement.{statement}
 use Rattle.sheet_text.proofs.put_parts.Tie as tie

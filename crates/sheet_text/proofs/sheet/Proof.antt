@@ -5,12 +5,12 @@ use mathlib.Core.Path.{sym, ap}
 use Prim.Native.Nat.{_≤_}
 use lib.ListN.{length}
 use lib.Seq.{length-take-le}
-use Rattle.spline.specs.Reading.{sideBySide}
-use Rattle.numerals.specs.Bytes.{Text}
-use Rattle.sheet_lists.specs.SheetReading.{read}
-use Rattle.sheet_lists.specs.Reply.{Lengths}
-use Rattle.sheet_lists.proofs.Answers.{Listed, reply-read, positions-few, part-fits, part-is}
-use Rattle.printout.proofs.Buffer.{written-as}
+use Rattle.spec_spline.specs.Reading.{sideBySide}
+use Rattle.base_text.specs.Bytes.{Text}
+use Rattle.sheet_read.specs.SheetReading.{read}
+use Rattle.sheet_read.specs.Machine.{Lengths}
+use Rattle.sheet_read.proofs.Answers.{Listed, reply-read, positions-few, part-fits, part-is}
+use Rattle.sheet_print.proofs.Buffer.{written-as}
 use Rattle.sheet_text.proofs.Parts.{called-prints, malformed-prints}
 use Rattle.sheet_text.proofs.sheet.Statement.{statement}
 use Rattle.sheet_text.proofs.sheet.Tie as tie

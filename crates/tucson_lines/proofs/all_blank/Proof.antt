@@ -3,7 +3,7 @@ use mathlib.Core.Path.{_≡_, refl, sym, _∙_, ap}
 use Prim.Native.Nat.{ℕ, _-_, _≤_}
 use native.Mathlib.Omega.{arith}
 use lib.Seq.{slice}
-use Rattle.tucson_form.specs.Line.{allBlank}
+use Rattle.spec_tucson.specs.Line.{allBlank}
 use Rattle.tucson_lines.proofs.Steps.{blank-next, blank-other, blank-end}
 use Rattle.tucson_lines.proofs.all_blank.Statement.{statement}
 use Rattle.tucson_lines.proofs.all_blank.Tie as tie

@@ -3,7 +3,7 @@ use mathlib.Core.Path.{_≡_, refl, sym, _∙_, ap}
 use Prim.Native.Nat.{ℕ, _-_, _≤_}
 use native.Mathlib.Omega.{arith}
 use lib.Seq.{slice}
-use Rattle.tucson_form.specs.Line.{allPrintable}
+use Rattle.spec_tucson.specs.Line.{allPrintable}
 use Rattle.tucson_lines.proofs.Steps.{printable-next, printable-low, printable-high, printable-end}
 use Rattle.tucson_lines.proofs.all_printable.Statement.{statement}
 use Rattle.tucson_lines.proofs.all_printable.Tie as tie

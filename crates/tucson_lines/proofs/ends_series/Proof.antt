@@ -2,8 +2,8 @@
 use borrow.Author.Needs.{needs}
 use mathlib.Core.Bool.{Bool, _||_}
 use mathlib.Core.Path.{_≡_, sym, _∙_, ap}
-use Rattle.exact.proofs.Word.{toZ-ofZ}
-use Rattle.tucson_form.specs.Line.{isWidth, same, thousandths}
+use Rattle.base_exact.proofs.Word.{toZ-ofZ}
+use Rattle.spec_tucson.specs.Line.{isWidth, same, thousandths}
 use Rattle.tucson_lines.proofs.ends_series.Statement.{statement}
 use Rattle.tucson_lines.proofs.ends_series.Tie as tie
 

@@ -5,9 +5,9 @@ use Prim.Native.Nat.{ℕ, _+_, _-_}
 use native.Mathlib.Omega.{arith}
 use lib.ListN.{length, take, drop}
 use lib.Seq.{slice}
-use Rattle.numerals.specs.Bytes.{Text, beginsWith}
-use Rattle.numerals.proofs.Slice.{slice-take}
-use Rattle.tucson_form.specs.Line.{nameColumns}
+use Rattle.base_text.specs.Bytes.{Text, beginsWith}
+use Rattle.base_text.proofs.Slice.{slice-take}
+use Rattle.spec_tucson.specs.Line.{nameColumns}
 use Rattle.tucson_lines.proofs.Lines.{goes-on-is}
 use Rattle.tucson_lines.proofs.goes_on.Statement.{statement}
 use Rattle.tucson_lines.proofs.goes_on.Tie as tie

@@ -1,7 +1,7 @@
 -- A width is a number between two bounds.
 use borrow.Author.Needs.{needs}
-use Rattle.exact.proofs.Word.{toZ-ofZ}
-use Rattle.tucson_form.specs.Line.{isWidth}
+use Rattle.base_exact.proofs.Word.{toZ-ofZ}
+use Rattle.spec_tucson.specs.Line.{isWidth}
 use Rattle.tucson_lines.proofs.is_width.Statement.{statement}
 use Rattle.tucson_lines.proofs.is_width.Tie as tie
 

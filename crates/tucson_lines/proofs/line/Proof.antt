@@ -7,10 +7,10 @@ use Prim.Native.Nat.{ℕ, _+_, _*_, _-_, _/_, _<_, _≤_}
 use native.Mathlib.Omega.{arith}
 use lib.ListN.{length, take}
 use lib.Seq.{slice}
-use Rattle.numerals.specs.Bytes.{Text}
-use Rattle.numerals.proofs.Slice.{take-slice}
-use Rattle.tucson_form.specs.Line.{nameColumns, fieldColumns, columnsFit, isName, goodLine}
-use Rattle.tucson_lines.specs.Reply.{lineTold, numbersTold, LineEnd}
+use Rattle.base_text.specs.Bytes.{Text}
+use Rattle.base_text.proofs.Slice.{take-slice}
+use Rattle.spec_tucson.specs.Line.{nameColumns, fieldColumns, columnsFit, isName, goodLine}
+use Rattle.tucson_lines.specs.Machine.{lineTold, numbersTold, LineEnd}
 use Rattle.tucson_lines.specs.declared.LineAnswer.the-variants.{Bad}
 use Rattle.tucson_lines.proofs.Lines.{end-within, good-unended}
 use Rattle.tucson_lines.proofs.LineNumbers.{body, count-is, good-misfits, good-fits, misfit-short, misfit-over, misfit-many, fit}

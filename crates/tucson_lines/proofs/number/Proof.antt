@@ -3,8 +3,8 @@ use mathlib.Core.Path.{_≡_, refl, sym, _∙_, ap}
 use Prim.Native.Nat.{ℕ, _-_, _≤_}
 use native.Mathlib.Omega.{arith}
 use lib.Seq.{slice}
-use Rattle.numerals.specs.Reply.{field}
-use Rattle.tucson_form.specs.Columns.{inColumns}
+use Rattle.base_text.specs.Machine.{field}
+use Rattle.spec_tucson.specs.Columns.{inColumns}
 use Rattle.tucson_lines.proofs.Steps.{columns-blank, columns-number, columns-end}
 use Rattle.tucson_lines.proofs.number.Statement.{statement}
 use Rattle.tucson_lines.proofs.number.Tie as tie

@@ -9,11 +9,11 @@ use native.Mathlib.Omega.{arith}
 use lib.IntN.{ℤ}
 use mir.Syntax.{w32}
 use mir.Val.{SFits}
-use Rattle.exact.proofs.Word.{toZ-ofZ}
-use Rattle.numerals.specs.Bytes.{Text}
-use Rattle.numerals.proofs.Numerals.{field-none, field-some}
-use Rattle.tucson_form.specs.Line.{decade, isWidth, same, thousandths, yearInDecade}
-use Rattle.tucson_lines.specs.Reply.{widthsTold}
+use Rattle.base_exact.proofs.Word.{toZ-ofZ}
+use Rattle.base_text.specs.Bytes.{Text}
+use Rattle.base_text.proofs.Numerals.{field-none, field-some}
+use Rattle.spec_tucson.specs.Line.{decade, isWidth, same, thousandths, yearInDecade}
+use Rattle.tucson_lines.specs.Machine.{widthsTold}
 use Rattle.tucson_lines.specs.declared.WidthsAnswer.the-variants.{Small}
 use Rattle.tucson_lines.proofs.LineNumbers.{year-below, year-number, front-numbers, last-number, numbers-no-year, numbers-no-widths, numbers-no-last, numbers-late, numbers-no-end, numbers-good}
 use Rattle.tucson_lines.proofs.numbers.Statement.{statement}

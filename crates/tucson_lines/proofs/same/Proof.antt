@@ -1,6 +1,6 @@
 -- Two numbers are the same where each is at most the other.
 use borrow.Author.Needs.{needs}
-use Rattle.exact.proofs.Word.{toZ-ofZ}
+use Rattle.base_exact.proofs.Word.{toZ-ofZ}
 use Rattle.tucson_lines.proofs.same.Statement.{statement}
 use Rattle.tucson_lines.proofs.same.Tie as tie
 

@@ -12,12 +12,12 @@ use lib.Seq.{slice}
 use lib.Signed.{leZ}
 use mir.Syntax.{w32}
 use mir.Val.{SFits}
-use Rattle.exact.proofs.Word.{toZ-ofZ}
-use Rattle.tucson_form.specs.Columns.{inColumns}
-use Rattle.tucson_form.specs.Line.{fieldColumns, withField, fieldNumbers, isWidth}
-use Rattle.tucson_form.specs.Series.{hundredthsLimit}
-use Rattle.tucson_lines.specs.Reply.{widthsTold}
-use Rattle.numerals.proofs.Numerals.{field-none, field-some}
+use Rattle.base_exact.proofs.Word.{toZ-ofZ}
+use Rattle.spec_tucson.specs.Columns.{inColumns}
+use Rattle.spec_tucson.specs.Line.{fieldColumns, withField, fieldNumbers, isWidth}
+use Rattle.spec_tucson.specs.Series.{hundredthsLimit}
+use Rattle.tucson_lines.specs.Machine.{widthsTold}
+use Rattle.base_text.proofs.Numerals.{field-none, field-some}
 use Rattle.tucson_lines.proofs.Fields.{fields-first, widths-no-number, widths-no-width, widths-next, widths-end}
 use Rattle.tucson_lines.proofs.widths.Statement.{statement}
 use Rattle.tucson_lines.proofs.widths.Tie as tie

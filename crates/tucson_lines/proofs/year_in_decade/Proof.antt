@@ -7,9 +7,9 @@ use lib.IntN.{ℤ, pos, negsuc, natAbs, _-ℤ_}
 use lib.Signed.{mag, _<ℤ_, _≤ℤ_}
 use mir.Syntax.{w32}
 use mir.Val.{SFits}
-use Rattle.exact.proofs.Integer.{≤-in}
-use Rattle.exact.proofs.Word.{toZ-ofZ, ltZ-true, ltZ-false, flip, is-neg, is-pos, fits-unsigned}
-use Rattle.tucson_form.specs.Line.{yearInDecade}
+use Rattle.base_exact.proofs.Integer.{≤-in}
+use Rattle.base_exact.proofs.Word.{toZ-ofZ, ltZ-true, ltZ-false, flip, is-neg, is-pos, fits-unsigned}
+use Rattle.spec_tucson.specs.Line.{yearInDecade}
 use Rattle.tucson_lines.proofs.year_in_decade.Statement.{statement}
 use Rattle.tucson_lines.proofs.year_in_decade.Tie as tie
 

@@ -4,10 +4,10 @@ use mathlib.Core.Path.{_≡_, sym, _∙_}
 use Prim.Native.Nat.{ℕ, _/_, _<_, _≤_}
 use native.Mathlib.Omega.{arith}
 use lib.ListN.{length}
-use Rattle.numerals.specs.Bytes.{Text}
-use Rattle.tucson_form.specs.Line.{nameColumns}
-use Rattle.tucson_form.specs.TextReading.{readText}
-use Rattle.tucson_form.specs.ReadCall.{widthsOf}
+use Rattle.base_text.specs.Bytes.{Text}
+use Rattle.spec_tucson.specs.Line.{nameColumns}
+use Rattle.spec_tucson.specs.TextReading.{readText}
+use Rattle.spec_tucson.specs.ReadCall.{widthsOf}
 use Rattle.tucson_read.proofs.Answers.{Found, scan-refused, scan-found, read-refused, short-names, short-years, short-counts, short-widths, write-ready, read-answers}
 use Rattle.tucson_read.proofs.read.Statement.{statement}
 use Rattle.tucson_read.proofs.read.Tie as tie

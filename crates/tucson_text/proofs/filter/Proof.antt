@@ -6,12 +6,12 @@ use mathlib.Core.Bool.{true, false}
 use Prim.Native.Nat.{ℕ, _<_, _≤_}
 use borrow.Author.Tests.{le-leb, lt-leb}
 use lib.ListN.{length}
-use Rattle.exact.proofs.Decide.{cond-true, cond-false}
-use Rattle.numerals.specs.Bytes.{Text}
-use Rattle.printout.specs.Printed.{refusalLineLimit}
-use Rattle.printout.specs.Printout.{refusalLine}
-use Rattle.printout.proofs.Buffer.{written-as, written-length}
-use Rattle.tucson_form.specs.TextReading.{readText}
+use Rattle.base_exact.proofs.Decide.{cond-true, cond-false}
+use Rattle.base_text.specs.Bytes.{Text}
+use Rattle.sheet_print.specs.Printed.{refusalLineLimit}
+use Rattle.sheet_print.specs.Printout.{refusalLine}
+use Rattle.sheet_print.proofs.Buffer.{written-as, written-length}
+use Rattle.spec_tucson.specs.TextReading.{readText}
 use Rattle.tucson_text.specs.Filter.{textLimit, outcomeText, filtered}
 use Rattle.tucson_text.proofs.filter.Statement.{statement}
 use Rattle.tucson_text.proofs.filter.Tie as tie

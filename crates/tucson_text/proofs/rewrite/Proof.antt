@@ -8,19 +8,19 @@ use Prim.Native.Nat.{ℕ, _*_, _≤_}
 use lib.IntN.{ℤ, pos}
 use lib.ListN.{length, take, replicate, length-replicate}
 use lib.Seq.{length-take-le}
-use Rattle.spline.specs.Outcome.{answer, refusal}
-use Rattle.spline.proofs.Outcome.{answer-unique, answer-not-refusal}
-use Rattle.numerals.specs.Bytes.{Text}
-use Rattle.printout.specs.Printed.{refusalLineLimit}
-use Rattle.printout.specs.Printout.{refusalLine}
-use Rattle.printout.specs.Buffer.{written}
-use Rattle.printout.proofs.Buffer.{written-as, written-length}
-use Rattle.tucson_form.specs.Line.{nameColumns}
-use Rattle.tucson_form.specs.TextReading.{readText}
-use Rattle.tucson_form.specs.ReadCall.{ReadEnd, readEnd}
-use Rattle.tucson_form.specs.WriteCall.{total, WriteEnd, writeEnd}
-use Rattle.tucson_read.specs.Reply as reading
-use Rattle.tucson_write.specs.Reply as writing
+use Rattle.spec_spline.specs.Outcome.{answer, refusal}
+use Rattle.spec_spline.proofs.Outcome.{answer-unique, answer-not-refusal}
+use Rattle.base_text.specs.Bytes.{Text}
+use Rattle.sheet_print.specs.Printed.{refusalLineLimit}
+use Rattle.sheet_print.specs.Printout.{refusalLine}
+use Rattle.sheet_print.specs.Buffer.{written}
+use Rattle.sheet_print.proofs.Buffer.{written-as, written-length}
+use Rattle.spec_tucson.specs.Line.{nameColumns}
+use Rattle.spec_tucson.specs.TextReading.{readText}
+use Rattle.spec_tucson.specs.ReadCall.{ReadEnd, readEnd}
+use Rattle.spec_tucson.specs.WriteCall.{total, WriteEnd, writeEnd}
+use Rattle.tucson_read.specs.Machine as reading
+use Rattle.tucson_write.specs.Machine as writing
 use Rattle.tucson_text.specs.Filter.{textLimit, outcomeText}
 use Rattle.tucson_text.proofs.Room.{seriesCells, nameBytes, widthCells}
 use Rattle.tucson_text.proofs.Rewriting.{refused-text, series-within, widths-within, text-length, writes-whole}

@@ -3,7 +3,7 @@ use native.Mathlib.Omega.{arith}
 use mathlib.Core.Path.{_≡_}
 use Prim.Native.Nat.{_+_, _-_, _≤_}
 use lib.ListN.{length, drop}
-use Rattle.tucson_form.specs.WriteCall.{total}
+use Rattle.spec_tucson.specs.WriteCall.{total}
 use Rattle.tucson_write.proofs.Tests.{total-step, total-end}
 use Rattle.tucson_text.proofs.sum.Statement.{statement}
 use Rattle.tucson_text.proofs.sum.Tie as tie

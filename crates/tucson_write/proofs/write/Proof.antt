@@ -8,12 +8,12 @@ use Prim.Native.Nat.{ℕ}
 use lib.Dec.{leb}
 use lib.ListN.{length}
 use borrow.Author.Tests.{not-true, not-false, leb-true}
-use Rattle.space.proofs.Reply.{found-none-inverts, found-some-inverts}
-use Rattle.tucson_form.specs.Writing.{unwritable}
-use Rattle.tucson_form.specs.WriteCall.{listsFit, seriesOf}
-use Rattle.tucson_theorems.proofs.TucsonCells.{fits-parts}
+use Rattle.build_space.proofs.Machine.{found-none-inverts, found-some-inverts}
+use Rattle.spec_tucson.specs.Writing.{unwritable}
+use Rattle.spec_tucson.specs.WriteCall.{listsFit, seriesOf}
+use Rattle.theorems_tucson.proofs.TucsonCells.{fits-parts}
 use Rattle.tucson_write.specs.declared.Answer.the-variants.{Refused}
-use Rattle.tucson_write.specs.Reply.{reply}
+use Rattle.tucson_write.specs.Machine.{reply}
 use Rattle.tucson_write.proofs.Bytes.{Counted, all-counted}
 use Rattle.tucson_write.proofs.Wrote.{wrote-length}
 use Rattle.tucson_write.proofs.Call.{lists-misfit, series-unwritable, text-short, text-answers, ends-refused, ends-written}

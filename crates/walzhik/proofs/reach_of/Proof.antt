@@ -5,8 +5,8 @@ use lib.IntN.{pos}
 use mir.Syntax.{w32}
 use mir.Val.{SFits}
 use mir.ValLaws.{toZ-ofZ}
-use Rattle.reach.specs.Machine.{reply}
-use Rattle.walzhik.specs.Reply.{reached}
+use Rattle.curve_reach.specs.Machine.{reply}
+use Rattle.walzhik.specs.Machine.{reached}
 use Rattle.walzhik.proofs.Replied.{reach-ext}
 use Rattle.walzhik.proofs.reach_of.Statement.{statement}
 use Rattle.walzhik.proofs.reach_of.Tie as tie

@@ -1,7 +1,7 @@
 -- `walzhik::rows_of` meets its contract: the count or the refusal, as a struct. Assumes nothing.
 use borrow.Author.Needs.{needs}
 use mathlib.Core.Path.{sym, ap}
-use Rattle.weights.specs.Reply.{reply}
+use Rattle.build.specs.Machine.{reply}
 use Rattle.walzhik.proofs.Replied.{answer-replied, refusal-replied}
 use Rattle.walzhik.proofs.rows_of.Statement.{statement}
 use Rattle.walzhik.proofs.rows_of.Tie as tie

@@ -1,7 +1,7 @@
 -- The exported call meets its contract: the answer of the call behind it, as a struct. Assumes nothing.
 use borrow.Author.Needs.{needs}
 use mathlib.Core.Path.{sym, ap, _∙_}
-use Rattle.curve.specs.Reply.{reply}
+use Rattle.curve.specs.Machine.{reply}
 use Rattle.walzhik.proofs.Replied.{answer-replied, refusal-replied}
 use Rattle.walzhik.proofs.walzhik_curve.Statement.{statement}
 use Rattle.walzhik.proofs.walzhik_curve.Tie as tie

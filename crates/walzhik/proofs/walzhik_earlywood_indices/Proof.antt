@@ -5,8 +5,8 @@ use lib.IntN.{ℤ}
 use mir.Syntax.{w32}
 use mir.Val.{ofZ, toZ}
 use mir.ValLaws.{toZ-ofZ}
-use Rattle.space.specs.Reply.{space}
-use Rattle.spline.specs.Reading.{earlywood}
+use Rattle.build_space.specs.Machine.{space}
+use Rattle.spec_spline.specs.Reading.{earlywood}
 use Rattle.indices.specs.Indices.{IndicesEnd, indicesEnd}
 use Rattle.indices.specs.Machine.{reply}
 use Rattle.walzhik.proofs.Replied.{answer-replied, refusal-replied}

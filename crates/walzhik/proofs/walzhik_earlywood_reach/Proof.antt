@@ -5,10 +5,10 @@ use lib.IntN.{ℤ}
 use mir.Syntax.{w32}
 use mir.Val.{ofZ, toZ}
 use mir.ValLaws.{toZ-ofZ}
-use Rattle.space.specs.Reply.{space}
-use Rattle.spline.specs.Reading.{earlywood}
-use Rattle.reach.specs.Reach.{ReachEnd, reachEnd}
-use Rattle.walzhik.specs.Reply.{reached}
+use Rattle.build_space.specs.Machine.{space}
+use Rattle.spec_spline.specs.Reading.{earlywood}
+use Rattle.curve_reach.specs.Reach.{ReachEnd, reachEnd}
+use Rattle.walzhik.specs.Machine.{reached}
 use Rattle.walzhik.proofs.walzhik_earlywood_reach.Statement.{statement}
 use Rattle.walzhik.proofs.walzhik_earlywood_reach.Tie as tie
 

@@ -1,7 +1,7 @@
 -- The exported call meets its contract: the answer of the call behind it, as a struct. Assumes nothing.
 use borrow.Author.Needs.{needs}
 use mathlib.Core.Path.{sym, ap, _∙_}
-use Rattle.tucson_write.specs.Reply.{reply}
+use Rattle.tucson_write.specs.Machine.{reply}
 use Rattle.walzhik.proofs.Replied.{answer-replied, refusal-replied}
 use Rattle.walzhik.proofs.walzhik_tucson_write.Statement.{statement}
 use Rattle.walzhik.proofs.walzhik_tucson_write.Tie as tie

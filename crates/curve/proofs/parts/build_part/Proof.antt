@@ -5,11 +5,11 @@ use native.Mathlib.Omega.{arith}
 use mathlib.Core.Path.{_≡_}
 use Prim.Native.Nat.{ℕ, _+_, _-_, _*_, _<_, _≤_}
 use lib.ListN.{length, take, drop}
-use Rattle.spline.specs.Space.{Space, columnCount, rowCount}
-use Rattle.spline.specs.Table.{rowCells}
-use Rattle.beams.specs.Sections.{partAt}
-use Rattle.space.specs.Reply.{space}
-use Rattle.ordinates.specs.Ordinates.{Weighs, Coefficients}
+use Rattle.spec_spline.specs.Space.{Space, columnCount, rowCount}
+use Rattle.spec_spline.specs.Table.{rowCells}
+use Rattle.theorems_beams.specs.Sections.{partAt}
+use Rattle.build_space.specs.Machine.{space}
+use Rattle.curve_ordinates.specs.Ordinates.{Weighs, Coefficients}
 use Rattle.curve.proofs.Part.{middle-coefficients, part-after, part-within, beam-rows-few, part-columns-few, rows-told, weighs-rows, leaves-rows, leaves-refused}
 use Rattle.curve.proofs.parts.build_part.Statement.{statement}
 use Rattle.curve.proofs.parts.build_part.Tie as tie

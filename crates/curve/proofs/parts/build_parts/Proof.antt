@@ -9,15 +9,15 @@ use lib.IntN.{ℤ}
 use lib.ListN.{length, take, drop, length-drop}
 use lib.Seq.{length-take-le}
 use borrow.Rule.Slice.PartMut.{putMid, same-len-mid}
-use Rattle.spline.specs.Space.{Space, partEnd, firstColumn, columnCount}
-use Rattle.spline.proofs.Space.{firstColumn-mono}
-use Rattle.spline.proofs.Parts.{part-ends}
-use Rattle.beams.specs.Sections.{partAt}
-use Rattle.space.specs.Reply.{space}
-use Rattle.space.proofs.Legal.{legal-column-count-high}
-use Rattle.space.proofs.Partial.{part-end-partial, first-column-partial}
-use Rattle.weights.specs.declared.Built.the-variants.{Rows}
-use Rattle.weights.proofs.Beam.{starts, rows-high}
+use Rattle.spec_spline.specs.Space.{Space, partEnd, firstColumn, columnCount}
+use Rattle.spec_spline.proofs.Space.{firstColumn-mono}
+use Rattle.spec_spline.proofs.Parts.{part-ends}
+use Rattle.theorems_beams.specs.Sections.{partAt}
+use Rattle.build_space.specs.Machine.{space}
+use Rattle.build_space.proofs.Legal.{legal-column-count-high}
+use Rattle.build_space.proofs.Partial.{part-end-partial, first-column-partial}
+use Rattle.build.specs.declared.Built.the-variants.{Rows}
+use Rattle.build.proofs.Beam.{starts, rows-high}
 use Rattle.curve.proofs.Fronts.{Front, front-first, rows-within, columns-more, front-more, front-refused, front-whole}
 use Rattle.curve.proofs.parts.build_parts.Statement.{statement}
 use Rattle.curve.proofs.parts.build_parts.Tie as tie

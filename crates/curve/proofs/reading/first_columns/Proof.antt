@@ -5,12 +5,12 @@ use mathlib.Core.List.{List, [], _++_}
 use mathlib.Core.Path.{_≡_, sym, ap, ap₂, _∙_}
 use Prim.Native.Nat.{ℕ, suc, _+_, _≤_, _-_}
 use lib.ListN.{length, set, drop, replicate}
-use Rattle.exact.specs.Tabulate.{tab}
-use Rattle.exact.proofs.Tabulate.{tab-none, tab-more}
-use Rattle.spline.specs.Space.{Space, firstColumn}
-use Rattle.space.specs.Reply.{space}
-use Rattle.space.proofs.Bounds.{degree-high, first-column-zero, first-column-next, first-column-high}
-use Rattle.triangle.proofs.Position.{columns-filled}
+use Rattle.base_exact.specs.Tabulate.{tab}
+use Rattle.base_exact.proofs.Tabulate.{tab-none, tab-more}
+use Rattle.spec_spline.specs.Space.{Space, firstColumn}
+use Rattle.build_space.specs.Machine.{space}
+use Rattle.build_space.proofs.Bounds.{degree-high, first-column-zero, first-column-next, first-column-high}
+use Rattle.curve_triangle.proofs.Position.{columns-filled}
 use Rattle.curve.proofs.reading.first_columns.Statement.{statement}
 use Rattle.curve.proofs.reading.first_columns.Tie as tie
 

@@ -10,14 +10,14 @@ use lib.ListN.{length, getD, set, drop, length-set}
 use mir.Syntax.{w32}
 use mir.Val.{ofZ, toZ}
 use mir.ValLaws.{toZ-ofZ}
-use Rattle.exact.specs.Tabulate.{tab}
-use Rattle.exact.proofs.Tabulate.{tab-self, map-tab}
-use Rattle.spline.specs.Space.{Space}
-use Rattle.spline.specs.Reading.{Pair, sideBySide, segmentAt, blended}
-use Rattle.spline.proofs.Pairs.{pairs-none, pairs-more}
-use Rattle.space.specs.Reply.{space}
-use Rattle.triangle.specs.Place.{placeOf, valueOf}
-use Rattle.triangle.proofs.Position.{value-blended}
+use Rattle.base_exact.specs.Tabulate.{tab}
+use Rattle.base_exact.proofs.Tabulate.{tab-self, map-tab}
+use Rattle.spec_spline.specs.Space.{Space}
+use Rattle.spec_spline.specs.Reading.{Pair, sideBySide, segmentAt, blended}
+use Rattle.spec_spline.proofs.Pairs.{pairs-none, pairs-more}
+use Rattle.build_space.specs.Machine.{space}
+use Rattle.curve_triangle.specs.Place.{placeOf, valueOf}
+use Rattle.curve_triangle.proofs.Position.{value-blended}
 use Rattle.curve.specs.Pairs.{pairOf}
 use Rattle.curve.proofs.reading.write_all.Statement.{statement}
 use Rattle.curve.proofs.reading.write_all.Tie as tie

@@ -5,9 +5,9 @@ use mathlib.Core.Bool.{Bool, true, false, _&&_, _||_, not}
 use native.Mathlib.Omega.{arith}
 use mathlib.Core.Path.{_≡_, refl, sym, _∙_, ap, ap₂}
 use lib.Dec.{eqb}
-use Rattle.exact.proofs.Word.{toZ-ofZ}
-use Rattle.tucson_form.specs.Line.{same, thousandths, yearInDecade}
-use Rattle.tucson_form.specs.Series.{hundredths}
+use Rattle.base_exact.proofs.Word.{toZ-ofZ}
+use Rattle.spec_tucson.specs.Line.{same, thousandths, yearInDecade}
+use Rattle.spec_tucson.specs.Series.{hundredths}
 use Rattle.tucson_read.proofs.Passing.{close-not-next, close-thousandths, close-hundredths, close-unclosed}
 use Rattle.tucson_read.proofs.scanning.close.Statement.{statement}
 use Rattle.tucson_read.proofs.scanning.close.Tie as tie

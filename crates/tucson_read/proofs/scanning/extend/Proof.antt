@@ -10,9 +10,9 @@ use lib.IntN.{ℤ, pos, natAbs, _+ℤ_}
 use lib.Signed.{leZ}
 use mir.Syntax.{w32}
 use mir.Val.{SFits, toZ, ofZ}
-use Rattle.exact.proofs.Word.{toZ-ofZ, toZ-pos, sfits-abs, abs-add}
-use Rattle.tucson_form.specs.Line.{isWidth, same, yearInDecade}
-use Rattle.tucson_form.specs.Series.{hundredthsLimit}
+use Rattle.base_exact.proofs.Word.{toZ-ofZ, toZ-pos, sfits-abs, abs-add}
+use Rattle.spec_tucson.specs.Line.{isWidth, same, yearInDecade}
+use Rattle.spec_tucson.specs.Series.{hundredthsLimit}
 use Rattle.tucson_read.proofs.Passing.{extend-malformed, extend-not-next, extend-on}
 use Rattle.tucson_read.proofs.scanning.extend.Statement.{statement}
 use Rattle.tucson_read.proofs.scanning.extend.Tie as tie

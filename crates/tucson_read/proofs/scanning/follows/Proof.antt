@@ -5,8 +5,8 @@ use mathlib.Core.Bool.{Bool, _&&_, _||_, not}
 use mathlib.Core.Path.{_≡_, sym, _∙_, ap, ap₂}
 use lib.Dec.{eqb}
 use Prim.Native.Nat.{ℕ}
-use Rattle.exact.proofs.Word.{toZ-ofZ}
-use Rattle.tucson_form.specs.Line.{same, yearInDecade}
+use Rattle.base_exact.proofs.Word.{toZ-ofZ}
+use Rattle.spec_tucson.specs.Line.{same, yearInDecade}
 use Rattle.tucson_read.proofs.scanning.follows.Statement.{statement}
 use Rattle.tucson_read.proofs.scanning.follows.Tie as tie
 

@@ -11,13 +11,13 @@ use lib.ListN.{length, drop}
 use lib.Seq.{slice}
 use mir.Syntax.{w32}
 use mir.Val.{SFits}
-use Rattle.exact.proofs.Decide.{true-not-false}
-use Rattle.exact.proofs.Word.{toZ-ofZ}
-use Rattle.numerals.specs.Bytes.{Text}
-use Rattle.tucson_form.specs.Line.{Line, linesOf, goodLine}
-use Rattle.numerals.specs.Numeral.{numberLimit}
-use Rattle.tucson_form.specs.TextReading.{Begun, goesOn, readLine}
-use Rattle.tucson_lines.specs.Reply.{lineTold}
+use Rattle.base_exact.proofs.Decide.{true-not-false}
+use Rattle.base_exact.proofs.Word.{toZ-ofZ}
+use Rattle.base_text.specs.Bytes.{Text}
+use Rattle.spec_tucson.specs.Line.{Line, linesOf, goodLine}
+use Rattle.base_text.specs.Numeral.{numberLimit}
+use Rattle.spec_tucson.specs.TextReading.{Begun, goesOn, readLine}
+use Rattle.tucson_lines.specs.Machine.{lineTold}
 use Rattle.tucson_lines.specs.declared.LineAnswer.the-variants.{Good}
 use Rattle.tucson_lines.proofs.GoodLines.{GoodLine, good-line, IsLine, line-none, line-some}
 use Rattle.tucson_read.specs.Scan.{Told, Within, Advances}

@@ -9,12 +9,12 @@ use lib.ListN.{length, drop}
 use lib.Seq.{slice}
 use mir.Syntax.{w32}
 use mir.Val.{SFits, toZ, ofZ}
-use Rattle.exact.proofs.Word.{toZ-ofZ}
-use Rattle.spline.specs.Outcome.{capped}
-use Rattle.numerals.specs.Bytes.{Text}
-use Rattle.tucson_form.specs.Line.{linesOf}
-use Rattle.tucson_form.specs.TextReading.{goesOn, readLine}
-use Rattle.tucson_lines.specs.Reply.{LineEnd}
+use Rattle.base_exact.proofs.Word.{toZ-ofZ}
+use Rattle.spec_spline.specs.Outcome.{capped}
+use Rattle.base_text.specs.Bytes.{Text}
+use Rattle.spec_tucson.specs.Line.{linesOf}
+use Rattle.spec_tucson.specs.TextReading.{goesOn, readLine}
+use Rattle.tucson_lines.specs.Machine.{LineEnd}
 use Rattle.tucson_read.specs.Scan.{Tracks, Told, Advances, Ahead}
 use Rattle.tucson_read.specs.declared.scanning.Passed.{Passed}
 use Rattle.tucson_read.specs.declared.scanning.Scanned.the-variants.{Refused}

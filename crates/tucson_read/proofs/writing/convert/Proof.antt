@@ -6,9 +6,9 @@ use Prim.Native.Nat.{ℕ, _+_, _-_}
 use native.Mathlib.Omega.{arith}
 use lib.IntN.{ℤ}
 use lib.Seq.{slice, sets}
-use Rattle.exact.proofs.Word.{toZ-ofZ}
-use Rattle.tucson_form.specs.Line.{same}
-use Rattle.tucson_form.specs.Series.{hundredths, fromHundredths}
+use Rattle.base_exact.proofs.Word.{toZ-ofZ}
+use Rattle.spec_tucson.specs.Line.{same}
+use Rattle.spec_tucson.specs.Series.{hundredths, fromHundredths}
 use Rattle.tucson_read.specs.Write.{inThousandths}
 use Rattle.tucson_read.proofs.Sets.{sets-slice}
 use borrow.Author.Needs.{needs}

@@ -11,13 +11,13 @@ use lib.ListN.{length, getD, set, length-set}
 use lib.Seq.{slice, sets, length-sets, slice-empty}
 use mir.Syntax.{w32}
 use mir.Val.{SFits}
-use Rattle.exact.proofs.Word.{toZ-ofZ, sfits-abs, abs-mul}
-use Rattle.numerals.specs.Bytes.{Text}
-use Rattle.numerals.proofs.Numerals.{field-none, field-some}
-use Rattle.numerals.proofs.Slice.{slice-step}
-use Rattle.tucson_form.specs.Line.{nameColumns, fieldColumns, fieldNumbers}
-use Rattle.tucson_form.specs.Series.{fromHundredths}
-use Rattle.tucson_form.specs.Writing.{allWidths}
+use Rattle.base_exact.proofs.Word.{toZ-ofZ, sfits-abs, abs-mul}
+use Rattle.base_text.specs.Bytes.{Text}
+use Rattle.base_text.proofs.Numerals.{field-none, field-some}
+use Rattle.base_text.proofs.Slice.{slice-step}
+use Rattle.spec_tucson.specs.Line.{nameColumns, fieldColumns, fieldNumbers}
+use Rattle.spec_tucson.specs.Series.{fromHundredths}
+use Rattle.spec_tucson.specs.Writing.{allWidths}
 use Rattle.tucson_read.specs.Write.{numbersOf}
 use Rattle.tucson_read.proofs.Sets.{sets-next}
 use Rattle.tucson_read.proofs.writing.copy_name.Statement.{statement}

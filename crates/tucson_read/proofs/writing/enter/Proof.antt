@@ -1,6 +1,6 @@
 -- Three stores.
 use mathlib.Core.Path.{refl}
-use Rattle.exact.proofs.Word.{toZ-ofZ}
+use Rattle.base_exact.proofs.Word.{toZ-ofZ}
 use borrow.Author.Needs.{needs}
 use Rattle.tucson_read.proofs.writing.enter.Statement.{statement}
 use Rattle.tucson_read.proofs.writing.enter.Tie as tie

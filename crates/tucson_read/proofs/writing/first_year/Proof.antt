@@ -1,7 +1,7 @@
 -- The one year or the other.
 use mathlib.Core.Path.{_≡_, sym, _∙_, ap}
 use mathlib.Core.Bool.{Bool, cond}
-use Rattle.exact.proofs.Word.{toZ-ofZ}
+use Rattle.base_exact.proofs.Word.{toZ-ofZ}
 use Rattle.tucson_read.proofs.writing.first_year.Statement.{statement}
 use Rattle.tucson_read.proofs.writing.first_year.Tie as tie
 

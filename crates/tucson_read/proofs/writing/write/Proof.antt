@@ -10,12 +10,12 @@ use lib.ListN.{length, drop}
 use lib.Seq.{slice, sets, length-sets}
 use mir.Syntax.{w32}
 use mir.Val.{SFits, toZ, ofZ}
-use Rattle.exact.proofs.Word.{toZ-ofZ}
-use Rattle.numerals.specs.Bytes.{Text}
-use Rattle.tucson_form.specs.Line.{Line, linesOf, goodLine}
-use Rattle.tucson_form.specs.TextReading.{goesOn, readText}
-use Rattle.tucson_form.specs.ReadCall.{namesOf, yearsOf, countsOf, widthsOf}
-use Rattle.tucson_lines.specs.Reply.{lineTold, LineEnd}
+use Rattle.base_exact.proofs.Word.{toZ-ofZ}
+use Rattle.base_text.specs.Bytes.{Text}
+use Rattle.spec_tucson.specs.Line.{Line, linesOf, goodLine}
+use Rattle.spec_tucson.specs.TextReading.{goesOn, readText}
+use Rattle.spec_tucson.specs.ReadCall.{namesOf, yearsOf, countsOf, widthsOf}
+use Rattle.tucson_lines.specs.Machine.{lineTold, LineEnd}
 use Rattle.tucson_lines.specs.declared.LineAnswer.the-variants.{Good, Bad}
 use Rattle.tucson_lines.proofs.GoodLines.{GoodLine, good-line, IsLine, line-none, line-some}
 use Rattle.tucson_read.specs.Write.{seriesIn}

@@ -4,7 +4,7 @@ use mathlib.Core.Path.{_≡_, sym}
 use Prim.Native.Nat.{_+_, _-_, _≤_}
 use lib.ListN.{length, drop}
 use borrow.Author.Tests.{ne-eqb}
-use Rattle.tucson_form.specs.WriteCall.{total}
+use Rattle.spec_tucson.specs.WriteCall.{total}
 use Rattle.tucson_write.proofs.Tests.{total-step, total-end, left-none}
 use Rattle.tucson_write.proofs.lists.adds_up.Statement.{statement}
 use Rattle.tucson_write.proofs.lists.adds_up.Tie as tie

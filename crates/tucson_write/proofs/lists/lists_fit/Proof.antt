@@ -6,7 +6,7 @@ use mathlib.Core.Bool.{and-false}
 use Prim.Native.Nat.{_*_}
 use lib.ListN.{length}
 use borrow.Author.Tests.{eq-eqb, ne-eqb}
-use Rattle.tucson_form.specs.WriteCall.{listsFit}
+use Rattle.spec_tucson.specs.WriteCall.{listsFit}
 use Rattle.tucson_write.proofs.lists.lists_fit.Statement.{statement}
 use Rattle.tucson_write.proofs.lists.lists_fit.Tie as tie
 

@@ -8,9 +8,9 @@ use lib.ListN.{length}
 use lib.Signed.{ltZ}
 use mir.Syntax.{w64}
 use mir.Val.{SFits}
-use Rattle.exact.proofs.Word.{toZ-ofZ, ltZ-true, ltZ-false}
-use Rattle.numerals.specs.Numeral.{digits}
-use Rattle.numerals.proofs.Decimal.{decimal-negative, decimal-natural}
+use Rattle.base_exact.proofs.Word.{toZ-ofZ, ltZ-true, ltZ-false}
+use Rattle.base_text.specs.Numeral.{digits}
+use Rattle.base_text.proofs.Decimal.{decimal-negative, decimal-natural}
 use Rattle.tucson_write.proofs.putting.decimal_length.Statement.{statement}
 use Rattle.tucson_write.proofs.putting.decimal_length.Tie as tie
 

@@ -8,13 +8,13 @@ use lib.IntN.{ℤ, pos}
 use lib.ListN.{length, getD, length-append}
 use mir.Syntax.{w32}
 use mir.Val.{SFits}
-use Rattle.exact.proofs.Word.{toZ-ofZ}
-use Rattle.numerals.specs.Bytes.{Text}
-use Rattle.tucson_form.specs.Line.{nameColumns}
-use Rattle.tucson_form.specs.Series.{Series}
-use Rattle.tucson_form.specs.Writing.{firstUnwritable, seriesLines, linesText, written}
-use Rattle.tucson_form.specs.WriteCall.{seriesOf}
-use Rattle.tucson_theorems.proofs.TucsonCells.{fits-parts}
+use Rattle.base_exact.proofs.Word.{toZ-ofZ}
+use Rattle.base_text.specs.Bytes.{Text}
+use Rattle.spec_tucson.specs.Line.{nameColumns}
+use Rattle.spec_tucson.specs.Series.{Series}
+use Rattle.spec_tucson.specs.Writing.{firstUnwritable, seriesLines, linesText, written}
+use Rattle.spec_tucson.specs.WriteCall.{seriesOf}
+use Rattle.theorems_tucson.proofs.TucsonCells.{fits-parts}
 use Rattle.tucson_write.specs.Putting.{Wrote}
 use Rattle.tucson_write.proofs.Tests.{part-is}
 use Rattle.tucson_write.proofs.Sizes.{series-years}

@@ -3,9 +3,9 @@ use native.Mathlib.Omega.{arith}
 use borrow.Author.Needs.{needs}
 use mir.Syntax.{w32}
 use mir.Val.{SFits}
-use Rattle.exact.proofs.Word.{toZ-ofZ}
-use Rattle.tucson_theorems.proofs.Columns.{columns-length}
-use Rattle.tucson_theorems.proofs.Lines.{name-parts}
+use Rattle.base_exact.proofs.Word.{toZ-ofZ}
+use Rattle.theorems_tucson.proofs.Columns.{columns-length}
+use Rattle.theorems_tucson.proofs.Lines.{name-parts}
 use Rattle.tucson_write.proofs.Lines.{year-length}
 use Rattle.tucson_write.proofs.Wrote.{wrote-then, wrote-length, puts-wrote}
 use Rattle.tucson_write.proofs.putting.put_begun.Statement.{statement}

@@ -4,7 +4,7 @@ use mathlib.Core.Path.{_≡_, ap}
 use mathlib.Core.List.{List}
 use Prim.Native.Nat.{ℕ, _-_, _≤_}
 use lib.ListN.{replicate}
-use Rattle.tucson_form.specs.Columns.{blank}
+use Rattle.spec_tucson.specs.Columns.{blank}
 use Rattle.tucson_write.specs.Putting.{Wrote}
 use Rattle.tucson_write.proofs.Wrote.{wrote-none, wrote-then, wrote-as, wrote-length, puts-wrote, blanks-more, blanks-all}
 use Rattle.tucson_write.proofs.putting.put_blanks.Statement.{statement}

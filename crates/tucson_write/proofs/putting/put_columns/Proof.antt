@@ -7,9 +7,9 @@ use mathlib.Core.List.{_++_}
 use lib.ListN.{length, replicate}
 use mir.Syntax.{w32, w64}
 use mir.Val.{SFits}
-use Rattle.exact.proofs.Word.{toZ-ofZ, sfits-widen}
-use Rattle.numerals.specs.Numeral.{decimal}
-use Rattle.tucson_form.specs.Columns.{blank, columns}
+use Rattle.base_exact.proofs.Word.{toZ-ofZ, sfits-widen}
+use Rattle.base_text.specs.Numeral.{decimal}
+use Rattle.spec_tucson.specs.Columns.{blank, columns}
 use Rattle.tucson_write.proofs.Wrote.{wrote-then, wrote-as, puts-wrote, blanks-all}
 use Rattle.tucson_write.proofs.putting.put_columns.Statement.{statement}
 use Rattle.tucson_write.proofs.putting.put_columns.Tie as tie

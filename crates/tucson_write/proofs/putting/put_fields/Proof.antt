@@ -7,8 +7,8 @@ use lib.IntN.{ℤ, pos}
 use lib.ListN.{length, getD, take}
 use mir.Syntax.{w32}
 use mir.Val.{SFits}
-use Rattle.exact.proofs.Word.{toZ-ofZ}
-use Rattle.tucson_form.specs.Writing.{fieldsText}
+use Rattle.base_exact.proofs.Word.{toZ-ofZ}
+use Rattle.spec_tucson.specs.Writing.{fieldsText}
 use Rattle.tucson_write.specs.Putting.{Wrote}
 use Rattle.tucson_write.proofs.Fields.{fields-none, fields-more, fields-all, taken-length, width-length}
 use Rattle.tucson_write.proofs.Wrote.{wrote-none, wrote-then, wrote-as, wrote-length}

@@ -3,9 +3,9 @@ use native.Mathlib.Omega.{arith}
 use borrow.Author.Needs.{needs}
 use mir.Syntax.{w32}
 use mir.Val.{SFits}
-use Rattle.exact.proofs.Word.{toZ-ofZ}
-use Rattle.tucson_form.specs.Line.{thousandths}
-use Rattle.tucson_theorems.proofs.Columns.{columns-length}
+use Rattle.base_exact.proofs.Word.{toZ-ofZ}
+use Rattle.spec_tucson.specs.Line.{thousandths}
+use Rattle.theorems_tucson.proofs.Columns.{columns-length}
 use Rattle.tucson_write.proofs.Lines.{begun-length, closing-length, line-closes}
 use Rattle.tucson_write.proofs.Wrote.{wrote-then, wrote-as, wrote-length, puts-wrote}
 use Rattle.tucson_write.proofs.putting.put_last_line.Statement.{statement}

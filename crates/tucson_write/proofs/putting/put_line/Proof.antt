@@ -3,7 +3,7 @@ use native.Mathlib.Omega.{arith}
 use borrow.Author.Needs.{needs}
 use mir.Syntax.{w32}
 use mir.Val.{SFits}
-use Rattle.exact.proofs.Word.{toZ-ofZ}
+use Rattle.base_exact.proofs.Word.{toZ-ofZ}
 use Rattle.tucson_write.proofs.Lines.{begun-length, line-ends}
 use Rattle.tucson_write.proofs.Wrote.{wrote-then, wrote-as, puts-wrote}
 use Rattle.tucson_write.proofs.putting.put_line.Statement.{statement}

@@ -8,9 +8,9 @@ use lib.ListN.{length, length-append}
 use lib.Seq.{slice}
 use mir.Syntax.{w32}
 use mir.Val.{SFits}
-use Rattle.exact.proofs.Word.{toZ-ofZ}
-use Rattle.numerals.specs.Bytes.{Text}
-use Rattle.tucson_form.specs.Writing.{lineText, linesText, seriesLines}
+use Rattle.base_exact.proofs.Word.{toZ-ofZ}
+use Rattle.base_text.specs.Bytes.{Text}
+use Rattle.spec_tucson.specs.Writing.{lineText, linesText, seriesLines}
 use Rattle.tucson_write.specs.Sizes.{series, yearsLeft, yearAt, mostLeft}
 use Rattle.tucson_write.specs.Putting.{Wrote, line}
 use Rattle.tucson_write.proofs.Tests.{part-is, part-rest}

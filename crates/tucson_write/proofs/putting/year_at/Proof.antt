@@ -2,7 +2,7 @@
 use native.Mathlib.Omega.{arith}
 use borrow.Author.Needs.{needs}
 use mir.Syntax.{w32}
-use Rattle.exact.proofs.Word.{toZ-ofZ, toZ-pos}
+use Rattle.base_exact.proofs.Word.{toZ-ofZ, toZ-pos}
 use Rattle.tucson_write.specs.Sizes.{yearAt}
 use Rattle.tucson_write.proofs.Years.{year-at-fits}
 use Rattle.tucson_write.proofs.putting.year_at.Statement.{statement}

@@ -5,7 +5,7 @@ use mathlib.Core.Path.{_≡_}
 use Prim.Native.Nat.{_≤_}
 use mir.Syntax.{w32}
 use mir.Val.{SFits}
-use Rattle.exact.proofs.Word.{toZ-ofZ}
+use Rattle.base_exact.proofs.Word.{toZ-ofZ}
 use Rattle.tucson_write.specs.Sizes.{yearsLeft, mostLeft, seriesBytes}
 use Rattle.tucson_write.proofs.Years.{closing-parts}
 use Rattle.tucson_write.proofs.room.series_bytes.Statement.{statement}

@@ -9,7 +9,7 @@ use lib.ListN.{length, getD, drop}
 use borrow.Author.Tests.{le-leb, lt-leb}
 use mir.Syntax.{w32}
 use mir.Val.{SFits}
-use Rattle.exact.proofs.Word.{toZ-ofZ}
+use Rattle.base_exact.proofs.Word.{toZ-ofZ}
 use Rattle.tucson_write.specs.Sizes.{closingsFit, textBytes}
 use Rattle.tucson_write.proofs.Bytes.{bytes-step, bytes-end, closings-step}
 use Rattle.tucson_write.proofs.room.text_fits.Statement.{statement}

@@ -3,7 +3,7 @@ use native.Mathlib.Omega.{arith}
 use mathlib.Core.Path.{_≡_, refl, sym, _∙_}
 use Prim.Native.Nat.{_-_, _≤_}
 use lib.ListN.{length, drop}
-use Rattle.tucson_form.specs.Line.{allBlank}
+use Rattle.spec_tucson.specs.Line.{allBlank}
 use Rattle.tucson_write.proofs.Tests.{blank-next, blank-ends, blank-end}
 use Rattle.tucson_write.proofs.writable.all_blank.Statement.{statement}
 use Rattle.tucson_write.proofs.writable.all_blank.Tie as tie

@@ -3,7 +3,7 @@ use native.Mathlib.Omega.{arith}
 use mathlib.Core.Path.{_≡_, refl, sym, _∙_}
 use Prim.Native.Nat.{_-_, _≤_}
 use lib.ListN.{length, drop}
-use Rattle.tucson_form.specs.Line.{allPrintable}
+use Rattle.spec_tucson.specs.Line.{allPrintable}
 use Rattle.tucson_write.proofs.Tests.{printable-next, printable-low, printable-high, printable-end}
 use Rattle.tucson_write.proofs.writable.all_printable.Statement.{statement}
 use Rattle.tucson_write.proofs.writable.all_printable.Tie as tie

@@ -6,8 +6,8 @@ use lib.IntN.{pos}
 use lib.ListN.{length, getD, drop}
 use mir.Syntax.{w32}
 use mir.Val.{SFits}
-use Rattle.exact.proofs.Word.{toZ-ofZ}
-use Rattle.tucson_form.specs.Writing.{allWidths}
+use Rattle.base_exact.proofs.Word.{toZ-ofZ}
+use Rattle.spec_tucson.specs.Writing.{allWidths}
 use Rattle.tucson_write.proofs.Tests.{widths-next, widths-low, widths-high, widths-end}
 use Rattle.tucson_write.proofs.writable.all_widths.Statement.{statement}
 use Rattle.tucson_write.proofs.writable.all_widths.Tie as tie

@@ -9,13 +9,13 @@ use lib.Seq.{slice}
 use borrow.Author.Tests.{not-true, not-false}
 use mir.Syntax.{w32}
 use mir.Val.{SFits}
-use Rattle.exact.proofs.Word.{toZ-ofZ}
-use Rattle.space.specs.Reply.{found}
-use Rattle.numerals.specs.Bytes.{Text}
-use Rattle.tucson_form.specs.Line.{nameColumns}
-use Rattle.tucson_form.specs.Writing.{isWritable, firstUnwritable, unwritable}
-use Rattle.tucson_form.specs.WriteCall.{seriesOf}
-use Rattle.tucson_theorems.proofs.TucsonCells.{fits-parts}
+use Rattle.base_exact.proofs.Word.{toZ-ofZ}
+use Rattle.build_space.specs.Machine.{found}
+use Rattle.base_text.specs.Bytes.{Text}
+use Rattle.spec_tucson.specs.Line.{nameColumns}
+use Rattle.spec_tucson.specs.Writing.{isWritable, firstUnwritable, unwritable}
+use Rattle.spec_tucson.specs.WriteCall.{seriesOf}
+use Rattle.theorems_tucson.proofs.TucsonCells.{fits-parts}
 use Rattle.tucson_write.specs.Sizes.{series}
 use Rattle.tucson_write.proofs.Tests.{part-is}
 use Rattle.tucson_write.proofs.Walk.{Walked, seriesFrom, seriesAt, walk-begins, walk-more, name-within, widths-within, series-step, series-end}

@@ -4,7 +4,7 @@ use mathlib.Core.Path.{sym, _∙_, ap}
 use mathlib.Core.Bool.{not}
 use lib.ListN.{length}
 use borrow.Author.Tests.{eq-eqb, ne-eqb, not-true, not-false}
-use Rattle.tucson_form.specs.Line.{isName}
+use Rattle.spec_tucson.specs.Line.{isName}
 use Rattle.tucson_write.proofs.writable.is_name.Statement.{statement}
 use Rattle.tucson_write.proofs.writable.is_name.Tie as tie
 

@@ -8,9 +8,9 @@ use lib.Seq.{slice}
 use borrow.Author.Tests.{not-true, not-false}
 use mir.Syntax.{w32}
 use mir.Val.{SFits}
-use Rattle.exact.proofs.Word.{toZ-ofZ}
-use Rattle.numerals.specs.Bytes.{Text, beginsWith}
-use Rattle.tucson_form.specs.Line.{nameColumns, isName}
+use Rattle.base_exact.proofs.Word.{toZ-ofZ}
+use Rattle.base_text.specs.Bytes.{Text, beginsWith}
+use Rattle.spec_tucson.specs.Line.{nameColumns, isName}
 use Rattle.tucson_write.proofs.Tests.{part-is}
 use Rattle.tucson_write.proofs.Unwritable.{not-named, not-measured, not-dated, named-apart}
 use Rattle.tucson_write.proofs.writable.is_writable.Statement.{statement}

@@ -3,7 +3,7 @@ use mathlib.Core.Path.{sym, _∙_, ap}
 use lib.Dec.{leb}
 use mir.Syntax.{w32}
 use mir.Val.{SFits}
-use Rattle.exact.proofs.Word.{toZ-ofZ}
+use Rattle.base_exact.proofs.Word.{toZ-ofZ}
 use Rattle.tucson_write.specs.Sizes.{closingFits}
 use Rattle.tucson_write.proofs.Years.{early-year, late-year, year-within}
 use Rattle.tucson_write.proofs.writable.years_fit.Statement.{statement}

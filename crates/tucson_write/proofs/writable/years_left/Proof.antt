@@ -1,7 +1,7 @@
 -- `years_left` meets its contract: up to the greatest year there are at most 10,998.
 use mir.Syntax.{w32}
 use mir.Val.{SFits}
-use Rattle.exact.proofs.Word.{toZ-ofZ}
+use Rattle.base_exact.proofs.Word.{toZ-ofZ}
 use Rattle.tucson_write.proofs.Years.{years-fit-word, years-natural}
 use Rattle.tucson_write.proofs.writable.years_left.Statement.{statement}
 use Rattle.tucson_write.proofs.writable.years_left.Tie as tie

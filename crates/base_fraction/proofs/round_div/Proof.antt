@@ -1,0 +1,57 @@
+-- Twice the dividend and the divisor, over twice the divisor, rounded down: with sizes below 2^61 no sum leaves 64 bits.
+use native.Mathlib.Omega.{arith}
+use mathlib.Core.Path.{_∙_}
+use lib.IntN.{ℤ, pos, _+ℤ_}
+use lib.Signed.{_<ℤ_}
+use mir.Syntax.{w64}
+use mir.Val.{SFits}
+use mir.ValLaws.{toZ-ofZ}
+use Rattle.base_exact.proofs.Integer.{+-mono-<, <-≤}
+use Rattle.base_exact.proofs.Word.{sfits-abs, abs-add, floor-nearest}
+use Rattle.base_fraction.proofs.round_div.Statement.{statement}
+use Rattle.base_fraction.proofs.round_div.Tie as tie
+
+module _ (c : tie.Start) where
+  abbrev a : ℤ
+  a = c .args .a
+
+  abbrev d : ℤ
+  d = c .args .d
+
+  double-fits : SFits w64 (a +ℤ a)
+  double-fits = sfits-abs (omega (arith, c .pre .0, abs-add a a))
+
+  dividend-fits : SFits w64 (a +ℤ a +ℤ d)
+  dividend-fits = sfits-abs (omega (arith, c .pre .0, c .pre .1 .1, abs-add a a, abs-add (a +ℤ a) d))
+
+  divisor-fits : SFits w64 (d +ℤ d)
+  divisor-fits = sfits-abs (omega (arith, c .pre .1 .1, abs-add d d))
+
+  divisor-positive : pos 0 <ℤ (d +ℤ d)
+  divisor-positive = +-mono-< (pos 0) d (pos 0) d (c .pre .1 .0) (<-≤ (pos 0) d (c .pre .1 .0))
+
+add-floor-div : tie.Need-add-floor-div
+add-floor-div c = let f = c .fits .a in simp toZ-ofZ (double-fits c)
+
+add-floor-div-2 : tie.Need-add-floor-div-2
+add-floor-div-2 c = let f = c .fits .a in let g = c .fits .d in let h = double-fits c in simp toZ-ofZ (dividend-fits c)
+
+add-floor-div-3 : tie.Need-add-floor-div-3
+add-floor-div-3 c = let g = c .fits .d in simp toZ-ofZ (divisor-fits c)
+
+floor-div-requires : tie.Need-floor-div-requires
+floor-div-requires c κs = let g = c .fits .d in let k = divisor-fits c in simp toZ-ofZ (divisor-positive c)
+
+returns : tie.Need-returns
+returns c =
+    let s = c .before in
+    let f = s .fits .a in
+    let g = s .fits .d in
+    let h = double-fits s in
+    let k = dividend-fits s in
+    let l = divisor-fits s in
+    let r : SFits w64 (c .floor-div .result) = record { sfits = c .floor-div .ok } in
+    simp toZ-ofZ ((simp toZ-ofZ at (c .floor-div .ensures)) ∙ floor-nearest (s .args .a) (s .args .d) (s .pre .1 .0))
+
+pub round-div-spec : {M : Type 1} → statement M
+round-div-spec = tie.close (tie.spec add-floor-div add-floor-div-2 add-floor-div-3 floor-div-requires returns)

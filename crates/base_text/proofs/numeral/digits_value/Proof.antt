@@ -1,0 +1,79 @@
+-- A digit is put behind the number so far; what the rest makes of it stays the same and bounds it.
+use mathlib.Core.Path.{_≡_, refl, sym, _∙_, ap}
+use mathlib.Core.Bool.{true}
+use mathlib.Core.List.{List}
+use Prim.Native.Nat.{ℕ, _+_, _-_, _*_, _≤_, _<_}
+use native.Mathlib.Omega.{arith}
+use lib.ListN.{getD}
+use lib.Seq.{slice}
+use Rattle.base_text.specs.Numeral.{allDigits, digitsValue}
+use Rattle.base_text.proofs.Digits.{natural-parts, natural-small, digits-first, digits-rest, value-next, value-end, value-grows}
+use Rattle.base_text.proofs.numeral.digits_value.Statement.{statement}
+use Rattle.base_text.proofs.numeral.digits_value.Tie as tie
+
+abbrev Inv-loop : tie.InvT-loop
+Inv-loop text from to v₀ i₀ v i = (i ≤ to) × (digitsValue 0 (slice from to text) ≡ digitsValue v (slice i to text)) × (allDigits (slice i to text) ≡ true)
+
+abbrev μ-loop : tie.MeasureT-loop
+μ-loop text from to v₀ i₀ v i = to - i
+
+loop-holds : tie.Need-loop-holds Inv-loop μ-loop
+loop-holds c = (c .pre .0 .ordered, refl, natural-parts _ (c .pre .1) .2)
+
+-- a turn's digit, and the number behind it
+module _ (c : tie.In-loop Inv-loop μ-loop) where
+  abbrev text : List ℕ
+  text = c .before .before .args .text .now
+
+  abbrev i : ℕ
+  i = c .before .loop .i
+
+  abbrev to : ℕ
+  to = c .before .before .args .to
+
+  abbrev next : ℕ
+  next = c .before .loop .v * 10 + (getD text i 0 - 48)
+
+  digit : (48 ≤ getD text i 0) × (getD text i 0 ≤ 57)
+  digit = digits-first text i to (c .loop-test .taken) (c .before .before .pre .0 .within) (c .before .loop .inv .2)
+
+  value : digitsValue 0 (slice (c .before .before .args .from) to text) ≡ digitsValue next (slice (i + 1) to text)
+  value = c .before .loop .inv .1 ∙ value-next text i to (c .loop-test .taken) (c .before .before .pre .0 .within) (c .before .loop .v)
+
+  small : next < 10000000
+  small = omega (arith, value, value-grows next (slice (i + 1) to text), natural-small _ (c .before .before .pre .1))
+
+mul-v : tie.Need-mul-v Inv-loop μ-loop
+mul-v c = omega (arith, small c)
+
+shared-slice-read-v : tie.Need-shared-slice-read-v Inv-loop μ-loop
+shared-slice-read-v c = omega arith
+
+sub-v : tie.Need-sub-v Inv-loop μ-loop
+sub-v c = omega (arith, digit (c .before))
+
+cast-v : tie.Need-cast-v Inv-loop μ-loop
+cast-v c = omega (arith, digit (c .before))
+
+add-v : tie.Need-add-v Inv-loop μ-loop
+add-v c = omega (arith, small (c .before))
+
+add-i : tie.Need-add-i Inv-loop μ-loop
+add-i c = omega arith
+
+loop-less : tie.Need-loop-less Inv-loop μ-loop
+loop-less c = omega arith
+
+loop-again : tie.Need-loop-again Inv-loop μ-loop
+loop-again c =
+    let l = c .before .before in
+    (omega arith, value (c .before), digits-rest (text (c .before)) (i (c .before)) (to (c .before)) (omega arith) (l .before .pre .0 .within) (l .loop .inv .2))
+
+returns : tie.Need-returns Inv-loop μ-loop
+returns c =
+    let s = c .before .before in
+    let e : c .before .loop .i ≡ s .args .to = omega arith in
+    sym (c .before .loop .inv .1 ∙ ap (λ (n : ℕ). digitsValue (c .before .loop .v) (slice n (s .args .to) (s .args .text .now))) e ∙ value-end _ (s .args .text .now) (s .args .to))
+
+pub digits-value-spec : {M : Type 1} → statement M
+digits-value-spec = tie.close (tie.spec Inv-loop μ-loop loop-holds mul-v shared-slice-read-v sub-v cast-v add-v add-i loop-less loop-again returns)

@@ -1,0 +1,104 @@
+-- What building ends with, case by case: too short a buffer, lists that are refused, and the joins' table or refusal; and
+-- what the machine answers and leaves in each.
+use mathlib.Core.Path.{_≡_, refl, sym, _∙_, ap, ap₂, subst}
+use mathlib.Core.Bool.{true, cond}
+use mathlib.Core.Logic.{_⊎_, inl, inr}
+use mathlib.Core.List.{List, []}
+use Prim.Native.Nat.{ℕ, _-_, _<_, _≤_}
+use native.Mathlib.Omega.{arith}
+use borrow.Author.Tests.{lt-ltb, le-ltb}
+use lib.Dec.{ltb}
+use lib.IntN.{ℤ, pos}
+use lib.ListN.{length}
+use Rattle.spec_spline.specs.Outcome.{Outcome, answer, refusal, refuse, with-answer}
+use Rattle.spec_spline.specs.Space.{Space, segments, columnCount, conditionCount, checked}
+use Rattle.spec_spline.specs.Table.{Table, identity, tableCells, numerators, denominators}
+use Rattle.spec_spline.specs.Build.{orderSteps, joinSteps, weights, spaceWeights, built, clears, numeratorsAfter, denominatorsAfter}
+use Rattle.spec_spline.proofs.Outcome.{RefusedAs, repeat-refused, then-answers, then-refuses, capped-small}
+use Rattle.spec_spline.proofs.Build.{long-enough}
+use Rattle.build_cells.specs.Held.{Kept}
+use Rattle.build_cells.specs.Region.{filled}
+use Rattle.build_cells.proofs.Buffer.{numerators-again, denominators-again, numerators-cleared, denominators-cleared, kept-numerators, kept-denominators, kept-then}
+use Rattle.build.specs.Leaves.{JoinsLeave}
+use Rattle.build.specs.Machine.{reply}
+use Rattle.build.specs.declared.Built.{Built}
+use Rattle.build.specs.declared.Built.the-variants.{Rows, Refused}
+use Rattle.build.proofs.Joins.{orders-refuse}
+
+-- ---- what a call answers and leaves, by the outcome o with n rows
+
+pub record Ends (o : Outcome Table) (n : ℕ) (r : Built) (num den num′ den′ : List ℤ) : Type 0 where
+  pub answers : reply r ≡ with-answer (λ _. n) o
+  pub numerators-are : num′ ≡ numeratorsAfter o num
+  pub denominators-are : den′ ≡ denominatorsAfter o den
+
+-- ---- the call's outcome
+
+module _ (s : Space) (numLength denLength : ℕ) where
+  pub built-first-short : numLength < tableCells → built s numLength denLength ≡ refusal 1 0
+  unfolding built
+  built-first-short h =
+      ap (λ b. cond b (refuse 1 0) (cond (ltb denLength tableCells) (refuse 1 1) (spaceWeights s))) (lt-ltb numLength tableCells h)
+      ∙ ap (refusal 1) (capped-small 0 (omega arith))
+
+  pub built-second-short : tableCells ≤ numLength → denLength < tableCells → built s numLength denLength ≡ refusal 1 1
+  unfolding built
+  built-second-short h k =
+      ap₂ (λ a b. cond a (refuse 1 0) (cond b (refuse 1 1) (spaceWeights s))) (le-ltb numLength tableCells h) (lt-ltb denLength tableCells k)
+      ∙ ap (refusal 1) (capped-small 1 (omega arith))
+
+  module _ (h : tableCells ≤ numLength) (k : tableCells ≤ denLength) where
+    built-long : built s numLength denLength ≡ spaceWeights s
+    unfolding built
+    built-long = long-enough numLength denLength (spaceWeights s) h k
+
+    pub built-refused : {number place : ℕ} → checked s ≡ refusal number place → built s numLength denLength ≡ refusal number place
+    unfolding spaceWeights
+    built-refused e = built-long ∙ then-refuses weights e
+
+    pub built-weights : checked s ≡ answer s → built s numLength denLength ≡ weights s
+    unfolding spaceWeights
+    built-weights e = built-long ∙ then-answers weights e
+
+-- ---- the joins' table or refusal
+
+-- the weights are refused by number 8 or 9 alone
+weights-refuse : (s : Space) → RefusedAs (λ number place. (number ≡ 8) ⊎ (number ≡ 9)) (weights s)
+unfolding weights joinSteps
+weights-refuse s = repeat-refused (λ number place. (number ≡ 8) ⊎ (number ≡ 9)) (segments s - 1) (λ j. orderSteps s j (conditionCount s j)) (identity (columnCount s))
+    (λ j t h e number place r. orders-refuse s j (conditionCount s j) t number place r .0)
+
+-- after which the buffers are cleared
+clears-either : {number : ℕ} → (number ≡ 8) ⊎ (number ≡ 9) → clears number ≡ true
+clears-either (inl e) = ap clears e
+clears-either (inr e) = ap clears e
+
+pub weights-cleared : (s : Space) {number place : ℕ} → weights s ≡ refusal number place → clears number ≡ true
+weights-cleared s {number} {place} e = clears-either (weights-refuse s number place e)
+
+-- what the joins leave of buffers that held a table, where they answer, and where the buffers are then cleared
+module _ (n : ℕ) (i : Table) (num₀ den₀ num den num′ den′ : List ℤ) (num-is : num ≡ numerators i num₀) (den-is : den ≡ denominators i den₀) where
+  pub ends-rows : (o : Outcome Table) {m : ℕ} → JoinsLeave o n (Rows m) num den num′ den′ → Ends o n (Rows m) num₀ den₀ num′ den′
+  unfolding reply numeratorsAfter denominatorsAfter
+  ends-rows (answer t) {m} left = record {
+    answers = ap answer (let z : m ≡ n = let e = left .0 in cc in z);
+    numerators-are = left .1 ∙ ap (numerators t) num-is ∙ numerators-again t i num₀;
+    denominators-are = left .2 ∙ ap (denominators t) den-is ∙ denominators-again t i den₀;
+  }
+  ends-rows (refusal number place) left = absurd (let e = left .0 in let z : _≡_ {A = ℕ} 0 1 = cc in omega arith)
+
+  pub ends-cleared : (s : Space) {number place : ℕ} {num₂ den₂ : List ℤ} → tableCells ≤ length num₀ → tableCells ≤ length den₀
+      → JoinsLeave (weights s) n (Refused number place) num den num′ den′ → num₂ ≡ filled 0 tableCells (pos 0) num′ → den₂ ≡ filled 0 tableCells (pos 1) den′
+      → Ends (weights s) n (Refused number place) num₀ den₀ num₂ den₂
+  unfolding reply numeratorsAfter denominatorsAfter
+  ends-cleared s {number} {place} {num₂} {den₂} long long′ left p q = go (weights s) refl left
+    where
+      go : (o : Outcome Table) → weights s ≡ o → JoinsLeave o n (Refused number place) num den num′ den′ → Ends o n (Refused number place) num₀ den₀ num₂ den₂
+      go (answer t) z left = absurd (let e = left .0 in let z : _≡_ {A = ℕ} 0 1 = cc in omega arith)
+      go (refusal a b) z left =
+          let told = weights-cleared s z in
+          record {
+            answers = ap reply (left .0);
+            numerators-are = p ∙ numerators-cleared num₀ num′ long (kept-then (subst (Kept num₀) (sym num-is) (kept-numerators i num₀ long)) (left .1)) ∙ sym (ap (λ c. cond c (numerators [] num₀) num₀) told);
+            denominators-are = q ∙ denominators-cleared den₀ den′ long′ (kept-then (subst (Kept den₀) (sym den-is) (kept-denominators i den₀ long′)) (left .2)) ∙ sym (ap (λ c. cond c (denominators [] den₀) den₀) told);
+          }

@@ -1,0 +1,122 @@
+-- `build_part`: the three slices are the lists of the part, which are legal. Assumes nothing.
+use borrow.Author.Needs.{needs}
+use mathlib.Core.Path.{_≡_, sym, _∙_, ap, subst}
+use Prim.Native.Nat.{ℕ, _+_, _-_, _<_, _≤_}
+use native.Mathlib.Omega.{arith}
+use lib.ListN.{length, take, drop}
+use Rattle.spec_spline.specs.Outcome.{with-answer}
+use Rattle.spec_spline.specs.Space.{Space, rowCount}
+use Rattle.spec_spline.specs.Build.{weights, numeratorsAfter, denominatorsAfter}
+use Rattle.spec_spline.proofs.Parts.{part-ends}
+use Rattle.theorems_beams.specs.Sections.{section, partAt}
+use Rattle.build_space.specs.Machine.{space}
+use Rattle.build_space.specs.Legal.{PartLegal}
+use Rattle.build.specs.Machine.{reply}
+use Rattle.build.proofs.Beam.{sliced, part-legal}
+use Rattle.build.proofs.parts.build_part.Statement.{statement}
+use Rattle.build.proofs.parts.build_part.Tie as tie
+
+-- where the part lies in the lists
+record Lies (breaks degrees orders a b : ℕ) : Type 0 where
+  some : a < b
+  within : b ≤ degrees
+  break-count : breaks ≡ degrees + 1
+  order-count : orders + 1 ≡ degrees
+  few : degrees ≤ 48
+
+module _ (c : tie.Start) where
+  abbrev lists : Space
+  lists = space (c .args .breaks .now) (c .args .degrees .now) (c .args .orders .now)
+
+  lies : Lies (length (c .args .breaks .now)) (length (c .args .degrees .now)) (length (c .args .orders .now)) (c .args .a) (c .args .b)
+  lies =
+      let e = part-ends lists (c .args .a) (c .pre .1 .0 .below) in
+      let l = c .pre .0 .0 in
+      record { some = omega (arith, c .pre .1 .1, e .above); within = omega (arith, c .pre .1 .1, e .boundary .within); break-count = l .break-count; order-count = l .order-count; few = l .few }
+
+  -- the slices are the part
+  part-is : space (take (c .args .b + 1 - c .args .a) (drop (c .args .a) (c .args .breaks .now))) (take (c .args .b - c .args .a) (drop (c .args .a) (c .args .degrees .now))) (take (c .args .b - 1 - c .args .a) (drop (c .args .a) (c .args .orders .now))) ≡ partAt lists (c .args .a)
+  part-is = sliced lists (c .args .a) (c .args .b) (lies .some) ∙ ap (λ (e : ℕ). section lists (c .args .a) (e - c .args .a)) (c .pre .1 .1)
+
+add-build-legal : tie.Need-add-build-legal
+add-build-legal c = let l = lies c in omega (arith, l .within, l .few)
+
+mul-build-legal : tie.Need-mul-build-legal
+mul-build-legal c = search needs
+
+sub-build-legal : tie.Need-sub-build-legal
+sub-build-legal c = let l = lies c in omega (arith, l .some, l .within, l .break-count, l .order-count)
+
+part-build-legal-start : tie.Need-part-build-legal-start
+part-build-legal-start c = let l = lies c in omega (arith, l .some, l .within, l .break-count, l .order-count)
+
+part-build-legal-end : tie.Need-part-build-legal-end
+part-build-legal-end c = let l = lies c in omega (arith, l .some, l .within, l .break-count, l .order-count)
+
+mul-build-legal-2 : tie.Need-mul-build-legal-2
+mul-build-legal-2 c = search needs
+
+sub-build-legal-2 : tie.Need-sub-build-legal-2
+sub-build-legal-2 c = let l = lies (c .before) in omega (arith, l .some, l .within, l .break-count, l .order-count)
+
+part-build-legal-start-2 : tie.Need-part-build-legal-start-2
+part-build-legal-start-2 c = let l = lies (c .before) in omega (arith, l .some, l .within, l .break-count, l .order-count)
+
+part-build-legal-end-2 : tie.Need-part-build-legal-end-2
+part-build-legal-end-2 c = let l = lies (c .before) in omega (arith, l .some, l .within, l .break-count, l .order-count)
+
+sub-build-legal-3 : tie.Need-sub-build-legal-3
+sub-build-legal-3 c = let l = lies (c .before .before) in omega (arith, l .some, l .within, l .break-count, l .order-count)
+
+mul-build-legal-3 : tie.Need-mul-build-legal-3
+mul-build-legal-3 c = search needs
+
+sub-build-legal-4 : tie.Need-sub-build-legal-4
+sub-build-legal-4 c = let l = lies (c .before .before) in omega (arith, l .some, l .within, l .break-count, l .order-count)
+
+part-build-legal-start-3 : tie.Need-part-build-legal-start-3
+part-build-legal-start-3 c = let l = lies (c .before .before) in omega (arith, l .some, l .within, l .break-count, l .order-count)
+
+part-build-legal-end-3 : tie.Need-part-build-legal-end-3
+part-build-legal-end-3 c = let l = lies (c .before .before) in omega (arith, l .some, l .within, l .break-count, l .order-count)
+
+build-legal-requires : tie.Need-build-legal-requires
+build-legal-requires c κs =
+    let s = c .before .before .before .before .before in
+    (subst (λ (p : Space). PartLegal (p .breaks) (p .degrees) (p .orders)) (sym (part-is s)) (part-legal _ _ _ (s .pre .0 .0) (s .args .a) (s .pre .1 .0)), s .pre .0 .1)
+
+same-length : tie.Need-same-length
+same-length c = search needs
+
+same-length-2 : tie.Need-same-length-2
+same-length-2 c = search needs
+
+returns : tie.Need-returns
+returns c =
+    let m = c .before .before in
+    let s = m .before .before .before .before .before .before in
+    subst (λ (p : Space). (reply (m .build-legal .result) ≡ with-answer (λ _. rowCount p) (weights p)) × ((m .build-legal .last .1 .1 .1 .0 ≡ numeratorsAfter (weights p) (s .args .num .now)) × (m .build-legal .last .1 .1 .1 .1 .0 ≡ denominatorsAfter (weights p) (s .args .den .now))))
+    (sliced (lists s) (s .args .a) (s .args .b) (lies s .some)) (m .build-legal .ensures)
+
+pub build-part-spec : {M : Type 1} → statement M
+build-part-spec =
+    tie.close
+    (tie.spec
+    add-build-legal
+    mul-build-legal
+    sub-build-legal
+    part-build-legal-start
+    part-build-legal-end
+    mul-build-legal-2
+    sub-build-legal-2
+    part-build-legal-start-2
+    part-build-legal-end-2
+    sub-build-legal-3
+    mul-build-legal-3
+    sub-build-legal-4
+    part-build-legal-start-3
+    part-build-legal-end-3
+    build-legal-requires
+    same-length
+    same-length-2
+    returns)

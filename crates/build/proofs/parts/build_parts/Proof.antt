@@ -1,0 +1,172 @@
+-- Before the turn at a the parts before segment a are built and the buffers hold the last of them; one part more, or its refusal,
+-- and after the last part the beam. Assumes nothing.
+use borrow.Author.Needs.{needs}
+use mathlib.Core.List.{List}
+use mathlib.Core.Path.{_≡_, refl, sym, _∙_, ap, subst}
+use Prim.Native.Nat.{ℕ, _+_, _-_, _<_}
+use native.Mathlib.Omega.{arith}
+use lib.IntN.{ℤ}
+use lib.ListN.{length}
+use Rattle.spec_spline.specs.Outcome.{with-answer}
+use Rattle.spec_spline.specs.Space.{Space, partEnd, rowCount}
+use Rattle.spec_spline.specs.Build.{weights, numeratorsAfter, denominatorsAfter}
+use Rattle.spec_spline.proofs.Parts.{part-ends}
+use Rattle.theorems_beams.specs.Sections.{section, partAt}
+use Rattle.build_space.specs.Machine.{space}
+use Rattle.build_space.proofs.Partial.{part-end-partial}
+use Rattle.build.specs.Machine.{reply}
+use Rattle.build.specs.declared.Built.{Built}
+use Rattle.build.specs.declared.Built.the-variants.{Rows, Refused}
+use Rattle.build.proofs.Beam.{Before, before-first, starts, rows-high, part-more, part-refused, parts-done, told-rows, told-refused}
+use Rattle.build.proofs.parts.build_parts.Statement.{statement}
+use Rattle.build.proofs.parts.build_parts.Tie as tie
+
+record Inv (s : Space) (num₀ den₀ num den : List ℤ) (rows a : ℕ) : Type 0 where
+  num-long : length num ≡ length num₀
+  den-long : length den ≡ length den₀
+  state : Before s num₀ den₀ num den rows a
+
+abbrev Inv-loop : tie.InvT-loop
+Inv-loop breaks degrees orders num₀ den₀ rows₀ a₀ num den rows a = Inv (space breaks degrees orders) num₀ den₀ num den rows a
+
+abbrev μ-loop : tie.MeasureT-loop
+μ-loop breaks degrees orders num₀ den₀ rows₀ a₀ num den rows a = length degrees - a
+
+abbrev lists : tie.Start Inv-loop μ-loop → Space
+lists c = space (c .args .breaks .now) (c .args .degrees .now) (c .args .orders .now)
+
+loop-holds : tie.Need-loop-holds Inv-loop μ-loop
+loop-holds c = record { num-long = refl; den-long = refl; state = before-first (lists c) (c .args .num .now) (c .args .den .now) }
+
+taken : (c : tie.In-loop Inv-loop μ-loop) → c .before .loop .a < length (c .before .before .args .degrees .now)
+taken c = omega arith
+
+part-end-requires : tie.Need-part-end-requires Inv-loop μ-loop
+part-end-requires c κs = (taken c, sym (c .before .before .pre .0 .order-count))
+
+-- the part's end
+module _ (c : tie.After-part-end Inv-loop μ-loop) where
+  abbrev first : ℕ
+  first = c .before .before .loop .a
+
+  abbrev beam : Space
+  beam = lists (c .before .before .before)
+
+  end-is : c .part-end .result ≡ partEnd beam first
+  end-is = c .part-end .ensures ∙ part-end-partial (beam .breaks) (beam .degrees) (beam .orders) first
+
+build-part-requires : tie.Need-build-part-requires Inv-loop μ-loop
+build-part-requires c κs =
+    let e = c .before .before in
+    let l = e .before .before .loop in
+    let p = e .before .before .before .pre in (
+      (p .0, (omega (arith, p .1 .0, l .inv .num-long), omega (arith, p .1 .1, l .inv .den-long))),
+      (starts _ _ _ (p .0) (l .inv .state) (taken (e .before)), end-is e),
+    )
+
+enum-known-built : tie.Need-enum-known-built Inv-loop μ-loop
+enum-known-built c = search needs
+
+-- what the part answers and leaves
+module _ (c : tie.After-build-part Inv-loop μ-loop) where
+  abbrev ended : tie.After-part-end Inv-loop μ-loop
+  ended = c .before .before .before
+
+  abbrev part : Space
+  part = partAt (beam ended) (first ended)
+
+  abbrev left : Built → Space → Type 0
+  left r p =
+      (reply r ≡ with-answer (λ _. rowCount p) (weights p)) × ((c .build-part .last .1 .1 .1 .1 .1 .0 ≡ numeratorsAfter (weights p) (ended .before .before .loop .num)) × (c .build-part .last .1 .1 .1 .1 .1 .1 .0 ≡ denominatorsAfter (weights p) (ended .before .before .loop .den)))
+
+  leaves : {r : Built} → c .build-part .result ≡ r → left r part
+  leaves {r} e = subst (λ (x : Built). left x part) e (subst (λ (n : ℕ). left (c .build-part .result) (section (beam ended) (first ended) (n - first ended))) (end-is ended) (c .build-part .ensures))
+
+  -- one part more
+  more : {n : ℕ} → c .build-part .result ≡ Rows n → Before (beam ended) (ended .before .before .before .args .num .now) (ended .before .before .before .args .den .now) (c .build-part .last .1 .1 .1 .1 .1 .0) (c .build-part .last .1 .1 .1 .1 .1 .1 .0) (ended .before .before .loop .rows + n) (ended .part-end .result)
+  more {n} e =
+      let x = leaves e in
+      let t = told-rows (weights part) (x .0) in
+      subst (Before (beam ended) _ _ _ _ (ended .before .before .loop .rows + n)) (sym (end-is ended))
+      (part-more _ _ _ (ended .before .before .before .pre .0) (ended .before .before .loop .inv .state) (taken (ended .before)) (t .is) (t .count) (x .1 .0) (x .1 .1))
+
+  num-kept : length (c .build-part .last .1 .1 .1 .1 .1 .0) ≡ length (ended .before .before .before .args .num .now)
+  num-kept = c .build-part .kept .1 .1 .1 .1 .1 .0 ∙ ended .before .before .loop .inv .num-long
+
+  den-kept : length (c .build-part .last .1 .1 .1 .1 .1 .1 .0) ≡ length (ended .before .before .before .args .den .now)
+  den-kept = c .build-part .kept .1 .1 .1 .1 .1 .1 .0 ∙ ended .before .before .loop .inv .den-long
+
+add-rows : tie.Need-add-rows Inv-loop μ-loop
+add-rows c = let m = c .before .before .before .before .before in omega (arith, rows-high _ _ _ (ended m .before .before .before .pre .0) (more m (c .before .built .given .1)))
+
+enum-known-built-2 : tie.Need-enum-known-built-2 Inv-loop μ-loop
+enum-known-built-2 c = search needs
+
+cast-place : tie.Need-cast-place Inv-loop μ-loop
+cast-place c = omega arith
+
+add-place : tie.Need-add-place Inv-loop μ-loop
+add-place c = omega (arith, taken (ended (c .before .before .before .before .before) .before), ended (c .before .before .before .before .before) .before .before .before .pre .0 .few)
+
+place-requires : tie.Need-place-requires Inv-loop μ-loop
+place-requires c κs = tt
+
+same-length : tie.Need-same-length Inv-loop μ-loop
+same-length c = num-kept (c .before .before .before .before .before .before)
+
+same-length-2 : tie.Need-same-length-2 Inv-loop μ-loop
+same-length-2 c = den-kept (c .before .before .before .before .before .before)
+
+returns : tie.Need-returns Inv-loop μ-loop
+returns c =
+    let m = c .before .before .before .before .before .before in
+    let d = ended m in
+    let x = leaves m (c .before .before .built2 .given .1) in
+    let e = part-refused _ _ _ (d .before .before .before .pre .0) (d .before .before .loop .inv .state) (taken (d .before)) (told-refused (weights (part m)) (rowCount (part m)) (x .0)) (x .1 .0) (x .1 .1) in
+    (ap (λ (p : ℕ). reply (Refused (c .before .before .built2 .given .0 .0) p)) (c .place .ensures) ∙ e .answers, (e .numerators-are, e .denominators-are))
+
+loop-less : tie.Need-loop-less Inv-loop μ-loop
+loop-less c =
+    let d = ended (c .before .before .before .before .before) in
+    let l = part-ends (beam d) (first d) (taken (d .before)) in
+    omega (arith, end-is d, l .above, taken (d .before))
+
+loop-again : tie.Need-loop-again Inv-loop μ-loop
+loop-again c =
+    let m = c .before .before .before .before .before in
+    record { num-long = num-kept m; den-long = den-kept m; state = more m (c .before .built .given .1) }
+
+same-length-3 : tie.Need-same-length-3 Inv-loop μ-loop
+same-length-3 c = c .before .loop .inv .num-long
+
+same-length-4 : tie.Need-same-length-4 Inv-loop μ-loop
+same-length-4 c = c .before .loop .inv .den-long
+
+returns-2 : tie.Need-returns-2 Inv-loop μ-loop
+returns-2 c =
+    let e = parts-done _ _ _ (c .before .before .pre .0) (c .before .loop .inv .state) (omega arith) in
+    (e .answers, (e .numerators-are, e .denominators-are))
+
+pub build-parts-spec : {M : Type 1} → statement M
+build-parts-spec =
+    tie.close
+    (tie.spec
+    Inv-loop
+    μ-loop
+    loop-holds
+    part-end-requires
+    build-part-requires
+    enum-known-built
+    add-rows
+    enum-known-built-2
+    cast-place
+    add-place
+    place-requires
+    same-length
+    same-length-2
+    returns
+    loop-less
+    loop-again
+    same-length-3
+    same-length-4
+    returns-2)

@@ -1,0 +1,39 @@
+// The weights of a multi-degree spline space: exact fractions in two lent buffers, by document 01's steps.
+ghost use mathlib.Core.Path.{_≡_};
+ghost use Rattle.spec_spline.specs.Build.{buildEnd};
+ghost use Rattle.build_space.specs.Machine.{space};
+ghost use Rattle.build.specs.Machine.{reply};
+
+pub mod parts;
+pub mod step;
+
+// What building answers: the row count n, or a refusal's number and place.
+pub enum Built {
+    Rows(usize),
+    Refused(u8, u32),
+}
+
+// Builds the weights of the beam with these breakpoints, degrees and orders. Lists and buffers may have any length and
+// content: what the definition refuses is refused, and the buffers are then as it says.
+pub fn build(
+    breaks: &[i32],
+    degrees: &[i32],
+    orders: &[i32],
+    num: &mut [i64],
+    den: &mut [i64],
+) -> Built
+    ensures { λ r. ⌜ (let e = buildEnd (space (now (breaks .entry)) (now (degrees .entry)) (now (orders .entry))) (now (num .entry)) (now (den .entry)) in
+        (reply r ≡ e .answers) × ((now (num .exit) ≡ e .numerators) × (now (den .exit) ≡ e .denominators))) ⌝ }
+{
+    if num.len() < build_cells::TABLE_CELLS {
+        return Built::Refused(1, 0);
+    }
+    if den.len() < build_cells::TABLE_CELLS {
+        return Built::Refused(1, 1);
+    }
+    let legality = build_space::check(breaks, degrees, orders);
+    match legality {
+        build_space::Legality::Legal => parts::build_parts(breaks, degrees, orders, num, den),
+        build_space::Legality::Refused(number, place) => Built::Refused(number, place),
+    }
+}

@@ -1,0 +1,70 @@
+// The parts of a beam: each is built by itself in the same two buffers, from the left, so that the last one stays there.
+ghost use mathlib.Core.Path.{_≡_};
+ghost use Prim.Native.Nat.{_-_, _≤_};
+ghost use lib.ListN.{length};
+ghost use Rattle.spec_spline.specs.Outcome.{with-answer};
+ghost use Rattle.spec_spline.specs.Space.{partEnd, rowCount};
+ghost use Rattle.spec_spline.specs.Table.{tableCells};
+ghost use Rattle.spec_spline.specs.Build;
+ghost use Rattle.theorems_beams.specs.Sections.{section};
+ghost use Rattle.theorems_beams.specs.Parts.{Starts};
+ghost use Rattle.build_space.specs.Machine.{space};
+ghost use Rattle.build_space.specs.Legal.{ListsLegal};
+ghost use Rattle.build.specs.Machine.{reply};
+use crate::Built;
+use crate::step;
+
+// The build of the part from segment a up to segment b.
+pub fn build_part(
+    breaks: &[i32],
+    degrees: &[i32],
+    orders: &[i32],
+    a: usize,
+    b: usize,
+    num: &mut [i64],
+    den: &mut [i64],
+) -> Built
+    requires { ⌜ ListsLegal (now breaks) (now degrees) (now orders) × ((tableCells ≤ length (now num)) × (tableCells ≤ length (now den))) ⌝ }
+    requires { ⌜ Starts (space (now breaks) (now degrees) (now orders)) a × (b ≡ partEnd (space (now breaks) (now degrees) (now orders)) a) ⌝ }
+    ensures { λ r. ⌜ (let part = section (space (now (breaks .entry)) (now (degrees .entry)) (now (orders .entry))) a (b - a) in
+        (reply r ≡ with-answer (λ _. rowCount part) (Build.weights part)) × ((now (num .exit) ≡ Build.numeratorsAfter (Build.weights part) (now (num .entry))) × (now (den .exit) ≡ Build.denominatorsAfter (Build.weights part) (now (den .entry))))) ⌝ }
+{
+    step::build_legal(
+        &breaks[a..b + 1],
+        &degrees[a..b],
+        &orders[a..b - 1],
+        num,
+        den,
+    )
+}
+
+// The build of a beam whose lists are legal, in buffers that are long enough. Rows and places count over the beam.
+pub fn build_parts(
+    breaks: &[i32],
+    degrees: &[i32],
+    orders: &[i32],
+    num: &mut [i64],
+    den: &mut [i64],
+) -> Built
+    requires { ⌜ ListsLegal (now breaks) (now degrees) (now orders) × ((tableCells ≤ length (now num)) × (tableCells ≤ length (now den))) ⌝ }
+    ensures { λ r. ⌜ (let s = space (now (breaks .entry)) (now (degrees .entry)) (now (orders .entry)) in
+        let held = with-answer (Build.lastPart s) (Build.weights s) in
+        (reply r ≡ with-answer (λ _. rowCount s) (Build.weights s)) × ((now (num .exit) ≡ Build.numeratorsAfter held (now (num .entry))) × (now (den .exit) ≡ Build.denominatorsAfter held (now (den .entry))))) ⌝ }
+{
+    let mut rows = 0;
+    let mut a = 0;
+    while a < degrees.len() {
+        let b = build_space::part_end(degrees, orders, a);
+        let built = build_part(breaks, degrees, orders, a, b, num, den);
+        match built {
+            Built::Rows(n) => {
+                rows += n;
+            }
+            Built::Refused(number, place) => {
+                return Built::Refused(number, build_space::place(a + place as usize));
+            }
+        }
+        a = b;
+    }
+    Built::Rows(rows)
+}

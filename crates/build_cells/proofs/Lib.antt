@@ -1,0 +1,5 @@
+-- The crate's hand-written modules.
+pub mod Region
+pub mod Tables
+pub mod Buffer
+pub mod Added

@@ -1,0 +1,3 @@
+-- What the contracts of cells cite beside the definitions of crate spline.
+pub mod Region
+pub mod Held

@@ -1,0 +1,29 @@
+-- What the factors of a step ask of its jumps, and where a factor lies.
+use mathlib.Core.Bool.{Bool, true, false, _&&_}
+use mathlib.Core.List.{List}
+use mathlib.Core.Path.{_≡_}
+use Prim.Native.Nat.{ℕ, _<_, _≤_}
+use lib.IntN.{pos}
+use Rattle.base_exact.specs.Rational.{ℚ, int}
+use Rattle.base_exact.specs.Order.{isZero, ltᵠ}
+use Rattle.base_fraction.specs.Size.{fits}
+use Rattle.spec_spline.specs.Table.{entry, rowCells}
+use Rattle.build_jumps.specs.Machine.{fractions}
+use Rattle.build_jumps.specs.declared.Fractions.{Fractions}
+
+-- Strictly between 0 and 1.
+abbrev pub between : ℚ → Bool
+between w = ltᵠ (int (pos 0)) w && ltᵠ w (int (pos 1))
+
+-- Every fraction of the list fits.
+abbrev pub AllFit : List ℚ → Type 0
+AllFit qs = (i : ℕ) → fits (entry qs i) ≡ true
+
+-- Jumps that all fit, with no zero from row f to row l.
+pub record Spanned (js : Fractions) (f l : ℕ) : Type 0 where
+  pub of : List ℚ
+  pub is : js ≡ fractions of
+  pub fit : AllFit of
+  pub order : f ≤ l
+  pub within : l < rowCells
+  pub jump : (i : ℕ) → f ≤ i → i ≤ l → isZero (entry of i) ≡ false

@@ -1,0 +1,3 @@
+-- What the contracts of factors cite beside the definitions of crate spline.
+pub mod Machine
+pub mod Jumps

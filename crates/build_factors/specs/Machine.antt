@@ -1,0 +1,28 @@
+-- The machine's form of the factors and refusals that the definitions of crate spline give.
+use mathlib.Core.Bool.{cond}
+use mathlib.Core.List.{List, []}
+use Prim.Native.Nat.{ℕ}
+use lib.Dec.{eqb}
+use lib.IntN.{pos}
+use Rattle.base_exact.specs.Rational.{ℚ, int}
+use Rattle.base_fraction.specs.Machine.{fraction}
+use Rattle.spec_spline.specs.Outcome.{Outcome, answer, refusal}
+use Rattle.build_jumps.specs.Machine.{fractions}
+use Rattle.build_factors.specs.declared.Refusal.{Refusal}
+use Rattle.build_factors.specs.declared.Refusal.the-variants as refusals
+use Rattle.build_factors.specs.declared.NextFactor.{NextFactor}
+use Rattle.build_factors.specs.declared.RowFactors.{RowFactors}
+
+-- Number 8 or 9.
+unfoldable pub refusalOf : ℕ → Refusal
+refusalOf number = cond (eqb number 8) refusals.TooLarge refusals.Shape
+
+-- The next factor with the partial sum that it comes from.
+unfoldable pub nextFactor : ℚ → Outcome ℚ → NextFactor
+nextFactor s (answer w) = record { refusal = refusals.None; sum = fraction s; w = fraction w }
+nextFactor s (refusal number place) = record { refusal = refusalOf number; sum = fraction (int (pos 0)); w = fraction (int (pos 0)) }
+
+-- The factors of a step.
+unfoldable pub rowFactors : Outcome (List ℚ) → RowFactors
+rowFactors (answer ws) = record { refusal = refusals.None; of = fractions ws }
+rowFactors (refusal number place) = record { refusal = refusalOf number; of = fractions [] }

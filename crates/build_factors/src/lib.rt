@@ -1,0 +1,127 @@
+// The factors of a step: 1 at the first row that the jumps span, 0 at the last, and w = S / jump at the rows between.
+ghost use mathlib.Core.Path.{_≡_};
+ghost use mathlib.Core.List.{List, []};
+ghost use mathlib.Core.Logic.{_≢_};
+ghost use Prim.Native.Nat.{ℕ, _<_};
+ghost use lib.IntN.{pos};
+ghost use lib.Signed.{_<ℤ_};
+ghost use Rattle.base_exact.specs.Rational.{ℚ, _+ᵠ_};
+ghost use Rattle.base_fraction.specs.Machine.{Sized, value};
+ghost use Rattle.spec_spline.specs.Step;
+ghost use Rattle.build_jumps.specs.Machine.{fractions};
+ghost use Rattle.build_factors.specs.Machine.{nextFactor, rowFactors};
+ghost use Rattle.build_factors.specs.Jumps.{between, Spanned};
+use base_fraction::Counted;
+use base_fraction::Fraction;
+use build_jumps::Fractions;
+
+// Why a step was not done, if it was not: number 8 or number 9.
+pub enum Refusal {
+    None,
+    TooLarge,
+    Shape,
+}
+
+// The factors of the rows f to l, from index 0 on.
+pub struct RowFactors {
+    pub refusal: Refusal,
+    pub of: Fractions,
+}
+
+// A factor w = S / jump with its partial sum S.
+pub struct NextFactor {
+    pub refusal: Refusal,
+    pub sum: Fraction,
+    pub w: Fraction,
+}
+
+fn no_factor(refusal: Refusal) -> NextFactor
+    ensures { λ r. ⌜ (r .refusal ≡ refusal) × ((r .sum .num ≡ pos 0) × ((r .sum .den ≡ pos 1) × ((r .w .num ≡ pos 0) × (r .w .den ≡ pos 1)))) ⌝ }
+{
+    NextFactor {
+        refusal: refusal,
+        sum: Fraction { num: 0, den: 1 },
+        w: Fraction { num: 0, den: 1 },
+    }
+}
+
+fn strictly_between(w: Fraction) -> bool
+    requires { ⌜ pos 0 <ℤ w .den ⌝ }
+    ensures { λ r. ⌜ r ≡ between (value w) ⌝ }
+{
+    if base_fraction::is_positive(w) {
+        return base_fraction::is_below_one(w);
+    }
+    false
+}
+
+// The next factor, from the sum of the jumps before and the jump itself.
+fn factor(before: Fraction, jump: Fraction) -> NextFactor
+    requires { ⌜ Sized before × (Sized jump × (jump .num ≢ pos 0)) ⌝ }
+    ensures { λ r. ⌜ ((j : ℕ) → r ≡ nextFactor (value before +ᵠ value jump) (Step.quotientFactor j (value before +ᵠ value jump) (value jump))) ⌝ }
+{
+    let sum = base_fraction::sum(before, jump);
+    match sum {
+        Counted::TooLarge => no_factor(Refusal::TooLarge),
+        Counted::Fits(s) => {
+            let quotient = base_fraction::quotient(s, jump);
+            match quotient {
+                Counted::TooLarge => no_factor(Refusal::TooLarge),
+                Counted::Fits(w) => {
+                    if strictly_between(w) {
+                        return NextFactor {
+                            refusal: Refusal::None,
+                            sum: s,
+                            w: w,
+                        };
+                    }
+                    no_factor(Refusal::Shape)
+                }
+            }
+        }
+    }
+}
+
+// The factors of the rows f to l, from index 0 on: 1 at f, w for the rows between, 0 at l.
+pub fn factors(js: Fractions, f: usize, l: usize) -> RowFactors
+    requires { ⌜ Spanned js f l ⌝ }
+    ensures { λ r. ⌜ ((qs : List ℚ) (j : ℕ) → js ≡ fractions qs → r ≡ rowFactors (Step.factors j qs (record { f = f; l = l }))) ⌝ }
+{
+    let mut ws = build_jumps::no_fractions();
+    ws.num[0] = 1;
+    let mut sum = build_jumps::fraction_at(js, f);
+    let mut i = f + 1;
+    while i < l {
+        let jump = build_jumps::fraction_at(js, i);
+        let next = factor(sum, jump);
+        let refusal = next.refusal;
+        match refusal {
+            Refusal::None => {
+                sum = next.sum;
+                let w = next.w;
+                let n = w.num;
+                let d = w.den;
+                let at = i - f;
+                ws.num[at] = n;
+                ws.den[at] = d;
+            }
+            Refusal::TooLarge => {
+                return RowFactors {
+                    refusal: Refusal::TooLarge,
+                    of: build_jumps::no_fractions(),
+                };
+            }
+            Refusal::Shape => {
+                return RowFactors {
+                    refusal: Refusal::Shape,
+                    of: build_jumps::no_fractions(),
+                };
+            }
+        }
+        i += 1;
+    }
+    RowFactors {
+        refusal: Refusal::None,
+        of: ws,
+    }
+}

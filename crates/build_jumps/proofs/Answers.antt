@@ -1,0 +1,50 @@
+-- What the machine's answers tell of the definitions, for the step that asked: the jumps and their span.
+use mathlib.Core.Path.{_≡_, refl, ap}
+use mathlib.Core.Bool.{true, false}
+use mathlib.Core.List.{List}
+use Prim.Native.Nat.{ℕ}
+use native.Mathlib.Omega.{arith}
+use Rattle.base_exact.specs.Rational.{ℚ}
+use Rattle.spec_spline.specs.Outcome.{Outcome, answer, refusal}
+use Rattle.spec_spline.specs.Step.{Span}
+use Rattle.build_jumps.specs.Machine.{fractions, rowJumps, jumpSpan}
+use Rattle.build_jumps.specs.declared.Fractions.{Fractions}
+use Rattle.build_jumps.specs.declared.RowJumps.{RowJumps}
+use Rattle.build_jumps.specs.declared.JumpSpan.the-variants as spans
+use Rattle.build_jumps.proofs.Counted.{Refused}
+
+-- ---- the jumps
+
+-- The list that was answered is in the arrays.
+pub record InArrays (o : Outcome (List ℚ)) (js : Fractions) : Type 0 where
+  pub of : List ℚ
+  pub answers : o ≡ answer of
+  pub is : js ≡ fractions of
+
+pub jumps-in-arrays : (o : Outcome (List ℚ)) (r : RowJumps) → r ≡ rowJumps o → r .fit ≡ true → InArrays o (r .of)
+unfolding rowJumps
+jumps-in-arrays (answer qs) r e h = record { of = qs; answers = refl; is = ap (λ (x : RowJumps). x .of) e }
+jumps-in-arrays (refusal number place) r e h = absurd (let p = ap (λ (x : RowJumps). x .fit) e in let z : _≡_ {A = ℕ} 0 1 = cc (p, h) in omega arith)
+
+pub jumps-refused : (o : Outcome (List ℚ)) (r : RowJumps) → r ≡ rowJumps o → r .fit ≡ false → Refused o
+unfolding rowJumps
+jumps-refused (answer qs) r e h = absurd (let p = ap (λ (x : RowJumps). x .fit) e in let z : _≡_ {A = ℕ} 0 1 = cc (p, h) in omega arith)
+jumps-refused (refusal number place) r e h = record { number = number; place = place; refuses = refl }
+
+-- ---- the span
+
+pub span-rows : (o : Outcome Span) (f l : ℕ) → jumpSpan o ≡ spans.Rows f l → o ≡ answer (record { f = f; l = l })
+unfolding jumpSpan
+span-rows (answer g) f l e = ap answer (λ i. record { f = first i; l = last i })
+  where
+    first : g .f ≡ f
+    first = cc
+
+    last : g .l ≡ l
+    last = cc
+span-rows (refusal number place) f l e = absurd (let z : _≡_ {A = ℕ} 0 1 = cc in omega arith)
+
+pub span-refused : (o : Outcome Span) → jumpSpan o ≡ spans.Nothing → Refused o
+unfolding jumpSpan
+span-refused (answer g) e = absurd (let z : _≡_ {A = ℕ} 0 1 = cc in omega arith)
+span-refused (refusal number place) e = record { number = number; place = place; refuses = refl }

@@ -1,0 +1,34 @@
+-- The two parts are read at the index.
+use borrow.Author.Needs.{needs}
+use mathlib.Core.Path.{_∙_, ap}
+use lib.IntN.{pos}
+use lib.ListN.{getD}
+use mir.Syntax.{w64}
+use mir.Val.{SFits}
+use mir.ValLaws.{toZ-ofZ}
+use Rattle.build_jumps.specs.declared.Fractions.{Fractions}
+use Rattle.build_jumps.proofs.Arrays.{fraction-at}
+use Rattle.build_jumps.proofs.fraction_at.Statement.{statement}
+use Rattle.build_jumps.proofs.fraction_at.Tie as tie
+
+mul-n : tie.Need-mul-n
+mul-n c = search needs
+
+element-copy-out-n : tie.Need-element-copy-out-n
+element-copy-out-n c = search needs
+
+mul-d : tie.Need-mul-d
+mul-d c = search needs
+
+element-copy-out-d : tie.Need-element-copy-out-d
+element-copy-out-d c = search needs
+
+returns : tie.Need-returns
+returns c of e =
+    let s = c .before .before in
+    let n : SFits w64 (getD (s .args .t1 .num) (s .args .i) (pos 0)) = record { sfits = c .before .n .given } in
+    let d : SFits w64 (getD (s .args .t1 .den) (s .args .i) (pos 0)) = record { sfits = c .d .given } in
+    simp toZ-ofZ (ap (λ (qs : Fractions). record { num = getD (qs .num) (s .args .i) (pos 0); den = getD (qs .den) (s .args .i) (pos 0) }) e ∙ fraction-at of (s .args .i) (s .pre))
+
+pub fraction-at-spec : {M : Type 1} → statement M
+fraction-at-spec = tie.close (tie.spec mul-n element-copy-out-n mul-d element-copy-out-d returns)

@@ -1,0 +1,8 @@
+-- The laws of the three lists: what the machine's tests of an entry say, what the answers say, and what legal lists give.
+pub mod Tests
+pub mod Entries
+pub mod Machine
+pub mod Bounds
+pub mod Partial
+pub mod Checks
+pub mod Legal

@@ -1,0 +1,63 @@
+-- The machine's form of an answer, and the outcome or the search that it stands for.
+use mathlib.Core.Path.{_≡_, refl, sym, ap}
+use mathlib.Core.Bool.{Bool, true, false}
+use mathlib.Core.Option.{Option, some, none}
+use Prim.Native.Nat.{ℕ, _<_}
+use native.Mathlib.Omega.{arith}
+use Rattle.spec_spline.specs.Outcome.{Outcome, answer, refusal, _then_}
+use Rattle.spec_spline.specs.Search.{first}
+use Rattle.spec_spline.proofs.Search.{first-at, first-none}
+use Rattle.build_space.specs.Machine.{legality, found}
+use Rattle.build_space.specs.declared.Legality.the-variants.{Legal, Refused}
+use Rattle.build_space.specs.declared.Found.the-variants.{At, Nothing}
+
+-- ---- a search
+
+pub found-none : (test : ℕ → Bool) (n : ℕ) → ((k : ℕ) → k < n → test k ≡ false) → Nothing ≡ found (first n test)
+unfolding found
+found-none test n h = sym (ap found (first-none test n h))
+
+pub found-at : (test : ℕ → Bool) (n i : ℕ) → i < n → test i ≡ true → ((k : ℕ) → k < i → test k ≡ false) → At i ≡ found (first n test)
+unfolding found
+found-at test n i h t before = sym (ap found (first-at test n i h t before))
+
+pub found-some-inverts : (o : Option ℕ) {i : ℕ} → found o ≡ At i → o ≡ some i
+unfolding found
+found-some-inverts (some k) e = cc
+found-some-inverts none e = absurd (let z : _≡_ {A = ℕ} 0 1 = cc in omega arith)
+
+pub found-none-inverts : (o : Option ℕ) → found o ≡ Nothing → o ≡ none
+unfolding found
+found-none-inverts (some k) e = absurd (let z : _≡_ {A = ℕ} 0 1 = cc in omega arith)
+found-none-inverts none e = refl
+
+-- ---- an outcome
+
+module _ {A : Type 0} where
+  pub record Answered (o : Outcome A) : Type 0 where
+    pub given : A
+    pub is : o ≡ answer given
+
+  pub legal-answers : (o : Outcome A) → legality o ≡ Legal → Answered o
+  unfolding legality
+  legal-answers (answer a) e = record { given = a; is = refl }
+  legal-answers (refusal number place) e = absurd (let z : _≡_ {A = ℕ} 0 1 = cc in omega arith)
+
+  pub refused-refuses : (o : Outcome A) {number place : ℕ} → legality o ≡ Refused number place → o ≡ refusal number place
+  unfolding legality
+  refused-refuses (answer a) e = absurd (let z : _≡_ {A = ℕ} 0 1 = cc in omega arith)
+  refused-refuses (refusal n p) e = cc
+
+  pub answer-legal : (o : Outcome A) {a : A} → o ≡ answer a → legality o ≡ Legal
+  unfolding legality
+  answer-legal o e = ap legality e
+
+  pub refusal-refused : (o : Outcome A) {number place : ℕ} → o ≡ refusal number place → legality o ≡ Refused number place
+  unfolding legality
+  refusal-refused o e = ap legality e
+
+-- a last step that always answers changes nothing in the machine's form
+pub legality-then : {A B : Type 0} (o : Outcome A) (f : A → B) → legality (o then λ a. answer (f a)) ≡ legality o
+unfolding legality
+legality-then (answer a) f = refl
+legality-then (refusal number place) f = refl

@@ -1,0 +1,52 @@
+-- `space::first_long_span` meets its contract. The loop's invariant: no segment passed starts a part whose span is too long. Assumes nothing.
+use native.Mathlib.Omega.{arith}
+use mathlib.Core.Bool.{false}
+use mathlib.Core.Path.{_≡_, sym, _∙_}
+use Prim.Native.Nat.{ℕ, _≤_, _<_, _-_}
+use borrow.Author.Count.{below-none, below-more}
+use Rattle.spec_spline.specs.Space.{spanTooLong}
+use Rattle.build_space.specs.Machine.{space}
+use Rattle.build_space.proofs.Machine.{found-at, found-none}
+use Rattle.build_space.proofs.first_long_span.Statement.{statement}
+use Rattle.build_space.proofs.first_long_span.Tie as tie
+
+abbrev Inv-loop : tie.InvT-loop
+Inv-loop breaks degrees orders n i₀ i = (i ≤ n) × ((k : ℕ) → k < i → spanTooLong (space breaks degrees orders) k ≡ false)
+
+abbrev μ-loop : tie.MeasureT-loop
+μ-loop breaks degrees orders n i₀ i = n - i
+
+loop-holds : tie.Need-loop-holds Inv-loop μ-loop
+loop-holds c = (omega arith, below-none _)
+
+span-is-too-long-requires : tie.Need-span-is-too-long-requires Inv-loop μ-loop
+span-is-too-long-requires c κs = let p = c .before .before .pre in ((omega arith, p .0), p .1)
+
+add-i : tie.Need-add-i Inv-loop μ-loop
+add-i c = omega arith
+
+loop-less : tie.Need-loop-less Inv-loop μ-loop
+loop-less c = omega arith
+
+loop-again : tie.Need-loop-again Inv-loop μ-loop
+loop-again c = (omega arith, below-more _ _ (c .before .before .before .loop .inv .1) (sym (c .before .span-is-too-long .ensures) ∙ c .if2 .left))
+
+returns : tie.Need-returns Inv-loop μ-loop
+returns c = found-none _ _ (λ k l. c .before .loop .inv .1 k (omega arith))
+
+returns-2 : tie.Need-returns-2 Inv-loop μ-loop
+returns-2 c = found-at _ _ _ (omega arith) (sym (c .before .span-is-too-long .ensures) ∙ c .if2 .taken) (c .before .before .before .loop .inv .1)
+
+pub first-long-span-spec : {M : Type 1} → statement M
+first-long-span-spec =
+    tie.close
+    (tie.spec
+    Inv-loop
+    μ-loop
+    loop-holds
+    span-is-too-long-requires
+    add-i
+    loop-less
+    loop-again
+    returns
+    returns-2)

@@ -1,5 +1,0 @@
--- The statements of the theorems on positions and values, each a type that cites definitions only; the proofs are in proofs/.
-pub mod Positions
-pub mod Demand3Values
-pub mod SegmentWeights
-pub mod WeightCells

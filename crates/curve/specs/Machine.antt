@@ -1,0 +1,10 @@
+-- Document 01's numbers and places for the cases of what the curve call answers.
+use Prim.Native.Nat.{ℕ}
+use Rattle.spec_spline.specs.Outcome.{Outcome, answer, refusal}
+use Rattle.curve.specs.declared.Answer.{Answer}
+use Rattle.curve.specs.declared.Answer.the-variants.{Values, Refused}
+
+-- The count of positions, or the number and place of a refusal.
+unfoldable pub reply : Answer → Outcome ℕ
+reply (Values n) = answer n
+reply (Refused number place) = refusal number place

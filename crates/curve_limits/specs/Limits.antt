@@ -1,0 +1,23 @@
+-- The refusals 6 and 7 of a legal space, each by itself.
+use mathlib.Core.Bool.{Bool, cond, not}
+use mathlib.Core.List.{List}
+use Prim.Native.Nat.{ℕ, _*_}
+use lib.Dec.{eqb}
+use lib.IntN.{ℤ, pos}
+use lib.ListN.{length, getD}
+use Rattle.spec_spline.specs.Outcome.{Outcome, answer, refuse, largestPlace}
+use Rattle.spec_spline.specs.Search.{first}
+use Rattle.spec_spline.specs.Space.{Space, between, refuseFirst, rowCount}
+use Rattle.spec_spline.specs.CurveCall.{badCoefficient}
+
+-- Number 6: the count first, two numbers a row.
+unfoldable pub coefficientsChecked : Space → List ℤ → Outcome (Unit {0})
+coefficientsChecked s coefs = cond (eqb (length coefs) (2 * rowCount s)) (refuseFirst 6 (first (length coefs) (badCoefficient coefs)) (answer tt)) (refuse 6 largestPlace)
+
+-- Entry i of a list lies outside the two bounds.
+abbrev pub outside : List ℤ → ℤ → ℤ → ℕ → Bool
+outside list low high i = not (between low high (getD list i (pos 0)))
+
+-- Number 7.
+unfoldable pub positionsChecked : List ℤ → ℤ → ℤ → Outcome (Unit {0})
+positionsChecked positions low high = refuseFirst 7 (first (length positions) (outside positions low high)) (answer tt)

@@ -1,0 +1,112 @@
+// The refusals 2 to 7 and 15 of a curve call, in the order of their numbers but for 15, which follows 5.
+ghost use mathlib.Core.Path.{_≡_};
+ghost use mathlib.Core.List.{[]};
+ghost use Prim.Native.Nat.{_+_};
+ghost use lib.IntN.{pos};
+ghost use lib.ListN.{length, getD};
+ghost use Rattle.build_space.specs.Machine.{space, found, legality};
+ghost use Rattle.build_space.specs.Legal.{BreaksLegal, JoinsLegal, ListsLegal};
+ghost use Rattle.spec_spline.specs.Outcome.{answer};
+ghost use Rattle.spec_spline.specs.Search;
+ghost use Rattle.spec_spline.specs.Reading.{fine};
+ghost use Rattle.spec_spline.specs.CurveCall.{legalEntries, curveChecked};
+ghost use Rattle.curve_limits.specs.Limits.{coefficientsChecked, outside, positionsChecked};
+use build_space::Found;
+use build_space::Legality;
+
+const MAX_POSITIONS: usize = 4096;
+
+const COEFFICIENT_LIMIT: i32 = 1000000;
+
+// The first entry below the one bound or above the other.
+pub fn first_outside(list: &[i32], low: i32, high: i32) -> Found
+    ensures { λ r. ⌜ r ≡ found (Search.first (length (now (list .entry))) (outside (now (list .entry)) low high)) ⌝ }
+{
+    let n = list.len();
+    let mut i = 0;
+    let found = loop {
+        if i == n {
+            break Found::Nothing;
+        }
+        let x = list[i];
+        if x < low {
+            break Found::At(i);
+        }
+        if x > high {
+            break Found::At(i);
+        }
+        i += 1;
+    };
+    found
+}
+
+// Number 6 of a legal space: the count first, two numbers a row.
+fn check_coefficients(degrees: &[i32], orders: &[i32], coefs: &[i32]) -> Legality
+    requires { ⌜ JoinsLegal (now degrees) (now orders) ⌝ }
+    ensures { λ r. ⌜ r ≡ legality (coefficientsChecked (space [] (now (degrees .entry)) (now (orders .entry))) (now (coefs .entry))) ⌝ }
+{
+    let n = build_space::row_count(degrees, orders);
+    if coefs.len() != 2 * n {
+        return Legality::Refused(6, build_space::LARGEST_PLACE);
+    }
+    let bad = first_outside(coefs, 0 - COEFFICIENT_LIMIT, COEFFICIENT_LIMIT);
+    match bad {
+        Found::At(i) => Legality::Refused(6, build_space::place(i)),
+        Found::Nothing => Legality::Legal,
+    }
+}
+
+// Number 7 of a legal space.
+fn check_positions(breaks: &[i32], m: usize, positions: &[i32]) -> Legality
+    requires { ⌜ (length (now breaks) ≡ m + 1) × BreaksLegal (now breaks) ⌝ }
+    ensures { λ r. ⌜ r ≡ legality (positionsChecked (now (positions .entry)) (fine (getD (now (breaks .entry)) 0 (pos 0))) (fine (getD (now (breaks .entry)) m (pos 0)))) ⌝ }
+{
+    let low = 256 * breaks[0];
+    let high = 256 * breaks[m];
+    let bad = first_outside(positions, low, high);
+    match bad {
+        Found::At(i) => Legality::Refused(7, build_space::place(i)),
+        Found::Nothing => Legality::Legal,
+    }
+}
+
+// Numbers 6 and 7 of a legal space.
+fn check_entries(
+    breaks: &[i32],
+    degrees: &[i32],
+    orders: &[i32],
+    coefs: &[i32],
+    positions: &[i32],
+) -> Legality
+    requires { ⌜ ListsLegal (now breaks) (now degrees) (now orders) ⌝ }
+    ensures { λ r. ⌜ r ≡ legality (legalEntries (space (now (breaks .entry)) (now (degrees .entry)) (now (orders .entry))) (now (coefs .entry)) (now (positions .entry)) (answer (space (now (breaks .entry)) (now (degrees .entry)) (now (orders .entry))))) ⌝ }
+{
+    let c = check_coefficients(degrees, orders, coefs);
+    match c {
+        Legality::Refused(number, at) => Legality::Refused(number, at),
+        Legality::Legal => check_positions(breaks, degrees.len(), positions),
+    }
+}
+
+// The first of the refusals 2 to 5, 15, 6 and 7.
+pub fn check(
+    breaks: &[i32],
+    degrees: &[i32],
+    orders: &[i32],
+    coefs: &[i32],
+    positions: &[i32],
+) -> Legality
+    ensures { λ r. ⌜ r ≡ legality (curveChecked (space (now (breaks .entry)) (now (degrees .entry)) (now (orders .entry))) (now (coefs .entry)) (now (positions .entry))) ⌝ }
+{
+    if !build_space::lengths_fit(breaks, degrees, orders) {
+        return Legality::Refused(2, 0);
+    }
+    if positions.len() > MAX_POSITIONS {
+        return Legality::Refused(2, 1);
+    }
+    let lists = build_space::check(breaks, degrees, orders);
+    match lists {
+        Legality::Refused(number, at) => Legality::Refused(number, at),
+        Legality::Legal => check_entries(breaks, degrees, orders, coefs, positions),
+    }
+}

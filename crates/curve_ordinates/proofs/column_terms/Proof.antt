@@ -1,0 +1,185 @@
+-- `curve::ordinates::column_terms` meets its contract: after i rows the terms are those of the first i rows of the table that
+-- the buffers hold. Assumes nothing.
+use native.Mathlib.Omega.{arith}
+use mathlib.Core.Path.{_≡_, ap, _∙_}
+use mathlib.Core.Logic.{⊎-elim}
+use Prim.Native.Nat.{ℕ, _+_, _*_, _≤_, _<_, _-_, _^_}
+use lib.IntN.{ℤ, pos, natAbs}
+use lib.ListN.{getD}
+use lib.Signed.{_<ℤ_}
+use mir.Syntax.{w32, w64}
+use mir.Val.{SFits, ofZ}
+use mir.ValLaws.{toZ-ofZ}
+use Rattle.base_exact.specs.Rational
+use Rattle.base_exact.proofs.Word.{sfits-widen, ofZ-inj, sfits-abs}
+use Rattle.base_exact.proofs.Integer.{<-in}
+use Rattle.base_fraction.proofs.Size.{fits-den}
+use Rattle.spec_spline.specs.Table.{cell}
+use Rattle.curve_ordinates.specs.Ordinates.{termsOf, entries}
+use Rattle.curve_ordinates.proofs.Gathered.{Gathered, gathered-none, gathered-skip, gathered-more, cell-num, cell-den}
+use Rattle.curve_ordinates.proofs.column_terms.Statement.{statement}
+use Rattle.curve_ordinates.proofs.column_terms.Tie as tie
+
+abbrev Inv-loop : tie.InvT-loop
+Inv-loop num den coefs index n c all₀ i₀ all i = (i ≤ n) × Gathered num den (entries coefs index) c all i
+
+abbrev μ-loop : tie.MeasureT-loop
+μ-loop num den coefs index n c all₀ i₀ all i = n - i
+
+loop-holds : tie.Need-loop-holds Inv-loop μ-loop
+loop-holds c = (omega arith, gathered-none _ _ _ _)
+
+mul-at : tie.Need-mul-at Inv-loop μ-loop
+mul-at c = omega (arith, c .before .before .pre .1 .0 .few)
+
+add-at : tie.Need-add-at Inv-loop μ-loop
+add-at c = omega (arith, c .before .before .pre .1 .0 .few)
+
+mul-x : tie.Need-mul-x Inv-loop μ-loop
+mul-x c = omega (arith, c .before .before .pre .1 .0 .few)
+
+shared-slice-copy-out-x : tie.Need-shared-slice-copy-out-x Inv-loop μ-loop
+shared-slice-copy-out-x c = omega (arith, c .before .before .pre .1 .0 .few, c .before .before .pre .1 .0 .holds .num-long)
+
+mul-entry : tie.Need-mul-entry Inv-loop μ-loop
+mul-entry c = omega (arith, c .before .before .before .before .pre .1 .0 .few)
+
+add-entry : tie.Need-add-entry Inv-loop μ-loop
+add-entry c = omega (arith, c .before .before .before .before .pre .1 .0 .few)
+
+mul-a : tie.Need-mul-a Inv-loop μ-loop
+mul-a c = omega (arith, c .before .before .before .before .pre .1 .0 .few)
+
+shared-slice-copy-out-a : tie.Need-shared-slice-copy-out-a Inv-loop μ-loop
+shared-slice-copy-out-a c = omega (arith, c .before .before .before .before .pre .1 .1 .count)
+
+cast-a : tie.Need-cast-a Inv-loop μ-loop
+cast-a c = let f : SFits w32 (entries (c .before .before .before .before .before .args .coefs .now) (c .before .before .before .before .before .args .index) (c .before .before .before .before .loop .i)) = record { sfits = c .a .given } in simp toZ-ofZ (sfits-widen f)
+
+mul-d : tie.Need-mul-d Inv-loop μ-loop
+mul-d c = omega (arith, c .before .before .before .before .before .pre .1 .0 .few)
+
+shared-slice-copy-out-d : tie.Need-shared-slice-copy-out-d Inv-loop μ-loop
+shared-slice-copy-out-d c = omega (arith, c .before .before .before .before .before .pre .1 .0 .few, c .before .before .before .before .before .pre .1 .0 .holds .den-long)
+
+-- what the buffers hold for row i
+module _ (c : tie.In-loop Inv-loop μ-loop) where
+  abbrev start : tie.Start Inv-loop μ-loop
+  start = c .before .before
+
+  abbrev row : ℕ
+  row = c .before .loop .i
+
+  abbrev at : ℕ
+  at = 72 * row + start .args .c
+
+  abbrev x : ℤ
+  x = getD (start .args .num .now) at (pos 0)
+
+  abbrev d : ℤ
+  d = getD (start .args .den .now) at (pos 0)
+
+  abbrev a : ℤ
+  a = entries (start .args .coefs .now) (start .args .index) row
+
+  row-within : row < 72
+  row-within = omega (arith, start .pre .1 .0 .few)
+
+  x-is : x ≡ (cell (start .pre .1 .0 .table) row (start .args .c)) .num
+  x-is = cell-num (start .pre .1 .0 .holds) row (start .args .c) row-within (start .pre .0 .0)
+
+  d-is : d ≡ pos (Rational.den (cell (start .pre .1 .0 .table) row (start .args .c)))
+  d-is = cell-den (start .pre .1 .0 .holds) row (start .args .c) row-within (start .pre .0 .0)
+
+  d-small : natAbs d < 2 ^ 31
+  d-small = rw d-is (fits-den _ (start .pre .1 .0 .holds .fit row (start .args .c)))
+
+  d-positive : pos 0 <ℤ d
+  d-positive = rw d-is (<-in _ _ (omega arith))
+
+  x-unit : natAbs x ≤ natAbs d
+  x-unit = rw (x-is, d-is) (start .pre .1 .0 .unit row (start .args .c))
+
+  a-small : natAbs a ≤ 1000000
+  a-small = start .pre .1 .1 .small (2 * row + start .args .index)
+
+  a-fits-32 : SFits w32 a
+  a-fits-32 = sfits-abs (omega (arith, a-small))
+
+  a-fits : SFits w64 a
+  a-fits = sfits-abs (omega (arith, a-small))
+
+x-fits : (c : tie.After-x Inv-loop μ-loop) → SFits w64 (x (c .before))
+x-fits c = record { sfits = c .x .given }
+
+d-fits : (c : tie.After-d Inv-loop μ-loop) → SFits w64 (d (c .before .before .before .before))
+d-fits c = record { sfits = c .d .given }
+
+with-term-requires : tie.Need-with-term-requires Inv-loop μ-loop
+with-term-requires c κs =
+    let l = c .before .before .before .before in
+    let e = a-fits-32 l in
+    let f = a-fits l in
+    let g = x-fits (c .before .before .before) in
+    let h = d-fits c in
+    simp toZ-ofZ (a-small l, (d-small l, (d-positive l, (x-unit l, omega (arith, l .before .loop .inv .1 .small, start l .pre .1 .0 .few)))))
+
+add-i : tie.Need-add-i Inv-loop μ-loop
+add-i c = omega (arith, c .before .before .before .before .pre .1 .0 .few)
+
+loop-less : tie.Need-loop-less Inv-loop μ-loop
+loop-less c = omega arith
+
+-- a row with weight on the column
+more : (c : tie.After-with-term Inv-loop μ-loop) → let l = c .before .before .before .before .before in Gathered (start l .args .num .now) (start l .args .den .now) (entries (start l .args .coefs .now) (start l .args .index)) (start l .args .c) (c .with-term .result) (row l + 1)
+more c =
+    let l = c .before .before .before .before .before in
+    let e = a-fits-32 l in
+    let f = a-fits l in
+    let g = x-fits (c .before .before .before .before) in
+    let h = d-fits (c .before) in
+    gathered-more (start l .args .num .now) (start l .args .den .now) (entries (start l .args .coefs .now) (start l .args .index)) (start l .args .c) (row l) (row-within l) (start l .pre .0 .0) (l .before .loop .all) (l .before .loop .inv .1) (c .with-term .result)
+    (λ z. c .before .before .before .if1 .taken (ap (ofZ w64) z)) (simp toZ-ofZ at (c .with-term .ensures))
+
+-- a row without
+skip : (c : tie.Else1 Inv-loop μ-loop) → let l = c .before .before in Gathered (start l .args .num .now) (start l .args .den .now) (entries (start l .args .coefs .now) (start l .args .index)) (start l .args .c) (l .before .loop .all) (row l + 1)
+skip c =
+    let l = c .before .before in
+    gathered-skip (start l .args .num .now) (start l .args .den .now) (entries (start l .args .coefs .now) (start l .args .index)) (start l .args .c) (row l) (row-within l) (start l .pre .0 .0) (l .before .loop .all) (l .before .loop .inv .1)
+    (ofZ-inj w64 (x l) (pos 0) (x-fits (c .before)) (sfits-abs (omega arith)) (c .if1 .left))
+
+loop-again : tie.Need-loop-again Inv-loop μ-loop
+loop-again c = (
+  omega arith,
+  ⊎-elim
+      (λ w. rw (w .4) (more (record { before = record { before = record { before = record { before = c .before; if1 = w .0 }; a = w .1 }; d = w .2 }; with-term = w .3 })))
+      (λ w. rw (w .1) (skip (record { before = c .before; if1 = w .0 })))
+      (c .if1 .came),
+)
+
+returns : tie.Need-returns Inv-loop μ-loop
+returns c = λ t h. c .before .loop .inv .1 .is t h ∙ ap (λ (n : ℕ). termsOf t (entries (c .before .before .args .coefs .now) (c .before .before .args .index)) (c .before .before .args .c) n) (let e : c .before .loop .i ≡ c .before .before .args .n = omega arith in e)
+
+pub column-terms-spec : {M : Type 1} → statement M
+column-terms-spec =
+    tie.close
+    (tie.spec
+    Inv-loop
+    μ-loop
+    loop-holds
+    mul-at
+    add-at
+    mul-x
+    shared-slice-copy-out-x
+    mul-entry
+    add-entry
+    mul-a
+    shared-slice-copy-out-a
+    cast-a
+    mul-d
+    shared-slice-copy-out-d
+    with-term-requires
+    add-i
+    loop-less
+    loop-again
+    returns)

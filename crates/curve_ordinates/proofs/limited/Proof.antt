@@ -1,0 +1,73 @@
+-- `curve::ordinates::limited` meets its contract. Assumes nothing.
+use borrow.Author.Needs.{needs}
+use native.Mathlib.Omega.{arith}
+use mathlib.Core.Path.{sym, _∙_}
+use lib.IntN.{pos, _*ℤ_}
+use mir.Syntax.{w64}
+use mir.Val.{SFits}
+use mir.ValLaws.{toZ-ofZ}
+use Rattle.base_exact.proofs.Decide.{not-true, not-false}
+use Rattle.base_exact.proofs.Word.{sfits-abs, abs-mul-le}
+use Rattle.curve_ordinates.proofs.Bounds.{limits-unknown, limits-below, limits-above}
+use Rattle.curve_ordinates.proofs.limited.Statement.{statement}
+use Rattle.curve_ordinates.proofs.limited.Tie as tie
+
+module _ (s : tie.Start) where
+  least-fits : SFits w64 (s .args .terms .least)
+  least-fits = sfits-abs (omega (arith, s .pre .0))
+
+  greatest-fits : SFits w64 (s .args .terms .greatest)
+  greatest-fits = sfits-abs (omega (arith, s .pre .1))
+
+  low-fits : SFits w64 (pos 256 *ℤ s .args .terms .least)
+  low-fits = sfits-abs (omega (arith, abs-mul-le (pos 256) (s .args .terms .least) 256 1000000 (omega arith) (s .pre .0)))
+
+  high-fits : SFits w64 (pos 256 *ℤ s .args .terms .greatest)
+  high-fits = sfits-abs (omega (arith, abs-mul-le (pos 256) (s .args .terms .greatest) 256 1000000 (omega arith) (s .pre .1)))
+
+sum-fits : (c : tie.After-struct-told) → SFits w64 (c .before .args .terms .sum)
+sum-fits c = record { sfits = c .struct-told .given .1 .0 .1 }
+
+returns : tie.Need-returns
+returns c = let f = sum-fits (c .before .before) in let s = c .before .before .before in simp toZ-ofZ (sym (limits-unknown (s .args .terms .some) (s .args .terms .sum) (s .args .terms .least) (s .args .terms .greatest) (not-true _ (c .if1 .taken))))
+
+mul-low : tie.Need-mul-low
+mul-low c = let f = least-fits (c .before .before .before .before .before) in simp toZ-ofZ (low-fits (c .before .before .before .before .before))
+
+mul-high : tie.Need-mul-high
+mul-high c = let s = c .before .before .before .before .before .before .before in let f = greatest-fits s in simp toZ-ofZ (high-fits s)
+
+at-most-requires : tie.Need-at-most-requires
+at-most-requires c κs = search needs
+
+returns-2 : tie.Need-returns-2
+returns-2 c =
+    let k = c .before .before .before .before .before .before .before in
+    let s = k .before .before in
+    let e = sum-fits (k .before) in
+    let f = least-fits s in
+    let g = greatest-fits s in
+    let h = low-fits s in
+    let l = high-fits s in
+    let r : SFits w64 (c .at-most .result) = record { sfits = c .at-most .ok } in
+    simp toZ-ofZ ((simp toZ-ofZ at (c .at-most .ensures)) ∙ sym (limits-below (s .args .terms .some) (s .args .terms .sum) (s .args .terms .least) (s .args .terms .greatest) (not-false _ (c .before .before .before .before .before .before .if1 .left)) (simp toZ-ofZ at (c .before .if2 .taken))))
+
+at-most-requires-2 : tie.Need-at-most-requires-2
+at-most-requires-2 c κs = search needs
+
+returns-3 : tie.Need-returns-3
+returns-3 c =
+    let k = c .before .before .before .before .before .before .before in
+    let s = k .before .before in
+    let e = sum-fits (k .before) in
+    let f = least-fits s in
+    let g = greatest-fits s in
+    let h = low-fits s in
+    let l = high-fits s in
+    let r : SFits w64 (c .at-most2 .result) = record { sfits = c .at-most2 .ok } in
+    simp toZ-ofZ ((simp toZ-ofZ at (c .at-most2 .ensures)) ∙ sym (limits-above (s .args .terms .some) (s .args .terms .sum) (s .args .terms .least) (s .args .terms .greatest) (not-false _ (c .before .before .before .before .before .before .if1 .left)) (simp toZ-ofZ at (c .before .if2 .left))))
+
+pub limited-spec : {M : Type 1} → statement M
+limited-spec =
+    tie.close
+    (tie.spec returns mul-low mul-high at-most-requires returns-2 at-most-requires-2 returns-3)

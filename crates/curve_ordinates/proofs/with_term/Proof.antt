@@ -1,0 +1,127 @@
+-- `curve::ordinates::with_term` meets its contract: a weight of at most one leaves a term within 256 times the coefficient's
+-- limit. Assumes nothing.
+use borrow.Author.Needs.{needs}
+use native.Mathlib.Omega.{arith}
+use mathlib.Core.Path.{_≡_, refl, ap, ap₂, _∙_}
+use Prim.Native.Nat.{_*_, _≤_}
+use lib.IntN.{ℤ, pos, natAbs, _+ℤ_, _*ℤ_}
+use lib.Signed.{leZ}
+use mir.Syntax.{w64}
+use mir.Val.{SFits, ofZ, toZ}
+use mir.ValLaws.{toZ-ofZ}
+use Rattle.base_exact.specs.Floor.{nearest}
+use Rattle.base_exact.proofs.Word.{sfits-abs, abs-add, abs-mul-le, pos-of}
+use Rattle.spec_spline.specs.Reading.{fine, rounded, preferred}
+use Rattle.curve_ordinates.specs.Ordinates.{given, ordinateLimit}
+use Rattle.curve_ordinates.proofs.Bounds.{term-abs}
+use Rattle.curve_ordinates.proofs.with_term.Statement.{statement}
+use Rattle.curve_ordinates.proofs.with_term.Tie as tie
+
+-- a number read back from its word
+abbrev word : ℤ → ℤ
+word z = toZ w64 (ofZ w64 z)
+
+module _ (s : tie.Start) where
+  abbrev term : ℤ
+  term = rounded (fine (s .args .a) *ℤ s .args .num) (natAbs (s .args .den))
+
+  scaled-abs : natAbs (pos 256 *ℤ s .args .a) ≤ 256000000
+  scaled-abs = abs-mul-le (pos 256) (s .args .a) 256 1000000 (omega arith) (s .pre .0)
+
+  scaled-fits : SFits w64 (pos 256 *ℤ s .args .a)
+  scaled-fits = sfits-abs (omega (arith, scaled-abs))
+
+  product-abs : natAbs (pos 256 *ℤ s .args .a *ℤ s .args .num) ≤ 256000000 * 2147483647
+  product-abs = abs-mul-le (pos 256 *ℤ s .args .a) (s .args .num) 256000000 2147483647 scaled-abs (omega (arith, s .pre .1 .0, s .pre .1 .1 .1 .0))
+
+  product-fits : SFits w64 (pos 256 *ℤ s .args .a *ℤ s .args .num)
+  product-fits = sfits-abs (omega (arith, product-abs))
+
+  term-small : natAbs term ≤ ordinateLimit
+  term-small = term-abs (s .args .a) (s .args .num) (natAbs (s .args .den)) (pos-of (s .args .den) (s .pre .1 .1 .0) .1) (s .pre .0) (s .pre .1 .1 .1 .0)
+
+mul-round-div : tie.Need-mul-round-div
+mul-round-div c = let f = c .fits .a in simp toZ-ofZ (scaled-fits c)
+
+mul-round-div-2 : tie.Need-mul-round-div-2
+mul-round-div-2 c = let f = c .fits .a in let g = c .fits .num in let h = scaled-fits c in simp toZ-ofZ (product-fits c)
+
+round-div-requires : tie.Need-round-div-requires
+round-div-requires c κs =
+    let f = c .fits .a in
+    let g = c .fits .num in
+    let h = c .fits .den in
+    let k = scaled-fits c in
+    let l = product-fits c in
+    simp toZ-ofZ (omega (arith, product-abs c), (c .pre .1 .1 .0, omega (arith, c .pre .1 .0)))
+
+lesser-requires : tie.Need-lesser-requires
+lesser-requires c κs = search needs
+
+greater-requires : tie.Need-greater-requires
+greater-requires c κs = search needs
+
+module _ (c : tie.After-round-div) where
+  -- the nearest number is the rounded term
+  divided : c .round-div .result ≡ term (c .before)
+  unfolding rounded
+  divided =
+      let s = c .before in
+      let f = s .fits .a in
+      let g = s .fits .num in
+      let h = scaled-fits s in
+      let k = product-fits s in
+      let e : word (word (pos 256 *ℤ word (s .args .a)) *ℤ word (s .args .num)) ≡ pos 256 *ℤ s .args .a *ℤ s .args .num = simp toZ-ofZ in
+      c .round-div .ensures ∙ ap₂ (λ (a b : ℤ). nearest a (natAbs b)) e (toZ-ofZ w64 (s .args .den) (s .fits .den))
+
+  summed : c .before .args .before .sum +ℤ c .round-div .result ≡ c .before .args .before .sum +ℤ term (c .before)
+  summed = ap (λ (z : ℤ). c .before .args .before .sum +ℤ z) divided
+
+  sum-fits : SFits w64 (c .before .args .before .sum +ℤ c .round-div .result)
+  sum-fits = rw summed (sfits-abs (omega (arith, abs-add (c .before .args .before .sum) (term (c .before)), term-small (c .before), c .before .pre .1 .1 .1 .1)))
+
+  before-fits : SFits w64 (c .before .args .before .sum)
+  before-fits = sfits-abs (omega (arith, c .before .pre .1 .1 .1 .1))
+
+  result-fits : SFits w64 (c .round-div .result)
+  result-fits = record { sfits = c .round-div .ok }
+
+add-t8 : tie.Need-add-t8
+add-t8 c = let d = c .before .before .before .before .before .before in let f = before-fits d in let g = result-fits d in simp toZ-ofZ (sum-fits d)
+
+-- the least and the greatest before, as they were passed on
+least-fits : (c : tie.After-struct-told) → SFits w64 (c .before .before .args .before .least)
+least-fits c = record { sfits = c .struct-told .given .1 .1 .0 .1 }
+
+greatest-fits : (c : tie.After-struct-told2) → SFits w64 (c .before .before .before .before .args .before .greatest)
+greatest-fits c = record { sfits = c .struct-told2 .given .1 .1 .1 .0 .1 }
+
+returns : tie.Need-returns
+returns c =
+    let d = c .before .before .before .before .before .before in
+    let s = d .before in
+    let l = c .before .before .before .before .lesser in
+    let g = c .before .before .greater in
+    let known = s .args .before .some in
+    let e = before-fits d in
+    let f = result-fits d in
+    let k = sum-fits d in
+    record {
+      is-some = refl;
+      is-sum = simp toZ-ofZ (summed d);
+      is-least = toZ-ofZ w64 (l .result) (record { sfits = l .ok }) ∙ l .ensures ∙ ap₂ (λ (y z : ℤ). preferred leZ (given known y) z) (toZ-ofZ w64 _ (least-fits (c .before .before .before .before .before))) (toZ-ofZ w64 _ (s .fits .a));
+      is-greatest = toZ-ofZ w64 (g .result) (record { sfits = g .ok }) ∙ g .ensures ∙ ap₂ (λ (y z : ℤ). preferred (λ p q. leZ q p) (given known y) z) (toZ-ofZ w64 _ (greatest-fits (c .before .before .before))) (toZ-ofZ w64 _ (s .fits .a));
+      small = term-small s;
+    }
+
+pub with-term-spec : {M : Type 1} → statement M
+with-term-spec =
+    tie.close
+    (tie.spec
+    mul-round-div
+    mul-round-div-2
+    round-div-requires
+    lesser-requires
+    greater-requires
+    add-t8
+    returns)

@@ -1,0 +1,153 @@
+-- The curves without positions, and then the piece from the named part's ordinates. Assumes nothing.
+use borrow.Author.Needs.{needs}
+use mathlib.Core.List.{List}
+use mathlib.Core.Path.{_≡_, sym, ap, subst}
+use lib.IntN.{ℤ, pos}
+use lib.ListN.{length, replicate}
+use Rattle.spec_spline.specs.Space.{Space}
+use Rattle.spec_spline.specs.Reading.{earlywood, latewood}
+use Rattle.build_space.specs.Machine.{space}
+use Rattle.build.specs.declared.Built.{Built}
+use Rattle.build.specs.declared.Built.the-variants.{Rows}
+use Rattle.curve_ordinates.specs.Wood.{woodOf}
+use Rattle.curve_triangle.specs.Offsets.{columnLimit}
+use Rattle.curve_start.specs.Machine.{CurvesTold}
+use Rattle.curve_pieces.specs.Pieces.{pieceOutcome}
+use Rattle.curve_pieces.specs.Machine.{Replies}
+use Rattle.curve_pieces.proofs.Held.{piece-refused, piece-drawn}
+use Rattle.curve_pieces.proofs.piece.Statement.{statement}
+use Rattle.curve_pieces.proofs.piece.Tie as tie
+
+slice-aggregate-build-curves : tie.Need-slice-aggregate-build-curves
+slice-aggregate-build-curves c = search needs
+
+slice-aggregate-build-curves-2 : tie.Need-slice-aggregate-build-curves-2
+slice-aggregate-build-curves-2 c = search needs
+
+build-curves-requires : tie.Need-build-curves-requires
+build-curves-requires c κs = search needs
+
+enum-known-built : tie.Need-enum-known-built
+enum-known-built c = search needs
+
+enum-told : tie.Need-enum-told
+enum-told c = search needs
+
+enum-told-2 : tie.Need-enum-told-2
+enum-told-2 c = search needs
+
+slice-aggregate-draw : tie.Need-slice-aggregate-draw
+slice-aggregate-draw c = search needs
+
+-- what the curves leave
+module _ (d : tie.After-build-curves) where
+  abbrev start : tie.Start
+  start = d .before .before .before .before .before
+
+  abbrev lists : Space
+  lists = space (start .args .breaks .now) (start .args .degrees .now) (start .args .orders .now)
+
+  -- the ordinates of earlywood and of latewood
+  abbrev early : List ℤ
+  early = d .build-curves .last .1 .1 .1 .1 .1 .1 .0
+
+  abbrev late : List ℤ
+  late = d .build-curves .last .1 .1 .1 .1 .1 .1 .1 .0
+
+  abbrev Told : Built → Type 0
+  Told r = CurvesTold (start .args .breaks .now) (start .args .degrees .now) (start .args .orders .now) (start .args .coefs .now) (start .args .num .now) (start .args .den .now) (replicate columnLimit (pos 0)) (replicate columnLimit (pos 0)) early late r
+
+-- after an answer
+module _ (t : tie.After-enum-told) where
+  abbrev done : tie.After-build-curves
+  done = t .before .before .before .before .before .before
+
+  held : Told done (Rows (t .enum-told .given .0 .0))
+  held = subst (Told done) (t .enum-told .given .1) (done .build-curves .ensures .told)
+
+draw-requires : tie.Need-draw-requires
+draw-requires c κs = (held (c .before .before .before) .legal, search needs)
+
+enum-told-3 : tie.Need-enum-told-3
+enum-told-3 c = search needs
+
+slice-aggregate-draw-2 : tie.Need-slice-aggregate-draw-2
+slice-aggregate-draw-2 c = search needs
+
+draw-requires-2 : tie.Need-draw-requires-2
+draw-requires-2 c κs = (held (c .before .before .before) .legal, search needs)
+
+same-length : tie.Need-same-length
+same-length c = search needs
+
+same-length-2 : tie.Need-same-length-2
+same-length-2 c = search needs
+
+returns : tie.Need-returns
+returns c =
+    let d = c .before .before .before .before .before .before .before in
+    let a = start d .args in
+    let l = d .build-curves .ensures in
+    let r = subst (Told d) (c .before .built .given .1) (l .told) in
+    (piece-refused (lists d) (woodOf (a .wood)) (a .coefs .now) (a .segment) (length (a .num .now)) (length (a .den .now)) r, (l .numerators-are, l .denominators-are))
+
+same-length-3 : tie.Need-same-length-3
+same-length-3 c = search needs
+
+same-length-4 : tie.Need-same-length-4
+same-length-4 c = search needs
+
+returns-2 : tie.Need-returns-2
+returns-2 c =
+    let t = c .before .before .before .before in
+    let d = done t in
+    let a = start d .args in
+    let l = d .build-curves .ensures in
+    let p : woodOf (a .wood) ≡ earlywood = ap woodOf (c .before .before .enum-told2 .given .1) in (
+      subst (λ w. Replies (c .draw .result) (pieceOutcome (lists d) w (a .coefs .now) (a .segment) (length (a .num .now)) (length (a .den .now)))) (sym p)
+          (piece-drawn (lists d) earlywood (a .coefs .now) (a .segment) (length (a .num .now)) (length (a .den .now)) _ (held t .result) (held t .is) (held t .early-is) (c .draw .ensures)),
+      (l .numerators-are, l .denominators-are),
+    )
+
+same-length-5 : tie.Need-same-length-5
+same-length-5 c = search needs
+
+same-length-6 : tie.Need-same-length-6
+same-length-6 c = search needs
+
+returns-3 : tie.Need-returns-3
+returns-3 c =
+    let t = c .before .before .before .before in
+    let d = done t in
+    let a = start d .args in
+    let l = d .build-curves .ensures in
+    let p : woodOf (a .wood) ≡ latewood = ap woodOf (c .before .before .enum-told3 .given .1) in (
+      subst (λ w. Replies (c .draw2 .result) (pieceOutcome (lists d) w (a .coefs .now) (a .segment) (length (a .num .now)) (length (a .den .now)))) (sym p)
+          (piece-drawn (lists d) latewood (a .coefs .now) (a .segment) (length (a .num .now)) (length (a .den .now)) _ (held t .result) (held t .is) (held t .late-is) (c .draw2 .ensures)),
+      (l .numerators-are, l .denominators-are),
+    )
+
+pub piece-spec : {M : Type 1} → statement M
+piece-spec =
+    tie.close
+    (tie.spec
+    slice-aggregate-build-curves
+    slice-aggregate-build-curves-2
+    build-curves-requires
+    enum-known-built
+    enum-told
+    enum-told-2
+    slice-aggregate-draw
+    draw-requires
+    enum-told-3
+    slice-aggregate-draw-2
+    draw-requires-2
+    same-length
+    same-length-2
+    returns
+    same-length-3
+    same-length-4
+    returns-2
+    same-length-5
+    same-length-6
+    returns-3)

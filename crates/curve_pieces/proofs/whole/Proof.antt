@@ -1,0 +1,17 @@
+-- The cast of a 32-bit number is exact. Assumes nothing.
+use borrow.Author.Needs.{needs}
+use native.Mathlib.Omega.{arith}
+use mir.ValLaws.{toZ-ofZ}
+use Rattle.base_exact.proofs.Word.{abs-sfits}
+use Rattle.curve_pieces.proofs.Floats.{cast-is}
+use Rattle.curve_pieces.proofs.whole.Statement.{statement}
+use Rattle.curve_pieces.proofs.whole.Tie as tie
+
+int-to-float-result : tie.Need-int-to-float-result
+int-to-float-result c = search needs
+
+returns : tie.Need-returns
+returns c = let f = c .before .fits .x in simp toZ-ofZ (cast-is (c .before .args .x) (omega (arith, abs-sfits f)))
+
+pub whole-spec : {M : Type 1} → statement M
+whole-spec = tie.close (tie.spec int-to-float-result returns)

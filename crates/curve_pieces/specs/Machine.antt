@@ -1,0 +1,63 @@
+-- The machine's form of a piece: each float is a whole number of the definition over 1 or over 256, and the answer's case is the
+-- outcome's; and a piece by the ordinates of all columns.
+use mathlib.Core.Bool.{cond, not}
+use mathlib.Core.List.{List, [], _∷_}
+use Prim.Native.Nat.{ℕ, suc, _+_}
+use lib.Ieee.{Float}
+use lib.Ieee.Exact.{HasValue}
+use lib.IntN.{ℤ, pos, natAbs}
+use lib.ListN.{getD}
+use lib.Signed.{nonNeg}
+use Rattle.base_exact.specs.Tabulate.{tab}
+use Rattle.spec_spline.specs.Outcome.{Outcome, answer, refusal, refuse}
+use Rattle.spec_spline.specs.Space.{Space, break, degree, firstColumn}
+use Rattle.spec_spline.specs.Reading.{fineness}
+use Rattle.curve_pieces.specs.Pieces.{Piece, isDrawable}
+use Rattle.curve_pieces.specs.declared.Curve.{Curve}
+use Rattle.curve_pieces.specs.declared.Curve.the-variants.{Line, Quadratic, Cubic}
+use Rattle.curve_pieces.specs.declared.Drawing.{Drawing}
+use Rattle.curve_pieces.specs.declared.Answer.{Answer}
+use Rattle.curve_pieces.specs.declared.Answer.the-variants.{Drawn, Refused}
+
+-- ---- floats
+
+-- The float is z / d itself; the float of 0 is +0.0.
+abbrev pub Is : Float → ℤ → ℕ → Type 0
+Is x z d = HasValue x (not (nonNeg z)) (natAbs z) d
+
+-- Each float is the number beside it, over d.
+pub data Each (d : ℕ) : List Float → List ℤ → Type 0 where
+  none : Each d [] []
+  more : {x : Float} {z : ℤ} {xs : List Float} {zs : List ℤ} → Is x z d → Each d xs zs → Each d (x ∷ xs) (z ∷ zs)
+
+-- The floats of a curve: two of a line, three of a quadratic, four of a cubic.
+abbrev pub floats : Curve → List Float
+floats (Line a b) = a ∷ b ∷ []
+floats (Quadratic a b c) = a ∷ b ∷ c ∷ []
+floats (Cubic a b c d) = a ∷ b ∷ c ∷ d ∷ []
+
+-- The machine's piece is the definition's: "an end is the breakpoint itself, and an ordinate times 256 is the whole number from
+-- step 1".
+pub record Shows (r : Drawing) (p : Piece) : Type 0 where
+  pub ordinates : Each fineness (floats (r .curve)) (p .ordinates)
+  pub start : Is (r .ends .start) (p .start) 1
+  pub end : Is (r .ends .end) (p .end) 1
+
+-- The answer is the outcome: the piece, or the number and place of a refusal.
+pub data Replies : Answer → Outcome Piece → Type 0 where
+  drawn : {r : Drawing} {p : Piece} → Shows r p → Replies (Drawn r) (answer p)
+  refused : {number place : ℕ} → Replies (Refused number place) (refusal number place)
+
+-- ---- a piece by the ordinates of all columns
+
+-- The piece of segment k.
+abbrev pub pieceHeld : Space → List ℤ → ℕ → Piece
+pieceHeld s os k = record {
+  ordinates = tab (suc (degree s k)) (λ i. getD os (firstColumn s k + i) (pos 0));
+  start = break s k;
+  end = break s (suc k);
+}
+
+-- The same, or 17.
+abbrev pub drawnHeld : Space → List ℤ → ℕ → Outcome Piece
+drawnHeld s os k = cond (isDrawable s k) (answer (pieceHeld s os k)) (refuse 17 k)

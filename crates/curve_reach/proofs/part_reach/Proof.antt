@@ -1,0 +1,51 @@
+-- `reach::part_reach` meets its contract: the part's own ordinates. Assumes nothing.
+use borrow.Author.Needs.{needs}
+use mathlib.Core.Path.{sym, ap, _∙_}
+use mathlib.Core.List.{List}
+use lib.IntN.{ℤ}
+use mir.ValLaws.{toZ-ofZ}
+use Rattle.spec_spline.specs.Outcome.{Outcome}
+use Rattle.spec_spline.specs.Search.{first}
+use Rattle.spec_spline.specs.Space.{Space}
+use Rattle.spec_spline.specs.Reading.{fine}
+use Rattle.build_space.specs.Machine.{space}
+use Rattle.curve_ordinates.specs.Wood.{woodOf}
+use Rattle.curve_ordinates.specs.declared.Wood.{Wood}
+use Rattle.curve_reach.specs.Reach.{positionCount, reachedAt}
+use Rattle.curve_reach.specs.Machine.{chosen, reachesHeld}
+use Rattle.curve_reach.proofs.part_reach.Statement.{statement}
+use Rattle.curve_reach.proofs.part_reach.Tie as tie
+
+module _ (s : tie.Start) where
+  abbrev beam : Space
+  beam = space (s .args .breaks .now) (s .args .degrees .now) (s .args .orders .now)
+
+  -- what is answered by these ordinates
+  abbrev answered : List ℤ → Outcome ℤ
+  answered os = reachedAt beam (first (positionCount beam) (reachesHeld beam os (fine (s .args .width))))
+
+  abbrev of : Wood → List ℤ
+  of wood = chosen (woodOf wood) (s .args .early .now) (s .args .late .now)
+
+enum-told : tie.Need-enum-told
+enum-told c = search needs
+
+first-reach-requires : tie.Need-first-reach-requires
+first-reach-requires c κs = search needs
+
+enum-told-2 : tie.Need-enum-told-2
+enum-told-2 c = search needs
+
+first-reach-requires-2 : tie.Need-first-reach-requires-2
+first-reach-requires-2 c κs = search needs
+
+returns : tie.Need-returns
+returns c = let s = c .before .before .before in let f = s .fits .width in (simp toZ-ofZ at (c .first-reach .ensures)) ∙ ap (λ wood. answered s (of s wood)) (sym (c .before .enum-told .given .1))
+
+returns-2 : tie.Need-returns-2
+returns-2 c = let s = c .before .before .before in let f = s .fits .width in (simp toZ-ofZ at (c .first-reach2 .ensures)) ∙ ap (λ wood. answered s (of s wood)) (sym (c .before .enum-told2 .given .1))
+
+pub part-reach-spec : {M : Type 1} → statement M
+part-reach-spec =
+    tie.close
+    (tie.spec enum-told first-reach-requires enum-told-2 first-reach-requires-2 returns returns-2)

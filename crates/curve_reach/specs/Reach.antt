@@ -1,0 +1,49 @@
+-- The least position whose value reaches a width (document 02, CR 11), by the values that the curve call gives.
+use mathlib.Core.Bool.{Bool}
+use mathlib.Core.List.{List}
+use mathlib.Core.Option.{Option, some, none}
+use Prim.Native.Nat.{ℕ, suc}
+use lib.IntN.{ℤ, pos, _+ℤ_, _-ℤ_, natAbs}
+use lib.ListN.{length}
+use lib.Signed.{leZ}
+use Rattle.spec_spline.specs.Outcome.{Outcome, answer, refuse, _then_}
+use Rattle.spec_spline.specs.Search.{first}
+use Rattle.spec_spline.specs.Space.{Space, segments, break}
+use Rattle.spec_spline.specs.Table.{Table}
+use Rattle.spec_spline.specs.Reading.{Wood, fine, valueAt}
+use Rattle.spec_spline.specs.CurveCall.{curveNumerators, curveDenominators}
+use Rattle.curve_start.specs.CurveAlone.{curveAlone}
+
+-- "All positions of the span count, ends included": how many there are.
+abbrev pub positionCount : Space → ℕ
+positionCount s = suc (natAbs (fine (break s (segments s)) -ℤ fine (break s 0)))
+
+-- Position i of the span, from its first one on.
+abbrev pub position : Space → ℕ → ℤ
+position s i = fine (break s 0) +ℤ pos i
+
+-- Its "value is 256 times that width or more".
+abbrev pub reaches : Space → Table → Wood → List ℤ → ℤ → ℕ → Bool
+reaches s t wood coefs width i = leZ (fine width) (valueAt s t wood coefs (position s i))
+
+-- "the least position", or 16, place 0, "when no position in the span does".
+abbrev pub reachedAt : Space → Option ℕ → Outcome ℤ
+reachedAt s (some i) = answer (position s i)
+reachedAt s none = refuse 16 0
+
+-- What the call ends with, given the lengths of the two buffers: 16 comes "after all numbers that a curve call can give".
+unfoldable pub reachOutcome : Space → Wood → List ℤ → ℤ → ℕ → ℕ → Outcome ℤ
+reachOutcome s wood coefs width numLength denLength =
+    curveAlone s coefs numLength denLength then λ r. reachedAt s (first (positionCount s) (reaches s (r .table) wood coefs width))
+
+-- What the call ends with: the answer and both weight buffers.
+pub record ReachEnd : Type 0 where
+  pub answers : Outcome ℤ
+  pub numerators : List ℤ
+  pub denominators : List ℤ
+
+-- The end of the call with these lists and these two buffers lent. After 16 "the weight buffers are then as after an answer".
+abbrev pub reachEnd : Space → Wood → List ℤ → ℤ → List ℤ → List ℤ → ReachEnd
+reachEnd s wood coefs width num den =
+    let o = curveAlone s coefs (length num) (length den) in
+    record { answers = reachOutcome s wood coefs width (length num) (length den); numerators = curveNumerators s o num; denominators = curveDenominators s o den }

@@ -1,0 +1,95 @@
+// The first position at which the curve of a wood part reaches a width: the weights and the ordinates of all columns as for the
+// curve call without positions, and then a search over the segments.
+ghost use mathlib.Core.Path.{_≡_};
+ghost use lib.ListN.{length};
+ghost use Rattle.spec_spline.specs.Search;
+ghost use Rattle.spec_spline.specs.Reading.{fine};
+ghost use Rattle.build_space.specs.Machine.{space};
+ghost use Rattle.build_space.specs.Legal.{ListsLegal};
+ghost use Rattle.curve_ordinates.specs.Ordinates.{Bounded};
+ghost use Rattle.curve_ordinates.specs.Wood.{woodOf};
+ghost use Rattle.curve_triangle.specs.Offsets.{columnLimit};
+ghost use Rattle.curve_reach.specs.Reach.{positionCount, reachedAt, reachEnd};
+ghost use Rattle.curve_reach.specs.Machine.{reply, chosen, reachesHeld};
+
+mod search;
+
+use crate::search::Found;
+use curve_ordinates::Wood;
+
+// What the call answers: the position, or a refusal's number and place.
+pub enum Answer {
+    Reached(i32),
+    Refused(u8, u32),
+}
+
+// The first position at which the curve with these ordinates reaches the width, or number 16.
+fn first_reach(
+    breaks: &[i32],
+    degrees: &[i32],
+    orders: &[i32],
+    ordinates: &[i32],
+    width: i32,
+) -> Answer
+    requires { ⌜ ListsLegal (now breaks) (now degrees) (now orders) × ((length (now ordinates) ≡ columnLimit) × Bounded (now ordinates)) ⌝ }
+    ensures { λ r. ⌜ (let s = space (now (breaks .entry)) (now (degrees .entry)) (now (orders .entry)) in reply r ≡ reachedAt s (Search.first (positionCount s) (reachesHeld s (now (ordinates .entry)) (fine width)))) ⌝ }
+{
+    let target = 256 * width as i64;
+    let found = crate::search::search(breaks, degrees, orders, ordinates, target);
+    match found {
+        Found::At(x) => Answer::Reached(x),
+        Found::Nowhere => Answer::Refused(16, 0),
+    }
+}
+
+// The same for the wood part, given the ordinates of both.
+fn part_reach(
+    wood: Wood,
+    breaks: &[i32],
+    degrees: &[i32],
+    orders: &[i32],
+    early: &[i32],
+    late: &[i32],
+    width: i32,
+) -> Answer
+    requires { ⌜ ListsLegal (now breaks) (now degrees) (now orders) × (((length (now early) ≡ columnLimit) × Bounded (now early)) × ((length (now late) ≡ columnLimit) × Bounded (now late))) ⌝ }
+    ensures { λ r. ⌜ (let s = space (now (breaks .entry)) (now (degrees .entry)) (now (orders .entry)) in reply r ≡ reachedAt s (Search.first (positionCount s) (reachesHeld s (chosen (woodOf wood) (now (early .entry)) (now (late .entry))) (fine width)))) ⌝ }
+{
+    match wood {
+        Wood::Earlywood => first_reach(breaks, degrees, orders, early, width),
+        Wood::Latewood => first_reach(breaks, degrees, orders, late, width),
+    }
+}
+
+// Builds the weights, and answers the least position of the span whose value for the wood part is at least 256 times the width.
+// Lists and buffers may have any length and content: what the definition refuses is refused, and the buffers are then as it says.
+pub fn reach(
+    wood: Wood,
+    breaks: &[i32],
+    degrees: &[i32],
+    orders: &[i32],
+    coefs: &[i32],
+    width: i32,
+    num: &mut [i64],
+    den: &mut [i64],
+) -> Answer
+    ensures { λ r. ⌜ (let e = reachEnd (space (now (breaks .entry)) (now (degrees .entry)) (now (orders .entry))) (woodOf wood) (now (coefs .entry)) width (now (num .entry)) (now (den .entry)) in
+        (reply r ≡ e .answers) × ((now (num .exit) ≡ e .numerators) × (now (den .exit) ≡ e .denominators))) ⌝ }
+{
+    let mut early = [0; curve_triangle::MAX_COLUMNS];
+    let mut late = [0; curve_triangle::MAX_COLUMNS];
+    let built = curve_start::build_curves(
+        breaks,
+        degrees,
+        orders,
+        coefs,
+        num,
+        den,
+        &mut early,
+        &mut late,
+    );
+    match built {
+        build::Built::Refused(number, place) => Answer::Refused(number, place),
+        build::Built::Rows(_) => part_reach(wood, breaks, degrees, orders, &early, &late, width),
+    }
+}

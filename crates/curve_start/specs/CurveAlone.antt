@@ -1,0 +1,12 @@
+-- The curve call that lends no positions and no values, from which the calls of document 02, CR 11 and CR 12, start.
+use mathlib.Core.List.{List, []}
+use Prim.Native.Nat.{ℕ}
+use lib.IntN.{ℤ}
+use Rattle.spec_spline.specs.Outcome.{Outcome}
+use Rattle.spec_spline.specs.Space.{Space}
+use Rattle.spec_spline.specs.CurveCall.{CurveResult, curveOutcome}
+
+-- What it ends with, given the lengths of the two buffers: its weights, or one of "all numbers that a curve call can give" (CR 11),
+-- "the curve's own numbers" (CR 12).
+abbrev pub curveAlone : Space → List ℤ → ℕ → ℕ → Outcome CurveResult
+curveAlone s coefs numLength denLength = curveOutcome s coefs [] numLength denLength 0

@@ -1,0 +1,35 @@
+-- What the functions over the positions ask and leave.
+use mathlib.Core.Bool.{cond}
+use mathlib.Core.List.{List}
+use Prim.Native.Nat.{ℕ, _+_, _*_}
+use lib.Dec.{leb, ltb}
+use lib.IntN.{ℤ, pos}
+use lib.ListN.{getD}
+use lib.Signed.{_<ℤ_, _≤ℤ_}
+use Rattle.base_exact.specs.Tabulate.{tab}
+use Rattle.spec_spline.specs.Space.{Space, segmentLimit, spanLimit, degreeLimit, break, segments, firstColumn}
+use Rattle.spec_spline.specs.Reading.{fineness, fine}
+
+-- A beam has at most this many columns: six for each of 48 segments.
+abbrev pub columnLimit : ℕ
+columnLimit = (degreeLimit + 1) * segmentLimit
+
+-- The first columns of the segments in an array, 0 past them.
+unfoldable pub columnsOf : Space → List ℕ
+columnsOf s = tab segmentLimit (λ i. cond (ltb i (segments s)) (firstColumn s i) 0)
+
+-- The p + 1 numbers from index c on in an array of six, 0 past them.
+unfoldable pub localOf : List ℤ → ℕ → ℕ → List ℤ
+localOf os c p = tab 6 (λ k. cond (leb k p) (getD os (c + k) (pos 0)) (pos 0))
+
+-- A position within the span.
+pub record Within (s : Space) (x : ℤ) : Type 0 where
+  pub low : fine (break s 0) ≤ℤ x
+  pub high : x ≤ℤ fine (break s (segments s))
+
+-- u of d: an offset in a segment of at most 2,000 rings.
+pub record Offset (u d : ℤ) : Type 0 where
+  pub above : pos 0 ≤ℤ u
+  pub below : u ≤ℤ d
+  pub long : pos 0 <ℤ d
+  pub short : d ≤ℤ pos (fineness * spanLimit)

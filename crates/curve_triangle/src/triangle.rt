@@ -1,0 +1,108 @@
+// The de Casteljau triangle on at most six ordinates held by value, with one rate for all of its blends.
+ghost use mathlib.Core.Path.{_≡_};
+ghost use Prim.Native.Nat.{ℕ, suc, _^_, _<_, _≤_};
+ghost use lib.IntN.{ℤ, pos, natAbs, _*ℤ_};
+ghost use lib.ListN.{getD};
+ghost use lib.Signed.{_≤ℤ_};
+ghost use Rattle.base_exact.specs.Floor.{floorDiv, nearest};
+ghost use Rattle.spec_spline.specs.Reading;
+ghost use Rattle.curve_ordinates.specs.Ordinates.{Bounded, ordinateLimit};
+ghost use Rattle.curve_triangle.specs.Offsets.{Offset};
+ghost use Rattle.curve_triangle.specs.Rate.{Rated};
+
+// The parts of a rate count 2^33ths and 2^50ths: these are 2^33 and 2^17, with their bits.
+const HIGH: i64 = 8589934592;
+
+const LOW: i64 = 131072;
+
+const HIGH_BITS: u32 = 33;
+
+const LOW_BITS: u32 = 17;
+
+// Half of 2^33, and 2^12 for what a rate lacks.
+const HALF: i64 = 4294971392;
+
+// u / d as two whole numbers: 2^33 u / d rounded down, and 17 bits more.
+pub struct Rate {
+    pub high: i64,
+    pub low: i64,
+}
+
+// v k / d, rounded down.
+fn scaled(v: i64, k: i64, d: i64) -> i64
+    requires { ⌜ Offset v d × ((pos 0 ≤ℤ k) × (natAbs k ≤ 2 ^ 33)) ⌝ }
+    ensures { λ r. ⌜ r ≡ floorDiv (v *ℤ k) (natAbs d) ⌝ }
+{
+    v * k / d
+}
+
+// Two divisions, in place of one for each blend.
+fn rate_of(u: i64, d: i64) -> Rate
+    requires { ⌜ Offset u d ⌝ }
+    ensures { λ r. ⌜ Rated (r .high) (r .low) u d ⌝ }
+{
+    let high = scaled(u, HIGH, d);
+    let rest = u * HIGH - high * d;
+    let low = scaled(rest, LOW, d);
+    Rate {
+        high: high,
+        low: low,
+    }
+}
+
+// What the low part of a rate adds to a rise, in 2^33ths, rounded down.
+fn carried(rise: i64, low: i64) -> i64
+    requires { ⌜ (natAbs rise ≤ 2 ^ 29) × (natAbs low ≤ 2 ^ 17) ⌝ }
+    ensures { λ r. ⌜ r ≡ floorDiv (rise *ℤ low) (2 ^ 17) ⌝ }
+{
+    (rise * low) >> LOW_BITS
+}
+
+// The nearest number to the rise times u / d, by products and shifts.
+fn share_of(rise: i64, high: i64, low: i64) -> i64
+    requires { ⌜ (natAbs rise ≤ 2 ^ 29) × ((u : ℤ) × ((d : ℤ) × Rated high low u d)) ⌝ }
+    ensures { λ r. ⌜ ((u d : ℤ) → Rated high low u d → r ≡ nearest (u *ℤ rise) (natAbs d)) ⌝ }
+{
+    let part = carried(rise, low);
+    (rise * high + part + HALF) >> HIGH_BITS
+}
+
+// Neighbours g, h at u of d.
+fn blend(g: i64, h: i64, high: i64, low: i64) -> i64
+    requires { ⌜ (natAbs g ≤ ordinateLimit) × ((natAbs h ≤ ordinateLimit) × ((u : ℤ) × ((d : ℤ) × Rated high low u d))) ⌝ }
+    ensures { λ r. ⌜ ((u d : ℤ) → Rated high low u d → r ≡ Reading.blend (natAbs d) u g h) × (natAbs r ≤ ordinateLimit) ⌝ }
+{
+    g + share_of(h - g, high, low)
+}
+
+// One stage: the first n numbers are blended with their neighbours.
+fn stage(o: [i64; 6], n: usize, high: i64, low: i64) -> [i64; 6]
+    requires { ⌜ (n ≤ 5) × (Bounded o × ((u : ℤ) × ((d : ℤ) × Rated high low u d))) ⌝ }
+    ensures { λ r. ⌜ ((u d : ℤ) → Rated high low u d → (k : ℕ) → k < n → getD r k (pos 0) ≡ Reading.blend (natAbs d) u (getD o k (pos 0)) (getD o (suc k) (pos 0))) × Bounded r ⌝ }
+{
+    let mut r = o;
+    let mut k = 0;
+    while k < n {
+        let g = r[k];
+        let h = r[k + 1];
+        let b = blend(g, h, high, low);
+        r[k] = b;
+        k += 1;
+    }
+    r
+}
+
+// All p stages: what is left of p + 1 ordinates.
+pub fn triangle(o: [i64; 6], p: usize, u: i64, d: i64) -> i64
+    requires { ⌜ (p ≤ 5) × (Bounded o × Offset u d) ⌝ }
+    ensures { λ r. ⌜ (r ≡ Reading.triangle (natAbs d) u (λ k. getD o k (pos 0)) p 0) × (natAbs r ≤ ordinateLimit) ⌝ }
+{
+    let rate = rate_of(u, d);
+    let mut r = o;
+    let mut n = p;
+    while n > 0 {
+        r = stage(r, n, rate.high, rate.low);
+        n -= 1;
+    }
+    r[0]
+}

@@ -1,3 +1,0 @@
--- What the contracts of factors cite beside the definitions of crate spline.
-pub mod Reply
-pub mod Jumps

@@ -1,2 +1,0 @@
--- What the contracts of jumps cite beside the definitions of crate spline.
-pub mod Reply

@@ -1,4 +1,0 @@
--- What the contracts of numerals cite: texts as lists of bytes, and numbers in decimal digits.
-pub mod Bytes
-pub mod Numeral
-pub mod Reply

@@ -1,3 +1,0 @@
--- What the contracts of ordinates cite beside the definitions of crate spline.
-pub mod Part
-pub mod Ordinates

@@ -1,0 +1,299 @@
+-- Before the turn at a the parts before segment a are recovered: the weight buffers hold the last of them, the answer buffers the
+-- numbers of all; one part more, or its refusal, and after the last part the beam. Assumes nothing.
+use mathlib.Core.List.{List, _++_}
+use mathlib.Core.Path.{_≡_, refl, sym, _∙_, ap, subst}
+use Prim.Native.Nat.{ℕ, _+_, _-_, _<_, _≤_}
+use native.Mathlib.Omega.{arith}
+use lib.IntN.{ℤ}
+use lib.ListN.{length, take, drop}
+use Rattle.spec_spline.specs.Space.{Space, partEnd, firstColumn, columnCount, rowCount}
+use Rattle.spec_spline.proofs.Parts.{part-ends}
+use Rattle.theorems_beams.specs.Sections.{section, partAt}
+use Rattle.build_space.specs.Machine.{space}
+use Rattle.build_space.proofs.Legal.{legal-column-count-high}
+use Rattle.build_space.proofs.Partial.{part-end-partial}
+use Rattle.build.specs.declared.Built.the-variants.{Refused}
+use Rattle.theorems_recovery.specs.Recovery.{recovered}
+use Rattle.theorems_recovery.specs.RecoveryCall.{listed, numeratorOf, denominatorOf}
+use Rattle.recover.specs.Leaves.{JoinsLeave, BeamEnds}
+use Rattle.recover.proofs.Beam.{PartDone, told-done, told-refused, Before, before-first, starts, rows-within, more-within, part-rows, part-count, part-more, part-refused, parts-done}
+use Rattle.recover.proofs.parts.recover_parts.Statement.{statement}
+use Rattle.recover.proofs.parts.recover_parts.Tie as tie
+
+record Inv (s : Space) (ordinates num₀ den₀ coefNum₀ coefDen₀ num den coefNum coefDen : List ℤ) (rows a : ℕ) : Type 0 where
+  num-long : length num ≡ length num₀
+  den-long : length den ≡ length den₀
+  coef-num-long : length coefNum ≡ length coefNum₀
+  coef-den-long : length coefDen ≡ length coefDen₀
+  state : Before s ordinates num₀ den₀ coefNum₀ coefDen₀ num den coefNum coefDen rows a
+
+abbrev Inv-loop : tie.InvT-loop
+Inv-loop breaks degrees orders ordinates num₀ den₀ coef-num₀ coef-den₀ rows₀ a₀ num den coef-num coef-den rows a =
+    Inv (space breaks degrees orders) ordinates num₀ den₀ coef-num₀ coef-den₀ num den coef-num coef-den rows a
+
+abbrev μ-loop : tie.MeasureT-loop
+μ-loop breaks degrees orders ordinates num₀ den₀ coef-num₀ coef-den₀ rows₀ a₀ num den coef-num coef-den rows a = length degrees - a
+
+abbrev lists : tie.Start Inv-loop μ-loop → Space
+lists c = space (c .args .breaks .now) (c .args .degrees .now) (c .args .orders .now)
+
+loop-holds : tie.Need-loop-holds Inv-loop μ-loop
+loop-holds c = record {
+  num-long = refl;
+  den-long = refl;
+  coef-num-long = refl;
+  coef-den-long = refl;
+  state = before-first (lists c) (c .args .ordinates .now) (c .args .num .now) (c .args .den .now) _ _;
+}
+
+taken : (c : tie.In-loop Inv-loop μ-loop) → c .before .loop .a < length (c .before .before .args .degrees .now)
+taken c = omega arith
+
+part-end-requires : tie.Need-part-end-requires Inv-loop μ-loop
+part-end-requires c κs = (taken c, sym (c .before .before .pre .0 .0 .order-count))
+
+-- the part's end
+module _ (c : tie.After-part-end Inv-loop μ-loop) where
+  abbrev first : ℕ
+  first = c .before .before .loop .a
+
+  abbrev beam : Space
+  beam = lists (c .before .before .before)
+
+  end-is : c .part-end .result ≡ partEnd beam first
+  end-is = c .part-end .ensures ∙ part-end-partial (beam .breaks) (beam .degrees) (beam .orders) first
+
+recover-at-requires : tie.Need-recover-at-requires Inv-loop μ-loop
+recover-at-requires c κs =
+    let e = c .before .before in
+    let l = e .before .before .loop in
+    let p = e .before .before .before .pre in (
+      (p .0 .0, (omega (arith, p .0 .1 .0, l .inv .num-long), omega (arith, p .0 .1 .1, l .inv .den-long))),
+      ((starts _ _ _ (p .0 .0) _ (p .1 .0 .0) (l .inv .state) (taken (e .before)), end-is e), p .1 .0),
+    )
+
+-- what the part answers and leaves
+module _ (c : tie.After-recover-at Inv-loop μ-loop) where
+  abbrev ended : tie.After-part-end Inv-loop μ-loop
+  ended = c .before .before .before
+
+  abbrev start : tie.Start Inv-loop μ-loop
+  start = ended .before .before .before
+
+  abbrev at : tie.At-loop Inv-loop μ-loop
+  at = ended .before .before
+
+  abbrev s : Space
+  s = beam ended
+
+  abbrev given : List ℤ
+  given = start .args .ordinates .now
+
+  abbrev part : Space
+  part = partAt s (first ended)
+
+  abbrev own : List ℤ
+  own = take (columnCount part) (drop (firstColumn s (first ended)) given)
+
+  abbrev num-after : List ℤ
+  num-after = c .recover-at .last .1 .1 .1 .1 .1 .1 .0
+
+  abbrev den-after : List ℤ
+  den-after = c .recover-at .last .1 .1 .1 .1 .1 .1 .1 .0
+
+  left : JoinsLeave (recovered part own) (rowCount part) (c .recover-at .result) (at .loop .num) (at .loop .den) num-after den-after
+  left =
+      subst (λ (n : ℕ). let p = section s (first ended) (n - first ended) in JoinsLeave (recovered p (take (columnCount p) (drop (firstColumn s (first ended)) given))) (rowCount p) (c .recover-at .result) (at .loop .num) (at .loop .den) num-after den-after)
+      (end-is ended) (c .recover-at .ensures)
+
+  num-same : length num-after ≡ length (start .args .num .now)
+  num-same = c .recover-at .kept .1 .1 .1 .1 .1 .1 .0 ∙ at .loop .inv .num-long
+
+  den-same : length den-after ≡ length (start .args .den .now)
+  den-same = c .recover-at .kept .1 .1 .1 .1 .1 .1 .1 .0 ∙ at .loop .inv .den-long
+
+  turn : first ended < length (start .args .degrees .now)
+  turn = taken (ended .before)
+
+  abbrev state : Before s given (start .args .num .now) (start .args .den .now) (start .args .coef-num .now) (start .args .coef-den .now) (at .loop .num) (at .loop .den) (at .loop .coef-num) (at .loop .coef-den) (at .loop .rows) (first ended)
+  state = at .loop .inv .state
+
+  -- no refusal
+  module _ (ok : c .recover-at .result .refused ≡ 0) where
+    done : PartDone (recovered part own) (rowCount part) (c .recover-at .result) (at .loop .num) (at .loop .den) num-after den-after
+    done = told-done _ _ _ _ _ _ part own left ok
+
+    rows-told : at .loop .rows + c .recover-at .result .rows ≡ at .loop .rows + rowCount part
+    rows-told = ap (λ (n : ℕ). at .loop .rows + n) (done .rows-are)
+
+    more-inside : at .loop .rows + c .recover-at .result .rows ≤ length given
+    more-inside = omega (arith, rows-told, more-within _ _ _ (start .pre .0 .0) given (start .pre .1 .0 .0) state turn)
+
+    own-few : c .recover-at .result .rows ≤ 72
+    own-few = omega (arith, done .rows-are, part-rows _ _ _ (start .pre .0 .0) given (start .pre .1 .0 .0) state turn)
+
+clear-requires : tie.Need-clear-requires Inv-loop μ-loop
+clear-requires c κs =
+    let m = c .before .before .before .before .before .before in
+    let p = start m .pre .0 .1 in
+    (omega arith, (omega (arith, num-same m, p .0), omega (arith, den-same m, p .1)))
+
+clear-requires-2 : tie.Need-clear-requires-2 Inv-loop μ-loop
+clear-requires-2 c κs =
+    let m = c .before .before .before .before .before .before .before .before .before .before .before in
+    let p = start m .pre .1 .1 in
+    let v = at m .loop .inv in
+    (omega arith, (omega (arith, p .0, v .coef-num-long), omega (arith, p .1, v .coef-den-long)))
+
+cast-place : tie.Need-cast-place Inv-loop μ-loop
+cast-place c = omega arith
+
+add-place : tie.Need-add-place Inv-loop μ-loop
+add-place c =
+    let m = c .before .before .before .before .before .before .before .before .before .before .before .before .before .before in
+    omega (arith, turn m, start m .pre .0 .0 .few)
+
+place-requires : tie.Need-place-requires Inv-loop μ-loop
+place-requires c κs = tt
+
+-- ---- the part is refused
+module _ (c : tie.After-place Inv-loop μ-loop) where
+  abbrev refused-at : tie.After-recover-at Inv-loop μ-loop
+  refused-at = c .before .before .before .before .before .before .before .before .before .before .before .before .before .before .before
+
+same-length : tie.Need-same-length Inv-loop μ-loop
+same-length c = c .before .before .before .before .before .before .before .before .clear .kept .0 ∙ num-same (refused-at c)
+
+same-length-2 : tie.Need-same-length-2 Inv-loop μ-loop
+same-length-2 c = c .before .before .before .before .before .before .before .before .clear .kept .1 .0 ∙ den-same (refused-at c)
+
+same-length-3 : tie.Need-same-length-3 Inv-loop μ-loop
+same-length-3 c = c .before .before .before .clear2 .kept .0 ∙ at (refused-at c) .loop .inv .coef-num-long
+
+same-length-4 : tie.Need-same-length-4 Inv-loop μ-loop
+same-length-4 c = c .before .before .before .clear2 .kept .1 .0 ∙ at (refused-at c) .loop .inv .coef-den-long
+
+returns : tie.Need-returns Inv-loop μ-loop
+returns c =
+    let m = refused-at c in
+    let g = start m in
+    let r = told-refused _ _ _ _ _ _ (recovered (part m) (own m)) (left m) (c .before .before .before .before .before .before .before .before .before .before .before .if1 .taken) in
+    let k = c .before .before .before .before .before .before .before .before .clear .ensures in
+    let k2 = c .before .before .before .clear2 .ensures in
+    let v = at m .loop .inv in
+    subst (λ (place : ℕ). BeamEnds (s m) (length (given m)) (recovered (s m) (given m)) (Refused (m .recover-at .result .refused) place) (g .args .num .now) (g .args .den .now) (g .args .coef-num .now) (g .args .coef-den .now)
+    (c .before .before .before .before .before .before .before .before .clear .last .0) (c .before .before .before .before .before .before .before .before .clear .last .1 .0) (c .before .before .before .clear2 .last .0) (c .before .before .before .clear2 .last .1 .0))
+    (sym (c .place .ensures))
+    (part-refused _ _ _ (g .pre .0 .0) (given m) (g .pre .1 .0 .0) (state m) (turn m) (r .refuses) (omega (arith, g .pre .0 .1 .0, v .num-long)) (omega (arith, g .pre .0 .1 .1, v .den-long)) (g .pre .1 .1 .0) (g .pre .1 .1 .1)
+    (r .num-kept) (r .den-kept) (k .0) (k .1) (k2 .0) (k2 .1))
+
+-- ---- the part is answered
+write-requires : tie.Need-write-requires Inv-loop μ-loop
+write-requires c κs =
+    let m = c .before .before .before .before .before .before in
+    let p = start m .pre .1 .1 in
+    let v = at m .loop .inv in
+    let z : m .recover-at .result .refused ≡ 0 = omega (arith, c .before .before .if1 .left) in
+    (own-few m z, (omega (arith, more-inside m z, p .0, v .coef-num-long), omega (arith, more-inside m z, p .1, v .coef-den-long)))
+
+-- after its numbers are written
+module _ (c : tie.After-coef-den2 Inv-loop μ-loop) where
+  abbrev answered-at : tie.After-recover-at Inv-loop μ-loop
+  answered-at = c .before .before .before .before .before .before .before .before .before
+
+  ok : answered-at .recover-at .result .refused ≡ 0
+  ok = omega (arith, c .before .before .before .before .before .if1 .left)
+
+add-rows : tie.Need-add-rows Inv-loop μ-loop
+add-rows c = let m = answered-at c in omega (arith, more-inside m (ok c), legal-column-count-high _ _ _ (start m .pre .0 .0), start m .pre .1 .0 .0)
+
+loop-less : tie.Need-loop-less Inv-loop μ-loop
+loop-less c =
+    let d = ended (answered-at c) in
+    let e = part-ends (beam d) (first d) (turn (answered-at c)) in
+    omega (arith, end-is d, e .above, turn (answered-at c))
+
+loop-again : tie.Need-loop-again Inv-loop μ-loop
+loop-again c =
+    let m = answered-at c in
+    let g = start m in
+    let w = c .before .before in
+    let q = done m (ok c) in
+    let n = q .rows-are in
+    let v = at m .loop .inv in
+    let b = state m in
+    let count = part-count _ _ _ (g .pre .0 .0) (given m) (g .pre .1 .0 .0) b (turn m) (q .answers) in
+    let inside = more-inside m (ok c) in
+    let z = w .write .ensures (b .reached .numbers) (q .reached .numbers) (g .args .coef-num .now) (g .args .coef-den .now) (q .of-is) (b .count) (count ∙ sym n) (b .coef-num-is) (b .coef-den-is) (omega (arith, inside, g .pre .1 .1 .0)) (omega (arith, inside, g .pre .1 .1 .1)) in
+    record {
+      num-long = num-same m;
+      den-long = den-same m;
+      coef-num-long = w .write .kept .0 ∙ v .coef-num-long;
+      coef-den-long = w .write .kept .1 .0 ∙ v .coef-den-long;
+      state = subst (λ (e : ℕ). Before (s m) (given m) (g .args .num .now) (g .args .den .now) (g .args .coef-num .now) (g .args .coef-den .now) (num-after m) (den-after m) (w .write .last .0) (w .write .last .1 .0) (at m .loop .rows + m .recover-at .result .rows) e) (sym (end-is (ended m)))
+          (subst (λ (k : ℕ). Before (s m) (given m) (g .args .num .now) (g .args .den .now) (g .args .coef-num .now) (g .args .coef-den .now) (num-after m) (den-after m) (w .write .last .0) (w .write .last .1 .0) (at m .loop .rows + k) (partEnd (s m) (first (ended m)))) (sym n)
+          (part-more _ _ _ (g .pre .0 .0) (given m) (g .pre .1 .0 .0) b (turn m) (q .answers) (q .num-is) (q .den-is)
+          (z .0 ∙ ap (λ (k : ℕ). listed numeratorOf (at m .loop .rows + k) (b .reached .numbers ++ q .reached .numbers) (g .args .coef-num .now)) n)
+          (z .1 ∙ ap (λ (k : ℕ). listed denominatorOf (at m .loop .rows + k) (b .reached .numbers ++ q .reached .numbers) (g .args .coef-den .now)) n)));
+    }
+
+-- ---- after the last part
+module _ (c : tie.After-coef-den3 Inv-loop μ-loop) where
+  abbrev last-at : tie.At-loop Inv-loop μ-loop
+  last-at = c .before .before .before .before .before .before
+
+clear-requires-3 : tie.Need-clear-requires-3 Inv-loop μ-loop
+clear-requires-3 c κs =
+    let a = c .before .before .before in
+    let p = a .before .pre in
+    let v = a .loop .inv in
+    (omega (arith, rows-within _ _ _ (p .0 .0) _ (p .1 .0 .0) (v .state)), (omega (arith, p .1 .1 .0, v .coef-num-long), omega (arith, p .1 .1 .1, v .coef-den-long)))
+
+same-length-5 : tie.Need-same-length-5 Inv-loop μ-loop
+same-length-5 c = last-at c .loop .inv .num-long
+
+same-length-6 : tie.Need-same-length-6 Inv-loop μ-loop
+same-length-6 c = last-at c .loop .inv .den-long
+
+same-length-7 : tie.Need-same-length-7 Inv-loop μ-loop
+same-length-7 c = c .before .before .clear3 .kept .0 ∙ last-at c .loop .inv .coef-num-long
+
+same-length-8 : tie.Need-same-length-8 Inv-loop μ-loop
+same-length-8 c = c .before .before .clear3 .kept .1 .0 ∙ last-at c .loop .inv .coef-den-long
+
+returns-2 : tie.Need-returns-2 Inv-loop μ-loop
+returns-2 c =
+    let a = last-at c in
+    let p = a .before .pre in
+    let k = c .before .before .clear3 .ensures in
+    parts-done _ _ _ (p .0 .0) _ (p .1 .0 .0) (a .loop .inv .state) (omega arith) (p .1 .1 .0) (p .1 .1 .1) (k .0) (k .1)
+
+pub recover-parts-spec : {M : Type 1} → statement M
+recover-parts-spec =
+    tie.close
+    (tie.spec
+    Inv-loop
+    μ-loop
+    loop-holds
+    part-end-requires
+    recover-at-requires
+    clear-requires
+    clear-requires-2
+    cast-place
+    add-place
+    place-requires
+    same-length
+    same-length-2
+    same-length-3
+    same-length-4
+    returns
+    write-requires
+    add-rows
+    loop-less
+    loop-again
+    clear-requires-3
+    same-length-5
+    same-length-6
+    same-length-7
+    same-length-8
+    returns-2)

@@ -1,0 +1,163 @@
+-- Before the turn at i the cells up to from + i hold the numbers before `from` and the first i of these. Assumes nothing.
+use mathlib.Core.Path.{_≡_, refl, sym, _∙_, ap, ap₂}
+use mathlib.Core.List.{List, _++_}
+use Prim.Native.Nat.{ℕ, _+_, _-_, _<_, _≤_}
+use native.Mathlib.Omega.{arith}
+use lib.IntN.{ℤ, pos}
+use lib.ListN.{length, set, drop, length-set, List·getD-append}
+use lib.Seq.{getD-append-add}
+use mir.Syntax.{w64}
+use mir.Val.{SFits}
+use mir.ValLaws.{toZ-ofZ}
+use Rattle.base_exact.specs.Rational.{ℚ, int}
+use Rattle.base_exact.proofs.Tabulate.{tab-ext, tab-more}
+use Rattle.base_fraction.specs.Machine.{fraction}
+use Rattle.base_fraction.specs.declared.Fraction.{Fraction}
+use Rattle.spec_spline.specs.Table.{entry}
+use Rattle.build_jumps.specs.Machine.{fractions}
+use Rattle.build_jumps.specs.declared.Fractions.{Fractions}
+use Rattle.theorems_recovery.specs.RecoveryCall.{listed, numeratorOf, denominatorOf}
+use Rattle.recover.proofs.parts.write.Statement.{statement}
+use Rattle.recover.proofs.parts.write.Tie as tie
+
+-- cells that hold part of the numbers
+abbrev Numbered : (ℚ → ℤ) → List ℤ → List ℤ → List ℚ → ℕ → Type 0
+Numbered part now before all n = now ≡ listed part n all before
+
+record State (from i : ℕ) (all : List ℚ) (nums dens num den : List ℤ) : Type 0 where
+  num-is : Numbered numeratorOf nums num all (from + i)
+  den-is : Numbered denominatorOf dens den all (from + i)
+
+record Inv (nums₀ dens₀ : List ℤ) (from : ℕ) (cs : Fractions) (n : ℕ) (nums dens : List ℤ) (i : ℕ) : Type 0 where
+  within : i ≤ n
+  num-long : length nums ≡ length nums₀
+  den-long : length dens ≡ length dens₀
+  state : (done ps : List ℚ) (num den : List ℤ) → cs ≡ fractions ps → length done ≡ from → length ps ≡ n
+      → nums₀ ≡ listed numeratorOf from done num → dens₀ ≡ listed denominatorOf from done den → from + n ≤ length num → from + n ≤ length den → State from i (done ++ ps) nums dens num den
+
+abbrev Inv-loop : tie.InvT-loop
+Inv-loop nums₀ dens₀ from cs n i₀ nums dens i = Inv nums₀ dens₀ from cs n nums dens i
+
+abbrev μ-loop : tie.MeasureT-loop
+μ-loop nums₀ dens₀ from cs n i₀ nums dens i = n - i
+
+-- the numbers before are those of the longer list
+first-is : (part : ℚ → ℤ) (from : ℕ) (done ps : List ℚ) (before : List ℤ) → length done ≡ from → listed part from done before ≡ listed part (from + 0) (done ++ ps) before
+first-is part from done ps before e =
+    ap (λ t. t ++ drop from before) (tab-ext from (λ k h. ap part (sym (List·getD-append done ps (int (pos 0)) k (omega (arith, h, e))))))
+    ∙ ap (λ m. listed part m (done ++ ps) before) (let z : from ≡ from + 0 = omega arith in z)
+
+-- the number of row i of these
+here-is : (from i : ℕ) (done ps : List ℚ) → length done ≡ from → entry (done ++ ps) (from + i) ≡ entry ps i
+here-is from i done ps e = ap (λ m. entry (done ++ ps) (m + i)) (sym e) ∙ getD-append-add done ps i (int (pos 0))
+
+-- one cell more
+more : (part : ℚ → ℤ) (from i : ℕ) (all : List ℚ) (now before : List ℤ) (z : ℤ) → now ≡ listed part (from + i) all before → z ≡ part (entry all (from + i)) → from + i < length before → set now (from + i) z ≡ listed part (from + (i + 1)) all before
+more part from i all now before z e h l =
+    ap₂ (λ (xs : List ℤ) (v : ℤ). set xs (from + i) v) e h
+    ∙ tab-more (λ k. part (entry all k)) (from + i) before l
+    ∙ ap (λ m. listed part m all before) (let q : from + i + 1 ≡ from + (i + 1) = omega arith in q)
+
+num-part : (q : ℚ) → fraction q .num ≡ numeratorOf q
+unfolding fraction
+num-part q = refl
+
+den-part : (q : ℚ) → fraction q .den ≡ denominatorOf q
+unfolding fraction
+den-part q = refl
+
+-- the turn's cell is inside
+inside : (c : tie.After-struct-told2 Inv-loop μ-loop) → (c .before .before .before .before .before .args .from + c .before .before .before .before .loop .i < length (c .before .before .before .before .loop .coef-num)) × (c .before .before .before .before .before .args .from + c .before .before .before .before .loop .i < length (c .before .before .before .before .loop .coef-den))
+inside c =
+    let a = c .before .before .before .before in
+    let p = a .before .pre in
+    let t = c .before .before .before .loop-test .taken in
+    (omega (arith, t, p .1 .0, a .loop .inv .num-long), omega (arith, t, p .1 .1, a .loop .inv .den-long))
+
+loop-holds : tie.Need-loop-holds Inv-loop μ-loop
+loop-holds c = record {
+  within = omega arith;
+  num-long = refl;
+  den-long = refl;
+  state = λ done ps num den e m n p q k l. record { num-is = p ∙ first-is numeratorOf (c .args .from) done ps num m; den-is = q ∙ first-is denominatorOf (c .args .from) done ps den m };
+}
+
+fraction-at-requires : tie.Need-fraction-at-requires Inv-loop μ-loop
+fraction-at-requires c κs = omega arith
+
+add-k : tie.Need-add-k Inv-loop μ-loop
+add-k c = let h = inside c in omega (arith, h .0)
+
+mul-p : tie.Need-mul-p Inv-loop μ-loop
+mul-p c = let h = inside c in omega (arith, h .0)
+
+slice-set-from-p : tie.Need-slice-set-from-p Inv-loop μ-loop
+slice-set-from-p c = inside c .0
+
+mul-d : tie.Need-mul-d Inv-loop μ-loop
+mul-d c = let h = inside c in omega (arith, h .0)
+
+slice-set-from-d : tie.Need-slice-set-from-d Inv-loop μ-loop
+slice-set-from-d c = inside c .1
+
+add-i : tie.Need-add-i Inv-loop μ-loop
+add-i c = omega arith
+
+loop-less : tie.Need-loop-less Inv-loop μ-loop
+loop-less c = omega arith
+
+loop-again : tie.Need-loop-again Inv-loop μ-loop
+loop-again c =
+    let q = c .before .before in
+    let a = q .before .before in
+    let g = a .before .args in
+    let v = a .loop .inv in
+    let x : SFits w64 (q .fraction-at .result .num) = record { sfits = c .struct-told2 .given .0 .1 } in
+    let y : SFits w64 (q .fraction-at .result .den) = record { sfits = c .struct-told2 .given .1 .0 .1 } in
+    record {
+      within = omega arith;
+      num-long = length-set (a .loop .coef-num) (g .from + a .loop .i) _ ∙ v .num-long;
+      den-long = length-set (a .loop .coef-den) (g .from + a .loop .i) _ ∙ v .den-long;
+      state = λ done ps num den e m n p r k l.
+          let z = v .state done ps num den e m n p r k l in
+          let b = q .fraction-at .ensures ps e in
+          let w = here-is (g .from) (a .loop .i) done ps m in
+          record {
+            num-is = simp toZ-ofZ (more numeratorOf (g .from) (a .loop .i) (done ++ ps) (a .loop .coef-num) num (q .fraction-at .result .num) (z .num-is) (ap (λ (t : Fraction). t .num) b ∙ num-part (entry ps (a .loop .i)) ∙ ap numeratorOf (sym w)) (omega arith));
+            den-is = simp toZ-ofZ (more denominatorOf (g .from) (a .loop .i) (done ++ ps) (a .loop .coef-den) den (q .fraction-at .result .den) (z .den-is) (ap (λ (t : Fraction). t .den) b ∙ den-part (entry ps (a .loop .i)) ∙ ap denominatorOf (sym w)) (omega arith));
+          };
+    }
+
+same-length : tie.Need-same-length Inv-loop μ-loop
+same-length c = c .before .loop .inv .num-long
+
+same-length-2 : tie.Need-same-length-2 Inv-loop μ-loop
+same-length-2 c = c .before .loop .inv .den-long
+
+returns : tie.Need-returns Inv-loop μ-loop
+returns c done ps num den e m n p q k l =
+    let a = c .before .before .args in
+    let i = c .before .loop .i in
+    let z : i ≡ a .n = omega arith in
+    let x = c .before .loop .inv .state done ps num den e m n p q k l in
+    (x .num-is ∙ ap (λ h. listed numeratorOf (a .from + h) (done ++ ps) num) z, x .den-is ∙ ap (λ h. listed denominatorOf (a .from + h) (done ++ ps) den) z)
+
+pub write-spec : {M : Type 1} → statement M
+write-spec =
+    tie.close
+    (tie.spec
+    Inv-loop
+    μ-loop
+    loop-holds
+    fraction-at-requires
+    add-k
+    mul-p
+    slice-set-from-p
+    mul-d
+    slice-set-from-d
+    add-i
+    loop-less
+    loop-again
+    same-length
+    same-length-2
+    returns)

@@ -1,0 +1,15 @@
+-- The number, and no fraction. Assumes nothing.
+use borrow.Author.Needs.{needs}
+use mathlib.Core.Path.{ap}
+use Rattle.build_jumps.specs.declared.Fractions.{Fractions}
+use Rattle.recover.proofs.step.refuse.Statement.{statement}
+use Rattle.recover.proofs.step.refuse.Tie as tie
+
+no-fractions-requires : tie.Need-no-fractions-requires
+no-fractions-requires c κs = search needs
+
+returns : tie.Need-returns
+returns c = ap (λ (none : Fractions). record { refused = c .before .args .number; of = none }) (c .no-fractions .ensures)
+
+pub refuse-spec : {M : Type 1} → statement M
+refuse-spec = tie.close (tie.spec no-fractions-requires returns)

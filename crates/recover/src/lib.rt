@@ -1,0 +1,100 @@
+// The coefficients that give a list of local ordinates: exact fractions, by the steps of document 02's CR 13.
+ghost use mathlib.Core.Path.{_≡_};
+ghost use mathlib.Core.List.{[]};
+ghost use Prim.Native.Nat.{_≤_};
+ghost use lib.ListN.{length};
+ghost use Rattle.spec_spline.specs.Space.{segmentLimit};
+ghost use Rattle.build_space.specs.Machine.{space, legality};
+ghost use Rattle.build_space.specs.Legal.{DegreesLegal};
+ghost use Rattle.build.specs.Machine.{reply};
+ghost use Rattle.theorems_recovery.specs.RecoveryCall.{recoveryEnd};
+ghost use Rattle.recover.specs.Leaves.{ordinatesChecked};
+use build::Built;
+use build_jumps::Fractions;
+use build_space::Found;
+use build_space::Legality;
+
+mod parts;
+mod step;
+
+// The numbers of the rows, or the number of the refusal; it is 0 where there is none.
+pub struct Numbers {
+    pub refused: u8,
+    pub of: Fractions,
+}
+
+// The numbers of a part's rows with their count, or the refusal's number, which is 0 where there is none, and its place.
+pub struct Joined {
+    pub refused: u8,
+    pub place: u32,
+    pub rows: usize,
+    pub of: Fractions,
+}
+
+// Ordinates run from minus this to this.
+const ORDINATE_LIMIT: i32 = 256000000;
+
+// Number 18 of a legal space: the count first.
+fn check_ordinates(degrees: &[i32], ordinates: &[i32]) -> Legality
+    requires { ⌜ (length (now degrees) ≤ segmentLimit) × DegreesLegal (now degrees) ⌝ }
+    ensures { λ r. ⌜ r ≡ legality (ordinatesChecked (space [] (now (degrees .entry)) []) (now (ordinates .entry))) ⌝ }
+{
+    if ordinates.len() != build_space::first_column(degrees, degrees.len()) {
+        return Legality::Refused(18, build_space::LARGEST_PLACE);
+    }
+    let bad = curve_limits::first_outside(ordinates, 0 - ORDINATE_LIMIT, ORDINATE_LIMIT);
+    match bad {
+        Found::At(i) => Legality::Refused(18, build_space::place(i)),
+        Found::Nothing => Legality::Legal,
+    }
+}
+
+// Builds the weights and gives the coefficients whose curve has these local ordinates, as fractions of 256ths in the two answer
+// buffers. Lists and buffers may have any length and content: what the definition refuses is refused, and the buffers are then as
+// it says.
+pub fn coefficients(
+    breaks: &[i32],
+    degrees: &[i32],
+    orders: &[i32],
+    ordinates: &[i32],
+    num: &mut [i64],
+    den: &mut [i64],
+    coef_num: &mut [i64],
+    coef_den: &mut [i64],
+) -> Built
+    ensures { λ r. ⌜ (let e = recoveryEnd (space (now (breaks .entry)) (now (degrees .entry)) (now (orders .entry))) (now (ordinates .entry)) (now (num .entry)) (now (den .entry)) (now («coef_num» .entry)) (now («coef_den» .entry)) in
+        (reply r ≡ e .answers) × ((now (num .exit) ≡ e .numerators) × ((now (den .exit) ≡ e .denominators) × ((now («coef_num» .exit) ≡ e .coefficientNumerators) × (now («coef_den» .exit) ≡ e .coefficientDenominators))))) ⌝ }
+{
+    if num.len() < build_cells::TABLE_CELLS {
+        return Built::Refused(1, 0);
+    }
+    if den.len() < build_cells::TABLE_CELLS {
+        return Built::Refused(1, 1);
+    }
+    if coef_num.len() < ordinates.len() {
+        return Built::Refused(1, 3);
+    }
+    if coef_den.len() < ordinates.len() {
+        return Built::Refused(1, 4);
+    }
+    let lists = build_space::check(breaks, degrees, orders);
+    match lists {
+        Legality::Refused(number, place) => Built::Refused(number, place),
+        Legality::Legal => {
+            let entries = check_ordinates(degrees, ordinates);
+            match entries {
+                Legality::Refused(number, place) => Built::Refused(number, place),
+                Legality::Legal => parts::recover_parts(
+                    breaks,
+                    degrees,
+                    orders,
+                    ordinates,
+                    num,
+                    den,
+                    coef_num,
+                    coef_den,
+                ),
+            }
+        }
+    }
+}

@@ -1,0 +1,33 @@
+-- The machine's form of what the definitions of crate recovery give, and what undoing asks of numbers and factors.
+use mathlib.Core.Bool.{true, cond}
+use mathlib.Core.List.{List}
+use mathlib.Core.Logic.{_≢_}
+use mathlib.Core.Path.{_≡_}
+use Prim.Native.Nat.{ℕ, _<_, _≤_}
+use lib.Dec.{eqb}
+use lib.IntN.{pos}
+use lib.ListN.{length}
+use Rattle.base_exact.specs.Rational.{ℚ, int}
+use Rattle.spec_spline.specs.Outcome.{Outcome, answer, refusal}
+use Rattle.spec_spline.specs.Table.{entry}
+use Rattle.build_factors.specs.Jumps.{AllFit}
+use Rattle.build_jumps.specs.Machine.{fractions}
+use Rattle.build_jumps.specs.declared.Fractions.{Fractions}
+use Rattle.recover_step.specs.declared.Balance.{Balance}
+use Rattle.recover_step.specs.declared.Balance.the-variants as balances
+
+-- Zero, number 19 or number 20.
+unfoldable pub balanceOf : Outcome (Unit {0}) → Balance
+balanceOf (answer u) = balances.Zero
+balanceOf (refusal number place) = cond (eqb number 19) balances.NotZero balances.TooLarge
+
+-- At least n fractions, all of which fit.
+pub record Fit (cs : Fractions) (n : ℕ) : Type 0 where
+  pub of : List ℚ
+  pub is : cs ≡ fractions of
+  pub fit : AllFit of
+  pub long : n ≤ length of
+
+-- No factor below index n is zero.
+abbrev pub NonZero : Fractions → ℕ → Type 0
+NonZero ws n = (us : List ℚ) → ws ≡ fractions us → (d : ℕ) → d < n → entry us d ≢ int (pos 0)

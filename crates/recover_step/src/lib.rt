@@ -1,0 +1,184 @@
+// A step of the build undone on the present numbers of the rows: the zero test, the new numbers, and row l dropped.
+ghost use mathlib.Core.Path.{_≡_};
+ghost use mathlib.Core.Bool.{cond, not};
+ghost use mathlib.Core.List.{List, _++_, map};
+ghost use mathlib.Core.Logic.{_≢_};
+ghost use Prim.Native.Nat.{ℕ, suc, _-_, _<_, _≤_};
+ghost use lib.IntN.{pos};
+ghost use lib.ListN.{length, take, drop};
+ghost use Rattle.base_exact.specs.Rational.{ℚ, int, _+ᵠ_, _*ᵠ_};
+ghost use Rattle.base_exact.specs.Order.{isZero};
+ghost use Rattle.base_fraction.specs.Machine.{Sized, fraction};
+ghost use Rattle.base_fraction.specs.declared.Fraction.{Fraction};
+ghost use Rattle.base_fraction.specs.declared.Counted.the-variants.{Fits};
+ghost use Rattle.spec_spline.specs.Outcome.{answer, _then_, with-answer};
+ghost use Rattle.spec_spline.specs.Table.{rowCells};
+ghost use Rattle.build_jumps.specs.Machine.{counted, fractions, rowJumps};
+ghost use Rattle.build_rows.specs.Rows.{UnitFactor, UnitFactors};
+ghost use Rattle.theorems_recovery.specs.Recovery;
+ghost use Rattle.recover_step.specs.Machine.{balanceOf, Fit, NonZero};
+use base_fraction::Counted;
+use base_fraction::Fraction;
+use build_jumps::Fractions;
+use build_jumps::RowJumps;
+
+// The sum of numbers times jumps.
+pub enum Balance {
+    Zero,
+    NotZero,
+    TooLarge,
+}
+
+// The sum with one more product, number times jump; a zero jump is passed over.
+fn add_term(sum: Fraction, number: Fraction, jump: Fraction) -> Counted
+    requires { ⌜ Sized sum × (Sized number × Sized jump) ⌝ }
+    ensures { λ r. ⌜ ((j : ℕ) (s c q : ℚ) → sum ≡ fraction s → number ≡ fraction c → jump ≡ fraction q
+        → r ≡ counted (cond (not (isZero q)) (Recovery.sized j (c *ᵠ q) then λ p. Recovery.sized j (s +ᵠ p)) (answer s))) ⌝ }
+    ensures { λ r. ⌜ ((f : Fraction) → r ≡ Fits f → Sized f) ⌝ }
+{
+    if jump.num == 0 {
+        return Counted::Fits(sum);
+    }
+    let term = base_fraction::product(number, jump);
+    match term {
+        Counted::Fits(t) => base_fraction::sum(sum, t),
+        Counted::TooLarge => Counted::TooLarge,
+    }
+}
+
+// The sum of the rows' numbers times their jumps, rows rising: whether it is zero.
+pub fn balanced(js: Fractions, cs: Fractions, rows: usize) -> Balance
+    requires { ⌜ (rows ≤ rowCells) × (Fit js rows × Fit cs rows) ⌝ }
+    ensures { λ r. ⌜ ((j : ℕ) (qs ps : List ℚ) → js ≡ fractions qs → cs ≡ fractions ps → length qs ≡ rows → r ≡ balanceOf (Recovery.balanced j qs ps)) ⌝ }
+{
+    let mut sum = Fraction { num: 0, den: 1 };
+    let mut i = 0;
+    while i < rows {
+        let number = build_jumps::fraction_at(cs, i);
+        let jump = build_jumps::fraction_at(js, i);
+        let next = add_term(sum, number, jump);
+        match next {
+            Counted::Fits(s) => {
+                sum = s;
+            }
+            Counted::TooLarge => {
+                return Balance::TooLarge;
+            }
+        }
+        i += 1;
+    }
+    if sum.num == 0 {
+        return Balance::Zero;
+    }
+    Balance::NotZero
+}
+
+// (number - (1 - w) before) / w, with the share, the difference and the quotient counted.
+fn undo_number(w: Fraction, number: Fraction, before: Fraction) -> Counted
+    requires { ⌜ UnitFactor w × ((w .num ≢ pos 0) × (Sized number × Sized before)) ⌝ }
+    ensures { λ r. ⌜ ((j : ℕ) (v c b : ℚ) → w ≡ fraction v → number ≡ fraction c → before ≡ fraction b → r ≡ counted (Recovery.undoneNumber j v c b)) ⌝ }
+{
+    let rest = build_rows::complement(w);
+    let share = base_fraction::product(rest, before);
+    match share {
+        Counted::TooLarge => Counted::TooLarge,
+        Counted::Fits(s) => {
+            let n = s.num;
+            let d = s.den;
+            let difference = base_fraction::sum(number, Fraction { num: 0 - n, den: d });
+            match difference {
+                Counted::TooLarge => Counted::TooLarge,
+                Counted::Fits(t) => base_fraction::quotient(t, w),
+            }
+        }
+    }
+}
+
+// The new number of row i, where the rows f to i - 1 have their new numbers.
+fn undo_row(cs: Fractions, ws: Fractions, f: usize, i: usize) -> Counted
+    requires { ⌜ (f ≤ i) × ((i < rowCells) × (Fit cs (suc i) × (UnitFactors ws × NonZero ws (suc (i - f))))) ⌝ }
+    ensures { λ r. ⌜ ((j : ℕ) (us ps : List ℚ) → ws ≡ fractions us → cs ≡ fractions ps → r ≡ counted (Recovery.undoneRow j us ps f (i - f) (drop f ps))) ⌝ }
+{
+    let number = build_jumps::fraction_at(cs, i);
+    if i == f {
+        return Counted::Fits(number);
+    }
+    let w = build_jumps::fraction_at(ws, i - f);
+    let before = build_jumps::fraction_at(cs, i - 1);
+    undo_number(w, number, before)
+}
+
+// The new numbers of the rows f to l - 1, rows rising; the others as they were.
+pub fn undo_rows(cs: Fractions, ws: Fractions, f: usize, l: usize) -> RowJumps
+    requires { ⌜ (f ≤ l) × ((l < rowCells) × (Fit cs l × (UnitFactors ws × NonZero ws (l - f)))) ⌝ }
+    ensures { λ r. ⌜ ((j : ℕ) (us ps : List ℚ) → ws ≡ fractions us → cs ≡ fractions ps → l ≤ length ps
+        → r ≡ rowJumps (with-answer (λ ds. take f ps ++ (ds ++ drop l ps)) (Recovery.undoneRows j us ps f (l - f)))) ⌝ }
+{
+    let mut now = cs;
+    let mut i = f;
+    while i < l {
+        let next = undo_row(now, ws, f, i);
+        match next {
+            Counted::Fits(q) => {
+                let n = q.num;
+                let d = q.den;
+                now.num[i] = n;
+                now.den[i] = d;
+            }
+            Counted::TooLarge => {
+                return RowJumps {
+                    fit: false,
+                    of: build_jumps::no_fractions(),
+                };
+            }
+        }
+        i += 1;
+    }
+    RowJumps { fit: true, of: now }
+}
+
+// The row that comes at index i once row l is dropped.
+fn kept_row(i: usize, l: usize) -> usize
+    requires { ⌜ i < rowCells ⌝ }
+    ensures { λ r. ⌜ (i < l → r ≡ i) × (l ≤ i → r ≡ suc i) ⌝ }
+{
+    if i < l {
+        return i;
+    }
+    i + 1
+}
+
+// The numbers without that of row l.
+pub fn drop_number(cs: Fractions, l: usize, rows: usize) -> Fractions
+    requires { ⌜ (l < rows) × (rows ≤ rowCells) ⌝ }
+    ensures { λ r. ⌜ ((ps : List ℚ) → cs ≡ fractions ps → length ps ≡ rows → r ≡ fractions (take l ps ++ drop (suc l) ps)) ⌝ }
+{
+    let mut left = build_jumps::no_fractions();
+    let mut i = 0;
+    while i < rows - 1 {
+        let from = kept_row(i, l);
+        let q = build_jumps::fraction_at(cs, from);
+        let n = q.num;
+        let d = q.den;
+        left.num[i] = n;
+        left.den[i] = d;
+        i += 1;
+    }
+    left
+}
+
+// The ordinates as the first numbers.
+pub fn numbers(ordinates: &[i32]) -> Fractions
+    requires { ⌜ length (now ordinates) ≤ rowCells ⌝ }
+    ensures { λ r. ⌜ r ≡ fractions (map int (now (ordinates .entry))) ⌝ }
+{
+    let mut all = build_jumps::no_fractions();
+    let mut i = 0;
+    while i < ordinates.len() {
+        let n = ordinates[i] as i64;
+        all.num[i] = n;
+        all.den[i] = 1;
+        i += 1;
+    }
+    all
+}

@@ -1,0 +1,27 @@
+-- `put` meets its contract: within the buffer the byte is one store, past its end nothing changes.
+use borrow.Author.Needs.{needs}
+use mathlib.Core.Logic.{⊎-elim}
+use mathlib.Core.Path.{ap, _∙_}
+use lib.ListN.{length, length-set}
+use Rattle.sheet_print.proofs.Buffer.{written-byte, written-byte-past}
+use Rattle.sheet_print.proofs.put.Statement.{statement}
+use Rattle.sheet_print.proofs.put.Tie as tie
+
+slice-write-out : tie.Need-slice-write-out
+slice-write-out c = search needs
+
+add-result : tie.Need-add-result
+add-result c = search needs
+
+same-length : tie.Need-same-length
+same-length c = ⊎-elim (λ w. ap length (w .1) ∙ simp length-set) (λ w. ap length (w .1)) (c .if1 .came)
+
+returns : tie.Need-returns
+returns c = record {
+  contents = ⊎-elim (λ w. w .1 ∙ written-byte _ _ _) (λ w. w .1 ∙ written-byte-past _ _ _ (w .0 .left)) (c .if1 .came);
+  behind = search needs;
+  near = search needs;
+}
+
+pub put-spec : {M : Type 1} → statement M
+put-spec = tie.close (tie.spec slice-write-out add-result same-length returns)

@@ -1,0 +1,54 @@
+-- `put_decimal` meets its contract: the digits of the size, behind a minus where the number is below zero.
+use borrow.Author.Needs.{needs}
+use native.Mathlib.Omega.{arith}
+use mathlib.Core.Path.{_≡_, sym, ap, _∙_}
+use mathlib.Core.Bool.{true, false}
+use lib.IntN.{pos, natAbs}
+use lib.Signed.{ltZ}
+use mir.Syntax.{w64}
+use mir.Val.{SFits}
+use Rattle.base_exact.proofs.Word.{toZ-ofZ, ltZ-true, ltZ-false}
+use mathlib.Core.List.{_∷_}
+use Rattle.base_text.specs.Bytes.{minus}
+use Rattle.base_text.specs.Numeral.{digits}
+use Rattle.base_text.proofs.Decimal.{decimal-negative, decimal-natural}
+use Rattle.sheet_print.proofs.Buffer.{puts-then, puts-within, puts-as}
+use Rattle.sheet_print.proofs.put_decimal.Statement.{statement}
+use Rattle.sheet_print.proofs.put_decimal.Tie as tie
+
+magnitude-requires : tie.Need-magnitude-requires
+magnitude-requires c κs = search needs
+
+put-requires : tie.Need-put-requires
+put-requires c κs = search needs
+
+put-digits-requires : tie.Need-put-digits-requires
+put-digits-requires c κs = search needs
+
+same-length : tie.Need-same-length
+same-length c = search needs
+
+returns : tie.Need-returns
+returns c =
+    let s = c .before .before .before .before .before .before .before .before .before .before .before in
+    let f : SFits w64 (s .args .z) = s .fits .z in
+    let below : ltZ (s .args .z) (pos 0) ≡ true = simp toZ-ofZ at (c .before .before .before .before .before .before .before .before .if1 .taken) in
+    let size : c .before .before .before .before .before .before .before .before .before .magnitude .result ≡ natAbs (s .args .z) = simp toZ-ofZ at (c .before .before .before .before .before .before .before .before .before .magnitude .ensures) in
+    puts-as (ap (λ k. minus ∷ digits k) size ∙ sym (decimal-negative (s .args .z) (ltZ-true _ _ below))) (puts-within (omega arith) (puts-then (c .before .before .before .before .before .before .put .ensures) (c .before .before .put-digits .ensures)))
+
+put-digits-requires-2 : tie.Need-put-digits-requires-2
+put-digits-requires-2 c κs = search needs
+
+same-length-2 : tie.Need-same-length-2
+same-length-2 c = search needs
+
+returns-2 : tie.Need-returns-2
+returns-2 c =
+    let s = c .before .before .before .before .before .before .before in
+    let f : SFits w64 (s .args .z) = s .fits .z in
+    let natural : ltZ (s .args .z) (pos 0) ≡ false = simp toZ-ofZ at (c .before .before .before .before .if1 .left) in
+    let size : c .before .before .before .before .before .magnitude .result ≡ natAbs (s .args .z) = simp toZ-ofZ at (c .before .before .before .before .before .magnitude .ensures) in
+    puts-as (ap digits size ∙ sym (decimal-natural (s .args .z) (ltZ-false _ _ natural))) (puts-within (omega arith) (c .before .before .put-digits2 .ensures))
+
+pub put-decimal-spec : {M : Type 1} → statement M
+put-decimal-spec = tie.close (tie.spec magnitude-requires put-requires put-digits-requires same-length returns put-digits-requires-2 same-length-2 returns-2)

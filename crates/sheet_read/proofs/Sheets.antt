@@ -1,0 +1,158 @@
+-- The five lines one after the other: what reading ends with once the lines up to one are known, and what the scan's answer
+-- says of it.
+use mathlib.Core.Path.{_≡_, refl, _∙_, ap, ap₂, subst}
+use mathlib.Core.Option.{Option, some, none}
+use Prim.Native.Nat.{ℕ, _+_, _<_, _≤_}
+use native.Mathlib.Omega.{arith}
+use borrow.Author.Tests.{lt-ltb, le-ltb}
+use lib.IntN.{ℤ}
+use lib.ListN.{length, drop}
+use lib.Seq.{drop-length, drop-cons}
+use Rattle.spec_spline.specs.Outcome.{Outcome, answer, refusal, refuse, _then_}
+use Rattle.spec_spline.specs.Reading.{Pair}
+use Rattle.base_text.specs.Bytes.{Text}
+use Rattle.base_text.specs.Numeral.{numeral}
+use Rattle.sheet_read.specs.SheetReading.{textLimit, pair, Line, line, readLine, breaksKey, degreesKey, ordersKey, coefsKey, atKey, Lists, ended, fiveLines, read}
+use Rattle.sheet_read.specs.Machine.{Spans, LineAt, ListsAt, Scanned}
+use Rattle.sheet_read.specs.declared.LineSpan.{LineSpan}
+use Rattle.sheet_read.specs.declared.LineSpan.the-variants as span-cases
+use Rattle.sheet_read.specs.declared.Places.{Places}
+use Rattle.sheet_read.specs.declared.Places.the-variants as places-cases
+
+-- ---- what the answer for a line says of it
+module _ {A : Type 0} (entry : Text → Option A) (text : Text) where
+  line-none : (o : Option (Line A)) (r : LineSpan) → LineAt entry text o r → r ≡ span-cases.Bad → o ≡ none
+  line-none none r h e = refl
+  line-none (some l) span-cases.Bad h e = absurd h
+  line-none (some l) (span-cases.List s t) h e = absurd (let x : _≡_ {A = ℕ} 0 1 = cc in omega arith)
+
+  line-some : (o : Option (Line A)) (r : LineSpan) (start end : ℕ) → LineAt entry text o r → r ≡ span-cases.List start end → (l : Line A) × (o ≡ some l) × Spans entry text l start end
+  line-some none span-cases.Bad start end h e = absurd (let x : _≡_ {A = ℕ} 0 1 = cc in omega arith)
+  line-some none (span-cases.List s t) start end h e = absurd h
+  line-some (some l) span-cases.Bad start end h e = absurd h
+  line-some (some l) (span-cases.List s t) start end h e =
+      let same-start : s ≡ start = cc in
+      let same-end : t ≡ end = cc in
+      (l, refl, rw (same-start, same-end) at h)
+
+-- ---- the length of the text
+pub read-long : (text : Text) → textLimit < length text → read text ≡ refuse 10 0
+unfolding read
+read-long text h = rw (lt-ltb textLimit (length text) h)
+
+pub read-short : (text : Text) → length text ≤ textLimit → read text ≡ fiveLines text
+unfolding read
+read-short text h = rw (le-ltb textLimit (length text) h)
+
+-- ---- the lines
+module _ {A : Type 0} (entry : Text → Option A) (place : ℕ) (key t : Text) where
+  pub line-answers : {l : Line A} → line entry key t ≡ some l → readLine place entry key t ≡ answer l
+  unfolding readLine
+  line-answers e = rw (e, readLine)
+
+  line-refuses : line entry key t ≡ none → readLine place entry key t ≡ refuse 10 place
+  unfolding readLine
+  line-refuses e = rw (e, readLine)
+
+-- A line is good, and reading goes on with it.
+pub record Reached {A : Type 0} (entry : Text → Option A) (text : Text) (next : Line A → Outcome Lists) (start end : ℕ) : Type 0 where
+  pub line : Line A
+  pub spans : Spans entry text line start end
+  pub so-far : read text ≡ next line
+
+-- a good line, and a bad one, at the head of what is left to read
+module _ {A : Type 0} (entry : Text → Option A) (text : Text) (place : ℕ) (key : Text) (next : Line A → Outcome Lists) (at : ℕ) (left : Text) (same : left ≡ drop at text) (so-far : read text ≡ (readLine place entry key left then next)) (r : LineSpan) (found : LineAt entry text (line entry key (drop at text)) r) where
+  reach : (start end : ℕ) → r ≡ span-cases.List start end → Reached entry text next start end
+  reach start end e =
+      let good = line-some entry text (line entry key (drop at text)) r start end found e in
+      record {
+        line = good .0;
+        spans = good .2;
+        so-far = so-far ∙ ap (λ (o : Outcome (Line A)). o then next) (line-answers entry place key left (ap (line entry key) same ∙ good .1));
+      }
+
+  refuse-line : r ≡ span-cases.Bad → read text ≡ refuse 10 place
+  refuse-line e =
+      let bad = line-none entry text (line entry key (drop at text)) r found e in
+      so-far ∙ ap (λ (o : Outcome (Line A)). o then next) (line-refuses entry place key left (ap (line entry key) same ∙ bad))
+
+-- ---- what is left to read after the lines that are known
+-- A line of numbers, and one of pairs.
+abbrev pub NumberLine : Type 0
+NumberLine = Line ℤ
+
+abbrev pub PairLine : Type 0
+PairLine = Line Pair
+
+-- The five lists, from their lines.
+abbrev pub lists : NumberLine → NumberLine → NumberLine → PairLine → NumberLine → Lists
+lists b d o c p = record { breaks = b .list; degrees = d .list; orders = o .list; coefs = c .list; positions = p .list }
+
+-- What is left after each line, given how the lists are made of it and of the lines to come.
+abbrev pub after-five : (NumberLine → Lists) → NumberLine → Outcome Lists
+after-five make p = ended (p .rest) (make p)
+
+abbrev pub after-four : (PairLine → NumberLine → Lists) → PairLine → Outcome Lists
+after-four make c = readLine 5 numeral atKey (c .rest) then after-five (make c)
+
+abbrev pub after-three : (NumberLine → PairLine → NumberLine → Lists) → NumberLine → Outcome Lists
+after-three make o = readLine 4 pair coefsKey (o .rest) then after-four (make o)
+
+abbrev pub after-two : (NumberLine → NumberLine → PairLine → NumberLine → Lists) → NumberLine → Outcome Lists
+after-two make d = readLine 3 numeral ordersKey (d .rest) then after-three (make d)
+
+abbrev pub after-one : (NumberLine → NumberLine → NumberLine → PairLine → NumberLine → Lists) → NumberLine → Outcome Lists
+after-one make b = readLine 2 numeral degreesKey (b .rest) then after-two (make b)
+
+module _ (text : Text) (short : length text ≤ textLimit) (r : LineSpan) (found : LineAt numeral text (line numeral breaksKey text) r) where
+  so-far-none : read text ≡ (readLine 1 numeral breaksKey text then after-one lists)
+  unfolding fiveLines
+  so-far-none = read-short text short
+
+  pub first-line : (start end : ℕ) → r ≡ span-cases.List start end → Reached numeral text (after-one lists) start end
+  first-line = reach numeral text 1 breaksKey (after-one lists) 0 text refl so-far-none r found
+
+  pub first-bad : r ≡ span-cases.Bad → read text ≡ refuse 10 1
+  first-bad = refuse-line numeral text 1 breaksKey (after-one lists) 0 text refl so-far-none r found
+
+-- a line of entries of one kind, behind one of another
+module _ {A B : Type 0} (before : Text → Option A) (entry : Text → Option B) (text : Text) (place : ℕ) (key : Text) (next : Line A → Line B → Outcome Lists) (s t : ℕ) (prev : Reached before text (λ l. readLine place entry key (l .rest) then next l) s t) (r : LineSpan) (found : LineAt entry text (line entry key (drop (t + 1) text)) r) where
+  pub next-line : (start end : ℕ) → r ≡ span-cases.List start end → Reached entry text (next (prev .line)) start end
+  next-line = reach entry text place key (next (prev .line)) (t + 1) (prev .line .rest) (prev .spans .rest) (prev .so-far) r found
+
+  pub next-bad : r ≡ span-cases.Bad → read text ≡ refuse 10 place
+  next-bad = refuse-line entry text place key (next (prev .line)) (t + 1) (prev .line .rest) (prev .spans .rest) (prev .so-far) r found
+
+module _ (text : Text) (make : NumberLine → Lists) (s t : ℕ) (prev : Reached numeral text (after-five make) s t) where
+  pub last-line : t + 1 ≡ length text → read text ≡ answer (make (prev .line))
+  last-line e =
+      prev .so-far
+      ∙ ap (λ (rest : Text). ended rest (make (prev .line))) (prev .spans .rest ∙ ap (λ (n : ℕ). drop n text) e ∙ drop-length text)
+
+  pub last-more : (t + 1 ≡ length text → ⊥) → read text ≡ refuse 10 6
+  last-more h =
+      let more : t + 1 < length text = omega (arith, prev .spans .ended) in
+      prev .so-far
+      ∙ ap (λ (rest : Text). ended rest (make (prev .line))) (prev .spans .rest ∙ drop-cons text (t + 1) 0 more)
+
+-- ---- the answer for the text
+pub scan-refused : (text : Text) (place : ℕ) → read text ≡ refusal 10 place → Scanned text (read text) (places-cases.Refused place)
+scan-refused text place e = rw e (refl, refl)
+
+pub scan-lists : (text : Text) {l : Lists} {b b-end d d-end o o-end c c-end p p-end : ℕ} → read text ≡ answer l → ListsAt text l b b-end d d-end o o-end c c-end p p-end → Scanned text (read text) (places-cases.Lists b b-end d d-end o o-end c c-end p p-end)
+scan-lists text e at = rw e at
+
+refusal-scanned : (text : Text) (o : Outcome Lists) (place : ℕ) → Scanned text o (places-cases.Refused place) → o ≡ refusal 10 place
+refusal-scanned text (answer l) place h = absurd h
+refusal-scanned text (refusal number at) place h = ap₂ refusal (h .0) (h .1)
+
+lists-scanned : (text : Text) (outcome : Outcome Lists) (b b-end d d-end o o-end c c-end p p-end : ℕ) → Scanned text outcome (places-cases.Lists b b-end d d-end o o-end c c-end p p-end) → (l : Lists) × (outcome ≡ answer l) × ListsAt text l b b-end d d-end o o-end c c-end p p-end
+lists-scanned text (answer l) b b-end d d-end o o-end c c-end p p-end h = (l, refl, h)
+lists-scanned text (refusal number at) b b-end d d-end o o-end c c-end p p-end h = absurd h
+
+module _ (text : Text) (r : Places) (scanned : Scanned text (read text) r) where
+  pub scanned-refusal : (place : ℕ) → r ≡ places-cases.Refused place → read text ≡ refusal 10 place
+  scanned-refusal place e = refusal-scanned text (read text) place (subst (Scanned text (read text)) e scanned)
+
+  pub scanned-lists : (b b-end d d-end o o-end c c-end p p-end : ℕ) → r ≡ places-cases.Lists b b-end d d-end o o-end c c-end p p-end → (l : Lists) × (read text ≡ answer l) × ListsAt text l b b-end d d-end o o-end c c-end p p-end
+  scanned-lists b b-end d d-end o o-end c c-end p p-end e = lists-scanned text (read text) b b-end d d-end o o-end c c-end p p-end (subst (Scanned text (read text)) e scanned)

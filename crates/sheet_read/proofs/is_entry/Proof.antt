@@ -1,0 +1,35 @@
+-- Either kind has its own test.
+use borrow.Author.Needs.{needs}
+use mathlib.Core.Path.{sym, _∙_, ap}
+use lib.Seq.{slice}
+use Rattle.sheet_read.specs.Machine.{entryOf, isSome}
+use Rattle.sheet_read.specs.declared.Entry.{Entry}
+use Rattle.sheet_read.proofs.is_entry.Statement.{statement}
+use Rattle.sheet_read.proofs.is_entry.Tie as tie
+
+enum-told : tie.Need-enum-told
+enum-told c = search needs
+
+is-number-requires : tie.Need-is-number-requires
+is-number-requires c κs = search needs
+
+enum-told-2 : tie.Need-enum-told-2
+enum-told-2 c = search needs
+
+is-pair-requires : tie.Need-is-pair-requires
+is-pair-requires c κs = search needs
+
+returns : tie.Need-returns
+returns c =
+    let k = c .before in
+    let a = k .before .before .before .args in
+    c .is-number .ensures ∙ sym (ap (λ (kind : Entry). isSome (entryOf kind (slice (a .from) (a .to) (a .text .now)))) (k .enum-told .given .1))
+
+returns-2 : tie.Need-returns-2
+returns-2 c =
+    let k = c .before in
+    let a = k .before .before .before .args in
+    c .is-pair .ensures ∙ sym (ap (λ (kind : Entry). isSome (entryOf kind (slice (a .from) (a .to) (a .text .now)))) (k .enum-told2 .given .1))
+
+pub is-entry-spec : {M : Type 1} → statement M
+is-entry-spec = tie.close (tie.spec enum-told is-number-requires enum-told-2 is-pair-requires returns returns-2)

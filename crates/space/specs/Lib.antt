@@ -1,3 +1,0 @@
--- What the contracts of space cite beside the definitions of crate spline.
-pub mod Reply
-pub mod Legal

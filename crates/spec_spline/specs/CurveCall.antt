@@ -1,0 +1,103 @@
+-- The curve call (document 01, "What the engine takes" and "Numbers and places"; document 02, CR 10): what it ends with, and
+-- what the three lent buffers hold afterwards. The refusals are tested in number order, within a number by place.
+use mathlib.Core.Bool.{Bool, cond, not}
+use mathlib.Core.List.{List, _++_}
+use Prim.Native.Nat.{ℕ, _*_, _/_}
+use lib.Dec.{eqb, ltb}
+use lib.IntN.{ℤ, pos, negℤ}
+use lib.ListN.{length, getD, drop}
+use Rattle.spec_spline.specs.Outcome.{Outcome, answer, refusal, refuse, largestPlace, _then_, with-answer}
+use Rattle.spec_spline.specs.Search.{first}
+use Rattle.spec_spline.specs.Space.{Space, segments, break, between, fitting, refuseFirst, checkedEntries, rowCount}
+use Rattle.spec_spline.specs.Table.{Table}
+use Rattle.spec_spline.specs.Build.{weights, longEnough, lastPart, numeratorsAfter, denominatorsAfter}
+use Rattle.spec_spline.specs.Reading.{fine, Pair, sideBySide, values}
+
+-- "up to 4,096 positions".
+abbrev pub positionLimit : ℕ
+positionLimit = 4096
+
+-- "from -1,000,000 to 1,000,000 thousandths of a millimetre".
+abbrev pub coefficientLimit : ℕ
+coefficientLimit = 1000000
+
+-- Number 6: entry i is out of range.
+unfoldable pub badCoefficient : List ℤ → ℕ → Bool
+badCoefficient coefs i = not (between (negℤ (pos coefficientLimit)) (pos coefficientLimit) (getD coefs i (pos 0)))
+
+-- Number 7: entry i is below 256·x0 or above 256·xm.
+unfoldable pub badPosition : Space → List ℤ → ℕ → Bool
+badPosition s positions i = not (between (fine (break s 0)) (fine (break s (segments s))) (getD positions i (pos 0)))
+
+-- Number 1, all three places, or the value given; it "counts two cells a position".
+abbrev pub allLongEnough : {A : Type 0} → List ℤ → ℕ → ℕ → ℕ → Outcome A → Outcome A
+allLongEnough positions numLength denLength valuesLength rest =
+    longEnough numLength denLength
+    (cond (ltb (valuesLength / 2) (length positions)) (refuse 1 2) rest)
+
+-- Numbers 6 and 7 of a legal space, or the value given. 6 counts and places the "2n numbers" singly; the count is tested first
+-- and has the largest place.
+abbrev pub legalEntries : {A : Type 0} → Space → List ℤ → List ℤ → Outcome A → Outcome A
+legalEntries s coefs positions rest =
+    cond (eqb (length coefs) (2 * rowCount s))
+    (refuseFirst 6 (first (length coefs) (badCoefficient coefs))
+    (refuseFirst 7 (first (length positions) (badPosition s positions))
+    rest))
+    (refuse 6 largestPlace)
+
+-- The space itself, or the first of the refusals 2 to 5, 15, 6 and 7.
+unfoldable pub curveChecked : Space → List ℤ → List ℤ → Outcome Space
+curveChecked s coefs positions =
+    fitting s
+    (cond (ltb positionLimit (length positions)) (refuse 2 1)
+    (checkedEntries s then λ legal. legalEntries legal coefs positions (answer legal)))
+
+-- What an answered call has worked out: the weights, and a pair of values for each position.
+pub record CurveResult : Type 0 where
+  pub table : Table
+  pub values : List Pair
+
+-- It builds, then gives each position its two values: 8 or 9 from the build, or the result.
+unfoldable pub curveRead : List ℤ → List ℤ → Space → Outcome CurveResult
+curveRead coefs positions s = with-answer (λ t. record { table = t; values = values s t coefs positions }) (weights s)
+
+-- What the curve call ends with, given the lengths of the three buffers.
+unfoldable pub curveOutcome : Space → List ℤ → List ℤ → ℕ → ℕ → ℕ → Outcome CurveResult
+curveOutcome s coefs positions numLength denLength valuesLength =
+    allLongEnough positions numLength denLength valuesLength
+    (curveChecked s coefs positions then curveRead coefs positions)
+
+-- "the answer still counts positions".
+abbrev pub returned : Outcome CurveResult → Outcome ℕ
+returned o = with-answer (λ r. length (r .values)) o
+
+-- The table that the weight buffers hold after the call: the last part's, as after building.
+abbrev pub heldBy : Space → Outcome CurveResult → Outcome Table
+heldBy s o = with-answer (λ r. lastPart s (r .table)) o
+
+-- The numerators after the call, as after building.
+abbrev pub curveNumerators : Space → Outcome CurveResult → List ℤ → List ℤ
+curveNumerators s o before = numeratorsAfter (heldBy s o) before
+
+-- The denominators after the call, as after building.
+abbrev pub curveDenominators : Space → Outcome CurveResult → List ℤ → List ℤ
+curveDenominators s o before = denominatorsAfter (heldBy s o) before
+
+-- The values' buffer after the call: the pairs in list order, "written side by side", and "the value cells that keep what they
+-- held are those past twice that count"; unchanged after every refusal.
+unfoldable pub valuesAfter : Outcome CurveResult → List ℤ → List ℤ
+valuesAfter (answer r) before = sideBySide (r .values) ++ drop (2 * length (r .values)) before
+valuesAfter (refusal number place) before = before
+
+-- What a curve call ends with: the answer and all three lent buffers.
+pub record CurveEnd : Type 0 where
+  pub answers : Outcome ℕ
+  pub numerators : List ℤ
+  pub denominators : List ℤ
+  pub values : List ℤ
+
+-- The end of the call with these lists and these three buffers lent.
+abbrev pub curveEnd : Space → List ℤ → List ℤ → List ℤ → List ℤ → List ℤ → CurveEnd
+curveEnd s coefs positions num den values =
+    let o = curveOutcome s coefs positions (length num) (length den) (length values) in
+    record { answers = returned o; numerators = curveNumerators s o num; denominators = curveDenominators s o den; values = valuesAfter o values }

@@ -1,0 +1,97 @@
+-- One step of the build: the jumps, the rows they span, the factors and the new rows, with the counted fractions in
+-- document 01's order ("Building the weights"). j is the join, which is the place of 8 and 9.
+use mathlib.Core.Bool.{Bool, cond, not, _&&_}
+use mathlib.Core.List.{List, [], _∷_, _++_}
+use mathlib.Core.Option.{Option, some, none}
+use Prim.Native.Nat.{ℕ, suc, _+_, _-_}
+use lib.IntN.{pos}
+use lib.ListN.{length, take, drop}
+use Rattle.base_exact.specs.Rational.{ℚ, int, _+ᵠ_, _*ᵠ_, _-ᵠ_, _/ᵠ_}
+use Rattle.base_exact.specs.Order.{isZero, ltᵠ}
+use Rattle.base_exact.specs.Sum.{sum}
+use Rattle.base_fraction.specs.Size.{fits}
+use Rattle.spec_spline.specs.Outcome.{Outcome, answer, refuse, _then_, collect}
+use Rattle.spec_spline.specs.Search.{first, last, found}
+use Rattle.spec_spline.specs.Conditions.{Entry}
+use Rattle.spec_spline.specs.Table.{Row, Table, entry, row}
+
+-- A counted fraction: number 8 where it is too large.
+unfoldable pub count : ℕ → ℚ → Outcome ℚ
+count j q = cond (fits q) (answer q) (refuse 8 j)
+
+-- The sum so far, and each product weight times condition with its partial sum, columns rising.
+unfoldable pub addProducts : ℕ → Row → ℚ → List Entry → Outcome ℚ
+addProducts j r s [] = answer s
+addProducts j r s (e ∷ es) = count j (entry r (e .column) *ᵠ int (e .condition)) then λ p. count j (s +ᵠ p) then λ t. addProducts j r t es
+
+-- "The jump of a row is the sum of weight times condition".
+abbrev pub jump : ℕ → List Entry → Row → Outcome ℚ
+jump j κ r = addProducts j r (int (pos 0)) κ
+
+-- The jumps of all rows, rows rising.
+abbrev pub jumps : ℕ → List Entry → Table → Outcome (List ℚ)
+jumps j κ t = collect (length t) (λ i. jump j κ (row t i))
+
+-- The jump of row i has a value other than zero.
+abbrev pub jumpsAt : List ℚ → ℕ → Bool
+jumpsAt js i = not (isZero (entry js i))
+
+-- The rows f to l.
+pub record Span : Type 0 where
+  pub f : ℕ
+  pub l : ℕ
+
+-- A zero lies between f and l.
+abbrev pub zeroBetween : List ℚ → ℕ → ℕ → Bool
+zeroBetween js f l = found (first (l - f) (λ d. isZero (entry js (f + d))))
+
+abbrev pub spanOf : ℕ → List ℚ → Option ℕ → Option ℕ → Outcome Span
+spanOf j js none l = refuse 9 j
+spanOf j js (some f) none = refuse 9 j
+spanOf j js (some f) (some l) = cond (zeroBetween js f l) (refuse 9 j) (answer (record { f = f; l = l }))
+
+-- "f and l be the first and last row with non-zero jump. Number 9: there is none, or a zero lies between."
+unfoldable pub span : ℕ → List ℚ → Outcome Span
+span j js = spanOf j js (first (length js) (jumpsAt js)) (last (length js) (jumpsAt js))
+
+-- S: the sum of jumps f to i.
+unfoldable pub partialSum : List ℚ → ℕ → ℕ → ℚ
+partialSum js f i = sum (suc i - f) (λ d. entry js (f + d))
+
+-- The factor from S and the jump: "each S, then its w, tested for 8 before 9"; number 9 where w is not strictly between 0 and 1.
+unfoldable pub quotientFactor : ℕ → ℚ → ℚ → Outcome ℚ
+quotientFactor j s q =
+    count j s then λ s.
+    count j (s /ᵠ q) then λ w.
+    cond (ltᵠ (int (pos 0)) w && ltᵠ w (int (pos 1))) (answer w) (refuse 9 j)
+
+-- The factor of row i: w = S / jump i.
+abbrev pub factor : ℕ → List ℚ → ℕ → ℕ → Outcome ℚ
+factor j js f i = quotientFactor j (partialSum js f i) (entry js i)
+
+-- The factors of the rows f to l: 1 at f, w for f + 1 to l - 1, 0 at l.
+unfoldable pub factors : ℕ → List ℚ → Span → Outcome (List ℚ)
+factors j js g = collect (g .l - g .f - 1) (λ d. factor j js (g .f) (g .f + 1 + d)) then λ ws. answer (int (pos 1) ∷ (ws ++ (int (pos 0) ∷ [])))
+
+-- "first product, second product, sum".
+unfoldable pub newEntry : ℕ → ℚ → ℚ → ℚ → ℚ → Outcome ℚ
+newEntry j w v x y = count j (w *ᵠ x) then λ p. count j ((int (pos 1) -ᵠ v) *ᵠ y) then λ q. count j (p +ᵠ q)
+
+-- w(i)·(old row i) + (1 - w(i+1))·(old row i+1), columns rising.
+abbrev pub newRow : ℕ → ℚ → ℚ → Row → Row → Outcome Row
+newRow j w v r r′ = collect (length r) (λ c. newEntry j w v (entry r c) (entry r′ c))
+
+-- The new rows f to l - 1, rows rising.
+unfoldable pub newRows : ℕ → Span → List ℚ → Table → Outcome Table
+newRows j g ws t = collect (g .l - g .f) (λ d. newRow j (entry ws d) (entry ws (suc d)) (row t (g .f + d)) (row t (g .f + suc d)))
+
+-- The rest of a step whose jumps span g: "for i below f, old row i; for f to l - 1 the new ones; for i from l, old row i + 1."
+abbrev pub mixed : ℕ → Table → List ℚ → Span → Outcome Table
+mixed j t js g =
+    factors j js g then λ ws.
+    newRows j g ws t then λ rs.
+    answer (take (g .f) t ++ (rs ++ drop (suc (g .l)) t))
+
+-- One step with the conditions κ at join j.
+unfoldable pub step : ℕ → List Entry → Table → Outcome Table
+step j κ t = jumps j κ t then λ js. span j js then λ g. mixed j t js g

@@ -1,0 +1,142 @@
+-- The jumps of a step of order 0 or 1: the condition's columns have a single weight 1 each, so every product and partial sum
+-- is an integer, of at most the two sides' conditions together: 5 times the length of the two segments at the join.
+use mathlib.Core.Path.{_≡_, refl, sym, _∙_, subst}
+use mathlib.Core.Logic.{_≢_, _⊎_, inl, inr}
+use mathlib.Core.List.{List, [], _∷_}
+use Prim.Native.Nat.{ℕ, zero, suc, _+_, _-_, _*_, _<_, _≤_}
+use native.Mathlib.Omega.{arith}
+use native.Mathlib.Decide.{ℕ-discrete}
+use native.Mathlib.Nat.{mul-le-mul-right}
+use lib.IntN.{pos}
+use lib.ListN.{length}
+use Rattle.base_exact.specs.Rational.{int}
+use Rattle.base_exact.specs.Sum.{sum}
+use Rattle.base_exact.proofs.Decide.{le-or-lt}
+use Rattle.spec_spline.specs.Space.{Space, segments, degree, width, conditionCount, firstColumn}
+use Rattle.spec_spline.specs.Conditions.{Entry, leftEntry, rightEntry, undivided, divided, commonDivisor, conditions}
+use Rattle.spec_spline.specs.Table.{Row, Table, row, cell}
+use Rattle.theorems_acceptance.specs.Acceptance.{countedLimit}
+use Rattle.theorems_acceptance.proofs.Rows.{lowest, highest}
+use Rattle.theorems_acceptance.proofs.RowMoves.{firstSpanned, start-low, start-high-low, left-low, left-high, right-low, right-high, right-last}
+use Rattle.theorems_acceptance.proofs.Support.{Support, support-ends}
+use Rattle.theorems_acceptance.proofs.Limits.{Limits}
+use Rattle.theorems_acceptance.proofs.Stages.{met}
+use Rattle.theorems_acceptance.proofs.Invariant.{column-inside, single-one}
+use Rattle.theorems_acceptance.proofs.JumpSums.{stage, room, room′}
+use Rattle.theorems_acceptance.proofs.Reached.{Reached}
+use Rattle.theorems_acceptance.proofs.Loads.{Load, empty, skip, take, conditions-zero, conditions-one, left-zero, right-zero, left-one, right-one}
+
+-- Column c has weight 1 in row r and no other.
+pub record Unit (t : Table) (c r : ℕ) : Type 0 where
+  pub one : cell t r c ≡ int (pos 1)
+  pub none : (i : ℕ) → i ≢ r → cell t i c ≡ int (pos 0)
+
+pub unit-of : (t : Table) (c r : ℕ) → Support (λ i. cell t i c) r r → sum (length t) (λ i. cell t i c) ≡ int (pos 1) → Unit t c r
+unit-of t c r S e = record { one = single-one t c e S; none = λ i n. off i n (le-or-lt r i) }
+  where
+    off : (i : ℕ) → i ≢ r → (r ≤ i) ⊎ (i < r) → cell t i c ≡ int (pos 0)
+    off i n (inl a) = S .above i (omega arith)
+    off i n (inr a) = S .below i a
+
+-- The size of a row's jump: the conditions at its weights 1, which are within the limit together.
+pub record RowLoad (r : Row) (κ : List Entry) : Type 0 where
+  pub size : ℕ
+  pub load : Load r κ size
+  pub within : size ≤ countedLimit
+
+module _ (s : Space) (M : Limits s) (join k : ℕ) (h : join < segments s - 1) (m : k < conditionCount s join) (t : Table) (R : Reached s join k t) where
+  f : ℕ
+  f = firstSpanned (degree s) (met s join k) join k
+
+  pub unit : (j u : ℕ) (a : j < segments s) (b : u ≤ degree s j) (r : ℕ) → lowest (degree s) (met s join k) j u ≡ r → highest (degree s) (met s join k) j u ≡ r → Unit t (firstColumn s j + u) r
+  unit j u a b r p q = unit-of t (firstColumn s j + u) r (support-ends p q (R .shape .supported j u a b))
+      (R .basis .column-sums _ (column-inside s j u a b))
+
+  room-left : k < degree s join
+  room-left = room s M join k h m
+
+  room-right : k < degree s (suc join)
+  room-right = room′ s M join k h m
+
+  left-start : k ≤ 1 → Unit t (firstColumn s join + (degree s join - k + 0)) f
+  unfolding f
+  left-start w = unit join (degree s join - k + 0) (omega arith) (omega (arith, room-left)) f
+      (start-low (degree s) (met s join k) join k (stage s M join k h m) room-left room-right (omega arith))
+      (start-high-low (degree s) (met s join k) join k (stage s M join k h m) room-left room-right (omega arith) w)
+
+  left-end : k ≡ 1 → Unit t (firstColumn s join + (degree s join - k + 1)) (suc f)
+  unfolding f
+  left-end e = unit join (degree s join - k + 1) (omega arith) (omega (arith, room-left)) (suc f)
+      (left-low (degree s) (met s join k) join k (stage s M join k h m) room-left room-right (omega arith) 1 (omega arith) (omega arith))
+      (left-high (degree s) (met s join k) join k (stage s M join k h m) room-left room-right (omega arith) 1 (omega arith) (omega arith) ∙ omega arith)
+
+  right-start : k ≡ 1 → Unit t (firstColumn s (suc join) + 0) (suc f)
+  unfolding f
+  right-start e = unit (suc join) 0 (omega arith) (omega arith) (suc f)
+      (right-low (degree s) (met s join k) join k (stage s M join k h m) room-left room-right (omega arith) 0 (omega arith) ∙ omega arith)
+      (right-high (degree s) (met s join k) join k (stage s M join k h m) room-left room-right (omega arith) 0 (omega arith) ∙ omega arith)
+
+  right-end : k ≤ 1 → Unit t (firstColumn s (suc join) + k) (suc (f + k))
+  unfolding f
+  right-end w = unit (suc join) k (omega arith) (omega (arith, room-right)) (suc (f + k))
+      (right-low (degree s) (met s join k) join k (stage s M join k h m) room-left room-right (omega arith) k (omega arith) ∙ omega arith)
+      (right-last (degree s) (met s join k) join k (stage s M join k h m) room-left room-right (omega arith))
+
+-- The two sides' conditions of order 1 together.
+sides : (s : Space) (M : Limits s) (join : ℕ) → join < segments s - 1 → 0 < conditionCount s join → degree s join * width s (suc join) + degree s (suc join) * width s join ≤ countedLimit
+sides s M join h c = omega (arith, mul-le-mul-right (width s (suc join)) (M .low-degree join (omega arith)), mul-le-mul-right (width s join) (M .low-degree (suc join) (omega arith)), M .neighbours join h c)
+
+load-zero : (s : Space) (M : Limits s) (join : ℕ) (h : join < segments s - 1) (m : 0 < conditionCount s join) (t : Table) → Reached s join 0 t → (i : ℕ) → RowLoad (row t i) (conditions s join 0)
+load-zero s M join h m t R i = subst (RowLoad (row t i)) (sym (conditions-zero s join)) (go (ℕ-discrete i r) (ℕ-discrete i (suc (r + 0))))
+  where
+    g : ℕ
+    g = commonDivisor (undivided s join 0)
+
+    r : ℕ
+    r = f s M join 0 h m t R
+
+    X : Unit t (firstColumn s join + (degree s join - 0 + 0)) r
+    X = left-start s M join 0 h m t R (omega arith)
+
+    Y : Unit t (firstColumn s (suc join) + 0) (suc (r + 0))
+    Y = right-end s M join 0 h m t R (omega arith)
+
+    go : Dec (i ≡ r) → Dec (i ≡ suc (r + 0)) → RowLoad (row t i) (divided g (leftEntry s join 0 0) ∷ divided g (rightEntry s join 0 0) ∷ [])
+    go (yes a) b = record { size = _; load = take (subst (λ n. cell t n (firstColumn s join + (degree s join - 0 + 0)) ≡ int (pos 1)) (sym a) (X .one)) (skip (Y .none i (λ z. omega arith)) empty); within = omega (arith, left-zero g s join) }
+    go (no a) (yes b) = record { size = _; load = skip (X .none i a) (take (subst (λ n. cell t n (firstColumn s (suc join) + 0) ≡ int (pos 1)) (sym b) (Y .one)) empty); within = omega (arith, right-zero g s join) }
+    go (no a) (no b) = record { size = _; load = skip (X .none i a) (skip (Y .none i b) empty); within = omega arith }
+
+load-one : (s : Space) (M : Limits s) (join : ℕ) (h : join < segments s - 1) (m : 1 < conditionCount s join) (t : Table) → Reached s join 1 t → (i : ℕ) → RowLoad (row t i) (conditions s join 1)
+load-one s M join h m t R i = subst (RowLoad (row t i)) (sym (conditions-one s join)) (go (ℕ-discrete i r) (ℕ-discrete i (suc r)) (ℕ-discrete i (suc (r + 1))))
+  where
+    g : ℕ
+    g = commonDivisor (undivided s join 1)
+
+    r : ℕ
+    r = f s M join 1 h m t R
+
+    X : Unit t (firstColumn s join + (degree s join - 1 + 0)) r
+    X = left-start s M join 1 h m t R (omega arith)
+
+    X′ : Unit t (firstColumn s join + (degree s join - 1 + 1)) (suc r)
+    X′ = left-end s M join 1 h m t R refl
+
+    Y : Unit t (firstColumn s (suc join) + 0) (suc r)
+    Y = right-start s M join 1 h m t R refl
+
+    Y′ : Unit t (firstColumn s (suc join) + 1) (suc (r + 1))
+    Y′ = right-end s M join 1 h m t R (omega arith)
+
+    at : {c n : ℕ} → i ≡ n → Unit t c n → cell t i c ≡ int (pos 1)
+    at {c} {n} e U = subst (λ x. cell t x c ≡ int (pos 1)) (sym e) (U .one)
+
+    go : Dec (i ≡ r) → Dec (i ≡ suc r) → Dec (i ≡ suc (r + 1)) → RowLoad (row t i) (divided g (leftEntry s join 1 0) ∷ divided g (leftEntry s join 1 1) ∷ divided g (rightEntry s join 1 0) ∷ divided g (rightEntry s join 1 1) ∷ [])
+    go (yes a) b c = record { size = _; load = take (at a X) (skip (X′ .none i (λ z. omega arith)) (skip (Y .none i (λ z. omega arith)) (skip (Y′ .none i (λ z. omega arith)) empty))); within = omega (arith, left-one g s join 0 (omega arith), sides s M join h (omega arith)) }
+    go (no a) (yes b) c = record { size = _; load = skip (X .none i a) (take (at b X′) (take (at b Y) (skip (Y′ .none i (λ z. omega arith)) empty))); within = omega (arith, left-one g s join 1 (omega arith), right-one g s join 0 (omega arith), sides s M join h (omega arith)) }
+    go (no a) (no b) (yes c) = record { size = _; load = skip (X .none i a) (skip (X′ .none i b) (skip (Y .none i b) (take (at c Y′) empty))); within = omega (arith, right-one g s join 1 (omega arith), sides s M join h (omega arith)) }
+    go (no a) (no b) (no c) = record { size = _; load = skip (X .none i a) (skip (X′ .none i b) (skip (Y .none i b) (skip (Y′ .none i c) empty))); within = omega arith }
+
+pub row-load : (s : Space) (M : Limits s) (join k : ℕ) → join < segments s - 1 → k < conditionCount s join → (t : Table) → Reached s join k t → k ≤ 1 → (i : ℕ) → RowLoad (row t i) (conditions s join k)
+row-load s M join zero h m t R w i = load-zero s M join h m t R i
+row-load s M join (suc zero) h m t R w i = load-one s M join h m t R i
+row-load s M join (suc (suc k)) h m t R w i = absurd (omega arith)

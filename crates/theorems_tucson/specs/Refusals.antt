@@ -1,0 +1,46 @@
+-- Which refusals the two calls can give (document 02, change request 1), whatever the text, the lists and the buffers are. The
+-- proofs are in proofs/Refusals.
+use mathlib.Core.Bool.{true, false}
+use mathlib.Core.List.{List}
+use mathlib.Core.Option.{Option, some}
+use mathlib.Core.Path.{_≡_}
+use Prim.Native.Nat.{ℕ, _≤_, _<_}
+use lib.IntN.{ℤ, pos, _+ℤ_}
+use lib.ListN.{length}
+use Rattle.spec_spline.specs.Outcome.{answer, refusal, capped}
+use Rattle.base_text.specs.Bytes.{Text}
+use Rattle.spec_tucson.specs.Line.{Line, linesOf, goodLine}
+use Rattle.spec_tucson.specs.TextReading.{Begun, nextYear, opened, readLine}
+use Rattle.spec_tucson.specs.ReadCall.{readEnd}
+use Rattle.spec_tucson.specs.WriteCall.{writeEnd}
+
+-- A refusal of the read call: 1 at place 0, or 11, 12 or 13 at a line of the text, from 1.
+pub data ReadRefusal (t : Text) : ℕ → ℕ → Type 0 where
+  shortBuffers : ReadRefusal t 1 0
+  atLine : {number : ℕ} (line : ℕ) → 11 ≤ number → number ≤ 13 → 1 ≤ line → line ≤ length (linesOf t) → ReadRefusal t number (capped line)
+
+-- The read call refuses so, and leaves all four buffers.
+abbrev pub ReadRefuses : Type 0
+ReadRefuses =
+    (t names : Text) (years : List ℤ) (counts : List ℕ) (widths : List ℤ) (number place : ℕ) →
+    readEnd t names years counts widths .answers ≡ refusal number place →
+    ReadRefusal t number place × (readEnd t names years counts widths ≡ record { answers = refusal number place; names = names; years = years; counts = counts; widths = widths })
+
+-- The year that number 12 asks of the line after one that goes on: that line's year and its count of fields.
+abbrev pub NextYearByLine : Type 0
+NextYearByLine =
+    (place : ℕ) (b : Option Begun) (t : Text) (c : Begun) → readLine place b true t ≡ answer (opened c) →
+    (l : Line) × (goodLine false t ≡ some l) × (nextYear c ≡ l .year +ℤ pos (length (l .fields)))
+
+-- A refusal of the write call: 2 or 1 at place 0, or 11 at a series, from 0.
+pub data WriteRefusal (years : List ℤ) : ℕ → ℕ → Type 0 where
+  unfitting : WriteRefusal years 2 0
+  atSeries : (series : ℕ) → series < length years → WriteRefusal years 11 (capped series)
+  shortBuffer : WriteRefusal years 1 0
+
+-- The write call refuses so, and leaves its buffer.
+abbrev pub WriteRefuses : Type 0
+WriteRefuses =
+    (names : Text) (years : List ℤ) (counts : List ℕ) (widths : List ℤ) (text : Text) (number place : ℕ) →
+    writeEnd names years counts widths text .answers ≡ refusal number place →
+    WriteRefusal years number place × (writeEnd names years counts widths text ≡ record { answers = refusal number place; text = text })

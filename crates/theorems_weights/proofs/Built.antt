@@ -1,0 +1,120 @@
+-- The induction over the steps: the table that the build answers is a basis for all join conditions of the space, and
+-- each condition has taken one row.
+use mathlib.Core.Path.{_≡_, refl, sym, _∙_, ap, subst}
+use mathlib.Core.Logic.{_⊎_, inl, inr}
+use mathlib.Core.List.{List}
+use Prim.Native.Nat.{ℕ, suc, _+_, _-_, _<_}
+use native.Mathlib.Omega.{arith}
+use native.Mathlib.Nat.{eq-or-lt-of-le}
+use lib.ListN.{length}
+use Rattle.spec_spline.specs.Outcome.{answer}
+use Rattle.spec_spline.specs.Space.{Space, segments, columnCount, conditionCount, conditionsBefore, rowCount, checked}
+use Rattle.spec_spline.specs.Conditions.{Entry, conditions}
+use Rattle.spec_spline.specs.Table.{Table, identity}
+use Rattle.spec_spline.specs.Step.{step}
+use Rattle.spec_spline.specs.Build.{orderSteps, joinSteps, weights, spaceWeights}
+use Rattle.spec_spline.proofs.Outcome.{then-inverts, repeat-keeps}
+use Rattle.spec_spline.proofs.Legal.{checked-inverts, Legal, legal}
+use Rattle.spec_spline.proofs.Conditions.{conditions-inside}
+use Rattle.spec_spline.proofs.Table.{identity-rows}
+use Rattle.theorems_weights.proofs.Stepped.{Stepped}
+use Rattle.theorems_weights.proofs.Basis.{Basis, basis-stepped, step-keeps}
+use Rattle.theorems_weights.proofs.Identity.{identity-basis}
+use Rattle.theorems_weights.proofs.Condition.{conditions-constant}
+
+-- The conditions of the joins before this one, and the first ones at it.
+pub data Done (s : Space) (join n : ℕ) (κ : List Entry) : Type 0 where
+  earlier : (j k : ℕ) → j < join → k < conditionCount s j → conditions s j k ≡ κ → Done s join n κ
+  here : (k : ℕ) → k < n → conditions s join k ≡ κ → Done s join n κ
+
+pub nothing-done : (s : Space) (κ : List Entry) → Done s 0 0 κ → ⊥
+nothing-done s κ (earlier i m a b c) = omega arith
+nothing-done s κ (here m a c) = omega arith
+
+basis-same : {K K′ : List Entry → Type 0} {columns : ℕ} {t : Table} → ((κ : List Entry) → K κ → K′ κ) → ((κ : List Entry) → K′ κ → K κ) → Basis K columns t → Basis K′ columns t
+basis-same there back B = record {
+  wide = B .wide;
+  not-negative = B .not-negative;
+  column-sums = B .column-sums;
+  meets = λ κ m. B .meets κ (back κ m);
+  spans = λ z out met. B .spans z out (λ κ m. met κ (there κ m));
+  unique = B .unique;
+}
+
+module _ (s : Space) (L : Legal s) where
+  -- one step
+  pub order-stepped : (j k : ℕ) → j < segments s - 1 → k < conditionCount s j → (t t′ : Table) → Basis (Done s j k) (columnCount s) t → step j (conditions s j k) t ≡ answer t′
+      → Stepped (conditions s j k) (columnCount s) t t′
+  order-stepped j k h l t t′ B e =
+      let p = L .below-left-degree j h in let q = L .below-right-degree j h in
+      basis-stepped (Done s j k) (columnCount s) j (conditions s j k) t B
+      (conditions-inside s j k (omega arith) (omega arith) (omega arith))
+      (conditions-constant s j k (omega arith) (L .positive-width (suc j) (omega arith))) e
+
+  pub order-kept : (j k : ℕ) (t t′ : Table) → Basis (Done s j k) (columnCount s) t → Stepped (conditions s j k) (columnCount s) t t′ → Basis (Done s j (suc k)) (columnCount s) t′
+  order-kept j k t t′ B S = step-keeps (Done s j k) (Done s j (suc k)) (columnCount s) (conditions s j k) t t′ B S added kept (here k (omega arith) refl)
+    where
+      added : (κ : List Entry) → Done s j (suc k) κ → Done s j k κ ⊎ (conditions s j k ≡ κ)
+      added κ (earlier i m a b c) = inl (earlier i m a b c)
+      added κ (here m a c) = place (eq-or-lt-of-le a)
+        where
+          place : (suc m ≡ suc k) ⊎ (suc m < suc k) → Done s j k κ ⊎ (conditions s j k ≡ κ)
+          place (inl z) = inr (ap (conditions s j) (let y : k ≡ m = omega arith in y) ∙ c)
+          place (inr z) = inl (here m (omega arith) c)
+
+      kept : (κ : List Entry) → Done s j k κ → Done s j (suc k) κ
+      kept κ (earlier i m a b c) = earlier i m a b c
+      kept κ (here m a c) = here m (omega arith) c
+
+  -- all steps of a join
+  pub join-kept : (j : ℕ) → j < segments s - 1 → (t t′ : Table) → Basis (Done s j 0) (columnCount s) t → orderSteps s j (conditionCount s j) t ≡ answer t′
+      → Basis (Done s (suc j) 0) (columnCount s) t′ × (length t′ + conditionCount s j ≡ length t)
+  unfolding orderSteps
+  join-kept j h t t′ B e = finish (repeat-keeps (λ k b. Basis (Done s j k) (columnCount s) b × (length b + k ≡ length t)) (conditionCount s j) (λ k. step j (conditions s j k)) t (B, omega arith) one t′ e)
+    where
+      one : (k : ℕ) (b c : Table) → k < conditionCount s j → Basis (Done s j k) (columnCount s) b × (length b + k ≡ length t) → step j (conditions s j k) b ≡ answer c
+          → Basis (Done s j (suc k)) (columnCount s) c × (length c + suc k ≡ length t)
+      one k b c l P r = let S = order-stepped j k h l b c (P .0) r in (order-kept j k b c (P .0) S, omega (arith, S .rows, P .1))
+
+      there : (κ : List Entry) → Done s j (conditionCount s j) κ → Done s (suc j) 0 κ
+      there κ (earlier i m a b c) = earlier i m (omega arith) b c
+      there κ (here m a c) = earlier j m (omega arith) a c
+
+      back : (κ : List Entry) → Done s (suc j) 0 κ → Done s j (conditionCount s j) κ
+      back κ (earlier i m a b c) = place (eq-or-lt-of-le a)
+        where
+          place : (suc i ≡ suc j) ⊎ (suc i < suc j) → Done s j (conditionCount s j) κ
+          place (inl z) = let y : i ≡ j = omega arith in here m (subst (λ n. m < conditionCount s n) y b) (ap (λ n. conditions s n m) (sym y) ∙ c)
+          place (inr z) = earlier i m (omega arith) b c
+      back κ (here m a c) = absurd (omega arith)
+
+      finish : Basis (Done s j (conditionCount s j)) (columnCount s) t′ × (length t′ + conditionCount s j ≡ length t) → Basis (Done s (suc j) 0) (columnCount s) t′ × (length t′ + conditionCount s j ≡ length t)
+      finish P = (basis-same there back (P .0), P .1)
+
+  -- all joins
+  all-kept : (t : Table) → weights s ≡ answer t → Basis (Done s (segments s - 1) 0) (columnCount s) t × (length t + conditionsBefore s (segments s - 1) ≡ columnCount s)
+  unfolding weights joinSteps conditionsBefore
+  all-kept t e = repeat-keeps (λ j b. Basis (Done s j 0) (columnCount s) b × (length b + conditionsBefore s j ≡ columnCount s)) (segments s - 1) (λ j. orderSteps s j (conditionCount s j)) (identity (columnCount s))
+      (identity-basis (columnCount s) (Done s 0 0) (nothing-done s), omega (arith, identity-rows (columnCount s))) one t e
+    where
+      one : (j : ℕ) (b c : Table) → j < segments s - 1 → Basis (Done s j 0) (columnCount s) b × (length b + conditionsBefore s j ≡ columnCount s) → orderSteps s j (conditionCount s j) b ≡ answer c
+          → Basis (Done s (suc j) 0) (columnCount s) c × (length c + conditionsBefore s (suc j) ≡ columnCount s)
+      one j b c h P r = let Q = join-kept j h b c (P .0) r in (Q .0, omega (arith, Q .1, P .1))
+
+-- What the build answers.
+pub record Built (s : Space) (t : Table) : Type 0 where
+  pub legal-space : Legal s
+  pub weights-are : weights s ≡ answer t
+  pub basis : Basis (Done s (segments s - 1) 0) (columnCount s) t
+  pub rows : length t + conditionsBefore s (segments s - 1) ≡ columnCount s
+
+pub built : (s : Space) (t : Table) → spaceWeights s ≡ answer t → Built s t
+unfolding spaceWeights
+built s t e = go (then-inverts (checked s) weights e .middle) (then-inverts (checked s) weights e .before) (then-inverts (checked s) weights e .after)
+  where
+    go : (s′ : Space) → checked s ≡ answer s′ → weights s′ ≡ answer t → Built s t
+    go s′ p q = let c = checked-inverts s p in let L = legal s (c .1) in let w = ap weights (c .0) ∙ q in let all = all-kept s L t w in
+        record { legal-space = L; weights-are = w; basis = all .0; rows = all .1 }
+
+pub row-count : (s : Space) (t : Table) → Built s t → length t ≡ rowCount s
+row-count s t b = omega (arith, b .rows)

@@ -1,0 +1,39 @@
+-- The machine's form of what the definitions of a line say: the cases of the enums that the functions on one line answer.
+use mathlib.Core.Bool.{Bool, true, cond, _&&_}
+use mathlib.Core.List.{List, dropLast}
+use mathlib.Core.Option.{Option, some, none}
+use mathlib.Core.Path.{_≡_}
+use Prim.Native.Nat.{ℕ, _+_, _≤_}
+use lib.IntN.{ℤ}
+use lib.ListN.{length, take, drop}
+use lib.Seq.{slice}
+use Rattle.base_text.specs.Bytes.{Text, newline, indexOf}
+use Rattle.spec_tucson.specs.Columns.{inColumns}
+use Rattle.spec_tucson.specs.Line.{nameColumns, yearColumns, fieldNumbers, Line, withNumbers, ifAllowed}
+use Rattle.spec_tucson.specs.Series.{allHundredths}
+use Rattle.spec_tucson.specs.TextReading.{lastField}
+use Rattle.spec_tucson.specs.Writing.{allWidths}
+use Rattle.tucson_lines.specs.declared.LineAnswer.{LineAnswer}
+use Rattle.tucson_lines.specs.declared.LineAnswer.the-variants as line-cases
+use Rattle.tucson_lines.specs.declared.WidthsAnswer.{WidthsAnswer}
+use Rattle.tucson_lines.specs.declared.WidthsAnswer.the-variants as widths-cases
+
+-- The line that begins at the one index ends at the other: at its byte 10, or at the end of the text.
+pub record LineEnd (text : Text) (from end : ℕ) : Type 0 where
+  pub within : from ≤ length text
+  pub is : end ≡ from + indexOf newline (slice from (length text) text)
+
+-- Whether the fields are widths, and if so whether these and those before them are all at most 9,999.
+unfoldable pub widthsTold : Bool → Option (List ℤ) → WidthsAnswer
+widthsTold small none = widths-cases.Bad
+widthsTold small (some ws) = cond (allWidths ws) (widths-cases.Small (small && allHundredths ws)) widths-cases.Bad
+
+-- What is told of a good line.
+unfoldable pub lineTold : Option Line → LineAnswer
+lineTold none = line-cases.Bad
+lineTold (some l) = line-cases.Good (l .year) (length (l .fields)) (allHundredths (dropLast (l .fields))) (lastField (l .fields))
+
+-- What is told of n fields behind the name and the year of these columns.
+abbrev pub numbersTold : Text → ℕ → LineAnswer
+numbersTold body n =
+    lineTold (ifAllowed true (withNumbers (take nameColumns body) (inColumns (take yearColumns (drop nameColumns body))) (fieldNumbers n (drop (nameColumns + yearColumns) body))))

@@ -1,2 +1,0 @@
--- What the contracts of undoing cite beside the definitions of crate recovery.
-pub mod Reply

@@ -1,3 +1,0 @@
--- What the contracts of weights cite beside the definitions of crate spline.
-pub mod Reply
-pub mod Leaves
