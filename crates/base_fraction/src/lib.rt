@@ -64,7 +64,7 @@ pub fn round_div(a: i64, d: i64) -> i64
 }
 
 // n over d in lowest terms.
-pub fn lowest(n: i64, d: i64) -> Fraction
+fn lowest(n: i64, d: i64) -> Fraction
     requires { ⌜ pos 0 <ℤ d ⌝ }
     ensures { λ r. ⌜ r ≡ fraction (ratio n d) ⌝ }
 {

@@ -1,3 +1,3 @@
--- What the contracts of cells cite beside the definitions of crate spline.
+-- What the contracts of build_cells cite beside the definitions of crate spec_spline.
 pub mod Region
 pub mod Held

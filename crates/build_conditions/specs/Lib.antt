@@ -1,3 +1,3 @@
--- What the contracts of conditions cite beside the definitions of crate spline.
+-- What the contracts of build_conditions cite beside the definitions of crate spec_spline.
 pub mod Sides
 pub mod Terms

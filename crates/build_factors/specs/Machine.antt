@@ -1,4 +1,4 @@
--- The machine's form of the factors and refusals that the definitions of crate spline give.
+-- The machine's form of the factors and refusals that the definitions of crate spec_spline give.
 use mathlib.Core.Bool.{cond}
 use mathlib.Core.List.{List, []}
 use Prim.Native.Nat.{ℕ}

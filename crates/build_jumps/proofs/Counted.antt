@@ -1,4 +1,4 @@
--- The machine's counted fractions and the outcomes of the definitions: an operation of crate fraction answers what a
+-- The machine's counted fractions and the outcomes of the definitions: an operation of crate base_fraction answers what a
 -- counted fraction of a step answers, and what the machine's two cases tell of an outcome, alone and in a chain.
 use mathlib.Core.Path.{_≡_, refl, sym, _∙_, ap}
 use mathlib.Core.Bool.{Bool, true, false}

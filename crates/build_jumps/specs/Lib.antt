@@ -1,2 +1,2 @@
--- What the contracts of jumps cite beside the definitions of crate spline.
+-- What the contracts of build_jumps cite beside the definitions of crate spec_spline.
 pub mod Machine

@@ -1,4 +1,4 @@
--- The machine's form of the counted fractions, jumps and spans that the definitions of crate spline give.
+-- The machine's form of the counted fractions, jumps and spans that the definitions of crate spec_spline give.
 use mathlib.Core.Bool.{true, false}
 use mathlib.Core.List.{List, []}
 use lib.IntN.{pos}

@@ -1,3 +1,3 @@
--- What the contracts of space cite beside the definitions of crate spline.
+-- What the contracts of build_space cite beside the definitions of crate spec_spline.
 pub mod Machine
 pub mod Legal

@@ -1,4 +1,4 @@
--- The machine's form of what the definitions of crate spline say of the three lists.
+-- The machine's form of what the definitions of crate spec_spline say of the three lists.
 use mathlib.Core.List.{List}
 use mathlib.Core.Option.{Option, some, none}
 use Prim.Native.Nat.{ℕ}

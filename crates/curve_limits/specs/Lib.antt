@@ -1,2 +1,2 @@
--- What the contracts of limits cite beside the definitions of crate spline.
+-- What the contracts of curve_limits cite beside the definitions of crate spec_spline.
 pub mod Limits

@@ -1,3 +1,3 @@
--- What the contracts of ordinates cite beside the definitions of crate spline.
+-- What the contracts of curve_ordinates cite beside the definitions of crate spec_spline.
 pub mod Wood
 pub mod Ordinates

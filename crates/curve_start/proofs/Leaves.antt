@@ -55,6 +55,7 @@ module _ (b d o coefs num den early late : List ℤ) where
             result = read (t .table);
             is = e;
             legal = lists-legal b d o coefs [] passes;
+            count = t .count;
             coefficients = coefficients-good b d o coefs [] passes;
             early-is = p .early-is (t .table) (t .is);
             late-is = p .late-is (t .table) (t .is);

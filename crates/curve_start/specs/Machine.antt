@@ -1,6 +1,7 @@
 -- What building the curves leaves: the machine's answer, both weight buffers, and the ordinates of all columns.
 use mathlib.Core.List.{List, _++_}
 use mathlib.Core.Path.{_≡_}
+use Prim.Native.Nat.{ℕ}
 use lib.IntN.{ℤ}
 use lib.ListN.{length, drop}
 use Rattle.spec_spline.specs.Outcome.{answer, refusal}
@@ -14,18 +15,20 @@ use Rattle.build.specs.declared.Built.{Built}
 use Rattle.build.specs.declared.Built.the-variants.{Rows, Refused}
 use Rattle.curve_start.specs.CurveAlone.{curveAlone}
 
--- After an answer: the lists are legal, and each wood part's list has the ordinates of all columns at its front.
-pub record CurvesHeld (b d o coefs num den early late early′ late′ : List ℤ) : Type 0 where
+-- After an answer with n: the lists are legal, n is the count of rows, and each wood part's list has the ordinates of all columns at
+-- its front.
+pub record CurvesHeld (n : ℕ) (b d o coefs num den early late early′ late′ : List ℤ) : Type 0 where
   pub result : CurveResult
   pub is : curveAlone (space b d o) coefs (length num) (length den) ≡ answer result
   pub legal : ListsLegal b d o
+  pub count : n ≡ rowCount (space b d o)
   pub coefficients : Coefficients coefs (rowCount (space b d o))
   pub early-is : early′ ≡ ordinates (space b d o) (result .table) (coefficient earlywood coefs) ++ drop (columnCount (space b d o)) early
   pub late-is : late′ ≡ ordinates (space b d o) (result .table) (coefficient latewood coefs) ++ drop (columnCount (space b d o)) late
 
 -- What the machine's answer tells: the curves are held, or the call is refused so.
 abbrev pub CurvesTold : (b d o coefs num den early late early′ late′ : List ℤ) → Built → Type 0
-CurvesTold b d o coefs num den early late early′ late′ (Rows n) = CurvesHeld b d o coefs num den early late early′ late′
+CurvesTold b d o coefs num den early late early′ late′ (Rows n) = CurvesHeld n b d o coefs num den early late early′ late′
 CurvesTold b d o coefs num den early late early′ late′ (Refused number place) = curveAlone (space b d o) coefs (length num) (length den) ≡ refusal number place
 
 -- The answer, and both weight buffers as after a curve call.

@@ -133,7 +133,6 @@ fn value_of(ordinates: &[i32], c: usize, p: usize, u: i64, d: i64) -> i32
 
 // The value at a place of the curve with these ordinates. Each degree has an arm, in which the count of ordinates and of
 // stages is known, so that the ordinates stay in registers.
-// The value at a place of the curve with these ordinates.
 pub fn value_at(ordinates: &[i32], place: Place) -> i32
     requires { ⌜ Sound place × ((length (now ordinates) ≡ columnLimit) × Bounded (now ordinates)) ⌝ }
     ensures { λ r. ⌜ r ≡ valueOf (now (ordinates .entry)) place ⌝ }

@@ -1,2 +1,2 @@
--- What the contracts of coefficients cite beside the definitions of crate recovery.
+-- What the contracts of recover cite beside the definitions of crate theorems_recovery.
 pub mod Leaves

@@ -27,7 +27,7 @@ use build_jumps::Fractions;
 use build_jumps::JumpSpan;
 use recover_step::Balance;
 
-pub fn refuse(number: u8) -> Numbers
+fn refuse(number: u8) -> Numbers
     ensures { λ r. ⌜ r ≡ record { refused = number; of = fractions [] } ⌝ }
 {
     Numbers {

@@ -1,2 +1,2 @@
--- What the contracts of undoing cite beside the definitions of crate recovery.
+-- What the contracts of recover_step cite beside the definitions of crate theorems_recovery.
 pub mod Machine

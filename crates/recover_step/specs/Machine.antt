@@ -1,4 +1,4 @@
--- The machine's form of what the definitions of crate recovery give, and what undoing asks of numbers and factors.
+-- The machine's form of what the definitions of crate theorems_recovery give, and what undoing asks of numbers and factors.
 use mathlib.Core.Bool.{true, cond}
 use mathlib.Core.List.{List}
 use mathlib.Core.Logic.{_≢_}

@@ -1,4 +1,4 @@
--- Laws of the printout's lines as loops print them, one more at the end of those before.
+-- Laws of the sheet_print's lines as loops print them, one more at the end of those before.
 use mathlib.Core.Path.{_≡_, refl, sym, ap, _∙_}
 use mathlib.Core.Bool.{Bool, true, false, cond}
 use mathlib.Core.List.{List, [], _∷_, _++_, append-assoc, append-nil, map}

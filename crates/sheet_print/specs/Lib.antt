@@ -1,4 +1,4 @@
--- What the contracts of printout cite beside the definitions of crates spline and numerals.
+-- What the contracts of sheet_print cite beside the definitions of crates spec_spline and base_text.
 pub mod Printout
 pub mod Buffer
 pub mod Printed

@@ -56,7 +56,7 @@ pub fn digit_count(n: u64) -> usize
 }
 
 // The digits of a number, from the last to the first.
-pub fn put_digits(out: &mut [u8], at: usize, n: u64) -> usize
+fn put_digits(out: &mut [u8], at: usize, n: u64) -> usize
     requires { ⌜ at ≤ 2 ^ 63 ⌝ }
     ensures { λ r. ⌜ Puts 20 at (digits n) (now (out .entry)) (now (out .exit)) r ⌝ }
 {

@@ -1,4 +1,4 @@
--- The sheets of W1 and W9 in three steps each: the text is read by computation, the call on the five lists is crate spline's
+-- The sheets of W1 and W9 in three steps each: the text is read by computation, the call on the five lists is crate spec_spline's
 -- case, and what it shows is printed by computation.
 use mathlib.Core.List.{List, [], _∷_, _++_}
 use mathlib.Core.Path.{_≡_, refl, ap, _∙_}

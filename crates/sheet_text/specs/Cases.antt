@@ -1,6 +1,6 @@
 -- Cases W1 and W9 as sheets and their printouts (document 01, "Sheet and printout" and "Cases"; document 02, CR 8 for the values,
 -- CR 10 for the pairs), byte for byte. W9 is a beam of two parts, whose w lines count over the beam (CR 7). The statement at the
--- end is proved by computation in proofs/Cases; the cases of the calls alone are crate spline's.
+-- end is proved by computation in proofs/Cases; the cases of the calls alone are crate spec_spline's.
 use mathlib.Core.List.{[], _∷_}
 use mathlib.Core.Path.{_≡_}
 use Rattle.base_text.specs.Bytes.{Text, lines}

@@ -162,7 +162,7 @@ fn run(
 }
 
 // The whole program: the printout of a sheet's text, written into the lent buffer as far as it fits. The answer is the
-// printout's length, which no sheet takes past the limit.
+// sheet_print's length, which no sheet takes past the limit.
 pub fn sheet(input: &[u8], out: &mut [u8]) -> usize
     ensures { λ r. ⌜ r ≡ length (printout (now (input .entry))) ⌝ }
     ensures { λ r. ⌜ now (out .exit) ≡ written 0 (printout (now (input .entry))) (now (out .entry)) ⌝ }

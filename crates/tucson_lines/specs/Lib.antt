@@ -1,2 +1,2 @@
--- What the contracts of tucson_lines cite beside the definitions of crate tucson_form.
+-- What the contracts of tucson_lines cite beside the definitions of crate spec_tucson.
 pub mod Machine

@@ -172,7 +172,7 @@ fn widths(text: &[u8], from: usize, to: usize, n: usize) -> WidthsAnswer
 }
 
 // The year and the n fields of the line from the one index up to the other, the decade's end and the last field tested too.
-pub fn numbers(text: &[u8], from: usize, end: usize, n: usize) -> LineAnswer
+fn numbers(text: &[u8], from: usize, end: usize, n: usize) -> LineAnswer
     requires { ⌜ Range (now text) from end ⌝ }
     requires { ⌜ (1 ≤ n) × (end ≡ from + 12 + n * fieldColumns) ⌝ }
     ensures { λ r. ⌜ r ≡ numbersTold (slice from end (now (text .entry))) n ⌝ }

@@ -1,3 +1,3 @@
--- What the contracts of walzhik cite beside the definitions of crate spline.
+-- What the contracts of walzhik cite beside the definitions of crate spec_spline.
 pub mod Machine
 pub mod Piece
