@@ -2,10 +2,10 @@
 
 usage: second_library.py [--root FOLDER]
 
-The calls are read from the source of its crates, the imports from their source, specs and proofs. A call of another crate's
-function must be one that is named here. A module of another crate must be one that holds definitions, statements on definitions
-with their proofs, laws of numbers, or what the contracts name. Constants and enums of lower crates may be used from where they
-stand. None of its crates may reach crate walzhik, the first library.
+The calls are read from the source of its crates, the imports from their source, specs and proofs. A call of another
+crate's function must be one that is named here. A module of another crate must be one that holds definitions, statements on
+definitions with their proofs, laws of numbers, or what the contracts name. Constants and enums of lower crates may be used
+from where they stand. None of its crates may reach crate walzhik, the first library.
 """
 
 import argparse

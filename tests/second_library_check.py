@@ -2,8 +2,8 @@
 
 usage: second_library_check.py
 
-Each wrong library is a copy of the crates with one line more: an import of a proof of the curve's, in the source and in a proof, a
-second called function, one that comes in by an import, and the first library among the dependencies.
+Each wrong library is a copy of the crates with one line more: a wrong import in the source and in a proof, a second called
+function, one that comes in by an import, and the first library among the dependencies.
 """
 
 import shutil
