@@ -1,10 +1,11 @@
 /* Walzhik: growth curves of earlywood and latewood in segments of different degree, with exact weights.
  *
- * The static library libwalzhik.a has eleven calls. Lists and buffers may have any length and any content: a call always
- * returns, reads and writes only what it is lent, and answers or refuses with a number and a place. A list or buffer of
- * length 0 still needs a valid (non-null, aligned) pointer. In every call the lent buffers must lie apart from each other and
- * from the lists: no call can see that they overlap, and nothing is promised where they do. Building and the curve call
- * need at most 16,384 bytes of stack each. No call keeps anything for the next.
+ * The static library libwalzhik.a has nine calls; ring indices are a library of their own, with walzhik_indices.h. Lists and
+ * buffers may have any length and any content: a call always returns, reads and writes only what it is lent, and answers or
+ * refuses with a number and a place. A list or buffer of length 0 still needs a valid (non-null, aligned) pointer. In every
+ * call the lent buffers must lie apart from each other and from the lists: no call can see that they overlap, and nothing is
+ * promised where they do. Building and the curve call need at most 16,384 bytes of stack each. No call keeps anything for the
+ * next.
  *
  * A space has m segments, 1 to 48. It is a beam of one part or more, cut at its discontinuities; a part has at most 12 segments
  * and a span of at most 2000:
@@ -57,7 +58,7 @@ extern "C" {
 #define WALZHIK_CELLS 5184
 #define WALZHIK_LARGEST_PLACE UINT32_C(4294967295)
 
-/* An answer: number 0, place 0, and the count of rows (build, coefficients), positions (curve), rings (indices), series
+/* An answer: number 0, place 0, and the count of rows (build, coefficients), positions (curve), rings (the index calls), series
  * (tucson_read) or bytes (tucson_write). A refusal: count 0. */
 typedef struct {
     uint64_t count;
@@ -73,29 +74,6 @@ walzhik_reply walzhik_curve(const int32_t *breaks, size_t breaks_len, const int3
                             const int32_t *orders, size_t orders_len, const int32_t *coefs, size_t coefs_len,
                             const int32_t *positions, size_t positions_len, int64_t *num, size_t num_len, int64_t *den,
                             size_t den_len, int32_t *values, size_t values_len);
-
-/* Ring indices: each measured ring divided by the curve of one wood part. The rings are consecutive; ring r is read at position
- * 256 r, so one outside the span gives 7, whatever its number is.
- *   first    the first ring's number
- *   widths   up to 4096 widths in thousandths of a millimetre, each from 0 (an absent ring) to 99999
- *   values   at least two cells for each ring: the values at the rings' positions, as walzhik_curve writes them
- *   indices  at least one cell for each ring: the greatest whole number at or below 256000 width / value, by the named wood
- *            part's value; -1 for an absent ring. Cells past the rings' count keep what they held.
- * The answer is the rings' count. Numbers as in walzhik_curve, with 1, place 3, where indices is too short, and after all others
- *   14  entry: a width out of range, or a value of zero or less under a present ring
- * No refusal touches the indices; after 14 the weights and the values are as after an answer. Each of these two calls needs
- * at most 32768 bytes of stack. */
-walzhik_reply walzhik_earlywood_indices(const int32_t *breaks, size_t breaks_len, const int32_t *degrees, size_t degrees_len,
-                                        const int32_t *orders, size_t orders_len, const int32_t *coefs, size_t coefs_len,
-                                        int32_t first, const int32_t *widths, size_t widths_len, int64_t *num,
-                                        size_t num_len, int64_t *den, size_t den_len, int32_t *values, size_t values_len,
-                                        int64_t *indices, size_t indices_len);
-
-walzhik_reply walzhik_latewood_indices(const int32_t *breaks, size_t breaks_len, const int32_t *degrees, size_t degrees_len,
-                                       const int32_t *orders, size_t orders_len, const int32_t *coefs, size_t coefs_len,
-                                       int32_t first, const int32_t *widths, size_t widths_len, int64_t *num,
-                                       size_t num_len, int64_t *den, size_t den_len, int32_t *values, size_t values_len,
-                                       int64_t *indices, size_t indices_len);
 
 /* Tucson decadal files. A line has a series name in columns 1 to 8 (printable ASCII, not all blank), a year in 9 to 12 and one to
  * ten fields of six columns, numbers right-aligned, and ends with byte 10. Consecutive lines with one name are a series, its

@@ -1,7 +1,7 @@
 /* The indices of two measured rings against the earlywood curve of case W1, from C: prints ring and index, one pair a line. */
 #include <stdio.h>
 
-#include "walzhik.h"
+#include "walzhik_indices.h"
 
 int main(void) {
     const int32_t breaks[] = {0, 1, 3}, degrees[] = {2, 2}, orders[] = {1};

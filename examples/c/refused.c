@@ -4,7 +4,7 @@
  * one ring beside one of 511. Prints number and place of each, one pair a line. */
 #include <stdio.h>
 
-#include "walzhik.h"
+#include "walzhik_indices.h"
 
 static const int32_t breaks[] = {0, 1, 3}, degrees[] = {2, 2}, orders[] = {1};
 static const int32_t coefs[] = {0, 0, 100, 100, 0, 0, 0, 0}; /* earlywood and latewood of each row */

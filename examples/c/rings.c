@@ -4,7 +4,7 @@
 #include <stdio.h>
 #include <stdlib.h>
 
-#include "walzhik.h"
+#include "walzhik_indices.h"
 
 enum { MOST = 1 << 16, NAME = 8, LEAST_SERIES = 19, LEAST_WIDTH = 6 }; /* bytes */
 enum { MOST_RINGS = 4096 };

@@ -1,6 +1,7 @@
-//! The engine's calls for Rust: safe functions over slices, each for a call of include/walzhik.h, which says what they take and
-//! give. A program takes this file as its module `walzhik` and links with target/staticlib/libwalzhik.a. Each function lends
-//! buffers of its own that are long enough, so number 1 can't come, and gives back what an answer leaves in them.
+//! The engine's calls for Rust: safe functions over slices, each for a call of include/walzhik.h or, for the indices,
+//! include/walzhik_indices.h, which say what they take and give. A program takes this file as its module `walzhik` and links with both
+//! libraries of target/staticlib, libwalzhik.a and libwalzhik_indices.a. Each function lends buffers of its own that are long enough,
+//! so number 1 can't come, and gives back what an answer leaves in them.
 #![allow(dead_code)]
 
 /// The cells of a weight buffer: 72 rows of 72 columns.
@@ -47,20 +48,6 @@ pub mod raw {
             positions: *const i32, positions_len: usize, num: *mut i64, num_len: usize,
             den: *mut i64, den_len: usize, values: *mut i32, values_len: usize,
         ) -> Reply;
-        pub fn walzhik_earlywood_indices(
-            breaks: *const i32, breaks_len: usize, degrees: *const i32, degrees_len: usize,
-            orders: *const i32, orders_len: usize, coefs: *const i32, coefs_len: usize,
-            first: i32, widths: *const i32, widths_len: usize, num: *mut i64, num_len: usize,
-            den: *mut i64, den_len: usize, values: *mut i32, values_len: usize,
-            indices: *mut i64, indices_len: usize,
-        ) -> Reply;
-        pub fn walzhik_latewood_indices(
-            breaks: *const i32, breaks_len: usize, degrees: *const i32, degrees_len: usize,
-            orders: *const i32, orders_len: usize, coefs: *const i32, coefs_len: usize,
-            first: i32, widths: *const i32, widths_len: usize, num: *mut i64, num_len: usize,
-            den: *mut i64, den_len: usize, values: *mut i32, values_len: usize,
-            indices: *mut i64, indices_len: usize,
-        ) -> Reply;
         pub fn walzhik_tucson_read(
             text: *const u8, text_len: usize, names: *mut u8, names_len: usize, years: *mut i32, years_len: usize,
             counts: *mut u32, counts_len: usize, widths: *mut i32, widths_len: usize,
@@ -94,6 +81,24 @@ pub mod raw {
             orders: *const i32, orders_len: usize, ordinates: *const i32, ordinates_len: usize,
             num: *mut i64, num_len: usize, den: *mut i64, den_len: usize,
             coef_num: *mut i64, coef_num_len: usize, coef_den: *mut i64, coef_den_len: usize,
+        ) -> Reply;
+    }
+
+    #[link(name = "walzhik_indices", kind = "static")]
+    extern "C" {
+        pub fn walzhik_earlywood_indices(
+            breaks: *const i32, breaks_len: usize, degrees: *const i32, degrees_len: usize,
+            orders: *const i32, orders_len: usize, coefs: *const i32, coefs_len: usize,
+            first: i32, widths: *const i32, widths_len: usize, num: *mut i64, num_len: usize,
+            den: *mut i64, den_len: usize, values: *mut i32, values_len: usize,
+            indices: *mut i64, indices_len: usize,
+        ) -> Reply;
+        pub fn walzhik_latewood_indices(
+            breaks: *const i32, breaks_len: usize, degrees: *const i32, degrees_len: usize,
+            orders: *const i32, orders_len: usize, coefs: *const i32, coefs_len: usize,
+            first: i32, widths: *const i32, widths_len: usize, num: *mut i64, num_len: usize,
+            den: *mut i64, den_len: usize, values: *mut i32, values_len: usize,
+            indices: *mut i64, indices_len: usize,
         ) -> Reply;
     }
 }

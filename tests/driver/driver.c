@@ -5,6 +5,7 @@
  * and buffers are held. */
 
 #include "lent.h"
+#include "walzhik_indices.h"
 
 enum { CELLS = 5184 };
 

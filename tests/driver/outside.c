@@ -5,7 +5,7 @@
 #include <stdlib.h>
 #include <string.h>
 
-#include "walzhik.h"
+#include "walzhik_indices.h"
 
 /* Reads the cell after argument `at` where the side is "after", before it where it is "before". */
 static void look_outside(int at, const volatile void *block, size_t length, size_t cell_size)

@@ -16,7 +16,7 @@
 #include <stdlib.h>
 #include <string.h>
 
-#include "walzhik.h"
+#include "walzhik_indices.h"
 
 enum { DEGREE = 5, ORDER = 2, PART = 12, BEAM = 48, COLUMNS = (DEGREE + 1) * BEAM };
 enum { POSITIONS = 4096, PARTS = 2, STACK = 1 << 20, PAINT = 0xA5 };

@@ -1,6 +1,5 @@
 -- Laws of ring indices.
 pub mod Ring
-pub mod Searching
 pub mod Positions
 pub mod Call
 pub mod Rings

@@ -1,8 +1,7 @@
--- The machine's form of what the definitions of ring indices say: the parts and answers of the code, positions that fit 32 bits,
--- and the rings by the value cells, where the two parts stand side by side.
+-- The machine's form of what the definitions of ring indices say: the answers of the code, positions that fit 32 bits, and the
+-- rings by the value cells, where the two parts stand side by side.
 use mathlib.Core.Bool.{Bool, cond}
 use mathlib.Core.List.{List}
-use mathlib.Core.Option.{Option, some, none}
 use Prim.Native.Nat.{ℕ, _+_, _*_, min}
 use lib.IntN.{ℤ, pos, negsuc, _+ℤ_}
 use lib.ListN.{length, getD}
@@ -11,32 +10,18 @@ use Rattle.base_exact.specs.Tabulate.{tab}
 use Rattle.spec_spline.specs.Outcome.{Outcome, answer, refusal}
 use Rattle.spec_spline.specs.Search.{first}
 use Rattle.spec_spline.specs.Space.{refuseFirst}
-use Rattle.spec_spline.specs.Reading.{Wood, earlywood, latewood, fine}
+use Rattle.spec_spline.specs.Reading.{fine}
 use Rattle.spec_spline.specs.CurveCall.{positionLimit}
 use Rattle.indices.specs.Indices.{ringWidth, isRefused, indexOf}
-use Rattle.indices.specs.declared.Wood as machine
-use Rattle.indices.specs.declared.Wood.the-variants.{Earlywood, Latewood}
 use Rattle.indices.specs.declared.Answer.{Answer}
 use Rattle.indices.specs.declared.Answer.the-variants.{Indices, Refused}
-use Rattle.indices.specs.declared.Found.{Found}
-use Rattle.indices.specs.declared.Found.the-variants.{At, Nothing}
 
--- ---- parts and answers
-
--- The wood part that a case names.
-abbrev pub woodOf : machine.Wood → Wood
-woodOf Earlywood = earlywood
-woodOf Latewood = latewood
+-- ---- answers
 
 -- The rings' count, or the number and place of a refusal.
 unfoldable pub reply : Answer → Outcome ℕ
 reply (Indices n) = answer n
 reply (Refused number place) = refusal number place
-
--- What a search found.
-unfoldable pub found : Option ℕ → Found
-found none = Nothing
-found (some i) = At i
 
 -- ---- positions that fit
 

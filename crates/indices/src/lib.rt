@@ -1,5 +1,5 @@
-// Ring indices: each measured ring divided by the curve of a named wood part. Of the curve's crate only what its public call
-// promises is used.
+// Ring indices: each measured ring divided by the curve of a named wood part. Of all other code it calls `curve::curve` alone, and
+// knows of it what its contract promises.
 ghost use mathlib.Core.Path.{_≡_};
 ghost use mathlib.Core.List.{_++_};
 ghost use mathlib.Core.Bool.{false};
@@ -10,15 +10,14 @@ ghost use Rattle.base_exact.specs.Tabulate.{tab};
 ghost use Rattle.spec_spline.specs.Search;
 ghost use Rattle.spec_spline.specs.Reading.{woodIndex};
 ghost use Rattle.spec_spline.specs.CurveCall.{positionLimit, curveEnd};
-ghost use Rattle.build_space.specs.Machine.{space};
+ghost use Rattle.build_space.specs.Machine.{space, found};
+ghost use Rattle.curve_ordinates.specs.Wood.{woodOf};
 ghost use Rattle.curve.specs.Machine;
 ghost use Rattle.indices.specs.Indices.{indicesReturned, indicesAfter, indicesEnd};
-ghost use Rattle.indices.specs.Machine.{woodOf, reply, found, nearestWord, wordPosition, ringsTaken, wordPositions, badCell, cellIndex, cellsIndexed};
+ghost use Rattle.indices.specs.Machine.{reply, nearestWord, wordPosition, ringsTaken, wordPositions, badCell, cellIndex, cellsIndexed};
 
 // One more than the curve call takes: it refuses these as it would refuse more.
 const MOST_RINGS: usize = 4097;
-
-const TABLE_CELLS: usize = 5184;
 
 const FINENESS: i64 = 256;
 
@@ -31,22 +30,10 @@ const WIDTH_LIMIT: i32 = 99999;
 // 256 for the values' units, 1,000 for three decimals.
 const INDEX_SCALE: i64 = 256000;
 
-// The wood part whose curve the rings are divided by.
-pub enum Wood {
-    Earlywood,
-    Latewood,
-}
-
 // What the call answers: the rings' count, or a refusal's number and place.
 pub enum Answer {
     Indices(usize),
     Refused(u8, u32),
-}
-
-// The first ring that is refused, if any is.
-enum Found {
-    At(usize),
-    Nothing,
 }
 
 // The 32-bit number nearest to z.
@@ -104,12 +91,12 @@ fn read_rings(
 }
 
 // The part's cell in each pair of values.
-fn wood_index(wood: Wood) -> usize
+fn wood_index(wood: curve_ordinates::Wood) -> usize
     ensures { λ r. ⌜ r ≡ woodIndex (woodOf wood) ⌝ }
 {
     match wood {
-        Wood::Earlywood => 0,
-        Wood::Latewood => 1,
+        curve_ordinates::Wood::Earlywood => 0,
+        curve_ordinates::Wood::Latewood => 1,
     }
 }
 
@@ -132,7 +119,7 @@ fn ring_is_bad(widths: &[i32], values: &[i32], offset: usize, i: usize) -> bool
     value <= 0
 }
 
-fn first_bad_ring(widths: &[i32], values: &[i32], offset: usize) -> Found
+fn first_bad_ring(widths: &[i32], values: &[i32], offset: usize) -> build_space::Found
     requires { ⌜ (2 * length (now widths) ≤ length (now values)) × (offset < 2) ⌝ }
     ensures { λ r. ⌜ r ≡ found (Search.first (length (now (widths .entry))) (badCell (now (widths .entry)) (now (values .entry)) offset)) ⌝ }
 {
@@ -140,10 +127,10 @@ fn first_bad_ring(widths: &[i32], values: &[i32], offset: usize) -> Found
     let mut i = 0;
     let found = loop {
         if i == n {
-            break Found::Nothing;
+            break build_space::Found::Nothing;
         }
         if ring_is_bad(widths, values, offset, i) {
-            break Found::At(i);
+            break build_space::Found::At(i);
         }
         i += 1;
     };
@@ -160,7 +147,9 @@ fn index(widths: &[i32], values: &[i32], offset: usize, i: usize) -> i64
         return -1;
     }
     let value = values[2 * i + offset];
-    base_fraction::floor_div(INDEX_SCALE * (width as i64), value as i64)
+    let dividend = INDEX_SCALE * (width as i64);
+    // Both are above zero, so that the quotient towards zero is the floor.
+    dividend / (value as i64)
 }
 
 // The indices of all rings, none of which is refused.
@@ -178,15 +167,20 @@ fn write_indices(widths: &[i32], values: &[i32], offset: usize, indices: &mut [i
 }
 
 // Number 14, or the indices, of rings whose values have been written.
-fn index_rings(wood: Wood, widths: &[i32], values: &[i32], indices: &mut [i64]) -> Answer
+fn index_rings(
+    wood: curve_ordinates::Wood,
+    widths: &[i32],
+    values: &[i32],
+    indices: &mut [i64],
+) -> Answer
     requires { ⌜ ((2 * length (now widths) ≤ length (now values)) × (length (now widths) ≤ length (now indices))) × (length (now widths) ≤ positionLimit) ⌝ }
     ensures { λ r. ⌜ (let i = cellsIndexed (now (widths .entry)) (now (values .entry)) (woodIndex (woodOf wood)) in (reply r ≡ indicesReturned i) × (now (indices .exit) ≡ indicesAfter i (now (indices .entry)))) ⌝ }
 {
     let offset = wood_index(wood);
     let bad = first_bad_ring(widths, values, offset);
     match bad {
-        Found::At(i) => Answer::Refused(14, i as u32),
-        Found::Nothing => {
+        build_space::Found::At(i) => Answer::Refused(14, i as u32),
+        build_space::Found::Nothing => {
             write_indices(widths, values, offset, indices);
             Answer::Indices(widths.len())
         }
@@ -196,7 +190,7 @@ fn index_rings(wood: Wood, widths: &[i32], values: &[i32], indices: &mut [i64]) 
 // Builds the weights, writes both values of each ring, and then the named part's indices, one a ring. Lists and buffers may have
 // any length and content: what the definition refuses is refused, and the buffers are then as it says.
 pub fn indices(
-    wood: Wood,
+    wood: curve_ordinates::Wood,
     breaks: &[i32],
     degrees: &[i32],
     orders: &[i32],
@@ -211,10 +205,10 @@ pub fn indices(
     ensures { λ r. ⌜ (let e = indicesEnd (woodOf wood) (space (now (breaks .entry)) (now (degrees .entry)) (now (orders .entry))) (now (coefs .entry)) first (now (widths .entry)) (now (num .entry)) (now (den .entry)) (now (values .entry)) (now (indices .entry)) in
         (reply r ≡ e .answers) × ((now (num .exit) ≡ e .numerators) × ((now (den .exit) ≡ e .denominators) × ((now (values .exit) ≡ e .values) × (now (indices .exit) ≡ e .indices))))) ⌝ }
 {
-    if num.len() < TABLE_CELLS {
+    if num.len() < build_cells::TABLE_CELLS {
         return Answer::Refused(1, 0);
     }
-    if den.len() < TABLE_CELLS {
+    if den.len() < build_cells::TABLE_CELLS {
         return Answer::Refused(1, 1);
     }
     if values.len() / 2 < widths.len() {

@@ -1,3 +1,3 @@
 -- The crate's hand-written modules.
-pub mod Replied
+pub mod Reached
 pub mod Struct

@@ -6,7 +6,6 @@ ghost use Rattle.spec_spline.specs.Build.{buildEnd};
 ghost use Rattle.theorems_recovery.specs.RecoveryCall.{recoveryEnd};
 ghost use Rattle.spec_spline.specs.Reading.{earlywood, latewood};
 ghost use Rattle.spec_spline.specs.CurveCall.{curveEnd};
-ghost use Rattle.indices.specs.Indices.{indicesEnd};
 ghost use Rattle.spec_tucson.specs.ReadCall.{readEnd};
 ghost use Rattle.spec_tucson.specs.WriteCall.{writeEnd};
 ghost use Rattle.curve_reach.specs.Reach.{reachEnd};
@@ -14,16 +13,9 @@ ghost use Rattle.build.specs.Machine as weights;
 ghost use Rattle.curve_reach.specs.Machine.{reply};
 ghost use Rattle.curve_pieces.specs.Pieces as pieces;
 ghost use Rattle.curve_pieces.specs.Machine.{Shows};
-ghost use Rattle.walzhik.specs.Machine.{replied, reached};
+ghost use Rattle.walzhik_reply.specs.Machine.{replied};
+ghost use Rattle.walzhik.specs.Machine.{reached};
 ghost use Rattle.walzhik.specs.Piece.{Sent};
-
-// The count of rows, positions, rings, series or bytes, with number 0 and place 0; or count 0 with a refusal's number and place.
-#[repr(C)]
-pub struct Reply {
-    pub count: u64,
-    pub number: u32,
-    pub place: u32,
-}
 
 // The position with number 0 and place 0; or position 0 with a refusal's number and place.
 #[repr(C)]
@@ -49,33 +41,13 @@ pub struct Piece {
     pub end: f64,
 }
 
-fn answered(count: usize) -> Reply
-    ensures { λ r. ⌜ (r .count ≡ count) × ((r .number ≡ 0) × (r .place ≡ 0)) ⌝ }
-{
-    Reply {
-        count: count as u64,
-        number: 0,
-        place: 0,
-    }
-}
-
-fn refused(number: u8, place: u32) -> Reply
-    ensures { λ r. ⌜ (r .count ≡ 0) × ((r .number ≡ number) × (r .place ≡ place)) ⌝ }
-{
-    Reply {
-        count: 0,
-        number: number as u32,
-        place: place,
-    }
-}
-
 // The struct of what a call that builds answers with its rows.
-fn rows_of(built: build::Built) -> Reply
+fn rows_of(built: build::Built) -> walzhik_reply::Reply
     ensures { λ r. ⌜ r ≡ replied (weights.reply built) ⌝ }
 {
     match built {
-        build::Built::Rows(n) => answered(n),
-        build::Built::Refused(number, place) => refused(number, place),
+        build::Built::Rows(n) => walzhik_reply::answered(n),
+        build::Built::Refused(number, place) => walzhik_reply::refused(number, place),
     }
 }
 
@@ -87,7 +59,7 @@ pub extern "C" fn walzhik_build(
     orders: &[i32],
     num: &mut [i64],
     den: &mut [i64],
-) -> Reply
+) -> walzhik_reply::Reply
     ensures { λ r. ⌜ (let e = buildEnd (space (now (breaks .entry)) (now (degrees .entry)) (now (orders .entry))) (now (num .entry)) (now (den .entry)) in
         (r ≡ replied (e .answers)) × ((now (num .exit) ≡ e .numerators) × (now (den .exit) ≡ e .denominators))) ⌝ }
 {
@@ -106,7 +78,7 @@ pub extern "C" fn walzhik_coefficients(
     den: &mut [i64],
     coef_num: &mut [i64],
     coef_den: &mut [i64],
-) -> Reply
+) -> walzhik_reply::Reply
     ensures { λ r. ⌜ (let e = recoveryEnd (space (now (breaks .entry)) (now (degrees .entry)) (now (orders .entry))) (now (ordinates .entry)) (now (num .entry)) (now (den .entry)) (now («coef_num» .entry)) (now («coef_den» .entry)) in
         (r ≡ replied (e .answers)) × ((now (num .exit) ≡ e .numerators) × ((now (den .exit) ≡ e .denominators) × ((now («coef_num» .exit) ≡ e .coefficientNumerators) × (now («coef_den» .exit) ≡ e .coefficientDenominators))))) ⌝ }
 {
@@ -134,86 +106,14 @@ pub extern "C" fn walzhik_curve(
     num: &mut [i64],
     den: &mut [i64],
     values: &mut [i32],
-) -> Reply
+) -> walzhik_reply::Reply
     ensures { λ r. ⌜ (let e = curveEnd (space (now (breaks .entry)) (now (degrees .entry)) (now (orders .entry))) (now (coefs .entry)) (now (positions .entry)) (now (num .entry)) (now (den .entry)) (now (values .entry)) in
         (r ≡ replied (e .answers)) × ((now (num .exit) ≡ e .numerators) × ((now (den .exit) ≡ e .denominators) × (now (values .exit) ≡ e .values)))) ⌝ }
 {
     let answer = curve::curve(breaks, degrees, orders, coefs, positions, num, den, values);
     match answer {
-        curve::Answer::Values(n) => answered(n),
-        curve::Answer::Refused(number, place) => refused(number, place),
-    }
-}
-
-// indices::indices by the earlywood.
-#[no_mangle]
-pub extern "C" fn walzhik_earlywood_indices(
-    breaks: &[i32],
-    degrees: &[i32],
-    orders: &[i32],
-    coefs: &[i32],
-    first: i32,
-    widths: &[i32],
-    num: &mut [i64],
-    den: &mut [i64],
-    values: &mut [i32],
-    indices: &mut [i64],
-) -> Reply
-    ensures { λ r. ⌜ (let e = indicesEnd earlywood (space (now (breaks .entry)) (now (degrees .entry)) (now (orders .entry))) (now (coefs .entry)) first (now (widths .entry)) (now (num .entry)) (now (den .entry)) (now (values .entry)) (now (indices .entry)) in
-        (r ≡ replied (e .answers)) × ((now (num .exit) ≡ e .numerators) × ((now (den .exit) ≡ e .denominators) × ((now (values .exit) ≡ e .values) × (now (indices .exit) ≡ e .indices))))) ⌝ }
-{
-    let answer = indices::indices(
-        indices::Wood::Earlywood,
-        breaks,
-        degrees,
-        orders,
-        coefs,
-        first,
-        widths,
-        num,
-        den,
-        values,
-        indices,
-    );
-    match answer {
-        indices::Answer::Indices(n) => answered(n),
-        indices::Answer::Refused(number, place) => refused(number, place),
-    }
-}
-
-// indices::indices by the latewood.
-#[no_mangle]
-pub extern "C" fn walzhik_latewood_indices(
-    breaks: &[i32],
-    degrees: &[i32],
-    orders: &[i32],
-    coefs: &[i32],
-    first: i32,
-    widths: &[i32],
-    num: &mut [i64],
-    den: &mut [i64],
-    values: &mut [i32],
-    indices: &mut [i64],
-) -> Reply
-    ensures { λ r. ⌜ (let e = indicesEnd latewood (space (now (breaks .entry)) (now (degrees .entry)) (now (orders .entry))) (now (coefs .entry)) first (now (widths .entry)) (now (num .entry)) (now (den .entry)) (now (values .entry)) (now (indices .entry)) in
-        (r ≡ replied (e .answers)) × ((now (num .exit) ≡ e .numerators) × ((now (den .exit) ≡ e .denominators) × ((now (values .exit) ≡ e .values) × (now (indices .exit) ≡ e .indices))))) ⌝ }
-{
-    let answer = indices::indices(
-        indices::Wood::Latewood,
-        breaks,
-        degrees,
-        orders,
-        coefs,
-        first,
-        widths,
-        num,
-        den,
-        values,
-        indices,
-    );
-    match answer {
-        indices::Answer::Indices(n) => answered(n),
-        indices::Answer::Refused(number, place) => refused(number, place),
+        curve::Answer::Values(n) => walzhik_reply::answered(n),
+        curve::Answer::Refused(number, place) => walzhik_reply::refused(number, place),
     }
 }
 
@@ -225,14 +125,14 @@ pub extern "C" fn walzhik_tucson_read(
     years: &mut [i32],
     counts: &mut [u32],
     widths: &mut [i32],
-) -> Reply
+) -> walzhik_reply::Reply
     ensures { λ r. ⌜ (let e = readEnd (now (text .entry)) (now (names .entry)) (now (years .entry)) (now (counts .entry)) (now (widths .entry)) in
         (r ≡ replied (e .answers)) × ((now (names .exit) ≡ e .names) × ((now (years .exit) ≡ e .years) × ((now (counts .exit) ≡ e .counts) × (now (widths .exit) ≡ e .widths))))) ⌝ }
 {
     let answer = tucson_read::read(text, names, years, counts, widths);
     match answer {
-        tucson_read::Answer::Series(n) => answered(n),
-        tucson_read::Answer::Refused(number, place) => refused(number, place),
+        tucson_read::Answer::Series(n) => walzhik_reply::answered(n),
+        tucson_read::Answer::Refused(number, place) => walzhik_reply::refused(number, place),
     }
 }
 
@@ -244,14 +144,14 @@ pub extern "C" fn walzhik_tucson_write(
     counts: &[u32],
     widths: &[i32],
     text: &mut [u8],
-) -> Reply
+) -> walzhik_reply::Reply
     ensures { λ r. ⌜ (let e = writeEnd (now (names .entry)) (now (years .entry)) (now (counts .entry)) (now (widths .entry)) (now (text .entry)) in
         (r ≡ replied (e .answers)) × (now (text .exit) ≡ e .text)) ⌝ }
 {
     let answer = tucson_write::write(names, years, counts, widths, text);
     match answer {
-        tucson_write::Answer::Bytes(n) => answered(n),
-        tucson_write::Answer::Refused(number, place) => refused(number, place),
+        tucson_write::Answer::Bytes(n) => walzhik_reply::answered(n),
+        tucson_write::Answer::Refused(number, place) => walzhik_reply::refused(number, place),
     }
 }
 

@@ -7,16 +7,15 @@ use mathlib.Core.Logic.{_≢_}
 use Prim.Native.Nat.{_+_, _*_}
 use lib.IntN.{ℤ, pos, natAbs, _*ℤ_}
 use lib.ListN.{getD}
-use lib.Signed.{_<ℤ_}
+use lib.Signed.{quotZ, _<ℤ_, _≤ℤ_}
 use mir.Syntax.{w32, w64}
 use mir.Val.{SFits, ofZ, toZ}
-use mir.ValLaws.{toZ-ofZ}
-use Rattle.base_exact.specs.Floor.{floorDiv}
-use Rattle.base_exact.proofs.Integer.{abs-mul}
-use Rattle.base_exact.proofs.Word.{ofZ-inj, sfits-nat, sfits-widen, sfits-abs}
+use mir.ValLaws.{toZ-ofZ, sfits-le}
+use Rattle.base_exact.proofs.Integer.{abs-mul, ≤-in, *-pos}
+use Rattle.base_exact.proofs.Word.{ofZ-inj, ofZ-pos, sfits-nat, sfits-widen, sfits-abs, quot-mag, quot-floor}
 use Rattle.indices.specs.Indices.{indexScale}
 use Rattle.indices.specs.Machine.{badCell, cellIndex}
-use Rattle.indices.proofs.Ring.{passes-small, passes-value, index-absent, index-present}
+use Rattle.indices.proofs.Ring.{passes-width, passes-small, passes-value, index-absent, index-present}
 use Rattle.indices.proofs.index.Statement.{statement}
 use Rattle.indices.proofs.index.Tie as tie
 
@@ -72,35 +71,44 @@ module _ (c : tie.After-value) where
   unfolding badCell
   dividend-fits = sfits-abs (omega (arith, abs-mul indexScale width, passes-small width value (start .pre .1)))
 
-cast-floor-div : tie.Need-cast-floor-div
-cast-floor-div c = let f = width-small c in simp toZ-ofZ (sfits-widen f)
+  dividend-above : pos 0 ≤ℤ (indexScale *ℤ width)
+  unfolding badCell
+  dividend-above = *-pos indexScale width (≤-in (pos 0) indexScale (omega arith)) (passes-width width value (start .pre .1) .0)
 
-mul-floor-div : tie.Need-mul-floor-div
-mul-floor-div c =
+  quotient-fits : SFits w64 (quotZ (indexScale *ℤ width) value)
+  quotient-fits = sfits-le (quot-mag (indexScale *ℤ width) value dividend-above value-positive) dividend-fits
+
+cast-dividend : tie.Need-cast-dividend
+cast-dividend c = let f = width-small c in simp toZ-ofZ (sfits-widen f)
+
+mul-dividend : tie.Need-mul-dividend
+mul-dividend c =
     let f = width-small c in
     let g = sfits-widen f in
     simp toZ-ofZ (dividend-fits c)
 
-cast-floor-div-2 : tie.Need-cast-floor-div-2
-cast-floor-div-2 c = let f = value-small c in simp toZ-ofZ (sfits-widen f)
+cast-result : tie.Need-cast-result
+cast-result c = let f = value-small c in simp toZ-ofZ (sfits-widen f)
 
-floor-div-requires : tie.Need-floor-div-requires
-floor-div-requires c κs =
-    let f = value-small c in
+div-result : tie.Need-div-result
+div-result c =
+    let f = width-small c in
     let g = sfits-widen f in
-    simp toZ-ofZ (value-positive c)
+    let h = value-small c in
+    let i = sfits-widen h in
+    let d = dividend-fits c in
+    (simp toZ-ofZ (ofZ-pos w64 (value c) (value-positive c)), simp toZ-ofZ (quotient-fits c))
 
 returns-2 : tie.Need-returns-2
 unfolding cellIndex
 returns-2 c =
-    let k = c .before in
-    let f = width-small k in
+    let f = width-small c in
     let g = sfits-widen f in
-    let h = value-small k in
+    let h = value-small c in
     let i = sfits-widen h in
-    let d = dividend-fits k in
-    let r : SFits w64 (c .floor-div .result) = record { sfits = c .floor-div .ok } in
-    simp toZ-ofZ ((simp toZ-ofZ at (c .floor-div .ensures)) ∙ index-present (width k) (value k) (present k))
+    let d = dividend-fits c in
+    let q = quotient-fits c in
+    simp toZ-ofZ (quot-floor _ _ (dividend-above c) (value-positive c) ∙ index-present (width c) (value c) (present c))
 
 pub index-spec : {M : Type 1} → statement M
 index-spec =
@@ -113,8 +121,8 @@ index-spec =
     add-value
     mul-value-2
     shared-slice-copy-out-value
-    cast-floor-div
-    mul-floor-div
-    cast-floor-div-2
-    floor-div-requires
+    cast-dividend
+    mul-dividend
+    cast-result
+    div-result
     returns-2)

@@ -15,8 +15,9 @@ use Rattle.spec_spline.specs.Reading.{woodIndex}
 use Rattle.spec_spline.proofs.Search.{first-some-inverts, first-none-inverts}
 use Rattle.spec_spline.proofs.Pairs.{woodIndex-below}
 use Rattle.indices.specs.Indices.{indicesReturned, indicesAfter}
-use Rattle.indices.specs.Machine.{woodOf, reply, badCell, cellIndex, cellsIndexed}
-use Rattle.indices.proofs.Searching.{found-some-inverts, found-none-inverts}
+use Rattle.curve_ordinates.specs.Wood.{woodOf}
+use Rattle.indices.specs.Machine.{reply, badCell, cellIndex, cellsIndexed}
+use Rattle.build_space.proofs.Machine.{found-some-inverts, found-none-inverts}
 use Rattle.indices.proofs.Call.{cells-refused, cells-answered}
 use Rattle.indices.proofs.index_rings.Statement.{statement}
 use Rattle.indices.proofs.index_rings.Tie as tie

@@ -19,7 +19,8 @@ use Rattle.spec_spline.specs.CurveCall.{CurveResult, positionLimit, curveOutcom
 use Rattle.curve.specs.Machine as curves
 use Rattle.spec_spline.proofs.Pairs.{half-le}
 use Rattle.indices.specs.Indices.{ringsRead}
-use Rattle.indices.specs.Machine.{woodOf, wordPositions, ringsTaken}
+use Rattle.curve_ordinates.specs.Wood.{woodOf}
+use Rattle.indices.specs.Machine.{wordPositions, ringsTaken}
 use Rattle.indices.proofs.Call.{Ends, ends-refused, ends-unchanged, ends-indexed, first-short, second-short, third-short, fourth-short, handed-on, rings-answered, values-kept, refused-inverts, HasResult, values-inverts}
 use Rattle.indices.proofs.indices.Statement.{statement}
 use Rattle.indices.proofs.indices.Tie as tie

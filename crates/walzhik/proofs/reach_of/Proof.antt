@@ -7,7 +7,7 @@ use mir.Val.{SFits}
 use mir.ValLaws.{toZ-ofZ}
 use Rattle.curve_reach.specs.Machine.{reply}
 use Rattle.walzhik.specs.Machine.{reached}
-use Rattle.walzhik.proofs.Replied.{reach-ext}
+use Rattle.walzhik.proofs.Reached.{reach-ext}
 use Rattle.walzhik.proofs.reach_of.Statement.{statement}
 use Rattle.walzhik.proofs.reach_of.Tie as tie
 

@@ -2,7 +2,7 @@
 use borrow.Author.Needs.{needs}
 use mathlib.Core.Path.{sym, ap}
 use Rattle.build.specs.Machine.{reply}
-use Rattle.walzhik.proofs.Replied.{answer-replied, refusal-replied}
+use Rattle.walzhik_reply.proofs.Replied.{answer-replied, refusal-replied}
 use Rattle.walzhik.proofs.rows_of.Statement.{statement}
 use Rattle.walzhik.proofs.rows_of.Tie as tie
 

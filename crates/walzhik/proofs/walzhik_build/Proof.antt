@@ -1,7 +1,7 @@
 -- The exported call meets its contract: the answer of the call behind it, as a struct. Assumes nothing.
 use borrow.Author.Needs.{needs}
 use mathlib.Core.Path.{ap, _∙_}
-use Rattle.walzhik.specs.Machine.{replied}
+use Rattle.walzhik_reply.specs.Machine.{replied}
 use Rattle.walzhik.proofs.walzhik_build.Statement.{statement}
 use Rattle.walzhik.proofs.walzhik_build.Tie as tie
 

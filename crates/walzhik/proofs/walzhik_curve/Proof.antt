@@ -2,7 +2,7 @@
 use borrow.Author.Needs.{needs}
 use mathlib.Core.Path.{sym, ap, _∙_}
 use Rattle.curve.specs.Machine.{reply}
-use Rattle.walzhik.proofs.Replied.{answer-replied, refusal-replied}
+use Rattle.walzhik_reply.proofs.Replied.{answer-replied, refusal-replied}
 use Rattle.walzhik.proofs.walzhik_curve.Statement.{statement}
 use Rattle.walzhik.proofs.walzhik_curve.Tie as tie
 

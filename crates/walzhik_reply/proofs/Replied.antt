@@ -1,20 +1,13 @@
--- The struct that C and Rust receive is the outcome's, whatever enum it comes from. `reply` is the definition that gives
--- document 01's number and place for the cases of that enum.
+-- The struct that C and Rust receive is the outcome's, whatever enum it comes from.
 use mathlib.Core.Path.{_≡_, ap, _∙_}
 use Prim.Native.Nat.{ℕ}
-use lib.IntN.{ℤ}
 use Rattle.spec_spline.specs.Outcome.{Outcome, answer, refusal}
-use Rattle.walzhik.specs.Machine.{replied}
-use Rattle.walzhik.specs.declared.Reply.{Reply}
-use Rattle.walzhik.specs.declared.Reach.{Reach}
+use Rattle.walzhik_reply.specs.Machine.{replied}
+use Rattle.walzhik_reply.specs.declared.Reply.{Reply}
 
 -- the three parts of a reply
 pub reply-ext : (r : Reply) (count number place : ℕ) → (r .count ≡ count) × ((r .number ≡ number) × (r .place ≡ place)) → r ≡ record { count = count; number = number; place = place }
 reply-ext r count number place e = λ i. record { count = e .0 i; number = e .1 .0 i; place = e .1 .1 i }
-
--- and of a reach
-pub reach-ext : (r : Reach) (position : ℤ) (number place : ℕ) → (r .position ≡ position) × ((r .number ≡ number) × (r .place ≡ place)) → r ≡ record { position = position; number = number; place = place }
-reach-ext r position number place e = λ i. record { position = e .0 i; number = e .1 .0 i; place = e .1 .1 i }
 
 -- a count
 pub answer-replied : (r : Reply) (o : Outcome ℕ) (n : ℕ) → (r .count ≡ n) × ((r .number ≡ 0) × (r .place ≡ 0)) → answer n ≡ o → r ≡ replied o

@@ -1,0 +1,38 @@
+-- `walzhik_indices::rings_of` meets its contract: the count or the refusal, as a struct. Assumes nothing.
+use borrow.Author.Needs.{needs}
+use mathlib.Core.Path.{sym, ap}
+use Rattle.indices.specs.Machine.{reply}
+use Rattle.walzhik_reply.proofs.Replied.{answer-replied, refusal-replied}
+use Rattle.walzhik_indices.proofs.rings_of.Statement.{statement}
+use Rattle.walzhik_indices.proofs.rings_of.Tie as tie
+
+enum-known-answer : tie.Need-enum-known-answer
+enum-known-answer c = search needs
+
+answered-requires : tie.Need-answered-requires
+answered-requires c κs = search needs
+
+enum-known-answer-2 : tie.Need-enum-known-answer-2
+enum-known-answer-2 c = search needs
+
+refused-requires : tie.Need-refused-requires
+refused-requires c κs = search needs
+
+returns : tie.Need-returns
+unfolding reply
+returns c = answer-replied (c .answered .result) _ _ (c .answered .ensures) (sym (ap reply (c .before .before .answer .given .1)))
+
+returns-2 : tie.Need-returns-2
+unfolding reply
+returns-2 c = refusal-replied (c .refused .result) _ _ _ (c .refused .ensures) (sym (ap reply (c .before .before .answer2 .given .1)))
+
+pub rings-of-spec : {M : Type 1} → statement M
+rings-of-spec =
+    tie.close
+    (tie.spec
+    enum-known-answer
+    answered-requires
+    enum-known-answer-2
+    refused-requires
+    returns
+    returns-2)

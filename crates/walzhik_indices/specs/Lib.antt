@@ -1,0 +1,1 @@
+-- Its contracts cite the definitions of crate indices; it has none of its own.

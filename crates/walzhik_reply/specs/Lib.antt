@@ -1,0 +1,2 @@
+-- What the contracts of both libraries cite for an answer by a count.
+pub mod Machine

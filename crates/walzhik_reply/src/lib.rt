@@ -1,0 +1,30 @@
+// The struct with which a call for C and Rust answers by a count: both libraries give it, so it stands below both.
+ghost use mathlib.Core.Path.{_≡_};
+
+// The count of rows, positions, rings, series or bytes, with number 0 and place 0; or count 0 with a refusal's number and place.
+#[repr(C)]
+pub struct Reply {
+    pub count: u64,
+    pub number: u32,
+    pub place: u32,
+}
+
+pub fn answered(count: usize) -> Reply
+    ensures { λ r. ⌜ (r .count ≡ count) × ((r .number ≡ 0) × (r .place ≡ 0)) ⌝ }
+{
+    Reply {
+        count: count as u64,
+        number: 0,
+        place: 0,
+    }
+}
+
+pub fn refused(number: u8, place: u32) -> Reply
+    ensures { λ r. ⌜ (r .count ≡ 0) × ((r .number ≡ number) × (r .place ≡ place)) ⌝ }
+{
+    Reply {
+        count: 0,
+        number: number as u32,
+        place: place,
+    }
+}

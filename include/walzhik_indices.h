@@ -1,0 +1,42 @@
+/* Walzhik, second library: ring indices, each measured ring divided by the curve of one wood part.
+ *
+ * The static library libwalzhik_indices.a has two calls, which work by what walzhik_curve promises. It needs no other library, and
+ * can be linked into one program with libwalzhik.a, in either order. What walzhik.h says of lists, buffers, refusals and the struct
+ * walzhik_reply holds here too.
+ *
+ * The rings are consecutive; ring r is read at position 256 r, so one outside the span gives 7, whatever its number is.
+ *   first    the first ring's number
+ *   widths   up to 4096 widths in thousandths of a millimetre, each from 0 (an absent ring) to 99999
+ *   values   at least two cells for each ring: the values at the rings' positions, as walzhik_curve writes them
+ *   indices  at least one cell for each ring: the greatest whole number at or below 256000 width / value, by the named wood
+ *            part's value; -1 for an absent ring. Cells past the rings' count keep what they held.
+ * The answer is the rings' count. Numbers as in walzhik_curve, with 1, place 3, where indices is too short, and after all others
+ *   14  entry: a width out of range, or a value of zero or less under a present ring
+ * No refusal touches the indices; after 14 the weights and the values are as after an answer. Each of these two calls needs
+ * at most 32768 bytes of stack. */
+#ifndef WALZHIK_INDICES_H
+#define WALZHIK_INDICES_H
+
+#include "walzhik.h"
+
+#ifdef __cplusplus
+extern "C" {
+#endif
+
+walzhik_reply walzhik_earlywood_indices(const int32_t *breaks, size_t breaks_len, const int32_t *degrees, size_t degrees_len,
+                                        const int32_t *orders, size_t orders_len, const int32_t *coefs, size_t coefs_len,
+                                        int32_t first, const int32_t *widths, size_t widths_len, int64_t *num,
+                                        size_t num_len, int64_t *den, size_t den_len, int32_t *values, size_t values_len,
+                                        int64_t *indices, size_t indices_len);
+
+walzhik_reply walzhik_latewood_indices(const int32_t *breaks, size_t breaks_len, const int32_t *degrees, size_t degrees_len,
+                                       const int32_t *orders, size_t orders_len, const int32_t *coefs, size_t coefs_len,
+                                       int32_t first, const int32_t *widths, size_t widths_len, int64_t *num,
+                                       size_t num_len, int64_t *den, size_t den_len, int32_t *values, size_t values_len,
+                                       int64_t *indices, size_t indices_len);
+
+#ifdef __cplusplus
+}
+#endif
+
+#endif
