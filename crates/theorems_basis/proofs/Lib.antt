@@ -2,3 +2,5 @@
 -- the loops of the published construction; Basis states the results.
 pub mod Factors
 pub mod Stages
+pub mod Basis
+pub mod Coefficients
