@@ -23,7 +23,7 @@ use Rattle.spec_spline.proofs.Legal.{legal, checked-inverts}
 use Rattle.theorems_recovery.specs.Recovery.{Numbered, recovered}
 use Rattle.theorems_recovery.specs.RecoveryCall.{badOrdinate, legalOrdinates, recoveryOutcome, recoveryEnd}
 use Rattle.theorems_recovery.specs.Reproduction.{MissedCondition}
-use Rattle.theorems_recovery.proofs.Reproduction.{nineteen-misses-a-condition, CurveEnd, answered, by-the-build, by-twenty, curve-ends}
+use Rattle.theorems_recovery.proofs.Reproduction.{nineteen-misses-a-condition, CurveEnd, by-an-answer, by-the-build, by-twenty, curve-ends}
 use Rattle.theorems_recovery.proofs.RecoveredCells.{call-nineteen}
 use Rattle.theorems_basis.specs.Coefficients.{Reproduce, NoneAfterNineteen, NoneAfterCallsWithNineteen, AnsweredOrTooLarge, answered, weights-too-large, coefficients-too-large, RefusedForSizeAlone, CallsRefusedForSizeAlone, CurvesHaveOneList}
 use Rattle.theorems_basis.proofs.Basis.{published-is-a-basis, refused-with-eight}
@@ -49,7 +49,7 @@ pub refused-for-size-alone : RefusedForSizeAlone
 refused-for-size-alone s e ordinates M = go (curve-ends s (legal s (checked-inverts s e .1)) ordinates M)
   where
     go : CurveEnd s ordinates → AnsweredOrTooLarge (recovered s ordinates)
-    go (answered r p) = AnsweredOrTooLarge.answered r p
+    go (by-an-answer r p) = answered r p
     go (by-the-build number place p w) = weights-too-large place (p ∙ ap (λ n. refusal n place) (refused-with-eight s (checked-inverts s e .1) w))
     go (by-twenty place p) = coefficients-too-large place p
 

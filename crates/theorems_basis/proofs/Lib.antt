@@ -4,3 +4,4 @@ pub mod Factors
 pub mod Stages
 pub mod Basis
 pub mod Coefficients
+pub mod Instances

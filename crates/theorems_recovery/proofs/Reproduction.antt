@@ -189,7 +189,7 @@ exact-curve-has-the-ordinates s e ordinates n r h part coefs same j below x =
 
 -- What the steps end with on the ordinates of a curve that meets all join conditions.
 pub data CurveEnd (s : Space) (ordinates : List ℤ) : Type 0 where
-  answered : (r : Numbered) → recovered s ordinates ≡ answer r → CurveEnd s ordinates
+  by-an-answer : (r : Numbered) → recovered s ordinates ≡ answer r → CurveEnd s ordinates
   by-the-build : (number place : ℕ) → recovered s ordinates ≡ refusal number place → weights s ≡ refusal number place → CurveEnd s ordinates
   by-twenty : (place : ℕ) → recovered s ordinates ≡ refusal 20 place → CurveEnd s ordinates
 
@@ -208,7 +208,7 @@ curve-ends s L ordinates M = go (recovered s ordinates) refl
     decide number place false false false p q u told e = absurd (let z : _≡_ {A = ℕ} 0 1 = cc in omega arith)
 
     go : (o : Outcome Numbered) → recovered s ordinates ≡ o → CurveEnd s ordinates
-    go (answer r) e = answered r e
+    go (answer r) e = by-an-answer r e
     go (refusal number place) e = decide number place (clears number) (eqb number 19) (eqb number 20) refl refl refl (recovered-clears s ordinates number place e) e
 
 -- An accepted space is not refused by the build.
@@ -220,6 +220,6 @@ curves-are-recovered s a ordinates M = go (curve-ends s (built s (a .table) (a .
     not-the-build e = let c = then-inverts (checked s) weights (a .is) in answer-not-refusal (c .after) (ap weights (sym (checked-inverts s (c .before) .0)) ∙ e)
 
     go : CurveEnd s ordinates → RecoveredOrTooLarge (recovered s ordinates)
-    go (answered r e) = recovers r e
+    go (by-an-answer r e) = recovers r e
     go (by-the-build number place e w) = absurd (not-the-build w)
     go (by-twenty place e) = too-large place e
