@@ -1,6 +1,6 @@
 -- Recovered coefficients in every legal space: a missed condition leaves no coefficients, since every combination of the published
 -- rows meets all; and of the build's two numbers only 8 comes.
-use mathlib.Core.Path.{_≡_, refl, sym, _∙_, ap, subst}
+use mathlib.Core.Path.{_≡_, sym, _∙_, ap, subst}
 use mathlib.Core.Bool.{false}
 use mathlib.Core.List.{List, map}
 use Prim.Native.Nat.{ℕ, _<_, _≤_}
@@ -8,24 +8,26 @@ use lib.Arith.{le→nltb}
 use lib.Dec.{T, eqb, ltb, eqb-refl}
 use lib.IntN.{ℤ}
 use lib.ListN.{length, length-map}
-use Rattle.base_exact.specs.Rational.{ℚ, int}
+use Rattle.base_exact.specs.Rational.{int}
 use Rattle.base_exact.proofs.Decide.{holds-true, fails-false, cond-true, cond-false}
-use Rattle.spec_spline.specs.Outcome.{Outcome, answer, refusal, refuse, largestPlace, with-answer}
-use Rattle.spec_spline.specs.Search.{first}
+use Rattle.spec_spline.specs.Outcome.{answer, refusal, refuse, largestPlace, with-answer}
 use Rattle.spec_spline.specs.Space.{Space, refuseFirst, checked, columnCount, rowCount}
 use Rattle.spec_spline.specs.Conditions.{conditions}
 use Rattle.spec_spline.specs.Table.{tableCells}
+use Rattle.spec_spline.specs.Build.{weights, spaceWeights}
 use Rattle.spec_spline.specs.Published.{extraction}
-use Rattle.spec_spline.specs.Piecewise.{MeetsAll, pairing}
+use Rattle.spec_spline.specs.Piecewise.{pairing, combination}
 use Rattle.spec_spline.proofs.Outcome.{then-answers, with-refuses}
 use Rattle.spec_spline.proofs.Search.{first-none}
 use Rattle.spec_spline.proofs.Legal.{legal, checked-inverts}
-use Rattle.theorems_recovery.specs.Recovery.{Numbered, recovered}
+use Rattle.theorems_weights.proofs.Published.{weights-are-published}
+use Rattle.theorems_recovery.specs.Recovery.{recovered}
+use Rattle.theorems_weights.proofs.Published.{weights-are-published}
 use Rattle.theorems_recovery.specs.RecoveryCall.{badOrdinate, legalOrdinates, recoveryOutcome, recoveryEnd}
 use Rattle.theorems_recovery.specs.Reproduction.{MissedCondition}
-use Rattle.theorems_recovery.proofs.Reproduction.{nineteen-misses-a-condition, CurveEnd, by-an-answer, by-the-build, by-twenty, curve-ends}
+use Rattle.theorems_recovery.proofs.Reproduction.{answers-have-the-weights, answers-reproduce, nineteen-misses-a-condition, CurveEnd, by-an-answer, by-the-build, by-twenty, curve-ends}
 use Rattle.theorems_recovery.proofs.RecoveredCells.{call-nineteen}
-use Rattle.theorems_basis.specs.Coefficients.{Reproduce, NoneAfterNineteen, NoneAfterCallsWithNineteen, AnsweredOrTooLarge, answered, weights-too-large, coefficients-too-large, RefusedForSizeAlone, CallsRefusedForSizeAlone, CurvesHaveOneList}
+use Rattle.theorems_basis.specs.Coefficients.{NoneAfterNineteen, NoneAfterCallsWithNineteen, AnsweredOrTooLarge, answered, weights-too-large, coefficients-too-large, RefusedForSizeAlone, CallsRefusedForSizeAlone, CurvesHaveOneList, AnswersAreOfPublishedRows}
 use Rattle.theorems_basis.proofs.Basis.{published-is-a-basis, refused-with-eight}
 
 -- ---- number 19
@@ -78,5 +80,11 @@ calls-refused-for-size-alone s e ordinates num den coefNum coefDen M inside p q 
     go (coefficients-too-large place z) = coefficients-too-large place (ends ∙ ap (with-answer (λ _. rowCount s)) z)
 
 pub curves-have-one-list : CurvesHaveOneList
-curves-have-one-list s e ordinates M = let c = published-is-a-basis s e .one-combination (map int ordinates) M in
-    record { numbers = c .multipliers; count = c .count; reproduce = c .gives; only = c .only }
+curves-have-one-list s e ordinates M = published-is-a-basis s e .one-combination (map int ordinates) M
+
+pub answers-are-of-published-rows : AnswersAreOfPublishedRows
+unfolding spaceWeights
+answers-are-of-published-rows s e ordinates n r h = (same, ap (combination (columnCount s) (r .numbers)) (sym same) ∙ answers-reproduce s e ordinates n r h)
+  where
+    same : r .table ≡ extraction s
+    same = weights-are-published s (record { table = r .table; is = then-answers weights e ∙ answers-have-the-weights s e ordinates n r h .0 })

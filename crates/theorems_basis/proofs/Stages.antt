@@ -1,7 +1,7 @@
 -- The stages of the published construction: after the joins before one and the first orders at it the figure's H is a basis for
 -- the conditions of these, of the form that Invariant states. So the jumps have the signs that a step needs, and the next
 -- stage is reached whatever the size of its fractions.
-use mathlib.Core.Path.{_≡_, refl, sym, _∙_, ap, subst}
+use mathlib.Core.Path.{_≡_, refl, sym, ap, subst}
 use mathlib.Core.Logic.{_⊎_, inl, inr}
 use Prim.Native.Nat.{ℕ, zero, suc, _+_, _-_, _<_, _≤_}
 use native.Mathlib.Omega.{arith}
