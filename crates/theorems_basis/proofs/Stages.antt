@@ -89,9 +89,10 @@ module _ (s : Space) (L : Legal s) (M : Limits s) where
   orders-stage join h t R (suc n) m = let P = orders-stage join h t R n (omega arith) in go _ (P .1) (P .0)
     where
       go : (a : Matrices) → a ≡ started s join (a .H) → Stage s join n (a .H) → Stage s join (suc n) (constrain s join n a .H) × (constrain s join n a ≡ started s join (constrain s join n a .H))
-      go a e S = let b = ap (λ u. constrain s join n u) (sym e) in
-          (subst (λ u. Stage s join (suc n) (u .H)) b (next-stage join n h m (a .H) S),
-          subst (λ u. u ≡ started s join (u .H)) b (next-started join n h m (a .H) S))
+      go a e S = let b = ap (λ u. constrain s join n u) (sym e) in (
+        subst (λ u. Stage s join (suc n) (u .H)) b (next-stage join n h m (a .H) S),
+        subst (λ u. u ≡ started s join (u .H)) b (next-started join n h m (a .H) S),
+      )
 
   -- all of a join
   join-stage : (join : ℕ) → join < segments s - 1 → (t : Table) → Stage s join 0 t → Stage s (suc join) 0 (smooth s join t)
