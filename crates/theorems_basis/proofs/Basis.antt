@@ -2,7 +2,7 @@
 -- legal space is refused with 8 alone.
 use mathlib.Core.Path.{_≡_, refl, sym, _∙_, ap}
 use mathlib.Core.Logic.{_⊎_, inl, inr}
-use mathlib.Core.Bool.{false, cond}
+use mathlib.Core.Bool.{false}
 use Prim.Native.Nat.{ℕ, _-_, _<_, _≤_}
 use lib.Arith.{le→nltb}
 use lib.Dec.{ltb}
@@ -10,11 +10,11 @@ use lib.ListN.{length}
 use Rattle.base_exact.specs.Sum.{sum}
 use Rattle.base_exact.proofs.Decide.{true-not-false, fails-false, cond-false}
 use Rattle.base_exact.proofs.Order.{nn-zero-le}
-use Rattle.spec_spline.specs.Outcome.{Outcome, answer, refusal, refuse, _then_}
+use Rattle.spec_spline.specs.Outcome.{Outcome, answer, refusal, refuse, _then_, with-answer}
 use Rattle.spec_spline.specs.Space.{Space, segments, checked, columnCount, rowCount}
 use Rattle.spec_spline.specs.Conditions.{conditions}
 use Rattle.spec_spline.specs.Table.{Table, row, cell, tableCells}
-use Rattle.spec_spline.specs.Build.{weights, spaceWeights, built}
+use Rattle.spec_spline.specs.Build.{weights, spaceWeights, built, buildEnd}
 use Rattle.spec_spline.specs.Published.{extraction}
 use Rattle.spec_spline.specs.Piecewise.{MeetsAll}
 use Rattle.spec_spline.proofs.Outcome.{then-answers, then-breaks, Broken, first-refuses, second-refuses}
@@ -23,10 +23,11 @@ use Rattle.spec_spline.proofs.Refusals.{step-refuses}
 use Rattle.theorems_weights.proofs.Basis.{Basis}
 use Rattle.theorems_weights.proofs.Built.{Done, earlier}
 use Rattle.theorems_weights.proofs.Published.{weights-are-published}
+use Rattle.theorems_weights.proofs.Cells.{cells-hold-published-weights}
 use Rattle.theorems_weights.proofs.PublishedBasis.{pairing-applied, basis-meets, basis-gives-one}
 use Rattle.theorems_acceptance.proofs.Reached.{weights-refused}
 use Rattle.theorems_acceptance.proofs.NineNever.{weights-not-nine}
-use Rattle.theorems_basis.specs.Basis.{IsBasis, PublishedIsABasis, PublishedOrTooLarge, published, too-large, LegalIsPublishedOrTooLarge, BuildingIsPublishedOrTooLarge, EightHasABasis}
+use Rattle.theorems_basis.specs.Basis.{IsBasis, PublishedIsABasis, PublishedOrTooLarge, published, too-large, LegalIsPublishedOrTooLarge, BuiltOrTooLarge, holds, refused, LegalIsBuiltOrTooLarge, EightHasABasis}
 use Rattle.theorems_basis.proofs.Stages.{last-stage, extraction-rows}
 
 -- n rows that are a basis for the conditions of all joins are one in the words of demand 2
@@ -69,19 +70,19 @@ legal-is-published-or-too-large s e = go (weights s) refl
     go (answer t) w = let p = then-answers weights e ∙ w in published (p ∙ ap answer (weights-are-published s (record { table = t; is = p })))
     go (refusal number place) w = too-large place (then-answers weights e ∙ w ∙ ap (λ n. refusal n place) (refused-with-eight s (checked-inverts s e .1) w))
 
-pub building-is-published-or-too-large : BuildingIsPublishedOrTooLarge
+pub legal-is-built-or-too-large : LegalIsBuiltOrTooLarge
 unfolding built
-building-is-published-or-too-large s e numLength denLength h k = go (legal-is-published-or-too-large s e)
+legal-is-built-or-too-large s e nums dens h k = go (legal-is-published-or-too-large s e)
   where
     long : {m : ℕ} → tableCells ≤ m → ltb m tableCells ≡ false
     long {m} l = fails-false (ltb m tableCells) (le→nltb m tableCells l)
 
-    past : cond (ltb numLength tableCells) (refuse 1 0) (cond (ltb denLength tableCells) (refuse 1 1) (spaceWeights s)) ≡ spaceWeights s
-    past = cond-false (refuse 1 0) _ (long h) ∙ cond-false (refuse 1 1) _ (long k)
+    ends : buildEnd s nums dens .answers ≡ with-answer (λ _. rowCount s) (spaceWeights s)
+    ends = ap (with-answer (λ _. rowCount s)) (cond-false (refuse 1 0) _ (long h) ∙ cond-false (refuse 1 1) _ (long k))
 
-    go : PublishedOrTooLarge s (spaceWeights s) → PublishedOrTooLarge s (cond (ltb numLength tableCells) (refuse 1 0) (cond (ltb denLength tableCells) (refuse 1 1) (spaceWeights s)))
-    go (published p) = published (past ∙ p)
-    go (too-large place p) = too-large place (past ∙ p)
+    go : PublishedOrTooLarge s (spaceWeights s) → BuiltOrTooLarge s nums dens
+    go (published p) = holds (ends ∙ ap (with-answer (λ _. rowCount s)) p) (cells-hold-published-weights s (record { table = extraction s; is = p }) nums dens h k)
+    go (too-large place p) = refused place (ends ∙ ap (with-answer (λ _. rowCount s)) p)
 
 pub eight-has-a-basis : EightHasABasis
 unfolding spaceWeights

@@ -5,7 +5,7 @@ use mathlib.Core.Path.{_≡_, refl, sym, _∙_, ap, ap₂}
 use mathlib.Core.Bool.{false}
 use mathlib.Core.List.{List, [], _∷_, map}
 use mathlib.Core.Option.{none}
-use Prim.Native.Nat.{ℕ, zero, suc, _<_, _≤_}
+use Prim.Native.Nat.{ℕ, zero, suc, _<_}
 use native.Mathlib.Omega.{arith}
 use lib.IntN.{ℤ, pos}
 use lib.ListN.{length}
@@ -21,7 +21,7 @@ use Rattle.spec_spline.specs.Space.{Space, lengthsFit, badBreak, startsPart, pa
 use Rattle.spec_spline.specs.Conditions.{falling, binomial, alternating, undivided, commonDivisor, conditions}
 use Rattle.spec_spline.specs.Table.{Table, cell, identity, tableCells}
 use Rattle.spec_spline.specs.Step.{count, addProducts, span, partialSum, quotientFactor, factors, newEntry, newRows, step}
-use Rattle.spec_spline.specs.Build.{orderSteps, joinSteps, weights, spaceWeights, built}
+use Rattle.spec_spline.specs.Build.{orderSteps, joinSteps, weights, spaceWeights, built, buildEnd}
 use Rattle.spec_spline.specs.Published.{derivativeCoefficient, leftConstraint, rightConstraint, constraint, constraints, diagonal, aboveDiagonal, bidiagonal, nullspace, product, constrain, for, smooth, extraction}
 use Rattle.spec_spline.specs.Piecewise.{pairing, MeetsAll, combination}
 use Rattle.spec_spline.specs.Cases.{space, space1}
@@ -29,9 +29,9 @@ use Rattle.spec_spline.proofs.Search.{first-none-inverts}
 use Rattle.theorems_weights.proofs.Instances.{q0, q1}
 use Rattle.theorems_recovery.specs.Recovery.{Numbered, sized, jumpSum, balanced, undoneNumber, undoneRows, undone, recoverStep, recoverOrders, recoverJoins, recovered}
 use Rattle.theorems_recovery.specs.RecoveryCall.{badOrdinate, recoveryOutcome, recoveryEnd}
-use Rattle.theorems_basis.specs.Basis.{IsBasis, PublishedOrTooLarge}
+use Rattle.theorems_basis.specs.Basis.{IsBasis, BuiltOrTooLarge}
 use Rattle.theorems_basis.specs.Coefficients.{Reproduce, AnsweredOrTooLarge}
-use Rattle.theorems_basis.proofs.Basis.{eight-has-a-basis, building-is-published-or-too-large}
+use Rattle.theorems_basis.proofs.Basis.{eight-has-a-basis, legal-is-built-or-too-large}
 use Rattle.theorems_basis.proofs.Coefficients.{none-after-nineteen, none-after-calls-with-nineteen, refused-for-size-alone, calls-refused-for-size-alone, curves-have-one-list, answers-are-of-published-rows}
 
 -- ---- the space and its basis
@@ -68,9 +68,13 @@ rows-are : extraction refusedSpace ≡ publishedRows
 unfolding gcd gcdF mk int inv _+ᵠ_ _*ᵠ_ -ᵠ_ _//_ isZero sum tab first last firstColumn identity derivativeCoefficient leftConstraint rightConstraint constraint constraints diagonal aboveDiagonal bidiagonal nullspace product constrain for smooth extraction
 rows-are = refl
 
--- what building in long buffers ends with is 8, the only number that is left
-eight-or-published : (numLength denLength : ℕ) → tableCells ≤ numLength → tableCells ≤ denLength → PublishedOrTooLarge refusedSpace (built refusedSpace numLength denLength)
-eight-or-published = building-is-published-or-too-large refusedSpace legal
+-- what is left for building it in long buffers, and what comes
+built-or-eight : (nums dens : List ℤ) → length nums ≡ tableCells → length dens ≡ tableCells → BuiltOrTooLarge refusedSpace nums dens
+built-or-eight nums dens p q = legal-is-built-or-too-large refusedSpace legal nums dens (omega (arith, p)) (omega (arith, q))
+
+built-eight : (nums dens : List ℤ) → length nums ≡ tableCells → length dens ≡ tableCells → buildEnd refusedSpace nums dens .answers ≡ refusal 8 0
+unfolding built
+built-eight nums dens p q = ap₂ (λ n d. with-answer (λ _. rowCount refusedSpace) (built refusedSpace n d)) p q ∙ ap (with-answer (λ _. rowCount refusedSpace)) eight
 
 sums : sum 7 (λ i. cell (extraction refusedSpace) i 3) ≡ q1
 unfolding firstColumn conditionsBefore
