@@ -4,12 +4,14 @@ use mathlib.Core.Path.{_≡_, _∙_, subst}
 use Prim.Native.Nat.{ℕ, suc, _-_, _<_, _≤_}
 use native.Mathlib.Omega.{arith}
 use lib.Dec.{T}
+use lib.IntN.{pos}
 use lib.ListN.{length}
+use Rattle.base_exact.specs.Rational.{int}
 use Rattle.base_exact.specs.Sum.{sum}
 use Rattle.spec_spline.specs.Outcome.{answer, refusal, _then_}
 use Rattle.spec_spline.specs.Space.{Space, segments, degree, conditionCount, columnCount}
 use Rattle.spec_spline.specs.Conditions.{conditions}
-use Rattle.spec_spline.specs.Table.{Table, identity}
+use Rattle.spec_spline.specs.Table.{Table, cell, identity}
 use Rattle.spec_spline.specs.Step.{step}
 use Rattle.spec_spline.specs.Build.{orderSteps, joinSteps, weights}
 use Rattle.spec_spline.proofs.Outcome.{repeat-keeps, Halted, repeat-refuses, then-answers}
@@ -27,6 +29,25 @@ use Rattle.theorems_acceptance.proofs.Invariant.{Shaped, identity-shape
 use Rattle.theorems_acceptance.proofs.Alternating.{Alternates, jump-before, jump-after, jump-inside}
 use Rattle.theorems_acceptance.proofs.Signs.{jumps-alternate, span-spread}
 use Rattle.theorems_acceptance.proofs.Fitting.{Fitting, identity-fitting, step-fitting}
+
+-- A step at a table of the form that Invariant states mixes the rows that it should.
+module _ (s : Space) (M : Limits s) (join k : ℕ) (h : join < segments s - 1) (m : k < conditionCount s join) (t : Table) (C : Shaped s (met s join k) t)
+    (sums : (c : ℕ) → c < columnCount s → sum (length t) (λ i. cell t i c) ≡ int (pos 1)) where
+  pub step-mixing : {t′ : Table} (T : Stepped (conditions s join k) (columnCount s) t t′) → Mixing (firstSpanned (degree s) (met s join k) join k) (lastSpanned (degree s) (met s join k) join) (T .w)
+  step-mixing {t′} T = subst (λ f. Mixing f (lastSpanned (degree s) (met s join k) join) (T .w)) first (subst (λ l. Mixing (T .f) l (T .w)) last
+      (factors-mix (length t) (T .f) (T .l) (values (conditions s join k) t) (T .w) (T .null) (T .not-negative) (T .at-most-one)))
+    where
+      alternate : Alternates (firstSpanned (degree s) (met s join k) join k) (lastSpanned (degree s) (met s join k) join) (λ n. sum n (values (conditions s join k) t))
+      alternate = jumps-alternate s M join k h m t C sums
+
+      spread : firstSpanned (degree s) (met s join k) join k < lastSpanned (degree s) (met s join k) join
+      spread = span-spread (degree s) (met s join k) join k
+
+      first : T .f ≡ firstSpanned (degree s) (met s join k) join k
+      first = first-is (length t) (T .f) (T .l) (values (conditions s join k) t) (T .w) (T .null) _ (jump-before _ _ _ alternate) (jump-inside _ _ _ alternate spread _ (omega arith) (omega (arith, spread)))
+
+      last : T .l ≡ lastSpanned (degree s) (met s join k) join
+      last = last-is (length t) (T .f) (T .l) (values (conditions s join k) t) (T .w) (T .null) _ (jump-after _ _ _ alternate) (jump-inside _ _ _ alternate spread _ (omega (arith, spread)) (omega arith))
 
 -- A table after the joins before this one and the first k conditions at it.
 pub record Reached (s : Space) (join k : ℕ) (t : Table) : Type 0 where
@@ -51,20 +72,7 @@ module _ (s : Space) (L : Legal s) (M : Limits s) where
       pub mixing : Mixing (firstSpanned (degree s) (met s join k) join k) (lastSpanned (degree s) (met s join k) join) (stepped .w)
 
     pub advance : (t′ : Table) → step join (conditions s join k) t ≡ answer t′ → Advance t′
-    advance t′ e = record { stepped = T; mixing = mixing }
-      where
-        T : Stepped (conditions s join k) (columnCount s) t t′
-        T = order-stepped s L join k h m t t′ (R .basis) e
-
-        first : T .f ≡ firstSpanned (degree s) (met s join k) join k
-        first = first-is (length t) (T .f) (T .l) (values (conditions s join k) t) (T .w) (T .null) _ (jump-before _ _ _ alternate) (jump-inside _ _ _ alternate spread _ (omega arith) (omega (arith, spread)))
-
-        last : T .l ≡ lastSpanned (degree s) (met s join k) join
-        last = last-is (length t) (T .f) (T .l) (values (conditions s join k) t) (T .w) (T .null) _ (jump-after _ _ _ alternate) (jump-inside _ _ _ alternate spread _ (omega (arith, spread)) (omega arith))
-
-        mixing : Mixing (firstSpanned (degree s) (met s join k) join k) (lastSpanned (degree s) (met s join k) join) (T .w)
-        mixing = subst (λ f. Mixing f (lastSpanned (degree s) (met s join k) join) (T .w)) first (subst (λ l. Mixing (T .f) l (T .w)) last
-            (factors-mix (length t) (T .f) (T .l) (values (conditions s join k) t) (T .w) (T .null) (T .not-negative) (T .at-most-one)))
+    advance t′ e = let T = order-stepped s L join k h m t t′ (R .basis) e in record { stepped = T; mixing = step-mixing s M join k h m t (R .shape) (R .basis .column-sums) T }
 
     -- it leads to the next stage
     pub step-reached : (t′ : Table) → step join (conditions s join k) t ≡ answer t′ → Reached s join (suc k) t′

@@ -27,10 +27,10 @@ other-number : {A : Type 0} (n p : ℕ) {place : ℕ} → eqb n 19 ≡ false →
 other-number n p h r = absurd (let z : n ≡ 19 = cc in let q : _≡_ {A = ℕ} 0 1 = let w : eqb 19 19 ≡ false = ap (λ k. eqb k 19) (sym z) ∙ h in cc in omega arith)
 
 -- Every test has passed, and the steps end like this.
-record Reached (s : Space) (ordinates : List ℤ) (o : Outcome Numbered) : Type 0 where
-  legal : checked s ≡ answer s
-  size : length ordinates ≡ columnCount s
-  ends : recovered s ordinates ≡ o
+pub record Reached (s : Space) (ordinates : List ℤ) (o : Outcome Numbered) : Type 0 where
+  pub legal : checked s ≡ answer s
+  pub size : length ordinates ≡ columnCount s
+  pub ends : recovered s ordinates ≡ o
 
 module _ (ordinates : List ℤ) where
   -- the ordinates' tests, then the steps
@@ -79,7 +79,7 @@ module _ (s : Space) (ordinates : List ℤ) (a b c d : ℕ) where
       let v = cond-refuse-inverts (ltb d (length ordinates)) 1 4 _ (u .1) in
       answer-reached ordinates s (v .1)
 
-  call-nineteen : {place : ℕ} → recoveryOutcome s ordinates a b c d ≡ refusal 19 place → Reached s ordinates (refusal 19 place)
+  pub call-nineteen : {place : ℕ} → recoveryOutcome s ordinates a b c d ≡ refusal 19 place → Reached s ordinates (refusal 19 place)
   unfolding recoveryOutcome
   call-nineteen {place} e = nineteen-reached ordinates s (past (ltb d (length ordinates)) 4 (past (ltb c (length ordinates)) 3 (past (ltb b tableCells) 1 (past (ltb a tableCells) 0 e))))
     where

@@ -21,7 +21,7 @@ use Rattle.spec_spline.specs.Conditions.{conditions}
 use Rattle.spec_spline.specs.Table.{Table, entry, cell, identity}
 use Rattle.spec_spline.specs.Step.{step}
 use Rattle.spec_spline.specs.Build.{orderSteps, joinSteps, weights, spaceWeights, clears}
-use Rattle.spec_spline.specs.Piecewise.{Meets, pairing, combination}
+use Rattle.spec_spline.specs.Piecewise.{Meets, MeetsAll, pairing, combination}
 use Rattle.spec_spline.specs.Reading.{fine, coefficient, fineWidth, offset}
 use Rattle.spec_spline.specs.ExactCurve.{bernsteinAt, exactTerm, exactOn}
 use Rattle.spec_spline.proofs.Outcome.{answer-not-refusal, then-answers, then-inverts, repeat-keeps, repeat-more, Halted, repeat-refuses}
@@ -187,27 +187,39 @@ exact-curve-has-the-ordinates s e ordinates n r h part coefs same j below x =
         sum-ext (length (r .table)) (λ i m. ap (λ q. q *ᵠ cell (r .table) i (firstColumn s j + t)) (sym (same i (rw (row-count s (r .table) (table-built s e (r .table) (K .0))) at m))))
         ∙ all-kept s (legal-of s e) ordinates n r h .0 .gives (firstColumn s j + t) ∙ List·getD-map int ordinates (firstColumn s j + t) (pos 0)
 
--- Of the four numbers that can end the steps, the space is accepted, so it is neither 8 nor 9, and the ordinates miss no condition.
-pub curves-are-recovered : CurvesAreRecovered
-unfolding spaceWeights
-curves-are-recovered s a ordinates M = go (recovered s ordinates) refl
+-- What the steps end with on the ordinates of a curve that meets all join conditions.
+pub data CurveEnd (s : Space) (ordinates : List ℤ) : Type 0 where
+  by-an-answer : (r : Numbered) → recovered s ordinates ≡ answer r → CurveEnd s ordinates
+  by-the-build : (number place : ℕ) → recovered s ordinates ≡ refusal number place → weights s ≡ refusal number place → CurveEnd s ordinates
+  by-twenty : (place : ℕ) → recovered s ordinates ≡ refusal 20 place → CurveEnd s ordinates
+
+-- Of the four numbers that can end the steps 8 and 9 are the build's, and the ordinates miss no condition.
+pub curve-ends : (s : Space) → Legal s → (ordinates : List ℤ) → MeetsAll s (map int ordinates) → CurveEnd s ordinates
+curve-ends s L ordinates M = go (recovered s ordinates) refl
   where
     size : length ordinates ≡ columnCount s
     size = sym (length-map ordinates int) ∙ M .columns
 
-    L : Legal s
-    L = built s (a .table) (a .is) .legal-space
+    decide : (number place : ℕ) (b c d : Bool) → clears number ≡ b → eqb number 19 ≡ c → eqb number 20 ≡ d → (b || c || d) ≡ true → recovered s ordinates ≡ refusal number place → CurveEnd s ordinates
+    decide number place true c d p q u told e = by-the-build number place e (eight-and-nine-are-the-builds s ordinates number place p e)
+    decide number place false true d p q u told e =
+        absurd (let N = missed s L ordinates size place (e ∙ ap (λ n. refusal n place) (eqb-true number 19 q)) in N .missed (M .meets (N .join) (N .order) (N .join-below) (N .order-below)))
+    decide number place false false true p q u told e = by-twenty place (e ∙ ap (λ n. refusal n place) (eqb-true number 20 u))
+    decide number place false false false p q u told e = absurd (let z : _≡_ {A = ℕ} 0 1 = cc in omega arith)
 
+    go : (o : Outcome Numbered) → recovered s ordinates ≡ o → CurveEnd s ordinates
+    go (answer r) e = by-an-answer r e
+    go (refusal number place) e = decide number place (clears number) (eqb number 19) (eqb number 20) refl refl refl (recovered-clears s ordinates number place e) e
+
+-- An accepted space is not refused by the build.
+pub curves-are-recovered : CurvesAreRecovered
+unfolding spaceWeights
+curves-are-recovered s a ordinates M = go (curve-ends s (built s (a .table) (a .is) .legal-space) ordinates M)
+  where
     not-the-build : {number place : ℕ} → weights s ≡ refusal number place → ⊥
     not-the-build e = let c = then-inverts (checked s) weights (a .is) in answer-not-refusal (c .after) (ap weights (sym (checked-inverts s (c .before) .0)) ∙ e)
 
-    decide : (number place : ℕ) (b c d : Bool) → clears number ≡ b → eqb number 19 ≡ c → eqb number 20 ≡ d → (b || c || d) ≡ true → recovered s ordinates ≡ refusal number place → RecoveredOrTooLarge (recovered s ordinates)
-    decide number place true c d p q u told e = absurd (not-the-build (eight-and-nine-are-the-builds s ordinates number place p e))
-    decide number place false true d p q u told e =
-        absurd (let N = missed s L ordinates size place (e ∙ ap (λ n. refusal n place) (eqb-true number 19 q)) in N .missed (M .meets (N .join) (N .order) (N .join-below) (N .order-below)))
-    decide number place false false true p q u told e = too-large place (e ∙ ap (λ n. refusal n place) (eqb-true number 20 u))
-    decide number place false false false p q u told e = absurd (let z : _≡_ {A = ℕ} 0 1 = cc in omega arith)
-
-    go : (o : Outcome Numbered) → recovered s ordinates ≡ o → RecoveredOrTooLarge (recovered s ordinates)
-    go (answer r) e = recovers r e
-    go (refusal number place) e = decide number place (clears number) (eqb number 19) (eqb number 20) refl refl refl (recovered-clears s ordinates number place e) e
+    go : CurveEnd s ordinates → RecoveredOrTooLarge (recovered s ordinates)
+    go (by-an-answer r e) = recovers r e
+    go (by-the-build number place e w) = absurd (not-the-build w)
+    go (by-twenty place e) = too-large place e

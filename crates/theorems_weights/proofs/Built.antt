@@ -41,6 +41,23 @@ basis-same there back B = record {
   unique = B .unique;
 }
 
+-- All conditions of a join are done: those of the joins before the next one.
+module _ (s : Space) (j : ℕ) where
+  there : (κ : List Entry) → Done s j (conditionCount s j) κ → Done s (suc j) 0 κ
+  there κ (earlier i m a b c) = earlier i m (omega arith) b c
+  there κ (here m a c) = earlier j m (omega arith) a c
+
+  back : (κ : List Entry) → Done s (suc j) 0 κ → Done s j (conditionCount s j) κ
+  back κ (earlier i m a b c) = place (eq-or-lt-of-le a)
+    where
+      place : (suc i ≡ suc j) ⊎ (suc i < suc j) → Done s j (conditionCount s j) κ
+      place (inl z) = let y : i ≡ j = omega arith in here m (subst (λ n. m < conditionCount s n) y b) (ap (λ n. conditions s n m) (sym y) ∙ c)
+      place (inr z) = earlier i m (omega arith) b c
+  back κ (here m a c) = absurd (omega arith)
+
+  pub join-done : {t : Table} → Basis (Done s j (conditionCount s j)) (columnCount s) t → Basis (Done s (suc j) 0) (columnCount s) t
+  join-done B = basis-same there back B
+
 module _ (s : Space) (L : Legal s) where
   -- one step
   pub order-stepped : (j k : ℕ) → j < segments s - 1 → k < conditionCount s j → (t t′ : Table) → Basis (Done s j k) (columnCount s) t → step j (conditions s j k) t ≡ answer t′
@@ -76,20 +93,8 @@ module _ (s : Space) (L : Legal s) where
           → Basis (Done s j (suc k)) (columnCount s) c × (length c + suc k ≡ length t)
       one k b c l P r = let S = order-stepped j k h l b c (P .0) r in (order-kept j k b c (P .0) S, omega (arith, S .rows, P .1))
 
-      there : (κ : List Entry) → Done s j (conditionCount s j) κ → Done s (suc j) 0 κ
-      there κ (earlier i m a b c) = earlier i m (omega arith) b c
-      there κ (here m a c) = earlier j m (omega arith) a c
-
-      back : (κ : List Entry) → Done s (suc j) 0 κ → Done s j (conditionCount s j) κ
-      back κ (earlier i m a b c) = place (eq-or-lt-of-le a)
-        where
-          place : (suc i ≡ suc j) ⊎ (suc i < suc j) → Done s j (conditionCount s j) κ
-          place (inl z) = let y : i ≡ j = omega arith in here m (subst (λ n. m < conditionCount s n) y b) (ap (λ n. conditions s n m) (sym y) ∙ c)
-          place (inr z) = earlier i m (omega arith) b c
-      back κ (here m a c) = absurd (omega arith)
-
       finish : Basis (Done s j (conditionCount s j)) (columnCount s) t′ × (length t′ + conditionCount s j ≡ length t) → Basis (Done s (suc j) 0) (columnCount s) t′ × (length t′ + conditionCount s j ≡ length t)
-      finish P = (basis-same there back (P .0), P .1)
+      finish P = (join-done s j (P .0), P .1)
 
   -- all joins
   all-kept : (t : Table) → weights s ≡ answer t → Basis (Done s (segments s - 1) 0) (columnCount s) t × (length t + conditionsBefore s (segments s - 1) ≡ columnCount s)

@@ -9,11 +9,12 @@ use lib.IntN.{pos}
 use lib.ListN.{length}
 use lib.Seq.{ext-getD}
 use Rattle.base_exact.specs.Rational.{ℚ, _+ᵠ_, _*ᵠ_, -ᵠ_, _-ᵠ_, int}
+use Rattle.base_exact.specs.Order.{Nn}
 use Rattle.base_exact.specs.Sum.{sum}
 use Rattle.base_exact.specs.Tabulate.{tab}
 use Rattle.base_exact.proofs.Decide.{le-or-lt}
 use Rattle.base_exact.proofs.Ring.{ring, reads}
-use Rattle.base_exact.proofs.Rational.{ℚ-ring, mul-zero}
+use Rattle.base_exact.proofs.Rational.{ℚ-ring, mul-zero, zero-mul, zero-add}
 use Rattle.base_exact.proofs.Sum.{sum-ext, sum-add, sum-mul}
 use Rattle.base_exact.proofs.Tabulate.{tab-length, tab-getD}
 use Rattle.spec_spline.specs.Outcome.{answer}
@@ -27,7 +28,7 @@ use Rattle.spec_spline.proofs.Outcome.{repeat-keeps}
 use Rattle.spec_spline.proofs.Legal.{Legal}
 use Rattle.spec_spline.proofs.Table.{entry-past, cell-past}
 use Rattle.theorems_weights.specs.PublishedBasis.{WeightsArePublished}
-use Rattle.theorems_weights.proofs.NullSpace.{mixed}
+use Rattle.theorems_weights.proofs.NullSpace.{Jumps, mixed, last-factor}
 use Rattle.spec_spline.proofs.Shape.{Wide}
 use Rattle.theorems_weights.proofs.Stepped.{values, values-past, Stepped}
 use Rattle.theorems_weights.proofs.Basis.{Basis}
@@ -35,6 +36,7 @@ use Rattle.theorems_weights.proofs.Identity.{identity-basis}
 use Rattle.theorems_weights.proofs.Built.{Done, order-stepped, order-kept, join-kept, nothing-done, built}
 use Rattle.theorems_weights.proofs.Derivative.{ratio, ratio-nonzero, constraints-are-conditions}
 use Rattle.theorems_weights.proofs.Bidiagonal.{nullspace-rows, nullspace-mixes}
+use Rattle.theorems_weights.proofs.PublishedBasis.{cell-beside}
 
 -- ---- tables by their cells
 
@@ -75,7 +77,11 @@ constraints-cell s i c k h l = ap (λ q. entry q k) (tab-getD (columnCount s) (�
 
 -- ---- one step
 
-module _ (s : Space) (L : Legal s) (j k : ℕ) (h : j < segments s - 1) (l : k < conditionCount s j) (t t′ : Table) (W : Wide (columnCount s) t) (S : Stepped (conditions s j k) (columnCount s) t t′) where
+-- Where the orders of a join start: H, and L = H K.
+abbrev pub started : Space → ℕ → Table → Matrices
+started s j h = record { H = h; L = product (conditionCount s j) h (constraints s j) }
+
+module _ (s : Space) (L : Legal s) (j k : ℕ) (h : j < segments s - 1) (l : k < conditionCount s j) (t : Table) where
   -- L = H K
   abbrev constrained : Table → Table
   constrained u = product (conditionCount s j) u (constraints s j)
@@ -104,40 +110,84 @@ module _ (s : Space) (L : Legal s) (j k : ℕ) (h : j < segments s - 1) (l : k <
   v-nonzero : ratio s j k ≢ int (pos 0)
   v-nonzero = ratio-nonzero s j k (let a = L .below-left-degree j h in omega arith) (L .positive-width j (omega arith)) (L .positive-width (suc j) (omega arith))
 
-  null-rows : length (nullspace v) ≡ length t′
-  null-rows = nullspace-rows v (length t) (S .f) (S .l) (values (conditions s j k) t) (S .w) (ratio s j k) (S .null) v-size v-proportional v-nonzero ∙ omega (arith, S .rows)
+  -- the rows of the null-space mix neighbours by the factors of these jumps
+  module _ (f e : ℕ) (w : ℕ → ℚ) (G : Jumps (length t) f e (values (conditions s j k) t) w) where
+    null-rows : suc (length (nullspace v)) ≡ length t
+    null-rows = let b = G .below in omega (arith, nullspace-rows v (length t) f e (values (conditions s j k) t) w (ratio s j k) G v-size v-proportional v-nonzero)
 
-  null-mixes : (x : ℕ → ℚ) (r : ℕ) → r < length t′ → sum (length t) (λ i. cell (nullspace v) r i *ᵠ x i) ≡ mixed (S .w) x r
-  null-mixes x r p = let n = S .rows in nullspace-mixes v (length t) (S .f) (S .l) (values (conditions s j k) t) (S .w) (ratio s j k) (S .null) v-size v-proportional v-nonzero x r (omega arith)
+    null-mixes : (x : ℕ → ℚ) (r : ℕ) → r < length (nullspace v) → sum (length t) (λ i. cell (nullspace v) r i *ᵠ x i) ≡ mixed w x r
+    null-mixes x r p = nullspace-mixes v (length t) f e (values (conditions s j k) t) w (ratio s j k) G v-size v-proportional v-nonzero x r (omega (arith, null-rows))
 
-  next-H : product (columnCount s) (nullspace v) t ≡ t′
-  next-H = table-ext (columnCount s) (product (columnCount s) (nullspace v) t) t′ (product-wide (columnCount s) (nullspace v) t) (S .wide) (product-length (columnCount s) (nullspace v) t ∙ null-rows)
-      (λ r c p q. let p′ : r < length (nullspace v) = rw (product-length (columnCount s) (nullspace v) t) at p in
-      product-cell (columnCount s) (nullspace v) t r c p′ q ∙ null-mixes (λ i. cell t i c) r (rw null-rows at p′) ∙ sym (S .cells r c))
+    -- so the figure's next H is what a step with these factors leaves
+    abbrev next : Table
+    next = product (columnCount s) (nullspace v) t
 
-  next-L : product (conditionCount s j) (nullspace v) (constrained t) ≡ constrained t′
-  unfolding mixed
-  next-L = table-ext (conditionCount s j) (product (conditionCount s j) (nullspace v) (constrained t)) (constrained t′) (product-wide (conditionCount s j) (nullspace v) (constrained t)) (product-wide (conditionCount s j) t′ (constraints s j))
-      (product-length (conditionCount s j) (nullspace v) (constrained t) ∙ null-rows ∙ sym (product-length (conditionCount s j) t′ (constraints s j)))
-      (λ r m p q. let p′ : r < length (nullspace v) = rw (product-length (conditionCount s j) (nullspace v) (constrained t)) at p in at r m p′ (rw null-rows at p′) q)
-    where
-      at : (r m : ℕ) → r < length (nullspace v) → r < length t′ → m < conditionCount s j → cell (product (conditionCount s j) (nullspace v) (constrained t)) r m ≡ cell (constrained t′) r m
-      at r m p p′ q = let n = S .rows in
-          product-cell (conditionCount s j) (nullspace v) (constrained t) r m p q
-          ∙ ap (λ n. sum n (λ i. cell (nullspace v) r i *ᵠ cell (constrained t) i m)) (product-length (conditionCount s j) t (constraints s j))
-          ∙ null-mixes (λ i. cell (constrained t) i m) r p′
-          ∙ ap₂ (λ a b. S .w r *ᵠ a +ᵠ (int (pos 1) -ᵠ S .w (suc r)) *ᵠ b) (constrained-cell t r m (omega arith) q) (constrained-cell t (suc r) m (omega arith) q)
-          ∙ ap₂ _+ᵠ_ (sym (sum-mul (columnCount s) (S .w r) (λ c. cell t r c *ᵠ constraint s j c m))) (sym (sum-mul (columnCount s) (int (pos 1) -ᵠ S .w (suc r)) (λ c. cell t (suc r) c *ᵠ constraint s j c m)))
-          ∙ sym (sum-add (columnCount s) (λ c. S .w r *ᵠ (cell t r c *ᵠ constraint s j c m)) (λ c. (int (pos 1) -ᵠ S .w (suc r)) *ᵠ (cell t (suc r) c *ᵠ constraint s j c m)))
-          ∙ sum-ext (columnCount s) (λ c o. collect (S .w r) (int (pos 1) -ᵠ S .w (suc r)) (cell t r c) (cell t (suc r) c) (constraint s j c m) ∙ ap (λ u. u *ᵠ constraint s j c m) (sym (S .cells r c)))
-          ∙ sym (constrained-cell t′ r m p′ q)
-        where
-          collect : (a b x y z : ℚ) → a *ᵠ (x *ᵠ z) +ᵠ b *ᵠ (y *ᵠ z) ≡ (a *ᵠ x +ᵠ b *ᵠ y) *ᵠ z
-          collect a b x y z = ring ℚ-ring (a ∷ b ∷ x ∷ y ∷ z ∷ []) (search reads depth 20) (search reads depth 20) refl
+    next-cells : Wide (columnCount s) t → (i c : ℕ) → cell next i c ≡ mixed w (λ r. cell t r c) i
+    unfolding mixed
+    next-cells W i c = go (le-or-lt (length (nullspace v)) i) (le-or-lt (columnCount s) c)
+      where
+        zeros : {x y : ℚ} (b : ℚ) → x ≡ int (pos 0) → y ≡ int (pos 0) → x +ᵠ b *ᵠ y ≡ int (pos 0)
+        zeros b p q = ap₂ (λ u v. u +ᵠ b *ᵠ v) p q ∙ zero-add (b *ᵠ int (pos 0)) ∙ mul-zero b
 
-  constrain-is : constrain s j k (record { H = t; L = constrained t }) ≡ record { H = t′; L = constrained t′ }
-  unfolding constrain v
-  constrain-is = λ i. record { H = next-H i; L = next-L i }
+        rows : length next ≡ length (nullspace v)
+        rows = product-length (columnCount s) (nullspace v) t
+
+        go : (length (nullspace v) ≤ i) ⊎ (i < length (nullspace v)) → (columnCount s ≤ c) ⊎ (c < columnCount s)
+            → cell next i c ≡ w i *ᵠ cell t i c +ᵠ (int (pos 1) -ᵠ w (suc i)) *ᵠ cell t (suc i) c
+        go (inl p) q = cell-past next i c (rw rows p)
+            ∙ sym (zeros (int (pos 1) -ᵠ w (suc i)) (ap (λ u. u *ᵠ cell t i c) (last-factor (length t) f e (values (conditions s j k) t) w G i (let b = G .below in omega (arith, null-rows))) ∙ zero-mul (cell t i c))
+            (cell-past t (suc i) c (omega (arith, null-rows))))
+        go (inr p) (inl q) = cell-beside (columnCount s) next (product-wide (columnCount s) (nullspace v) t) i c q
+            ∙ sym (zeros (int (pos 1) -ᵠ w (suc i)) (ap (λ u. w i *ᵠ u) (cell-beside (columnCount s) t W i c q) ∙ mul-zero (w i)) (cell-beside (columnCount s) t W (suc i) c q))
+        go (inr p) (inr q) = product-cell (columnCount s) (nullspace v) t i c p q ∙ null-mixes (λ r. cell t r c) i p
+
+    pub constrain-stepped : Wide (columnCount s) t → ((i : ℕ) → Nn (w i)) → ((i : ℕ) → Nn (int (pos 1) -ᵠ w i)) → Stepped (conditions s j k) (columnCount s) t (constrain s j k (started s j t) .H)
+    unfolding constrain v
+    constrain-stepped W low high = record {
+      f = f;
+      l = e;
+      w = w;
+      null = G;
+      not-negative = low;
+      at-most-one = high;
+      rows = ap suc (product-length (columnCount s) (nullspace v) t) ∙ null-rows;
+      wide = product-wide (columnCount s) (nullspace v) t;
+      cells = next-cells W;
+    }
+
+  -- after such a step both matrices are those of the next order
+  module _ (t′ : Table) (S : Stepped (conditions s j k) (columnCount s) t t′) where
+    rows-agree : length (nullspace v) ≡ length t′
+    rows-agree = omega (arith, null-rows (S .f) (S .l) (S .w) (S .null), S .rows)
+
+    next-H : product (columnCount s) (nullspace v) t ≡ t′
+    next-H = table-ext (columnCount s) (product (columnCount s) (nullspace v) t) t′ (product-wide (columnCount s) (nullspace v) t) (S .wide) (product-length (columnCount s) (nullspace v) t ∙ rows-agree)
+        (λ r c p q. let p′ : r < length (nullspace v) = rw (product-length (columnCount s) (nullspace v) t) at p in
+        product-cell (columnCount s) (nullspace v) t r c p′ q ∙ null-mixes (S .f) (S .l) (S .w) (S .null) (λ i. cell t i c) r p′ ∙ sym (S .cells r c))
+
+    next-L : product (conditionCount s j) (nullspace v) (constrained t) ≡ constrained t′
+    unfolding mixed
+    next-L = table-ext (conditionCount s j) (product (conditionCount s j) (nullspace v) (constrained t)) (constrained t′) (product-wide (conditionCount s j) (nullspace v) (constrained t)) (product-wide (conditionCount s j) t′ (constraints s j))
+        (product-length (conditionCount s j) (nullspace v) (constrained t) ∙ rows-agree ∙ sym (product-length (conditionCount s j) t′ (constraints s j)))
+        (λ r m p q. let p′ : r < length (nullspace v) = rw (product-length (conditionCount s j) (nullspace v) (constrained t)) at p in at r m p′ (rw rows-agree at p′) q)
+      where
+        at : (r m : ℕ) → r < length (nullspace v) → r < length t′ → m < conditionCount s j → cell (product (conditionCount s j) (nullspace v) (constrained t)) r m ≡ cell (constrained t′) r m
+        at r m p p′ q = let n = S .rows in
+            product-cell (conditionCount s j) (nullspace v) (constrained t) r m p q
+            ∙ ap (λ n. sum n (λ i. cell (nullspace v) r i *ᵠ cell (constrained t) i m)) (product-length (conditionCount s j) t (constraints s j))
+            ∙ null-mixes (S .f) (S .l) (S .w) (S .null) (λ i. cell (constrained t) i m) r p
+            ∙ ap₂ (λ a b. S .w r *ᵠ a +ᵠ (int (pos 1) -ᵠ S .w (suc r)) *ᵠ b) (constrained-cell t r m (omega arith) q) (constrained-cell t (suc r) m (omega arith) q)
+            ∙ ap₂ _+ᵠ_ (sym (sum-mul (columnCount s) (S .w r) (λ c. cell t r c *ᵠ constraint s j c m))) (sym (sum-mul (columnCount s) (int (pos 1) -ᵠ S .w (suc r)) (λ c. cell t (suc r) c *ᵠ constraint s j c m)))
+            ∙ sym (sum-add (columnCount s) (λ c. S .w r *ᵠ (cell t r c *ᵠ constraint s j c m)) (λ c. (int (pos 1) -ᵠ S .w (suc r)) *ᵠ (cell t (suc r) c *ᵠ constraint s j c m)))
+            ∙ sum-ext (columnCount s) (λ c o. collect (S .w r) (int (pos 1) -ᵠ S .w (suc r)) (cell t r c) (cell t (suc r) c) (constraint s j c m) ∙ ap (λ u. u *ᵠ constraint s j c m) (sym (S .cells r c)))
+            ∙ sym (constrained-cell t′ r m p′ q)
+          where
+            collect : (a b x y z : ℚ) → a *ᵠ (x *ᵠ z) +ᵠ b *ᵠ (y *ᵠ z) ≡ (a *ᵠ x +ᵠ b *ᵠ y) *ᵠ z
+            collect a b x y z = ring ℚ-ring (a ∷ b ∷ x ∷ y ∷ z ∷ []) (search reads depth 20) (search reads depth 20) refl
+
+    pub constrain-is : constrain s j k (started s j t) ≡ started s j t′
+    unfolding constrain v
+    constrain-is = λ i. record { H = next-H i; L = next-L i }
 
 -- ---- the loops
 
@@ -145,15 +195,12 @@ module _ (s : Space) (L : Legal s) where
   -- the orders of a join
   smooth-is : (j : ℕ) → j < segments s - 1 → (t t′ : Table) → Basis (Done s j 0) (columnCount s) t → orderSteps s j (conditionCount s j) t ≡ answer t′ → smooth s j t ≡ t′
   unfolding orderSteps smooth for
-  smooth-is j h t t′ B e = ap (λ m. m .H) (repeat-keeps (λ k b. Basis (Done s j k) (columnCount s) b × (for k (constrain s j) (start t) ≡ start b)) (conditionCount s j) (λ k. step j (conditions s j k)) t (B, refl) one t′ e .1)
+  smooth-is j h t t′ B e = ap (λ m. m .H) (repeat-keeps (λ k b. Basis (Done s j k) (columnCount s) b × (for k (constrain s j) (started s j t) ≡ started s j b)) (conditionCount s j) (λ k. step j (conditions s j k)) t (B, refl) one t′ e .1)
     where
-      start : Table → Matrices
-      start u = record { H = u; L = product (conditionCount s j) u (constraints s j) }
-
-      one : (k : ℕ) (b c : Table) → k < conditionCount s j → Basis (Done s j k) (columnCount s) b × (for k (constrain s j) (start t) ≡ start b) → step j (conditions s j k) b ≡ answer c
-          → Basis (Done s j (suc k)) (columnCount s) c × (for (suc k) (constrain s j) (start t) ≡ start c)
+      one : (k : ℕ) (b c : Table) → k < conditionCount s j → Basis (Done s j k) (columnCount s) b × (for k (constrain s j) (started s j t) ≡ started s j b) → step j (conditions s j k) b ≡ answer c
+          → Basis (Done s j (suc k)) (columnCount s) c × (for (suc k) (constrain s j) (started s j t) ≡ started s j c)
       one k b c l P r = let S = order-stepped s L j k h l b c (P .0) r in
-          (order-kept s L j k b c (P .0) S, ap (constrain s j k) (P .1) ∙ constrain-is s L j k h l b c (P .0 .wide) S)
+          (order-kept s L j k b c (P .0) S, ap (constrain s j k) (P .1) ∙ constrain-is s L j k h l b c S)
 
   -- the joins
   extraction-is : (t : Table) → weights s ≡ answer t → extraction s ≡ t

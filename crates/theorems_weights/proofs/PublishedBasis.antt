@@ -14,16 +14,16 @@ use Rattle.base_exact.proofs.Decide.{le-or-lt}
 use Rattle.base_exact.proofs.Rational.{mul-zero}
 use Rattle.base_exact.proofs.Sum.{sum-ext, sum-zero}
 use Rattle.base_exact.proofs.Tabulate.{tab-length, tab-getD}
-use Rattle.spec_spline.specs.Space.{segments, columnCount, rowCount, conditionCount}
+use Rattle.spec_spline.specs.Space.{Space, segments, columnCount, rowCount, conditionCount}
 use Rattle.spec_spline.specs.Conditions.{Entry, conditions}
 use Rattle.spec_spline.specs.Table.{Row, Table, entry, row, cell}
-use Rattle.spec_spline.specs.Piecewise.{pairing, combination}
+use Rattle.spec_spline.specs.Piecewise.{pairing, MeetsAll, combination}
 use Rattle.spec_spline.proofs.Table.{entry-past, cell-past}
 use Rattle.theorems_weights.specs.PublishedBasis.{RowsAndColumns, CombinationsMeetConditions, OneCombination, ConditionsGiveOneCombination}
 use Rattle.theorems_weights.proofs.Functional.{applied, applied-ext, applied-sum}
 use Rattle.spec_spline.proofs.Shape.{Wide}
-use Rattle.theorems_weights.proofs.Basis.{combined}
-use Rattle.theorems_weights.proofs.Built.{Done, earlier, here, Built, built, row-count}
+use Rattle.theorems_weights.proofs.Basis.{Basis, combined}
+use Rattle.theorems_weights.proofs.Built.{Done, earlier, here, built, row-count}
 
 pub rows-and-columns : RowsAndColumns
 rows-and-columns s a = let b = built s (a .table) (a .is) in let n = row-count s (a .table) b in (n, λ i h. b .basis .wide .each i (rw n h))
@@ -60,43 +60,42 @@ pub combination-length : (columns : ℕ) (multipliers : List ℚ) (t : Table) �
 unfolding combination
 combination-length columns multipliers t = tab-length columns _
 
-pub combinations-meet-conditions : CombinationsMeetConditions
-combinations-meet-conditions s a multipliers = record { columns = combination-length (columnCount s) multipliers (a .table); meets = met }
-  where
-    b : Built s (a .table)
-    b = built s (a .table) (a .is)
+-- A table with n rows that is a basis for all join conditions of the space.
+module _ (s : Space) (t : Table) (B : Basis (Done s (segments s - 1) 0) (columnCount s) t) where
+  pub basis-meets : (multipliers : List ℚ) → MeetsAll s (combination (columnCount s) multipliers t)
+  basis-meets multipliers = record { columns = combination-length (columnCount s) multipliers t; meets = met }
+    where
+      met : (j k : ℕ) → j < segments s - 1 → k < conditionCount s j → pairing (combination (columnCount s) multipliers t) (conditions s j k) ≡ int (pos 0)
+      met j k h l = pairing-applied (combination (columnCount s) multipliers t) (conditions s j k)
+          ∙ applied-ext (conditions s j k) (combination-at (columnCount s) t (B .wide) multipliers)
+          ∙ applied-sum (conditions s j k) (length t) (entry multipliers) (cell t)
+          ∙ sum-zero (length t) (λ i m. ap (λ u. entry multipliers i *ᵠ u) (B .meets (conditions s j k) (earlier j k h l refl) i) ∙ mul-zero (entry multipliers i))
 
-    met : (j k : ℕ) → j < segments s - 1 → k < conditionCount s j → pairing (combination (columnCount s) multipliers (a .table)) (conditions s j k) ≡ int (pos 0)
-    met j k h l = pairing-applied (combination (columnCount s) multipliers (a .table)) (conditions s j k)
-        ∙ applied-ext (conditions s j k) (combination-at (columnCount s) (a .table) (b .basis .wide) multipliers)
-        ∙ applied-sum (conditions s j k) (length (a .table)) (entry multipliers) (cell (a .table))
-        ∙ sum-zero (length (a .table)) (λ i m. ap (λ u. entry multipliers i *ᵠ u) (b .basis .meets (conditions s j k) (earlier j k h l refl) i) ∙ mul-zero (entry multipliers i))
+  pub basis-gives-one : length t ≡ rowCount s → (o : Row) → MeetsAll s o → OneCombination s t o
+  basis-gives-one n o M = finish (B .spans (entry o) (λ c h. entry-past o c (rw (M .columns) h)) met)
+    where
+      met : (κ : List Entry) → Done s (segments s - 1) 0 κ → applied κ (entry o) ≡ int (pos 0)
+      met κ (earlier j k h l e) = ap (λ λ′. applied λ′ (entry o)) (sym e) ∙ sym (pairing-applied o (conditions s j k)) ∙ M .meets j k h l
+      met κ (here k h e) = absurd (omega arith)
+
+      finish : (f : ℕ → ℚ) × ((c : ℕ) → combined f t c ≡ entry o c) → OneCombination s t o
+      finish f = record {
+        multipliers = multipliers;
+        count = tab-length (rowCount s) (f .0);
+        gives = ext-getD (int (pos 0)) (combination (columnCount s) multipliers t) o (combination-length (columnCount s) multipliers t ∙ sym (M .columns))
+            (λ c h. combination-at (columnCount s) t (B .wide) multipliers c ∙ same c ∙ f .1 c);
+        only = λ others h e. ext-getD (int (pos 0)) others multipliers (h ∙ sym (tab-length (rowCount s) (f .0)))
+            (λ i l. B .unique (entry others) (entry multipliers) (λ c. sym (combination-at (columnCount s) t (B .wide) others c) ∙ ap (λ r. entry r c) e ∙ sym (f .1 c) ∙ sym (same c)) i (rw n (rw h at l)));
+      }
+        where
+          multipliers : List ℚ
+          multipliers = tab (rowCount s) (f .0)
+
+          same : (c : ℕ) → combined (entry multipliers) t c ≡ combined (f .0) t c
+          same c = sum-ext (length t) (λ i h. ap (λ u. u *ᵠ cell t i c) (tab-getD (rowCount s) (f .0) i (int (pos 0)) (rw n at h)))
+
+pub combinations-meet-conditions : CombinationsMeetConditions
+combinations-meet-conditions s a multipliers = basis-meets s (a .table) (built s (a .table) (a .is) .basis) multipliers
 
 pub conditions-give-one-combination : ConditionsGiveOneCombination
-conditions-give-one-combination s a o M = go (built s (a .table) (a .is))
-  where
-    met : (κ : List Entry) → Done s (segments s - 1) 0 κ → applied κ (entry o) ≡ int (pos 0)
-    met κ (earlier j k h l e) = ap (λ λ′. applied λ′ (entry o)) (sym e) ∙ sym (pairing-applied o (conditions s j k)) ∙ M .meets j k h l
-    met κ (here k h e) = absurd (omega arith)
-
-    go : Built s (a .table) → OneCombination s (a .table) o
-    go b = finish (b .basis .spans (entry o) (λ c h. entry-past o c (rw (M .columns) h)) met)
-      where
-        n : length (a .table) ≡ rowCount s
-        n = row-count s (a .table) b
-
-        finish : (f : ℕ → ℚ) × ((c : ℕ) → combined f (a .table) c ≡ entry o c) → OneCombination s (a .table) o
-        finish f = record {
-          multipliers = multipliers;
-          count = tab-length (rowCount s) (f .0);
-          gives = ext-getD (int (pos 0)) (combination (columnCount s) multipliers (a .table)) o (combination-length (columnCount s) multipliers (a .table) ∙ sym (M .columns))
-              (λ c h. combination-at (columnCount s) (a .table) (b .basis .wide) multipliers c ∙ same c ∙ f .1 c);
-          only = λ others h e. ext-getD (int (pos 0)) others multipliers (h ∙ sym (tab-length (rowCount s) (f .0)))
-              (λ i l. b .basis .unique (entry others) (entry multipliers) (λ c. sym (combination-at (columnCount s) (a .table) (b .basis .wide) others c) ∙ ap (λ r. entry r c) e ∙ sym (f .1 c) ∙ sym (same c)) i (rw n (rw h at l)));
-        }
-          where
-            multipliers : List ℚ
-            multipliers = tab (rowCount s) (f .0)
-
-            same : (c : ℕ) → combined (entry multipliers) (a .table) c ≡ combined (f .0) (a .table) c
-            same c = sum-ext (length (a .table)) (λ i h. ap (λ u. u *ᵠ cell (a .table) i c) (tab-getD (rowCount s) (f .0) i (int (pos 0)) (rw n at h)))
+conditions-give-one-combination s a o M = let b = built s (a .table) (a .is) in basis-gives-one s (a .table) (b .basis) (row-count s (a .table) b) o M

@@ -1,0 +1,7 @@
+-- The proofs of the statements in specs/. Factors finds the factors of a step from the signs of its jumps; Stages goes through
+-- the loops of the published construction; Basis states the results.
+pub mod Factors
+pub mod Stages
+pub mod Basis
+pub mod Coefficients
+pub mod Instances
