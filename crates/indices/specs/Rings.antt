@@ -75,6 +75,10 @@ LegalRingsLeaveTheCurve = (c : RingsCall) → CurveIsLegal c → ringCount c ≤
 abbrev pub AnsweredRingsAreLegal : Type 0
 AnsweredRingsAreLegal = (c : RingsCall) (n : ℕ) → endOf c .answers ≡ answer n → CurveIsLegal c × ((ringCount c ≤ length (c .indices)) × (n ≡ ringCount c))
 
+-- Number 9 never comes, whatever the call is given.
+abbrev pub RingsNeverGiveNine : Type 0
+RingsNeverGiveNine = (c : RingsCall) (place : ℕ) → endOf c .answers ≡ refusal 9 place → ⊥
+
 -- "No refusal touches the indices".
 abbrev pub RefusalsKeepTheIndices : Type 0
 RefusalsKeepTheIndices = (c : RingsCall) (number place : ℕ) → endOf c .answers ≡ refusal number place → endOf c .indices ≡ c .indices
