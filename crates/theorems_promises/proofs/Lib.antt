@@ -2,4 +2,5 @@
 pub mod OnePart
 pub mod NineNever
 pub mod WeightColumns
+pub mod PositiveValues
 pub mod Instances

@@ -2,3 +2,4 @@
 pub mod OnePart
 pub mod NineNever
 pub mod WeightColumns
+pub mod PositiveValues
