@@ -4,4 +4,5 @@ pub mod Searching
 pub mod Positions
 pub mod Call
 pub mod Rings
+pub mod Positive
 pub mod Instances
