@@ -3,28 +3,28 @@
 use mathlib.Core.Path.{_≡_, refl, sym, _∙_, ap, subst}
 use mathlib.Core.Logic.{_⊎_, inl, inr}
 use mathlib.Core.Bool.{Bool, true, false, cond}
-use mathlib.Core.List.{List}
+use mathlib.Core.List.{List, []}
 use Prim.Native.Nat.{ℕ, zero, suc, _+_, _<_, _≤_}
 use native.Mathlib.Omega.{arith}
 use native.Mathlib.Nat.{eq-or-lt-of-le, mul-pos}
 use borrow.Author.Tests.{eqb-true, eqb-false}
 use lib.Dec.{ltb, leb, ltb→lt}
 use lib.IntN.{ℤ, pos, negsuc, _+ℤ_}
-use lib.ListN.{getD}
+use lib.ListN.{length, getD}
 use Rattle.base_exact.specs.Rational.{ℚ, int, _+ᵠ_}
 use Rattle.base_exact.specs.Order.{_≤ᵠ_}
 use Rattle.base_exact.proofs.Decide.{true-holds, true-not-false, and-true}
 use Rattle.base_exact.proofs.Integer as Z
 use Rattle.base_exact.proofs.Integer.{up, dn}
 use Rattle.base_exact.proofs.Tabulate.{tab-getD}
-use Rattle.spec_spline.specs.Outcome.{answer, refuse}
+use Rattle.spec_spline.specs.Outcome.{answer, refusal, refuse}
 use Rattle.spec_spline.specs.Space.{Space, segments, break, degree, order, firstColumn, columnCount, conditionCount, isDiscontinuity, checked}
 use Rattle.spec_spline.specs.Piecewise.{Accepted}
 use Rattle.spec_spline.specs.Reading.{fineness, Wood, fine, fineWidth, offset, startsAtDiscontinuity, segmentAt, coefficient, ordinate, ordinates, triangle, blended, valueAt}
 use Rattle.spec_spline.specs.ExactCurve.{exactOn, exactCurve, mostWeights}
-use Rattle.spec_spline.proofs.Outcome.{answer-unique, Chained, then-inverts}
+use Rattle.spec_spline.proofs.Outcome.{answer-unique, answer-not-refusal, Chained, then-inverts, Broken, first-refuses, second-refuses, then-breaks}
 use Rattle.spec_spline.proofs.Space.{is-discontinuity}
-use Rattle.spec_spline.proofs.Legal.{fitting-inverts}
+use Rattle.spec_spline.proofs.Legal.{fitting-inverts, keeping-refusal}
 use Rattle.theorems_weights.proofs.Built.{built}
 use Rattle.theorems_values.proofs.Within.{Within, halves, halves-mono, within-more}
 use Rattle.theorems_values.proofs.Bernstein.{exactTriangle}
@@ -36,10 +36,11 @@ use Rattle.theorems_values.proofs.Segment.{Located, located, accepted-checked, 
 use Rattle.theorems_values.proofs.ExactSum.{exactOrdinates, exactOn-is-triangle, bernsteinAt-triangle}
 use Rattle.theorems_values.proofs.Value.{segment-column}
 use Rattle.theorems_values.proofs.Positions.{discontinuities-belong-before, other-joins-belong-after, first-breakpoint-belongs-first, last-breakpoint-belongs-last}
+use Rattle.theorems_acceptance.proofs.Curves.{curves-never-give-nine}
 use Rattle.curve_start.specs.CurveAlone.{curveAlone}
 use Rattle.curve_start.proofs.Accepted.{accepted-by}
 use Rattle.curve_pieces.specs.Pieces.{isDrawable, drawableDegree, Piece, pieceOf, pieceOutcome}
-use Rattle.curve_pieces.specs.PieceCurve.{polynomialAt, halfTheWeights, WithinHalfTheWeights, PiecesAreClose, IsTheValue, PiecesEndAtTheValue, PiecesStartAtTheValue}
+use Rattle.curve_pieces.specs.PieceCurve.{polynomialAt, halfTheWeights, WithinHalfTheWeights, PiecesAreClose, IsTheValue, PiecesEndAtTheValue, PiecesStartAtTheValue, PiecesNeverGiveNine}
 use Rattle.curve_pieces.proofs.AtEnds.{exactTriangle-start, exactTriangle-end, triangle-start, triangle-end, exactTriangle-within}
 use Rattle.curve_pieces.proofs.Joins.{ordinates-meet}
 
@@ -215,3 +216,16 @@ pieces-start-at-the-value s wood coefs k numLength denLength p e here = go (draw
       same = ap (λ q. polynomialAt s q k (fine (break s k))) (sym (d .is)) ∙ polynomial-at-start s a wood coefs k (d .below)
           ∙ ap int (sym (value-at-start s a wood coefs k k (fine (break s k)) (d .below) (wide s a wood coefs k (d .below) k (d .below)) (start-belongs s (accepted-checked s a .0) k (d .below) here) (from-start s a wood coefs k (d .below))));
     }
+
+pub pieces-never-give-nine : PiecesNeverGiveNine
+unfolding pieceOutcome
+pieces-never-give-nine s wood coefs k num den place e = go (then-breaks (curveAlone s coefs (length num) (length den)) (λ r. cond (isDrawable s k) (answer (pieceOf s (r .table) wood coefs k)) (refuse 17 k)) e)
+  where
+    -- number 17 is not 9
+    seventeen : (b : Bool) (p : Piece) → cond b (answer p) (refuse 17 k) ≡ refusal 9 place → ⊥
+    seventeen true p r = answer-not-refusal refl r
+    seventeen false p r = true-not-false refl (keeping-refusal 17 k refl r)
+
+    go : Broken (curveAlone s coefs (length num) (length den)) (λ r. cond (isDrawable s k) (answer (pieceOf s (r .table) wood coefs k)) (refuse 17 k)) 9 place → ⊥
+    go (first-refuses p) = curves-never-give-nine s coefs [] place (length num) (length den) 0 p
+    go (second-refuses r p q) = seventeen (isDrawable s k) (pieceOf s (r .table) wood coefs k) q

@@ -9,14 +9,14 @@ use lib.ListN.{getD}
 use Rattle.base_exact.specs.Rational.{ℚ, int, _+ᵠ_, _*ᵠ_, _/ᵠ_}
 use Rattle.base_exact.specs.Order.{_≤ᵠ_}
 use Rattle.base_exact.specs.Sum.{sum}
-use Rattle.spec_spline.specs.Outcome.{answer}
+use Rattle.spec_spline.specs.Outcome.{answer, refusal}
 use Rattle.spec_spline.specs.Space.{Space, break, degree}
 use Rattle.spec_spline.specs.Table.{Table}
 use Rattle.spec_spline.specs.Reading.{Wood, fine, fineWidth, offset, startsAtDiscontinuity, segmentAt, valueAt}
 use Rattle.spec_spline.specs.ExactCurve.{bernsteinAt, exactCurve, mostWeights}
 use Rattle.spec_spline.specs.Piecewise.{Accepted}
 use Rattle.theorems_values.specs.ValueLimits.{InSpan}
-use Rattle.curve_pieces.specs.Pieces.{Piece, pieceOutcome}
+use Rattle.curve_pieces.specs.Pieces.{Piece, pieceOutcome, pieceEnd}
 
 -- The piece's polynomial at position x of segment k, in the units of the values.
 unfoldable pub polynomialAt : Space → Piece → ℕ → ℤ → ℚ
@@ -51,3 +51,7 @@ PiecesEndAtTheValue = (s : Space) (wood : Wood) (coefs : List ℤ) (k numLength 
 abbrev pub PiecesStartAtTheValue : Type 0
 PiecesStartAtTheValue = (s : Space) (wood : Wood) (coefs : List ℤ) (k numLength denLength : ℕ) (p : Piece) → pieceOutcome s wood coefs k numLength denLength ≡ answer p
     → startsAtDiscontinuity s k ≡ false → IsTheValue s wood coefs p k (fine (break s k))
+
+-- Number 9 never comes, whatever the call is given.
+abbrev pub PiecesNeverGiveNine : Type 0
+PiecesNeverGiveNine = (s : Space) (wood : Wood) (coefs : List ℤ) (k : ℕ) (num den : List ℤ) (place : ℕ) → pieceEnd s wood coefs k num den .answers ≡ refusal 9 place → ⊥

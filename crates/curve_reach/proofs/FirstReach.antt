@@ -7,7 +7,9 @@ use mathlib.Core.Option.{Option, some, none}
 use Prim.Native.Nat.{ℕ}
 use native.Mathlib.Omega.{arith}
 use lib.IntN.{ℤ}
+use lib.ListN.{length}
 use lib.Signed.{_<ℤ_, _≤ℤ_}
+use Rattle.base_exact.proofs.Decide.{true-not-false}
 use Rattle.base_exact.proofs.Integer as Z
 use Rattle.base_exact.proofs.Word.{leZ-true, leZ-false}
 use Rattle.spec_spline.specs.Outcome.{answer, refusal}
@@ -17,11 +19,13 @@ use Rattle.spec_spline.specs.Piecewise.{Accepted}
 use Rattle.spec_spline.specs.Reading.{Wood, fine, valueAt}
 use Rattle.spec_spline.proofs.Outcome.{answer-unique, answer-not-refusal, then-inverts, Broken, first-refuses, second-refuses, then-breaks}
 use Rattle.spec_spline.proofs.Search.{First, first-some-inverts, first-none-inverts}
+use Rattle.spec_spline.proofs.Legal.{keeping-refusal}
 use Rattle.theorems_values.proofs.Segment.{accepted-checked}
+use Rattle.theorems_acceptance.proofs.Curves.{curves-never-give-nine}
 use Rattle.curve_start.specs.CurveAlone.{curveAlone}
 use Rattle.curve_start.proofs.Accepted.{accepted-by}
 use Rattle.curve_reach.specs.Reach.{positionCount, position, reaches, reachedAt, reachOutcome}
-use Rattle.curve_reach.specs.FirstReach.{FirstAt, AnswersAreFirst, NeverReached, SixteenIsNever}
+use Rattle.curve_reach.specs.FirstReach.{FirstAt, AnswersAreFirst, NeverReached, SixteenIsNever, ReachNeverGivesNine}
 use Rattle.curve_reach.proofs.Positions.{position-after-start, position-before-end, indexOf, position-of-index, index-below, index-in-span}
 use Rattle.curve_reach.proofs.Numbers.{curve-numbers}
 
@@ -66,3 +70,16 @@ sixteen-is-never s wood coefs width numLength denLength place e = go (then-break
     go : Broken (curveAlone s coefs numLength denLength) (λ r. reachedAt s (first (positionCount s) (reaches s (r .table) wood coefs width))) 16 place → NeverReached s wood coefs width
     go (first-refuses p) = absurd (omega (arith, curve-numbers s coefs [] numLength denLength 0 16 place p))
     go (second-refuses r p q) = nowhere s wood coefs width (accepted-by s coefs numLength denLength r p) _ 16 place refl q
+
+pub reach-never-gives-nine : ReachNeverGivesNine
+unfolding reachOutcome
+reach-never-gives-nine s wood coefs width num den place e = go (then-breaks (curveAlone s coefs (length num) (length den)) (λ r. reachedAt s (first (positionCount s) (reaches s (r .table) wood coefs width))) e)
+  where
+    -- number 16 is not 9
+    sixteen : (o : Option ℕ) → reachedAt s o ≡ refusal 9 place → ⊥
+    sixteen (some i) r = answer-not-refusal refl r
+    sixteen none r = true-not-false refl (keeping-refusal 16 0 refl r)
+
+    go : Broken (curveAlone s coefs (length num) (length den)) (λ r. reachedAt s (first (positionCount s) (reaches s (r .table) wood coefs width))) 9 place → ⊥
+    go (first-refuses p) = curves-never-give-nine s coefs [] place (length num) (length den) 0 p
+    go (second-refuses r p q) = sixteen (first (positionCount s) (reaches s (r .table) wood coefs width)) q

@@ -9,7 +9,7 @@ use Rattle.spec_spline.specs.Outcome.{answer, refusal}
 use Rattle.spec_spline.specs.Space.{Space, segments, break}
 use Rattle.spec_spline.specs.Reading.{Wood, fine, valueAt}
 use Rattle.spec_spline.specs.Piecewise.{Accepted}
-use Rattle.curve_reach.specs.Reach.{reachOutcome}
+use Rattle.curve_reach.specs.Reach.{reachOutcome, reachEnd}
 
 -- The answer x lies in the span, its value reaches the width, and no earlier position's does.
 pub record FirstAt (s : Space) (wood : Wood) (coefs : List ℤ) (width x : ℤ) : Type 0 where
@@ -31,3 +31,7 @@ pub record NeverReached (s : Space) (wood : Wood) (coefs : List ℤ) (width : �
 abbrev pub SixteenIsNever : Type 0
 SixteenIsNever = (s : Space) (wood : Wood) (coefs : List ℤ) (width : ℤ) (numLength denLength place : ℕ)
     → reachOutcome s wood coefs width numLength denLength ≡ refusal 16 place → NeverReached s wood coefs width
+
+-- Number 9 never comes, whatever the call is given.
+abbrev pub ReachNeverGivesNine : Type 0
+ReachNeverGivesNine = (s : Space) (wood : Wood) (coefs : List ℤ) (width : ℤ) (num den : List ℤ) (place : ℕ) → reachEnd s wood coefs width num den .answers ≡ refusal 9 place → ⊥

@@ -1,11 +1,11 @@
 -- The theorems with numbers: W1 as the earlywood and W2 as the latewood of rings 1 and 2. Ring 1 is 50 wide under 17067, so
 -- that 256,000·50/17067 = 749.98.. gives 749; ring 2 is absent. By the latewood, whose values are below zero, a present ring
--- gives 14 with its place, and all values are written.
+-- gives 14 with its place, and all values are written. And positive coefficients of the latewood, with which 14 can't come.
 use mathlib.Core.Path.{_≡_, refl, _∙_, ap, subst}
 use mathlib.Core.Logic.{_≢_}
 use mathlib.Core.Bool.{not}
 use mathlib.Core.List.{List, [], _∷_}
-use Prim.Native.Nat.{ℕ, _<_}
+use Prim.Native.Nat.{ℕ, zero, suc, _<_}
 use native.Mathlib.Omega.{arith}
 use lib.Dec.{T}
 use lib.IntN.{ℤ, pos, negsuc, natAbs}
@@ -15,19 +15,22 @@ use Rattle.base_exact.specs.Rational.{mk, int, inv, _+ᵠ_, _-ᵠ_, _*ᵠ_, _/�
 use Rattle.base_exact.specs.Order.{isZero, ltᵠ, _≤ᵠ_, _<ᵠ_}
 use Rattle.base_exact.specs.Tabulate.{tab}
 use Rattle.base_exact.proofs.Order.{ltᵠ-true}
+use Rattle.base_exact.proofs.Word.{ltZ-true}
 use Rattle.spec_spline.specs.Outcome.{answer, refusal, capped, _then_}
 use Rattle.spec_spline.specs.Search.{first, last, howMany}
-use Rattle.spec_spline.specs.Space.{firstColumn, conditionsBefore}
+use Rattle.spec_spline.specs.Space.{between, firstColumn, conditionsBefore}
 use Rattle.spec_spline.specs.Table.{tableCells}
 use Rattle.spec_spline.specs.Reading.{startsAtDiscontinuity, startsBy, segmentAt, Wood, earlywood, latewood, sideBySide, values}
-use Rattle.spec_spline.specs.CurveCall.{badPosition, valuesAfter}
-use Rattle.spec_spline.specs.Cases.{space1}
+use Rattle.spec_spline.specs.CurveCall.{badCoefficient, badPosition, valuesAfter}
+use Rattle.spec_spline.specs.Cases.{pair, space1}
 use Rattle.spec_spline.specs.ExactCurve.{exactCurve, largest, mostWeights}
 use Rattle.theorems_values.specs.ValueLimits.{closeness}
+use Rattle.theorems_promises.specs.PositiveValues.{PositiveCoefficients}
 use Rattle.theorems_values.proofs.Instances.{table1, coefs1, accepted1, coefficients1, inside1 as positions-inside1, pairs1, values1 as read-values1, exact1}
-use Rattle.indices.specs.Indices.{ringPositions, isRefused, badRing, indexOf, ringIndices, ringsIndexed, indicesReturned, indicesAfter}
+use Rattle.indices.specs.Indices.{ringPositions, ringWidth, widthLimit, isRefused, badRing, indexOf, ringIndices, ringsIndexed, indicesReturned, indicesAfter}
 use Rattle.indices.specs.Rings.{RingsCall, endOf, CurveIsLegal}
 use Rattle.indices.proofs.Rings.{read, read-answers, index-is-above, index-is-at-most}
+use Rattle.indices.proofs.Positive.{positive-coefficients-are-enough}
 
 -- rings 1 and 2 are read at W1's positions
 inside1 : (i : ℕ) → i < length (ringPositions (pos 1) 2) → T (not (badPosition space1 (ringPositions (pos 1) 2) i))
@@ -37,6 +40,30 @@ inside1 = positions-inside1
 values1 : values space1 table1 coefs1 (ringPositions (pos 1) 2) ≡ pairs1
 unfolding ringPositions tab
 values1 = read-values1
+
+-- latewood coefficients above zero beside earlywood ones below it
+abbrev positiveCoefs : List ℤ
+positiveCoefs = sideBySide (pair (negsuc 99) (pos 1) ∷ pair (negsuc 99) (pos 7) ∷ pair (negsuc 99) (pos 2) ∷ pair (negsuc 99) (pos 1) ∷ [])
+
+positive-coefficients1 : (i : ℕ) → i < length positiveCoefs → T (not (badCoefficient positiveCoefs i))
+unfolding badCoefficient sideBySide
+positive-coefficients1 zero h = tt
+positive-coefficients1 (suc zero) h = tt
+positive-coefficients1 (suc (suc zero)) h = tt
+positive-coefficients1 (suc (suc (suc zero))) h = tt
+positive-coefficients1 (suc (suc (suc (suc zero)))) h = tt
+positive-coefficients1 (suc (suc (suc (suc (suc zero))))) h = tt
+positive-coefficients1 (suc (suc (suc (suc (suc (suc zero)))))) h = tt
+positive-coefficients1 (suc (suc (suc (suc (suc (suc (suc zero))))))) h = tt
+positive-coefficients1 (suc (suc (suc (suc (suc (suc (suc (suc i)))))))) h = absurd (omega arith)
+
+positive1 : PositiveCoefficients space1 latewood positiveCoefs
+unfolding firstColumn conditionsBefore sideBySide
+positive1 zero h = ltZ-true (pos 0) (pos 1) refl
+positive1 (suc zero) h = ltZ-true (pos 0) (pos 7) refl
+positive1 (suc (suc zero)) h = ltZ-true (pos 0) (pos 2) refl
+positive1 (suc (suc (suc zero))) h = ltZ-true (pos 0) (pos 1) refl
+positive1 (suc (suc (suc (suc i)))) h = absurd (omega arith)
 
 -- ---- a call with any two weight buffers that are long enough
 
@@ -128,3 +155,38 @@ module _ (num den : List ℤ) (h : length num ≡ tableCells) (k : length den �
       subst (λ x. int (pos 749) ≤ᵠ int (pos 12800000) /ᵠ (x -ᵠ int (pos 2))) exact1
       (subst (λ x. int (pos 749) ≤ᵠ int (pos 12800000) /ᵠ (exactCurve space1 table1 earlywood coefs1 (pos 256) -ᵠ x)) error1
       (subst (λ (l : List ℤ). int (getD l 0 (pos 0)) ≤ᵠ int (pos 12800000) /ᵠ (exactCurve space1 table1 earlywood coefs1 (pos 256) -ᵠ closeness space1 table1 (pos 256))) indices1 b))
+
+  -- ---- positive coefficients of the named part are enough, also for the widest ring and an absent one
+  abbrev positiveCall : RingsCall
+  positiveCall = record {
+    wood = latewood;
+    space = space1;
+    coefs = positiveCoefs;
+    firstRing = pos 1;
+    widths = pos 99999 ∷ pos 0 ∷ [];
+    num = num;
+    den = den;
+    values = pos 5 ∷ pos 6 ∷ pos 7 ∷ pos 8 ∷ [];
+    indices = pos 6 ∷ pos 7 ∷ [];
+  }
+
+  positive-legal1 : CurveIsLegal positiveCall
+  unfolding ringPositions tab firstColumn conditionsBefore sideBySide
+  positive-legal1 = record {
+    accepted = accepted1;
+    coefficientCount = refl;
+    coefficients = positive-coefficients1;
+    positionCount = omega arith;
+    inSpan = inside1;
+    numerators = omega arith;
+    denominators = omega arith;
+    values = omega arith;
+  }
+
+  positive-answers1 : endOf positiveCall .answers ≡ answer 2
+  positive-answers1 = positive-coefficients-are-enough positiveCall positive-legal1 (omega arith) positive1 widths-fit
+    where
+      widths-fit : (i : ℕ) → i < 2 → T (between (pos 0) (pos widthLimit) (ringWidth (pos 99999 ∷ pos 0 ∷ []) i))
+      widths-fit zero l = tt
+      widths-fit (suc zero) l = tt
+      widths-fit (suc (suc i)) l = absurd (omega arith)

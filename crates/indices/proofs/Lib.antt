@@ -3,4 +3,5 @@ pub mod Ring
 pub mod Positions
 pub mod Call
 pub mod Rings
+pub mod Positive
 pub mod Instances

@@ -15,7 +15,7 @@ use Rattle.base_exact.specs.Rational.{ℚ, int, _+ᵠ_, _-ᵠ_, _*ᵠ_, _/ᵠ_,
 use Rattle.base_exact.specs.Order.{Nn, _≤ᵠ_, _<ᵠ_}
 use Rattle.base_exact.specs.Floor.{floorDiv}
 use Rattle.base_exact.specs.Tabulate.{tab}
-use Rattle.base_exact.proofs.Decide.{cond-false}
+use Rattle.base_exact.proofs.Decide.{cond-false, true-not-false}
 use Rattle.base_exact.proofs.Integer as Z
 use Rattle.base_exact.proofs.Order as Q
 use Rattle.base_exact.proofs.Rational.{ℚ-ring, readsℚ, int-add, int-mul, div-mul, mul-comm}
@@ -30,16 +30,17 @@ use Rattle.spec_spline.specs.Reading as Reading
 use Rattle.spec_spline.specs.Reading.{Wood, woodIndex, Pair, fine, sideBySide}
 use Rattle.spec_spline.specs.CurveCall.{CurveResult, curveOutcome, curveNumerators, curveDenominators, valuesAfter}
 use Rattle.spec_spline.specs.ExactCurve.{Legal}
-use Rattle.spec_spline.proofs.Outcome.{answer-unique, answer-not-refusal, then-answers, then-inverts}
+use Rattle.spec_spline.proofs.Outcome.{answer-unique, answer-not-refusal, then-answers, then-inverts, Broken, first-refuses, second-refuses, then-breaks}
 use Rattle.spec_spline.proofs.Search.{first-ext, first-none-inverts}
 use Rattle.spec_spline.proofs.Build.{long-enough}
 use Rattle.spec_spline.proofs.Pairs.{le-half}
-use Rattle.spec_spline.proofs.Legal.{refuseFirst-inverts, cond-refuse-inverts}
+use Rattle.spec_spline.proofs.Legal.{refuseFirst-inverts, cond-refuse-inverts, keeping-refusal}
 use Rattle.theorems_values.specs.ValueLimits.{Close}
 use Rattle.theorems_values.proofs.LegalCall.{answered-calls-are-legal, legal-calls-answer, values-length}
 use Rattle.theorems_values.proofs.Cells.{cells-are-close}
+use Rattle.theorems_acceptance.proofs.Curves.{curves-never-give-nine}
 use Rattle.indices.specs.Indices.{ringPositions, ringWidth, ringValue, isRefused, badRing, indexScale, indexOf, ringIndices, ringsRead, ringsIndexed, indicesReturned, indicesAfter}
-use Rattle.indices.specs.Rings.{RingsCall, endOf, ringCount, positionOf, valueCell, indexCell, CurveIsLegal, LegalRingsEnd, LegalRingsLeaveTheCurve, AnsweredRingsAreLegal, RefusalsKeepTheIndices, IndicesPastAreKept, PresentRingsAreDivided, AbsentRingsHaveMinusOne, ValuesUnderRingsAreClose, exactUnder, errorUnder, scaledWidth, IndexIsAbove, IndexIsAtMost}
+use Rattle.indices.specs.Rings.{RingsCall, endOf, ringCount, positionOf, valueCell, indexCell, CurveIsLegal, LegalRingsEnd, LegalRingsLeaveTheCurve, AnsweredRingsAreLegal, RingsNeverGiveNine, RefusalsKeepTheIndices, IndicesPastAreKept, PresentRingsAreDivided, AbsentRingsHaveMinusOne, ValuesUnderRingsAreClose, exactUnder, errorUnder, scaledWidth, IndexIsAbove, IndexIsAtMost}
 use Rattle.indices.proofs.Ring.{passes-width, passes-value, index-absent, index-present}
 use Rattle.indices.proofs.Positions.{exact-length, exact-at}
 use Rattle.indices.proofs.Call.{value-cell}
@@ -161,6 +162,33 @@ answered c n e =
 
 pub answered-rings-are-legal : AnsweredRingsAreLegal
 answered-rings-are-legal c n e = let a = answered c n e in (a .legal, (a .room, a .count))
+
+pub rings-never-give-nine : RingsNeverGiveNine
+unfolding ringsRead ringsIndexed
+rings-never-give-nine c place e = returned (indexed c) refl e
+  where
+    -- number 14 is not 9
+    fourteen : (o : Option ℕ) (zs : List ℤ) → refuseFirst 14 o (answer zs) ≡ refusal 9 place → ⊥
+    fourteen none zs r = answer-not-refusal refl r
+    fourteen (some i) zs r = true-not-false refl (keeping-refusal 14 i refl r)
+
+    long : (a b d f : Bool) → cond a (refuse 1 0) (cond b (refuse 1 1) (cond d (refuse 1 2) (cond f (refuse 1 3) (curves c)))) ≡ refusal 9 place → ⊥
+    long true b d f r = true-not-false refl (keeping-refusal 1 0 refl r)
+    long false true d f r = true-not-false refl (keeping-refusal 1 1 refl r)
+    long false false true f r = true-not-false refl (keeping-refusal 1 2 refl r)
+    long false false false true r = true-not-false refl (keeping-refusal 1 3 refl r)
+    long false false false false r = curves-never-give-nine (c .space) (c .coefs) (positions c) place (length (c .num)) (length (c .den)) (length (c .values)) r
+
+    lengths : read c ≡ refusal 9 place → ⊥
+    lengths r = long (ltb (length (c .num)) tableCells) (ltb (length (c .den)) tableCells) (ltb (length (c .values) / 2) (length (positions c))) (ltb (length (c .indices)) (ringCount c)) r
+
+    broken : Broken (read c) (ringsIndexed (c .wood) (c .widths)) 9 place → ⊥
+    broken (first-refuses p) = lengths p
+    broken (second-refuses r p q) = fourteen (first (ringCount c) (badRing (c .wood) (c .widths) (r .values))) (ringIndices (c .wood) (c .widths) (r .values)) q
+
+    returned : (o : Outcome (List ℤ)) → indexed c ≡ o → indicesReturned o ≡ refusal 9 place → ⊥
+    returned (answer zs) p r = answer-not-refusal refl r
+    returned (refusal number q) p r = broken (then-breaks (read c) (ringsIndexed (c .wood) (c .widths)) (p ∙ cc))
 
 pub refusals-keep-the-indices : RefusalsKeepTheIndices
 unfolding indicesAfter

@@ -6,6 +6,7 @@ use mathlib.Core.Logic.{_≢_}
 use mathlib.Core.Bool.{Bool}
 use mathlib.Core.List.{List}
 use Prim.Native.Nat.{ℕ, _+_, _*_, _<_, _≤_}
+use lib.Dec.{T}
 use lib.IntN.{ℤ, pos, negsuc, natAbs, _+ℤ_, _*ℤ_}
 use lib.ListN.{length, getD}
 use lib.Signed.{_<ℤ_}
@@ -14,12 +15,13 @@ use Rattle.base_exact.specs.Order.{_≤ᵠ_, _<ᵠ_}
 use Rattle.base_exact.specs.Floor.{floorDiv}
 use Rattle.spec_spline.specs.Outcome.{answer, refusal}
 use Rattle.spec_spline.specs.Search.{first}
-use Rattle.spec_spline.specs.Space.{Space, refuseFirst}
+use Rattle.spec_spline.specs.Space.{Space, between, refuseFirst}
 use Rattle.spec_spline.specs.Reading.{Wood, woodIndex, fine}
 use Rattle.spec_spline.specs.CurveCall.{curveEnd}
 use Rattle.spec_spline.specs.ExactCurve.{exactCurve, Legal}
 use Rattle.theorems_values.specs.ValueLimits.{closeness, Close}
-use Rattle.indices.specs.Indices.{ringPositions, ringWidth, isRefused, indexScale, IndicesEnd, indicesEnd}
+use Rattle.theorems_promises.specs.PositiveValues.{PositiveCoefficients}
+use Rattle.indices.specs.Indices.{ringPositions, ringWidth, widthLimit, isRefused, indexScale, IndicesEnd, indicesEnd}
 
 -- What a call is given.
 pub record RingsCall : Type 0 where
@@ -74,6 +76,17 @@ LegalRingsLeaveTheCurve = (c : RingsCall) → CurveIsLegal c → ringCount c ≤
 -- Only such calls answer, and they "return the rings' count".
 abbrev pub AnsweredRingsAreLegal : Type 0
 AnsweredRingsAreLegal = (c : RingsCall) (n : ℕ) → endOf c .answers ≡ answer n → CurveIsLegal c × ((ringCount c ≤ length (c .indices)) × (n ≡ ringCount c))
+
+-- Positive coefficients are enough: where all coefficients of the named part are above zero and all widths are from 0 to 99,999,
+-- such a call answers.
+abbrev pub PositiveCoefficientsAreEnough : Type 0
+PositiveCoefficientsAreEnough = (c : RingsCall) → CurveIsLegal c → ringCount c ≤ length (c .indices) → PositiveCoefficients (c .space) (c .wood) (c .coefs)
+    → ((i : ℕ) → i < ringCount c → T (between (pos 0) (pos widthLimit) (ringWidth (c .widths) i)))
+    → endOf c .answers ≡ answer (ringCount c)
+
+-- Number 9 never comes, whatever the call is given.
+abbrev pub RingsNeverGiveNine : Type 0
+RingsNeverGiveNine = (c : RingsCall) (place : ℕ) → endOf c .answers ≡ refusal 9 place → ⊥
 
 -- "No refusal touches the indices".
 abbrev pub RefusalsKeepTheIndices : Type 0

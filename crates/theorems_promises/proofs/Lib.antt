@@ -1,0 +1,6 @@
+-- The proofs of the statements in specs/.
+pub mod OnePart
+pub mod NineNever
+pub mod WeightColumns
+pub mod PositiveValues
+pub mod Instances
