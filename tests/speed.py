@@ -4,26 +4,48 @@ usage: speed.py BENCHMARK
 
 BENCHMARK is docs/src/benchmark.rs, linked with the engine. It checks that both
 give the same answers, cells and values, and counts each call with valgrind's
-callgrind. The limits are those of change request 14: a curve call of 4,096
-positions over 12 segments at most CURVE of the plain program's instructions,
-at degree 1 at most CURVE_LINEAR; a build at most BUILD; a position costs the
-same whether there are 256 or 4,096 of them; and a build of 12 segments at most
-GROWTH times one of 2.
+callgrind. The limits stand beside what was measured, with a tenth of room: of
+the engine's instructions to the plain program's in each row of the table, and
+of how the engine's grow with segments, positions and parts.
 """
 
 import re
 import subprocess
 import sys
 
-CURVE = 0.8
-CURVE_LINEAR = 1.0
-BUILD = 0.4
-GROWTH = 15
+ROOM = 1.1
 STEADY = 0.02             # how far the cost of a position may be from that in the largest call
-MOST_SEGMENTS = 12
 FEWEST_SEGMENTS = 2
-MOST_POSITIONS = 4096
-LINE = re.compile(r"(build|curve) degree (\d) order (\d) segments (\d+)(?: positions (\d+) (\S+))?: (\d+) (\d+)")
+PART_SEGMENTS = 12
+BEAM_SEGMENTS = 48
+LINE = re.compile(r"(degree \d order \d|mixed degrees) segments (\d+) parts (\d+) (build|curve)(?: (\d+) (\S+))?: (\d+) (\d+)")
+
+# The engine's instructions to the plain program's: of the build, and of the curve calls the largest.
+MEASURED = {
+    ("degree 1 order 0", 12, 1): (0.79, 1.11),
+    ("degree 2 order 0", 12, 1): (0.70, 1.02),
+    ("degree 2 order 1", 12, 1): (0.74, 1.00),
+    ("degree 3 order 0", 12, 1): (0.65, 0.93),
+    ("degree 3 order 1", 12, 1): (0.66, 0.91),
+    ("degree 3 order 2", 12, 1): (0.69, 0.90),
+    ("degree 4 order 0", 12, 1): (0.62, 0.86),
+    ("degree 4 order 1", 12, 1): (0.63, 0.85),
+    ("degree 4 order 2", 12, 1): (0.64, 0.83),
+    ("degree 5 order 0", 12, 1): (0.57, 0.79),
+    ("degree 5 order 1", 12, 1): (0.59, 0.78),
+    ("degree 5 order 2", 12, 1): (0.60, 0.77),
+    ("mixed degrees", 12, 1): (0.68, 0.97),
+    ("mixed degrees", 12, 4): (1.12, 1.06),
+    ("mixed degrees", 48, 4): (0.68, 1.21),
+    ("degree 3 order 1", 6, 1): (0.91, 0.88),
+}
+
+# A build of 12 segments to one of 2, and a beam of 48 in 48 parts to one in 4.
+MEASURED_GROWTH = {
+    "degree 1 order 0": (4.9, 1.6),
+    "degree 3 order 1": (8.9, 0.5),
+    "degree 5 order 2": (12.2, 0.2),
+}
 
 
 def counted(benchmark):
@@ -31,48 +53,47 @@ def counted(benchmark):
     report = subprocess.run([benchmark, "counts"], capture_output=True, text=True, check=True).stdout
     counts = {}
     for line in report.splitlines():
-        kind, degree, order, segments, positions, pattern, engine, plain = LINE.fullmatch(line).groups()
-        counts[kind, int(degree), int(order), int(segments), int(positions or 0), pattern] = int(engine), int(plain)
+        kind, segments, parts, call, positions, pattern, engine, plain = LINE.fullmatch(line).groups()
+        counts[kind, int(segments), int(parts), call, int(positions or 0), pattern] = int(engine), int(plain)
     return counts
 
 
-def limit_of(kind, degree):
-    if kind == "build":
-        return BUILD
-    return CURVE_LINEAR if degree == 1 else CURVE
-
-
 def ratio_failures(counts):
-    """Calls of full size against the plain program."""
-    for (kind, degree, order, segments, positions, pattern), (engine, plain) in counts.items():
-        if segments == MOST_SEGMENTS and positions in (0, MOST_POSITIONS):
-            name = f"{kind} degree {degree} order {order}" + (f" {pattern}" if pattern else "")
-            ratio = engine / plain
-            print(f"  {name:38} {engine:9,} of {plain:9,}  {ratio:.2f}")
-            if ratio > limit_of(kind, degree):
-                yield f"{name}: {ratio:.3f} of the plain program's instructions, at most {limit_of(kind, degree)}"
+    """The calls of the table against the plain program."""
+    for space, measured in MEASURED.items():
+        for call, limit in zip(("build", "curve"), measured):
+            ratios = [engine / plain for key, (engine, plain) in counts.items() if key[:4] == (*space, call)]
+            if not ratios:
+                yield f"{space} {call}: not counted"
+                continue
+            print(f"  {space[0]}, {space[1]} segments, {space[2]} parts, {call}: {max(ratios):.2f}, measured {limit:.2f}")
+            if max(ratios) > ROOM * limit:
+                yield f"{space} {call}: {max(ratios):.3f} of the plain program's instructions, at most {ROOM * limit:.3f}"
 
 
 def position_failures(counts):
     """Instructions a position, from one call to the next larger one."""
-    for degree, order in sorted({key[1:3] for key in counts if 0 < key[4] < MOST_POSITIONS}):
+    for kind in MEASURED_GROWTH:
         sizes = sorted((key[4], counts[key][0]) for key in counts
-                       if key[:4] == ("curve", degree, order, MOST_SEGMENTS) and key[5] == "scattered")
+                       if key[:4] == (kind, PART_SEGMENTS, 1, "curve") and key[5] == "scattered")
         steps = [(later - earlier) / (more - fewer) for (fewer, earlier), (more, later) in zip(sizes, sizes[1:])]
-        print(f"  degree {degree} order {order}: instructions a position " + ", ".join(f"{step:.1f}" for step in steps))
-        if any(abs(step / steps[-1] - 1) > STEADY for step in steps):
-            yield f"degree {degree} order {order}: a position's cost changes with their number"
+        print(f"  {kind}: instructions a position " + ", ".join(f"{step:.1f}" for step in steps))
+        if len(steps) < 2 or any(abs(step / steps[-1] - 1) > STEADY for step in steps):
+            yield f"{kind}: a position's cost changes with their number"
 
 
 def growth_failures(counts):
-    """Builds of 12 segments against those of 2."""
-    for key, (engine, _) in counts.items():
-        if key[0] == "build" and key[3] == FEWEST_SEGMENTS:
-            most = counts[(*key[:3], MOST_SEGMENTS, *key[4:])][0]
-            name = f"build degree {key[1]} order {key[2]}"
-            print(f"  {name}: {most:,} at {MOST_SEGMENTS} segments, {engine:,} at {FEWEST_SEGMENTS}: {most / engine:.1f} times")
-            if most > GROWTH * engine:
-                yield f"{name}: {MOST_SEGMENTS} segments cost {most / engine:.1f} times {FEWEST_SEGMENTS}, at most {GROWTH}"
+    """Builds of 12 segments against those of 2, and beams in 48 parts against those in 4."""
+    def build(kind, segments, parts):
+        return counts[kind, segments, parts, "build", 0, None][0]
+
+    for kind, (by_segments, by_parts) in MEASURED_GROWTH.items():
+        segments = build(kind, PART_SEGMENTS, 1) / build(kind, FEWEST_SEGMENTS, 1)
+        parts = build(kind, BEAM_SEGMENTS, BEAM_SEGMENTS) / build(kind, BEAM_SEGMENTS, BEAM_SEGMENTS // PART_SEGMENTS)
+        print(f"  {kind}: {segments:.1f} times from {FEWEST_SEGMENTS} segments to {PART_SEGMENTS}, measured {by_segments};"
+              f" {parts:.1f} times from 4 parts to {BEAM_SEGMENTS}, measured {by_parts}")
+        if segments > ROOM * by_segments or parts > ROOM * by_parts:
+            yield f"{kind}: a build grows more than a tenth over what was measured"
 
 
 def main():

@@ -17,14 +17,23 @@ use std::process::{exit, Command};
 use std::time::{Duration, Instant};
 use walzhik::raw::{walzhik_build, walzhik_curve, Reply};
 
-const MAX_SEGMENTS: usize = 12;
+const PART_SEGMENTS: usize = 12;
+const BEAM_SEGMENTS: usize = 48;
+const CORE_SEGMENTS: usize = 6;
 const MAX_POSITIONS: usize = 4096;
-/// The lengths of the segments, in rings.
-const LENGTHS: [i32; MAX_SEGMENTS] = [20, 30, 20, 40, 30, 20, 20, 30, 40, 20, 30, 20];
+/// The lengths of the segments of a part, in rings.
+const LENGTHS: [i32; PART_SEGMENTS] = [20, 30, 20, 40, 30, 20, 20, 30, 40, 20, 30, 20];
+/// The degrees of the segments of mixed spaces, over and over; a join has the highest order that both sides allow.
+const MIXED_DEGREES: [i32; 8] = [1, 2, 3, 4, 5, 3, 4, 2];
+const MAX_ORDER: i32 = 2;
+const DISCONTINUITY: i32 = -1;
 const FIRST_BREAK: i32 = -100;
-/// The segment that holds the positions of the pattern "one segment".
-const ONE_SEGMENT: usize = 8;
-const ROUNDS: usize = 41;
+/// 256ths of a ring.
+const FINE: i32 = 256;
+const CORE_RINGS: usize = 200;
+/// The segment that holds the positions of the pattern "one segment"; where degrees are mixed its degree is 3.
+const ONE_SEGMENT: usize = 10;
+const ROUNDS: usize = 201;
 
 // ---- the engine
 
@@ -39,6 +48,8 @@ enum Pattern {
     Scattered,
     Rising,
     OneSegment,
+    /// The end of every ring, as for a core.
+    Rings,
 }
 
 impl Pattern {
@@ -49,27 +60,49 @@ impl Pattern {
             Pattern::Scattered => "scattered",
             Pattern::Rising => "rising",
             Pattern::OneSegment => "one-segment",
+            Pattern::Rings => "rings",
         }
     }
 }
 
-/// One degree and one order throughout; no positions is a build.
+/// One degree and one order throughout, or mixed degrees.
+#[derive(Clone, Copy)]
+enum Kind {
+    Uniform(i32, i32),
+    Mixed,
+}
+
+/// Every `part_segments`-th join is a discontinuity; no positions is a build.
 #[derive(Clone, Copy)]
 struct Shape {
-    degree: i32,
-    order: i32,
+    kind: Kind,
     segments: usize,
+    part_segments: usize,
     positions: usize,
     pattern: Pattern,
 }
 
 impl Shape {
-    fn name(&self) -> String {
-        let Shape { degree, order, segments, positions, .. } = self;
-        match positions {
-            0 => format!("build degree {degree} order {order} segments {segments}"),
-            _ => format!("curve degree {degree} order {order} segments {segments} positions {positions} {}", self.pattern.name()),
+    fn parts(&self) -> usize {
+        self.segments.div_ceil(self.part_segments)
+    }
+
+    fn kind_name(&self) -> String {
+        match self.kind {
+            Kind::Uniform(degree, order) => format!("degree {degree} order {order}"),
+            Kind::Mixed => "mixed degrees".to_string(),
         }
+    }
+
+    fn call_name(&self) -> String {
+        match self.positions {
+            0 => "build".to_string(),
+            positions => format!("curve {positions} {}", self.pattern.name()),
+        }
+    }
+
+    fn name(&self) -> String {
+        format!("{} segments {} parts {} {}", self.kind_name(), self.segments, self.parts(), self.call_name())
     }
 }
 
@@ -96,24 +129,45 @@ impl Call {
     fn new(shape: &Shape) -> Call {
         let mut mixer = Mixer(14);
         let mut breaks = vec![FIRST_BREAK];
-        for length in &LENGTHS[..shape.segments] {
-            breaks.push(breaks[breaks.len() - 1] + length);
+        for i in 0..shape.segments {
+            breaks.push(match shape.pattern {
+                Pattern::Rings => FIRST_BREAK + ((i + 1) * CORE_RINGS / shape.segments) as i32,
+                _ => breaks[i] + LENGTHS[i % PART_SEGMENTS],
+            });
         }
-        let degrees = vec![shape.degree; shape.segments];
-        let orders = vec![shape.order; shape.segments - 1];
-        let columns = shape.segments * (shape.degree as usize + 1);
-        let rows = columns - orders.len() * (shape.order as usize + 1);
+        let degrees: Vec<i32> = (0..shape.segments)
+            .map(|i| match shape.kind {
+                Kind::Uniform(degree, _) => degree,
+                Kind::Mixed => MIXED_DEGREES[i % MIXED_DEGREES.len()],
+            })
+            .collect();
+        let orders: Vec<i32> = (1..shape.segments)
+            .map(|i| match shape.kind {
+                _ if i % shape.part_segments == 0 => DISCONTINUITY,
+                Kind::Uniform(_, order) => order,
+                Kind::Mixed => (degrees[i - 1].min(degrees[i]) - 1).min(MAX_ORDER),
+            })
+            .collect();
+        let rows: i32 = degrees.iter().map(|p| p + 1).sum::<i32>() - orders.iter().map(|r| r + 1).sum::<i32>();
         let coefs = (0..2 * rows).map(|_| mixer.below(4_000) - 1_000).collect();
-        let (from, to) = match shape.pattern {
-            Pattern::OneSegment => (breaks[ONE_SEGMENT], breaks[ONE_SEGMENT + 1]),
-            _ => (breaks[0], breaks[shape.segments]),
-        };
-        let mut positions: Vec<i32> = (0..shape.positions).map(|_| 256 * from + mixer.below(256 * (to - from))).collect();
-        if shape.pattern == Pattern::Rising {
-            positions.sort();
-        }
+        let positions = positions(shape, &breaks, &mut mixer);
         Call { breaks, degrees, orders, coefs, positions }
     }
+}
+
+fn positions(shape: &Shape, breaks: &[i32], mixer: &mut Mixer) -> Vec<i32> {
+    let (from, to) = match shape.pattern {
+        Pattern::OneSegment => (breaks[ONE_SEGMENT], breaks[ONE_SEGMENT + 1]),
+        _ => (breaks[0], breaks[shape.segments]),
+    };
+    if shape.pattern == Pattern::Rings {
+        return (from + 1..=to).map(|ring| FINE * ring).take(shape.positions).collect();
+    }
+    let mut positions: Vec<i32> = (0..shape.positions).map(|_| FINE * from + mixer.below(FINE * (to - from))).collect();
+    if shape.pattern == Pattern::Rising {
+        positions.sort();
+    }
+    positions
 }
 
 // ---- both programs on it
@@ -187,28 +241,40 @@ fn check_same(shape: &Shape) {
 // ---- the shapes measured
 
 /// The degrees 1 to 5 with the orders 0 to 2 that each allows.
-fn kinds() -> impl Iterator<Item = (i32, i32)> {
-    (1..=5).flat_map(|degree| (0..degree.min(3)).map(move |order| (degree, order)))
+fn kinds() -> impl Iterator<Item = Kind> {
+    (1..=5).flat_map(|degree| (0..degree.min(3)).map(move |order| Kind::Uniform(degree, order)))
 }
 
-/// A build and a curve call for each pattern, for each degree and order.
+/// A build of 12 segments in one part.
+fn full(kind: Kind) -> Shape {
+    Shape { kind, segments: PART_SEGMENTS, part_segments: PART_SEGMENTS, positions: 0, pattern: Pattern::Scattered }
+}
+
+/// A build, and a curve call for each pattern.
+fn rows_of(build: Shape) -> Vec<Shape> {
+    let curves = Pattern::ALL.map(|pattern| Shape { positions: MAX_POSITIONS, pattern, ..build });
+    [vec![build], curves.to_vec()].concat()
+}
+
+/// Every degree and order; mixed degrees, also with three discontinuities, also as a beam of 48; and a core.
 fn table_shapes() -> Vec<Shape> {
-    let mut shapes = Vec::new();
-    for (degree, order) in kinds() {
-        let build = Shape { degree, order, segments: MAX_SEGMENTS, positions: 0, pattern: Pattern::Scattered };
-        shapes.push(build);
-        shapes.extend(Pattern::ALL.map(|pattern| Shape { positions: MAX_POSITIONS, pattern, ..build }));
-    }
-    shapes
+    let mixed = full(Kind::Mixed);
+    let cut = Shape { part_segments: PART_SEGMENTS / 4, ..mixed };
+    let beam = Shape { segments: BEAM_SEGMENTS, ..mixed };
+    let core = Shape { segments: CORE_SEGMENTS, pattern: Pattern::Rings, ..full(Kind::Uniform(3, 1)) };
+    let spaces = kinds().map(full).chain([mixed, cut, beam]);
+    spaces.flat_map(rows_of).chain([core, Shape { positions: CORE_RINGS, ..core }]).collect()
 }
 
-/// Builds of 2 to 12 segments, and curve calls of 256 to 4,096 positions.
+/// Builds of 2 to 12 segments, curve calls of 256 to 4,096 positions, and beams of 48 in 4 to 48 parts.
 fn growth_shapes() -> Vec<Shape> {
     let mut shapes = Vec::new();
     for (degree, order) in [(1, 0), (3, 1), (5, 2)] {
-        let full = Shape { degree, order, segments: MAX_SEGMENTS, positions: MAX_POSITIONS, pattern: Pattern::Scattered };
-        shapes.extend([2, 4, 6, 8, 10, 12].map(|segments| Shape { segments, positions: 0, ..full }));
-        shapes.extend([256, 512, 1024, 2048, 4096].map(|positions| Shape { positions, ..full }));
+        let build = full(Kind::Uniform(degree, order));
+        shapes.extend([2, 4, 6, 8, 10, 12].map(|segments| Shape { segments, ..build }));
+        shapes.extend([256, 512, 1024, 2048, 4096].map(|positions| Shape { positions, ..build }));
+        let beams = [12, 6, 4, 2, 1].map(|part_segments| Shape { segments: BEAM_SEGMENTS, part_segments, ..build });
+        shapes.extend(beams.iter().flat_map(|beam| [*beam, Shape { positions: MAX_POSITIONS, ..*beam }]));
     }
     shapes
 }
@@ -219,24 +285,19 @@ fn all_shapes() -> Vec<Shape> {
 
 // ---- time
 
-fn median(mut times: Vec<Duration>) -> f64 {
-    times.sort();
-    times[times.len() / 2].as_secs_f64() * 1e6
-}
-
-/// The medians of both programs' times in microseconds, taken in turns.
+/// The least times of both programs in microseconds, taken in turns.
 fn times(shape: &Shape) -> [f64; 2] {
     let call = Call::new(shape);
     let mut lent = PROGRAMS.map(|_| Lent::new());
-    let mut taken = PROGRAMS.map(|_| Vec::new());
+    let mut least = PROGRAMS.map(|_| Duration::MAX);
     for _ in 0..ROUNDS {
-        for ((program, lent), taken) in PROGRAMS.iter().zip(&mut lent).zip(&mut taken) {
+        for ((program, lent), least) in PROGRAMS.iter().zip(&mut lent).zip(&mut least) {
             let start = Instant::now();
             program(black_box(&call), black_box(lent));
-            taken.push(start.elapsed());
+            *least = start.elapsed().min(*least);
         }
     }
-    taken.map(median)
+    least.map(|time| time.as_secs_f64() * 1e6)
 }
 
 // ---- instructions
@@ -258,8 +319,9 @@ fn run_calls() {
     }
 }
 
-/// Callgrind counts a string store of the C library once for each byte: with this it clears memory by plain stores.
-const PLAIN_STORES: (&str, &str) = ("GLIBC_TUNABLES", "glibc.cpu.x86_rep_stosb_threshold=100000000");
+/// Callgrind counts a string store or move of the C library once for each byte: with this it clears and moves by plain stores.
+const PLAIN_STORES: (&str, &str) =
+    ("GLIBC_TUNABLES", "glibc.cpu.x86_rep_stosb_threshold=100000000:glibc.cpu.x86_rep_movsb_threshold=100000000");
 
 /// Runs `benchmark calls` under callgrind with its profiles in the folder; false where that fails.
 fn profile_calls(folder: &Path) -> bool {
@@ -302,14 +364,15 @@ fn print_counts() {
 
 fn print_table() {
     let counts = instructions();
-    println!("degree order call                     engine us  plain us  ratio   engine instructions  plain instructions  ratio");
+    println!("| Space | Call | Engine, µs | Plain, µs | Ratio | Engine, instructions | Plain, instructions | Ratio |");
+    println!("|---|---|---|---|---|---|---|---|");
     for (k, shape) in table_shapes().iter().enumerate() {
         let [engine, plain] = times(shape);
-        let name = if shape.positions == 0 { "build".to_string() } else { format!("curve, {}", shape.pattern.name()) };
-        print!("{:6} {:5} {:24} {:9.1} {:9.1} {:6.2}", shape.degree, shape.order, name, engine, plain, engine / plain);
+        let space = format!("{}, {} segments, {} parts", shape.kind_name(), shape.segments, shape.parts());
+        print!("| {space} | {} | {engine:.1} | {plain:.1} | {:.2} |", shape.call_name(), engine / plain);
         if let Some(counts) = &counts {
             let [engine, plain] = counts[k];
-            print!("   {:19} {:19} {:6.2}", engine, plain, engine as f64 / plain as f64);
+            print!(" {engine} | {plain} | {:.2} |", engine as f64 / plain as f64);
         }
         println!();
     }
@@ -323,7 +386,7 @@ fn print_table() {
 /// One after another, `sheets` curve calls of each of the kinds; true if every one left what the first did.
 fn archive(sheets: usize) -> bool {
     let calls: Vec<Call> = kinds()
-        .map(|(degree, order)| Call::new(&Shape { degree, order, segments: MAX_SEGMENTS, positions: MAX_POSITIONS, pattern: Pattern::Scattered }))
+        .map(|kind| Call::new(&Shape { positions: MAX_POSITIONS, ..full(kind) }))
         .collect();
     let expected: Vec<Lent> = calls
         .iter()

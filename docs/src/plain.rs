@@ -1,12 +1,14 @@
-//! The plain program: document 01's steps as they are read, with the change requests that have landed (pairs, rounding to the
-//! nearest, discontinuities). Every row and every column, one division a blend, the ordinates once a call: nothing is tuned and
-//! nothing is proved. It is what the engine's speed is measured against, and gives the same answers, cells and values.
+//! The plain program: document 01 and the change requests that have landed, as a programmer writes them in Rust on the first day.
+//! Sums and products with a zero return early, columns of zeros are not mixed, rows are moved in one piece, each degree has an arm
+//! of its own, a blend takes one division, and a beam is cut at its discontinuities. Nothing is proved. It is what the engine's
+//! speed is measured against, and gives the same answers, cells and values.
 //!
 //! It takes the lists and buffers of the engine's calls.
 
 const ROW_CELLS: usize = 72;
 pub const CELLS: usize = ROW_CELLS * ROW_CELLS;
-const MAX_SEGMENTS: usize = 12;
+const MAX_SEGMENTS: usize = 48;
+const MAX_PART_SEGMENTS: usize = 12;
 const MAX_POSITIONS: usize = 4096;
 const MAX_DEGREE: i32 = 5;
 const MAX_ORDER: i32 = 2;
@@ -68,10 +70,19 @@ impl Fraction {
     }
 
     fn plus(self, other: Fraction) -> Result<Fraction, u32> {
+        if self.num == 0 {
+            return Ok(other);
+        }
+        if other.num == 0 {
+            return Ok(self);
+        }
         Fraction::counted(self.num * other.den + other.num * self.den, self.den * other.den)
     }
 
     fn times(self, other: Fraction) -> Result<Fraction, u32> {
+        if self.num == 0 || other.num == 0 {
+            return Ok(ZERO);
+        }
         Fraction::counted(self.num * other.num, self.den * other.den)
     }
 
@@ -85,20 +96,54 @@ impl Fraction {
     }
 }
 
-// ---- the numbers 2 to 7
+// ---- the numbers 2 to 7, and 15
 
-fn check_space(space: Space) -> Result<(), Refusal> {
-    let m = space.degrees.len();
+impl<'a> Space<'a> {
+    fn segments(self) -> usize {
+        self.degrees.len()
+    }
+
+    /// The segments from a up to b as a space.
+    fn section(self, a: usize, b: usize) -> Space<'a> {
+        Space { breaks: &self.breaks[a..=b], degrees: &self.degrees[a..b], orders: &self.orders[a..b - 1] }
+    }
+
+    /// Where the part that starts with segment a ends.
+    fn part_end(self, a: usize) -> usize {
+        let later = self.orders[a..].iter().position(|&order| order == DISCONTINUITY);
+        later.map_or(self.segments(), |k| a + k + 1)
+    }
+
+    /// The parts of a beam, each as its first segment and its end.
+    fn parts(self) -> impl Iterator<Item = (usize, usize)> + 'a {
+        let mut a = 0;
+        std::iter::from_fn(move || {
+            let part = (a < self.segments()).then(|| (a, self.part_end(a)))?;
+            a = part.1;
+            Some(part)
+        })
+    }
+}
+
+fn check_lengths(space: Space) -> Result<(), Refusal> {
+    let m = space.segments();
     if m < 1 || m > MAX_SEGMENTS || space.breaks.len() != m + 1 || space.orders.len() != m - 1 {
         return Err((2, 0));
     }
+    Ok(())
+}
+
+fn check_space(space: Space) -> Result<(), Refusal> {
+    check_lengths(space)?;
     for (i, &x) in space.breaks.iter().enumerate() {
         if x < -BREAK_LIMIT || x > BREAK_LIMIT || i > 0 && x <= space.breaks[i - 1] {
             return Err((3, i as u32));
         }
     }
-    if space.breaks[m] - space.breaks[0] > SPAN_LIMIT {
-        return Err((3, m as u32));
+    for (a, b) in space.parts() {
+        if space.breaks[b] - space.breaks[a] > SPAN_LIMIT {
+            return Err((3, b as u32));
+        }
     }
     for (i, &p) in space.degrees.iter().enumerate() {
         if p < 1 || p > MAX_DEGREE {
@@ -108,6 +153,11 @@ fn check_space(space: Space) -> Result<(), Refusal> {
     for (j, &order) in space.orders.iter().enumerate() {
         if order < DISCONTINUITY || order > MAX_ORDER || order >= space.degrees[j].min(space.degrees[j + 1]) {
             return Err((5, j as u32));
+        }
+    }
+    for (a, b) in space.parts() {
+        if b - a > MAX_PART_SEGMENTS {
+            return Err((15, a as u32));
         }
     }
     Ok(())
@@ -168,6 +218,15 @@ impl Table<'_> {
     fn clear(&mut self) {
         self.num[..CELLS].fill(0);
         self.den[..CELLS].fill(1);
+    }
+
+    /// The rows after this one move up by a row, and the last row is cleared.
+    fn drop_row(&mut self, row: usize, rows: usize) {
+        let (to, end) = (ROW_CELLS * row, ROW_CELLS * rows);
+        self.num.copy_within(to + ROW_CELLS..end, to);
+        self.den.copy_within(to + ROW_CELLS..end, to);
+        self.num[end - ROW_CELLS..end].fill(0);
+        self.den[end - ROW_CELLS..end].fill(1);
     }
 }
 
@@ -241,22 +300,17 @@ fn step(table: &mut Table, conditions: &[(usize, i64)], rows: usize, columns: us
         let w = factors[i - first];
         let rest = factors[i - first + 1].rest();
         for c in 0..columns {
-            let own = w.times(table.get(i, c))?;
-            let next = rest.times(table.get(i + 1, c))?;
-            table.set(i, c, own.plus(next)?);
+            let (own, next) = (table.get(i, c), table.get(i + 1, c));
+            if own.num != 0 || next.num != 0 {
+                table.set(i, c, w.times(own)?.plus(rest.times(next)?)?);
+            }
         }
     }
-    for i in last..rows - 1 {
-        for c in 0..columns {
-            table.set(i, c, table.get(i + 1, c));
-        }
-    }
-    for c in 0..columns {
-        table.set(rows - 1, c, ZERO);
-    }
+    table.drop_row(last, rows);
     Ok(())
 }
 
+/// The weights of a space without discontinuities.
 fn weights(space: Space, table: &mut Table) -> Result<usize, Refusal> {
     let columns = column_count(space);
     table.clear();
@@ -277,6 +331,20 @@ fn weights(space: Space, table: &mut Table) -> Result<usize, Refusal> {
     Ok(rows)
 }
 
+/// The weights part by part, each in the place of the one before. `done` is given the table after each part, with the part's first
+/// row, its first column and its space.
+fn parts_weights(space: Space, table: &mut Table, mut done: impl FnMut(&Table, usize, usize, Space)) -> Result<usize, Refusal> {
+    let (mut row, mut column) = (0, 0);
+    for (a, b) in space.parts() {
+        let part = space.section(a, b);
+        let rows = weights(part, table).map_err(|(number, join)| (number, a as u32 + join))?;
+        done(table, row, column, part);
+        row += rows;
+        column += column_count(part);
+    }
+    Ok(row)
+}
+
 /// Builds the weights and gives the number of rows.
 pub fn build(space: Space, num: &mut [i64], den: &mut [i64]) -> Result<usize, Refusal> {
     if num.len() < CELLS {
@@ -286,7 +354,7 @@ pub fn build(space: Space, num: &mut [i64], den: &mut [i64]) -> Result<usize, Re
         return Err((1, 1));
     }
     check_space(space)?;
-    weights(space, &mut Table { num, den })
+    parts_weights(space, &mut Table { num, den }, |_, _, _, _| ())
 }
 
 // ---- reading the curve
@@ -296,23 +364,22 @@ fn nearest(a: i64, b: i64) -> i64 {
     (2 * a + b).div_euclid(2 * b)
 }
 
-/// The ordinates of one wood part, 0 for earlywood and 1 for latewood.
-fn ordinates(table: &Table, coefs: &[i32], part: usize, rows: usize, columns: usize) -> Vec<i64> {
-    let mut ordinates = Vec::with_capacity(columns);
-    for c in 0..columns {
+/// The ordinates of the columns of a part's table, for one wood: 0 for earlywood and 1 for latewood.
+fn ordinates(table: &Table, coefs: &[i32], wood: usize, ordinates: &mut [i64]) {
+    let rows = coefs.len() / 2;
+    for c in 0..ordinates.len() {
         let (mut sum, mut least, mut greatest) = (0, i64::MAX, i64::MIN);
         for i in 0..rows {
             let weight = table.get(i, c);
             if weight.num != 0 {
-                let coef = PARTS * coefs[2 * i + part] as i64;
+                let coef = PARTS * coefs[2 * i + wood] as i64;
                 sum += nearest(coef * weight.num, weight.den);
                 least = least.min(coef);
                 greatest = greatest.max(coef);
             }
         }
-        ordinates.push(sum.max(least).min(greatest));
+        ordinates[c] = sum.max(least).min(greatest);
     }
-    ordinates
 }
 
 /// Whether segment i starts at or before the position; at a discontinuity, before it.
@@ -329,15 +396,39 @@ fn segment_at(space: Space, x: i32) -> usize {
     (0..space.degrees.len()).rev().find(|&i| starts_by(space, i, x)).unwrap_or(0)
 }
 
-fn triangle(ordinates: &[i64], u: i64, d: i64) -> i64 {
+fn triangle<const DEGREE: usize>(ordinates: &[i64], u: i64, d: i64) -> i64 {
     let mut stage = [0; MAX_DEGREE as usize + 1];
-    stage[..ordinates.len()].copy_from_slice(ordinates);
-    for n in (1..ordinates.len()).rev() {
+    stage[..=DEGREE].copy_from_slice(&ordinates[..=DEGREE]);
+    for n in (1..=DEGREE).rev() {
         for k in 0..n {
             stage[k] = nearest((d - u) * stage[k] + u * stage[k + 1], d);
         }
     }
     stage[0]
+}
+
+fn value(ordinates: &[i64], u: i64, d: i64) -> i64 {
+    match ordinates.len() {
+        2 => triangle::<1>(ordinates, u, d),
+        3 => triangle::<2>(ordinates, u, d),
+        4 => triangle::<3>(ordinates, u, d),
+        5 => triangle::<4>(ordinates, u, d),
+        _ => triangle::<5>(ordinates, u, d),
+    }
+}
+
+/// Both values at each position, from the ordinates of both woods.
+fn read(space: Space, woods: &[Vec<i64>; 2], positions: &[i32], values: &mut [i32]) {
+    let first_columns: Vec<usize> = (0..space.segments()).map(|i| first_column(space, i)).collect();
+    for (k, &x) in positions.iter().enumerate() {
+        let i = segment_at(space, x);
+        let first = first_columns[i];
+        let last = first + space.degrees[i] as usize;
+        let u = x as i64 - PARTS * space.breaks[i] as i64;
+        let d = PARTS * length(space, i);
+        values[2 * k] = value(&woods[0][first..=last], u, d) as i32;
+        values[2 * k + 1] = value(&woods[1][first..=last], u, d) as i32;
+    }
 }
 
 /// Builds the weights, writes both values at each position and gives the number of positions.
@@ -351,29 +442,19 @@ pub fn curve(space: Space, coefs: &[i32], positions: &[i32], num: &mut [i64], de
     if values.len() / 2 < positions.len() {
         return Err((1, 2));
     }
-    let lengths = check_space(space);
-    if lengths == Err((2, 0)) {
-        return Err((2, 0));
-    }
+    check_lengths(space)?;
     if positions.len() > MAX_POSITIONS {
         return Err((2, 1));
     }
-    lengths?;
+    check_space(space)?;
     check_entries(space, coefs, positions)?;
-    let mut table = Table { num, den };
-    let rows = weights(space, &mut table)?;
-    let columns = column_count(space);
-    let first_columns: Vec<usize> = (0..space.degrees.len()).map(|i| first_column(space, i)).collect();
-    let parts = [0, 1].map(|part| ordinates(&table, coefs, part, rows, columns));
-    for (k, &x) in positions.iter().enumerate() {
-        let i = segment_at(space, x);
-        let first = first_columns[i];
-        let last = first + space.degrees[i] as usize;
-        let u = x as i64 - PARTS * space.breaks[i] as i64;
-        let d = PARTS * length(space, i);
-        for part in 0..2 {
-            values[2 * k + part] = triangle(&parts[part][first..=last], u, d) as i32;
+    let mut woods = [0, 1].map(|_| vec![0; column_count(space)]);
+    parts_weights(space, &mut Table { num, den }, |table, row, column, part| {
+        let own = &coefs[2 * row..2 * (row + row_count(part))];
+        for wood in 0..2 {
+            ordinates(table, own, wood, &mut woods[wood][column..column + column_count(part)]);
         }
-    }
+    })?;
+    read(space, &woods, positions, values);
     Ok(positions.len())
 }

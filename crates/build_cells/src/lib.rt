@@ -18,18 +18,27 @@ pub const TABLE_CELLS: usize = 5184;
 // From one place of the diagonal to the next: a row and a cell.
 const DIAGONAL_STEP: usize = 73;
 
+// One number in the cells of a buffer from the one index up to the other. A loop for each buffer: the compiler makes wide stores
+// of a loop that writes one number to one place after another, and of two such rows of places in one loop it makes slower ones.
+fn fill(cells: &mut [i64], value: i64, from: usize, to: usize)
+    requires { ⌜ (from ≤ to) × (to ≤ length (now cells)) ⌝ }
+    ensures { λ _. ⌜ now (cells .exit) ≡ filled from to value (now (cells .entry)) ⌝ }
+{
+    let mut k = from;
+    while k < to {
+        cells[k] = value;
+        k += 1;
+    }
+}
+
 // 0/1 in the cells from the one index up to the other.
 pub fn clear(num: &mut [i64], den: &mut [i64], from: usize, to: usize)
     requires { ⌜ (from ≤ to) × ((to ≤ length (now num)) × (to ≤ length (now den))) ⌝ }
     ensures { λ _. ⌜ now (num .exit) ≡ filled from to (pos 0) (now (num .entry)) ⌝ }
     ensures { λ _. ⌜ now (den .exit) ≡ filled from to (pos 1) (now (den .entry)) ⌝ }
 {
-    let mut k = from;
-    while k < to {
-        num[k] = 0;
-        den[k] = 1;
-        k += 1;
-    }
+    fill(num, 0, from, to);
+    fill(den, 1, from, to);
 }
 
 // 1 at the first n places of the diagonal.

@@ -6,7 +6,7 @@ use Prim.Native.Nat.{ℕ}
 use native.Mathlib.Omega.{arith}
 use lib.IntN.{pos}
 use Rattle.base_exact.specs.Rational.{ℚ, int, _+ᵠ_, _*ᵠ_}
-use Rattle.base_exact.proofs.Rational.{add-zero, zero-mul}
+use Rattle.base_exact.proofs.Rational.{add-zero, zero-add, zero-mul}
 use Rattle.base_fraction.specs.Size as size
 use Rattle.base_fraction.specs.Size.{fits}
 use Rattle.base_fraction.specs.Machine as machine
@@ -65,6 +65,18 @@ fits-then o f x e = ap counted (then-answers f (fits-answered o x e .answers))
 
 pub large-then : (o : Outcome ℚ) (f : ℚ → Outcome ℚ) → counted o ≡ TooLarge → counted (o then f) ≡ TooLarge
 large-then o f e = refused-large (then-refuses f (large-refused o e .refuses))
+
+-- what was counted once and then again with zero added: the second count changes nothing
+pub count-again : (j : ℕ) (q : ℚ) (f : ℚ → Outcome ℚ) → ((fits q ≡ true) → f q ≡ count j q) → (count j q then f) ≡ count j q
+count-again j q f same = go (fits q) refl
+  where
+    go : (b : Bool) → fits q ≡ b → (count j q then f) ≡ count j q
+    go true e = then-answers f (count-fits j q e) ∙ same e
+    go false e = then-refuses f (count-large j q e) ∙ sym (count-large j q e)
+
+-- the sum of zero and what was counted
+pub zero-before : (j : ℕ) (q s : ℚ) → s ≡ int (pos 0) → (count j q then λ p. count j (s +ᵠ p)) ≡ count j q
+zero-before j q s e = count-again j q (λ p. count j (s +ᵠ p)) (λ _. ap (λ z. count j (z +ᵠ q)) e ∙ ap (count j) (zero-add q))
 
 -- a product with zero, and the sum with it: neither can be too large, and the sum is what it was
 pub zero-then : (j : ℕ) (w : ℚ) (z : ℚ) (f : Fraction) → w ≡ int (pos 0) → Sized f → f ≡ fraction (value f) → counted (count j (w *ᵠ z) then λ p. count j (value f +ᵠ p)) ≡ Fits f

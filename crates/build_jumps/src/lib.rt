@@ -41,8 +41,8 @@ pub enum JumpSpan {
     Nothing,
 }
 
-// The sum with one more product, weight times condition. A product by a weight of zero is zero, and the sum stays as it is: both
-// were counted before.
+// The sum with one more product, weight times condition. A product by a weight of zero is zero, and the sum stays as it is; the sum
+// of zero and a product is the product: all of them were counted before.
 fn add_product(sum: Fraction, weight: Fraction, condition: i64) -> Counted
     requires { ⌜ Sized sum × (Sized weight × (natAbs condition < 2 ^ 31)) ⌝ }
     requires { ⌜ sum ≡ fraction (value sum) ⌝ }
@@ -58,6 +58,9 @@ fn add_product(sum: Fraction, weight: Fraction, condition: i64) -> Counted
             den: 1,
         },
     );
+    if sum.num == 0 {
+        return term;
+    }
     match term {
         Counted::Fits(t) => base_fraction::sum(sum, t),
         Counted::TooLarge => Counted::TooLarge,

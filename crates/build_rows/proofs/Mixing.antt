@@ -1,6 +1,6 @@
 -- The new rows of a step: that the factors are as they ask, what an entry and a row answer, and a row that is written over
 -- by its new entries in one of the buffers.
-use mathlib.Core.Path.{_≡_, sym, _∙_, ap, ap₂}
+use mathlib.Core.Path.{_≡_, refl, sym, _∙_, ap, ap₂}
 use mathlib.Core.Bool.{true}
 use mathlib.Core.Logic.{_≢_}
 use mathlib.Core.List.{List, []}
@@ -29,6 +29,7 @@ use Rattle.spec_spline.proofs.Answers.{factors-unit}
 use Rattle.build_cells.proofs.Region.{Written}
 use Rattle.build_cells.proofs.Buffer.{laid, laid-by, laid-reads}
 use Rattle.build_jumps.specs.Machine.{counted, fractions}
+use Rattle.build_jumps.proofs.Counted.{count-again, zero-before}
 use Rattle.build_jumps.specs.declared.Fractions.{Fractions}
 use Rattle.build_rows.specs.Rows.{UnitFactors}
 
@@ -54,20 +55,37 @@ pub newEntry-answers : (j : ℕ) (w v x y : ℚ) {q : ℚ} → newEntry j w v x 
 unfolding mixture
 newEntry-answers j w v x y e = newEntry-is j w v x y e
 
+-- a product with zero fits
+zero-product : (j : ℕ) (u : ℚ) → count j (u *ᵠ int (pos 0)) ≡ answer (int (pos 0))
+zero-product j u = ap (count j) (mul-zero u) ∙ count-fits j (int (pos 0)) (int-fits (pos 0) (omega arith))
+
 -- of two zeros
 pub zero-entry : (j : ℕ) (w v : ℚ) {x y : ℚ} → x ≡ int (pos 0) → y ≡ int (pos 0) → counted (newEntry j w v x y) ≡ Fits (record { num = pos 0; den = pos 1 })
 unfolding counted newEntry
 zero-entry j w v a b =
     ap₂ (λ x y. counted (newEntry j w v x y)) a b
     ∙ ap counted (
-    then-answers (λ p. count j ((int (pos 1) -ᵠ v) *ᵠ int (pos 0)) then λ q. count j (p +ᵠ q)) (none w)
-    ∙ then-answers (λ q. count j (int (pos 0) +ᵠ q)) (none (int (pos 1) -ᵠ v))
+    then-answers (λ p. count j ((int (pos 1) -ᵠ v) *ᵠ int (pos 0)) then λ q. count j (p +ᵠ q)) (zero-product j w)
+    ∙ then-answers (λ q. count j (int (pos 0) +ᵠ q)) (zero-product j (int (pos 1) -ᵠ v))
     ∙ ap (count j) (add-zero (int (pos 0)))
     ∙ count-fits j (int (pos 0)) (int-fits (pos 0) (omega arith)))
     ∙ ap Fits (fraction-int (pos 0))
-  where
-    none : (u : ℚ) → count j (u *ᵠ int (pos 0)) ≡ answer (int (pos 0))
-    none u = ap (count j) (mul-zero u) ∙ count-fits j (int (pos 0)) (int-fits (pos 0) (omega arith))
+
+-- of zero and an entry: the second product
+pub first-zero : (j : ℕ) (w v : ℚ) {x : ℚ} (y : ℚ) → x ≡ int (pos 0) → newEntry j w v x y ≡ count j ((int (pos 1) -ᵠ v) *ᵠ y)
+unfolding newEntry
+first-zero j w v y e =
+    ap (λ x. newEntry j w v x y) e
+    ∙ then-answers (λ p. count j ((int (pos 1) -ᵠ v) *ᵠ y) then λ q. count j (p +ᵠ q)) (zero-product j w)
+    ∙ zero-before j ((int (pos 1) -ᵠ v) *ᵠ y) (int (pos 0)) refl
+
+-- of an entry and zero: the first
+pub second-zero : (j : ℕ) (w v : ℚ) (x : ℚ) {y : ℚ} → y ≡ int (pos 0) → newEntry j w v x y ≡ count j (w *ᵠ x)
+unfolding newEntry
+second-zero j w v x e =
+    ap (newEntry j w v x) e
+    ∙ count-again j (w *ᵠ x) (λ p. count j ((int (pos 1) -ᵠ v) *ᵠ int (pos 0)) then λ q. count j (p +ᵠ q))
+    (λ _. then-answers (λ q. count j (w *ᵠ x +ᵠ q)) (zero-product j (int (pos 1) -ᵠ v)) ∙ ap (count j) (add-zero (w *ᵠ x)))
 
 -- ---- one row
 

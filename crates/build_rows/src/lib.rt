@@ -16,7 +16,8 @@ use base_fraction::Counted;
 use base_fraction::Fraction;
 use build_jumps::Fractions;
 
-// w x + u y, with both products and the sum counted. Of two zeros it is zero, and nothing counted can be too large.
+// w x + u y, with both products and the sum counted. A product with a zero is zero, and the sum with it is the other product, which
+// was counted before.
 fn new_entry(w: Fraction, u: Fraction, x: Fraction, y: Fraction) -> Counted
     requires { ⌜ Sized w × (Sized u × (Sized x × Sized y)) ⌝ }
     ensures { λ r. ⌜ ((j : ℕ) (v : ℚ) → value u ≡ int (pos 1) -ᵠ v → r ≡ counted (Step.newEntry j (value w) v (value x) (value y))) ⌝ }
@@ -25,6 +26,10 @@ fn new_entry(w: Fraction, u: Fraction, x: Fraction, y: Fraction) -> Counted
         if y.num == 0 {
             return Counted::Fits(Fraction { num: 0, den: 1 });
         }
+        return base_fraction::product(u, y);
+    }
+    if y.num == 0 {
+        return base_fraction::product(w, x);
     }
     let first = base_fraction::product(w, x);
     match first {
