@@ -1,0 +1,34 @@
+"""Puts the engine into the installed package: the shared object linked from the proved archives, the headers that declare it and the
+proved program. All else of the installation stands in pyproject.toml.
+"""
+
+import shutil
+import sys
+from pathlib import Path
+
+from setuptools import setup
+from setuptools.command.build_py import build_py
+
+HERE = Path(__file__).resolve().parent
+sys.path.insert(0, str(HERE / "src" / "walzhik"))
+
+import _build  # noqa: E402
+
+
+class BuildWithEngine(build_py):
+    """Copies the package, and the engine into its folder _native."""
+
+    def run(self) -> None:
+        super().run()
+        root = HERE.parent
+        needed = [*_build.archives(root), *(root / "target" / "bin" / name for name in _build.PROGRAMS)]
+        missing = [str(path.relative_to(root)) for path in needed if not path.exists()]
+        if missing:
+            raise SystemExit(f"The engine is not built: {', '.join(missing)} missing. Run ./walzhik in {root} first.")
+        native = Path(self.build_lib) / "walzhik" / "_native"
+        _build.link(_build.archives(root), native / _build.LIBRARY)
+        for path in [*_build.headers(root / "include"), *needed[len(_build.archives(root)) :]]:
+            shutil.copy(path, native / path.name)
+
+
+setup(cmdclass={"build_py": BuildWithEngine})

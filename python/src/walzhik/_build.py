@@ -1,0 +1,112 @@
+"""Makes the shared object that the package loads, and reads the declarations and constants that go with it from the C headers.
+It stands apart because the launcher and the package's installation run it before anything else of the package can be imported:
+it needs Python's standard library alone.
+"""
+
+from __future__ import annotations
+
+import os
+import re
+import subprocess
+import sys
+import tempfile
+from collections.abc import Iterable, Sequence
+from pathlib import Path
+
+LIBRARY = "libwalzhik.so"
+PROGRAMS = ("sheet",)
+COMMENT = re.compile(r"/\*.*?\*/", re.DOTALL)
+INCLUDED = re.compile(r'^#include "([^"]+)"', re.MULTILINE)
+SHARED_MODE = 0o755
+DEFINITION = re.compile(r"^#define\s+(\w+)\s+(?:UINT32_C\()?(\d+)\)?\s*$", re.MULTILINE)
+CONDITION = re.compile(r"^#ifdef __cplusplus\n(.*?)^#endif\n", re.MULTILINE | re.DOTALL)
+
+
+def declarations(header: str) -> str:
+    """The types and functions that a header declares, as cffi reads them.
+
+    Comments, the lines that begin with # and what only C++ sees are taken off; nothing else is.
+
+    Examples
+    --------
+    >>> declarations("#include <stddef.h>\\n/* adds */\\nint add(int a, int b);\\n")
+    'int add(int a, int b);'
+    """
+    plain = CONDITION.sub("", COMMENT.sub("", header))
+    kept = [line for line in plain.splitlines() if line.strip() and not line.startswith("#")]
+    return "\n".join(kept)
+
+
+def constants(header: str) -> dict[str, int]:
+    """The whole numbers that a header defines by name.
+
+    Examples
+    --------
+    >>> constants("#define CELLS 5184\\n#define MOST UINT32_C(7)\\n#define GUARD_H\\n")
+    {'CELLS': 5184, 'MOST': 7}
+    """
+    return {name: int(number) for name, number in DEFINITION.findall(COMMENT.sub("", header))}
+
+
+def headers(folder: Path) -> list[Path]:
+    """The headers in a folder, each one after those that it includes."""
+    left = sorted(folder.glob("*.h"))
+    ordered: list[Path] = []
+    while left:
+        waiting = {path.name for path in left}
+        ready = [path for path in left if not waiting & set(INCLUDED.findall(path.read_text(encoding="ascii")))]
+        if not ready:
+            raise ValueError(f"headers that include each other: {', '.join(sorted(waiting))}")
+        ordered += ready
+        left = [path for path in left if path not in ready]
+    return ordered
+
+
+def archives(root: Path) -> list[Path]:
+    """The archives of a checkout that the headers in include/ name."""
+    return [root / "target" / "staticlib" / f"lib{header.stem}.a" for header in headers(root / "include")]
+
+
+def link(libraries: Sequence[Path], into: Path) -> None:
+    """Link archives to one shared object, which appears whole or not at all.
+
+    Raises
+    ------
+    OSError
+        If there is no C compiler, or the folder can't be written.
+    subprocess.CalledProcessError
+        If the linker fails; it has then said why on standard error.
+    """
+    into.parent.mkdir(parents=True, exist_ok=True)
+    handle, made = tempfile.mkstemp(prefix=f".{into.name}.", dir=into.parent)
+    os.close(handle)
+    try:
+        whole = ["-Wl,--whole-archive", *map(str, libraries), "-Wl,--no-whole-archive"]
+        subprocess.run(["cc", "-shared", "-o", made, *whole, "-Wl,-z,now", "-Wl,--no-undefined"], check=True)
+        os.chmod(made, SHARED_MODE)
+        os.replace(made, into)
+    except BaseException:
+        os.unlink(made)
+        raise
+
+
+def is_stale(library: Path, sources: Iterable[Path]) -> bool:
+    """Whether the shared object is missing, or older than an archive."""
+    return not library.exists() or any(source.stat().st_mtime_ns > library.stat().st_mtime_ns for source in sources)
+
+
+def main(arguments: Sequence[str]) -> int:
+    """Link the archives of the checkout that is named, if its shared object is missing or older than they are."""
+    root = Path(arguments[0])
+    library = root / "target" / "lib" / LIBRARY
+    try:
+        if is_stale(library, archives(root)):
+            link(archives(root), library)
+    except (OSError, subprocess.CalledProcessError) as error:
+        print(f"The shared object {library} can't be made: {error}", file=sys.stderr)
+        return 2
+    return 0
+
+
+if __name__ == "__main__":
+    sys.exit(main(sys.argv[1:]))

@@ -1,0 +1,146 @@
+"""The loader of the engine: the shared object that is linked from the proved archives, with declarations and constants read from
+the C headers themselves. What a call needs lent, buffers and whole numbers of 32 bits, is made here once for all modules.
+"""
+
+from __future__ import annotations
+
+import os
+import threading
+from functools import lru_cache
+from pathlib import Path
+from typing import TYPE_CHECKING, Any
+
+import cffi
+import numpy as np
+
+from . import _build
+
+if TYPE_CHECKING:
+    from collections.abc import Sequence
+
+    from numpy.typing import NDArray
+
+    Wholes = Sequence[int] | NDArray[np.integer[Any]]
+
+MOST_POSITIONS = 4_096  # of one call
+LEAST_WORD, MOST_WORD = -(2**31), 2**31 - 1
+INSTALLED = Path(__file__).resolve().parent / "_native"
+
+
+class Unavailable(ImportError):
+    """The engine is not built where the package looks for it."""
+
+
+def root() -> Path:
+    """The checkout that the package stands in, or that the environment variable WALZHIK_ROOT names."""
+    named = os.environ.get("WALZHIK_ROOT")
+    return Path(named) if named else Path(__file__).resolve().parents[3]
+
+
+def found(installed: str, built: str) -> Path:
+    """A file of the engine: beside an installed package, else in the checkout.
+
+    Raises
+    ------
+    Unavailable
+        If it is in neither place.
+    """
+    for path in (INSTALLED / installed, root() / built):
+        if path.exists():
+            return path
+    raise Unavailable(
+        f"The engine is not built: {root() / built} is missing. ./walzhik at the checkout's root builds it."
+    )
+
+
+def program(name: str) -> Path:
+    """A proved program, as ``sheet``."""
+    return found(name, f"target/bin/{name}")
+
+
+@lru_cache(maxsize=None)
+def _loaded() -> tuple[Any, Any, dict[str, int]]:
+    library = found(_build.LIBRARY, f"target/lib/{_build.LIBRARY}")
+    folder = INSTALLED if library.parent == INSTALLED else root() / "include"
+    declared, numbers = cffi.FFI(), {}
+    for header in _build.headers(folder):
+        text = header.read_text(encoding="ascii")
+        declared.cdef(_build.declarations(text))
+        numbers.update(_build.constants(text))
+    return declared, declared.dlopen(str(library)), numbers
+
+
+ffi, library, _CONSTANTS = _loaded()
+CELLS = _CONSTANTS["WALZHIK_CELLS"]
+LARGEST_PLACE = _CONSTANTS["WALZHIK_LARGEST_PLACE"]
+SIDE = int(CELLS**0.5)  # the weights are a square table
+
+
+class Lent(threading.local):
+    """The buffers that a thread lends to its calls, and uses again for the next one.
+
+    Attributes
+    ----------
+    numerators, denominators : ndarray of int64, shape (SIDE, SIDE)
+        The weights of the last part that a call has built.
+    values : ndarray of int32, shape (MOST_POSITIONS, 2)
+        The values at the rings of an index call.
+    """
+
+    def __init__(self) -> None:
+        self.numerators: NDArray[np.int64] = np.zeros((SIDE, SIDE), dtype=np.int64)
+        self.denominators: NDArray[np.int64] = np.ones((SIDE, SIDE), dtype=np.int64)
+        self.values: NDArray[np.int32] = np.zeros((MOST_POSITIONS, 2), dtype=np.int32)
+        weights = (ffi.from_buffer("int64_t[]", self.numerators), ffi.from_buffer("int64_t[]", self.denominators))
+        self.weights = (weights[0], CELLS, weights[1], CELLS)
+        self.values_lent = ffi.from_buffer("int32_t[]", self.values)
+
+
+lent = Lent()
+
+
+def wholes(numbers: Wholes, name: str) -> NDArray[np.int32]:
+    """Whole numbers as the engine takes them: 32 bits, one after another, without a copy where they lie so already.
+
+    A number that 32 bits can't hold becomes the nearest one that they can. The engine's ranges all lie far within, so it is
+    refused with the same number and place; nothing is decided here.
+
+    Raises
+    ------
+    TypeError
+        If they are no whole numbers: nothing is rounded.
+
+    Examples
+    --------
+    >>> wholes([0, 10**12], "breaks")
+    array([         0, 2147483647], dtype=int32)
+    """
+    given = np.asarray(numbers) if len(numbers) else np.zeros(np.shape(numbers), dtype=np.int32)
+    if given.dtype == np.int32:
+        return np.ascontiguousarray(given)
+    if given.dtype == object and all(isinstance(number, int) for number in given.flat):
+        words = [min(max(number, LEAST_WORD), MOST_WORD) for number in given.flat]
+        return np.array(words, dtype=np.int32).reshape(given.shape)
+    if given.dtype.kind not in "iu":
+        raise TypeError(f"{name}: whole numbers are needed, not {given.dtype}")
+    near = np.minimum(given, MOST_WORD) if given.dtype.kind == "u" else np.clip(given, LEAST_WORD, MOST_WORD)
+    return np.ascontiguousarray(near.astype(np.int32))
+
+
+def kept(numbers: Wholes, name: str) -> NDArray[np.int32]:
+    """Whole numbers as the engine takes them, in an array of their own that nobody can write to any more."""
+    own = np.array(wholes(numbers, name), order="C")
+    own.flags.writeable = False
+    return own
+
+
+def whole(number: int, name: str) -> int:
+    """One whole number of 32 bits, or the nearest one, as `wholes` does it."""
+    if isinstance(number, (bool, np.bool_)) or not isinstance(number, (int, np.integer)):
+        raise TypeError(f"{name}: a whole number is needed, not {type(number).__name__}")
+    return min(max(int(number), LEAST_WORD), MOST_WORD)
+
+
+def pointer(numbers: NDArray[Any], kind: str = "int32_t[]") -> Any:
+    """What a call is lent for an array, which must live as long as this is used."""
+    return ffi.from_buffer(kind, numbers)

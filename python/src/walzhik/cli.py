@@ -1,0 +1,70 @@
+"""The command: every module of `walzhik.commands` is a sub-command of its name. A module is imported only when its command is asked
+for, so that a command starts fast.
+"""
+
+from __future__ import annotations
+
+import importlib
+import pkgutil
+import sys
+import traceback
+from typing import Any
+
+import click
+
+from . import commands
+
+DONE, REFUSED, UNUSABLE = 0, 1, 2
+INTERRUPTED = 130
+
+
+class Commands(click.MultiCommand):
+    """The sub-commands, by the names of their modules."""
+
+    def list_commands(self, ctx: click.Context) -> list[str]:
+        return sorted(
+            module.name for module in pkgutil.iter_modules(commands.__path__) if not module.name.startswith("_")
+        )
+
+    def get_command(self, ctx: click.Context, cmd_name: str) -> click.Command | None:
+        if cmd_name not in self.list_commands(ctx):
+            return None
+        command: click.Command = importlib.import_module(f"{commands.__name__}.{cmd_name}").command
+        return command
+
+
+@click.command(cls=Commands, context_settings={"help_option_names": ["-h", "--help"], "max_content_width": 120})
+def cli() -> None:
+    """Growth curves of tree rings, and ring indices by them.
+
+    Curves, indices and the reading of strict Tucson files come from the engine, which is proved. This command around it, the fit, the
+    pictures and the tolerant reading of files are tested, not proved.
+
+    \b
+    ./walzhik fit examples/tucson/oak.rwl --series ROOF04E -o roof.sheet
+    ./walzhik indices examples/tucson/oak.rwl --series ROOF04E --curve roof.sheet -o roof.csv
+
+    Exit status: 0 done, 1 refused, 2 wrong usage or something unreadable.
+    """
+
+
+def main(arguments: list[str] | None = None) -> Any:
+    """Run the command and end with its status."""
+    from .failures import told
+
+    try:
+        status = cli.main(args=arguments, prog_name="./walzhik", standalone_mode=False)
+        sys.exit(status if isinstance(status, int) else DONE)
+    except click.exceptions.Abort:
+        sys.exit(INTERRUPTED)
+    except click.ClickException as error:
+        error.show()
+        sys.exit(error.exit_code)
+    except Exception as error:
+        failure = told(error)
+        if failure is None:
+            traceback.print_exc()
+            click.echo("This is a fault of the command itself. Please send these lines to the maintainers.", err=True)
+            sys.exit(UNUSABLE)
+        failure.show()
+        sys.exit(failure.exit_code)

@@ -1,0 +1,322 @@
+"""Growth curves over a space: values, ring indices, the first reach of a width and pieces for a screen. Every number comes from the
+engine's proved calls; only `to_scipy` hands the curve on to another library's floating point.
+"""
+
+from __future__ import annotations
+
+from collections.abc import Sequence
+from fractions import Fraction
+from typing import TYPE_CHECKING, Any, Literal, NamedTuple
+
+import numpy as np
+
+from ._engine import LARGEST_PLACE, MOST_POSITIONS, kept, lent, library, pointer, whole, wholes
+from .reasons import WOOD, Lists, refusal
+
+if TYPE_CHECKING:
+    from numpy.typing import NDArray
+    from scipy.interpolate import BPoly
+
+    from ._engine import Wholes
+    from .errors import Refused
+    from .space import Space
+
+Wood = Literal["earlywood", "latewood"]
+
+
+class Piece(NamedTuple):
+    """One segment of a curve as a Bezier piece, exact in floats.
+
+    Attributes
+    ----------
+    degree : int
+        1, 2 or 3.
+    ordinates : tuple of float, length degree + 1
+        In thousandths of a millimetre, at equal distances from start to end.
+    start, end : float
+        The segment's two breakpoints, in rings.
+    """
+
+    degree: int
+    ordinates: tuple[float, ...]
+    start: float
+    end: float
+
+
+class Curve:
+    """Two growth curves over one space, of earlywood and of latewood, or one of the whole ring.
+
+    Parameters
+    ----------
+    space : Space
+    coefficients : array_like of int, shape (n, 2) or (n,)
+        Thousandths of a millimetre: earlywood and latewood of each row, or one number a row for a curve of the whole ring.
+
+    Attributes
+    ----------
+    space : Space
+    coefficients : ndarray of int32, shape (n, 2)
+    is_whole_ring : bool
+        Whether all pairs have two equal sides, so that nobody needs to name a wood part.
+
+    Raises
+    ------
+    Refused
+        If the engine refuses the coefficients.
+
+    Examples
+    --------
+    >>> from walzhik import Curve, Space
+    >>> curve = Curve(Space([0, 1, 3], [2, 2], [1]), [0, 100, 0, 0])
+    >>> curve.values([256, 512])
+    array([[17067, 17067],
+           [ 4267,  4267]], dtype=int32)
+    """
+
+    def __init__(self, space: Space, coefficients: Wholes | Sequence[Sequence[int]]) -> None:
+        self.space = space
+        given = wholes(np.asarray(coefficients), "coefficients")
+        if given.ndim == 1:
+            given = np.repeat(given[:, np.newaxis], len(WOOD), axis=1)
+        if given.ndim != len(WOOD) or given.shape[1] != len(WOOD):
+            raise TypeError(
+                f"coefficients: one number or one pair a row is needed, not an array of shape {given.shape}"
+            )
+        self.coefficients: NDArray[np.int32] = kept(given, "coefficients")
+        self.is_whole_ring = bool((given[:, 0] == given[:, 1]).all())
+        self._given = coefficients
+        self._lent = (*space._lent, pointer(self.coefficients), self.coefficients.size)
+        self.values(np.zeros(0, dtype=np.int32))
+
+    def __repr__(self) -> str:
+        return f"Curve({self.space!r}, {self.coefficients.tolist()})"
+
+    def values(self, positions: Wholes) -> NDArray[np.int32]:
+        """Both curves at positions.
+
+        Parameters
+        ----------
+        positions : sequence of int, at most 4096
+            In 256ths of a ring, in any order, each within the span.
+
+        Returns
+        -------
+        ndarray of int32, shape (k, 2)
+            Earlywood and latewood at each position, in 256ths of a thousandth of a millimetre.
+
+        Raises
+        ------
+        Refused
+            If the engine refuses a position.
+        """
+        at = wholes(positions, "positions")
+        values = np.empty((at.size, len(WOOD)), dtype=np.int32)
+        reply = library.walzhik_curve(*self._lent, pointer(at), at.size, *lent.weights, pointer(values), values.size)
+        if reply.number:
+            raise self._refused(reply, positions=list(positions))
+        return values
+
+    def indices(self, widths: Wholes, first: int, wood: Wood | None = None) -> NDArray[np.int64]:
+        """Ring indices: each measured ring divided by the curve.
+
+        Parameters
+        ----------
+        widths : sequence of int, at most 4096
+            Thousandths of a millimetre, of consecutive rings; 0 is an absent ring.
+        first : int
+            The number of the first ring, counted as the breakpoints are.
+        wood : {"earlywood", "latewood"}, optional
+            The part whose curve is used; left out for a curve of the whole ring.
+
+        Returns
+        -------
+        ndarray of int64
+            The greatest whole number at or below 256000 width / value for each ring; -1 for an absent one.
+
+        Raises
+        ------
+        Refused
+            If the engine refuses a ring or a width.
+        ValueError
+            If the two curves differ and no wood part is named.
+
+        Examples
+        --------
+        >>> from walzhik import Curve, Space
+        >>> Curve(Space([0, 2], [1], []), [1000, 3000]).indices([1000, 1000, 0], 0)
+        array([1000,  500,   -1])
+        """
+        return self.rings(widths, first, wood)[1]
+
+    def rings(
+        self, widths: Wholes, first: int, wood: Wood | None = None
+    ) -> tuple[NDArray[np.int32], NDArray[np.int64]]:
+        """The curve's value at each ring, in 256ths of a thousandth, and the index, as `indices` gives it.
+
+        Examples
+        --------
+        >>> from walzhik import Curve, Space
+        >>> Curve(Space([0, 2], [1], []), [1000, 3000]).rings([1000, 1000, 0], 0)
+        (array([256000, 512000, 768000], dtype=int32), array([1000,  500,   -1]))
+        """
+        side = self.side(wood)
+        call = library.walzhik_latewood_indices if side else library.walzhik_earlywood_indices
+        measured = wholes(widths, "widths")
+        count = measured.size
+        held = lent.values if count <= MOST_POSITIONS else np.empty((count, len(WOOD)), dtype=np.int32)
+        lent_values = lent.values_lent if count <= MOST_POSITIONS else pointer(held)
+        indices = np.empty(count, dtype=np.int64)
+        reply = call(
+            *self._lent,
+            whole(first, "first"),
+            pointer(measured),
+            count,
+            *lent.weights,
+            lent_values,
+            held.size,
+            pointer(indices, "int64_t[]"),
+            count,
+        )
+        if reply.number:
+            told = held[:count, side].tolist()
+            raise self._refused(reply, widths=list(widths), first=first, wood=WOOD[side], values=told)
+        return held[:count, side].copy(), indices
+
+    def reach(self, width: int, wood: Wood | None = None) -> int:
+        """The first position that reaches a width.
+
+        Parameters
+        ----------
+        width : int
+            In thousandths of a millimetre.
+        wood : {"earlywood", "latewood"}, optional
+            The part; left out for a curve of the whole ring.
+
+        Returns
+        -------
+        int
+            The least position of the span, in 256ths of a ring, whose value is 256 times the width or more.
+
+        Raises
+        ------
+        Refused
+            With number 16 if no position reaches it.
+
+        Examples
+        --------
+        >>> from walzhik import Curve, Space
+        >>> Curve(Space([0, 2], [1], []), [1000, 3000]).reach(2000)
+        256
+        """
+        side = self.side(wood)
+        call = library.walzhik_latewood_reach if side else library.walzhik_earlywood_reach
+        reply = call(*self._lent, whole(width, "width"), *lent.weights)
+        if reply.number:
+            raise self._refused(reply, width=width, wood=WOOD[side])
+        return int(reply.position)
+
+    def piece(self, segment: int, wood: Wood | None = None) -> Piece:
+        """One segment of degree 1, 2 or 3 as a Bezier piece, exact in floats.
+
+        Parameters
+        ----------
+        segment : int
+            Its number, counted from 0.
+        wood : {"earlywood", "latewood"}, optional
+            The part; left out for a curve of the whole ring.
+
+        Raises
+        ------
+        Refused
+            With number 17 if there is no such segment, or its degree is 4 or 5.
+
+        Examples
+        --------
+        >>> from walzhik import Curve, Space
+        >>> Curve(Space([0, 2], [1], []), [1000, 3000]).piece(0)
+        Piece(degree=1, ordinates=(1000.0, 3000.0), start=0.0, end=2.0)
+        """
+        side = self.side(wood)
+        call = library.walzhik_latewood_piece if side else library.walzhik_earlywood_piece
+        number = segment if isinstance(segment, int) and 0 <= segment <= LARGEST_PLACE else LARGEST_PLACE
+        reply = call(*self._lent, number, *lent.weights)
+        if reply.number:
+            raise self._refused(reply, wood=WOOD[side])
+        ordinates = (reply.o0, reply.o1, reply.o2, reply.o3)[: reply.degree + 1]
+        return Piece(int(reply.degree), ordinates, reply.start, reply.end)
+
+    def pieces(self, wood: Wood | None = None) -> list[Piece]:
+        """All segments as Bezier pieces, if all degrees are 1, 2 or 3; see `piece`."""
+        return [self.piece(segment, wood) for segment in range(len(self.space.degrees))]
+
+    def ordinates(self, wood: Wood | None = None) -> list[list[Fraction]]:
+        """The exact Bernstein ordinates of each segment, in thousandths of a millimetre.
+
+        Examples
+        --------
+        >>> from walzhik import Curve, Space
+        >>> curve = Curve(Space([0, 1, 3], [2, 2], [1]), [0, 100, 0, 0])
+        >>> [str(ordinate) for ordinate in curve.ordinates()[1]]
+        ['200/3', '0', '0']
+        """
+        side = self.side(wood)
+        exact = [Fraction(0)] * self.space.columns
+        coefficients = self.coefficients[:, side].tolist()
+        for row, column, weight in self.space.weights.fractions():
+            exact[column] += coefficients[row] * weight
+        ends = np.cumsum(self.space.degrees + 1).tolist()
+        return [exact[start:end] for start, end in zip([0, *ends], ends)]
+
+    def to_scipy(self, wood: Wood | None = None) -> BPoly:
+        """The curve as SciPy's BPoly, in thousandths of a millimetre over rings, for derivatives, integrals and roots.
+
+        The ordinates are the exact ones, rounded to floats after their degrees are raised to the greatest of the space. At a
+        discontinuity BPoly reads the segment that starts there, the engine the one that ends there.
+
+        Examples
+        --------
+        >>> from walzhik import Curve, Space
+        >>> line = Curve(Space([0, 2], [1], []), [1000, 3000]).to_scipy()
+        >>> float(line(1.5)), float(line.derivative()(1.0)), float(line.integrate(0, 2))
+        (2500.0, 1000.0, 4000.0)
+        """
+        from scipy.interpolate import BPoly
+
+        most = int(self.space.degrees.max())
+        raised = [_raised(ordinates, most) for ordinates in self.ordinates(wood)]
+        floats = np.array([[float(ordinate) for ordinate in ordinates] for ordinates in raised])
+        return BPoly(np.ascontiguousarray(floats.T), self.space.breaks.astype(np.float64))
+
+    def side(self, wood: Wood | None) -> int:
+        """The column of a wood part: 0 for earlywood, 1 for latewood; 0 for a curve of the whole ring.
+
+        Raises
+        ------
+        ValueError
+            If the two curves differ and no wood part is named, or another one is.
+        """
+        if wood is None:
+            if self.is_whole_ring:
+                return 0
+            raise ValueError("The curves of earlywood and latewood differ: name the wood part.")
+        if wood not in WOOD:
+            raise ValueError(f"{wood!r} is no wood part: it is earlywood or latewood.")
+        return WOOD.index(wood)
+
+    def _refused(self, reply: Any, **given: Any) -> Refused:
+        lists = self.space.lists()
+        pairs = list(self._given)
+        lists.pairs = [tuple(pair) if np.ndim(pair) else (pair, pair) for pair in pairs]
+        for name, entries in given.items():
+            setattr(lists, name, entries)
+        return refusal(lists, reply.number, reply.place)
+
+
+def _raised(ordinates: list[Fraction], degree: int) -> list[Fraction]:
+    """The ordinates of the same polynomial written with a higher degree."""
+    while len(ordinates) <= degree:
+        top = len(ordinates)
+        shares = [Fraction(i, top) for i in range(top + 1)]
+        before, after = [Fraction(0), *ordinates], [*ordinates, Fraction(0)]
+        ordinates = [share * left + (1 - share) * right for share, left, right in zip(shares, before, after)]
+    return ordinates

@@ -1,0 +1,108 @@
+"""What the engine makes of a sheet, and what a Tucson text holds, in words: a refusal with the entry at fault and the rule, or a
+summary. Number and place are the engine's; only the words are from here.
+"""
+
+from __future__ import annotations
+
+from typing import NamedTuple
+
+import numpy as np
+
+from . import sheet, tucson
+from .errors import Refused
+from .reasons import PER_MM, SCAR, WOOD, count, millimetres
+from .sheet_reasons import quoted
+from .tucson_reasons import HUNDREDTHS, closings
+
+
+class Explained(NamedTuple):
+    """The words for a text, a line or more, and whether it was accepted."""
+
+    words: str
+    is_accepted: bool
+
+
+def refused(error: Refused) -> Explained:
+    """A refusal in two lines.
+
+    Examples
+    --------
+    >>> print(refused(Refused(5, 0, "Join 0 has order 3.")).words)
+    Refused: no=5,0.
+    Join 0 has order 3.
+    """
+    return Explained(f"Refused: no={error.number},{error.place}.\n{error.words}", False)
+
+
+def summary(lists: sheet.Sheet, printout: sheet.Printout) -> str:
+    """Stretches, span, rows; the values' ranges; how many positions are low."""
+    breaks = lists.breaks
+    scars = [str(breaks[join + 1]) for join, order in enumerate(lists.orders) if order == SCAR]
+    shape = (
+        f"Accepted: {count(len(lists.degrees), 'stretch')} over {count(breaks[-1] - breaks[0], 'ring')}, from ring "
+        f"{breaks[0]} to ring {breaks[-1]}, n = {printout.rows}"
+        + (f", scar at ring {', '.join(scars)}" if scars else "")
+    )
+    if not printout.values:
+        return f"{shape}.\nNo positions are listed, so there are no values."
+    ranges = []
+    for side, name in enumerate(WOOD, start=1):
+        values = [value[side] for value in printout.values]
+        ranges.append(f"{name} is from {millimetres(min(values))} to {millimetres(max(values))} mm")
+    low = len(printout.low)
+    ending = f"{low:,} of them {'is' if low == 1 else 'are'} low (zero or less in either part)"
+    positions = count(len(printout.values), "position")
+    return f"{shape}.\nOver {positions} {' and '.join(ranges)}; {ending if low else 'none of them is low'}."
+
+
+def explain_sheet(text: bytes) -> Explained:
+    """What the proved program makes of a sheet.
+
+    Examples
+    --------
+    >>> print(explain_sheet(b"breaks=0,60\\ndegrees=1\\norders=\\ncoefs=2400:700,900:300\\nat=\\n").words)
+    Accepted: 1 stretch over 60 rings, from ring 0 to ring 60, n = 2.
+    No positions are listed, so there are no values.
+    """
+    return explain_printed(text, sheet.printed(text))
+
+
+def explain_printed(text: bytes, printed: bytes) -> Explained:
+    """The words for a sheet and what the program has printed for it."""
+    printout = sheet.read_printout(printed)
+    if printout.refusal:
+        return refused(sheet.refused(text, *printout.refusal))
+    lists = sheet.lists_of(text)
+    if lists is None:
+        raise sheet.NoPrintout("The program sheet has accepted a text that is no sheet.")
+    return Explained(summary(lists, printout), True)
+
+
+def series_line(series: tucson.Series, closing: int) -> str:
+    """What a series holds, in one line."""
+    name, unit = quoted(series.columns), "hundredths" if closing == HUNDREDTHS else "thousandths"
+    if not len(series):
+        return f"Series {name} has no widths."
+    widths = np.asarray(series.widths)
+    present = widths[widths != 0]
+    spread = f", {present.min() / PER_MM:g} to {present.max() / PER_MM:g} mm" if present.size else ""
+    absent = count(len(series) - present.size, "ring")
+    years = f"{series.first} to {series.last}"
+    return f"Series {name}: {count(len(series), 'width')} in {unit}, {years}{spread}, {absent} absent."
+
+
+def explain_tucson(text: bytes) -> Explained:
+    """What a Tucson text holds, by the proved reader.
+
+    Examples
+    --------
+    >>> print(explain_tucson(b"FEW     1998    12     9\\nFEW     2000     7 -9999\\n").words)
+    Accepted: 1 series.
+    Series 'FEW     ': 3 widths in thousandths, 1998 to 2000, 0.007 to 0.012 mm, no rings absent.
+    """
+    try:
+        series = tucson.read_strict(text)
+    except Refused as error:
+        return refused(error)
+    lines = [series_line(each, closing) for each, closing in zip(series, closings(text))]
+    return Explained("\n".join([f"Accepted: {len(series):,} series.", *lines]), True)
