@@ -35,6 +35,7 @@ YEAR_IN_NAME = re.compile(rb"-$| -[0-9]$")
 SHIFTED_NAME = re.compile(
     rb" |..(?= *-?[0-9]+ *$)....  $"
 )  # by a field or more: blanks in front, or a year before two blanks
+YEAR = re.compile(_number(YEAR_COLUMNS))
 LETTER = re.compile(rb"[A-Za-z]")
 
 
@@ -85,21 +86,21 @@ def settled(lines: list[Line], unit: Unit | None, split_gaps: bool, changes: Cha
     names = _distinct_names(series)
     result: list[Line] = []
     for place, each in enumerate(series):
-        _test_place(each)
-        _test_years(each, split_gaps)
+        _refuse_shifted(each)
+        _refuse_gaps(each, split_gaps)
         if len(rows) == len(lines) or place < len(series) - 1:
             each = _closed(each, unit, changes)
             result += _split(each, names, changes) if split_gaps else [row.line for row in each]
         else:
             result += [row.line for row in each]
     if len(rows) < len(lines):
-        test_words(lines[len(rows)], lines[len(rows)].body)
+        refuse_words(lines[len(rows)], lines[len(rows)].body)
     return result + lines[len(rows) :]
 
 
-def test_words(line: Line, body: bytes) -> None:
-    """A line with words behind its name is no damaged data line."""
-    if LETTER.search(body[NAME_COLUMNS:]):
+def refuse_words(line: Line, body: bytes) -> None:
+    """A line with words behind its name, and no year there, is no damaged data line."""
+    if LETTER.search(body[NAME_COLUMNS:]) and not YEAR.fullmatch(body[NAME_COLUMNS:HEAD]):
         raise Unreadable(
             line.number,
             f"{quoted(line.body)} is neither a line of widths nor one of the data bank's three header lines.",
@@ -134,7 +135,7 @@ def _distinct_names(series: list[list[Row]]) -> set[bytes]:
     return set(closed)
 
 
-def _test_place(rows: list[Row]) -> None:
+def _refuse_shifted(rows: list[Row]) -> None:
     """A line that is a series by itself must not look shifted: nothing else would tell. Other lines have a series to fit."""
     if len(rows) == 1 and SHIFTED_NAME.match(rows[0].name):
         raise Unreadable(
@@ -147,7 +148,7 @@ def _test_place(rows: list[Row]) -> None:
 # Years and closings.
 
 
-def _test_years(rows: list[Row], split_gaps: bool) -> None:
+def _refuse_gaps(rows: list[Row], split_gaps: bool) -> None:
     """No line closes a series that goes on, and no years are left out unless the series is to be split there."""
     for row, following in zip(rows, rows[1:]):
         name = quoted(row.name)
@@ -183,15 +184,15 @@ def _closed(rows: list[Row], unit: Unit | None, changes: Changes) -> list[Row]:
                 "Say which with --hundredths or --thousandths.",
             )
         closing = CLOSINGS[unit]
-        changes.add(last.line.number, f"the closing -999 became{closing.decode().rstrip()}, for {unit}, as asked")
+        changes.add(last.line.number, f"the closing -999 became {closing.decode().strip()}, for {unit}, as asked")
         body = last.line.body[:-FIELD_COLUMNS] + closing
         rows = [*front, last._replace(line=last.line._replace(body=body))]
     if closing == HUNDREDTHS:
-        _test_hundredths(rows)
+        _refuse_inner_999(rows)
     return rows
 
 
-def _test_hundredths(rows: list[Row]) -> None:
+def _refuse_inner_999(rows: list[Row]) -> None:
     for row in rows:
         if HUNDREDTHS not in row.line.body[HEAD:]:
             continue

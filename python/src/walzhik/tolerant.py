@@ -18,7 +18,7 @@ from walzhik._tolerant_series import (
     Unit,
     is_data,
     settled,
-    test_words,
+    refuse_words,
 )
 
 __all__ = ["Change", "Cleaned", "Unreadable", "clean"]
@@ -188,7 +188,7 @@ def _in_columns(lines: list[Line], changes: Changes) -> list[Line]:
         name = _columns(fields[:2])[:-YEAR_COLUMNS]
         beside = result[max(place - 1, 0) : place] + result[place + 1 : place + 2]
         if not any(line.body.startswith(name) for line in beside):
-            _test_tabbed_name(lines[place], *fields[:2])
+            _refuse_two_readings(lines[place], *fields[:2])
     return result
 
 
@@ -239,7 +239,7 @@ def _six_columns(line: Line, piece: bytes, start: int) -> list[bytes]:
     return [kept[place : place + FIELD_COLUMNS].lstrip(b" ") for place in range(0, len(kept), FIELD_COLUMNS)]
 
 
-def _test_tabbed_name(line: Line, name: bytes, year: bytes) -> None:
+def _refuse_two_readings(line: Line, name: bytes, year: bytes) -> None:
     """A series of one line with tabs must not be readable with another year: with a number at the end of the name for the year,
     or with the year as the end of the name. Where a series has more lines, their years tell."""
     if NUMBER_AT_END.search(name) or len(name) + 1 + len(year) <= NAME_COLUMNS:
@@ -295,7 +295,7 @@ def _plain_name(line: Line) -> bytes:
     if len(fitting) == 1:
         return fitting[0]
     if not fitting:
-        test_words(line, _characters(line.body))
+        refuse_words(line, _characters(line.body))
     raise Unreadable(
         line.number,
         "with a byte that is not ASCII, its columns "

@@ -152,7 +152,25 @@ def read(
     ('FEW', 1998, [12, 9, 7])
     """
     text = source if isinstance(source, bytes) else Path(source).read_bytes()
-    return read_strict(text if strict else clean(text, unit=unit, split_gaps=split_gaps).text)
+    return read_strict(text) if strict else read_cleaned(clean(text, unit=unit, split_gaps=split_gaps))
+
+
+def read_cleaned(cleaned: Cleaned) -> list[Series]:
+    """The series of a text that was cleaned, by the proved reader; a refusal names the line of the file as it was before.
+
+    Examples
+    --------
+    >>> read_cleaned(clean(b"\\nFEW     1998    12     9\\n"))
+    Traceback (most recent call last):
+    ...
+    walzhik.errors.Refused: no=13,2: Line 2 ends series 'FEW     ' with 9: its last field must be 999 or -9999.
+    """
+    try:
+        return read_strict(cleaned.text)
+    except Refused as error:
+        line = cleaned.lines[error.place - 1]
+        words = error.words.replace(f"Line {error.place} ", f"Line {line} ", 1)
+        raise Refused(error.number, line, words, error.remedy) from None
 
 
 def write(series: Iterable[Series]) -> bytes:

@@ -1,0 +1,34 @@
+"""The command `clean`: a laboratory's Tucson files in the strict form, with every change told."""
+
+from __future__ import annotations
+
+import click
+
+from ..files import write_whole
+from ._tucson_files import Reading, cleaned, front_options, refuse_shared_names, unit_asked
+
+
+@click.command()
+@click.argument("files", nargs=-1, required=True, metavar="FILE.rwl...")
+@click.option("-o", "--output", default="-", metavar="STRICT.rwl", help="Where to write; standard output without it.")
+@front_options
+def command(files: tuple[str, ...], output: str, hundredths: bool, thousandths: bool, split_gaps: bool) -> None:
+    """Bring Tucson files into the strict form that the proved reader takes; - is standard input.
+
+    It changes line ends of Windows, a byte order mark, the data bank's three header lines, blank lines, trailing blanks, Ctrl-Z at the
+    end, a missing last line end, tabs between whole fields, and a byte of a name that is not ASCII (to ?). Each change is told on
+    standard error with its line. What it would have to guess is refused, with what to do: missing years, a year of five columns, a name
+    that comes again, 999 within hundredths, the closing -999.
+
+    This front is tested, not proved. The proved reader reads the result before anything is written. Several files become one.
+
+    \b
+    ./walzhik clean oak_from_windows.rwl -o oak.rwl
+    ./walzhik clean old.rwl --hundredths --split-gaps -o strict.rwl
+
+    Exit status: 0 done, 1 refused, 2 wrong usage, or a file can't be read or written.
+    """
+    reading = Reading(unit_asked(hundredths, thousandths), split_gaps)
+    texts = [cleaned(name, reading) for name in files]
+    refuse_shared_names([(name, series) for name, (_, series) in zip(files, texts)])
+    write_whole(output, b"".join(text for text, _ in texts))
