@@ -13,6 +13,7 @@ import click
 from ._engine import Unavailable
 from .errors import Refused
 from .sheet import NoPrintout
+from .tolerant import Unreadable
 
 REFUSED, UNUSABLE = 1, 2
 
@@ -57,9 +58,8 @@ def told(error: Exception, about: str = "") -> Failure | None:
     if isinstance(error, Refused):
         words = f"{head}refused, no={error.number},{error.place}. {error.words}"
         return Refusal(f"{words} {error.remedy}".rstrip())
-    if type(error).__name__ == "Unreadable":
-        line, words, remedy = (getattr(error, name) for name in ("line", "words", "remedy"))
-        return Refusal(f"{head}line {line}: {words} {remedy}".rstrip())
+    if isinstance(error, Unreadable):
+        return Refusal(f"{head}{error}")
     if isinstance(error, (Unavailable, NoPrintout)):
         return Unusable(f"{head}{error}")
     if isinstance(error, OSError):

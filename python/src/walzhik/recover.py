@@ -103,4 +103,5 @@ def nearest(space: Space, ordinates: Wholes) -> NDArray[np.int32]:
         if error.number not in (MISSED, TOO_LARGE):
             raise
     solved, *_ = np.linalg.lstsq(space.matrix().T, wholes(ordinates, "ordinates") / UNIT, rcond=None)
-    return np.floor(solved + 1 / 2).astype(np.int32)
+    rounded: NDArray[np.int32] = np.floor(solved + 1 / 2).astype(np.int32)
+    return rounded

@@ -11,7 +11,7 @@ from ..sheet import Sheet
 from ..space import Space
 from ..tucson import Series
 from ._lists import WholeNumbers, space_of
-from ._tucson import Reading, listed, named, read_series, reading_options
+from ._series import listed, named, read_series, reading_options
 
 NUMBERS = WholeNumbers()
 PER_CENT = 100
@@ -98,7 +98,7 @@ def command(
     orders: list[int] | None,
     first: int | None,
     output: str,
-    **reading: object,
+    **reading: bool,
 ) -> int:
     """Fit a curve to measured widths, and write its sheet.
 
@@ -113,7 +113,7 @@ def command(
     ./walzhik fit examples/tucson/oak.rwl --earlywood ROOF04E --latewood ROOF04L
                   --breaks 1703,1715,1748,1802 --degrees 3,2,2 --orders 1,-1 -o roof.sheet
     """
-    chosen = chosen_series(read_series(files, Reading(**reading)), name, earlywood, latewood)  # type: ignore[arg-type]
+    chosen = chosen_series(read_series(files, **reading), name, earlywood, latewood)
     space = space_of(breaks, degrees, orders)
     if space is None:
         space = template_for(chosen, first)

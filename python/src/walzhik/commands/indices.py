@@ -18,7 +18,7 @@ from ..reasons import WOOD
 from ..space import Space
 from ..tucson import Series
 from ._lists import WholeNumbers, space_of
-from ._tucson import Reading, listed, named, read_series, reading_options
+from ._series import listed, named, read_series, reading_options
 from .fit import figures, fitted_series, template_for
 
 NUMBERS = WholeNumbers()
@@ -222,7 +222,7 @@ def command(
     degrees: list[int] | None,
     orders: list[int] | None,
     output: str,
-    **reading: object,
+    **reading: bool,
 ) -> int:
     """Divide each measured ring by a curve.
 
@@ -248,7 +248,7 @@ def command(
     if [*files, *(each.rpartition("=")[2] for each in curves)].count(STANDARD) > 1:
         raise Unusable("Standard input (-) can be named once only.")
     names = Names(series, earlywood, latewood)
-    found = read_series(files, Reading(**reading))  # type: ignore[arg-type]
+    found = read_series(files, **reading)
     jobs = [Job(each) for each in chosen_series(found, names)] if is_fit else jobs_by_sheets(found, curves, names)
     done = [indexed(job, space, first) for job in in_progress(jobs)]
     if is_fit:
