@@ -64,7 +64,7 @@ def columns_of(text: bytes, space: Space) -> list[Column]:
     for line, row in enumerate(lines, start=2):
         if len(row) != len(head):
             raise Unusable(f"Line {line} has {len(row)} fields, but the header has {len(head)}.")
-    found = []
+    found: list[Column] = []
     for at, name in enumerate(each.strip() for each in head):
         part, ending = next(((name.removesuffix(end), end) for end in UNITS if name.endswith(end)), (name, ""))
         if name == STRETCH:

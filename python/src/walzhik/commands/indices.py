@@ -2,6 +2,7 @@
 
 from __future__ import annotations
 
+import sys
 from collections.abc import Iterable, Sequence
 from typing import NamedTuple
 
@@ -177,7 +178,7 @@ def in_progress(jobs: list[Job]) -> Iterable[Job]:
         return jobs
     from tqdm import tqdm
 
-    bar: Iterable[Job] = tqdm(jobs, unit=" series", disable=None)
+    bar: Iterable[Job] = tqdm(jobs, unit=" series", disable=not sys.stderr.isatty())
     return bar
 
 

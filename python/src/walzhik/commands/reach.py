@@ -8,7 +8,7 @@ import click
 
 from .. import sheet
 from ..csvtext import quoted_field
-from ..curve import Wood
+from ..curve import Curve, Wood
 from ..errors import Refused
 from ..failures import REFUSED, Unusable, telling, told
 from ..files import STANDARD, read_whole, write_whole
@@ -25,6 +25,13 @@ def thousandths(width: str) -> int:
     if exact.denominator != 1:
         raise Unusable(f"--width {width}: a width is whole thousandths of a millimetre, as 1.25.")
     return int(exact)
+
+
+def asked_parts(curve: Curve, wood: Wood | None) -> list[Wood | None]:
+    """The wood parts that are told: the one that is named, both, or the whole ring."""
+    if wood or curve.is_whole_ring:
+        return [wood]
+    return ["earlywood", "latewood"]
 
 
 @click.command()
@@ -47,10 +54,7 @@ def command(sheets: tuple[str, ...], width: str, wood: Wood | None, output: str)
     for name in sheets:
         with telling(name):
             curve = sheet.read(read_whole(name)).curve()
-        parts: tuple[Wood | None, ...] = (
-            (wood,) if wood else (None,) if curve.is_whole_ring else ("earlywood", "latewood")
-        )
-        for part in parts:
+        for part in asked_parts(curve, wood):
             head = f"{quoted_field(name)},{part or 'ring'},{asked / PER_MM:.3f}"
             try:
                 position = curve.reach(asked, part)
