@@ -55,7 +55,7 @@ WIDE, NARROW = 8.4, 4.1  # inches
 CURVE_HEIGHT, NARROW_HEIGHT, INDEX_HEIGHT = 3.6, 2.7, 1.7
 MOST_MARKS, MOST_LABELS = 100, 10  # across a wide picture
 OTHERS = ("absent", "low", "scar", "join")  # in a legend, after the curves and the series
-WIDE_COLUMNS, NARROW_COLUMNS = 7, 2
+WIDE_LETTERS, NARROW_LETTERS, HANDLE_LETTERS = 108, 46, 7  # of a legend's row, and of a line or mark in it
 TITLE_SIZE = 10
 MINUS = "\N{MINUS SIGN}"
 DECADE = 10
@@ -310,10 +310,13 @@ def _explain_marks(panel: Axes, parts: Sequence[Wood | None], is_narrow: bool) -
     entries: dict[str, Any] = {}
     for wood in parts:
         style = {"color": COLOURS[wood], "linestyle": DASHES[wood], "linewidth": CURVE_LINE}
-        entries[f"curve, {part_name(wood)}"] = Line2D([], [], **style)
+        entries[part_name(wood)] = Line2D([], [], **style)
     found = list(zip(*panel.get_legend_handles_labels()))
     for handle, words in sorted(found, key=lambda pair: OTHERS.index(pair[1]) if pair[1] in OTHERS else -1):
         entries.setdefault(words, handle)
-    columns = NARROW_COLUMNS if is_narrow else WIDE_COLUMNS
-    above = {"loc": "lower center", "bbox_to_anchor": (0.5, 1.0), "borderaxespad": 0.2, "columnspacing": 1.6}
-    panel.legend(entries.values(), entries.keys(), ncols=min(len(entries), columns), handlelength=2.6, **above)
+    room = NARROW_LETTERS if is_narrow else WIDE_LETTERS
+    longest = max(map(len, entries)) + HANDLE_LETTERS
+    fits = sum(len(words) + HANDLE_LETTERS for words in entries) <= room
+    columns = len(entries) if fits else max(1, room // longest)
+    above = {"loc": "lower center", "bbox_to_anchor": (0.5, 1.0), "borderaxespad": 0.2, "columnspacing": 1.4}
+    panel.legend(entries.values(), entries.keys(), ncols=columns, handlelength=2.4, **above)
