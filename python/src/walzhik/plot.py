@@ -27,11 +27,12 @@ ENDINGS: tuple[Ending, ...] = ("svg", "png", "pdf")
 
 # Colours that the colour-blind tell apart (Okabe and Ito).
 BLUE, VERMILION, GREEN, PURPLE, SKY, ORANGE = "#0072B2", "#D55E00", "#009E73", "#CC79A7", "#56B4E9", "#E69F00"
-BLACK, GREY = "#000000", "#999999"
-COLOURS: dict[str | None, str] = {None: BLUE, WOOD[0]: BLUE, WOOD[1]: VERMILION}
+BLACK, DARK, GREY, PALE = "#000000", "#444444", "#999999", "#e4e4e4"
+CURVE_COLOURS: dict[str | None, str] = {None: BLACK, WOOD[0]: BLUE, WOOD[1]: VERMILION}
+SERIES_COLOURS: dict[str | None, str] = {None: BLUE, WOOD[0]: BLUE, WOOD[1]: VERMILION}
 DASHES: dict[str | None, Any] = {None: "-", WOOD[0]: "-", WOOD[1]: (0, (6, 3))}
 MARKS: dict[str | None, str] = {None: "o", WOOD[0]: "o", WOOD[1]: "s"}
-MORE = (GREEN, PURPLE, ORANGE, SKY, VERMILION, BLACK)  # for further series of one part
+MORE = (GREEN, ORANGE, SKY, PURPLE, VERMILION)  # for further series of one part
 MOST_SERIES = len(MORE) + 1  # of one part that can be told apart
 STYLE = {
     "font.family": "DejaVu Sans",
@@ -41,7 +42,7 @@ STYLE = {
     "path.simplify": False,
     "axes.spines.top": False,
     "axes.spines.right": False,
-    "axes.edgecolor": "#444444",
+    "axes.edgecolor": DARK,
     "legend.frameon": False,
 }
 METADATA: dict[Ending, dict[str, None]] = {
@@ -49,12 +50,14 @@ METADATA: dict[Ending, dict[str, None]] = {
     "png": {"Software": None},
     "pdf": {"CreationDate": None, "Creator": None, "Producer": None},
 }
-CURVE_LINE = 2.0
+CURVE_LINE, THIN = 2.0, 0.8
+LINE_ALPHA = 0.6  # of the line between rings, so that the curve stands out
+PAD = 0.06  # inches around a panel
 DOTS = 150  # an inch, of PNG
 WIDE, NARROW = 8.4, 4.1  # inches
 CURVE_HEIGHT, NARROW_HEIGHT, INDEX_HEIGHT = 3.6, 2.7, 1.7
 MOST_MARKS, MOST_LABELS = 100, 10  # across a wide picture
-OTHERS = ("absent", "low", "scar", "join")  # in a legend, after the curves and the series
+CURVES, SERIES, ABSENT, LOWS, SCARS, JOINS = range(6)  # the order of a legend
 WIDE_LETTERS, NARROW_LETTERS, HANDLE_LETTERS = 108, 46, 7  # of a legend's row, and of a line or mark in it
 TITLE_SIZE = 10
 MINUS = "\N{MINUS SIGN}"
@@ -142,17 +145,17 @@ def picture(
     chosen = drawn_parts(curve) if parts is None else list(parts)
     with _style():
         heights = [NARROW_HEIGHT if is_narrow else CURVE_HEIGHT] + [INDEX_HEIGHT] * bool(measured)
-        size = (NARROW if is_narrow else WIDE, sum(heights))
-        made = Figure(figsize=size, layout="constrained")
+        made = Figure(figsize=(NARROW if is_narrow else WIDE, sum(heights)), layout="constrained")
+        made.get_layout_engine().set(w_pad=PAD, h_pad=PAD)
         panels = np.atleast_1d(made.subplots(len(heights), 1, sharex=True, height_ratios=heights)).tolist()
-        colours = _series_colours(measured)
-        _draw_breakpoints(panels, curve)
-        _draw_widths(panels[0], curve, measured, colours)
-        _draw_curves(panels[0], curve, chosen, at)
+        legend, colours = _Legend(), _series_colours(measured)
+        _draw_breakpoints(panels, curve, legend)
+        _draw_widths(panels[0], curve, measured, colours, legend)
+        _draw_curves(panels[0], curve, chosen, at, legend)
         _scale_widths(panels[0], curve, chosen, measured)
         if measured:
             _draw_indices(panels[1], curve, measured, colours)
-        _explain_marks(panels[0], chosen, is_narrow)
+        legend.draw(panels[0], is_narrow)
         _label(made, panels, curve, title, rings, is_narrow)
     return made
 
@@ -172,40 +175,69 @@ def rendered(made: Figure, ending: Ending) -> bytes:
     return file.getvalue()
 
 
+class _Legend:
+    """What each kind of line and mark is: curves, series, then the others, each once."""
+
+    def __init__(self) -> None:
+        self.entries: dict[tuple[int, str], Any] = {}
+
+    def add(self, kind: int, words: str, handle: Any) -> None:
+        self.entries.setdefault((kind, words), handle)
+
+    def draw(self, panel: Axes, is_narrow: bool) -> None:
+        """A row above the panel, or as many as are needed."""
+        kinds = sorted(self.entries, key=lambda entry: entry[0])
+        room = NARROW_LETTERS if is_narrow else WIDE_LETTERS
+        lengths = [len(words) + HANDLE_LETTERS for _, words in kinds]
+        columns = len(kinds) if sum(lengths) <= room else max(1, room // max(lengths))
+        above = {"loc": "lower center", "bbox_to_anchor": (0.5, 1.0), "borderaxespad": 0.2, "columnspacing": 1.4}
+        handles = [self.entries[kind] for kind in kinds]
+        drawn = panel.legend(handles, list(map(str, range(len(kinds)))), ncols=columns, handlelength=2.4, **above)
+        for text, (_, words) in zip(
+            drawn.get_texts(), kinds
+        ):  # a label of its own could begin with _ or hold a formula
+            text.set_text(words)
+            text.set_parse_math(False)
+
+
 # The curve.
 
 
-def _draw_breakpoints(panels: list[Axes], curve: Curve) -> None:
-    """A dotted line at each breakpoint within, a solid one at each discontinuity."""
+def _draw_breakpoints(panels: list[Axes], curve: Curve, legend: _Legend) -> None:
+    """A dotted line at each join, a solid one at each discontinuity."""
     for panel in panels:
-        panel.grid(axis="y", color="#e4e4e4", linewidth=0.6)
+        panel.grid(axis="y", color=PALE, linewidth=THIN)
         panel.set_axisbelow(True)
         for ring, order in zip(curve.space.breaks[1:-1].tolist(), curve.space.orders.tolist()):
             if order == SCAR:
-                panel.axvline(ring, color=PURPLE, linewidth=1.6, label="scar", zorder=1)
+                legend.add(SCARS, "scar", panel.axvline(ring, color=PURPLE, linewidth=1.6, zorder=1))
             else:
-                panel.axvline(ring, color=GREY, linewidth=0.8, linestyle=(0, (1, 3)), label="join", zorder=1)
+                dots = (0, (1, 3))
+                legend.add(JOINS, "join", panel.axvline(ring, color=GREY, linewidth=THIN, linestyle=dots, zorder=1))
 
 
-def _draw_curves(panel: Axes, curve: Curve, parts: Sequence[Wood | None], at: Wholes) -> None:
+def _draw_curves(panel: Axes, curve: Curve, parts: Sequence[Wood | None], at: Wholes, legend: _Legend) -> None:
     """The curve of each part as one path, and a circle where a value is zero or less."""
+    from matplotlib.lines import Line2D
     from matplotlib.patches import PathPatch
     from matplotlib.path import Path
 
     positions = np.unique(np.asarray(at, dtype=np.int32))
     for wood in parts:
-        shape = outline(curve, wood)
+        shape, name = outline(curve, wood), part_name(wood)
+        line = {"linestyle": DASHES[wood], "linewidth": CURVE_LINE}
         path = Path(np.array(shape.points), shape.codes)
-        drawn = {"edgecolor": COLOURS[wood], "linestyle": DASHES[wood], "linewidth": CURVE_LINE, "capstyle": "butt"}
+        gid = f"curve-{name.replace(' ', '-')}"
         panel.add_patch(
-            PathPatch(path, facecolor="none", gid=f"curve-{part_name(wood).replace(' ', '-')}", zorder=4, **drawn)
+            PathPatch(path, facecolor="none", edgecolor=CURVE_COLOURS[wood], capstyle="butt", gid=gid, zorder=4, **line)
         )
-        if positions.size:
-            values = millimetres(curve, positions)[:, curve.side(wood)]
-            low = values <= 0
+        legend.add(CURVES, name, Line2D([], [], color=CURVE_COLOURS[wood], **line))
+        values = millimetres(curve, positions)[:, curve.side(wood)]
+        low = values <= 0
+        if low.any():
             circle = {"marker": "o", "markersize": 7, "markerfacecolor": "none", "color": BLACK, "clip_on": False}
-            if low.any():
-                panel.plot(positions[low] / UNIT, values[low], linestyle="none", label="low", zorder=5, **circle)
+            (drawn,) = panel.plot(positions[low] / UNIT, values[low], linestyle="none", zorder=5, **circle)
+            legend.add(LOWS, "low", drawn)
 
 
 def _scale_widths(panel: Axes, curve: Curve, parts: Sequence[Wood | None], measured: Sequence[Measured]) -> None:
@@ -216,7 +248,7 @@ def _scale_widths(panel: Axes, curve: Curve, parts: Sequence[Wood | None], measu
     greatest = max(0.0, *(end[1] for end in ends), *widest)
     panel.set_ylim(least * HEADROOM, greatest * HEADROOM or 1.0)
     if least < 0:
-        panel.axhline(0.0, color="#444444", linewidth=0.8, zorder=1)
+        panel.axhline(0.0, color=DARK, linewidth=THIN, zorder=1)
 
 
 # Measured rings.
@@ -228,37 +260,42 @@ def _series_colours(measured: Sequence[Measured]) -> list[str]:
     colours = []
     for each in measured:
         place = seen[each.wood] = seen.get(each.wood, -1) + 1
-        colours.append(COLOURS[each.wood] if place == 0 else MORE[(place - 1) % len(MORE)])
+        colours.append(SERIES_COLOURS[each.wood] if place == 0 else MORE[(place - 1) % len(MORE)])
     return colours
 
 
-def _draw_rings(panel: Axes, curve: Curve, each: Measured, heights: NDArray[np.float64], colour: str) -> None:
-    """Numbers at rings with a thin line between neighbours, not across a discontinuity or a missing number."""
+def _draw_rings(panel: Axes, curve: Curve, each: Measured, heights: NDArray[np.float64], colour: str) -> Any:
+    """Numbers at rings with a thin line between neighbours, not across a discontinuity or a missing number; the marks, thinned where
+    they are many, are given back."""
     rings = each.first + np.arange(len(heights))
     scars = curve.space.breaks[1:-1][curve.space.orders == SCAR]
     cuts = np.flatnonzero(np.isin(rings, scars)) + 1
-    line = np.insert(heights, cuts, np.nan), np.insert(rings.astype(float), cuts, np.nan)
-    panel.plot(line[1], line[0], color=colour, linewidth=0.8, linestyle=DASHES[each.wood], alpha=0.75, zorder=2)
+    line = np.insert(rings.astype(float), cuts, np.nan), np.insert(heights, cuts, np.nan)
+    panel.plot(*line, color=colour, linewidth=THIN, linestyle=DASHES[each.wood], alpha=LINE_ALPHA, zorder=2)
     shown = ~np.isnan(heights) & (rings % _round_step(len(heights) / MOST_MARKS) == 0)
     face = colour if MARKS[each.wood] == "o" else "white"
     style = {"marker": MARKS[each.wood], "markersize": 2.8, "markerfacecolor": face, "markeredgewidth": 0.7}
-    panel.plot(rings[shown], heights[shown], linestyle="none", color=colour, label=each.name, zorder=3, **style)
+    (marks,) = panel.plot(
+        rings[shown], heights[shown], linestyle="none", color=colour, zorder=3, clip_on=False, **style
+    )
+    return marks
 
 
-def _draw_widths(panel: Axes, curve: Curve, measured: Sequence[Measured], colours: list[str]) -> None:
+def _draw_widths(panel: Axes, curve: Curve, measured: Sequence[Measured], colours: list[str], legend: _Legend) -> None:
     """The widths, and a cross on the axis for each absent ring."""
     for each, colour in zip(measured, colours):
         widths = np.asarray(each.widths, dtype=float) / PER_MM
-        _draw_rings(panel, curve, each, np.where(widths == 0, np.nan, widths), colour)
+        legend.add(SERIES, each.name, _draw_rings(panel, curve, each, np.where(widths == 0, np.nan, widths), colour))
         absent = each.first + np.flatnonzero(widths == 0)
         if absent.size:
             style = {"marker": "x", "color": BLACK, "markersize": 5, "markeredgewidth": 1.2, "clip_on": False}
-            panel.plot(absent, np.zeros(absent.size), linestyle="none", label="absent", zorder=5, **style)
+            (drawn,) = panel.plot(absent, np.zeros(absent.size), linestyle="none", zorder=5, **style)
+            legend.add(ABSENT, "absent", drawn)
 
 
 def _draw_indices(panel: Axes, curve: Curve, measured: Sequence[Measured], colours: list[str]) -> None:
     """The engine's indices, with a line where a ring is as wide as the curve."""
-    panel.axhline(ON_CURVE, color="#444444", linewidth=0.8, zorder=1)
+    panel.axhline(ON_CURVE, color=DARK, linewidth=THIN, zorder=1)
     greatest = ON_CURVE
     for each, colour in zip(measured, colours):
         indices = curve.indices(each.widths, each.first, each.wood)
@@ -300,23 +337,4 @@ def _label(made: Figure, panels: list[Axes], curve: Curve, title: str, rings: st
     if len(panels) > 1:
         panels[1].set_ylabel("index, thousandths")
     if title:
-        made.suptitle(title, fontsize=TITLE_SIZE)
-
-
-def _explain_marks(panel: Axes, parts: Sequence[Wood | None], is_narrow: bool) -> None:
-    """The legend above the panel: curves, series, then the other lines and marks."""
-    from matplotlib.lines import Line2D
-
-    entries: dict[str, Any] = {}
-    for wood in parts:
-        style = {"color": COLOURS[wood], "linestyle": DASHES[wood], "linewidth": CURVE_LINE}
-        entries[part_name(wood)] = Line2D([], [], **style)
-    found = list(zip(*panel.get_legend_handles_labels()))
-    for handle, words in sorted(found, key=lambda pair: OTHERS.index(pair[1]) if pair[1] in OTHERS else -1):
-        entries.setdefault(words, handle)
-    room = NARROW_LETTERS if is_narrow else WIDE_LETTERS
-    longest = max(map(len, entries)) + HANDLE_LETTERS
-    fits = sum(len(words) + HANDLE_LETTERS for words in entries) <= room
-    columns = len(entries) if fits else max(1, room // longest)
-    above = {"loc": "lower center", "bbox_to_anchor": (0.5, 1.0), "borderaxespad": 0.2, "columnspacing": 1.4}
-    panel.legend(entries.values(), entries.keys(), ncols=columns, handlelength=2.4, **above)
+        made.suptitle(title, fontsize=TITLE_SIZE).set_parse_math(False)
