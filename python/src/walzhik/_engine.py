@@ -123,8 +123,11 @@ def wholes(numbers: Wholes, name: str) -> NDArray[np.int32]:
         return np.array(words, dtype=np.int32).reshape(given.shape)
     if given.dtype.kind not in "iu":
         raise TypeError(f"{name}: whole numbers are needed, not {given.dtype}")
+    cast = given.astype(np.int32, order="C")
+    if (cast == given).all():
+        return cast
     near = np.minimum(given, MOST_WORD) if given.dtype.kind == "u" else np.clip(given, LEAST_WORD, MOST_WORD)
-    return np.ascontiguousarray(near.astype(np.int32))
+    return near.astype(np.int32, order="C")
 
 
 def kept(numbers: Wholes, name: str) -> NDArray[np.int32]:

@@ -150,8 +150,8 @@ def _refuse_shifted(rows: list[Row]) -> None:
 
 def _refuse_gaps(rows: list[Row], split_gaps: bool) -> None:
     """No line closes a series that goes on, and no years are left out unless the series is to be split there."""
+    name = quoted(rows[0].name)
     for row, following in zip(rows, rows[1:]):
-        name = quoted(row.name)
         if row.line.body[-FIELD_COLUMNS:] in (THOUSANDTHS, UNKNOWN):
             raise Unreadable(
                 following.line.number,

@@ -22,6 +22,8 @@ if TYPE_CHECKING:
     from .space import Space
 
 Wood = Literal["earlywood", "latewood"]
+EMPTY = np.zeros(1, dtype=np.int32)
+NOTHING = (pointer(EMPTY), 0)  # a list or buffer without entries, which still needs a valid pointer
 
 
 class Piece(NamedTuple):
@@ -86,7 +88,13 @@ class Curve:
         self.is_whole_ring = bool((given[:, 0] == given[:, 1]).all())
         self._given = coefficients
         self._lent = (*space._lent, pointer(self.coefficients), self.coefficients.size)
-        self.values(np.zeros(0, dtype=np.int32))
+        self._ask()
+
+    def _ask(self) -> None:
+        """Let the engine say whether it takes the coefficients."""
+        reply = library.walzhik_curve(*self._lent, *NOTHING, *lent.weights, *NOTHING)
+        if reply.number:
+            raise self._refused(reply)
 
     def __repr__(self) -> str:
         return f"Curve({self.space!r}, {self.coefficients.tolist()})"

@@ -13,7 +13,7 @@ import numpy as np
 
 from ._engine import MOST_POSITIONS, wholes
 from .curve import Curve
-from .reasons import MOST_SPAN, PER_MM, SCAR, UNIT, Lists, count
+from .reasons import MOST_SPAN, PER_MM, SCAR, UNIT, WOOD, Lists, count
 from .space import Space
 
 if TYPE_CHECKING:
@@ -256,8 +256,8 @@ def fit(space: Space, widths: Wholes, first: int) -> Fit:
 
 
 def _ask_rings(space: Space, widths: NDArray[np.int32], first: int) -> None:
-    """Let the engine say whether the first and the last ring lie within the space, and whether the widths are widths."""
-    flat = Curve(space, np.full(space.n, LEAST_COEFFICIENT, dtype=np.int32))
+    """Let the engine say whether all rings lie within the space, and whether the widths are widths."""
+    flat = Curve(space, np.full((space.n, len(WOOD)), LEAST_COEFFICIENT, dtype=np.int32))
     for at in range(0, widths.size, MOST_POSITIONS):
         flat.indices(widths[at : at + MOST_POSITIONS], first + at)
 

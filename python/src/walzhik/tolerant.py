@@ -285,7 +285,7 @@ def _plain(line: Line, raw_names: dict[bytes, bytes], changes: Changes) -> Line:
             f"the names {quoted(raw_names[name])} and {quoted(raw)} would both become {quoted(name)}.",
             "Give one of them a name in ASCII.",
         )
-    return line._replace(body=body)
+    return line if body is line.body else line._replace(body=body)
 
 
 def _plain_name(line: Line) -> bytes:

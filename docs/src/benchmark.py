@@ -1,0 +1,159 @@
+"""Times the daily job, 2,000 series of 200 rings in one file: reading, fitting the template and writing indices by the command, against
+the same job with NumPy and SciPy alone; and index calls from arrays to arrays against the same calls from C. docs/PERFORMANCE.md has
+its figures. Both sides of a ratio are timed in one run, in turns.
+
+    PYTHONPATH=python/src /usr/bin/python3 docs/src/benchmark.py
+"""
+
+import contextlib
+import io
+import statistics
+import subprocess
+import sys
+import tempfile
+import time
+from pathlib import Path
+
+import numpy as np
+from scipy.interpolate import BSpline
+from scipy.optimize import nnls
+
+from walzhik import Curve, tucson
+from walzhik.cli import cli
+from walzhik.fit import fit, template
+
+ROOT = Path(__file__).resolve().parent.parent.parent
+SERIES, RINGS, SEED = 2_000, 200, 1
+ROUNDS = 5
+CALLS = 2_000  # index calls of one timing
+NAME, HEAD, FIELD = 8, 12, 6  # columns of a Tucson line
+HUNDREDTHS, THOUSANDTHS = 999, -9999
+DEGREE, INNER = 3, (10, 30, 80, 130)  # of the B-splines: cubic, with as many coefficients as the template
+
+
+def made_up_series():
+    """Series that fall from wide to narrow rings, with noise; one ring in a thousand is absent."""
+    random = np.random.default_rng(SEED)
+    rings = np.arange(RINGS)
+    for number in range(SERIES):
+        growth = 700 + 2_500 * np.exp(-rings / random.uniform(20, 60))
+        widths = np.maximum(growth * random.lognormal(0, 0.25, RINGS), 1).astype(np.int32)
+        widths[random.random(RINGS) < 1 / 1_000] = 0
+        yield tucson.Series(f"S{number:04}", int(random.integers(1_000, 1_800)), widths)
+
+
+def by_command(path, out):
+    """The whole job by the command."""
+    with contextlib.redirect_stderr(io.StringIO()):
+        cli.main(["indices", str(path), "--fit", "-o", str(out)], standalone_mode=False)
+
+
+def plain_read(path):
+    """A Tucson file as a plain script reads it: no line is doubted."""
+    series = {}
+    for line in path.read_text(encoding="ascii").splitlines():
+        name = line[:NAME]
+        fields = [int(line[at : at + FIELD]) for at in range(HEAD, len(line), FIELD)]
+        if name in series:
+            series[name][1].extend(fields)
+        else:
+            series[name] = (int(line[NAME:HEAD]), fields)
+    for name, (first, fields) in series.items():
+        scale = 10 if fields.pop() == HUNDREDTHS else 1
+        yield name.rstrip(), first, scale * np.array(fields)
+
+
+def plain_fit(widths):
+    """A cubic B-spline by least squares, no coefficient below a thousandth."""
+    rings = np.arange(widths.size, dtype=float)
+    knots = np.array([0] * (DEGREE + 1) + list(INNER) + [widths.size - 1] * (DEGREE + 1), dtype=float)
+    basis = BSpline.design_matrix(rings, knots, DEGREE).toarray()
+    present = widths > 0
+    above, _ = nnls(basis[present], widths[present] - 1.0)
+    return BSpline(knots, above + 1, DEGREE)(rings)
+
+
+def by_numpy(path, out):
+    """The same job with NumPy and SciPy alone."""
+    lines = ["series,year,width_mm,curve_mm,index\n"]
+    for name, first, widths in plain_read(path):
+        curve = plain_fit(widths)
+        indices = np.floor(1_000 * widths / curve).astype(int)
+        for year, (width, value, index) in enumerate(zip(widths.tolist(), curve.tolist(), indices.tolist()), start=first):
+            lines.append(f"{name},{year},{width / 1_000:.3f},{value / 1_000:.6f},{index if width else ''}\n")
+    out.write_text("".join(lines), encoding="ascii")
+
+
+def timed(call, *arguments):
+    start = time.process_time()
+    call(*arguments)
+    return time.process_time() - start
+
+
+def in_turns(first, second):
+    """The median times of two calls, taken in turns, in seconds."""
+    times = [(timed(*first), timed(*second)) for _ in range(ROUNDS)]
+    return [statistics.median(each) for each in zip(*times)]
+
+
+def steps_of(path):
+    """Where the command's time goes, in seconds."""
+    text = path.read_bytes()
+    cleaned = tucson.clean(text)
+    read = tucson.read_strict(cleaned.text)
+    return {
+        "the tolerant front": timed(tucson.clean, text),
+        "the strict reader": timed(tucson.read_strict, cleaned.text),
+        "fitting": timed(lambda: [fit(template(RINGS, each.first), each.widths, each.first) for each in read]),
+    }
+
+
+def compiled(folder):
+    """The program that makes the same index calls from C."""
+    program = folder / "calls"
+    archives = sorted(map(str, (ROOT / "target" / "staticlib").glob("libwalzhik*.a")))
+    source = ROOT / "docs" / "src" / "index_calls.c"
+    command = ["cc", "-std=c11", "-O2", f"-I{ROOT / 'include'}", str(source), *archives, "-o", str(program)]
+    subprocess.run(command, check=True)
+    return program
+
+
+def python_calls(curve, widths, first):
+    for _ in range(CALLS):
+        curve.indices(widths, first)
+
+
+def index_calls(folder, series):
+    """Seconds an index call takes from Python and from C, over the same lists."""
+    space = template(RINGS, series.first)
+    curve = Curve(space, fit(space, series.widths, series.first).coefficients)
+    lists = [space.breaks, space.degrees, space.orders, curve.coefficients.ravel(), series.widths]
+    given = "\n".join(" ".join(map(str, [len(each), *each.tolist()])) for each in lists)
+    program, text = compiled(folder), f"{CALLS} {series.first}\n{given}\n".encode()
+    python, native = [], []
+    for _ in range(ROUNDS):
+        python.append(timed(python_calls, curve, series.widths, series.first) / CALLS)
+        said = subprocess.run([str(program)], input=text, stdout=subprocess.PIPE, check=True).stdout.split()
+        native.append(float(said[0]) / CALLS)
+        if [int(index) for index in said[1:]] != curve.indices(series.widths, series.first).tolist():
+            sys.exit("C and Python give other indices")
+    return statistics.median(python), statistics.median(native)
+
+
+def main():
+    with tempfile.TemporaryDirectory() as name:
+        folder = Path(name)
+        path = folder / "many.rwl"
+        series = list(made_up_series())
+        path.write_bytes(tucson.write(series))
+        command, plain = in_turns((by_command, path, folder / "a.csv"), (by_numpy, path, folder / "b.csv"))
+        print(f"{SERIES:,} series of {RINGS} rings: the command {command:.2f} s, NumPy and SciPy alone {plain:.2f} s, "
+              f"ratio {command / plain:.2f}")
+        for step, seconds in steps_of(path).items():
+            print(f"  of it {step}: {seconds:.2f} s")
+        python, native = index_calls(folder, series[0])
+        print(f"an index call of {RINGS} rings: Python {1e6 * python:.1f} us, C {1e6 * native:.1f} us, ratio {python / native:.2f}")
+
+
+if __name__ == "__main__":
+    main()
