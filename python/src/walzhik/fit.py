@@ -190,7 +190,8 @@ def _design(
 def factored(matrix: NDArray[np.float64]) -> Design:
     """A design's matrix with its factors and rank."""
     orthogonal, triangular = np.linalg.qr(matrix)
-    return Design(matrix, orthogonal, triangular, int(np.linalg.matrix_rank(triangular)))
+    rank = int(np.linalg.matrix_rank(triangular)) if matrix.size else 0
+    return Design(matrix, orthogonal, triangular, rank)
 
 
 def design(space: Space, first: int, rings: int) -> Design:

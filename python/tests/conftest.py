@@ -1,0 +1,54 @@
+"""What the tests share: where the checkout and its rational program are, one profile of hypothesis whose cases are the same in every
+run, and a way to run the command within the test's own process.
+"""
+
+from __future__ import annotations
+
+import io
+import os
+import sys
+from collections.abc import Callable
+from pathlib import Path
+from typing import NamedTuple
+
+import pytest
+from hypothesis import settings
+
+ROOT = Path(__file__).resolve().parents[2]
+sys.path[:0] = [str(ROOT / "tests" / "reference"), str(ROOT / "tests")]
+os.environ.setdefault("WALZHIK_ROOT", str(ROOT))
+
+settings.register_profile("gate", derandomize=True, deadline=None, database=None)
+settings.load_profile("gate")
+
+
+class Ended(NamedTuple):
+    """How a command has ended."""
+
+    status: int
+    out: str
+    err: str
+
+
+Run = Callable[..., Ended]
+
+
+@pytest.fixture
+def run(monkeypatch: pytest.MonkeyPatch) -> Run:
+    """Run the command from the checkout's root: its arguments, then what it reads from standard input."""
+    from walzhik import cli
+
+    def command(*arguments: object, stdin: bytes = b"") -> Ended:
+        out, err = (io.TextIOWrapper(io.BytesIO(), encoding="utf-8", write_through=True) for _ in (0, 1))
+        with monkeypatch.context() as patch:
+            patch.chdir(ROOT)
+            patch.setattr(sys, "stdin", io.TextIOWrapper(io.BytesIO(stdin)))
+            patch.setattr(sys, "stdout", out)
+            patch.setattr(sys, "stderr", err)
+            with pytest.raises(SystemExit) as ended:
+                cli.main([str(each) for each in arguments])
+        said = [stream.buffer.getvalue().decode("utf-8") for stream in (out, err)]  # type: ignore[attr-defined]
+        assert isinstance(ended.value.code, int)
+        return Ended(ended.value.code, *said)
+
+    return command
