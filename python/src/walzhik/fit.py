@@ -13,7 +13,7 @@ import numpy as np
 
 from ._engine import MOST_POSITIONS, wholes
 from .curve import Curve
-from .reasons import MOST_SPAN, PER_MM, SCAR, UNIT, WOOD, Lists, count
+from .reasons import MOST_BREAKPOINT, MOST_SPAN, PER_MM, SCAR, UNIT, WOOD, Lists, count
 from .space import Space
 
 if TYPE_CHECKING:
@@ -206,9 +206,9 @@ def design(space: Space, first: int, rings: int) -> Design:
            [0.5, 0.5],
            [0. , 1. ]])
     """
-    start = int(space.breaks[0])
-    breaks = tuple((space.breaks - start).tolist())
-    return _design(breaks, tuple(space.degrees.tolist()), tuple(space.orders.tolist()), first - start, rings)
+    shift = int(space.breaks[0]) + MOST_BREAKPOINT  # so that the longest beam stays within the range of breakpoints
+    breaks = tuple((space.breaks - shift).tolist())
+    return _design(breaks, tuple(space.degrees.tolist()), tuple(space.orders.tolist()), first - shift, rings)
 
 
 def fit(space: Space, widths: Wholes, first: int) -> Fit:
