@@ -64,7 +64,7 @@ def command(sheets: tuple[str, ...], every: str, output: str) -> int:
     ./walzhik curve examples/sheets/step_4.sheet --every 30
     ring,earlywood_mm,latewood_mm
     0,2.400000,0.700000
-    30,1.206250,0.631250
+    30,1.218750,0.637500
     60,0.900000,0.300000
     90,0.800000,0.250000
     """

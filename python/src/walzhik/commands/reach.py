@@ -48,7 +48,7 @@ def command(sheets: tuple[str, ...], width: str, wood: Wood | None, output: str)
     \b
     ./walzhik reach examples/sheets/growth.sheet --width 2.5 --wood earlywood
     sheet,wood,width_mm,ring,position
-    examples/sheets/growth.sheet,earlywood,2.500,0.77734375,199
+    examples/sheets/growth.sheet,earlywood,2.500,0.7421875,190
     """
     asked, status, lines = thousandths(width), 0, ["sheet,wood,width_mm,ring,position\n"]
     for name in sheets:
