@@ -1,0 +1,50 @@
+# Data frames of ring widths as dplR has them, taken apart into series: name, first year, and widths in whole thousandths.
+# Nothing is rounded: a width that is no whole number of thousandths is refused in words.
+
+near_whole <- 1e-6 # of a thousandth: what is left of decimals like 1.23 in binary
+
+years_of <- function(rwl, call = sys.call(-1)) {
+  names <- rownames(rwl)
+  if (!all(grepl("^(0|-?[1-9][0-9]{0,8})$", names))) {
+    usage("The row names of rwl are years, but ", names[!grepl("^(0|-?[1-9][0-9]{0,8})$", names)][1], " is none.", call = call)
+  }
+  years <- as.integer(names)
+  jump <- which(diff(years) != 1)[1]
+  if (!is.na(jump)) {
+    usage("The years of rwl follow each other, but ", years[jump + 1], " comes after ", years[jump], ".", call = call)
+  }
+  years
+}
+
+# Widths in millimetres as whole thousandths; NA stays.
+thousandths <- function(widths, name, years, call = sys.call(-1)) {
+  if (is.factor(widths)) usage("Series ", name, " is a factor: its codes are not its widths.", call = call)
+  if (is.object(widths)) usage("Series ", name, " has the class ", class(widths)[1], ": give plain numbers.", call = call)
+  if (!is.numeric(widths)) usage("Series ", name, " is of type ", typeof(widths), ": give widths in millimetres.", call = call)
+  scaled <- 1000 * as.vector(widths)
+  whole <- round(scaled)
+  large <- which(!is.na(scaled) & abs(whole) > most_whole)[1]
+  if (!is.na(large)) {
+    usage("Series ", name, " has ", widths[large], " mm for ", years[large], ": that is no ring width.", call = call)
+  }
+  off <- which(abs(scaled - whole) > near_whole)[1]
+  if (!is.na(off)) {
+    usage("Series ", name, " has ", format(widths[off], digits = 15), " mm for ", years[off],
+          ": widths are whole thousandths of a millimetre. Round them with round(rwl, 3).", call = call)
+  }
+  as.integer(whole)
+}
+
+# A list of series, each with name, first year and widths from its first to its last; no widths where all are NA.
+series_of <- function(rwl, call = sys.call(-1)) {
+  if (!is.data.frame(rwl)) usage("rwl is no data frame of ring widths: see read_tucson().", call = call)
+  names <- names(rwl)
+  if (anyDuplicated(names)) usage("Two series have the name ", names[duplicated(names)][1], ".", call = call)
+  years <- if (length(rwl) > 0) years_of(rwl, call)
+  setNames(lapply(names, function(name) {
+    widths <- thousandths(rwl[[name]], name, years, call)
+    there <- which(!is.na(widths))
+    at <- if (length(there) > 0) seq(min(there), max(there)) else integer()
+    list(name = name, first = if (length(at) > 0) years[at[1]] else NA_integer_, widths = widths[at])
+  }), names)
+}

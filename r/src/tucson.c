@@ -1,0 +1,125 @@
+/* Tucson decadal files: a text as names, first years, counts and widths, and back. Texts may be longer than 2^31 bytes. */
+#include "entries.h"
+#include "lent.h"
+
+#include <string.h>
+
+/* A text has at most so many series and widths, by the header. */
+enum { NAME_BYTES = 8, LEAST_SERIES_BYTES = 19, LEAST_WIDTH_BYTES = 6 };
+
+/* What a line of a written text takes: name, year and line end, six columns a field; a decade has ten. */
+enum { LINE_BYTES = 13, FIELD_BYTES = 6, DECADE = 10 };
+
+static const uint8_t no_bytes = 0;
+
+static const uint8_t *bytes_of(SEXP raw)
+{
+    if (TYPEOF(raw) != RAWSXP)
+        Rf_error("an entry point of the package was given a text that is not of type raw");
+    return XLENGTH(raw) > 0 ? RAW(raw) : &no_bytes;
+}
+
+typedef struct {
+    uint8_t *names;
+    int32_t *years;
+    uint32_t *counts;
+    int32_t *widths;
+} series_buffers;
+
+static SEXP name_strings(const uint8_t *names, R_xlen_t series)
+{
+    SEXP strings = PROTECT(Rf_allocVector(STRSXP, series));
+    for (R_xlen_t place = 0; place < series; place++) {
+        const char *name = (const char *)names + NAME_BYTES * place;
+        SET_STRING_ELT(strings, place, Rf_mkCharLenCE(name, NAME_BYTES, CE_NATIVE));
+        look_up((size_t)place);
+    }
+    UNPROTECT(1);
+    return strings;
+}
+
+static SEXP integers(const int32_t *entries, R_xlen_t count)
+{
+    SEXP vector = PROTECT(Rf_allocVector(INTSXP, count));
+    int *cells = count > 0 ? INTEGER(vector) : NULL;
+    for (R_xlen_t entry = 0; entry < count; entry++) {
+        cells[entry] = entries[entry];
+        look_up((size_t)entry);
+    }
+    UNPROTECT(1);
+    return vector;
+}
+
+/* Counts as doubles, and how many widths there are in all. */
+static SEXP count_doubles(const uint32_t *counts, R_xlen_t series, R_xlen_t *widths)
+{
+    SEXP vector = Rf_allocVector(REALSXP, series);
+    *widths = 0;
+    for (R_xlen_t place = 0; place < series; place++) {
+        REAL(vector)[place] = counts[place];
+        *widths += counts[place];
+    }
+    return vector;
+}
+
+SEXP tucson_read(SEXP text)
+{
+    static const char *const names[] = {"reply", "name", "first", "count", "widths"};
+    const uint8_t *bytes = bytes_of(text);
+    size_t length = (size_t)XLENGTH(text), most = length / LEAST_SERIES_BYTES, most_widths = length / LEAST_WIDTH_BYTES;
+    series_buffers lists = {lent(NAME_BYTES * most, sizeof(uint8_t)), lent(most, sizeof(int32_t)),
+                            lent(most, sizeof(uint32_t)), lent(most_widths, sizeof(int32_t))};
+    walzhik_reply reply = walzhik_tucson_read(bytes, length, lists.names, NAME_BYTES * most, lists.years, most, lists.counts,
+                                              most, lists.widths, most_widths);
+    R_xlen_t series = (R_xlen_t)reply.count, widths;
+    SEXP values[5];
+    values[0] = PROTECT(reply_of((double)reply.count, reply.number, reply.place));
+    values[1] = PROTECT(name_strings(lists.names, series));
+    values[2] = PROTECT(integers(lists.years, series));
+    values[3] = PROTECT(count_doubles(lists.counts, series, &widths));
+    values[4] = PROTECT(integers(lists.widths, widths));
+    SEXP list = named_list(5, names, values);
+    UNPROTECT(5);
+    return list;
+}
+
+/* A count of widths, which R holds as an integer. */
+static uint32_t count_of(int32_t count)
+{
+    if (count < 0)
+        Rf_error("an entry point of the package was given a count below 0");
+    return (uint32_t)count;
+}
+
+/* More bytes than the text of these series has: a series fills its decades, but for the first and the last line. */
+static size_t room_for(list32 counts)
+{
+    size_t room = 0;
+    for (size_t place = 0; place < counts.length; place++) {
+        size_t fields = (size_t)count_of(counts.entries[place]) + 1;
+        room += FIELD_BYTES * fields + LINE_BYTES * (fields / DECADE + 2);
+    }
+    return room;
+}
+
+SEXP tucson_write(SEXP names, SEXP years, SEXP counts, SEXP widths)
+{
+    static const char *const labels[] = {"reply", "text"};
+    const uint8_t *bytes = bytes_of(names);
+    list32 first = list_of(years), listed = list_of(counts), all = list_of(widths);
+    size_t room = room_for(listed);
+    uint8_t *text = lent(room, sizeof(uint8_t));
+    uint32_t *lengths = lent(listed.length, sizeof(uint32_t));
+    for (size_t place = 0; place < listed.length; place++)
+        lengths[place] = count_of(listed.entries[place]);
+    walzhik_reply reply = walzhik_tucson_write(bytes, (size_t)XLENGTH(names), first.entries, first.length, lengths,
+                                               listed.length, all.entries, all.length, text, room);
+    SEXP values[2];
+    values[0] = PROTECT(reply_of((double)reply.count, reply.number, reply.place));
+    values[1] = PROTECT(Rf_allocVector(RAWSXP, (R_xlen_t)reply.count));
+    if (reply.count > 0)
+        memcpy(RAW(values[1]), text, (size_t)reply.count);
+    SEXP list = named_list(2, labels, values);
+    UNPROTECT(2);
+    return list;
+}

@@ -1,0 +1,95 @@
+#!/usr/bin/env python3
+"""The files of the R package that are made from others: the table of words, the examples, and cases with the answers of the
+rational program. R's tests run from a package that can't reach the rest of the tree, so these stand in r/ as copies.
+
+    python3 tests/r_made.py            says which of them are not in step with what they are made from; status 1 if any is
+    python3 tests/r_made.py --write    makes them again
+
+Python's standard library only."""
+import json
+import sys
+from pathlib import Path
+
+ROOT = Path(__file__).resolve().parent.parent
+sys.path.insert(0, str(ROOT / "tests" / "reference"))
+
+from r_cases import case_files  # noqa: E402
+
+PACKAGE = ROOT / "r"
+WORDS = ROOT / "python" / "src" / "walzhik" / "words.tsv"
+WORDS_HEAD = """\
+# The words of every refusal, by number and case. Made by tests/r_made.py from python/src/walzhik/words.tsv, which the command
+# shares: change that table and make this file again.
+
+refusal_words <- list(
+"""
+# Options of the command that a remedy names, and what R has for them.
+ARGUMENTS = {"(--first RING)": "(first = RING)", "(--nearest)": "(./walzhik coefficients --nearest)"}
+
+
+def r_text(text):
+    """A string of R; the table is ASCII, for which JSON's quoting is R's."""
+    if not text.isascii():
+        raise SystemExit(f"{WORDS}: not ASCII: {text}")
+    return json.dumps(text)
+
+
+def remedy_for_r(remedy):
+    for option, argument in ARGUMENTS.items():
+        remedy = remedy.replace(option, argument)
+    if "(--" in remedy:
+        raise SystemExit(f"{WORDS}: an option that R has no word for: {remedy}")
+    return remedy
+
+
+def words_file():
+    header, *rows = (line.split("\t") for line in WORDS.read_text(encoding="utf-8").splitlines())
+    if header != ["number", "case", "counts", "words", "remedy"]:
+        raise SystemExit(f"{WORDS}: other columns than number, case, counts, words, remedy")
+    entries = []
+    for number, case, counts, words, remedy in rows:
+        told = f"counts = {r_text(counts)},\n    words = {r_text(words)},\n    remedy = {r_text(remedy_for_r(remedy))}"
+        entries.append(f"  {r_text(f'{number} {case}')} = c({told})")
+    return (WORDS_HEAD + ",\n".join(entries) + "\n)\n").encode("ascii")
+
+
+def copies():
+    """Where each example goes: the Tucson files of the help pages, and the refusals with their explanations for the tests."""
+    for path in sorted((ROOT / "examples" / "tucson").glob("*.rwl")):
+        yield PACKAGE / "inst" / "extdata" / path.name, path.read_bytes()
+    for path in sorted((ROOT / "examples" / "refusals").iterdir()):
+        if path.suffix in (".rwl", ".sheet", ".explained"):
+            yield PACKAGE / "tests" / "testthat" / "refusals" / path.name, path.read_bytes()
+
+
+def made():
+    """Every made file with its content."""
+    files = {PACKAGE / "R" / "words.R": words_file()}
+    files |= dict(copies())
+    files |= {PACKAGE / "tests" / "testthat" / "cases" / name: text.encode("ascii") for name, text in case_files().items()}
+    return files
+
+
+def stray(files):
+    """Files in the folders of made files that nothing makes any more."""
+    folders = {path.parent for path in files} - {PACKAGE / "R"}
+    return [path for folder in sorted(folders) if folder.exists() for path in folder.iterdir() if path not in files]
+
+
+def main():
+    files = made()
+    if sys.argv[1:] == ["--write"]:
+        for path, content in files.items():
+            path.parent.mkdir(parents=True, exist_ok=True)
+            path.write_bytes(content)
+        for path in stray(files):
+            path.unlink()
+        return 0
+    out_of_step = [path for path, content in files.items() if not path.exists() or path.read_bytes() != content]
+    for path in out_of_step + stray(files):
+        print(f"not in step: {path.relative_to(ROOT)}; make it with: python3 tests/r_made.py --write")
+    return 1 if out_of_step or stray(files) else 0
+
+
+if __name__ == "__main__":
+    sys.exit(main())
