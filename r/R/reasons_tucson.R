@@ -123,10 +123,10 @@ series_fault <- function(given, place) {
   count <- given$counts[place + 1]
   if (!is_name(name)) return(found("series-name", name = quoted(name)))
   if (identical(name, before)) return(found("series-same", name = quoted(name)))
-  if (first < least_year || first + count > most_year) {
-    return(found("series-year", name = quoted(name), first = first, last = first + max(count, 1) - 1))
-  }
   widths <- given$widths[sum(given$counts[seq_len(place)]) + seq_len(count)]
   bad <- which(widths < 0 | widths > most_width)[1]
-  if (!is.na(bad)) found("series-width", name = quoted(name), width = widths[bad], year = first + bad - 1)
+  if (!is.na(bad)) return(found("series-width", name = quoted(name), width = widths[bad], year = first + bad - 1))
+  if (first < least_year || first + count > most_year) {
+    found("series-year", name = quoted(name), first = first, last = first + count - 1)
+  }
 }

@@ -91,12 +91,11 @@ padded_names <- function(names, call = sys.call(-1)) {
 }
 
 # The file whole or not at all: a temporary file in the same folder takes its place.
-write_whole <- function(bytes, file, call = sys.call(-1)) {
+write_whole <- function(bytes, file, temporary = tempfile(".walzhik", dirname(file)), call = sys.call(-1)) {
   if (!is.character(file) || length(file) != 1 || is.na(file)) usage("file is the name of a file.", call = call)
   folder <- dirname(file)
   if (!dir.exists(folder)) usage("There is no folder ", folder, ".", call = call)
   if (dir.exists(file)) usage(file, " is a folder.", call = call)
-  temporary <- tempfile(".walzhik", folder)
   on.exit(unlink(temporary))
   written <- tryCatch({
     writeBin(bytes, temporary)

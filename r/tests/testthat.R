@@ -1,0 +1,4 @@
+library(testthat)
+library(walzhik)
+
+test_check("walzhik")

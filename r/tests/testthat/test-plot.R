@@ -1,0 +1,52 @@
+# Pictures: what is drawn is the engine's, a scar breaks the line, and the device is left as it was.
+
+with_device <- function(code) {
+  grDevices::pdf(NULL)
+  on.exit(grDevices::dev.off())
+  force(code)
+}
+
+test_that("the drawn path has the curve's values, and a break at each scar", {
+  curve <- growth_curve(curve_space(c(0, 1, 2), c(1, 1), -1), cbind(c(0, 10, 20, 30), c(30, 20, 10, 0)))
+  path <- curve_path(curve, "latewood")
+  gaps <- which(is.na(path[, 1]))
+  expect_length(gaps, 2)
+  expect_identical(path[gaps[1] - 1, ], c(1, 0.02))
+  expect_identical(path[gaps[1] + 1, 1], 257 / 256)
+  there <- path[!is.na(path[, 1]), ]
+  expect_identical(there[, 2], unname(curve_values(curve, 256 * there[, 1])[, "latewood"]) / 256000)
+  expect_identical(range(there[, 1]), c(0, 2))
+})
+
+test_that("a long span is drawn by enough positions, all within it", {
+  positions <- drawn_positions(curve_space(c(-1000, 900, 1000), c(1, 1), 0))
+  expect_length(positions, 1)
+  expect_length(positions[[1]], positions_drawn)
+  expect_identical(range(positions[[1]]), c(-256000, 256000))
+})
+
+test_that("curves and fits are drawn, and the layout is put back", {
+  rwl <- read_tucson(example_file("pine.rwl"))
+  fits <- fit_curve(rwl)
+  pair <- growth_curve(w1(), cbind(1:4, 5:8))
+  with_device({
+    before <- graphics::par("mar", "mfrow")
+    expect_identical(plot(fits), fits)
+    expect_identical(graphics::par("mar", "mfrow"), before)
+    expect_identical(plot(fits, series = "WAL 02"), fits)
+    expect_identical(plot(pair), pair)
+    expect_identical(graphics::par("usr")[1:2], c(-0.12, 3.12))
+    expect_identical(plot(pair, wood = "latewood", main = "Latewood"), pair)
+  })
+})
+
+test_that("what can't be drawn is told", {
+  fits <- fit_curve(read_tucson(example_file("oak.rwl")))
+  many <- fits[rep(1, 10)]
+  names(many) <- LETTERS[1:10]
+  with_device({
+    expect_usage(plot(many), "at most 9 series, and there are 10")
+    expect_usage(plot(fits, series = "NONE"), "series are names")
+    expect_usage(plot(growth_curve(w1(), 1:4), wood = "bark"), "wood is")
+  })
+})
