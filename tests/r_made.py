@@ -1,11 +1,12 @@
 #!/usr/bin/env python3
-"""The files of the R package that are made from others: the table of words, the examples, and cases with the answers of the
+"""The files of the R package that are made from others: the tables of words and templates, the examples, and cases with the answers of the
 rational program. R's tests run from a package that can't reach the rest of the tree, so these stand in r/ as copies.
 
     python3 tests/r_made.py            says which of them are not in step with what they are made from; status 1 if any is
     python3 tests/r_made.py --write    makes them again
 
 Python's standard library only."""
+import ast
 import json
 import sys
 from pathlib import Path
@@ -22,6 +23,13 @@ WORDS_HEAD = """\
 # shares: change that table and make this file again.
 
 refusal_words <- list(
+"""
+TEMPLATES = ROOT / "python" / "src" / "walzhik" / "fit.py"
+TEMPLATES_HEAD = """\
+# The templates of fitted curves: from how many rings on, where their segments start, and the degrees. Made by tests/r_made.py from
+# the command's templates in python/src/walzhik/fit.py, so that both fit the same curves: change that table and make this file again.
+
+templates <- list(
 """
 # Options of the command that a remedy names, and what R has for them.
 ARGUMENTS = {"(--first RING)": "(first = RING)", "(--nearest)": "(./walzhik coefficients --nearest)"}
@@ -53,6 +61,16 @@ def words_file():
     return (WORDS_HEAD + ",\n".join(entries) + "\n)\n").encode("ascii")
 
 
+def templates_file():
+    """The table of templates, which the package's source holds as a constant."""
+    statements = ast.parse(TEMPLATES.read_text(encoding="utf-8")).body
+    [table] = [ast.literal_eval(each.value) for each in statements
+               if isinstance(each, ast.Assign) and each.targets[0].id == "TEMPLATES"]
+    entries = [f"  list(rings = {rings}, starts = c({', '.join(map(str, starts))}), degrees = c({', '.join(map(str, degrees))}))"
+               for rings, starts, degrees in table]
+    return (TEMPLATES_HEAD + ",\n".join(entries) + "\n)\n").encode("ascii")
+
+
 def copies():
     """Where each example goes: the Tucson files of the help pages, and the refusals with their explanations for the tests."""
     for path in sorted((ROOT / "examples" / "tucson").glob("*.rwl")):
@@ -64,7 +82,7 @@ def copies():
 
 def made():
     """Every made file with its content."""
-    files = {PACKAGE / "R" / "words.R": words_file()}
+    files = {PACKAGE / "R" / "words.R": words_file(), PACKAGE / "R" / "templates.R": templates_file()}
     files |= dict(copies())
     files |= {PACKAGE / "tests" / "testthat" / "cases" / name: text.encode("ascii") for name, text in case_files().items()}
     return files
@@ -86,7 +104,7 @@ def main():
             path.unlink()
         return 0
     out_of_step = [path for path, content in files.items() if not path.exists() or path.read_bytes() != content]
-    for path in out_of_step + stray(files):
+    for path in [*out_of_step, *stray(files)]:
         print(f"not in step: {path.relative_to(ROOT)}; make it with: python3 tests/r_made.py --write")
     return 1 if out_of_step or stray(files) else 0
 

@@ -52,19 +52,27 @@ solved <- function(design, widths, name, call) {
   # The weights on each ordinate add up to one, so the least coefficients alone give a curve of just that height.
   solution <- nnls(design, widths - least_coefficient)
   if (solution$mode != 1) usage("Series ", name, ": the solver has given up.", call = call)
-  as.integer(round(solution$x)) + least_coefficient
+  as.integer(floor(solution$x + 1 / 2)) + least_coefficient
 }
 
+# How close the curve is to the present widths, in millimetres.
 fit_quality <- function(curve, rings, widths) {
-  left <- widths - curve_values(curve, as.integer(unit * rings))[, 1] / unit
+  widths <- widths / 1000
+  left <- widths - predict(curve, rings)[, 1]
   spread <- sum((widths - mean(widths))^2)
   list(rings = length(rings), mean_square = mean(left^2), explained = if (spread > 0) 1 - sum(left^2) / spread else NA_real_)
+}
+
+# The template of a series; what is wrong with its length is told with its name.
+series_template <- function(each, first, call) {
+  tryCatch(template_space(length(each$widths), first),
+           walzhik_usage = function(condition) usage("Series ", each$name, ": ", conditionMessage(condition), call = call))
 }
 
 fit_series <- function(each, space, first, call) {
   present <- which(!is.na(each$widths) & each$widths != 0)
   if (length(present) == 0) usage("Series ", each$name, " has no widths to fit a curve to: leave its column out.", call = call)
-  if (is.null(space)) space <- template_space(first, first + length(each$widths) - 1L)
+  if (is.null(space)) space <- series_template(each, first, call)
   check_rings(space, each, first, ifelse(is.na(each$widths), 0L, each$widths), call)
   rings <- first + present - 1
   widths <- each$widths[present]
@@ -88,8 +96,7 @@ fit_curve <- function(rwl, space = NULL, first = NULL) {
 
 describe_fit <- function(fit) {
   shared <- if (is.na(fit$explained)) "" else sprintf(", %.1f %% of the spread explained", 100 * fit$explained)
-  sprintf("Fitted to %s: mean square %.0f (thousandths of a millimetre, squared)%s", count_of(fit$rings, "ring"), fit$mean_square,
-          shared)
+  sprintf("Fitted to %s: mean square %.5f square millimetres%s", count_of(fit$rings, "ring"), fit$mean_square, shared)
 }
 
 print.walzhik_fits <- function(x, ...) {

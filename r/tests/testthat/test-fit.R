@@ -69,6 +69,21 @@ test_that("rings are counted from where the fit says, in the indices too", {
   expect_identical(ring_indices(rwl, fits), ring_indices(rwl, unclass(fits), first = 1))
 })
 
+test_that("templates cover the series, by its length", {
+  for (rings in c(2, 5, 6, 19, 20, 59, 60, 149, 150, 499, 500, 2000)) {
+    space <- template_space(rings, 1800)
+    expect_identical(range(space$breaks), c(1800L, 1799L + as.integer(rings)))
+    expect_true(all(space$orders <= 1))
+    expect_lte(space$n, rings)
+    expect_identical(qr(design_matrix(space, 1800 - 1 + seq_len(rings)))$rank, as.integer(space$n))
+  }
+  expect_identical(template_space(100, 1703)$breaks, c(1703L, 1713L, 1733L, 1802L))
+  expect_usage(template_space(1), "There is 1 ring: a curve needs at least 2")
+  expect_usage(template_space(2001), "There are 2,001 rings, and a curve spans at most 2,000 without a scar")
+  expect_usage(template_space(NA_real_), "rings[1] is missing")
+  expect_usage(fit_curve(rwl_of(1)), "Series A: There is 1 ring")
+})
+
 test_that("fits are printed, and a part of them is fits", {
   fits <- fit_curve(read_tucson(example_file("oak.rwl")))
   expect_output(print(fits), "2 fitted curves\n  ROOF04E: [0-9]+ stretch.* from ring 1703 to ring 180[23], n = [0-9]+\n    Fitted to 99 rings")

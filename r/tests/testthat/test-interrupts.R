@@ -60,9 +60,9 @@ test_that("refusals, errors and interrupts lose no memory", {
     caught(curve_space(0:2, c(2, 2), 2))
     caught(.Call(C_reach, lists[[1]], lists[[2]], lists[[3]], lists[[4]], 1:2, FALSE))
   }
-  for (turn in 1:50) once()
+  for (turn in 1:500) once()
   before <- resident()
   for (turn in 1:1000) once()
   lent <- 1000 * 3 * 2 * 5184 * 8 / 1024 # kibibytes of weight buffers in these calls
-  expect_lt(resident() - before, lent / 10)
+  expect_lt(resident() - before, lent / 4)
 })
