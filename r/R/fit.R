@@ -95,8 +95,8 @@ fit_curve <- function(rwl, space = NULL, first = NULL) {
 }
 
 describe_fit <- function(fit) {
-  shared <- if (is.na(fit$explained)) "" else sprintf(", %.1f %% of the spread explained", 100 * fit$explained)
-  sprintf("Fitted to %s: mean square %.5f square millimetres%s", count_of(fit$rings, "ring"), fit$mean_square, shared)
+  shared <- if (is.na(fit$explained)) "" else sprintf(", %.1f %% explained", 100 * fit$explained)
+  sprintf("Fitted to %s: mean square %.5f mm^2%s", count_of(fit$rings, "ring"), fit$mean_square, shared)
 }
 
 print.walzhik_fits <- function(x, ...) {

@@ -6,6 +6,7 @@ colour_widths <- "grey45"
 line_kinds <- c(earlywood = 1, latewood = 2)
 positions_drawn <- 512 # in each part between scars
 most_pictures <- 9
+index_marks <- 3 # on the axis of indices, some
 
 # Positions of each part between scars, evenly over it; on a scar the value is that of the part before.
 drawn_positions <- function(space) {
@@ -44,7 +45,7 @@ plot.walzhik_curve <- function(x, wood = if (x$whole) "earlywood" else c("earlyw
 }
 
 # The widths of one series behind its curve; an absent ring is a cross.
-draw_widths <- function(curve, rings, widths, name, xlim, xlab) {
+draw_widths <- function(curve, rings, widths, name, xlim) {
   path <- curve_path(curve, "earlywood")
   ylim <- range(0, path[, 2], widths, na.rm = TRUE)
   par(mar = c(0.6, 4.2, 2.2, 0.8))
@@ -58,8 +59,10 @@ draw_widths <- function(curve, rings, widths, name, xlim, xlab) {
 }
 
 draw_indices <- function(rings, indices, xlim, xlab) {
+  ylim <- range(0, 1, indices, na.rm = TRUE)
   par(mar = c(4, 4.2, 0.6, 0.8))
-  plot(rings, indices, type = "n", xlim = xlim, ylim = range(0, 1, indices, na.rm = TRUE), xlab = xlab, ylab = "Index", las = 1)
+  plot(rings, indices, type = "n", xlim = xlim, ylim = ylim, yaxt = "n", xlab = xlab, ylab = "Index")
+  axis(2, at = pretty(ylim, index_marks), las = 1)
   abline(h = 1, col = colour_curve["earlywood"], lwd = 2)
   lines(rings, indices, type = "o", pch = 20, cex = 0.6, col = colour_widths)
 }
@@ -84,7 +87,7 @@ draw_series <- function(fits, name, indices) {
   rows <- match(each$first, rownames(rwl)) - 1 + seq_along(each$widths)
   xlim <- range(rings)
   xlab <- if (is.null(attr(fits, "first"))) "Year" else "Ring"
-  draw_widths(fits[[name]], rings, rwl[[name]][rows], name, xlim, xlab)
+  draw_widths(fits[[name]], rings, rwl[[name]][rows], name, xlim)
   draw_indices(rings, indices[[name]][rows], xlim, xlab)
 }
 
