@@ -173,43 +173,32 @@ fn value_of(ordinates: &[i32], c: usize, p: usize, high: i64, low: i64) -> i32
     v as i32
 }
 
-// The value at a place of the curve with these ordinates. Each degree has an arm, in which the count of ordinates and of
-// stages is known, so that the ordinates stay in registers.
+// The same. Each degree has an arm, in which the count of ordinates and of stages is known, so that the ordinates stay in
+// registers.
+fn value_by(ordinates: &[i32], c: usize, p: usize, high: i64, low: i64) -> i32
+    requires { ⌜ ((p ≤ 5) × (c + p < columnLimit)) × (((u : ℤ) × ((d : ℤ) × Rated high low u d)) × ((length (now ordinates) ≡ columnLimit) × Bounded (now ordinates))) ⌝ }
+    ensures { λ r. ⌜ ((u d : ℤ) → Rated high low u d → r ≡ Reading.triangle (natAbs d) u (λ k. getD (now (ordinates .entry)) (c + k) (pos 0)) p 0) ⌝ }
+{
+    match p {
+        1 => value_of(ordinates, c, 1, high, low),
+        2 => value_of(ordinates, c, 2, high, low),
+        3 => value_of(ordinates, c, 3, high, low),
+        4 => value_of(ordinates, c, 4, high, low),
+        5 => value_of(ordinates, c, 5, high, low),
+        _ => value_of(ordinates, c, p, high, low),
+    }
+}
+
+// The value at a place of the curve with these ordinates.
 pub fn value_at(ordinates: &[i32], place: Place) -> i32
     requires { ⌜ Sound place × ((length (now ordinates) ≡ columnLimit) × Bounded (now ordinates)) ⌝ }
     ensures { λ r. ⌜ r ≡ valueOf (now (ordinates .entry)) place ⌝ }
 {
-    let c = place.column;
-    let p = place.degree;
     let rate = crate::triangle::rate_of(place.offset, place.width);
-    let h = rate.high;
-    let l = rate.low;
-    match p {
-        1 => value_of(ordinates, c, 1, h, l),
-        2 => value_of(ordinates, c, 2, h, l),
-        3 => value_of(ordinates, c, 3, h, l),
-        4 => value_of(ordinates, c, 4, h, l),
-        5 => value_of(ordinates, c, 5, h, l),
-        _ => value_of(ordinates, c, p, h, l),
-    }
+    value_by(ordinates, place.column, place.degree, rate.high, rate.low)
 }
 
-// The values of both woods, by one rate.
-fn pair_of(earlywood: &[i32], latewood: &[i32], c: usize, p: usize, high: i64, low: i64) -> Pair
-    requires { ⌜ ((p ≤ 5) × (c + p < columnLimit)) × ((u : ℤ) × ((d : ℤ) × Rated high low u d)) ⌝ }
-    requires { ⌜ ((length (now earlywood) ≡ columnLimit) × Bounded (now earlywood)) × ((length (now latewood) ≡ columnLimit) × Bounded (now latewood)) ⌝ }
-    ensures { λ r. ⌜ ((u d : ℤ) → Rated high low u d → (r .early ≡ Reading.triangle (natAbs d) u (λ k. getD (now (earlywood .entry)) (c + k) (pos 0)) p 0)
-        × (r .late ≡ Reading.triangle (natAbs d) u (λ k. getD (now (latewood .entry)) (c + k) (pos 0)) p 0)) ⌝ }
-{
-    let early = value_of(earlywood, c, p, high, low);
-    let late = value_of(latewood, c, p, high, low);
-    Pair {
-        early: early,
-        late: late,
-    }
-}
-
-// The values of both woods at a place: the arm of its degree is found once, and so is the rate.
+// The values of both woods at a place, by one rate.
 pub fn pair_at(earlywood: &[i32], latewood: &[i32], place: Place) -> Pair
     requires { ⌜ Sound place × (((length (now earlywood) ≡ columnLimit) × Bounded (now earlywood)) × ((length (now latewood) ≡ columnLimit) × Bounded (now latewood))) ⌝ }
     ensures { λ r. ⌜ (r .early ≡ valueOf (now (earlywood .entry)) place) × (r .late ≡ valueOf (now (latewood .entry)) place) ⌝ }
@@ -219,12 +208,10 @@ pub fn pair_at(earlywood: &[i32], latewood: &[i32], place: Place) -> Pair
     let rate = crate::triangle::rate_of(place.offset, place.width);
     let h = rate.high;
     let l = rate.low;
-    match p {
-        1 => pair_of(earlywood, latewood, c, 1, h, l),
-        2 => pair_of(earlywood, latewood, c, 2, h, l),
-        3 => pair_of(earlywood, latewood, c, 3, h, l),
-        4 => pair_of(earlywood, latewood, c, 4, h, l),
-        5 => pair_of(earlywood, latewood, c, 5, h, l),
-        _ => pair_of(earlywood, latewood, c, p, h, l),
+    let early = value_by(earlywood, c, p, h, l);
+    let late = value_by(latewood, c, p, h, l);
+    Pair {
+        early: early,
+        late: late,
     }
 }
