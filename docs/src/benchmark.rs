@@ -3,6 +3,7 @@
 //!     benchmark            a table: time and instructions of both, and their ratios
 //!     benchmark counts     instructions alone, a line a call (needs valgrind)
 //!     benchmark threads    sheets a second on one core and on all
+//!     benchmark scipy      the same positions through scipy's BSpline too (from the repository's root; needs python3-scipy)
 //!
 //! Every mode first checks that both give the same, and stops where they do not.
 
@@ -12,8 +13,9 @@ mod walzhik;
 
 use plain::{Refusal, Space, CELLS};
 use std::hint::black_box;
+use std::io::Write;
 use std::path::Path;
-use std::process::{exit, Command};
+use std::process::{exit, Command, Stdio};
 use std::time::{Duration, Instant};
 use walzhik::raw::{walzhik_build, walzhik_curve, Reply};
 
@@ -381,6 +383,41 @@ fn print_table() {
     }
 }
 
+// ---- scipy
+
+const BSPLINE: &str = "docs/src/bspline_speed.py";
+
+/// What bspline_speed.py reads of a call.
+fn bspline_lines(shape: &Shape) -> Option<String> {
+    let Kind::Uniform(degree, order) = shape.kind else { return None };
+    let Call { breaks, positions, .. } = Call::new(shape);
+    let [breaks, positions] = [breaks, positions].map(|list| list.iter().map(i32::to_string).collect::<Vec<_>>().join(" "));
+    Some(format!("{degree} {order}\n{breaks}\n{positions}\n"))
+}
+
+/// The least times of BSpline in microseconds, one for each shape; none where Python or scipy fails.
+fn bspline_times(shapes: &[Shape]) -> Option<Vec<f64>> {
+    let text = shapes.iter().map(bspline_lines).collect::<Option<String>>()?;
+    let mut python = Command::new("/usr/bin/python3").arg(BSPLINE).stdin(Stdio::piped()).stdout(Stdio::piped()).spawn().ok()?;
+    python.stdin.take()?.write_all(text.as_bytes()).ok()?;
+    let output = python.wait_with_output().ok().filter(|output| output.status.success())?;
+    String::from_utf8(output.stdout).ok()?.lines().map(|line| line.parse().ok()).collect()
+}
+
+fn print_scipy() {
+    let shapes = [(1, 0), (3, 2), (5, 2)].map(|(degree, order)| Shape { positions: MAX_POSITIONS, ..full(Kind::Uniform(degree, order)) });
+    let Some(bspline) = bspline_times(&shapes) else {
+        eprintln!("{BSPLINE} gave no times: run from the repository's root, with python3-scipy installed");
+        exit(2);
+    };
+    println!("| Space | Engine, both woods, weights built, µs | Plain, the same, µs | BSpline, one curve ready-built, µs |");
+    println!("|---|---|---|---|");
+    for (shape, one_curve) in shapes.iter().zip(bspline) {
+        let [engine, plain] = times(shape);
+        println!("| {}, {} | {engine:.0} | {plain:.0} | {one_curve:.0} |", shape.kind_name(), shape.call_name());
+    }
+}
+
 // ---- all cores
 
 /// One after another, `sheets` curve calls of each of the kinds; true if every one left what the first did.
@@ -432,8 +469,9 @@ fn main() {
         None => print_table(),
         Some("counts") => print_counts(),
         Some("threads") => print_threads(),
+        Some("scipy") => print_scipy(),
         Some(_) => {
-            eprintln!("usage: benchmark [counts | threads]");
+            eprintln!("usage: benchmark [counts | threads | scipy]");
             exit(2);
         }
     }

@@ -49,14 +49,14 @@ module _ (qs : List ℚ) where
   fraction-at i h = λ k. record { num = num-at i h k; den = den-at i h k }
 
 -- a numerator that is read tells whether the fraction is zero
-module _ (qs : List ℚ) {js : Fractions} (is : js ≡ fractions qs) where
-  num-read : (i : ℕ) → i < 72 → getD (js .num) i (pos 0) ≡ (entry qs i) .num
-  num-read i h = ap (λ (f : Fractions). getD (f .num) i (pos 0)) is ∙ num-at qs i h
+module _ (qs : List ℚ) {js : List ℤ} (is : js ≡ fractions qs .num) where
+  num-read : (i : ℕ) → i < 72 → getD js i (pos 0) ≡ (entry qs i) .num
+  num-read i h = ap (λ (ns : List ℤ). getD ns i (pos 0)) is ∙ num-at qs i h
 
-  pub zero-read : (i : ℕ) → i < 72 → getD (js .num) i (pos 0) ≡ pos 0 → isZero (entry qs i) ≡ true
+  pub zero-read : (i : ℕ) → i < 72 → getD js i (pos 0) ≡ pos 0 → isZero (entry qs i) ≡ true
   zero-read i h e = zero-test (zero-is (entry qs i) (sym (num-read i h) ∙ e))
 
-  pub nonzero-read : (i : ℕ) → i < 72 → getD (js .num) i (pos 0) ≢ pos 0 → isZero (entry qs i) ≡ false
+  pub nonzero-read : (i : ℕ) → i < 72 → getD js i (pos 0) ≢ pos 0 → isZero (entry qs i) ≡ false
   nonzero-read i h e = nonzero-test (λ z. e (num-read i h ∙ zero-num z))
 
 pub none-num : replicate 72 (pos 0) ≡ fractions [] .num

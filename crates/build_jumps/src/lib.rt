@@ -147,17 +147,17 @@ pub fn jumps(num: &[i64], den: &[i64], rows: usize, join: Join, k: usize) -> Row
     RowJumps { fit: true, of: js }
 }
 
-// The first row below `rows` with a jump other than zero.
-fn first_jump(js: Fractions, rows: usize) -> Found
+// The first row below `rows` with a jump other than zero, by the numerators.
+fn first_jump(js: &[i64; build_cells::ROW_CELLS], rows: usize) -> Found
     requires { ⌜ rows ≤ rowCells ⌝ }
-    ensures { λ r. ⌜ ((qs : List ℚ) → js ≡ fractions qs → r ≡ found (Search.first rows (Step.jumpsAt qs))) ⌝ }
+    ensures { λ r. ⌜ ((qs : List ℚ) → now (js .entry) ≡ fractions qs .num → r ≡ found (Search.first rows (Step.jumpsAt qs))) ⌝ }
 {
     let mut i: usize = 0;
     let at = loop {
         if i == rows {
             break Found::Nothing;
         }
-        if js.num[i] != 0 {
+        if js[i] != 0 {
             break Found::At(i);
         }
         i += 1;
@@ -166,9 +166,9 @@ fn first_jump(js: Fractions, rows: usize) -> Found
 }
 
 // The last row below `rows` with a jump other than zero.
-fn last_jump(js: Fractions, rows: usize) -> Found
+fn last_jump(js: &[i64; build_cells::ROW_CELLS], rows: usize) -> Found
     requires { ⌜ rows ≤ rowCells ⌝ }
-    ensures { λ r. ⌜ ((qs : List ℚ) → js ≡ fractions qs → r ≡ found (Search.last rows (Step.jumpsAt qs))) ⌝ }
+    ensures { λ r. ⌜ ((qs : List ℚ) → now (js .entry) ≡ fractions qs .num → r ≡ found (Search.last rows (Step.jumpsAt qs))) ⌝ }
     ensures { λ r. ⌜ ((i : ℕ) → r ≡ At i → i < rows) ⌝ }
 {
     let mut i = rows;
@@ -177,7 +177,7 @@ fn last_jump(js: Fractions, rows: usize) -> Found
             break Found::Nothing;
         }
         i -= 1;
-        if js.num[i] != 0 {
+        if js[i] != 0 {
             break Found::At(i);
         }
     };
@@ -185,13 +185,13 @@ fn last_jump(js: Fractions, rows: usize) -> Found
 }
 
 // Whether a jump from row f up to row l is zero.
-fn zero_between(js: Fractions, f: usize, l: usize) -> bool
+fn zero_between(js: &[i64; build_cells::ROW_CELLS], f: usize, l: usize) -> bool
     requires { ⌜ l ≤ rowCells ⌝ }
-    ensures { λ r. ⌜ ((qs : List ℚ) → js ≡ fractions qs → r ≡ Step.zeroBetween qs f l) ⌝ }
+    ensures { λ r. ⌜ ((qs : List ℚ) → now (js .entry) ≡ fractions qs .num → r ≡ Step.zeroBetween qs f l) ⌝ }
 {
     let mut i = f;
     while i < l {
-        if js.num[i] == 0 {
+        if js[i] == 0 {
             return true;
         }
         i += 1;
@@ -204,15 +204,15 @@ pub fn span(js: Fractions, rows: usize) -> JumpSpan
     requires { ⌜ rows ≤ rowCells ⌝ }
     ensures { λ r. ⌜ ((qs : List ℚ) (j : ℕ) → js ≡ fractions qs → length qs ≡ rows → r ≡ jumpSpan (Step.span j qs)) ⌝ }
 {
-    let first = first_jump(js, rows);
+    let first = first_jump(&js.num, rows);
     match first {
         Found::Nothing => JumpSpan::Nothing,
         Found::At(f) => {
-            let last = last_jump(js, rows);
+            let last = last_jump(&js.num, rows);
             match last {
                 Found::Nothing => JumpSpan::Nothing,
                 Found::At(l) => {
-                    if zero_between(js, f, l) {
+                    if zero_between(&js.num, f, l) {
                         return JumpSpan::Nothing;
                     }
                     JumpSpan::Rows(f, l)

@@ -44,12 +44,16 @@ fn write_all(
     requires { ⌜ ((length (now earlywood) ≡ columnLimit) × Bounded (now earlywood)) × ((length (now latewood) ≡ columnLimit) × Bounded (now latewood)) ⌝ }
     ensures { λ _. ⌜ now (values .exit) ≡ Reading.sideBySide (map (pairOf (space (now (breaks .entry)) (now (degrees .entry)) (now (orders .entry))) (now (earlywood .entry)) (now (latewood .entry))) (now (positions .entry))) ++ drop (2 * length (now (positions .entry))) (now (values .entry)) ⌝ }
 {
+    let firsts = curve_triangle::first_positions(breaks, degrees, orders);
+    let mut at = 0;
     let mut k = 0;
     while k < positions.len() {
         let x = positions[k];
-        let place = curve_triangle::place_at(breaks, degrees, orders, columns, x);
-        let early = curve_triangle::value_at(earlywood, place);
-        let late = curve_triangle::value_at(latewood, place);
+        at = curve_triangle::segment_near(&firsts, degrees.len(), x, at);
+        let place = curve_triangle::place_at(breaks, degrees, columns, at, x);
+        let pair = curve_triangle::pair_at(earlywood, latewood, place);
+        let early = pair.early;
+        let late = pair.late;
         values[2 * k] = early;
         values[2 * k + 1] = late;
         k += 1;

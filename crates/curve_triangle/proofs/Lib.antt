@@ -2,4 +2,5 @@
 pub mod Blend
 pub mod Stages
 pub mod Local
+pub mod First
 pub mod Position

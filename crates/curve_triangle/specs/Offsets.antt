@@ -3,12 +3,12 @@ use mathlib.Core.Bool.{cond}
 use mathlib.Core.List.{List}
 use Prim.Native.Nat.{ℕ, _+_, _*_}
 use lib.Dec.{leb, ltb}
-use lib.IntN.{ℤ, pos}
+use lib.IntN.{ℤ, pos, _+ℤ_}
 use lib.ListN.{getD}
 use lib.Signed.{_<ℤ_, _≤ℤ_}
 use Rattle.base_exact.specs.Tabulate.{tab}
 use Rattle.spec_spline.specs.Space.{Space, segmentLimit, spanLimit, degreeLimit, break, segments, firstColumn}
-use Rattle.spec_spline.specs.Reading.{fineness, fine}
+use Rattle.spec_spline.specs.Reading.{fineness, fine, startsAtDiscontinuity}
 
 -- A beam has at most this many columns: six for each of 48 segments.
 abbrev pub columnLimit : ℕ
@@ -17,6 +17,14 @@ columnLimit = (degreeLimit + 1) * segmentLimit
 -- The first columns of the segments in an array, 0 past them.
 unfoldable pub columnsOf : Space → List ℕ
 columnsOf s = tab segmentLimit (λ i. cond (ltb i (segments s)) (firstColumn s i) 0)
+
+-- The first position of segment i: where it starts, and one further where that is a discontinuity.
+unfoldable pub firstPosition : Space → ℕ → ℤ
+firstPosition s i = cond (startsAtDiscontinuity s i) (fine (break s i) +ℤ pos 1) (fine (break s i))
+
+-- The first positions of the segments in an array, 0 past them.
+unfoldable pub firstPositionsOf : Space → List ℤ
+firstPositionsOf s = tab segmentLimit (λ i. cond (ltb i (segments s)) (firstPosition s i) (pos 0))
 
 -- The p + 1 numbers from index c on in an array of six, 0 past them.
 unfoldable pub localOf : List ℤ → ℕ → ℕ → List ℤ

@@ -1,18 +1,20 @@
-// The values at one position: its place, found once for both wood parts, and for each part the segment's ordinates and the
-// de Casteljau triangle on them.
+// The values at one position: its place and its rate, found once for both woods, and for each wood the segment's ordinates and
+// the de Casteljau triangle on them.
 ghost use mathlib.Core.Path.{_≡_};
-ghost use mathlib.Core.List.{[]};
+ghost use mathlib.Core.List.{List, []};
 ghost use mathlib.Core.Option.{Option·getD};
 ghost use Prim.Native.Nat.{_+_, _<_, _≤_};
-ghost use lib.IntN.{pos, natAbs};
+ghost use lib.IntN.{ℤ, pos, natAbs};
 ghost use lib.ListN.{length, getD};
+ghost use lib.Signed.{leZ};
 ghost use Rattle.build_space.specs.Machine.{space};
 ghost use Rattle.build_space.specs.Legal.{BreaksLegal, ListsLegal};
 ghost use Rattle.spec_spline.specs.Search;
 ghost use Rattle.spec_spline.specs.Reading;
 ghost use Rattle.curve_ordinates.specs.Ordinates.{Bounded};
-ghost use Rattle.curve_triangle.specs.Offsets.{columnLimit, columnsOf, localOf, Within, Offset};
+ghost use Rattle.curve_triangle.specs.Offsets.{columnLimit, columnsOf, firstPosition, firstPositionsOf, localOf, Within};
 ghost use Rattle.curve_triangle.specs.Place.{placeOf, Sound, valueOf};
+ghost use Rattle.curve_triangle.specs.Rate.{Rated};
 
 mod triangle;
 
@@ -23,6 +25,12 @@ pub struct Place {
     pub degree: usize,
     pub offset: i64,
     pub width: i64,
+}
+
+// The values of both woods at a position.
+pub struct Pair {
+    pub early: i32,
+    pub late: i32,
 }
 
 // Six columns for each of 48 segments.
@@ -39,22 +47,37 @@ fn starts_at_discontinuity(orders: &[i32], i: usize) -> bool
     build_space::is_discontinuity(orders, i - 1)
 }
 
-// Whether segment i starts before position x, or at it where that is no discontinuity.
-fn starts_by(breaks: &[i32], orders: &[i32], i: usize, x: i32) -> bool
+// The first position of segment i.
+fn first_position(breaks: &[i32], orders: &[i32], i: usize) -> i32
     requires { ⌜ ((i < length (now breaks)) × (i ≤ length (now orders))) × BreaksLegal (now breaks) ⌝ }
-    ensures { λ r. ⌜ r ≡ Reading.startsBy (space (now (breaks .entry)) [] (now (orders .entry))) x i ⌝ }
+    ensures { λ r. ⌜ r ≡ firstPosition (space (now (breaks .entry)) [] (now (orders .entry))) i ⌝ }
 {
     let start = 256 * breaks[i];
     if starts_at_discontinuity(orders, i) {
-        return start < x;
+        return start + 1;
     }
-    start <= x
+    start
 }
 
-// The last of m segments that starts by position x.
-fn segment_at(breaks: &[i32], orders: &[i32], m: usize, x: i32) -> usize
-    requires { ⌜ ((m < length (now breaks)) × (m ≤ length (now orders) + 1)) × BreaksLegal (now breaks) ⌝ }
-    ensures { λ r. ⌜ r ≡ Option·getD (Search.last m (Reading.startsBy (space (now (breaks .entry)) [] (now (orders .entry))) x)) 0 ⌝ }
+// The first positions of the segments.
+pub fn first_positions(breaks: &[i32], degrees: &[i32], orders: &[i32]) -> [i32; build_space::MAX_SEGMENTS]
+    requires { ⌜ ListsLegal (now breaks) (now degrees) (now orders) ⌝ }
+    ensures { λ r. ⌜ r ≡ firstPositionsOf (space (now (breaks .entry)) (now (degrees .entry)) (now (orders .entry))) ⌝ }
+{
+    let mut firsts = [0; build_space::MAX_SEGMENTS];
+    let mut i = 0;
+    while i < degrees.len() {
+        let first = first_position(breaks, orders, i);
+        firsts[i] = first;
+        i += 1;
+    }
+    firsts
+}
+
+// The last of m segments whose first position is at or before position x.
+fn segment_at(firsts: &[i32], m: usize, x: i32) -> usize
+    requires { ⌜ m ≤ length (now firsts) ⌝ }
+    ensures { λ r. ⌜ r ≡ Option·getD (Search.last m (λ k. leZ (getD (now (firsts .entry)) k (pos 0)) x)) 0 ⌝ }
 {
     let mut i = m;
     let at = loop {
@@ -62,11 +85,31 @@ fn segment_at(breaks: &[i32], orders: &[i32], m: usize, x: i32) -> usize
             break 0;
         }
         i -= 1;
-        if starts_by(breaks, orders, i, x) {
+        let first = firsts[i];
+        if first <= x {
             break i;
         }
     };
     at
+}
+
+// The segment of position x. The one given, of the position before, is tried first: most lists rise.
+pub fn segment_near(firsts: &[i32], m: usize, x: i32, near: usize) -> usize
+    requires { ⌜ (near < m) × (m ≤ length (now firsts)) ⌝ }
+    ensures { λ r. ⌜ ((b d o : List ℤ) → ListsLegal b d o → now (firsts .entry) ≡ firstPositionsOf (space b d o) → length d ≡ m → r ≡ Reading.segmentAt (space b d o) x) ⌝ }
+{
+    let first = firsts[near];
+    if first <= x {
+        let next = near + 1;
+        if next == m {
+            return near;
+        }
+        let after = firsts[next];
+        if x < after {
+            return near;
+        }
+    }
+    segment_at(firsts, m, x)
 }
 
 // The p + 1 ordinates from column c on, 0 past them.
@@ -102,13 +145,12 @@ fn offset(breaks: &[i32], i: usize, x: i32) -> i64
     x as i64 - 256 * start
 }
 
-// The place of position x.
-pub fn place_at(breaks: &[i32], degrees: &[i32], orders: &[i32], columns: &[usize], x: i32) -> Place
-    requires { ⌜ ListsLegal (now breaks) (now degrees) (now orders) × Within (space (now breaks) (now degrees) (now orders)) x ⌝ }
+// The place of position x, which lies in segment i.
+pub fn place_at(breaks: &[i32], degrees: &[i32], columns: &[usize], i: usize, x: i32) -> Place
+    requires { ⌜ ((o : List ℤ) × (ListsLegal (now breaks) (now degrees) o × (Within (space (now breaks) (now degrees) o) x × (i ≡ Reading.segmentAt (space (now breaks) (now degrees) o) x)))) ⌝ }
     requires { ⌜ now columns ≡ columnsOf (space [] (now degrees) []) ⌝ }
-    ensures { λ r. ⌜ (r ≡ placeOf (space (now (breaks .entry)) (now (degrees .entry)) (now (orders .entry))) x) × Sound r ⌝ }
+    ensures { λ r. ⌜ ((o : List ℤ) → i ≡ Reading.segmentAt (space (now (breaks .entry)) (now (degrees .entry)) o) x → r ≡ placeOf (space (now (breaks .entry)) (now (degrees .entry)) o) x) × Sound r ⌝ }
 {
-    let i = segment_at(breaks, orders, degrees.len(), x);
     let p = build_space::degree_at(degrees, i);
     let u = offset(breaks, i, x);
     let d = fine_width(breaks, i);
@@ -121,32 +163,55 @@ pub fn place_at(breaks: &[i32], degrees: &[i32], orders: &[i32], columns: &[usiz
     }
 }
 
-// The value of the p + 1 ordinates from column c on, at offset u of a segment of length d.
-fn value_of(ordinates: &[i32], c: usize, p: usize, u: i64, d: i64) -> i32
-    requires { ⌜ ((p ≤ 5) × (c + p < columnLimit)) × (Offset u d × ((length (now ordinates) ≡ columnLimit) × Bounded (now ordinates))) ⌝ }
-    ensures { λ r. ⌜ r ≡ Reading.triangle (natAbs d) u (λ k. getD (now (ordinates .entry)) (c + k) (pos 0)) p 0 ⌝ }
+// The value of the p + 1 ordinates from column c on, at the offset with this rate.
+fn value_of(ordinates: &[i32], c: usize, p: usize, high: i64, low: i64) -> i32
+    requires { ⌜ ((p ≤ 5) × (c + p < columnLimit)) × (((u : ℤ) × ((d : ℤ) × Rated high low u d)) × ((length (now ordinates) ≡ columnLimit) × Bounded (now ordinates))) ⌝ }
+    ensures { λ r. ⌜ ((u d : ℤ) → Rated high low u d → r ≡ Reading.triangle (natAbs d) u (λ k. getD (now (ordinates .entry)) (c + k) (pos 0)) p 0) ⌝ }
 {
     let o = local_ordinates(ordinates, c, p);
-    let v = crate::triangle::triangle(o, p, u, d);
+    let v = crate::triangle::triangle(o, p, high, low);
     v as i32
 }
 
-// The value at a place of the curve with these ordinates. Each degree has an arm, in which the count of ordinates and of
-// stages is known, so that the ordinates stay in registers.
+// The same. Each degree has an arm, in which the count of ordinates and of stages is known, so that the ordinates stay in
+// registers.
+fn value_by(ordinates: &[i32], c: usize, p: usize, high: i64, low: i64) -> i32
+    requires { ⌜ ((p ≤ 5) × (c + p < columnLimit)) × (((u : ℤ) × ((d : ℤ) × Rated high low u d)) × ((length (now ordinates) ≡ columnLimit) × Bounded (now ordinates))) ⌝ }
+    ensures { λ r. ⌜ ((u d : ℤ) → Rated high low u d → r ≡ Reading.triangle (natAbs d) u (λ k. getD (now (ordinates .entry)) (c + k) (pos 0)) p 0) ⌝ }
+{
+    match p {
+        1 => value_of(ordinates, c, 1, high, low),
+        2 => value_of(ordinates, c, 2, high, low),
+        3 => value_of(ordinates, c, 3, high, low),
+        4 => value_of(ordinates, c, 4, high, low),
+        5 => value_of(ordinates, c, 5, high, low),
+        _ => value_of(ordinates, c, p, high, low),
+    }
+}
+
+// The value at a place of the curve with these ordinates.
 pub fn value_at(ordinates: &[i32], place: Place) -> i32
     requires { ⌜ Sound place × ((length (now ordinates) ≡ columnLimit) × Bounded (now ordinates)) ⌝ }
     ensures { λ r. ⌜ r ≡ valueOf (now (ordinates .entry)) place ⌝ }
 {
+    let rate = crate::triangle::rate_of(place.offset, place.width);
+    value_by(ordinates, place.column, place.degree, rate.high, rate.low)
+}
+
+// The values of both woods at a place, by one rate.
+pub fn pair_at(earlywood: &[i32], latewood: &[i32], place: Place) -> Pair
+    requires { ⌜ Sound place × (((length (now earlywood) ≡ columnLimit) × Bounded (now earlywood)) × ((length (now latewood) ≡ columnLimit) × Bounded (now latewood))) ⌝ }
+    ensures { λ r. ⌜ (r .early ≡ valueOf (now (earlywood .entry)) place) × (r .late ≡ valueOf (now (latewood .entry)) place) ⌝ }
+{
     let c = place.column;
     let p = place.degree;
-    let u = place.offset;
-    let d = place.width;
-    match p {
-        1 => value_of(ordinates, c, 1, u, d),
-        2 => value_of(ordinates, c, 2, u, d),
-        3 => value_of(ordinates, c, 3, u, d),
-        4 => value_of(ordinates, c, 4, u, d),
-        5 => value_of(ordinates, c, 5, u, d),
-        _ => value_of(ordinates, c, p, u, d),
+    let rate = crate::triangle::rate_of(place.offset, place.width);
+    let h = rate.high;
+    let l = rate.low;
+    let early = value_by(earlywood, c, p, h, l);
+    let late = value_by(latewood, c, p, h, l);
+    Pair {
+        early: early,
+        late: late,
     }
 }

@@ -37,7 +37,7 @@ fn scaled(v: i64, k: i64, d: i64) -> i64
 }
 
 // Two divisions, in place of one for each blend.
-fn rate_of(u: i64, d: i64) -> Rate
+pub fn rate_of(u: i64, d: i64) -> Rate
     requires { ⌜ Offset u d ⌝ }
     ensures { λ r. ⌜ Rated (r .high) (r .low) u d ⌝ }
 {
@@ -93,15 +93,14 @@ fn stage(o: [i64; 6], n: usize, high: i64, low: i64) -> [i64; 6]
 }
 
 // All p stages: what is left of p + 1 ordinates.
-pub fn triangle(o: [i64; 6], p: usize, u: i64, d: i64) -> i64
-    requires { ⌜ (p ≤ 5) × (Bounded o × Offset u d) ⌝ }
-    ensures { λ r. ⌜ (r ≡ Reading.triangle (natAbs d) u (λ k. getD o k (pos 0)) p 0) × (natAbs r ≤ ordinateLimit) ⌝ }
+pub fn triangle(o: [i64; 6], p: usize, high: i64, low: i64) -> i64
+    requires { ⌜ (p ≤ 5) × (Bounded o × ((u : ℤ) × ((d : ℤ) × Rated high low u d))) ⌝ }
+    ensures { λ r. ⌜ ((u d : ℤ) → Rated high low u d → r ≡ Reading.triangle (natAbs d) u (λ k. getD o k (pos 0)) p 0) × (natAbs r ≤ ordinateLimit) ⌝ }
 {
-    let rate = rate_of(u, d);
     let mut r = o;
     let mut n = p;
     while n > 0 {
-        r = stage(r, n, rate.high, rate.low);
+        r = stage(r, n, high, low);
         n -= 1;
     }
     r[0]

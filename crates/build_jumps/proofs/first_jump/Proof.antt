@@ -18,10 +18,10 @@ use Rattle.build_jumps.proofs.first_jump.Statement.{statement}
 use Rattle.build_jumps.proofs.first_jump.Tie as tie
 
 abbrev Inv-loop : tie.InvT-loop
-Inv-loop rows js i₀ i = (i ≤ rows) × ((k : ℕ) → k < i → getD (js .num) k (pos 0) ≡ pos 0)
+Inv-loop js rows i₀ i = (i ≤ rows) × ((k : ℕ) → k < i → getD js k (pos 0) ≡ pos 0)
 
 abbrev μ-loop : tie.MeasureT-loop
-μ-loop rows js i₀ i = rows - i
+μ-loop js rows i₀ i = rows - i
 
 loop-holds : tie.Need-loop-holds Inv-loop μ-loop
 loop-holds c = (omega arith, λ k h. absurd (omega arith))

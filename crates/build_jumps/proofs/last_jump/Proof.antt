@@ -19,10 +19,10 @@ use Rattle.build_jumps.proofs.last_jump.Statement.{statement}
 use Rattle.build_jumps.proofs.last_jump.Tie as tie
 
 abbrev Inv-loop : tie.InvT-loop
-Inv-loop rows js i₀ i = (i ≤ rows) × ((k : ℕ) → i ≤ k → k < rows → getD (js .num) k (pos 0) ≡ pos 0)
+Inv-loop js rows i₀ i = (i ≤ rows) × ((k : ℕ) → i ≤ k → k < rows → getD js k (pos 0) ≡ pos 0)
 
 abbrev μ-loop : tie.MeasureT-loop
-μ-loop rows js i₀ i = i
+μ-loop js rows i₀ i = i
 
 loop-holds : tie.Need-loop-holds Inv-loop μ-loop
 loop-holds c = (omega arith, λ k h l. absurd (omega arith))
@@ -41,7 +41,7 @@ loop-less c = omega arith
 
 -- one row further down
 from-before : (c : tie.Else2 Inv-loop μ-loop) (k : ℕ) → (c .before .before .before .loop .i - 1 ≡ k) ⊎ (c .before .before .before .loop .i - 1 < k)
-    → k < c .before .before .before .before .args .rows → getD (c .before .before .before .before .args .t1 .num) k (pos 0) ≡ pos 0
+    → k < c .before .before .before .before .args .rows → getD (c .before .before .before .before .args .js .now) k (pos 0) ≡ pos 0
 from-before c k (inl e) h = rw (sym e) (ofZ-inj w64 _ (pos 0) (record { sfits = c .before .if22 .given }) (search needs) (c .if2 .left))
 from-before c k (inr l) h = c .before .before .before .loop .inv .1 k (omega arith) h
 

@@ -22,10 +22,10 @@ use Rattle.build_jumps.proofs.zero_between.Statement.{statement}
 use Rattle.build_jumps.proofs.zero_between.Tie as tie
 
 abbrev Inv-loop : tie.InvT-loop
-Inv-loop f l js i₀ i = (f ≤ i) × ((k : ℕ) → f ≤ k → k < i → getD (js .num) k (pos 0) ≢ pos 0)
+Inv-loop js f l i₀ i = (f ≤ i) × ((k : ℕ) → f ≤ k → k < i → getD js k (pos 0) ≢ pos 0)
 
 abbrev μ-loop : tie.MeasureT-loop
-μ-loop f l js i₀ i = l - i
+μ-loop js f l i₀ i = l - i
 
 loop-holds : tie.Need-loop-holds Inv-loop μ-loop
 loop-holds c = (omega arith, λ k h l. absurd (omega arith))
@@ -57,7 +57,7 @@ loop-less c = omega arith
 
 -- one row further on
 up-to-next : (c : tie.Else1 Inv-loop μ-loop) (k : ℕ) → c .before .before .before .before .args .f ≤ k → (k ≡ c .before .before .before .loop .i) ⊎ (k < c .before .before .before .loop .i)
-    → getD (c .before .before .before .before .args .t1 .num) k (pos 0) ≢ pos 0
+    → getD (c .before .before .before .before .args .js .now) k (pos 0) ≢ pos 0
 up-to-next c k h (inl e) = λ z. c .if1 .left (ap (ofZ w64) (rw e at z))
 up-to-next c k h (inr l) = c .before .before .before .loop .inv .1 k h l
 

@@ -1,10 +1,7 @@
--- `triangle::place_at` meets its contract: the segment that holds the position, its columns and the offset in it.
+-- `curve_triangle::place_at` meets its contract: the columns of the segment that holds the position, and the offset in it.
 -- Assumes nothing.
-use borrow.Author.Needs.{needs}
 use native.Mathlib.Omega.{arith}
-use mathlib.Core.List.{[]}
-use mathlib.Core.Option.{Option·getD}
-use mathlib.Core.Bool.{Bool}
+use mathlib.Core.List.{List, []}
 use mathlib.Core.Path.{_≡_, ap, _∙_}
 use Prim.Native.Nat.{ℕ, _+_, _<_, _≤_}
 use lib.IntN.{ℤ, pos}
@@ -12,94 +9,78 @@ use lib.ListN.{length, getD}
 use mir.Syntax.{w32, w64}
 use mir.Val.{ofZ, toZ}
 use mir.ValLaws.{toZ-ofZ}
-use Rattle.spec_spline.specs.Search.{last}
 use Rattle.spec_spline.specs.Space.{Space, firstColumn}
-use Rattle.spec_spline.specs.Reading.{startsBy, segmentAt, fineWidth, offset}
+use Rattle.spec_spline.specs.Reading.{segmentAt, fineWidth, offset}
 use Rattle.build_space.specs.Machine.{space}
-use Rattle.build_space.proofs.Partial.{starts-by-partial}
+use Rattle.build_space.specs.Legal.{ListsLegal}
 use Rattle.curve_triangle.specs.Offsets.{Offset}
 use Rattle.curve_triangle.proofs.Position.{segment-within, offset-within, column-at, columns-within, degree-within, columns-long, place-is}
 use Rattle.curve_triangle.proofs.place_at.Statement.{statement}
 use Rattle.curve_triangle.proofs.place_at.Tie as tie
 
-module _ (c : tie.After-segment-at) where
-  abbrev start : tie.Start
-  start = c .before .before
-
+module _ (c : tie.Start) where
   abbrev i : ℕ
-  i = c .segment-at .result
+  i = c .args .i
 
-  abbrev lists : Space
-  lists = space (start .args .breaks .now) (start .args .degrees .now) (start .args .orders .now)
+  abbrev orders : List ℤ
+  orders = c .pre .0 .0
 
-  found : i ≡ segmentAt lists (start .args .x)
-  unfolding segmentAt
-  found = c .segment-at .ensures
-      ∙ ap (λ (z : ℤ). Option·getD (last (length (start .args .degrees .now)) (startsBy (space (start .args .breaks .now) [] (start .args .orders .now)) z)) 0) (toZ-ofZ w32 _ (start .fits .x))
-      ∙ ap (λ (f : ℕ → Bool). Option·getD (last (length (start .args .degrees .now)) f) 0) (starts-by-partial (start .args .breaks .now) (start .args .degrees .now) (start .args .orders .now) (start .args .x))
+  legal : ListsLegal (c .args .breaks .now) (c .args .degrees .now) orders
+  legal = c .pre .0 .1 .0
 
-  within : i < length (start .args .degrees .now)
-  within = segment-within (start .args .breaks .now) (start .args .degrees .now) (start .args .orders .now) (start .pre .0 .0) (start .args .x) (start .pre .0 .1) i found
+  found : i ≡ segmentAt (space (c .args .breaks .now) (c .args .degrees .now) orders) (c .args .x)
+  found = c .pre .0 .1 .1 .1
 
-  offset-is : Offset (offset (space (start .args .breaks .now) [] []) i (start .args .x)) (pos (fineWidth (space (start .args .breaks .now) [] []) i))
-  offset-is = offset-within (start .args .breaks .now) (start .args .degrees .now) (start .args .orders .now) (start .pre .0 .0) (start .args .x) (start .pre .0 .1) i found
+  within : i < length (c .args .degrees .now)
+  within = segment-within (c .args .breaks .now) (c .args .degrees .now) orders legal (c .args .x) (c .pre .0 .1 .1 .0) i found
 
-segment-at-requires : tie.Need-segment-at-requires
-segment-at-requires c κs = search needs
+  offset-is : Offset (offset (space (c .args .breaks .now) [] []) i (c .args .x)) (pos (fineWidth (space (c .args .breaks .now) [] []) i))
+  offset-is = offset-within (c .args .breaks .now) (c .args .degrees .now) orders legal (c .args .x) (c .pre .0 .1 .1 .0) i found
 
 degree-at-requires : tie.Need-degree-at-requires
-degree-at-requires c κs = (within c, start c .pre .0 .0 .degrees-legal)
+degree-at-requires c κs = let s = c .before in (within s, legal s .degrees-legal)
 
 offset-requires : tie.Need-offset-requires
-offset-requires c κs = let s = start (c .before) in (omega (arith, within (c .before), s .pre .0 .0 .break-count), s .pre .0 .0 .breaks-legal)
+offset-requires c κs = let s = c .before .before in (omega (arith, within s, legal s .break-count), legal s .breaks-legal)
 
 fine-width-requires : tie.Need-fine-width-requires
-fine-width-requires c κs = let s = start (c .before .before) in (omega (arith, within (c .before .before), s .pre .0 .0 .break-count), s .pre .0 .0 .breaks-legal)
+fine-width-requires c κs = let s = c .before .before .before in (omega (arith, within s, legal s .break-count), legal s .breaks-legal)
 
 mul-c : tie.Need-mul-c
-mul-c c = let d = c .before .before .before in omega (arith, within d, start d .pre .0 .0 .few)
+mul-c c = let s = c .before .before .before .before in omega (arith, within s, legal s .few)
 
 shared-slice-read-c : tie.Need-shared-slice-read-c
-shared-slice-read-c c = let d = c .before .before .before .before in omega (arith, within d, start d .pre .0 .0 .few, ap length (start d .pre .1), columns-long (start d .args .degrees .now))
+shared-slice-read-c c = let s = c .before .before .before .before .before in omega (arith, within s, legal s .few, ap length (s .pre .1), columns-long (s .args .degrees .now))
 
 module _ (c : tie.After-fine-width) where
-  abbrev place : tie.After-segment-at
-  place = c .before .before .before
+  abbrev start : tie.Start
+  start = c .before .before .before .before
 
   abbrev column : ℕ
-  column = getD (start place .args .columns .now) (i place) 0
+  column = getD (start .args .columns .now) (i start) 0
 
-  column-is : column ≡ firstColumn (space [] (start place .args .degrees .now) []) (i place)
-  column-is = ap (λ xs. getD xs (i place) 0) (start place .pre .1) ∙ column-at (start place .args .breaks .now) _ _ (start place .pre .0 .0) (i place) (within place)
+  column-is : column ≡ firstColumn (space [] (start .args .degrees .now) []) (i start)
+  column-is = ap (λ xs. getD xs (i start) 0) (start .pre .1) ∙ column-at (start .args .breaks .now) _ _ (legal start) (i start) (within start)
 
   p-small : c .before .before .degree-at .result ≤ 5
-  p-small = rw (c .before .before .degree-at .ensures) (degree-within (start place .args .breaks .now) _ _ (start place .pre .0 .0) (i place) (within place))
+  p-small = rw (c .before .before .degree-at .ensures) (degree-within (start .args .breaks .now) _ _ (legal start) (i start) (within start))
 
-  u-is : toZ w64 (ofZ w64 (c .before .offset .result)) ≡ offset (space (start place .args .breaks .now) [] []) (i place) (start place .args .x)
-  u-is = toZ-ofZ w64 _ (record { sfits = c .before .offset .ok }) ∙ c .before .offset .ensures ∙ ap (λ (z : ℤ). offset (space (start place .args .breaks .now) [] []) (i place) z) (toZ-ofZ w32 _ (start place .fits .x))
+  u-is : toZ w64 (ofZ w64 (c .before .offset .result)) ≡ offset (space (start .args .breaks .now) [] []) (i start) (start .args .x)
+  u-is = toZ-ofZ w64 _ (record { sfits = c .before .offset .ok }) ∙ c .before .offset .ensures ∙ ap (λ (z : ℤ). offset (space (start .args .breaks .now) [] []) (i start) z) (toZ-ofZ w32 _ (start .fits .x))
 
-  d-is : toZ w64 (ofZ w64 (c .fine-width .result)) ≡ pos (fineWidth (space (start place .args .breaks .now) [] []) (i place))
+  d-is : toZ w64 (ofZ w64 (c .fine-width .result)) ≡ pos (fineWidth (space (start .args .breaks .now) [] []) (i start))
   d-is = toZ-ofZ w64 _ (record { sfits = c .fine-width .ok }) ∙ c .fine-width .ensures
 
   column-within : column + c .before .before .degree-at .result < 288
-  column-within = omega (arith, column-is, c .before .before .degree-at .ensures, columns-within (start place .args .breaks .now) (start place .args .degrees .now) (start place .args .orders .now) (start place .pre .0 .0) (i place) (within place))
+  column-within = omega (arith, column-is, c .before .before .degree-at .ensures, columns-within (start .args .breaks .now) (start .args .degrees .now) (orders start) (legal start) (i start) (within start))
 
 returns : tie.Need-returns
 returns c =
     let e = c .before in
-    let s = start (place e) in (
-      place-is (s .args .breaks .now) (s .args .degrees .now) (s .args .orders .now) (s .args .x) (i (place e)) (found (place e)) (column-is e) (e .before .before .degree-at .ensures) (u-is e) (d-is e),
-      record { low = p-small e; within = column-within e; inside = rw (u-is e, d-is e) (offset-is (place e)) },
+    let s = start e in (
+      λ o at. place-is (s .args .breaks .now) (s .args .degrees .now) o (s .args .x) (i s) at (column-is e) (e .before .before .degree-at .ensures) (u-is e) (d-is e),
+      record { low = p-small e; within = column-within e; inside = rw (u-is e, d-is e) (offset-is s) },
     )
 
 pub place-at-spec : {M : Type 1} → statement M
-place-at-spec =
-    tie.close
-    (tie.spec
-    segment-at-requires
-    degree-at-requires
-    offset-requires
-    fine-width-requires
-    mul-c
-    shared-slice-read-c
-    returns)
+place-at-spec = tie.close (tie.spec degree-at-requires offset-requires fine-width-requires mul-c shared-slice-read-c returns)

@@ -1,22 +1,22 @@
--- `triangle::starts_by` meets its contract: the two tests are the two of the definition. Assumes nothing.
+-- `curve_triangle::first_position` meets its contract: the two arms are the two of the definition. Assumes nothing.
 use borrow.Author.Needs.{needs}
 use mathlib.Core.Bool.{Bool}
 use mathlib.Core.List.{[]}
 use mathlib.Core.Path.{_≡_, sym, _∙_}
 use native.Mathlib.Omega.{arith}
-use lib.IntN.{ℤ, pos, _*ℤ_}
+use lib.IntN.{ℤ, pos, _+ℤ_, _*ℤ_}
 use lib.ListN.{getD}
-use lib.Signed.{ltZ, leZ}
 use mir.Syntax.{w32}
 use mir.Val.{SFits, ofZ, toZ}
 use mir.ValLaws.{toZ-ofZ}
 use Rattle.base_exact.proofs.Decide.{cond-true, cond-false}
-use Rattle.base_exact.proofs.Word.{sfits-abs, abs-mul-le}
-use Rattle.spec_spline.specs.Reading.{fine, startsAtDiscontinuity, startsBy}
+use Rattle.base_exact.proofs.Word.{sfits-abs, abs-add, abs-mul-le}
+use Rattle.spec_spline.specs.Reading.{fine, startsAtDiscontinuity}
 use Rattle.build_space.specs.Machine.{space}
 use Rattle.build_space.proofs.Partial.{starts-at-discontinuity-partial}
-use Rattle.curve_triangle.proofs.starts_by.Statement.{statement}
-use Rattle.curve_triangle.proofs.starts_by.Tie as tie
+use Rattle.curve_triangle.specs.Offsets.{firstPosition}
+use Rattle.curve_triangle.proofs.first_position.Statement.{statement}
+use Rattle.curve_triangle.proofs.first_position.Tie as tie
 
 mul-start : tie.Need-mul-start
 mul-start c = search needs
@@ -44,38 +44,37 @@ module _ (c : tie.After-starts-at-discontinuity) where
   abbrev at-start : tie.After-start
   at-start = c .before
 
-  abbrev x : ℤ
-  x = at-start .before .args .x
-
   -- the segment starts at a discontinuity or not
   told : {b : Bool} → c .starts-at-discontinuity .result ≡ b → startsAtDiscontinuity (space (at-start .before .args .breaks .now) [] (at-start .before .args .orders .now)) (at-start .before .args .i) ≡ b
   told e = sym (starts-at-discontinuity-partial (at-start .before .args .breaks .now) [] (at-start .before .args .orders .now) (at-start .before .args .i)) ∙ sym (c .starts-at-discontinuity .ensures) ∙ e
 
+module _ (c : tie.After-start) where
+  more-fits : SFits w32 (pos 256 *ℤ break c +ℤ pos 1)
+  more-fits =
+      let size = abs-mul-le (pos 256) (break c) 256 10000 (omega arith) (c .before .pre .1 .size (c .before .args .i) (c .before .pre .0 .0)) in
+      sfits-abs (omega (arith, size, abs-add (pos 256 *ℤ break c) (pos 1)))
+
+add-result : tie.Need-add-result
+add-result c = let f = break-fits (at-start (c .before)) in let g = start-fits (at-start (c .before)) in simp toZ-ofZ (more-fits (at-start (c .before)))
+
 returns : tie.Need-returns
-unfolding startsBy
+unfolding firstPosition
 returns c =
-    let f = break-fits (at-start (c .before)) in
-    let g = start-fits (at-start (c .before)) in
-    let h = at-start (c .before) .before .fits .x in
-    let e : ltZ (toZ w32 (ofZ w32 (pos 256 *ℤ toZ w32 (ofZ w32 (break (at-start (c .before))))))) (toZ w32 (ofZ w32 (x (c .before)))) ≡ ltZ (fine (break (at-start (c .before)))) (x (c .before)) = simp toZ-ofZ in
+    let a = at-start (c .before) in
+    let f = break-fits a in
+    let g = start-fits a in
+    let h = more-fits a in
+    let e : toZ w32 (ofZ w32 (toZ w32 (ofZ w32 (pos 256 *ℤ toZ w32 (ofZ w32 (break a)))) +ℤ pos 1)) ≡ fine (break a) +ℤ pos 1 = simp toZ-ofZ in
     e ∙ sym (cond-true _ _ (told (c .before) (c .if1 .taken)))
 
 returns-2 : tie.Need-returns-2
-unfolding startsBy
+unfolding firstPosition
 returns-2 c =
-    let f = break-fits (at-start (c .before)) in
-    let g = start-fits (at-start (c .before)) in
-    let h = at-start (c .before) .before .fits .x in
-    let e : leZ (toZ w32 (ofZ w32 (pos 256 *ℤ toZ w32 (ofZ w32 (break (at-start (c .before))))))) (toZ w32 (ofZ w32 (x (c .before)))) ≡ leZ (fine (break (at-start (c .before)))) (x (c .before)) = simp toZ-ofZ in
+    let a = at-start (c .before) in
+    let f = break-fits a in
+    let g = start-fits a in
+    let e : toZ w32 (ofZ w32 (pos 256 *ℤ toZ w32 (ofZ w32 (break a)))) ≡ fine (break a) = simp toZ-ofZ in
     e ∙ sym (cond-false _ _ (told (c .before) (c .if1 .left)))
 
-pub starts-by-spec : {M : Type 1} → statement M
-starts-by-spec =
-    tie.close
-    (tie.spec
-    mul-start
-    shared-slice-copy-out-start
-    mul-start-2
-    starts-at-discontinuity-requires
-    returns
-    returns-2)
+pub first-position-spec : {M : Type 1} → statement M
+first-position-spec = tie.close (tie.spec mul-start shared-slice-copy-out-start mul-start-2 starts-at-discontinuity-requires add-result returns returns-2)

@@ -1,0 +1,78 @@
+-- `curve_triangle::pair_at` meets its contract: both triangles of the place's ordinates by the place's rate.
+-- Assumes nothing.
+use mathlib.Core.List.{List}
+use mathlib.Core.Path.{_≡_, refl, _∙_}
+use Prim.Native.Nat.{_+_}
+use lib.IntN.{ℤ, pos, natAbs}
+use lib.ListN.{getD}
+use mir.Syntax.{w32, w64}
+use mir.Val.{SFits, ofZ, toZ}
+use mir.ValLaws.{toZ-ofZ}
+use Rattle.spec_spline.specs.Reading.{triangle}
+use Rattle.curve_triangle.specs.Place.{valueOf}
+use Rattle.curve_triangle.specs.Rate.{Rated}
+use Rattle.curve_triangle.specs.declared.Place.{Place}
+use Rattle.curve_triangle.proofs.Position.{value-arm}
+use Rattle.curve_triangle.proofs.pair_at.Statement.{statement}
+use Rattle.curve_triangle.proofs.pair_at.Tie as tie
+
+-- a number read back from its word
+abbrev word : ℤ → ℤ
+word z = toZ w64 (ofZ w64 z)
+
+module _ (c : tie.After-struct-told2) where
+  offset-fits : SFits w64 (c .before .before .args .place .offset)
+  offset-fits = record { sfits = c .before .struct-told .given .1 .1 .0 .1 }
+
+  width-fits : SFits w64 (c .before .before .args .place .width)
+  width-fits = record { sfits = c .struct-told2 .given .1 .1 .1 .0 .1 }
+
+rate-of-requires : tie.Need-rate-of-requires
+rate-of-requires c κs = let f = offset-fits c in let g = width-fits c in simp toZ-ofZ (c .before .before .pre .0 .inside)
+
+module _ (c : tie.After-struct-told4) where
+  abbrev start : tie.Start
+  start = c .before .before .before .before .before
+
+  abbrev place : Place
+  place = start .args .place
+
+  abbrev high : ℤ
+  high = c .before .before .rate-of .result .high
+
+  abbrev low : ℤ
+  low = c .before .before .rate-of .result .low
+
+  high-fits : SFits w64 high
+  high-fits = record { sfits = c .before .struct-told3 .given .0 .1 }
+
+  low-fits : SFits w64 low
+  low-fits = record { sfits = c .struct-told4 .given .1 .0 .1 }
+
+  -- the rate of the place, as its parts are passed on
+  rated : Rated (word high) (word low) (place .offset) (place .width)
+  rated =
+      let t = c .before .before .before in
+      let f = offset-fits t in
+      let g = width-fits t in
+      let k = high-fits in
+      let l = low-fits in
+      simp toZ-ofZ (simp toZ-ofZ at (c .before .before .rate-of .ensures))
+
+  -- the value there
+  there : (os : List ℤ) (r : ℤ) → ((u d : ℤ) → Rated (word high) (word low) u d → r ≡ triangle (natAbs d) u (λ k. getD os (place .column + k) (pos 0)) (place .degree) 0) → r ≡ valueOf os place
+  there os r h = value-arm os place (place .degree) r refl (h _ _ rated)
+
+value-by-requires : tie.Need-value-by-requires
+value-by-requires c κs = let sound = start c .pre .0 in ((sound .low, sound .within), ((_, (_, rated c)), start c .pre .1 .0))
+
+value-by-requires-2 : tie.Need-value-by-requires-2
+value-by-requires-2 c κs = let t = c .before in let sound = start t .pre .0 in ((sound .low, sound .within), ((_, (_, rated t)), start t .pre .1 .1))
+
+returns : tie.Need-returns
+returns c =
+    let t = c .before .before in
+    (toZ-ofZ w32 _ (record { sfits = c .before .value-by .ok }) ∙ there t _ _ (c .before .value-by .ensures), toZ-ofZ w32 _ (record { sfits = c .value-by2 .ok }) ∙ there t _ _ (c .value-by2 .ensures))
+
+pub pair-at-spec : {M : Type 1} → statement M
+pair-at-spec = tie.close (tie.spec rate-of-requires value-by-requires value-by-requires-2 returns)
