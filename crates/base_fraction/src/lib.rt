@@ -48,7 +48,7 @@ pub fn magnitude(a: i64) -> u64
 }
 
 // The quotient rounded towards minus infinity; towards zero it would be a / d.
-pub fn floor_div(a: i64, d: i64) -> i64
+fn floor_div(a: i64, d: i64) -> i64
     requires { ⌜ pos 0 <ℤ d ⌝ }
     ensures { λ r. ⌜ r ≡ floorDiv a (natAbs d) ⌝ }
 {

@@ -8,7 +8,12 @@ const OUTPUT_BYTES: usize = 2189079;
 
 fn main() {
     let mut input = [0u8; INPUT_BYTES];
-    let n = io::read_full(0, &mut input);
+    let read = base_input::read_input(&mut input);
+    if read.failed {
+        os::fail(b"read");
+        return;
+    }
+    let n = read.count;
     let mut out = [0u8; OUTPUT_BYTES];
     let count = sheet_text::sheet(&input[..n], &mut out);
     if !io::write_all(1, &out[..count]) {

@@ -5,7 +5,12 @@ const INPUT_BYTES: usize = 1048577;
 
 fn main() {
     let mut input = [0u8; INPUT_BYTES];
-    let n = io::read_full(0, &mut input);
+    let read = base_input::read_input(&mut input);
+    if read.failed {
+        os::fail(b"read");
+        return;
+    }
+    let n = read.count;
     let mut out = [0u8; tucson_text::TEXT_LIMIT];
     let count = tucson_text::filter(&input[..n], &mut out);
     if !io::write_all(1, &out[..count]) {

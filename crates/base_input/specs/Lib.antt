@@ -1,0 +1,1 @@
+-- Its contracts cite what the kit's io says of counts; it has no definition of its own.
