@@ -3,4 +3,7 @@ pub mod OnePart
 pub mod NineNever
 pub mod WeightColumns
 pub mod PositiveValues
+pub mod Directions
+pub mod PartOrdinates
+pub mod FallingCurves
 pub mod Instances

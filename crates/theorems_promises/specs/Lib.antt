@@ -3,3 +3,4 @@ pub mod OnePart
 pub mod NineNever
 pub mod WeightColumns
 pub mod PositiveValues
+pub mod FallingCurves
