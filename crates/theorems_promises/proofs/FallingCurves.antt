@@ -1,14 +1,14 @@
 -- A falling list gives a falling curve, and a climbing one a climbing curve, proved: in a segment by the triangle of ordinates that
 -- follow one another, and from segment to segment over the ordinates between.
-use mathlib.Core.Path.{_≡_, sym, _∙_, ap, ap₂, subst}
+use mathlib.Core.Path.{_≡_, sym, _∙_, ap, subst}
 use mathlib.Core.Logic.{_⊎_, inl, inr}
 use mathlib.Core.List.{List}
 use Prim.Native.Nat.{ℕ, suc, _+_, _-_, _<_, _≤_}
 use native.Mathlib.Omega.{arith}
 use native.Mathlib.Nat.{eq-or-lt-of-le}
-use lib.IntN.{ℤ, pos, _-ℤ_, negℤ}
+use lib.IntN.{ℤ, pos, negℤ}
 use lib.ListN.{getD}
-use lib.Signed.{_≤ℤ_, _<ℤ_}
+use lib.Signed.{_≤ℤ_}
 use Rattle.base_exact.proofs.Decide.{le-or-lt}
 use Rattle.base_exact.proofs.Integer as Z
 use Rattle.base_exact.proofs.Tabulate.{tab-getD}
@@ -26,7 +26,7 @@ use Rattle.theorems_values.proofs.Value.{segment-column}
 use Rattle.theorems_values.proofs.Cells.{cell-holds-value}
 use Rattle.theorems_promises.specs.FallingCurves.{LowOrders, InPart, FallingListsFall, ClimbingListsClimb, FallingCells, ClimbingCells}
 use Rattle.theorems_promises.proofs.Directions.{Direction, climbing, falling, after-first, before-last, triangle-moves}
-use Rattle.theorems_promises.proofs.PartOrdinates.{ordinates-follow, segment-follows, segments-follow}
+use Rattle.theorems_promises.proofs.PartOrdinates.{ordinates-follow, segments-follow}
 
 -- ---- a later position has no earlier segment
 

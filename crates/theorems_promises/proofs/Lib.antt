@@ -6,4 +6,5 @@ pub mod PositiveValues
 pub mod Directions
 pub mod PartOrdinates
 pub mod FallingCurves
+pub mod FallingInstances
 pub mod Instances

@@ -4,7 +4,6 @@
 use mathlib.Core.Path.{_≡_, refl, sym, _∙_, ap, ap₂, subst, fun-ext}
 use mathlib.Core.Logic.{_≢_, _⊎_, inl, inr}
 use mathlib.Core.Bool.{true, cond, not}
-use mathlib.Core.List.{List}
 use Prim.Native.Nat.{ℕ, zero, suc, _+_, _-_, _<_, _≤_, max}
 use native.Mathlib.Omega.{arith}
 use native.Mathlib.Nat.{eq-or-lt-of-le}
@@ -12,12 +11,12 @@ use borrow.Author.Tests.{eqb-true, eqb-false, lt-ltb, le-ltb}
 use lib.Dec.{ltb}
 use lib.IntN.{ℤ, pos, _+ℤ_}
 use lib.ListN.{length}
-use Rattle.base_exact.specs.Rational.{ℚ, int}
+use Rattle.base_exact.specs.Rational.{int}
 use Rattle.base_exact.specs.Order.{isZero}
 use Rattle.base_exact.proofs.Decide.{le-or-lt, true-not-false, cond-true, cond-false}
 use Rattle.base_exact.proofs.Integer as Z
 use Rattle.base_exact.proofs.Order.{pos-nonzero, zero-test}
-use Rattle.spec_spline.specs.Space.{Space, segments, startsPart, partEnd, degree, conditionCount, isDiscontinuity, firstColumn, columnCount, rowCount, rowsBefore}
+use Rattle.spec_spline.specs.Space.{Space, segments, order, startsPart, partEnd, degree, conditionCount, firstColumn, columnCount, rowCount, rowsBefore}
 use Rattle.spec_spline.specs.Table.{Table, cell}
 use Rattle.spec_spline.specs.Piecewise.{Accepted}
 use Rattle.spec_spline.specs.Reading.{fineness, fine, hasWeight, term, termSum, least, greatest, atLeast, atMost, ordinate}
@@ -33,14 +32,13 @@ use Rattle.theorems_values.proofs.Segment.{accepted-checked}
 use Rattle.theorems_values.proofs.Value.{segment-column}
 use Rattle.theorems_values.proofs.Weights.{accepted-column}
 use Rattle.theorems_acceptance.specs.WeightCount.{leftConditions, rightConditions}
-use Rattle.theorems_acceptance.specs.ClosedForms.{joinColumn}
 use Rattle.theorems_acceptance.proofs.Rows.{firstRow, leftCount, lowest, highest, lowest-at-most-highest}
 use Rattle.theorems_acceptance.proofs.Support.{Support}
-use Rattle.theorems_acceptance.proofs.Limits.{Limits, limits, low-count}
+use Rattle.theorems_acceptance.proofs.Limits.{Limits, limits}
 use Rattle.theorems_acceptance.proofs.Stages.{met}
 use Rattle.theorems_acceptance.proofs.WeightCount.{last-reached, left-is, right-is}
 use Rattle.theorems_acceptance.proofs.ClosedForms.{join-ordinates-agree}
-use Rattle.theorems_promises.specs.FallingCurves.{LowOrders}
+use Rattle.theorems_promises.specs.FallingCurves.{fallingOrder, LowOrders}
 use Rattle.theorems_promises.proofs.Directions.{Direction}
 
 -- ---- an ordinate needs only its column's weights
@@ -90,7 +88,7 @@ module _ (s : Space) (x : Accepted s) (a : ℕ) (A : Starts s a) (low : LowOrder
 
   -- a join inside the part, and the joins at its ends
   inner-few : (j : ℕ) → a ≤ j → suc j < partEnd s a → conditionCount s j ≤ 2
-  inner-few j h l = low-count _ (conditionCount s j) (L .count-is-order j (omega (arith, within))) (low j h l)
+  inner-few j h l = let e = L .count-is-order j (omega (arith, within)) in omega (arith, Z.≤-out (order s j) fallingOrder (low j h l), Z.bal-+ (order s j) (pos 1), ap Z.up e, ap Z.dn e)
 
   pub inner-joined : (j : ℕ) → a ≤ j → suc j < partEnd s a → 0 < conditionCount s j
   unfolding startsPart

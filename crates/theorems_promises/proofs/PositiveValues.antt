@@ -1,11 +1,11 @@
 -- Positive coefficients give positive values, proved: a value is at least 256 times the least coefficient with weight on its
 -- segment, and that is one of the n coefficients.
-use mathlib.Core.Path.{_≡_, subst}
+use mathlib.Core.Path.{subst}
 use mathlib.Core.List.{List}
-use Prim.Native.Nat.{ℕ, _+_, _*_, _<_}
+use Prim.Native.Nat.{ℕ, _<_}
 use native.Mathlib.Omega.{arith}
 use lib.IntN.{ℤ, pos}
-use lib.ListN.{length, getD}
+use lib.ListN.{getD}
 use lib.Signed.{_≤ℤ_, _<ℤ_}
 use Rattle.base_exact.proofs.Integer as Z
 use Rattle.spec_spline.specs.Space.{Space, segments}

@@ -1,5 +1,5 @@
 -- The columns of the weight buffers sum to one, proved: they hold the last part, which is built by itself, and zeros below it.
-use mathlib.Core.Path.{_≡_, refl, sym, _∙_, ap, ap₂, subst}
+use mathlib.Core.Path.{_≡_, sym, _∙_, ap, ap₂, subst}
 use mathlib.Core.Logic.{inr}
 use mathlib.Core.Bool.{_&&_}
 use mathlib.Core.List.{List}
@@ -8,25 +8,23 @@ use native.Mathlib.Omega.{arith}
 use borrow.Author.Tests.{ltb-false}
 use lib.Dec.{ltb}
 use lib.IntN.{ℤ, pos}
-use lib.ListN.{length, getD, drop}
+use lib.ListN.{length, getD}
 use lib.Signed.{_≤ℤ_, _<ℤ_}
-use Rattle.base_exact.specs.Rational.{ℚ, den, int, _/ᵠ_}
+use Rattle.base_exact.specs.Rational.{den, int, _/ᵠ_}
 use Rattle.base_exact.specs.Sum.{sum}
 use Rattle.base_exact.proofs.Integer as Z
 use Rattle.base_exact.proofs.Rational.{self, is-mul-int, int-nonzero, div-unique}
 use Rattle.base_exact.proofs.Sum.{sum-ext, sum-past}
-use Rattle.base_exact.proofs.Tabulate.{getD-tab}
 use Rattle.spec_spline.specs.Outcome.{Outcome, answer, with-answer}
-use Rattle.spec_spline.specs.Space.{Space, segments, startsPart, partEnd, lastPartStart, partSegmentLimit, tooManySegments, firstColumn, columnCount, rowCount, rowsBefore}
-use Rattle.spec_spline.specs.Table.{Table, cell, stored, rowCells, tableCells, numerators, denominators}
+use Rattle.spec_spline.specs.Space.{Space, segments, partEnd, lastPartStart, partSegmentLimit, tooManySegments, firstColumn, columnCount, rowCount, rowsBefore}
+use Rattle.spec_spline.specs.Table.{Table, rowCells, tableCells}
 use Rattle.spec_spline.specs.Build.{spaceWeights, built, lastPart, numeratorsAfter, denominatorsAfter}
 use Rattle.spec_spline.specs.Piecewise.{Accepted}
 use Rattle.spec_spline.specs.CurveCall.{curveOutcome, heldBy}
 use Rattle.spec_spline.proofs.Outcome.{with-inverts}
-use Rattle.spec_spline.proofs.Build.{last-part-cell}
-use Rattle.spec_spline.proofs.Parts.{Ends, part-ends, ends-unique, whole-boundary}
+use Rattle.spec_spline.proofs.Parts.{Ends, ends-unique, whole-boundary}
 use Rattle.spec_spline.proofs.Legal.{Checked, cond-refuse-inverts, legal, lengths-fit-inverts}
-use Rattle.theorems_weights.specs.Cells.{HoldsFraction, lastPartCell}
+use Rattle.theorems_weights.specs.Cells.{lastPartCell}
 use Rattle.theorems_weights.proofs.Built.{built as built-basis}
 use Rattle.theorems_weights.proofs.Cells.{last-part-held}
 use Rattle.theorems_weights.proofs.PartitionOfUnity.{column-sums-one}

@@ -1,6 +1,6 @@
 -- A falling list gives a falling curve: where no join inside a part of the beam has an order above 1 and the coefficients of a wood
 -- part do not rise over the rows of that part, its values, the rounded numbers themselves, do not rise from any position to a later
--- one of the same part. The mirror holds for lists that do not fall. At order 2 it is false by one unit (proofs/Rising).
+-- one of the same part. The mirror holds for lists that do not fall. At order 2 it is false by one unit (proofs/FallingInstances).
 use mathlib.Core.List.{List}
 use Prim.Native.Nat.{ℕ, suc, _+_, _*_, _<_, _≤_}
 use lib.IntN.{ℤ, pos}
