@@ -54,4 +54,5 @@ PiecesStartAtTheValue = (s : Space) (wood : Wood) (coefs : List ℤ) (k numLengt
 
 -- Number 9 never comes, whatever the call is given.
 abbrev pub PiecesNeverGiveNine : Type 0
-PiecesNeverGiveNine = (s : Space) (wood : Wood) (coefs : List ℤ) (k : ℕ) (num den : List ℤ) (place : ℕ) → pieceEnd s wood coefs k num den .answers ≡ refusal 9 place → ⊥
+PiecesNeverGiveNine = (s : Space) (wood : Wood) (coefs : List ℤ) (k : ℕ) (num den : List ℤ) (place : ℕ)
+    → pieceEnd s wood coefs k num den .answers ≡ refusal 9 place → ⊥

@@ -34,4 +34,5 @@ SixteenIsNever = (s : Space) (wood : Wood) (coefs : List ℤ) (width : ℤ) (num
 
 -- Number 9 never comes, whatever the call is given.
 abbrev pub ReachNeverGivesNine : Type 0
-ReachNeverGivesNine = (s : Space) (wood : Wood) (coefs : List ℤ) (width : ℤ) (num den : List ℤ) (place : ℕ) → reachEnd s wood coefs width num den .answers ≡ refusal 9 place → ⊥
+ReachNeverGivesNine = (s : Space) (wood : Wood) (coefs : List ℤ) (width : ℤ) (num den : List ℤ) (place : ℕ)
+    → reachEnd s wood coefs width num den .answers ≡ refusal 9 place → ⊥

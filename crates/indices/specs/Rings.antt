@@ -80,7 +80,8 @@ AnsweredRingsAreLegal = (c : RingsCall) (n : ℕ) → endOf c .answers ≡ answe
 -- Positive coefficients are enough: where all coefficients of the named part are above zero and all widths are from 0 to 99,999,
 -- such a call answers.
 abbrev pub PositiveCoefficientsAreEnough : Type 0
-PositiveCoefficientsAreEnough = (c : RingsCall) → CurveIsLegal c → ringCount c ≤ length (c .indices) → PositiveCoefficients (c .space) (c .wood) (c .coefs)
+PositiveCoefficientsAreEnough = (c : RingsCall) → CurveIsLegal c → ringCount c ≤ length (c .indices)
+    → PositiveCoefficients (c .space) (c .wood) (c .coefs)
     → ((i : ℕ) → i < ringCount c → T (between (pos 0) (pos widthLimit) (ringWidth (c .widths) i)))
     → endOf c .answers ≡ answer (ringCount c)
 

@@ -1,6 +1,6 @@
--- No low lines from positive coefficients, proved: a call that answers is legal, so all its values are above zero.
-use mathlib.Core.Path.{_≡_, refl, sym, _∙_, ap, ap₂}
-use mathlib.Core.Bool.{true, false, cond, _||_}
+-- No low lines from positive coefficients, proved: a call that answers is legal, so all its values are above zero. And a sheet.
+use mathlib.Core.Path.{_≡_, refl, _∙_, ap, ap₂}
+use mathlib.Core.Bool.{false, _||_}
 use mathlib.Core.List.{List, [], _∷_, _++_, map, append-nil}
 use Prim.Native.Nat.{ℕ, zero, suc, _+_, _*_, _<_}
 use native.Mathlib.Omega.{arith}
@@ -9,22 +9,25 @@ use lib.ListN.{length, getD}
 use lib.Signed.{_<ℤ_, _≤ℤ_}
 use Rattle.base_exact.proofs.Decide.{cond-false}
 use Rattle.base_exact.proofs.Integer as Z
-use Rattle.base_exact.proofs.Word.{not-le-test}
-use Rattle.spec_spline.specs.Outcome.{Outcome, answer, refusal}
-use Rattle.spec_spline.specs.Space.{Space, rowCount}
+use Rattle.base_exact.proofs.Word.{ltZ-true, not-le-test}
+use Rattle.spec_spline.specs.Outcome.{Outcome, answer, refusal, capped}
+use Rattle.spec_spline.specs.Space.{Space}
 use Rattle.spec_spline.specs.Table.{tableCells}
 use Rattle.spec_spline.specs.Listing.{tableWeights}
-use Rattle.spec_spline.specs.Reading.{Wood, earlywood, latewood, woodIndex, coefficient, Pair, sideBySide, valueAt, pairAt, values}
-use Rattle.spec_spline.specs.CurveCall.{CurveResult, curveOutcome}
+use Rattle.spec_spline.specs.Reading.{Wood, earlywood, latewood, Pair, sideBySide, valueAt, pairAt, values}
+use Rattle.spec_spline.specs.CurveCall.{CurveResult}
 use Rattle.spec_spline.specs.ExactCurve.{Legal}
+use Rattle.spec_spline.specs.Cases.{pair}
 use Rattle.spec_spline.proofs.Outcome.{answer-unique}
-use Rattle.base_text.specs.Bytes.{Text}
+use Rattle.base_text.specs.Bytes.{Text, bytes, lines, cut, fieldsBetween, stripped}
+use Rattle.base_text.specs.Numeral.{allDigits, digitsValue, isNatural, numeral}
 use Rattle.base_sorting.specs.Sorted.{sorted}
 use Rattle.theorems_values.proofs.LegalCall.{answered-calls-are-legal, legal-calls-answer}
 use Rattle.theorems_values.proofs.Cells.{position-inside}
 use Rattle.theorems_promises.specs.PositiveValues.{PositiveCoefficients, leastPositive}
 use Rattle.theorems_promises.proofs.PositiveValues.{positive-values}
-use Rattle.sheet_read.specs.SheetReading.{Lists}
+use Rattle.sheet_read.specs.SheetReading as entry
+use Rattle.sheet_read.specs.SheetReading.{entries, listOf, line, readLine, Lists, fiveLines, read}
 use Rattle.sheet_print.specs.Printout.{joined, countLine, weightLines, valueLines, isLow, lowPositions, lowLines, answerText}
 use Rattle.sheet_text.specs.Sheet.{Arguments, argumentsOf, spaceOf, valueCells, called, outcomeText, readText, printout}
 use Rattle.sheet_text.specs.LowLines.{AllPositive, WithoutLowLines, refused, answered, PositiveSheetsHaveNoLowLines}
@@ -79,3 +82,37 @@ module _ (l : Lists) (positive : AllPositive l) where
 pub positive-sheets-have-no-low-lines : PositiveSheetsHaveNoLowLines
 unfolding printout readText
 positive-sheets-have-no-low-lines input l e positive = rw e (outcome-printed l positive (called (argumentsOf l)) refl)
+
+-- ---- a sheet: one line from 3 to 1 of earlywood and from 4 to 1 of latewood
+
+positiveText : Text
+positiveText = lines (
+    "breaks=0,10" ∷
+    "degrees=1" ∷
+    "orders=" ∷
+    "coefs=3:4,1:1" ∷
+    "at=0,1280,2560" ∷ [])
+
+abbrev positiveLists : Lists
+positiveLists = record {
+  breaks = pos 0 ∷ pos 10 ∷ [];
+  degrees = pos 1 ∷ [];
+  orders = [];
+  coefs = pair (pos 3) (pos 4) ∷ pair (pos 1) (pos 1) ∷ [];
+  positions = pos 0 ∷ pos 1280 ∷ pos 2560 ∷ [];
+}
+
+positive-reads : read positiveText ≡ answer positiveLists
+unfolding capped cut fieldsBetween stripped allDigits digitsValue isNatural numeral entry.pair entries listOf line readLine fiveLines read bytes lines positiveText
+positive-reads = refl
+
+all-positive : AllPositive positiveLists
+unfolding sideBySide
+all-positive zero h = ltZ-true (pos 0) (pos 3) refl
+all-positive (suc zero) h = ltZ-true (pos 0) (pos 4) refl
+all-positive (suc (suc zero)) h = ltZ-true (pos 0) (pos 1) refl
+all-positive (suc (suc (suc zero))) h = ltZ-true (pos 0) (pos 1) refl
+all-positive (suc (suc (suc (suc k)))) h = absurd (omega arith)
+
+positive-sheet : WithoutLowLines (printout positiveText)
+positive-sheet = positive-sheets-have-no-low-lines positiveText positiveLists positive-reads all-positive

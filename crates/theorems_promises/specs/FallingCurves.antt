@@ -45,11 +45,13 @@ pub record InPart (s : Space) (a : ℕ) (x : ℤ) : Type 0 where
 -- ---- values
 
 abbrev pub FallingListsFall : Type 0
-FallingListsFall = (s : Space) (x : Accepted s) (a : ℕ) → Starts s a → LowOrders s a → (wood : Wood) (coefs : List ℤ) → Falls s wood coefs a
+FallingListsFall = (s : Space) (x : Accepted s) (a : ℕ) → Starts s a → LowOrders s a
+    → (wood : Wood) (coefs : List ℤ) → Falls s wood coefs a
     → (y z : ℤ) → InPart s a y → InPart s a z → y ≤ℤ z → valueAt s (x .table) wood coefs z ≤ℤ valueAt s (x .table) wood coefs y
 
 abbrev pub ClimbingListsClimb : Type 0
-ClimbingListsClimb = (s : Space) (x : Accepted s) (a : ℕ) → Starts s a → LowOrders s a → (wood : Wood) (coefs : List ℤ) → Climbs s wood coefs a
+ClimbingListsClimb = (s : Space) (x : Accepted s) (a : ℕ) → Starts s a → LowOrders s a
+    → (wood : Wood) (coefs : List ℤ) → Climbs s wood coefs a
     → (y z : ℤ) → InPart s a y → InPart s a z → y ≤ℤ z → valueAt s (x .table) wood coefs y ≤ℤ valueAt s (x .table) wood coefs z
 
 -- ---- the cells after a legal call, for any two of its positions
@@ -63,13 +65,15 @@ pub record InOrder (s : Space) (positions : List ℤ) (a k m : ℕ) : Type 0 whe
   pub ordered : getD positions k (pos 0) ≤ℤ getD positions m (pos 0)
 
 abbrev pub FallingCells : Type 0
-FallingCells = (s : Space) (coefs positions : List ℤ) (numLength denLength valuesLength : ℕ) → Legal s coefs positions numLength denLength valuesLength
+FallingCells = (s : Space) (coefs positions : List ℤ) (numLength denLength valuesLength : ℕ)
+    → Legal s coefs positions numLength denLength valuesLength
     → (held : List ℤ) (wood : Wood) (a : ℕ) → Starts s a → LowOrders s a → Falls s wood coefs a → (k m : ℕ) → InOrder s positions a k m
     → let cells = valuesAfter (curveOutcome s coefs positions numLength denLength valuesLength) held in
     getD cells (2 * m + woodIndex wood) (pos 0) ≤ℤ getD cells (2 * k + woodIndex wood) (pos 0)
 
 abbrev pub ClimbingCells : Type 0
-ClimbingCells = (s : Space) (coefs positions : List ℤ) (numLength denLength valuesLength : ℕ) → Legal s coefs positions numLength denLength valuesLength
+ClimbingCells = (s : Space) (coefs positions : List ℤ) (numLength denLength valuesLength : ℕ)
+    → Legal s coefs positions numLength denLength valuesLength
     → (held : List ℤ) (wood : Wood) (a : ℕ) → Starts s a → LowOrders s a → Climbs s wood coefs a → (k m : ℕ) → InOrder s positions a k m
     → let cells = valuesAfter (curveOutcome s coefs positions numLength denLength valuesLength) held in
     getD cells (2 * k + woodIndex wood) (pos 0) ≤ℤ getD cells (2 * m + woodIndex wood) (pos 0)

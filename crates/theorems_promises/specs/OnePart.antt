@@ -37,6 +37,7 @@ OnePartIsTheLast = (s : Space) → NoDiscontinuity s → (lastPartStart s ≡ 0)
 
 -- So after building an accepted one, cell 72·i + c holds the published weight of row i on column c, with nothing moved.
 abbrev pub OnePartFillsTheCells : Type 0
-OnePartFillsTheCells = (s : Space) → Accepted s → NoDiscontinuity s → (nums dens : List ℤ) → tableCells ≤ length nums → tableCells ≤ length dens
+OnePartFillsTheCells = (s : Space) → Accepted s → NoDiscontinuity s
+    → (nums dens : List ℤ) → tableCells ≤ length nums → tableCells ≤ length dens
     → (i c : ℕ) → i < rowCells → c < rowCells
     → HoldsFraction (cell (extraction s) i c) (buildEnd s nums dens .numerators) (buildEnd s nums dens .denominators) (rowCells * i + c)

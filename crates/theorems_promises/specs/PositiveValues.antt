@@ -27,6 +27,8 @@ PositiveValues = (s : Space) (a : Accepted s) (wood : Wood) (coefs : List ℤ) �
 
 -- And so is its cell for each position after a legal call.
 abbrev pub PositiveCells : Type 0
-PositiveCells = (s : Space) (coefs positions : List ℤ) (numLength denLength valuesLength : ℕ) → Legal s coefs positions numLength denLength valuesLength
+PositiveCells = (s : Space) (coefs positions : List ℤ) (numLength denLength valuesLength : ℕ)
+    → Legal s coefs positions numLength denLength valuesLength
     → (before : List ℤ) (wood : Wood) → PositiveCoefficients s wood coefs → (k : ℕ) → k < length positions
-    → leastPositive ≤ℤ getD (valuesAfter (curveOutcome s coefs positions numLength denLength valuesLength) before) (2 * k + woodIndex wood) (pos 0)
+    → let cells = valuesAfter (curveOutcome s coefs positions numLength denLength valuesLength) before in
+    leastPositive ≤ℤ getD cells (2 * k + woodIndex wood) (pos 0)
