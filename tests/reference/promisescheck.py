@@ -136,46 +136,47 @@ def is_low(printed):
     return any(line.startswith(b"low=") for line in printed.splitlines())
 
 
-def index_reply(space, part, coefs, first_ring, widths):
-    outcome = indices_outcome(part, space, coefs, first_ring, widths, CELLS, CELLS, PARTS * len(widths), len(widths))
-    return outcome.curve.reply
-
-
-def try_positive(tally, rng, kinds):
-    """One index call and one sheet with positive coefficients, and the same with some of any sign."""
-    space = Space(*space_lists(rng))
-    rows = space.row_count()
+def try_rings(tally, rng, kinds, space):
+    """An index call whose named part has positive coefficients, and the same with coefficients of any sign."""
     part = rng.choice(WOOD_PARTS)
-    positive, other = positive_list(rng, rows), part_list(rng, rows)
     rings = min(space.breaks[-1] - space.breaks[0] + 1, FEW_RINGS)
     first_ring = rng.randint(space.breaks[0], space.breaks[-1] - rings + 1)
     widths = [rng.choice((0, 1, MOST_THOUSANDTHS, rng.randint(0, MOST_THOUSANDTHS))) for _ in range(rings)]
+    other = part_list(rng, space.row_count())
 
-    def coefs_with(named):
-        pairs = zip(named, other) if part == WOOD_PARTS[0] else zip(other, named)
-        return side_by_side(pairs)
+    def number_with(named):
+        coefs = side_by_side(zip(named, other) if part == WOOD_PARTS[0] else zip(other, named))
+        lengths = (CELLS, CELLS, PARTS * rings, rings)
+        return indices_outcome(part, space, coefs, first_ring, widths, *lengths).curve.reply.number
 
-    reply = index_reply(space, part, coefs_with(positive), first_ring, widths)
-    tally.check(reply.number in (0, TOO_LARGE), "an index call with positive coefficients", space, positive, reply)
+    positive = positive_list(rng, space.row_count())
+    number = number_with(positive)
+    tally.check(number in (0, TOO_LARGE), "an index call with positive coefficients", space, positive, number)
+    kinds.update({"indices": number == 0, "14 with coefficients of any sign": number_with(other) == BAD_RING})
+
+
+def try_sheet(tally, rng, kinds, space):
+    """A sheet with positive coefficients, and one with coefficients of any sign."""
+    rows = space.row_count()
     positions = [one_position(rng, space.breaks) for _ in range(DRAWN)]
-    both = side_by_side(zip(positive, positive_list(rng, rows)))
-    printed = sheet(sheet_of(space, both, positions))
-    tally.check(not is_low(printed), "a sheet with positive coefficients", space, both, positions)
-    values = curve_outcome(*space, both, positions, CELLS, CELLS, PARTS * len(positions)).values or []
-    tally.check(all(value >= UNIT * min(both) for pair in values for value in pair), "a value below the least coefficient",
-                space, both)
-    kinds.update({"answers": reply.number == 0, "values": printed.startswith(b"n="),
-                  "14 with coefficients of any sign":
-                  index_reply(space, part, coefs_with(other), first_ring, widths).number == BAD_RING,
-                  "low lines with coefficients of any sign":
-                  is_low(sheet(sheet_of(space, coefs_with(other), positions)))})
+    positive = side_by_side(zip(positive_list(rng, rows), positive_list(rng, rows)))
+    printed = sheet(sheet_of(space, positive, positions))
+    tally.check(not is_low(printed), "a sheet with positive coefficients", space, positive, positions)
+    values = curve_outcome(*space, positive, positions, CELLS, CELLS, PARTS * DRAWN).values or []
+    tally.check(all(value >= UNIT * min(positive) for pair in values for value in pair),
+                "a value below the least coefficient", space, positive)
+    other = side_by_side(zip(part_list(rng, rows), part_list(rng, rows)))
+    kinds.update({"values": len(values) > 0,
+                  "low lines with coefficients of any sign": is_low(sheet(sheet_of(space, other, positions)))})
 
 
 def check_positive(tally, rng, count):
     kinds = Counter()
     for _ in range(count):
-        try_positive(tally, rng, kinds)
-    for kind in ("answers", "values", "14 with coefficients of any sign", "low lines with coefficients of any sign"):
+        space = Space(*space_lists(rng))
+        try_rings(tally, rng, kinds, space)
+        try_sheet(tally, rng, kinds, space)
+    for kind in ("indices", "values", "14 with coefficients of any sign", "low lines with coefficients of any sign"):
         tally.check(kinds[kind] > count // RARE, "calls of this kind came up", kind, kinds[kind])
 
 
