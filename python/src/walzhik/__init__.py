@@ -11,8 +11,23 @@ Examples
 array([1200,   -1, 1147])
 """
 
-from .curve import Curve, Piece
-from .errors import Refused
-from .space import Space, Weights
+from __future__ import annotations
+
+from importlib import import_module
+from typing import TYPE_CHECKING
+
+if TYPE_CHECKING:
+    from .curve import Curve, Piece
+    from .errors import Refused
+    from .space import Space, Weights
 
 __all__ = ["Curve", "Piece", "Refused", "Space", "Weights"]
+
+HOMES = {"Curve": "curve", "Piece": "curve", "Refused": "errors", "Space": "space", "Weights": "space"}
+
+
+def __getattr__(name: str) -> object:
+    """Load a name's module when it is first asked for, so that the command can say what is missing where the engine is not built."""
+    if name not in HOMES:
+        raise AttributeError(f"module {__name__!r} has no attribute {name!r}")
+    return getattr(import_module(f"{__name__}.{HOMES[name]}"), name)

@@ -50,8 +50,11 @@ def cli() -> None:
 
 def main(arguments: list[str] | None = None) -> Any:
     """Run the command and end with its status."""
-    from .failures import told
-
+    try:
+        from .failures import told
+    except ImportError as error:  # the engine is not built, or a Debian package is missing
+        click.echo(error, err=True)
+        sys.exit(UNUSABLE)
     try:
         status = cli.main(args=arguments, prog_name="./walzhik", standalone_mode=False)
         sys.exit(status if isinstance(status, int) else DONE)
