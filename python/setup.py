@@ -1,5 +1,5 @@
-"""Puts the engine into the installed package: the shared object linked from the proved archives, the headers that declare it and the
-proved program. All else of the installation stands in pyproject.toml.
+"""Puts the engine into the installed package: the shared object linked from the proved archives, the headers that
+declare it and the proved program. All else of the installation stands in pyproject.toml.
 """
 
 import shutil

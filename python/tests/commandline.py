@@ -1,4 +1,5 @@
-"""What the tests of the commands share: the examples that they work on, sheets and Tucson files of their own, and tables."""
+"""What the tests of the commands share: the examples that they work on, sheets and Tucson files of their own, and
+tables."""
 
 from __future__ import annotations
 

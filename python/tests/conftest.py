@@ -1,5 +1,5 @@
-"""What the tests share: where the checkout and its rational program are, one profile of hypothesis whose cases are the same in every
-run, and a way to run the command within the test's own process.
+"""What the tests share: where the checkout and its rational program are, one profile of hypothesis whose cases are the
+same in every run, and a way to run the command within the test's own process.
 """
 
 from __future__ import annotations

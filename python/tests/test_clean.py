@@ -52,7 +52,7 @@ def test_several_files_become_one(tmp_path: Path, capfd: pytest.CaptureFixture[s
 @pytest.mark.parametrize(
     ("damage", "said"),
     [
-        ((b"ROOF04E 1730", b"ROOF04E 1740"), "line 4: series 'ROOF04E ' has a gap: no widths for 1730 to 1739."),
+        ((b"ROOF04E 1730", b"ROOF04E 1740"), "Line 4: series 'ROOF04E ' has a gap: no widths for 1730 to 1739."),
         ((b"  1443", b"  14x3"), "refused, no=11,4. Line 4 has '  14x3' for a field"),
     ],
 )

@@ -1,5 +1,5 @@
-"""The command indices: its table and its Tucson text, which series are taken by which curve, rings as years or counted, fits, and
-what it refuses.
+"""The command indices: its table and its Tucson text, which series are taken by which curve, rings as years or counted,
+fits, and what it refuses.
 """
 
 from __future__ import annotations

@@ -1,5 +1,5 @@
-"""What all commands share: explanations, refusals and statuses, files whole or not at all, pipes, and the examples of --help, which run
-as they stand there.
+"""What all commands share: explanations, refusals and statuses, files whole or not at all, pipes, and the examples of
+--help, which run as they stand there.
 """
 
 from __future__ import annotations

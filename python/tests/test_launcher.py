@@ -1,6 +1,6 @@
-"""The launcher and the installation: a first run sets up what is missing and says so, later runs find nothing left to do, two at once
-don't spoil each other, and pip installs the package without a network. The Rattle kit and Debian's tools are stood in for by scripts
-that note what they were asked for.
+"""The launcher and the installation: a first run sets up what is missing and says so, later runs find nothing left to
+do, two at once don't spoil each other, and pip installs the package without a network. The Rattle kit and Debian's
+tools are stood in for by scripts that note what they were asked for.
 """
 
 from __future__ import annotations
@@ -51,7 +51,7 @@ class Checkout:
     def start(self, *arguments: str) -> subprocess.Popen[str]:
         command = [str(self.root / "walzhik"), *arguments]
         pipes = {"stdout": subprocess.PIPE, "stderr": subprocess.PIPE, "text": True}
-        return subprocess.Popen(command, cwd=self.root, env=self.environment(), **pipes)  # type: ignore[call-overload,no-any-return]
+        return subprocess.Popen(command, cwd=self.root, env=self.environment(), **pipes)  # type: ignore
 
     def run(self, *arguments: str) -> tuple[int, str, str]:
         process = self.start(*arguments)

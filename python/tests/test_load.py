@@ -1,4 +1,5 @@
-"""Many calls: memory does not grow over 100,000 of them, and threads that call at the same time get what one thread gets."""
+"""Many calls: memory does not grow over 100,000 of them, and threads that call at the same time get what one thread
+gets."""
 
 from __future__ import annotations
 

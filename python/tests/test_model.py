@@ -1,5 +1,5 @@
-"""The package against the rational program in exact fractions, which shares nothing with the engine but the papers: random calls of
-every kind, answered and refused, must give the same numbers, or the same refusal with words for it.
+"""The package against the rational program in exact fractions, which shares nothing with the engine but the papers:
+random calls of every kind, answered and refused, must give the same numbers, or the same refusal with words for it.
 """
 
 from __future__ import annotations

@@ -1,4 +1,5 @@
-"""Spaces and curves as Python objects: what they take and give, what they refuse to guess, and that they copy nothing that fits."""
+"""Spaces and curves as Python objects: what they take and give, what they refuse to guess, and that they copy nothing
+that fits."""
 
 from __future__ import annotations
 

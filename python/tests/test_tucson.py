@@ -1,4 +1,5 @@
-"""Reading and writing Tucson files by the proved calls: what is written reads back, and data frames keep what the series have."""
+"""Reading and writing Tucson files by the proved calls: what is written reads back, and data frames keep what the
+series have."""
 
 from __future__ import annotations
 

@@ -1,5 +1,5 @@
-"""The one table of words: every case of every refusal is met here by something that the engine refuses, and says which entry it is about.
-The examples in examples/ are explained as it stands beside them.
+"""The one table of words: every case of every refusal is met here by something that the engine refuses, and says which
+entry it is about. The examples in examples/ are explained as it stands beside them.
 """
 
 from __future__ import annotations
@@ -14,7 +14,8 @@ from conftest import ROOT
 from walzhik import Curve, Refused, Space, errors, explain, sheet, sheet_reasons, tucson
 from walzhik.recover import recover
 
-# What only C and Rust callers can meet: buffers that are too short, lists of series that don't fit, and 9, which is proved never to come.
+# What only C and Rust callers can meet: buffers that are too short, lists of series that don't fit, and 9, which is
+# proved never to come.
 NEVER = {(1, "buffer"), (1, "bytes"), (2, "series"), (9, "shape")}
 GOOD = b"breaks=0,1,3\ndegrees=2,2\norders=1\ncoefs=0:0,100:100,0:0,0:0\nat=256\n"
 ONE_BY_ONE = b"A       1997    12\nA       1998     9 -9999\n"

@@ -27,7 +27,8 @@ HOMES = {"Curve": "curve", "Piece": "curve", "Refused": "errors", "Space": "spac
 
 
 def __getattr__(name: str) -> object:
-    """Load a name's module when it is first asked for, so that the command can say what is missing where the engine is not built."""
+    """Load a name's module when it is first asked for, so that the command can say what is missing where the engine is
+    not built."""
     if name not in HOMES:
         raise AttributeError(f"module {__name__!r} has no attribute {name!r}")
     return getattr(import_module(f"{__name__}.{HOMES[name]}"), name)

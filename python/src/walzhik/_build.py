@@ -1,6 +1,6 @@
-"""Makes the shared object that the package loads, and reads the declarations and constants that go with it from the C headers.
-It stands apart because the launcher and the package's installation run it before anything else of the package can be imported:
-it needs Python's standard library alone.
+"""Makes the shared object that the package loads, and reads the declarations and constants that go with it from the C
+headers. It stands apart because the launcher and the package's installation run it before anything else of the package
+can be imported: it needs Python's standard library alone.
 """
 
 from __future__ import annotations

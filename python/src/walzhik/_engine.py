@@ -1,5 +1,6 @@
-"""The loader of the engine: the shared object that is linked from the proved archives, with declarations and constants read from
-the C headers themselves. What a call needs lent, buffers and whole numbers of 32 bits, is made here once for all modules.
+"""The loader of the engine: the shared object that is linked from the proved archives, with declarations and constants
+read from the C headers themselves. What a call needs lent, buffers and whole numbers of 32 bits, is made here once for
+all modules.
 """
 
 from __future__ import annotations
@@ -102,8 +103,8 @@ lent = Lent()
 def wholes(numbers: Wholes, name: str) -> NDArray[np.int32]:
     """Whole numbers as the engine takes them: 32 bits, one after another, without a copy where they lie so already.
 
-    A number that 32 bits can't hold becomes the nearest one that they can. The engine's ranges all lie far within, so it is
-    refused with the same number and place; nothing is decided here.
+    A number that 32 bits can't hold becomes the nearest one that they can. The engine's ranges all lie far within, so
+    it is refused with the same number and place; nothing is decided here.
 
     Raises
     ------

@@ -1,5 +1,5 @@
-"""The command: every module of `walzhik.commands` is a sub-command of its name. A module is imported only when its command is asked
-for, so that a command starts fast.
+"""The command: every module of `walzhik.commands` is a sub-command of its name. A module is imported only when its
+command is asked for, so that a command starts fast.
 """
 
 from __future__ import annotations
@@ -37,8 +37,8 @@ class Commands(click.MultiCommand):
 def cli() -> None:
     """Growth curves of tree rings, and ring indices by them.
 
-    Curves, indices and the reading of strict Tucson files come from the engine, which is proved. This command around it, the fit, the
-    pictures and the tolerant reading of files are tested, not proved.
+    Curves, indices and the reading of strict Tucson files come from the engine, which is proved. This command around
+    it, the fit, the pictures and the tolerant reading of files are tested, not proved.
 
     \b
     ./walzhik fit examples/tucson/oak.rwl --series ROOF04E -o roof.sheet

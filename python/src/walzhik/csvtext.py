@@ -1,5 +1,5 @@
-"""Numbers and names as the commands' CSV tables have them. Values become decimals by whole numbers alone, so that what the engine
-gives is printed and not worked out again.
+"""Numbers and names as the commands' CSV tables have them. Values become decimals by whole numbers alone, so that what
+the engine gives is printed and not worked out again.
 """
 
 from __future__ import annotations

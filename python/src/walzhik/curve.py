@@ -1,5 +1,5 @@
-"""Growth curves over a space: values, ring indices, the first reach of a width and pieces for a screen. Every number comes from the
-engine's proved calls; only `to_scipy` hands the curve on to another library's floating point.
+"""Growth curves over a space: values, ring indices, the first reach of a width and pieces for a screen. Every number
+comes from the engine's proved calls; only `to_scipy` hands the curve on to another library's floating point.
 """
 
 from __future__ import annotations
@@ -52,7 +52,8 @@ class Curve:
     ----------
     space : Space
     coefficients : array_like of int, shape (n, 2) or (n,)
-        Thousandths of a millimetre: earlywood and latewood of each row, or one number a row for a curve of the whole ring.
+        Thousandths of a millimetre: earlywood and latewood of each row, or one number a row for a curve of the whole
+        ring.
 
     Attributes
     ----------
@@ -278,8 +279,8 @@ class Curve:
     def to_scipy(self, wood: Wood | None = None) -> BPoly:
         """The curve as SciPy's BPoly, in thousandths of a millimetre over rings, for derivatives, integrals and roots.
 
-        The ordinates are the exact ones, rounded to floats after their degrees are raised to the greatest of the space. At a
-        discontinuity BPoly reads the segment that starts there, the engine the one that ends there.
+        The ordinates are the exact ones, rounded to floats after their degrees are raised to the greatest of the space.
+        At a discontinuity BPoly reads the segment that starts there, the engine the one that ends there.
 
         Examples
         --------

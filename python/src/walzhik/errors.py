@@ -1,5 +1,5 @@
-"""Refusals as an exception, and the one table of words that the package, the command, the manual and the R package share.
-The engine decides that something is refused, with a number and a place; here it only gets its words.
+"""Refusals as an exception, and the one table of words that the package, the command, the manual and the R package
+share. The engine decides that something is refused, with a number and a place; here it only gets its words.
 """
 
 from __future__ import annotations
@@ -16,8 +16,8 @@ class Words(NamedTuple):
     Attributes
     ----------
     counts : str
-        What the place counts: breakpoint, stretch, join, line, ring of the series and so on; ``fragment`` for a row that is a
-        piece of another row's sentence.
+        What the place counts: breakpoint, stretch, join, line, ring of the series and so on; ``fragment`` for a row
+        that is a piece of another row's sentence.
     words : str
         The sentence, with names in braces for what it tells.
     remedy : str

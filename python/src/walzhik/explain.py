@@ -1,5 +1,5 @@
-"""What the engine makes of a sheet, and what a Tucson text holds, in words: a refusal with the entry at fault and the rule, or a
-summary. Number and place are the engine's; only the words are from here.
+"""What the engine makes of a sheet, and what a Tucson text holds, in words: a refusal with the entry at fault and the
+rule, or a summary. Number and place are the engine's; only the words are from here.
 """
 
 from __future__ import annotations

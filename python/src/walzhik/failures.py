@@ -1,5 +1,5 @@
-"""How a command fails: the message on standard error and the exit status for each kind of error. A refusal ends with 1, what can't be
-used or read with 2.
+"""How a command fails: the message on standard error and the exit status for each kind of error. A refusal ends with 1,
+what can't be used or read with 2.
 """
 
 from __future__ import annotations

@@ -1,5 +1,5 @@
-"""Files as the commands take them: read whole, `-` for standard input, and written whole or not at all. Apart because every command
-needs it and none may do it in a way of its own.
+"""Files as the commands take them: read whole, `-` for standard input, and written whole or not at all. Apart because
+every command needs it and none may do it in a way of its own.
 """
 
 from __future__ import annotations
@@ -22,8 +22,8 @@ def read_whole(name: str) -> bytes:
 def write_whole(name: str, data: bytes) -> None:
     """Write a file whole or not at all; standard output for ``-``.
 
-    The bytes go to a temporary file in the same folder, which then takes the file's name. What is no plain file, as a device or a
-    pipe, is written to directly.
+    The bytes go to a temporary file in the same folder, which then takes the file's name. What is no plain file, as a
+    device or a pipe, is written to directly.
 
     Examples
     --------

@@ -1,5 +1,6 @@
-"""Curves from measured widths: least squares over a space's exact weights, and the template that stands in where no breakpoints are
-given. A fit is a choice in floating point and is not proved; what its coefficients give is then the engine's to say.
+"""Curves from measured widths: least squares over a space's exact weights, and the template that stands in where no
+breakpoints are given. A fit is a choice in floating point and is not proved; what its coefficients give is then the
+engine's to say.
 """
 
 from __future__ import annotations
@@ -24,8 +25,8 @@ if TYPE_CHECKING:
 LEAST_COEFFICIENT = 1  # a thousandth of a millimetre: so the curve stays above zero
 MOST_TEMPLATE_RINGS = MOST_SPAN
 KEPT_DESIGNS = 256
-# Where the stretches of a template start, counted from the first ring, and their degrees, by the least number of rings: short and
-# cubic in young wood, nearly straight in old.
+# Where the stretches of a template start, counted from the first ring, and their degrees, by the least number of rings:
+# short and cubic in young wood, nearly straight in old.
 TEMPLATES = (
     (500, (0, 10, 30, 80, 250), (3, 3, 2, 2, 2)),
     (150, (0, 10, 30, 80), (3, 3, 2, 2)),
@@ -137,8 +138,8 @@ def template(rings: int, first: int = 0) -> Space:
     """
     if rings > MOST_TEMPLATE_RINGS:
         raise Unfittable(
-            f"It has {count(rings, 'ring')}, and a curve spans at most {MOST_SPAN:,} without a scar: give breakpoints, degrees and "
-            f"orders, with a scar (order {SCAR}) where the wood has one."
+            f"It has {count(rings, 'ring')}, and a curve spans at most {MOST_SPAN:,} without a scar: give breakpoints, "
+            f"degrees and orders, with a scar (order {SCAR}) where the wood has one."
         )
     for least, starts, degrees in TEMPLATES:
         if rings >= least:
@@ -148,7 +149,8 @@ def template(rings: int, first: int = 0) -> Space:
 
 
 def segments_at(lists: Lists, rings: NDArray[np.int64]) -> NDArray[np.int64]:
-    """The segment that the engine reads each ring from: the one that starts there, at a discontinuity the one that ends there."""
+    """The segment that the engine reads each ring from: the one that starts there, at a discontinuity the one that ends
+    there."""
     inner = np.asarray(lists.breaks[1:-1], dtype=np.int64)
     found = np.searchsorted(inner, rings, side="right")
     scars = inner[np.asarray(lists.orders, dtype=np.int64) == SCAR]
@@ -214,8 +216,8 @@ def design(space: Space, first: int, rings: int) -> Design:
 def fit(space: Space, widths: Wholes, first: int) -> Fit:
     """The least-squares curve of a series of widths, every coefficient at least a thousandth of a millimetre.
 
-    The weights are the space's exact ones; SciPy's nnls fits the coefficients less one, which are then rounded to whole thousandths.
-    An absent ring is left out.
+    The weights are the space's exact ones; SciPy's nnls fits the coefficients less one, which are then rounded to whole
+    thousandths. An absent ring is left out.
 
     Parameters
     ----------
@@ -270,6 +272,6 @@ def _undetermined(space: Space, widths: NDArray[np.int32], first: int) -> str:
     held = np.bincount(segments, minlength=len(space.degrees)).tolist()
     told = ", ".join(f"{count(rings, 'ring')} in stretch {stretch}" for stretch, rings in enumerate(held))
     return (
-        f"Its present rings don't determine the curve, which has {count(space.n, 'coefficient')}: there are {told}. Take fewer or "
-        "longer stretches, or lower degrees."
+        f"Its present rings don't determine the curve, which has {count(space.n, 'coefficient')}: there are {told}. "
+        "Take fewer or longer stretches, or lower degrees."
     )

@@ -1,6 +1,6 @@
-"""The words for what the engine refuses of lists: each function takes the lists and the place and finds the case of words.tsv and
-what its sentence tells. Number and place are the engine's; where the lists show no such fault there are no words, and none are made
-up.
+"""The words for what the engine refuses of lists: each function takes the lists and the place and finds the case of
+words.tsv and what its sentence tells. Number and place are the engine's; where the lists show no such fault there are
+no words, and none are made up.
 """
 
 from __future__ import annotations

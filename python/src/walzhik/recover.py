@@ -1,5 +1,5 @@
-"""Coefficients from a supplier's ordinates: exactly, by the engine's proved call, or the nearest ones by least squares where no exact
-ones are wanted or there are none. The nearest ones are worked out in floating point and are not proved.
+"""Coefficients from a supplier's ordinates: exactly, by the engine's proved call, or the nearest ones by least squares
+where no exact ones are wanted or there are none. The nearest ones are worked out in floating point and are not proved.
 """
 
 from __future__ import annotations
@@ -29,7 +29,8 @@ def recover(space: Space, ordinates: Wholes) -> list[Fraction]:
     ----------
     space : Space
     ordinates : sequence of int, one for each column
-        The Bernstein ordinates of all segments in order, degree + 1 for each, in 256ths of a thousandth of a millimetre.
+        The Bernstein ordinates of all segments in order, degree + 1 for each, in 256ths of a thousandth of a
+        millimetre.
 
     Returns
     -------
@@ -39,8 +40,8 @@ def recover(space: Space, ordinates: Wholes) -> list[Fraction]:
     Raises
     ------
     Refused
-        With number 19 and the join where the ordinates miss a condition, 18 for an ordinate out of range, 20 for a fraction that is
-        too large to be worked out.
+        With number 19 and the join where the ordinates miss a condition, 18 for an ordinate out of range, 20 for a
+        fraction that is too large to be worked out.
 
     Examples
     --------

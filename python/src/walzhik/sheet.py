@@ -1,5 +1,5 @@
-"""Sheets: the five lines breaks=, degrees=, orders=, coefs= and at=. The verdict on a sheet's text is the proved program's
-(`sheet`); its lists are read here only once the program has accepted them, or for the words of a refusal.
+"""Sheets: the five lines breaks=, degrees=, orders=, coefs= and at=. The verdict on a sheet's text is the proved
+program's (`sheet`); its lists are read here only once the program has accepted them, or for the words of a refusal.
 """
 
 from __future__ import annotations

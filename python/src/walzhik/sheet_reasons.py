@@ -1,5 +1,5 @@
-"""The words for a sheet's damaged text (number 10): the proved program names the line, and what is wrong in it is found here. It is
-apart from reading sheets because nothing here decides anything.
+"""The words for a sheet's damaged text (number 10): the proved program names the line, and what is wrong in it is found
+here. It is apart from reading sheets because nothing here decides anything.
 """
 
 from __future__ import annotations

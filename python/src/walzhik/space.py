@@ -1,5 +1,5 @@
-"""Spline spaces: breakpoints, degrees and continuity orders, and the exact weights that the engine builds from them. Whether lists
-are a space is the engine's decision alone.
+"""Spline spaces: breakpoints, degrees and continuity orders, and the exact weights that the engine builds from them.
+Whether lists are a space is the engine's decision alone.
 """
 
 from __future__ import annotations
@@ -27,8 +27,8 @@ class Weights(NamedTuple):
     Attributes
     ----------
     rows, columns, numerators, denominators : ndarray of int64, one entry for each weight
-        Weight i stands in row ``rows[i]`` and column ``columns[i]`` and is ``numerators[i] / denominators[i]``, in lowest terms
-        with a positive denominator.
+        Weight i stands in row ``rows[i]`` and column ``columns[i]`` and is ``numerators[i] / denominators[i]``, in
+        lowest terms with a positive denominator.
     """
 
     rows: NDArray[np.int64]

@@ -1,5 +1,5 @@
-"""Tucson decadal files: reading and writing by the engine's proved calls. The tolerant front, which is not proved, stands in
-`walzhik.tolerant`; what it makes of a text is read here by the strict reader like any other text.
+"""Tucson decadal files: reading and writing by the engine's proved calls. The tolerant front, which is not proved,
+stands in `walzhik.tolerant`; what it makes of a text is read here by the strict reader like any other text.
 """
 
 from __future__ import annotations
@@ -132,7 +132,8 @@ def read(
     source : bytes, or a path
         The file's bytes or where it is.
     strict : bool
-        Whether the text must be in the strict form as it is; otherwise the tolerant front, which is not proved, cleans it first.
+        Whether the text must be in the strict form as it is; otherwise the tolerant front, which is not proved, cleans
+        it first.
     unit : {"hundredths", "thousandths"}, optional
         What widths closed by -999 are; without it such a series is refused.
     split_gaps : bool
@@ -156,7 +157,8 @@ def read(
 
 
 def read_cleaned(cleaned: Cleaned) -> list[Series]:
-    """The series of a text that was cleaned, by the proved reader; a refusal names the line of the file as it was before.
+    """The series of a text that was cleaned, by the proved reader; a refusal names the line of the file as it was
+    before.
 
     Examples
     --------
@@ -238,7 +240,8 @@ def _unwritable(given: Sequence[Series], number: int, place: int) -> Refused:
 def to_frame(series: Iterable[Series]) -> pandas.DataFrame:
     """Series as a pandas data frame: a row a year, a column a series, millimetres; missing outside a series.
 
-    Two series of one name are refused, as a data frame would mix them up. It needs pandas, which nothing else here does.
+    Two series of one name are refused, as a data frame would mix them up. It needs pandas, which nothing else here
+    does.
 
     Examples
     --------

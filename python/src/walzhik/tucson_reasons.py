@@ -1,5 +1,5 @@
-"""The words for a Tucson text that the proved reader has refused: the reader names the line, and what is wrong in it is found here.
-The text is gone through again up to that line; nothing here decides whether it is good.
+"""The words for a Tucson text that the proved reader has refused: the reader names the line, and what is wrong in it is
+found here. The text is gone through again up to that line; nothing here decides whether it is good.
 """
 
 from __future__ import annotations

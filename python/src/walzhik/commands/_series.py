@@ -1,4 +1,5 @@
-"""The series that a command works on: the options that say how Tucson files are read, the series of all files, and the choice by name."""
+"""The series that a command works on: the options that say how Tucson files are read, the series of all files, and the
+choice by name."""
 
 from __future__ import annotations
 

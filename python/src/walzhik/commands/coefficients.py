@@ -40,7 +40,8 @@ def ordinate(text: str, unit: int, line: int) -> int:
         raise Refusal(f"Line {line}: {text!r} is no number.") from error
     if exact.denominator != 1:
         raise Refusal(
-            f"Line {line}: {text} is no whole number of 256ths of a thousandth of a millimetre. Ask for exact ordinates."
+            f"Line {line}: {text} is no whole number of 256ths of a thousandth of a millimetre. "
+            "Ask for exact ordinates."
         )
     return int(exact)
 
@@ -51,7 +52,8 @@ def check_stretches(lines: Sequence[Sequence[str]], at: int, space: Space) -> No
     for line, (row, stretch) in enumerate(zip(lines, wanted), start=2):
         if row[at].strip() != stretch:
             raise Refusal(
-                f"Line {line} is of stretch {row[at]}, but by the degrees it belongs to stretch {stretch}, counted from 0."
+                f"Line {line} is of stretch {row[at]}, but by the degrees it belongs to stretch {stretch}, "
+                "counted from 0."
             )
 
 
@@ -75,7 +77,8 @@ def columns_of(text: bytes, space: Space) -> list[Column]:
             )
         else:
             raise Unusable(
-                f"Column {name!r} is not known: earlywood_mm, latewood_mm or ring_mm, or the same with _256ths; and stretch."
+                f"Column {name!r} is not known: earlywood_mm, latewood_mm or ring_mm, or the same with _256ths; "
+                "and stretch."
             )
     return checked_parts(found)
 
@@ -103,8 +106,8 @@ def exact_column(space: Space, column: Column) -> list[int]:
     for row, fraction in enumerate(fractions):
         if fraction.denominator != 1:
             raise Refusal(
-                f"Coefficient {row} of the {column.part} is {fraction}, no whole number of thousandths: a sheet can't hold it. "
-                "--nearest takes the nearest that it can."
+                f"Coefficient {row} of the {column.part} is {fraction}, no whole number of thousandths: "
+                "a sheet can't hold it. --nearest takes the nearest that it can."
             )
     return [int(fraction) for fraction in fractions]
 
@@ -147,10 +150,10 @@ def command(
 ) -> int:
     """Work out a sheet's coefficients from the ordinates (handles) of its stretches, as a supplier sends them.
 
-    CSV has a header and a line an ordinate, those of all stretches in order, degree + 1 for each. Its columns are earlywood_mm and
-    latewood_mm, or ring_mm for the whole ring; with _256ths in place of _mm they are in 256ths of a thousandth of a millimetre. A
-    column stretch, counted from 0, is checked. The exact coefficients are printed as fractions on standard error; where the ordinates
-    miss a condition of a join, that join is named, and by how much.
+    CSV has a header and a line an ordinate, those of all stretches in order, degree + 1 for each. Its columns are
+    earlywood_mm and latewood_mm, or ring_mm for the whole ring; with _256ths in place of _mm they are in 256ths of a
+    thousandth of a millimetre. A column stretch, counted from 0, is checked. The exact coefficients are printed as
+    fractions on standard error; where the ordinates miss a condition of a join, that join is named, and by how much.
 
     \b
     ./walzhik coefficients ordinates.csv --breaks 0,20,60 --degrees 2,2 --orders 1 -o bought.sheet

@@ -24,8 +24,8 @@ def explained(name: str, is_tucson: bool) -> Explained:
 def command(files: tuple[str, ...], tucson: bool) -> int:
     """Say in words what the engine makes of a sheet, or what a Tucson file (.rwl) holds.
 
-    FILE is a sheet or a Tucson file, - for standard input. A Tucson file is taken as it is, in the strict form; clean says what
-    would have to change in another one.
+    FILE is a sheet or a Tucson file, - for standard input. A Tucson file is taken as it is, in the strict form; clean
+    says what would have to change in another one.
 
     \b
     ./walzhik explain examples/refusals/refused_5.sheet

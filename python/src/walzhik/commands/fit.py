@@ -102,11 +102,13 @@ def command(
 ) -> int:
     """Fit a curve to measured widths, and write its sheet.
 
-    Least squares over the exact weights, every coefficient at least a thousandth of a millimetre, rounded to whole thousandths. Absent
-    rings are left out. A fit is a choice, and is not proved. FILE is a Tucson file, - for standard input.
+    Least squares over the exact weights, every coefficient at least a thousandth of a millimetre, rounded to whole
+    thousandths. Absent rings are left out. A fit is a choice, and is not proved. FILE is a Tucson file, - for standard
+    input.
 
-    Rings are years unless --first RING says which ring the first width is; where two series are fitted, it is the ring of the earlier
-    one's first width. Without breakpoints a template is taken: short and cubic in young wood, nearly straight in old.
+    Rings are years unless --first RING says which ring the first width is; where two series are fitted, it is the ring
+    of the earlier one's first width. Without breakpoints a template is taken: short and cubic in young wood, nearly
+    straight in old.
 
     \b
     ./walzhik fit examples/tucson/oak.rwl --series ROOF04E -o roof.sheet

@@ -95,7 +95,8 @@ def wood_of(name: str, names: Names, path: str, curve: Curve) -> Wood | None:
         return None
     if not parts:
         raise Unusable(
-            f"{path} has a curve for each wood part: name the series of a wood part, with --earlywood NAME or --latewood NAME."
+            f"{path} has a curve for each wood part: name the series of a wood part, "
+            "with --earlywood NAME or --latewood NAME."
         )
     return "earlywood" if parts[0] == WOOD[0] else "latewood"
 
@@ -117,7 +118,8 @@ def jobs_by_sheets(series: list[Series], given: Sequence[str], names: Names) -> 
         path, curve = curves[each.name]
         if len(chosen) > 1 and not names.all() and not curve.is_whole_ring:
             raise Unusable(
-                f"{path} has a curve for each wood part: name the series of each, with --earlywood NAME and --latewood NAME. "
+                f"{path} has a curve for each wood part: name the series of each, "
+                "with --earlywood NAME and --latewood NAME. "
                 f"There are {listed(series)}."
             )
         jobs.append(Job(each, curve, wood_of(each.name, names, path, curve)))
@@ -159,7 +161,8 @@ def as_tucson(done: Iterable[Indexed]) -> bytes:
         for place in np.flatnonzero(indices == 0).tolist():
             year = series.first + place
             raise Refusal(
-                f"Series {series.name}, {year}: the index is 0, which a Tucson text has for an absent ring. Write CSV instead."
+                f"Series {series.name}, {year}: the index is 0, which a Tucson text has for an absent ring. "
+                "Write CSV instead."
             )
         made.append(Series(series.name, series.first, np.maximum(indices, 0)))
     with telling("The indices as a Tucson text"):
@@ -227,14 +230,16 @@ def command(
 ) -> int:
     """Divide each measured ring by a curve.
 
-    The curve is a sheet's, or is fitted to each series by itself with --fit. A sheet whose pairs all have two equal sides is a curve of
-    the whole ring: all series are taken, or those named by --series. Of any other sheet the series of a wood part must be named.
+    The curve is a sheet's, or is fitted to each series by itself with --fit. A sheet whose pairs all have two equal
+    sides is a curve of the whole ring: all series are taken, or those named by --series. Of any other sheet the series
+    of a wood part must be named.
 
-    Rings are years: a ring outside the curve's breakpoints is refused, never guessed. Where the curve counts rings from the pith,
-    --first RING says which ring the first width of each series is.
+    Rings are years: a ring outside the curve's breakpoints is refused, never guessed. Where the curve counts rings from
+    the pith, --first RING says which ring the first width of each series is.
 
-    The table has a line a ring, series,year,width_mm,curve_mm,index; the index, in thousandths, is the engine's, and empty for an absent
-    ring. In a Tucson text (-o OUT.rwl) an absent ring is 0. FILE is a Tucson file, - for standard input.
+    The table has a line a ring, series,year,width_mm,curve_mm,index; the index, in thousandths, is the engine's, and
+    empty for an absent ring. In a Tucson text (-o OUT.rwl) an absent ring is 0. FILE is a Tucson file, - for standard
+    input.
 
     \b
     ./walzhik indices examples/tucson/oak.rwl --curve examples/sheets/roof.sheet

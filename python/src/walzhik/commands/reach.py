@@ -42,8 +42,8 @@ def asked_parts(curve: Curve, wood: Wood | None) -> list[Wood | None]:
 def command(sheets: tuple[str, ...], width: str, wood: Wood | None, output: str) -> int:
     """Print the first position where a sheet's curves reach a width, as CSV.
 
-    The ring is exact; the position is in 256ths of a ring. Where a curve never reaches the width both are empty, the reason is said
-    and the exit status is 1. SHEET may be - for standard input.
+    The ring is exact; the position is in 256ths of a ring. Where a curve never reaches the width both are empty, the
+    reason is said and the exit status is 1. SHEET may be - for standard input.
 
     \b
     ./walzhik reach examples/sheets/growth.sheet --width 2.5 --wood earlywood
