@@ -22,7 +22,7 @@ def test_every_template_is_accepted_and_determined(rings: int) -> None:
     space = template(rings, 1700)
     assert space.breaks[0] == 1700 and space.breaks[-1] == 1700 + rings - 1
     assert space.orders.max(initial=0) <= 1
-    assert design(space, 1700, rings).rank == space.n
+    assert design(space, 1700, rings).is_determined
 
 
 def test_a_template_is_short_and_cubic_in_young_wood() -> None:

@@ -116,7 +116,9 @@ def wholes(numbers: Wholes, name: str) -> NDArray[np.int32]:
     >>> wholes([0, 10**12], "breaks")
     array([         0, 2147483647], dtype=int32)
     """
-    given = np.asarray(numbers) if len(numbers) else np.zeros(np.shape(numbers), dtype=np.int32)
+    given = np.asarray(numbers)
+    if not given.size:
+        return np.zeros(given.shape, dtype=np.int32)
     if given.dtype == np.int32:
         return np.ascontiguousarray(given)
     if given.dtype == object and all(isinstance(number, int) for number in given.flat):
@@ -133,7 +135,9 @@ def wholes(numbers: Wholes, name: str) -> NDArray[np.int32]:
 
 def kept(numbers: Wholes, name: str) -> NDArray[np.int32]:
     """Whole numbers as the engine takes them, in an array of their own that nobody can write to any more."""
-    own = np.array(wholes(numbers, name), order="C")
+    own = wholes(numbers, name)
+    if isinstance(numbers, np.ndarray):
+        own = own.copy()
     own.flags.writeable = False
     return own
 

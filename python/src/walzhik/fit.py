@@ -25,6 +25,7 @@ if TYPE_CHECKING:
 LEAST_COEFFICIENT = 1  # a thousandth of a millimetre: so the curve stays above zero
 MOST_TEMPLATE_RINGS = MOST_SPAN
 KEPT_DESIGNS = 256
+EPSILON = float(np.finfo(np.float64).eps)
 # Where the stretches of a template start, counted from the first ring, and their degrees, by the least number of rings:
 # short and cubic in young wood, nearly straight in old.
 TEMPLATES = (
@@ -51,13 +52,14 @@ class Design(NamedTuple):
         What each coefficient weighs at each ring.
     orthogonal, triangular : ndarray of float64
         The factors of the matrix: their product is it.
-    rank : int
+    is_determined : bool
+        Whether the rings determine the coefficients: no diagonal entry of the triangular factor is zero.
     """
 
     matrix: NDArray[np.float64]
     orthogonal: NDArray[np.float64]
     triangular: NDArray[np.float64]
-    rank: int
+    is_determined: bool
 
 
 @dataclass
@@ -111,8 +113,9 @@ def closeness(widths: NDArray[np.int32], values: NDArray[np.int32]) -> Closeness
     """
     present = widths != 0
     measured = widths[present] / PER_MM
-    squares = float(np.sum((measured - values[present] / (UNIT * PER_MM)) ** 2))
-    total = float(np.sum((measured - measured.mean()) ** 2))
+    left = measured - values[present] / (UNIT * PER_MM)
+    about = measured - measured.sum() / measured.size
+    squares, total = float(left @ left), float(about @ about)
     return Closeness(squares / measured.size, 1 - squares / total if total else None)
 
 
@@ -190,10 +193,12 @@ def _design(
 
 
 def factored(matrix: NDArray[np.float64]) -> Design:
-    """A design's matrix with its factors and rank."""
+    """A design's matrix with its factors."""
+    rings, rows = matrix.shape
     orthogonal, triangular = np.linalg.qr(matrix)
-    rank = int(np.linalg.matrix_rank(triangular)) if matrix.size else 0
-    return Design(matrix, orthogonal, triangular, rank)
+    diagonal = np.abs(triangular.diagonal())
+    is_determined = rings >= rows and bool(diagonal.min() > rings * EPSILON * diagonal.max())
+    return Design(matrix, orthogonal, triangular, is_determined)
 
 
 def design(space: Space, first: int, rings: int) -> Design:
@@ -247,7 +252,7 @@ def fit(space: Space, widths: Wholes, first: int) -> Fit:
     whole = design(space, first, measured.size)
     present = measured != 0
     used = whole if present.all() else factored(whole.matrix[present])
-    if used.rank < space.n:
+    if not used.is_determined:
         raise Unfittable(_undetermined(space, measured, first))
     try:
         above, _ = nnls(used.triangular, used.orthogonal.T @ (measured[present] - float(LEAST_COEFFICIENT)))

@@ -11,7 +11,8 @@ from typing import TYPE_CHECKING, Any, NamedTuple
 import numpy as np
 
 from ._engine import kept, lent, library, pointer
-from .reasons import SCAR, Lists, refusal
+from .reasons import Lists, refusal
+from .reasons import parts as parts_of
 
 if TYPE_CHECKING:
     from numpy.typing import NDArray
@@ -59,10 +60,6 @@ class Space:
     breaks, degrees, orders : ndarray of int32
     n : int
         The number of rows: how many coefficients a curve has.
-    columns : int
-        The number of Bernstein ordinates of all segments.
-    parts : list of (int, int)
-        The first segment and the segment past the last of each part between discontinuities.
 
     Raises
     ------
@@ -78,19 +75,27 @@ class Space:
 
     def __init__(self, breaks: Wholes, degrees: Wholes, orders: Wholes) -> None:
         given = {"breaks": breaks, "degrees": degrees, "orders": orders}
-        for name, numbers in given.items():
-            if np.ndim(numbers) != 1:
+        lists = [kept(numbers, name) for name, numbers in given.items()]
+        for name, numbers in zip(given, lists):
+            if numbers.ndim != 1:
                 raise TypeError(f"{name}: a list of whole numbers is needed")
-        self.breaks, self.degrees, self.orders = (kept(numbers, name) for name, numbers in given.items())
+        self.breaks, self.degrees, self.orders = lists
         self._lent = _lend(self.breaks, self.degrees, self.orders)
         reply = library.walzhik_build(*self._lent, *lent.weights)
         if reply.number:
             raise refusal(Lists(list(breaks), list(degrees), list(orders)), reply.number, reply.place)
         self.n = int(reply.count)
-        self.columns = int(self.degrees.sum()) + len(self.degrees)
-        cuts = [0, *(np.flatnonzero(self.orders == SCAR) + 1).tolist(), len(self.degrees)]
-        self.parts = list(zip(cuts[:-1], cuts[1:]))
         self._weights: Weights | None = None
+
+    @property
+    def columns(self) -> int:
+        """The number of Bernstein ordinates of all segments."""
+        return int(self.degrees.sum()) + len(self.degrees)
+
+    @property
+    def parts(self) -> list[tuple[int, int]]:
+        """The first segment and the segment past the last of each part between discontinuities."""
+        return parts_of(self.lists())
 
     def __repr__(self) -> str:
         return f"Space({self.breaks.tolist()}, {self.degrees.tolist()}, {self.orders.tolist()})"
