@@ -1,8 +1,9 @@
-"""Times the daily job, 2,000 series of 200 rings in one file: reading, fitting the template and writing indices by the command, against
-the same job with NumPy and SciPy alone; and index calls from arrays to arrays against the same calls from C. docs/PERFORMANCE.md has
-its figures. Both sides of a ratio are timed in one run, in turns.
+"""Times the daily job, 2,000 series of 200 rings in one file: reading, fitting the template and writing indices by the
+command, against the same job with NumPy and SciPy alone; and index calls from arrays to arrays against the same calls
+from C. docs/PERFORMANCE.md has its figures. Both sides of a ratio are timed in one run, in turns, by processor time.
 
     PYTHONPATH=python/src /usr/bin/python3 docs/src/benchmark.py
+    PYTHONPATH=python/src /usr/bin/python3 docs/src/benchmark.py quick    # a few series: that all of it still runs
 """
 
 import contextlib
@@ -23,8 +24,9 @@ from walzhik.cli import cli
 from walzhik.fit import fit, template
 
 ROOT = Path(__file__).resolve().parent.parent.parent
-SERIES, RINGS, SEED = 2_000, 200, 1
-ROUNDS = 5
+QUICK = "quick" in sys.argv[1:]
+SERIES, RINGS, SEED = 20 if QUICK else 2_000, 200, 1
+ROUNDS = 1 if QUICK else 5
 CALLS = 2_000  # index calls of one timing
 NAME, HEAD, FIELD = 8, 12, 6  # columns of a Tucson line
 HUNDREDTHS, THOUSANDTHS = 999, -9999
@@ -79,7 +81,8 @@ def by_numpy(path, out):
     for name, first, widths in plain_read(path):
         curve = plain_fit(widths)
         indices = np.floor(1_000 * widths / curve).astype(int)
-        for year, (width, value, index) in enumerate(zip(widths.tolist(), curve.tolist(), indices.tolist()), start=first):
+        rows = zip(range(first, first + widths.size), widths.tolist(), curve.tolist(), indices.tolist())
+        for year, width, value, index in rows:
             lines.append(f"{name},{year},{width / 1_000:.3f},{value / 1_000:.6f},{index if width else ''}\n")
     out.write_text("".join(lines), encoding="ascii")
 
@@ -147,12 +150,13 @@ def main():
         series = list(made_up_series())
         path.write_bytes(tucson.write(series))
         command, plain = in_turns((by_command, path, folder / "a.csv"), (by_numpy, path, folder / "b.csv"))
-        print(f"{SERIES:,} series of {RINGS} rings: the command {command:.2f} s, NumPy and SciPy alone {plain:.2f} s, "
-              f"ratio {command / plain:.2f}")
+        times = f"the command {command:.2f} s, NumPy and SciPy alone {plain:.2f} s, ratio {command / plain:.2f}"
+        print(f"{SERIES:,} series of {RINGS} rings: {times}")
         for step, seconds in steps_of(path).items():
             print(f"  of it {step}: {seconds:.2f} s")
         python, native = index_calls(folder, series[0])
-        print(f"an index call of {RINGS} rings: Python {1e6 * python:.1f} us, C {1e6 * native:.1f} us, ratio {python / native:.2f}")
+        times = f"Python {1e6 * python:.1f} us, C {1e6 * native:.1f} us, ratio {python / native:.2f}"
+        print(f"an index call of {RINGS} rings: {times}")
 
 
 if __name__ == "__main__":
