@@ -29,7 +29,7 @@ SERIES, RINGS, SEED = 20 if QUICK else 2_000, 200, 1
 ROUNDS = 1 if QUICK else 5
 CALLS = 2_000  # index calls of one timing
 NAME, HEAD, FIELD = 8, 12, 6  # columns of a Tucson line
-HUNDREDTHS, THOUSANDTHS = 999, -9999
+HUNDREDTHS = 999  # the closing field of a series in hundredths
 DEGREE, INNER = 3, (10, 30, 80, 130)  # of the B-splines: cubic, with as many coefficients as the template
 
 
