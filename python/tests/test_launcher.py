@@ -108,7 +108,8 @@ def test_two_at_once_set_up_once(tmp_path: Path) -> None:
     ended = [(process.communicate()[0], process.returncode) for process in started]
     assert len({out for out, _ in ended}) == 1 and {status for _, status in ended} == {0}
     assert checkout.asked().count("check sheet tucson") == 1
-    assert sorted(path.name for path in (checkout.root / "target/lib").iterdir()) == ["built", "libwalzhik.so", "lock"]
+    left = sorted(path.name for path in (checkout.root / "target/lib").iterdir())
+    assert left == ["built", "libwalzhik.so", "lock", "log"]
 
 
 def test_it_runs_from_any_folder_and_through_a_link(checkout: Checkout, tmp_path: Path) -> None:
@@ -123,9 +124,12 @@ def test_it_runs_from_any_folder_and_through_a_link(checkout: Checkout, tmp_path
 
 
 def test_without_the_kit_it_says_what_to_do(checkout: Checkout) -> None:
-    script(checkout.tools / "rt", "#!/bin/sh\nexit 1\n")
+    script(checkout.tools / "rt", "#!/bin/sh\necho 'curve is not proved'\nexit 1\n")
     status, out, err = checkout.run("explain", SHEET)
-    assert (status, out) == (2, "") and "rt check sheet tucson failed" in err
+    assert (status, out) == (2, "") and "curve is not proved" in err and "rt check sheet tucson failed" in err
+    script(checkout.tools / "rt", "#!/bin/sh\necho 'rt: sheet proved'\n")
+    status, out, err = checkout.run("explain", SHEET)
+    assert (status, out) == (2, "") and "walzhik:   sheet proved" in err and "is not there. Remove" in err
     launcher = (checkout.root / "walzhik").read_text().replace("command -v rt", "command -v no-such-kit")
     (checkout.root / "walzhik").write_text(launcher)
     status, out, err = checkout.run("explain", SHEET)
