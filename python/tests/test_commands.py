@@ -166,3 +166,10 @@ def test_a_fast_start_imports_nothing_heavy(tmp_path: Path) -> None:
     for arguments in (("curve", ROOF), ("explain", ROOF), ("clean", OAK), ("indices", OAK, "--curve", ROOF, *PARTS)):
         ended = python("-c", HEAVY, *arguments, stdout=subprocess.DEVNULL)
         assert ended.returncode == 0 and ended.stderr.splitlines()[-1] == b"[]"
+
+
+def test_the_example_in_python() -> None:
+    with (ROOT / OAK).open("rb") as text:
+        ended = python("examples/python/daily.py", stdin=text, stdout=subprocess.PIPE)
+    assert ended.returncode == 0, ended.stderr
+    assert ended.stdout == (ROOT / "examples/python/daily.txt").read_bytes()
