@@ -1,48 +1,36 @@
-"""Holds tools/explain and the reading of Tucson files in tools/ against the rational program.
+"""Holds the words of the package's explain against the rational program.
 
 usage: explain.py [--count N] [--seed S]
 
 For random sheets and those in examples/ the words must name the entry that the number and the place
 name and the rule that it breaks, in ASCII and in two lines; a line has a fault
-in words exactly where the model finds it bad. Random Tucson texts must be read
-to the same series, or be refused with the same number and line. Each kind of
-fault must have come up.
+in words exactly where the model finds it bad. Random Tucson texts must be told
+with the model's series, or with the number and line that the model refuses them
+with, in words that name the line. Each kind of fault must have come up.
 """
 
 import argparse
 import re
 import sys
 from collections import Counter
-from importlib.machinery import SourceFileLoader
-from importlib.util import module_from_spec, spec_from_loader
 from pathlib import Path
 from random import Random, SystemRandom
 
 HERE = Path(__file__).resolve().parent
-sys.path[:0] = [str(HERE / "reference"), str(HERE.parent / "tools")]
+sys.path[:0] = [str(HERE / "reference"), str(HERE.parent / "python" / "src")]
 sys.dont_write_bytecode = True
 
-import texts
 import tucson
 from generate import sheets
-from indices import ring_index
 from limits import MOST_SHEET_BYTES
 from random_tucson import random_text
 from sheet import LINES, Refusal, read_sheet, sheet
+from walzhik.explain import explain_printed, explain_tucson
+from walzhik.sheet_reasons import text_fault
 
 GATE_COUNT = 2_000
 LONGEST = 420                # characters of a line of words
 
-
-def tool(name):
-    """A tool, which has no ending in its name, as a module."""
-    loader = SourceFileLoader(name, str(HERE.parent / "tools" / name))
-    module = module_from_spec(spec_from_loader(name, loader))
-    loader.exec_module(module)
-    return module
-
-
-explain, plot = tool("explain"), tool("plot")
 
 # What the words must say for each number, as a pattern over the entry's numbers.
 PATTERNS = {
@@ -93,56 +81,58 @@ def bad_lines(text):
 def words_fault(text, seen):
     """What is wrong with the words for a sheet, or None."""
     printed = sheet(text)
-    words, status = explain.explained(text, printed)
+    words, is_accepted = explain_printed(text, printed)
     lines = words.split("\n")
     if not words.isascii() or len(lines) != 2 or max(map(len, lines)) > LONGEST:
         return f"not two short lines of ASCII: {words!r}"
     if len(text) <= MOST_SHEET_BYTES and len(text.split(b"\n")) > len(LINES):
-        found = [explain.text_fault(text, place + 1) is not None for place in range(len(LINES))]
+        found = [text_fault(text, place + 1) is not None for place in range(len(LINES))]
         if found != list(bad_lines(text)):
             return f"faults found in lines: {found}"
     if not printed.startswith(b"no="):
         seen["accepted"] += 1
-        return None if status == 0 and lines[0].startswith("Accepted: ") else f"accepted, but {words!r}"
+        return None if is_accepted and lines[0].startswith("Accepted: ") else f"accepted, but {words!r}"
     number, place = (int(part) for part in printed[3:].split(b","))
     patterns = PLACES_OF_TEN[place:place + 1] if number == 10 else PATTERNS[number]
     entry = "" if number == 10 else entry_at(text, number, place)
     for kind, pattern in enumerate(patterns, start=place if number == 10 else 0):
         if re.fullmatch(pattern.replace("{place}", str(place)).replace("{entry}", str(entry)), lines[1]):
             seen[f"{number}, kind {kind}"] += 1
-            return None if status == 1 and lines[0] == f"Refused: no={number},{place}." else f"refused, but {words!r}"
+            return None if not is_accepted and lines[0] == f"Refused: no={number},{place}." else f"refused, but {words!r}"
     return f"no={number},{place} is not said: {words!r}"
 
 
+def series_words(series):
+    """How the line of a series begins and ends, by the model's numbers."""
+    name = series.name.decode("ascii").replace("\\", "\\x5c")
+    if not series.widths:
+        return f"Series '{name}' has no widths.", ""
+    absent = series.widths.count(0)
+    rings = {0: "no rings", 1: "1 ring"}.get(absent, f"{absent:,} rings")
+    return f"Series '{name}': {len(series.widths):,} width", f", {rings} absent."
+
+
 def tucson_fault(text, seen):
-    """What is wrong with the reading of a Tucson text, or None."""
+    """What is wrong with the words for a Tucson text, or None."""
+    words, is_accepted = explain_tucson(text)
+    first, *lines = words.split("\n")
+    if not words.isascii():
+        return f"not ASCII: {words!r}"
     try:
-        expected = [tuple(series) for series in tucson.read_tucson(text)]
-        reply = "read"
+        series = tucson.read_tucson(text)
     except Refusal as refusal:
-        expected, reply = None, (refusal.number, refusal.place)
-    words, status = explain.explained_tucson(text)
-    try:
-        got = [(series.name, series.first_year, tuple(series.widths)) for series in texts.read_tucson(text)]
-        if got != expected or status != 0:
-            return f"read as {got}, the model has {expected or reply}"
-    except texts.Refused as refusal:
-        said = f"Refused: no={refusal.number},{refusal.place}.\nLine {refusal.place} "
-        if (refusal.number, refusal.place) != reply or status != 1 or not words.startswith(said):
-            return f"{words!r}, the model has {reply}"
-    seen[f"Tucson {reply if expected is not None else reply[0]}"] += 1
-    return None if words.isascii() else f"not ASCII: {words!r}"
+        seen[f"Tucson {refusal.number}"] += 1
+        said = first == f"Refused: no={refusal.number},{refusal.place}." and lines[0].startswith(f"Line {refusal.place} ")
+        return None if said and not is_accepted else f"{words!r}, the model has {refusal.number}, {refusal.place}"
+    seen["Tucson read"] += 1
+    fit = [line.startswith(begin) and line.endswith(end) for line, (begin, end) in zip(lines, map(series_words, series))]
+    told = is_accepted and first == f"Accepted: {len(series):,} series." and len(lines) == len(series)
+    return None if told and all(fit) else f"{words!r}, the model has {len(series)} series"
 
 
 def wanted():
     return {"accepted", *(f"{number}, kind {kind}" for number, kinds in PATTERNS.items() for kind in range(len(kinds))),
             *(f"10, kind {place}" for place in range(7)), "Tucson read", *(f"Tucson {number}" for number in (11, 12, 13))}
-
-
-def index_faults(rng, count):
-    """Rings whose index in a picture is not the model's."""
-    rings = [(rng.choice((0, rng.randint(1, 99_999))), rng.choice((1, rng.randint(1, 256_000_000)))) for _ in range(count)]
-    return [ring for ring in rings if (-1 if plot.index(*ring) is None else plot.index(*ring)) != ring_index(*ring)]
 
 
 def main():
@@ -162,7 +152,6 @@ def main():
         if fault:
             failed += 1
             print(f"{text[:400]!r}: {fault}")
-    failed += len(index_faults(rng, chosen.count))
     missing = sorted(wanted() - set(seen))
     for kind in missing:
         print(f"never seen: {kind}")

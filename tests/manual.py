@@ -1,28 +1,52 @@
-"""Holds docs/MANUAL.md, its examples and its pictures against what the program and the tools give.
+"""Holds docs/MANUAL.md, its examples and its pictures against what the program and the command give.
 
 usage: manual.py [--write]
 
 Each sheet and Tucson file in examples/ must be explained as it is kept beside
-it, each picture be what tools/plot draws, and what the manual quotes be lines of
-these files. --write keeps what the tools give now.
+it, each picture say what the engine says of its sheet, each step of the day's
+work give what is kept of it, and what the manual quotes be lines of these
+files. --write keeps what the command gives now.
 """
 
 import argparse
+import contextlib
+import io
 import re
-import subprocess
 import sys
+import tempfile
 from pathlib import Path
 
 ROOT = Path(__file__).resolve().parent.parent
+sys.path[:0] = [str(ROOT / "python" / "src"), str(ROOT / "tests")]
+sys.dont_write_bytecode = True
+
+from pictures import picture
+from walzhik import cli, sheet, tucson
+from walzhik._outline import CUBIC, LINE, MOVE, QUADRATIC, outline
+
 EXAMPLES, PICTURES, MANUAL = ROOT / "examples", ROOT / "docs" / "pictures", ROOT / "docs" / "MANUAL.md"
 ACCEPTED, REFUSED, UNREADABLE = 0, 1, 2
-# The pictures, each of the sheet of its name, with what else tools/plot is given.
+# The pictures, each with its sheet, the series of examples/tucson/oak.rwl by part, and other options.
+WHOLE = "whole-ring"
+ROOF = {"earlywood": "ROOF04E", "latewood": "ROOF04L"}
 NARROW = ["--narrow"]
-DRAWN = {"step_1": NARROW, "step_2": NARROW, "step_3": NARROW, "step_4": NARROW,
-         "order_0": NARROW, "order_1": NARROW, "order_2": NARROW, "low": [], "beam": [],
-         "roof": ["--measured", "examples/tucson/oak.rwl", "--earlywood", "ROOF04E", "--latewood", "ROOF04L"]}
-IN_README = "refused_5"
-COMMANDS = ("target/bin/sheet", "target/bin/tucson", "tools/explain", "tools/plot", "rt check sheet", "rt check tucson", "seq -s,")
+STEPS = [f"step_{step}" for step in range(1, 5)] + [f"order_{order}" for order in range(3)]
+DRAWN = {name: (f"sheets/{name}.sheet", {}, NARROW) for name in STEPS}
+DRAWN |= {name: (f"sheets/{name}.sheet", {}, []) for name in ("low", "beam")}
+DRAWN |= {"roof": ("sheets/roof.sheet", ROOF, []), "oak_fit": ("day/oak_fit.sheet", {WHOLE: "ROOF04E"}, [])}
+IN_README = {"growth": ("sheets/growth.sheet", {}, [])}
+OAK = "examples/tucson/oak.rwl"
+CLOSE = 1e-5                 # of a scale's length: what a picture's numbers are rounded to, and less
+CODES = {MOVE: "M", LINE: "L", QUADRATIC: "Q", CUBIC: "C"}
+# The day's work: the command, and which kept file has what it writes and what it tells.
+FITTED = "examples/day/oak_fit.sheet"
+DAY = ((["clean", "examples/refusals/refused_11_laboratory.rwl"], "tucson/oak.rwl", "day/clean.txt"),
+       (["fit", OAK, "--series", "ROOF04E"], "day/oak_fit.sheet", "day/fit.txt"),
+       (["indices", OAK, "--curve", FITTED, "--series", "ROOF04E"], "day/oak_fit.csv", "day/indices.txt"),
+       (["curve", "examples/sheets/step_4.sheet", "--every", "30"], "day/step_4.csv", None),
+       (["clean", "examples/refusals/refused_12.rwl"], None, "day/gap.txt"))
+EXPLAINED_IN_README = "refused_5"
+COMMANDS = ("target/bin/sheet", "target/bin/tucson", "./walzhik ", "rt check sheet", "rt check tucson", "seq -s,")
 faults = []
 
 
@@ -31,8 +55,16 @@ def fault(words):
     faults.append(words)
 
 
-def run(*arguments):
-    return subprocess.run(arguments, cwd=ROOT, capture_output=True, check=False)
+def walzhik(*arguments):
+    """The command in this process: its exit status, and what it wrote on the two outputs."""
+    out, told = io.TextIOWrapper(io.BytesIO(), write_through=True), io.StringIO()
+    with contextlib.redirect_stdout(out), contextlib.redirect_stderr(told), contextlib.chdir(ROOT):
+        try:
+            cli.main(list(arguments))
+            status = 0
+        except SystemExit as ended:
+            status = ended.code
+    return status, out.buffer.getvalue(), told.getvalue().encode()
 
 
 def keep(path, made, write):
@@ -51,11 +83,11 @@ def sources():
 
 def explanations(write):
     for source in sources():
-        said = run("tools/explain", str(source.relative_to(ROOT)))
+        status, said, told = walzhik("explain", str(source.relative_to(ROOT)))
         wanted = REFUSED if source.name.startswith("refused") else ACCEPTED
-        if said.returncode != wanted or said.stderr:
-            fault(f"tools/explain {source.name}: status {said.returncode}, {said.stderr.decode()}")
-        keep(source.with_suffix(".explained"), said.stdout, write)
+        if status != wanted or told:
+            fault(f"explain {source.name}: status {status}, {told.decode()}")
+        keep(source.with_suffix(".explained"), said, write)
     stems = [source.stem for source in sources()]
     for stem in {stem for stem in stems if stems.count(stem) > 1}:
         fault(f"two examples with one explanation: {stem}")
@@ -63,47 +95,101 @@ def explanations(write):
         if kept.stem not in stems:
             fault(f"an explanation without its example: {kept.name}")
     for unreadable in ("examples/sheets/none.sheet", "examples"):
-        if run("tools/explain", unreadable).returncode != UNREADABLE:
-            fault(f"tools/explain {unreadable}: not status {UNREADABLE}")
+        if walzhik("explain", unreadable)[0] != UNREADABLE:
+            fault(f"explain {unreadable}: not status {UNREADABLE}")
+
+
+def days_work(write):
+    for arguments, written, told in DAY:
+        status, out, said = walzhik(*arguments)
+        if status != (ACCEPTED if written else REFUSED):
+            fault(f"{' '.join(arguments)}: status {status}, {said.decode()}")
+        if written:
+            keep(EXAMPLES / written, out, write and written.startswith("day/"))
+        if told:
+            keep(EXAMPLES / told, said, write)
+
+
+# Pictures.
+
+
+def plotted(name, source, series, options):
+    """The picture that the command draws now."""
+    parts = {WHOLE: "--series", "earlywood": "--earlywood", "latewood": "--latewood"}
+    chosen = [word for part, each in series.items() for word in (parts[part], each)]
+    with tempfile.TemporaryDirectory() as folder:
+        made = f"{folder}/{name}.svg"
+        status, _, told = walzhik("plot", f"examples/{source}", *([OAK] * bool(series)), *chosen, *options, "-o", made)
+        if status or told:
+            fault(f"plot {name}: status {status}, {told.decode()}")
+        return Path(made).read_bytes()
+
+
+def expected_paths(source, series):
+    """What the picture of a sheet must say, by the engine: curves, widths and indices, as (command, ring, height)."""
+    curve = sheet.read((EXAMPLES / source).read_bytes()).curve()
+    paths = {}
+    for part in [WHOLE] if curve.is_whole_ring else ["earlywood", "latewood"]:
+        shape = outline(curve, None if part == WHOLE else part)
+        paths[f"curve-{part}"] = [(CODES[code], *point) for code, point in zip(shape.codes, shape.points)]
+    measured = {each.name: each for each in tucson.read(ROOT / OAK, strict=True)}
+    for place, (part, name) in enumerate(series.items()):
+        widths, first = measured[name].widths, measured[name].first
+        indices = curve.indices(widths, first, None if part == WHOLE else part)
+        present = [ring for ring, width in enumerate(widths.tolist()) if width]
+        paths[f"widths-{place}"] = [(None, first + ring, widths[ring] / 1000) for ring in present]
+        paths[f"indices-{place}"] = [(None, first + ring, float(indices[ring])) for ring in present]
+    return paths
+
+
+def path_fault(found, expected):
+    """What is wrong with a path, or None."""
+    if len(found) != len(expected):
+        return f"{len(found)} vertices, not {len(expected)}"
+    wide = max(ring for _, ring, _ in expected) - min(ring for _, ring, _ in expected)
+    high = max(abs(height) for _, _, height in expected)
+    for vertex, (command, ring, height) in zip(found, expected):
+        if command not in (None, vertex.command):
+            return f"{vertex} for command {command}"
+        if abs(vertex.ring - ring) > CLOSE * wide or abs(vertex.height - height) > CLOSE * high:
+            return f"{vertex}, not {ring}, {height}"
+    return None
+
+
+def hold(path, source, series, options, write):
+    """The kept picture says what the engine says, in the words that the command uses now."""
+    drawn = plotted(path.stem, source, series, options)
+    if write:
+        path.write_bytes(drawn)
+    if not path.exists():
+        fault(f"missing: {path.relative_to(ROOT)}")
+        return
+    kept, expected = picture(path.read_bytes()), expected_paths(source, series)
+    if kept.paths.keys() != expected.keys() or kept.words != picture(drawn).words:
+        fault(f"{path.name}: it has {sorted(kept.paths)} and {kept.words}")
+        return
+    for name, wanted in expected.items():
+        wrong = path_fault(kept.paths[name], wanted)
+        if wrong:
+            fault(f"{path.name}, {name}: {wrong}")
 
 
 def pictures(write):
-    for name, options in DRAWN.items():
-        drawn = run("tools/plot", f"examples/sheets/{name}.sheet", f"examples/sheets/{name}.out", *options)
-        if drawn.returncode or drawn.stderr:
-            fault(f"tools/plot {name}: {drawn.stderr.decode()}")
-        keep(PICTURES / f"{name}.svg", drawn.stdout, write)
+    for name, how in DRAWN.items():
+        hold(PICTURES / f"{name}.svg", *how, write)
+    for name, how in IN_README.items():
+        hold(PICTURES.parent / f"{name}.svg", *how, write)
     for kept in PICTURES.glob("*"):
         if kept.stem not in DRAWN:
             fault(f"a picture that nothing draws: {kept.name}")
 
 
-def refusals_of_plot():
-    """What can't be drawn is said, and nothing is drawn."""
-    oak, few = "--measured examples/tucson/oak.rwl", "--measured examples/tucson/few.rwl"
-    cases = (("refused_5", "", "the sheet was refused: no=5,0"),
-             ("none", "", "examples/sheets/none.out: No such file"),
-             ("roof", oak, "name the series"),
-             ("roof", f"{oak} --earlywood ROOF05", "0 series of the Tucson file are named ROOF05"),
-             ("roof", f"{oak} --earlywood ROOF04E --first 1", "ring 1 is measured"),
-             ("roof", "--measured examples/refusals/refused_13.rwl --earlywood ROOF05", "no=13,2"),
-             ("low", f"{oak} --latewood ROOF04L --first -4", "ring 7 is measured"),
-             ("w1", f"{few} --earlywood FEW --first 1", "the printout has no value at 768"),
-             ("low", f"{few} --earlywood FEW --first -4", "zero or less: no index"))
-    for name, options, words in cases:
-        folder = "refusals" if name.startswith("refused") else "sheets"
-        said = run("tools/plot", f"examples/{folder}/{name}.sheet", f"examples/{folder}/{name}.out", *options.split())
-        if said.returncode != 1 or said.stdout or words not in said.stderr.decode():
-            fault(f"tools/plot {name} {options}: {said.stderr.decode()}")
-    for sheet in ("sheets/step_1.sheet", "refusals/refused_10_pair.sheet", "tucson/oak.rwl"):
-        said = run("tools/plot", f"examples/{sheet}", "examples/sheets/w1.out")
-        if said.returncode != 1 or said.stdout or b"is not the printout of" not in said.stderr:
-            fault(f"tools/plot {sheet} examples/sheets/w1.out: {said.stderr.decode()}")
+# The manual's text.
 
 
 def kept_lines():
     """All lines of the examples that the manual may quote."""
-    kinds = ("*.sheet", "*.out", "*.explained", "*.rwl", "*.txt")
+    kinds = ("*.sheet", "*.out", "*.explained", "*.rwl", "*.txt", "*.csv")
     return {line for kind in kinds for path in EXAMPLES.glob(f"*/{kind}")
             for line in path.read_bytes().decode("ascii", "replace").split("\n")}
 
@@ -122,7 +208,7 @@ def quotes(text, lines):
 def readme():
     """The README shows an explanation as it is kept."""
     text = (ROOT / "README.md").read_text(encoding="utf-8")
-    for line in (EXAMPLES / "refusals" / f"{IN_README}.explained").read_text(encoding="ascii").splitlines():
+    for line in (EXAMPLES / "refusals" / f"{EXPLAINED_IN_README}.explained").read_text(encoding="ascii").splitlines():
         if f"\n    {line}\n" not in text:
             fault(f"not in the README: {line}")
 
@@ -152,12 +238,12 @@ def numbers(text):
 
 
 def main():
-    parser = argparse.ArgumentParser(description="hold the manual against the program and the tools")
-    parser.add_argument("--write", action="store_true", help="keep what the tools give now")
+    parser = argparse.ArgumentParser(description="hold the manual against the program and the command")
+    parser.add_argument("--write", action="store_true", help="keep what the command gives now")
     chosen = parser.parse_args()
+    days_work(chosen.write)
     explanations(chosen.write)
     pictures(chosen.write)
-    refusals_of_plot()
     text = MANUAL.read_text(encoding="utf-8")
     quotes(text, kept_lines())
     links(text)

@@ -264,28 +264,29 @@ def _series_colours(measured: Sequence[Measured]) -> list[str]:
     return colours
 
 
-def _draw_rings(panel: Axes, curve: Curve, each: Measured, heights: NDArray[np.float64], colour: str) -> Any:
+def _draw_rings(panel: Axes, curve: Curve, each: Measured, heights: NDArray[np.float64], colour: str, gid: str) -> Any:
     """Numbers at rings with a thin line between neighbours, not across a discontinuity or a missing number; the marks, thinned where
     they are many, are given back."""
     rings = each.first + np.arange(len(heights))
     scars = curve.space.breaks[1:-1][curve.space.orders == SCAR]
     cuts = np.flatnonzero(np.isin(rings, scars)) + 1
     line = np.insert(rings.astype(float), cuts, np.nan), np.insert(heights, cuts, np.nan)
-    panel.plot(*line, color=colour, linewidth=THIN, linestyle=DASHES[each.wood], alpha=LINE_ALPHA, zorder=2)
+    thin = {"color": colour, "linewidth": THIN, "linestyle": DASHES[each.wood], "alpha": LINE_ALPHA}
+    panel.plot(*line, zorder=2, gid=gid, **thin)
     shown = ~np.isnan(heights) & (rings % _round_step(len(heights) / MOST_MARKS) == 0)
     face = colour if MARKS[each.wood] == "o" else "white"
     style = {"marker": MARKS[each.wood], "markersize": 2.8, "markerfacecolor": face, "markeredgewidth": 0.7}
-    (marks,) = panel.plot(
-        rings[shown], heights[shown], linestyle="none", color=colour, zorder=3, clip_on=False, **style
-    )
+    style |= {"linestyle": "none", "color": colour, "clip_on": False}
+    (marks,) = panel.plot(rings[shown], heights[shown], zorder=3, **style)
     return marks
 
 
 def _draw_widths(panel: Axes, curve: Curve, measured: Sequence[Measured], colours: list[str], legend: _Legend) -> None:
     """The widths, and a cross on the axis for each absent ring."""
-    for each, colour in zip(measured, colours):
+    for place, (each, colour) in enumerate(zip(measured, colours)):
         widths = np.asarray(each.widths, dtype=float) / PER_MM
-        legend.add(SERIES, each.name, _draw_rings(panel, curve, each, np.where(widths == 0, np.nan, widths), colour))
+        heights = np.where(widths == 0, np.nan, widths)
+        legend.add(SERIES, each.name, _draw_rings(panel, curve, each, heights, colour, f"widths-{place}"))
         absent = each.first + np.flatnonzero(widths == 0)
         if absent.size:
             style = {"marker": "x", "color": BLACK, "markersize": 5, "markeredgewidth": 1.2, "clip_on": False}
@@ -297,9 +298,10 @@ def _draw_indices(panel: Axes, curve: Curve, measured: Sequence[Measured], colou
     """The engine's indices, with a line where a ring is as wide as the curve."""
     panel.axhline(ON_CURVE, color=DARK, linewidth=THIN, zorder=1)
     greatest = ON_CURVE
-    for each, colour in zip(measured, colours):
+    for place, (each, colour) in enumerate(zip(measured, colours)):
         indices = curve.indices(each.widths, each.first, each.wood)
-        _draw_rings(panel, curve, each, np.where(indices < 0, np.nan, indices.astype(float)), colour)
+        heights = np.where(indices < 0, np.nan, indices.astype(float))
+        _draw_rings(panel, curve, each, heights, colour, f"indices-{place}")
         greatest = max(greatest, int(indices.max(initial=0)))
     panel.set_ylim(0, greatest * HEADROOM)
 
