@@ -18,14 +18,16 @@ DECADE = 10
 HUNDREDTHS, THOUSANDTHS, UNKNOWN = b"   999", b" -9999", b"  -999"  # closing fields; the unit of the last is not known
 CLOSINGS: dict[Unit, bytes] = {"hundredths": HUNDREDTHS, "thousandths": THOUSANDTHS}
 LEAST_DIGITS = 2  # of a year in the name of a piece
+COMMON_DIGITS = 4  # of years, and of widths in thousandths
 
 
 def _number(columns: int) -> bytes:
-    """The pattern of a whole number right-aligned in so many columns, without spare zeros."""
-    ways = [b" {%d}[0-9]" % (columns - 1)]
-    for digits in range(2, columns + 1):
-        blanks = columns - digits
-        ways.append(b" {%d}(?:[1-9][0-9]{%d}|-[1-9][0-9]{%d})" % (blanks, digits - 1, digits - 2))
+    """The pattern of a whole number right-aligned in so many columns, without spare zeros; what is common is tried first."""
+    ways = []
+    for digits in sorted(range(1, columns + 1), key=lambda digits: abs(digits - COMMON_DIGITS)):
+        positive = b"[1-9][0-9]{%d}" % (digits - 1) if digits > 1 else b"[0-9]"
+        negative = b"|-[1-9][0-9]{%d}" % (digits - 2) if digits > 1 else b""
+        ways.append(b" {%d}(?:%b%b)" % (columns - digits, positive, negative))
     return b"(?:" + b"|".join(ways) + b")"
 
 

@@ -133,25 +133,30 @@ def _text_lines(data: bytes, changes: Changes) -> list[Line]:
     *ended, rest = data.split(b"\n")
     lines = []
     for number, body in enumerate([*ended, rest] if rest else ended, start=1):
-        if body.endswith(b"\r") and number <= len(ended):
-            body = body[:-1]
+        if body.endswith(b"\r"):
+            body = _without_carriage(number, body, number <= len(ended))
             changes.add(number, "the line end of Windows became a plain one")
-        if b"\r" in body:
-            raise Unreadable(
-                number,
-                "it holds a carriage return (byte 13) without a line feed.",
-                "Save the file with plain line ends.",
-            )
         stripped = body.rstrip(BLANKS)
         if not stripped:
             changes.add(number, "a blank line was taken out")
             continue
         if len(stripped) < len(body):
             changes.add(number, "trailing blanks were taken off")
-        if number > len(ended):
-            changes.add(number, "a line end was put behind the last line")
         lines.append(Line(number, stripped))
+    for line in lines if b"\r" in data else ():
+        _without_carriage(line.number, line.body, False)
+    if lines and lines[-1].number > len(ended):
+        changes.add(lines[-1].number, "a line end was put behind the last line")
     return lines
+
+
+def _without_carriage(number: int, body: bytes, is_ended: bool) -> bytes:
+    """The line without the carriage return of a line end of Windows; it may hold no other."""
+    kept = body[:-1] if is_ended else body
+    if b"\r" in kept:
+        words = "it holds a carriage return (byte 13) without a line feed."
+        raise Unreadable(number, words, "Save the file with plain line ends.")
+    return kept
 
 
 def _without_header(lines: list[Line], changes: Changes) -> list[Line]:
