@@ -86,7 +86,13 @@ def test_the_unit_and_the_gaps_that_are_asked_for(tmp_path: Path, capfd: pytest.
 
 
 @pytest.mark.parametrize(
-    "arguments", [[], ["nosuch.rwl"], ["--hundredths", "--thousandths", "nosuch.rwl"], ["--no-such"]]
+    "arguments",
+    [
+        [],
+        ["nosuch.rwl"],
+        ["--hundredths", "--thousandths", str(ROOT / "examples" / "tucson" / "oak.rwl")],
+        ["--no-such"],
+    ],
 )
 def test_wrong_usage(arguments: list[str], capfd: pytest.CaptureFixture[str]) -> None:
     status, out, told = run(capfd, *arguments)

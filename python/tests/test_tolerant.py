@@ -158,6 +158,7 @@ def test_names_that_become_equal() -> None:
         (FEW.replace(b"    12", b"      \t12"), 1, "tab that does not stand between two whole fields"),
         (FEW.replace(b"    12     9", b"          \t9"), 1, "tab that does not stand between two whole fields"),
         (FEW.replace(b"    12", b"  1\t 2 "), 1, "tab that does not stand between two whole fields"),
+        (b"FEW\t1998   12\t9\nFEW\t2000\t7\t-9999\n", 1, "tab that does not stand between two whole fields"),
         (b"OA\tK01\t1895\t812\t-9999\n", 1, "tab that does not stand between two whole fields"),
         (b"WAL\t12\t1920\t128\t130\t-9999\n", 1, "more than one name and year"),
         (b"WAL 1920\t12\t128\t130\t-9999\n", 1, "more than one name and year"),
@@ -182,6 +183,10 @@ def test_a_series_in_the_place_of_a_header_is_kept() -> None:
     names = [b"ROOF01 %d" % place for place in (1, 2, 3)]
     text = b"".join(name + b" 850    12    13 -9999\n" for name in names)
     assert clean(text).text == text
+    damaged = text.replace(b"    12", b"   12")
+    assert clean(damaged).text == damaged
+    not_ascii = b"".join("ÅÄ01 %d Ö 850    12    13 -9999\n".encode() % place for place in (1, 2, 3))
+    assert [each[0] for each in read(clean(not_ascii).text)] == [b"??01 %d ?" % place for place in (1, 2, 3)]
 
 
 @pytest.mark.parametrize(("unit", "closing"), [("hundredths", b"   999"), ("thousandths", b" -9999")])

@@ -34,9 +34,8 @@ def _number(columns: int) -> bytes:
 NAME = rb"(?! {8})[ -~]{8}"
 DATA = re.compile(NAME + _number(YEAR_COLUMNS) + b"(?:" + _number(FIELD_COLUMNS) + b"){1,%d}" % MOST_FIELDS)
 YEAR_IN_NAME = re.compile(rb"-$| -[0-9]$")
-SHIFTED_NAME = re.compile(
-    rb" |..(?= *-?[0-9]+ *$)....  $"
-)  # by a field or more: blanks in front, or a year before two blanks
+# The name of a line that is shifted by a field or more: blanks in front, or a year before two blanks.
+SHIFTED_NAME = re.compile(rb" |..(?= *-?[0-9]+ *$)....  $")
 YEAR = re.compile(_number(YEAR_COLUMNS))
 LETTER = re.compile(rb"[A-Za-z]")
 
@@ -230,7 +229,6 @@ def _split(rows: list[Row], names: set[bytes], changes: Changes) -> list[Line]:
             + ("has no widths." if closing in CLOSINGS.values() else "is not closed by 999 or -9999."),
             "Correct the end of the series.",
         )
-    names.discard(last.name.strip())
     lines: list[Line] = []
     for piece in pieces:
         name = _piece_name(piece[0], names)

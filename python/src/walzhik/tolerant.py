@@ -218,7 +218,7 @@ def _tabbed_fields(line: Line) -> list[bytes]:
     for piece in others:
         start = len(piece) - len(piece.lstrip(b" "))
         end = start + len(piece[start:].split(b" ", 1)[0])
-        if not start < end or start >= FIELD_COLUMNS:
+        if start >= FIELD_COLUMNS:
             raise _misplaced_tab(line)
         fields += [piece[start:end], *_six_columns(line, piece, end)]
     name, *numbers = fields
