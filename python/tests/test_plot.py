@@ -158,6 +158,13 @@ def test_words_are_taken_as_they_are() -> None:
     assert "_$x$" in [text.get_text() for text in made.axes[0].get_legend().get_texts()]
 
 
+@pytest.mark.filterwarnings("error")
+def test_a_series_without_widths_and_a_curve_of_one_ring() -> None:
+    curve = Curve(Space([1700, 1701], [2], []), [[-1000, 5], [5, 900], [5, 0]])
+    made = plot.picture(curve, [Measured("NONE", 1700, [], "latewood")], at=[256 * 1700], is_narrow=True)
+    assert plot.rendered(made, "png").startswith(b"\x89PNG")
+
+
 @pytest.mark.parametrize("ending", plot.ENDINGS)
 def test_the_same_bytes_again(ending: plot.Ending) -> None:
     curve = lists_of("roof").curve()

@@ -200,6 +200,13 @@ class _Legend:
             text.set_parse_math(False)
 
 
+def _unclipped(panel: Axes, rings: Any, heights: Any, **style: Any) -> Any:
+    """Marks that are whole on the panel's edge too, and take no part in the layout."""
+    (marks,) = panel.plot(rings, heights, linestyle="none", clip_on=False, **style)
+    marks.set_in_layout(False)
+    return marks
+
+
 # The curve.
 
 
@@ -235,9 +242,8 @@ def _draw_curves(panel: Axes, curve: Curve, parts: Sequence[Wood | None], at: Wh
         values = millimetres(curve, positions)[:, curve.side(wood)]
         low = values <= 0
         if low.any():
-            circle = {"marker": "o", "markersize": 7, "markerfacecolor": "none", "color": BLACK, "clip_on": False}
-            (drawn,) = panel.plot(positions[low] / UNIT, values[low], linestyle="none", zorder=5, **circle)
-            legend.add(LOWS, "low", drawn)
+            circle = {"marker": "o", "markersize": 7, "markerfacecolor": "none", "color": BLACK}
+            legend.add(LOWS, "low", _unclipped(panel, positions[low] / UNIT, values[low], zorder=5, **circle))
 
 
 def _scale_widths(panel: Axes, curve: Curve, parts: Sequence[Wood | None], measured: Sequence[Measured]) -> None:
@@ -276,9 +282,8 @@ def _draw_rings(panel: Axes, curve: Curve, each: Measured, heights: NDArray[np.f
     shown = ~np.isnan(heights) & (rings % _round_step(len(heights) / MOST_MARKS) == 0)
     face = colour if MARKS[each.wood] == "o" else "white"
     style = {"marker": MARKS[each.wood], "markersize": 2.8, "markerfacecolor": face, "markeredgewidth": 0.7}
-    style |= {"linestyle": "none", "color": colour, "clip_on": False}
-    (marks,) = panel.plot(rings[shown], heights[shown], zorder=3, **style)
-    return marks
+    style["color"] = colour
+    return _unclipped(panel, rings[shown], heights[shown], zorder=3, **style)
 
 
 def _draw_widths(panel: Axes, curve: Curve, measured: Sequence[Measured], colours: list[str], legend: _Legend) -> None:
@@ -289,9 +294,8 @@ def _draw_widths(panel: Axes, curve: Curve, measured: Sequence[Measured], colour
         legend.add(SERIES, each.name, _draw_rings(panel, curve, each, heights, colour, f"widths-{place}"))
         absent = each.first + np.flatnonzero(widths == 0)
         if absent.size:
-            style = {"marker": "x", "color": BLACK, "markersize": 5, "markeredgewidth": 1.2, "clip_on": False}
-            (drawn,) = panel.plot(absent, np.zeros(absent.size), linestyle="none", zorder=5, **style)
-            legend.add(ABSENT, "absent", drawn)
+            style = {"marker": "x", "color": BLACK, "markersize": 5, "markeredgewidth": 1.2}
+            legend.add(ABSENT, "absent", _unclipped(panel, absent, np.zeros(absent.size), zorder=5, **style))
 
 
 def _draw_indices(panel: Axes, curve: Curve, measured: Sequence[Measured], colours: list[str]) -> None:
