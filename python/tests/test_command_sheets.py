@@ -100,6 +100,7 @@ def test_curve_at_other_distances(run: Run, tmp_path: Path) -> None:
     wanted = ["-1,-1.000000,0.000000", "-0.5,-0.500000,0.000500", "0,0.000000,0.001000"]
     assert run("curve", sheet, "--every", "0.5").out.splitlines()[1:4] == wanted
     assert len(table(run("curve", sheet, "--every", "1/256").out)) == 513
+    assert len(table(run("curve", sheet, "--every", "99999999999").out)) == 1
     for every in ("0", "-1", "0.1", "x", "1/0"):
         ended = run("curve", sheet, "--every", every)
         assert ended.status == UNUSABLE and f"--every {every}" in ended.err

@@ -86,7 +86,7 @@ def test_outputs_are_whole_or_not_there(run: Run, tmp_path: Path) -> None:
     assert os.listdir(tmp_path) == ["roof.csv"]
     assert out.read_text() == run("indices", OAK, "--curve", ROOF, *PARTS).out
     ended = run("curve", ROOF, "-o", tmp_path / "none" / "a.csv")
-    assert ended.status == UNUSABLE and "none" in ended.err
+    assert ended.status == UNUSABLE and ended.err == f"{tmp_path / 'none' / 'a.csv'}: No such file or directory\n"
 
 
 def test_a_file_that_cannot_be_finished_stays_as_it_was(tmp_path: Path, monkeypatch: pytest.MonkeyPatch) -> None:
@@ -146,6 +146,12 @@ def test_a_broken_pipe_is_quiet() -> None:
     ended = python("-m", "walzhik", "curve", ROOF, stdout=writing)
     os.close(writing)
     assert ended.stderr == b"" and ended.returncode == 128 + signal.SIGPIPE
+
+
+def test_a_full_disk_is_told() -> None:
+    with open("/dev/full", "wb") as full:
+        ended = python("-m", "walzhik", "curve", ROOF, stdout=full)
+    assert ended.returncode == UNUSABLE and ended.stderr == b"standard output: No space left on device\n"
 
 
 def test_standard_input_and_output() -> None:

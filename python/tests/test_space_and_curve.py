@@ -3,6 +3,8 @@ that fits."""
 
 from __future__ import annotations
 
+import pickle
+
 import numpy as np
 import pytest
 from hypothesis import given
@@ -157,3 +159,12 @@ def test_a_negative_segment_is_no_segment() -> None:
 def test_repr_says_what_it_is() -> None:
     assert repr(Space([0, 2], [1], [])) == "Space([0, 2], [1], [])"
     assert repr(Curve(Space([0, 2], [1], []), [5, 7])) == "Curve(Space([0, 2], [1], []), [[5, 5], [7, 7]])"
+
+
+def test_curves_and_refusals_go_to_other_processes() -> None:
+    curve = pickle.loads(pickle.dumps(scarred()))
+    assert repr(curve) == repr(scarred()) and curve.reach(900, "earlywood") == scarred().reach(900, "earlywood")
+    with pytest.raises(Refused) as caught:
+        Space([0, 1], [6], [])
+    copied = pickle.loads(pickle.dumps(caught.value))
+    assert str(copied) == str(caught.value) and copied.remedy == caught.value.remedy

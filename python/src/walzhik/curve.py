@@ -97,6 +97,10 @@ class Curve:
         if reply.number:
             raise self._refused(reply)
 
+    def __reduce__(self) -> tuple[Any, ...]:
+        """Curves go to other processes as their lists."""
+        return Curve, (self.space, self.coefficients)
+
     def __repr__(self) -> str:
         return f"Curve({self.space!r}, {self.coefficients.tolist()})"
 

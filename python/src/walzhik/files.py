@@ -12,6 +12,7 @@ from pathlib import Path
 
 STANDARD = "-"
 ALL_MAY = 0o666  # before the user's mask
+SHELL_SIGNAL = 128  # what a shell adds to a signal's number in a status
 
 
 def read_whole(name: str) -> bytes:
@@ -36,7 +37,13 @@ def write_whole(name: str, data: bytes) -> None:
     if name == STANDARD:
         write_out(data)
         return
-    path = Path(os.path.realpath(name))
+    try:
+        _write_file(Path(os.path.realpath(name)), data)
+    except OSError as error:
+        raise OSError(error.errno, error.strerror, name) from error
+
+
+def _write_file(path: Path, data: bytes) -> None:
     if path.exists() and not path.is_file():
         path.write_bytes(data)
         return
@@ -56,9 +63,11 @@ def write_out(data: bytes) -> None:
     try:
         sys.stdout.buffer.write(data)
         sys.stdout.buffer.flush()
-    except BrokenPipeError:
-        os.dup2(os.open(os.devnull, os.O_WRONLY), sys.stdout.fileno())
-        sys.exit(128 + signal.SIGPIPE)
+    except OSError as error:
+        os.dup2(os.open(os.devnull, os.O_WRONLY), sys.stdout.fileno())  # so that nothing is tried again at the end
+        if isinstance(error, BrokenPipeError):
+            sys.exit(SHELL_SIGNAL + signal.SIGPIPE)
+        raise OSError(error.errno, error.strerror, "standard output") from error
 
 
 def _mask() -> int:

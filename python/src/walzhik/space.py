@@ -97,6 +97,10 @@ class Space:
         """The first segment and the segment past the last of each part between discontinuities."""
         return parts_of(self.lists())
 
+    def __reduce__(self) -> tuple[Any, ...]:
+        """Spaces go to other processes as their lists."""
+        return Space, (self.breaks, self.degrees, self.orders)
+
     def __repr__(self) -> str:
         return f"Space({self.breaks.tolist()}, {self.degrees.tolist()}, {self.orders.tolist()})"
 

@@ -5,7 +5,6 @@ from __future__ import annotations
 from fractions import Fraction
 
 import click
-import numpy as np
 
 from .. import sheet
 from .._engine import MOST_POSITIONS
@@ -41,12 +40,12 @@ def ring_text(position: int) -> str:
 def rows(curve: Curve, distance: int) -> list[str]:
     """The lines of a curve's table."""
     first, last = (UNIT * int(end) for end in curve.space.breaks[[0, -1]])
-    positions = np.arange(first, last + 1, distance, dtype=np.int32)
+    positions = range(first, last + 1, distance)
     lines: list[str] = []
-    for at in range(0, positions.size, MOST_POSITIONS):
+    for at in range(0, len(positions), MOST_POSITIONS):
         piece = positions[at : at + MOST_POSITIONS]
         values = millionths(curve.values(piece))
-        for position, (early, late) in zip(piece.tolist(), values.tolist()):
+        for position, (early, late) in zip(piece, values.tolist()):
             lines.append(f"{ring_text(position)},{decimal(early)},{decimal(late)}\n")
     return lines
 
