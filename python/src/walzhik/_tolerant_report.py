@@ -6,9 +6,6 @@ from __future__ import annotations
 from dataclasses import dataclass
 from typing import NamedTuple
 
-SHOWN = 40  # bytes of a text that a message quotes at most
-FIRST_PRINTABLE, LAST_PRINTABLE, BACKSLASH = 32, 126, 92
-
 
 class Line(NamedTuple):
     """A line without its line end, and its number in the file, from 1."""
@@ -94,16 +91,3 @@ class Changes:
                 before = line
             runs.append(Change(first, words, before))
         return sorted(runs, key=lambda change: (change.line, change.last))
-
-
-def quoted(text: bytes) -> str:
-    """The bytes between quotation marks in ASCII, cut where they are long.
-
-    >>> quoted(b"ROOF04E ")
-    "'ROOF04E '"
-    """
-    shown = "".join(
-        chr(byte) if FIRST_PRINTABLE <= byte <= LAST_PRINTABLE and byte != BACKSLASH else f"\\x{byte:02x}"
-        for byte in text[:SHOWN]
-    )
-    return f"'{shown}" + ("...'" if len(text) > SHOWN else "'")

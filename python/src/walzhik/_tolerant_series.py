@@ -8,7 +8,8 @@ from collections.abc import Iterable, Iterator
 from itertools import groupby
 from typing import Literal, NamedTuple
 
-from walzhik._tolerant_report import Changes, Line, Unreadable, quoted
+from walzhik._tolerant_report import Changes, Line, Unreadable
+from walzhik.quoting import quoted
 
 Unit = Literal["hundredths", "thousandths"]
 

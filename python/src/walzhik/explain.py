@@ -11,7 +11,7 @@ import numpy as np
 from . import sheet, tucson
 from .errors import Refused
 from .reasons import PER_MM, SCAR, WOOD, count, millimetres
-from .sheet_reasons import quoted
+from .quoting import quoted
 from .tucson_reasons import HUNDREDTHS, closings
 
 

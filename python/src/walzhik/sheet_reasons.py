@@ -7,29 +7,13 @@ from __future__ import annotations
 import re
 
 from .errors import Refused, say
+from .quoting import quoted
 from .reasons import WOOD
 
 NAMES = ("breaks", "degrees", "orders", "coefs", "at")  # the sheet's lines in their order
 BAD_TEXT = 10
 MOST_DIGITS = 7
 MOST_ENTRIES = 4_096
-SHOWN = 40  # bytes of a text that a message quotes at most
-FIRST_PRINTABLE, PAST_PRINTABLE, BACKSLASH = 32, 127, 92
-
-
-def quoted(text: bytes) -> str:
-    r"""Bytes between quotation marks in ASCII, cut where they are long.
-
-    Examples
-    --------
-    >>> print(quoted(b"a\t1"), quoted(b"x" * 50))
-    'a\x091' 'xxxxxxxxxxxxxxxxxxxxxxxxxxxxxxxxxxxxxxxx...'
-    """
-    shown = "".join(
-        chr(byte) if FIRST_PRINTABLE <= byte < PAST_PRINTABLE and byte != BACKSLASH else f"\\x{byte:02x}"
-        for byte in text[:SHOWN]
-    )
-    return f"'{shown}" + ("...'" if len(text) > SHOWN else "'")
 
 
 def number_fault(text: bytes) -> str | None:

@@ -9,7 +9,7 @@ from __future__ import annotations
 import re
 from typing import NamedTuple
 
-from walzhik._tolerant_report import Change, Changes, Line, Unreadable, quoted
+from walzhik._tolerant_report import Change, Changes, Line, Unreadable
 from walzhik._tolerant_series import (
     FIELD_COLUMNS,
     HEAD,
@@ -20,6 +20,7 @@ from walzhik._tolerant_series import (
     settled,
     refuse_words,
 )
+from walzhik.quoting import quoted
 
 __all__ = ["Change", "Cleaned", "Unreadable", "clean"]
 

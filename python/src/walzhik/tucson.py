@@ -16,7 +16,7 @@ from . import tucson_reasons
 from ._engine import library, pointer, wholes
 from .errors import Refused
 from .reasons import MOST_WIDTH, PER_MM
-from .sheet_reasons import quoted
+from .quoting import quoted
 from .tucson_reasons import BAD_LINE, FIELD_COLUMNS, HEAD, NAME_COLUMNS
 
 if TYPE_CHECKING:

@@ -8,7 +8,7 @@ import re
 from dataclasses import dataclass, field
 
 from .errors import Refused
-from .sheet_reasons import quoted
+from .quoting import quoted
 
 NAME_COLUMNS, YEAR_COLUMNS, FIELD_COLUMNS, MOST_FIELDS = 8, 4, 6, 10
 HEAD = NAME_COLUMNS + YEAR_COLUMNS

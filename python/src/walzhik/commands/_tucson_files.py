@@ -12,7 +12,7 @@ import click
 from .. import tucson
 from ..failures import Refusal, telling
 from ..files import read_whole
-from ..sheet_reasons import quoted
+from ..quoting import quoted
 from ..tucson import Series, Unit
 
 Decorated = TypeVar("Decorated", bound=Callable[..., Any])
