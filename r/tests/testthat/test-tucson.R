@@ -69,7 +69,7 @@ test_that("a text longer than a chunk is read whole", {
   rwl <- read_tucson(path)
   expect_identical(dim(rwl), c(9L, 20000L))
   expect_true(all(unlist(rwl) == 1.234))
-  expect_identical(write_tucson(rwl), text)
+  expect_true(identical(write_tucson(rwl), text)) # a difference this long is not shown
 })
 
 test_that("names that a data frame can't hold apart are refused", {
