@@ -201,7 +201,7 @@ refusal_words <- list(
     words = "Stretch {place}, from ring {start} to ring {end}, has degree {degree}: only degrees 1, 2 and 3 are drawn as one piece.",
     remedy = "Draw it by its values."),
   "18 count" = c(counts = "4294967295",
-    words = "There are {ordinates}, but these stretches take {ordinates_needed}: one more than its degree for each.",
+    words = "The list has {ordinates}, but these stretches take {ordinates_needed}: one more than its degree for each.",
     remedy = "Count them; send one wood part at a time."),
   "18 range" = c(counts = "ordinate",
     words = "Ordinate {place} is {number}: each is from -256,000,000 to 256,000,000, in 256ths of a thousandth of a millimetre.",

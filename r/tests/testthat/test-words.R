@@ -86,7 +86,7 @@ test_that("the refusals of coefficients tell the join and what differs", {
                "the slopes on its two sides differ by 1/256 thousandths of a millimetre a ring")
   bends <- curve_space(0:2, c(3, 3), 2)
   expect_match(expect_refused(curve_coefficients(bends, c(0, 0, 0, 0, 0, 0, 256, 0)), 19, 0)$words, "the bends .* differ by 6 thousandths")
-  expect_match(expect_refused(curve_coefficients(w1(), 1:5), 18, largest_place)$words, "There are 5 ordinates")
+  expect_match(expect_refused(curve_coefficients(w1(), 1:5), 18, largest_place)$words, "The list has 5 ordinates")
   expect_match(expect_refused(curve_coefficients(w1(), c(256000001, 0, 0, 0, 0, 0)), 18, 0)$words, "Ordinate 0 is 256000001")
   steep <- curve_space(c(0, 1, 512), c(2, 2), 1)
   expect_refused(curve_coefficients(steep, rep(256 * 16384, 6)), 20, 0)
