@@ -84,6 +84,14 @@ test_that("templates cover the series, by its length", {
   expect_usage(fit_curve(rwl_of(1)), "Series A: There is 1 ring")
 })
 
+test_that("the command's fits of the examples are these too", {
+  coefs <- function(name) lapply(unclass(fit_curve(read_tucson(example_file(name)))), function(fit) fit$coefficients[, 1])
+  expect_equal(coefs("oak.rwl"), list(ROOF04E = c(1057, 4103, 2740, 1510, 1696, 1131, 619),
+                                      ROOF04L = c(457, 550, 795, 818, 577, 446, 233)), ignore_attr = c("rwl", "first"))
+  expect_equal(coefs("pine.rwl"), list(WAL01A = c(2609, 1694, 1408, 1261, 1208), WAL01B = c(1776, 1239, 1611, 1381, 1156),
+                                       `WAL 02` = c(1283, 1175, 1166, 1204, 1011)), ignore_attr = c("rwl", "first"))
+})
+
 test_that("fits are printed, and a part of them is fits", {
   fits <- fit_curve(read_tucson(example_file("oak.rwl")))
   expect_output(print(fits), "2 fitted curves\n  ROOF04E: [0-9]+ stretch.* from ring 1703 to ring 180[23], n = [0-9]+\n    Fitted to 99 rings")
