@@ -26,8 +26,9 @@ refusal_words <- list(
 """
 TEMPLATES = ROOT / "python" / "src" / "walzhik" / "fit.py"
 TEMPLATES_HEAD = """\
-# The templates of fitted curves: from how many rings on, where their segments start, and the degrees. Made by tests/r_made.py from
-# the command's templates in python/src/walzhik/fit.py, so that both fit the same curves: change that table and make this file again.
+# The templates of fitted curves: from how many rings on, where their segments start, and the degrees. Made by tests/r_made.py
+# from the command's templates in python/src/walzhik/fit.py, so that both fit the same curves: change that table and make this
+# file again.
 
 templates <- list(
 """

@@ -2,6 +2,8 @@
 
 thousandths_unit <- "thousandths of a millimetre"
 position_unit <- "256ths of a ring"
+ordinate_unit <- "256ths of a thousandth of a millimetre"
+piece_columns <- c("degree", "start", "end", "o0", "o1", "o2", "o3")
 
 # Both wood parts side by side, as the engine takes them.
 pairs_of <- function(coefficients, call = sys.call(-1)) {
@@ -64,7 +66,7 @@ curve_values <- function(curve, positions) {
 predict.walzhik_curve <- function(object, rings = seq(min(object$space$breaks), max(object$space$breaks)), ...) {
   if (!is.numeric(rings) || is.object(rings)) usage("rings are numbers, in steps of 1/256.")
   read <- curve_values(object, whole_numbers(rings * unit, "256 * rings", position_unit))
-  read / (unit * 1000)
+  read / (unit * per_mm)
 }
 
 curve_reach <- function(curve, width, wood = NULL) {
@@ -79,14 +81,14 @@ curve_pieces <- function(curve, segments = seq_along(curve$space$degrees) - 1L, 
   call <- sys.call()
   pieces <- vapply(segments, function(segment) {
     asked(.Call(C_piece, given$breaks, given$degrees, given$orders, given$coefs, segment, given$latewood), given, call)$piece
-  }, numeric(7))
-  numbers <- matrix(t(pieces), ncol = 7, dimnames = list(NULL, c("degree", "start", "end", paste0("o", 0:3))))
+  }, numeric(length(piece_columns)))
+  numbers <- matrix(t(pieces), ncol = length(piece_columns), dimnames = list(NULL, piece_columns))
   data.frame(segment = segments, numbers)
 }
 
 curve_coefficients <- function(space, ordinates) {
   check_space(space)
-  given <- c(space_lists(space), list(ordinates = whole_numbers(ordinates, "ordinates", "256ths of a thousandth of a millimetre")))
+  given <- c(space_lists(space), list(ordinates = whole_numbers(ordinates, "ordinates", ordinate_unit)))
   recovered <- asked(.Call(C_coefficients, given$breaks, given$degrees, given$orders, given$ordinates), given)
   data.frame(recovered[c("numerator", "denominator")])
 }

@@ -47,7 +47,8 @@ check_rings <- function(space, each, first, widths, call) {
 solved <- function(design, widths, name, call) {
   if (qr(design)$rank < ncol(design)) {
     usage("Series ", name, ": ", count_of(nrow(design), "ring"), " in these places can't tell the ",
-          count_of(ncol(design), "coefficient"), " of the space. Take fewer stretches, lower degrees or higher orders.", call = call)
+          count_of(ncol(design), "coefficient"), " of the space. Take fewer stretches, lower degrees or higher orders.",
+          call = call)
   }
   # The weights on each ordinate add up to one, so the least coefficients alone give a curve of just that height.
   solution <- nnls(design, widths - least_coefficient)
@@ -57,7 +58,7 @@ solved <- function(design, widths, name, call) {
 
 # How close the curve is to the present widths, in millimetres.
 fit_quality <- function(curve, rings, widths) {
-  widths <- widths / 1000
+  widths <- widths / per_mm
   left <- widths - predict(curve, rings)[, 1]
   spread <- sum((widths - mean(widths))^2)
   list(rings = length(rings), mean_square = mean(left^2), explained = if (spread > 0) 1 - sum(left^2) / spread else NA_real_)
@@ -101,6 +102,8 @@ describe_fit <- function(fit) {
 
 print.walzhik_fits <- function(x, ...) {
   cat(count_of(length(x), "fitted curve"), "\n", sep = "")
-  for (name in names(x)) cat("  ", name, ": ", describe_space(x[[name]]$space), "\n    ", describe_fit(x[[name]]$fit), "\n", sep = "")
+  for (name in names(x)) {
+    cat("  ", name, ": ", describe_space(x[[name]]$space), "\n    ", describe_fit(x[[name]]$fit), "\n", sep = "")
+  }
   invisible(x)
 }

@@ -1,6 +1,8 @@
 # Ring indices of a data frame of widths, in its shape, as dplR's detrend() gives them. Each index is worked out by the proved
 # call; here it only finds its place.
 
+per_index <- 1000 # the engine's index of a ring as wide as the curve
+
 # One entry for each series: one for all, or one by each name.
 for_series <- function(x, names, what, call = sys.call(-1)) {
   if (is.null(names(x))) {
@@ -49,7 +51,7 @@ ring_indices <- function(rwl, curves, wood = NULL, first = attr(curves, "first")
     curve <- check_curve(curves[[each$name]], call)
     latewood <- is_latewood(curve, if (!is.null(woods)) woods[[each$name]], call)
     indices <- series_indices(each, curve, rings[[each$name]], latewood, call)
-    column[match(each$first, rownames(rwl)) - 1 + seq_along(indices)] <- ifelse(indices < 0, NA, indices / 1000)
+    column[match(each$first, rownames(rwl)) - 1 + seq_along(indices)] <- ifelse(indices < 0, NA, indices / per_index)
     column
   })
   structure(columns, names = names(rwl), row.names = rownames(rwl), class = c("rwi", "data.frame"))

@@ -7,6 +7,12 @@ line_kinds <- c(earlywood = 1, latewood = 2)
 positions_drawn <- 512 # in each part between scars
 most_pictures <- 9
 index_marks <- 3 # on the axis of indices, some
+margins_above <- c(0.6, 4.2, 2.2, 0.8)
+margins_below <- c(4, 4.2, 0.6, 0.8)
+panel_heights <- c(3, 2) # of widths and of indices
+point_size <- 0.6
+dot_sign <- 20
+absent_sign <- 4 # a cross
 
 # Positions of each part between scars, evenly over it; on a scar the value is that of the part before.
 drawn_positions <- function(space) {
@@ -20,14 +26,14 @@ drawn_positions <- function(space) {
 # Ring and millimetres of a wood part's curve, a missing value at each scar.
 curve_path <- function(curve, wood) {
   parts <- lapply(drawn_positions(curve$space), function(positions) {
-    rbind(cbind(positions / unit, curve_values(curve, positions)[, wood] / (unit * 1000)), NA)
+    rbind(cbind(positions / unit, curve_values(curve, positions)[, wood] / (unit * per_mm)), NA)
   })
   do.call(rbind, parts)
 }
 
 mark_breaks <- function(space) {
   inner <- setdiff(space$breaks, c(range(space$breaks), scars_of(space)))
-  abline(v = inner, col = "grey80", lty = 3)
+  abline(v = inner, col = "grey80", lty = "dotted")
   abline(v = scars_of(space), col = "grey50")
 }
 
@@ -48,23 +54,23 @@ plot.walzhik_curve <- function(x, wood = if (x$whole) "earlywood" else c("earlyw
 draw_widths <- function(curve, rings, widths, name, xlim) {
   path <- curve_path(curve, "earlywood")
   ylim <- range(0, path[, 2], widths, na.rm = TRUE)
-  par(mar = c(0.6, 4.2, 2.2, 0.8))
-  plot(rings, ifelse(widths == 0, NA, widths), type = "o", pch = 20, cex = 0.6, col = colour_widths, xlim = xlim, ylim = ylim,
-       xaxt = "n", xlab = "", ylab = "Ring width (mm)", main = name, las = 1)
+  par(mar = margins_above)
+  plot(rings, ifelse(widths == 0, NA, widths), type = "o", pch = dot_sign, cex = point_size, col = colour_widths, xlim = xlim,
+       ylim = ylim, xaxt = "n", xlab = "", ylab = "Ring width (mm)", main = name, las = 1)
   axis(1, labels = FALSE)
   absent <- which(widths == 0)
-  points(rings[absent], rep(0, length(absent)), pch = 4)
+  points(rings[absent], rep(0, length(absent)), pch = absent_sign)
   mark_breaks(curve$space)
   lines(path, col = colour_curve["earlywood"], lwd = 2)
 }
 
 draw_indices <- function(rings, indices, xlim, xlab) {
   ylim <- range(0, 1, indices, na.rm = TRUE)
-  par(mar = c(4, 4.2, 0.6, 0.8))
+  par(mar = margins_below)
   plot(rings, indices, type = "n", xlim = xlim, ylim = ylim, yaxt = "n", xlab = xlab, ylab = "Index")
   axis(2, at = pretty(ylim, index_marks), las = 1)
   abline(h = 1, col = colour_curve["earlywood"], lwd = 2)
-  lines(rings, indices, type = "o", pch = 20, cex = 0.6, col = colour_widths)
+  lines(rings, indices, type = "o", pch = dot_sign, cex = point_size, col = colour_widths)
 }
 
 # A grid of pictures, each with a panel for the widths above one for the indices.
@@ -76,7 +82,7 @@ picture_grid <- function(count) {
     row <- 2 * ((picture - 1) %/% across)
     cells[row + 1:2, (picture - 1) %% across + 1] <- 2 * picture - 1:0
   }
-  layout(cells, heights = rep(c(3, 2), down))
+  layout(cells, heights = rep(panel_heights, down))
 }
 
 draw_series <- function(fits, name, indices) {

@@ -3,6 +3,7 @@
 # degrees and orders and, by call, coefs, positions, widths with first and latewood, width or ordinates.
 
 unit <- 256 # positions are in 256ths of a ring, values in 256ths of a thousandth of a millimetre
+per_mm <- 1000
 wood_parts <- c("earlywood", "latewood")
 scar <- -1L
 most_order <- 2L
@@ -145,7 +146,7 @@ fraction_fault <- function(given, place) {
 
 join_fault <- function(case) function(given, place) found(case, ring = given$breaks[place + 2])
 
-millimetres <- function(value) sprintf("%.3f", floor((2 * value + unit) / (2 * unit)) / 1000)
+millimetres <- function(value) sprintf("%.3f", floor((2 * value + unit) / (2 * unit)) / per_mm)
 
 index_fault <- function(given, place) {
   width <- given$widths[place + 1]

@@ -22,7 +22,7 @@ start_derivative <- function(ordinates, order) {
 }
 
 difference_text <- function(numerator, denominator) {
-  if (abs(numerator) >= most_exact || denominator >= most_exact) return(paste("some", format(numerator / denominator, digits = 6)))
+  if (abs(numerator) >= most_exact || denominator >= most_exact) return(paste("some", format(numerator / denominator)))
   divisor <- greatest_divisor(abs(numerator), denominator)
   parts <- c(numerator, denominator) / divisor
   if (parts[2] == 1) as_text(parts[1]) else paste0(as_text(parts[1]), "/", as_text(parts[2]))
@@ -34,13 +34,14 @@ missed <- function(given, join) {
   middle <- first + degrees[join + 1] + 1
   left <- given$ordinates[(first + 1):middle]
   right <- given$ordinates[middle + seq_len(degrees[join + 2] + 1)]
-  lengths <- as.numeric(diff(given$breaks[join + 1:3]))
+  lengths <- as.numeric(diff(given$breaks))[join + 1:2]
   for (order in 0:given$orders[join + 1]) {
     before <- (-1)^order * start_derivative(rev(left), order) * lengths[2]^order
     after <- start_derivative(right, order) * lengths[1]^order
     if (before != after) {
       by <- difference_text(after - before, unit * prod(lengths)^order)
-      return(sprintf("the %s on its two sides differ by %s thousandths of a millimetre%s", differ[order + 1], by, by_rings[order + 1]))
+      return(sprintf("the %s on its two sides differ by %s thousandths of a millimetre%s", differ[order + 1], by,
+                     by_rings[order + 1]))
     }
   }
   "the joins before it leave no room for it"

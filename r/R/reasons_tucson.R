@@ -11,21 +11,27 @@ thousandths_closing <- -9999L
 most_hundredths <- 9999L
 least_year <- -999L
 most_year <- 9999L
+bad_year <- 12
+bad_closing <- 13
+blank <- as.raw(32)
+last_printable <- as.raw(126)
+backslash <- as.raw(92)
 line_end <- as.raw(10)
 carriage_return <- as.raw(13)
 shown_bytes <- 40L # of a text that a message quotes
 
 # The bytes between quotation marks in ASCII, cut where they are long.
 quoted <- function(bytes) {
-  codes <- as.integer(head(bytes, shown_bytes))
-  plain <- codes >= 32 & codes < 127 & codes != 92
+  cut <- head(bytes, shown_bytes)
+  codes <- as.integer(cut)
+  plain <- cut >= blank & cut <= last_printable & cut != backslash
   shown <- ifelse(plain, intToUtf8(pmax(codes, 1), multiple = TRUE), sprintf("\\x%02x", codes))
   paste0("'", paste(shown, collapse = ""), if (length(bytes) > shown_bytes) "...", "'")
 }
 
 # The number that stands at the right of these bytes, or NA.
 number_in <- function(bytes) {
-  if (any(bytes == 0 | bytes > as.raw(126))) return(NA_integer_)
+  if (any(bytes == 0 | bytes > last_printable)) return(NA_integer_)
   text <- rawToChar(bytes)
   if (grepl("^ *(0|-?[1-9][0-9]*)$", text)) as.integer(text) else NA_integer_
 }
@@ -54,7 +60,7 @@ year_of <- function(body) number_in(body[(name_columns + 1):head_columns])
 
 name_of <- function(body) head(body, name_columns)
 
-is_name <- function(bytes) all(bytes >= 32 & bytes <= as.raw(126)) && any(bytes != as.raw(32))
+is_name <- function(bytes) all(bytes >= blank & bytes <= last_printable) && any(bytes != blank)
 
 column_fault <- function(body, ended) {
   columns <- length(body)
@@ -108,8 +114,8 @@ closing_fault <- function(text, lines, place) {
 line_fault <- function(text, number, place) {
   lines <- line_table(text)
   body <- line_bytes(text, lines, place)
-  if (number == 12) return(year_fault(line_bytes(text, lines, place - 1), body))
-  if (number == 13) return(closing_fault(text, lines, place))
+  if (number == bad_year) return(year_fault(line_bytes(text, lines, place - 1), body))
+  if (number == bad_closing) return(closing_fault(text, lines, place))
   fault <- column_fault(body, lines$ended[place])
   if (!is.null(fault)) return(fault)
   field_fault(body, !identical(name_of(line_bytes(text, lines, place + 1)), name_of(body)))

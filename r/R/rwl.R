@@ -3,11 +3,12 @@
 
 near_whole <- 1e-6 # of a thousandth: what is left of decimals like 1.23 in binary
 
+year_pattern <- "^(0|-?[1-9][0-9]{0,8})$" # what R's integers hold
+
 years_of <- function(rwl, call = sys.call(-1)) {
   names <- rownames(rwl)
-  if (!all(grepl("^(0|-?[1-9][0-9]{0,8})$", names))) {
-    usage("The row names of rwl are years, but ", names[!grepl("^(0|-?[1-9][0-9]{0,8})$", names)][1], " is none.", call = call)
-  }
+  strange <- grep(year_pattern, names, invert = TRUE, value = TRUE)
+  if (length(strange) > 0) usage("The row names of rwl are years, but ", strange[1], " is none.", call = call)
   years <- as.integer(names)
   jump <- which(diff(years) != 1)[1]
   if (!is.na(jump)) {
@@ -21,7 +22,7 @@ thousandths <- function(widths, name, years, call = sys.call(-1)) {
   if (is.factor(widths)) usage("Series ", name, " is a factor: its codes are not its widths.", call = call)
   if (is.object(widths)) usage("Series ", name, " has the class ", class(widths)[1], ": give plain numbers.", call = call)
   if (!is.numeric(widths)) usage("Series ", name, " is of type ", typeof(widths), ": give widths in millimetres.", call = call)
-  scaled <- 1000 * as.vector(widths)
+  scaled <- per_mm * as.vector(widths)
   whole <- round(scaled)
   large <- which(!is.na(scaled) & abs(whole) > most_whole)[1]
   if (!is.na(large)) {

@@ -7,7 +7,9 @@ template_space <- function(rings, first = 0) {
   rings <- one_whole(rings, "rings")
   first <- one_whole(first, "first", "rings")
   fewest <- templates[[length(templates)]]$rings
-  if (rings < fewest) usage("There ", if (rings == 1) "is " else "are ", count_of(rings, "ring"), ": a curve needs at least ", fewest, ".")
+  if (rings < fewest) {
+    usage("There ", if (rings == 1) "is " else "are ", count_of(rings, "ring"), ": a curve needs at least ", fewest, ".")
+  }
   if (rings > most_span) {
     usage("There are ", count_of(rings, "ring"), ", and a curve spans at most ", with_commas(most_span),
           " without a scar: give a space with a scar (order -1) where the wood has one.")

@@ -49,7 +49,7 @@ rwl_frame <- function(names, first, count, widths) {
   columns <- lapply(seq_along(names), function(place) {
     column <- rep(NA_real_, length(years))
     at <- seq_len(count[place])
-    column[first[place] - years[1] + at] <- widths[ends[place] - count[place] + at] / 1000
+    column[first[place] - years[1] + at] <- widths[ends[place] - count[place] + at] / per_mm
     column
   })
   structure(columns, names = names, row.names = as.character(years), class = c("rwl", "data.frame"))
@@ -86,7 +86,7 @@ padded_names <- function(names, call = sys.call(-1)) {
   if (!is.na(long)) {
     usage("The name ", names[long], " has ", length(bytes[[long]]), " bytes: a Tucson file takes ", name_columns, ".", call = call)
   }
-  padded <- lapply(bytes, function(name) c(name, rep(as.raw(32), name_columns - length(name))))
+  padded <- lapply(bytes, function(name) c(name, rep(blank, name_columns - length(name))))
   as.raw(unlist(padded))
 }
 

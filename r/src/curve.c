@@ -3,7 +3,7 @@
 #include "entries.h"
 #include "lent.h"
 
-enum { WOOD_PARTS = 2, MOST_ORDINATES = 4 };
+enum { WOOD_PARTS = 2, MOST_ORDINATES = 4, BEFORE_ORDINATES = 3 };
 
 static int is_latewood(SEXP flag)
 {
@@ -94,7 +94,7 @@ SEXP reach(SEXP breaks, SEXP degrees, SEXP orders, SEXP coefs, SEXP width, SEXP 
 static SEXP piece_numbers(const walzhik_piece *drawn)
 {
     const double ordinates[MOST_ORDINATES] = {drawn->o0, drawn->o1, drawn->o2, drawn->o3};
-    SEXP numbers = Rf_allocVector(REALSXP, 3 + MOST_ORDINATES);
+    SEXP numbers = Rf_allocVector(REALSXP, BEFORE_ORDINATES + MOST_ORDINATES);
     double *cells = REAL(numbers);
     *cells++ = drawn->degree;
     *cells++ = drawn->start;

@@ -59,9 +59,9 @@ SEXP reply_of(double count, uint32_t number, uint32_t place)
 {
     static const char *const names[] = {"count", "number", "place"};
     const double entries[] = {count, (double)number, (double)place};
-    SEXP reply = PROTECT(Rf_allocVector(REALSXP, 3));
-    SEXP labels = PROTECT(Rf_allocVector(STRSXP, 3));
-    for (int entry = 0; entry < 3; entry++) {
+    SEXP reply = PROTECT(Rf_allocVector(REALSXP, COUNT(names)));
+    SEXP labels = PROTECT(Rf_allocVector(STRSXP, COUNT(names)));
+    for (int entry = 0; entry < COUNT(names); entry++) {
         REAL(reply)[entry] = entries[entry];
         SET_STRING_ELT(labels, entry, Rf_mkChar(names[entry]));
     }

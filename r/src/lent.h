@@ -39,6 +39,8 @@ void *lent(size_t count, size_t size);
 /* Lets R see an interrupt once in a while: the count of turns so far. */
 void look_up(size_t turn);
 
+#define COUNT(array) ((int)(sizeof(array) / sizeof *(array)))
+
 /* A named list; `names` has as many entries as `values`, which must be protected by the caller. */
 SEXP named_list(int count, const char *const *names, const SEXP *values);
 

@@ -77,14 +77,14 @@ static SEXP doubles(const double *entries, R_xlen_t count)
 static SEXP table_list(walzhik_reply reply, const weight_table *table)
 {
     static const char *const names[] = {"reply", "row", "column", "numerator", "denominator"};
-    SEXP values[5];
+    SEXP values[COUNT(names)];
     values[0] = PROTECT(reply_of((double)reply.count, reply.number, reply.place));
     values[1] = PROTECT(doubles(table->row, table->count));
     values[2] = PROTECT(doubles(table->column, table->count));
     values[3] = PROTECT(doubles(table->num, table->count));
     values[4] = PROTECT(doubles(table->den, table->count));
-    SEXP list = named_list(5, names, values);
-    UNPROTECT(5);
+    SEXP list = named_list(COUNT(names), names, values);
+    UNPROTECT(COUNT(names));
     return list;
 }
 
@@ -128,11 +128,11 @@ SEXP coefficients(SEXP breaks, SEXP degrees, SEXP orders, SEXP ordinates)
         space.breaks.entries, space.breaks.length, space.degrees.entries, space.degrees.length, space.orders.entries,
         space.orders.length, local.entries, local.length, weights.num, WALZHIK_CELLS, weights.den, WALZHIK_CELLS, num,
         local.length, den, local.length);
-    SEXP values[3];
+    SEXP values[COUNT(names)];
     values[0] = PROTECT(reply_of((double)reply.count, reply.number, reply.place));
     values[1] = PROTECT(doubles_of_whole(num, (R_xlen_t)reply.count));
     values[2] = PROTECT(doubles_of_whole(den, (R_xlen_t)reply.count));
-    SEXP list = named_list(3, names, values);
-    UNPROTECT(3);
+    SEXP list = named_list(COUNT(names), names, values);
+    UNPROTECT(COUNT(names));
     return list;
 }

@@ -72,14 +72,14 @@ SEXP tucson_read(SEXP text)
     walzhik_reply reply = walzhik_tucson_read(bytes, length, lists.names, NAME_BYTES * most, lists.years, most, lists.counts,
                                               most, lists.widths, most_widths);
     R_xlen_t series = (R_xlen_t)reply.count, widths;
-    SEXP values[5];
+    SEXP values[COUNT(names)];
     values[0] = PROTECT(reply_of((double)reply.count, reply.number, reply.place));
     values[1] = PROTECT(name_strings(lists.names, series));
     values[2] = PROTECT(integers(lists.years, series));
     values[3] = PROTECT(count_doubles(lists.counts, series, &widths));
     values[4] = PROTECT(integers(lists.widths, widths));
-    SEXP list = named_list(5, names, values);
-    UNPROTECT(5);
+    SEXP list = named_list(COUNT(names), names, values);
+    UNPROTECT(COUNT(names));
     return list;
 }
 
@@ -114,12 +114,12 @@ SEXP tucson_write(SEXP names, SEXP years, SEXP counts, SEXP widths)
         lengths[place] = count_of(listed.entries[place]);
     walzhik_reply reply = walzhik_tucson_write(bytes, (size_t)XLENGTH(names), first.entries, first.length, lengths,
                                                listed.length, all.entries, all.length, text, room);
-    SEXP values[2];
+    SEXP values[COUNT(labels)];
     values[0] = PROTECT(reply_of((double)reply.count, reply.number, reply.place));
     values[1] = PROTECT(Rf_allocVector(RAWSXP, (R_xlen_t)reply.count));
     if (reply.count > 0)
         memcpy(RAW(values[1]), text, (size_t)reply.count);
-    SEXP list = named_list(2, labels, values);
-    UNPROTECT(2);
+    SEXP list = named_list(COUNT(labels), labels, values);
+    UNPROTECT(COUNT(labels));
     return list;
 }

@@ -12,12 +12,12 @@ enum { BLOCK = 1024 };
 static SEXP fault(const char *kind, double entry, double value)
 {
     static const char *const names[] = {"kind", "entry", "value"};
-    SEXP values[3];
+    SEXP values[COUNT(names)];
     values[0] = PROTECT(Rf_mkString(kind));
     values[1] = PROTECT(Rf_ScalarReal(entry));
     values[2] = PROTECT(Rf_ScalarReal(value));
-    SEXP list = named_list(3, names, values);
-    UNPROTECT(3);
+    SEXP list = named_list(COUNT(names), names, values);
+    UNPROTECT(COUNT(names));
     return list;
 }
 

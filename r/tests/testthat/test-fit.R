@@ -94,7 +94,7 @@ test_that("the command's fits of the examples are these too", {
 
 test_that("fits are printed, and a part of them is fits", {
   fits <- fit_curve(read_tucson(example_file("oak.rwl")))
-  expect_output(print(fits), "2 fitted curves\n  ROOF04E: [0-9]+ stretch.* from ring 1703 to ring 180[23], n = [0-9]+\n    Fitted to 99 rings")
+  expect_output(print(fits), "2 fitted curves\n  ROOF04E: 3 stretches from ring 1703 to ring 1802, n = 7\n    Fitted to 99 rings")
   expect_s3_class(fits["ROOF04L"], "walzhik_fits")
   expect_identical(names(attr(fits["ROOF04L"], "rwl")), "ROOF04L")
   expect_output(print(fits$ROOF04E), "Curve of the whole ring: .*Fitted to 99 rings")
