@@ -38,9 +38,9 @@ without_archives() {
     return 1
 }
 
-# The indented lines of the README's section for R that are R.
+# The README's lines of R: an indented block that starts by loading the package.
 readme_lines() {
-    sed -n '/^## For R$/,/^## [^F]/p' README.md | sed -n 's/^    //p' | grep -vE '^(rt|R CMD) '
+    sed -n '/^    library(walzhik)$/,/^$/p' README.md | sed -n 's/^    //p'
 }
 
 # As the README says: installed from the root, and its lines end with a picture and with indices of all but the absent rings.

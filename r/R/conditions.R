@@ -13,7 +13,7 @@ filled <- function(sentence, told) {
   sentence
 }
 
-as_text <- function(x) if (is.numeric(x)) format(x, scientific = FALSE, trim = TRUE) else as.character(x)
+as_text <- function(x) if (is.numeric(x)) format(x, decimal.mark = ".", scientific = FALSE, trim = TRUE) else as.character(x)
 
 # The words and the remedy of a refusal. Where no case of the table fits, number and place still stand.
 words_for <- function(number, place, given) {

@@ -51,7 +51,7 @@ ring_indices <- function(rwl, curves, wood = NULL, first = attr(curves, "first")
     curve <- check_curve(curves[[each$name]], call)
     latewood <- is_latewood(curve, if (!is.null(woods)) woods[[each$name]], call)
     indices <- series_indices(each, curve, rings[[each$name]], latewood, call)
-    column[match(each$first, rownames(rwl)) - 1 + seq_along(indices)] <- ifelse(indices < 0, NA, indices / per_index)
+    column[each$rows] <- ifelse(indices < 0, NA, indices / per_index)
     column
   })
   structure(columns, names = names(rwl), row.names = rownames(rwl), class = c("rwi", "data.frame"))

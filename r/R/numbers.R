@@ -16,7 +16,10 @@ one_whole <- function(x, what, unit = NULL, call = sys.call(-1)) {
   number
 }
 
-with_commas <- function(x) format(x, big.mark = ",", scientific = FALSE, trim = TRUE)
+with_commas <- function(x) format(x, big.mark = ",", decimal.mark = ".", scientific = FALSE, trim = TRUE)
+
+# A number with all digits that tell it apart.
+in_full <- function(x) format(x, digits = 15, decimal.mark = ".")
 
 number_words <- function(found, x, what, unit, most) {
   whole <- paste0("whole numbers", if (!is.null(unit)) paste0(", in ", unit))
@@ -28,7 +31,7 @@ number_words <- function(found, x, what, unit, most) {
     type = paste0(what, " is of type ", typeof(x), ": give ", whole, "."),
     long = paste0(what, " has ", with_commas(found$value), " entries: at most ", with_commas(most), " are handed to the engine."),
     missing = paste0(entry, " is missing (NA): give ", whole, "."),
-    fraction = paste0(entry, " is ", format(found$value, digits = 15), ": give ", whole, "."),
-    large = paste0(entry, " is ", format(found$value, digits = 15), ": give ", whole, ", from -", with_commas(most_whole), " to ",
+    fraction = paste0(entry, " is ", in_full(found$value), ": give ", whole, "."),
+    large = paste0(entry, " is ", in_full(found$value), ": give ", whole, ", from -", with_commas(most_whole), " to ",
                    with_commas(most_whole), "."))
 }

@@ -90,11 +90,10 @@ draw_series <- function(fits, name, indices) {
   each <- series_of(rwl[name])[[1]]
   first <- first_rings(attr(fits, "first"), setNames(list(each), name))[[1]]
   rings <- first + seq_along(each$widths) - 1
-  rows <- match(each$first, rownames(rwl)) - 1 + seq_along(each$widths)
   xlim <- range(rings)
   xlab <- if (is.null(attr(fits, "first"))) "Year" else "Ring"
-  draw_widths(fits[[name]], rings, rwl[[name]][rows], name, xlim)
-  draw_indices(rings, indices[[name]][rows], xlim, xlab)
+  draw_widths(fits[[name]], rings, rwl[[name]][each$rows], name, xlim)
+  draw_indices(rings, indices[[name]][each$rows], xlim, xlab)
 }
 
 plot.walzhik_fits <- function(x, series = names(x), ...) {

@@ -22,7 +22,7 @@ start_derivative <- function(ordinates, order) {
 }
 
 difference_text <- function(numerator, denominator) {
-  if (abs(numerator) >= most_exact || denominator >= most_exact) return(paste("some", format(numerator / denominator)))
+  if (abs(numerator) >= most_exact || denominator >= most_exact) return(paste("some", in_full(signif(numerator / denominator))))
   divisor <- greatest_divisor(abs(numerator), denominator)
   parts <- c(numerator, denominator) / divisor
   if (parts[2] == 1) as_text(parts[1]) else paste0(as_text(parts[1]), "/", as_text(parts[2]))

@@ -21,31 +21,34 @@ years_of <- function(rwl, call = sys.call(-1)) {
 thousandths <- function(widths, name, years, call = sys.call(-1)) {
   if (is.factor(widths)) usage("Series ", name, " is a factor: its codes are not its widths.", call = call)
   if (is.object(widths)) usage("Series ", name, " has the class ", class(widths)[1], ": give plain numbers.", call = call)
+  if (!is.null(dim(widths))) usage("Series ", name, " has more than one column.", call = call)
   if (!is.numeric(widths)) usage("Series ", name, " is of type ", typeof(widths), ": give widths in millimetres.", call = call)
   scaled <- per_mm * as.vector(widths)
   whole <- round(scaled)
   large <- which(!is.na(scaled) & abs(whole) > most_whole)[1]
   if (!is.na(large)) {
-    usage("Series ", name, " has ", widths[large], " mm for ", years[large], ": that is no ring width.", call = call)
+    usage("Series ", name, " has ", in_full(widths[large]), " mm for ", years[large], ": that is no ring width.", call = call)
   }
   off <- which(abs(scaled - whole) > near_whole)[1]
   if (!is.na(off)) {
-    usage("Series ", name, " has ", format(widths[off], digits = 15), " mm for ", years[off],
+    usage("Series ", name, " has ", in_full(widths[off]), " mm for ", years[off],
           ": widths are whole thousandths of a millimetre. Round them with round(rwl, 3).", call = call)
   }
   as.integer(whole)
 }
 
-# A list of series, each with name, first year and widths from its first to its last; no widths where all are NA.
+# A list of series, each with name, first year, the rows where it stands, and widths from its first to its last; no widths where
+# all are NA.
 series_of <- function(rwl, call = sys.call(-1)) {
   if (!is.data.frame(rwl)) usage("rwl is no data frame of ring widths: see read_tucson().", call = call)
   names <- names(rwl)
+  if (anyNA(names)) usage("A series of rwl has no name.", call = call)
   if (anyDuplicated(names)) usage("Two series have the name ", names[duplicated(names)][1], ".", call = call)
   years <- if (length(rwl) > 0) years_of(rwl, call)
   setNames(lapply(names, function(name) {
     widths <- thousandths(rwl[[name]], name, years, call)
     there <- which(!is.na(widths))
     at <- if (length(there) > 0) seq(min(there), max(there)) else integer()
-    list(name = name, first = if (length(at) > 0) years[at[1]] else NA_integer_, widths = widths[at])
+    list(name = name, first = if (length(at) > 0) years[at[1]] else NA_integer_, rows = at, widths = widths[at])
   }), names)
 }

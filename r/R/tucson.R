@@ -6,7 +6,11 @@ chunk_bytes <- 2^20
 # All bytes of a file, a connection or a raw vector.
 bytes_of <- function(file, call = sys.call(-1)) {
   if (is.raw(file)) return(file)
-  if (inherits(file, "connection")) return(connection_bytes(file))
+  if (inherits(file, "connection")) {
+    return(tryCatch(connection_bytes(file), error = function(fault) {
+      usage("The connection can't be read: ", conditionMessage(fault), call = call)
+    }))
+  }
   if (!is.character(file) || length(file) != 1 || is.na(file)) {
     usage("file is the name of a file, a connection or a raw vector.", call = call)
   }

@@ -61,6 +61,12 @@ test_that("a column without widths stays empty, and over 4,096 rings are refused
   expect_refused(ring_indices(long, curve), 2, 1)
 })
 
+test_that("rings far along keep their rows, however their numbers are printed", {
+  curve <- growth_curve(curve_space(c(0, 10), 1), c(1000, 1000))
+  rwl <- data.frame(A = c(NA, 1, 2), row.names = c("99999", "100000", "100001"))
+  expect_identical(ring_indices(rwl, curve, first = 1)$A, c(NA, 1, 2))
+})
+
 test_that("curves are found by the series' names", {
   rwl <- read_tucson(example_file("oak.rwl"))
   fits <- fit_curve(rwl)

@@ -94,8 +94,20 @@ test_that("data frames of widths are looked at column by column", {
   expect_usage(write_tucson(data.frame(A = 1:2, row.names = c(1900, 1902))), "1902 comes after 1900")
   expect_usage(write_tucson(data.frame(A = 1:2, row.names = c(1901, 1900))), "1900 comes after 1901")
   expect_usage(write_tucson(setNames(data.frame(1, row.names = 1900), "ABCDEFGHI")), "ABCDEFGHI has 9 bytes")
+  expect_usage(write_tucson(setNames(data.frame(1, row.names = 1900), NA)), "A series of rwl has no name")
+  wide <- data.frame(row.names = 1900:1901)
+  wide$A <- matrix(1, 2, 2)
+  expect_usage(write_tucson(wide), "Series A has more than one column")
   twice <- setNames(data.frame(1, 1, row.names = 1900), c("A", "A"))
   expect_usage(write_tucson(twice), "Two series have the name A")
+})
+
+test_that("messages read the same where a comma marks decimals", {
+  before <- options(OutDec = ",")
+  on.exit(options(before))
+  expect_silent(condition <- caught(curve_values(growth_curve(w1(), 1:4), rep(0, 4097))))
+  expect_match(conditionMessage(condition), "4,097 positions are asked for in one call: at most 4,096")
+  expect_usage(curve_space(c(0, 0.5), 1), "breaks[2] is 0.5")
 })
 
 test_that("entry points that are called past these functions don't go wrong either", {
