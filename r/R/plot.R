@@ -50,13 +50,20 @@ plot.walzhik_curve <- function(x, wood = if (x$whole) "earlywood" else c("earlyw
   invisible(x)
 }
 
+# A line through whole rings with a break behind each scar: the ring on a scar belongs to the wood before it.
+broken_at <- function(rings, widths, scars) {
+  x <- c(rings, scars + 1 / 2)
+  data.frame(ring = x, width = c(widths, rep(NA, length(scars))))[order(x), ]
+}
+
 # The widths of one series behind its curve; an absent ring is a cross.
 draw_widths <- function(curve, rings, widths, name, xlim) {
   path <- curve_path(curve, "earlywood")
   ylim <- range(0, path[, 2], widths, na.rm = TRUE)
   par(mar = margins_above)
-  plot(rings, ifelse(widths == 0, NA, widths), type = "o", pch = dot_sign, cex = point_size, col = colour_widths, xlim = xlim,
-       ylim = ylim, xaxt = "n", xlab = "", ylab = "Ring width (mm)", main = name, las = 1)
+  measured <- broken_at(rings, ifelse(widths == 0, NA, widths), scars_of(curve$space))
+  plot(measured, type = "o", pch = dot_sign, cex = point_size, col = colour_widths, xlim = xlim, ylim = ylim, xaxt = "n", xlab = "",
+       ylab = "Ring width (mm)", main = name, las = 1)
   axis(1, labels = FALSE)
   absent <- which(widths == 0)
   points(rings[absent], rep(0, length(absent)), pch = absent_sign)

@@ -18,6 +18,13 @@ test_that("the drawn path has the curve's values, and a break at each scar", {
   expect_identical(range(there[, 1]), c(0, 2))
 })
 
+test_that("the line of widths is broken behind the ring of a scar", {
+  line <- broken_at(1:4, c(1, 2, 3, 4), c(2, 9))
+  expect_identical(line$ring, c(1, 2, 2.5, 3, 4, 9.5))
+  expect_identical(line$width, c(1, 2, NA, 3, 4, NA))
+  expect_identical(broken_at(1:2, c(1, NA), integer())$width, c(1, NA))
+})
+
 test_that("a long span is drawn by enough positions, all within it", {
   positions <- drawn_positions(curve_space(c(-1000, 900, 1000), c(1, 1), 0))
   expect_length(positions, 1)
