@@ -73,11 +73,12 @@ def templates_file():
 
 
 def copies():
-    """Where each example goes: the Tucson files of the help pages, and the refusals with their explanations for the tests."""
+    """Where each example goes: the Tucson files of the help pages, and the refusals with their explanations for the tests, but for
+    those of a sheet's text (number 10), which R does not read."""
     for path in sorted((ROOT / "examples" / "tucson").glob("*.rwl")):
         yield PACKAGE / "inst" / "extdata" / path.name, path.read_bytes()
     for path in sorted((ROOT / "examples" / "refusals").iterdir()):
-        if path.suffix in (".rwl", ".sheet", ".explained"):
+        if path.suffix in (".rwl", ".sheet", ".explained") and not path.name.startswith("refused_10"):
             yield PACKAGE / "tests" / "testthat" / "refusals" / path.name, path.read_bytes()
 
 

@@ -18,9 +18,8 @@ explained <- function(file) {
 
 test_that("refused sheets are explained as by the command", {
   files <- list.files(test_path("refusals"), "[.]sheet$", full.names = TRUE)
-  told <- Filter(function(file) explained(file)$reply[1] != 10, files)
-  expect_gt(length(told), 10)
-  for (file in told) {
+  expect_gt(length(files), 10)
+  for (file in files) {
     expected <- explained(file)
     condition <- expect_refused(ask_sheet(sheet_from(file)), expected$reply[1], expected$reply[2])
     expect_identical(condition$words, expected$words)
