@@ -60,7 +60,11 @@ fn first_position(breaks: &[i32], orders: &[i32], i: usize) -> i32
 }
 
 // The first positions of the segments.
-pub fn first_positions(breaks: &[i32], degrees: &[i32], orders: &[i32]) -> [i32; build_space::MAX_SEGMENTS]
+pub fn first_positions(
+    breaks: &[i32],
+    degrees: &[i32],
+    orders: &[i32],
+) -> [i32; build_space::MAX_SEGMENTS]
     requires { ⌜ ListsLegal (now breaks) (now degrees) (now orders) ⌝ }
     ensures { λ r. ⌜ r ≡ firstPositionsOf (space (now (breaks .entry)) (now (degrees .entry)) (now (orders .entry))) ⌝ }
 {

@@ -48,7 +48,7 @@ loop-again c =
     let s = c .before .before .before in
     let f = firstPosition (space (s .args .breaks .now) (s .args .degrees .now) (s .args .orders .now)) in
     let is : toZ w32 (ofZ w32 (c .first-position .result)) ≡ f (l .i) =
-        toZ-ofZ w32 _ (record { sfits = c .first-position .ok }) ∙ c .first-position .ensures ∙ first-partial (s .args .breaks .now) (s .args .degrees .now) (s .args .orders .now) (l .i) in
+    toZ-ofZ w32 _ (record { sfits = c .first-position .ok }) ∙ c .first-position .ensures ∙ first-partial (s .args .breaks .now) (s .args .degrees .now) (s .args .orders .now) (l .i) in
     (omega arith, ap₂ (λ (fs : List ℤ) (v : ℤ). set fs (l .i) v) (l .inv .1) is ∙ tab-more f (l .i) (replicate 48 (pos 0)) (omega (arith, s .pre .few)))
 
 returns : tie.Need-returns Inv-loop μ-loop

@@ -77,7 +77,7 @@ returns-2 c b d o legal is count =
     let after = getD (s .args .firsts .now) (s .args .near + 1) (pos 0) in
     let more : suc (s .args .near) < length d = omega (arith, count) in
     let next : after ≡ firstPosition (space b d o) (suc (s .args .near)) =
-        ap (λ (k : ℕ). getD (s .args .firsts .now) k (pos 0)) (let e : s .args .near + 1 ≡ suc (s .args .near) = omega arith in e) ∙ as-first s b d o legal is (suc (s .args .near)) more in
+    ap (λ (k : ℕ). getD (s .args .firsts .now) k (pos 0)) (let e : s .args .near + 1 ≡ suc (s .args .near) = omega arith in e) ∙ as-first s b d o legal is (suc (s .args .near)) more in
     let below : ltZ x after ≡ true = ap₂ ltZ (sym (toZ-ofZ w32 x (s .fits .x))) (sym (toZ-ofZ w32 after (record { sfits = c .before .after .given }))) ∙ c .if3 .taken in
     sym (near-is b d o legal x (s .args .near) (omega (arith, count)) (starts-there s b d o legal is (omega (arith, count)) (starts f (c .before .before .before .if1 .taken))) (inr (ltZ-true _ _ (ap (ltZ x) (sym next) ∙ below))))
 
