@@ -20,9 +20,10 @@ KIT = {"std", "check", "libc", "io", "os", "bytes"}
 WITHIN = {"crate", "self", "super"}
 DEFINITIONS_AND_LAWS = (
     r"base_exact\.(specs|proofs)",
+    r"base_outcome\.(specs|proofs)",
     r"spec_\w+\.(specs|proofs)",
     r"theorems_\w+\.(specs|proofs)",
-    r"build_space\.(specs|proofs)\.Machine",
+    r"build_space\.specs\.Machine",
     r"curve_ordinates\.specs\.Wood",
 )
 

@@ -7,7 +7,7 @@ use Prim.Native.Nat.{ℕ, suc, _+_, _-_, _<_, _≤_}
 use native.Mathlib.Omega.{arith}
 use lib.IntN.{ℤ}
 use lib.ListN.{length, take, drop}
-use Rattle.spec_spline.specs.Outcome.{Outcome, answer, refusal, capped, with-answer}
+use Rattle.base_outcome.specs.Outcome.{Outcome, answer, refusal, capped, with-answer}
 use Rattle.spec_spline.specs.Space.{Space, partEnd, firstColumn, columnCount, conditionsBefore, rowCount}
 use Rattle.spec_spline.specs.Table.{Table, numerators, denominators}
 use Rattle.spec_spline.specs.Build.{weights, lastPart, clears, numeratorsAfter, denominatorsAfter}

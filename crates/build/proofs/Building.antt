@@ -10,11 +10,11 @@ use borrow.Author.Tests.{lt-ltb, le-ltb}
 use lib.Dec.{ltb}
 use lib.IntN.{ℤ, pos}
 use lib.ListN.{length}
-use Rattle.spec_spline.specs.Outcome.{Outcome, answer, refusal, refuse, with-answer}
+use Rattle.base_outcome.specs.Outcome.{Outcome, answer, refusal, refuse, with-answer}
 use Rattle.spec_spline.specs.Space.{Space, segments, columnCount, conditionCount, checked}
 use Rattle.spec_spline.specs.Table.{Table, identity, tableCells, numerators, denominators}
 use Rattle.spec_spline.specs.Build.{orderSteps, joinSteps, weights, spaceWeights, built, clears, numeratorsAfter, denominatorsAfter}
-use Rattle.spec_spline.proofs.Outcome.{RefusedAs, repeat-refused, then-answers, then-refuses, capped-small}
+use Rattle.base_outcome.proofs.Outcome.{RefusedAs, repeat-refused, then-answers, then-refuses, capped-small}
 use Rattle.spec_spline.proofs.Build.{long-enough}
 use Rattle.build_cells.specs.Held.{Kept}
 use Rattle.build_cells.specs.Region.{filled}

@@ -7,13 +7,13 @@ use Prim.Native.Nat.{ℕ, suc, _+_, _<_, _≤_}
 use native.Mathlib.Omega.{arith}
 use lib.IntN.{ℤ}
 use lib.ListN.{length, drop}
-use Rattle.spec_spline.specs.Outcome.{Outcome, answer, refusal, with-answer}
+use Rattle.base_outcome.specs.Outcome.{Outcome, answer, refusal, with-answer}
 use Rattle.spec_spline.specs.Space.{Space, conditionCount, conditionsBefore, firstColumn}
 use Rattle.spec_spline.specs.Conditions.{conditions}
 use Rattle.spec_spline.specs.Table.{Table, identity, numerators, denominators}
 use Rattle.spec_spline.specs.Step.{step}
 use Rattle.spec_spline.specs.Build.{orderSteps}
-use Rattle.spec_spline.proofs.Outcome.{RefusedAs, repeat-refused}
+use Rattle.base_outcome.proofs.Outcome.{RefusedAs, repeat-refused}
 use Rattle.spec_spline.proofs.Refusals.{EightOrNine, step-refuses}
 use Rattle.build_space.specs.Machine.{space}
 use Rattle.build_space.specs.Legal.{PartLegal}

@@ -19,14 +19,14 @@ use Rattle.base_exact.proofs.Rational.{add-zero, zero-mul}
 use Rattle.base_exact.proofs.Sum.{sum-ext}
 use Rattle.base_exact.proofs.Tabulate.{tab-length, tab-getD}
 use Rattle.base_fraction.proofs.Size.{int-fits}
-use Rattle.spec_spline.specs.Outcome.{Outcome, answer, refusal, refuse, _then_, with-answer, collect, repeat}
-use Rattle.spec_spline.specs.Search.{first, last, found}
+use Rattle.base_outcome.specs.Outcome.{Outcome, answer, refusal, refuse, _then_, with-answer, collect, repeat}
+use Rattle.base_outcome.specs.Search.{first, last, found}
 use Rattle.spec_spline.specs.Space.{Space, degree, firstColumn}
 use Rattle.spec_spline.specs.Conditions.{Entry, conditions}
 use Rattle.spec_spline.specs.Table.{Row, Table, entry, row, identity}
 use Rattle.spec_spline.specs.Step.{Span, count, addProducts, jump, jumps, jumpsAt, zeroBetween, spanOf, span, partialSum, factor, quotientFactor, factors, newRow, newRows, mixed, step}
-use Rattle.spec_spline.proofs.Outcome.{then-answers, then-refuses, collect-answers, collect-stops, Collected, collect-inverts, Stopped, collect-refuses}
-use Rattle.spec_spline.proofs.Search.{First, Searched, search-first, first-none, first-at, first-ext, Last, SearchedBack, search-last, last-none, last-at}
+use Rattle.base_outcome.proofs.Outcome.{then-answers, then-refuses, collect-answers, collect-stops, Collected, collect-inverts, Stopped, collect-refuses}
+use Rattle.base_outcome.proofs.Search.{First, Searched, search-first, first-none, first-at, first-ext, Last, SearchedBack, search-last, last-none, last-at}
 use Rattle.spec_spline.proofs.Step.{count-fits, products-none, products-more}
 use Rattle.spec_spline.specs.Build.{orderSteps}
 use Rattle.spec_spline.proofs.Table.{entry-past, identity-off}

@@ -9,11 +9,11 @@ use native.Mathlib.Omega.{arith}
 use lib.IntN.{ℤ}
 use lib.ListN.{length, take, drop}
 use Rattle.base_exact.specs.Rational.{ℚ}
-use Rattle.spec_spline.specs.Outcome.{Outcome, answer, refusal, _then_, with-answer}
+use Rattle.base_outcome.specs.Outcome.{Outcome, answer, refusal, _then_, with-answer}
 use Rattle.spec_spline.specs.Table.{Table, tableCells, numerators, denominators}
 use Rattle.spec_spline.specs.Conditions.{Entry}
 use Rattle.spec_spline.specs.Step.{Span, jumps, span, factors, newRows, mixed, step}
-use Rattle.spec_spline.proofs.Outcome.{then-answers, then-refuses}
+use Rattle.base_outcome.proofs.Outcome.{then-answers, then-refuses}
 use Rattle.spec_spline.proofs.Refusals.{jumps-refuse-8, span-refuses-9, newRows-refuse-8}
 use Rattle.build_cells.specs.Held.{Holds, Shaped, Kept}
 use Rattle.build_cells.proofs.Tables.{renewed-without}

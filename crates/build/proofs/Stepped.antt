@@ -12,13 +12,13 @@ use lib.Seq.{getD-take, getD-drop, getD-append-add}
 use Rattle.base_exact.specs.Rational.{ℚ, int}
 use Rattle.base_fraction.specs.Size.{fits}
 use Rattle.base_fraction.proofs.Size.{int-fits}
-use Rattle.spec_spline.specs.Outcome.{answer, _then_}
+use Rattle.base_outcome.specs.Outcome.{answer, _then_}
 use Rattle.spec_spline.specs.Table.{Row, Table, entry, row, cell, identity, rowCells}
 use Rattle.spec_spline.specs.Space.{Space, segments, columnCount, conditionCount, conditionsBefore, rowCount}
 use Rattle.spec_spline.specs.Conditions.{Entry, conditions}
 use Rattle.spec_spline.specs.Step.{Span, newEntry, newRow, newRows, jumps, span, factors, mixed, step}
 use Rattle.spec_spline.specs.Build.{orderSteps, joinSteps, weights}
-use Rattle.spec_spline.proofs.Outcome.{answer-unique, then-inverts, Collected, collect-inverts, repeat-keeps}
+use Rattle.base_outcome.proofs.Outcome.{answer-unique, then-inverts, Collected, collect-inverts, repeat-keeps}
 use Rattle.spec_spline.proofs.Table.{cell-past, identity-rows, identity-on, identity-off, identity-low, identity-wide}
 use Rattle.spec_spline.proofs.Splice.{spliced-length, spliced-before, spliced-inside, spliced-after}
 use Rattle.spec_spline.proofs.Answers.{jumps-length, span-inverts}

@@ -3,7 +3,7 @@ use mathlib.Core.List.{List, _++_}
 use mathlib.Core.Path.{_≡_}
 use Prim.Native.Nat.{ℕ, _+_, _≤_}
 use lib.IntN.{ℤ}
-use Rattle.spec_spline.specs.Outcome.{Outcome, answer, refusal}
+use Rattle.base_outcome.specs.Outcome.{Outcome, answer, refusal}
 use lib.ListN.{take, drop}
 use Rattle.spec_spline.specs.Space.{Space, firstColumn, columnCount}
 use Rattle.spec_spline.specs.Table.{Table, rowCells, identity, numerators, denominators}

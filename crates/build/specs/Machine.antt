@@ -1,6 +1,6 @@
 -- Document 01's numbers and places for the cases of the machine's answer.
 use Prim.Native.Nat.{ℕ}
-use Rattle.spec_spline.specs.Outcome.{Outcome, answer, refusal}
+use Rattle.base_outcome.specs.Outcome.{Outcome, answer, refusal}
 use Rattle.build.specs.declared.Built.{Built}
 use Rattle.build.specs.declared.Built.the-variants.{Rows, Refused}
 

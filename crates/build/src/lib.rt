@@ -33,7 +33,7 @@ pub fn build(
     }
     let legality = build_space::check(breaks, degrees, orders);
     match legality {
-        build_space::Legality::Legal => parts::build_parts(breaks, degrees, orders, num, den),
-        build_space::Legality::Refused(number, place) => Built::Refused(number, place),
+        base_outcome::Legality::Legal => parts::build_parts(breaks, degrees, orders, num, den),
+        base_outcome::Legality::Refused(number, place) => Built::Refused(number, place),
     }
 }

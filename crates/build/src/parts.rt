@@ -2,7 +2,7 @@
 ghost use mathlib.Core.Path.{_≡_};
 ghost use Prim.Native.Nat.{_-_, _≤_};
 ghost use lib.ListN.{length};
-ghost use Rattle.spec_spline.specs.Outcome.{with-answer};
+ghost use Rattle.base_outcome.specs.Outcome.{with-answer};
 ghost use Rattle.spec_spline.specs.Space.{partEnd, rowCount};
 ghost use Rattle.spec_spline.specs.Table.{tableCells};
 ghost use Rattle.spec_spline.specs.Build;
@@ -61,7 +61,7 @@ pub fn build_parts(
                 rows += n;
             }
             Built::Refused(number, place) => {
-                return Built::Refused(number, build_space::place(a + place as usize));
+                return Built::Refused(number, base_outcome::place(a + place as usize));
             }
         }
         a = b;

@@ -5,7 +5,7 @@ ghost use Prim.Native.Nat.{ℕ, _+_, _<_, _≤_};
 ghost use lib.IntN.{ℤ};
 ghost use lib.ListN.{length};
 ghost use Rattle.base_exact.specs.Rational.{ℚ};
-ghost use Rattle.spec_spline.specs.Outcome.{with-answer};
+ghost use Rattle.base_outcome.specs.Outcome.{with-answer};
 ghost use Rattle.spec_spline.specs.Space.{Space, rowCount};
 ghost use Rattle.spec_spline.specs.Conditions;
 ghost use Rattle.spec_spline.specs.Table.{Table, rowCells, tableCells};
@@ -179,7 +179,7 @@ fn join_steps(
         let more = build_space::degree_at(degrees, j + 1) + 1;
         let join = join_at(breaks, degrees, j);
         let refusal = join_step(num, den, join, n, rows, columns);
-        let place = build_space::place(j);
+        let place = base_outcome::place(j);
         match refusal {
             Refusal::None => {
                 rows = rows + more - n;

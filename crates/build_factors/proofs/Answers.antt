@@ -10,7 +10,7 @@ use lib.Dec.{eqb}
 use lib.ListN.{length}
 use Rattle.base_exact.specs.Rational.{ℚ}
 use Rattle.base_exact.proofs.Order.{nonzero-test}
-use Rattle.spec_spline.specs.Outcome.{Outcome, answer, refusal}
+use Rattle.base_outcome.specs.Outcome.{Outcome, answer, refusal}
 use Rattle.spec_spline.specs.Step.{span}
 use Rattle.spec_spline.specs.Table.{rowCells}
 use Rattle.spec_spline.proofs.Answers.{span-inverts}

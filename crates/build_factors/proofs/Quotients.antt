@@ -12,9 +12,9 @@ use Rattle.base_exact.specs.Rational.{ℚ, int}
 use Rattle.base_fraction.specs.Machine.{fraction}
 use Rattle.base_fraction.specs.declared.Fraction.{Fraction}
 use Rattle.base_fraction.proofs.Value.{fraction-int}
-use Rattle.spec_spline.specs.Outcome.{Outcome, answer, refusal, collect}
+use Rattle.base_outcome.specs.Outcome.{Outcome, answer, refusal, collect}
 use Rattle.spec_spline.specs.Step.{factor, factors}
-use Rattle.spec_spline.proofs.Outcome.{then-answers, then-refuses}
+use Rattle.base_outcome.proofs.Outcome.{then-answers, then-refuses}
 use Rattle.build_jumps.specs.Machine.{fractions}
 use Rattle.build_jumps.specs.declared.Fractions.{Fractions}
 use Rattle.build_jumps.proofs.Arrays.{fractions-zero}

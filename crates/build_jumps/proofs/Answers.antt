@@ -5,7 +5,7 @@ use mathlib.Core.List.{List}
 use Prim.Native.Nat.{ℕ}
 use native.Mathlib.Omega.{arith}
 use Rattle.base_exact.specs.Rational.{ℚ}
-use Rattle.spec_spline.specs.Outcome.{Outcome, answer, refusal}
+use Rattle.base_outcome.specs.Outcome.{Outcome, answer, refusal}
 use Rattle.spec_spline.specs.Step.{Span}
 use Rattle.build_jumps.specs.Machine.{fractions, rowJumps, jumpSpan}
 use Rattle.build_jumps.specs.declared.Fractions.{Fractions}

@@ -16,9 +16,9 @@ use Rattle.base_fraction.specs.declared.Counted.the-variants.{Fits, TooLarge}
 use Rattle.base_fraction.proofs.Value.{value-fraction}
 use Rattle.base_fraction.proofs.Size.{int-fits}
 use Rattle.base_fraction.proofs.Answer.{fits-sized, sized-fits, answer-fits, answer-large, kept}
-use Rattle.spec_spline.specs.Outcome.{Outcome, answer, refusal, _then_}
+use Rattle.base_outcome.specs.Outcome.{Outcome, answer, refusal, _then_}
 use Rattle.spec_spline.specs.Step.{count}
-use Rattle.spec_spline.proofs.Outcome.{then-answers, then-refuses, then-inverts}
+use Rattle.base_outcome.proofs.Outcome.{then-answers, then-refuses, then-inverts}
 use Rattle.spec_spline.proofs.Step.{count-fits, count-large, count-answers}
 use Rattle.build_jumps.specs.Machine.{counted}
 

@@ -7,7 +7,7 @@ use Rattle.base_exact.specs.Tabulate.{tab}
 use Rattle.base_fraction.specs.Machine.{fraction}
 use Rattle.base_fraction.specs.declared.Counted.{Counted}
 use Rattle.base_fraction.specs.declared.Counted.the-variants.{Fits, TooLarge}
-use Rattle.spec_spline.specs.Outcome.{Outcome, answer, refusal}
+use Rattle.base_outcome.specs.Outcome.{Outcome, answer, refusal}
 use Rattle.spec_spline.specs.Step.{Span}
 use Rattle.spec_spline.specs.Table.{entry, rowCells}
 use Rattle.build_jumps.specs.declared.Fractions.{Fractions}

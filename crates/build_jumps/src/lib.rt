@@ -6,22 +6,22 @@ ghost use lib.IntN.{natAbs};
 ghost use lib.ListN.{length};
 ghost use Rattle.base_exact.specs.Rational.{ℚ, int, _+ᵠ_, _*ᵠ_};
 ghost use Rattle.base_fraction.specs.Machine.{Sized, value, fraction};
-ghost use Rattle.spec_spline.specs.Outcome.{_then_};
-ghost use Rattle.spec_spline.specs.Search;
+ghost use Rattle.base_outcome.specs.Outcome.{_then_};
+ghost use Rattle.base_outcome.specs.Search;
 ghost use Rattle.spec_spline.specs.Space.{Space};
 ghost use Rattle.spec_spline.specs.Conditions;
 ghost use Rattle.spec_spline.specs.Table.{Table, row, entry, rowCells};
 ghost use Rattle.spec_spline.specs.Step;
-ghost use Rattle.build_space.specs.Machine.{found};
-ghost use Rattle.build_space.specs.declared.Found.the-variants.{At};
+ghost use Rattle.base_outcome.specs.Machine.{found};
+ghost use Rattle.base_outcome.specs.declared.Found.the-variants.{At};
 ghost use Rattle.build_cells.specs.Held.{Holds};
 ghost use Rattle.build_conditions.specs.Sides.{JoinIs, JoinFits};
 ghost use Rattle.build_conditions.specs.Terms.{entriesOf};
 ghost use Rattle.build_jumps.specs.Machine.{counted, fractions, rowJumps, jumpSpan};
 use base_fraction::Counted;
 use base_fraction::Fraction;
+use base_outcome::Found;
 use build_conditions::Join;
-use build_space::Found;
 
 // One fraction for each row of the table; unused ones are 0/1.
 pub struct Fractions {

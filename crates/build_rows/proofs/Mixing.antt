@@ -18,10 +18,10 @@ use Rattle.base_fraction.specs.Size.{fits}
 use Rattle.base_fraction.specs.declared.Counted.the-variants.{Fits}
 use Rattle.base_fraction.proofs.Value.{fraction-int}
 use Rattle.base_fraction.proofs.Size.{int-fits}
-use Rattle.spec_spline.specs.Outcome.{answer, _then_}
+use Rattle.base_outcome.specs.Outcome.{answer, _then_}
 use Rattle.spec_spline.specs.Table.{Row, Table, entry, row, cell, rowCells, tableCells}
 use Rattle.spec_spline.specs.Step.{Span, count, factors, newEntry, newRow}
-use Rattle.spec_spline.proofs.Outcome.{Collected, collect-inverts, then-answers}
+use Rattle.base_outcome.proofs.Outcome.{Collected, collect-inverts, then-answers}
 use Rattle.spec_spline.proofs.Step.{count-fits}
 use Rattle.spec_spline.proofs.Table.{entry-past}
 use Rattle.spec_spline.proofs.NewRows.{newEntry-answers as newEntry-is}

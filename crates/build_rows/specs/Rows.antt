@@ -9,7 +9,7 @@ use Rattle.base_exact.specs.Order.{leᵠ}
 use Rattle.base_fraction.specs.Size.{fits}
 use Rattle.base_fraction.specs.Machine.{fraction}
 use Rattle.base_fraction.specs.declared.Fraction.{Fraction}
-use Rattle.spec_spline.specs.Outcome.{Outcome, answer, refusal}
+use Rattle.base_outcome.specs.Outcome.{Outcome, answer, refusal}
 use Rattle.spec_spline.specs.Table.{Table, entry, numerators, denominators}
 use Rattle.build_cells.specs.Held.{Kept}
 use Rattle.build_jumps.specs.Machine.{fractions}

@@ -6,7 +6,7 @@ ghost use lib.IntN.{pos};
 ghost use lib.ListN.{length, set, take, drop};
 ghost use Rattle.base_exact.specs.Rational.{ℚ, int, _-ᵠ_};
 ghost use Rattle.base_fraction.specs.Machine.{Sized, value};
-ghost use Rattle.spec_spline.specs.Outcome.{with-answer};
+ghost use Rattle.base_outcome.specs.Outcome.{with-answer};
 ghost use Rattle.spec_spline.specs.Table.{Table, row, rowCells};
 ghost use Rattle.spec_spline.specs.Step;
 ghost use Rattle.build_cells.specs.Held.{Holds, Shaped, Held};

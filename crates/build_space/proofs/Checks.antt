@@ -7,12 +7,13 @@ use Prim.Native.Nat.{ℕ, _+_, _-_}
 use native.Mathlib.Omega.{arith}
 use lib.IntN.{ℤ}
 use lib.ListN.{length}
-use Rattle.spec_spline.specs.Outcome.{Outcome, answer, refusal, refuse, _then_}
-use Rattle.spec_spline.specs.Search.{first}
-use Rattle.spec_spline.specs.Space.{Space, lengthsFit, partEnd, badBreak, spanTooLong, badDegree, badOrder, tooManySegments, refuseFirst, partEndAt, checkedEntries, checked}
-use Rattle.spec_spline.proofs.Search.{first-ext}
+use Rattle.base_outcome.specs.Outcome.{Outcome, answer, refusal, refuse, _then_}
+use Rattle.base_outcome.specs.Search.{first}
+use Rattle.spec_spline.specs.Space.{Space, lengthsFit, partEnd, badBreak, spanTooLong, badDegree, badOrder, tooManySegments, partEndAt, checkedEntries, checked}
+use Rattle.base_outcome.specs.Tests.{refuseFirst}
+use Rattle.base_outcome.proofs.Search.{first-ext}
 use Rattle.spec_spline.proofs.Legal.{Lengths, lengths-fit}
-use Rattle.spec_spline.proofs.Outcome.{capped-small, then-answers, then-refuses}
+use Rattle.base_outcome.proofs.Outcome.{capped-small, then-answers, then-refuses}
 use Rattle.build_space.specs.Machine.{space}
 use Rattle.build_space.specs.Legal.{breaksChecked, spansChecked, degreesChecked, ordersChecked, partsChecked}
 use Rattle.build_space.proofs.Partial.{bad-break-partial, bad-degree-partial, bad-order-partial, too-many-segments-partial}

@@ -7,17 +7,18 @@ use Prim.Native.Nat.{ℕ, zero, suc, _+_, _*_, _-_, _<_, _≤_}
 use native.Mathlib.Omega.{arith}
 use lib.IntN.{ℤ}
 use lib.ListN.{length}
-use Rattle.spec_spline.specs.Outcome.{answer}
+use Rattle.base_outcome.specs.Outcome.{answer}
 use Rattle.spec_spline.specs.Space.{Space, badBreak, checked, partEnd, degree, width, conditionCount, firstColumn, columnCount, conditionsBefore, rowCount}
 use Rattle.spec_spline.proofs.Space.{firstColumn-mono}
 use Rattle.spec_spline.proofs.Parts.{part-ends, segment-in-part}
 use Rattle.spec_spline.proofs.Legal.{Checked, checked-inverts, checked-passes, Lengths, lengths-fit-inverts, lengths-fit, good-break-rises}
-use Rattle.build_space.specs.Machine.{space, legality}
+use Rattle.build_space.specs.Machine.{space}
+use Rattle.base_outcome.specs.Machine.{legality}
 use Rattle.build_space.specs.Legal.{JoinsLegal, ListsLegal, PartLegal}
-use Rattle.build_space.specs.declared.Legality.the-variants.{Legal}
+use Rattle.base_outcome.specs.declared.Legality.the-variants.{Legal}
 use Rattle.build_space.proofs.Entries.{good-break-size, break-good-first, break-good, good-degree-low, good-degree-high, degree-good, GoodOrder, good-order, order-good, good-span, span-good, good-part, part-good}
 use Rattle.build_space.proofs.Bounds.{width-positive, width-within, degree-high, first-column-next, first-column-high, condition-count-high, condition-count-left, condition-count-right, conditions-before-columns, row-count-sum}
-use Rattle.build_space.proofs.Machine.{legal-answers}
+use Rattle.base_outcome.proofs.Machine.{legal-answers}
 
 -- ---- the check and its meaning
 

@@ -10,7 +10,7 @@ use lib.IntN.{ℤ}
 use lib.ListN.{length}
 use lib.Signed.{ltZ, leZ}
 use Rattle.spec_spline.specs.Space.{break, startsPart, partEnd, tooManySegments, partSegmentLimit, badBreak, badDegree, badOrder, degree, conditionCount, firstColumn, columnCount, conditionsBefore, rowCount}
-use Rattle.spec_spline.specs.Search.{first}
+use Rattle.base_outcome.specs.Search.{first}
 use Rattle.spec_spline.specs.Reading.{fine, startsAtDiscontinuity, startsBy}
 use Rattle.build_space.specs.Machine.{space}
 

@@ -13,7 +13,8 @@ use lib.IntN.{ℤ, pos, negsuc, _-ℤ_}
 use lib.ListN.{length}
 use lib.Signed.{ltZ, leZ}
 use Rattle.base_exact.proofs.Word.{leZ-not-ltZ, sfits-abs, ofZ-inj}
-use Rattle.spec_spline.specs.Space.{Space, segments, lengthsFit, break, degreeEntry, order, between, isDiscontinuity, startsPart, partEnd, badBreak, spanTooLong, badDegree, badOrder, tooManySegments}
+use Rattle.spec_spline.specs.Space.{Space, segments, lengthsFit, break, degreeEntry, order, isDiscontinuity, startsPart, partEnd, badBreak, spanTooLong, badDegree, badOrder, tooManySegments}
+use Rattle.base_outcome.specs.Tests.{between}
 use Rattle.spec_spline.proofs.Space.{is-discontinuity, is-no-discontinuity}
 
 -- ---- a number out of its range

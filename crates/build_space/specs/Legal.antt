@@ -6,9 +6,10 @@ use Prim.Native.Nat.{ℕ, suc, _+_, _-_, _<_, _≤_}
 use lib.IntN.{ℤ, pos, negsuc, natAbs, _-ℤ_}
 use lib.ListN.{length, getD}
 use lib.Signed.{_<ℤ_, _≤ℤ_}
-use Rattle.spec_spline.specs.Outcome.{Outcome, answer}
-use Rattle.spec_spline.specs.Search.{first}
-use Rattle.spec_spline.specs.Space.{segmentLimit, partSegmentLimit, breakLimit, spanLimit, degreeLimit, break, startsPart, partEnd, badBreak, spanTooLong, badDegree, badOrder, tooManySegments, refuseFirst, partEndAt}
+use Rattle.base_outcome.specs.Outcome.{Outcome, answer}
+use Rattle.base_outcome.specs.Search.{first}
+use Rattle.spec_spline.specs.Space.{segmentLimit, partSegmentLimit, breakLimit, spanLimit, degreeLimit, break, startsPart, partEnd, badBreak, spanTooLong, badDegree, badOrder, tooManySegments, partEndAt}
+use Rattle.base_outcome.specs.Tests.{refuseFirst}
 use Rattle.build_space.specs.Machine.{space}
 
 -- Number 3 of the parts: the first whose span is too long, at its last breakpoint.

@@ -5,11 +5,14 @@ ghost use mathlib.Core.Bool.{false};
 ghost use Prim.Native.Nat.{ℕ, _+_, _<_, _≤_};
 ghost use lib.IntN.{pos};
 ghost use lib.ListN.{length};
-ghost use Rattle.spec_spline.specs.Outcome.{capped};
-ghost use Rattle.spec_spline.specs.Search.{first};
+ghost use Rattle.base_outcome.specs.Outcome.{capped};
+ghost use Rattle.base_outcome.specs.Search.{first};
 ghost use Rattle.spec_spline.specs.Space.{segmentLimit, lengthsFit, badBreak, badDegree, badOrder, isDiscontinuity, startsPart, partEnd, spanTooLong, tooManySegments, checked, degree, width, conditionCount, firstColumn, conditionsBefore, rowCount};
-ghost use Rattle.build_space.specs.Machine.{space, legality, found};
+ghost use Rattle.build_space.specs.Machine.{space};
+ghost use Rattle.base_outcome.specs.Machine.{legality, found};
 ghost use Rattle.build_space.specs.Legal.{BreaksLegal, DegreesLegal, OrdersLegal, JoinsLegal, breaksChecked, spansChecked, degreesChecked, ordersChecked, partsChecked};
+use base_outcome::Found;
+use base_outcome::Legality;
 
 pub const MAX_SEGMENTS: usize = 48;
 
@@ -24,30 +27,6 @@ const MAX_DEGREE: i32 = 5;
 const MAX_ORDER: i32 = 2;
 
 const DISCONTINUITY: i32 = -1;
-
-// The largest place, which also stands for anything larger.
-pub const LARGEST_PLACE: u32 = 4294967295;
-
-pub enum Legality {
-    Legal,
-    Refused(u8, u32),
-}
-
-// The first entry that breaks a rule, if any does.
-pub enum Found {
-    At(usize),
-    Nothing,
-}
-
-// The place of an index.
-pub fn place(i: usize) -> u32
-    ensures { λ r. ⌜ r ≡ capped i ⌝ }
-{
-    if i < LARGEST_PLACE as usize {
-        return i as u32;
-    }
-    LARGEST_PLACE
-}
 
 pub fn lengths_fit(breaks: &[i32], degrees: &[i32], orders: &[i32]) -> bool
     ensures { λ r. ⌜ r ≡ lengthsFit (space (now (breaks .entry)) (now (degrees .entry)) (now (orders .entry))) ⌝ }
@@ -280,7 +259,7 @@ fn check_spans(breaks: &[i32], degrees: &[i32], orders: &[i32]) -> Legality
     match long {
         Found::At(i) => {
             let end = part_end(degrees, orders, i);
-            Legality::Refused(3, place(end))
+            Legality::Refused(3, base_outcome::place(end))
         }
         Found::Nothing => Legality::Legal,
     }
@@ -293,7 +272,7 @@ fn check_breaks(breaks: &[i32], degrees: &[i32], orders: &[i32]) -> Legality
 {
     let bad = first_bad_break(breaks);
     match bad {
-        Found::At(i) => Legality::Refused(3, place(i)),
+        Found::At(i) => Legality::Refused(3, base_outcome::place(i)),
         Found::Nothing => check_spans(breaks, degrees, orders),
     }
 }
@@ -304,7 +283,7 @@ fn check_degrees(degrees: &[i32]) -> Legality
 {
     let bad = first_bad_degree(degrees);
     match bad {
-        Found::At(i) => Legality::Refused(4, place(i)),
+        Found::At(i) => Legality::Refused(4, base_outcome::place(i)),
         Found::Nothing => Legality::Legal,
     }
 }
@@ -316,7 +295,7 @@ fn check_parts(degrees: &[i32], orders: &[i32]) -> Legality
 {
     let long = first_long_part(degrees, orders);
     match long {
-        Found::At(i) => Legality::Refused(15, place(i)),
+        Found::At(i) => Legality::Refused(15, base_outcome::place(i)),
         Found::Nothing => Legality::Legal,
     }
 }
@@ -328,7 +307,7 @@ fn check_orders(degrees: &[i32], orders: &[i32]) -> Legality
 {
     let bad = first_bad_order(degrees, orders);
     match bad {
-        Found::At(i) => Legality::Refused(5, place(i)),
+        Found::At(i) => Legality::Refused(5, base_outcome::place(i)),
         Found::Nothing => check_parts(degrees, orders),
     }
 }

@@ -9,20 +9,21 @@ use borrow.Author.Tests.{lt-ltb, le-ltb}
 use lib.IntN.{ℤ, pos, natAbs}
 use lib.ListN.{length, getD, drop, List·getD-eq-default}
 use Rattle.base_exact.proofs.Decide.{le-or-lt, cond-true, cond-false}
-use Rattle.spec_spline.specs.Outcome.{Outcome, answer, refusal, capped, with-answer, _then_}
+use Rattle.base_outcome.specs.Outcome.{Outcome, answer, refusal, capped, with-answer, _then_}
 use Rattle.spec_spline.specs.Space.{Space, rowCount}
 use Rattle.spec_spline.specs.Table.{Table, tableCells, numerators, denominators}
 use Rattle.spec_spline.specs.Build.{weights, lastPart, clears, numeratorsAfter, denominatorsAfter}
 use Rattle.spec_spline.specs.Reading.{Pair, sideBySide, values}
 use Rattle.spec_spline.specs.CurveCall.{CurveResult, badCoefficient, badPosition, curveChecked, curveRead, curveOutcome, returned, curveNumerators, curveDenominators, valuesAfter}
-use Rattle.spec_spline.proofs.Outcome.{then-answers, then-refuses}
-use Rattle.spec_spline.proofs.Search.{first-none-inverts}
+use Rattle.base_outcome.proofs.Outcome.{then-answers, then-refuses}
+use Rattle.base_outcome.proofs.Search.{first-none-inverts}
 use Rattle.spec_spline.proofs.Build.{long-enough}
 use Rattle.theorems_values.proofs.LegalCall.{ChecksPassed, checks-passed}
-use Rattle.build_space.specs.Machine.{space, legality}
+use Rattle.build_space.specs.Machine.{space}
+use Rattle.base_outcome.specs.Machine.{legality}
 use Rattle.build_space.specs.Legal.{ListsLegal}
-use Rattle.build_space.specs.declared.Legality.the-variants.{Legal}
-use Rattle.build_space.proofs.Machine.{legal-answers}
+use Rattle.base_outcome.specs.declared.Legality.the-variants.{Legal}
+use Rattle.base_outcome.proofs.Machine.{legal-answers}
 use Rattle.build_space.proofs.Legal.{checked-legal}
 use Rattle.curve.specs.Machine.{reply}
 use Rattle.curve_ordinates.specs.Ordinates.{Coefficients}

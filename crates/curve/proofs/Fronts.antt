@@ -9,12 +9,12 @@ use lib.ListN.{length, take, drop, length-take, drop-of-length-le}
 use lib.Seq.{take-at, drop-at, drop-drop}
 use Rattle.base_exact.specs.Tabulate.{tab}
 use Rattle.base_exact.proofs.Tabulate.{tab-length}
-use Rattle.spec_spline.specs.Outcome.{Outcome, answer, refusal, capped, with-answer}
+use Rattle.base_outcome.specs.Outcome.{Outcome, answer, refusal, capped, with-answer}
 use Rattle.spec_spline.specs.Space.{Space, segments, partEnd, firstColumn, columnCount, rowCount, rowsBefore}
 use Rattle.spec_spline.specs.Table.{Table}
 use Rattle.spec_spline.specs.Build.{weights, lastPart, numeratorsAfter, denominatorsAfter}
 use Rattle.spec_spline.specs.Reading.{Wood, earlywood, latewood, coefficient, ordinate, ordinates}
-use Rattle.spec_spline.proofs.Outcome.{answer-unique, answer-not-refusal}
+use Rattle.base_outcome.proofs.Outcome.{answer-unique, answer-not-refusal}
 use Rattle.spec_spline.proofs.Parts.{part-ends}
 use Rattle.spec_spline.proofs.Legal.{Checked, checked-inverts, Lengths, lengths-fit-inverts}
 use Rattle.theorems_beams.specs.Sections.{section, partAt, beside}

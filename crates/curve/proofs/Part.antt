@@ -11,12 +11,12 @@ use lib.Seq.{length-take-le, getD-take, getD-drop}
 use Rattle.base_exact.specs.Tabulate.{tab}
 use Rattle.base_exact.proofs.Decide.{le-or-lt}
 use Rattle.base_exact.proofs.Tabulate.{tab-ext}
-use Rattle.spec_spline.specs.Outcome.{answer, with-answer}
+use Rattle.base_outcome.specs.Outcome.{answer, with-answer}
 use Rattle.spec_spline.specs.Space.{Space, partEnd, checked, columnCount, rowCount}
 use Rattle.spec_spline.specs.Table.{Table, rowCells, tableCells, numerators, denominators}
 use Rattle.spec_spline.specs.Build.{weights, spaceWeights, lastPart, built, numeratorsAfter, denominatorsAfter, buildEnd}
 use Rattle.spec_spline.specs.Reading.{Wood, earlywood, latewood, coefficient, ordinate, ordinates}
-use Rattle.spec_spline.proofs.Outcome.{then-answers, answer-not-refusal}
+use Rattle.base_outcome.proofs.Outcome.{then-answers, answer-not-refusal}
 use Rattle.spec_spline.proofs.Parts.{part-ends}
 use Rattle.theorems_values.proofs.Weights.{weight-num-le-den}
 use Rattle.theorems_beams.specs.Sections.{section, partAt}

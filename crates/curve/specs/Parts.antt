@@ -4,7 +4,7 @@ use mathlib.Core.Path.{_≡_}
 use Prim.Native.Nat.{ℕ}
 use lib.IntN.{ℤ}
 use lib.ListN.{drop}
-use Rattle.spec_spline.specs.Outcome.{answer, with-answer}
+use Rattle.base_outcome.specs.Outcome.{answer, with-answer}
 use Rattle.spec_spline.specs.Space.{Space, columnCount, rowCount}
 use Rattle.spec_spline.specs.Table.{Table}
 use Rattle.spec_spline.specs.Build.{weights, lastPart, numeratorsAfter, denominatorsAfter}

@@ -40,8 +40,8 @@ pub fn curve(
     }
     let checked = curve_limits::check(breaks, degrees, orders, coefs, positions);
     match checked {
-        build_space::Legality::Refused(number, place) => Answer::Refused(number, place),
-        build_space::Legality::Legal => {
+        base_outcome::Legality::Refused(number, place) => Answer::Refused(number, place),
+        base_outcome::Legality::Legal => {
             let mut early = [0; curve_triangle::MAX_COLUMNS];
             let mut late = [0; curve_triangle::MAX_COLUMNS];
             let built = parts::build_parts(

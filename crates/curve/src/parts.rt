@@ -93,7 +93,7 @@ pub fn build_parts(
                 row += n;
             }
             Built::Refused(number, place) => {
-                return Built::Refused(number, build_space::place(a + place as usize));
+                return Built::Refused(number, base_outcome::place(a + place as usize));
             }
         }
         column = end;

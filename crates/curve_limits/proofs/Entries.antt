@@ -7,7 +7,8 @@ use lib.IntN.{ℤ, pos, negℤ, natAbs}
 use lib.ListN.{getD}
 use lib.Signed.{ltZ, _≤ℤ_}
 use Rattle.base_exact.proofs.Integer.{abs-le-in}
-use Rattle.spec_spline.specs.Space.{Space, segments, break, between}
+use Rattle.spec_spline.specs.Space.{Space, segments, break}
+use Rattle.base_outcome.specs.Tests.{between}
 use Rattle.spec_spline.specs.Reading.{fine}
 use Rattle.spec_spline.specs.CurveCall.{coefficientLimit, badCoefficient, badPosition}
 use Rattle.spec_spline.proofs.Space.{between-inverts}

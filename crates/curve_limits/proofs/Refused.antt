@@ -9,9 +9,10 @@ use lib.Dec.{eqb}
 use lib.IntN.{ℤ}
 use lib.ListN.{length}
 use Rattle.base_exact.proofs.Decide.{cond-true, cond-false}
-use Rattle.spec_spline.specs.Outcome.{Outcome, answer, refusal, refuse, largestPlace, capped, _then_}
-use Rattle.spec_spline.specs.Search.{first}
-use Rattle.spec_spline.specs.Space.{Space, break, segments, lengthsFit, refuseFirst, checked, rowCount}
+use Rattle.base_outcome.specs.Outcome.{Outcome, answer, refusal, refuse, largestPlace, capped, _then_}
+use Rattle.base_outcome.specs.Search.{first}
+use Rattle.spec_spline.specs.Space.{Space, break, segments, lengthsFit, checked, rowCount}
+use Rattle.base_outcome.specs.Tests.{refuseFirst}
 use Rattle.spec_spline.specs.Reading.{fine}
 use Rattle.spec_spline.specs.CurveCall.{positionLimit, badCoefficient, badPosition, legalEntries, curveChecked}
 use Rattle.build_space.specs.Machine.{space}

@@ -5,9 +5,10 @@ use Prim.Native.Nat.{ℕ, _*_}
 use lib.Dec.{eqb}
 use lib.IntN.{ℤ, pos}
 use lib.ListN.{length, getD}
-use Rattle.spec_spline.specs.Outcome.{Outcome, answer, refuse, largestPlace}
-use Rattle.spec_spline.specs.Search.{first}
-use Rattle.spec_spline.specs.Space.{Space, between, refuseFirst, rowCount}
+use Rattle.base_outcome.specs.Outcome.{Outcome, answer, refuse, largestPlace}
+use Rattle.base_outcome.specs.Search.{first}
+use Rattle.spec_spline.specs.Space.{Space, rowCount}
+use Rattle.base_outcome.specs.Tests.{between, refuseFirst}
 use Rattle.spec_spline.specs.CurveCall.{badCoefficient}
 
 -- Number 6: the count first, two numbers a row.

@@ -4,15 +4,16 @@ ghost use mathlib.Core.List.{[]};
 ghost use Prim.Native.Nat.{_+_};
 ghost use lib.IntN.{pos};
 ghost use lib.ListN.{length, getD};
-ghost use Rattle.build_space.specs.Machine.{space, found, legality};
+ghost use Rattle.build_space.specs.Machine.{space};
+ghost use Rattle.base_outcome.specs.Machine.{found, legality};
 ghost use Rattle.build_space.specs.Legal.{BreaksLegal, JoinsLegal, ListsLegal};
-ghost use Rattle.spec_spline.specs.Outcome.{answer};
-ghost use Rattle.spec_spline.specs.Search;
+ghost use Rattle.base_outcome.specs.Outcome.{answer};
+ghost use Rattle.base_outcome.specs.Search;
 ghost use Rattle.spec_spline.specs.Reading.{fine};
 ghost use Rattle.spec_spline.specs.CurveCall.{legalEntries, curveChecked};
 ghost use Rattle.curve_limits.specs.Limits.{coefficientsChecked, outside, positionsChecked};
-use build_space::Found;
-use build_space::Legality;
+use base_outcome::Found;
+use base_outcome::Legality;
 
 const MAX_POSITIONS: usize = 4096;
 
@@ -47,11 +48,11 @@ fn check_coefficients(degrees: &[i32], orders: &[i32], coefs: &[i32]) -> Legalit
 {
     let n = build_space::row_count(degrees, orders);
     if coefs.len() != 2 * n {
-        return Legality::Refused(6, build_space::LARGEST_PLACE);
+        return Legality::Refused(6, base_outcome::LARGEST_PLACE);
     }
     let bad = first_outside(coefs, 0 - COEFFICIENT_LIMIT, COEFFICIENT_LIMIT);
     match bad {
-        Found::At(i) => Legality::Refused(6, build_space::place(i)),
+        Found::At(i) => Legality::Refused(6, base_outcome::place(i)),
         Found::Nothing => Legality::Legal,
     }
 }
@@ -65,7 +66,7 @@ fn check_positions(breaks: &[i32], m: usize, positions: &[i32]) -> Legality
     let high = 256 * breaks[m];
     let bad = first_outside(positions, low, high);
     match bad {
-        Found::At(i) => Legality::Refused(7, build_space::place(i)),
+        Found::At(i) => Legality::Refused(7, base_outcome::place(i)),
         Found::Nothing => Legality::Legal,
     }
 }

@@ -13,12 +13,12 @@ use lib.ListN.{getD, List·getD-append}
 use Rattle.base_exact.specs.Tabulate.{tab}
 use Rattle.base_exact.proofs.Decide.{le-or-lt, cond-true, cond-false}
 use Rattle.base_exact.proofs.Tabulate.{tab-getD, tab-ext}
-use Rattle.spec_spline.specs.Outcome.{answer, refusal, refuse, largestPlace}
+use Rattle.base_outcome.specs.Outcome.{answer, refusal, refuse, largestPlace}
 use Rattle.spec_spline.specs.Space.{Space, segments, break, degree, firstColumn, columnCount}
 use Rattle.spec_spline.specs.Table.{Table}
 use Rattle.spec_spline.specs.Reading.{fineness, Wood, coefficient, ordinate, ordinates}
 use Rattle.spec_spline.specs.CurveCall.{CurveResult}
-use Rattle.spec_spline.proofs.Outcome.{capped-small, then-answers, then-refuses}
+use Rattle.base_outcome.proofs.Outcome.{capped-small, then-answers, then-refuses}
 use Rattle.theorems_values.proofs.Value.{segment-column}
 use Rattle.curve.proofs.Fronts.{ordinates-length}
 use Rattle.curve_start.specs.CurveAlone.{curveAlone}

@@ -14,8 +14,8 @@ use Rattle.base_exact.specs.Floor.{nearest}
 use Rattle.base_exact.specs.Sum.{sum}
 use Rattle.base_exact.specs.Tabulate.{tab}
 use Rattle.base_fraction.specs.Size.{fits}
-use Rattle.spec_spline.specs.Outcome.{answer, refusal, capped, collect, repeat}
-use Rattle.spec_spline.specs.Search.{first, last, howMany}
+use Rattle.base_outcome.specs.Outcome.{answer, refusal, capped, collect, repeat}
+use Rattle.base_outcome.specs.Search.{first, last, howMany}
 use Rattle.spec_spline.specs.Space.{Space, lengthsFit, badBreak, startsPart, partEnd, spanTooLong, tooManySegments, badDegree, badOrder, checkedEntries, checked, firstColumn, conditionsBefore}
 use Rattle.spec_spline.specs.Conditions.{falling, binomial, alternating, undivided, commonDivisor, conditions}
 use Rattle.spec_spline.specs.Table.{identity}
@@ -26,7 +26,7 @@ use Rattle.spec_spline.specs.Reading.{startsAtDiscontinuity, startsBy, segmentA
 use Rattle.spec_spline.specs.CurveCall.{badCoefficient, badPosition, curveChecked, curveRead, curveOutcome}
 use Rattle.spec_spline.specs.Cases.{pair, forBoth, space1, space9, lowerLimitSpace}
 use Rattle.spec_spline.specs.ExactCurve.{power, bernsteinAt, exactTerm, exactOn, exactCurve, largest, mostWeights}
-use Rattle.spec_spline.proofs.Outcome.{answer-unique}
+use Rattle.base_outcome.proofs.Outcome.{answer-unique}
 use Rattle.theorems_values.proofs.Instances.{table1, accepted1, table9, coefs9, accepted9, exact9}
 use Rattle.curve_pieces.specs.Pieces.{Piece, isDrawable, pieceOf, pieceOutcome}
 use Rattle.curve_pieces.specs.PieceCurve.{polynomialAt, halfTheWeights, WithinHalfTheWeights, IsTheValue}

@@ -17,12 +17,12 @@ use Rattle.base_exact.proofs.Decide.{true-holds, true-not-false, and-true}
 use Rattle.base_exact.proofs.Integer as Z
 use Rattle.base_exact.proofs.Integer.{up, dn}
 use Rattle.base_exact.proofs.Tabulate.{tab-getD}
-use Rattle.spec_spline.specs.Outcome.{answer, refusal, refuse}
+use Rattle.base_outcome.specs.Outcome.{answer, refusal, refuse}
 use Rattle.spec_spline.specs.Space.{Space, segments, break, degree, order, firstColumn, columnCount, conditionCount, isDiscontinuity, checked}
 use Rattle.spec_spline.specs.Piecewise.{Accepted}
 use Rattle.spec_spline.specs.Reading.{fineness, Wood, fine, fineWidth, offset, startsAtDiscontinuity, segmentAt, coefficient, ordinate, ordinates, triangle, blended, valueAt}
 use Rattle.spec_spline.specs.ExactCurve.{exactOn, exactCurve, mostWeights}
-use Rattle.spec_spline.proofs.Outcome.{answer-unique, answer-not-refusal, Chained, then-inverts, Broken, first-refuses, second-refuses, then-breaks}
+use Rattle.base_outcome.proofs.Outcome.{answer-unique, answer-not-refusal, Chained, then-inverts, Broken, first-refuses, second-refuses, then-breaks}
 use Rattle.spec_spline.proofs.Space.{is-discontinuity}
 use Rattle.spec_spline.proofs.Legal.{fitting-inverts, keeping-refusal}
 use Rattle.theorems_weights.proofs.Built.{built}

@@ -9,7 +9,7 @@ use lib.IntN.{ℤ, pos, natAbs}
 use lib.ListN.{getD}
 use lib.Signed.{nonNeg}
 use Rattle.base_exact.specs.Tabulate.{tab}
-use Rattle.spec_spline.specs.Outcome.{Outcome, answer, refusal, refuse}
+use Rattle.base_outcome.specs.Outcome.{Outcome, answer, refusal, refuse}
 use Rattle.spec_spline.specs.Space.{Space, break, degree, firstColumn}
 use Rattle.spec_spline.specs.Reading.{fineness}
 use Rattle.curve_pieces.specs.Pieces.{Piece, isDrawable}

@@ -9,7 +9,7 @@ use lib.ListN.{getD}
 use Rattle.base_exact.specs.Rational.{ℚ, int, _+ᵠ_, _*ᵠ_, _/ᵠ_}
 use Rattle.base_exact.specs.Order.{_≤ᵠ_}
 use Rattle.base_exact.specs.Sum.{sum}
-use Rattle.spec_spline.specs.Outcome.{answer, refusal}
+use Rattle.base_outcome.specs.Outcome.{answer, refusal}
 use Rattle.spec_spline.specs.Space.{Space, break, degree}
 use Rattle.spec_spline.specs.Table.{Table}
 use Rattle.spec_spline.specs.Reading.{Wood, fine, fineWidth, offset, startsAtDiscontinuity, segmentAt, valueAt}

@@ -7,7 +7,7 @@ use lib.Dec.{leb, ltb}
 use lib.IntN.{ℤ}
 use lib.ListN.{length}
 use Rattle.base_exact.specs.Tabulate.{tab}
-use Rattle.spec_spline.specs.Outcome.{Outcome, answer, refuse, _then_}
+use Rattle.base_outcome.specs.Outcome.{Outcome, answer, refuse, _then_}
 use Rattle.spec_spline.specs.Space.{Space, segments, break, degree, firstColumn}
 use Rattle.spec_spline.specs.Table.{Table}
 use Rattle.spec_spline.specs.Reading.{Wood, coefficient, ordinate}

@@ -6,14 +6,14 @@ use Prim.Native.Nat.{ℕ}
 use native.Mathlib.Omega.{arith}
 use lib.IntN.{ℤ}
 use lib.Signed.{leZ}
-use Rattle.spec_spline.specs.Outcome.{Outcome, answer, refusal}
-use Rattle.spec_spline.specs.Search.{first}
+use Rattle.base_outcome.specs.Outcome.{Outcome, answer, refusal}
+use Rattle.base_outcome.specs.Search.{first}
 use Rattle.spec_spline.specs.Space.{Space}
 use Rattle.spec_spline.specs.Table.{Table}
 use Rattle.spec_spline.specs.Reading.{Wood, coefficient, fine, segmentAt, valueAt}
 use Rattle.spec_spline.specs.CurveCall.{CurveResult}
-use Rattle.spec_spline.proofs.Outcome.{then-answers, then-refuses, capped-small}
-use Rattle.spec_spline.proofs.Search.{first-ext}
+use Rattle.base_outcome.proofs.Outcome.{then-answers, then-refuses, capped-small}
+use Rattle.base_outcome.proofs.Search.{first-ext}
 use Rattle.curve.proofs.Pairs.{fronted, blended-fronted}
 use Rattle.curve_start.specs.CurveAlone.{curveAlone}
 use Rattle.curve_reach.specs.Reach.{positionCount, position, reaches, reachedAt, reachOutcome}

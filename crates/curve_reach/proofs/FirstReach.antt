@@ -12,13 +12,13 @@ use lib.Signed.{_<ℤ_, _≤ℤ_}
 use Rattle.base_exact.proofs.Decide.{true-not-false}
 use Rattle.base_exact.proofs.Integer as Z
 use Rattle.base_exact.proofs.Word.{leZ-true, leZ-false}
-use Rattle.spec_spline.specs.Outcome.{answer, refusal}
-use Rattle.spec_spline.specs.Search.{first}
+use Rattle.base_outcome.specs.Outcome.{answer, refusal}
+use Rattle.base_outcome.specs.Search.{first}
 use Rattle.spec_spline.specs.Space.{Space, break}
 use Rattle.spec_spline.specs.Piecewise.{Accepted}
 use Rattle.spec_spline.specs.Reading.{Wood, fine, valueAt}
-use Rattle.spec_spline.proofs.Outcome.{answer-unique, answer-not-refusal, then-inverts, Broken, first-refuses, second-refuses, then-breaks}
-use Rattle.spec_spline.proofs.Search.{First, first-some-inverts, first-none-inverts}
+use Rattle.base_outcome.proofs.Outcome.{answer-unique, answer-not-refusal, then-inverts, Broken, first-refuses, second-refuses, then-breaks}
+use Rattle.base_outcome.proofs.Search.{First, first-some-inverts, first-none-inverts}
 use Rattle.spec_spline.proofs.Legal.{keeping-refusal}
 use Rattle.theorems_values.proofs.Segment.{accepted-checked}
 use Rattle.theorems_acceptance.proofs.Curves.{curves-never-give-nine}

@@ -10,8 +10,8 @@ use Rattle.base_exact.specs.Floor.{nearest}
 use Rattle.base_exact.specs.Sum.{sum}
 use Rattle.base_exact.specs.Tabulate.{tab}
 use Rattle.base_fraction.specs.Size.{fits}
-use Rattle.spec_spline.specs.Outcome.{answer, refusal, capped, collect, repeat}
-use Rattle.spec_spline.specs.Search.{first, last}
+use Rattle.base_outcome.specs.Outcome.{answer, refusal, capped, collect, repeat}
+use Rattle.base_outcome.specs.Search.{first, last}
 use Rattle.spec_spline.specs.Space.{lengthsFit, badBreak, startsPart, partEnd, spanTooLong, tooManySegments, badDegree, badOrder, checkedEntries, checked, firstColumn, conditionsBefore}
 use Rattle.spec_spline.specs.Conditions.{conditions}
 use Rattle.spec_spline.specs.Table.{identity}

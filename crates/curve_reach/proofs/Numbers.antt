@@ -9,16 +9,17 @@ use native.Mathlib.Omega.{arith}
 use lib.Dec.{eqb, ltb}
 use lib.IntN.{ℤ}
 use lib.ListN.{length}
-use Rattle.spec_spline.specs.Outcome.{Outcome, answer, refuse, largestPlace, _then_}
-use Rattle.spec_spline.specs.Search.{first}
-use Rattle.spec_spline.specs.Space.{Space, segments, lengthsFit, badBreak, spanTooLong, badDegree, badOrder, tooManySegments, refuseFirst, partEndAt, checkedEntries, columnCount, conditionCount, rowCount}
+use Rattle.base_outcome.specs.Outcome.{Outcome, answer, refuse, largestPlace, _then_}
+use Rattle.base_outcome.specs.Search.{first}
+use Rattle.spec_spline.specs.Space.{Space, segments, lengthsFit, badBreak, spanTooLong, badDegree, badOrder, tooManySegments, partEndAt, checkedEntries, columnCount, conditionCount, rowCount}
+use Rattle.base_outcome.specs.Tests.{refuseFirst}
 use Rattle.spec_spline.specs.Conditions.{conditions}
 use Rattle.spec_spline.specs.Table.{identity, tableCells}
 use Rattle.spec_spline.specs.Step.{step}
 use Rattle.spec_spline.specs.Build.{orderSteps, joinSteps, weights}
 use Rattle.spec_spline.specs.Reading.{values}
 use Rattle.spec_spline.specs.CurveCall.{positionLimit, badCoefficient, badPosition, legalEntries, curveChecked, curveRead, curveOutcome}
-use Rattle.spec_spline.proofs.Outcome.{RefusedAs, answer-refused, then-refused, repeat-refused, with-refuses}
+use Rattle.base_outcome.proofs.Outcome.{RefusedAs, answer-refused, then-refused, repeat-refused, with-refuses}
 use Rattle.spec_spline.proofs.Refusals.{step-refuses}
 
 -- Every refusal of the outcome has a number of at most 15.

@@ -13,8 +13,8 @@ use lib.Signed.{leZ, _<ℤ_, _≤ℤ_}
 use Rattle.base_exact.proofs.Decide.{true-not-false}
 use Rattle.base_exact.proofs.Integer as Z
 use Rattle.base_exact.proofs.Word.{leZ-true, leZ-false}
-use Rattle.spec_spline.specs.Search.{first, found}
-use Rattle.spec_spline.proofs.Search.{Searched, at, nowhere, search-first}
+use Rattle.base_outcome.specs.Search.{first, found}
+use Rattle.base_outcome.proofs.Search.{Searched, at, nowhere, search-first}
 use Rattle.theorems_values.proofs.Triangle.{Between, triangle-between}
 use Rattle.curve_ordinates.specs.Ordinates.{Bounded, ordinateLimit}
 use Rattle.curve_reach.specs.Machine.{valueOn, Steepest}

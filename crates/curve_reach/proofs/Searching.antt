@@ -13,10 +13,10 @@ use lib.Signed.{leZ, _<ℤ_, _≤ℤ_}
 use Rattle.base_exact.proofs.Decide.{and-true, holds-true}
 use Rattle.base_exact.proofs.Integer as Z
 use Rattle.base_exact.proofs.Word.{leZ-true, le-test, not-le-test}
-use Rattle.spec_spline.specs.Search.{first}
+use Rattle.base_outcome.specs.Search.{first}
 use Rattle.spec_spline.specs.Space.{Space, segments, break, degree, firstColumn}
 use Rattle.spec_spline.specs.Reading.{fine, fineWidth, triangle, blended}
-use Rattle.spec_spline.proofs.Search.{first-at, first-none}
+use Rattle.base_outcome.proofs.Search.{first-at, first-none}
 use Rattle.spec_spline.proofs.Legal.{Checked, legal}
 use Rattle.theorems_values.proofs.Positions.{breakpoint-in-span}
 use Rattle.build_space.specs.Machine.{space}

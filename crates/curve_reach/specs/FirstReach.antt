@@ -5,7 +5,7 @@ use mathlib.Core.List.{List}
 use Prim.Native.Nat.{ℕ}
 use lib.IntN.{ℤ}
 use lib.Signed.{_<ℤ_, _≤ℤ_}
-use Rattle.spec_spline.specs.Outcome.{answer, refusal}
+use Rattle.base_outcome.specs.Outcome.{answer, refusal}
 use Rattle.spec_spline.specs.Space.{Space, segments, break}
 use Rattle.spec_spline.specs.Reading.{Wood, fine, valueAt}
 use Rattle.spec_spline.specs.Piecewise.{Accepted}

@@ -8,7 +8,7 @@ use lib.Dec.{eqb}
 use lib.IntN.{ℤ, pos, _+ℤ_}
 use lib.ListN.{getD}
 use lib.Signed.{leZ, _<ℤ_, _≤ℤ_}
-use Rattle.spec_spline.specs.Outcome.{Outcome, answer, refusal}
+use Rattle.base_outcome.specs.Outcome.{Outcome, answer, refusal}
 use Rattle.spec_spline.specs.Space.{Space, segments}
 use Rattle.spec_spline.specs.Reading.{Wood, earlywood, latewood, startsAtDiscontinuity, segmentAt, fineWidth, triangle, blended}
 use Rattle.curve_ordinates.specs.Ordinates.{ordinateLimit}

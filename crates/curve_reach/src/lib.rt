@@ -2,7 +2,7 @@
 // curve call without positions, and then a search over the segments.
 ghost use mathlib.Core.Path.{_≡_};
 ghost use lib.ListN.{length};
-ghost use Rattle.spec_spline.specs.Search;
+ghost use Rattle.base_outcome.specs.Search;
 ghost use Rattle.spec_spline.specs.Reading.{fine};
 ghost use Rattle.build_space.specs.Machine.{space};
 ghost use Rattle.build_space.specs.Legal.{ListsLegal};

@@ -7,14 +7,15 @@ use native.Mathlib.Omega.{arith}
 use lib.IntN.{ℤ}
 use lib.ListN.{length}
 use Rattle.base_exact.proofs.Decide.{cond-false}
-use Rattle.spec_spline.specs.Outcome.{Outcome, refusal, with-answer}
+use Rattle.base_outcome.specs.Outcome.{Outcome, refusal, with-answer}
 use Rattle.spec_spline.specs.Space.{Space, rowCount}
 use Rattle.spec_spline.specs.Table.{Table, tableCells, numerators, denominators}
 use Rattle.spec_spline.specs.Build.{weights, lastPart, clears, numeratorsAfter, denominatorsAfter}
 use Rattle.spec_spline.specs.Reading.{coefficient, values}
 use Rattle.spec_spline.specs.CurveCall.{CurveResult, curveChecked, curveNumerators, curveDenominators}
-use Rattle.build_space.specs.Machine.{space, legality}
-use Rattle.build_space.specs.declared.Legality.the-variants.{Legal}
+use Rattle.build_space.specs.Machine.{space}
+use Rattle.base_outcome.specs.Machine.{legality}
+use Rattle.base_outcome.specs.declared.Legality.the-variants.{Legal}
 use Rattle.build.specs.declared.Built.{Built}
 use Rattle.build.specs.declared.Built.the-variants.{Rows, Refused}
 use Rattle.build.proofs.Beam.{told-rows, told-refused}

@@ -2,7 +2,7 @@
 use mathlib.Core.List.{List, []}
 use Prim.Native.Nat.{ℕ}
 use lib.IntN.{ℤ}
-use Rattle.spec_spline.specs.Outcome.{Outcome}
+use Rattle.base_outcome.specs.Outcome.{Outcome}
 use Rattle.spec_spline.specs.Space.{Space}
 use Rattle.spec_spline.specs.CurveCall.{CurveResult, curveOutcome}
 

@@ -4,7 +4,7 @@ use mathlib.Core.Path.{_≡_}
 use Prim.Native.Nat.{ℕ}
 use lib.IntN.{ℤ}
 use lib.ListN.{length, drop}
-use Rattle.spec_spline.specs.Outcome.{answer, refusal}
+use Rattle.base_outcome.specs.Outcome.{answer, refusal}
 use Rattle.spec_spline.specs.Space.{columnCount, rowCount}
 use Rattle.spec_spline.specs.Reading.{earlywood, latewood, coefficient, ordinates}
 use Rattle.spec_spline.specs.CurveCall.{CurveResult, curveNumerators, curveDenominators}

@@ -29,8 +29,8 @@ pub fn build_curves(
     }
     let checked = curve_limits::check(breaks, degrees, orders, coefs, &coefs[0..0]);
     match checked {
-        build_space::Legality::Refused(number, place) => Built::Refused(number, place),
-        build_space::Legality::Legal => curve::parts::build_parts(
+        base_outcome::Legality::Refused(number, place) => Built::Refused(number, place),
+        base_outcome::Legality::Legal => curve::parts::build_parts(
             breaks,
             degrees,
             orders,

@@ -17,10 +17,10 @@ use Rattle.base_exact.proofs.Decide.{cond-true, cond-false}
 use Rattle.base_exact.proofs.Integer.{≤-in, ≤-out, <-in, <-out, ≤-refl, ≤-trans, <-≤-trans, ≤-or->, bal-+, bal-*}
 use Rattle.base_exact.proofs.Tabulate.{tab-length, tab-getD, tab-rest}
 use Rattle.base_exact.proofs.Word.{lt-test, not-lt-test, le-test, not-le-test}
-use Rattle.spec_spline.specs.Search.{last}
+use Rattle.base_outcome.specs.Search.{last}
 use Rattle.spec_spline.specs.Space.{Space, break}
 use Rattle.spec_spline.specs.Reading.{fine, startsAtDiscontinuity, startsBy, segmentAt}
-use Rattle.spec_spline.proofs.Search.{last-at}
+use Rattle.base_outcome.proofs.Search.{last-at}
 use Rattle.build_space.specs.Machine.{space}
 use Rattle.build_space.specs.Legal.{ListsLegal}
 use Rattle.build_space.proofs.Partial.{starts-at-discontinuity-partial}

@@ -9,7 +9,7 @@ ghost use lib.ListN.{length, getD};
 ghost use lib.Signed.{leZ};
 ghost use Rattle.build_space.specs.Machine.{space};
 ghost use Rattle.build_space.specs.Legal.{BreaksLegal, ListsLegal};
-ghost use Rattle.spec_spline.specs.Search;
+ghost use Rattle.base_outcome.specs.Search;
 ghost use Rattle.spec_spline.specs.Reading;
 ghost use Rattle.curve_ordinates.specs.Ordinates.{Bounded};
 ghost use Rattle.curve_triangle.specs.Offsets.{columnLimit, columnsOf, firstPosition, firstPositionsOf, localOf, Within};

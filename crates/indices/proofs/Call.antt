@@ -10,15 +10,16 @@ use lib.ListN.{length, getD, drop}
 use Rattle.base_exact.specs.Tabulate.{tab}
 use Rattle.base_exact.proofs.Decide.{cond-true, cond-false}
 use Rattle.base_exact.proofs.Tabulate.{tab-ext}
-use Rattle.spec_spline.specs.Outcome.{Outcome, answer, refusal, capped, _then_}
-use Rattle.spec_spline.specs.Search.{first}
-use Rattle.spec_spline.specs.Space.{Space, refuseFirst}
+use Rattle.base_outcome.specs.Outcome.{Outcome, answer, refusal, capped, _then_}
+use Rattle.base_outcome.specs.Search.{first}
+use Rattle.spec_spline.specs.Space.{Space}
+use Rattle.base_outcome.specs.Tests.{refuseFirst}
 use Rattle.spec_spline.specs.Table.{tableCells, numerators, denominators}
 use Rattle.spec_spline.specs.Build.{numeratorsAfter, denominatorsAfter}
 use Rattle.spec_spline.specs.Reading.{Wood, earlywood, latewood, woodIndex, Pair}
 use Rattle.spec_spline.specs.CurveCall.{CurveResult, positionLimit, curveOutcome, returned, curveNumerators, curveDenominators, valuesAfter}
-use Rattle.spec_spline.proofs.Outcome.{then-answers, capped-small, answer-unique}
-use Rattle.spec_spline.proofs.Search.{first-ext, first-some-inverts}
+use Rattle.base_outcome.proofs.Outcome.{then-answers, capped-small, answer-unique}
+use Rattle.base_outcome.proofs.Search.{first-ext, first-some-inverts}
 use Rattle.spec_spline.proofs.Pairs.{ofTheWood, getD-pairs, length-pairs}
 use Rattle.spec_spline.proofs.Build.{long-enough}
 use Rattle.theorems_values.proofs.LegalCall.{answered-calls-are-legal, legal-calls-answer, values-length}

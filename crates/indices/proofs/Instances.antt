@@ -16,9 +16,10 @@ use Rattle.base_exact.specs.Order.{isZero, ltᵠ, _≤ᵠ_, _<ᵠ_}
 use Rattle.base_exact.specs.Tabulate.{tab}
 use Rattle.base_exact.proofs.Order.{ltᵠ-true}
 use Rattle.base_exact.proofs.Word.{ltZ-true}
-use Rattle.spec_spline.specs.Outcome.{answer, refusal, capped, _then_}
-use Rattle.spec_spline.specs.Search.{first, last, howMany}
-use Rattle.spec_spline.specs.Space.{between, firstColumn, conditionsBefore}
+use Rattle.base_outcome.specs.Outcome.{answer, refusal, capped, _then_}
+use Rattle.base_outcome.specs.Search.{first, last, howMany}
+use Rattle.spec_spline.specs.Space.{firstColumn, conditionsBefore}
+use Rattle.base_outcome.specs.Tests.{between}
 use Rattle.spec_spline.specs.Table.{tableCells}
 use Rattle.spec_spline.specs.Reading.{startsAtDiscontinuity, startsBy, segmentAt, Wood, earlywood, latewood, sideBySide, values}
 use Rattle.spec_spline.specs.CurveCall.{badCoefficient, badPosition, valuesAfter}

@@ -17,13 +17,14 @@ use Rattle.base_exact.proofs.Decide.{le-or-lt, cond-true, cond-false, or-false}
 use Rattle.base_exact.proofs.Integer.{up, dn, bal-*, bal-neg, ≤-in, ≤-out, <-in, <-out, ≤-or->, ≤-<-trans, <-≤-trans}
 use Rattle.base_exact.proofs.Tabulate.{tab-length, tab-getD, tab-ext}
 use Rattle.base_exact.proofs.Word.{lt-test, not-lt-test, not-le-test, le-test}
-use Rattle.spec_spline.specs.Outcome.{Outcome, answer, refusal, refuse, largestPlace, _then_}
-use Rattle.spec_spline.specs.Search.{first}
-use Rattle.spec_spline.specs.Space.{Space, segments, break, between, badBreak, breakLimit, fitting, lengthsFit, refuseFirst, checked, checkedEntries, rowCount}
+use Rattle.base_outcome.specs.Outcome.{Outcome, answer, refusal, refuse, largestPlace, _then_}
+use Rattle.base_outcome.specs.Search.{first}
+use Rattle.spec_spline.specs.Space.{Space, segments, break, badBreak, breakLimit, fitting, lengthsFit, checked, checkedEntries, rowCount}
+use Rattle.base_outcome.specs.Tests.{between, refuseFirst}
 use Rattle.spec_spline.specs.Reading.{fine}
 use Rattle.spec_spline.specs.CurveCall.{CurveResult, positionLimit, badCoefficient, badPosition, legalEntries, curveChecked, curveRead, curveOutcome}
-use Rattle.spec_spline.proofs.Outcome.{then-refuses}
-use Rattle.spec_spline.proofs.Search.{first-ext, first-none-inverts}
+use Rattle.base_outcome.proofs.Outcome.{then-refuses}
+use Rattle.base_outcome.proofs.Search.{first-ext, first-none-inverts}
 use Rattle.spec_spline.proofs.Space.{between-inverts}
 use Rattle.spec_spline.proofs.Build.{long-enough}
 use Rattle.spec_spline.proofs.Legal.{Checked, checked-inverts, lengths-fit-inverts}

@@ -10,10 +10,10 @@ use lib.Signed.{leZ, _<ℤ_}
 use Rattle.base_exact.proofs.Decide.{holds-true}
 use Rattle.base_exact.proofs.Integer as Z
 use Rattle.base_exact.proofs.Word.{not-le-test}
-use Rattle.spec_spline.specs.Outcome.{answer}
-use Rattle.spec_spline.specs.Space.{between, refuseFirst}
+use Rattle.base_outcome.specs.Outcome.{answer}
+use Rattle.base_outcome.specs.Tests.{between, refuseFirst}
 use Rattle.spec_spline.specs.Reading.{woodIndex}
-use Rattle.spec_spline.proofs.Search.{first-none}
+use Rattle.base_outcome.proofs.Search.{first-none}
 use Rattle.theorems_promises.specs.PositiveValues.{PositiveCoefficients, leastPositive}
 use Rattle.theorems_promises.proofs.PositiveValues.{positive-cells}
 use Rattle.indices.specs.Indices.{ringWidth, widthLimit, isAbsent, isRefused}

@@ -15,7 +15,7 @@ use Rattle.base_exact.specs.Floor.{floorDiv}
 use Rattle.base_exact.proofs.Decide.{cond-true, cond-false, or-false, and-true, true-not-false}
 use Rattle.base_exact.proofs.Integer.{abs-zero, ≤-out, abs-le-in, ≤-in}
 use Rattle.base_exact.proofs.Word.{ltZ-true, ltZ-false, leZ-false, le-test, not-le-test}
-use Rattle.spec_spline.specs.Space.{between}
+use Rattle.base_outcome.specs.Tests.{between}
 use Rattle.spec_spline.proofs.Space.{between-inverts}
 use Rattle.indices.specs.Indices.{widthLimit, isAbsent, isRefused, indexScale, indexOf}
 use Rattle.indices.specs.Machine.{leastWord, greatestWord, nearestWord}

@@ -22,16 +22,17 @@ use Rattle.base_exact.proofs.Rational.{ℚ-ring, readsℚ, int-add, int-mul, di
 use Rattle.base_exact.proofs.Ring.{ring}
 use Rattle.base_exact.proofs.Tabulate.{tab-length, getD-tab, getD-past-tab}
 use Rattle.base_exact.proofs.Word.{pos-of, is-pos}
-use Rattle.spec_spline.specs.Outcome.{Outcome, answer, refusal, refuse, _then_}
-use Rattle.spec_spline.specs.Search.{first}
-use Rattle.spec_spline.specs.Space.{Space, refuseFirst}
+use Rattle.base_outcome.specs.Outcome.{Outcome, answer, refusal, refuse, _then_}
+use Rattle.base_outcome.specs.Search.{first}
+use Rattle.spec_spline.specs.Space.{Space}
+use Rattle.base_outcome.specs.Tests.{refuseFirst}
 use Rattle.spec_spline.specs.Table.{tableCells}
 use Rattle.spec_spline.specs.Reading as Reading
 use Rattle.spec_spline.specs.Reading.{Wood, woodIndex, Pair, fine, sideBySide}
 use Rattle.spec_spline.specs.CurveCall.{CurveResult, curveOutcome, curveNumerators, curveDenominators, valuesAfter}
 use Rattle.spec_spline.specs.ExactCurve.{Legal}
-use Rattle.spec_spline.proofs.Outcome.{answer-unique, answer-not-refusal, then-answers, then-inverts, Broken, first-refuses, second-refuses, then-breaks}
-use Rattle.spec_spline.proofs.Search.{first-ext, first-none-inverts}
+use Rattle.base_outcome.proofs.Outcome.{answer-unique, answer-not-refusal, then-answers, then-inverts, Broken, first-refuses, second-refuses, then-breaks}
+use Rattle.base_outcome.proofs.Search.{first-ext, first-none-inverts}
 use Rattle.spec_spline.proofs.Build.{long-enough}
 use Rattle.spec_spline.proofs.Pairs.{le-half}
 use Rattle.spec_spline.proofs.Legal.{refuseFirst-inverts, cond-refuse-inverts, keeping-refusal}

@@ -11,9 +11,10 @@ use lib.ListN.{length, getD, drop}
 use lib.Signed.{leZ, ltZ}
 use Rattle.base_exact.specs.Floor.{floorDiv}
 use Rattle.base_exact.specs.Tabulate.{tab}
-use Rattle.spec_spline.specs.Outcome.{Outcome, answer, refusal, refuse, _then_}
-use Rattle.spec_spline.specs.Search.{first}
-use Rattle.spec_spline.specs.Space.{Space, between, refuseFirst}
+use Rattle.base_outcome.specs.Outcome.{Outcome, answer, refusal, refuse, _then_}
+use Rattle.base_outcome.specs.Search.{first}
+use Rattle.spec_spline.specs.Space.{Space}
+use Rattle.base_outcome.specs.Tests.{between, refuseFirst}
 use Rattle.spec_spline.specs.Reading.{Wood, earlywood, latewood, Pair, fine}
 use Rattle.spec_spline.specs.CurveCall.{CurveResult, allLongEnough, curveOutcome, curveNumerators, curveDenominators, valuesAfter}
 

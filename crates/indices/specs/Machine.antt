@@ -7,9 +7,9 @@ use lib.IntN.{ℤ, pos, negsuc, _+ℤ_}
 use lib.ListN.{length, getD}
 use lib.Signed.{ltZ}
 use Rattle.base_exact.specs.Tabulate.{tab}
-use Rattle.spec_spline.specs.Outcome.{Outcome, answer, refusal}
-use Rattle.spec_spline.specs.Search.{first}
-use Rattle.spec_spline.specs.Space.{refuseFirst}
+use Rattle.base_outcome.specs.Outcome.{Outcome, answer, refusal}
+use Rattle.base_outcome.specs.Search.{first}
+use Rattle.base_outcome.specs.Tests.{refuseFirst}
 use Rattle.spec_spline.specs.Reading.{fine}
 use Rattle.spec_spline.specs.CurveCall.{positionLimit}
 use Rattle.indices.specs.Indices.{ringWidth, isRefused, indexOf}

@@ -13,9 +13,10 @@ use lib.Signed.{_<ℤ_}
 use Rattle.base_exact.specs.Rational.{ℚ, int, _+ᵠ_, _-ᵠ_, _/ᵠ_}
 use Rattle.base_exact.specs.Order.{_≤ᵠ_, _<ᵠ_}
 use Rattle.base_exact.specs.Floor.{floorDiv}
-use Rattle.spec_spline.specs.Outcome.{answer, refusal}
-use Rattle.spec_spline.specs.Search.{first}
-use Rattle.spec_spline.specs.Space.{Space, between, refuseFirst}
+use Rattle.base_outcome.specs.Outcome.{answer, refusal}
+use Rattle.base_outcome.specs.Search.{first}
+use Rattle.spec_spline.specs.Space.{Space}
+use Rattle.base_outcome.specs.Tests.{between, refuseFirst}
 use Rattle.spec_spline.specs.Reading.{Wood, woodIndex, fine}
 use Rattle.spec_spline.specs.CurveCall.{curveEnd}
 use Rattle.spec_spline.specs.ExactCurve.{exactCurve, Legal}

@@ -7,10 +7,11 @@ ghost use Prim.Native.Nat.{ℕ, _+_, _*_, _<_, _≤_};
 ghost use lib.IntN.{pos};
 ghost use lib.ListN.{length, getD, drop};
 ghost use Rattle.base_exact.specs.Tabulate.{tab};
-ghost use Rattle.spec_spline.specs.Search;
+ghost use Rattle.base_outcome.specs.Search;
 ghost use Rattle.spec_spline.specs.Reading.{woodIndex};
 ghost use Rattle.spec_spline.specs.CurveCall.{positionLimit, curveEnd};
-ghost use Rattle.build_space.specs.Machine.{space, found};
+ghost use Rattle.build_space.specs.Machine.{space};
+ghost use Rattle.base_outcome.specs.Machine.{found};
 ghost use Rattle.curve_ordinates.specs.Wood.{woodOf};
 ghost use Rattle.curve.specs.Machine;
 ghost use Rattle.indices.specs.Indices.{indicesReturned, indicesAfter, indicesEnd};
@@ -119,7 +120,7 @@ fn ring_is_bad(widths: &[i32], values: &[i32], offset: usize, i: usize) -> bool
     value <= 0
 }
 
-fn first_bad_ring(widths: &[i32], values: &[i32], offset: usize) -> build_space::Found
+fn first_bad_ring(widths: &[i32], values: &[i32], offset: usize) -> base_outcome::Found
     requires { ⌜ (2 * length (now widths) ≤ length (now values)) × (offset < 2) ⌝ }
     ensures { λ r. ⌜ r ≡ found (Search.first (length (now (widths .entry))) (badCell (now (widths .entry)) (now (values .entry)) offset)) ⌝ }
 {
@@ -127,10 +128,10 @@ fn first_bad_ring(widths: &[i32], values: &[i32], offset: usize) -> build_space:
     let mut i = 0;
     let found = loop {
         if i == n {
-            break build_space::Found::Nothing;
+            break base_outcome::Found::Nothing;
         }
         if ring_is_bad(widths, values, offset, i) {
-            break build_space::Found::At(i);
+            break base_outcome::Found::At(i);
         }
         i += 1;
     };
@@ -179,8 +180,8 @@ fn index_rings(
     let offset = wood_index(wood);
     let bad = first_bad_ring(widths, values, offset);
     match bad {
-        build_space::Found::At(i) => Answer::Refused(14, i as u32),
-        build_space::Found::Nothing => {
+        base_outcome::Found::At(i) => Answer::Refused(14, i as u32),
+        base_outcome::Found::Nothing => {
             write_indices(widths, values, offset, indices);
             Answer::Indices(widths.len())
         }

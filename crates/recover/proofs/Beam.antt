@@ -10,11 +10,11 @@ use lib.IntN.{ℤ, pos}
 use lib.ListN.{length, take, drop, length-append, length-drop}
 use lib.Seq.{take-all, length-take-le}
 use Rattle.base_exact.proofs.Tabulate.{tab-none}
-use Rattle.spec_spline.specs.Outcome.{Outcome, answer, refusal, capped, with-answer}
+use Rattle.base_outcome.specs.Outcome.{Outcome, answer, refusal, capped, with-answer}
 use Rattle.spec_spline.specs.Space.{Space, checked, partEnd, firstColumn, columnCount, conditionsBefore, rowCount}
 use Rattle.spec_spline.specs.Table.{Table, entry, tableCells, numerators, denominators}
 use Rattle.spec_spline.specs.Build.{weights, lastPart}
-use Rattle.spec_spline.proofs.Outcome.{RefusedAs}
+use Rattle.base_outcome.proofs.Outcome.{RefusedAs}
 use Rattle.spec_spline.proofs.Parts.{Boundary, first-starts, part-ends}
 use Rattle.spec_spline.proofs.Legal.{Checked, checked-inverts, lengths-fit-inverts}
 use Rattle.spec_spline.proofs.Space.{firstColumn-mono}

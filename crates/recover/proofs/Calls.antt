@@ -15,12 +15,13 @@ use Rattle.base_exact.specs.Rational.{int}
 use Rattle.base_exact.proofs.Decide.{le-or-lt, cond-true, cond-false}
 use Rattle.base_fraction.specs.Size.{limit, fits}
 use Rattle.base_fraction.proofs.Size.{int-fits}
-use Rattle.spec_spline.specs.Outcome.{Outcome, answer, refusal, refuse, largestPlace, capped, _then_}
-use Rattle.spec_spline.specs.Search.{first}
-use Rattle.spec_spline.specs.Space.{Space, refuseFirst, checked, columnCount}
+use Rattle.base_outcome.specs.Outcome.{Outcome, answer, refusal, refuse, largestPlace, capped, _then_}
+use Rattle.base_outcome.specs.Search.{first}
+use Rattle.spec_spline.specs.Space.{Space, checked, columnCount}
+use Rattle.base_outcome.specs.Tests.{refuseFirst}
 use Rattle.spec_spline.specs.Table.{tableCells}
-use Rattle.spec_spline.proofs.Outcome.{answer-not-refusal, then-answers, then-refuses}
-use Rattle.spec_spline.proofs.Search.{first-none-inverts}
+use Rattle.base_outcome.proofs.Outcome.{answer-not-refusal, then-answers, then-refuses}
+use Rattle.base_outcome.proofs.Search.{first-none-inverts}
 use Rattle.spec_spline.proofs.Legal.{refuseFirst-inverts, fitting-inverts, refusal-number, first-number, checked-number}
 use Rattle.spec_spline.proofs.Build.{long-enough}
 use Rattle.build_space.specs.Machine.{space}

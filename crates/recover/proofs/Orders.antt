@@ -11,11 +11,11 @@ use lib.ListN.{length, take, drop}
 use Rattle.base_exact.specs.Rational.{ℚ, int}
 use Rattle.base_fraction.specs.Size.{fits}
 use Rattle.base_fraction.proofs.Size.{int-fits}
-use Rattle.spec_spline.specs.Outcome.{Outcome, answer, refusal, _then_}
+use Rattle.base_outcome.specs.Outcome.{Outcome, answer, refusal, _then_}
 use Rattle.spec_spline.specs.Conditions.{Entry, conditions}
 use Rattle.spec_spline.specs.Space.{Space}
 use Rattle.spec_spline.specs.Table.{entry, numerators, denominators}
-use Rattle.spec_spline.proofs.Outcome.{answer-unique, Chained, then-inverts, RefusedAs, repeat-keeps}
+use Rattle.base_outcome.proofs.Outcome.{answer-unique, Chained, then-inverts, RefusedAs, repeat-keeps}
 use Rattle.spec_spline.proofs.Answers.{jumps-length, span-inverts}
 use Rattle.spec_spline.proofs.Splice.{spliced-length, spliced-before, spliced-inside, spliced-after}
 use Rattle.build_cells.specs.Held.{Kept}

@@ -5,8 +5,8 @@ use mathlib.Core.Bool.{Bool, true, false, cond}
 use Prim.Native.Nat.{ℕ}
 use native.Mathlib.Omega.{arith}
 use lib.Dec.{eqb}
-use Rattle.spec_spline.specs.Outcome.{Outcome, answer, refusal}
-use Rattle.spec_spline.proofs.Outcome.{RefusedAs}
+use Rattle.base_outcome.specs.Outcome.{Outcome, answer, refusal}
+use Rattle.base_outcome.proofs.Outcome.{RefusedAs}
 use Rattle.recover_step.specs.Machine.{balanceOf}
 use Rattle.recover_step.specs.declared.Balance.the-variants as balances
 use Rattle.theorems_recovery.proofs.Refusals.{Here}

@@ -5,11 +5,11 @@ use Prim.Native.Nat.{ℕ, _≤_}
 use lib.IntN.{ℤ}
 use lib.ListN.{length}
 use Rattle.base_exact.specs.Rational.{ℚ}
-use Rattle.spec_spline.specs.Outcome.{Outcome, answer, refusal, _then_}
+use Rattle.base_outcome.specs.Outcome.{Outcome, answer, refusal, _then_}
 use Rattle.spec_spline.specs.Conditions.{Entry}
 use Rattle.spec_spline.specs.Table.{Table, tableCells, numerators, denominators}
 use Rattle.spec_spline.specs.Step.{Span, jumps, span, factors, newRows, mixed, step}
-use Rattle.spec_spline.proofs.Outcome.{then-answers, then-refuses, then-inverts, then-assoc}
+use Rattle.base_outcome.proofs.Outcome.{then-answers, then-refuses, then-inverts, then-assoc}
 use Rattle.build_cells.specs.Held.{Kept}
 use Rattle.build_cells.proofs.Buffer.{kept-numerators, kept-denominators}
 use Rattle.build_jumps.specs.Machine.{fractions, rowJumps}

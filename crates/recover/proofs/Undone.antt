@@ -12,7 +12,7 @@ use Rattle.base_exact.proofs.Rational.{int-num}
 use Rattle.base_exact.proofs.Order.{pos-nonzero, ltᵠ-true}
 use Rattle.base_fraction.specs.Machine.{value}
 use Rattle.base_fraction.proofs.Value.{value-fraction}
-use Rattle.spec_spline.specs.Outcome.{Outcome, answer, refusal}
+use Rattle.base_outcome.specs.Outcome.{Outcome, answer, refusal}
 use Rattle.spec_spline.specs.Table.{entry}
 use Rattle.spec_spline.specs.Step.{Span, factors}
 use Rattle.spec_spline.proofs.Answers.{factors-inverts}

@@ -5,7 +5,7 @@ use Prim.Native.Nat.{ℕ, _<_, _≤_}
 use lib.IntN.{ℤ}
 use lib.ListN.{length}
 use Rattle.base_exact.specs.Rational.{ℚ, int}
-use Rattle.spec_spline.specs.Outcome.{Outcome, answer, refusal, with-answer}
+use Rattle.base_outcome.specs.Outcome.{Outcome, answer, refusal, with-answer}
 use Rattle.spec_spline.specs.Step.{Span, span, factors}
 use Rattle.spec_spline.specs.Space.{Space, columnCount, rowCount}
 use Rattle.spec_spline.specs.Table.{rowCells, identity, numerators, denominators}

@@ -4,15 +4,16 @@ ghost use mathlib.Core.List.{[]};
 ghost use Prim.Native.Nat.{_≤_};
 ghost use lib.ListN.{length};
 ghost use Rattle.spec_spline.specs.Space.{segmentLimit};
-ghost use Rattle.build_space.specs.Machine.{space, legality};
+ghost use Rattle.build_space.specs.Machine.{space};
+ghost use Rattle.base_outcome.specs.Machine.{legality};
 ghost use Rattle.build_space.specs.Legal.{DegreesLegal};
 ghost use Rattle.build.specs.Machine.{reply};
 ghost use Rattle.theorems_recovery.specs.RecoveryCall.{recoveryEnd};
 ghost use Rattle.recover.specs.Leaves.{ordinatesChecked};
+use base_outcome::Found;
+use base_outcome::Legality;
 use build::Built;
 use build_jumps::Fractions;
-use build_space::Found;
-use build_space::Legality;
 
 mod parts;
 mod step;
@@ -40,11 +41,11 @@ fn check_ordinates(degrees: &[i32], ordinates: &[i32]) -> Legality
     ensures { λ r. ⌜ r ≡ legality (ordinatesChecked (space [] (now (degrees .entry)) []) (now (ordinates .entry))) ⌝ }
 {
     if ordinates.len() != build_space::first_column(degrees, degrees.len()) {
-        return Legality::Refused(18, build_space::LARGEST_PLACE);
+        return Legality::Refused(18, base_outcome::LARGEST_PLACE);
     }
     let bad = curve_limits::first_outside(ordinates, 0 - ORDINATE_LIMIT, ORDINATE_LIMIT);
     match bad {
-        Found::At(i) => Legality::Refused(18, build_space::place(i)),
+        Found::At(i) => Legality::Refused(18, base_outcome::place(i)),
         Found::Nothing => Legality::Legal,
     }
 }

@@ -99,7 +99,7 @@ pub fn recover_parts(
         if number != 0 {
             build_cells::clear(num, den, 0, build_cells::TABLE_CELLS);
             build_cells::clear(coef_num, coef_den, 0, ordinates.len());
-            return Built::Refused(number, build_space::place(a + place as usize));
+            return Built::Refused(number, base_outcome::place(a + place as usize));
         }
         write(coef_num, coef_den, rows, of, n);
         rows += n;

@@ -5,7 +5,7 @@ ghost use Prim.Native.Nat.{ℕ, _<_, _≤_};
 ghost use lib.IntN.{ℤ};
 ghost use lib.ListN.{length};
 ghost use Rattle.base_exact.specs.Rational.{ℚ, int};
-ghost use Rattle.spec_spline.specs.Outcome.{answer, _then_};
+ghost use Rattle.base_outcome.specs.Outcome.{answer, _then_};
 ghost use Rattle.spec_spline.specs.Space.{Space, columnCount, rowCount};
 ghost use Rattle.spec_spline.specs.Conditions;
 ghost use Rattle.spec_spline.specs.Table.{Table, tableCells};
@@ -148,7 +148,7 @@ fn recover_joins(
         let n = build_space::condition_count(orders, j);
         let join = build::step::join_at(breaks, degrees, j);
         let next = recover_orders(num, den, join, n, rows, columns, present);
-        let place = build_space::place(j);
+        let place = base_outcome::place(j);
         let refused = next.refused;
         present = next.of;
         if refused != 0 {

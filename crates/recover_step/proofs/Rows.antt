@@ -14,10 +14,10 @@ use lib.Seq.{getD-drop}
 use Rattle.base_exact.specs.Rational.{ℚ, int, _+ᵠ_, _*ᵠ_}
 use Rattle.base_exact.specs.Order.{isZero}
 use Rattle.base_fraction.specs.Size.{fits}
-use Rattle.spec_spline.specs.Outcome.{Outcome, answer, refusal, refuse, _then_}
+use Rattle.base_outcome.specs.Outcome.{Outcome, answer, refusal, refuse, _then_}
 use Rattle.spec_spline.specs.Table.{entry}
 use Rattle.spec_spline.specs.Step.{jumpsAt}
-use Rattle.spec_spline.proofs.Outcome.{then-answers, then-refuses}
+use Rattle.base_outcome.proofs.Outcome.{then-answers, then-refuses}
 use Rattle.spec_spline.proofs.Splice.{spliced-length, spliced-before, spliced-inside, spliced-after}
 use Rattle.build_factors.specs.Jumps.{AllFit}
 use Rattle.build_jumps.proofs.Arrays.{entry-new, entry-kept}

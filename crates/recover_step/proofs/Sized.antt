@@ -15,10 +15,10 @@ use Rattle.base_fraction.specs.Machine.{value, Sized}
 use Rattle.base_fraction.specs.declared.Fraction.{Fraction}
 use Rattle.base_fraction.specs.declared.Counted.the-variants.{Fits}
 use Rattle.base_fraction.proofs.Value.{ratio-neg}
-use Rattle.spec_spline.specs.Outcome.{Outcome, answer, refuse, _then_}
+use Rattle.base_outcome.specs.Outcome.{Outcome, answer, refuse, _then_}
 use Rattle.spec_spline.specs.Step.{count}
 use Rattle.spec_spline.specs.Table.{entry}
-use Rattle.spec_spline.proofs.Outcome.{answer-unique, answer-not-refusal, then-inverts}
+use Rattle.base_outcome.proofs.Outcome.{answer-unique, answer-not-refusal, then-inverts}
 use Rattle.build_jumps.specs.Machine.{counted}
 use Rattle.build_jumps.proofs.Counted.{machine-counted, count-sized, fits-answered, lowest-sized}
 use Rattle.theorems_recovery.specs.Recovery.{sized, undoneNumber, undoneRow}

@@ -8,7 +8,7 @@ use lib.Dec.{eqb}
 use lib.IntN.{pos}
 use lib.ListN.{length}
 use Rattle.base_exact.specs.Rational.{ℚ, int}
-use Rattle.spec_spline.specs.Outcome.{Outcome, answer, refusal}
+use Rattle.base_outcome.specs.Outcome.{Outcome, answer, refusal}
 use Rattle.spec_spline.specs.Table.{entry}
 use Rattle.build_factors.specs.Jumps.{AllFit}
 use Rattle.build_jumps.specs.Machine.{fractions}

@@ -11,7 +11,7 @@ ghost use Rattle.base_exact.specs.Order.{isZero};
 ghost use Rattle.base_fraction.specs.Machine.{Sized, fraction};
 ghost use Rattle.base_fraction.specs.declared.Fraction.{Fraction};
 ghost use Rattle.base_fraction.specs.declared.Counted.the-variants.{Fits};
-ghost use Rattle.spec_spline.specs.Outcome.{answer, _then_, with-answer};
+ghost use Rattle.base_outcome.specs.Outcome.{answer, _then_, with-answer};
 ghost use Rattle.spec_spline.specs.Table.{rowCells};
 ghost use Rattle.build_jumps.specs.Machine.{counted, fractions, rowJumps};
 ghost use Rattle.build_rows.specs.Rows.{UnitFactor, UnitFactors};

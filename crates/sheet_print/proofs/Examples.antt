@@ -7,7 +7,8 @@ use Rattle.spec_spline.specs.Cases.{pair, forBoth, weights1}
 use Rattle.base_sorting.specs.Sorted.{inserted, sorted}
 use Rattle.base_text.specs.Bytes.{Text, bytes, lines}
 use Rattle.base_text.specs.Numeral.{digitsUpTo, digits, decimal}
-use Rattle.sheet_print.specs.Printout.{joined, countLine, weightLine, weightLines, valueLine, valueLines, isLow, lowLine, lowLines, lowPositions, refusalLine, answerText}
+use Rattle.sheet_print.specs.Printout.{joined, countLine, weightLine, weightLines, valueLine, valueLines, isLow, lowLine, lowLines, lowPositions, answerText}
+use Rattle.base_print.specs.Refusal.{refusalLine}
 
 -- The lines as document 01 prints them.
 abbrev w1 : List Text

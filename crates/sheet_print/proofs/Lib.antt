@@ -1,6 +1,5 @@
 -- Laws that the proofs of printout share; Stored is for a caller whose buffers hold a table, Examples are of the
 -- definitions alone.
-pub mod Buffer
 pub mod Printout
 pub mod Printed
 pub mod Pairs

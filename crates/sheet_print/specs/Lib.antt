@@ -1,4 +1,3 @@
 -- What the contracts of sheet_print cite beside the definitions of crates spec_spline and base_text.
 pub mod Printout
-pub mod Buffer
 pub mod Printed

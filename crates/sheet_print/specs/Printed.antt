@@ -14,7 +14,7 @@ use Rattle.base_text.specs.Bytes.{Text, newline, comma, slash}
 use Rattle.base_text.specs.Numeral.{digits, decimal}
 use Rattle.sheet_print.specs.Printout.{weightKey}
 
--- The most bytes of an n line, a w line, a v line, a low line and a refusal: every number is counted with the 20 digits that 64 bits can
+-- The most bytes of an n line, a w line, a v line and a low line: every number is counted with the 20 digits that 64 bits can
 -- have, and a signed one with its minus.
 abbrev pub countLineLimit : ℕ
 countLineLimit = 23
@@ -27,9 +27,6 @@ valueLineLimit = 68
 
 abbrev pub lowLineLimit : ℕ
 lowLineLimit = 26
-
-abbrev pub refusalLineLimit : ℕ
-refusalLineLimit = 45
 
 -- A weight's line in two parts: w=row,column, and numerator/denominator with the end of the line.
 abbrev pub placeText : ℕ → ℕ → Text

@@ -34,10 +34,6 @@ valueKey = 118 ∷ 61 ∷ []
 abbrev pub lowKey : Text
 lowKey = 108 ∷ 111 ∷ 119 ∷ 61 ∷ []
 
--- no=
-abbrev pub refusalKey : Text
-refusalKey = 110 ∷ 111 ∷ 61 ∷ []
-
 -- n=rows
 unfoldable pub countLine : ℕ → Text
 countLine n = countKey ++ (digits n ++ (newline ∷ []))
@@ -77,10 +73,6 @@ lowPositions (x ∷ xs) (v ∷ vs) = cond (isLow v) (x ∷ lowPositions xs vs) (
 -- A low line for each of these positions.
 unfoldable pub lowLines : List ℤ → Text
 lowLines xs = joined (map lowLine xs)
-
--- "A refusal prints only no=number,place."
-unfoldable pub refusalLine : ℕ → ℕ → Text
-refusalLine number place = refusalKey ++ (digits number ++ (comma ∷ (digits place ++ (newline ∷ []))))
 
 -- The whole printout of an answer. "Low lines now come by rising position, a repeated position once for each time it was
 -- listed" (change request 6).

@@ -7,91 +7,22 @@ ghost use lib.IntN.{natAbs};
 ghost use lib.ListN.{length, take};
 ghost use Rattle.spec_spline.specs.Table.{rowCells, tableCells};
 ghost use Rattle.spec_spline.specs.CurveCall.{positionLimit};
-ghost use Rattle.sheet_print.specs.Buffer.{written, Puts};
+ghost use Rattle.base_print.specs.Buffer.{written, Puts};
 ghost use Rattle.base_sorting.specs.Sorted.{sorted};
-ghost use Rattle.base_text.specs.Numeral.{digits, decimal};
-ghost use Rattle.sheet_print.specs.Printout.{countLine, weightLines, valueLine, valueLines, isLow, lowLine, lowLines, lowPositions, refusalLine};
-ghost use Rattle.sheet_print.specs.Printed.{countLineLimit, weightLineLimit, valueLineLimit, lowLineLimit, refusalLineLimit, placeText, fractionText, storedWeight, storedWeights, paired};
+ghost use Rattle.sheet_print.specs.Printout.{countLine, weightLines, valueLine, valueLines, isLow, lowLine, lowLines, lowPositions};
+ghost use Rattle.sheet_print.specs.Printed.{countLineLimit, weightLineLimit, valueLineLimit, lowLineLimit, placeText, fractionText, storedWeight, storedWeights, paired};
 
 // The most positions of a call.
 const POSITIONS: usize = 4096;
-
-// One byte.
-pub fn put(out: &mut [u8], at: usize, byte: u8) -> usize
-    requires { ⌜ at < 18446744073709551615 ⌝ }
-    ensures { λ r. ⌜ Puts 1 at (byte ∷ []) (now (out .entry)) (now (out .exit)) r ⌝ }
-{
-    if at < out.len() {
-        out[at] = byte;
-    }
-    at + 1
-}
-
-// A key.
-pub fn put_text(out: &mut [u8], at: usize, text: &[u8]) -> usize
-    requires { ⌜ at ≤ 2 ^ 63 ⌝ }
-    ensures { λ r. ⌜ Puts (length (now (text .entry))) at (now (text .entry)) (now (out .entry)) (now (out .exit)) r ⌝ }
-{
-    let mut next = at;
-    let mut i = 0;
-    while i < text.len() {
-        next = put(out, next, text[i]);
-        i += 1;
-    }
-    next
-}
-
-// How many decimal digits a number has.
-pub fn digit_count(n: u64) -> usize
-    ensures { λ r. ⌜ r ≡ length (digits n) ⌝ }
-    ensures { λ r. ⌜ r ≤ 20 ⌝ }
-{
-    let mut count = 1;
-    let mut rest = n;
-    while rest >= 10 {
-        count += 1;
-        rest = rest / 10;
-    }
-    count
-}
-
-// The digits of a number, from the last to the first.
-fn put_digits(out: &mut [u8], at: usize, n: u64) -> usize
-    requires { ⌜ at ≤ 2 ^ 63 ⌝ }
-    ensures { λ r. ⌜ Puts 20 at (digits n) (now (out .entry)) (now (out .exit)) r ⌝ }
-{
-    let count = digit_count(n);
-    let mut rest = n;
-    let mut i = count;
-    while i > 0 {
-        i -= 1;
-        put(out, at + i, 48 + (rest % 10) as u8);
-        rest = rest / 10;
-    }
-    at + count
-}
-
-// A signed number.
-pub fn put_decimal(out: &mut [u8], at: usize, z: i64) -> usize
-    requires { ⌜ at < 2 ^ 63 ⌝ }
-    ensures { λ r. ⌜ Puts 21 at (decimal z) (now (out .entry)) (now (out .exit)) r ⌝ }
-{
-    let size = base_fraction::magnitude(z);
-    if z < 0 {
-        let next = put(out, at, b'-');
-        return put_digits(out, next, size);
-    }
-    put_digits(out, at, size)
-}
 
 // n=rows
 pub fn put_count(out: &mut [u8], at: usize, n: usize) -> usize
     requires { ⌜ at ≤ 2 ^ 42 ⌝ }
     ensures { λ r. ⌜ Puts countLineLimit at (countLine n) (now (out .entry)) (now (out .exit)) r ⌝ }
 {
-    let a = put_text(out, at, b"n=");
-    let b = put_digits(out, a, n as u64);
-    put(out, b, 10)
+    let a = base_print::put_text(out, at, b"n=");
+    let b = base_print::put_digits(out, a, n as u64);
+    base_print::put(out, b, 10)
 }
 
 // w=row,column,
@@ -99,11 +30,11 @@ fn put_place(out: &mut [u8], at: usize, i: usize, c: usize) -> usize
     requires { ⌜ at ≤ 2 ^ 43 ⌝ }
     ensures { λ r. ⌜ Puts 44 at (placeText i c) (now (out .entry)) (now (out .exit)) r ⌝ }
 {
-    let a = put_text(out, at, b"w=");
-    let b = put_digits(out, a, i as u64);
-    let d = put(out, b, b',');
-    let e = put_digits(out, d, c as u64);
-    put(out, e, b',')
+    let a = base_print::put_text(out, at, b"w=");
+    let b = base_print::put_digits(out, a, i as u64);
+    let d = base_print::put(out, b, b',');
+    let e = base_print::put_digits(out, d, c as u64);
+    base_print::put(out, e, b',')
 }
 
 // numerator/denominator
@@ -112,10 +43,10 @@ fn put_fraction(out: &mut [u8], at: usize, num: i64, den: i64) -> usize
     ensures { λ r. ⌜ Puts 43 at (fractionText num (natAbs den)) (now (out .entry)) (now (out .exit)) r ⌝ }
 {
     let size = base_fraction::magnitude(den);
-    let a = put_decimal(out, at, num);
-    let b = put(out, a, b'/');
-    let c = put_digits(out, b, size);
-    put(out, c, 10)
+    let a = base_print::put_decimal(out, at, num);
+    let b = base_print::put(out, a, b'/');
+    let c = base_print::put_digits(out, b, size);
+    base_print::put(out, c, 10)
 }
 
 // The line of the weight in cell k, unless it is zero: rows and columns are counted from those of cell 0 on.
@@ -171,13 +102,13 @@ fn put_value(out: &mut [u8], at: usize, x: i32, early: i32, late: i32) -> usize
     requires { ⌜ at ≤ 2 ^ 42 ⌝ }
     ensures { λ r. ⌜ Puts valueLineLimit at (valueLine x (record { early = early; late = late })) (now (out .entry)) (now (out .exit)) r ⌝ }
 {
-    let a = put_text(out, at, b"v=");
-    let b = put_decimal(out, a, x as i64);
-    let c = put(out, b, b',');
-    let d = put_decimal(out, c, early as i64);
-    let e = put(out, d, b':');
-    let f = put_decimal(out, e, late as i64);
-    put(out, f, 10)
+    let a = base_print::put_text(out, at, b"v=");
+    let b = base_print::put_decimal(out, a, x as i64);
+    let c = base_print::put(out, b, b',');
+    let d = base_print::put_decimal(out, c, early as i64);
+    let e = base_print::put(out, d, b':');
+    let f = base_print::put_decimal(out, e, late as i64);
+    base_print::put(out, f, 10)
 }
 
 // A line for each position with its two values, which stand side by side in the list.
@@ -201,9 +132,9 @@ fn put_low_line(out: &mut [u8], at: usize, x: i32) -> usize
     requires { ⌜ at ≤ 2 ^ 42 ⌝ }
     ensures { λ r. ⌜ Puts lowLineLimit at (lowLine x) (now (out .entry)) (now (out .exit)) r ⌝ }
 {
-    let a = put_text(out, at, b"low=");
-    let b = put_decimal(out, a, x as i64);
-    put(out, b, 10)
+    let a = base_print::put_text(out, at, b"low=");
+    let b = base_print::put_decimal(out, a, x as i64);
+    base_print::put(out, b, 10)
 }
 
 // Whether either value is zero or less.
@@ -255,17 +186,4 @@ pub fn put_lows(out: &mut [u8], at: usize, positions: &[i32], values: &[i32]) ->
     let count = low_positions(positions, values, &mut lows);
     base_sorting::sort(&mut lows, count);
     put_low_lines(out, at, &lows[..count])
-}
-
-// The printout of a refusal: no=number,place
-pub fn refusal(number: u8, place: u32, out: &mut [u8]) -> usize
-    ensures { λ r. ⌜ r ≡ length (refusalLine number place) ⌝ }
-    ensures { λ r. ⌜ now (out .exit) ≡ written 0 (refusalLine number place) (now (out .entry)) ⌝ }
-    ensures { λ r. ⌜ r ≤ refusalLineLimit ⌝ }
-{
-    let a = put_text(out, 0, b"no=");
-    let b = put_digits(out, a, number as u64);
-    let c = put(out, b, b',');
-    let d = put_digits(out, c, place as u64);
-    put(out, d, 10)
 }

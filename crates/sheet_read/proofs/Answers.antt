@@ -9,9 +9,9 @@ use lib.Dec.{ltb}
 use lib.IntN.{ℤ}
 use lib.ListN.{length, take, drop, length-append}
 use lib.Seq.{slice, take-append-seam}
-use Rattle.spec_spline.specs.Outcome.{Outcome, answer, refusal, refuse}
+use Rattle.base_outcome.specs.Outcome.{Outcome, answer, refusal, refuse}
 use Rattle.spec_spline.specs.Reading.{Pair, sideBySide}
-use Rattle.spec_spline.proofs.Outcome.{answer-unique, answer-not-refusal, then-inverts}
+use Rattle.base_outcome.proofs.Outcome.{answer-unique, answer-not-refusal, then-inverts}
 use Rattle.spec_spline.proofs.Pairs.{sideBySide-length}
 use Rattle.spec_spline.proofs.Legal.{cond-refuse-inverts}
 use Rattle.base_text.specs.Bytes.{Text, newline, Cut, cut, stripped, Range}

@@ -7,7 +7,7 @@ use native.Mathlib.Omega.{arith}
 use Prim.Native.String.{String}
 use lib.IntN.{ℤ, pos, negℤ, natAbs}
 use lib.ListN.{take, length, getD}
-use Rattle.spec_spline.specs.Outcome.{answer, refusal, capped}
+use Rattle.base_outcome.specs.Outcome.{answer, refusal, capped}
 use Rattle.spec_spline.specs.Reading.{Pair, sideBySide}
 use Rattle.base_text.specs.Bytes.{Text, newline, bytes, lines, cut, fieldsBetween, stripped}
 use Rattle.base_text.specs.Numeral.{allDigits, digitsValue, isNatural, numeral, digitsUpTo, digits, decimal, numberLimit}

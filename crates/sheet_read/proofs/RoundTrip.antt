@@ -10,7 +10,7 @@ use borrow.Author.Tests.{le-leb}
 use lib.Dec.{eqb}
 use lib.IntN.{ℤ, pos, natAbs}
 use lib.ListN.{length, length-append, getD}
-use Rattle.spec_spline.specs.Outcome.{Outcome, _then_}
+use Rattle.base_outcome.specs.Outcome.{Outcome, _then_}
 use Rattle.spec_spline.specs.Reading.{Pair, sideBySide}
 use Rattle.base_text.specs.Bytes.{Text, newline, comma, minus, colon, cut, fields}
 use Rattle.base_text.specs.Numeral.{isDigit, numeral, decimal, numberLimit}

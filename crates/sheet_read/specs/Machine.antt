@@ -10,7 +10,7 @@ use lib.Dec.{eqb}
 use lib.IntN.{ℤ}
 use lib.ListN.{length, drop}
 use lib.Seq.{slice}
-use Rattle.spec_spline.specs.Outcome.{Outcome, answer, refusal, with-answer}
+use Rattle.base_outcome.specs.Outcome.{Outcome, answer, refusal, with-answer}
 use Rattle.spec_spline.specs.Reading.{Pair, sideBySide}
 use Rattle.base_text.specs.Bytes.{Text, comma, colon, fieldsBetween, Range}
 use Rattle.base_text.specs.Numeral.{numeral}

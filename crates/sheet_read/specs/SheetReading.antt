@@ -8,7 +8,7 @@ use Prim.Native.Nat.{ℕ}
 use lib.Dec.{leb, ltb}
 use lib.IntN.{ℤ}
 use lib.ListN.{length}
-use Rattle.spec_spline.specs.Outcome.{Outcome, answer, refuse, _then_}
+use Rattle.base_outcome.specs.Outcome.{Outcome, answer, refuse, _then_}
 use Rattle.spec_spline.specs.Reading.{Pair}
 use Rattle.base_text.specs.Bytes.{Text, newline, colon, Cut, cut, fields, stripped}
 use Rattle.base_text.specs.Numeral.{numeral}

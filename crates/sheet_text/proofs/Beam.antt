@@ -9,13 +9,13 @@ use native.Mathlib.Omega.{arith}
 use lib.IntN.{ℤ}
 use lib.ListN.{length}
 use Rattle.base_exact.proofs.Decide.{le-or-lt}
-use Rattle.spec_spline.specs.Outcome.{answer, with-answer}
+use Rattle.base_outcome.specs.Outcome.{answer, with-answer}
 use Rattle.spec_spline.specs.Space.{Space, segments, partEnd, firstColumn, columnCount, conditionsBefore, rowCount, rowsBefore}
 use Rattle.spec_spline.specs.Table.{Table, row, cell, rowCells, tableCells, numerators, denominators}
 use Rattle.spec_spline.specs.Build.{spaceWeights, weights, lastPart, numeratorsAfter, denominatorsAfter}
 use Rattle.spec_spline.specs.Piecewise.{Accepted}
 use Rattle.spec_spline.specs.Reading.{Pair}
-use Rattle.spec_spline.proofs.Outcome.{answer-not-refusal}
+use Rattle.base_outcome.proofs.Outcome.{answer-not-refusal}
 use Rattle.spec_spline.proofs.Parts.{Boundary, first-starts, part-ends}
 use Rattle.spec_spline.proofs.Legal.{Checked, Lengths, lengths-fit-inverts, checked-passes}
 use Rattle.spec_spline.proofs.Table.{entry-past}
@@ -34,11 +34,11 @@ use Rattle.theorems_beams.proofs.PartLegal.{part-lastPart}
 use Rattle.theorems_beams.proofs.Fronts.{part-columns, front-rows, front-rows-more}
 use Rattle.theorems_beams.proofs.Parts.{accepted-checked, weights-by-parts}
 use Rattle.build_cells.proofs.Buffer.{kept-numerators, kept-denominators}
-use Rattle.sheet_print.specs.Buffer.{Puts}
+use Rattle.base_print.specs.Buffer.{Puts}
 use Rattle.base_sorting.specs.Sorted.{sorted}
 use Rattle.sheet_print.specs.Printout.{countLine, weightLines, valueLines, lowPositions, lowLines, answerText}
 use Rattle.sheet_print.specs.Printed.{weightLineLimit, storedWeights}
-use Rattle.sheet_print.proofs.Buffer.{puts-none, puts-then, puts-within, puts-as}
+use Rattle.base_print.proofs.Buffer.{puts-none, puts-then, puts-within, puts-as}
 use Rattle.sheet_print.proofs.Stored.{Holds, firstRows, rows-none, rows-all, rows-more}
 use Rattle.sheet_text.specs.Sheet.{tableOf, weightsText, Filled}
 

@@ -5,7 +5,7 @@ use mathlib.Core.Path.{_≡_, refl, ap, _∙_}
 use Prim.Native.Nat.{ℕ}
 use native.Mathlib.Omega.{arith}
 use lib.IntN.{ℤ, pos, negsuc}
-use Rattle.spec_spline.specs.Outcome.{Outcome, answer, refusal, capped, with-answer}
+use Rattle.base_outcome.specs.Outcome.{Outcome, answer, refusal, capped, with-answer}
 use Rattle.spec_spline.specs.Listing.{Weight}
 use Rattle.spec_spline.specs.CurveCall.{CurveResult, curveOutcome}
 use Rattle.spec_spline.specs.Cases.{Answered, forBoth, shown, answers, weights1, weights9, outcome, cases}

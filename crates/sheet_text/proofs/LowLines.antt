@@ -10,7 +10,7 @@ use lib.Signed.{_<ℤ_, _≤ℤ_}
 use Rattle.base_exact.proofs.Decide.{cond-false}
 use Rattle.base_exact.proofs.Integer as Z
 use Rattle.base_exact.proofs.Word.{ltZ-true, not-le-test}
-use Rattle.spec_spline.specs.Outcome.{Outcome, answer, refusal, capped}
+use Rattle.base_outcome.specs.Outcome.{Outcome, answer, refusal, capped}
 use Rattle.spec_spline.specs.Space.{Space}
 use Rattle.spec_spline.specs.Table.{tableCells}
 use Rattle.spec_spline.specs.Listing.{tableWeights}
@@ -18,7 +18,7 @@ use Rattle.spec_spline.specs.Reading.{Wood, earlywood, latewood, Pair, sideBySi
 use Rattle.spec_spline.specs.CurveCall.{CurveResult}
 use Rattle.spec_spline.specs.ExactCurve.{Legal}
 use Rattle.spec_spline.specs.Cases.{pair}
-use Rattle.spec_spline.proofs.Outcome.{answer-unique}
+use Rattle.base_outcome.proofs.Outcome.{answer-unique}
 use Rattle.base_text.specs.Bytes.{Text, bytes, lines, cut, fieldsBetween, stripped}
 use Rattle.base_text.specs.Numeral.{allDigits, digitsValue, isNatural, numeral}
 use Rattle.base_sorting.specs.Sorted.{sorted}

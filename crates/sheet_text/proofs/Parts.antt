@@ -2,7 +2,7 @@
 -- is not read prints number 10.
 use mathlib.Core.Path.{_≡_, sym, ap, _∙_}
 use Prim.Native.Nat.{ℕ}
-use Rattle.spec_spline.specs.Outcome.{answer}
+use Rattle.base_outcome.specs.Outcome.{answer}
 use Rattle.spec_spline.specs.Reading.{sideBySide}
 use Rattle.base_text.specs.Bytes.{Text}
 use Rattle.sheet_read.specs.SheetReading.{Lists, read}
@@ -10,7 +10,7 @@ use Rattle.sheet_read.specs.Machine.{reply, counted}
 use Rattle.sheet_read.specs.declared.Lists.{Lists as Answer}
 use Rattle.sheet_read.specs.declared.Lists.the-variants.{Refused}
 use Rattle.sheet_read.proofs.Answers.{reply-malformed}
-use Rattle.sheet_print.specs.Printout.{refusalLine}
+use Rattle.base_print.specs.Refusal.{refusalLine}
 use Rattle.sheet_text.specs.Sheet.{Arguments, argumentsOf, calledText, readText, printout}
 
 same-arguments : (a b : Arguments) → a .breaks ≡ b .breaks → a .degrees ≡ b .degrees → a .orders ≡ b .orders → a .coefs ≡ b .coefs → a .positions ≡ b .positions → a ≡ b

@@ -7,7 +7,7 @@ use native.Mathlib.Omega.{arith}
 use lib.IntN.{ℤ}
 use lib.ListN.{length, take, drop}
 use lib.Seq.{take-at}
-use Rattle.spec_spline.specs.Outcome.{Outcome, answer, refusal}
+use Rattle.base_outcome.specs.Outcome.{Outcome, answer, refusal}
 use Rattle.spec_spline.specs.Space.{rowCount}
 use Rattle.spec_spline.specs.Table.{Table, tableCells, numerators, denominators}
 use Rattle.spec_spline.specs.Build.{spaceWeights, lastPart, numeratorsAfter, denominatorsAfter}
@@ -15,7 +15,7 @@ use Rattle.spec_spline.specs.Piecewise.{Accepted}
 use Rattle.spec_spline.specs.CurveCall.{CurveResult, returned, curveNumerators, curveDenominators, valuesAfter}
 use Rattle.spec_spline.specs.ExactCurve.{Legal}
 use Rattle.spec_spline.specs.Reading.{sideBySide}
-use Rattle.spec_spline.proofs.Outcome.{answer-unique, answer-not-refusal}
+use Rattle.base_outcome.proofs.Outcome.{answer-unique, answer-not-refusal}
 use Rattle.spec_spline.proofs.Pairs.{sideBySide-length}
 use Rattle.theorems_values.specs.ValueLimits.{legalResult}
 use Rattle.theorems_values.proofs.LegalCall.{answered-calls-are-legal, legal-calls-answer, values-length}
@@ -23,7 +23,8 @@ use Rattle.build_cells.proofs.Buffer.{numerators-again, denominators-again, kep
 use Rattle.curve.specs.Machine as curve
 use Rattle.curve.specs.declared.Answer.{Answer}
 use Rattle.curve.specs.declared.Answer.the-variants.{Values, Refused}
-use Rattle.sheet_print.specs.Printout.{answerText, refusalLine}
+use Rattle.sheet_print.specs.Printout.{answerText}
+use Rattle.base_print.specs.Refusal.{refusalLine}
 use Rattle.sheet_print.specs.Printed.{paired}
 use Rattle.sheet_print.proofs.Pairs.{paired-sideBySide}
 use Rattle.sheet_text.specs.Sheet.{Arguments, spaceOf, valueCells, tableOf, Filled, called, outcomeText, calledText}

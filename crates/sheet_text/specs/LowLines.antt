@@ -5,13 +5,14 @@ use Prim.Native.Nat.{ℕ, _<_}
 use lib.IntN.{ℤ, pos}
 use lib.ListN.{length, getD}
 use lib.Signed.{_<ℤ_}
-use Rattle.spec_spline.specs.Outcome.{answer}
+use Rattle.base_outcome.specs.Outcome.{answer}
 use Rattle.spec_spline.specs.Table.{Table}
 use Rattle.spec_spline.specs.Listing.{tableWeights}
 use Rattle.spec_spline.specs.Reading.{Pair, sideBySide}
 use Rattle.base_text.specs.Bytes.{Text}
 use Rattle.sheet_read.specs.SheetReading.{Lists, read}
-use Rattle.sheet_print.specs.Printout.{countLine, weightLines, valueLines, refusalLine}
+use Rattle.sheet_print.specs.Printout.{countLine, weightLines, valueLines}
+use Rattle.base_print.specs.Refusal.{refusalLine}
 use Rattle.sheet_text.specs.Sheet.{printout}
 
 -- All numbers of the coefficients' line, two a pair, are above zero.

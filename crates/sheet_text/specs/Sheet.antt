@@ -5,7 +5,7 @@ use mathlib.Core.Path.{_≡_}
 use Prim.Native.Nat.{ℕ, _+_, _*_, _≤_}
 use lib.IntN.{ℤ}
 use lib.ListN.{length}
-use Rattle.spec_spline.specs.Outcome.{Outcome, answer, refusal}
+use Rattle.base_outcome.specs.Outcome.{Outcome, answer, refusal}
 use Rattle.spec_spline.specs.Space.{Space, segmentLimit, degreeLimit, rowCount}
 use Rattle.spec_spline.specs.Table.{Table, rowCells, tableCells, numerators, denominators}
 use Rattle.spec_spline.specs.Build.{spaceWeights, lastPart}
@@ -15,7 +15,8 @@ use Rattle.spec_spline.specs.Reading.{sideBySide}
 use Rattle.spec_spline.specs.CurveCall.{CurveResult, curveOutcome, positionLimit}
 use Rattle.base_text.specs.Bytes.{Text}
 use Rattle.sheet_read.specs.SheetReading.{Lists, read}
-use Rattle.sheet_print.specs.Printout.{weightLines, answerText, refusalLine}
+use Rattle.sheet_print.specs.Printout.{weightLines, answerText}
+use Rattle.base_print.specs.Refusal.{refusalLine}
 use Rattle.sheet_print.specs.Printed.{countLineLimit, weightLineLimit, valueLineLimit, lowLineLimit}
 
 -- The most rows of a beam, 288: no more than its columns, which are at most six a segment.

@@ -11,7 +11,7 @@ ghost use Rattle.spec_spline.specs.CurveCall.{positionLimit};
 ghost use Rattle.theorems_beams.specs.Sections.{partAt};
 ghost use Rattle.theorems_beams.specs.Parts.{Starts};
 ghost use Rattle.build_space.specs.Machine.{space};
-ghost use Rattle.sheet_print.specs.Buffer.{written, Puts};
+ghost use Rattle.base_print.specs.Buffer.{written, Puts};
 ghost use Rattle.sheet_print.specs.Printout.{answerText};
 ghost use Rattle.sheet_print.specs.Printed.{weightLineLimit, paired};
 ghost use Rattle.sheet_text.specs.Sheet.{rowLimit, tableOf, weightsText, Filled, calledText, printout, printoutLimit};
@@ -143,7 +143,7 @@ fn run(
         &mut values,
     );
     match answer {
-        curve::Answer::Refused(number, place) => sheet_print::refusal(number, place, out),
+        curve::Answer::Refused(number, place) => base_print::refusal(number, place, out),
         curve::Answer::Values(n) => {
             let cells = 2 * n;
             put_answer(
@@ -182,7 +182,7 @@ pub fn sheet(input: &[u8], out: &mut [u8]) -> usize
         &mut positions,
     );
     match lists {
-        sheet_read::Lists::Refused(place) => sheet_print::refusal(10, place, out),
+        sheet_read::Lists::Refused(place) => base_print::refusal(10, place, out),
         sheet_read::Lists::Read(b, d, o, c, p) => run(
             &breaks[..b],
             &degrees[..d],

@@ -17,13 +17,13 @@ use Rattle.base_exact.proofs.Decide.{le-or-lt, true-not-false, not-true, not-fa
 use Rattle.base_exact.proofs.Order.{≤-refl, <-≤, zero<one, ltᵠ-true, le-test, isZero-true, isZero-false}
 use Rattle.base_fraction.specs.Size.{fits}
 use Rattle.base_fraction.proofs.Size.{int-fits}
-use Rattle.spec_spline.specs.Outcome.{Outcome, answer, refuse, collect}
-use Rattle.spec_spline.specs.Search.{first, last, found}
+use Rattle.base_outcome.specs.Outcome.{Outcome, answer, refuse, collect}
+use Rattle.base_outcome.specs.Search.{first, last, found}
 use Rattle.spec_spline.specs.Conditions.{Entry}
 use Rattle.spec_spline.specs.Table.{Row, Table, entry, row}
 use Rattle.spec_spline.specs.Step.{count, addProducts, jump, jumps, jumpsAt, Span, zeroBetween, spanOf, span, partialSum, quotientFactor, factor, factors}
-use Rattle.spec_spline.proofs.Outcome.{answer-unique, answer-not-refusal, Chained, then-inverts, Collected, collect-inverts}
-use Rattle.spec_spline.proofs.Search.{First, Last, first-some-inverts, last-some-inverts, first-none-inverts}
+use Rattle.base_outcome.proofs.Outcome.{answer-unique, answer-not-refusal, Chained, then-inverts, Collected, collect-inverts}
+use Rattle.base_outcome.proofs.Search.{First, Last, first-some-inverts, last-some-inverts, first-none-inverts}
 use Rattle.spec_spline.proofs.Table.{entry-past}
 use Rattle.spec_spline.proofs.Step.{count-answers, oneMore, products-none, products-split, tested, quotientTested}
 

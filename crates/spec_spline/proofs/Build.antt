@@ -4,7 +4,7 @@ use Prim.Native.Nat.{ℕ, _+_, _≤_}
 use native.Mathlib.Omega.{arith}
 use borrow.Author.Tests.{le-ltb}
 use Rattle.base_exact.proofs.Decide.{cond-false}
-use Rattle.spec_spline.specs.Outcome.{Outcome}
+use Rattle.base_outcome.specs.Outcome.{Outcome}
 use Rattle.spec_spline.specs.Space.{Space, lastPartStart, firstColumn, rowsBefore}
 use Rattle.spec_spline.specs.Table.{Table, cell, tableCells}
 use Rattle.spec_spline.specs.Build.{longEnough, lastPart}

@@ -13,12 +13,13 @@ use lib.Signed.{leZ, _<ℤ_}
 use Rattle.base_exact.proofs.Decide.{and-true, or-false, cond-true}
 use Rattle.base_exact.proofs.Integer.{up, dn, bal-+, bal-neg, ≤-out, <-out, abs-parts}
 use Rattle.base_exact.proofs.Word.{leZ-false}
-use Rattle.spec_spline.specs.Outcome.{Outcome, answer, refusal, refuse}
-use Rattle.spec_spline.specs.Search.{first}
-use Rattle.spec_spline.specs.Space.{Space, segments, break, degreeEntry, order, between, segmentLimit, lengthsFit, badBreak, spanTooLong, tooManySegments, badDegree, badOrder, refuseFirst, partEndAt, checkedEntries, checked, degree, width, conditionCount}
+use Rattle.base_outcome.specs.Outcome.{Outcome, answer, refusal, refuse}
+use Rattle.base_outcome.specs.Search.{first}
+use Rattle.spec_spline.specs.Space.{Space, segments, break, degreeEntry, order, segmentLimit, lengthsFit, badBreak, spanTooLong, tooManySegments, badDegree, badOrder, partEndAt, checkedEntries, checked, degree, width, conditionCount}
+use Rattle.base_outcome.specs.Tests.{between, refuseFirst}
 use Rattle.spec_spline.specs.Build.{clears}
-use Rattle.spec_spline.proofs.Outcome.{answer-unique, answer-not-refusal}
-use Rattle.spec_spline.proofs.Search.{some-not-none, first-none, first-none-inverts}
+use Rattle.base_outcome.proofs.Outcome.{answer-unique, answer-not-refusal}
+use Rattle.base_outcome.proofs.Search.{some-not-none, first-none, first-none-inverts}
 use Rattle.spec_spline.proofs.Space.{between-inverts}
 
 -- The facts that the tests leave, test by test.

@@ -3,8 +3,6 @@
 -- Splice about a list with some elements replaced, Pairs about the two wood parts and pairs side by side, Answers and NewRows
 -- about what a step that answers has done, Shape about the rows and columns that it leaves, Refusals about where a step refuses,
 -- Cases proves the cases W1 to W10.
-pub mod Outcome
-pub mod Search
 pub mod Space
 pub mod Parts
 pub mod Legal

@@ -12,10 +12,10 @@ use Rattle.base_exact.proofs.Decide.{le-or-lt}
 use Rattle.base_exact.proofs.Ring.{ring}
 use Rattle.base_exact.proofs.Rational.{ℚ-ring, readsℚ}
 use Rattle.base_fraction.specs.Size.{fits}
-use Rattle.spec_spline.specs.Outcome.{answer, _then_}
+use Rattle.base_outcome.specs.Outcome.{answer, _then_}
 use Rattle.spec_spline.specs.Table.{Row, entry}
 use Rattle.spec_spline.specs.Step.{count, newEntry, newRow}
-use Rattle.spec_spline.proofs.Outcome.{then-inverts, Collected, collect-inverts}
+use Rattle.base_outcome.proofs.Outcome.{then-inverts, Collected, collect-inverts}
 use Rattle.spec_spline.proofs.Table.{entry-past}
 use Rattle.spec_spline.proofs.Step.{count-answers}
 

@@ -9,9 +9,9 @@ use native.Mathlib.Omega.{arith}
 use borrow.Author.Tests.{lt-ltb, le-ltb, ltb-true}
 use lib.Dec.{ltb}
 use Rattle.base_exact.proofs.Decide.{le-or-lt, and-true, true-not-false}
-use Rattle.spec_spline.specs.Search.{first}
+use Rattle.base_outcome.specs.Search.{first}
 use Rattle.spec_spline.specs.Space.{Space, segments, startsPart, partEnd}
-use Rattle.spec_spline.proofs.Search.{at, nowhere, Searched, search-first, first-none, first-at, Last, SearchedBack, search-last}
+use Rattle.base_outcome.proofs.Search.{at, nowhere, Searched, search-first, first-none, first-at, Last, SearchedBack, search-last}
 
 -- Segment b starts a part, or the beam ends before it.
 pub record Boundary (s : Space) (b : ℕ) : Type 0 where

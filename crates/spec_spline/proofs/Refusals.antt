@@ -10,12 +10,12 @@ use lib.ListN.{length, take, drop}
 use Rattle.base_exact.specs.Rational.{ℚ, int, _+ᵠ_, _-ᵠ_, _*ᵠ_, _/ᵠ_}
 use Rattle.base_exact.specs.Order.{ltᵠ}
 use Rattle.base_fraction.specs.Size.{fits}
-use Rattle.spec_spline.specs.Outcome.{Outcome, answer, refusal, refuse, capped, _then_, collect}
-use Rattle.spec_spline.specs.Search.{first, last}
+use Rattle.base_outcome.specs.Outcome.{Outcome, answer, refusal, refuse, capped, _then_, collect}
+use Rattle.base_outcome.specs.Search.{first, last}
 use Rattle.spec_spline.specs.Conditions.{Entry}
 use Rattle.spec_spline.specs.Table.{Row, Table, entry, row}
 use Rattle.spec_spline.specs.Step.{count, addProducts, jump, jumps, jumpsAt, Span, zeroBetween, spanOf, span, partialSum, quotientFactor, factor, factors, newEntry, newRow, newRows, mixed, step}
-use Rattle.spec_spline.proofs.Outcome.{answer-not-refusal, RefusedAs, answer-refused, then-refused, collect-refused}
+use Rattle.base_outcome.proofs.Outcome.{answer-not-refusal, RefusedAs, answer-refused, then-refused, collect-refused}
 use Rattle.spec_spline.proofs.Step.{oneMore, products-none, products-split, tested, quotientTested}
 
 -- ---- the two refusals, at join j

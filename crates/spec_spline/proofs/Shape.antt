@@ -8,13 +8,13 @@ use native.Mathlib.Omega.{arith}
 use lib.ListN.{length, take, drop}
 use Rattle.base_exact.specs.Rational.{ℚ}
 use Rattle.base_exact.proofs.Decide.{le-or-lt}
-use Rattle.spec_spline.specs.Outcome.{answer, _then_}
+use Rattle.base_outcome.specs.Outcome.{answer, _then_}
 use Rattle.spec_spline.specs.Space.{Space, segments, columnCount, conditionCount, conditionsBefore, rowCount}
 use Rattle.spec_spline.specs.Conditions.{Entry, conditions}
 use Rattle.spec_spline.specs.Table.{Table, entry, row, identity}
 use Rattle.spec_spline.specs.Step.{jumps, Span, span, factors, newRow, newRows, mixed, step}
 use Rattle.spec_spline.specs.Build.{orderSteps, joinSteps, weights}
-use Rattle.spec_spline.proofs.Outcome.{answer-unique, then-inverts, Collected, collect-inverts, repeat-keeps}
+use Rattle.base_outcome.proofs.Outcome.{answer-unique, then-inverts, Collected, collect-inverts, repeat-keeps}
 use Rattle.spec_spline.proofs.Table.{identity-rows, identity-wide}
 use Rattle.spec_spline.proofs.Splice.{spliced-length, spliced-before, spliced-inside, spliced-after}
 use Rattle.spec_spline.proofs.Answers.{jumps-length, Spans, span-inverts}

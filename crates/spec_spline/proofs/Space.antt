@@ -12,7 +12,8 @@ use lib.Signed.{leZ, _≤ℤ_}
 use Rattle.base_exact.proofs.Decide.{and-true, not-false}
 use Rattle.base_exact.proofs.Integer.{up, dn, bal-+, ext, abs-zero}
 use Rattle.base_exact.proofs.Word.{leZ-true}
-use Rattle.spec_spline.specs.Space.{Space, order, between, degree, conditionCount, isDiscontinuity, firstColumn}
+use Rattle.spec_spline.specs.Space.{Space, order, degree, conditionCount, isDiscontinuity, firstColumn}
+use Rattle.base_outcome.specs.Tests.{between}
 
 pub between-inverts : (low high z : ℤ) → not (between low high z) ≡ false → (low ≤ℤ z) × (z ≤ℤ high)
 between-inverts low high z e = let b = and-true (leZ low z) (leZ z high) (not-false _ e) in (leZ-true low z (b .0), leZ-true z high (b .1))

@@ -14,12 +14,12 @@ use Rattle.base_exact.specs.Sum.{sum}
 use Rattle.base_exact.proofs.Rational.{add-comm, add-zero}
 use Rattle.base_exact.proofs.Sum.{sum-last}
 use Rattle.base_fraction.specs.Size.{fits}
-use Rattle.spec_spline.specs.Outcome.{Outcome, answer, refusal, refuse, _then_}
-use Rattle.spec_spline.specs.Search.{first, last}
+use Rattle.base_outcome.specs.Outcome.{Outcome, answer, refusal, refuse, _then_}
+use Rattle.base_outcome.specs.Search.{first, last}
 use Rattle.spec_spline.specs.Conditions.{Entry}
 use Rattle.spec_spline.specs.Table.{Row, entry}
 use Rattle.spec_spline.specs.Step.{count, addProducts, jumpsAt, zeroBetween, spanOf, span, partialSum, quotientFactor}
-use Rattle.spec_spline.proofs.Outcome.{answer-unique, answer-not-refusal, then-answers, then-refuses, then-assoc}
+use Rattle.base_outcome.proofs.Outcome.{answer-unique, answer-not-refusal, then-answers, then-refuses, then-assoc}
 
 -- ---- a counted fraction
 

@@ -8,7 +8,7 @@ use Prim.Native.Nat.{ℕ, _*_, _-_}
 use lib.IntN.{ℤ, pos, negℤ}
 use lib.ListN.{length}
 use Rattle.base_exact.specs.Tabulate.{tab}
-use Rattle.spec_spline.specs.Outcome.{Outcome, answer, refusal, with-answer}
+use Rattle.base_outcome.specs.Outcome.{Outcome, answer, refusal, with-answer}
 use Rattle.spec_spline.specs.Space.{Space}
 use Rattle.spec_spline.specs.Table.{Table, tableCells}
 use Rattle.spec_spline.specs.Build.{built}

@@ -6,9 +6,10 @@ use Prim.Native.Nat.{ℕ, _*_, _/_}
 use lib.Dec.{eqb, ltb}
 use lib.IntN.{ℤ, pos, negℤ}
 use lib.ListN.{length, getD, drop}
-use Rattle.spec_spline.specs.Outcome.{Outcome, answer, refusal, refuse, largestPlace, _then_, with-answer}
-use Rattle.spec_spline.specs.Search.{first}
-use Rattle.spec_spline.specs.Space.{Space, segments, break, between, fitting, refuseFirst, checkedEntries, rowCount}
+use Rattle.base_outcome.specs.Outcome.{Outcome, answer, refusal, refuse, largestPlace, _then_, with-answer}
+use Rattle.base_outcome.specs.Search.{first}
+use Rattle.spec_spline.specs.Space.{Space, segments, break, fitting, checkedEntries, rowCount}
+use Rattle.base_outcome.specs.Tests.{between, refuseFirst}
 use Rattle.spec_spline.specs.Table.{Table}
 use Rattle.spec_spline.specs.Build.{weights, longEnough, lastPart, numeratorsAfter, denominatorsAfter}
 use Rattle.spec_spline.specs.Reading.{fine, Pair, sideBySide, values}

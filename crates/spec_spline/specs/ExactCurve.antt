@@ -11,7 +11,7 @@ use lib.IntN.{ℤ, pos, _-ℤ_}
 use lib.ListN.{length}
 use Rattle.base_exact.specs.Rational.{ℚ, int, _*ᵠ_, _/ᵠ_}
 use Rattle.base_exact.specs.Sum.{sum}
-use Rattle.spec_spline.specs.Search.{first, found, howMany}
+use Rattle.base_outcome.specs.Search.{first, found, howMany}
 use Rattle.spec_spline.specs.Space.{Space, degree, firstColumn, rowCount}
 use Rattle.spec_spline.specs.Conditions.{binomial}
 use Rattle.spec_spline.specs.Table.{Table, cell, tableCells}

@@ -1,5 +1,3 @@
-pub mod Outcome
-pub mod Search
 pub mod Space
 pub mod Conditions
 pub mod Table

@@ -12,7 +12,7 @@ use Rattle.base_exact.specs.Rational.{ℚ, int, _*ᵠ_, -ᵠ_, _-ᵠ_, _/ᵠ_}
 use Rattle.base_exact.specs.Order.{isZero}
 use Rattle.base_exact.specs.Sum.{sum}
 use Rattle.base_exact.specs.Tabulate.{tab}
-use Rattle.spec_spline.specs.Search.{first, last}
+use Rattle.base_outcome.specs.Search.{first, last}
 use Rattle.spec_spline.specs.Space.{Space, segments, degree, width, firstColumn, columnCount, conditionCount}
 use Rattle.spec_spline.specs.Table.{Row, Table, entry, cell, identity}
 

@@ -14,7 +14,7 @@ use Rattle.base_exact.specs.Rational.{ℚ, den}
 use Rattle.base_exact.specs.Order.{isZero}
 use Rattle.base_exact.specs.Floor.{nearest}
 use Rattle.base_exact.specs.Tabulate.{tab}
-use Rattle.spec_spline.specs.Search.{last}
+use Rattle.base_outcome.specs.Search.{last}
 use Rattle.spec_spline.specs.Space.{Space, segments, break, degree, width, isDiscontinuity, firstColumn, columnCount}
 use Rattle.spec_spline.specs.Table.{Table, cell}
 

@@ -9,8 +9,9 @@ use lib.Dec.{eqb, leb, ltb}
 use lib.IntN.{ℤ, pos, _-ℤ_, _+ℤ_, natAbs, negℤ}
 use lib.ListN.{length, getD}
 use lib.Signed.{leZ, ltZ}
-use Rattle.spec_spline.specs.Outcome.{Outcome, answer, refuse}
-use Rattle.spec_spline.specs.Search.{first, last}
+use Rattle.base_outcome.specs.Tests.{between, refuseFirst}
+use Rattle.base_outcome.specs.Outcome.{Outcome, answer, refuse}
+use Rattle.base_outcome.specs.Search.{first, last}
 
 -- The three lists.
 pub record Space : Type 0 where
@@ -33,10 +34,6 @@ degreeEntry s i = getD (s .degrees) i (pos 0)
 -- The order of join i.
 abbrev pub order : Space → ℕ → ℤ
 order s i = getD (s .orders) i (pos 0)
-
--- z is neither below the one bound nor above the other.
-abbrev pub between : ℤ → ℤ → ℤ → Bool
-between low high z = leZ low z && leZ z high
 
 -- "Accept up to 48 stretches".
 abbrev pub segmentLimit : ℕ
@@ -103,11 +100,6 @@ badDegree s i = not (between (pos 1) (pos degreeLimit) (degreeEntry s i))
 -- Number 5: out of -1 to 2, or above the smaller neighbouring degree minus 1.
 unfoldable pub badOrder : Space → ℕ → Bool
 badOrder s i = not (between (negℤ (pos 1)) (pos 2) (order s i)) || leZ (degreeEntry s i) (order s i) || leZ (degreeEntry s (suc i)) (order s i)
-
--- The refusal at the first index that breaks the rule, or the value given.
-abbrev pub refuseFirst : {A : Type 0} → ℕ → Option ℕ → Outcome A → Outcome A
-refuseFirst number none rest = rest
-refuseFirst number (some i) rest = refuse number i
 
 -- Number 2, place 0, or the value given.
 abbrev pub fitting : {A : Type 0} → Space → Outcome A → Outcome A

@@ -10,8 +10,8 @@ use Rattle.base_exact.specs.Rational.{ℚ, int, _+ᵠ_, _*ᵠ_, _-ᵠ_, _/ᵠ_}
 use Rattle.base_exact.specs.Order.{isZero, ltᵠ}
 use Rattle.base_exact.specs.Sum.{sum}
 use Rattle.base_fraction.specs.Size.{fits}
-use Rattle.spec_spline.specs.Outcome.{Outcome, answer, refuse, _then_, collect}
-use Rattle.spec_spline.specs.Search.{first, last, found}
+use Rattle.base_outcome.specs.Outcome.{Outcome, answer, refuse, _then_, collect}
+use Rattle.base_outcome.specs.Search.{first, last, found}
 use Rattle.spec_spline.specs.Conditions.{Entry}
 use Rattle.spec_spline.specs.Table.{Row, Table, entry, row}
 

@@ -7,7 +7,7 @@ use Prim.Native.Nat.{ℕ}
 use lib.Dec.{leb}
 use lib.IntN.{ℤ}
 use lib.ListN.{length, drop}
-use Rattle.spec_spline.specs.Outcome.{Outcome, answer, refusal, refuse, _then_, with-answer}
+use Rattle.base_outcome.specs.Outcome.{Outcome, answer, refusal, refuse, _then_, with-answer}
 use Rattle.base_text.specs.Bytes.{Text}
 use Rattle.spec_tucson.specs.Series.{Series}
 use Rattle.spec_tucson.specs.TextReading.{readText}

@@ -7,7 +7,7 @@ use Prim.Native.Nat.{ℕ, suc}
 use lib.Dec.{eqb}
 use lib.IntN.{ℤ, pos, _+ℤ_}
 use lib.ListN.{length, take}
-use Rattle.spec_spline.specs.Outcome.{Outcome, answer, refuse, _then_, with-answer}
+use Rattle.base_outcome.specs.Outcome.{Outcome, answer, refuse, _then_, with-answer}
 use Rattle.base_text.specs.Bytes.{Text, beginsWith}
 use Rattle.spec_tucson.specs.Line.{Line, nameColumns, linesOf, yearInDecade, same, goodLine}
 use Rattle.spec_tucson.specs.Series.{Series, closedBy}

@@ -7,8 +7,8 @@ use Prim.Native.Nat.{ℕ, _+_, _*_}
 use lib.Dec.{eqb, leb}
 use lib.IntN.{ℤ}
 use lib.ListN.{length, take, drop}
-use Rattle.spec_spline.specs.Outcome.{Outcome, answer, refusal, refuse, with-answer}
-use Rattle.spec_spline.specs.Space.{refuseFirst}
+use Rattle.base_outcome.specs.Outcome.{Outcome, answer, refusal, refuse, with-answer}
+use Rattle.base_outcome.specs.Tests.{refuseFirst}
 use Rattle.base_text.specs.Bytes.{Text}
 use Rattle.spec_tucson.specs.Line.{nameColumns}
 use Rattle.spec_tucson.specs.Series.{Series}

@@ -6,7 +6,7 @@ use mathlib.Core.Option.{Option, some, none}
 use Prim.Native.Nat.{ℕ, zero, suc, _-_}
 use lib.IntN.{ℤ, pos, negℤ, _+ℤ_}
 use lib.ListN.{length}
-use Rattle.spec_spline.specs.Space.{between}
+use Rattle.base_outcome.specs.Tests.{between}
 use Rattle.base_text.specs.Bytes.{Text, newline, beginsWith}
 use Rattle.spec_tucson.specs.Columns.{columns}
 use Rattle.spec_tucson.specs.Line.{Line, yearColumns, fieldColumns, decade, thousandths, isName, isWidth, yearInDecade}

@@ -7,14 +7,14 @@ use lib.Dec.{eqb}
 use lib.IntN.{pos, _+ℤ_, natAbs}
 use Rattle.base_exact.specs.Rational.{_*ᵠ_, _-ᵠ_, int}
 use lib.ListN.{length}
-use Rattle.spec_spline.specs.Outcome.{answer}
+use Rattle.base_outcome.specs.Outcome.{answer}
 use Rattle.spec_spline.specs.Space.{Space, segments, order, degree, conditionCount, firstColumn, columnCount, conditionsBefore}
 use Rattle.spec_spline.specs.Conditions.{conditions}
 use Rattle.spec_spline.specs.Table.{Table, cell, identity}
 use Rattle.spec_spline.specs.Step.{step}
 use Rattle.spec_spline.specs.Build.{orderSteps, joinSteps, weights}
 use Rattle.spec_spline.specs.Piecewise.{Accepted}
-use Rattle.spec_spline.proofs.Outcome.{repeat-keeps}
+use Rattle.base_outcome.proofs.Outcome.{repeat-keeps}
 use Rattle.spec_spline.proofs.Table.{cell-past}
 use Rattle.spec_spline.proofs.Legal.{Legal, legal}
 use Rattle.theorems_weights.proofs.Built.{built}

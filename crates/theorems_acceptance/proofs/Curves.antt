@@ -6,11 +6,11 @@ use native.Mathlib.Omega.{arith}
 use lib.Dec.{ltb}
 use lib.ListN.{length}
 use Rattle.base_exact.proofs.Decide.{true-not-false}
-use Rattle.spec_spline.specs.Outcome.{Outcome, answer, refusal, refuse, _then_, with-answer}
+use Rattle.base_outcome.specs.Outcome.{Outcome, answer, refusal, refuse, _then_, with-answer}
 use Rattle.spec_spline.specs.Table.{Table, tableCells}
 use Rattle.spec_spline.specs.Build.{weights}
 use Rattle.spec_spline.specs.CurveCall.{CurveResult, curveChecked, curveRead, curveOutcome}
-use Rattle.spec_spline.proofs.Outcome.{answer-not-refusal, then-breaks, Broken, first-refuses, second-refuses}
+use Rattle.base_outcome.proofs.Outcome.{answer-not-refusal, then-breaks, Broken, first-refuses, second-refuses}
 use Rattle.spec_spline.proofs.Legal.{checked-inverts}
 use Rattle.theorems_values.proofs.LegalCall.{checks-passed, curve-checks, legal-calls-return-count}
 use Rattle.theorems_acceptance.specs.Acceptance.{CurvesNeverGiveNine}

@@ -12,11 +12,11 @@ use Rattle.base_exact.specs.Gcd.{gcd, gcdF}
 use Rattle.base_exact.specs.Rational.{ℚ, int, mk}
 use Rattle.base_exact.proofs.Decide.{le-or-lt}
 use Rattle.base_fraction.specs.Size.{fits}
-use Rattle.spec_spline.specs.Outcome.{answer, collect}
+use Rattle.base_outcome.specs.Outcome.{answer, collect}
 use Rattle.spec_spline.specs.Conditions.{Entry}
 use Rattle.spec_spline.specs.Table.{Row, Table, entry, row, cell, identity}
 use Rattle.spec_spline.specs.Step.{newRow, step}
-use Rattle.spec_spline.proofs.Outcome.{Collected, collect-inverts}
+use Rattle.base_outcome.proofs.Outcome.{Collected, collect-inverts}
 use Rattle.spec_spline.proofs.NewRows.{newEntry-answers}
 use Rattle.spec_spline.proofs.Table.{entry-past, row-past, identity-on, identity-off, identity-low}
 use Rattle.theorems_weights.proofs.Stepped.{parts-of}

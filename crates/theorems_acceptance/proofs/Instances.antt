@@ -19,8 +19,8 @@ use Rattle.base_exact.specs.Tabulate.{tab}
 use Rattle.base_exact.proofs.Integer.{≤-refl}
 use Rattle.base_exact.proofs.Word.{ltZ-false}
 use Rattle.base_fraction.specs.Size.{fits}
-use Rattle.spec_spline.specs.Outcome.{answer, refusal, capped, collect, repeat}
-use Rattle.spec_spline.specs.Search.{first, last}
+use Rattle.base_outcome.specs.Outcome.{answer, refusal, capped, collect, repeat}
+use Rattle.base_outcome.specs.Search.{first, last}
 use Rattle.spec_spline.specs.Space.{Space, segments, order, lengthsFit, badBreak, startsPart, partEnd, spanTooLong, tooManySegments, badDegree, badOrder, checkedEntries, checked, firstColumn, conditionsBefore}
 use Rattle.spec_spline.specs.Conditions.{falling, binomial, alternating, undivided, commonDivisor, conditions}
 use Rattle.spec_spline.specs.Table.{Table, cell, identity}
@@ -31,7 +31,7 @@ use Rattle.spec_spline.specs.Reading.{latewood}
 use Rattle.spec_spline.specs.CurveCall.{badCoefficient, badPosition, curveOutcome, returned, valuesAfter}
 use Rattle.spec_spline.specs.ExactCurve.{Legal}
 use Rattle.spec_spline.specs.Piecewise.{Accepted}
-use Rattle.spec_spline.proofs.Search.{first-none-inverts}
+use Rattle.base_outcome.proofs.Search.{first-none-inverts}
 use Rattle.theorems_weights.proofs.Instances.{q0, q1}
 use Rattle.theorems_acceptance.specs.Acceptance.{OrdersAtMostOne, EightAtOrderTwo}
 use Rattle.theorems_acceptance.specs.Curves.{WithinLimits}

@@ -12,7 +12,8 @@ use lib.Signed.{leZ, ltZ, _≤ℤ_, _<ℤ_}
 use Rattle.base_exact.proofs.Decide.{true-not-false, or-false}
 use Rattle.base_exact.proofs.Integer.{up, dn, ext, bal-+, bal-neg, ≤-in, ≤-out, <-out, ≤-refl, <-≤, rises}
 use Rattle.base_exact.proofs.Word.{ltZ-false, is-pos}
-use Rattle.spec_spline.specs.Space.{Space, segments, break, degreeEntry, order, between, spanLimit, degreeLimit, startsPart, partEnd, spanTooLong, badDegree, badOrder, degree, width, conditionCount}
+use Rattle.spec_spline.specs.Space.{Space, segments, break, degreeEntry, order, spanLimit, degreeLimit, startsPart, partEnd, spanTooLong, badDegree, badOrder, degree, width, conditionCount}
+use Rattle.base_outcome.specs.Tests.{between}
 use Rattle.spec_spline.proofs.Space.{between-inverts}
 use Rattle.spec_spline.proofs.Parts.{Ends, part-ends, InPart, segment-in-part}
 use Rattle.spec_spline.proofs.Legal.{Checked, legal, good-break-rises}

@@ -9,14 +9,14 @@ use lib.IntN.{pos}
 use Rattle.base_exact.specs.Rational.{int}
 use Rattle.base_exact.proofs.Decide.{le-or-lt, true-not-false}
 use Rattle.base_fraction.specs.Size.{limit}
-use Rattle.spec_spline.specs.Outcome.{answer, refusal, _then_, repeat}
+use Rattle.base_outcome.specs.Outcome.{answer, refusal, _then_, repeat}
 use Rattle.spec_spline.specs.Space.{Space, segments, order, conditionCount, columnCount, checked}
 use Rattle.spec_spline.specs.Conditions.{conditions}
 use Rattle.spec_spline.specs.Table.{Table, cell, identity}
 use Rattle.spec_spline.specs.Step.{step}
 use Rattle.spec_spline.specs.Build.{orderSteps, joinSteps, weights, spaceWeights}
 use Rattle.spec_spline.specs.Published.{for}
-use Rattle.spec_spline.proofs.Outcome.{then-answers, then-breaks, Broken, first-refuses, second-refuses}
+use Rattle.base_outcome.proofs.Outcome.{then-answers, then-breaks, Broken, first-refuses, second-refuses}
 use Rattle.spec_spline.proofs.Table.{identity-on, identity-off, identity-low}
 use Rattle.spec_spline.proofs.Legal.{Checked, Legal, legal, checked-inverts, checked-numbers}
 use Rattle.spec_spline.proofs.Refusals.{step-refuses}

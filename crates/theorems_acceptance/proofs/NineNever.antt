@@ -7,13 +7,13 @@ use native.Mathlib.Omega.{arith}
 use lib.Dec.{T, ltb}
 use Rattle.base_exact.specs.Rational.{ℚ}
 use Rattle.base_exact.proofs.Decide.{true-not-false}
-use Rattle.spec_spline.specs.Outcome.{refusal, refuse}
+use Rattle.base_outcome.specs.Outcome.{refusal, refuse}
 use Rattle.spec_spline.specs.Space.{Space, segments, conditionCount, checked}
 use Rattle.spec_spline.specs.Conditions.{Entry, conditions}
 use Rattle.spec_spline.specs.Table.{Row, Table, tableCells}
 use Rattle.spec_spline.specs.Step.{step}
 use Rattle.spec_spline.specs.Build.{weights, spaceWeights, built}
-use Rattle.spec_spline.proofs.Outcome.{then-breaks, Broken, first-refuses, second-refuses}
+use Rattle.base_outcome.proofs.Outcome.{then-breaks, Broken, first-refuses, second-refuses}
 use Rattle.spec_spline.proofs.Legal.{Checked, Legal, legal, checked-inverts, checked-numbers}
 use Rattle.theorems_weights.specs.Counted.{jumpTests, entryTests}
 use Rattle.theorems_acceptance.specs.Acceptance.{NineNeverComes, BuildingNeverGivesNine}

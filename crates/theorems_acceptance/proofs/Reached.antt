@@ -8,13 +8,13 @@ use lib.IntN.{pos}
 use lib.ListN.{length}
 use Rattle.base_exact.specs.Rational.{int}
 use Rattle.base_exact.specs.Sum.{sum}
-use Rattle.spec_spline.specs.Outcome.{answer, refusal, _then_}
+use Rattle.base_outcome.specs.Outcome.{answer, refusal, _then_}
 use Rattle.spec_spline.specs.Space.{Space, segments, degree, conditionCount, columnCount}
 use Rattle.spec_spline.specs.Conditions.{conditions}
 use Rattle.spec_spline.specs.Table.{Table, cell, identity}
 use Rattle.spec_spline.specs.Step.{step}
 use Rattle.spec_spline.specs.Build.{orderSteps, joinSteps, weights}
-use Rattle.spec_spline.proofs.Outcome.{repeat-keeps, Halted, repeat-refuses, then-answers}
+use Rattle.base_outcome.proofs.Outcome.{repeat-keeps, Halted, repeat-refuses, then-answers}
 use Rattle.spec_spline.proofs.Legal.{Checked, Legal, legal}
 use Rattle.theorems_weights.proofs.Basis.{Basis}
 use Rattle.theorems_weights.proofs.Identity.{identity-basis}

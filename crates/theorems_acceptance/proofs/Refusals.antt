@@ -8,7 +8,7 @@ use native.Mathlib.Omega.{arith}
 use Rattle.base_exact.specs.Rational.{ℚ}
 use Rattle.base_exact.proofs.Decide.{true-not-false}
 use Rattle.base_fraction.specs.Size.{fits}
-use Rattle.spec_spline.specs.Outcome.{Outcome, refusal, refuse}
+use Rattle.base_outcome.specs.Outcome.{Outcome, refusal, refuse}
 use Rattle.spec_spline.specs.Conditions.{Entry}
 use Rattle.spec_spline.specs.Table.{Table}
 use Rattle.spec_spline.specs.Step.{step}

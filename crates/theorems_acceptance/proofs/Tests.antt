@@ -16,12 +16,12 @@ use Rattle.base_exact.proofs.Decide.{le-or-lt}
 use Rattle.base_exact.proofs.Order.{zero-test, nonzero-test, lt-test}
 use Rattle.base_exact.proofs.Sum.{sum-ext, sum-skip}
 use Rattle.base_exact.proofs.Tabulate.{tab-length, tab-getD}
-use Rattle.spec_spline.specs.Search.{first, last, found}
+use Rattle.base_outcome.specs.Search.{first, last, found}
 use Rattle.spec_spline.specs.Conditions.{Entry}
 use Rattle.spec_spline.specs.Table.{Table, entry, row, cell}
 use Rattle.spec_spline.specs.Step.{jumpsAt, zeroBetween, partialSum}
 use Rattle.spec_spline.specs.Piecewise.{pairing}
-use Rattle.spec_spline.proofs.Search.{first-at, first-none, last-at}
+use Rattle.base_outcome.proofs.Search.{first-at, first-none, last-at}
 use Rattle.spec_spline.proofs.Table.{entry-past}
 use Rattle.theorems_weights.specs.Counted.{Test, counted, shaped, joined, jumpTests, exactJumps, firstJump, lastJump, shapeTest, quotient, factorTests, innerRows, innerRow, exactFactors, entryTests, rowTests, stepTests}
 use Rattle.theorems_weights.proofs.Stepped.{values, values-past}

@@ -9,7 +9,7 @@ use lib.Dec.{ltb}
 use lib.ListN.{length}
 use Rattle.base_exact.proofs.Decide.{le-or-lt, cond-true, cond-false}
 use Rattle.base_exact.proofs.Order.{zero-test, nonzero-test, pos-nonzero}
-use Rattle.spec_spline.specs.Search.{howMany}
+use Rattle.base_outcome.specs.Search.{howMany}
 use Rattle.spec_spline.specs.Space.{Space, segments, order, degree, conditionCount, firstColumn, columnCount}
 use Rattle.spec_spline.specs.Table.{Table, cell}
 use Rattle.spec_spline.specs.Build.{weights}

@@ -6,7 +6,7 @@ use Prim.Native.Nat.{ℕ, _-_, _<_, _≤_}
 use lib.IntN.{ℤ, pos, natAbs}
 use lib.Signed.{_≤ℤ_}
 use Rattle.base_exact.specs.Rational.{ℚ, den}
-use Rattle.spec_spline.specs.Outcome.{answer, refusal, capped, _then_}
+use Rattle.base_outcome.specs.Outcome.{answer, refusal, capped, _then_}
 use Rattle.spec_spline.specs.Space.{Space, segments, order, checked}
 use Rattle.spec_spline.specs.Conditions.{conditions}
 use Rattle.spec_spline.specs.Table.{Table, tableCells}

@@ -7,7 +7,7 @@ use Prim.Native.Nat.{ℕ, _*_, _<_, _≤_}
 use lib.Dec.{T}
 use lib.IntN.{ℤ}
 use lib.ListN.{length}
-use Rattle.spec_spline.specs.Outcome.{answer}
+use Rattle.base_outcome.specs.Outcome.{answer}
 use Rattle.spec_spline.specs.Space.{Space, rowCount, checked}
 use Rattle.spec_spline.specs.Table.{tableCells}
 use Rattle.spec_spline.specs.CurveCall.{positionLimit, badCoefficient, badPosition, curveOutcome, returned}

@@ -5,7 +5,7 @@ use mathlib.Core.Bool.{cond}
 use Prim.Native.Nat.{ℕ, zero, suc, _+_, _-_, _<_, _≤_}
 use lib.Dec.{ltb}
 use lib.ListN.{length}
-use Rattle.spec_spline.specs.Search.{howMany}
+use Rattle.base_outcome.specs.Search.{howMany}
 use Rattle.spec_spline.specs.Space.{Space, segments, degree, conditionCount, firstColumn, columnCount}
 use Rattle.spec_spline.specs.Table.{Table}
 use Rattle.spec_spline.specs.Piecewise.{Accepted}

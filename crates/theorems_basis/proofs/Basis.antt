@@ -10,14 +10,14 @@ use lib.ListN.{length}
 use Rattle.base_exact.specs.Sum.{sum}
 use Rattle.base_exact.proofs.Decide.{true-not-false, fails-false, cond-false}
 use Rattle.base_exact.proofs.Order.{nn-zero-le}
-use Rattle.spec_spline.specs.Outcome.{Outcome, answer, refusal, refuse, _then_, with-answer}
+use Rattle.base_outcome.specs.Outcome.{Outcome, answer, refusal, refuse, _then_, with-answer}
 use Rattle.spec_spline.specs.Space.{Space, segments, checked, columnCount, rowCount}
 use Rattle.spec_spline.specs.Conditions.{conditions}
 use Rattle.spec_spline.specs.Table.{Table, row, cell, tableCells}
 use Rattle.spec_spline.specs.Build.{weights, spaceWeights, built, buildEnd}
 use Rattle.spec_spline.specs.Published.{extraction}
 use Rattle.spec_spline.specs.Piecewise.{MeetsAll}
-use Rattle.spec_spline.proofs.Outcome.{then-answers, then-breaks, Broken, first-refuses, second-refuses}
+use Rattle.base_outcome.proofs.Outcome.{then-answers, then-breaks, Broken, first-refuses, second-refuses}
 use Rattle.spec_spline.proofs.Legal.{Checked, checked-inverts, checked-numbers}
 use Rattle.spec_spline.proofs.Refusals.{step-refuses}
 use Rattle.theorems_weights.proofs.Basis.{Basis}

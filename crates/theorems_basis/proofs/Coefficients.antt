@@ -10,15 +10,16 @@ use lib.IntN.{ℤ}
 use lib.ListN.{length, length-map}
 use Rattle.base_exact.specs.Rational.{int}
 use Rattle.base_exact.proofs.Decide.{holds-true, fails-false, cond-true, cond-false}
-use Rattle.spec_spline.specs.Outcome.{answer, refusal, refuse, largestPlace, with-answer}
-use Rattle.spec_spline.specs.Space.{Space, refuseFirst, checked, columnCount, rowCount}
+use Rattle.base_outcome.specs.Outcome.{answer, refusal, refuse, largestPlace, with-answer}
+use Rattle.spec_spline.specs.Space.{Space, checked, columnCount, rowCount}
+use Rattle.base_outcome.specs.Tests.{refuseFirst}
 use Rattle.spec_spline.specs.Conditions.{conditions}
 use Rattle.spec_spline.specs.Table.{tableCells}
 use Rattle.spec_spline.specs.Build.{weights, spaceWeights}
 use Rattle.spec_spline.specs.Published.{extraction}
 use Rattle.spec_spline.specs.Piecewise.{pairing, combination}
-use Rattle.spec_spline.proofs.Outcome.{then-answers, with-refuses}
-use Rattle.spec_spline.proofs.Search.{first-none}
+use Rattle.base_outcome.proofs.Outcome.{then-answers, with-refuses}
+use Rattle.base_outcome.proofs.Search.{first-none}
 use Rattle.spec_spline.proofs.Legal.{legal, checked-inverts}
 use Rattle.theorems_weights.proofs.Published.{weights-are-published}
 use Rattle.theorems_recovery.specs.Recovery.{recovered}

@@ -15,8 +15,8 @@ use Rattle.base_exact.specs.Order.{isZero, ltᵠ}
 use Rattle.base_exact.specs.Sum.{sum}
 use Rattle.base_exact.specs.Tabulate.{tab}
 use Rattle.base_fraction.specs.Size.{fits}
-use Rattle.spec_spline.specs.Outcome.{answer, refusal, capped, with-answer, collect, repeat}
-use Rattle.spec_spline.specs.Search.{first, last}
+use Rattle.base_outcome.specs.Outcome.{answer, refusal, capped, with-answer, collect, repeat}
+use Rattle.base_outcome.specs.Search.{first, last}
 use Rattle.spec_spline.specs.Space.{Space, lengthsFit, badBreak, startsPart, partEnd, spanTooLong, tooManySegments, badDegree, badOrder, checkedEntries, checked, firstColumn, conditionCount, conditionsBefore, rowCount}
 use Rattle.spec_spline.specs.Conditions.{falling, binomial, alternating, undivided, commonDivisor, conditions}
 use Rattle.spec_spline.specs.Table.{Table, cell, identity, tableCells}
@@ -25,7 +25,7 @@ use Rattle.spec_spline.specs.Build.{orderSteps, joinSteps, weights, spaceWeight
 use Rattle.spec_spline.specs.Published.{derivativeCoefficient, leftConstraint, rightConstraint, constraint, constraints, diagonal, aboveDiagonal, bidiagonal, nullspace, product, constrain, for, smooth, extraction}
 use Rattle.spec_spline.specs.Piecewise.{pairing, MeetsAll, combination}
 use Rattle.spec_spline.specs.Cases.{space, space1}
-use Rattle.spec_spline.proofs.Search.{first-none-inverts}
+use Rattle.base_outcome.proofs.Search.{first-none-inverts}
 use Rattle.theorems_weights.proofs.Instances.{q0, q1}
 use Rattle.theorems_recovery.specs.Recovery.{Numbered, sized, jumpSum, balanced, undoneNumber, undoneRows, undone, recoverStep, recoverOrders, recoverJoins, recovered}
 use Rattle.theorems_recovery.specs.RecoveryCall.{badOrdinate, recoveryOutcome, recoveryEnd}

@@ -8,7 +8,7 @@ use lib.ListN.{length}
 use Rattle.base_exact.specs.Rational.{ℚ, int}
 use Rattle.base_exact.specs.Order.{_≤ᵠ_}
 use Rattle.base_exact.specs.Sum.{sum}
-use Rattle.spec_spline.specs.Outcome.{Outcome, answer, refusal}
+use Rattle.base_outcome.specs.Outcome.{Outcome, answer, refusal}
 use Rattle.spec_spline.specs.Space.{Space, checked, columnCount, rowCount}
 use Rattle.spec_spline.specs.Table.{Row, Table, row, cell, rowCells, tableCells}
 use Rattle.spec_spline.specs.Build.{spaceWeights, buildEnd}

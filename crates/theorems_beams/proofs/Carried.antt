@@ -7,8 +7,8 @@ use native.Mathlib.Omega.{arith}
 use native.Mathlib.Nat.{add-zero, add-suc}
 use Rattle.base_exact.specs.Tabulate.{tab}
 use Rattle.base_exact.proofs.Tabulate.{tab-snoc}
-use Rattle.spec_spline.specs.Outcome.{Outcome, answer, refusal, capped, _then_, collect, repeat}
-use Rattle.spec_spline.proofs.Outcome.{answer-unique, answer-not-refusal, then-assoc, then-answers, collect-answers, repeat-keeps}
+use Rattle.base_outcome.specs.Outcome.{Outcome, answer, refusal, capped, _then_, collect, repeat}
+use Rattle.base_outcome.proofs.Outcome.{answer-unique, answer-not-refusal, then-assoc, then-answers, collect-answers, repeat-keeps}
 use Rattle.theorems_beams.specs.Sections.{later}
 
 -- The outcome with its answer changed by f and its place by ρ.

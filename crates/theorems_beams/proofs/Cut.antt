@@ -16,13 +16,13 @@ use Rattle.base_exact.specs.Tabulate.{tab}
 use Rattle.base_exact.proofs.Decide.{cond-false}
 use Rattle.base_exact.proofs.Rational.{zero-mul, add-zero}
 use Rattle.base_exact.proofs.Tabulate.{tab-ext, tab-add, map-tab}
-use Rattle.spec_spline.specs.Outcome.{Outcome, answer, refusal, capped, _then_, repeat}
+use Rattle.base_outcome.specs.Outcome.{Outcome, answer, refusal, capped, _then_, repeat}
 use Rattle.spec_spline.specs.Space.{Space, segments, conditionCount, startsPart, firstColumn, columnCount}
 use Rattle.spec_spline.specs.Conditions.{Entry, conditions}
 use Rattle.spec_spline.specs.Table.{Row, Table, entry, row, identity}
 use Rattle.spec_spline.specs.Step.{addProducts, count, jump, step}
 use Rattle.spec_spline.specs.Build.{orderSteps, joinSteps, weights}
-use Rattle.spec_spline.proofs.Outcome.{then-answers}
+use Rattle.base_outcome.proofs.Outcome.{then-answers}
 use Rattle.spec_spline.proofs.Conditions.{Inside, none, more, conditions-inside}
 use Rattle.spec_spline.proofs.Table.{entry-past, identity-rows, identity-wide}
 use Rattle.spec_spline.proofs.Step.{count-fits, products-none, products-more, oneMore}

@@ -20,13 +20,13 @@ use Rattle.base_exact.proofs.Sum.{sum-ext}
 use Rattle.base_exact.proofs.Tabulate.{tab-length, tab-getD}
 use Rattle.base_fraction.specs.Size.{fits}
 use Rattle.base_fraction.proofs.Size.{int-fits}
-use Rattle.spec_spline.specs.Outcome.{Outcome, answer, refusal, refuse, capped, collect}
-use Rattle.spec_spline.specs.Search.{first, last, found}
+use Rattle.base_outcome.specs.Outcome.{Outcome, answer, refusal, refuse, capped, collect}
+use Rattle.base_outcome.specs.Search.{first, last, found}
 use Rattle.spec_spline.specs.Conditions.{Entry}
 use Rattle.spec_spline.specs.Table.{Row, Table, entry, row}
 use Rattle.spec_spline.specs.Step.{count, jump, jumps, jumpsAt, Span, zeroBetween, spanOf, span, partialSum, quotientFactor, factor, factors, newEntry, newRow, newRows, mixed, step}
-use Rattle.spec_spline.proofs.Outcome.{then-answers}
-use Rattle.spec_spline.proofs.Search.{at, nowhere, Searched, search-first, first-at, first-none, first-ext, SearchedBack, search-last, last-at, last-none}
+use Rattle.base_outcome.proofs.Outcome.{then-answers}
+use Rattle.base_outcome.proofs.Search.{at, nowhere, Searched, search-first, first-at, first-none, first-ext, SearchedBack, search-last, last-at, last-none}
 use Rattle.spec_spline.proofs.Table.{entry-past}
 use Rattle.spec_spline.proofs.Shape.{Wide}
 use Rattle.spec_spline.proofs.Step.{count-fits}

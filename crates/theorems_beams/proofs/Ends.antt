@@ -6,9 +6,9 @@ use mathlib.Core.Option.{Option·getD}
 use Prim.Native.Nat.{ℕ, zero, suc, _<_, _≤_}
 use native.Mathlib.Omega.{arith}
 use Rattle.base_exact.proofs.Decide.{le-or-lt, true-not-false}
-use Rattle.spec_spline.specs.Search.{last}
+use Rattle.base_outcome.specs.Search.{last}
 use Rattle.spec_spline.specs.Space.{Space, segments, startsPart, partEnd, lastPartStart}
-use Rattle.spec_spline.proofs.Search.{at, nowhere, SearchedBack, search-last, last-at}
+use Rattle.base_outcome.proofs.Search.{at, nowhere, SearchedBack, search-last, last-at}
 use Rattle.spec_spline.proofs.Parts.{Boundary, first-starts, Ends, ends-unique}
 use Rattle.theorems_beams.specs.Sections.{section}
 use Rattle.theorems_beams.specs.Parts.{Starts}

@@ -13,11 +13,11 @@ use Rattle.base_exact.specs.Rational.{int}
 use Rattle.base_exact.specs.Tabulate.{tab}
 use Rattle.base_exact.proofs.Decide.{le-or-lt}
 use Rattle.base_exact.proofs.Tabulate.{drop-tab}
-use Rattle.spec_spline.specs.Outcome.{answer, refusal, capped, _then_, repeat}
+use Rattle.base_outcome.specs.Outcome.{answer, refusal, capped, _then_, repeat}
 use Rattle.spec_spline.specs.Space.{Space, segments, startsPart, partEnd, firstColumn, columnCount, conditionCount, conditionsBefore, rowCount, rowsBefore}
 use Rattle.spec_spline.specs.Table.{Table, identity}
 use Rattle.spec_spline.specs.Build.{joinSteps, weights, lastPart}
-use Rattle.spec_spline.proofs.Outcome.{then-answers, then-refuses}
+use Rattle.base_outcome.proofs.Outcome.{then-answers, then-refuses}
 use Rattle.spec_spline.proofs.Parts.{Boundary, Ends, part-ends}
 use Rattle.spec_spline.proofs.Space.{firstColumn-mono}
 use Rattle.spec_spline.proofs.Legal.{Checked, Lengths, lengths-fit-inverts}

@@ -12,8 +12,8 @@ use Rattle.base_exact.specs.Order.{isZero, ltᵠ}
 use Rattle.base_exact.specs.Sum.{sum}
 use Rattle.base_exact.specs.Tabulate.{tab}
 use Rattle.base_fraction.specs.Size.{fits}
-use Rattle.spec_spline.specs.Outcome.{answer, refusal, capped, collect, repeat}
-use Rattle.spec_spline.specs.Search.{first, last}
+use Rattle.base_outcome.specs.Outcome.{answer, refusal, capped, collect, repeat}
+use Rattle.base_outcome.specs.Search.{first, last}
 use Rattle.spec_spline.specs.Space.{Space, lengthsFit, badBreak, startsPart, partEnd, lastPartStart, spanTooLong, tooManySegments, badDegree, badOrder, checkedEntries, checked, firstColumn, conditionsBefore, rowsBefore}
 use Rattle.spec_spline.specs.Conditions.{falling, binomial, alternating, undivided, commonDivisor, conditions}
 use Rattle.spec_spline.specs.Table.{Table, identity}
@@ -21,7 +21,7 @@ use Rattle.spec_spline.specs.Step.{count, addProducts, span, partialSum, quotie
 use Rattle.spec_spline.specs.Build.{orderSteps, joinSteps, weights, spaceWeights, lastPart}
 use Rattle.spec_spline.specs.Piecewise.{Accepted}
 use Rattle.spec_spline.specs.Cases.{threeLines}
-use Rattle.spec_spline.proofs.Outcome.{answer-unique}
+use Rattle.base_outcome.proofs.Outcome.{answer-unique}
 use Rattle.theorems_beams.specs.Sections.{partAt, beside}
 use Rattle.theorems_beams.specs.Parts.{Starts, PartOf}
 use Rattle.theorems_beams.proofs.Parts.{weights-by-parts, refused-by-a-part}

@@ -13,12 +13,13 @@ use lib.ListN.{drop, length-drop}
 use lib.Seq.{length-take-le}
 use lib.Signed.{leZ, ltZ}
 use Rattle.base_exact.proofs.Decide.{or-false}
-use Rattle.spec_spline.specs.Search.{last}
-use Rattle.spec_spline.specs.Space.{Space, segments, break, degreeEntry, order, between, partSegmentLimit, breakLimit, spanLimit, degreeLimit, badBreak, badDegree, badOrder, spanTooLong, tooManySegments, startsPart, partEnd, lastPartStart, firstColumn, conditionsBefore}
+use Rattle.base_outcome.specs.Search.{last}
+use Rattle.spec_spline.specs.Space.{Space, segments, break, degreeEntry, order, partSegmentLimit, breakLimit, spanLimit, degreeLimit, badBreak, badDegree, badOrder, spanTooLong, tooManySegments, startsPart, partEnd, lastPartStart, firstColumn, conditionsBefore}
+use Rattle.base_outcome.specs.Tests.{between}
 use Rattle.spec_spline.specs.Table.{Table}
 use Rattle.spec_spline.specs.Build.{lastPart}
 use Rattle.spec_spline.proofs.Parts.{first-starts, Ends, part-ends, ends-unique}
-use Rattle.spec_spline.proofs.Search.{last-at}
+use Rattle.base_outcome.proofs.Search.{last-at}
 use Rattle.spec_spline.proofs.Legal.{Checked, checked-inverts, checked-passes, Lengths, lengths-fit-inverts, lengths-fit}
 use Rattle.theorems_beams.specs.Sections.{section, partAt}
 use Rattle.theorems_beams.specs.Parts.{Starts, PartsAreLegal}

@@ -9,13 +9,13 @@ use lib.IntN.{pos}
 use lib.ListN.{length}
 use Rattle.base_exact.specs.Rational.{int}
 use Rattle.base_exact.proofs.Decide.{le-or-lt, true-not-false}
-use Rattle.spec_spline.specs.Outcome.{Outcome, answer, refusal, capped}
+use Rattle.base_outcome.specs.Outcome.{Outcome, answer, refusal, capped}
 use Rattle.spec_spline.specs.Space.{Space, segments, partEnd, firstColumn, columnCount, rowCount, rowsBefore, checked}
 use Rattle.spec_spline.specs.Table.{Table, cell}
 use Rattle.spec_spline.specs.Build.{weights, spaceWeights}
 use Rattle.spec_spline.specs.Piecewise.{Accepted}
 use Rattle.spec_spline.proofs.Parts.{Boundary, whole-boundary, Ends, part-ends}
-use Rattle.spec_spline.proofs.Outcome.{answer-not-refusal, then-answers, then-inverts}
+use Rattle.base_outcome.proofs.Outcome.{answer-not-refusal, then-answers, then-inverts}
 use Rattle.spec_spline.proofs.Legal.{Checked, checked-inverts, checked-passes, lengths-fit-inverts}
 use Rattle.spec_spline.proofs.Table.{cell-past}
 use Rattle.spec_spline.proofs.Shape.{Wide, weights-shaped}

@@ -18,7 +18,7 @@ use Rattle.base_exact.proofs.Integer.{+-zero}
 use Rattle.base_exact.proofs.Order.{zero-test}
 use Rattle.base_exact.proofs.Decide.{cond-false}
 use Rattle.base_exact.proofs.Tabulate.{tab-ext, tab-add}
-use Rattle.spec_spline.specs.Outcome.{answer}
+use Rattle.base_outcome.specs.Outcome.{answer}
 use Rattle.spec_spline.specs.Space.{Space, partEnd, firstColumn, columnCount, rowsBefore}
 use Rattle.spec_spline.specs.Table.{Table, cell}
 use Rattle.spec_spline.specs.Build.{weights}

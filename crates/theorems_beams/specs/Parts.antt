@@ -6,7 +6,7 @@ use mathlib.Core.Logic.{_⊎_}
 use Prim.Native.Nat.{ℕ, _+_, _<_, _≤_}
 use lib.IntN.{pos}
 use Rattle.base_exact.specs.Rational.{int}
-use Rattle.spec_spline.specs.Outcome.{answer, refusal, capped, _then_}
+use Rattle.base_outcome.specs.Outcome.{answer, refusal, capped, _then_}
 use Rattle.spec_spline.specs.Space.{Space, segments, startsPart, partEnd, checked, firstColumn, columnCount, rowCount, rowsBefore}
 use Rattle.spec_spline.specs.Table.{Table, cell}
 use Rattle.spec_spline.specs.Build.{weights}

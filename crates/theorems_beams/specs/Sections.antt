@@ -6,7 +6,7 @@ use lib.IntN.{pos}
 use lib.ListN.{take, drop}
 use Rattle.base_exact.specs.Rational.{int}
 use Rattle.base_exact.specs.Tabulate.{tab}
-use Rattle.spec_spline.specs.Outcome.{Outcome, answer, refusal, capped}
+use Rattle.base_outcome.specs.Outcome.{Outcome, answer, refusal, capped}
 use Rattle.spec_spline.specs.Space.{Space, partEnd}
 use Rattle.spec_spline.specs.Table.{Row, Table}
 

@@ -16,9 +16,10 @@ use Rattle.base_exact.specs.Tabulate.{tab}
 use Rattle.base_exact.specs.Floor.{nearest}
 use Rattle.base_exact.proofs.Integer.{≤-in, <-in}
 use Rattle.base_fraction.specs.Size.{fits}
-use Rattle.spec_spline.specs.Outcome.{capped, collect, repeat}
-use Rattle.spec_spline.specs.Search.{first, last}
-use Rattle.spec_spline.specs.Space.{Space, between, partEnd, lengthsFit, badBreak, startsPart, spanTooLong, tooManySegments, badDegree, badOrder, checkedEntries, checked, firstColumn, conditionsBefore}
+use Rattle.base_outcome.specs.Outcome.{capped, collect, repeat}
+use Rattle.base_outcome.specs.Search.{first, last}
+use Rattle.spec_spline.specs.Space.{Space, partEnd, lengthsFit, badBreak, startsPart, spanTooLong, tooManySegments, badDegree, badOrder, checkedEntries, checked, firstColumn, conditionsBefore}
+use Rattle.base_outcome.specs.Tests.{between}
 use Rattle.spec_spline.specs.Conditions.{falling, binomial, alternating, undivided, commonDivisor, conditions}
 use Rattle.spec_spline.specs.Table.{Table, identity}
 use Rattle.spec_spline.specs.Step.{count, addProducts, span, partialSum, quotientFactor, factors, newEntry, newRows, step}

@@ -9,8 +9,8 @@ use lib.ListN.{length}
 use Rattle.base_exact.specs.Rational.{int}
 use Rattle.base_exact.specs.Sum.{sum}
 use Rattle.base_exact.proofs.Integer.{up}
-use Rattle.spec_spline.specs.Outcome.{answer, with-answer}
-use Rattle.spec_spline.specs.Search.{first, last}
+use Rattle.base_outcome.specs.Outcome.{answer, with-answer}
+use Rattle.base_outcome.specs.Search.{first, last}
 use Rattle.spec_spline.specs.Space.{lengthsFit, badBreak, startsPart, partEnd, lastPartStart, spanTooLong, tooManySegments, badDegree, badOrder, checkedEntries, checked, firstColumn, conditionsBefore, rowCount}
 use Rattle.spec_spline.specs.Table.{rowCells}
 use Rattle.spec_spline.specs.Build.{lastPart, buildEnd}

@@ -6,12 +6,13 @@ use Prim.Native.Nat.{ℕ}
 use lib.Dec.{eqb, ltb}
 use lib.ListN.{length}
 use Rattle.base_exact.proofs.Decide.{true-not-false}
-use Rattle.spec_spline.specs.Outcome.{refusal, refuse, largestPlace, _then_}
-use Rattle.spec_spline.specs.Search.{first}
-use Rattle.spec_spline.specs.Space.{Space, refuseFirst, checked, columnCount, rowCount}
+use Rattle.base_outcome.specs.Outcome.{refusal, refuse, largestPlace, _then_}
+use Rattle.base_outcome.specs.Search.{first}
+use Rattle.spec_spline.specs.Space.{Space, checked, columnCount, rowCount}
+use Rattle.base_outcome.specs.Tests.{refuseFirst}
 use Rattle.spec_spline.specs.Table.{tableCells}
 use Rattle.spec_spline.specs.Build.{weights}
-use Rattle.spec_spline.proofs.Outcome.{with-refuses, then-breaks, Broken, first-refuses, second-refuses}
+use Rattle.base_outcome.proofs.Outcome.{with-refuses, then-breaks, Broken, first-refuses, second-refuses}
 use Rattle.spec_spline.proofs.Legal.{Checked, checked-inverts, checked-numbers, keeping-refusal}
 use Rattle.theorems_recovery.specs.Recovery.{recovered}
 use Rattle.theorems_recovery.specs.RecoveryCall.{badOrdinate, legalOrdinates, recoveryOutcome}

@@ -9,12 +9,12 @@ use borrow.Author.Tests.{lt-ltb}
 use lib.Dec.{ltb}
 use lib.ListN.{drop}
 use Rattle.base_exact.proofs.Decide.{true-not-false}
-use Rattle.spec_spline.specs.Search.{last}
+use Rattle.base_outcome.specs.Search.{last}
 use Rattle.spec_spline.specs.Space.{Space, segments, startsPart, partEnd, lastPartStart, firstColumn, conditionsBefore}
 use Rattle.spec_spline.specs.Table.{Table, cell, rowCells}
 use Rattle.spec_spline.specs.Build.{lastPart, buildEnd}
 use Rattle.spec_spline.specs.Published.{extraction}
-use Rattle.spec_spline.proofs.Search.{first-none, nowhere, at, SearchedBack, search-last}
+use Rattle.base_outcome.proofs.Search.{first-none, nowhere, at, SearchedBack, search-last}
 use Rattle.spec_spline.proofs.Space.{is-no-discontinuity}
 use Rattle.spec_spline.proofs.Legal.{checked-inverts, lengths-fit-inverts}
 use Rattle.theorems_weights.specs.Cells.{HoldsFraction}

@@ -15,13 +15,13 @@ use Rattle.base_exact.specs.Sum.{sum}
 use Rattle.base_exact.proofs.Integer as Z
 use Rattle.base_exact.proofs.Rational.{self, is-mul-int, int-nonzero, div-unique}
 use Rattle.base_exact.proofs.Sum.{sum-ext, sum-past}
-use Rattle.spec_spline.specs.Outcome.{Outcome, answer, with-answer}
+use Rattle.base_outcome.specs.Outcome.{Outcome, answer, with-answer}
 use Rattle.spec_spline.specs.Space.{Space, segments, partEnd, lastPartStart, partSegmentLimit, tooManySegments, firstColumn, columnCount, rowCount, rowsBefore}
 use Rattle.spec_spline.specs.Table.{Table, rowCells, tableCells}
 use Rattle.spec_spline.specs.Build.{spaceWeights, built, lastPart, numeratorsAfter, denominatorsAfter}
 use Rattle.spec_spline.specs.Piecewise.{Accepted}
 use Rattle.spec_spline.specs.CurveCall.{curveOutcome, heldBy}
-use Rattle.spec_spline.proofs.Outcome.{with-inverts}
+use Rattle.base_outcome.proofs.Outcome.{with-inverts}
 use Rattle.spec_spline.proofs.Parts.{Ends, ends-unique, whole-boundary}
 use Rattle.spec_spline.proofs.Legal.{Checked, cond-refuse-inverts, legal, lengths-fit-inverts}
 use Rattle.theorems_weights.specs.Cells.{lastPartCell}

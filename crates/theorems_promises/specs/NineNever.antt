@@ -4,7 +4,7 @@ use mathlib.Core.Path.{_≡_}
 use mathlib.Core.List.{List}
 use Prim.Native.Nat.{ℕ}
 use lib.IntN.{ℤ}
-use Rattle.spec_spline.specs.Outcome.{refusal}
+use Rattle.base_outcome.specs.Outcome.{refusal}
 use Rattle.spec_spline.specs.Space.{Space}
 use Rattle.theorems_recovery.specs.RecoveryCall.{recoveryEnd}
 

@@ -6,7 +6,7 @@ use mathlib.Core.List.{List}
 use Prim.Native.Nat.{ℕ, _+_, _*_, _-_, _<_, _≤_}
 use lib.IntN.{ℤ, negsuc}
 use lib.ListN.{length}
-use Rattle.spec_spline.specs.Outcome.{answer}
+use Rattle.base_outcome.specs.Outcome.{answer}
 use Rattle.spec_spline.specs.Space.{Space, segments, order, startsPart, partEnd, lastPartStart, checked}
 use Rattle.spec_spline.specs.Table.{Table, cell, rowCells, tableCells}
 use Rattle.spec_spline.specs.Build.{lastPart, buildEnd}

@@ -8,7 +8,7 @@ use lib.ListN.{length, getD}
 use lib.Signed.{_≤ℤ_, _<ℤ_}
 use Rattle.base_exact.specs.Rational.{ℚ, int, _/ᵠ_}
 use Rattle.base_exact.specs.Sum.{sum}
-use Rattle.spec_spline.specs.Outcome.{answer}
+use Rattle.base_outcome.specs.Outcome.{answer}
 use Rattle.spec_spline.specs.Space.{Space, lastPartStart, firstColumn, columnCount}
 use Rattle.spec_spline.specs.Table.{rowCells, tableCells}
 use Rattle.spec_spline.specs.Build.{buildEnd}

@@ -17,10 +17,10 @@ use Rattle.base_exact.proofs.Decide.{not-false}
 use Rattle.base_exact.proofs.Rational.{mul-zero, add-zero}
 use Rattle.base_exact.proofs.Order.{isZero-true, isZero-false}
 use Rattle.base_fraction.specs.Size.{fits}
-use Rattle.spec_spline.specs.Outcome.{Outcome, answer, refusal, refuse, _then_}
+use Rattle.base_outcome.specs.Outcome.{Outcome, answer, refusal, refuse, _then_}
 use Rattle.spec_spline.specs.Table.{entry}
 use Rattle.spec_spline.specs.Step.{Span, jumpsAt}
-use Rattle.spec_spline.proofs.Outcome.{answer-unique, answer-not-refusal, Chained, then-inverts, Broken, first-refuses, second-refuses, then-breaks, RefusedAs, answer-refused, then-refused}
+use Rattle.base_outcome.proofs.Outcome.{answer-unique, answer-not-refusal, Chained, then-inverts, Broken, first-refuses, second-refuses, then-breaks, RefusedAs, answer-refused, then-refused}
 use Rattle.theorems_recovery.specs.Recovery.{sized, jumpSum, balanced, undoneNumber, undoneRow, undoneRows, undone}
 
 -- ---- a fraction under the size limit

@@ -6,8 +6,8 @@ use Rattle.base_exact.specs.Order.{isZero, ltᵠ}
 use Rattle.base_exact.specs.Sum.{sum}
 use Rattle.base_exact.specs.Tabulate.{tab}
 use Rattle.base_fraction.specs.Size.{fits}
-use Rattle.spec_spline.specs.Outcome.{capped, collect, repeat}
-use Rattle.spec_spline.specs.Search.{first, last}
+use Rattle.base_outcome.specs.Outcome.{capped, collect, repeat}
+use Rattle.base_outcome.specs.Search.{first, last}
 use Rattle.spec_spline.specs.Space.{lengthsFit, badBreak, startsPart, partEnd, spanTooLong, tooManySegments, badDegree, badOrder, checkedEntries, checked, firstColumn, conditionsBefore}
 use Rattle.spec_spline.specs.Conditions.{falling, binomial, alternating, undivided, commonDivisor, conditions}
 use Rattle.spec_spline.specs.Table.{identity}

@@ -11,11 +11,11 @@ use lib.ListN.{length, take, drop, length-map, take-append-drop, length-drop}
 use lib.Seq.{length-take-le}
 use Rattle.base_exact.specs.Rational.{ℚ, int}
 use Rattle.base_exact.specs.Tabulate.{tab}
-use Rattle.spec_spline.specs.Outcome.{Outcome, answer, refusal, capped, _then_, repeat}
+use Rattle.base_outcome.specs.Outcome.{Outcome, answer, refusal, capped, _then_, repeat}
 use Rattle.spec_spline.specs.Space.{Space, segments, conditionCount, startsPart, columnCount}
 use Rattle.spec_spline.specs.Conditions.{Entry, conditions}
 use Rattle.spec_spline.specs.Table.{Table, identity}
-use Rattle.spec_spline.proofs.Outcome.{repeat-keeps}
+use Rattle.base_outcome.proofs.Outcome.{repeat-keeps}
 use Rattle.spec_spline.proofs.Legal.{checked-inverts}
 use Rattle.spec_spline.proofs.Table.{identity-rows}
 use Rattle.spec_spline.proofs.Conditions.{Inside}

@@ -10,10 +10,10 @@ use lib.ListN.{length, take, drop}
 use lib.Seq.{take-take, take-all, take-add, drop-at, length-take-le}
 use Rattle.base_exact.specs.Tabulate.{tab}
 use Rattle.base_exact.proofs.Decide.{le-or-lt}
-use Rattle.spec_spline.specs.Outcome.{answer, refusal, capped, _then_, repeat}
+use Rattle.base_outcome.specs.Outcome.{answer, refusal, capped, _then_, repeat}
 use Rattle.spec_spline.specs.Space.{Space, segments, partEnd, firstColumn, columnCount}
 use Rattle.spec_spline.specs.Table.{identity}
-use Rattle.spec_spline.proofs.Outcome.{then-answers, then-refuses}
+use Rattle.base_outcome.proofs.Outcome.{then-answers, then-refuses}
 use Rattle.spec_spline.proofs.Parts.{Boundary, Ends, part-ends}
 use Rattle.spec_spline.proofs.Space.{firstColumn-mono}
 use Rattle.spec_spline.proofs.Legal.{Checked, lengths-fit-inverts}

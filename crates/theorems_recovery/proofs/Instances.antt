@@ -14,8 +14,8 @@ use Rattle.base_exact.specs.Floor.{nearest}
 use Rattle.base_exact.specs.Tabulate.{tab}
 use Rattle.base_exact.proofs.Rational.{int-inj}
 use Rattle.base_fraction.specs.Size.{fits}
-use Rattle.spec_spline.specs.Outcome.{Outcome, answer, refusal, capped, with-answer, collect, repeat}
-use Rattle.spec_spline.specs.Search.{first, last}
+use Rattle.base_outcome.specs.Outcome.{Outcome, answer, refusal, capped, with-answer, collect, repeat}
+use Rattle.base_outcome.specs.Search.{first, last}
 use Rattle.spec_spline.specs.Space.{Space, lengthsFit, badBreak, startsPart, partEnd, spanTooLong, tooManySegments, badDegree, badOrder, checkedEntries, checked, firstColumn, conditionsBefore, rowCount}
 use Rattle.spec_spline.specs.Conditions.{falling, binomial, alternating, undivided, commonDivisor, conditions}
 use Rattle.spec_spline.specs.Table.{entry, identity, tableCells}
@@ -25,7 +25,7 @@ use Rattle.spec_spline.specs.Piecewise.{Accepted, MeetsAll, combination}
 use Rattle.spec_spline.specs.Reading.{earlywood, fine, coefficient, rounded, term, termSum, best, ordinate}
 use Rattle.spec_spline.specs.ExactCurve.{power, bernsteinAt, exactOn}
 use Rattle.spec_spline.specs.Cases.{space1, upperLimitSpace}
-use Rattle.spec_spline.proofs.Outcome.{then-answers}
+use Rattle.base_outcome.proofs.Outcome.{then-answers}
 use Rattle.theorems_weights.proofs.PublishedBasis.{combinations-meet-conditions}
 use Rattle.theorems_recovery.specs.Recovery.{Numbered, sized, jumpSum, balanced, undoneNumber, undoneRows, undone, recoverStep, recoverOrders, recoverJoins, recovered}
 use Rattle.theorems_recovery.specs.RecoveryCall.{badOrdinate, recoveryOutcome, answersAfter, numeratorOf, recoveryEnd}

@@ -12,7 +12,7 @@ use lib.Seq.{getD-append-add, take-append-add, take-append-le, drop-append-add, 
 use Rattle.base_exact.specs.Rational.{ℚ, int, _+ᵠ_, _*ᵠ_, _-ᵠ_, _/ᵠ_}
 use Rattle.base_exact.specs.Order.{isZero}
 use Rattle.base_fraction.specs.Size.{fits}
-use Rattle.spec_spline.specs.Outcome.{Outcome, answer, refusal, refuse, capped, _then_}
+use Rattle.base_outcome.specs.Outcome.{Outcome, answer, refusal, refuse, capped, _then_}
 use Rattle.spec_spline.specs.Conditions.{Entry}
 use Rattle.spec_spline.specs.Table.{Row, Table, entry, row}
 use Rattle.spec_spline.specs.Step.{Span, jump, jumps, jumpsAt, span, factors, step}

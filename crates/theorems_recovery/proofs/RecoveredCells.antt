@@ -10,12 +10,13 @@ use borrow.Author.Tests.{eqb-true}
 use lib.Dec.{eqb, ltb}
 use lib.IntN.{ℤ}
 use lib.ListN.{length}
-use Rattle.spec_spline.specs.Outcome.{Outcome, answer, refusal, refuse, largestPlace, _then_}
-use Rattle.spec_spline.specs.Search.{first}
-use Rattle.spec_spline.specs.Space.{Space, refuseFirst, checked, columnCount, rowCount}
+use Rattle.base_outcome.specs.Outcome.{Outcome, answer, refusal, refuse, largestPlace, _then_}
+use Rattle.base_outcome.specs.Search.{first}
+use Rattle.spec_spline.specs.Space.{Space, checked, columnCount, rowCount}
+use Rattle.base_outcome.specs.Tests.{refuseFirst}
 use Rattle.spec_spline.specs.Table.{Table, tableCells}
 use Rattle.spec_spline.specs.Build.{weights, spaceWeights}
-use Rattle.spec_spline.proofs.Outcome.{then-answers, then-inverts, Broken, first-refuses, second-refuses, then-breaks, Changed, with-inverts, with-refuses}
+use Rattle.base_outcome.proofs.Outcome.{then-answers, then-inverts, Broken, first-refuses, second-refuses, then-breaks, Changed, with-inverts, with-refuses}
 use Rattle.spec_spline.proofs.Legal.{checked-inverts, checked-number, refuseFirst-inverts, cond-refuse-inverts, fitting-inverts}
 use Rattle.theorems_recovery.specs.Recovery.{Numbered, recovered}
 use Rattle.theorems_recovery.specs.RecoveryCall.{badOrdinate, legalOrdinates, recoveryOutcome, answersAfter, numeratorOf, denominatorOf, recoveryEnd}

@@ -11,13 +11,13 @@ use lib.ListN.{length, take, drop}
 use Rattle.base_exact.specs.Rational.{ℚ, int, _+ᵠ_, _-ᵠ_, _*ᵠ_, _/ᵠ_}
 use Rattle.base_exact.specs.Order.{isZero}
 use Rattle.base_fraction.specs.Size.{fits}
-use Rattle.spec_spline.specs.Outcome.{Outcome, answer, refusal, refuse, capped, _then_, repeat}
+use Rattle.base_outcome.specs.Outcome.{Outcome, answer, refusal, refuse, capped, _then_, repeat}
 use Rattle.spec_spline.specs.Space.{Space, segments, columnCount, conditionCount}
 use Rattle.spec_spline.specs.Conditions.{Entry, conditions}
 use Rattle.spec_spline.specs.Table.{Table, entry, identity}
 use Rattle.spec_spline.specs.Step.{Span, jumps, jumpsAt, span, factors, newRows, mixed, step}
 use Rattle.spec_spline.specs.Build.{orderSteps, joinSteps, weights, clears}
-use Rattle.spec_spline.proofs.Outcome.{answer-not-refusal, then-answers, then-inverts, Broken, first-refuses, second-refuses, then-breaks, RefusedAs, answer-refused, then-refused, repeat-refused, repeat-more, repeat-stops, repeat-keeps, Halted, repeat-refuses}
+use Rattle.base_outcome.proofs.Outcome.{answer-not-refusal, then-answers, then-inverts, Broken, first-refuses, second-refuses, then-breaks, RefusedAs, answer-refused, then-refused, repeat-refused, repeat-more, repeat-stops, repeat-keeps, Halted, repeat-refuses}
 use Rattle.spec_spline.proofs.Refusals.{EightOrNine, step-refuses, jumps-refuse-8, span-refuses-9, factors-refuse}
 use Rattle.theorems_recovery.specs.Recovery.{Numbered, sized, jumpSum, balanced, undoneNumber, undoneRow, undoneRows, undone, recoverStep, recoverOrders, recoverJoins, recovered}
 use Rattle.theorems_recovery.specs.RecoveryCall.{clearsAll}

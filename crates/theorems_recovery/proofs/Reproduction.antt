@@ -15,7 +15,7 @@ use Rattle.base_exact.specs.Rational.{ℚ, int, _*ᵠ_}
 use Rattle.base_exact.specs.Sum.{sum}
 use Rattle.base_exact.proofs.Decide.{le-or-lt}
 use Rattle.base_exact.proofs.Sum.{sum-ext, sum-swap, sum-mul-right}
-use Rattle.spec_spline.specs.Outcome.{Outcome, answer, refusal, repeat}
+use Rattle.base_outcome.specs.Outcome.{Outcome, answer, refusal, repeat}
 use Rattle.spec_spline.specs.Space.{Space, segments, checked, degree, conditionCount, firstColumn, columnCount, rowCount}
 use Rattle.spec_spline.specs.Conditions.{conditions}
 use Rattle.spec_spline.specs.Table.{Table, entry, cell, identity}
@@ -24,7 +24,7 @@ use Rattle.spec_spline.specs.Build.{orderSteps, joinSteps, weights, spaceWeight
 use Rattle.spec_spline.specs.Piecewise.{Meets, MeetsAll, pairing, combination}
 use Rattle.spec_spline.specs.Reading.{fine, coefficient, fineWidth, offset}
 use Rattle.spec_spline.specs.ExactCurve.{bernsteinAt, exactTerm, exactOn}
-use Rattle.spec_spline.proofs.Outcome.{answer-not-refusal, then-answers, then-inverts, repeat-keeps, repeat-more, Halted, repeat-refuses}
+use Rattle.base_outcome.proofs.Outcome.{answer-not-refusal, then-answers, then-inverts, repeat-keeps, repeat-more, Halted, repeat-refuses}
 use Rattle.spec_spline.proofs.Legal.{Legal, legal, checked-inverts}
 use Rattle.spec_spline.proofs.Table.{entry-past, identity-rows}
 use Rattle.theorems_weights.proofs.Functional.{applied-ext, applied-sum}

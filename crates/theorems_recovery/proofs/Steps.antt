@@ -12,11 +12,11 @@ use Rattle.base_exact.specs.Rational.{ℚ, int, _+ᵠ_, _*ᵠ_, _-ᵠ_, _/ᵠ_}
 use Rattle.base_exact.specs.Sum.{sum}
 use Rattle.base_exact.proofs.Rational.{mul-comm, div-mul}
 use Rattle.base_exact.proofs.Sum.{sum-ext, sum-past}
-use Rattle.spec_spline.specs.Outcome.{Outcome, answer, refusal, _then_}
+use Rattle.base_outcome.specs.Outcome.{Outcome, answer, refusal, _then_}
 use Rattle.spec_spline.specs.Conditions.{Entry}
 use Rattle.spec_spline.specs.Table.{Table, entry, cell}
 use Rattle.spec_spline.specs.Step.{jumps, Span, span, factors, step}
-use Rattle.spec_spline.proofs.Outcome.{answer-unique, answer-not-refusal, Chained, then-inverts, Broken, first-refuses, second-refuses, then-breaks}
+use Rattle.base_outcome.proofs.Outcome.{answer-unique, answer-not-refusal, Chained, then-inverts, Broken, first-refuses, second-refuses, then-breaks}
 use Rattle.spec_spline.proofs.Refusals.{EightOrNine, step-refuses, jumps-refuse-8, span-refuses-9, factors-refuse}
 use Rattle.spec_spline.proofs.Splice.{spliced-length, spliced-before, spliced-inside, spliced-after}
 use Rattle.spec_spline.proofs.Answers.{Spans, span-inverts, factors-inverts}

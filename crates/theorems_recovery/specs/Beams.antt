@@ -5,7 +5,7 @@ use mathlib.Core.List.{List, _++_}
 use Prim.Native.Nat.{ℕ, _+_}
 use lib.IntN.{ℤ}
 use lib.ListN.{length, take, drop}
-use Rattle.spec_spline.specs.Outcome.{answer, _then_}
+use Rattle.base_outcome.specs.Outcome.{answer, _then_}
 use Rattle.spec_spline.specs.Space.{Space, segments, checked, columnCount}
 use Rattle.theorems_beams.specs.Sections.{section, beside, later}
 use Rattle.theorems_beams.specs.Parts.{Starts}

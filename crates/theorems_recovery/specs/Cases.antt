@@ -6,7 +6,7 @@ use Prim.Native.Nat.{ℕ, suc, _-_}
 use lib.IntN.{ℤ, pos, negℤ}
 use lib.ListN.{length}
 use Rattle.base_exact.specs.Tabulate.{tab}
-use Rattle.spec_spline.specs.Outcome.{Outcome, answer, refusal, with-answer}
+use Rattle.base_outcome.specs.Outcome.{Outcome, answer, refusal, with-answer}
 use Rattle.spec_spline.specs.Space.{Space, rowCount}
 use Rattle.spec_spline.specs.Table.{tableCells}
 use Rattle.spec_spline.specs.Cases.{Every, space, space1, space9, upperLimitSpace}

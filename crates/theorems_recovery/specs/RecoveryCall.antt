@@ -7,9 +7,10 @@ use lib.IntN.{ℤ, pos, negℤ}
 use lib.ListN.{length, getD, drop}
 use Rattle.base_exact.specs.Rational.{ℚ, den}
 use Rattle.base_exact.specs.Tabulate.{tab}
-use Rattle.spec_spline.specs.Outcome.{Outcome, answer, refusal, refuse, largestPlace, _then_, with-answer}
-use Rattle.spec_spline.specs.Search.{first}
-use Rattle.spec_spline.specs.Space.{Space, between, refuseFirst, checked, columnCount, rowCount}
+use Rattle.base_outcome.specs.Outcome.{Outcome, answer, refusal, refuse, largestPlace, _then_, with-answer}
+use Rattle.base_outcome.specs.Search.{first}
+use Rattle.spec_spline.specs.Space.{Space, checked, columnCount, rowCount}
+use Rattle.base_outcome.specs.Tests.{between, refuseFirst}
 use Rattle.spec_spline.specs.Table.{Table, entry, numerators, denominators}
 use Rattle.spec_spline.specs.Build.{longEnough, lastPart, clears}
 use Rattle.theorems_recovery.specs.Recovery.{Numbered, recovered}

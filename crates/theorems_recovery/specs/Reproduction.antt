@@ -8,7 +8,7 @@ use lib.IntN.{ℤ, pos}
 use lib.ListN.{length, getD}
 use Rattle.base_exact.specs.Rational.{ℚ, int, _*ᵠ_}
 use Rattle.base_exact.specs.Sum.{sum}
-use Rattle.spec_spline.specs.Outcome.{Outcome, answer, refusal}
+use Rattle.base_outcome.specs.Outcome.{Outcome, answer, refusal}
 use Rattle.spec_spline.specs.Space.{Space, segments, checked, degree, conditionCount, firstColumn, columnCount, rowCount}
 use Rattle.spec_spline.specs.Table.{entry}
 use Rattle.spec_spline.specs.Build.{weights, clears}

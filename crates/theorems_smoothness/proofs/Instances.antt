@@ -12,7 +12,7 @@ use Rattle.base_exact.specs.Sum.{sum}
 use Rattle.base_exact.specs.Tabulate.{tab}
 use Rattle.base_exact.proofs.Integer.{up}
 use Rattle.base_exact.proofs.Rational.{int-inj}
-use Rattle.spec_spline.specs.Search.{last}
+use Rattle.base_outcome.specs.Search.{last}
 use Rattle.spec_spline.specs.Space.{segments, conditionCount, firstColumn, conditionsBefore}
 use Rattle.spec_spline.specs.Conditions.{falling, binomial, alternating, undivided, commonDivisor, conditions}
 use Rattle.spec_spline.specs.Table.{Row}

@@ -8,7 +8,7 @@ use lib.IntN.{ℤ, pos, negsuc}
 use lib.ListN.{length}
 use Rattle.base_exact.specs.Rational.{ℚ, int, _/ᵠ_}
 use Rattle.base_exact.specs.Tabulate.{tab}
-use Rattle.spec_spline.specs.Outcome.{answer}
+use Rattle.base_outcome.specs.Outcome.{answer}
 use Rattle.spec_spline.specs.Space.{Space, segments, break, degree, order, width, firstColumn, columnCount, conditionCount, checked}
 use Rattle.spec_spline.specs.Table.{Row, Table, entry}
 use Rattle.spec_spline.specs.Piecewise.{Meets, Accepted, combination}

@@ -15,7 +15,7 @@ use lib.Signed.{leZ}
 use Rattle.base_exact.proofs.Decide.{and-true, cond-false}
 use Rattle.base_exact.proofs.Integer.{≤-in, ≤-out}
 use Rattle.base_exact.proofs.Word.{leZ-true, le-test}
-use Rattle.spec_spline.specs.Space.{between}
+use Rattle.base_outcome.specs.Tests.{between}
 use Rattle.base_text.specs.Bytes.{Text, newline, minus}
 use Rattle.base_text.specs.Numeral.{digitsValue, isNatural, negated, numeral, decimal, numberLimit}
 use Rattle.base_text.proofs.Decimal.{digits-length-le}

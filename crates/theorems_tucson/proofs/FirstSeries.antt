@@ -16,8 +16,8 @@ use lib.Signed.{leZ}
 use Rattle.base_exact.proofs.Decide.{and-true, true-not-false}
 use Rattle.base_exact.proofs.Integer.{≤-antisym}
 use Rattle.base_exact.proofs.Word.{leZ-true}
-use Rattle.spec_spline.specs.Outcome.{Outcome, answer, refuse, _then_}
-use Rattle.spec_spline.proofs.Outcome.{answer-unique, answer-not-refusal, Chained, then-inverts, with-inverts}
+use Rattle.base_outcome.specs.Outcome.{Outcome, answer, refuse, _then_}
+use Rattle.base_outcome.proofs.Outcome.{answer-unique, answer-not-refusal, Chained, then-inverts, with-inverts}
 use Rattle.base_text.specs.Bytes.{Text, beginsWith}
 use Rattle.base_text.proofs.Beginning.{begins-taken, begins-front}
 use Rattle.spec_tucson.specs.Line.{Line, nameColumns, decade, thousandths, isName, yearInDecade, same, goodLine}

@@ -9,7 +9,7 @@ use native.Mathlib.Omega.{arith}
 use lib.IntN.{ℤ, pos, _+ℤ_}
 use lib.ListN.{length, length-append}
 use Rattle.base_exact.proofs.Decide.{and-true}
-use Rattle.spec_spline.specs.Space.{between}
+use Rattle.base_outcome.specs.Tests.{between}
 use Rattle.base_text.specs.Bytes.{Text}
 use Rattle.spec_tucson.specs.Line.{decade, isWidth}
 use Rattle.spec_tucson.specs.Writing.{ontoFirst, inLines, linesFrom, yearsFit, allWidths, leastYear, greatestYear}

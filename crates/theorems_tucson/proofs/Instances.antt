@@ -7,7 +7,7 @@ use Prim.Native.Nat.{_≤_}
 use native.Mathlib.Omega.{arith}
 use lib.IntN.{pos, negℤ}
 use lib.ListN.{length, take}
-use Rattle.spec_spline.specs.Outcome.{answer, refusal, capped}
+use Rattle.base_outcome.specs.Outcome.{answer, refusal, capped}
 use Rattle.base_text.specs.Bytes.{Text, bytes, lines, cut, beginsWith}
 use Rattle.base_text.specs.Numeral.{allDigits, digitsValue, isNatural, numeral, digitsUpTo, digits, decimal}
 use Rattle.spec_tucson.specs.Columns.{inColumns, columns}

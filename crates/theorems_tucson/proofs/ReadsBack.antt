@@ -13,8 +13,8 @@ use lib.Signed.{leZ, ≤ℤ-refl}
 use Rattle.base_exact.proofs.Decide.{and-true, cond-true, true-not-false}
 use Rattle.base_exact.proofs.Integer.{≤-out}
 use Rattle.base_exact.proofs.Word.{leZ-true, le-test}
-use Rattle.spec_spline.specs.Outcome.{Outcome, answer, refuse, _then_, with-answer}
-use Rattle.spec_spline.specs.Space.{between}
+use Rattle.base_outcome.specs.Outcome.{Outcome, answer, refuse, _then_, with-answer}
+use Rattle.base_outcome.specs.Tests.{between}
 use Rattle.base_text.specs.Bytes.{Text, beginsWith}
 use Rattle.base_text.proofs.Beginning.{begins-self, begins-other}
 use Rattle.spec_tucson.specs.Line.{Line, decade, thousandths, widthLimit, linesOf, isName, yearInDecade, withinDecade, same, isWidth, fieldsAllowed, ifAllowed, goodLine}

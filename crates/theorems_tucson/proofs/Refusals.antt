@@ -9,9 +9,9 @@ use native.Mathlib.Omega.{arith}
 use lib.IntN.{ℤ}
 use lib.Dec.{leb}
 use lib.ListN.{length, drop}
-use Rattle.spec_spline.specs.Outcome.{Outcome, answer, refusal, capped, refuse, with-answer}
-use Rattle.spec_spline.specs.Space.{refuseFirst}
-use Rattle.spec_spline.proofs.Outcome.{answer-not-refusal, Broken, first-refuses, second-refuses, then-breaks, with-refuses}
+use Rattle.base_outcome.specs.Outcome.{Outcome, answer, refusal, capped, refuse, with-answer}
+use Rattle.base_outcome.specs.Tests.{refuseFirst}
+use Rattle.base_outcome.proofs.Outcome.{answer-not-refusal, Broken, first-refuses, second-refuses, then-breaks, with-refuses}
 use Rattle.base_text.specs.Bytes.{Text}
 use Rattle.spec_tucson.specs.Line.{Line, nameColumns, linesOf, goodLine}
 use Rattle.spec_tucson.specs.Series.{Series, closedBy}

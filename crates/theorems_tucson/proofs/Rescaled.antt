@@ -12,7 +12,7 @@ use lib.Signed.{leZ}
 use Rattle.base_exact.proofs.Decide.{and-true, true-not-false}
 use Rattle.base_exact.proofs.Integer.{≤-in, ≤-out}
 use Rattle.base_exact.proofs.Word.{leZ-true, le-test}
-use Rattle.spec_spline.specs.Space.{between}
+use Rattle.base_outcome.specs.Tests.{between}
 use Rattle.base_text.specs.Bytes.{Text}
 use Rattle.spec_tucson.specs.Line.{Line, decade, thousandths, widthLimit, isName, same, isWidth}
 use Rattle.spec_tucson.specs.Series.{hundredths, hundredthsLimit, perHundredth, allHundredths, fromHundredths, closedBy}

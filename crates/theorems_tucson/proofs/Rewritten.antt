@@ -5,7 +5,7 @@ use mathlib.Core.Bool.{true, false}
 use mathlib.Core.List.{List, [], _∷_}
 use mathlib.Core.Option.{none}
 use native.Mathlib.Omega.{arith}
-use Rattle.spec_spline.specs.Outcome.{answer}
+use Rattle.base_outcome.specs.Outcome.{answer}
 use Rattle.base_text.specs.Bytes.{Text, beginsWith}
 use Rattle.spec_tucson.specs.Line.{linesOf, isName}
 use Rattle.spec_tucson.specs.Series.{Series}

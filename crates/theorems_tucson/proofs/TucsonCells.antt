@@ -12,9 +12,9 @@ use lib.IntN.{ℤ}
 use lib.ListN.{length, take, drop, length-append, length-drop, length-map, take-append-drop}
 use lib.Seq.{take-at, drop-at, length-take-le}
 use Rattle.base_exact.proofs.Decide.{and-true, cond-true}
-use Rattle.spec_spline.specs.Outcome.{Outcome, answer, refuse, with-answer}
-use Rattle.spec_spline.specs.Space.{refuseFirst}
-use Rattle.spec_spline.proofs.Outcome.{answer-unique, answer-not-refusal, then-inverts, then-answers, Changed, with-inverts}
+use Rattle.base_outcome.specs.Outcome.{Outcome, answer, refuse, with-answer}
+use Rattle.base_outcome.specs.Tests.{refuseFirst}
+use Rattle.base_outcome.proofs.Outcome.{answer-unique, answer-not-refusal, then-inverts, then-answers, Changed, with-inverts}
 use Rattle.base_text.specs.Bytes.{Text}
 use Rattle.spec_tucson.specs.Line.{nameColumns}
 use Rattle.spec_tucson.specs.Series.{Series}

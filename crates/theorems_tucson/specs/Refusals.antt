@@ -7,7 +7,7 @@ use mathlib.Core.Path.{_≡_}
 use Prim.Native.Nat.{ℕ, _≤_, _<_}
 use lib.IntN.{ℤ, pos, _+ℤ_}
 use lib.ListN.{length}
-use Rattle.spec_spline.specs.Outcome.{answer, refusal, capped}
+use Rattle.base_outcome.specs.Outcome.{answer, refusal, capped}
 use Rattle.base_text.specs.Bytes.{Text}
 use Rattle.spec_tucson.specs.Line.{Line, linesOf, goodLine}
 use Rattle.spec_tucson.specs.TextReading.{Begun, nextYear, opened, readLine}

@@ -12,7 +12,8 @@ use lib.Signed.{_≤ℤ_}
 use Rattle.base_exact.proofs.Decide.{fails-false}
 use Rattle.base_exact.proofs.Integer as Z
 use Rattle.base_exact.proofs.Tabulate.{tab-self, map-tab, tab-getD}
-use Rattle.spec_spline.specs.Space.{Space, segments, break, between, rowCount}
+use Rattle.spec_spline.specs.Space.{Space, segments, break, rowCount}
+use Rattle.base_outcome.specs.Tests.{between}
 use Rattle.spec_spline.specs.Table.{Table}
 use Rattle.spec_spline.specs.Piecewise.{Accepted}
 use Rattle.spec_spline.specs.Reading.{fine, segmentAt, Wood, woodIndex, Pair, sideBySide, coefficient, valueAt, pairAt, values}

@@ -20,8 +20,8 @@ use Rattle.base_exact.specs.Tabulate.{tab}
 use Rattle.base_exact.proofs.Integer as Z
 use Rattle.base_exact.proofs.Integer.{up}
 use Rattle.base_fraction.specs.Size.{fits}
-use Rattle.spec_spline.specs.Outcome.{answer, capped, collect, repeat}
-use Rattle.spec_spline.specs.Search.{first, last, howMany}
+use Rattle.base_outcome.specs.Outcome.{answer, capped, collect, repeat}
+use Rattle.base_outcome.specs.Search.{first, last, howMany}
 use Rattle.spec_spline.specs.Space.{Space, lengthsFit, badBreak, startsPart, partEnd, lastPartStart, spanTooLong, tooManySegments, badDegree, badOrder, checkedEntries, checked, firstColumn, conditionsBefore}
 use Rattle.spec_spline.specs.Conditions.{falling, binomial, alternating, undivided, commonDivisor, conditions}
 use Rattle.spec_spline.specs.Table.{Table, cell, identity}

@@ -10,16 +10,17 @@ use lib.Dec.{T, eqb, ltb, eqb-refl, eqb→eq, nltb→le}
 use lib.IntN.{ℤ}
 use lib.ListN.{length, length-map}
 use Rattle.base_exact.proofs.Decide.{true-holds, holds-true, fails-false, cond-true, cond-false}
-use Rattle.spec_spline.specs.Outcome.{Outcome, answer, refusal, refuse, largestPlace, _then_, with-answer}
-use Rattle.spec_spline.specs.Search.{first}
-use Rattle.spec_spline.specs.Space.{Space, lengthsFit, refuseFirst, checkedEntries, checked, rowCount}
+use Rattle.base_outcome.specs.Outcome.{Outcome, answer, refusal, refuse, largestPlace, _then_, with-answer}
+use Rattle.base_outcome.specs.Search.{first}
+use Rattle.spec_spline.specs.Space.{Space, lengthsFit, checkedEntries, checked, rowCount}
+use Rattle.base_outcome.specs.Tests.{refuseFirst}
 use Rattle.spec_spline.specs.Table.{Table, tableCells}
 use Rattle.spec_spline.specs.Build.{weights, spaceWeights, clears}
 use Rattle.spec_spline.specs.Reading.{pairAt, values}
 use Rattle.spec_spline.specs.CurveCall.{positionLimit, badCoefficient, badPosition, legalEntries, curveChecked, curveRead, curveOutcome}
 use Rattle.spec_spline.specs.ExactCurve.{Legal}
-use Rattle.spec_spline.proofs.Outcome.{answer-unique, answer-not-refusal, then-answers, Chained, then-inverts, then-breaks, Broken, first-refuses, second-refuses}
-use Rattle.spec_spline.proofs.Search.{first-none, first-none-inverts}
+use Rattle.base_outcome.proofs.Outcome.{answer-unique, answer-not-refusal, then-answers, Chained, then-inverts, then-breaks, Broken, first-refuses, second-refuses}
+use Rattle.base_outcome.proofs.Search.{first-none, first-none-inverts}
 use Rattle.spec_spline.proofs.Legal.{checked-inverts, checked-numbers, refuseFirst-inverts, cond-refuse-inverts, fitting-inverts, keeping-refusal, keeping-first}
 use Rattle.spec_spline.proofs.Pairs.{le-half, half-le}
 use Rattle.theorems_weights.proofs.Built.{built}

@@ -12,12 +12,12 @@ use lib.IntN.{ℤ, pos}
 use lib.ListN.{length}
 use lib.Signed.{leZ, _≤ℤ_}
 use Rattle.base_exact.proofs.Decide.{true-not-false}
-use Rattle.spec_spline.specs.Search.{first, found, howMany}
+use Rattle.base_outcome.specs.Search.{first, found, howMany}
 use Rattle.spec_spline.specs.Space.{Space, degree, firstColumn}
 use Rattle.spec_spline.specs.Table.{Table}
 use Rattle.spec_spline.specs.Reading.{Wood, coefficient, hasWeight}
 use Rattle.spec_spline.specs.ExactCurve.{largest, mostWeights, weighsOn, leastOn, greatestOn}
-use Rattle.spec_spline.proofs.Search.{Searched, at, nowhere, search-first}
+use Rattle.base_outcome.proofs.Search.{Searched, at, nowhere, search-first}
 use Rattle.theorems_values.proofs.Extremum.{Best, least-exists, greatest-exists, least-le, le-greatest}
 
 pub le-largest : (n k : ℕ) (f : ℕ → ℕ) → k < n → f k ≤ largest n f

@@ -15,7 +15,7 @@ use Rattle.base_exact.proofs.Rational.{mul-one, mul-zero}
 use Rattle.base_exact.proofs.Order.{≤-refl, ≤-trans, int-mono, +-mono, *-mono}
 use Rattle.base_exact.proofs.Sum.{sum-mono, sum-mul}
 use Rattle.base_exact.proofs.Word.{ltZ-true, ltZ-false}
-use Rattle.spec_spline.specs.Search.{howMany}
+use Rattle.base_outcome.specs.Search.{howMany}
 use Rattle.spec_spline.specs.Table.{Table, cell}
 use Rattle.spec_spline.specs.Reading.{fine, hasWeight, termSum, atLeast, atMost, ordinate}
 use Rattle.theorems_values.proofs.Within.{Within, halves, nn-halves, le-add}

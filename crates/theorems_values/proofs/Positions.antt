@@ -14,7 +14,7 @@ use Rattle.base_exact.proofs.Word.{le-test}
 use Rattle.spec_spline.specs.Space.{Space, segments, break}
 use Rattle.spec_spline.specs.Reading.{fine, startsBy, segmentAt}
 use Rattle.spec_spline.proofs.Space.{is-discontinuity, is-no-discontinuity}
-use Rattle.spec_spline.proofs.Search.{last-at}
+use Rattle.base_outcome.proofs.Search.{last-at}
 use Rattle.spec_spline.proofs.Legal.{Checked, checked-inverts, legal}
 use Rattle.spec_spline.proofs.Reading.{after-start, before-start, starts-by-first, on-discontinuity, on-join}
 use Rattle.theorems_values.specs.ValueLimits.{InSpan}

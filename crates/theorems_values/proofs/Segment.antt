@@ -12,14 +12,14 @@ use lib.Signed.{leZ, _≤ℤ_, _<ℤ_, pos-natAbs}
 use Rattle.base_exact.proofs.Decide.{and-true, holds-true, true-not-false}
 use Rattle.base_exact.proofs.Integer as Z
 use Rattle.base_exact.proofs.Word.{leZ-true}
-use Rattle.spec_spline.specs.Outcome.{answer}
-use Rattle.spec_spline.specs.Search.{last}
+use Rattle.base_outcome.specs.Outcome.{answer}
+use Rattle.base_outcome.specs.Search.{last}
 use Rattle.spec_spline.specs.Space.{Space, segments, break, checked}
 use Rattle.spec_spline.specs.Build.{weights, spaceWeights}
 use Rattle.spec_spline.specs.Piecewise.{Accepted}
 use Rattle.spec_spline.specs.Reading.{fineness, fine, startsBy, segmentAt, fineWidth, offset}
-use Rattle.spec_spline.proofs.Outcome.{then-inverts}
-use Rattle.spec_spline.proofs.Search.{SearchedBack, at, nowhere, search-last}
+use Rattle.base_outcome.proofs.Outcome.{then-inverts}
+use Rattle.base_outcome.proofs.Search.{SearchedBack, at, nowhere, search-last}
 use Rattle.spec_spline.proofs.Legal.{Checked, checked-inverts, legal, good-break-rises}
 use Rattle.spec_spline.proofs.Reading.{starts-by-le, not-starts-by-le, starts-by-first}
 use Rattle.theorems_values.specs.ValueLimits.{InSpan}

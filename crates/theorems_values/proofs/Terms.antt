@@ -9,7 +9,7 @@ use Rattle.base_exact.specs.Rational.{ℚ, den, int, inv, _+ᵠ_, _*ᵠ_}
 use Rattle.base_exact.specs.Sum.{sum}
 use Rattle.base_exact.proofs.Ring.{ring, by-eq}
 use Rattle.base_exact.proofs.Rational.{ℚ-ring, readsℚ, self, is-mul-int, int-mul, int-nonzero, mul-inv, mul-zero, add-zero}
-use Rattle.spec_spline.specs.Search.{howMany}
+use Rattle.base_outcome.specs.Search.{howMany}
 use Rattle.spec_spline.specs.Table.{Table, cell}
 use Rattle.spec_spline.specs.Reading.{fine, rounded, hasWeight, term, termSum}
 use Rattle.theorems_values.proofs.Within.{Within, halves, halves-add, within-same, within-add}

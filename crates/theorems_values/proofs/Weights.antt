@@ -18,7 +18,7 @@ use Rattle.base_exact.proofs.Integer as Z
 use Rattle.base_exact.proofs.Rational.{self, is-int, int-nonzero}
 use Rattle.base_exact.proofs.Order.{int-mono, le-is, isZero-true}
 use Rattle.base_exact.proofs.Sum.{sum-zero, sum-place-le}
-use Rattle.spec_spline.specs.Search.{howMany}
+use Rattle.base_outcome.specs.Search.{howMany}
 use Rattle.spec_spline.specs.Space.{Space, columnCount}
 use Rattle.spec_spline.specs.Table.{Table, cell}
 use Rattle.spec_spline.specs.Piecewise.{Accepted}

@@ -4,7 +4,7 @@ use mathlib.Core.Path.{_≡_}
 use Prim.Native.Nat.{ℕ, suc, _<_}
 use lib.IntN.{ℤ, negsuc}
 use lib.Signed.{_<ℤ_}
-use Rattle.spec_spline.specs.Outcome.{answer}
+use Rattle.base_outcome.specs.Outcome.{answer}
 use Rattle.spec_spline.specs.Space.{Space, segments, break, order, checked}
 use Rattle.spec_spline.specs.Reading.{fine, segmentAt}
 

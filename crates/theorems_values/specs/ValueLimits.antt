@@ -11,8 +11,9 @@ use lib.ListN.{length, getD}
 use lib.Signed.{_≤ℤ_}
 use Rattle.base_exact.specs.Rational.{ℚ, int, _+ᵠ_, _/ᵠ_}
 use Rattle.base_exact.specs.Order.{_≤ᵠ_}
-use Rattle.spec_spline.specs.Outcome.{answer}
-use Rattle.spec_spline.specs.Space.{Space, segments, break, between, degree}
+use Rattle.base_outcome.specs.Outcome.{answer}
+use Rattle.spec_spline.specs.Space.{Space, segments, break, degree}
+use Rattle.base_outcome.specs.Tests.{between}
 use Rattle.spec_spline.specs.Table.{Table}
 use Rattle.spec_spline.specs.Piecewise.{Accepted}
 use Rattle.spec_spline.specs.Reading.{fineness, fine, segmentAt, Wood, woodIndex, valueAt, values}

@@ -16,7 +16,7 @@ use Rattle.base_exact.proofs.Ring.{ring}
 use Rattle.base_exact.proofs.Rational.{ℚ-ring, readsℚ, one-mul}
 use Rattle.base_exact.proofs.Order.{nn-add, nn-mul}
 use Rattle.base_exact.proofs.Sum.{sum-ext}
-use Rattle.spec_spline.specs.Outcome.{answer}
+use Rattle.base_outcome.specs.Outcome.{answer}
 use Rattle.spec_spline.specs.Conditions.{Entry}
 use Rattle.spec_spline.specs.Table.{Table, cell}
 use Rattle.spec_spline.specs.Step.{step}

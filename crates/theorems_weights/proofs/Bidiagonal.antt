@@ -21,10 +21,10 @@ use Rattle.base_exact.proofs.Rational.{ℚ-ring, readsℚ, mul-cancel, mul-nonz
 use Rattle.base_exact.proofs.Order.{zero-test, nonzero-test}
 use Rattle.base_exact.proofs.Sum.{sum-zero, sum-past}
 use Rattle.base_exact.proofs.Tabulate.{tab-length, tab-getD}
-use Rattle.spec_spline.specs.Search.{first, last}
+use Rattle.base_outcome.specs.Search.{first, last}
 use Rattle.spec_spline.specs.Table.{Row, entry, cell}
 use Rattle.spec_spline.specs.Published.{carried, diagonal, aboveDiagonal, bidiagonal, nullspace}
-use Rattle.spec_spline.proofs.Search.{first-at, last-at}
+use Rattle.base_outcome.proofs.Search.{first-at, last-at}
 use Rattle.theorems_weights.proofs.NullSpace.{Jumps, mixed, first-factor, last-factor}
 
 -- a sum over two neighbouring places

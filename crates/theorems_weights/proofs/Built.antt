@@ -7,13 +7,13 @@ use Prim.Native.Nat.{ℕ, suc, _+_, _-_, _<_}
 use native.Mathlib.Omega.{arith}
 use native.Mathlib.Nat.{eq-or-lt-of-le}
 use lib.ListN.{length}
-use Rattle.spec_spline.specs.Outcome.{answer}
+use Rattle.base_outcome.specs.Outcome.{answer}
 use Rattle.spec_spline.specs.Space.{Space, segments, columnCount, conditionCount, conditionsBefore, rowCount, checked}
 use Rattle.spec_spline.specs.Conditions.{Entry, conditions}
 use Rattle.spec_spline.specs.Table.{Table, identity}
 use Rattle.spec_spline.specs.Step.{step}
 use Rattle.spec_spline.specs.Build.{orderSteps, joinSteps, weights, spaceWeights}
-use Rattle.spec_spline.proofs.Outcome.{then-inverts, repeat-keeps}
+use Rattle.base_outcome.proofs.Outcome.{then-inverts, repeat-keeps}
 use Rattle.spec_spline.proofs.Legal.{checked-inverts, Legal, legal}
 use Rattle.spec_spline.proofs.Conditions.{conditions-inside}
 use Rattle.spec_spline.proofs.Table.{identity-rows}

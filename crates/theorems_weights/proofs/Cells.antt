@@ -5,7 +5,7 @@ use Prim.Native.Nat.{ℕ, _+_, _*_, _<_}
 use lib.IntN.{ℤ, pos}
 use lib.ListN.{length, drop}
 use Rattle.base_exact.specs.Rational.{den}
-use Rattle.spec_spline.specs.Outcome.{Outcome, answer, with-answer}
+use Rattle.base_outcome.specs.Outcome.{Outcome, answer, with-answer}
 use Rattle.spec_spline.specs.Space.{Space}
 use Rattle.spec_spline.specs.Table.{Table, cell, rowCells, tableCells, numerators, denominators}
 use Rattle.spec_spline.specs.Build.{spaceWeights, built, lastPart, numeratorsAfter, denominatorsAfter}

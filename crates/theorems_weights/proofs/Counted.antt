@@ -14,8 +14,8 @@ use Rattle.base_exact.specs.Tabulate.{tab}
 use Rattle.base_exact.proofs.Decide.{and-true, true-not-false}
 use Rattle.base_exact.proofs.Rational.{add-zero, zero-add, add-assoc}
 use Rattle.base_exact.proofs.Tabulate.{tab-snoc}
-use Rattle.spec_spline.specs.Outcome.{Outcome, answer, refusal, refuse, capped, _then_, collect, repeat}
-use Rattle.spec_spline.specs.Search.{first, last, found}
+use Rattle.base_outcome.specs.Outcome.{Outcome, answer, refusal, refuse, capped, _then_, collect, repeat}
+use Rattle.base_outcome.specs.Search.{first, last, found}
 use Rattle.spec_spline.specs.Space.{Space, segments, columnCount, conditionCount, checked}
 use Rattle.spec_spline.specs.Conditions.{Entry, conditions}
 use Rattle.spec_spline.specs.Table.{Row, Table, entry, row, cell, identity}
@@ -23,9 +23,9 @@ use Rattle.spec_spline.specs.Step.{count, addProducts, jumps, jumpsAt, Span, ze
 use Rattle.spec_spline.specs.Build.{orderSteps, joinSteps, weights, spaceWeights}
 use Rattle.spec_spline.specs.Published.{for}
 use Rattle.spec_spline.specs.Piecewise.{pairing}
-use Rattle.spec_spline.proofs.Outcome.{then-answers, then-breaks, Broken, first-refuses, second-refuses, answer-not-refusal}
+use Rattle.base_outcome.proofs.Outcome.{then-answers, then-breaks, Broken, first-refuses, second-refuses, answer-not-refusal}
 use Rattle.spec_spline.proofs.Legal.{checked-inverts, checked-numbers}
-use Rattle.spec_spline.proofs.Search.{first-some-inverts, last-none-inverts}
+use Rattle.base_outcome.proofs.Search.{first-some-inverts, last-none-inverts}
 use Rattle.theorems_weights.specs.Counted.{Test, counted, shaped, passes, numberOf, joinOf, joined, jumpTests, exactJumps, firstJump, lastJump, shapeTest, quotient, factorTests, innerRows, innerRow, exactFactors, entryTests, rowTests, exactRow, stepTests, exactStep, exactOrders, exactJoins, buildTests, exactWeights, allPass, FirstFailure, RefusedByFirstFailure, FirstFailureRefuses, PassingIsAccepted, FirstTooLarge, EightIsFirstTooLarge, FirstMisshapen, NineIsFirstMisshapen}
 
 -- An outcome behind tests: the first that fails refuses.

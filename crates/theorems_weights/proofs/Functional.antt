@@ -7,11 +7,11 @@ use Rattle.base_exact.specs.Rational.{ℚ, _+ᵠ_, _*ᵠ_, int}
 use Rattle.base_exact.specs.Sum.{sum}
 use Rattle.base_exact.proofs.Ring.{ring}
 use Rattle.base_exact.proofs.Rational.{ℚ-ring, readsℚ, add-zero, add-assoc, add-comm}
-use Rattle.spec_spline.specs.Outcome.{answer, _then_}
+use Rattle.base_outcome.specs.Outcome.{answer, _then_}
 use Rattle.spec_spline.specs.Conditions.{Entry}
 use Rattle.spec_spline.specs.Table.{Row, entry}
 use Rattle.spec_spline.specs.Step.{count, addProducts, jump}
-use Rattle.spec_spline.proofs.Outcome.{then-inverts, Chained, answer-unique}
+use Rattle.base_outcome.proofs.Outcome.{then-inverts, Chained, answer-unique}
 use Rattle.spec_spline.proofs.Step.{count-answers}
 
 -- The sum of ordinate times condition.

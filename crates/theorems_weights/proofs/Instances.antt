@@ -16,8 +16,8 @@ use Rattle.base_exact.specs.Sum.{sum}
 use Rattle.base_exact.specs.Tabulate.{tab}
 use Rattle.base_exact.proofs.Tabulate.{tab-length}
 use Rattle.base_fraction.specs.Size.{fits}
-use Rattle.spec_spline.specs.Outcome.{answer, refusal, capped, collect, repeat}
-use Rattle.spec_spline.specs.Search.{first, last}
+use Rattle.base_outcome.specs.Outcome.{answer, refusal, capped, collect, repeat}
+use Rattle.base_outcome.specs.Search.{first, last}
 use Rattle.spec_spline.specs.Space.{Space, segments, conditionCount, lengthsFit, badBreak, startsPart, partEnd, lastPartStart, spanTooLong, tooManySegments, badDegree, badOrder, checkedEntries, checked, firstColumn, conditionsBefore}
 use Rattle.spec_spline.specs.Conditions.{falling, binomial, alternating, undivided, commonDivisor, conditions}
 use Rattle.spec_spline.specs.Table.{Row, Table, row, cell, identity, rowCells}
@@ -26,7 +26,7 @@ use Rattle.spec_spline.specs.Build.{orderSteps, joinSteps, weights, spaceWeight
 use Rattle.spec_spline.specs.Published.{for, extraction}
 use Rattle.spec_spline.specs.Cases.{space4, space5, lineSpace}
 use Rattle.spec_spline.specs.Piecewise.{Accepted, MeetsAll, Meets, pairing, combination}
-use Rattle.spec_spline.proofs.Outcome.{answer-not-refusal}
+use Rattle.base_outcome.proofs.Outcome.{answer-not-refusal}
 use Rattle.theorems_weights.specs.Cells.{HoldsFraction, lastPartCell}
 use Rattle.theorems_weights.specs.Counted.{Test, counted, shaped, numberOf, passes, joined, jumpTests, exactJumps, firstJump, lastJump, shapeTest, quotient, factorTests, innerRows, innerRow, exactFactors, entryTests, rowTests, exactRow, stepTests, exactStep, exactOrders, exactJoins, buildTests, exactWeights, allPass, FirstTooLarge, FirstFailure}
 use Rattle.theorems_weights.proofs.PublishedBasis.{rows-and-columns, combinations-meet-conditions, conditions-give-one-combination}

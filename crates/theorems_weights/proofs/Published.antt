@@ -17,14 +17,14 @@ use Rattle.base_exact.proofs.Ring.{ring, reads}
 use Rattle.base_exact.proofs.Rational.{ℚ-ring, mul-zero, zero-mul, zero-add}
 use Rattle.base_exact.proofs.Sum.{sum-ext, sum-add, sum-mul}
 use Rattle.base_exact.proofs.Tabulate.{tab-length, tab-getD}
-use Rattle.spec_spline.specs.Outcome.{answer}
+use Rattle.base_outcome.specs.Outcome.{answer}
 use Rattle.spec_spline.specs.Space.{Space, segments, columnCount, conditionCount}
 use Rattle.spec_spline.specs.Conditions.{conditions}
 use Rattle.spec_spline.specs.Table.{Row, Table, entry, row, cell, identity}
 use Rattle.spec_spline.specs.Step.{step}
 use Rattle.spec_spline.specs.Build.{orderSteps, joinSteps, weights}
 use Rattle.spec_spline.specs.Published.{constraint, constraints, nullspace, product, column, Matrices, constrain, for, smooth, extraction}
-use Rattle.spec_spline.proofs.Outcome.{repeat-keeps}
+use Rattle.base_outcome.proofs.Outcome.{repeat-keeps}
 use Rattle.spec_spline.proofs.Legal.{Legal}
 use Rattle.spec_spline.proofs.Table.{entry-past, cell-past}
 use Rattle.theorems_weights.specs.PublishedBasis.{WeightsArePublished}

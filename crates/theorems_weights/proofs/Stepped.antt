@@ -14,11 +14,11 @@ use Rattle.base_exact.specs.Sum.{sum}
 use Rattle.base_exact.proofs.Decide.{le-or-lt}
 use Rattle.base_exact.proofs.Ring.{ring}
 use Rattle.base_exact.proofs.Rational.{ℚ-ring, readsℚ}
-use Rattle.spec_spline.specs.Outcome.{Outcome, answer, _then_, collect}
+use Rattle.base_outcome.specs.Outcome.{Outcome, answer, _then_, collect}
 use Rattle.spec_spline.specs.Conditions.{Entry}
 use Rattle.spec_spline.specs.Table.{Table, entry, row, cell}
 use Rattle.spec_spline.specs.Step.{jump, jumps, Span, span, factors, newRow, newRows, step}
-use Rattle.spec_spline.proofs.Outcome.{then-inverts, Chained, answer-unique, collect-inverts, Collected}
+use Rattle.base_outcome.proofs.Outcome.{then-inverts, Chained, answer-unique, collect-inverts, Collected}
 use Rattle.spec_spline.proofs.Table.{entry-past, cell-past}
 use Rattle.spec_spline.proofs.Splice.{spliced-length, spliced-before, spliced-inside, spliced-after}
 use Rattle.spec_spline.proofs.Answers.{Spans, span-inverts, Factors, factors-inverts}

@@ -6,7 +6,7 @@ use Prim.Native.Nat.{ℕ, _+_, _*_, _<_, _≤_}
 use lib.IntN.{ℤ, pos}
 use lib.ListN.{length, getD}
 use Rattle.base_exact.specs.Rational.{ℚ, den}
-use Rattle.spec_spline.specs.Outcome.{answer}
+use Rattle.base_outcome.specs.Outcome.{answer}
 use Rattle.spec_spline.specs.Space.{Space, lastPartStart, firstColumn, rowsBefore}
 use Rattle.spec_spline.specs.Table.{Table, cell, rowCells, tableCells}
 use Rattle.spec_spline.specs.Build.{built, buildEnd}

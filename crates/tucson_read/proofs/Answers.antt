@@ -10,8 +10,8 @@ use lib.Dec.{leb}
 use lib.IntN.{ℤ}
 use lib.ListN.{length, drop, length-append, length-map}
 use lib.Seq.{sets}
-use Rattle.spec_spline.specs.Outcome.{Outcome, answer, refusal, capped, with-answer, _then_}
-use Rattle.spec_spline.proofs.Outcome.{answer-unique}
+use Rattle.base_outcome.specs.Outcome.{Outcome, answer, refusal, capped, with-answer, _then_}
+use Rattle.base_outcome.proofs.Outcome.{answer-unique}
 use Rattle.base_text.specs.Bytes.{Text}
 use Rattle.spec_tucson.specs.Line.{nameColumns}
 use Rattle.spec_tucson.specs.Series.{Series}

@@ -11,7 +11,7 @@ use lib.IntN.{ℤ}
 use lib.ListN.{length, drop, length-append, drop-of-length-le}
 use lib.Seq.{slice}
 use Rattle.base_exact.proofs.Decide.{true-not-false}
-use Rattle.spec_spline.specs.Outcome.{Outcome, answer, refusal, capped, _then_, with-answer}
+use Rattle.base_outcome.specs.Outcome.{Outcome, answer, refusal, capped, _then_, with-answer}
 use Rattle.base_text.specs.Bytes.{Text}
 use Rattle.spec_tucson.specs.Line.{linesOf}
 use Rattle.spec_tucson.specs.Series.{Series}

@@ -13,8 +13,8 @@ use lib.ListN.{length, length-append, length-map}
 use lib.Signed.{leZ}
 use Rattle.base_exact.proofs.Decide.{and-true, true-not-false}
 use Rattle.base_exact.proofs.Integer.{bal-+, abs-parts}
-use Rattle.spec_spline.specs.Outcome.{Outcome, answer, refusal, refuse, _then_, with-answer}
-use Rattle.spec_spline.proofs.Outcome.{answer-unique, answer-not-refusal, then-inverts}
+use Rattle.base_outcome.specs.Outcome.{Outcome, answer, refusal, refuse, _then_, with-answer}
+use Rattle.base_outcome.proofs.Outcome.{answer-unique, answer-not-refusal, then-inverts}
 use Rattle.base_text.specs.Bytes.{Text}
 use Rattle.spec_tucson.specs.Line.{Line, thousandths, isWidth, same, yearInDecade, withinDecade, fieldsAllowed, lineOf, ifAllowed, goodLine}
 use Rattle.spec_tucson.specs.Series.{Series, hundredths, allHundredths, fromHundredths, closedBy}

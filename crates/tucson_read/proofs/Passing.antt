@@ -14,7 +14,7 @@ use lib.Signed.{leZ}
 use Rattle.base_exact.proofs.Decide.{and-true, le-or-lt, true-not-false}
 use Rattle.base_exact.proofs.Integer.{ext, bal-+, ≤-antisym}
 use Rattle.base_exact.proofs.Word.{leZ-true}
-use Rattle.spec_spline.specs.Outcome.{Outcome, answer, refusal, refuse, capped}
+use Rattle.base_outcome.specs.Outcome.{Outcome, answer, refusal, refuse, capped}
 use Rattle.base_text.specs.Bytes.{Text}
 use Rattle.spec_tucson.specs.Line.{Line, linesOf, thousandths, isWidth, same, yearInDecade, goodLine}
 use Rattle.spec_tucson.specs.Series.{Series, hundredths, hundredthsLimit, allHundredths, fromHundredths, closedBy}

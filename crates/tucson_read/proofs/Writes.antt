@@ -12,8 +12,8 @@ use lib.ListN.{length, drop, set, length-append, length-map, length-set, drop-of
 use lib.Seq.{slice, sets, length-sets, length-slice, slice-empty}
 use Rattle.base_exact.proofs.Decide.{and-true, true-not-false}
 use Rattle.base_exact.proofs.Integer.{bal-+, abs-parts}
-use Rattle.spec_spline.specs.Outcome.{Outcome, answer, refusal, _then_, with-answer}
-use Rattle.spec_spline.proofs.Outcome.{answer-unique, answer-not-refusal, then-inverts}
+use Rattle.base_outcome.specs.Outcome.{Outcome, answer, refusal, _then_, with-answer}
+use Rattle.base_outcome.proofs.Outcome.{answer-unique, answer-not-refusal, then-inverts}
 use Rattle.base_text.specs.Bytes.{Text}
 use Rattle.base_text.specs.Numeral.{numberLimit}
 use Rattle.spec_tucson.specs.Line.{Line, nameColumns, fieldColumns, decade, linesOf, fieldNumbers, isName, goodLine, yearInDecade, same}

@@ -1,6 +1,6 @@
 -- The cases of the read call's answer, as the definitions say them.
 use Prim.Native.Nat.{ℕ}
-use Rattle.spec_spline.specs.Outcome.{Outcome, answer, refusal}
+use Rattle.base_outcome.specs.Outcome.{Outcome, answer, refusal}
 use Rattle.tucson_read.specs.declared.Answer.{Answer}
 use Rattle.tucson_read.specs.declared.Answer.the-variants.{Series, Refused}
 

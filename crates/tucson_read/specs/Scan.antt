@@ -7,7 +7,7 @@ use mathlib.Core.Path.{_≡_}
 use Prim.Native.Nat.{ℕ, _+_, _<_, _≤_}
 use lib.IntN.{ℤ}
 use lib.ListN.{length}
-use Rattle.spec_spline.specs.Outcome.{Outcome, answer, refusal, capped}
+use Rattle.base_outcome.specs.Outcome.{Outcome, answer, refusal, capped}
 use Rattle.base_text.specs.Bytes.{Text}
 use Rattle.spec_tucson.specs.Series.{Series, allHundredths}
 use Rattle.spec_tucson.specs.TextReading.{Begun, nextYear, Step, opened, closed}

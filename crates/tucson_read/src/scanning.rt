@@ -141,7 +141,7 @@ pub fn scan(text: &[u8]) -> Scanned
         let passed = pass(text, from, end, begun, next, small);
         match passed {
             Passed::Refused(number) => {
-                return Scanned::Refused(number, build_space::place(lines));
+                return Scanned::Refused(number, base_outcome::place(lines));
             }
             Passed::On(more, n, year, all) => {
                 series += whole(more);

@@ -5,7 +5,7 @@ ghost use Prim.Native.Nat.{_+_, _*_, _-_, _<_, _≤_};
 ghost use lib.IntN.{pos};
 ghost use lib.ListN.{length, set};
 ghost use lib.Seq.{slice, sets};
-ghost use Rattle.spec_spline.specs.Outcome.{answer};
+ghost use Rattle.base_outcome.specs.Outcome.{answer};
 ghost use Rattle.spec_tucson.specs.Line.{fieldNumbers, nameColumns};
 ghost use Rattle.spec_tucson.specs.Series.{fromHundredths};
 ghost use Rattle.spec_tucson.specs.TextReading.{readText};

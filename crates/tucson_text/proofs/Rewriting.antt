@@ -6,11 +6,11 @@ use Prim.Native.Nat.{ℕ, _+_, _*_, _≤_}
 use native.Mathlib.Omega.{arith}
 use lib.IntN.{ℤ}
 use lib.ListN.{length, take}
-use Rattle.spec_spline.specs.Outcome.{Outcome, answer, refusal}
-use Rattle.spec_spline.proofs.Outcome.{then-refuses, with-refuses}
+use Rattle.base_outcome.specs.Outcome.{Outcome, answer, refusal}
+use Rattle.base_outcome.proofs.Outcome.{then-refuses, with-refuses}
 use Rattle.base_text.specs.Bytes.{Text}
-use Rattle.sheet_print.specs.Buffer
-use Rattle.sheet_print.specs.Printout.{refusalLine}
+use Rattle.base_print.specs.Buffer
+use Rattle.base_print.specs.Refusal.{refusalLine}
 use Rattle.spec_tucson.specs.Line.{nameColumns}
 use Rattle.spec_tucson.specs.Series.{Series}
 use Rattle.spec_tucson.specs.TextReading.{readText}

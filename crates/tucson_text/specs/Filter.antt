@@ -5,9 +5,9 @@ use mathlib.Core.List.{List}
 use Prim.Native.Nat.{ℕ}
 use lib.Dec.{leb}
 use lib.ListN.{length}
-use Rattle.spec_spline.specs.Outcome.{Outcome, answer, refusal}
+use Rattle.base_outcome.specs.Outcome.{Outcome, answer, refusal}
 use Rattle.base_text.specs.Bytes.{Text}
-use Rattle.sheet_print.specs.Printout.{refusalLine}
+use Rattle.base_print.specs.Refusal.{refusalLine}
 use Rattle.spec_tucson.specs.Series.{Series}
 use Rattle.spec_tucson.specs.TextReading.{readText}
 use Rattle.spec_tucson.specs.Writing.{written}

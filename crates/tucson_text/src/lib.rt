@@ -2,8 +2,8 @@
 ghost use mathlib.Core.Path.{_≡_};
 ghost use Prim.Native.Nat.{_≤_};
 ghost use lib.ListN.{length};
-ghost use Rattle.sheet_print.specs.Buffer.{written};
-ghost use Rattle.spec_spline.specs.Outcome.{answer};
+ghost use Rattle.base_print.specs.Buffer.{written};
+ghost use Rattle.base_outcome.specs.Outcome.{answer};
 ghost use Rattle.spec_tucson.specs.TextReading.{readText};
 ghost use Rattle.spec_tucson.specs.WriteCall.{total};
 ghost use Rattle.tucson_text.specs.Filter.{textLimit, outcomeText, filtered};
@@ -50,7 +50,7 @@ fn rewrite(input: &[u8], out: &mut [u8; TEXT_LIMIT]) -> usize
     let mut widths = [0i32; WIDTHS];
     let series = tucson_read::read(input, &mut names, &mut years, &mut counts, &mut widths);
     match series {
-        tucson_read::Answer::Refused(number, place) => sheet_print::refusal(number, place, out),
+        tucson_read::Answer::Refused(number, place) => base_print::refusal(number, place, out),
         tucson_read::Answer::Series(n) => {
             let bytes = n * tucson_lines::NAME;
             let widths_read = sum(&counts[..n]);
@@ -62,7 +62,7 @@ fn rewrite(input: &[u8], out: &mut [u8; TEXT_LIMIT]) -> usize
                 out,
             );
             match text {
-                tucson_write::Answer::Refused(number, place) => sheet_print::refusal(
+                tucson_write::Answer::Refused(number, place) => base_print::refusal(
                     number,
                     place,
                     out,
@@ -81,7 +81,7 @@ pub fn filter(input: &[u8], out: &mut [u8; TEXT_LIMIT]) -> usize
     ensures { λ r. ⌜ r ≤ length (now (out .exit)) ⌝ }
 {
     if input.len() > TEXT_LIMIT {
-        return sheet_print::refusal(SHORT_BUFFER, 0, out);
+        return base_print::refusal(SHORT_BUFFER, 0, out);
     }
     rewrite(input, out)
 }

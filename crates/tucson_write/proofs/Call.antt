@@ -9,10 +9,10 @@ use lib.Dec.{leb}
 use lib.IntN.{ℤ}
 use lib.ListN.{length}
 use Rattle.base_exact.proofs.Decide.{cond-true, cond-false}
-use Rattle.spec_spline.specs.Outcome.{Outcome, answer, refusal, refuse, capped, with-answer}
-use Rattle.spec_spline.specs.Space.{refuseFirst}
+use Rattle.base_outcome.specs.Outcome.{Outcome, answer, refusal, refuse, capped, with-answer}
+use Rattle.base_outcome.specs.Tests.{refuseFirst}
 use Rattle.base_text.specs.Bytes.{Text}
-use Rattle.sheet_print.specs.Buffer
+use Rattle.base_print.specs.Buffer
 use Rattle.spec_tucson.specs.Series.{Series}
 use Rattle.spec_tucson.specs.Writing.{written, unwritable}
 use Rattle.spec_tucson.specs.WriteCall.{listsFit, seriesOf, seriesOutcome, writeOutcome, textAfter, writeEnd}

@@ -10,7 +10,7 @@ use lib.Dec.{leb}
 use lib.IntN.{ℤ, pos, _+ℤ_}
 use lib.ListN.{length, length-append}
 use Rattle.base_exact.proofs.Decide.{le-or-lt, and-true}
-use Rattle.spec_spline.specs.Space.{between}
+use Rattle.base_outcome.specs.Tests.{between}
 use Rattle.base_text.specs.Bytes.{Text}
 use Rattle.spec_tucson.specs.Line.{Line, decade, thousandths, isName, yearInDecade}
 use Rattle.spec_tucson.specs.Writing.{leastYear, greatestYear, inLines, linesFrom, seriesLines, linesText, yearsFit, allWidths}

@@ -9,8 +9,8 @@ use lib.ListN.{length, getD, drop, replicate, length-append, length-drop, length
 use lib.Seq.{ext-getD, getD-append-add, getD-drop}
 use Rattle.base_exact.proofs.Decide.{le-or-lt}
 use Rattle.base_text.specs.Bytes.{Text}
-use Rattle.sheet_print.specs.Buffer.{written, Puts}
-use Rattle.sheet_print.proofs.Buffer.{written-none, written-length, written-append, written-inside, written-behind}
+use Rattle.base_print.specs.Buffer.{written, Puts}
+use Rattle.base_print.proofs.Buffer.{written-none, written-length, written-append, written-inside, written-behind}
 use Rattle.spec_tucson.specs.Columns.{blank}
 use Rattle.spec_tucson.specs.ReadCall.{overwritten}
 use Rattle.tucson_write.specs.Putting.{Wrote}

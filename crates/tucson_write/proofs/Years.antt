@@ -14,7 +14,7 @@ use mir.Val.{SFits, Fits}
 use Rattle.base_exact.proofs.Decide.{le-or-lt, and-true}
 use Rattle.base_exact.proofs.Integer.{up, dn, ext, bal-+, bal-neg, ≤-in, ≤-out, <-in}
 use Rattle.base_exact.proofs.Word.{leZ-true, ltZ-true, ltZ-false, le-test, not-le-test, is-pos, sfits-abs}
-use Rattle.spec_spline.specs.Space.{between}
+use Rattle.base_outcome.specs.Tests.{between}
 use Rattle.spec_tucson.specs.Line.{decade, yearInDecade}
 use Rattle.spec_tucson.specs.Writing.{leastYear, greatestYear}
 use Rattle.tucson_write.specs.Sizes.{yearsLeft, yearAt, mostLeft, closingFits}

@@ -1,6 +1,6 @@
 -- Document 02's numbers and places for the cases of what the write call answers.
 use Prim.Native.Nat.{ℕ}
-use Rattle.spec_spline.specs.Outcome.{Outcome, answer, refusal}
+use Rattle.base_outcome.specs.Outcome.{Outcome, answer, refusal}
 use Rattle.tucson_write.specs.declared.Answer.{Answer}
 use Rattle.tucson_write.specs.declared.Answer.the-variants.{Bytes, Refused}
 

@@ -5,9 +5,9 @@ use mathlib.Core.Path.{_≡_}
 use Prim.Native.Nat.{ℕ, _+_, _*_, _≤_}
 use lib.IntN.{ℤ}
 use lib.ListN.{length}
-use Rattle.spec_spline.specs.Space.{between}
+use Rattle.base_outcome.specs.Tests.{between}
 use Rattle.base_text.specs.Bytes.{Text}
-use Rattle.sheet_print.specs.Buffer
+use Rattle.base_print.specs.Buffer
 use Rattle.spec_tucson.specs.Columns.{columns}
 use Rattle.spec_tucson.specs.Line.{Line, yearColumns, fieldColumns, isName}
 use Rattle.spec_tucson.specs.Writing.{leastYear, greatestYear, allWidths, fieldsText, linesText, seriesLines}

@@ -27,8 +27,8 @@ pub fn write(names: &[u8], years: &[i32], counts: &[u32], widths: &[i32], text: 
     }
     let found = writable::first_unwritable(names, years, counts, widths);
     match found {
-        build_space::Found::At(k) => Answer::Refused(11, build_space::place(k)),
-        build_space::Found::Nothing => {
+        base_outcome::Found::At(k) => Answer::Refused(11, base_outcome::place(k)),
+        base_outcome::Found::Nothing => {
             if !room::text_fits(years, counts, text.len()) {
                 return Answer::Refused(1, 0);
             }

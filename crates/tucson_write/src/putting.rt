@@ -36,7 +36,7 @@ fn put_blanks(text: &mut [u8], at: usize, count: usize) -> usize
     let mut next = at;
     let mut i = 0;
     while i < count {
-        next = sheet_print::put(text, next, BLANK);
+        next = base_print::put(text, next, BLANK);
         i += 1;
     }
     next
@@ -47,7 +47,7 @@ fn decimal_length(z: i64) -> usize
     ensures { λ r. ⌜ r ≡ length (decimal z) ⌝ }
 {
     let size = base_fraction::magnitude(z);
-    let count = sheet_print::digit_count(size);
+    let count = base_print::digit_count(size);
     if z < 0 {
         return count + 1;
     }
@@ -62,7 +62,7 @@ fn put_columns(text: &mut [u8], at: usize, size: usize, z: i32) -> usize
     let number = z as i64;
     let length = decimal_length(number);
     let next = put_blanks(text, at, size - length);
-    sheet_print::put_decimal(text, next, number)
+    base_print::put_decimal(text, next, number)
 }
 
 // Widths in six columns each.
@@ -84,7 +84,7 @@ fn put_begun(text: &mut [u8], at: usize, name: &[u8], year: i32, widths: &[i32])
     requires { ⌜ LineFits (now name) year (now widths) headBytes at (length (now text)) ⌝ }
     ensures { λ r. ⌜ Wrote at (begun (now (name .entry)) year (now (widths .entry))) (now (text .entry)) (now (text .exit)) r ⌝ }
 {
-    let a = sheet_print::put_text(text, at, name);
+    let a = base_print::put_text(text, at, name);
     let b = put_columns(text, a, YEAR_COLUMNS, year);
     put_fields(text, b, widths)
 }
@@ -95,7 +95,7 @@ fn put_line(text: &mut [u8], at: usize, name: &[u8], year: i32, widths: &[i32]) 
     ensures { λ r. ⌜ Wrote at (lineText (line (now (name .entry)) year (now (widths .entry)))) (now (text .entry)) (now (text .exit)) r ⌝ }
 {
     let a = put_begun(text, at, name, year, widths);
-    sheet_print::put(text, a, NEWLINE)
+    base_print::put(text, a, NEWLINE)
 }
 
 // A series' last line: widths and the closing.
@@ -105,7 +105,7 @@ fn put_last_line(text: &mut [u8], at: usize, name: &[u8], year: i32, widths: &[i
 {
     let a = put_begun(text, at, name, year, widths);
     let b = put_columns(text, a, FIELD_COLUMNS, THOUSANDTHS);
-    sheet_print::put(text, b, NEWLINE)
+    base_print::put(text, b, NEWLINE)
 }
 
 // The year after which so many can be written.

@@ -4,8 +4,8 @@ ghost use mathlib.Core.Bool.{true};
 ghost use Prim.Native.Nat.{_+_, _≤_};
 ghost use lib.ListN.{length};
 ghost use lib.Seq.{slice};
-ghost use Rattle.spec_spline.specs.Space.{between};
-ghost use Rattle.build_space.specs.Machine.{found};
+ghost use Rattle.base_outcome.specs.Tests.{between};
+ghost use Rattle.base_outcome.specs.Machine.{found};
 ghost use Rattle.spec_tucson.specs.Line.{nameColumns, allPrintable, allBlank, isName};
 ghost use Rattle.spec_tucson.specs.Writing.{leastYear, greatestYear, allWidths, isWritable, unwritable};
 ghost use Rattle.spec_tucson.specs.WriteCall.{listsFit, seriesOf};
@@ -134,7 +134,7 @@ pub fn first_unwritable(
     years: &[i32],
     counts: &[u32],
     widths: &[i32],
-) -> build_space::Found
+) -> base_outcome::Found
     requires { ⌜ listsFit (now names) (now years) (now counts) (now widths) ≡ true ⌝ }
     ensures { λ r. ⌜ r ≡ found (unwritable (seriesOf (now (names .entry)) (now (years .entry)) (now (counts .entry)) (now (widths .entry)))) ⌝ }
 {
@@ -144,11 +144,11 @@ pub fn first_unwritable(
     let mut k = 0;
     let found = loop {
         if k == years.len() {
-            break build_space::Found::Nothing;
+            break base_outcome::Found::Nothing;
         }
         let to = from + counts[k] as usize;
         if !is_writable(names, before, at, years[k], &widths[from..to]) {
-            break build_space::Found::At(k);
+            break base_outcome::Found::At(k);
         }
         before = at;
         at += NAME_COLUMNS;

@@ -6,7 +6,7 @@ use Prim.Native.Nat.{ℕ, _-_}
 use lib.Ieee.{Float, binary64, ofBits}
 use lib.IntN.{ℤ, pos}
 use lib.ListN.{length, replicate}
-use Rattle.spec_spline.specs.Outcome.{Outcome, answer, refusal}
+use Rattle.base_outcome.specs.Outcome.{Outcome, answer, refusal}
 use Rattle.spec_spline.specs.Reading.{fineness}
 use Rattle.curve_pieces.specs.Pieces as pieces
 use Rattle.curve_pieces.specs.Machine.{Is, Each, none, more, Shows, Replies, drawn, refused}

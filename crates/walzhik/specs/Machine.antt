@@ -1,7 +1,7 @@
 -- A reach call's outcome as the struct that C and Rust receive.
 use Prim.Native.Nat.{ℕ}
 use lib.IntN.{ℤ, pos}
-use Rattle.spec_spline.specs.Outcome.{Outcome, answer, refusal}
+use Rattle.base_outcome.specs.Outcome.{Outcome, answer, refusal}
 use Rattle.walzhik.specs.declared.Reach.{Reach}
 
 -- The position with number 0 and place 0, or position 0 with the number and place of a refusal.

@@ -1,7 +1,7 @@
 // The engine for C and Rust: the public calls with their answers as a struct by value.
 ghost use mathlib.Core.Path.{_≡_};
 ghost use Rattle.build_space.specs.Machine.{space};
-ghost use Rattle.spec_spline.specs.Outcome.{answer, refusal};
+ghost use Rattle.base_outcome.specs.Outcome.{answer, refusal};
 ghost use Rattle.spec_spline.specs.Build.{buildEnd};
 ghost use Rattle.theorems_recovery.specs.RecoveryCall.{recoveryEnd};
 ghost use Rattle.spec_spline.specs.Reading.{earlywood, latewood};

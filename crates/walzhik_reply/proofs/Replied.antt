@@ -1,7 +1,7 @@
 -- The struct that C and Rust receive is the outcome's, whatever enum it comes from.
 use mathlib.Core.Path.{_≡_, ap, _∙_}
 use Prim.Native.Nat.{ℕ}
-use Rattle.spec_spline.specs.Outcome.{Outcome, answer, refusal}
+use Rattle.base_outcome.specs.Outcome.{Outcome, answer, refusal}
 use Rattle.walzhik_reply.specs.Machine.{replied}
 use Rattle.walzhik_reply.specs.declared.Reply.{Reply}
 

@@ -1,6 +1,6 @@
 -- An outcome as the struct that C and Rust receive.
 use Prim.Native.Nat.{ℕ}
-use Rattle.spec_spline.specs.Outcome.{Outcome, answer, refusal}
+use Rattle.base_outcome.specs.Outcome.{Outcome, answer, refusal}
 use Rattle.walzhik_reply.specs.declared.Reply.{Reply}
 
 -- The count with number 0 and place 0, or count 0 with the number and place of a refusal.

@@ -5,14 +5,14 @@ use mathlib.Core.Path.{refl, sym, _∙_, ap}
 use Prim.Native.Nat.{_≤_}
 use native.Mathlib.Omega.{arith}
 use lib.ListN.{length}
-use Rattle.spec_spline.specs.Outcome.{with-answer}
+use Rattle.base_outcome.specs.Outcome.{with-answer}
 use Rattle.spec_spline.specs.Space.{Space, checked, rowCount}
 use Rattle.spec_spline.specs.Table.{tableCells}
 use Rattle.spec_spline.specs.Build.{lastPart, numeratorsAfter, denominatorsAfter}
 use Rattle.spec_spline.proofs.Legal.{checked-numbers}
 use Rattle.build_space.specs.Machine.{space}
 use Rattle.build_space.specs.Legal.{ListsLegal}
-use Rattle.build_space.proofs.Machine.{refused-refuses}
+use Rattle.base_outcome.proofs.Machine.{refused-refuses}
 use Rattle.build_space.proofs.Legal.{legality-legal, legal-checked}
 use Rattle.build.proofs.Building.{built-first-short, built-second-short, built-refused, built-weights}
 use Rattle.build.proofs.Beam.{beam-unchanged}

@@ -16,10 +16,10 @@ use Rattle.base_fraction.specs.Machine.{fraction, value, Sized}
 use Rattle.base_fraction.specs.declared.Fraction.{Fraction}
 use Rattle.base_fraction.proofs.Value.{value-fraction}
 use Rattle.base_fraction.proofs.Answer.{fits-sized}
-use Rattle.spec_spline.specs.Outcome.{answer, refusal, collect}
+use Rattle.base_outcome.specs.Outcome.{answer, refusal, collect}
 use Rattle.spec_spline.specs.Step.{factor, partialSum, quotientFactor}
 use Rattle.spec_spline.specs.Table.{entry}
-use Rattle.spec_spline.proofs.Outcome.{collect-none, collect-more, collect-ends, collect-stays, collect-inverts}
+use Rattle.base_outcome.proofs.Outcome.{collect-none, collect-more, collect-ends, collect-stays, collect-inverts}
 use Rattle.spec_spline.proofs.Step.{partial-first, partial-more}
 use Rattle.spec_spline.proofs.Answers.{factor-answers}
 use Rattle.build_jumps.specs.Machine.{fractions}

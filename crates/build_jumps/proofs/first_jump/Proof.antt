@@ -11,8 +11,8 @@ use mir.Syntax.{w64}
 use mir.Val.{ofZ}
 use Rattle.base_exact.proofs.Word.{ofZ-inj}
 use Rattle.spec_spline.specs.Step.{jumpsAt}
-use Rattle.spec_spline.proofs.Search.{first-at, first-none}
-use Rattle.build_space.specs.Machine.{found}
+use Rattle.base_outcome.proofs.Search.{first-at, first-none}
+use Rattle.base_outcome.specs.Machine.{found}
 use Rattle.build_jumps.proofs.Arrays.{zero-read, nonzero-read}
 use Rattle.build_jumps.proofs.first_jump.Statement.{statement}
 use Rattle.build_jumps.proofs.first_jump.Tie as tie

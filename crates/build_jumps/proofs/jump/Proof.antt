@@ -18,7 +18,7 @@ use Rattle.base_fraction.specs.declared.Counted.the-variants.{Fits}
 use Rattle.base_fraction.proofs.Value.{value-fraction, fraction-int, value-int}
 use Rattle.base_fraction.proofs.Size.{int-fits}
 use Rattle.base_fraction.proofs.Answer.{fits-sized}
-use Rattle.spec_spline.specs.Outcome.{Outcome, _then_}
+use Rattle.base_outcome.specs.Outcome.{Outcome, _then_}
 use Rattle.spec_spline.specs.Space.{Space}
 use Rattle.spec_spline.specs.Conditions.{Entry, conditions}
 use Rattle.spec_spline.specs.Table.{Table, row, entry, cell}

@@ -13,12 +13,12 @@ use mir.Val.{SFits}
 use mir.ValLaws.{toZ-ofZ}
 use Rattle.base_exact.specs.Rational.{ℚ}
 use Rattle.base_fraction.specs.Machine.{value}
-use Rattle.spec_spline.specs.Outcome.{Outcome, answer, collect}
+use Rattle.base_outcome.specs.Outcome.{Outcome, answer, collect}
 use Rattle.spec_spline.specs.Space.{Space}
 use Rattle.spec_spline.specs.Conditions.{conditions}
 use Rattle.spec_spline.specs.Table.{Table, row}
 use Rattle.spec_spline.specs.Step.{jump}
-use Rattle.spec_spline.proofs.Outcome.{collect-none, collect-more, collect-ends, collect-stays, collect-inverts}
+use Rattle.base_outcome.proofs.Outcome.{collect-none, collect-more, collect-ends, collect-stays, collect-inverts}
 use Rattle.build_cells.specs.Held.{Holds}
 use Rattle.build_conditions.specs.Sides.{JoinIs}
 use Rattle.build_conditions.specs.declared.Join.{Join}

@@ -6,10 +6,10 @@ use mathlib.Core.List.{List}
 use mathlib.Core.Option.{some}
 use lib.ListN.{length}
 use Rattle.base_exact.specs.Rational.{ℚ}
-use Rattle.spec_spline.specs.Search.{first, last}
+use Rattle.base_outcome.specs.Search.{first, last}
 use Rattle.spec_spline.specs.Step.{jumpsAt}
 use Rattle.spec_spline.proofs.Step.{span-nowhere, span-endless, span-broken, span-whole}
-use Rattle.build_space.proofs.Machine.{found-none-inverts, found-some-inverts}
+use Rattle.base_outcome.proofs.Machine.{found-none-inverts, found-some-inverts}
 use Rattle.build_jumps.specs.Machine.{fractions, jumpSpan}
 use Rattle.build_jumps.proofs.span.Statement.{statement}
 use Rattle.build_jumps.proofs.span.Tie as tie

@@ -14,9 +14,9 @@ use mir.Val.{ofZ}
 use Rattle.base_exact.specs.Rational.{ℚ}
 use Rattle.base_exact.specs.Order.{isZero}
 use Rattle.base_exact.proofs.Word.{ofZ-inj}
-use Rattle.spec_spline.specs.Search.{found}
+use Rattle.base_outcome.specs.Search.{found}
 use Rattle.spec_spline.specs.Table.{entry}
-use Rattle.spec_spline.proofs.Search.{first-at, first-none}
+use Rattle.base_outcome.proofs.Search.{first-at, first-none}
 use Rattle.build_jumps.proofs.Arrays.{zero-read, nonzero-read}
 use Rattle.build_jumps.proofs.zero_between.Statement.{statement}
 use Rattle.build_jumps.proofs.zero_between.Tie as tie

@@ -18,10 +18,10 @@ use Rattle.base_fraction.specs.Machine.{fraction, value, Sized}
 use Rattle.base_fraction.specs.declared.Fraction.{Fraction}
 use Rattle.base_fraction.proofs.Answer.{fits-sized}
 use Rattle.base_fraction.proofs.Value.{value-fraction}
-use Rattle.spec_spline.specs.Outcome.{Outcome, answer, with-answer}
+use Rattle.base_outcome.specs.Outcome.{Outcome, answer, with-answer}
 use Rattle.spec_spline.specs.Table.{Table, row, cell, rowCells}
 use Rattle.spec_spline.specs.Step.{newEntry}
-use Rattle.spec_spline.proofs.Outcome.{collect-answers, collect-stops}
+use Rattle.base_outcome.proofs.Outcome.{collect-answers, collect-stops}
 use Rattle.build_cells.specs.Held.{Holds}
 use Rattle.build_cells.proofs.Region.{Written, written-none, written-more, written-wider}
 use Rattle.build_cells.proofs.Buffer.{numerator, denominator, numerators-laid, denominators-laid, holds-num, holds-den, holds-cell, written-kept}

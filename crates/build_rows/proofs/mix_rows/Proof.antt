@@ -14,10 +14,10 @@ use Rattle.base_fraction.specs.Size.{fits}
 use Rattle.base_fraction.specs.Machine.{value, Sized}
 use Rattle.base_fraction.proofs.Answer.{fits-sized}
 use Rattle.base_fraction.proofs.Value.{value-fraction}
-use Rattle.spec_spline.specs.Outcome.{Outcome, answer, refusal, with-answer, collect}
+use Rattle.base_outcome.specs.Outcome.{Outcome, answer, refusal, with-answer, collect}
 use Rattle.spec_spline.specs.Table.{Row, Table, row, cell, entry, numerators, denominators}
 use Rattle.spec_spline.specs.Step.{newRow, newRows}
-use Rattle.spec_spline.proofs.Outcome.{collect-inverts, collect-more, collect-ends, collect-stays}
+use Rattle.base_outcome.proofs.Outcome.{collect-inverts, collect-more, collect-ends, collect-stays}
 use Rattle.build_cells.specs.Held.{Holds, Shaped, Kept}
 use Rattle.build_cells.proofs.Tables.{renewed, renewed-none, renewed-length, renewed-old, renewed-more}
 use Rattle.build_cells.proofs.Buffer.{numerators-again, denominators-again, holds-left, kept-numerators, kept-denominators, kept-then}

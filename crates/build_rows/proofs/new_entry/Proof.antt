@@ -12,7 +12,7 @@ use Rattle.base_exact.proofs.Word.{ofZ-inj, sfits-abs, sfits-nat}
 use Rattle.base_fraction.specs.Machine.{value, Sized}
 use Rattle.base_fraction.specs.declared.Fraction.{Fraction}
 use Rattle.base_fraction.proofs.Value.{value-zero}
-use Rattle.spec_spline.specs.Outcome.{Outcome, _then_}
+use Rattle.base_outcome.specs.Outcome.{Outcome, _then_}
 use Rattle.spec_spline.specs.Step.{count, newEntry}
 use Rattle.build_jumps.specs.Machine.{counted}
 use Rattle.build_jumps.proofs.Counted.{machine-counted, count-sized, fits-then, large-then}

@@ -1,12 +1,13 @@
 -- `space::check` meets its contract: the first list that is refused gives the answer. Assumes nothing.
 use borrow.Author.Needs.{needs}
 use mathlib.Core.Path.{_≡_, sym, ap, _∙_}
-use Rattle.spec_spline.specs.Outcome.{answer}
+use Rattle.base_outcome.specs.Outcome.{answer}
 use Rattle.spec_spline.proofs.Legal.{Lengths, lengths-fit-inverts}
 use Rattle.build_space.specs.Legal.{breaksChecked, degreesChecked}
-use Rattle.build_space.specs.Machine.{space, legality}
+use Rattle.build_space.specs.Machine.{space}
+use Rattle.base_outcome.specs.Machine.{legality}
 use Rattle.build_space.proofs.Checks.{checked-lengths, checked-breaks-refused, checked-degrees-refused, checked-orders}
-use Rattle.build_space.proofs.Machine.{legal-answers, refused-refuses, refusal-refused, legality-then}
+use Rattle.base_outcome.proofs.Machine.{legal-answers, refused-refuses, refusal-refused, legality-then}
 use Rattle.build_space.proofs.check.Statement.{statement}
 use Rattle.build_space.proofs.check.Tie as tie
 

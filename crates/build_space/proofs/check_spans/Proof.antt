@@ -3,14 +3,14 @@ use borrow.Author.Needs.{needs}
 use mathlib.Core.Option.{some, none}
 use mathlib.Core.Path.{_≡_, sym, ap, _∙_}
 use lib.ListN.{length}
-use Rattle.spec_spline.specs.Outcome.{refusal, capped}
-use Rattle.spec_spline.specs.Search.{first}
+use Rattle.base_outcome.specs.Outcome.{refusal, capped}
+use Rattle.base_outcome.specs.Search.{first}
 use Rattle.spec_spline.specs.Space.{spanTooLong}
-use Rattle.spec_spline.proofs.Search.{first-some-inverts}
+use Rattle.base_outcome.proofs.Search.{first-some-inverts}
 use Rattle.build_space.specs.Machine.{space}
 use Rattle.build_space.proofs.Partial.{part-end-partial}
 use Rattle.build_space.proofs.Checks.{spans-refused, spans-pass}
-use Rattle.build_space.proofs.Machine.{found-some-inverts, found-none-inverts, answer-legal, refusal-refused}
+use Rattle.base_outcome.proofs.Machine.{found-some-inverts, found-none-inverts, answer-legal, refusal-refused}
 use Rattle.build_space.proofs.check_spans.Statement.{statement}
 use Rattle.build_space.proofs.check_spans.Tie as tie
 

@@ -6,7 +6,7 @@ use Prim.Native.Nat.{ℕ, _≤_, _<_, _-_}
 use borrow.Author.Count.{below-none, below-more}
 use Rattle.spec_spline.specs.Space.{spanTooLong}
 use Rattle.build_space.specs.Machine.{space}
-use Rattle.build_space.proofs.Machine.{found-at, found-none}
+use Rattle.base_outcome.proofs.Machine.{found-at, found-none}
 use Rattle.build_space.proofs.first_long_span.Statement.{statement}
 use Rattle.build_space.proofs.first_long_span.Tie as tie
 

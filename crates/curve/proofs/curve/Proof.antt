@@ -6,7 +6,7 @@ use mathlib.Core.Path.{_≡_, refl, sym, _∙_, ap, ap₂}
 use Prim.Native.Nat.{_+_, _*_, _/_, _≤_}
 use lib.IntN.{ℤ}
 use lib.ListN.{length, drop}
-use Rattle.spec_spline.specs.Outcome.{Outcome, with-answer}
+use Rattle.base_outcome.specs.Outcome.{Outcome, with-answer}
 use Rattle.spec_spline.specs.Space.{Space, rowCount}
 use Rattle.spec_spline.specs.Table.{tableCells, numerators, denominators}
 use Rattle.spec_spline.specs.Build.{weights, lastPart, numeratorsAfter, denominatorsAfter}
@@ -14,9 +14,10 @@ use Rattle.spec_spline.specs.Reading.{Pair, earlywood, latewood, coefficient, s
 use Rattle.spec_spline.specs.CurveCall.{CurveResult, curveChecked, curveOutcome}
 use Rattle.spec_spline.proofs.Pairs.{half-le}
 use Rattle.theorems_values.proofs.LegalCall.{curve-checks, values-length}
-use Rattle.build_space.specs.Machine.{space, legality}
-use Rattle.build_space.specs.declared.Legality.the-variants.{Legal}
-use Rattle.build_space.proofs.Machine.{refused-refuses}
+use Rattle.build_space.specs.Machine.{space}
+use Rattle.base_outcome.specs.Machine.{legality}
+use Rattle.base_outcome.specs.declared.Legality.the-variants.{Legal}
+use Rattle.base_outcome.proofs.Machine.{refused-refuses}
 use Rattle.build_space.proofs.Legal.{legal-column-count-high}
 use Rattle.build.specs.Machine as building
 use Rattle.build.proofs.Beam.{Answered, told-rows, told-refused}

@@ -3,13 +3,14 @@ use borrow.Author.Needs.{needs}
 use native.Mathlib.Omega.{arith}
 use mathlib.Core.Path.{_≡_, sym, ap, _∙_}
 use Rattle.base_exact.proofs.Decide.{not-true, not-false}
-use Rattle.spec_spline.specs.Outcome.{answer, _then_}
+use Rattle.base_outcome.specs.Outcome.{answer, _then_}
 use Rattle.spec_spline.specs.Space.{Space, checked}
 use Rattle.spec_spline.specs.CurveCall.{legalEntries, curveChecked}
-use Rattle.spec_spline.proofs.Outcome.{then-answers, then-refuses}
-use Rattle.build_space.specs.Machine.{space, legality}
+use Rattle.base_outcome.proofs.Outcome.{then-answers, then-refuses}
+use Rattle.build_space.specs.Machine.{space}
+use Rattle.base_outcome.specs.Machine.{legality}
 use Rattle.build_space.specs.Legal.{ListsLegal}
-use Rattle.build_space.proofs.Machine.{refused-refuses, refusal-refused}
+use Rattle.base_outcome.proofs.Machine.{refused-refuses, refusal-refused}
 use Rattle.build_space.proofs.Legal.{legality-legal, legal-checked}
 use Rattle.curve_limits.proofs.Refused.{curve-lengths, curve-positions, curve-chain}
 use Rattle.curve_limits.proofs.check.Statement.{statement}

@@ -6,12 +6,12 @@ use mathlib.Core.Option.{some, none}
 use mathlib.Core.Path.{_≡_, sym, ap, _∙_}
 use Prim.Native.Nat.{ℕ, _*_}
 use lib.ListN.{length}
-use Rattle.spec_spline.specs.Outcome.{refusal}
-use Rattle.spec_spline.specs.Search.{first}
+use Rattle.base_outcome.specs.Outcome.{refusal}
+use Rattle.base_outcome.specs.Search.{first}
 use Rattle.spec_spline.specs.Space.{Space, rowCount}
 use Rattle.spec_spline.specs.CurveCall.{badCoefficient}
 use Rattle.build_space.specs.Machine.{space}
-use Rattle.build_space.proofs.Machine.{found-some-inverts, found-none-inverts, answer-legal, refusal-refused}
+use Rattle.base_outcome.proofs.Machine.{found-some-inverts, found-none-inverts, answer-legal, refusal-refused}
 use Rattle.build_space.proofs.Bounds.{first-column-high}
 use Rattle.curve_limits.proofs.Entries.{coefficient-outside}
 use Rattle.curve_limits.proofs.Refused.{coefficients-count, coefficients-refused, coefficients-pass}

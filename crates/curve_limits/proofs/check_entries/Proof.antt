@@ -1,12 +1,13 @@
 -- `curve::limits::check_entries` meets its contract: the coefficients, then the positions. Assumes nothing.
 use borrow.Author.Needs.{needs}
 use mathlib.Core.Path.{sym, ap, _∙_}
-use Rattle.spec_spline.specs.Outcome.{Outcome, answer, _then_}
+use Rattle.base_outcome.specs.Outcome.{Outcome, answer, _then_}
 use Rattle.spec_spline.specs.Space.{Space, break, segments}
 use Rattle.spec_spline.specs.Reading.{fine}
-use Rattle.spec_spline.proofs.Outcome.{then-answers, then-refuses}
-use Rattle.build_space.specs.Machine.{space, legality}
-use Rattle.build_space.proofs.Machine.{legal-answers, refused-refuses, refusal-refused, legality-then}
+use Rattle.base_outcome.proofs.Outcome.{then-answers, then-refuses}
+use Rattle.build_space.specs.Machine.{space}
+use Rattle.base_outcome.specs.Machine.{legality}
+use Rattle.base_outcome.proofs.Machine.{legal-answers, refused-refuses, refusal-refused, legality-then}
 use Rattle.curve_limits.specs.Limits.{positionsChecked}
 use Rattle.curve_limits.proofs.Refused.{entries-chain, coefficients-partial}
 use Rattle.curve_limits.proofs.check_entries.Statement.{statement}

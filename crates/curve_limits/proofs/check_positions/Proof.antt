@@ -11,10 +11,10 @@ use mir.Syntax.{w32}
 use mir.Val.{SFits, ofZ, toZ}
 use mir.ValLaws.{toZ-ofZ}
 use Rattle.base_exact.proofs.Word.{sfits-abs, abs-mul-le}
-use Rattle.spec_spline.specs.Outcome.{refusal}
-use Rattle.spec_spline.specs.Search.{first}
+use Rattle.base_outcome.specs.Outcome.{refusal}
+use Rattle.base_outcome.specs.Search.{first}
 use Rattle.spec_spline.specs.Reading.{fine}
-use Rattle.build_space.proofs.Machine.{found-some-inverts, found-none-inverts, answer-legal, refusal-refused}
+use Rattle.base_outcome.proofs.Machine.{found-some-inverts, found-none-inverts, answer-legal, refusal-refused}
 use Rattle.curve_limits.specs.Limits.{outside}
 use Rattle.curve_limits.proofs.Refused.{positions-refused, positions-pass}
 use Rattle.curve_limits.proofs.check_positions.Statement.{statement}

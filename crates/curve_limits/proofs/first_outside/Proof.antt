@@ -9,7 +9,7 @@ use lib.ListN.{getD}
 use mir.Syntax.{w32}
 use mir.Val.{SFits, ofZ, toZ}
 use mir.ValLaws.{toZ-ofZ}
-use Rattle.build_space.proofs.Machine.{found-at, found-none}
+use Rattle.base_outcome.proofs.Machine.{found-at, found-none}
 use Rattle.curve_limits.specs.Limits.{outside}
 use Rattle.curve_limits.proofs.Entries.{below, above}
 use Rattle.curve_limits.proofs.first_outside.Statement.{statement}

@@ -2,7 +2,7 @@
 use borrow.Author.Needs.{needs}
 use native.Mathlib.Omega.{arith}
 use Prim.Native.Nat.{_≤_}
-use Rattle.spec_spline.specs.Outcome.{largestPlace}
+use Rattle.base_outcome.specs.Outcome.{largestPlace}
 use Rattle.build_space.specs.Machine.{space}
 use Rattle.curve_pieces.proofs.Held.{missing-replies, high-replies, drawn-replies}
 use Rattle.curve_pieces.proofs.draw.Statement.{statement}

@@ -9,8 +9,8 @@ use mir.Syntax.{w32, w64}
 use mir.Val.{SFits}
 use mir.ValLaws.{toZ-ofZ}
 use Rattle.base_exact.proofs.Word.{sfits-abs, sfits-widen, abs-sfits, abs-mul-le}
-use Rattle.spec_spline.specs.Outcome.{answer}
-use Rattle.spec_spline.specs.Search.{first}
+use Rattle.base_outcome.specs.Outcome.{answer}
+use Rattle.base_outcome.specs.Search.{first}
 use Rattle.spec_spline.specs.Space.{Space}
 use Rattle.spec_spline.specs.Reading.{fine}
 use Rattle.build_space.specs.Machine.{space}

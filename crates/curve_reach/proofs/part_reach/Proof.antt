@@ -4,8 +4,8 @@ use mathlib.Core.Path.{sym, ap, _∙_}
 use mathlib.Core.List.{List}
 use lib.IntN.{ℤ}
 use mir.ValLaws.{toZ-ofZ}
-use Rattle.spec_spline.specs.Outcome.{Outcome}
-use Rattle.spec_spline.specs.Search.{first}
+use Rattle.base_outcome.specs.Outcome.{Outcome}
+use Rattle.base_outcome.specs.Search.{first}
 use Rattle.spec_spline.specs.Space.{Space}
 use Rattle.spec_spline.specs.Reading.{fine}
 use Rattle.build_space.specs.Machine.{space}

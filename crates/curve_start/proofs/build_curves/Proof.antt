@@ -8,9 +8,10 @@ use lib.ListN.{length}
 use Rattle.spec_spline.specs.Space.{Space}
 use Rattle.spec_spline.specs.Table.{tableCells}
 use Rattle.spec_spline.specs.CurveCall.{curveChecked}
-use Rattle.build_space.specs.Machine.{space, legality}
-use Rattle.build_space.specs.declared.Legality.the-variants.{Legal}
-use Rattle.build_space.proofs.Machine.{refused-refuses}
+use Rattle.build_space.specs.Machine.{space}
+use Rattle.base_outcome.specs.Machine.{legality}
+use Rattle.base_outcome.specs.declared.Legality.the-variants.{Legal}
+use Rattle.base_outcome.proofs.Machine.{refused-refuses}
 use Rattle.build_space.proofs.Legal.{legal-column-count-high}
 use Rattle.theorems_values.proofs.LegalCall.{curve-checks}
 use Rattle.curve.proofs.Call.{first-short, second-short, call-refused, lists-legal, coefficients-good}

@@ -13,7 +13,7 @@ use mir.Syntax.{w32}
 use mir.Val.{ofZ, toZ}
 use mir.ValLaws.{toZ-ofZ}
 use Rattle.base_exact.proofs.Decide.{le-or-lt}
-use Rattle.spec_spline.proofs.Search.{last-at, last-none}
+use Rattle.base_outcome.proofs.Search.{last-at, last-none}
 use Rattle.curve_triangle.proofs.segment_at.Statement.{statement}
 use Rattle.curve_triangle.proofs.segment_at.Tie as tie
 

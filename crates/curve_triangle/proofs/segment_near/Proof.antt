@@ -14,7 +14,7 @@ use mir.Syntax.{w32}
 use mir.Val.{ofZ, toZ}
 use mir.ValLaws.{toZ-ofZ}
 use Rattle.base_exact.proofs.Word.{ltZ-true}
-use Rattle.spec_spline.specs.Search.{last}
+use Rattle.base_outcome.specs.Search.{last}
 use Rattle.build_space.specs.Machine.{space}
 use Rattle.build_space.specs.Legal.{ListsLegal}
 use Rattle.curve_triangle.specs.Offsets.{firstPosition, firstPositionsOf}

@@ -5,7 +5,7 @@ use mathlib.Core.Path.{_≡_, sym, _∙_}
 use Prim.Native.Nat.{ℕ, _≤_, _<_, _-_}
 use borrow.Author.Count.{below-none, below-more}
 use Rattle.indices.specs.Machine.{badCell}
-use Rattle.build_space.proofs.Machine.{found-at, found-none}
+use Rattle.base_outcome.proofs.Machine.{found-at, found-none}
 use Rattle.indices.proofs.first_bad_ring.Statement.{statement}
 use Rattle.indices.proofs.first_bad_ring.Tie as tie
 

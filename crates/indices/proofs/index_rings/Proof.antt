@@ -9,15 +9,15 @@ use lib.IntN.{ℤ}
 use lib.ListN.{length, drop}
 use Rattle.base_exact.specs.Tabulate.{tab}
 use Rattle.base_exact.proofs.Tabulate.{tab-length}
-use Rattle.spec_spline.specs.Outcome.{answer}
-use Rattle.spec_spline.specs.Search.{first}
+use Rattle.base_outcome.specs.Outcome.{answer}
+use Rattle.base_outcome.specs.Search.{first}
 use Rattle.spec_spline.specs.Reading.{woodIndex}
-use Rattle.spec_spline.proofs.Search.{first-some-inverts, first-none-inverts}
+use Rattle.base_outcome.proofs.Search.{first-some-inverts, first-none-inverts}
 use Rattle.spec_spline.proofs.Pairs.{woodIndex-below}
 use Rattle.indices.specs.Indices.{indicesReturned, indicesAfter}
 use Rattle.curve_ordinates.specs.Wood.{woodOf}
 use Rattle.indices.specs.Machine.{reply, badCell, cellIndex, cellsIndexed}
-use Rattle.build_space.proofs.Machine.{found-some-inverts, found-none-inverts}
+use Rattle.base_outcome.proofs.Machine.{found-some-inverts, found-none-inverts}
 use Rattle.indices.proofs.Call.{cells-refused, cells-answered}
 use Rattle.indices.proofs.index_rings.Statement.{statement}
 use Rattle.indices.proofs.index_rings.Tie as tie

@@ -12,7 +12,7 @@ use mir.Syntax.{w32}
 use mir.Val.{ofZ, toZ}
 use mir.ValLaws.{toZ-ofZ}
 use Rattle.build_space.specs.Machine.{space}
-use Rattle.spec_spline.specs.Outcome.{Outcome}
+use Rattle.base_outcome.specs.Outcome.{Outcome}
 use Rattle.spec_spline.specs.Space.{Space}
 use Rattle.spec_spline.specs.Table.{tableCells}
 use Rattle.spec_spline.specs.CurveCall.{CurveResult, positionLimit, curveOutcome, returned, curveNumerators, curveDenominators, valuesAfter}

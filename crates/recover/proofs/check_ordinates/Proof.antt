@@ -4,11 +4,11 @@ use mathlib.Core.List.{[]}
 use mathlib.Core.Option.{some, none}
 use mathlib.Core.Path.{_≡_, sym, ap, _∙_}
 use lib.ListN.{length}
-use Rattle.spec_spline.specs.Outcome.{refusal}
-use Rattle.spec_spline.specs.Search.{first}
+use Rattle.base_outcome.specs.Outcome.{refusal}
+use Rattle.base_outcome.specs.Search.{first}
 use Rattle.spec_spline.specs.Space.{Space, columnCount}
 use Rattle.build_space.specs.Machine.{space}
-use Rattle.build_space.proofs.Machine.{found-some-inverts, found-none-inverts, answer-legal, refusal-refused}
+use Rattle.base_outcome.proofs.Machine.{found-some-inverts, found-none-inverts, answer-legal, refusal-refused}
 use Rattle.theorems_recovery.specs.RecoveryCall.{badOrdinate}
 use Rattle.recover.proofs.Calls.{ordinate-outside, ordinates-count, ordinates-refused, ordinates-pass}
 use Rattle.recover.proofs.check_ordinates.Statement.{statement}

@@ -6,12 +6,13 @@ use mathlib.Core.List.{List}
 use Prim.Native.Nat.{ℕ, _≤_}
 use lib.IntN.{ℤ}
 use lib.ListN.{length}
-use Rattle.spec_spline.specs.Outcome.{Outcome, answer, with-answer}
+use Rattle.base_outcome.specs.Outcome.{Outcome, answer, with-answer}
 use Rattle.spec_spline.specs.Space.{Space, checked, rowCount}
 use Rattle.spec_spline.specs.Table.{tableCells, numerators, denominators}
-use Rattle.build_space.specs.Machine.{space, legality}
+use Rattle.build_space.specs.Machine.{space}
+use Rattle.base_outcome.specs.Machine.{legality}
 use Rattle.build_space.specs.Legal.{ListsLegal}
-use Rattle.build_space.proofs.Machine.{legal-answers, refused-refuses}
+use Rattle.base_outcome.proofs.Machine.{legal-answers, refused-refuses}
 use Rattle.build_space.proofs.Legal.{legality-legal, legal-checked}
 use Rattle.build.specs.Machine.{reply}
 use Rattle.build.specs.declared.Built.{Built}

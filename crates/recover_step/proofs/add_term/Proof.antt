@@ -18,7 +18,7 @@ use Rattle.base_fraction.specs.declared.Fraction.{Fraction}
 use Rattle.base_fraction.specs.declared.Counted.the-variants.{Fits}
 use Rattle.base_fraction.proofs.Value.{value-fraction}
 use Rattle.base_fraction.proofs.Bounds.{num-fits}
-use Rattle.spec_spline.specs.Outcome.{answer, _then_}
+use Rattle.base_outcome.specs.Outcome.{answer, _then_}
 use Rattle.build_jumps.specs.Machine.{counted}
 use Rattle.build_jumps.proofs.Counted.{fits-then, large-then}
 use Rattle.theorems_recovery.specs.Recovery.{sized}

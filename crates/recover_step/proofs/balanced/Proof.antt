@@ -19,7 +19,7 @@ use Rattle.base_fraction.proofs.Value.{fraction-int, value-int}
 use Rattle.base_fraction.proofs.Size.{int-fits}
 use Rattle.base_fraction.proofs.Answer.{fits-sized}
 use Rattle.base_fraction.proofs.Bounds.{num-fits}
-use Rattle.spec_spline.specs.Outcome.{answer}
+use Rattle.base_outcome.specs.Outcome.{answer}
 use Rattle.spec_spline.specs.Table.{entry}
 use Rattle.build_jumps.specs.Machine.{counted, fractions}
 use Rattle.build_jumps.specs.declared.Fractions.{Fractions}

@@ -13,7 +13,7 @@ use Rattle.base_fraction.specs.declared.Fraction.{Fraction}
 use Rattle.base_fraction.proofs.Value.{value-fraction}
 use Rattle.base_fraction.proofs.Answer.{fits-sized}
 use Rattle.base_fraction.proofs.Bounds.{num-fits, den-fits, sub-fits}
-use Rattle.spec_spline.specs.Outcome.{Outcome, _then_}
+use Rattle.base_outcome.specs.Outcome.{Outcome, _then_}
 use Rattle.build_jumps.specs.Machine.{counted}
 use Rattle.build_jumps.proofs.Counted.{fits-then, large-then}
 use Rattle.build_rows.specs.Rows.{UnitFactor}

@@ -13,7 +13,7 @@ use Rattle.base_fraction.specs.Machine.{fraction}
 use Rattle.base_fraction.specs.declared.Fraction.{Fraction}
 use Rattle.base_fraction.specs.declared.Counted.the-variants.{Fits}
 use Rattle.base_fraction.proofs.Answer.{fits-sized}
-use Rattle.spec_spline.specs.Outcome.{answer}
+use Rattle.base_outcome.specs.Outcome.{answer}
 use Rattle.spec_spline.specs.Table.{entry}
 use Rattle.build_jumps.specs.Machine.{counted}
 use Rattle.theorems_recovery.specs.Recovery.{undoneNumber, undoneRow}

@@ -14,7 +14,7 @@ use mir.ValLaws.{toZ-ofZ}
 use Rattle.base_exact.specs.Rational.{ℚ, int}
 use Rattle.base_fraction.specs.Machine.{value}
 use Rattle.base_fraction.proofs.Size.{int-fits}
-use Rattle.spec_spline.specs.Outcome.{Outcome, answer, with-answer}
+use Rattle.base_outcome.specs.Outcome.{Outcome, answer, with-answer}
 use Rattle.build_factors.specs.Jumps.{AllFit}
 use Rattle.build_jumps.specs.Machine.{counted, fractions, rowJumps}
 use Rattle.build_jumps.specs.declared.Fractions.{Fractions}

@@ -6,7 +6,7 @@ use lib.IntN.{pos}
 use mir.Syntax.{w64}
 use mir.Val.{SFits, ofZ}
 use Rattle.base_exact.proofs.Word.{toZ-ofZ, ofZ-inj, sfits-nat}
-use Rattle.sheet_print.proofs.Buffer.{puts-none, puts-then, puts-within, puts-as}
+use Rattle.base_print.proofs.Buffer.{puts-none, puts-then, puts-within, puts-as}
 use Rattle.sheet_print.proofs.Printed.{cell-zero, cell-line}
 use Rattle.sheet_print.proofs.put_cell.Statement.{statement}
 use Rattle.sheet_print.proofs.put_cell.Tie as tie

@@ -2,7 +2,7 @@
 use borrow.Author.Needs.{needs}
 use native.Mathlib.Omega.{arith}
 use Rattle.sheet_print.specs.Printout.{countLine}
-use Rattle.sheet_print.proofs.Buffer.{puts-then, puts-within}
+use Rattle.base_print.proofs.Buffer.{puts-then, puts-within}
 use Rattle.sheet_print.proofs.put_count.Statement.{statement}
 use Rattle.sheet_print.proofs.put_count.Tie as tie
 

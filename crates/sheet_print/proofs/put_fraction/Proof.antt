@@ -7,7 +7,7 @@ use mir.Syntax.{w64}
 use mir.Val.{SFits}
 use Rattle.base_exact.proofs.Word.{toZ-ofZ}
 use Rattle.base_text.specs.Numeral.{digits}
-use Rattle.sheet_print.proofs.Buffer.{puts-then, puts-within, puts-as}
+use Rattle.base_print.proofs.Buffer.{puts-then, puts-within, puts-as}
 use Rattle.sheet_print.proofs.put_fraction.Statement.{statement}
 use Rattle.sheet_print.proofs.put_fraction.Tie as tie
 

@@ -3,7 +3,7 @@ use borrow.Author.Needs.{needs}
 use native.Mathlib.Omega.{arith}
 use Rattle.base_exact.proofs.Word.{toZ-ofZ, sfits-widen}
 use Rattle.sheet_print.specs.Printout.{lowLine}
-use Rattle.sheet_print.proofs.Buffer.{puts-then, puts-within}
+use Rattle.base_print.proofs.Buffer.{puts-then, puts-within}
 use Rattle.sheet_print.proofs.put_low_line.Statement.{statement}
 use Rattle.sheet_print.proofs.put_low_line.Tie as tie
 

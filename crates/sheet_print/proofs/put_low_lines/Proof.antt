@@ -10,9 +10,9 @@ use lib.Seq.{take-all}
 use mir.Syntax.{w32}
 use mir.Val.{SFits}
 use Rattle.base_exact.proofs.Word.{toZ-ofZ}
-use Rattle.sheet_print.specs.Buffer.{Puts}
+use Rattle.base_print.specs.Buffer.{Puts}
 use Rattle.sheet_print.specs.Printout.{lowLines}
-use Rattle.sheet_print.proofs.Buffer.{puts-none, puts-then, puts-within, puts-as, puts-length}
+use Rattle.base_print.proofs.Buffer.{puts-none, puts-then, puts-within, puts-as, puts-length}
 use Rattle.sheet_print.proofs.Printout.{lowLines-none, lowLines-more}
 use Rattle.sheet_print.proofs.put_low_lines.Statement.{statement}
 use Rattle.sheet_print.proofs.put_low_lines.Tie as tie

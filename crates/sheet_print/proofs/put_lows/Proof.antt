@@ -12,7 +12,7 @@ use Rattle.base_sorting.specs.Sorted.{sorted}
 use Rattle.base_sorting.proofs.Sorted.{sorted-length}
 use Rattle.sheet_print.specs.Printout.{lowPositions, lowLines}
 use Rattle.sheet_print.specs.Printed.{paired}
-use Rattle.sheet_print.proofs.Buffer.{puts-within, puts-as}
+use Rattle.base_print.proofs.Buffer.{puts-within, puts-as}
 use Rattle.sheet_print.proofs.Printout.{lowPositions-few}
 use Rattle.sheet_print.proofs.put_lows.Statement.{statement}
 use Rattle.sheet_print.proofs.put_lows.Tie as tie

@@ -1,7 +1,7 @@
 -- `put_place` meets its contract: five texts, one behind the other.
 use borrow.Author.Needs.{needs}
 use native.Mathlib.Omega.{arith}
-use Rattle.sheet_print.proofs.Buffer.{puts-then, puts-within}
+use Rattle.base_print.proofs.Buffer.{puts-then, puts-within}
 use Rattle.sheet_print.proofs.put_place.Statement.{statement}
 use Rattle.sheet_print.proofs.put_place.Tie as tie
 

@@ -10,10 +10,10 @@ use lib.Seq.{take-all}
 use mir.Syntax.{w32}
 use mir.Val.{SFits}
 use Rattle.base_exact.proofs.Word.{toZ-ofZ}
-use Rattle.sheet_print.specs.Buffer.{Puts}
+use Rattle.base_print.specs.Buffer.{Puts}
 use Rattle.sheet_print.specs.Printout.{valueLines}
 use Rattle.sheet_print.specs.Printed.{valueLineLimit, paired}
-use Rattle.sheet_print.proofs.Buffer.{puts-none, puts-then, puts-within, puts-as, puts-length}
+use Rattle.base_print.proofs.Buffer.{puts-none, puts-then, puts-within, puts-as, puts-length}
 use Rattle.sheet_print.proofs.Printout.{valueLines-none, valueLines-more}
 use Rattle.sheet_print.proofs.Pairs.{paired-length, paired-at}
 use Rattle.sheet_print.proofs.put_values.Statement.{statement}

@@ -9,10 +9,10 @@ use lib.ListN.{getD}
 use mir.Syntax.{w64}
 use mir.Val.{SFits}
 use Rattle.base_exact.proofs.Word.{toZ-ofZ}
-use Rattle.sheet_print.specs.Buffer.{Puts}
+use Rattle.base_print.specs.Buffer.{Puts}
 use Rattle.sheet_print.specs.Printout.{weightLines}
 use Rattle.sheet_print.specs.Printed.{storedWeights}
-use Rattle.sheet_print.proofs.Buffer.{puts-none, puts-then, puts-within, puts-as, puts-length}
+use Rattle.base_print.proofs.Buffer.{puts-none, puts-then, puts-within, puts-as, puts-length}
 use Rattle.sheet_print.proofs.Printed.{cells-none, cells-more}
 use Rattle.sheet_print.proofs.put_weights.Statement.{statement}
 use Rattle.sheet_print.proofs.put_weights.Tie as tie

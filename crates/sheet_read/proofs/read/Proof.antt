@@ -1,7 +1,7 @@
 -- What the scan found is refused, or written list by list.
 use borrow.Author.Needs.{needs}
 use mathlib.Core.Path.{_≡_}
-use Rattle.spec_spline.specs.Outcome.{answer}
+use Rattle.base_outcome.specs.Outcome.{answer}
 use Rattle.spec_spline.specs.Reading.{sideBySide}
 use Rattle.base_text.specs.Bytes.{Text}
 use Rattle.sheet_read.specs.SheetReading.{Lists, read}

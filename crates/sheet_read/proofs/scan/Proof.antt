@@ -3,7 +3,7 @@ use borrow.Author.Needs.{needs}
 use Prim.Native.Nat.{_≤_}
 use native.Mathlib.Omega.{arith}
 use lib.ListN.{length}
-use Rattle.spec_spline.specs.Outcome.{capped}
+use Rattle.base_outcome.specs.Outcome.{capped}
 use Rattle.base_text.specs.Bytes.{Text}
 use Rattle.base_text.specs.Numeral.{numeral}
 use Rattle.sheet_read.specs.SheetReading.{textLimit, pair, degreesKey, ordersKey, coefsKey, atKey, Lists}

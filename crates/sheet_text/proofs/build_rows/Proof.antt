@@ -4,7 +4,7 @@ use mathlib.Core.Path.{_≡_, subst}
 use mathlib.Core.List.{List}
 use Prim.Native.Nat.{ℕ, _-_}
 use lib.IntN.{ℤ}
-use Rattle.spec_spline.specs.Outcome.{with-answer}
+use Rattle.base_outcome.specs.Outcome.{with-answer}
 use Rattle.spec_spline.specs.Space.{Space, rowCount}
 use Rattle.spec_spline.specs.Build.{weights, numeratorsAfter, denominatorsAfter}
 use Rattle.theorems_beams.specs.Sections.{section, partAt}

@@ -1,7 +1,7 @@
 -- `put_answer` meets its contract: four texts, one behind the other.
 use borrow.Author.Needs.{needs}
 use native.Mathlib.Omega.{arith}
-use Rattle.sheet_print.proofs.Buffer.{puts-then, puts-within, puts-as}
+use Rattle.base_print.proofs.Buffer.{puts-then, puts-within, puts-as}
 use Rattle.sheet_text.proofs.Beam.{answer-joined}
 use Rattle.sheet_text.proofs.put_answer.Statement.{statement}
 use Rattle.sheet_text.proofs.put_answer.Tie as tie

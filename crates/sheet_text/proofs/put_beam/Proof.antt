@@ -6,7 +6,7 @@ use Prim.Native.Nat.{_≤_}
 use Rattle.spec_spline.specs.Space.{Space, segments, partEnd}
 use Rattle.build_space.specs.Machine.{space}
 use Rattle.build_space.proofs.Partial.{part-end-partial}
-use Rattle.sheet_print.proofs.Buffer.{puts-within, puts-as}
+use Rattle.base_print.proofs.Buffer.{puts-within, puts-as}
 use Rattle.sheet_text.proofs.Beam.{beam-lengths, one-rows-fit, one-lines}
 use Rattle.sheet_text.proofs.put_beam.Statement.{statement}
 use Rattle.sheet_text.proofs.put_beam.Tie as tie

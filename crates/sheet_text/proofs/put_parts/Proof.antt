@@ -9,7 +9,7 @@ use Rattle.spec_spline.proofs.Parts.{part-ends}
 use Rattle.build_space.specs.Machine.{space}
 use Rattle.build_space.proofs.Partial.{part-end-partial, first-column-partial}
 use Rattle.build_space.proofs.Legal.{legal-first-column-high}
-use Rattle.sheet_print.proofs.Buffer.{puts-length}
+use Rattle.base_print.proofs.Buffer.{puts-length}
 use Rattle.sheet_text.proofs.Beam.{beam-lengths, beam-legal, part-rows-fit, numerators-long, denominators-long, Before, before-first, rows-few, next-near, starts, before-next, before-end}
 use Rattle.sheet_text.proofs.put_parts.Statement.{statement}
 use Rattle.sheet_text.proofs.put_parts.Tie as tie

@@ -6,7 +6,7 @@ use mathlib.Core.Path.{sym}
 use Prim.Native.Nat.{ℕ, _*_, _≤_}
 use lib.ListN.{length}
 use lib.Seq.{length-take-le}
-use Rattle.sheet_print.proofs.Buffer.{written-as, puts-whole}
+use Rattle.base_print.proofs.Buffer.{written-as, puts-whole}
 use Rattle.sheet_text.specs.Sheet.{Arguments, called}
 use Rattle.sheet_text.proofs.Whole.{refused-prints, answered-filled, answered-prints, values-enough, count-positions}
 use Rattle.sheet_text.proofs.run.Statement.{statement}

@@ -10,7 +10,7 @@ use Rattle.base_text.specs.Bytes.{Text}
 use Rattle.sheet_read.specs.SheetReading.{read}
 use Rattle.sheet_read.specs.Machine.{Lengths}
 use Rattle.sheet_read.proofs.Answers.{Listed, reply-read, positions-few, part-fits, part-is}
-use Rattle.sheet_print.proofs.Buffer.{written-as}
+use Rattle.base_print.proofs.Buffer.{written-as}
 use Rattle.sheet_text.proofs.Parts.{called-prints, malformed-prints}
 use Rattle.sheet_text.proofs.sheet.Statement.{statement}
 use Rattle.sheet_text.proofs.sheet.Tie as tie

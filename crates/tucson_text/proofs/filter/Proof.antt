@@ -8,9 +8,9 @@ use borrow.Author.Tests.{le-leb, lt-leb}
 use lib.ListN.{length}
 use Rattle.base_exact.proofs.Decide.{cond-true, cond-false}
 use Rattle.base_text.specs.Bytes.{Text}
-use Rattle.sheet_print.specs.Printed.{refusalLineLimit}
-use Rattle.sheet_print.specs.Printout.{refusalLine}
-use Rattle.sheet_print.proofs.Buffer.{written-as, written-length}
+use Rattle.base_print.specs.Refusal.{refusalLineLimit}
+use Rattle.base_print.specs.Refusal.{refusalLine}
+use Rattle.base_print.proofs.Buffer.{written-as, written-length}
 use Rattle.spec_tucson.specs.TextReading.{readText}
 use Rattle.tucson_text.specs.Filter.{textLimit, outcomeText, filtered}
 use Rattle.tucson_text.proofs.filter.Statement.{statement}

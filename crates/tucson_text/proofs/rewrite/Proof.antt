@@ -8,13 +8,13 @@ use Prim.Native.Nat.{ℕ, _*_, _≤_}
 use lib.IntN.{ℤ, pos}
 use lib.ListN.{length, take, replicate, length-replicate}
 use lib.Seq.{length-take-le}
-use Rattle.spec_spline.specs.Outcome.{answer, refusal}
-use Rattle.spec_spline.proofs.Outcome.{answer-unique, answer-not-refusal}
+use Rattle.base_outcome.specs.Outcome.{answer, refusal}
+use Rattle.base_outcome.proofs.Outcome.{answer-unique, answer-not-refusal}
 use Rattle.base_text.specs.Bytes.{Text}
-use Rattle.sheet_print.specs.Printed.{refusalLineLimit}
-use Rattle.sheet_print.specs.Printout.{refusalLine}
-use Rattle.sheet_print.specs.Buffer.{written}
-use Rattle.sheet_print.proofs.Buffer.{written-as, written-length}
+use Rattle.base_print.specs.Refusal.{refusalLineLimit}
+use Rattle.base_print.specs.Refusal.{refusalLine}
+use Rattle.base_print.specs.Buffer.{written}
+use Rattle.base_print.proofs.Buffer.{written-as, written-length}
 use Rattle.spec_tucson.specs.Line.{nameColumns}
 use Rattle.spec_tucson.specs.TextReading.{readText}
 use Rattle.spec_tucson.specs.ReadCall.{ReadEnd, readEnd}

@@ -8,7 +8,7 @@ use Prim.Native.Nat.{ℕ}
 use lib.Dec.{leb}
 use lib.ListN.{length}
 use borrow.Author.Tests.{not-true, not-false, leb-true}
-use Rattle.build_space.proofs.Machine.{found-none-inverts, found-some-inverts}
+use Rattle.base_outcome.proofs.Machine.{found-none-inverts, found-some-inverts}
 use Rattle.spec_tucson.specs.Writing.{unwritable}
 use Rattle.spec_tucson.specs.WriteCall.{listsFit, seriesOf}
 use Rattle.theorems_tucson.proofs.TucsonCells.{fits-parts}

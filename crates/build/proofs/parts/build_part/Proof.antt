@@ -4,7 +4,7 @@ use mathlib.Core.Path.{_≡_, sym, _∙_, ap, subst}
 use Prim.Native.Nat.{ℕ, _+_, _-_, _<_, _≤_}
 use native.Mathlib.Omega.{arith}
 use lib.ListN.{length, take, drop}
-use Rattle.spec_spline.specs.Outcome.{with-answer}
+use Rattle.base_outcome.specs.Outcome.{with-answer}
 use Rattle.spec_spline.specs.Space.{Space, rowCount}
 use Rattle.spec_spline.specs.Build.{weights, numeratorsAfter, denominatorsAfter}
 use Rattle.spec_spline.proofs.Parts.{part-ends}

@@ -7,7 +7,7 @@ use Prim.Native.Nat.{ℕ, _+_, _-_, _<_}
 use native.Mathlib.Omega.{arith}
 use lib.IntN.{ℤ}
 use lib.ListN.{length}
-use Rattle.spec_spline.specs.Outcome.{with-answer}
+use Rattle.base_outcome.specs.Outcome.{with-answer}
 use Rattle.spec_spline.specs.Space.{Space, partEnd, rowCount}
 use Rattle.spec_spline.specs.Build.{weights, numeratorsAfter, denominatorsAfter}
 use Rattle.spec_spline.proofs.Parts.{part-ends}

@@ -9,11 +9,11 @@ use native.Mathlib.Omega.{arith}
 use native.Mathlib.Numerals.{add-one}
 use lib.IntN.{ℤ}
 use lib.ListN.{length, take, drop, take-append-drop, drop-of-length-le}
-use Rattle.spec_spline.specs.Outcome.{answer, capped, with-answer, repeat}
+use Rattle.base_outcome.specs.Outcome.{answer, capped, with-answer, repeat}
 use Rattle.spec_spline.specs.Space.{Space, segments, degree, firstColumn, columnCount, conditionCount, conditionsBefore, rowCount}
 use Rattle.spec_spline.specs.Table.{Table, identity, numerators, denominators}
 use Rattle.spec_spline.specs.Build.{orderSteps, joinSteps, weights}
-use Rattle.spec_spline.proofs.Outcome.{repeat-more, repeat-stops}
+use Rattle.base_outcome.proofs.Outcome.{repeat-more, repeat-stops}
 use Rattle.build_space.specs.Machine.{space}
 use Rattle.spec_spline.proofs.Space.{firstColumn-mono}
 use Rattle.spec_spline.proofs.Table.{identity-rows}

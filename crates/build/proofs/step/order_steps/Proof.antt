@@ -8,13 +8,13 @@ use native.Mathlib.Numerals.{add-one}
 use borrow.Author.Needs.{needs}
 use lib.IntN.{ℤ}
 use lib.ListN.{length}
-use Rattle.spec_spline.specs.Outcome.{answer, repeat}
+use Rattle.base_outcome.specs.Outcome.{answer, repeat}
 use Rattle.spec_spline.specs.Space.{Space}
 use Rattle.spec_spline.specs.Conditions.{conditions}
 use Rattle.spec_spline.specs.Table.{Table, numerators, denominators}
 use Rattle.spec_spline.specs.Step.{step}
 use Rattle.spec_spline.specs.Build.{orderSteps}
-use Rattle.spec_spline.proofs.Outcome.{repeat-more, repeat-stops}
+use Rattle.base_outcome.proofs.Outcome.{repeat-more, repeat-stops}
 use Rattle.build_cells.specs.Held.{Holds, Shaped, Kept}
 use Rattle.build_cells.proofs.Buffer.{holds-left, kept-then, kept-numerators, kept-denominators, numerators-again, denominators-again}
 use Rattle.build_conditions.specs.Sides.{JoinIs}

@@ -8,7 +8,7 @@ use lib.IntN.{pos}
 use lib.ListN.{getD}
 use lib.Signed.{leZ}
 use mir.ValLaws.{toZ-ofZ}
-use Rattle.spec_spline.specs.Search.{first, found}
+use Rattle.base_outcome.specs.Search.{first, found}
 use Rattle.curve_reach.proofs.Passing.{one-bounds, none-reaches, all-below}
 use Rattle.curve_reach.proofs.search.first_offset.Statement.{statement}
 use Rattle.curve_reach.proofs.search.first_offset.Tie as tie

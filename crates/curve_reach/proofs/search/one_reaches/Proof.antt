@@ -11,8 +11,8 @@ use mir.Syntax.{w32, w64}
 use mir.Val.{SFits, ofZ, toZ}
 use mir.ValLaws.{toZ-ofZ}
 use Rattle.base_exact.proofs.Word.{sfits-widen}
-use Rattle.spec_spline.specs.Search as searches
-use Rattle.spec_spline.proofs.Search.{first-at, first-none}
+use Rattle.base_outcome.specs.Search as searches
+use Rattle.base_outcome.proofs.Search.{first-at, first-none}
 use Rattle.curve_reach.proofs.search.one_reaches.Statement.{statement}
 use Rattle.curve_reach.proofs.search.one_reaches.Tie as tie
 

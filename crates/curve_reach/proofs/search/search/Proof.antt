@@ -10,7 +10,7 @@ use lib.Signed.{nonNeg}
 use mir.Syntax.{w32, w64}
 use mir.Val.{Fits, ofZ, toZ}
 use mir.ValLaws.{toZ-ofZ}
-use Rattle.spec_spline.specs.Search.{first}
+use Rattle.base_outcome.specs.Search.{first}
 use Rattle.spec_spline.specs.Space.{Space, break, degree}
 use Rattle.spec_spline.specs.Reading.{fine, fineWidth}
 use Rattle.spec_spline.proofs.Legal.{Checked, checked-inverts}

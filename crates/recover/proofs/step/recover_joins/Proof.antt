@@ -9,10 +9,10 @@ use native.Mathlib.Numerals.{add-one}
 use lib.IntN.{ℤ}
 use lib.ListN.{length, length-map}
 use Rattle.base_exact.specs.Rational.{int}
-use Rattle.spec_spline.specs.Outcome.{Outcome, answer, capped, repeat}
+use Rattle.base_outcome.specs.Outcome.{Outcome, answer, capped, repeat}
 use Rattle.spec_spline.specs.Space.{Space, segments, columnCount, conditionCount, conditionsBefore, rowCount}
 use Rattle.spec_spline.specs.Table.{identity, numerators, denominators}
-use Rattle.spec_spline.proofs.Outcome.{repeat-more, repeat-stops}
+use Rattle.base_outcome.proofs.Outcome.{repeat-more, repeat-stops}
 use Rattle.build_space.specs.Machine.{space}
 use Rattle.build_space.proofs.Bounds.{conditions-before-zero, conditions-before-next}
 use Rattle.build_space.proofs.Legal.{legal-row-count-sum}

@@ -7,11 +7,11 @@ use native.Mathlib.Numerals.{add-one}
 use lib.IntN.{ℤ}
 use lib.ListN.{length}
 use Rattle.base_exact.specs.Rational.{ℚ}
-use Rattle.spec_spline.specs.Outcome.{Outcome, answer, repeat}
+use Rattle.base_outcome.specs.Outcome.{Outcome, answer, repeat}
 use Rattle.spec_spline.specs.Space.{Space}
 use Rattle.spec_spline.specs.Conditions.{conditions}
 use Rattle.spec_spline.specs.Table.{Table, numerators, denominators}
-use Rattle.spec_spline.proofs.Outcome.{repeat-more, repeat-stops}
+use Rattle.base_outcome.proofs.Outcome.{repeat-more, repeat-stops}
 use Rattle.build_cells.specs.Held.{Holds, Shaped, Kept}
 use Rattle.build_cells.proofs.Buffer.{holds-left, numerators-again, denominators-again, kept-numerators, kept-denominators, kept-then}
 use Rattle.build_conditions.specs.Sides.{JoinIs}

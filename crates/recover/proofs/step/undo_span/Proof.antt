@@ -9,9 +9,9 @@ use Prim.Native.Nat.{ℕ, suc, _-_, _<_}
 use native.Mathlib.Omega.{arith}
 use lib.ListN.{length, take, drop}
 use Rattle.base_exact.specs.Rational.{ℚ}
-use Rattle.spec_spline.specs.Outcome.{Outcome, answer, refusal, _then_, with-answer}
+use Rattle.base_outcome.specs.Outcome.{Outcome, answer, refusal, _then_, with-answer}
 use Rattle.spec_spline.specs.Step.{factors}
-use Rattle.spec_spline.proofs.Outcome.{then-answers, then-refuses, with-inverts, with-refuses}
+use Rattle.base_outcome.proofs.Outcome.{then-answers, then-refuses, with-inverts, with-refuses}
 use Rattle.build_jumps.specs.Machine.{fractions, rowJumps}
 use Rattle.build_jumps.specs.declared.Fractions.{Fractions}
 use Rattle.build_jumps.proofs.Answers.{jumps-in-arrays, jumps-refused}

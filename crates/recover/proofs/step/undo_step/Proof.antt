@@ -6,9 +6,9 @@ use Prim.Native.Nat.{ℕ}
 use native.Mathlib.Omega.{arith}
 use lib.ListN.{length}
 use Rattle.base_exact.specs.Rational.{ℚ}
-use Rattle.spec_spline.specs.Outcome.{answer, _then_}
+use Rattle.base_outcome.specs.Outcome.{answer, _then_}
 use Rattle.spec_spline.specs.Step.{Span, span, factors}
-use Rattle.spec_spline.proofs.Outcome.{answer-unique, answer-not-refusal}
+use Rattle.base_outcome.proofs.Outcome.{answer-unique, answer-not-refusal}
 use Rattle.spec_spline.proofs.Answers.{span-inverts}
 use Rattle.build_jumps.specs.Machine.{fractions}
 use Rattle.build_jumps.proofs.Answers.{span-rows, span-refused}

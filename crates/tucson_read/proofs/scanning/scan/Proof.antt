@@ -10,7 +10,7 @@ use lib.Seq.{slice}
 use mir.Syntax.{w32}
 use mir.Val.{SFits, toZ, ofZ}
 use Rattle.base_exact.proofs.Word.{toZ-ofZ}
-use Rattle.spec_spline.specs.Outcome.{capped}
+use Rattle.base_outcome.specs.Outcome.{capped}
 use Rattle.base_text.specs.Bytes.{Text}
 use Rattle.spec_tucson.specs.Line.{linesOf}
 use Rattle.spec_tucson.specs.TextReading.{goesOn, readLine}

@@ -10,7 +10,7 @@ use borrow.Author.Tests.{not-true, not-false}
 use mir.Syntax.{w32}
 use mir.Val.{SFits}
 use Rattle.base_exact.proofs.Word.{toZ-ofZ}
-use Rattle.build_space.specs.Machine.{found}
+use Rattle.base_outcome.specs.Machine.{found}
 use Rattle.base_text.specs.Bytes.{Text}
 use Rattle.spec_tucson.specs.Line.{nameColumns}
 use Rattle.spec_tucson.specs.Writing.{isWritable, firstUnwritable, unwritable}

@@ -1,9 +1,9 @@
--- `space::place` meets its contract. Assumes nothing.
+-- `base_outcome::place` meets its contract. Assumes nothing.
 use borrow.Author.Needs.{needs}
 use native.Mathlib.Omega.{arith}
-use Rattle.spec_spline.specs.Outcome.{capped}
-use Rattle.build_space.proofs.place.Statement.{statement}
-use Rattle.build_space.proofs.place.Tie as tie
+use Rattle.base_outcome.specs.Outcome.{capped}
+use Rattle.base_outcome.proofs.place.Statement.{statement}
+use Rattle.base_outcome.proofs.place.Tie as tie
 
 cast-if1 : tie.Need-cast-if1
 cast-if1 c = search needs

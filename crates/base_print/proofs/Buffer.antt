@@ -12,7 +12,7 @@ use borrow.Author.Tests.{le-leb, lt-leb, lt-ltb, le-ltb}
 use Rattle.base_exact.proofs.Decide.{le-or-lt}
 use Rattle.base_exact.proofs.Tabulate.{tab-length, tab-getD}
 use Rattle.base_text.specs.Bytes.{Text}
-use Rattle.sheet_print.specs.Buffer.{written, Puts}
+use Rattle.base_print.specs.Buffer.{written, Puts}
 
 pub written-length : (at : ℕ) (t : Text) (out : List ℕ) → length (written at t out) ≡ length out
 unfolding written

@@ -6,8 +6,8 @@ use Prim.Native.Nat.{_+_}
 use lib.ListN.{length}
 use Rattle.base_text.specs.Numeral.{digits}
 use Rattle.base_text.proofs.Decimal.{digits-length-small, digits-length-large, digits-length-le}
-use Rattle.sheet_print.proofs.digit_count.Statement.{statement}
-use Rattle.sheet_print.proofs.digit_count.Tie as tie
+use Rattle.base_print.proofs.digit_count.Statement.{statement}
+use Rattle.base_print.proofs.digit_count.Tie as tie
 
 abbrev Inv-loop : tie.InvT-loop
 Inv-loop n count₀ rest₀ count rest = length (digits n) + 1 ≡ count + length (digits rest)

@@ -5,10 +5,10 @@ use mathlib.Core.List.{List}
 use Prim.Native.Nat.{ℕ, _-_, _≤_}
 use lib.ListN.{length, take}
 use lib.Seq.{take-suc, take-all}
-use Rattle.sheet_print.specs.Buffer.{Puts}
-use Rattle.sheet_print.proofs.Buffer.{puts-none, puts-then, puts-within, puts-length}
-use Rattle.sheet_print.proofs.put_text.Statement.{statement}
-use Rattle.sheet_print.proofs.put_text.Tie as tie
+use Rattle.base_print.specs.Buffer.{Puts}
+use Rattle.base_print.proofs.Buffer.{puts-none, puts-then, puts-within, puts-length}
+use Rattle.base_print.proofs.put_text.Statement.{statement}
+use Rattle.base_print.proofs.put_text.Tie as tie
 
 record Inv (out₀ : List ℕ) (at : ℕ) (text out : List ℕ) (next i : ℕ) : Type 0 where
   within : i ≤ length text

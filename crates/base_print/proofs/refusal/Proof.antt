@@ -2,10 +2,10 @@
 use borrow.Author.Needs.{needs}
 use native.Mathlib.Omega.{arith}
 use mathlib.Core.Path.{_∙_}
-use Rattle.sheet_print.specs.Printout.{refusalLine}
-use Rattle.sheet_print.proofs.Buffer.{puts-then}
-use Rattle.sheet_print.proofs.refusal.Statement.{statement}
-use Rattle.sheet_print.proofs.refusal.Tie as tie
+use Rattle.base_print.specs.Refusal.{refusalLine}
+use Rattle.base_print.proofs.Buffer.{puts-then}
+use Rattle.base_print.proofs.refusal.Statement.{statement}
+use Rattle.base_print.proofs.refusal.Tie as tie
 
 slice-aggregate-put-text : tie.Need-slice-aggregate-put-text
 slice-aggregate-put-text c = search needs

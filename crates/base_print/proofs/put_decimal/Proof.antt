@@ -12,9 +12,9 @@ use mathlib.Core.List.{_∷_}
 use Rattle.base_text.specs.Bytes.{minus}
 use Rattle.base_text.specs.Numeral.{digits}
 use Rattle.base_text.proofs.Decimal.{decimal-negative, decimal-natural}
-use Rattle.sheet_print.proofs.Buffer.{puts-then, puts-within, puts-as}
-use Rattle.sheet_print.proofs.put_decimal.Statement.{statement}
-use Rattle.sheet_print.proofs.put_decimal.Tie as tie
+use Rattle.base_print.proofs.Buffer.{puts-then, puts-within, puts-as}
+use Rattle.base_print.proofs.put_decimal.Statement.{statement}
+use Rattle.base_print.proofs.put_decimal.Tie as tie
 
 magnitude-requires : tie.Need-magnitude-requires
 magnitude-requires c κs = search needs

@@ -7,11 +7,11 @@ use Prim.Native.Nat.{ℕ, _+_, _-_, _/_, _≤_}
 use lib.ListN.{length}
 use Rattle.base_text.specs.Bytes.{Text}
 use Rattle.base_text.specs.Numeral.{digits}
-use Rattle.sheet_print.specs.Buffer.{written}
-use Rattle.sheet_print.proofs.Buffer.{written-none, written-length, written-prepend}
+use Rattle.base_print.specs.Buffer.{written}
+use Rattle.base_print.proofs.Buffer.{written-none, written-length, written-prepend}
 use Rattle.base_text.proofs.Decimal.{lastDigit, lastDigits, lastDigits-more, digits-last}
-use Rattle.sheet_print.proofs.put_digits.Statement.{statement}
-use Rattle.sheet_print.proofs.put_digits.Tie as tie
+use Rattle.base_print.proofs.put_digits.Statement.{statement}
+use Rattle.base_print.proofs.put_digits.Tie as tie
 
 record Inv (out₀ : List ℕ) (at n count : ℕ) (out : List ℕ) (rest i : ℕ) : Type 0 where
   within : i ≤ count

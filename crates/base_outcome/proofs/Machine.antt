@@ -4,12 +4,12 @@ use mathlib.Core.Bool.{Bool, true, false}
 use mathlib.Core.Option.{Option, some, none}
 use Prim.Native.Nat.{ℕ, _<_}
 use native.Mathlib.Omega.{arith}
-use Rattle.spec_spline.specs.Outcome.{Outcome, answer, refusal, _then_}
-use Rattle.spec_spline.specs.Search.{first}
-use Rattle.spec_spline.proofs.Search.{first-at, first-none}
-use Rattle.build_space.specs.Machine.{legality, found}
-use Rattle.build_space.specs.declared.Legality.the-variants.{Legal, Refused}
-use Rattle.build_space.specs.declared.Found.the-variants.{At, Nothing}
+use Rattle.base_outcome.specs.Outcome.{Outcome, answer, refusal, _then_}
+use Rattle.base_outcome.specs.Search.{first}
+use Rattle.base_outcome.proofs.Search.{first-at, first-none}
+use Rattle.base_outcome.specs.Machine.{legality, found}
+use Rattle.base_outcome.specs.declared.Legality.the-variants.{Legal, Refused}
+use Rattle.base_outcome.specs.declared.Found.the-variants.{At, Nothing}
 
 -- ---- a search
 

@@ -3,9 +3,9 @@ use borrow.Author.Needs.{needs}
 use mathlib.Core.Logic.{⊎-elim}
 use mathlib.Core.Path.{ap, _∙_}
 use lib.ListN.{length, length-set}
-use Rattle.sheet_print.proofs.Buffer.{written-byte, written-byte-past}
-use Rattle.sheet_print.proofs.put.Statement.{statement}
-use Rattle.sheet_print.proofs.put.Tie as tie
+use Rattle.base_print.proofs.Buffer.{written-byte, written-byte-past}
+use Rattle.base_print.proofs.put.Statement.{statement}
+use Rattle.base_print.proofs.put.Tie as tie
 
 slice-write-out : tie.Need-slice-write-out
 slice-write-out c = search needs

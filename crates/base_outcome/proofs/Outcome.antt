@@ -10,7 +10,7 @@ use lib.ListN.{length, getD, length-append, List·getD-append}
 use lib.Seq.{getD-at}
 use Rattle.base_exact.specs.Tabulate.{tab}
 use Rattle.base_exact.proofs.Tabulate.{tab-snoc}
-use Rattle.spec_spline.specs.Outcome.{Outcome, answer, refusal, largestPlace, capped, _then_, with-answer, collect, repeat}
+use Rattle.base_outcome.specs.Outcome.{Outcome, answer, refusal, largestPlace, capped, _then_, with-answer, collect, repeat}
 
 -- ---- one outcome
 

@@ -1,0 +1,5 @@
+-- An answer or a refusal, the search for an index, and the machine's form of both.
+pub mod Outcome
+pub mod Search
+pub mod Tests
+pub mod Machine

@@ -1,0 +1,3 @@
+-- A text in a lent buffer, and the line of a refusal.
+pub mod Buffer
+pub mod Refusal
