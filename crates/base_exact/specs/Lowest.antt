@@ -3,7 +3,8 @@
 use mathlib.Core.Path.{_≡_, refl, sym, _∙_, ap, ap₂}
 use Prim.Native.Nat.{ℕ, zero, suc, _+_, _*_, _-_, _/_, _%_, _<_}
 use native.Mathlib.Omega.{arith}
-use native.Mathlib.Nat.{mul-add-mod-self-left, mod-eq-of-lt, mod-lt, div-add-mod', mul-lt-mul-of-pos-left, mul-zero, mul-div-cancel-left, eq-of-mul-eq-mul-left}
+use native.Mathlib.Nat.{mul-add-mod-self-left, mod-eq-of-lt, mod-lt, div-add-mod', mul-lt-mul-of-pos-left, mul-zero, mul-div-cancel-left}
+use native.Mathlib.Nat.{eq-of-mul-eq-mul-left}
 use Rattle.base_exact.specs.Gcd.{gcdF, gcd}
 
 -- g divides a and b, with the quotients
@@ -19,10 +20,12 @@ unfolding gcdF
 gcd-fuel zero g a b h k = absurd (omega arith)
 gcd-fuel (suc f) zero a b h k = absurd (omega arith)
 gcd-fuel (suc f) (suc g) a zero h k = refl
-gcd-fuel (suc f) (suc g) a (suc b) h k = let m = mod-lt a {m = suc b} (omega arith) in gcd-fuel f g (suc b) (a % suc b) (omega arith) (omega arith)
+gcd-fuel (suc f) (suc g) a (suc b) h k = let m = mod-lt a {m = suc b} (omega arith) in
+    gcd-fuel f g (suc b) (a % suc b) (omega arith) (omega arith)
 
 mul-mod : (k a b : ℕ) → (suc k * a) % (suc k * suc b) ≡ suc k * (a % suc b)
-mul-mod k a b = ap (λ t. t % (suc k * suc b)) e ∙ mul-add-mod-self-left (suc k * suc b) (a / suc b) (suc k * (a % suc b)) ∙ mod-eq-of-lt (mul-lt-mul-of-pos-left (mod-lt a {m = suc b} (omega arith)) (omega arith))
+mul-mod k a b = ap (λ t. t % (suc k * suc b)) e ∙ mul-add-mod-self-left (suc k * suc b) (a / suc b) (suc k * (a % suc b))
+    ∙ mod-eq-of-lt (mul-lt-mul-of-pos-left (mod-lt a {m = suc b} (omega arith)) (omega arith))
   where
     e : suc k * a ≡ suc k * suc b * (a / suc b) + suc k * (a % suc b)
     e = ap (λ t. suc k * t) (sym (div-add-mod' a (suc b))) ∙ omega arith
@@ -37,7 +40,8 @@ mulF : (f k a b : ℕ) → gcdF f (suc k * a) (suc k * b) ≡ suc k * gcdF f a b
 unfolding gcdF
 mulF zero k a b = refl
 mulF (suc f) k a zero = rw (mul-zero (suc k))
-mulF (suc f) k a (suc b) = step f (suc k * a) (suc k * suc b) (suc k * suc b - 1) (omega arith) ∙ ap (λ t. gcdF f (suc k * suc b) t) (mul-mod k a b) ∙ mulF f k (suc b) (a % suc b)
+mulF (suc f) k a (suc b) = step f (suc k * a) (suc k * suc b) (suc k * suc b - 1) (omega arith)
+    ∙ ap (λ t. gcdF f (suc k * suc b) t) (mul-mod k a b) ∙ mulF f k (suc b) (a % suc b)
 
 -- a common factor comes out
 pub gcd-mul : (k a b : ℕ) → gcd (suc k * a) (suc k * b) ≡ suc k * gcd a b
@@ -48,7 +52,8 @@ divF : (f a b : ℕ) → b < f → Div (gcdF f a b) a b
 unfolding gcdF
 divF zero a b h = absurd (omega arith)
 divF (suc f) a zero h = record { left = 1; right = 0; left-is = omega arith; right-is = omega arith }
-divF (suc f) a (suc b) h = go (gcdF f (suc b) (a % suc b)) (divF f (suc b) (a % suc b) (let m = mod-lt a {m = suc b} (omega arith) in omega arith))
+divF (suc f) a (suc b) h = go (gcdF f (suc b) (a % suc b)) (divF f (suc b) (a % suc b)
+    (let m = mod-lt a {m = suc b} (omega arith) in omega arith))
   where
     go : (g : ℕ) → Div g (suc b) (a % suc b) → Div g a (suc b)
     go g r = record {
@@ -78,7 +83,8 @@ reduced n d h = go (gcd n d) (gcd-div n d) refl
     go (suc g) r e = record {
       top = ap (λ t. t * suc g) l ∙ omega (arith, r .left-is);
       bot = ap (λ t. t * suc g) b ∙ omega (arith, r .right-is);
-      one = ap₂ gcd l b ∙ eq-of-mul-eq-mul-left (suc g) (omega arith) _ 1 (sym (gcd-mul g (r .left) (r .right)) ∙ ap₂ gcd (sym (r .left-is)) (sym (r .right-is)) ∙ e ∙ omega arith);
+      one = ap₂ gcd l b ∙ eq-of-mul-eq-mul-left (suc g) (omega arith) _ 1
+          (sym (gcd-mul g (r .left) (r .right)) ∙ ap₂ gcd (sym (r .left-is)) (sym (r .right-is)) ∙ e ∙ omega arith);
       bot-pos = rw b (pos-right (r .right) (r .right-is));
     }
       where

@@ -35,7 +35,8 @@ low-by : (n : ℤ) (d : ℕ) → gcd (natAbs n) d ≡ 1 → 0 < d → T (eqb (gc
 low-by n d e h = rw (suc-pred-eq-of-pos h, e) (eqb-refl 1)
 
 pub mk-low : (n : ℤ) (d : ℕ) → 0 < d → T (eqb (gcd (natAbs (signed n (natAbs n / gcd (natAbs n) d))) (suc (pred (d / gcd (natAbs n) d)))) 1)
-mk-low n d h = low-by (signed n (natAbs n / gcd (natAbs n) d)) (d / gcd (natAbs n) d) (rw (signed-abs n (natAbs n / gcd (natAbs n) d)) (reduced (natAbs n) d h .one)) (reduced (natAbs n) d h .bot-pos)
+mk-low n d h = low-by (signed n (natAbs n / gcd (natAbs n) d)) (d / gcd (natAbs n) d)
+    (rw (signed-abs n (natAbs n / gcd (natAbs n) d)) (reduced (natAbs n) d h .one)) (reduced (natAbs n) d h .bot-pos)
 
 -- n / d in lowest terms
 unfoldable pub mk : (n : ℤ) (d : ℕ) → 0 < d → ℚ

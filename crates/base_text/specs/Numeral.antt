@@ -43,7 +43,8 @@ negated false n = none
 -- The number that a field stands for, if it is a numeral; "no -0".
 unfoldable pub numeral : Text → Option ℤ
 numeral [] = none
-numeral (c ∷ cs) = cond (eqb c minus) (negated (isNatural cs) (digitsValue 0 cs)) (cond (isNatural (c ∷ cs)) (some (pos (digitsValue 0 (c ∷ cs)))) none)
+numeral (c ∷ cs) = cond (eqb c minus) (negated (isNatural cs) (digitsValue 0 cs))
+    (cond (isNatural (c ∷ cs)) (some (pos (digitsValue 0 (c ∷ cs)))) none)
 
 -- ---- printing
 

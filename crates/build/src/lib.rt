@@ -22,7 +22,8 @@ pub fn build(
     num: &mut [i64],
     den: &mut [i64],
 ) -> Built
-    ensures { λ r. ⌜ (let e = buildEnd (space (now (breaks .entry)) (now (degrees .entry)) (now (orders .entry))) (now (num .entry)) (now (den .entry)) in
+    ensures { λ r. ⌜ (let e = buildEnd (space (now (breaks .entry)) (now (degrees .entry)) (now (orders .entry))) (now (num .entry))
+        (now (den .entry)) in
         (reply r ≡ e .answers) × ((now (num .exit) ≡ e .numerators) × (now (den .exit) ≡ e .denominators))) ⌝ }
 {
     if num.len() < build_cells::TABLE_CELLS {

@@ -24,10 +24,14 @@ pub fn build_part(
     num: &mut [i64],
     den: &mut [i64],
 ) -> Built
-    requires { ⌜ ListsLegal (now breaks) (now degrees) (now orders) × ((tableCells ≤ length (now num)) × (tableCells ≤ length (now den))) ⌝ }
-    requires { ⌜ Starts (space (now breaks) (now degrees) (now orders)) a × (b ≡ partEnd (space (now breaks) (now degrees) (now orders)) a) ⌝ }
+    requires { ⌜ ListsLegal (now breaks) (now degrees) (now orders)
+        × ((tableCells ≤ length (now num)) × (tableCells ≤ length (now den))) ⌝ }
+    requires { ⌜ Starts (space (now breaks) (now degrees) (now orders)) a
+        × (b ≡ partEnd (space (now breaks) (now degrees) (now orders)) a) ⌝ }
     ensures { λ r. ⌜ (let part = section (space (now (breaks .entry)) (now (degrees .entry)) (now (orders .entry))) a (b - a) in
-        (reply r ≡ with-answer (λ _. rowCount part) (Build.weights part)) × ((now (num .exit) ≡ Build.numeratorsAfter (Build.weights part) (now (num .entry))) × (now (den .exit) ≡ Build.denominatorsAfter (Build.weights part) (now (den .entry))))) ⌝ }
+        (reply r ≡ with-answer (λ _. rowCount part) (Build.weights part))
+        × ((now (num .exit) ≡ Build.numeratorsAfter (Build.weights part) (now (num .entry)))
+        × (now (den .exit) ≡ Build.denominatorsAfter (Build.weights part) (now (den .entry))))) ⌝ }
 {
     step::build_legal(
         &breaks[a..b + 1],
@@ -46,10 +50,13 @@ pub fn build_parts(
     num: &mut [i64],
     den: &mut [i64],
 ) -> Built
-    requires { ⌜ ListsLegal (now breaks) (now degrees) (now orders) × ((tableCells ≤ length (now num)) × (tableCells ≤ length (now den))) ⌝ }
+    requires { ⌜ ListsLegal (now breaks) (now degrees) (now orders)
+        × ((tableCells ≤ length (now num)) × (tableCells ≤ length (now den))) ⌝ }
     ensures { λ r. ⌜ (let s = space (now (breaks .entry)) (now (degrees .entry)) (now (orders .entry)) in
         let held = with-answer (Build.lastPart s) (Build.weights s) in
-        (reply r ≡ with-answer (λ _. rowCount s) (Build.weights s)) × ((now (num .exit) ≡ Build.numeratorsAfter held (now (num .entry))) × (now (den .exit) ≡ Build.denominatorsAfter held (now (den .entry))))) ⌝ }
+        (reply r ≡ with-answer (λ _. rowCount s) (Build.weights s))
+        × ((now (num .exit) ≡ Build.numeratorsAfter held (now (num .entry)))
+        × (now (den .exit) ≡ Build.denominatorsAfter held (now (den .entry))))) ⌝ }
 {
     let mut rows = 0;
     let mut a = 0;

@@ -37,8 +37,10 @@ fn mix(
     columns: usize,
 ) -> Refusal
     requires { ⌜ Spanned js f l × ((l < rows) × Held (now num) (now den) rows columns) ⌝ }
-    ensures { λ r. ⌜ ((t : Table) (j : ℕ) (qs : List ℚ) → Holds (now (num .entry)) (now (den .entry)) t → Shaped t rows columns → js ≡ fractions qs
-        → Leaves (Step.mixed j t qs (record { f = f; l = l })) r (now (num .entry)) (now (den .entry)) (now (num .exit)) (now (den .exit))) ⌝ }
+    ensures { λ r. ⌜ ((t : Table) (j : ℕ) (qs : List ℚ) → Holds (now (num .entry)) (now (den .entry)) t → Shaped t rows columns
+        → js ≡ fractions qs
+        → Leaves (Step.mixed j t qs (record { f = f; l = l })) r (now (num .entry)) (now (den .entry)) (now (num .exit))
+        (now (den .exit))) ⌝ }
 {
     let ws = build_factors::factors(js, f, l);
     let refusal = ws.refusal;
@@ -67,8 +69,10 @@ pub fn step(
     columns: usize,
 ) -> Refusal
     requires { ⌜ JoinFits join k × Held (now num) (now den) rows columns ⌝ }
-    ensures { λ r. ⌜ ((s : Space) (j : ℕ) (t : Table) → JoinIs join s j → Holds (now (num .entry)) (now (den .entry)) t → Shaped t rows columns
-        → Leaves (Step.step j (Conditions.conditions s j k) t) r (now (num .entry)) (now (den .entry)) (now (num .exit)) (now (den .exit))) ⌝ }
+    ensures { λ r. ⌜ ((s : Space) (j : ℕ) (t : Table) → JoinIs join s j → Holds (now (num .entry)) (now (den .entry)) t
+        → Shaped t rows columns
+        → Leaves (Step.step j (Conditions.conditions s j k) t) r (now (num .entry)) (now (den .entry)) (now (num .exit))
+        (now (den .exit))) ⌝ }
 {
     let js = build_jumps::jumps(num, den, rows, join, k);
     if !js.fit {
@@ -92,7 +96,8 @@ fn order_steps(
     columns: usize,
 ) -> Refusal
     requires { ⌜ (n ≤ rows) × (((k : ℕ) → k < n → JoinFits join k) × Held (now num) (now den) rows columns) ⌝ }
-    ensures { λ r. ⌜ ((s : Space) (j : ℕ) (t : Table) → JoinIs join s j → Holds (now (num .entry)) (now (den .entry)) t → Shaped t rows columns
+    ensures { λ r. ⌜ ((s : Space) (j : ℕ) (t : Table) → JoinIs join s j → Holds (now (num .entry)) (now (den .entry)) t
+        → Shaped t rows columns
         → Leaves (Build.orderSteps s j n t) r (now (num .entry)) (now (den .entry)) (now (num .exit)) (now (den .exit))) ⌝ }
 {
     let mut k = 0;
@@ -124,8 +129,10 @@ fn join_step(
 ) -> Refusal
     requires { ⌜ (n ≤ rows) × (((k : ℕ) → k < n → JoinFits join k) × Held (now num) (now den) rows columns) ⌝ }
     requires { ⌜ (rows + (join .right .degree + 1) ≤ rowCells) × (join .right .column + (join .right .degree + 1) ≤ columns) ⌝ }
-    ensures { λ r. ⌜ ((s : Space) (j : ℕ) (t : Table) → JoinIs join s j → Holds (now (num .entry)) (now (den .entry)) t → Shaped t rows columns
-        → Leaves (Build.orderSteps s j n (grown join columns t)) r (now (num .entry)) (now (den .entry)) (now (num .exit)) (now (den .exit))) ⌝ }
+    ensures { λ r. ⌜ ((s : Space) (j : ℕ) (t : Table) → JoinIs join s j → Holds (now (num .entry)) (now (den .entry)) t
+        → Shaped t rows columns
+        → Leaves (Build.orderSteps s j n (grown join columns t)) r (now (num .entry)) (now (den .entry)) (now (num .exit))
+        (now (den .exit))) ⌝ }
 {
     let right = join.right;
     let more = right.degree + 1;
@@ -169,8 +176,11 @@ fn join_steps(
     den: &mut [i64],
     columns: usize,
 ) -> Built
-    requires { ⌜ PartLegal (now breaks) (now degrees) (now orders) × Start (space (now breaks) (now degrees) (now orders)) (now num) (now den) columns ⌝ }
-    ensures { λ r. ⌜ JoinsLeave (Build.weights (space (now (breaks .entry)) (now (degrees .entry)) (now (orders .entry)))) (rowCount (space (now (breaks .entry)) (now (degrees .entry)) (now (orders .entry)))) r (now (num .entry)) (now (den .entry)) (now (num .exit)) (now (den .exit)) ⌝ }
+    requires { ⌜ PartLegal (now breaks) (now degrees) (now orders)
+        × Start (space (now breaks) (now degrees) (now orders)) (now num) (now den) columns ⌝ }
+    ensures { λ r. ⌜ JoinsLeave (Build.weights (space (now (breaks .entry)) (now (degrees .entry)) (now (orders .entry))))
+        (rowCount (space (now (breaks .entry)) (now (degrees .entry)) (now (orders .entry)))) r (now (num .entry)) (now (den .entry))
+        (now (num .exit)) (now (den .exit)) ⌝ }
 {
     let mut rows = build_space::degree_at(degrees, 0) + 1;
     let mut j = 0;
@@ -205,9 +215,12 @@ pub fn build_legal(
     den: &mut [i64],
 ) -> Built
     requires { ⌜ PartLegal (now breaks) (now degrees) (now orders) × ((tableCells ≤ length (now num)) × (tableCells ≤ length (now den))) ⌝ }
-    ensures { λ r. ⌜ reply r ≡ with-answer (λ _. rowCount (space (now (breaks .entry)) (now (degrees .entry)) (now (orders .entry)))) (Build.weights (space (now (breaks .entry)) (now (degrees .entry)) (now (orders .entry)))) ⌝ }
-    ensures { λ r. ⌜ now (num .exit) ≡ Build.numeratorsAfter (Build.weights (space (now (breaks .entry)) (now (degrees .entry)) (now (orders .entry)))) (now (num .entry)) ⌝ }
-    ensures { λ r. ⌜ now (den .exit) ≡ Build.denominatorsAfter (Build.weights (space (now (breaks .entry)) (now (degrees .entry)) (now (orders .entry)))) (now (den .entry)) ⌝ }
+    ensures { λ r. ⌜ reply r ≡ with-answer (λ _. rowCount (space (now (breaks .entry)) (now (degrees .entry)) (now (orders .entry))))
+        (Build.weights (space (now (breaks .entry)) (now (degrees .entry)) (now (orders .entry)))) ⌝ }
+    ensures { λ r. ⌜ now (num .exit) ≡ Build.numeratorsAfter (Build.weights
+        (space (now (breaks .entry)) (now (degrees .entry)) (now (orders .entry)))) (now (num .entry)) ⌝ }
+    ensures { λ r. ⌜ now (den .exit) ≡ Build.denominatorsAfter (Build.weights
+        (space (now (breaks .entry)) (now (degrees .entry)) (now (orders .entry)))) (now (den .entry)) ⌝ }
 {
     let columns = build_space::first_column(degrees, degrees.len());
     build_cells::identity(num, den, build_space::degree_at(degrees, 0) + 1);

@@ -84,7 +84,8 @@ pub fn identity(num: &mut [i64], den: &mut [i64], n: usize)
 // After the rows that the table has come those of the identity for n columns from the given one on.
 pub fn add_rows(num: &mut [i64], rows: usize, column: usize, n: usize)
     requires { ⌜ (0 < n) × ((rows + n ≤ Table.rowCells) × ((column + n ≤ Table.rowCells) × (Table.tableCells ≤ length (now num)))) ⌝ }
-    ensures { λ _. ⌜ ((t : Table.Table) (m : ℕ) → now (num .entry) ≡ Table.numerators t (now (num .entry)) → length t ≡ rows → column + n ≤ m
+    ensures { λ _. ⌜ ((t : Table.Table) (m : ℕ) → now (num .entry) ≡ Table.numerators t (now (num .entry)) → length t ≡ rows
+        → column + n ≤ m
         → now (num .exit) ≡ Table.numerators (t ++ take n (drop column (Table.identity m))) (now (num .entry))) ⌝ }
 {
     let start = ROW_CELLS * rows + column;
@@ -93,7 +94,8 @@ pub fn add_rows(num: &mut [i64], rows: usize, column: usize, n: usize)
 
 // Row l is left out: the rows after it move up, and the last row becomes 0/1.
 pub fn drop_row(num: &mut [i64], den: &mut [i64], l: usize, rows: usize)
-    requires { ⌜ (l < rows) × ((rows ≤ Table.rowCells) × ((Table.tableCells ≤ length (now num)) × (Table.tableCells ≤ length (now den)))) ⌝ }
+    requires { ⌜ (l < rows)
+        × ((rows ≤ Table.rowCells) × ((Table.tableCells ≤ length (now num)) × (Table.tableCells ≤ length (now den)))) ⌝ }
     ensures { λ _. ⌜ ((t : Table.Table) → Holds (now (num .entry)) (now (den .entry)) t → length t ≡ rows
         → (now (num .exit) ≡ Table.numerators (take l t ++ drop (suc l) t) (now (num .entry)))
         × (now (den .exit) ≡ Table.denominators (take l t ++ drop (suc l) t) (now (den .entry)))) ⌝ }

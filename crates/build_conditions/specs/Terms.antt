@@ -14,12 +14,15 @@ use Rattle.build_conditions.specs.declared.Scaled.{Scaled}
 
 -- Entry e, from the scales of the left and of the right side.
 unfoldable pub scaleOf : ℤ → ℤ → ℕ → ℕ → ℤ
-scaleOf left right k e = cond (leb e k) (left *ℤ (pos (binomial k e) *ℤ alternating (k - e))) (negℤ (right *ℤ (pos (binomial k (e - k - 1)) *ℤ alternating (k - (e - k - 1)))))
+scaleOf left right k e = cond (leb e k) (left *ℤ (pos (binomial k e) *ℤ alternating (k - e)))
+    (negℤ (right *ℤ (pos (binomial k (e - k - 1)) *ℤ alternating (k - (e - k - 1)))))
 
 -- The two scales of join j and order k, divided by their greatest common divisor.
 pub record ScaledOf (r : Scaled) (s : Space) (j k : ℕ) : Type 0 where
-  pub left-is : r .left ≡ pos (scale (degree s j) k (width s (suc j)) / gcd (scale (degree s j) k (width s (suc j))) (scale (degree s (suc j)) k (width s j)))
-  pub right-is : r .right ≡ pos (scale (degree s (suc j)) k (width s j) / gcd (scale (degree s j) k (width s (suc j))) (scale (degree s (suc j)) k (width s j)))
+  pub left-is : r .left ≡ pos (scale (degree s j) k (width s (suc j)) / gcd (scale (degree s j) k (width s (suc j)))
+      (scale (degree s (suc j)) k (width s j)))
+  pub right-is : r .right ≡ pos (scale (degree s (suc j)) k (width s j) / gcd (scale (degree s j) k (width s (suc j)))
+      (scale (degree s (suc j)) k (width s j)))
 
 -- No entry.
 abbrev pub noEntry : Entry

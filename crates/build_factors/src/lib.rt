@@ -36,7 +36,8 @@ pub struct NextFactor {
 }
 
 fn no_factor(refusal: Refusal) -> NextFactor
-    ensures { λ r. ⌜ (r .refusal ≡ refusal) × ((r .sum .num ≡ pos 0) × ((r .sum .den ≡ pos 1) × ((r .w .num ≡ pos 0) × (r .w .den ≡ pos 1)))) ⌝ }
+    ensures { λ r. ⌜ (r .refusal ≡ refusal) × ((r .sum .num ≡ pos 0)
+        × ((r .sum .den ≡ pos 1) × ((r .w .num ≡ pos 0) × (r .w .den ≡ pos 1)))) ⌝ }
 {
     NextFactor {
         refusal: refusal,
@@ -58,7 +59,8 @@ fn strictly_between(w: Fraction) -> bool
 // The next factor, from the sum of the jumps before and the jump itself.
 fn factor(before: Fraction, jump: Fraction) -> NextFactor
     requires { ⌜ Sized before × (Sized jump × (jump .num ≢ pos 0)) ⌝ }
-    ensures { λ r. ⌜ ((j : ℕ) → r ≡ nextFactor (value before +ᵠ value jump) (Step.quotientFactor j (value before +ᵠ value jump) (value jump))) ⌝ }
+    ensures { λ r. ⌜ ((j : ℕ) → r ≡ nextFactor (value before +ᵠ value jump)
+        (Step.quotientFactor j (value before +ᵠ value jump) (value jump))) ⌝ }
 {
     let sum = base_fraction::sum(before, jump);
     match sum {

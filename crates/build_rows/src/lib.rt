@@ -55,8 +55,10 @@ fn mix_row(
 ) -> bool
     requires { ⌜ Sized w × (Sized u × ((i + 1 < rowCells) × (columns ≤ rowCells))) ⌝ }
     requires { ⌜ ((t : Table) × Holds (now num) (now den) t) ⌝ }
-    ensures { λ r. ⌜ ((t : Table) (j : ℕ) (v : ℚ) → Holds (now (num .entry)) (now (den .entry)) t → value u ≡ int (pos 1) -ᵠ v → i < length t → length (row t i) ≡ columns
-        → LeavesIf (with-answer (set t i) (Step.newRow j (value w) v (row t i) (row t (suc i)))) r (now (num .entry)) (now (den .entry)) (now (num .exit)) (now (den .exit))) ⌝ }
+    ensures { λ r. ⌜ ((t : Table) (j : ℕ) (v : ℚ) → Holds (now (num .entry)) (now (den .entry)) t → value u ≡ int (pos 1) -ᵠ v
+        → i < length t → length (row t i) ≡ columns
+        → LeavesIf (with-answer (set t i) (Step.newRow j (value w) v (row t i) (row t (suc i)))) r (now (num .entry)) (now (den .entry))
+        (now (num .exit)) (now (den .exit))) ⌝ }
 {
     let mut c = 0;
     while c < columns {
@@ -104,8 +106,10 @@ pub fn mix_rows(
 ) -> bool
     requires { ⌜ (f ≤ l) × ((l < rows) × Held (now num) (now den) rows columns) ⌝ }
     requires { ⌜ UnitFactors ws ⌝ }
-    ensures { λ r. ⌜ ((t : Table) (j : ℕ) (qs : List ℚ) → Holds (now (num .entry)) (now (den .entry)) t → Shaped t rows columns → ws ≡ fractions qs
-        → LeavesIf (with-answer (λ rs. take f t ++ (rs ++ drop l t)) (Step.newRows j (record { f = f; l = l }) qs t)) r (now (num .entry)) (now (den .entry)) (now (num .exit)) (now (den .exit))) ⌝ }
+    ensures { λ r. ⌜ ((t : Table) (j : ℕ) (qs : List ℚ) → Holds (now (num .entry)) (now (den .entry)) t → Shaped t rows columns
+        → ws ≡ fractions qs
+        → LeavesIf (with-answer (λ rs. take f t ++ (rs ++ drop l t)) (Step.newRows j (record { f = f; l = l }) qs t)) r (now (num .entry))
+        (now (den .entry)) (now (num .exit)) (now (den .exit))) ⌝ }
 {
     let mut i = f;
     while i < l {

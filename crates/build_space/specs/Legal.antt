@@ -8,17 +8,20 @@ use lib.ListN.{length, getD}
 use lib.Signed.{_<ℤ_, _≤ℤ_}
 use Rattle.base_outcome.specs.Outcome.{Outcome, answer}
 use Rattle.base_outcome.specs.Search.{first}
-use Rattle.spec_spline.specs.Space.{segmentLimit, partSegmentLimit, breakLimit, spanLimit, degreeLimit, break, startsPart, partEnd, badBreak, spanTooLong, badDegree, badOrder, tooManySegments, partEndAt}
+use Rattle.spec_spline.specs.Space.{segmentLimit, partSegmentLimit, breakLimit, spanLimit, degreeLimit, break, startsPart, partEnd}
+use Rattle.spec_spline.specs.Space.{badBreak, spanTooLong, badDegree, badOrder, tooManySegments, partEndAt}
 use Rattle.base_outcome.specs.Tests.{refuseFirst}
 use Rattle.build_space.specs.Machine.{space}
 
 -- Number 3 of the parts: the first whose span is too long, at its last breakpoint.
 unfoldable pub spansChecked : List ℤ → List ℤ → List ℤ → Outcome (Unit {0})
-spansChecked breaks degrees orders = let s = space breaks degrees orders in refuseFirst 3 (partEndAt s (first (length degrees) (spanTooLong s))) (answer tt)
+spansChecked breaks degrees orders = let s = space breaks degrees orders in
+    refuseFirst 3 (partEndAt s (first (length degrees) (spanTooLong s))) (answer tt)
 
 -- Number 3: the first bad breakpoint, then the parts.
 unfoldable pub breaksChecked : List ℤ → List ℤ → List ℤ → Outcome (Unit {0})
-breaksChecked breaks degrees orders = refuseFirst 3 (first (length breaks) (badBreak (space breaks [] []))) (spansChecked breaks degrees orders)
+breaksChecked breaks degrees orders = refuseFirst 3 (first (length breaks) (badBreak (space breaks [] [])))
+    (spansChecked breaks degrees orders)
 
 -- Number 4.
 unfoldable pub degreesChecked : List ℤ → Outcome (Unit {0})
@@ -67,8 +70,10 @@ pub record ListsLegal (breaks degrees orders : List ℤ) : Type 0 where
   pub orders-legal : OrdersLegal orders
   pub left : (i : ℕ) → i < length orders → getD orders i (pos 0) <ℤ getD degrees i (pos 0)
   pub right : (i : ℕ) → i < length orders → getD orders i (pos 0) <ℤ getD degrees (suc i) (pos 0)
-  pub spans : (i : ℕ) → i < length degrees → let s = space breaks degrees orders in startsPart s i ≡ true → (break s (partEnd s i) -ℤ break s i) ≤ℤ pos spanLimit
-  pub part-counts : (i : ℕ) → i < length degrees → let s = space breaks degrees orders in startsPart s i ≡ true → partEnd s i - i ≤ partSegmentLimit
+  pub spans : (i : ℕ) → i < length degrees → let s = space breaks degrees orders in startsPart s i ≡ true
+      → (break s (partEnd s i) -ℤ break s i) ≤ℤ pos spanLimit
+  pub part-counts : (i : ℕ) → i < length degrees → let s = space breaks degrees orders in startsPart s i ≡ true
+      → partEnd s i - i ≤ partSegmentLimit
 
 -- The lists of one part: legal, and so few segments that the weights fit the buffers.
 pub record PartLegal (breaks degrees orders : List ℤ) : Type 0 where

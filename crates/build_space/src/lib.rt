@@ -7,10 +7,13 @@ ghost use lib.IntN.{pos};
 ghost use lib.ListN.{length};
 ghost use Rattle.base_outcome.specs.Outcome.{capped};
 ghost use Rattle.base_outcome.specs.Search.{first};
-ghost use Rattle.spec_spline.specs.Space.{segmentLimit, lengthsFit, badBreak, badDegree, badOrder, isDiscontinuity, startsPart, partEnd, spanTooLong, tooManySegments, checked, degree, width, conditionCount, firstColumn, conditionsBefore, rowCount};
+ghost use Rattle.spec_spline.specs.Space.{segmentLimit, lengthsFit, badBreak, badDegree, badOrder, isDiscontinuity, startsPart, partEnd};
+ghost use Rattle.spec_spline.specs.Space.{spanTooLong, tooManySegments, checked, degree, width, conditionCount, firstColumn};
+ghost use Rattle.spec_spline.specs.Space.{conditionsBefore, rowCount};
 ghost use Rattle.build_space.specs.Machine.{space};
 ghost use Rattle.base_outcome.specs.Machine.{legality, found};
-ghost use Rattle.build_space.specs.Legal.{BreaksLegal, DegreesLegal, OrdersLegal, JoinsLegal, breaksChecked, spansChecked, degreesChecked, ordersChecked, partsChecked};
+ghost use Rattle.build_space.specs.Legal.{BreaksLegal, DegreesLegal, OrdersLegal, JoinsLegal, breaksChecked, spansChecked};
+ghost use Rattle.build_space.specs.Legal.{degreesChecked, ordersChecked, partsChecked};
 use base_outcome::Found;
 use base_outcome::Legality;
 
@@ -120,7 +123,8 @@ pub fn part_end(degrees: &[i32], orders: &[i32], i: usize) -> usize
 
 // Whether segment i starts a part whose last breakpoint is too far from its first; all breakpoints are in their range.
 fn span_is_too_long(breaks: &[i32], degrees: &[i32], orders: &[i32], i: usize) -> bool
-    requires { ⌜ (i < length (now degrees)) × ((length (now degrees) ≡ length (now orders) + 1) × (length (now breaks) ≡ length (now degrees) + 1)) ⌝ }
+    requires { ⌜ (i < length (now degrees)) × ((length (now degrees) ≡ length (now orders) + 1)
+        × (length (now breaks) ≡ length (now degrees) + 1)) ⌝ }
     requires { ⌜ ((k : ℕ) → k < length (now breaks) → badBreak (space (now breaks) [] []) k ≡ false) ⌝ }
     ensures { λ r. ⌜ r ≡ spanTooLong (space (now (breaks .entry)) (now (degrees .entry)) (now (orders .entry))) i ⌝ }
 {
@@ -137,7 +141,8 @@ fn span_is_too_long(breaks: &[i32], degrees: &[i32], orders: &[i32], i: usize) -
 fn first_long_span(breaks: &[i32], degrees: &[i32], orders: &[i32]) -> Found
     requires { ⌜ (length (now degrees) ≡ length (now orders) + 1) × (length (now breaks) ≡ length (now degrees) + 1) ⌝ }
     requires { ⌜ ((k : ℕ) → k < length (now breaks) → badBreak (space (now breaks) [] []) k ≡ false) ⌝ }
-    ensures { λ r. ⌜ r ≡ found (first (length (now (degrees .entry))) (spanTooLong (space (now (breaks .entry)) (now (degrees .entry)) (now (orders .entry))))) ⌝ }
+    ensures { λ r. ⌜ r ≡ found (first (length (now (degrees .entry)))
+        (spanTooLong (space (now (breaks .entry)) (now (degrees .entry)) (now (orders .entry))))) ⌝ }
 {
     let n = degrees.len();
     let mut i = 0;
@@ -168,7 +173,8 @@ fn part_is_too_long(degrees: &[i32], orders: &[i32], i: usize) -> bool
 // The first segment of the first part of too many segments.
 fn first_long_part(degrees: &[i32], orders: &[i32]) -> Found
     requires { ⌜ length (now degrees) ≡ length (now orders) + 1 ⌝ }
-    ensures { λ r. ⌜ r ≡ found (first (length (now (degrees .entry))) (tooManySegments (space [] (now (degrees .entry)) (now (orders .entry))))) ⌝ }
+    ensures { λ r. ⌜ r ≡ found (first (length (now (degrees .entry)))
+        (tooManySegments (space [] (now (degrees .entry)) (now (orders .entry))))) ⌝ }
 {
     let n = degrees.len();
     let mut i = 0;

@@ -26,8 +26,10 @@ pub fn curve(
     den: &mut [i64],
     values: &mut [i32],
 ) -> Answer
-    ensures { λ r. ⌜ (let e = curveEnd (space (now (breaks .entry)) (now (degrees .entry)) (now (orders .entry))) (now (coefs .entry)) (now (positions .entry)) (now (num .entry)) (now (den .entry)) (now (values .entry)) in
-        (reply r ≡ e .answers) × ((now (num .exit) ≡ e .numerators) × ((now (den .exit) ≡ e .denominators) × (now (values .exit) ≡ e .values)))) ⌝ }
+    ensures { λ r. ⌜ (let e = curveEnd (space (now (breaks .entry)) (now (degrees .entry)) (now (orders .entry))) (now (coefs .entry))
+        (now (positions .entry)) (now (num .entry)) (now (den .entry)) (now (values .entry)) in
+        (reply r ≡ e .answers) × ((now (num .exit) ≡ e .numerators)
+        × ((now (den .exit) ≡ e .denominators) × (now (values .exit) ≡ e .values)))) ⌝ }
 {
     if num.len() < build_cells::TABLE_CELLS {
         return Answer::Refused(1, 0);

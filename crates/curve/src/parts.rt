@@ -29,11 +29,17 @@ fn build_part(
     early: &mut [i32],
     late: &mut [i32],
 ) -> Built
-    requires { ⌜ ListsLegal (now breaks) (now degrees) (now orders) × (Starts (space (now breaks) (now degrees) (now orders)) a × (b ≡ partEnd (space (now breaks) (now degrees) (now orders)) a)) ⌝ }
+    requires { ⌜ ListsLegal (now breaks) (now degrees) (now orders)
+        × (Starts (space (now breaks) (now degrees) (now orders)) a × (b ≡ partEnd (space (now breaks) (now degrees) (now orders)) a)) ⌝ }
     requires { ⌜ (tableCells ≤ length (now num)) × (tableCells ≤ length (now den)) ⌝ }
-    requires { ⌜ Coefficients (now coefs) (rowCount (space (now breaks) (now degrees) (now orders))) × (row + rowCount (partAt (space (now breaks) (now degrees) (now orders)) a) ≤ rowCount (space (now breaks) (now degrees) (now orders))) ⌝ }
-    requires { ⌜ (length (now early) ≡ columnCount (partAt (space (now breaks) (now degrees) (now orders)) a)) × (length (now late) ≡ columnCount (partAt (space (now breaks) (now degrees) (now orders)) a)) ⌝ }
-    ensures { λ r. ⌜ PartsLeave (partAt (space (now (breaks .entry)) (now (degrees .entry)) (now (orders .entry))) a) (λ wood i. Reading.coefficient wood (now (coefs .entry)) (row + i)) r (now (num .entry)) (now (den .entry)) (now (early .entry)) (now (late .entry)) (now (num .exit)) (now (den .exit)) (now (early .exit)) (now (late .exit)) ⌝ }
+    requires { ⌜ Coefficients (now coefs) (rowCount (space (now breaks) (now degrees) (now orders)))
+        × (row + rowCount (partAt (space (now breaks) (now degrees) (now orders)) a) ≤ rowCount
+        (space (now breaks) (now degrees) (now orders))) ⌝ }
+    requires { ⌜ (length (now early) ≡ columnCount (partAt (space (now breaks) (now degrees) (now orders)) a))
+        × (length (now late) ≡ columnCount (partAt (space (now breaks) (now degrees) (now orders)) a)) ⌝ }
+    ensures { λ r. ⌜ PartsLeave (partAt (space (now (breaks .entry)) (now (degrees .entry)) (now (orders .entry))) a)
+        (λ wood i. Reading.coefficient wood (now (coefs .entry)) (row + i)) r (now (num .entry)) (now (den .entry)) (now (early .entry))
+        (now (late .entry)) (now (num .exit)) (now (den .exit)) (now (early .exit)) (now (late .exit)) ⌝ }
 {
     let built = build::build(
         &breaks[a..b + 1],
@@ -64,10 +70,14 @@ pub fn build_parts(
     early: &mut [i32],
     late: &mut [i32],
 ) -> Built
-    requires { ⌜ ListsLegal (now breaks) (now degrees) (now orders) × Coefficients (now coefs) (rowCount (space (now breaks) (now degrees) (now orders))) ⌝ }
+    requires { ⌜ ListsLegal (now breaks) (now degrees) (now orders)
+        × Coefficients (now coefs) (rowCount (space (now breaks) (now degrees) (now orders))) ⌝ }
     requires { ⌜ (tableCells ≤ length (now num)) × (tableCells ≤ length (now den)) ⌝ }
-    requires { ⌜ (columnCount (space (now breaks) (now degrees) (now orders)) ≤ length (now early)) × (columnCount (space (now breaks) (now degrees) (now orders)) ≤ length (now late)) ⌝ }
-    ensures { λ r. ⌜ PartsLeave (space (now (breaks .entry)) (now (degrees .entry)) (now (orders .entry))) (λ wood. Reading.coefficient wood (now (coefs .entry))) r (now (num .entry)) (now (den .entry)) (now (early .entry)) (now (late .entry)) (now (num .exit)) (now (den .exit)) (now (early .exit)) (now (late .exit)) ⌝ }
+    requires { ⌜ (columnCount (space (now breaks) (now degrees) (now orders)) ≤ length (now early))
+        × (columnCount (space (now breaks) (now degrees) (now orders)) ≤ length (now late)) ⌝ }
+    ensures { λ r. ⌜ PartsLeave (space (now (breaks .entry)) (now (degrees .entry)) (now (orders .entry)))
+        (λ wood. Reading.coefficient wood (now (coefs .entry))) r (now (num .entry)) (now (den .entry)) (now (early .entry))
+        (now (late .entry)) (now (num .exit)) (now (den .exit)) (now (early .exit)) (now (late .exit)) ⌝ }
 {
     let mut row = 0;
     let mut column = 0;

@@ -39,10 +39,15 @@ fn write_all(
     positions: &[i32],
     values: &mut [i32],
 )
-    requires { ⌜ ListsLegal (now breaks) (now degrees) (now orders) × ((k : ℕ) → k < length (now positions) → Within (space (now breaks) (now degrees) (now orders)) (getD (now positions) k (pos 0))) ⌝ }
+    requires { ⌜ ListsLegal (now breaks) (now degrees) (now orders)
+        × ((k : ℕ) → k < length (now positions) → Within (space (now breaks) (now degrees) (now orders))
+        (getD (now positions) k (pos 0))) ⌝ }
     requires { ⌜ (now columns ≡ columnsOf (space [] (now degrees) [])) × (2 * length (now positions) ≤ length (now values)) ⌝ }
-    requires { ⌜ ((length (now earlywood) ≡ columnLimit) × Bounded (now earlywood)) × ((length (now latewood) ≡ columnLimit) × Bounded (now latewood)) ⌝ }
-    ensures { λ _. ⌜ now (values .exit) ≡ Reading.sideBySide (map (pairOf (space (now (breaks .entry)) (now (degrees .entry)) (now (orders .entry))) (now (earlywood .entry)) (now (latewood .entry))) (now (positions .entry))) ++ drop (2 * length (now (positions .entry))) (now (values .entry)) ⌝ }
+    requires { ⌜ ((length (now earlywood) ≡ columnLimit) × Bounded (now earlywood))
+        × ((length (now latewood) ≡ columnLimit) × Bounded (now latewood)) ⌝ }
+    ensures { λ _. ⌜ now (values .exit) ≡ Reading.sideBySide (map
+        (pairOf (space (now (breaks .entry)) (now (degrees .entry)) (now (orders .entry))) (now (earlywood .entry)) (now (latewood .entry)))
+        (now (positions .entry))) ++ drop (2 * length (now (positions .entry))) (now (values .entry)) ⌝ }
 {
     let firsts = curve_triangle::first_positions(breaks, degrees, orders);
     let mut at = 0;
@@ -70,10 +75,15 @@ pub fn write_values(
     positions: &[i32],
     values: &mut [i32],
 )
-    requires { ⌜ ListsLegal (now breaks) (now degrees) (now orders) × ((k : ℕ) → k < length (now positions) → Within (space (now breaks) (now degrees) (now orders)) (getD (now positions) k (pos 0))) ⌝ }
+    requires { ⌜ ListsLegal (now breaks) (now degrees) (now orders)
+        × ((k : ℕ) → k < length (now positions) → Within (space (now breaks) (now degrees) (now orders))
+        (getD (now positions) k (pos 0))) ⌝ }
     requires { ⌜ 2 * length (now positions) ≤ length (now values) ⌝ }
-    requires { ⌜ ((length (now earlywood) ≡ columnLimit) × Bounded (now earlywood)) × ((length (now latewood) ≡ columnLimit) × Bounded (now latewood)) ⌝ }
-    ensures { λ _. ⌜ now (values .exit) ≡ Reading.sideBySide (map (pairOf (space (now (breaks .entry)) (now (degrees .entry)) (now (orders .entry))) (now (earlywood .entry)) (now (latewood .entry))) (now (positions .entry))) ++ drop (2 * length (now (positions .entry))) (now (values .entry)) ⌝ }
+    requires { ⌜ ((length (now earlywood) ≡ columnLimit) × Bounded (now earlywood))
+        × ((length (now latewood) ≡ columnLimit) × Bounded (now latewood)) ⌝ }
+    ensures { λ _. ⌜ now (values .exit) ≡ Reading.sideBySide (map
+        (pairOf (space (now (breaks .entry)) (now (degrees .entry)) (now (orders .entry))) (now (earlywood .entry)) (now (latewood .entry)))
+        (now (positions .entry))) ++ drop (2 * length (now (positions .entry))) (now (values .entry)) ⌝ }
 {
     let columns = first_columns(degrees);
     write_all(

@@ -13,7 +13,8 @@ use Rattle.spec_spline.specs.CurveCall.{badCoefficient}
 
 -- Number 6: the count first, two numbers a row.
 unfoldable pub coefficientsChecked : Space → List ℤ → Outcome (Unit {0})
-coefficientsChecked s coefs = cond (eqb (length coefs) (2 * rowCount s)) (refuseFirst 6 (first (length coefs) (badCoefficient coefs)) (answer tt)) (refuse 6 largestPlace)
+coefficientsChecked s coefs = cond (eqb (length coefs) (2 * rowCount s))
+    (refuseFirst 6 (first (length coefs) (badCoefficient coefs)) (answer tt)) (refuse 6 largestPlace)
 
 -- Entry i of a list lies outside the two bounds.
 abbrev pub outside : List ℤ → ℤ → ℤ → ℕ → Bool

@@ -60,7 +60,8 @@ fn check_coefficients(degrees: &[i32], orders: &[i32], coefs: &[i32]) -> Legalit
 // Number 7 of a legal space.
 fn check_positions(breaks: &[i32], m: usize, positions: &[i32]) -> Legality
     requires { ⌜ (length (now breaks) ≡ m + 1) × BreaksLegal (now breaks) ⌝ }
-    ensures { λ r. ⌜ r ≡ legality (positionsChecked (now (positions .entry)) (fine (getD (now (breaks .entry)) 0 (pos 0))) (fine (getD (now (breaks .entry)) m (pos 0)))) ⌝ }
+    ensures { λ r. ⌜ r ≡ legality (positionsChecked (now (positions .entry)) (fine (getD (now (breaks .entry)) 0 (pos 0)))
+        (fine (getD (now (breaks .entry)) m (pos 0)))) ⌝ }
 {
     let low = 256 * breaks[0];
     let high = 256 * breaks[m];
@@ -80,7 +81,9 @@ fn check_entries(
     positions: &[i32],
 ) -> Legality
     requires { ⌜ ListsLegal (now breaks) (now degrees) (now orders) ⌝ }
-    ensures { λ r. ⌜ r ≡ legality (legalEntries (space (now (breaks .entry)) (now (degrees .entry)) (now (orders .entry))) (now (coefs .entry)) (now (positions .entry)) (answer (space (now (breaks .entry)) (now (degrees .entry)) (now (orders .entry))))) ⌝ }
+    ensures { λ r. ⌜ r ≡ legality (legalEntries (space (now (breaks .entry)) (now (degrees .entry)) (now (orders .entry)))
+        (now (coefs .entry)) (now (positions .entry)) (answer (space (now (breaks .entry)) (now (degrees .entry))
+        (now (orders .entry))))) ⌝ }
 {
     let c = check_coefficients(degrees, orders, coefs);
     match c {
@@ -97,7 +100,8 @@ pub fn check(
     coefs: &[i32],
     positions: &[i32],
 ) -> Legality
-    ensures { λ r. ⌜ r ≡ legality (curveChecked (space (now (breaks .entry)) (now (degrees .entry)) (now (orders .entry))) (now (coefs .entry)) (now (positions .entry))) ⌝ }
+    ensures { λ r. ⌜ r ≡ legality (curveChecked (space (now (breaks .entry)) (now (degrees .entry)) (now (orders .entry)))
+        (now (coefs .entry)) (now (positions .entry))) ⌝ }
 {
     if !build_space::lengths_fit(breaks, degrees, orders) {
         return Legality::Refused(2, 0);

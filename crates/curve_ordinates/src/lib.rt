@@ -54,7 +54,8 @@ fn greater(some: bool, a: i64, b: i64) -> i64
 
 // One more coefficient with weight num / den.
 fn with_term(before: Terms, a: i64, num: i64, den: i64) -> Terms
-    requires { ⌜ (natAbs a ≤ coefficientLimit) × ((natAbs den < 2 ^ 31) × ((pos 0 <ℤ den) × ((natAbs num ≤ natAbs den) × (natAbs (before .sum) < 2 ^ 62)))) ⌝ }
+    requires { ⌜ (natAbs a ≤ coefficientLimit) × ((natAbs den < 2 ^ 31)
+        × ((pos 0 <ℤ den) × ((natAbs num ≤ natAbs den) × (natAbs (before .sum) < 2 ^ 62)))) ⌝ }
     ensures { λ r. ⌜ Added before a num den r ⌝ }
 {
     let term = base_fraction::round_div(256 * a * num, den);
@@ -80,7 +81,8 @@ fn at_most(high: i64, x: i64) -> i64
 // The sum within 256 times the least and the greatest coefficient.
 fn limited(terms: Terms) -> i64
     requires { ⌜ (natAbs (terms .least) ≤ coefficientLimit) × (natAbs (terms .greatest) ≤ coefficientLimit) ⌝ }
-    ensures { λ r. ⌜ r ≡ Reading.atMost (given (terms .some) (terms .greatest)) (Reading.atLeast (given (terms .some) (terms .least)) (terms .sum)) ⌝ }
+    ensures { λ r. ⌜ r ≡ Reading.atMost (given (terms .some) (terms .greatest))
+        (Reading.atLeast (given (terms .some) (terms .least)) (terms .sum)) ⌝ }
 {
     let sum = terms.sum;
     if !terms.some {
@@ -107,7 +109,8 @@ fn wood_index(wood: Wood) -> usize
 // The terms of column c over the first n rows, each with the coefficient at this index among its two.
 fn column_terms(num: &[i64], den: &[i64], coefs: &[i32], index: usize, n: usize, c: usize) -> Terms
     requires { ⌜ ((c < rowCells) × (index < 2)) × (Weighs (now num) (now den) n × Coefficients (now coefs) n) ⌝ }
-    ensures { λ r. ⌜ ((t : Table) → Holds (now (num .entry)) (now (den .entry)) t → r ≡ termsOf t (entries (now (coefs .entry)) index) c n) ⌝ }
+    ensures { λ r. ⌜ ((t : Table) → Holds (now (num .entry)) (now (den .entry)) t
+        → r ≡ termsOf t (entries (now (coefs .entry)) index) c n) ⌝ }
 {
     let mut all = Terms {
         some: false,

@@ -20,7 +20,8 @@ use Rattle.curve_pieces.specs.Pieces.{Piece, pieceOutcome, pieceEnd}
 
 -- The piece's polynomial at position x of segment k, in the units of the values.
 unfoldable pub polynomialAt : Space → Piece → ℕ → ℤ → ℚ
-polynomialAt s p k x = sum (suc (degree s k)) (λ t. int (getD (p .ordinates) t (pos 0)) *ᵠ bernsteinAt (degree s k) (fineWidth s k) (offset s k x) t)
+polynomialAt s p k x = sum (suc (degree s k)) (λ t. int (getD (p .ordinates) t (pos 0)) *ᵠ bernsteinAt (degree s k) (fineWidth s k)
+    (offset s k x) t)
 
 -- s/2 of segment k.
 abbrev pub halfTheWeights : Space → Table → ℕ → ℚ
@@ -34,7 +35,8 @@ pub record WithinHalfTheWeights (s : Space) (wood : Wood) (coefs : List ℤ) (p 
 
 -- At every position that belongs to the segment.
 abbrev pub PiecesAreClose : Type 0
-PiecesAreClose = (s : Space) (wood : Wood) (coefs : List ℤ) (k numLength denLength : ℕ) (p : Piece) → pieceOutcome s wood coefs k numLength denLength ≡ answer p
+PiecesAreClose = (s : Space) (wood : Wood) (coefs : List ℤ) (k numLength denLength : ℕ) (p : Piece)
+    → pieceOutcome s wood coefs k numLength denLength ≡ answer p
     → (x : ℤ) → InSpan s x → segmentAt s x ≡ k → WithinHalfTheWeights s wood coefs p k x
 
 -- The piece is the value itself at a breakpoint x.
@@ -44,12 +46,14 @@ pub record IsTheValue (s : Space) (wood : Wood) (coefs : List ℤ) (p : Piece) (
 
 -- At the end of its segment, whichever segment that position belongs to.
 abbrev pub PiecesEndAtTheValue : Type 0
-PiecesEndAtTheValue = (s : Space) (wood : Wood) (coefs : List ℤ) (k numLength denLength : ℕ) (p : Piece) → pieceOutcome s wood coefs k numLength denLength ≡ answer p
+PiecesEndAtTheValue = (s : Space) (wood : Wood) (coefs : List ℤ) (k numLength denLength : ℕ) (p : Piece)
+    → pieceOutcome s wood coefs k numLength denLength ≡ answer p
     → IsTheValue s wood coefs p k (fine (break s (suc k)))
 
 -- At its start too, unless the join there has order -1.
 abbrev pub PiecesStartAtTheValue : Type 0
-PiecesStartAtTheValue = (s : Space) (wood : Wood) (coefs : List ℤ) (k numLength denLength : ℕ) (p : Piece) → pieceOutcome s wood coefs k numLength denLength ≡ answer p
+PiecesStartAtTheValue = (s : Space) (wood : Wood) (coefs : List ℤ) (k numLength denLength : ℕ) (p : Piece)
+    → pieceOutcome s wood coefs k numLength denLength ≡ answer p
     → startsAtDiscontinuity s k ≡ false → IsTheValue s wood coefs p k (fine (break s k))
 
 -- Number 9 never comes, whatever the call is given.

@@ -51,4 +51,8 @@ pub record PieceEnd : Type 0 where
 abbrev pub pieceEnd : Space → Wood → List ℤ → ℕ → List ℤ → List ℤ → PieceEnd
 pieceEnd s wood coefs k num den =
     let o = curveAlone s coefs (length num) (length den) in
-    record { answers = pieceOutcome s wood coefs k (length num) (length den); numerators = curveNumerators s o num; denominators = curveDenominators s o den }
+    record {
+      answers = pieceOutcome s wood coefs k (length num) (length den);
+      numerators = curveNumerators s o num;
+      denominators = curveDenominators s o den;
+    }

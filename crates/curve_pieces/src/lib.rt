@@ -72,7 +72,8 @@ fn float_at(ordinates: &[i32], i: usize) -> f64
 
 // The ordinates from this column on, as many as the degree asks.
 fn curve_at(ordinates: &[i32], column: usize, degree: usize) -> Curve
-    requires { ⌜ ((1 ≤ degree) × (degree ≤ drawableDegree)) × ((column + degree < length (now ordinates)) × (length (now ordinates) ≤ columnLimit)) ⌝ }
+    requires { ⌜ ((1 ≤ degree) × (degree ≤ drawableDegree)) × ((column + degree < length (now ordinates))
+        × (length (now ordinates) ≤ columnLimit)) ⌝ }
     ensures { λ r. ⌜ Each fineness (floats r) (tab (1 + degree) (λ i. getD (now (ordinates .entry)) (column + i) (pos 0))) ⌝ }
 {
     let a = float_at(ordinates, column);
@@ -90,9 +91,11 @@ fn curve_at(ordinates: &[i32], column: usize, degree: usize) -> Curve
 
 // The piece of segment k, whose degree the screen draws.
 fn piece_at(breaks: &[i32], degrees: &[i32], orders: &[i32], ordinates: &[i32], k: usize) -> Drawing
-    requires { ⌜ ListsLegal (now breaks) (now degrees) (now orders) × ((k < length (now degrees)) × (Space.degree (space (now breaks) (now degrees) (now orders)) k ≤ drawableDegree)) ⌝ }
+    requires { ⌜ ListsLegal (now breaks) (now degrees) (now orders)
+        × ((k < length (now degrees)) × (Space.degree (space (now breaks) (now degrees) (now orders)) k ≤ drawableDegree)) ⌝ }
     requires { ⌜ length (now ordinates) ≡ columnLimit ⌝ }
-    ensures { λ r. ⌜ Shows r (pieceHeld (space (now (breaks .entry)) (now (degrees .entry)) (now (orders .entry))) (now (ordinates .entry)) k) ⌝ }
+    ensures { λ r. ⌜ Shows r (pieceHeld (space (now (breaks .entry)) (now (degrees .entry)) (now (orders .entry))) (now (ordinates .entry))
+        k) ⌝ }
 {
     let column = build_space::first_column(degrees, k);
     let degree = build_space::degree_at(degrees, k);
@@ -106,7 +109,8 @@ fn piece_at(breaks: &[i32], degrees: &[i32], orders: &[i32], ordinates: &[i32], 
 // The piece of the named segment, or number 17.
 fn draw(breaks: &[i32], degrees: &[i32], orders: &[i32], ordinates: &[i32], segment: u32) -> Answer
     requires { ⌜ ListsLegal (now breaks) (now degrees) (now orders) × (length (now ordinates) ≡ columnLimit) ⌝ }
-    ensures { λ r. ⌜ Replies r (drawnHeld (space (now (breaks .entry)) (now (degrees .entry)) (now (orders .entry))) (now (ordinates .entry)) segment) ⌝ }
+    ensures { λ r. ⌜ Replies r (drawnHeld (space (now (breaks .entry)) (now (degrees .entry)) (now (orders .entry)))
+        (now (ordinates .entry)) segment) ⌝ }
 {
     let k = segment as usize;
     if k >= degrees.len() {
@@ -131,7 +135,8 @@ pub fn piece(
     num: &mut [i64],
     den: &mut [i64],
 ) -> Answer
-    ensures { λ r. ⌜ (let e = pieceEnd (space (now (breaks .entry)) (now (degrees .entry)) (now (orders .entry))) (woodOf wood) (now (coefs .entry)) segment (now (num .entry)) (now (den .entry)) in
+    ensures { λ r. ⌜ (let e = pieceEnd (space (now (breaks .entry)) (now (degrees .entry)) (now (orders .entry))) (woodOf wood)
+        (now (coefs .entry)) segment (now (num .entry)) (now (den .entry)) in
         Replies r (e .answers) × ((now (num .exit) ≡ e .numerators) × (now (den .exit) ≡ e .denominators))) ⌝ }
 {
     let mut early = [0; curve_triangle::MAX_COLUMNS];

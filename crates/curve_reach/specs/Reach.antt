@@ -46,4 +46,8 @@ pub record ReachEnd : Type 0 where
 abbrev pub reachEnd : Space → Wood → List ℤ → ℤ → List ℤ → List ℤ → ReachEnd
 reachEnd s wood coefs width num den =
     let o = curveAlone s coefs (length num) (length den) in
-    record { answers = reachOutcome s wood coefs width (length num) (length den); numerators = curveNumerators s o num; denominators = curveDenominators s o den }
+    record {
+      answers = reachOutcome s wood coefs width (length num) (length den);
+      numerators = curveNumerators s o num;
+      denominators = curveDenominators s o den;
+    }

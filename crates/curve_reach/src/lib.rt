@@ -32,7 +32,8 @@ fn first_reach(
     width: i32,
 ) -> Answer
     requires { ⌜ ListsLegal (now breaks) (now degrees) (now orders) × ((length (now ordinates) ≡ columnLimit) × Bounded (now ordinates)) ⌝ }
-    ensures { λ r. ⌜ (let s = space (now (breaks .entry)) (now (degrees .entry)) (now (orders .entry)) in reply r ≡ reachedAt s (Search.first (positionCount s) (reachesHeld s (now (ordinates .entry)) (fine width)))) ⌝ }
+    ensures { λ r. ⌜ (let s = space (now (breaks .entry)) (now (degrees .entry)) (now (orders .entry)) in
+        reply r ≡ reachedAt s (Search.first (positionCount s) (reachesHeld s (now (ordinates .entry)) (fine width)))) ⌝ }
 {
     let target = 256 * width as i64;
     let found = crate::search::search(breaks, degrees, orders, ordinates, target);
@@ -52,8 +53,11 @@ fn part_reach(
     late: &[i32],
     width: i32,
 ) -> Answer
-    requires { ⌜ ListsLegal (now breaks) (now degrees) (now orders) × (((length (now early) ≡ columnLimit) × Bounded (now early)) × ((length (now late) ≡ columnLimit) × Bounded (now late))) ⌝ }
-    ensures { λ r. ⌜ (let s = space (now (breaks .entry)) (now (degrees .entry)) (now (orders .entry)) in reply r ≡ reachedAt s (Search.first (positionCount s) (reachesHeld s (chosen (woodOf wood) (now (early .entry)) (now (late .entry))) (fine width)))) ⌝ }
+    requires { ⌜ ListsLegal (now breaks) (now degrees) (now orders)
+        × (((length (now early) ≡ columnLimit) × Bounded (now early)) × ((length (now late) ≡ columnLimit) × Bounded (now late))) ⌝ }
+    ensures { λ r. ⌜ (let s = space (now (breaks .entry)) (now (degrees .entry)) (now (orders .entry)) in
+        reply r ≡ reachedAt s (Search.first (positionCount s) (reachesHeld s (chosen (woodOf wood) (now (early .entry)) (now (late .entry)))
+        (fine width)))) ⌝ }
 {
     match wood {
         Wood::Earlywood => first_reach(breaks, degrees, orders, early, width),
@@ -73,7 +77,8 @@ pub fn reach(
     num: &mut [i64],
     den: &mut [i64],
 ) -> Answer
-    ensures { λ r. ⌜ (let e = reachEnd (space (now (breaks .entry)) (now (degrees .entry)) (now (orders .entry))) (woodOf wood) (now (coefs .entry)) width (now (num .entry)) (now (den .entry)) in
+    ensures { λ r. ⌜ (let e = reachEnd (space (now (breaks .entry)) (now (degrees .entry)) (now (orders .entry))) (woodOf wood)
+        (now (coefs .entry)) width (now (num .entry)) (now (den .entry)) in
         (reply r ≡ e .answers) × ((now (num .exit) ≡ e .numerators) × (now (den .exit) ≡ e .denominators))) ⌝ }
 {
     let mut early = [0; curve_triangle::MAX_COLUMNS];

@@ -118,7 +118,8 @@ fn step_through(
     end: usize,
     target: i64,
 ) -> usize
-    requires { ⌜ ((1 ≤ p) × ((p ≤ degreeLimit) × (c + p < columnLimit))) × ((length (now ordinates) ≡ columnLimit) × Bounded (now ordinates)) ⌝ }
+    requires { ⌜ ((1 ≤ p) × ((p ≤ degreeLimit) × (c + p < columnLimit)))
+        × ((length (now ordinates) ≡ columnLimit) × Bounded (now ordinates)) ⌝ }
     requires { ⌜ ((0 < d) × (d ≤ fineness * spanLimit)) × ((end ≤ suc d) × (target ≤ℤ pos ordinateLimit)) ⌝ }
     ensures { λ r. ⌜ Machine.LeastFrom (Machine.valueOn (now (ordinates .entry)) c p d) target start end r ⌝ }
 {
@@ -147,7 +148,8 @@ fn first_offset(
     end: usize,
     target: i64,
 ) -> usize
-    requires { ⌜ ((1 ≤ p) × ((p ≤ degreeLimit) × (c + p < columnLimit))) × ((length (now ordinates) ≡ columnLimit) × Bounded (now ordinates)) ⌝ }
+    requires { ⌜ ((1 ≤ p) × ((p ≤ degreeLimit) × (c + p < columnLimit)))
+        × ((length (now ordinates) ≡ columnLimit) × Bounded (now ordinates)) ⌝ }
     requires { ⌜ ((0 < d) × (d ≤ fineness * spanLimit)) × ((end ≤ suc d) × (start ≤ end)) ⌝ }
     ensures { λ r. ⌜ Machine.LeastFrom (Machine.valueOn (now (ordinates .entry)) c p d) target start end r ⌝ }
 {
@@ -192,7 +194,8 @@ pub fn search(
     target: i64,
 ) -> Found
     requires { ⌜ ListsLegal (now breaks) (now degrees) (now orders) × ((length (now ordinates) ≡ columnLimit) × Bounded (now ordinates)) ⌝ }
-    ensures { λ r. ⌜ (let s = space (now (breaks .entry)) (now (degrees .entry)) (now (orders .entry)) in r ≡ Machine.found s (first (positionCount s) (Machine.reachesHeld s (now (ordinates .entry)) target))) ⌝ }
+    ensures { λ r. ⌜ (let s = space (now (breaks .entry)) (now (degrees .entry)) (now (orders .entry)) in
+        r ≡ Machine.found s (first (positionCount s) (Machine.reachesHeld s (now (ordinates .entry)) target))) ⌝ }
 {
     let mut column = 0;
     let mut start = 0;

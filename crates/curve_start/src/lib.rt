@@ -19,7 +19,9 @@ pub fn build_curves(
     late: &mut [i32],
 ) -> Built
     requires { ⌜ (length (now early) ≡ columnLimit) × (length (now late) ≡ columnLimit) ⌝ }
-    ensures { λ r. ⌜ CurvesLeave (now (breaks .entry)) (now (degrees .entry)) (now (orders .entry)) (now (coefs .entry)) r (now (num .entry)) (now (den .entry)) (now (early .entry)) (now (late .entry)) (now (num .exit)) (now (den .exit)) (now (early .exit)) (now (late .exit)) ⌝ }
+    ensures { λ r. ⌜ CurvesLeave (now (breaks .entry)) (now (degrees .entry)) (now (orders .entry)) (now (coefs .entry)) r
+        (now (num .entry)) (now (den .entry)) (now (early .entry)) (now (late .entry)) (now (num .exit)) (now (den .exit))
+        (now (early .exit)) (now (late .exit)) ⌝ }
 {
     if num.len() < build_cells::TABLE_CELLS {
         return Built::Refused(1, 0);

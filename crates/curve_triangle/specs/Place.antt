@@ -10,7 +10,12 @@ use Rattle.curve_triangle.specs.declared.Place.{Place}
 
 -- The place of position x.
 unfoldable pub placeOf : splines.Space → ℤ → Place
-placeOf s x = let i = reading.segmentAt s x in record { column = splines.firstColumn s i; degree = splines.degree s i; offset = reading.offset s i x; width = pos (reading.fineWidth s i) }
+placeOf s x = let i = reading.segmentAt s x in record {
+  column = splines.firstColumn s i;
+  degree = splines.degree s i;
+  offset = reading.offset s i x;
+  width = pos (reading.fineWidth s i);
+}
 
 -- At most six columns, all within an array of 288, and an offset within the segment.
 pub record Sound (p : Place) : Type 0 where

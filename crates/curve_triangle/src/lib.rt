@@ -100,7 +100,8 @@ fn segment_at(firsts: &[i32], m: usize, x: i32) -> usize
 // The segment of position x. The one given, of the position before, is tried first: most lists rise.
 pub fn segment_near(firsts: &[i32], m: usize, x: i32, near: usize) -> usize
     requires { ⌜ (near < m) × (m ≤ length (now firsts)) ⌝ }
-    ensures { λ r. ⌜ ((b d o : List ℤ) → ListsLegal b d o → now (firsts .entry) ≡ firstPositionsOf (space b d o) → length d ≡ m → r ≡ Reading.segmentAt (space b d o) x) ⌝ }
+    ensures { λ r. ⌜ ((b d o : List ℤ) → ListsLegal b d o → now (firsts .entry) ≡ firstPositionsOf (space b d o) → length d ≡ m
+        → r ≡ Reading.segmentAt (space b d o) x) ⌝ }
 {
     let first = firsts[near];
     if first <= x {
@@ -151,9 +152,11 @@ fn offset(breaks: &[i32], i: usize, x: i32) -> i64
 
 // The place of position x, which lies in segment i.
 pub fn place_at(breaks: &[i32], degrees: &[i32], columns: &[usize], i: usize, x: i32) -> Place
-    requires { ⌜ ((o : List ℤ) × (ListsLegal (now breaks) (now degrees) o × (Within (space (now breaks) (now degrees) o) x × (i ≡ Reading.segmentAt (space (now breaks) (now degrees) o) x)))) ⌝ }
+    requires { ⌜ ((o : List ℤ) × (ListsLegal (now breaks) (now degrees) o
+        × (Within (space (now breaks) (now degrees) o) x × (i ≡ Reading.segmentAt (space (now breaks) (now degrees) o) x)))) ⌝ }
     requires { ⌜ now columns ≡ columnsOf (space [] (now degrees) []) ⌝ }
-    ensures { λ r. ⌜ ((o : List ℤ) → i ≡ Reading.segmentAt (space (now (breaks .entry)) (now (degrees .entry)) o) x → r ≡ placeOf (space (now (breaks .entry)) (now (degrees .entry)) o) x) × Sound r ⌝ }
+    ensures { λ r. ⌜ ((o : List ℤ) → i ≡ Reading.segmentAt (space (now (breaks .entry)) (now (degrees .entry)) o) x
+        → r ≡ placeOf (space (now (breaks .entry)) (now (degrees .entry)) o) x) × Sound r ⌝ }
 {
     let p = build_space::degree_at(degrees, i);
     let u = offset(breaks, i, x);
@@ -169,8 +172,10 @@ pub fn place_at(breaks: &[i32], degrees: &[i32], columns: &[usize], i: usize, x:
 
 // The value of the p + 1 ordinates from column c on, at the offset with this rate.
 fn value_of(ordinates: &[i32], c: usize, p: usize, high: i64, low: i64) -> i32
-    requires { ⌜ ((p ≤ 5) × (c + p < columnLimit)) × (((u : ℤ) × ((d : ℤ) × Rated high low u d)) × ((length (now ordinates) ≡ columnLimit) × Bounded (now ordinates))) ⌝ }
-    ensures { λ r. ⌜ ((u d : ℤ) → Rated high low u d → r ≡ Reading.triangle (natAbs d) u (λ k. getD (now (ordinates .entry)) (c + k) (pos 0)) p 0) ⌝ }
+    requires { ⌜ ((p ≤ 5) × (c + p < columnLimit)) × (((u : ℤ) × ((d : ℤ) × Rated high low u d))
+        × ((length (now ordinates) ≡ columnLimit) × Bounded (now ordinates))) ⌝ }
+    ensures { λ r. ⌜ ((u d : ℤ) → Rated high low u d → r ≡ Reading.triangle (natAbs d) u
+        (λ k. getD (now (ordinates .entry)) (c + k) (pos 0)) p 0) ⌝ }
 {
     let o = local_ordinates(ordinates, c, p);
     let v = crate::triangle::triangle(o, p, high, low);
@@ -180,8 +185,10 @@ fn value_of(ordinates: &[i32], c: usize, p: usize, high: i64, low: i64) -> i32
 // The same. Each degree has an arm, in which the count of ordinates and of stages is known, so that the ordinates stay in
 // registers.
 fn value_by(ordinates: &[i32], c: usize, p: usize, high: i64, low: i64) -> i32
-    requires { ⌜ ((p ≤ 5) × (c + p < columnLimit)) × (((u : ℤ) × ((d : ℤ) × Rated high low u d)) × ((length (now ordinates) ≡ columnLimit) × Bounded (now ordinates))) ⌝ }
-    ensures { λ r. ⌜ ((u d : ℤ) → Rated high low u d → r ≡ Reading.triangle (natAbs d) u (λ k. getD (now (ordinates .entry)) (c + k) (pos 0)) p 0) ⌝ }
+    requires { ⌜ ((p ≤ 5) × (c + p < columnLimit)) × (((u : ℤ) × ((d : ℤ) × Rated high low u d))
+        × ((length (now ordinates) ≡ columnLimit) × Bounded (now ordinates))) ⌝ }
+    ensures { λ r. ⌜ ((u d : ℤ) → Rated high low u d → r ≡ Reading.triangle (natAbs d) u
+        (λ k. getD (now (ordinates .entry)) (c + k) (pos 0)) p 0) ⌝ }
 {
     match p {
         1 => value_of(ordinates, c, 1, high, low),
@@ -204,7 +211,8 @@ pub fn value_at(ordinates: &[i32], place: Place) -> i32
 
 // The values of both woods at a place, by one rate.
 pub fn pair_at(earlywood: &[i32], latewood: &[i32], place: Place) -> Pair
-    requires { ⌜ Sound place × (((length (now earlywood) ≡ columnLimit) × Bounded (now earlywood)) × ((length (now latewood) ≡ columnLimit) × Bounded (now latewood))) ⌝ }
+    requires { ⌜ Sound place × (((length (now earlywood) ≡ columnLimit) × Bounded (now earlywood))
+        × ((length (now latewood) ≡ columnLimit) × Bounded (now latewood))) ⌝ }
     ensures { λ r. ⌜ (r .early ≡ valueOf (now (earlywood .entry)) place) × (r .late ≡ valueOf (now (latewood .entry)) place) ⌝ }
 {
     let c = place.column;

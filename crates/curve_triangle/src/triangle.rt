@@ -78,7 +78,8 @@ fn blend(g: i64, h: i64, high: i64, low: i64) -> i64
 // One stage: the first n numbers are blended with their neighbours.
 fn stage(o: [i64; 6], n: usize, high: i64, low: i64) -> [i64; 6]
     requires { ⌜ (n ≤ 5) × (Bounded o × ((u : ℤ) × ((d : ℤ) × Rated high low u d))) ⌝ }
-    ensures { λ r. ⌜ ((u d : ℤ) → Rated high low u d → (k : ℕ) → k < n → getD r k (pos 0) ≡ Reading.blend (natAbs d) u (getD o k (pos 0)) (getD o (suc k) (pos 0))) × Bounded r ⌝ }
+    ensures { λ r. ⌜ ((u d : ℤ) → Rated high low u d → (k : ℕ) → k < n
+        → getD r k (pos 0) ≡ Reading.blend (natAbs d) u (getD o k (pos 0)) (getD o (suc k) (pos 0))) × Bounded r ⌝ }
 {
     let mut r = o;
     let mut k = 0;
@@ -95,7 +96,8 @@ fn stage(o: [i64; 6], n: usize, high: i64, low: i64) -> [i64; 6]
 // All p stages: what is left of p + 1 ordinates.
 pub fn triangle(o: [i64; 6], p: usize, high: i64, low: i64) -> i64
     requires { ⌜ (p ≤ 5) × (Bounded o × ((u : ℤ) × ((d : ℤ) × Rated high low u d))) ⌝ }
-    ensures { λ r. ⌜ ((u d : ℤ) → Rated high low u d → r ≡ Reading.triangle (natAbs d) u (λ k. getD o k (pos 0)) p 0) × (natAbs r ≤ ordinateLimit) ⌝ }
+    ensures { λ r. ⌜ ((u d : ℤ) → Rated high low u d → r ≡ Reading.triangle (natAbs d) u (λ k. getD o k (pos 0)) p 0)
+        × (natAbs r ≤ ordinateLimit) ⌝ }
 {
     let mut r = o;
     let mut n = p;

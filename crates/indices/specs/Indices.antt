@@ -86,7 +86,8 @@ ringsRead s coefs firstRing widths numLength denLength valuesLength indicesLengt
 
 -- And then 14, "place the first such entry", or the indices.
 unfoldable pub ringsIndexed : Wood → List ℤ → CurveResult → Outcome (List ℤ)
-ringsIndexed wood widths r = refuseFirst 14 (first (length widths) (badRing wood widths (r .values))) (answer (ringIndices wood widths (r .values)))
+ringsIndexed wood widths r = refuseFirst 14 (first (length widths) (badRing wood widths (r .values)))
+    (answer (ringIndices wood widths (r .values)))
 
 -- "The call returns the rings' count".
 abbrev pub indicesReturned : Outcome (List ℤ) → Outcome ℕ

@@ -61,4 +61,5 @@ cellIndex widths cells offset i = indexOf (ringWidth widths i) (getD cells (2 * 
 
 -- Number 14 at the first ring that it refuses, or the indices.
 unfoldable pub cellsIndexed : List ℤ → List ℤ → ℕ → Outcome (List ℤ)
-cellsIndexed widths cells offset = refuseFirst 14 (first (length widths) (badCell widths cells offset)) (answer (tab (length widths) (cellIndex widths cells offset)))
+cellsIndexed widths cells offset = refuseFirst 14 (first (length widths) (badCell widths cells offset))
+    (answer (tab (length widths) (cellIndex widths cells offset)))

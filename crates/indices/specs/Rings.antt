@@ -58,7 +58,8 @@ indexCell c i = getD (endOf c .indices) i (pos 0)
 
 -- The curve call at the rings' positions is within document 01's limits.
 abbrev pub CurveIsLegal : RingsCall → Type 0
-CurveIsLegal c = Legal (c .space) (c .coefs) (ringPositions (c .firstRing) (ringCount c)) (length (c .num)) (length (c .den)) (length (c .values))
+CurveIsLegal c = Legal (c .space) (c .coefs) (ringPositions (c .firstRing) (ringCount c)) (length (c .num)) (length (c .den))
+    (length (c .values))
 
 -- ---- which calls answer
 
@@ -66,7 +67,8 @@ CurveIsLegal c = Legal (c .space) (c .coefs) (ringPositions (c .firstRing) (ring
 -- place the first such entry".
 abbrev pub LegalRingsEnd : Type 0
 LegalRingsEnd = (c : RingsCall) → CurveIsLegal c → ringCount c ≤ length (c .indices)
-    → endOf c .answers ≡ refuseFirst 14 (first (ringCount c) (λ i. isRefused (ringWidth (c .widths) i) (valueCell c i))) (answer (ringCount c))
+    → endOf c .answers ≡ refuseFirst 14 (first (ringCount c) (λ i. isRefused (ringWidth (c .widths) i) (valueCell c i)))
+    (answer (ringCount c))
 
 -- All buffers but the indices are then as after the curve call's answer, also after 14: "the values too".
 abbrev pub LegalRingsLeaveTheCurve : Type 0
@@ -76,7 +78,8 @@ LegalRingsLeaveTheCurve = (c : RingsCall) → CurveIsLegal c → ringCount c ≤
 
 -- Only such calls answer, and they "return the rings' count".
 abbrev pub AnsweredRingsAreLegal : Type 0
-AnsweredRingsAreLegal = (c : RingsCall) (n : ℕ) → endOf c .answers ≡ answer n → CurveIsLegal c × ((ringCount c ≤ length (c .indices)) × (n ≡ ringCount c))
+AnsweredRingsAreLegal = (c : RingsCall) (n : ℕ) → endOf c .answers ≡ answer n → CurveIsLegal c
+    × ((ringCount c ≤ length (c .indices)) × (n ≡ ringCount c))
 
 -- Positive coefficients are enough: where all coefficients of the named part are above zero and all widths are from 0 to 99,999,
 -- such a call answers.
@@ -107,7 +110,8 @@ PresentRingsAreDivided = (c : RingsCall) (n : ℕ) → endOf c .answers ≡ answ
 
 -- "An absent ring, width 0, has index -1".
 abbrev pub AbsentRingsHaveMinusOne : Type 0
-AbsentRingsHaveMinusOne = (c : RingsCall) (n : ℕ) → endOf c .answers ≡ answer n → (i : ℕ) → i < ringCount c → ringWidth (c .widths) i ≡ pos 0 → indexCell c i ≡ negsuc 0
+AbsentRingsHaveMinusOne = (c : RingsCall) (n : ℕ) → endOf c .answers ≡ answer n → (i : ℕ) → i < ringCount c
+    → ringWidth (c .widths) i ≡ pos 0 → indexCell c i ≡ negsuc 0
 
 -- "a value with the closeness voted for": all that demand 3 says of the value under ring i.
 abbrev pub ValuesUnderRingsAreClose : Type 0
@@ -130,10 +134,12 @@ scaledWidth c i = int (indexScale *ℤ ringWidth (c .widths) i)
 
 -- 256,000·width/(exact + e) - 1 < index.
 abbrev pub IndexIsAbove : Type 0
-IndexIsAbove = (c : RingsCall) (l : CurveIsLegal c) (n : ℕ) → endOf c .answers ≡ answer n → (i : ℕ) → i < ringCount c → ringWidth (c .widths) i ≢ pos 0
+IndexIsAbove = (c : RingsCall) (l : CurveIsLegal c) (n : ℕ) → endOf c .answers ≡ answer n → (i : ℕ) → i < ringCount c
+    → ringWidth (c .widths) i ≢ pos 0
     → scaledWidth c i /ᵠ (exactUnder c l i +ᵠ errorUnder c l i) -ᵠ int (pos 1) <ᵠ int (indexCell c i)
 
 -- index <= 256,000·width/(exact - e), where the exact curve is above its error.
 abbrev pub IndexIsAtMost : Type 0
-IndexIsAtMost = (c : RingsCall) (l : CurveIsLegal c) (n : ℕ) → endOf c .answers ≡ answer n → (i : ℕ) → i < ringCount c → ringWidth (c .widths) i ≢ pos 0
+IndexIsAtMost = (c : RingsCall) (l : CurveIsLegal c) (n : ℕ) → endOf c .answers ≡ answer n → (i : ℕ) → i < ringCount c
+    → ringWidth (c .widths) i ≢ pos 0
     → errorUnder c l i <ᵠ exactUnder c l i → int (indexCell c i) ≤ᵠ scaledWidth c i /ᵠ (exactUnder c l i -ᵠ errorUnder c l i)

@@ -15,7 +15,8 @@ ghost use Rattle.base_outcome.specs.Machine.{found};
 ghost use Rattle.curve_ordinates.specs.Wood.{woodOf};
 ghost use Rattle.curve.specs.Machine;
 ghost use Rattle.indices.specs.Indices.{indicesReturned, indicesAfter, indicesEnd};
-ghost use Rattle.indices.specs.Machine.{reply, nearestWord, wordPosition, ringsTaken, wordPositions, badCell, cellIndex, cellsIndexed};
+ghost use Rattle.indices.specs.Machine.{reply, nearestWord, wordPosition, ringsTaken, wordPositions, badCell, cellIndex};
+ghost use Rattle.indices.specs.Machine.{cellsIndexed};
 
 // One more than the curve call takes: it refuses these as it would refuse more.
 const MOST_RINGS: usize = 4097;
@@ -84,8 +85,10 @@ fn read_rings(
     values: &mut [i32],
 ) -> curve::Answer
     requires { ⌜ length (now positions) ≤ positionLimit + 1 ⌝ }
-    ensures { λ r. ⌜ (let e = curveEnd (space (now (breaks .entry)) (now (degrees .entry)) (now (orders .entry))) (now (coefs .entry)) (wordPositions first (length (now (positions .entry)))) (now (num .entry)) (now (den .entry)) (now (values .entry)) in
-        (Machine.reply r ≡ e .answers) × ((now (num .exit) ≡ e .numerators) × ((now (den .exit) ≡ e .denominators) × (now (values .exit) ≡ e .values)))) ⌝ }
+    ensures { λ r. ⌜ (let e = curveEnd (space (now (breaks .entry)) (now (degrees .entry)) (now (orders .entry))) (now (coefs .entry))
+        (wordPositions first (length (now (positions .entry)))) (now (num .entry)) (now (den .entry)) (now (values .entry)) in
+        (Machine.reply r ≡ e .answers) × ((now (num .exit) ≡ e .numerators)
+        × ((now (den .exit) ≡ e .denominators) × (now (values .exit) ≡ e .values)))) ⌝ }
 {
     fill_positions(first, positions);
     curve::curve(breaks, degrees, orders, coefs, positions, num, den, values)
@@ -122,7 +125,8 @@ fn ring_is_bad(widths: &[i32], values: &[i32], offset: usize, i: usize) -> bool
 
 fn first_bad_ring(widths: &[i32], values: &[i32], offset: usize) -> base_outcome::Found
     requires { ⌜ (2 * length (now widths) ≤ length (now values)) × (offset < 2) ⌝ }
-    ensures { λ r. ⌜ r ≡ found (Search.first (length (now (widths .entry))) (badCell (now (widths .entry)) (now (values .entry)) offset)) ⌝ }
+    ensures { λ r. ⌜ r ≡ found (Search.first (length (now (widths .entry)))
+        (badCell (now (widths .entry)) (now (values .entry)) offset)) ⌝ }
 {
     let n = widths.len();
     let mut i = 0;
@@ -140,7 +144,8 @@ fn first_bad_ring(widths: &[i32], values: &[i32], offset: usize) -> base_outcome
 
 // The index of one ring that passed number 14.
 fn index(widths: &[i32], values: &[i32], offset: usize, i: usize) -> i64
-    requires { ⌜ ((i < length (now widths)) × (2 * i + offset < length (now values))) × (badCell (now widths) (now values) offset i ≡ false) ⌝ }
+    requires { ⌜ ((i < length (now widths)) × (2 * i + offset < length (now values)))
+        × (badCell (now widths) (now values) offset i ≡ false) ⌝ }
     ensures { λ r. ⌜ r ≡ cellIndex (now (widths .entry)) (now (values .entry)) offset i ⌝ }
 {
     let width = widths[i];
@@ -157,7 +162,8 @@ fn index(widths: &[i32], values: &[i32], offset: usize, i: usize) -> i64
 fn write_indices(widths: &[i32], values: &[i32], offset: usize, indices: &mut [i64])
     requires { ⌜ ((2 * length (now widths) ≤ length (now values)) × (offset < 2)) × (length (now widths) ≤ length (now indices)) ⌝ }
     requires { ⌜ ((i : ℕ) → i < length (now widths) → badCell (now widths) (now values) offset i ≡ false) ⌝ }
-    ensures { λ _. ⌜ now (indices .exit) ≡ tab (length (now (widths .entry))) (cellIndex (now (widths .entry)) (now (values .entry)) offset) ++ drop (length (now (widths .entry))) (now (indices .entry)) ⌝ }
+    ensures { λ _. ⌜ now (indices .exit) ≡ tab (length (now (widths .entry))) (cellIndex (now (widths .entry)) (now (values .entry)) offset)
+        ++ drop (length (now (widths .entry))) (now (indices .entry)) ⌝ }
 {
     let mut i = 0;
     while i < widths.len() {
@@ -174,8 +180,10 @@ fn index_rings(
     values: &[i32],
     indices: &mut [i64],
 ) -> Answer
-    requires { ⌜ ((2 * length (now widths) ≤ length (now values)) × (length (now widths) ≤ length (now indices))) × (length (now widths) ≤ positionLimit) ⌝ }
-    ensures { λ r. ⌜ (let i = cellsIndexed (now (widths .entry)) (now (values .entry)) (woodIndex (woodOf wood)) in (reply r ≡ indicesReturned i) × (now (indices .exit) ≡ indicesAfter i (now (indices .entry)))) ⌝ }
+    requires { ⌜ ((2 * length (now widths) ≤ length (now values)) × (length (now widths) ≤ length (now indices)))
+        × (length (now widths) ≤ positionLimit) ⌝ }
+    ensures { λ r. ⌜ (let i = cellsIndexed (now (widths .entry)) (now (values .entry)) (woodIndex (woodOf wood)) in
+        (reply r ≡ indicesReturned i) × (now (indices .exit) ≡ indicesAfter i (now (indices .entry)))) ⌝ }
 {
     let offset = wood_index(wood);
     let bad = first_bad_ring(widths, values, offset);
@@ -203,8 +211,11 @@ pub fn indices(
     values: &mut [i32],
     indices: &mut [i64],
 ) -> Answer
-    ensures { λ r. ⌜ (let e = indicesEnd (woodOf wood) (space (now (breaks .entry)) (now (degrees .entry)) (now (orders .entry))) (now (coefs .entry)) first (now (widths .entry)) (now (num .entry)) (now (den .entry)) (now (values .entry)) (now (indices .entry)) in
-        (reply r ≡ e .answers) × ((now (num .exit) ≡ e .numerators) × ((now (den .exit) ≡ e .denominators) × ((now (values .exit) ≡ e .values) × (now (indices .exit) ≡ e .indices))))) ⌝ }
+    ensures { λ r. ⌜ (let e = indicesEnd (woodOf wood) (space (now (breaks .entry)) (now (degrees .entry)) (now (orders .entry)))
+        (now (coefs .entry)) first (now (widths .entry)) (now (num .entry)) (now (den .entry)) (now (values .entry)) (now (indices .entry))
+        in
+        (reply r ≡ e .answers) × ((now (num .exit) ≡ e .numerators)
+        × ((now (den .exit) ≡ e .denominators) × ((now (values .exit) ≡ e .values) × (now (indices .exit) ≡ e .indices))))) ⌝ }
 {
     if num.len() < build_cells::TABLE_CELLS {
         return Answer::Refused(1, 0);

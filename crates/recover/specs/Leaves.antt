@@ -78,20 +78,24 @@ pub record Given (cs : Fractions) (columns : ℕ) : Type 0 where
 -- A computation in place: the table it answers is in the buffers and its numbers are told, or it is refused and they hold whatever
 -- they hold.
 abbrev pub Leaves : Outcome Numbered → Numbers → List ℤ → List ℤ → List ℤ → List ℤ → Type 0
-Leaves (answer t) r num den num′ den′ = (r ≡ record { refused = 0; of = fractions (t .numbers) }) × (num′ ≡ numerators (t .table) num) × (den′ ≡ denominators (t .table) den)
+Leaves (answer t) r num den num′ den′ = (r ≡ record { refused = 0; of = fractions (t .numbers) }) × (num′ ≡ numerators (t .table) num)
+    × (den′ ≡ denominators (t .table) den)
 Leaves (refusal number place) r num den num′ den′ = (r ≡ record { refused = number; of = fractions [] }) × Kept num num′ × Kept den den′
 
 -- What the joins leave: the table and the numbers of its n rows, or the refusal.
 abbrev pub JoinsLeave : Outcome Numbered → ℕ → Joined → List ℤ → List ℤ → List ℤ → List ℤ → Type 0
-JoinsLeave (answer t) n r num den num′ den′ = (r ≡ record { refused = 0; place = 0; rows = n; of = fractions (t .numbers) }) × (num′ ≡ numerators (t .table) num) × (den′ ≡ denominators (t .table) den)
-JoinsLeave (refusal number place) n r num den num′ den′ = (r ≡ record { refused = number; place = place; rows = 0; of = fractions [] }) × Kept num num′ × Kept den den′
+JoinsLeave (answer t) n r num den num′ den′ = (r ≡ record { refused = 0; place = 0; rows = n; of = fractions (t .numbers) })
+    × (num′ ≡ numerators (t .table) num) × (den′ ≡ denominators (t .table) den)
+JoinsLeave (refusal number place) n r num den num′ den′ = (r ≡ record { refused = number; place = place; rows = 0; of = fractions [] })
+    × Kept num num′ × Kept den den′
 
 -- Number 18 of a legal space, by itself.
 unfoldable pub ordinatesChecked : Space → List ℤ → Outcome (Unit {0})
 ordinatesChecked s ordinates = legalOrdinates s ordinates (answer tt)
 
 -- What a call with n ordinates answers and leaves, by the outcome of the whole beam, of which the weight buffers hold the last part.
-pub record BeamEnds (s : Space) (n : ℕ) (o : Outcome Numbered) (r : Built) (num den coefNum coefDen num′ den′ coefNum′ coefDen′ : List ℤ) : Type 0 where
+pub record BeamEnds (s : Space) (n : ℕ) (o : Outcome Numbered) (r : Built) (num den coefNum coefDen num′ den′ coefNum′ coefDen′ : List ℤ)
+    : Type 0 where
   pub answers : reply r ≡ with-answer (λ _. rowCount s) o
   pub numerators-are : num′ ≡ weightsAfter numerators s o num
   pub denominators-are : den′ ≡ weightsAfter denominators s o den

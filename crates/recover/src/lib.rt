@@ -63,8 +63,11 @@ pub fn coefficients(
     coef_num: &mut [i64],
     coef_den: &mut [i64],
 ) -> Built
-    ensures { λ r. ⌜ (let e = recoveryEnd (space (now (breaks .entry)) (now (degrees .entry)) (now (orders .entry))) (now (ordinates .entry)) (now (num .entry)) (now (den .entry)) (now («coef_num» .entry)) (now («coef_den» .entry)) in
-        (reply r ≡ e .answers) × ((now (num .exit) ≡ e .numerators) × ((now (den .exit) ≡ e .denominators) × ((now («coef_num» .exit) ≡ e .coefficientNumerators) × (now («coef_den» .exit) ≡ e .coefficientDenominators))))) ⌝ }
+    ensures { λ r. ⌜ (let e = recoveryEnd (space (now (breaks .entry)) (now (degrees .entry)) (now (orders .entry)))
+        (now (ordinates .entry)) (now (num .entry)) (now (den .entry)) (now («coef_num» .entry)) (now («coef_den» .entry)) in
+        (reply r ≡ e .answers) × ((now (num .exit) ≡ e .numerators)
+        × ((now (den .exit) ≡ e .denominators) × ((now («coef_num» .exit) ≡ e .coefficientNumerators)
+        × (now («coef_den» .exit) ≡ e .coefficientDenominators))))) ⌝ }
 {
     if num.len() < build_cells::TABLE_CELLS {
         return Built::Refused(1, 0);

@@ -25,8 +25,10 @@ use build_jumps::Fractions;
 fn write(coef_num: &mut [i64], coef_den: &mut [i64], from: usize, cs: Fractions, n: usize)
     requires { ⌜ (n ≤ rowCells) × ((from + n ≤ length (now «coef_num»)) × (from + n ≤ length (now «coef_den»))) ⌝ }
     ensures { λ _. ⌜ ((done ps : List ℚ) (num den : List ℤ) → cs ≡ fractions ps → length done ≡ from → length ps ≡ n
-        → now («coef_num» .entry) ≡ listed numeratorOf from done num → now («coef_den» .entry) ≡ listed denominatorOf from done den → from + n ≤ length num → from + n ≤ length den
-        → (now («coef_num» .exit) ≡ listed numeratorOf (from + n) (done ++ ps) num) × (now («coef_den» .exit) ≡ listed denominatorOf (from + n) (done ++ ps) den)) ⌝ }
+        → now («coef_num» .entry) ≡ listed numeratorOf from done num → now («coef_den» .entry) ≡ listed denominatorOf from done den
+        → from + n ≤ length num → from + n ≤ length den
+        → (now («coef_num» .exit) ≡ listed numeratorOf (from + n) (done ++ ps) num)
+        × (now («coef_den» .exit) ≡ listed denominatorOf (from + n) (done ++ ps) den)) ⌝ }
 {
     let mut i = 0;
     while i < n {
@@ -51,12 +53,16 @@ fn recover_at(
     num: &mut [i64],
     den: &mut [i64],
 ) -> Joined
-    requires { ⌜ ListsLegal (now breaks) (now degrees) (now orders) × ((tableCells ≤ length (now num)) × (tableCells ≤ length (now den))) ⌝ }
-    requires { ⌜ Starts (space (now breaks) (now degrees) (now orders)) a × (b ≡ partEnd (space (now breaks) (now degrees) (now orders)) a) ⌝ }
-    requires { ⌜ (length (now ordinates) ≡ columnCount (space (now breaks) (now degrees) (now orders))) × AllFit (map int (now ordinates)) ⌝ }
+    requires { ⌜ ListsLegal (now breaks) (now degrees) (now orders)
+        × ((tableCells ≤ length (now num)) × (tableCells ≤ length (now den))) ⌝ }
+    requires { ⌜ Starts (space (now breaks) (now degrees) (now orders)) a
+        × (b ≡ partEnd (space (now breaks) (now degrees) (now orders)) a) ⌝ }
+    requires { ⌜ (length (now ordinates) ≡ columnCount (space (now breaks) (now degrees) (now orders)))
+        × AllFit (map int (now ordinates)) ⌝ }
     ensures { λ r. ⌜ (let s = space (now (breaks .entry)) (now (degrees .entry)) (now (orders .entry)) in
         let part = section s a (b - a) in
-        JoinsLeave (Recovery.recovered part (take (columnCount part) (drop (firstColumn s a) (now (ordinates .entry))))) (rowCount part) r (now (num .entry)) (now (den .entry)) (now (num .exit)) (now (den .exit))) ⌝ }
+        JoinsLeave (Recovery.recovered part (take (columnCount part) (drop (firstColumn s a) (now (ordinates .entry))))) (rowCount part) r
+        (now (num .entry)) (now (den .entry)) (now (num .exit)) (now (den .exit))) ⌝ }
 {
     let from = build_space::first_column(degrees, a);
     let to = build_space::first_column(degrees, b);
@@ -81,11 +87,15 @@ pub fn recover_parts(
     coef_num: &mut [i64],
     coef_den: &mut [i64],
 ) -> Built
-    requires { ⌜ ListsLegal (now breaks) (now degrees) (now orders) × ((tableCells ≤ length (now num)) × (tableCells ≤ length (now den))) ⌝ }
-    requires { ⌜ (length (now ordinates) ≡ columnCount (space (now breaks) (now degrees) (now orders))) × AllFit (map int (now ordinates)) ⌝ }
+    requires { ⌜ ListsLegal (now breaks) (now degrees) (now orders)
+        × ((tableCells ≤ length (now num)) × (tableCells ≤ length (now den))) ⌝ }
+    requires { ⌜ (length (now ordinates) ≡ columnCount (space (now breaks) (now degrees) (now orders)))
+        × AllFit (map int (now ordinates)) ⌝ }
     requires { ⌜ (length (now ordinates) ≤ length (now «coef_num»)) × (length (now ordinates) ≤ length (now «coef_den»)) ⌝ }
     ensures { λ r. ⌜ (let s = space (now (breaks .entry)) (now (degrees .entry)) (now (orders .entry)) in
-        BeamEnds s (length (now (ordinates .entry))) (Recovery.recovered s (now (ordinates .entry))) r (now (num .entry)) (now (den .entry)) (now («coef_num» .entry)) (now («coef_den» .entry)) (now (num .exit)) (now (den .exit)) (now («coef_num» .exit)) (now («coef_den» .exit))) ⌝ }
+        BeamEnds s (length (now (ordinates .entry))) (Recovery.recovered s (now (ordinates .entry))) r (now (num .entry)) (now (den .entry))
+        (now («coef_num» .entry)) (now («coef_den» .entry)) (now (num .exit)) (now (den .exit)) (now («coef_num» .exit))
+        (now («coef_den» .exit))) ⌝ }
 {
     let mut rows = 0;
     let mut a = 0;

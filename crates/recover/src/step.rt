@@ -39,7 +39,8 @@ fn refuse(number: u8) -> Numbers
 // The numbers after a step with these jumps, which span the rows f to l.
 fn undo_span(js: Fractions, cs: Fractions, f: usize, l: usize, rows: usize) -> Numbers
     requires { ⌜ Worked js f l rows × (Fit js rows × Fit cs rows) ⌝ }
-    ensures { λ r. ⌜ ((j : ℕ) (qs ps ws : List ℚ) → js ≡ fractions qs → cs ≡ fractions ps → length qs ≡ rows → length ps ≡ rows → Step.factors j qs (record { f = f; l = l }) ≡ answer ws
+    ensures { λ r. ⌜ ((j : ℕ) (qs ps ws : List ℚ) → js ≡ fractions qs → cs ≡ fractions ps → length qs ≡ rows → length ps ≡ rows
+        → Step.factors j qs (record { f = f; l = l }) ≡ answer ws
         → r ≡ numbersOf (Recovery.balanced j qs ps then λ _. Recovery.undone j (record { f = f; l = l }) ws ps)) ⌝ }
 {
     let sum = recover_step::balanced(js, cs, rows);
@@ -64,7 +65,8 @@ fn undo_span(js: Fractions, cs: Fractions, f: usize, l: usize, rows: usize) -> N
 // The undoing of a step that the build has done with these jumps.
 fn undo_step(js: Fractions, cs: Fractions, rows: usize) -> Numbers
     requires { ⌜ Jumped js rows × Fit cs rows ⌝ }
-    ensures { λ r. ⌜ ((j : ℕ) (qs ps : List ℚ) → js ≡ fractions qs → cs ≡ fractions ps → length qs ≡ rows → length ps ≡ rows → (d : Done j qs)
+    ensures { λ r. ⌜ ((j : ℕ) (qs ps : List ℚ) → js ≡ fractions qs → cs ≡ fractions ps → length qs ≡ rows → length ps ≡ rows
+        → (d : Done j qs)
         → r ≡ numbersOf (Recovery.balanced j qs ps then λ _. Recovery.undone j (d .span-is) (d .ws) ps)) ⌝ }
 {
     let span = build_jumps::span(js, rows);
@@ -85,8 +87,10 @@ fn recover_step(
     cs: Fractions,
 ) -> Numbers
     requires { ⌜ JoinFits join k × (Held (now num) (now den) rows columns × Fit cs rows) ⌝ }
-    ensures { λ r. ⌜ ((s : Space) (j : ℕ) (t : Table) (ps : List ℚ) → JoinIs join s j → Holds (now (num .entry)) (now (den .entry)) t → Shaped t rows columns → cs ≡ fractions ps → length ps ≡ rows
-        → Leaves (Recovery.recoverStep j (Conditions.conditions s j k) (record { table = t; numbers = ps })) r (now (num .entry)) (now (den .entry)) (now (num .exit)) (now (den .exit))) ⌝ }
+    ensures { λ r. ⌜ ((s : Space) (j : ℕ) (t : Table) (ps : List ℚ) → JoinIs join s j → Holds (now (num .entry)) (now (den .entry)) t
+        → Shaped t rows columns → cs ≡ fractions ps → length ps ≡ rows
+        → Leaves (Recovery.recoverStep j (Conditions.conditions s j k) (record { table = t; numbers = ps })) r (now (num .entry))
+        (now (den .entry)) (now (num .exit)) (now (den .exit))) ⌝ }
 {
     let js = build_jumps::jumps(num, den, rows, join, k);
     let refusal = build::step::step(num, den, join, k, rows, columns);
@@ -108,8 +112,10 @@ fn recover_orders(
     cs: Fractions,
 ) -> Numbers
     requires { ⌜ (n ≤ rows) × (((k : ℕ) → k < n → JoinFits join k) × (Held (now num) (now den) rows columns × Present cs rows)) ⌝ }
-    ensures { λ r. ⌜ ((s : Space) (j : ℕ) (t : Table) (ps : List ℚ) → JoinIs join s j → Holds (now (num .entry)) (now (den .entry)) t → Shaped t rows columns → cs ≡ fractions ps → length ps ≡ rows → AllFit ps
-        → Leaves (Recovery.recoverOrders s j n (record { table = t; numbers = ps })) r (now (num .entry)) (now (den .entry)) (now (num .exit)) (now (den .exit))) ⌝ }
+    ensures { λ r. ⌜ ((s : Space) (j : ℕ) (t : Table) (ps : List ℚ) → JoinIs join s j → Holds (now (num .entry)) (now (den .entry)) t
+        → Shaped t rows columns → cs ≡ fractions ps → length ps ≡ rows → AllFit ps
+        → Leaves (Recovery.recoverOrders s j n (record { table = t; numbers = ps })) r (now (num .entry)) (now (den .entry))
+        (now (num .exit)) (now (den .exit))) ⌝ }
 {
     let mut present = cs;
     let mut k = 0;
@@ -137,9 +143,12 @@ fn recover_joins(
     columns: usize,
     cs: Fractions,
 ) -> Joined
-    requires { ⌜ PartLegal (now breaks) (now degrees) (now orders) × (Started (space (now breaks) (now degrees) (now orders)) (now num) (now den) columns × Given cs columns) ⌝ }
+    requires { ⌜ PartLegal (now breaks) (now degrees) (now orders)
+        × (Started (space (now breaks) (now degrees) (now orders)) (now num) (now den) columns × Given cs columns) ⌝ }
     ensures { λ r. ⌜ ((ordinates : List ℤ) → cs ≡ fractions (map int ordinates) → length ordinates ≡ columns → AllFit (map int ordinates)
-        → JoinsLeave (Recovery.recovered (space (now (breaks .entry)) (now (degrees .entry)) (now (orders .entry))) ordinates) (rowCount (space (now (breaks .entry)) (now (degrees .entry)) (now (orders .entry)))) r (now (num .entry)) (now (den .entry)) (now (num .exit)) (now (den .exit))) ⌝ }
+        → JoinsLeave (Recovery.recovered (space (now (breaks .entry)) (now (degrees .entry)) (now (orders .entry))) ordinates)
+        (rowCount (space (now (breaks .entry)) (now (degrees .entry)) (now (orders .entry)))) r (now (num .entry)) (now (den .entry))
+        (now (num .exit)) (now (den .exit))) ⌝ }
 {
     let mut present = cs;
     let mut rows = columns;
@@ -180,8 +189,11 @@ pub fn recover_part(
     den: &mut [i64],
 ) -> Joined
     requires { ⌜ PartLegal (now breaks) (now degrees) (now orders) × ((tableCells ≤ length (now num)) × (tableCells ≤ length (now den))) ⌝ }
-    requires { ⌜ (length (now ordinates) ≡ columnCount (space (now breaks) (now degrees) (now orders))) × AllFit (map int (now ordinates)) ⌝ }
-    ensures { λ r. ⌜ JoinsLeave (Recovery.recovered (space (now (breaks .entry)) (now (degrees .entry)) (now (orders .entry))) (now (ordinates .entry))) (rowCount (space (now (breaks .entry)) (now (degrees .entry)) (now (orders .entry)))) r (now (num .entry)) (now (den .entry)) (now (num .exit)) (now (den .exit)) ⌝ }
+    requires { ⌜ (length (now ordinates) ≡ columnCount (space (now breaks) (now degrees) (now orders)))
+        × AllFit (map int (now ordinates)) ⌝ }
+    ensures { λ r. ⌜ JoinsLeave (Recovery.recovered (space (now (breaks .entry)) (now (degrees .entry)) (now (orders .entry)))
+        (now (ordinates .entry))) (rowCount (space (now (breaks .entry)) (now (degrees .entry)) (now (orders .entry)))) r (now (num .entry))
+        (now (den .entry)) (now (num .exit)) (now (den .exit)) ⌝ }
 {
     let columns = build_space::first_column(degrees, degrees.len());
     build_cells::identity(num, den, columns);

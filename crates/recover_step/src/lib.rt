@@ -49,7 +49,8 @@ fn add_term(sum: Fraction, number: Fraction, jump: Fraction) -> Counted
 // The sum of the rows' numbers times their jumps, rows rising: whether it is zero.
 pub fn balanced(js: Fractions, cs: Fractions, rows: usize) -> Balance
     requires { ⌜ (rows ≤ rowCells) × (Fit js rows × Fit cs rows) ⌝ }
-    ensures { λ r. ⌜ ((j : ℕ) (qs ps : List ℚ) → js ≡ fractions qs → cs ≡ fractions ps → length qs ≡ rows → r ≡ balanceOf (Recovery.balanced j qs ps)) ⌝ }
+    ensures { λ r. ⌜ ((j : ℕ) (qs ps : List ℚ) → js ≡ fractions qs → cs ≡ fractions ps → length qs ≡ rows
+        → r ≡ balanceOf (Recovery.balanced j qs ps)) ⌝ }
 {
     let mut sum = Fraction { num: 0, den: 1 };
     let mut i = 0;
@@ -76,7 +77,8 @@ pub fn balanced(js: Fractions, cs: Fractions, rows: usize) -> Balance
 // (number - (1 - w) before) / w, with the share, the difference and the quotient counted.
 fn undo_number(w: Fraction, number: Fraction, before: Fraction) -> Counted
     requires { ⌜ UnitFactor w × ((w .num ≢ pos 0) × (Sized number × Sized before)) ⌝ }
-    ensures { λ r. ⌜ ((j : ℕ) (v c b : ℚ) → w ≡ fraction v → number ≡ fraction c → before ≡ fraction b → r ≡ counted (Recovery.undoneNumber j v c b)) ⌝ }
+    ensures { λ r. ⌜ ((j : ℕ) (v c b : ℚ) → w ≡ fraction v → number ≡ fraction c → before ≡ fraction b
+        → r ≡ counted (Recovery.undoneNumber j v c b)) ⌝ }
 {
     let rest = build_rows::complement(w);
     let share = base_fraction::product(rest, before);
@@ -97,7 +99,8 @@ fn undo_number(w: Fraction, number: Fraction, before: Fraction) -> Counted
 // The new number of row i, where the rows f to i - 1 have their new numbers.
 fn undo_row(cs: Fractions, ws: Fractions, f: usize, i: usize) -> Counted
     requires { ⌜ (f ≤ i) × ((i < rowCells) × (Fit cs (suc i) × (UnitFactors ws × NonZero ws (suc (i - f))))) ⌝ }
-    ensures { λ r. ⌜ ((j : ℕ) (us ps : List ℚ) → ws ≡ fractions us → cs ≡ fractions ps → r ≡ counted (Recovery.undoneRow j us ps f (i - f) (drop f ps))) ⌝ }
+    ensures { λ r. ⌜ ((j : ℕ) (us ps : List ℚ) → ws ≡ fractions us → cs ≡ fractions ps
+        → r ≡ counted (Recovery.undoneRow j us ps f (i - f) (drop f ps))) ⌝ }
 {
     let number = build_jumps::fraction_at(cs, i);
     if i == f {

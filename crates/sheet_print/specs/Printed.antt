@@ -39,7 +39,8 @@ fractionText num den = decimal num ++ (slash ∷ (digits den ++ (newline ∷ [])
 -- cell 0, "n, all places and the sheet's w lines count over the beam". A denominator counts by its size.
 unfoldable pub storedWeight : ℕ → ℕ → ℕ → ℤ → ℤ → List Weight
 storedWeight r c k num den =
-    cond (eqb (natAbs num) 0) [] (record { row = r + k / rowCells; column = c + k % rowCells; numerator = num; denominator = natAbs den } ∷ [])
+    cond (eqb (natAbs num) 0) [] (record { row = r + k / rowCells; column = c + k % rowCells; numerator = num; denominator = natAbs den }
+    ∷ [])
 
 -- The non-zero weights of the first k cells.
 unfoldable pub storedWeights : ℕ → ℕ → ℕ → List ℤ → List ℤ → List Weight

@@ -40,7 +40,9 @@ countLine n = countKey ++ (digits n ++ (newline ∷ []))
 
 -- w=row,column,numerator/denominator
 unfoldable pub weightLine : Weight → Text
-weightLine w = weightKey ++ (digits (w .row) ++ (comma ∷ (digits (w .column) ++ (comma ∷ (decimal (w .numerator) ++ (slash ∷ (digits (w .denominator) ++ (newline ∷ []))))))))
+weightLine w = weightKey
+    ++ (digits (w .row) ++
+    (comma ∷ (digits (w .column) ++ (comma ∷ (decimal (w .numerator) ++ (slash ∷ (digits (w .denominator) ++ (newline ∷ []))))))))
 
 -- The lines of all non-zero weights, "rows rising, then columns".
 unfoldable pub weightLines : List Weight → Text
@@ -77,4 +79,5 @@ lowLines xs = joined (map lowLine xs)
 -- The whole printout of an answer. "Low lines now come by rising position, a repeated position once for each time it was
 -- listed" (change request 6).
 unfoldable pub answerText : Table → List ℤ → List Pair → Text
-answerText t xs vs = countLine (length t) ++ (weightLines (tableWeights 0 t) ++ (valueLines xs vs ++ lowLines (sorted (lowPositions xs vs))))
+answerText t xs vs = countLine (length t) ++ (weightLines (tableWeights 0 t)
+    ++ (valueLines xs vs ++ lowLines (sorted (lowPositions xs vs))))

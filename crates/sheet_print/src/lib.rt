@@ -10,7 +10,8 @@ ghost use Rattle.spec_spline.specs.CurveCall.{positionLimit};
 ghost use Rattle.base_print.specs.Buffer.{written, Puts};
 ghost use Rattle.base_sorting.specs.Sorted.{sorted};
 ghost use Rattle.sheet_print.specs.Printout.{countLine, weightLines, valueLine, valueLines, isLow, lowLine, lowLines, lowPositions};
-ghost use Rattle.sheet_print.specs.Printed.{countLineLimit, weightLineLimit, valueLineLimit, lowLineLimit, placeText, fractionText, storedWeight, storedWeights, paired};
+ghost use Rattle.sheet_print.specs.Printed.{countLineLimit, weightLineLimit, valueLineLimit, lowLineLimit, placeText, fractionText};
+ghost use Rattle.sheet_print.specs.Printed.{storedWeight, storedWeights, paired};
 
 // The most positions of a call.
 const POSITIONS: usize = 4096;
@@ -84,8 +85,11 @@ pub fn put_weights(
     num: &[i64],
     den: &[i64],
 ) -> usize
-    requires { ⌜ (at ≤ 2 ^ 41) × (row ≤ 2 ^ 41) × (column ≤ 2 ^ 41) × (n ≤ rowCells) × (tableCells ≤ length (now num)) × (tableCells ≤ length (now den)) ⌝ }
-    ensures { λ r. ⌜ Puts (weightLineLimit * (rowCells * n)) at (weightLines (storedWeights row column (rowCells * n) (now (num .entry)) (now (den .entry)))) (now (out .entry)) (now (out .exit)) r ⌝ }
+    requires { ⌜ (at ≤ 2 ^ 41) × (row ≤ 2 ^ 41) × (column ≤ 2 ^ 41) × (n ≤ rowCells) × (tableCells ≤ length (now num))
+        × (tableCells ≤ length (now den)) ⌝ }
+    ensures { λ r. ⌜ Puts (weightLineLimit * (rowCells * n)) at
+        (weightLines (storedWeights row column (rowCells * n) (now (num .entry)) (now (den .entry)))) (now (out .entry)) (now (out .exit))
+        r ⌝ }
 {
     let cells = build_cells::ROW_CELLS * n;
     let mut next = at;
@@ -114,7 +118,8 @@ fn put_value(out: &mut [u8], at: usize, x: i32, early: i32, late: i32) -> usize
 // A line for each position with its two values, which stand side by side in the list.
 pub fn put_values(out: &mut [u8], at: usize, positions: &[i32], values: &[i32]) -> usize
     requires { ⌜ (at ≤ 2 ^ 41) × (length (now positions) ≤ positionLimit) × (length (now positions) ≤ length (now values) / 2) ⌝ }
-    ensures { λ r. ⌜ Puts (valueLineLimit * length (now (positions .entry))) at (valueLines (now (positions .entry)) (paired (now (values .entry)))) (now (out .entry)) (now (out .exit)) r ⌝ }
+    ensures { λ r. ⌜ Puts (valueLineLimit * length (now (positions .entry))) at
+        (valueLines (now (positions .entry)) (paired (now (values .entry)))) (now (out .entry)) (now (out .exit)) r ⌝ }
 {
     let mut next = at;
     let mut k = 0;
@@ -166,7 +171,8 @@ fn low_positions(positions: &[i32], values: &[i32], lows: &mut [i32]) -> usize
 // A low line for each of these positions.
 fn put_low_lines(out: &mut [u8], at: usize, lows: &[i32]) -> usize
     requires { ⌜ (at ≤ 2 ^ 41) × (length (now lows) ≤ positionLimit) ⌝ }
-    ensures { λ r. ⌜ Puts (lowLineLimit * length (now (lows .entry))) at (lowLines (now (lows .entry))) (now (out .entry)) (now (out .exit)) r ⌝ }
+    ensures { λ r. ⌜ Puts (lowLineLimit * length (now (lows .entry))) at (lowLines (now (lows .entry))) (now (out .entry)) (now (out .exit))
+        r ⌝ }
 {
     let mut next = at;
     let mut k = 0;
@@ -180,7 +186,9 @@ fn put_low_lines(out: &mut [u8], at: usize, lows: &[i32]) -> usize
 // A low line for each entry with a value of zero or less, by rising position.
 pub fn put_lows(out: &mut [u8], at: usize, positions: &[i32], values: &[i32]) -> usize
     requires { ⌜ (at ≤ 2 ^ 41) × (length (now positions) ≤ positionLimit) × (length (now positions) ≤ length (now values) / 2) ⌝ }
-    ensures { λ r. ⌜ Puts (lowLineLimit * length (now (positions .entry))) at (lowLines (sorted (lowPositions (now (positions .entry)) (paired (now (values .entry)))))) (now (out .entry)) (now (out .exit)) r ⌝ }
+    ensures { λ r. ⌜ Puts (lowLineLimit * length (now (positions .entry))) at
+        (lowLines (sorted (lowPositions (now (positions .entry)) (paired (now (values .entry)))))) (now (out .entry)) (now (out .exit))
+        r ⌝ }
 {
     let mut lows = [0; POSITIONS];
     let count = low_positions(positions, values, &mut lows);

@@ -100,7 +100,8 @@ pub record ListsAt (text : Text) (l : Lists) (b b-end d d-end o o-end c c-end p 
 
 -- The answer for a whole text: where the five lists stand, or the place of number 10.
 abbrev pub Scanned : Text → Outcome Lists → Places → Type 0
-Scanned text (answer l) (places-cases.Lists b b-end d d-end o o-end c c-end p p-end) = ListsAt text l b b-end d d-end o o-end c c-end p p-end
+Scanned text (answer l)
+    (places-cases.Lists b b-end d d-end o o-end c c-end p p-end) = ListsAt text l b b-end d d-end o o-end c c-end p p-end
 Scanned text (answer l) (places-cases.Refused place) = ⊥
 Scanned text (refusal number place) (places-cases.Lists b b-end d d-end o o-end c c-end p p-end) = ⊥
 Scanned text (refusal number place) (places-cases.Refused at) = (number ≡ 10) × (place ≡ at)
@@ -115,7 +116,13 @@ pub record Lengths : Type 0 where
 
 -- The lengths of the lists that were read.
 abbrev pub lengths : Lists → Lengths
-lengths l = record { breaks = length (l .breaks); degrees = length (l .degrees); orders = length (l .orders); coefs = length (sideBySide (l .coefs)); positions = length (l .positions) }
+lengths l = record {
+  breaks = length (l .breaks);
+  degrees = length (l .degrees);
+  orders = length (l .orders);
+  coefs = length (sideBySide (l .coefs));
+  positions = length (l .positions);
+}
 
 -- "10, line: the program's text is malformed".
 unfoldable pub reply : Answer → Outcome Lengths

@@ -54,5 +54,6 @@ WritablePairs ps = Writable (length ps) (sideBySide ps)
 -- A sheet reads back to its lists.
 abbrev pub SheetReadsBack : Type 0
 SheetReadsBack =
-    (l : Lists) → WritableNumbers (l .breaks) → WritableNumbers (l .degrees) → WritableNumbers (l .orders) → WritablePairs (l .coefs) → WritableNumbers (l .positions) →
+    (l : Lists) → WritableNumbers (l .breaks) → WritableNumbers (l .degrees) → WritableNumbers (l .orders) → WritablePairs (l .coefs)
+    → WritableNumbers (l .positions) →
     length (sheetText l) ≤ textLimit → read (sheetText l) ≡ answer l

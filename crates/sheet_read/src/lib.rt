@@ -8,7 +8,8 @@ ghost use Rattle.base_text.specs.Bytes.{Range, indexWhere};
 ghost use Rattle.base_text.specs.Numeral;
 ghost use Rattle.sheet_read.specs.SheetReading;
 ghost use Rattle.sheet_read.specs.SheetReading.{listOf};
-ghost use Rattle.sheet_read.specs.Machine.{entryOf, isSome, count, numbersOf, numbers, isSeparator, overwritten, LineAt, Scanned, reply, readEnd};
+ghost use Rattle.sheet_read.specs.Machine.{entryOf, isSome, count, numbersOf, numbers, isSeparator, overwritten, LineAt, Scanned};
+ghost use Rattle.sheet_read.specs.Machine.{reply, readEnd};
 use base_text::numeral::Field;
 
 const TEXT_LIMIT: usize = 65536;
@@ -116,7 +117,8 @@ fn count_list(text: &[u8], from: usize, to: usize, kind: Entry) -> Count
 // The line that begins at the index: it has this key, a list of such entries, and byte 10 at its end.
 fn line(text: &[u8], from: usize, key: &[u8], kind: Entry) -> LineSpan
     requires { ⌜ from ≤ length (now text) ⌝ }
-    ensures { λ r. ⌜ LineAt (entryOf kind) (now (text .entry)) (SheetReading.line (entryOf kind) (now (key .entry)) (drop from (now (text .entry)))) r ⌝ }
+    ensures { λ r. ⌜ LineAt (entryOf kind) (now (text .entry)) (SheetReading.line (entryOf kind) (now (key .entry))
+        (drop from (now (text .entry)))) r ⌝ }
 {
     let end = base_text::fields::find(text, from, text.len(), b'\n');
     if end == text.len() {
@@ -213,8 +215,11 @@ pub fn read(
     coefs: &mut [i32; COEFFICIENT_NUMBERS],
     positions: &mut [i32; LIST_LIMIT],
 ) -> Lists
-    ensures { λ r. ⌜ (let e = readEnd (now (text .entry)) (now (breaks .entry)) (now (degrees .entry)) (now (orders .entry)) (now (coefs .entry)) (now (positions .entry)) in
-        (reply r ≡ e .answers) × ((now (breaks .exit) ≡ e .breaks) × ((now (degrees .exit) ≡ e .degrees) × ((now (orders .exit) ≡ e .orders) × ((now (coefs .exit) ≡ e .coefs) × (now (positions .exit) ≡ e .positions)))))) ⌝ }
+    ensures { λ r. ⌜ (let e = readEnd (now (text .entry)) (now (breaks .entry)) (now (degrees .entry)) (now (orders .entry))
+        (now (coefs .entry)) (now (positions .entry)) in
+        (reply r ≡ e .answers) × ((now (breaks .exit) ≡ e .breaks)
+        × ((now (degrees .exit) ≡ e .degrees) × ((now (orders .exit) ≡ e .orders)
+        × ((now (coefs .exit) ≡ e .coefs) × (now (positions .exit) ≡ e .positions)))))) ⌝ }
 {
     let scanned = scan(text);
     match scanned {

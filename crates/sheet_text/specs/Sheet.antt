@@ -55,7 +55,13 @@ pub record Arguments : Type 0 where
 
 -- The lists of a sheet, with the numbers of the coefficients' pairs side by side.
 abbrev pub argumentsOf : Lists → Arguments
-argumentsOf l = record { breaks = l .breaks; degrees = l .degrees; orders = l .orders; coefs = sideBySide (l .coefs); positions = l .positions }
+argumentsOf l = record {
+  breaks = l .breaks;
+  degrees = l .degrees;
+  orders = l .orders;
+  coefs = sideBySide (l .coefs);
+  positions = l .positions;
+}
 
 -- The space of the first three lists.
 abbrev pub spaceOf : Arguments → Space

@@ -29,10 +29,13 @@ fn build_rows(
     num: &mut [i64],
     den: &mut [i64],
 ) -> usize
-    requires { ⌜ Accepted (space (now breaks) (now degrees) (now orders)) × ((tableCells ≤ length (now num)) × (tableCells ≤ length (now den))) ⌝ }
-    requires { ⌜ Starts (space (now breaks) (now degrees) (now orders)) a × (b ≡ partEnd (space (now breaks) (now degrees) (now orders)) a) ⌝ }
+    requires { ⌜ Accepted (space (now breaks) (now degrees) (now orders))
+        × ((tableCells ≤ length (now num)) × (tableCells ≤ length (now den))) ⌝ }
+    requires { ⌜ Starts (space (now breaks) (now degrees) (now orders)) a
+        × (b ≡ partEnd (space (now breaks) (now degrees) (now orders)) a) ⌝ }
     ensures { λ r. ⌜ (let part = partAt (space (now (breaks .entry)) (now (degrees .entry)) (now (orders .entry))) a in
-        (r ≡ rowCount part) × ((now (num .exit) ≡ Build.numeratorsAfter (Build.weights part) (now (num .entry))) × (now (den .exit) ≡ Build.denominatorsAfter (Build.weights part) (now (den .entry))))) ⌝ }
+        (r ≡ rowCount part) × ((now (num .exit) ≡ Build.numeratorsAfter (Build.weights part) (now (num .entry)))
+        × (now (den .exit) ≡ Build.denominatorsAfter (Build.weights part) (now (den .entry))))) ⌝ }
 {
     let built = build::parts::build_part(breaks, degrees, orders, a, b, num, den);
     match built {
@@ -54,7 +57,8 @@ fn put_parts(
 ) -> usize
     requires { ⌜ Accepted (space (now breaks) (now degrees) (now orders)) ⌝ }
     requires { ⌜ (at ≤ 2 ^ 40) × (tableCells ≤ length (now num)) × (tableCells ≤ length (now den)) ⌝ }
-    ensures { λ r. ⌜ Puts (weightLineLimit * (rowCells * rowLimit)) at (weightsText (space (now (breaks .entry)) (now (degrees .entry)) (now (orders .entry)))) (now (out .entry)) (now (out .exit)) r ⌝ }
+    ensures { λ r. ⌜ Puts (weightLineLimit * (rowCells * rowLimit)) at
+        (weightsText (space (now (breaks .entry)) (now (degrees .entry)) (now (orders .entry)))) (now (out .entry)) (now (out .exit)) r ⌝ }
 {
     let mut next = at;
     let mut row = 0;
@@ -83,7 +87,8 @@ fn put_beam(
 ) -> usize
     requires { ⌜ Filled (space (now breaks) (now degrees) (now orders)) n (now num) (now den) ⌝ }
     requires { ⌜ at ≤ 2 ^ 40 ⌝ }
-    ensures { λ r. ⌜ Puts (weightLineLimit * (rowCells * rowLimit)) at (weightsText (space (now (breaks .entry)) (now (degrees .entry)) (now (orders .entry)))) (now (out .entry)) (now (out .exit)) r ⌝ }
+    ensures { λ r. ⌜ Puts (weightLineLimit * (rowCells * rowLimit)) at
+        (weightsText (space (now (breaks .entry)) (now (degrees .entry)) (now (orders .entry)))) (now (out .entry)) (now (out .exit)) r ⌝ }
 {
     let end = build_space::part_end(degrees, orders, 0);
     if end == degrees.len() {
@@ -107,7 +112,9 @@ fn put_answer(
 ) -> usize
     requires { ⌜ Filled (space (now breaks) (now degrees) (now orders)) n (now num) (now den) ⌝ }
     requires { ⌜ (length (now positions) ≤ positionLimit) × (length (now positions) ≤ length (now values) / 2) ⌝ }
-    ensures { λ r. ⌜ Puts printoutLimit 0 (answerText (tableOf (spaceWeights (space (now (breaks .entry)) (now (degrees .entry)) (now (orders .entry))))) (now (positions .entry)) (paired (now (values .entry)))) (now (out .entry)) (now (out .exit)) r ⌝ }
+    ensures { λ r. ⌜ Puts printoutLimit 0 (answerText (tableOf (spaceWeights
+        (space (now (breaks .entry)) (now (degrees .entry)) (now (orders .entry))))) (now (positions .entry))
+        (paired (now (values .entry)))) (now (out .entry)) (now (out .exit)) r ⌝ }
 {
     let a = sheet_print::put_count(out, 0, n);
     let b = put_beam(breaks, degrees, orders, n, num, den, out, a);
@@ -125,8 +132,20 @@ fn run(
     out: &mut [u8],
 ) -> usize
     requires { ⌜ length (now positions) ≤ positionLimit ⌝ }
-    ensures { λ r. ⌜ r ≡ length (calledText (record { breaks = now (breaks .entry); degrees = now (degrees .entry); orders = now (orders .entry); coefs = now (coefs .entry); positions = now (positions .entry) })) ⌝ }
-    ensures { λ r. ⌜ now (out .exit) ≡ written 0 (calledText (record { breaks = now (breaks .entry); degrees = now (degrees .entry); orders = now (orders .entry); coefs = now (coefs .entry); positions = now (positions .entry) })) (now (out .entry)) ⌝ }
+    ensures { λ r. ⌜ r ≡ length (calledText (record {
+      breaks = now (breaks .entry);
+      degrees = now (degrees .entry);
+      orders = now (orders .entry);
+      coefs = now (coefs .entry);
+      positions = now (positions .entry);
+    })) ⌝ }
+    ensures { λ r. ⌜ now (out .exit) ≡ written 0 (calledText (record {
+      breaks = now (breaks .entry);
+      degrees = now (degrees .entry);
+      orders = now (orders .entry);
+      coefs = now (coefs .entry);
+      positions = now (positions .entry);
+    })) (now (out .entry)) ⌝ }
     ensures { λ r. ⌜ r ≤ printoutLimit ⌝ }
 {
     let mut num = [0; build_cells::TABLE_CELLS];

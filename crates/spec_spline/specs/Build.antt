@@ -7,7 +7,8 @@ use lib.Dec.{eqb, ltb}
 use lib.IntN.{ℤ}
 use lib.ListN.{length, drop}
 use Rattle.base_outcome.specs.Outcome.{Outcome, answer, refusal, refuse, _then_, with-answer, repeat}
-use Rattle.spec_spline.specs.Space.{Space, segments, lastPartStart, checked, firstColumn, columnCount, conditionCount, rowCount, rowsBefore}
+use Rattle.spec_spline.specs.Space.{Space, segments, lastPartStart, checked, firstColumn, columnCount, conditionCount, rowCount}
+use Rattle.spec_spline.specs.Space.{rowsBefore}
 use Rattle.spec_spline.specs.Conditions.{conditions}
 use Rattle.spec_spline.specs.Table.{Table, identity, tableCells, numerators, denominators}
 use Rattle.spec_spline.specs.Step.{step}
@@ -44,7 +45,8 @@ lastPart s t = let a = lastPartStart s in map (drop (firstColumn s a)) (drop (ro
 abbrev pub clears : ℕ → Bool
 clears number = eqb number 8 || eqb number 9
 
--- The numerators after the call, given the table that they are to hold: the table's, cleared after 8 or 9, unchanged after the other refusals.
+-- The numerators after the call, given the table that they are to hold: the table's, cleared after 8 or 9, unchanged after the other
+-- refusals.
 unfoldable pub numeratorsAfter : Outcome Table → List ℤ → List ℤ
 numeratorsAfter (answer t) before = numerators t before
 numeratorsAfter (refusal number place) before = cond (clears number) (numerators [] before) before

@@ -35,7 +35,8 @@ pub data Call : Type 0 where
 -- What the definitions say of a call on a space, with buffers just long enough.
 unfoldable pub outcome : Space → Call → Outcome Answered
 outcome s building = with-answer (λ t. shown t []) (built s tableCells tableCells)
-outcome s (curve coefs positions) = with-answer (λ r. shown (r .table) (r .values)) (curveOutcome s coefs positions tableCells tableCells (2 * length positions))
+outcome s (curve coefs positions) = with-answer (λ r. shown (r .table) (r .values))
+    (curveOutcome s coefs positions tableCells tableCells (2 * length positions))
 
 -- One line of the table of cases.
 pub record Case : Type 0 where
@@ -204,7 +205,8 @@ cases =
     -- W9: "The scar case with coefficients 0, 10, 20, 30 reads 2560 at 256"
     line space9 (reading (pos 0 ∷ pos 10 ∷ pos 20 ∷ pos 30 ∷ []) (pos 256 ∷ [])) (answers 4 weights9 (pos 2560 ∷ [])) ∷
     -- two discontinuities with one segment between them, each read from the segment that ends there
-    line (threeLines (negℤ (pos 1)) (negℤ (pos 1))) (reading (pos 0 ∷ pos 10 ∷ pos 20 ∷ pos 30 ∷ pos 40 ∷ pos 50 ∷ []) (pos 256 ∷ pos 512 ∷ [])) (answers 6 threeLinesWeights (pos 2560 ∷ pos 7680 ∷ [])) ∷
+    line (threeLines (negℤ (pos 1)) (negℤ (pos 1))) (reading (pos 0 ∷ pos 10 ∷ pos 20 ∷ pos 30 ∷ pos 40 ∷ pos 50 ∷ [])
+    (pos 256 ∷ pos 512 ∷ [])) (answers 6 threeLinesWeights (pos 2560 ∷ pos 7680 ∷ [])) ∷
     -- parts with spans of 2,000 each; of 2,001 in the second; a join of order 0 does not cut
     line (twoLong 4000 (negℤ (pos 1))) building (answers 4 weights9 []) ∷
     line (twoLong 4001 (negℤ (pos 1))) building (refusal 3 2) ∷
@@ -218,15 +220,18 @@ cases =
     line space1 (reading (pos 0 ∷ pos 100 ∷ pos 0 ∷ pos 0 ∷ []) (pos 769 ∷ [])) (refusal 7 0) ∷
     line space1 (reading (pos 0 ∷ pos 100 ∷ pos 0 ∷ pos 0 ∷ []) (pos 768 ∷ [])) (answers 4 weights1 (pos 0 ∷ [])) ∷
     -- W1 for earlywood and W2 for latewood
-    line space1 (readingPairs (pair (pos 0) (pos 0) ∷ pair (pos 100) (negℤ (pos 100)) ∷ pair (pos 0) (pos 0) ∷ pair (pos 0) (pos 0) ∷ []) (pos 512 ∷ [])) (answerPairs 4 weights1 (pair (pos 4267) (negℤ (pos 4266)) ∷ [])) ∷
+    line space1 (readingPairs (pair (pos 0) (pos 0) ∷ pair (pos 100) (negℤ (pos 100)) ∷ pair (pos 0) (pos 0) ∷ pair (pos 0) (pos 0) ∷ [])
+    (pos 512 ∷ [])) (answerPairs 4 weights1 (pair (pos 4267) (negℤ (pos 4266)) ∷ [])) ∷
     -- the latewood number of the second pair is out of range: "2n numbers, which 6 counts and places singly"
-    line space1 (readingPairs (pair (pos 0) (pos 0) ∷ pair (pos 100) (pos 1000001) ∷ pair (pos 0) (pos 0) ∷ pair (pos 0) (pos 0) ∷ []) (pos 512 ∷ [])) (refusal 6 3) ∷
+    line space1 (readingPairs (pair (pos 0) (pos 0) ∷ pair (pos 100) (pos 1000001) ∷ pair (pos 0) (pos 0) ∷ pair (pos 0) (pos 0) ∷ [])
+    (pos 512 ∷ [])) (refusal 6 3) ∷
     -- an odd count
     line space1 (curve (pos 0 ∷ pos 0 ∷ pos 100 ∷ pos 100 ∷ pos 0 ∷ pos 0 ∷ pos 0 ∷ []) (pos 512 ∷ [])) (refusal 6 4294967295) ∷
     -- the plain sum of the join's ordinate is 257, above 256 times the greatest coefficient
     line upperLimitSpace (reading (pos 1 ∷ pos 1 ∷ pos 1 ∷ pos 1 ∷ []) (pos 256 ∷ [])) (answers 4 upperLimitWeights (pos 256 ∷ [])) ∷
     -- the plain sum of the join's ordinate is 255, under 256 times the least coefficient
-    line lowerLimitSpace (reading (pos 1 ∷ pos 1 ∷ pos 1 ∷ pos 1 ∷ pos 1 ∷ pos 1 ∷ []) (pos 256 ∷ [])) (answers 6 lowerLimitWeights (pos 256 ∷ [])) ∷ []
+    line lowerLimitSpace (reading (pos 1 ∷ pos 1 ∷ pos 1 ∷ pos 1 ∷ pos 1 ∷ pos 1 ∷ []) (pos 256 ∷ []))
+    (answers 6 lowerLimitWeights (pos 256 ∷ [])) ∷ []
 
 -- ---- the segments of positions
 

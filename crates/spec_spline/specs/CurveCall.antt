@@ -101,4 +101,9 @@ pub record CurveEnd : Type 0 where
 abbrev pub curveEnd : Space → List ℤ → List ℤ → List ℤ → List ℤ → List ℤ → CurveEnd
 curveEnd s coefs positions num den values =
     let o = curveOutcome s coefs positions (length num) (length den) (length values) in
-    record { answers = returned o; numerators = curveNumerators s o num; denominators = curveDenominators s o den; values = valuesAfter o values }
+    record {
+      answers = returned o;
+      numerators = curveNumerators s o num;
+      denominators = curveDenominators s o den;
+      values = valuesAfter o values;
+    }

@@ -30,7 +30,8 @@ bernsteinAt p d u t = int (pos (binomial p t)) *ᵠ power (int u) t *ᵠ power (
 
 -- "256·(coefficient i)·(weight of row i on ordinate t)·C(p, t)·u^t·(D - u)^(p - t)/D^p", at a position x of segment j.
 unfoldable pub exactTerm : Space → Table → Wood → List ℤ → ℕ → ℤ → ℕ → ℕ → ℚ
-exactTerm s w wood coefs j x i t = int (fine (coefficient wood coefs i)) *ᵠ cell w i (firstColumn s j + t) *ᵠ bernsteinAt (degree s j) (fineWidth s j) (offset s j x) t
+exactTerm s w wood coefs j x i t = int (fine (coefficient wood coefs i)) *ᵠ cell w i (firstColumn s j + t) *ᵠ bernsteinAt (degree s j)
+    (fineWidth s j) (offset s j x) t
 
 -- "the sum, over all rows i and the ordinates t = 0 to p" of segment j.
 unfoldable pub exactOn : Space → Table → Wood → List ℤ → ℕ → ℤ → ℚ

@@ -21,7 +21,8 @@ use Rattle.spec_spline.specs.Table.{Row, Table, entry, cell, identity}
 -- The coefficients of the k-th derivative: f_(j,k) := alpha_k (f_(j+1,k-1) - f_(j,k-1)), alpha_k := (p - k + 1) / h.
 unfoldable pub derivativeCoefficient : ℕ → ℕ → (ℕ → ℚ) → ℕ → ℕ → ℚ
 derivativeCoefficient p h f zero j = f j
-derivativeCoefficient p h f (suc k) j = int (pos (p - k)) /ᵠ int (pos h) *ᵠ (derivativeCoefficient p h f k (suc j) -ᵠ derivativeCoefficient p h f k j)
+derivativeCoefficient p h f (suc k) j = int (pos (p - k)) /ᵠ int (pos h) *ᵠ
+    (derivativeCoefficient p h f k (suc j) -ᵠ derivativeCoefficient p h f k j)
 
 -- The coefficients of the Bernstein polynomial b_t itself.
 abbrev pub bernstein : ℕ → ℕ → ℚ
@@ -88,7 +89,8 @@ bidiagonal l i1 i2 = tab (length l - 1) (λ r. tab (length l) (λ c.
 
 -- i1 and i2 are the first and the last non-zero entry of l; 0 if there is none, which does not occur in the construction.
 unfoldable pub nullspace : Row → Table
-nullspace l = bidiagonal l (Option·getD (first (length l) (λ i. not (isZero (entry l i)))) 0) (Option·getD (last (length l) (λ i. not (isZero (entry l i)))) 0)
+nullspace l = bidiagonal l (Option·getD (first (length l) (λ i. not (isZero (entry l i)))) 0)
+    (Option·getD (last (length l) (λ i. not (isZero (entry l i)))) 0)
 
 -- ---- the extraction matrix (Figure 1)
 

@@ -57,7 +57,8 @@ degreeLimit = 5
 
 -- Number 2, place 0: the lengths are m + 1, m and m - 1 for one m in 1 to 48.
 unfoldable pub lengthsFit : Space → Bool
-lengthsFit s = leb 1 (segments s) && leb (segments s) segmentLimit && eqb (length (s .breaks)) (segments s + 1) && eqb (length (s .orders) + 1) (segments s)
+lengthsFit s = leb 1 (segments s) && leb (segments s) segmentLimit && eqb (length (s .breaks)) (segments s + 1)
+    && eqb (length (s .orders) + 1) (segments s)
 
 -- Number 3: out of -10,000 to 10,000, or not above the one before.
 unfoldable pub badBreak : Space → ℕ → Bool
@@ -99,7 +100,8 @@ badDegree s i = not (between (pos 1) (pos degreeLimit) (degreeEntry s i))
 
 -- Number 5: out of -1 to 2, or above the smaller neighbouring degree minus 1.
 unfoldable pub badOrder : Space → ℕ → Bool
-badOrder s i = not (between (negℤ (pos 1)) (pos 2) (order s i)) || leZ (degreeEntry s i) (order s i) || leZ (degreeEntry s (suc i)) (order s i)
+badOrder s i = not (between (negℤ (pos 1)) (pos 2) (order s i)) || leZ (degreeEntry s i) (order s i)
+    || leZ (degreeEntry s (suc i)) (order s i)
 
 -- Number 2, place 0, or the value given.
 abbrev pub fitting : {A : Type 0} → Space → Outcome A → Outcome A

@@ -71,7 +71,8 @@ factor j js f i = quotientFactor j (partialSum js f i) (entry js i)
 
 -- The factors of the rows f to l: 1 at f, w for f + 1 to l - 1, 0 at l.
 unfoldable pub factors : ℕ → List ℚ → Span → Outcome (List ℚ)
-factors j js g = collect (g .l - g .f - 1) (λ d. factor j js (g .f) (g .f + 1 + d)) then λ ws. answer (int (pos 1) ∷ (ws ++ (int (pos 0) ∷ [])))
+factors j js g = collect (g .l - g .f - 1) (λ d. factor j js (g .f) (g .f + 1 + d)) then λ ws. answer
+    (int (pos 1) ∷ (ws ++ (int (pos 0) ∷ [])))
 
 -- "first product, second product, sum".
 unfoldable pub newEntry : ℕ → ℚ → ℚ → ℚ → ℚ → Outcome ℚ

@@ -86,7 +86,8 @@ fieldCount body = (length body - (nameColumns + yearColumns)) / fieldColumns
 
 -- "one to ten fields of six columns", and no column over.
 unfoldable pub columnsFit : Text → Bool
-columnsFit body = eqb (length body) (nameColumns + yearColumns + fieldCount body * fieldColumns) && leb 1 (fieldCount body) && leb (fieldCount body) decade
+columnsFit body = eqb (length body) (nameColumns + yearColumns + fieldCount body * fieldColumns) && leb 1 (fieldCount body)
+    && leb (fieldCount body) decade
 
 -- The line with this name, if the year and the fields are numbers.
 abbrev pub withNumbers : Text → Option ℤ → Option (List ℤ) → Option Line

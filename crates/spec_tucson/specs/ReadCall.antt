@@ -37,7 +37,8 @@ widthsOf (s ∷ ss) = s .widths ++ widthsOf ss
 -- Buffers of these lengths have room for the series.
 unfoldable pub roomFor : List Series → ℕ → ℕ → ℕ → ℕ → Bool
 roomFor ss namesLength yearsLength countsLength widthsLength =
-    leb (length (namesOf ss)) namesLength && leb (length (yearsOf ss)) yearsLength && leb (length (countsOf ss)) countsLength && leb (length (widthsOf ss)) widthsLength
+    leb (length (namesOf ss)) namesLength && leb (length (yearsOf ss)) yearsLength && leb (length (countsOf ss)) countsLength
+    && leb (length (widthsOf ss)) widthsLength
 
 -- What the read call ends with, given the lengths of the four buffers.
 unfoldable pub readOutcome : Text → ℕ → ℕ → ℕ → ℕ → Outcome (List Series)
@@ -65,4 +66,10 @@ pub record ReadEnd : Type 0 where
 abbrev pub readEnd : Text → Text → List ℤ → List ℕ → List ℤ → ReadEnd
 readEnd t names years counts widths =
     let o = readOutcome t (length names) (length years) (length counts) (length widths) in
-    record { answers = with-answer length o; names = filled namesOf o names; years = filled yearsOf o years; counts = filled countsOf o counts; widths = filled widthsOf o widths }
+    record {
+      answers = with-answer length o;
+      names = filled namesOf o names;
+      years = filled yearsOf o years;
+      counts = filled countsOf o counts;
+      widths = filled widthsOf o widths;
+    }

@@ -22,13 +22,15 @@ total (n ∷ ns) = n + total ns
 
 -- The lists fit each other: a name of eight bytes and a count for each year, and the counts add up to the widths.
 unfoldable pub listsFit : Text → List ℤ → List ℕ → List ℤ → Bool
-listsFit names years counts widths = eqb (length names) (length years * nameColumns) && eqb (length counts) (length years) && eqb (total counts) (length widths)
+listsFit names years counts widths = eqb (length names) (length years * nameColumns) && eqb (length counts) (length years)
+    && eqb (total counts) (length widths)
 
 -- The series of four lists that fit.
 unfoldable pub seriesOf : Text → List ℤ → List ℕ → List ℤ → List Series
 seriesOf names [] counts widths = []
 seriesOf names (y ∷ ys) [] widths = []
-seriesOf names (y ∷ ys) (n ∷ ns) widths = record { name = take nameColumns names; firstYear = y; widths = take n widths } ∷ seriesOf (drop nameColumns names) ys ns (drop n widths)
+seriesOf names (y ∷ ys) (n ∷ ns) widths = record { name = take nameColumns names; firstYear = y; widths = take n widths }
+    ∷ seriesOf (drop nameColumns names) ys ns (drop n widths)
 
 -- The text of the series, or 11 with the first that can't be written, or 1 where a buffer of this length is too short.
 unfoldable pub seriesOutcome : List Series → ℕ → Outcome Text

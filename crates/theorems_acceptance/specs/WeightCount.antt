@@ -43,4 +43,5 @@ abbrev pub lowWeightLimit : ℕ
 lowWeightLimit = 2
 
 abbrev pub AtMostTwoWeights : Type 0
-AtMostTwoWeights = (s : Space) (a : Accepted s) → OrdersAtMostOne s → (c : ℕ) → c < columnCount s → weightCount (a .table) c ≤ lowWeightLimit
+AtMostTwoWeights = (s : Space) (a : Accepted s) → OrdersAtMostOne s → (c : ℕ) → c < columnCount s
+    → weightCount (a .table) c ≤ lowWeightLimit

@@ -26,15 +26,19 @@ PartsAreLegal = (s : Space) → checked s ≡ answer s → (a : ℕ) → Starts 
 -- first section that is refused.
 abbrev pub CutWeights : Type 0
 CutWeights = (s : Space) → checked s ≡ answer s → (a n : ℕ) → Starts s a → segments s ≡ a + n
-    → weights s ≡ (weights (section s 0 a) then λ t. later a (weights (section s a n)) then λ u. answer (beside (columnCount (section s 0 a)) (columnCount (section s a n)) t u))
+    → weights s ≡ (weights (section s 0 a) then λ t. later a (weights (section s a n)) then λ u. answer
+    (beside (columnCount (section s 0 a)) (columnCount (section s a n)) t u))
 
 -- The part that starts with segment a is built by itself to t: the whole table has t's weights on the part's rows and columns,
 -- and zeros elsewhere in these rows and in these columns.
 pub record PartOf (s : Space) (whole : Table) (a : ℕ) : Type 0 where
   pub accepted : Accepted (partAt s a)
-  pub same : (i c : ℕ) → i < rowCount (partAt s a) → c < columnCount (partAt s a) → cell whole (rowsBefore s a + i) (firstColumn s a + c) ≡ cell (accepted .table) i c
-  pub zero-beside : (i c : ℕ) → i < rowCount (partAt s a) → (c < firstColumn s a) ⊎ (firstColumn s (partEnd s a) ≤ c) → cell whole (rowsBefore s a + i) c ≡ int (pos 0)
-  pub zero-above-and-below : (i c : ℕ) → c < columnCount (partAt s a) → (i < rowsBefore s a) ⊎ (rowsBefore s a + rowCount (partAt s a) ≤ i) → cell whole i (firstColumn s a + c) ≡ int (pos 0)
+  pub same : (i c : ℕ) → i < rowCount (partAt s a) → c < columnCount (partAt s a)
+      → cell whole (rowsBefore s a + i) (firstColumn s a + c) ≡ cell (accepted .table) i c
+  pub zero-beside : (i c : ℕ) → i < rowCount (partAt s a) → (c < firstColumn s a) ⊎ (firstColumn s (partEnd s a) ≤ c)
+      → cell whole (rowsBefore s a + i) c ≡ int (pos 0)
+  pub zero-above-and-below : (i c : ℕ) → c < columnCount (partAt s a) → (i < rowsBefore s a) ⊎ (rowsBefore s a + rowCount (partAt s a) ≤ i)
+      → cell whole i (firstColumn s a + c) ≡ int (pos 0)
 
 -- So the weights of an accepted beam are its parts' weights.
 abbrev pub WeightsByParts : Type 0

@@ -12,7 +12,11 @@ use Rattle.spec_spline.specs.Table.{Row, Table}
 
 -- The n segments from segment a on: the middle parts of the three lists.
 abbrev pub section : Space → ℕ → ℕ → Space
-section s a n = record { breaks = take (suc n) (drop a (s .breaks)); degrees = take n (drop a (s .degrees)); orders = take (n - 1) (drop a (s .orders)) }
+section s a n = record {
+  breaks = take (suc n) (drop a (s .breaks));
+  degrees = take n (drop a (s .degrees));
+  orders = take (n - 1) (drop a (s .orders));
+}
 
 -- The part that starts with segment a.
 abbrev pub partAt : Space → ℕ → Space

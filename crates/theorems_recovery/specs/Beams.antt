@@ -13,11 +13,17 @@ use Rattle.theorems_recovery.specs.Recovery.{Numbered, recovered}
 
 -- The tables of the two spaces side by side, and their numbers in a row.
 abbrev pub together : Space → Space → Numbered → Numbered → Numbered
-together before behind r q = record { table = beside (columnCount before) (columnCount behind) (r .table) (q .table); numbers = r .numbers ++ q .numbers }
+together before behind r q = record {
+  table = beside (columnCount before) (columnCount behind) (r .table) (q .table);
+  numbers = r .numbers
+      ++ q .numbers;
+}
 
 -- A beam cut before segment a, each section with the ordinates of its own columns: its coefficients are those of the two
 -- sections, or the refusal of the first section that is refused, its place counted over the beam.
 abbrev pub CutRecovered : Type 0
-CutRecovered = (s : Space) → checked s ≡ answer s → (a n : ℕ) → Starts s a → segments s ≡ a + n → (ordinates : List ℤ) → length ordinates ≡ columnCount s
+CutRecovered = (s : Space) → checked s ≡ answer s → (a n : ℕ) → Starts s a → segments s ≡ a + n → (ordinates : List ℤ)
+    → length ordinates ≡ columnCount s
     → recovered s ordinates ≡ (recovered (section s 0 a) (take (columnCount (section s 0 a)) ordinates) then λ r.
-    later a (recovered (section s a n) (drop (columnCount (section s 0 a)) ordinates)) then λ q. answer (together (section s 0 a) (section s a n) r q))
+    later a (recovered (section s a n) (drop (columnCount (section s 0 a)) ordinates)) then λ q. answer
+    (together (section s 0 a) (section s a n) r q))

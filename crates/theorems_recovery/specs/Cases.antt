@@ -45,7 +45,15 @@ pub record Case : Type 0 where
 -- An answer with these cells before the last one, which is left as it was.
 abbrev pub recovers : Space → List ℤ → ℕ → List ℤ → List ℕ → Case
 recovers s ordinates n numerators denominators =
-    record { space = s; ordinates = ordinates; ends = record { answers = answer n; numerators = numerators ++ (old ∷ []); denominators = map pos denominators ++ (old ∷ []) } }
+    record {
+      space = s;
+      ordinates = ordinates;
+      ends = record {
+        answers = answer n;
+        numerators = numerators ++ (old ∷ []);
+        denominators = map pos denominators ++ (old ∷ []);
+      };
+    }
 
 -- A refusal after building has begun: 0/1 in a cell for each ordinate.
 abbrev pub clears : Space → List ℤ → ℕ → ℕ → Case
@@ -63,7 +71,15 @@ clears s ordinates number place =
 -- A refusal before it: all is as it was.
 abbrev pub keeps : Space → List ℤ → ℕ → ℕ → Case
 keeps s ordinates number place =
-    record { space = s; ordinates = ordinates; ends = record { answers = refusal number place; numerators = lent ordinates; denominators = lent ordinates } }
+    record {
+      space = s;
+      ordinates = ordinates;
+      ends = record {
+        answers = refusal number place;
+        numerators = lent ordinates;
+        denominators = lent ordinates;
+      };
+    }
 
 -- ---- the spaces that no other table has
 
@@ -80,20 +96,26 @@ beam = space (0 ∷ 1 ∷ 3 ∷ 4 ∷ 5 ∷ []) (2 ∷ 2 ∷ 1 ∷ 1 ∷ []) (po
 unfoldable pub cases : List Case
 cases =
     -- W1's coefficients 0, 100, 0, 0, times 3 as its ordinates have thirds
-    recovers space1 (pos 0 ∷ pos 300 ∷ pos 200 ∷ pos 200 ∷ pos 0 ∷ pos 0 ∷ []) 4 (pos 0 ∷ pos 300 ∷ pos 0 ∷ pos 0 ∷ pos 0 ∷ pos 0 ∷ []) (1 ∷ 1 ∷ 1 ∷ 1 ∷ 1 ∷ 1 ∷ []) ∷
+    recovers space1 (pos 0 ∷ pos 300 ∷ pos 200 ∷ pos 200 ∷ pos 0 ∷ pos 0 ∷ []) 4 (pos 0 ∷ pos 300 ∷ pos 0 ∷ pos 0 ∷ pos 0 ∷ pos 0 ∷ [])
+    (1 ∷ 1 ∷ 1 ∷ 1 ∷ 1 ∷ 1 ∷ []) ∷
     -- 256 times 0, 1, 3, 0: the curve call rounds the ordinate of the join to 258
-    recovers upperLimitSpace (pos 0 ∷ pos 256 ∷ pos 257 ∷ pos 257 ∷ pos 768 ∷ pos 0 ∷ []) 4 (pos 0 ∷ pos 256 ∷ pos 768 ∷ pos 0 ∷ pos 0 ∷ pos 0 ∷ []) (1 ∷ 1 ∷ 1 ∷ 1 ∷ 1 ∷ 1 ∷ []) ∷
+    recovers upperLimitSpace (pos 0 ∷ pos 256 ∷ pos 257 ∷ pos 257 ∷ pos 768 ∷ pos 0 ∷ []) 4
+    (pos 0 ∷ pos 256 ∷ pos 768 ∷ pos 0 ∷ pos 0 ∷ pos 0 ∷ []) (1 ∷ 1 ∷ 1 ∷ 1 ∷ 1 ∷ 1 ∷ []) ∷
     -- order 2: a coefficient that is no whole number, -2/5
-    recovers (joined 1 2 3 4 2) (pos 7 ∷ pos 3 ∷ pos 1 ∷ pos 1 ∷ pos 1 ∷ pos 1 ∷ pos 2 ∷ pos 7 ∷ pos 7 ∷ []) 6 (pos 7 ∷ pos 3 ∷ negℤ (pos 2) ∷ pos 2 ∷ pos 7 ∷ pos 7 ∷ pos 0 ∷ pos 0 ∷ pos 0 ∷ []) (1 ∷ 1 ∷ 5 ∷ 1 ∷ 1 ∷ 1 ∷ 1 ∷ 1 ∷ 1 ∷ []) ∷
+    recovers (joined 1 2 3 4 2) (pos 7 ∷ pos 3 ∷ pos 1 ∷ pos 1 ∷ pos 1 ∷ pos 1 ∷ pos 2 ∷ pos 7 ∷ pos 7 ∷ []) 6
+    (pos 7 ∷ pos 3 ∷ negℤ (pos 2) ∷ pos 2 ∷ pos 7 ∷ pos 7 ∷ pos 0 ∷ pos 0 ∷ pos 0 ∷ []) (1 ∷ 1 ∷ 5 ∷ 1 ∷ 1 ∷ 1 ∷ 1 ∷ 1 ∷ 1 ∷ []) ∷
     -- a discontinuity undoes nothing; a beam of two parts
     recovers space9 (pos 1 ∷ pos 2 ∷ pos 3 ∷ pos 4 ∷ []) 4 (pos 1 ∷ pos 2 ∷ pos 3 ∷ pos 4 ∷ []) (1 ∷ 1 ∷ 1 ∷ 1 ∷ []) ∷
-    recovers beam (pos 0 ∷ pos 300 ∷ pos 200 ∷ pos 200 ∷ pos 0 ∷ pos 0 ∷ pos 1 ∷ pos 2 ∷ pos 2 ∷ pos 3 ∷ []) 7 (pos 0 ∷ pos 300 ∷ pos 0 ∷ pos 0 ∷ pos 1 ∷ pos 2 ∷ pos 3 ∷ pos 0 ∷ pos 0 ∷ pos 0 ∷ []) (1 ∷ 1 ∷ 1 ∷ 1 ∷ 1 ∷ 1 ∷ 1 ∷ 1 ∷ 1 ∷ 1 ∷ []) ∷
+    recovers beam (pos 0 ∷ pos 300 ∷ pos 200 ∷ pos 200 ∷ pos 0 ∷ pos 0 ∷ pos 1 ∷ pos 2 ∷ pos 2 ∷ pos 3 ∷ []) 7
+    (pos 0 ∷ pos 300 ∷ pos 0 ∷ pos 0 ∷ pos 1 ∷ pos 2 ∷ pos 3 ∷ pos 0 ∷ pos 0 ∷ pos 0 ∷ []) (1 ∷ 1 ∷ 1 ∷ 1 ∷ 1 ∷ 1 ∷ 1 ∷ 1 ∷ 1 ∷ 1 ∷ [])
+    ∷
     -- 18: a count that is off by one, though an ordinate is out of range too; the first that is out of range; the ends of the range
     keeps space9 (pos 1 ∷ pos 2 ∷ pos 256000001 ∷ []) 18 4294967295 ∷
     keeps space9 (pos 1 ∷ pos 2 ∷ pos 3 ∷ pos 4 ∷ pos 5 ∷ []) 18 4294967295 ∷
     keeps space9 (pos 1 ∷ pos 256000001 ∷ negℤ (pos 256000001) ∷ pos 4 ∷ []) 18 1 ∷
     keeps space9 (pos 1 ∷ pos 2 ∷ pos 3 ∷ negℤ (pos 256000001) ∷ []) 18 3 ∷
-    recovers space9 (pos 1 ∷ pos 256000000 ∷ negℤ (pos 256000000) ∷ pos 4 ∷ []) 4 (pos 1 ∷ pos 256000000 ∷ negℤ (pos 256000000) ∷ pos 4 ∷ []) (1 ∷ 1 ∷ 1 ∷ 1 ∷ []) ∷
+    recovers space9 (pos 1 ∷ pos 256000000 ∷ negℤ (pos 256000000) ∷ pos 4 ∷ []) 4
+    (pos 1 ∷ pos 256000000 ∷ negℤ (pos 256000000) ∷ pos 4 ∷ []) (1 ∷ 1 ∷ 1 ∷ 1 ∷ []) ∷
     -- 19: the values at the join differ; the slopes differ; at the later join of a beam, and at the earlier of two
     clears space1 (pos 0 ∷ pos 300 ∷ pos 200 ∷ pos 201 ∷ pos 0 ∷ pos 0 ∷ []) 19 0 ∷
     clears space1 (pos 0 ∷ pos 300 ∷ pos 201 ∷ pos 201 ∷ pos 0 ∷ pos 0 ∷ []) 19 0 ∷
@@ -103,11 +125,15 @@ cases =
     clears (joined 1 11 2 2 1) (pos 0 ∷ pos 190000000 ∷ pos 200000000 ∷ pos 200000000 ∷ pos 0 ∷ pos 0 ∷ []) 20 0 ∷
     clears (joined 1 9 2 2 1) (pos 0 ∷ negℤ (pos 200000000) ∷ pos 200000000 ∷ pos 200000000 ∷ pos 0 ∷ pos 0 ∷ []) 20 0 ∷
     -- 20 in the undoing: a share; a difference; a quotient
-    clears (joined 1 3 4 3 2) (pos 0 ∷ pos 0 ∷ negℤ (pos 26649613) ∷ pos 0 ∷ pos 0 ∷ pos 0 ∷ pos 0 ∷ negℤ (pos 213196904) ∷ pos 0 ∷ []) 20 0 ∷
-    clears (joined 1 3 4 3 2) (pos 0 ∷ pos 0 ∷ pos 24321330 ∷ pos 0 ∷ pos 184062 ∷ pos 184062 ∷ pos 674894 ∷ pos 197208862 ∷ pos 0 ∷ []) 20 0 ∷
-    clears (joined 4 7 4 3 2) (pos 0 ∷ pos 0 ∷ negℤ (pos 219414552) ∷ pos 0 ∷ pos 0 ∷ pos 0 ∷ pos 0 ∷ negℤ (pos 246841371) ∷ pos 0 ∷ []) 20 0 ∷
+    clears (joined 1 3 4 3 2) (pos 0 ∷ pos 0 ∷ negℤ (pos 26649613) ∷ pos 0 ∷ pos 0 ∷ pos 0 ∷ pos 0 ∷ negℤ (pos 213196904) ∷ pos 0 ∷ [])
+    20 0 ∷
+    clears (joined 1 3 4 3 2) (pos 0 ∷ pos 0 ∷ pos 24321330 ∷ pos 0 ∷ pos 184062 ∷ pos 184062 ∷ pos 674894 ∷ pos 197208862 ∷ pos 0 ∷ [])
+    20 0 ∷
+    clears (joined 4 7 4 3 2) (pos 0 ∷ pos 0 ∷ negℤ (pos 219414552) ∷ pos 0 ∷ pos 0 ∷ pos 0 ∷ pos 0 ∷ negℤ (pos 246841371) ∷ pos 0 ∷ [])
+    20 0 ∷
     -- 19 comes before a share that would be too large
-    clears (joined 2 3 3 4 2) (pos 0 ∷ negℤ (pos 198381241) ∷ pos 0 ∷ pos 0 ∷ pos 0 ∷ pos 0 ∷ negℤ (pos 24797655) ∷ pos 0 ∷ pos 0 ∷ []) 19 0 ∷
+    clears (joined 2 3 3 4 2) (pos 0 ∷ negℤ (pos 198381241) ∷ pos 0 ∷ pos 0 ∷ pos 0 ∷ pos 0 ∷ negℤ (pos 24797655) ∷ pos 0 ∷ pos 0 ∷ [])
+    19 0 ∷
     -- 8 comes before 19 at its own step, and after 19 at an earlier one
     clears (joined 67 70 3 5 2) (pos 0 ∷ pos 0 ∷ pos 0 ∷ pos 0 ∷ pos 0 ∷ pos 0 ∷ pos 0 ∷ pos 0 ∷ pos 0 ∷ pos 0 ∷ []) 8 0 ∷
     clears (joined 67 70 3 5 2) (pos 0 ∷ pos 1 ∷ pos 0 ∷ pos 0 ∷ pos 0 ∷ pos 0 ∷ pos 0 ∷ pos 0 ∷ pos 0 ∷ pos 0 ∷ []) 8 0 ∷
@@ -117,7 +143,8 @@ cases =
 
 -- What a call on W9's space with these ordinates and these lengths of the four buffers ends with.
 abbrev pub lengths : ℕ → ℕ → ℕ → ℕ → Outcome ℕ
-lengths num den coefNum coefDen = with-answer (λ r. length (r .numbers)) (recoveryOutcome space9 (pos 1 ∷ pos 2 ∷ pos 3 ∷ pos 4 ∷ []) num den coefNum coefDen)
+lengths num den coefNum coefDen = with-answer (λ r. length (r .numbers))
+    (recoveryOutcome space9 (pos 1 ∷ pos 2 ∷ pos 3 ∷ pos 4 ∷ []) num den coefNum coefDen)
 
 -- Number 1 with places 0, 1, 3 and 4, in this order.
 abbrev pub ShortBuffers : Type 0

@@ -20,11 +20,13 @@ pub record HeldCoefficients (s : Space) (ordinates coefNum coefDen : List ℤ) (
   pub numerators-are : e .coefficientNumerators ≡ listed numeratorOf (length ordinates) numbers coefNum
   pub denominators-are : e .coefficientDenominators ≡ listed denominatorOf (length ordinates) numbers coefDen
   pub reproduce : combination (columnCount s) numbers (accepted .table) ≡ map int ordinates
-  pub no-others : (others : List ℚ) → length others ≡ n → combination (columnCount s) others (accepted .table) ≡ map int ordinates → others ≡ numbers
+  pub no-others : (others : List ℚ) → length others ≡ n → combination (columnCount s) others (accepted .table) ≡ map int ordinates
+      → others ≡ numbers
 
 -- Every call that answers, whatever lists and buffers it was lent.
 abbrev pub CellsReproduce : Type 0
-CellsReproduce = (s : Space) (ordinates num den coefNum coefDen : List ℤ) (n : ℕ) → recoveryEnd s ordinates num den coefNum coefDen .answers ≡ answer n
+CellsReproduce = (s : Space) (ordinates num den coefNum coefDen : List ℤ) (n : ℕ)
+    → recoveryEnd s ordinates num den coefNum coefDen .answers ≡ answer n
     → HeldCoefficients s ordinates coefNum coefDen n (recoveryEnd s ordinates num den coefNum coefDen)
 
 -- The ordinates miss a join condition, so that no fractions reproduce them.
@@ -34,4 +36,5 @@ pub record NoCoefficients (s : Space) (ordinates : List ℤ) : Type 0 where
 
 -- Every call that ends with 19.
 abbrev pub NineteenMeansNone : Type 0
-NineteenMeansNone = (s : Space) (ordinates num den coefNum coefDen : List ℤ) (place : ℕ) → recoveryEnd s ordinates num den coefNum coefDen .answers ≡ refusal 19 place → NoCoefficients s ordinates
+NineteenMeansNone = (s : Space) (ordinates num den coefNum coefDen : List ℤ) (place : ℕ)
+    → recoveryEnd s ordinates num den coefNum coefDen .answers ≡ refusal 19 place → NoCoefficients s ordinates

@@ -21,7 +21,8 @@ sized j q = cond (fits q) (answer q) (refuse 20 j)
 -- "the sum of present numbers times jumps, added with rows rising", over the first n rows with a non-zero jump.
 unfoldable pub jumpSum : ℕ → List ℚ → List ℚ → ℕ → Outcome ℚ
 jumpSum j js cs zero = answer (int (pos 0))
-jumpSum j js cs (suc n) = jumpSum j js cs n then λ s. cond (jumpsAt js n) (sized j (entry cs n *ᵠ entry js n) then λ p. sized j (s +ᵠ p)) (answer s)
+jumpSum j js cs (suc n) = jumpSum j js cs n then λ s. cond (jumpsAt js n) (sized j (entry cs n *ᵠ entry js n) then λ p. sized j (s +ᵠ p))
+    (answer s)
 
 -- It "must be zero": number 19 where it is not.
 unfoldable pub balanced : ℕ → List ℚ → List ℚ → Outcome (Unit {0})
@@ -66,7 +67,8 @@ recoverOrders s j n r = repeat n (λ k. recoverStep j (conditions s j k)) r
 
 -- The first n joins from the left: at first the identity, with the ordinates themselves.
 unfoldable pub recoverJoins : Space → List ℤ → ℕ → Outcome Numbered
-recoverJoins s ordinates n = repeat n (λ j. recoverOrders s j (conditionCount s j)) (record { table = identity (columnCount s); numbers = map int ordinates })
+recoverJoins s ordinates n = repeat n (λ j. recoverOrders s j (conditionCount s j))
+    (record { table = identity (columnCount s); numbers = map int ordinates })
 
 -- The weights of a legal space and the coefficients that give these ordinates, or 8, 9, 19 or 20.
 unfoldable pub recovered : Space → List ℤ → Outcome Numbered

@@ -19,18 +19,22 @@ use Rattle.theorems_recovery.specs.Recovery.{Numbered, recovered}
 
 -- An answer has the build's own weights, and a number for each of their n rows.
 abbrev pub AnswersHaveTheWeights : Type 0
-AnswersHaveTheWeights = (s : Space) → checked s ≡ answer s → (ordinates : List ℤ) → length ordinates ≡ columnCount s → (r : Numbered) → recovered s ordinates ≡ answer r
+AnswersHaveTheWeights = (s : Space) → checked s ≡ answer s → (ordinates : List ℤ) → length ordinates ≡ columnCount s → (r : Numbered)
+    → recovered s ordinates ≡ answer r
     → (weights s ≡ answer (r .table)) × (length (r .numbers) ≡ rowCount s)
 
 -- "its coefficients reproduce each ordinate exactly".
 abbrev pub AnswersReproduce : Type 0
-AnswersReproduce = (s : Space) → checked s ≡ answer s → (ordinates : List ℤ) → length ordinates ≡ columnCount s → (r : Numbered) → recovered s ordinates ≡ answer r
+AnswersReproduce = (s : Space) → checked s ≡ answer s → (ordinates : List ℤ) → length ordinates ≡ columnCount s → (r : Numbered)
+    → recovered s ordinates ≡ answer r
     → combination (columnCount s) (r .numbers) (r .table) ≡ map int ordinates
 
 -- "and no others do".
 abbrev pub NoOthersReproduce : Type 0
-NoOthersReproduce = (s : Space) → checked s ≡ answer s → (ordinates : List ℤ) → length ordinates ≡ columnCount s → (r : Numbered) → recovered s ordinates ≡ answer r
-    → (others : List ℚ) → length others ≡ rowCount s → combination (columnCount s) others (r .table) ≡ map int ordinates → others ≡ r .numbers
+NoOthersReproduce = (s : Space) → checked s ≡ answer s → (ordinates : List ℤ) → length ordinates ≡ columnCount s → (r : Numbered)
+    → recovered s ordinates ≡ answer r
+    → (others : List ℚ) → length others ≡ rowCount s → combination (columnCount s) others (r .table) ≡ map int ordinates
+    → others ≡ r .numbers
 
 -- A join condition that these ordinates miss.
 pub record MissedCondition (s : Space) (ordinates : List ℤ) : Type 0 where
@@ -42,24 +46,29 @@ pub record MissedCondition (s : Space) (ordinates : List ℤ) : Type 0 where
 
 -- After 19 the ordinates miss a join condition.
 abbrev pub NineteenMissesACondition : Type 0
-NineteenMissesACondition = (s : Space) → checked s ≡ answer s → (ordinates : List ℤ) → length ordinates ≡ columnCount s → (place : ℕ) → recovered s ordinates ≡ refusal 19 place
+NineteenMissesACondition = (s : Space) → checked s ≡ answer s → (ordinates : List ℤ) → length ordinates ≡ columnCount s → (place : ℕ)
+    → recovered s ordinates ≡ refusal 19 place
     → MissedCondition s ordinates
 
 -- "after 19 none of any size would".
 abbrev pub NineteenHasNoCoefficients : Type 0
-NineteenHasNoCoefficients = (s : Space) (a : Accepted s) (ordinates : List ℤ) → length ordinates ≡ columnCount s → (place : ℕ) → recovered s ordinates ≡ refusal 19 place
+NineteenHasNoCoefficients = (s : Space) (a : Accepted s) (ordinates : List ℤ) → length ordinates ≡ columnCount s → (place : ℕ)
+    → recovered s ordinates ≡ refusal 19 place
     → (numbers : List ℚ) → combination (columnCount s) numbers (a .table) ≡ map int ordinates → ⊥
 
 -- Coefficients that are 256 times whole numbers, given to the curve call, have exactly these ordinates in its exact curve.
 abbrev pub ExactCurveHasTheOrdinates : Type 0
-ExactCurveHasTheOrdinates = (s : Space) → checked s ≡ answer s → (ordinates : List ℤ) → length ordinates ≡ columnCount s → (r : Numbered) → recovered s ordinates ≡ answer r
+ExactCurveHasTheOrdinates = (s : Space) → checked s ≡ answer s → (ordinates : List ℤ) → length ordinates ≡ columnCount s → (r : Numbered)
+    → recovered s ordinates ≡ answer r
     → (part : Wood) (coefs : List ℤ) → ((i : ℕ) → i < rowCount s → entry (r .numbers) i ≡ int (fine (coefficient part coefs i)))
     → (j : ℕ) → j < segments s → (x : ℤ)
-    → exactOn s (r .table) part coefs j x ≡ sum (suc (degree s j)) (λ t. int (getD ordinates (firstColumn s j + t) (pos 0)) *ᵠ bernsteinAt (degree s j) (fineWidth s j) (offset s j x) t)
+    → exactOn s (r .table) part coefs j x ≡ sum (suc (degree s j))
+    (λ t. int (getD ordinates (firstColumn s j + t) (pos 0)) *ᵠ bernsteinAt (degree s j) (fineWidth s j) (offset s j x) t)
 
 -- 8 and 9 are "the build's own work": they come where, and as, the build gives them.
 abbrev pub EightAndNineAreTheBuilds : Type 0
-EightAndNineAreTheBuilds = (s : Space) (ordinates : List ℤ) (number place : ℕ) → clears number ≡ true → recovered s ordinates ≡ refusal number place → weights s ≡ refusal number place
+EightAndNineAreTheBuilds = (s : Space) (ordinates : List ℤ) (number place : ℕ) → clears number ≡ true
+    → recovered s ordinates ≡ refusal number place → weights s ≡ refusal number place
 
 -- What is recovered, or number 20.
 pub data RecoveredOrTooLarge (o : Outcome Numbered) : Type 0 where
@@ -68,4 +77,5 @@ pub data RecoveredOrTooLarge (o : Outcome Numbered) : Type 0 where
 
 -- The ordinates of a piecewise curve that meets all join conditions of an accepted space are refused for their sizes alone.
 abbrev pub CurvesAreRecovered : Type 0
-CurvesAreRecovered = (s : Space) → Accepted s → (ordinates : List ℤ) → MeetsAll s (map int ordinates) → RecoveredOrTooLarge (recovered s ordinates)
+CurvesAreRecovered = (s : Space) → Accepted s → (ordinates : List ℤ) → MeetsAll s (map int ordinates)
+    → RecoveredOrTooLarge (recovered s ordinates)

@@ -59,4 +59,5 @@ iterated (suc k) p = derivative (iterated k p)
 
 -- The derivative is the slope: p(x + e) = p(x) + e p'(x) + e^2 r(e) for a polynomial r.
 abbrev pub DerivativeIsSlope : Type 0
-DerivativeIsSlope = (p : Polynomial) (x : ℚ) → (r : Polynomial) × ((e : ℚ) → value p (x +ᵠ e) ≡ value p x +ᵠ e *ᵠ value (derivative p) x +ᵠ e *ᵠ e *ᵠ value r e)
+DerivativeIsSlope = (p : Polynomial) (x : ℚ) → (r : Polynomial)
+    × ((e : ℚ) → value p (x +ᵠ e) ≡ value p x +ᵠ e *ᵠ value (derivative p) x +ᵠ e *ᵠ e *ᵠ value r e)

@@ -36,7 +36,8 @@ abbrev pub ConditionsAreSmoothness : Type 0
 ConditionsAreSmoothness = (s : Space) → checked s ≡ answer s → (o : Row) (j k : ℕ) → j < segments s - 1 → k < conditionCount s j
     → Meets s o j k ↔ (leftDerivative s o j k ≡ rightDerivative s o j k)
 
--- A smooth piecewise curve: one ordinate per column, and at every join the same derivatives from both sides, of all orders from 0 to the join's.
+-- A smooth piecewise curve: one ordinate per column, and at every join the same derivatives from both sides, of all orders from 0 to the
+-- join's.
 pub record Smooth (s : Space) (o : Row) : Type 0 where
   pub columns : length o ≡ columnCount s
   pub agree : (j k : ℕ) → j < segments s - 1 → k < conditionCount s j → leftDerivative s o j k ≡ rightDerivative s o j k
@@ -58,7 +59,8 @@ curveOrdinates s t wood coefs = combination (columnCount s) (tab (length t) (λ 
 -- Document 01's exact curve at a position is the value of its segment's polynomial with these ordinates, 256 positions being a ring.
 abbrev pub ExactCurveIsPolynomial : Type 0
 ExactCurveIsPolynomial = (s : Space) (a : Accepted s) (wood : Wood) (coefs : List ℤ) (x : ℤ) → InSpan s x
-    → exactCurve s (a .table) wood coefs x ≡ value (piece s (curveOrdinates s (a .table) wood coefs) (segmentAt s x)) (int (offset s (segmentAt s x) x) /ᵠ int (pos fineness))
+    → exactCurve s (a .table) wood coefs x ≡ value (piece s (curveOrdinates s (a .table) wood coefs) (segmentAt s x))
+    (int (offset s (segmentAt s x) x) /ᵠ int (pos fineness))
 
 -- At a join of order -1 it is where the piece before the join ends.
 abbrev pub ExactCurveAtDiscontinuity : Type 0

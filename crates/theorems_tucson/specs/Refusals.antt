@@ -24,7 +24,8 @@ abbrev pub ReadRefuses : Type 0
 ReadRefuses =
     (t names : Text) (years : List ℤ) (counts : List ℕ) (widths : List ℤ) (number place : ℕ) →
     readEnd t names years counts widths .answers ≡ refusal number place →
-    ReadRefusal t number place × (readEnd t names years counts widths ≡ record { answers = refusal number place; names = names; years = years; counts = counts; widths = widths })
+    ReadRefusal t number place × (readEnd t names years counts widths
+    ≡ record { answers = refusal number place; names = names; years = years; counts = counts; widths = widths })
 
 -- The year that number 12 asks of the line after one that goes on: that line's year and its count of fields.
 abbrev pub NextYearByLine : Type 0

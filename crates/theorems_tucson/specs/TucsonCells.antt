@@ -19,13 +19,21 @@ WrittenCellsReadBack =
     (names : Text) (years : List ℤ) (counts : List ℕ) (widths : List ℤ) (text : Text) (n : ℕ) →
     writeEnd names years counts widths text .answers ≡ answer n →
     (namesBuffer : Text) (yearsBuffer : List ℤ) (countsBuffer : List ℕ) (widthsBuffer : List ℤ) →
-    length names ≤ length namesBuffer → length years ≤ length yearsBuffer → length counts ≤ length countsBuffer → length widths ≤ length widthsBuffer →
+    length names ≤ length namesBuffer → length years ≤ length yearsBuffer → length counts ≤ length countsBuffer
+    → length widths ≤ length widthsBuffer →
     readEnd (take n (writeEnd names years counts widths text .text)) namesBuffer yearsBuffer countsBuffer widthsBuffer
-    ≡ record { answers = answer (length years); names = overwritten names namesBuffer; years = overwritten years yearsBuffer; counts = overwritten counts countsBuffer; widths = overwritten widths widthsBuffer }
+    ≡ record {
+      answers = answer (length years);
+      names = overwritten names namesBuffer;
+      years = overwritten years yearsBuffer;
+      counts = overwritten counts countsBuffer;
+      widths = overwritten widths widthsBuffer;
+    }
 
 -- The write call with the lists of so many series that a read call has left in its buffers.
 abbrev pub rewriteEnd : ReadEnd → ℕ → Text → WriteEnd
-rewriteEnd e n text = writeEnd (take (n * nameColumns) (e .names)) (take n (e .years)) (take n (e .counts)) (take (total (take n (e .counts))) (e .widths)) text
+rewriteEnd e n text = writeEnd (take (n * nameColumns) (e .names)) (take n (e .years)) (take n (e .counts))
+    (take (total (take n (e .counts))) (e .widths)) text
 
 -- Where the read call answers with n, the write call writes the n series in as many bytes as were read, if its buffer has them.
 abbrev pub ReadCellsAreWritten : Type 0
@@ -41,4 +49,5 @@ RewrittenCellsReadBack =
     (t names : Text) (years : List ℤ) (counts : List ℕ) (widths : List ℤ) (n : ℕ) →
     readEnd t names years counts widths .answers ≡ answer n →
     (text : Text) → length t ≤ length text →
-    readEnd (take (length t) (rewriteEnd (readEnd t names years counts widths) n text .text)) names years counts widths ≡ readEnd t names years counts widths
+    readEnd (take (length t) (rewriteEnd (readEnd t names years counts widths) n text .text)) names years counts widths
+    ≡ readEnd t names years counts widths

@@ -10,7 +10,8 @@ use Rattle.spec_spline.specs.Reading.{fine, segmentAt}
 
 -- Between two breakpoints it is the segment between them.
 abbrev pub PositionsBetweenBelongBetween : Type 0
-PositionsBetweenBelongBetween = (s : Space) → checked s ≡ answer s → (i : ℕ) → i < segments s → (x : ℤ) → fine (break s i) <ℤ x → x <ℤ fine (break s (suc i))
+PositionsBetweenBelongBetween = (s : Space) → checked s ≡ answer s → (i : ℕ) → i < segments s → (x : ℤ) → fine (break s i) <ℤ x
+    → x <ℤ fine (break s (suc i))
     → segmentAt s x ≡ i
 
 -- On a join of order -1 it is the segment that ends there.

@@ -17,4 +17,5 @@ abbrev pub CurveCellsHoldPublishedWeights : Type 0
 CurveCellsHoldPublishedWeights = (s : Space) (coefs positions num den values : List ℤ)
     → Legal s coefs positions (length num) (length den) (length values)
     → (i c : ℕ) → i < rowCells → c < rowCells
-    → HoldsFraction (lastPartCell s (extraction s) i c) (curveEnd s coefs positions num den values .numerators) (curveEnd s coefs positions num den values .denominators) (rowCells * i + c)
+    → HoldsFraction (lastPartCell s (extraction s) i c) (curveEnd s coefs positions num den values .numerators)
+    (curveEnd s coefs positions num den values .denominators) (rowCells * i + c)

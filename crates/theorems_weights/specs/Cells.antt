@@ -31,4 +31,5 @@ lastPartCell s t i c = let a = lastPartStart s in cell t (rowsBefore s a + i) (f
 abbrev pub CellsHoldPublishedWeights : Type 0
 CellsHoldPublishedWeights = (s : Space) → Accepted s → (nums dens : List ℤ) → tableCells ≤ length nums → tableCells ≤ length dens
     → (i c : ℕ) → i < rowCells → c < rowCells
-    → HoldsFraction (lastPartCell s (extraction s) i c) (buildEnd s nums dens .numerators) (buildEnd s nums dens .denominators) (rowCells * i + c)
+    → HoldsFraction (lastPartCell s (extraction s) i c) (buildEnd s nums dens .numerators) (buildEnd s nums dens .denominators)
+    (rowCells * i + c)

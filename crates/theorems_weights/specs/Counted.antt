@@ -104,10 +104,12 @@ entryTests join w v x y =
 
 -- "each new entry, rows then columns rising": new row f + d.
 unfoldable pub rowTests : ℕ → List ℚ → List ℚ → Table → ℕ → List Test
-rowTests join js ws t d = joined (length (row t (firstJump js + d))) (λ c. entryTests join (entry ws d) (entry ws (suc d)) (cell t (firstJump js + d) c) (cell t (firstJump js + suc d) c))
+rowTests join js ws t d = joined (length (row t (firstJump js + d)))
+    (λ c. entryTests join (entry ws d) (entry ws (suc d)) (cell t (firstJump js + d) c) (cell t (firstJump js + suc d) c))
 
 unfoldable pub exactRow : List ℚ → List ℚ → Table → ℕ → Row
-exactRow js ws t d = tab (length (row t (firstJump js + d))) (λ c. entry ws d *ᵠ cell t (firstJump js + d) c +ᵠ (int (pos 1) -ᵠ entry ws (suc d)) *ᵠ cell t (firstJump js + suc d) c)
+exactRow js ws t d = tab (length (row t (firstJump js + d))) (λ c. entry ws d *ᵠ cell t (firstJump js + d) c +ᵠ
+    (int (pos 1) -ᵠ entry ws (suc d)) *ᵠ cell t (firstJump js + suc d) c)
 
 -- All tests of a step, in document 01's order.
 unfoldable pub stepTests : ℕ → List Entry → Table → List Test
@@ -136,7 +138,8 @@ exactJoins s n = for n (λ j. exactOrders s j (conditionCount s j)) (identity (c
 
 -- All tests of the build: joins from the left, and at each the orders from 0.
 unfoldable pub buildTests : Space → List Test
-buildTests s = joined (segments s - 1) (λ j. joined (conditionCount s j) (λ k. stepTests j (conditions s j k) (exactOrders s j k (exactJoins s j))))
+buildTests s = joined (segments s - 1) (λ j. joined (conditionCount s j)
+    (λ k. stepTests j (conditions s j k) (exactOrders s j k (exactJoins s j))))
 
 -- The table after all steps.
 unfoldable pub exactWeights : Space → Table
@@ -167,7 +170,8 @@ RefusedByFirstFailure = (s : Space) (number place : ℕ) → spaceWeights s ≡ 
 
 -- And where a test of a legal space fails, the first one refuses it.
 abbrev pub FirstFailureRefuses : Type 0
-FirstFailureRefuses = (s : Space) (number place : ℕ) → checked s ≡ answer s → FirstFailure (buildTests s) number place → spaceWeights s ≡ refusal number place
+FirstFailureRefuses = (s : Space) (number place : ℕ) → checked s ≡ answer s → FirstFailure (buildTests s) number place
+    → spaceWeights s ≡ refusal number place
 
 -- A legal space whose tests all pass is accepted.
 abbrev pub PassingIsAccepted : Type 0

@@ -16,11 +16,13 @@ WeightsArePublished = (s : Space) (a : Accepted s) → a .table ≡ extraction s
 
 -- They have n rows, and each row has an entry for every column.
 abbrev pub RowsAndColumns : Type 0
-RowsAndColumns = (s : Space) (a : Accepted s) → (length (a .table) ≡ rowCount s) × ((i : ℕ) → i < rowCount s → length (row (a .table) i) ≡ columnCount s)
+RowsAndColumns = (s : Space) (a : Accepted s) → (length (a .table) ≡ rowCount s)
+    × ((i : ℕ) → i < rowCount s → length (row (a .table) i) ≡ columnCount s)
 
 -- Every combination of the rows meets every join condition.
 abbrev pub CombinationsMeetConditions : Type 0
-CombinationsMeetConditions = (s : Space) (a : Accepted s) (multipliers : List ℚ) → MeetsAll s (combination (columnCount s) multipliers (a .table))
+CombinationsMeetConditions = (s : Space) (a : Accepted s) (multipliers : List ℚ)
+    → MeetsAll s (combination (columnCount s) multipliers (a .table))
 
 -- o is the combination with these n multipliers, and with no others.
 pub record OneCombination (s : Space) (t : Table) (o : Row) : Type 0 where

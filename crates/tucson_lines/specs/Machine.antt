@@ -36,4 +36,5 @@ lineTold (some l) = line-cases.Good (l .year) (length (l .fields)) (allHundredth
 -- What is told of n fields behind the name and the year of these columns.
 abbrev pub numbersTold : Text → ℕ → LineAnswer
 numbersTold body n =
-    lineTold (ifAllowed true (withNumbers (take nameColumns body) (inColumns (take yearColumns (drop nameColumns body))) (fieldNumbers n (drop (nameColumns + yearColumns) body))))
+    lineTold (ifAllowed true (withNumbers (take nameColumns body) (inColumns (take yearColumns (drop nameColumns body)))
+    (fieldNumbers n (drop (nameColumns + yearColumns) body))))

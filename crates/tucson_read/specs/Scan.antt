@@ -37,7 +37,8 @@ Tracks (some b) begun next small = Kept b begun next small
 -- The answer for the line at this place: what it leaves, and how many widths it has, or the number of its refusal.
 abbrev pub Told : ℕ → Option Begun → Outcome Step → Passed → Type 0
 Told place b (answer (opened c)) (passed-cases.On more n next small) = Kept c more next small × (length (c .widths) ≡ length (soFar b) + n)
-Told place b (answer (closed s)) (passed-cases.On more n next small) = (more ≡ false) × ((small ≡ true) × (length (s .widths) ≡ length (soFar b) + n))
+Told place b (answer (closed s)) (passed-cases.On more n next small) = (more ≡ false)
+    × ((small ≡ true) × (length (s .widths) ≡ length (soFar b) + n))
 Told place b (answer step) (passed-cases.Refused number) = ⊥
 Told place b (refusal number at) (passed-cases.On more n next small) = ⊥
 Told place b (refusal number at) (passed-cases.Refused told) = (number ≡ told) × (at ≡ capped place)

@@ -25,8 +25,10 @@ pub fn read(
     counts: &mut [u32],
     widths: &mut [i32],
 ) -> Answer
-    ensures { λ r. ⌜ (let e = readEnd (now (text .entry)) (now (names .entry)) (now (years .entry)) (now (counts .entry)) (now (widths .entry)) in
-        (reply r ≡ e .answers) × ((now (names .exit) ≡ e .names) × ((now (years .exit) ≡ e .years) × ((now (counts .exit) ≡ e .counts) × (now (widths .exit) ≡ e .widths))))) ⌝ }
+    ensures { λ r. ⌜ (let e = readEnd (now (text .entry)) (now (names .entry)) (now (years .entry)) (now (counts .entry))
+        (now (widths .entry)) in
+        (reply r ≡ e .answers) × ((now (names .exit) ≡ e .names)
+        × ((now (years .exit) ≡ e .years) × ((now (counts .exit) ≡ e .counts) × (now (widths .exit) ≡ e .widths))))) ⌝ }
 {
     let scanned = scanning::scan(text);
     match scanned {

@@ -61,7 +61,8 @@ fn extend(
     last: i32,
 ) -> Passed
     requires { ⌜ (natAbs year < numberLimit) × ((1 ≤ n) × (n ≤ decade)) ⌝ }
-    ensures { λ r. ⌜ ((place : ℕ) (b : Option Begun) (t : Text) → Tracks b begun next small → lineTold (goodLine true t) ≡ Good year n front last →
+    ensures { λ r. ⌜ ((place : ℕ) (b : Option Begun) (t : Text) → Tracks b begun next small
+        → lineTold (goodLine true t) ≡ Good year n front last →
         Told place b (readLine place b true t) r) ⌝ }
     ensures { λ r. ⌜ Within true n r ⌝ }
 {
@@ -79,7 +80,8 @@ fn extend(
 // What a good line leaves that is its series' last.
 fn close(begun: bool, next: i32, small: bool, year: i32, n: usize, front: bool, last: i32) -> Passed
     requires { ⌜ 1 ≤ n ⌝ }
-    ensures { λ r. ⌜ ((place : ℕ) (b : Option Begun) (t : Text) → Tracks b begun next small → lineTold (goodLine true t) ≡ Good year n front last →
+    ensures { λ r. ⌜ ((place : ℕ) (b : Option Begun) (t : Text) → Tracks b begun next small
+        → lineTold (goodLine true t) ≡ Good year n front last →
         Told place b (readLine place b false t) r) ⌝ }
     ensures { λ r. ⌜ Within false n r ⌝ }
 {
@@ -100,7 +102,8 @@ fn close(begun: bool, next: i32, small: bool, year: i32, n: usize, front: bool, 
 fn pass(text: &[u8], from: usize, end: usize, begun: bool, next: i32, small: bool) -> Passed
     requires { ⌜ LineEnd (now text) from end ⌝ }
     ensures { λ r. ⌜ ((place : ℕ) (b : Option Begun) → Tracks b begun next small →
-        Told place b (readLine place b (goesOn (slice from (end + 1) (now (text .entry))) (linesOf (drop (end + 1) (now (text .entry))))) (slice from (end + 1) (now (text .entry)))) r) ⌝ }
+        Told place b (readLine place b (goesOn (slice from (end + 1) (now (text .entry))) (linesOf (drop (end + 1) (now (text .entry)))))
+        (slice from (end + 1) (now (text .entry)))) r) ⌝ }
     ensures { λ r. ⌜ Advances (now (text .entry)) from end r ⌝ }
 {
     let line = tucson_lines::line(text, from, end);

@@ -88,7 +88,8 @@ fn enter(
 )
     requires { ⌜ (from + nameColumns ≤ length (now text)) × (series * nameColumns + nameColumns ≤ length (now names)) ⌝ }
     requires { ⌜ (series < length (now years)) × ((series < length (now counts)) × (count < 4294967296)) ⌝ }
-    ensures { λ r. ⌜ now (names .exit) ≡ sets (now (names .entry)) (series * nameColumns) (slice from (from + nameColumns) (now (text .entry))) ⌝ }
+    ensures { λ r. ⌜ now (names .exit) ≡ sets (now (names .entry)) (series * nameColumns)
+        (slice from (from + nameColumns) (now (text .entry))) ⌝ }
     ensures { λ r. ⌜ now (years .exit) ≡ set (now (years .entry)) series first ⌝ }
     ensures { λ r. ⌜ now (counts .exit) ≡ set (now (counts .entry)) series count ⌝ }
 {
@@ -117,7 +118,8 @@ pub fn write(
 )
     requires { ⌜ readText (now text) ≡ answer (seriesIn (readText (now text))) ⌝ }
     requires { ⌜ (let ss = seriesIn (readText (now text)) in
-        (length (namesOf ss) ≤ length (now names)) × ((length ss ≤ length (now years)) × ((length ss ≤ length (now counts)) × (length (widthsOf ss) ≤ length (now widths))))) ⌝ }
+        (length (namesOf ss) ≤ length (now names)) × ((length ss ≤ length (now years))
+        × ((length ss ≤ length (now counts)) × (length (widthsOf ss) ≤ length (now widths))))) ⌝ }
     ensures { λ r. ⌜ now (names .exit) ≡ sets (now (names .entry)) 0 (namesOf (seriesIn (readText (now (text .entry))))) ⌝ }
     ensures { λ r. ⌜ now (years .exit) ≡ sets (now (years .entry)) 0 (yearsOf (seriesIn (readText (now (text .entry))))) ⌝ }
     ensures { λ r. ⌜ now (counts .exit) ≡ sets (now (counts .entry)) 0 (countsOf (seriesIn (readText (now (text .entry))))) ⌝ }

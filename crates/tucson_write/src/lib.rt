@@ -19,7 +19,8 @@ pub enum Answer {
 // after another. Lists and buffers may have any length and content: what the definition refuses is refused, and nothing is
 // written then.
 pub fn write(names: &[u8], years: &[i32], counts: &[u32], widths: &[i32], text: &mut [u8]) -> Answer
-    ensures { λ r. ⌜ (let e = writeEnd (now (names .entry)) (now (years .entry)) (now (counts .entry)) (now (widths .entry)) (now (text .entry)) in
+    ensures { λ r. ⌜ (let e = writeEnd (now (names .entry)) (now (years .entry)) (now (counts .entry)) (now (widths .entry))
+        (now (text .entry)) in
         (reply r ≡ e .answers) × (now (text .exit) ≡ e .text)) ⌝ }
 {
     if !lists::lists_fit(names, years, counts, widths) {

@@ -101,7 +101,8 @@ fn put_line(text: &mut [u8], at: usize, name: &[u8], year: i32, widths: &[i32]) 
 // A series' last line: widths and the closing.
 fn put_last_line(text: &mut [u8], at: usize, name: &[u8], year: i32, widths: &[i32]) -> usize
     requires { ⌜ LineFits (now name) year (now widths) (lineBytes + fieldColumns) at (length (now text)) ⌝ }
-    ensures { λ r. ⌜ Wrote at (lineText (line (now (name .entry)) year (now (widths .entry) ++ (thousandths ∷ [])))) (now (text .entry)) (now (text .exit)) r ⌝ }
+    ensures { λ r. ⌜ Wrote at (lineText (line (now (name .entry)) year (now (widths .entry) ++ (thousandths ∷ [])))) (now (text .entry))
+        (now (text .exit)) r ⌝ }
 {
     let a = put_begun(text, at, name, year, widths);
     let b = put_columns(text, a, FIELD_COLUMNS, THOUSANDTHS);
@@ -120,7 +121,8 @@ fn year_at(left: usize) -> i32
 // stand. A line's year is counted by the years that are left after it.
 fn put_series(text: &mut [u8], at: usize, name: &[u8], first: i32, widths: &[i32]) -> usize
     requires { ⌜ SeriesFits (now name) first (now widths) at (length (now text)) ⌝ }
-    ensures { λ r. ⌜ Wrote at (linesText (seriesLines (series (now (name .entry)) first (now (widths .entry))))) (now (text .entry)) (now (text .exit)) r ⌝ }
+    ensures { λ r. ⌜ Wrote at (linesText (seriesLines (series (now (name .entry)) first (now (widths .entry))))) (now (text .entry))
+        (now (text .exit)) r ⌝ }
 {
     let mut next = at;
     let mut left = writable::years_left(first);
@@ -147,7 +149,8 @@ pub fn put_all(
     requires { ⌜ listsFit (now names) (now years) (now counts) (now widths) ≡ true ⌝ }
     requires { ⌜ unwritable (seriesOf (now names) (now years) (now counts) (now widths)) ≡ none ⌝ }
     requires { ⌜ length (written (seriesOf (now names) (now years) (now counts) (now widths))) ≤ length (now text) ⌝ }
-    ensures { λ r. ⌜ Wrote 0 (written (seriesOf (now (names .entry)) (now (years .entry)) (now (counts .entry)) (now (widths .entry)))) (now (text .entry)) (now (text .exit)) r ⌝ }
+    ensures { λ r. ⌜ Wrote 0 (written (seriesOf (now (names .entry)) (now (years .entry)) (now (counts .entry)) (now (widths .entry))))
+        (now (text .entry)) (now (text .exit)) r ⌝ }
 {
     let mut next = 0;
     let mut at = 0;

@@ -112,7 +112,8 @@ fn years_fit(year: i32, count: usize) -> bool
 // The series whose name stands from this index on, behind the name from the index before.
 fn is_writable(names: &[u8], before: usize, at: usize, year: i32, widths: &[i32]) -> bool
     requires { ⌜ (before ≤ at) × (at + nameColumns ≤ length (now names)) ⌝ }
-    ensures { λ r. ⌜ r ≡ isWritable (slice before at (now (names .entry))) (series (slice at (at + nameColumns) (now (names .entry))) year (now (widths .entry))) ⌝ }
+    ensures { λ r. ⌜ r ≡ isWritable (slice before at (now (names .entry)))
+        (series (slice at (at + nameColumns) (now (names .entry))) year (now (widths .entry))) ⌝ }
 {
     let end = at + NAME_COLUMNS;
     let name = &names[at..end];
@@ -136,7 +137,8 @@ pub fn first_unwritable(
     widths: &[i32],
 ) -> base_outcome::Found
     requires { ⌜ listsFit (now names) (now years) (now counts) (now widths) ≡ true ⌝ }
-    ensures { λ r. ⌜ r ≡ found (unwritable (seriesOf (now (names .entry)) (now (years .entry)) (now (counts .entry)) (now (widths .entry)))) ⌝ }
+    ensures { λ r. ⌜ r ≡ found (unwritable (seriesOf (now (names .entry)) (now (years .entry)) (now (counts .entry))
+        (now (widths .entry)))) ⌝ }
 {
     let mut before = 0;
     let mut at = 0;

@@ -60,7 +60,8 @@ pub extern "C" fn walzhik_build(
     num: &mut [i64],
     den: &mut [i64],
 ) -> walzhik_reply::Reply
-    ensures { λ r. ⌜ (let e = buildEnd (space (now (breaks .entry)) (now (degrees .entry)) (now (orders .entry))) (now (num .entry)) (now (den .entry)) in
+    ensures { λ r. ⌜ (let e = buildEnd (space (now (breaks .entry)) (now (degrees .entry)) (now (orders .entry))) (now (num .entry))
+        (now (den .entry)) in
         (r ≡ replied (e .answers)) × ((now (num .exit) ≡ e .numerators) × (now (den .exit) ≡ e .denominators))) ⌝ }
 {
     let built = build::build(breaks, degrees, orders, num, den);
@@ -79,8 +80,11 @@ pub extern "C" fn walzhik_coefficients(
     coef_num: &mut [i64],
     coef_den: &mut [i64],
 ) -> walzhik_reply::Reply
-    ensures { λ r. ⌜ (let e = recoveryEnd (space (now (breaks .entry)) (now (degrees .entry)) (now (orders .entry))) (now (ordinates .entry)) (now (num .entry)) (now (den .entry)) (now («coef_num» .entry)) (now («coef_den» .entry)) in
-        (r ≡ replied (e .answers)) × ((now (num .exit) ≡ e .numerators) × ((now (den .exit) ≡ e .denominators) × ((now («coef_num» .exit) ≡ e .coefficientNumerators) × (now («coef_den» .exit) ≡ e .coefficientDenominators))))) ⌝ }
+    ensures { λ r. ⌜ (let e = recoveryEnd (space (now (breaks .entry)) (now (degrees .entry)) (now (orders .entry)))
+        (now (ordinates .entry)) (now (num .entry)) (now (den .entry)) (now («coef_num» .entry)) (now («coef_den» .entry)) in
+        (r ≡ replied (e .answers)) × ((now (num .exit) ≡ e .numerators)
+        × ((now (den .exit) ≡ e .denominators) × ((now («coef_num» .exit) ≡ e .coefficientNumerators)
+        × (now («coef_den» .exit) ≡ e .coefficientDenominators))))) ⌝ }
 {
     let built = recover::coefficients(
         breaks,
@@ -107,8 +111,10 @@ pub extern "C" fn walzhik_curve(
     den: &mut [i64],
     values: &mut [i32],
 ) -> walzhik_reply::Reply
-    ensures { λ r. ⌜ (let e = curveEnd (space (now (breaks .entry)) (now (degrees .entry)) (now (orders .entry))) (now (coefs .entry)) (now (positions .entry)) (now (num .entry)) (now (den .entry)) (now (values .entry)) in
-        (r ≡ replied (e .answers)) × ((now (num .exit) ≡ e .numerators) × ((now (den .exit) ≡ e .denominators) × (now (values .exit) ≡ e .values)))) ⌝ }
+    ensures { λ r. ⌜ (let e = curveEnd (space (now (breaks .entry)) (now (degrees .entry)) (now (orders .entry))) (now (coefs .entry))
+        (now (positions .entry)) (now (num .entry)) (now (den .entry)) (now (values .entry)) in
+        (r ≡ replied (e .answers)) × ((now (num .exit) ≡ e .numerators)
+        × ((now (den .exit) ≡ e .denominators) × (now (values .exit) ≡ e .values)))) ⌝ }
 {
     let answer = curve::curve(breaks, degrees, orders, coefs, positions, num, den, values);
     match answer {
@@ -126,8 +132,10 @@ pub extern "C" fn walzhik_tucson_read(
     counts: &mut [u32],
     widths: &mut [i32],
 ) -> walzhik_reply::Reply
-    ensures { λ r. ⌜ (let e = readEnd (now (text .entry)) (now (names .entry)) (now (years .entry)) (now (counts .entry)) (now (widths .entry)) in
-        (r ≡ replied (e .answers)) × ((now (names .exit) ≡ e .names) × ((now (years .exit) ≡ e .years) × ((now (counts .exit) ≡ e .counts) × (now (widths .exit) ≡ e .widths))))) ⌝ }
+    ensures { λ r. ⌜ (let e = readEnd (now (text .entry)) (now (names .entry)) (now (years .entry)) (now (counts .entry))
+        (now (widths .entry)) in
+        (r ≡ replied (e .answers)) × ((now (names .exit) ≡ e .names)
+        × ((now (years .exit) ≡ e .years) × ((now (counts .exit) ≡ e .counts) × (now (widths .exit) ≡ e .widths))))) ⌝ }
 {
     let answer = tucson_read::read(text, names, years, counts, widths);
     match answer {
@@ -145,7 +153,8 @@ pub extern "C" fn walzhik_tucson_write(
     widths: &[i32],
     text: &mut [u8],
 ) -> walzhik_reply::Reply
-    ensures { λ r. ⌜ (let e = writeEnd (now (names .entry)) (now (years .entry)) (now (counts .entry)) (now (widths .entry)) (now (text .entry)) in
+    ensures { λ r. ⌜ (let e = writeEnd (now (names .entry)) (now (years .entry)) (now (counts .entry)) (now (widths .entry))
+        (now (text .entry)) in
         (r ≡ replied (e .answers)) × (now (text .exit) ≡ e .text)) ⌝ }
 {
     let answer = tucson_write::write(names, years, counts, widths, text);
@@ -186,7 +195,8 @@ pub extern "C" fn walzhik_earlywood_reach(
     num: &mut [i64],
     den: &mut [i64],
 ) -> Reach
-    ensures { λ r. ⌜ (let e = reachEnd (space (now (breaks .entry)) (now (degrees .entry)) (now (orders .entry))) earlywood (now (coefs .entry)) width (now (num .entry)) (now (den .entry)) in
+    ensures { λ r. ⌜ (let e = reachEnd (space (now (breaks .entry)) (now (degrees .entry)) (now (orders .entry))) earlywood
+        (now (coefs .entry)) width (now (num .entry)) (now (den .entry)) in
         (r ≡ reached (e .answers)) × ((now (num .exit) ≡ e .numerators) × (now (den .exit) ≡ e .denominators))) ⌝ }
 {
     let answer = curve_reach::reach(
@@ -213,7 +223,8 @@ pub extern "C" fn walzhik_latewood_reach(
     num: &mut [i64],
     den: &mut [i64],
 ) -> Reach
-    ensures { λ r. ⌜ (let e = reachEnd (space (now (breaks .entry)) (now (degrees .entry)) (now (orders .entry))) latewood (now (coefs .entry)) width (now (num .entry)) (now (den .entry)) in
+    ensures { λ r. ⌜ (let e = reachEnd (space (now (breaks .entry)) (now (degrees .entry)) (now (orders .entry))) latewood
+        (now (coefs .entry)) width (now (num .entry)) (now (den .entry)) in
         (r ≡ reached (e .answers)) × ((now (num .exit) ≡ e .numerators) × (now (den .exit) ≡ e .denominators))) ⌝ }
 {
     let answer = curve_reach::reach(
@@ -231,7 +242,18 @@ pub extern "C" fn walzhik_latewood_reach(
 
 // A piece with its degree and its four ordinates.
 fn of_degree(degree: u32, o0: f64, o1: f64, o2: f64, o3: f64, ends: curve_pieces::Ends) -> Piece
-    ensures { λ r. ⌜ r ≡ record { number = 0; place = 0; degree = degree; unused = 0; o0 = o0; o1 = o1; o2 = o2; o3 = o3; start = ends .start; end = ends .end } ⌝ }
+    ensures { λ r. ⌜ r ≡ record {
+      number = 0;
+      place = 0;
+      degree = degree;
+      unused = 0;
+      o0 = o0;
+      o1 = o1;
+      o2 = o2;
+      o3 = o3;
+      start = ends .start;
+      end = ends .end;
+    } ⌝ }
 {
     Piece {
         number: 0,
@@ -286,7 +308,8 @@ pub extern "C" fn walzhik_earlywood_piece(
     num: &mut [i64],
     den: &mut [i64],
 ) -> Piece
-    ensures { λ r. ⌜ (let e = pieces.pieceEnd (space (now (breaks .entry)) (now (degrees .entry)) (now (orders .entry))) earlywood (now (coefs .entry)) segment (now (num .entry)) (now (den .entry)) in
+    ensures { λ r. ⌜ (let e = pieces.pieceEnd (space (now (breaks .entry)) (now (degrees .entry)) (now (orders .entry))) earlywood
+        (now (coefs .entry)) segment (now (num .entry)) (now (den .entry)) in
         Sent r (e .answers) × ((now (num .exit) ≡ e .numerators) × (now (den .exit) ≡ e .denominators))) ⌝ }
 {
     let answer = curve_pieces::piece(
@@ -316,7 +339,8 @@ pub extern "C" fn walzhik_latewood_piece(
     num: &mut [i64],
     den: &mut [i64],
 ) -> Piece
-    ensures { λ r. ⌜ (let e = pieces.pieceEnd (space (now (breaks .entry)) (now (degrees .entry)) (now (orders .entry))) latewood (now (coefs .entry)) segment (now (num .entry)) (now (den .entry)) in
+    ensures { λ r. ⌜ (let e = pieces.pieceEnd (space (now (breaks .entry)) (now (degrees .entry)) (now (orders .entry))) latewood
+        (now (coefs .entry)) segment (now (num .entry)) (now (den .entry)) in
         Sent r (e .answers) × ((now (num .exit) ≡ e .numerators) × (now (den .exit) ≡ e .denominators))) ⌝ }
 {
     let answer = curve_pieces::piece(

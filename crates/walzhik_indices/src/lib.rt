@@ -30,8 +30,11 @@ pub extern "C" fn walzhik_earlywood_indices(
     values: &mut [i32],
     indices: &mut [i64],
 ) -> walzhik_reply::Reply
-    ensures { λ r. ⌜ (let e = indicesEnd earlywood (space (now (breaks .entry)) (now (degrees .entry)) (now (orders .entry))) (now (coefs .entry)) first (now (widths .entry)) (now (num .entry)) (now (den .entry)) (now (values .entry)) (now (indices .entry)) in
-        (r ≡ replied (e .answers)) × ((now (num .exit) ≡ e .numerators) × ((now (den .exit) ≡ e .denominators) × ((now (values .exit) ≡ e .values) × (now (indices .exit) ≡ e .indices))))) ⌝ }
+    ensures { λ r. ⌜ (let e = indicesEnd earlywood (space (now (breaks .entry)) (now (degrees .entry)) (now (orders .entry)))
+        (now (coefs .entry)) first (now (widths .entry)) (now (num .entry)) (now (den .entry)) (now (values .entry)) (now (indices .entry))
+        in
+        (r ≡ replied (e .answers)) × ((now (num .exit) ≡ e .numerators)
+        × ((now (den .exit) ≡ e .denominators) × ((now (values .exit) ≡ e .values) × (now (indices .exit) ≡ e .indices))))) ⌝ }
 {
     let answer = indices::indices(
         curve_ordinates::Wood::Earlywood,
@@ -63,8 +66,11 @@ pub extern "C" fn walzhik_latewood_indices(
     values: &mut [i32],
     indices: &mut [i64],
 ) -> walzhik_reply::Reply
-    ensures { λ r. ⌜ (let e = indicesEnd latewood (space (now (breaks .entry)) (now (degrees .entry)) (now (orders .entry))) (now (coefs .entry)) first (now (widths .entry)) (now (num .entry)) (now (den .entry)) (now (values .entry)) (now (indices .entry)) in
-        (r ≡ replied (e .answers)) × ((now (num .exit) ≡ e .numerators) × ((now (den .exit) ≡ e .denominators) × ((now (values .exit) ≡ e .values) × (now (indices .exit) ≡ e .indices))))) ⌝ }
+    ensures { λ r. ⌜ (let e = indicesEnd latewood (space (now (breaks .entry)) (now (degrees .entry)) (now (orders .entry)))
+        (now (coefs .entry)) first (now (widths .entry)) (now (num .entry)) (now (den .entry)) (now (values .entry)) (now (indices .entry))
+        in
+        (r ≡ replied (e .answers)) × ((now (num .exit) ≡ e .numerators)
+        × ((now (den .exit) ≡ e .denominators) × ((now (values .exit) ≡ e .values) × (now (indices .exit) ≡ e .indices))))) ⌝ }
 {
     let answer = indices::indices(
         curve_ordinates::Wood::Latewood,
