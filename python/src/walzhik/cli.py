@@ -14,7 +14,7 @@ import click
 
 from . import commands
 
-DONE, REFUSED, UNUSABLE = 0, 1, 2
+DONE, UNUSABLE = 0, 2
 INTERRUPTED = 130
 
 

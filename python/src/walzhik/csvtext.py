@@ -8,11 +8,13 @@ from typing import TYPE_CHECKING, Any
 
 import numpy as np
 
+from .reasons import PER_MM
+
 if TYPE_CHECKING:
     from numpy.typing import NDArray
 
 MILLION = 1_000_000
-VALUES_PER_32_MILLIONTHS = 125  # a value, a 256th of a thousandth of a millimetre, is 125/32 of a millionth
+MILLIONTHS, VALUES = 125, 32  # so many millionths of a millimetre are so many 256ths of a thousandth
 
 
 def millionths(values: NDArray[np.int32]) -> NDArray[np.int64]:
@@ -23,7 +25,7 @@ def millionths(values: NDArray[np.int32]) -> NDArray[np.int64]:
     >>> millionths(np.array([614400, 1, -1], dtype=np.int32))
     array([2400000,       4,      -4])
     """
-    return np.asarray((2 * VALUES_PER_32_MILLIONTHS * values.astype(np.int64) + 32) // 64)
+    return np.asarray((2 * MILLIONTHS * values.astype(np.int64) + VALUES) // (2 * VALUES))
 
 
 def decimal(number: int) -> str:
@@ -66,7 +68,7 @@ def ring_rows(name: str, first: int, widths: Any, values: NDArray[np.int32], ind
     # Floats of so few digits print as the decimals that they stand for.
     columns: list[Any] = [
         range(first, first + count),
-        (np.asarray(widths) / 1000).tolist(),
+        (np.asarray(widths) / PER_MM).tolist(),
         (millionths(values) / MILLION).tolist(),
     ]
     columns.append(["" if index < 0 else index for index in indices.tolist()])

@@ -11,7 +11,7 @@ from typing import TYPE_CHECKING, Any, Literal, NamedTuple
 import numpy as np
 
 from ._engine import LARGEST_PLACE, MOST_POSITIONS, kept, lent, library, pointer, whole, wholes
-from .reasons import WOOD, Lists, refusal
+from .reasons import WOOD, refusal
 
 if TYPE_CHECKING:
     from numpy.typing import NDArray

@@ -24,7 +24,6 @@ DEGREES = (1, 5)
 SCAR, MOST_ORDER = -1, 2
 MOST_COEFFICIENT = 1_000_000  # thousandths of a millimetre
 MOST_WIDTH = 99_999
-MOST_ORDINATE = UNIT * MOST_COEFFICIENT
 DIFFER = ("values", "slopes", "bends")  # on the two sides of a join, by order
 
 Found = tuple[str, dict[str, object]]

@@ -139,17 +139,17 @@ def with_line(made: Printout, key: str, numbers: tuple[int, ...]) -> Printout:
 def lists_of(text: bytes) -> Sheet | None:
     """The lists of a sheet's text, or None where it has no such lists; whether they are good ones is not asked."""
     lines = text.decode("ascii", "replace").split("\n")
-    found: list[list[str]] = []
+    found: dict[str, list[str]] = {}
     for name, line in zip(NAMES, lines):
         entry = r"-?[0-9]+:-?[0-9]+" if name == "coefs" else r"-?[0-9]+"
         if not re.fullmatch(f"{name}=({entry}(,{entry})*)?", line, re.ASCII):
             return None
         body = line.partition("=")[2]
-        found.append(body.split(",") if body else [])
+        found[name] = body.split(",") if body else []
     if len(found) != len(NAMES):
         return None
-    sides = [pair.split(":") for pair in found[3]]
-    breaks, degrees, orders, at = ([int(number) for number in found[place]] for place in (0, 1, 2, 4))
+    breaks, degrees, orders, at = ([int(number) for number in found[name]] for name in NAMES if name != "coefs")
+    sides = [pair.split(":") for pair in found["coefs"]]
     return Sheet(breaks, degrees, orders, [(int(early), int(late)) for early, late in sides], at)
 
 

@@ -28,7 +28,6 @@ if TYPE_CHECKING:
 
 Unit = Literal["hundredths", "thousandths"]
 LEAST_SERIES_BYTES = HEAD + FIELD_COLUMNS + 1  # one line with one field and its end
-LEAST_YEAR, MOST_YEAR = -999, 9_999
 
 
 @dataclass
