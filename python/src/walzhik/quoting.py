@@ -1,4 +1,5 @@
-"""Bytes of a text as a message quotes them. Apart because messages about sheets, Tucson files and the tolerant front quote alike."""
+"""Bytes of a text as a message quotes them. Apart because messages about sheets, Tucson files and the tolerant front
+quote alike."""
 
 from __future__ import annotations
 
