@@ -2,6 +2,7 @@
 scars and absent rings, the bytes do not depend on the day or on a user's settings, and the command says what can't be drawn."""
 
 import io
+import re
 import sys
 from fractions import Fraction
 from pathlib import Path
@@ -117,6 +118,9 @@ def test_indices_are_the_engines_and_lines_break() -> None:
         assert years[present].tolist() == [1703 + place for place in np.flatnonzero(indices >= 0)]
         gap = np.flatnonzero(np.isnan(heights)).tolist()
         assert gap == [1748 - 1703 + 1, 1751 - 1703 + 1]
+    for each, line in zip(series, [line for line in upper.get_lines() if len(line.get_xdata()) > 90][::2]):
+        widths = [width / 1000 for width in np.asarray(each.widths).tolist() if width]
+        assert [height for height in line.get_ydata().tolist() if not np.isnan(height)] == widths
     crosses = [line for line in upper.get_lines() if line.get_marker() == "x"]
     assert [line.get_xdata().tolist() for line in crosses] == [[1751], [1751]]
 
@@ -155,7 +159,9 @@ def test_low_values_are_circled() -> None:
 def test_words_are_taken_as_they_are() -> None:
     made = plot.picture(Curve(Space([0, 3], [1], []), [900, 500]), [Measured("_$x$", 0, [1, 2])], title="$a_b$")
     made.canvas.draw()
-    assert "_$x$" in [text.get_text() for text in made.axes[0].get_legend().get_texts()]
+    legend = made.axes[0].get_legend().get_texts()
+    assert "_$x$" in [text.get_text() for text in legend]
+    assert not any(text.get_parse_math() for text in (*legend, made._suptitle))
 
 
 @pytest.mark.filterwarnings("error")
@@ -232,6 +238,27 @@ def test_what_cannot_be_drawn(
     ended, told = run(capfd, *arguments, "-o", tmp_path / "a.svg")
     assert ended == status and said in told
     assert list(tmp_path.iterdir()) == []
+
+
+def drawn(capfd: pytest.CaptureFixture[str], folder: Path, *arguments: object) -> str:
+    """The SVG that the command draws."""
+    assert run(capfd, *arguments, "-o", folder / "a.svg") == (0, "")
+    return (folder / "a.svg").read_text(encoding="utf-8")
+
+
+def test_what_the_options_draw(tmp_path: Path, capfd: pytest.CaptureFixture[str]) -> None:
+    """SVG keeps the words of a picture as comments, and names its paths."""
+    years = drawn(capfd, tmp_path, ROOF, RWL, "--earlywood", "ROOF04E")
+    assert "<!-- year -->" in years and "<!-- ROOF04E -->" in years
+    assert 'id="curve-earlywood"' in years and 'id="curve-latewood"' not in years
+    assert 'id="curve-earlywood"' not in drawn(capfd, tmp_path, ROOF, "--wood", "latewood")
+    growth = EXAMPLES / "sheets" / "growth.sheet"
+    rings = drawn(capfd, tmp_path, growth, RWL, *BOTH, "--first", "1", "--title", "Rings")
+    assert "<!-- ring -->" in rings and "<!-- Rings -->" in rings and "<!-- year -->" not in rings
+    low = drawn(capfd, tmp_path, EXAMPLES / "sheets" / "low.sheet", "--title", "")
+    assert "<!-- low -->" in low and "<!-- low -->" not in rings
+    widths = [re.search('svg [^>]*width="([0-9.]+)', text) for text in (low, drawn(capfd, tmp_path, ROOF, "--narrow"))]
+    assert [float(found[1]) for found in widths if found] == pytest.approx([plot.WIDE * 72, plot.NARROW * 72])
 
 
 def test_endings(tmp_path: Path, capfd: pytest.CaptureFixture[str]) -> None:
