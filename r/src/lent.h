@@ -9,11 +9,7 @@
 #define R_NO_REMAP
 #include <Rinternals.h>
 
-#if __has_include(<walzhik_indices.h>)
 #include <walzhik_indices.h>
-#else
-#include <walzhik.h>
-#endif
 
 /* A list of 32-bit numbers as the engine takes it. */
 typedef struct {
