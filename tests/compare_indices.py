@@ -21,7 +21,7 @@ from protocol import (SPACE_WORDS, WEIGHT_BITS, Lent, changed_word, line_of, lis
 from random_spaces import pick
 
 GATE_COUNT = 5_000
-REACHABLE = set(map(kind_of, (0, 1, 2, 3, 4, 5, 6, 7, 8, 14)))
+REACHABLE = set(map(kind_of, (0, 1, 2, 3, 4, 5, 6, 7, 8, 14, 15)))
 BUFFERS = ("num", "den", "values", "indices")
 LISTS = (*SPACE_WORDS, "coefs")
 
