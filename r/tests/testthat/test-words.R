@@ -18,9 +18,8 @@ explained <- function(file) {
 
 test_that("refused sheets are explained as by the command", {
   files <- list.files(test_path("refusals"), "[.]sheet$", full.names = TRUE)
-  told <- Filter(function(file) explained(file)$reply[1] != 10, files)
-  expect_gt(length(told), 10)
-  for (file in told) {
+  expect_gt(length(files), 10)
+  for (file in files) {
     expected <- explained(file)
     condition <- expect_refused(ask_sheet(sheet_from(file)), expected$reply[1], expected$reply[2])
     expect_identical(condition$words, expected$words)
@@ -65,7 +64,8 @@ test_that("what is refused in writing is told of the series", {
 
 test_that("the refusals of curves tell ring, wood and width", {
   curve <- growth_curve(w1(), cbind(c(0, 100, 0, 0), c(0, -100, 0, 0)))
-  expect_match(expect_refused(curve_reach(curve, 200, "latewood"), 16, 0)$words, "ring 0 to ring 3 reaches 0.200 mm in the latewood")
+  expect_match(expect_refused(curve_reach(curve, 200, "latewood"), 16, 0)$words,
+               "ring 0 to ring 3 reaches 0.200 mm in the latewood")
   expect_match(expect_refused(curve_pieces(curve, 2, "earlywood"), 17, 2)$words, "no stretch 2: the curve has 2 stretches")
   steep <- growth_curve(curve_space(c(0, 9), 4), rep(5, 5))
   expect_match(expect_refused(curve_pieces(steep), 17, 0)$words, "from ring 0 to ring 9, has degree 4")
@@ -75,7 +75,8 @@ test_that("the refusals of curves tell ring, wood and width", {
   expect_identical(low$series, "A")
   expect_match(conditionMessage(low), "^series A: ")
   far <- data.frame(A = 0.1, row.names = 4)
-  expect_match(expect_refused(ring_indices(far, curve, "earlywood"), 7, 0)$words, "is ring 4, past the curve's last breakpoint, ring 3")
+  expect_match(expect_refused(ring_indices(far, curve, "earlywood"), 7, 0)$words,
+               "is ring 4, past the curve's last breakpoint, ring 3")
   expect_refused(ring_indices(data.frame(A = 100, row.names = 1), curve, "earlywood"), 14, 0)
 })
 
@@ -85,7 +86,8 @@ test_that("the refusals of coefficients tell the join and what differs", {
   expect_match(expect_refused(curve_coefficients(w1(), c(0, 256, 512, 512, 1025, 1)), 19, 0)$words,
                "the slopes on its two sides differ by 1/256 thousandths of a millimetre a ring")
   bends <- curve_space(0:2, c(3, 3), 2)
-  expect_match(expect_refused(curve_coefficients(bends, c(0, 0, 0, 0, 0, 0, 256, 0)), 19, 0)$words, "the bends .* differ by 6 thousandths")
+  expect_match(expect_refused(curve_coefficients(bends, c(0, 0, 0, 0, 0, 0, 256, 0)), 19, 0)$words,
+               "the bends .* differ by 6 thousandths")
   expect_match(expect_refused(curve_coefficients(w1(), 1:5), 18, largest_place)$words, "The list has 5 ordinates")
   expect_match(expect_refused(curve_coefficients(w1(), c(256000001, 0, 0, 0, 0, 0)), 18, 0)$words, "Ordinate 0 is 256000001")
   steep <- curve_space(c(0, 1, 512), c(2, 2), 1)
