@@ -22,29 +22,29 @@ LINE = re.compile(r"(degree \d order \d|mixed degrees) segments (\d+) parts (\d+
 
 # The engine's instructions to the plain program's: of the build, and of the curve calls the largest.
 MEASURED = {
-    ("degree 1 order 0", 12, 1): (0.79, 1.11),
-    ("degree 2 order 0", 12, 1): (0.70, 1.02),
-    ("degree 2 order 1", 12, 1): (0.74, 1.00),
-    ("degree 3 order 0", 12, 1): (0.65, 0.93),
-    ("degree 3 order 1", 12, 1): (0.66, 0.91),
-    ("degree 3 order 2", 12, 1): (0.69, 0.90),
-    ("degree 4 order 0", 12, 1): (0.62, 0.86),
-    ("degree 4 order 1", 12, 1): (0.63, 0.85),
-    ("degree 4 order 2", 12, 1): (0.64, 0.83),
-    ("degree 5 order 0", 12, 1): (0.57, 0.79),
-    ("degree 5 order 1", 12, 1): (0.59, 0.78),
-    ("degree 5 order 2", 12, 1): (0.60, 0.77),
-    ("mixed degrees", 12, 1): (0.68, 0.97),
-    ("mixed degrees", 12, 4): (1.12, 1.06),
-    ("mixed degrees", 48, 4): (0.68, 1.21),
-    ("degree 3 order 1", 6, 1): (0.91, 0.88),
+    ("degree 1 order 0", 12, 1): (0.80, 0.76),
+    ("degree 2 order 0", 12, 1): (0.71, 0.72),
+    ("degree 2 order 1", 12, 1): (0.72, 0.72),
+    ("degree 3 order 0", 12, 1): (0.66, 0.71),
+    ("degree 3 order 1", 12, 1): (0.67, 0.71),
+    ("degree 3 order 2", 12, 1): (0.66, 0.70),
+    ("degree 4 order 0", 12, 1): (0.63, 0.68),
+    ("degree 4 order 1", 12, 1): (0.63, 0.68),
+    ("degree 4 order 2", 12, 1): (0.63, 0.68),
+    ("degree 5 order 0", 12, 1): (0.58, 0.66),
+    ("degree 5 order 1", 12, 1): (0.60, 0.66),
+    ("degree 5 order 2", 12, 1): (0.60, 0.65),
+    ("mixed degrees", 12, 1): (0.67, 0.70),
+    ("mixed degrees", 12, 4): (1.06, 0.73),
+    ("mixed degrees", 48, 4): (0.67, 0.70),
+    ("degree 3 order 1", 6, 1): (0.89, 0.77),
 }
 
 # A build of 12 segments to one of 2, and a beam of 48 in 48 parts to one in 4.
 MEASURED_GROWTH = {
-    "degree 1 order 0": (4.9, 1.6),
-    "degree 3 order 1": (8.9, 0.5),
-    "degree 5 order 2": (12.2, 0.2),
+    "degree 1 order 0": (5.2, 1.48),
+    "degree 3 order 1": (9.5, 0.50),
+    "degree 5 order 2": (12.9, 0.22),
 }
 
 
