@@ -1,0 +1,136 @@
+"""What the page draws of a design, in one answer: the pieces of each curve, low places, the measured rings with their indices, and what
+the engine promises of it. All numbers are from the proved calls; floats here are whole 256ths of a thousandth and hence exact.
+"""
+
+from __future__ import annotations
+
+from collections.abc import Mapping
+from typing import TYPE_CHECKING, Any
+
+import numpy as np
+
+from ..errors import Refused
+from ..reasons import SCAR, UNIT, WOOD
+from ..tucson import Series
+from .carry import carried, handle_places
+from .design import Design, wood_of
+from .faults import control, told
+from .promises import promises
+
+if TYPE_CHECKING:
+    from numpy.typing import NDArray
+
+    from ..curve import Curve
+
+MOST_PIECE_DEGREE = 3
+STEPS = 256  # of a segment of degree 4 or 5: chords that are no pixel away from it
+MOST_LOOKED_AT = 4_000  # positions at which a curve is looked at for low places, with the breakpoints
+
+
+def piece(curve: Curve, segment: int, side: int) -> dict[str, Any]:
+    """A segment as points over rings, in thousandths: Bezier points for degrees 1 to 3, else points of the curve itself.
+
+    At a discontinuity the breakpoint is read from the segment that ends there, so that values of the one that starts there begin a
+    256th of a ring after it.
+    """
+    degree = int(curve.space.degrees[segment])
+    is_apart = segment == 0 or int(curve.space.orders[segment - 1]) == SCAR
+    if degree <= MOST_PIECE_DEGREE:
+        found = curve.piece(segment, wood_of(WOOD[side]))
+        step = (found.end - found.start) / degree
+        points = [[found.start + place * step, ordinate] for place, ordinate in enumerate(found.ordinates)]
+        points[-1][0] = found.end
+    else:
+        start, end = curve.space.breaks[segment : segment + 2].tolist()
+        positions = np.arange(UNIT * start, UNIT * end + 1, (end - start) * UNIT // STEPS, dtype=np.int32)
+        positions[0] += is_apart and segment > 0
+        points = np.stack([positions, curve.values(positions)[:, side]], axis=1) / UNIT
+        points = points.tolist()
+    return {"degree": degree, "is_apart": is_apart, "points": points}
+
+
+def looked_at(curve: Curve) -> NDArray[np.int32]:
+    """Positions all over the span: every 256th of a ring, or wider apart where it is long, and every breakpoint."""
+    first, last = (UNIT * int(end) for end in curve.space.breaks[[0, -1]])
+    step = 1 + (last - first) // MOST_LOOKED_AT
+    return np.unique(np.concatenate([np.arange(first, last + 1, step), UNIT * curve.space.breaks])).astype(np.int32)
+
+
+def low_places(positions: NDArray[np.int32], values: NDArray[np.int32]) -> list[list[float]]:
+    """The first and the last ring of each run of positions whose value is zero or less.
+
+    Examples
+    --------
+    >>> low_places(np.array([0, 256, 512, 768]), np.array([-1, 0, 5, 0]))
+    [[0.0, 1.0], [3.0, 3.0]]
+    """
+    low = np.concatenate([[False], values <= 0, [False]]).astype(np.int8)
+    starts, ends = np.flatnonzero(np.diff(low) == 1), np.flatnonzero(np.diff(low) == -1) - 1
+    return [[start / UNIT, end / UNIT] for start, end in zip(positions[starts].tolist(), positions[ends].tolist())]
+
+
+def ring_of(series: Series, first: int | None) -> int:
+    """The ring of a series' first width."""
+    return series.first if first is None else first
+
+
+def measured(design: Design, curve: Curve | None, series: Mapping[str, Series]) -> list[dict[str, Any]]:
+    """The series beside the curves, each with its indices or with why it has none."""
+    shown = []
+    for wood in design.woods:
+        if wood not in design.series:
+            continue
+        each = series[design.series[wood]]
+        start = ring_of(each, design.first)
+        made: dict[str, Any] = {"name": each.name, "wood": wood, "first": start, "year": each.first}
+        made |= {"widths": np.asarray(each.widths).tolist(), "indices": None, "refusal": None}
+        if curve is not None:
+            try:
+                made["indices"] = curve.indices(each.widths, start, wood_of(wood)).tolist()
+            except Refused as error:
+                made["refusal"] = told(error, f"series-{wood}")
+        shown.append(made)
+    return shown
+
+
+def with_pairs(design: Design, before: Design | None) -> tuple[Design, Curve]:
+    """The design with its curve. Where its coefficients are as many as those of the design before, and the space asks for another
+    number, the curve before is carried over."""
+    space = design.space()
+    if before is not None and len(design.pairs) != space.n and len(design.pairs) == len(before.pairs):
+        design.pairs = carried(before.curve(), space)
+    return design, design.curve(space)
+
+
+def shown(design: Design, before: Design | None, series: Mapping[str, Series]) -> dict[str, Any]:
+    """What the page draws of a design.
+
+    Parameters
+    ----------
+    design : Design
+    before : Design, optional
+        The last one that was accepted.
+    series : mapping
+        The series that were given, by name.
+    """
+    try:
+        design, curve = with_pairs(design, before)
+    except Refused as error:
+        return {"refusal": told(error, control(error, design)), "series": measured(design, None, series)}
+    positions = looked_at(curve)
+    values = curve.values(positions)
+    curves = []
+    for wood in design.woods:
+        side = curve.side(wood_of(wood))
+        pieces = [piece(curve, segment, side) for segment in range(len(design.degrees))]
+        curves.append({"wood": wood, "pieces": pieces, "low": low_places(positions, values[:, side])})
+    return {
+        "refusal": None,
+        "n": curve.space.n,
+        "pairs": [list(pair) for pair in design.pairs],
+        "places": handle_places(curve.space),
+        "curves": curves,
+        "extent": [int(values.min()) / UNIT, int(values.max()) / UNIT],
+        "series": measured(design, curve, series),
+        "promises": promises(design, curve, values),
+    }
