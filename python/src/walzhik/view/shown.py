@@ -10,7 +10,7 @@ from typing import TYPE_CHECKING, Any
 import numpy as np
 
 from ..errors import Refused
-from ..reasons import SCAR, UNIT, WOOD
+from ..reasons import SCAR, UNIT, WOOD, Lists, rows_sum
 from ..tucson import Series
 from .carry import carried, handle_places
 from .design import Design, wood_of
@@ -67,6 +67,15 @@ def low_places(positions: NDArray[np.int32], values: NDArray[np.int32]) -> list[
     low = np.concatenate([[False], values <= 0, [False]]).astype(np.int8)
     starts, ends = np.flatnonzero(np.diff(low) == 1), np.flatnonzero(np.diff(low) == -1) - 1
     return [[start / UNIT, end / UNIT] for start, end in zip(positions[starts].tolist(), positions[ends].tolist())]
+
+
+def part_rows(curve: Curve) -> list[int]:
+    """How many coefficients each part between discontinuities has."""
+    lists = curve.space.lists()
+    return [
+        rows_sum(Lists(lists.breaks[first : end + 1], lists.degrees[first:end], lists.orders[first : end - 1]))[0]
+        for first, end in curve.space.parts
+    ]
 
 
 def ring_of(series: Series, first: int | None) -> int:
@@ -129,6 +138,7 @@ def shown(design: Design, before: Design | None, series: Mapping[str, Series]) -
         "n": curve.space.n,
         "pairs": [list(pair) for pair in design.pairs],
         "places": handle_places(curve.space),
+        "rows": part_rows(curve),
         "curves": curves,
         "extent": [int(values.min()) / UNIT, int(values.max()) / UNIT],
         "series": measured(design, curve, series),

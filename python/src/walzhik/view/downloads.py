@@ -1,0 +1,104 @@
+"""What leaves the page as a file: the sheet, the printout, indices and pictures, made by the same functions as the commands' output, so
+that both have the same bytes.
+"""
+
+from __future__ import annotations
+
+import re
+from collections.abc import Callable
+from typing import NamedTuple
+
+from .. import plot, sheet
+from ..commands.indices import Indexed, Job, Names, as_table, as_tucson, chosen_series, indexed, wood_of
+from ..commands.plot import measured_series, parts_of
+from ..curve import Curve, Wood
+from ..failures import Unusable
+from ..plot import Ending
+from .design import RING, Design
+from .given import Given
+
+LONGEST_STEM = 40
+
+
+class Download(NamedTuple):
+    """A file for the browser: its ending, its type and its bytes."""
+
+    ending: str
+    kind: str
+    data: bytes
+
+
+def stem(design: Design, given: Given) -> str:
+    """The front of the files' names: the sheet's or else the series', in letters that every system takes.
+
+    Examples
+    --------
+    >>> design = Design([0, 1], [1], [], [(9, 9), (9, 9)], True)
+    >>> stem(design, Given({}, ["<b>/oak 1.sheet"], design))
+    'oak_1'
+    """
+    named = [*reversed(given.names), *design.series.values(), "curve"][0]
+    last = re.split(r"[/\\]", named)[-1].rpartition(".")[0] or named
+    return re.sub(r"[^A-Za-z0-9_-]", "_", last)[:LONGEST_STEM] or "curve"
+
+
+def sheet_text(design: Design, given: Given) -> bytes:
+    """The sheet, if the proved program accepts it."""
+    text = design.sheet(given.at).text()
+    sheet.read(text)
+    return text
+
+
+def names_of(design: Design) -> Names:
+    """The chosen series as the commands take them."""
+    named = [tuple(design.series[wood] for wood in [part] if wood in design.series) for part in (RING, *WOODS)]
+    return Names(*named)
+
+
+WOODS: tuple[Wood, Wood] = ("earlywood", "latewood")
+
+
+def divided(design: Design, given: Given) -> list[Indexed]:
+    """The chosen series with their indices, in the file's order."""
+    if not design.series:
+        raise Unusable("No series is chosen: there are no rings to divide by the curve.")
+    curve, names = design.curve(), names_of(design)
+    jobs = [
+        Job(each, curve, wood_of(each.name, names, "The design", curve))
+        for each in chosen_series(list(given.series.values()), names)
+    ]
+    return [indexed(job, None, design.first) for job in jobs]
+
+
+def picture(design: Design, given: Given, ending: Ending) -> bytes:
+    """The picture that the command plot draws of the sheet and the chosen series."""
+    curve: Curve = design.curve()
+    names = names_of(design)
+    by_part: dict[Wood, tuple[str, ...]] = {"earlywood": names.earlywood, "latewood": names.latewood}
+    series = list(given.series.values())
+    measured = measured_series(series, curve, by_part, names.series, design.first) if design.series else []
+    made = plot.picture(
+        curve,
+        measured,
+        parts=parts_of(curve, "both", by_part),
+        title=stem(design, given),
+        rings="year" if measured and design.first is None else "ring",
+        at=design.sheet(given.at).at,
+    )
+    return plot.rendered(made, ending)
+
+
+MADE: dict[str, tuple[str, str, Callable[[Design, Given], bytes]]] = {
+    "sheet": ("sheet", "text/plain", sheet_text),
+    "printout": ("out", "text/plain", lambda design, given: sheet.printed(sheet_text(design, given))),
+    "csv": ("csv", "text/csv", lambda design, given: as_table(divided(design, given))),
+    "rwl": ("rwl", "text/plain", lambda design, given: as_tucson(divided(design, given))),
+    "svg": ("svg", "image/svg+xml", lambda design, given: picture(design, given, "svg")),
+    "png": ("png", "image/png", lambda design, given: picture(design, given, "png")),
+}
+
+
+def download(kind: str, design: Design, given: Given) -> Download:
+    """The file of a kind, as `MADE` lists them."""
+    ending, media, make = MADE[kind]
+    return Download(ending, media, make(design, given))

@@ -1,0 +1,55 @@
+// Requests to the server that has sent this page. A hand that drags asks more often than answers come: only the newest question waits.
+
+export class Refusal extends Error {
+  constructor(refusal) {
+    super(refusal.words);
+    this.refusal = refusal;
+  }
+}
+
+async function asked(path, body) {
+  const told = { method: "POST", headers: { "Content-Type": "application/json" }, body: JSON.stringify(body) };
+  const response = await fetch(path, told);
+  if (response.ok) return response;
+  const said = await response.json().catch(() => ({ words: `The server answered with ${response.status}.` }));
+  if (said.refusal) throw new Refusal(said.refusal);
+  throw new Error(said.words);
+}
+
+export async function given() {
+  return (await fetch("given")).json();
+}
+
+export async function ask(path, body) {
+  return (await asked(path, body)).json();
+}
+
+export async function askFile(kind, design) {
+  const response = await asked(`download/${kind}`, { design });
+  const [, name] = /filename="([^"]*)"/.exec(response.headers.get("Content-Disposition"));
+  return { name, blob: await response.blob() };
+}
+
+export class Newest {
+  constructor(path, onAnswer, onFailure) {
+    Object.assign(this, { path, onAnswer, onFailure, waiting: null, isBusy: false });
+  }
+
+  async ask(body) {
+    this.waiting = body;
+    if (this.isBusy) return;
+    this.isBusy = true;
+    while (this.waiting !== null) {
+      const next = this.waiting;
+      this.waiting = null;
+      const start = performance.now();
+      try {
+        this.onAnswer(await ask(this.path, next), next, this.waiting === null);
+        performance.measure("change", { start, end: performance.now() });
+      } catch (error) {
+        this.onFailure(error);
+      }
+    }
+    this.isBusy = false;
+  }
+}
