@@ -17,12 +17,20 @@ PACKAGES = "python3-flask python3-waitress"
 
 @click.command()
 @click.argument("file", required=False, metavar="[FILE.rwl]")
-@click.option("--curve", metavar="SHEET", help="The sheet to begin with. Without it a template is fitted to the series.")
-@click.option("--series", metavar="NAME", help="The series beside a curve of the whole ring; the file's first without it.")
+@click.option(
+    "--curve", metavar="SHEET", help="The sheet to begin with. Without it a template is fitted to the series."
+)
+@click.option(
+    "--series", metavar="NAME", help="The series beside a curve of the whole ring; the file's first without it."
+)
 @click.option("--earlywood", metavar="NAME", help="The series of the earlywood.")
 @click.option("--latewood", metavar="NAME", help="The series of the latewood.")
-@click.option("--first", type=int, metavar="RING", help="The ring of each series' first width. Without it rings are years.")
-@click.option("--port", type=click.IntRange(0, MOST_PORT), default=0, help="The port to listen on; any free one without it.")
+@click.option(
+    "--first", type=int, metavar="RING", help="The ring of each series' first width. Without it rings are years."
+)
+@click.option(
+    "--port", type=click.IntRange(0, MOST_PORT), default=0, help="The port to listen on; any free one without it."
+)
 @reading_options
 def command(
     file: str | None,

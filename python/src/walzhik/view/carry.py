@@ -1,5 +1,5 @@
-"""Where the handles of coefficients stand, and coefficients for a space that has changed: the curve that was there, as nearly as the new
-space can hold it. Both only propose and place; what the coefficients give is the engine's to say.
+"""Where the handles of coefficients stand, and coefficients for a space that has changed: the curve that was there, as nearly as
+the new space can hold it. Both only propose and place; what the coefficients give is the engine's to say.
 """
 
 from __future__ import annotations
@@ -28,7 +28,7 @@ def ordinate_places(space: Space) -> NDArray[np.int64]:
     """The rings over which the Bernstein ordinates stand, times `SCALE`."""
     ends = zip(space.degrees.tolist(), space.breaks.tolist(), space.breaks[1:].tolist())
     found = [np.arange(degree + 1) * (SCALE * (end - start) // degree) + SCALE * start for degree, start, end in ends]
-    return np.concatenate(found).astype(np.int64)
+    return np.asarray(np.concatenate(found), dtype=np.int64)
 
 
 def handle_places(space: Space) -> list[float]:

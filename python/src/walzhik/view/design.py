@@ -1,5 +1,5 @@
-"""What the page sends: a design, that is the lists of a curve, its coefficients and the series beside it. Here it is only taken from JSON;
-whether the lists are a curve is the engine's decision.
+"""What the page sends: a design, that is the lists of a curve, its coefficients and the series beside it. Here it is only taken
+from JSON; whether the lists are a curve is the engine's decision.
 """
 
 from __future__ import annotations
@@ -76,7 +76,8 @@ class Design:
         >>> Design([0, 2], [1], [], [(9, 9), (8, 8)], True, at="rings").sheet([]).at
         [0, 256, 512]
         """
-        at = {"none": [], "rings": ring_positions(self.breaks), "given": list(given)}[self.at]
+        listed: dict[str, list[int]] = {"rings": ring_positions(self.breaks), "given": list(given)}
+        at = listed.get(self.at, [])
         return Sheet(self.breaks, self.degrees, self.orders, self.pairs, at)
 
     def as_json(self) -> dict[str, Any]:
@@ -150,9 +151,11 @@ def design_of(sent: object) -> Design:
     pairs, first, at = pairs_of(sent.get("pairs")), sent.get("first"), sent.get("at")
     if not (first is None or type(first) is int):
         raise Malformed("first is no whole number.")
-    if at not in get_args(Positions):
+    if not isinstance(at, str) or at not in get_args(Positions):
         raise Malformed("at is not none, rings or given.")
     is_whole_ring = sent.get("is_whole_ring")
     if not isinstance(is_whole_ring, bool):
         raise Malformed("is_whole_ring is neither true nor false.")
-    return Design(lists[0], lists[1], lists[2], pairs, is_whole_ring, series_of(sent.get("series")), first, at)
+    return Design(
+        lists[0], lists[1], lists[2], pairs, is_whole_ring, series_of(sent.get("series")), first, cast(Positions, at)
+    )

@@ -1,11 +1,12 @@
-"""What leaves the page as a file: the sheet, the printout, indices and pictures, made by the same functions as the commands' output, so
-that both have the same bytes.
+"""What leaves the page as a file: the sheet, the printout, indices and pictures, made by the same functions as the commands'
+output, so that both have the same bytes.
 """
 
 from __future__ import annotations
 
 import re
 from collections.abc import Callable
+from threading import Lock
 from typing import NamedTuple
 
 from .. import plot, sheet
@@ -14,10 +15,12 @@ from ..commands.plot import measured_series, parts_of
 from ..curve import Curve, Wood
 from ..failures import Unusable
 from ..plot import Ending
+from ..reasons import WOOD
 from .design import RING, Design
 from .given import Given
 
 LONGEST_STEM = 40
+DRAWING = Lock()  # matplotlib's settings are shared by all threads
 
 
 class Download(NamedTuple):
@@ -44,6 +47,7 @@ def stem(design: Design, given: Given) -> str:
 
 def sheet_text(design: Design, given: Given) -> bytes:
     """The sheet, if the proved program accepts it."""
+    design.curve()
     text = design.sheet(given.at).text()
     sheet.read(text)
     return text
@@ -51,16 +55,13 @@ def sheet_text(design: Design, given: Given) -> bytes:
 
 def names_of(design: Design) -> Names:
     """The chosen series as the commands take them."""
-    named = [tuple(design.series[wood] for wood in [part] if wood in design.series) for part in (RING, *WOODS)]
-    return Names(*named)
-
-
-WOODS: tuple[Wood, Wood] = ("earlywood", "latewood")
+    chosen = {wood: (name,) for wood, name in design.series.items() if wood in design.woods}
+    return Names(*(chosen.get(wood, ()) for wood in (RING, *WOOD)))
 
 
 def divided(design: Design, given: Given) -> list[Indexed]:
     """The chosen series with their indices, in the file's order."""
-    if not design.series:
+    if not any(names_of(design)):
         raise Unusable("No series is chosen: there are no rings to divide by the curve.")
     curve, names = design.curve(), names_of(design)
     jobs = [
@@ -76,16 +77,17 @@ def picture(design: Design, given: Given, ending: Ending) -> bytes:
     names = names_of(design)
     by_part: dict[Wood, tuple[str, ...]] = {"earlywood": names.earlywood, "latewood": names.latewood}
     series = list(given.series.values())
-    measured = measured_series(series, curve, by_part, names.series, design.first) if design.series else []
-    made = plot.picture(
-        curve,
-        measured,
-        parts=parts_of(curve, "both", by_part),
-        title=stem(design, given),
-        rings="year" if measured and design.first is None else "ring",
-        at=design.sheet(given.at).at,
-    )
-    return plot.rendered(made, ending)
+    measured = measured_series(series, curve, by_part, names.series, design.first) if any(names) else []
+    with DRAWING:
+        made = plot.picture(
+            curve,
+            measured,
+            parts=parts_of(curve, "both", by_part),
+            title=stem(design, given),
+            rings="year" if measured and design.first is None else "ring",
+            at=design.sheet(given.at).at,
+        )
+        return plot.rendered(made, ending)
 
 
 MADE: dict[str, tuple[str, str, Callable[[Design, Given], bytes]]] = {

@@ -1,5 +1,5 @@
-"""What the server was given at its start: the series of a Tucson file, a sheet, and the design that the page begins with. It is read once,
-and nothing is kept beside it.
+"""What the server was given at its start: the series of a Tucson file, a sheet, and the design that the page begins with. It is
+read once, and nothing is kept beside it.
 """
 
 from __future__ import annotations
@@ -78,11 +78,15 @@ def fitted(series: Mapping[str, Series], chosen: Mapping[str, str], first: int |
         space = template(rings, start + shift)
         sides = {wood: fit(space, series[name].widths, series[name].first + shift) for wood, name in chosen.items()}
     except Unfittable as error:
-        raise Refusal(f"Series {', '.join(chosen.values())}: no curve to begin with. {error} Give a sheet with --curve.") from error
+        raise Refusal(
+            f"Series {', '.join(chosen.values())}: no curve to begin with. {error} Give a sheet with --curve."
+        ) from error
     columns = [(sides.get(wood) or next(iter(sides.values()))).coefficients.tolist() for wood in WOOD]
     lists = space.lists()
     pairs = list(zip(*columns))
-    return Design(list(lists.breaks), list(lists.degrees), list(lists.orders), pairs, is_whole_ring, dict(chosen), first)
+    return Design(
+        list(lists.breaks), list(lists.degrees), list(lists.orders), pairs, is_whole_ring, dict(chosen), first
+    )
 
 
 def start(

@@ -1,5 +1,5 @@
-"""Who may ask: only this machine's browser, at the address that was printed. A request with another Host or Origin, or without the token,
-is refused before anything of it is looked at.
+"""Who may ask: only this machine's browser, at the address that was printed. A request with another Host or Origin, or without
+the token, is refused before anything of it is looked at.
 """
 
 from __future__ import annotations

@@ -1,5 +1,5 @@
-"""What the engine promises of a curve, in sentences for the page: the count of coefficients, the limits and how near they are, which
-spaces are never refused, and when the curve stays above zero. The theorems stand in docs/THEOREMS.md.
+"""What the engine promises of a curve, in sentences for the page: the count of coefficients, the limits and how near they are,
+which spaces are never refused, and when the curve stays above zero. The theorems stand in docs/THEOREMS.md.
 """
 
 from __future__ import annotations
@@ -68,7 +68,9 @@ def low_promise(values: NDArray[np.int32]) -> Promise:
     """At how many positions a curve is low."""
     low, looked = int((values <= 0).any(axis=1).sum()), len(values)
     if low:
-        return Promise(f"Low (zero or less) at {low:,} of {looked:,} positions looked at: marked below the curve.", False)
+        return Promise(
+            f"Low (zero or less) at {low:,} of {looked:,} positions looked at: marked below the curve.", False
+        )
     return Promise(f"Low (zero or less) at none of {looked:,} positions looked at.", True)
 
 

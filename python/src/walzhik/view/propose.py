@@ -1,5 +1,5 @@
-"""The page's button "fit": coefficients for the chosen series by least squares, over the design's own space or over a template. A fit is
-a choice in floating point and is not proved.
+"""The page's button "fit": coefficients for the chosen series by least squares, over the design's own space or over a template. A
+fit is a choice in floating point and is not proved.
 """
 
 from __future__ import annotations
@@ -23,7 +23,9 @@ def figures(mean_square: float, share: float | None) -> str:
     >>> figures(0.0123, 0.87)
     'mean square 0.012300 square mm, 87.0 % of the variance explained'
     """
-    explained = "all widths are equal" if share is None else f"{share:.1%}".replace("%", " %") + " of the variance explained"
+    explained = (
+        "all widths are equal" if share is None else f"{share:.1%}".replace("%", " %") + " of the variance explained"
+    )
     return f"mean square {mean_square:.6f} square mm, {explained}"
 
 
@@ -44,7 +46,12 @@ def proposed(design: Design, series: Mapping[str, Series], is_template: bool) ->
         raise Unfittable("No series is chosen: a fit needs measured widths.")
     if is_template:
         begun = fitted(series, chosen, design.first)
-        design.breaks, design.degrees, design.orders, design.pairs = begun.breaks, begun.degrees, begun.orders, begun.pairs
+        design.breaks, design.degrees, design.orders, design.pairs = (
+            begun.breaks,
+            begun.degrees,
+            begun.orders,
+            begun.pairs,
+        )
     space = design.space()
     columns = [list(column) for column in zip(*design.pairs)]
     said = []
@@ -56,4 +63,8 @@ def proposed(design: Design, series: Mapping[str, Series], is_template: bool) ->
         for side in (0, 1) if wood == RING else (WOOD.index(wood),):
             columns[side] = made.coefficients.tolist()
     design.pairs = [(early, late) for early, late in zip(*columns)]
-    return {"refusal": None, "design": design.as_json(), "words": " ".join([*said, "A fit is a choice, and is not proved."])}
+    return {
+        "refusal": None,
+        "design": design.as_json(),
+        "words": " ".join([*said, "A fit is a choice, and is not proved."]),
+    }

@@ -1,5 +1,5 @@
-"""The server of the screen: Flask for its requests, waitress for its connections. It listens on 127.0.0.1 alone, answers from what it was
-given at its start, and writes no file.
+"""The server of the screen: Flask for its requests, waitress for its connections. It listens on 127.0.0.1 alone, answers from
+what it was given at its start, and writes no file.
 """
 
 from __future__ import annotations
@@ -17,6 +17,7 @@ from werkzeug.exceptions import BadRequest, HTTPException, NotFound, Unsupported
 from ..errors import Refused
 from ..failures import Failure
 from ..fit import Unfittable
+from ..sheet import NoPrintout
 from . import downloads, guard
 from .design import Design, Malformed, design_of
 from .faults import FIT, control, in_words, told
@@ -30,7 +31,13 @@ PAGE = "index.html"
 FORBIDDEN, REFUSED = 403, 422
 POSITIONS = 7  # the number of a refusal of a sheet's positions
 # One person's browser needs few threads; others wait in line, and none can hold the server up by opening many connections.
-WAITING = {"threads": 4, "connection_limit": 500, "backlog": 2048, "asyncore_use_poll": True, "channel_timeout": 60}
+WAITING: dict[str, Any] = {
+    "threads": 4,
+    "connection_limit": 500,
+    "backlog": 2048,
+    "asyncore_use_poll": True,
+    "channel_timeout": 60,
+}
 
 
 def static_files() -> dict[str, bytes]:
@@ -142,10 +149,12 @@ def add_answers(app: Flask, given: Given) -> None:
             made = downloads.download(kind, design, given)
         except Refused as error:
             return answered({"refusal": told(error, about(error, design))}, REFUSED)
-        except Failure as error:
-            return answered({"refusal": in_words(error.message, "downloads")}, REFUSED)
+        except (Failure, NoPrintout, OSError) as error:
+            return answered({"refusal": in_words(str(error), "downloads")}, REFUSED)
         name = f"{downloads.stem(design, given)}.{made.ending}"
-        return Response(made.data, mimetype=made.kind, headers={"Content-Disposition": f'attachment; filename="{name}"'})
+        return Response(
+            made.data, mimetype=made.kind, headers={"Content-Disposition": f'attachment; filename="{name}"'}
+        )
 
 
 class Screen:
@@ -166,7 +175,12 @@ class Screen:
         self.address = f"http://{guard.HOST}:{own_port}/{token}/"
         app = app_of(given, own_port, token)
         self._server = create_server(
-            app, sockets=[listening], max_request_body_size=MOST_BODY, ident=None, **WAITING
+            app,
+            sockets=[listening],
+            max_request_body_size=MOST_BODY + 1,  # waitress refuses from this size on
+            clear_untrusted_proxy_headers=True,
+            ident=None,
+            **WAITING,
         )
 
     def run(self) -> None:

@@ -1,5 +1,6 @@
-"""What the page draws of a design, in one answer: the pieces of each curve, low places, the measured rings with their indices, and what
-the engine promises of it. All numbers are from the proved calls; floats here are whole 256ths of a thousandth and hence exact.
+"""What the page draws of a design, in one answer: the pieces of each curve, low places, the measured rings with their indices,
+and what the engine promises of it. All numbers are from the proved calls; floats here are whole 256ths of a thousandth and hence
+exact.
 """
 
 from __future__ import annotations
@@ -13,7 +14,7 @@ from ..errors import Refused
 from ..reasons import SCAR, UNIT, WOOD, Lists, rows_sum
 from ..tucson import Series
 from .carry import carried, handle_places
-from .design import Design, wood_of
+from .design import Design, Malformed, wood_of
 from .faults import control, told
 from .promises import promises
 
@@ -44,8 +45,7 @@ def piece(curve: Curve, segment: int, side: int) -> dict[str, Any]:
         start, end = curve.space.breaks[segment : segment + 2].tolist()
         positions = np.arange(UNIT * start, UNIT * end + 1, (end - start) * UNIT // STEPS, dtype=np.int32)
         positions[0] += is_apart and segment > 0
-        points = np.stack([positions, curve.values(positions)[:, side]], axis=1) / UNIT
-        points = points.tolist()
+        points = (np.stack([positions, curve.values(positions)[:, side]], axis=1) / UNIT).tolist()
     return {"degree": degree, "is_apart": is_apart, "points": points}
 
 
@@ -53,7 +53,8 @@ def looked_at(curve: Curve) -> NDArray[np.int32]:
     """Positions all over the span: every 256th of a ring, or wider apart where it is long, and every breakpoint."""
     first, last = (UNIT * int(end) for end in curve.space.breaks[[0, -1]])
     step = 1 + (last - first) // MOST_LOOKED_AT
-    return np.unique(np.concatenate([np.arange(first, last + 1, step), UNIT * curve.space.breaks])).astype(np.int32)
+    positions = np.concatenate([np.arange(first, last + 1, step), UNIT * curve.space.breaks])
+    return np.asarray(np.unique(positions), dtype=np.int32)
 
 
 def low_places(positions: NDArray[np.int32], values: NDArray[np.int32]) -> list[list[float]]:
@@ -107,7 +108,10 @@ def with_pairs(design: Design, before: Design | None) -> tuple[Design, Curve]:
     number, the curve before is carried over."""
     space = design.space()
     if before is not None and len(design.pairs) != space.n and len(design.pairs) == len(before.pairs):
-        design.pairs = carried(before.curve(), space)
+        try:
+            design.pairs = carried(before.curve(), space)
+        except Refused as error:
+            raise Malformed(f"The design before was never accepted: {error.words}") from error
     return design, design.curve(space)
 
 
