@@ -92,7 +92,7 @@ def picture(design: Design, given: Given, ending: Ending) -> bytes:
 
 MADE: dict[str, tuple[str, str, Callable[[Design, Given], bytes]]] = {
     "sheet": ("sheet", "text/plain", sheet_text),
-    "printout": ("out", "text/plain", lambda design, given: sheet.printed(sheet_text(design, given))),
+    "printout": ("printout", "text/plain", lambda design, given: sheet.printed(sheet_text(design, given))),
     "csv": ("csv", "text/csv", lambda design, given: as_table(divided(design, given))),
     "rwl": ("rwl", "text/plain", lambda design, given: as_tucson(divided(design, given))),
     "svg": ("svg", "image/svg+xml", lambda design, given: picture(design, given, "svg")),

@@ -128,5 +128,5 @@ found("redo").addEventListener("click", redo);
 found("fit").addEventListener("click", () => propose(false));
 found("template").addEventListener("click", () => propose(true));
 document.addEventListener("keydown", key);
-showFiles(() => history.present, (name) => say(`Saved ${name}.`), refused);
+showFiles(() => history.present, (name) => say(`The browser saves ${name}.`), refused);
 askForPresent();
