@@ -35,7 +35,13 @@ TOKEN = "token"
 def roof() -> Given:
     series = {each.name: each for each in tucson.read(OAK)}
     lists = sheet.read(ROOF.read_bytes())
-    return start(series, lists, {"earlywood": "ROOF04E", "latewood": "ROOF04L"}, None, ["oak.rwl", "roof.sheet"])
+    return start(
+        series,
+        lists,
+        {"earlywood": "ROOF04E", "latewood": "ROOF04L"},
+        None,
+        ["oak.rwl", "roof.sheet"],
+    )
 
 
 def whole(breaks: list[int], degrees: list[int], orders: list[int], coefficients: list[int]) -> Design:
@@ -47,6 +53,12 @@ def client() -> FlaskClient:
     return app_of(roof(), 80, TOKEN).test_client()
 
 
+def begun(client: FlaskClient) -> Any:
+    """The design that the page begins with."""
+    made: Any = client.get(f"/{TOKEN}/given", headers=HERE).get_json()
+    return made["design"]
+
+
 def answer(client: FlaskClient, path: str, **body: Any) -> Any:
     return client.post(f"/{TOKEN}/{path}", json=body, headers=HERE)
 
@@ -55,20 +67,33 @@ def answer(client: FlaskClient, path: str, **body: Any) -> Any:
 
 
 def test_pieces_are_those_of_the_piece_calls() -> None:
-    begun = roof()
-    curve = begun.design.curve()
-    for made in shown(begun.design, None, begun.series)["curves"]:
+    files_given = roof()
+    curve = files_given.design.curve()
+    for made in shown(files_given.design, None, files_given.series)["curves"]:
         for segment, piece in enumerate(made["pieces"]):
             exact = curve.piece(segment, made["wood"])
             assert tuple(height for _, height in piece["points"]) == exact.ordinates
-            assert (piece["points"][0][0], piece["points"][-1][0]) == (exact.start, exact.end)
+            assert (piece["points"][0][0], piece["points"][-1][0]) == (
+                exact.start,
+                exact.end,
+            )
             assert piece["degree"] == exact.degree
-        assert [piece["is_apart"] for piece in made["pieces"]] == [True, False, True, False]
+        assert [piece["is_apart"] for piece in made["pieces"]] == [
+            True,
+            False,
+            True,
+            False,
+        ]
 
 
 @pytest.mark.parametrize("degree", [4, 5])
 def test_higher_degrees_are_drawn_by_values(degree: int) -> None:
-    design = whole([0, 7, 9], [degree, degree], [-1], [100 * (k % 3) + 50 for k in range(2 * degree + 2)])
+    design = whole(
+        [0, 7, 9],
+        [degree, degree],
+        [-1],
+        [100 * (k % 3) + 50 for k in range(2 * degree + 2)],
+    )
     curve = design.curve()
     for made in shown(design, None, {})["curves"][0]["pieces"]:
         rings, heights = np.array(made["points"]).T
@@ -80,10 +105,10 @@ def test_higher_degrees_are_drawn_by_values(degree: int) -> None:
 
 
 def test_indices_are_those_of_the_index_call() -> None:
-    begun = roof()
-    curve = begun.design.curve()
-    for made in shown(begun.design, None, begun.series)["series"]:
-        widths = begun.series[made["name"]].widths
+    files_given = roof()
+    curve = files_given.design.curve()
+    for made in shown(files_given.design, None, files_given.series)["series"]:
+        widths = files_given.series[made["name"]].widths
         assert made["widths"] == list(widths)
         assert made["indices"] == curve.indices(widths, 1703, made["wood"]).tolist()
 
@@ -92,7 +117,14 @@ def test_low_places_are_marked() -> None:
     design = whole([0, 4], [1], [], [-1000, 1000])
     made = shown(design, None, {})
     assert made["curves"][0]["low"] == [[0.0, 2.0]]
-    assert [promise["holds"] for promise in made["promises"]] == [True, True, True, False, False, True]
+    assert [promise["holds"] for promise in made["promises"]] == [
+        True,
+        True,
+        True,
+        False,
+        False,
+        True,
+    ]
     assert "Coefficient 0 (ring) is -1000" in made["promises"][3]["words"]
 
 
@@ -118,7 +150,11 @@ LONG = list(range(14))
         (whole([0, 1, 3], [1, 2], [1], [1, 1, 1]), 5, "order-0"),
         (whole(LONG, [1] * 13, [0] * 12, [1] * 14), 15, "degree-0"),
         (whole([0, 9], [1], [], [1, 2_000_000]), 6, "coefficient-1-ring"),
-        (Design([0, 9], [1], [], [(1, 1), (1, -(10**40))], False), 6, "coefficient-1-latewood"),
+        (
+            Design([0, 9], [1], [], [(1, 1), (1, -(10**40))], False),
+            6,
+            "coefficient-1-latewood",
+        ),
         (whole([0, 9], [1], [], [1, 1, 1]), 6, "coefficients"),
         (whole([0, 9], [1], [], []), 6, "coefficients"),
         (whole([], [], [], []), 2, "lists"),
@@ -135,22 +171,28 @@ def test_a_fraction_that_is_too_large_is_told_at_its_join() -> None:
     lists = sheet.read_printout(sheet.printed((ROOT / "examples/refusals/refused_8.sheet").read_bytes())).refusal
     text = sheet.lists_of((ROOT / "examples/refusals/refused_8.sheet").read_bytes())
     assert lists is not None and text is not None
-    design = Design(list(text.breaks), list(text.degrees), list(text.orders), list(text.pairs), False)
+    design = Design(
+        list(text.breaks),
+        list(text.degrees),
+        list(text.orders),
+        list(text.pairs),
+        False,
+    )
     assert shown(design, None, {})["refusal"]["control"] == f"order-{lists[1]}"
 
 
 def test_a_refused_ring_leaves_the_curve() -> None:
-    begun = roof()
-    design = begun.design
+    files_given = roof()
+    design = files_given.design
     design.breaks[-1] = 1790
-    made = shown(design, None, begun.series)
+    made = shown(design, None, files_given.series)
     assert made["refusal"] is None and made["curves"]
     assert [(each["refusal"]["number"], each["refusal"]["control"]) for each in made["series"]] == [
         (7, "series-earlywood"),
         (7, "series-latewood"),
     ]
     design.breaks[-1], design.pairs[-1] = 1802, (700, -260)
-    late = shown(design, None, begun.series)["series"][1]
+    late = shown(design, None, files_given.series)["series"][1]
     assert late["refusal"]["number"] == 14 and late["indices"] is None
 
 
@@ -158,7 +200,10 @@ def test_a_refused_ring_leaves_the_curve() -> None:
 
 
 def test_a_split_keeps_the_curve() -> None:
-    old = Curve(Space([0, 20, 60], [3, 2], [1]), [[2400, 300], [1600, 200], [1000, 100], [900, 90], [800, 80]])
+    old = Curve(
+        Space([0, 20, 60], [3, 2], [1]),
+        [[2400, 300], [1600, 200], [1000, 100], [900, 90], [800, 80]],
+    )
     new = Space([0, 10, 20, 40, 60], [3, 3, 2, 2], [1, 1, 1])
     made = Curve(new, [list(pair) for pair in carried(old, new)])
     positions = np.arange(0, 60 * 256 + 1, 37)
@@ -169,7 +214,7 @@ def test_a_split_keeps_the_curve() -> None:
 @given(st.integers(0, 10**9))
 def test_carried_coefficients_are_accepted_and_stay_above_zero(seed: int) -> None:
     random = Random(seed)
-    spaces = []
+    spaces: list[Space] = []
     while len(spaces) < 2:
         try:
             spaces.append(Space(*space_lists(random)))
@@ -194,7 +239,7 @@ def test_handles_stand_in_order_within_the_span(seed: int) -> None:
 
 
 def test_another_number_of_coefficients_is_carried_over(client: FlaskClient) -> None:
-    design = client.get(f"/{TOKEN}/given", headers=HERE).get_json()["design"]
+    design = begun(client)
     made = answer(client, "curve", design=design | {"orders": [0, -1, 0]}, before=design).get_json()
     assert made["refusal"] is None and len(made["pairs"]) == made["n"] == 10
     alone = answer(client, "curve", design=design | {"orders": [0, -1, 0]}, before=None).get_json()
@@ -205,9 +250,16 @@ def test_another_number_of_coefficients_is_carried_over(client: FlaskClient) -> 
 
 
 def test_fit_is_the_command_s(client: FlaskClient, run: Run) -> None:
-    design = client.get(f"/{TOKEN}/given", headers=HERE).get_json()["design"]
+    design = begun(client)
     made = answer(client, "fit", design=design).get_json()
-    lists = ["--breaks", "1703,1715,1748,1776,1802", "--degrees", "3,2,2,1", "--orders", "1,-1,0"]
+    lists = [
+        "--breaks",
+        "1703,1715,1748,1776,1802",
+        "--degrees",
+        "3,2,2,1",
+        "--orders",
+        "1,-1,0",
+    ]
     ended = run("fit", OAK, "--earlywood", "ROOF04E", "--latewood", "ROOF04L", *lists)
     assert ended.status == 0
     assert made["design"]["pairs"] == [list(pair) for pair in sheet.read(ended.out.encode()).pairs]
@@ -215,14 +267,14 @@ def test_fit_is_the_command_s(client: FlaskClient, run: Run) -> None:
 
 
 def test_template_is_the_command_s(client: FlaskClient, run: Run) -> None:
-    design = client.get(f"/{TOKEN}/given", headers=HERE).get_json()["design"]
+    design = begun(client)
     made = answer(client, "fit", design=design, is_template=True).get_json()["design"]
     lists = sheet.read(run("fit", OAK, "--earlywood", "ROOF04E", "--latewood", "ROOF04L").out.encode())
     assert made["breaks"] == list(lists.breaks) and made["pairs"] == [list(pair) for pair in lists.pairs]
 
 
 def test_a_fit_without_widths_is_told(client: FlaskClient) -> None:
-    design = client.get(f"/{TOKEN}/given", headers=HERE).get_json()["design"]
+    design = begun(client)
     none = answer(client, "fit", design=design | {"series": {}}).get_json()["refusal"]
     assert none["control"] == "fit" and "No series is chosen" in none["words"]
     short = design | {"breaks": [1703, 1704, 1748, 1776, 1802]}
@@ -235,7 +287,7 @@ def test_a_fit_without_widths_is_told(client: FlaskClient) -> None:
 
 
 def test_files_have_the_commands_bytes(client: FlaskClient, run: Run, tmp_path: Path) -> None:
-    design = client.get(f"/{TOKEN}/given", headers=HERE).get_json()["design"]
+    design = begun(client)
     design["pairs"][3] = [1700, 600]
     made = {
         kind: answer(client, f"download/{kind}", design=design)
@@ -257,10 +309,14 @@ def test_files_have_the_commands_bytes(client: FlaskClient, run: Run, tmp_path: 
 
 
 def test_refused_files_are_told(client: FlaskClient) -> None:
-    design = client.get(f"/{TOKEN}/given", headers=HERE).get_json()["design"]
+    design = begun(client)
     high = answer(client, "download/sheet", design=design | {"orders": [2, -1, 0]})
     assert high.status_code == 422 and high.get_json()["refusal"]["control"] == "order-0"
-    moved = answer(client, "download/sheet", design=design | {"breaks": [1704, 1715, 1748, 1776, 1802]})
+    moved = answer(
+        client,
+        "download/sheet",
+        design=design | {"breaks": [1704, 1715, 1748, 1776, 1802]},
+    )
     assert moved.get_json()["refusal"]["control"] == "at"
     empty = answer(client, "download/sheet", design=design | {"breaks": [], "at": "rings"})
     assert empty.status_code == 422 and empty.get_json()["refusal"]["number"] == 2
@@ -270,7 +326,7 @@ def test_refused_files_are_told(client: FlaskClient) -> None:
 
 
 def test_positions_of_a_sheet(client: FlaskClient) -> None:
-    design = client.get(f"/{TOKEN}/given", headers=HERE).get_json()["design"]
+    design = begun(client)
     text = {at: answer(client, "download/sheet", design=design | {"at": at}).data for at in ("none", "rings", "given")}
     assert text["none"].endswith(b"\nat=\n")
     assert text["given"] == ROOF.read_bytes()
@@ -302,14 +358,24 @@ def test_positions_of_a_sheet(client: FlaskClient) -> None:
     ],
 )
 def test_what_is_no_design_is_refused(client: FlaskClient, change: dict[str, Any]) -> None:
-    design = client.get(f"/{TOKEN}/given", headers=HERE).get_json()["design"]
+    design = begun(client)
     made = answer(client, "curve", design=design | change, before=None)
     assert made.status_code == 400 and made.get_json()["words"]
     assert answer(client, "curve", design=design, before=design | change).status_code in (200, 400)
 
 
 @pytest.mark.parametrize(
-    "body", [b"", b"{", b"[]", b"7", b"\xff", b'{"design": NaN}', b"[" * 100_000, b'{"design": 9' + b"9" * 9000 + b"}"]
+    "body",
+    [
+        b"",
+        b"{",
+        b"[]",
+        b"7",
+        b"\xff",
+        b'{"design": NaN}',
+        b"[" * 100_000,
+        b'{"design": 9' + b"9" * 9000 + b"}",
+    ],
 )
 def test_broken_json_is_refused(client: FlaskClient, body: bytes) -> None:
     made = client.post(f"/{TOKEN}/curve", data=body, content_type="application/json", headers=HERE)
@@ -317,8 +383,13 @@ def test_broken_json_is_refused(client: FlaskClient, body: bytes) -> None:
 
 
 def test_only_json_is_taken(client: FlaskClient) -> None:
-    design = client.get(f"/{TOKEN}/given", headers=HERE).get_json()["design"]
-    made = client.post(f"/{TOKEN}/curve", data=json.dumps({"design": design}), content_type="text/plain", headers=HERE)
+    design = begun(client)
+    made = client.post(
+        f"/{TOKEN}/curve",
+        data=json.dumps({"design": design}),
+        content_type="text/plain",
+        headers=HERE,
+    )
     assert made.status_code == 415
 
 
@@ -327,15 +398,14 @@ def test_only_json_is_taken(client: FlaskClient) -> None:
 
 def test_without_a_sheet_a_template_is_fitted() -> None:
     series = {each.name: each for each in tucson.read(OAK)}
-    begun = start(series, None, {}, None, ["oak.rwl"]).design
-    assert begun.is_whole_ring and begun.series == {"ring": "ROOF04E"} and begun.breaks == [1703, 1713, 1733, 1802]
+    ring = start(series, None, {}, None, ["oak.rwl"]).design
+    assert ring.is_whole_ring and ring.series == {"ring": "ROOF04E"} and ring.breaks == [1703, 1713, 1733, 1802]
     parts = start(series, None, {"earlywood": "ROOF04E", "latewood": "ROOF04L"}, 1, ["oak.rwl"]).design
     assert not parts.is_whole_ring and parts.breaks[0] == 1 and parts.pairs[0][0] != parts.pairs[0][1]
 
 
 def test_without_files_there_is_a_curve() -> None:
-    begun = start({}, None, {}, None, [])
-    assert shown(begun.design, None, {})["refusal"] is None
+    assert shown(start({}, None, {}, None, []).design, None, {})["refusal"] is None
 
 
 def test_a_sheet_of_wood_parts_asks_for_them() -> None:
@@ -361,7 +431,8 @@ def test_the_page_takes_nothing_from_elsewhere_and_makes_no_markup() -> None:
     for name, text in texts.items():
         assert set(re.findall(r"https?://[^\s\"']+", text)) <= {"http://www.w3.org/2000/svg"}, name
         assert not re.search(
-            r"innerHTML|outerHTML|insertAdjacentHTML|document\.write|eval\(|new Function|\son[a-z]+=", text
+            r"innerHTML|outerHTML|insertAdjacentHTML|document\.write|eval\(|new Function|\son[a-z]+=",
+            text,
         ), name
     assert not re.search(r"<script(?![^>]*\bsrc=)|\bstyle=|<style", texts["index.html"])
     for imported in re.findall(r'from "\./([^"]+)"', "\n".join(texts.values())):

@@ -32,9 +32,21 @@ def browser(downloads: Path) -> Iterator[webdriver.Chrome]:
     """A browser without a window, which saves files into a folder."""
     options = Options()
     options.binary_location = CHROMIUM
-    for argument in ("--headless=new", "--no-sandbox", "--disable-gpu", "--disable-dev-shm-usage", f"--window-size={WIDE},{HIGH}"):
+    for argument in (
+        "--headless=new",
+        "--no-sandbox",
+        "--disable-gpu",
+        "--disable-dev-shm-usage",
+        f"--window-size={WIDE},{HIGH}",
+    ):
         options.add_argument(argument)
-    options.add_experimental_option("prefs", {"download.default_directory": str(downloads), "download.prompt_for_download": False})
+    options.add_experimental_option(
+        "prefs",
+        {
+            "download.default_directory": str(downloads),
+            "download.prompt_for_download": False,
+        },
+    )
     options.set_capability("goog:loggingPrefs", {"browser": "ALL"})
     driver = webdriver.Chrome(service=Service(CHROMEDRIVER), options=options)
     try:
@@ -86,15 +98,28 @@ class Page:
 
     def path(self, wood: str) -> list[tuple[str, list[float]]]:
         """The commands of a curve's path with their numbers."""
-        found = self.script("return document.querySelector(`path.curve[data-curve=\"${arguments[0]}\"]`)?.getAttribute('d')", wood)
+        found = self.script(
+            "return document.querySelector(`path.curve[data-curve=\"${arguments[0]}\"]`)?.getAttribute('d')",
+            wood,
+        )
         commands = re.findall(r"([MLQC])([^MLQC]*)", found or "")
         return [(letter, [float(number) for number in NUMBER.findall(body)]) for letter, body in commands]
 
     def low(self, wood: str) -> str:
-        return str(self.script("return document.querySelector(`path[data-low=\"${arguments[0]}\"]`).getAttribute('d')", wood))
+        return str(
+            self.script(
+                "return document.querySelector(`path[data-low=\"${arguments[0]}\"]`).getAttribute('d')",
+                wood,
+            )
+        )
 
     def stroke(self, wood: str) -> str:
-        return str(self.script("return getComputedStyle(document.querySelector(`path.curve[data-curve=\"${arguments[0]}\"]`)).stroke", wood))
+        return str(
+            self.script(
+                'return getComputedStyle(document.querySelector(`path.curve[data-curve="${arguments[0]}"]`)).stroke',
+                wood,
+            )
+        )
 
     def is_stale(self) -> bool:
         return self.count("#picture.stale") == 1
@@ -130,13 +155,24 @@ class Page:
         """Drag a handle by pixels, in steps as a hand does."""
         hand = ActionChains(self.driver, duration=20).click_and_hold(self.handle(control))
         for step in range(DRAG_STEPS):
-            hand.move_by_offset(across * (step + 1) // DRAG_STEPS - across * step // DRAG_STEPS, down // DRAG_STEPS)
+            hand.move_by_offset(
+                across * (step + 1) // DRAG_STEPS - across * step // DRAG_STEPS,
+                down // DRAG_STEPS,
+            )
         hand.release().perform()
 
     def key(self, control: str, name: str, shift: bool = False) -> None:
         """Focus a handle and press a key."""
-        self.script("document.querySelector(`[data-control=\"${arguments[0]}\"]`).focus()", control)
-        key = {"ArrowUp": Keys.ARROW_UP, "ArrowDown": Keys.ARROW_DOWN, "ArrowLeft": Keys.ARROW_LEFT, "ArrowRight": Keys.ARROW_RIGHT}[name]
+        self.script(
+            'document.querySelector(`[data-control="${arguments[0]}"]`).focus()',
+            control,
+        )
+        key = {
+            "ArrowUp": Keys.ARROW_UP,
+            "ArrowDown": Keys.ARROW_DOWN,
+            "ArrowLeft": Keys.ARROW_LEFT,
+            "ArrowRight": Keys.ARROW_RIGHT,
+        }[name]
         hand = ActionChains(self.driver, duration=0)
         (hand.key_down(Keys.SHIFT).send_keys(key).key_up(Keys.SHIFT) if shift else hand.send_keys(key)).perform()
 
@@ -148,7 +184,10 @@ class Page:
 
     def press(self, *buttons: str) -> None:
         for button in buttons:
-            self.until(lambda: self.driver.find_element(By.ID, button).is_enabled(), f"the button {button} can't be pressed")
+            self.until(
+                lambda: self.driver.find_element(By.ID, button).is_enabled(),
+                f"the button {button} can't be pressed",
+            )
             self.driver.find_element(By.ID, button).click()
 
     def choose(self, control: str, value: str) -> None:
@@ -164,5 +203,8 @@ class Page:
         path = self.downloads / name
         path.unlink(missing_ok=True)
         self.press(f"save-{kind}")
-        self.until(lambda: path.exists() and path.stat().st_size and not path.with_name(f"{name}.crdownload").exists(), f"{name} is not saved")
+        self.until(
+            lambda: path.exists() and path.stat().st_size and not path.with_name(f"{name}.crdownload").exists(),
+            f"{name} is not saved",
+        )
         return path.read_bytes()

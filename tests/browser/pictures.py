@@ -12,7 +12,15 @@ from selenium import webdriver
 
 from .page import Page
 
-ROOF = ["examples/tucson/oak.rwl", "--curve", "examples/sheets/roof.sheet", "--earlywood", "ROOF04E", "--latewood", "ROOF04L"]
+ROOF = [
+    "examples/tucson/oak.rwl",
+    "--curve",
+    "examples/sheets/roof.sheet",
+    "--earlywood",
+    "ROOF04E",
+    "--latewood",
+    "ROOF04L",
+]
 WIDE, NARROW = (1280, 1000), (640, 1900)
 PRINT_DOTS = 75  # an inch
 
@@ -20,8 +28,13 @@ PRINT_DOTS = 75  # an inch
 def shot(page: Page, size: tuple[int, int], path: Path) -> None:
     """A picture of the page in a window of a size."""
     page.resize(*size)
-    page.until(lambda: page.script("return Math.abs(document.getElementById('picture').clientWidth - "
-                                   "document.getElementById('picture').parentElement.clientWidth) < 60"), "no room")
+    page.until(
+        lambda: page.script(
+            "return Math.abs(document.getElementById('picture').clientWidth - "
+            "document.getElementById('picture').parentElement.clientWidth) < 60"
+        ),
+        "no room",
+    )
     page.driver.save_screenshot(str(path))
 
 
@@ -30,12 +43,25 @@ def printed(page: Page, path: Path) -> None:
     made = page.driver.execute_cdp_cmd("Page.printToPDF", {"preferCSSPageSize": True, "printBackground": True})
     pdf = path.with_suffix(".pdf")
     pdf.write_bytes(base64.b64decode(made["data"]))
-    command = ["gs", "-q", "-dBATCH", "-dNOPAUSE", "-sDEVICE=png16m", f"-r{PRINT_DOTS}", "-dTextAlphaBits=4", "-dGraphicsAlphaBits=4"]
+    command = [
+        "gs",
+        "-q",
+        "-dBATCH",
+        "-dNOPAUSE",
+        "-sDEVICE=png16m",
+        f"-r{PRINT_DOTS}",
+        "-dTextAlphaBits=4",
+        "-dGraphicsAlphaBits=4",
+    ]
     subprocess.run([*command, "-dLastPage=1", f"-sOutputFile={path}", str(pdf)], check=True)
     pdf.unlink()
 
 
-def take_pictures(driver: webdriver.Chrome, serving: Callable[..., AbstractContextManager[str]], folder: Path) -> None:
+def take_pictures(
+    driver: webdriver.Chrome,
+    serving: Callable[..., AbstractContextManager[str]],
+    folder: Path,
+) -> None:
     """Take all pictures into a folder."""
     folder.mkdir(parents=True, exist_ok=True)
     with serving(*ROOF) as address:

@@ -1,5 +1,5 @@
-// Handles in the picture that a hand or a key moves: coefficients up and down, breakpoints along the rings. They are kept and moved, not
-// made anew, so that a drag or the focus is never lost.
+// Handles in the picture that a hand or a key moves: coefficients up and down, breakpoints along the rings. They are kept and
+// moved, not made anew, so that a drag or the focus is never lost.
 
 import { draw, millimetres, woodWords } from "./elements.js";
 import { coefficient, woods } from "./design.js";
@@ -15,18 +15,34 @@ const SHAPES = {
   break: "M0 -9L7 -2V9H-7V-2Z",
 };
 const TOUCHED = 14; // radius of what a finger may hit
+const DENSE_PIXELS = 24; // between neighbours: handles are smaller where there is less room
 
-// All handles of a design: [id, kind, group, place, value, words].
+const breakHandle = (ring, place) => ({
+  id: `break-${place}`,
+  kind: "break",
+  group: "break",
+  place,
+  value: ring,
+  words: `Breakpoint ${place}`,
+  text: `ring ${ring}`,
+});
+
+const coefficientHandle = (value, row, wood, ring) => ({
+  id: `coefficient-${row}-${wood}`,
+  kind: "coefficient",
+  group: wood,
+  place: row,
+  value,
+  words: `Coefficient ${row}, ${woodWords[wood]}, near ring ${Math.round(ring)}`,
+  text: `${millimetres(value)} mm`,
+});
+
+// All handles of a design.
 function wanted(design, places) {
-  const made = design.breaks.map((ring, place) => ({
-    id: `break-${place}`, kind: "break", group: "break", place, value: ring, words: `Breakpoint ${place}`, text: `ring ${ring}`,
-  }));
+  const made = design.breaks.map(breakHandle);
   for (const wood of woods(design)) {
     design.pairs.forEach((_, row) => {
-      if (!(row in places)) return;
-      const value = coefficient(design, row, wood);
-      const words = `Coefficient ${row}, ${woodWords[wood]}, near ring ${Math.round(places[row])}`;
-      made.push({ id: `coefficient-${row}-${wood}`, kind: "coefficient", group: wood, place: row, value, words, text: `${millimetres(value)} mm` });
+      if (row in places) made.push(coefficientHandle(coefficient(design, row, wood), row, wood, places[row]));
     });
   }
   return made;
@@ -50,6 +66,8 @@ export class Handles {
       this.elements.delete(id);
     }
     for (const handle of all) this.place(handle, places);
+    const room = Math.abs(scales.across.at(scales.across.to) - scales.across.start) / places.length;
+    this.layer.classList.toggle("dense", room < DENSE_PIXELS);
     this.rove(all);
   }
 

@@ -1,5 +1,5 @@
-// The page: the present design, what the server has answered for it, and all that shows them. Every change of a design goes through
-// `change`, so that the engine answers each.
+// The page: the present design, what the server has answered for it, and all that shows them. Every change of a design goes
+// through `change`, so that the engine answers each.
 
 import { Coefficients } from "./coefficients.js";
 import { withBreak, withCoefficient } from "./design.js";
@@ -21,7 +21,9 @@ let refusals = [];
 
 const say = (words) => (found("status").textContent = words);
 
-const newest = new Newest("curve", onAnswer, (error) => say(`The server does not answer (${error.message}). Is ./walzhik view still running?`));
+const newest = new Newest("curve", onAnswer, (error) => {
+  say(`The server does not answer (${error.message}). Is ./walzhik view still running?`);
+});
 const stretches = new Stretches(start.limits, (design) => change(design, true));
 const coefficients = new Coefficients((design) => change(design, true));
 const picture = new Picture(start.limits, (handle, value, isLasting) => {
@@ -43,7 +45,8 @@ function askForPresent() {
 
 // The widths of the present design; the indices of the last good one stay where the curve is refused.
 function withIndices(measured) {
-  const before = good?.answer.series.find(({ wood, name, first }) => wood === measured.wood && name === measured.name && first === measured.first);
+  const same = (each) => ["wood", "name", "first"].every((key) => each[key] === measured[key]);
+  const before = good?.answer.series.find(same);
   return { ...measured, indices: before?.indices ?? null };
 }
 

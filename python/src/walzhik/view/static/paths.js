@@ -1,7 +1,8 @@
-// Path data in rings and thousandths of a millimetre, with the very numbers that the server has sent; a transform brings them to pixels.
+// Path data in rings and thousandths of a millimetre, with the very numbers that the server has sent; a transform brings them to
+// pixels.
 
 const COMMANDS = { 1: "L", 2: "Q", 3: "C" }; // by degree; points of a higher degree lie on the curve itself
-const DOT = "h0";
+const DOT = "h0.01"; // short enough for a dot, long enough to be drawn in print
 
 const point = ([ring, height]) => `${ring} ${height}`;
 

@@ -33,6 +33,8 @@ export class Picture {
     this.shown = shown;
     const { design, answer, series, isStale } = shown;
     if (!this.handles.held) this.scales = this.scaled(design, answer, series);
+    // The print has another size, to which the box is brought.
+    this.svg.setAttribute("viewBox", `0 0 ${this.svg.clientWidth} ${this.svg.clientHeight}`);
     this.svg.classList.toggle("stale", isStale);
     this.layer.replaceChildren(...this.upper(), ...(this.scales.index ? this.lower() : []));
     this.handles.show(design, answer.places, this.scales);
@@ -49,7 +51,8 @@ export class Picture {
     const most = Math.max(1, answer.extent[1], ...coefficients, ...series.flatMap((each) => each.widths));
     const floor = height - MARGIN.bottom;
     const below = series.length ? floor - height * INDEX_SHARE : floor;
-    const up = new Scale([least * HEADROOM, most * HEADROOM], [series.length ? below - MARGIN.between : floor - MARGIN.between / 2, MARGIN.top]);
+    const foot = series.length ? below - MARGIN.between : floor - MARGIN.between / 2;
+    const up = new Scale([least * HEADROOM, most * HEADROOM], [foot, MARGIN.top]);
     const indices = series.flatMap((each) => each.indices ?? []);
     const index = series.length ? new Scale([0, HEADROOM * Math.max(ON_CURVE, ...indices)], [floor, below]) : null;
     return { across, up, index };
@@ -78,7 +81,8 @@ export class Picture {
   lower() {
     const { across, index } = this.scales;
     const { series } = this.shown;
-    const one = { class: "one", x1: across.at(across.from), x2: across.at(across.to), y1: index.at(ON_CURVE), y2: index.at(ON_CURVE) };
+    const level = index.at(ON_CURVE);
+    const one = { class: "one", x1: across.at(across.from), x2: across.at(across.to), y1: level, y2: level };
     return [
       ...this.axis(index, "index, thousandths", String),
       ...this.breakLines(index, 0),
@@ -103,7 +107,9 @@ export class Picture {
     }
     const middle = (up.start + up.at(up.to)) / 2;
     made.push(draw("text", { class: "words", transform: `translate(11 ${middle}) rotate(-90)` }, words));
-    if (isLast) made.push(draw("text", { class: "words", x: (left + right) / 2, y: this.svg.clientHeight - 4 }, this.shown.design.first === null && this.shown.series.length ? "year" : "ring"));
+    const { design, series } = this.shown;
+    const rings = design.first === null && series.length ? "year" : "ring";
+    if (isLast) made.push(draw("text", { class: "words", x: (left + right) / 2, y: this.svg.clientHeight - 4 }, rings));
     return made;
   }
 
@@ -145,7 +151,8 @@ export class Picture {
   low(wood, places) {
     const { across, up } = this.scales;
     const y = up.at(0);
-    return draw("path", { class: "low", "data-low": wood, d: places.map(([from, to]) => `M${across.at(from)} ${y}H${across.at(to)}`).join("") });
+    const marks = places.map(([from, to]) => `M${across.at(from)} ${y}H${across.at(to)}`);
+    return draw("path", { class: "low", "data-low": wood, d: marks.join("") });
   }
 
   // Straight lines from handle to handle, lifted at discontinuities.
@@ -154,7 +161,10 @@ export class Picture {
     const { design, answer } = this.shown;
     const starts = new Set([0]);
     answer.rows.reduce((sum, rows) => starts.add(sum + rows) && sum + rows, 0);
-    const points = answer.places.map((place, row) => row in design.pairs ? `${starts.has(row) ? "M" : "L"}${place} ${coefficient(design, row, wood)}` : "");
+    const points = answer.places.map((place, row) => {
+      if (!(row in design.pairs)) return "";
+      return `${starts.has(row) ? "M" : "L"}${place} ${coefficient(design, row, wood)}`;
+    });
     return draw("path", { class: `polygon ${wood}`, d: points.join(""), transform: plane(across, up) });
   }
 

@@ -1,4 +1,5 @@
-// Requests to the server that has sent this page. A hand that drags asks more often than answers come: only the newest question waits.
+// Requests to the server that has sent this page. A hand that drags asks more often than answers come: only the newest question
+// waits.
 
 export class Refusal extends Error {
   constructor(refusal) {

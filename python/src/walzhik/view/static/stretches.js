@@ -4,7 +4,7 @@ import { found, make, number, select } from "./elements.js";
 import { SCAR, split, withBreak, withDegree, withOrder, withoutJoin } from "./design.js";
 import { notWhole, showRefusal, typedWhole } from "./refusals.js";
 
-const ORDER_WORDS = { [SCAR]: "-1: a scar", 0: "0: meets", 1: "1: one slope", 2: "2: one bend" };
+const ORDER_WORDS = { [SCAR]: "-1: scar", 0: "0: meets", 1: "1: same slope", 2: "2: same bend" };
 
 const line = (head, kind, ...cells) =>
   make("tr", { class: kind }, make("th", { scope: "row" }, head), ...cells.map((each) => make("td", {}, each)));
