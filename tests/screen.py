@@ -27,11 +27,7 @@ from browser.pictures import take_pictures  # noqa: E402
 from walzhik import Curve, Refused, Space, sheet, tucson  # noqa: E402
 from walzhik.fit import fit  # noqa: E402
 
-OAK, ROOF, BEAM = (
-    "examples/tucson/oak.rwl",
-    "examples/sheets/roof.sheet",
-    "examples/sheets/beam.sheet",
-)
+OAK, ROOF, BEAM = ("examples/tucson/oak.rwl", "examples/sheets/roof.sheet", "examples/sheets/beam.sheet")
 BOTH = ["--earlywood", "ROOF04E", "--latewood", "ROOF04L"]
 HURTING = "<img src=x onerror=document.title='hurt'>.rwl"
 SEVERE = "SEVERE"
@@ -41,10 +37,7 @@ NARROW, HIGH = 640, 900  # pixels: half of 1280, as at 200 %
 @contextmanager
 def serving(*arguments: str) -> Iterator[str]:
     """The address of a server that the command has started."""
-    environment = os.environ | {
-        "PYTHONPATH": str(ROOT / "python/src"),
-        "PYTHONUNBUFFERED": "1",
-    }
+    environment = os.environ | {"PYTHONPATH": str(ROOT / "python/src"), "PYTHONUNBUFFERED": "1"}
     command = [sys.executable, "-m", "walzhik", "view", *arguments]
     process = subprocess.Popen(command, stdout=subprocess.PIPE, text=True, cwd=ROOT, env=environment)
     try:
@@ -61,10 +54,7 @@ def exact_points(page: Page, wood: str) -> list[tuple[str, list[float]]]:
     """The commands of a path by the piece calls, for the lists that the page's controls show; none where the engine refuses them."""
     lists = page.lists()
     try:
-        curve = Curve(
-            Space(lists.breaks, lists.degrees, lists.orders),
-            [list(pair) for pair in lists.pairs],
-        )
+        curve = Curve(Space(lists.breaks, lists.degrees, lists.orders), [list(pair) for pair in lists.pairs])
     except Refused:
         return []
     made: list[tuple[str, list[float]]] = []
@@ -83,8 +73,7 @@ def agrees(page: Page, *woods: str) -> None:
     """Wait until the page's paths are those of the piece calls, number by number."""
     for wood in woods or ("earlywood", "latewood"):
         page.until(
-            lambda: exact_points(page, wood) == page.path(wood) != [],
-            f"the path of the {wood} is not the engine's",
+            lambda: exact_points(page, wood) == page.path(wood) != [], f"the path of the {wood} is not the engine's"
         )
 
 
@@ -95,10 +84,7 @@ def test_dragging(page: Page) -> None:
     agrees(page)
     before = page.value("coefficient-3-earlywood"), page.value("coefficient-3-latewood")
     page.drag("coefficient-3-earlywood", 0, -70)
-    page.until(
-        lambda: page.value("coefficient-3-earlywood") > before[0],
-        "the coefficient did not follow the hand",
-    )
+    page.until(lambda: page.value("coefficient-3-earlywood") > before[0], "the coefficient did not follow the hand")
     assert page.value("coefficient-3-latewood") == before[1]
     agrees(page)
     page.press("undo", "undo")
@@ -111,35 +97,24 @@ def test_dragging(page: Page) -> None:
 
 def test_keys(page: Page) -> None:
     page.key("coefficient-3-latewood", "ArrowUp")
-    page.until(
-        lambda: page.value("coefficient-3-latewood") == 570,
-        "the arrow up did not add 10 thousandths",
-    )
+    page.until(lambda: page.value("coefficient-3-latewood") == 570, "the arrow up did not add 10 thousandths")
     page.key("coefficient-3-latewood", "ArrowDown", shift=True)
     page.until(
-        lambda: page.value("coefficient-3-latewood") == 470,
-        "shift and the arrow down did not take 100 thousandths",
+        lambda: page.value("coefficient-3-latewood") == 470, "shift and the arrow down did not take 100 thousandths"
     )
     page.key("break-3", "ArrowRight")
     page.key("break-3", "ArrowLeft", shift=True)
-    page.until(
-        lambda: page.value("break-3") == 1767,
-        "the arrows did not move the breakpoint by 1 and by 10 rings",
-    )
+    page.until(lambda: page.value("break-3") == 1767, "the arrows did not move the breakpoint by 1 and by 10 rings")
     agrees(page)
     page.key("coefficient-3-latewood", "ArrowRight")
     assert page.focused() == "coefficient-4-latewood", "the arrow right did not go to the neighbour"
     for _ in range(4):
         page.shortcut("z")
     page.until(
-        lambda: (page.value("coefficient-3-latewood"), page.value("break-3")) == (560, 1776),
-        "Ctrl+Z did not undo",
+        lambda: (page.value("coefficient-3-latewood"), page.value("break-3")) == (560, 1776), "Ctrl+Z did not undo"
     )
     page.shortcut("y")
-    page.until(
-        lambda: page.value("coefficient-3-latewood") == 570,
-        "Ctrl+Y did not do it again",
-    )
+    page.until(lambda: page.value("coefficient-3-latewood") == 570, "Ctrl+Y did not do it again")
     page.shortcut("z")
     agrees(page)
 
@@ -148,10 +123,7 @@ def refusal_of(page: Page) -> Refused:
     """What the engine says of the lists that the page shows."""
     lists = page.lists()
     try:
-        Curve(
-            Space(lists.breaks, lists.degrees, lists.orders),
-            [list(pair) for pair in lists.pairs],
-        )
+        Curve(Space(lists.breaks, lists.degrees, lists.orders), [list(pair) for pair in lists.pairs])
     except Refused as error:
         return error
     raise AssertionError("the engine does not refuse what the page shows")
@@ -166,10 +138,7 @@ def test_refusal(page: Page) -> None:
     assert page.is_beside("order-0") and error.words in page.text("status")
     assert page.is_stale() and page.path("earlywood") == before and page.stroke("earlywood") == "rgb(176, 176, 176)"
     page.press("undo")
-    page.until(
-        lambda: not page.is_stale() and not page.is_invalid("order-0"),
-        "the refusal stays after undo",
-    )
+    page.until(lambda: not page.is_stale() and not page.is_invalid("order-0"), "the refusal stays after undo")
     assert page.stroke("earlywood") == "rgb(0, 114, 178)" and page.lists().orders[0] == 1
     page.drag("break-1", 320, 0)
     page.until(
@@ -183,47 +152,29 @@ def test_refusal(page: Page) -> None:
 
 def test_typing(page: Page) -> None:
     page.type("coefficient-3-earlywood", "12.5")
-    page.until(
-        lambda: page.is_invalid("coefficient-3-earlywood"),
-        "half a thousandth is not refused",
-    )
+    page.until(lambda: page.is_invalid("coefficient-3-earlywood"), "half a thousandth is not refused")
     assert "whole number" in page.words_of("coefficient-3-earlywood")
     page.type("coefficient-3-earlywood", "-3000")
-    page.until(
-        lambda: page.is_invalid("series-earlywood"),
-        "a ring over a curve below zero is not told",
-    )
+    page.until(lambda: page.is_invalid("series-earlywood"), "a ring over a curve below zero is not told")
     assert "no=14" in page.words_of("series-earlywood") and page.low("earlywood") and not page.low("latewood")
     assert "Coefficient 3 (earlywood) is -3000" in page.text("promises") and not page.is_stale()
     page.press("undo")
-    page.until(
-        lambda: not page.low("earlywood") and not page.is_invalid("series-earlywood"),
-        "the low places stay",
-    )
+    page.until(lambda: not page.low("earlywood") and not page.is_invalid("series-earlywood"), "the low places stay")
     page.type("break-4", "1795")
-    page.until(
-        lambda: "no=7" in page.words_of("series-latewood"),
-        "rings past the curve are not told",
-    )
+    page.until(lambda: "no=7" in page.words_of("series-latewood"), "rings past the curve are not told")
     page.press("undo")
     agrees(page)
 
 
 def test_structure(page: Page) -> None:
     page.choose("order-2", "-1")
-    page.until(
-        lambda: page.count("#picture line.scar") == 4,
-        "the scar is not drawn in both panels",
-    )
+    page.until(lambda: page.count("#picture line.scar") == 4, "the scar is not drawn in both panels")
     page.until(lambda: len(page.lists().pairs) == 10, "the scar did not bring a coefficient")
     agrees(page)
     page.choose("order-2", "0")
     page.until(lambda: len(page.lists().pairs) == 9, "the scar is not taken away")
     page.click('[aria-label="Split stretch 1"]')
-    page.until(
-        lambda: len(page.lists().breaks) == 6 and len(page.lists().pairs) == 10,
-        "the stretch is not split",
-    )
+    page.until(lambda: len(page.lists().breaks) == 6 and len(page.lists().pairs) == 10, "the stretch is not split")
     agrees(page)
     page.choose("degree-1", "3")
     page.until(lambda: len(page.lists().pairs) == 11, "the degree did not bring a coefficient")
@@ -232,10 +183,7 @@ def test_structure(page: Page) -> None:
     page.until(lambda: len(page.lists().breaks) == 5, "the join is not removed")
     agrees(page)
     page.press(*["undo"] * 5)
-    page.until(
-        lambda: len(page.lists().pairs) == 9 and page.lists().orders == [1, -1, 0],
-        "five steps are not undone",
-    )
+    page.until(lambda: len(page.lists().pairs) == 9 and page.lists().orders == [1, -1, 0], "five steps are not undone")
     assert "n = 9 " in page.text("promises") and "never refused" in page.text("promises")
 
 
@@ -246,10 +194,7 @@ def test_fit(page: Page) -> None:
     space = Space(lists.breaks, lists.degrees, lists.orders)
     series = {each.name: each for each in tucson.read(ROOT / OAK)}
     sides = [fit(space, series[name].widths, 1703).coefficients.tolist() for name in ("ROOF04E", "ROOF04L")]
-    page.until(
-        lambda: page.lists().pairs == list(zip(*sides)),
-        "the coefficients are not those of the fit",
-    )
+    page.until(lambda: page.lists().pairs == list(zip(*sides)), "the coefficients are not those of the fit")
     agrees(page)
 
 
@@ -272,8 +217,7 @@ def test_page_itself(page: Page) -> None:
     assert asked and all(each.startswith(page.address) for each in asked), "something came from elsewhere"
     page.resize(NARROW, HIGH)
     page.until(
-        lambda: page.script("return document.documentElement.scrollWidth <= innerWidth"),
-        "at 200 % it is too wide",
+        lambda: page.script("return document.documentElement.scrollWidth <= innerWidth"), "at 200 % it is too wide"
     )
     assert page.script(
         "return [...document.querySelectorAll('main button, main select')].every((each) => each.getBoundingClientRect().right <= innerWidth)"
@@ -297,18 +241,11 @@ def test_beam(page: Page) -> None:
     agrees(page)
     assert page.count("#picture line.scar") == 4 and len(page.lists().degrees) == 31
     page.choose("degree-0", "5")
-    page.until(
-        lambda: len(page.lists().pairs) == 54,
-        "the degree did not bring four coefficients",
-    )
+    page.until(lambda: len(page.lists().pairs) == 54, "the degree did not bring four coefficients")
     lists = page.lists()
-    curve = Curve(
-        Space(lists.breaks, lists.degrees, lists.orders),
-        [list(pair) for pair in lists.pairs],
-    )
+    curve = Curve(Space(lists.breaks, lists.degrees, lists.orders), [list(pair) for pair in lists.pairs])
     page.until(
-        lambda: [each[0] for each in page.path("latewood")[1:257]] == ["L"] * 256,
-        "degree 5 is not drawn by values",
+        lambda: [each[0] for each in page.path("latewood")[1:257]] == ["L"] * 256, "degree 5 is not drawn by values"
     )
     for _, (ring, height) in page.path("latewood")[1:257]:
         assert curve.values([int(256 * ring)])[0, 1] == 256 * height
@@ -325,16 +262,7 @@ def hurting_file(folder: Path) -> Path:
 
 def run(pictures: Path | None) -> int:
     """All tests, one browser for all; the number of those that passed."""
-    roof = (
-        test_dragging,
-        test_keys,
-        test_refusal,
-        test_typing,
-        test_structure,
-        test_fit,
-        test_files,
-        test_page_itself,
-    )
+    roof = (test_dragging, test_keys, test_refusal, test_typing, test_structure, test_fit, test_files, test_page_itself)
     with tempfile.TemporaryDirectory() as made, browser(Path(made) / "saved") as driver:
         hurting = hurting_file(Path(made))
         pages = [

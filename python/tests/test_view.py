@@ -35,13 +35,7 @@ TOKEN = "token"
 def roof() -> Given:
     series = {each.name: each for each in tucson.read(OAK)}
     lists = sheet.read(ROOF.read_bytes())
-    return start(
-        series,
-        lists,
-        {"earlywood": "ROOF04E", "latewood": "ROOF04L"},
-        None,
-        ["oak.rwl", "roof.sheet"],
-    )
+    return start(series, lists, {"earlywood": "ROOF04E", "latewood": "ROOF04L"}, None, ["oak.rwl", "roof.sheet"])
 
 
 def whole(breaks: list[int], degrees: list[int], orders: list[int], coefficients: list[int]) -> Design:
@@ -73,27 +67,14 @@ def test_pieces_are_those_of_the_piece_calls() -> None:
         for segment, piece in enumerate(made["pieces"]):
             exact = curve.piece(segment, made["wood"])
             assert tuple(height for _, height in piece["points"]) == exact.ordinates
-            assert (piece["points"][0][0], piece["points"][-1][0]) == (
-                exact.start,
-                exact.end,
-            )
+            assert (piece["points"][0][0], piece["points"][-1][0]) == (exact.start, exact.end)
             assert piece["degree"] == exact.degree
-        assert [piece["is_apart"] for piece in made["pieces"]] == [
-            True,
-            False,
-            True,
-            False,
-        ]
+        assert [piece["is_apart"] for piece in made["pieces"]] == [True, False, True, False]
 
 
 @pytest.mark.parametrize("degree", [4, 5])
 def test_higher_degrees_are_drawn_by_values(degree: int) -> None:
-    design = whole(
-        [0, 7, 9],
-        [degree, degree],
-        [-1],
-        [100 * (k % 3) + 50 for k in range(2 * degree + 2)],
-    )
+    design = whole([0, 7, 9], [degree, degree], [-1], [100 * (k % 3) + 50 for k in range(2 * degree + 2)])
     curve = design.curve()
     for made in shown(design, None, {})["curves"][0]["pieces"]:
         rings, heights = np.array(made["points"]).T
@@ -117,14 +98,7 @@ def test_low_places_are_marked() -> None:
     design = whole([0, 4], [1], [], [-1000, 1000])
     made = shown(design, None, {})
     assert made["curves"][0]["low"] == [[0.0, 2.0]]
-    assert [promise["holds"] for promise in made["promises"]] == [
-        True,
-        True,
-        True,
-        False,
-        False,
-        True,
-    ]
+    assert [promise["holds"] for promise in made["promises"]] == [True, True, True, False, False, True]
     assert "Coefficient 0 (ring) is -1000" in made["promises"][3]["words"]
 
 
@@ -150,11 +124,7 @@ LONG = list(range(14))
         (whole([0, 1, 3], [1, 2], [1], [1, 1, 1]), 5, "order-0"),
         (whole(LONG, [1] * 13, [0] * 12, [1] * 14), 15, "degree-0"),
         (whole([0, 9], [1], [], [1, 2_000_000]), 6, "coefficient-1-ring"),
-        (
-            Design([0, 9], [1], [], [(1, 1), (1, -(10**40))], False),
-            6,
-            "coefficient-1-latewood",
-        ),
+        (Design([0, 9], [1], [], [(1, 1), (1, -(10**40))], False), 6, "coefficient-1-latewood"),
         (whole([0, 9], [1], [], [1, 1, 1]), 6, "coefficients"),
         (whole([0, 9], [1], [], []), 6, "coefficients"),
         (whole([], [], [], []), 2, "lists"),
@@ -171,13 +141,7 @@ def test_a_fraction_that_is_too_large_is_told_at_its_join() -> None:
     lists = sheet.read_printout(sheet.printed((ROOT / "examples/refusals/refused_8.sheet").read_bytes())).refusal
     text = sheet.lists_of((ROOT / "examples/refusals/refused_8.sheet").read_bytes())
     assert lists is not None and text is not None
-    design = Design(
-        list(text.breaks),
-        list(text.degrees),
-        list(text.orders),
-        list(text.pairs),
-        False,
-    )
+    design = Design(list(text.breaks), list(text.degrees), list(text.orders), list(text.pairs), False)
     assert shown(design, None, {})["refusal"]["control"] == f"order-{lists[1]}"
 
 
@@ -200,10 +164,7 @@ def test_a_refused_ring_leaves_the_curve() -> None:
 
 
 def test_a_split_keeps_the_curve() -> None:
-    old = Curve(
-        Space([0, 20, 60], [3, 2], [1]),
-        [[2400, 300], [1600, 200], [1000, 100], [900, 90], [800, 80]],
-    )
+    old = Curve(Space([0, 20, 60], [3, 2], [1]), [[2400, 300], [1600, 200], [1000, 100], [900, 90], [800, 80]])
     new = Space([0, 10, 20, 40, 60], [3, 3, 2, 2], [1, 1, 1])
     made = Curve(new, [list(pair) for pair in carried(old, new)])
     positions = np.arange(0, 60 * 256 + 1, 37)
@@ -252,14 +213,7 @@ def test_another_number_of_coefficients_is_carried_over(client: FlaskClient) -> 
 def test_fit_is_the_command_s(client: FlaskClient, run: Run) -> None:
     design = begun(client)
     made = answer(client, "fit", design=design).get_json()
-    lists = [
-        "--breaks",
-        "1703,1715,1748,1776,1802",
-        "--degrees",
-        "3,2,2,1",
-        "--orders",
-        "1,-1,0",
-    ]
+    lists = ["--breaks", "1703,1715,1748,1776,1802", "--degrees", "3,2,2,1", "--orders", "1,-1,0"]
     ended = run("fit", OAK, "--earlywood", "ROOF04E", "--latewood", "ROOF04L", *lists)
     assert ended.status == 0
     assert made["design"]["pairs"] == [list(pair) for pair in sheet.read(ended.out.encode()).pairs]
@@ -312,11 +266,7 @@ def test_refused_files_are_told(client: FlaskClient) -> None:
     design = begun(client)
     high = answer(client, "download/sheet", design=design | {"orders": [2, -1, 0]})
     assert high.status_code == 422 and high.get_json()["refusal"]["control"] == "order-0"
-    moved = answer(
-        client,
-        "download/sheet",
-        design=design | {"breaks": [1704, 1715, 1748, 1776, 1802]},
-    )
+    moved = answer(client, "download/sheet", design=design | {"breaks": [1704, 1715, 1748, 1776, 1802]})
     assert moved.get_json()["refusal"]["control"] == "at"
     empty = answer(client, "download/sheet", design=design | {"breaks": [], "at": "rings"})
     assert empty.status_code == 422 and empty.get_json()["refusal"]["number"] == 2
@@ -365,17 +315,7 @@ def test_what_is_no_design_is_refused(client: FlaskClient, change: dict[str, Any
 
 
 @pytest.mark.parametrize(
-    "body",
-    [
-        b"",
-        b"{",
-        b"[]",
-        b"7",
-        b"\xff",
-        b'{"design": NaN}',
-        b"[" * 100_000,
-        b'{"design": 9' + b"9" * 9000 + b"}",
-    ],
+    "body", [b"", b"{", b"[]", b"7", b"\xff", b'{"design": NaN}', b"[" * 100_000, b'{"design": 9' + b"9" * 9000 + b"}"]
 )
 def test_broken_json_is_refused(client: FlaskClient, body: bytes) -> None:
     made = client.post(f"/{TOKEN}/curve", data=body, content_type="application/json", headers=HERE)
@@ -384,12 +324,7 @@ def test_broken_json_is_refused(client: FlaskClient, body: bytes) -> None:
 
 def test_only_json_is_taken(client: FlaskClient) -> None:
     design = begun(client)
-    made = client.post(
-        f"/{TOKEN}/curve",
-        data=json.dumps({"design": design}),
-        content_type="text/plain",
-        headers=HERE,
-    )
+    made = client.post(f"/{TOKEN}/curve", data=json.dumps({"design": design}), content_type="text/plain", headers=HERE)
     assert made.status_code == 415
 
 
@@ -431,8 +366,7 @@ def test_the_page_takes_nothing_from_elsewhere_and_makes_no_markup() -> None:
     for name, text in texts.items():
         assert set(re.findall(r"https?://[^\s\"']+", text)) <= {"http://www.w3.org/2000/svg"}, name
         assert not re.search(
-            r"innerHTML|outerHTML|insertAdjacentHTML|document\.write|eval\(|new Function|\son[a-z]+=",
-            text,
+            r"innerHTML|outerHTML|insertAdjacentHTML|document\.write|eval\(|new Function|\son[a-z]+=", text
         ), name
     assert not re.search(r"<script(?![^>]*\bsrc=)|\bstyle=|<style", texts["index.html"])
     for imported in re.findall(r'from "\./([^"]+)"', "\n".join(texts.values())):

@@ -42,11 +42,7 @@ def address() -> Iterator[str]:
 
 
 def asked(
-    address: str,
-    method: str = "GET",
-    path: str = "",
-    body: bytes | None = None,
-    **headers: str,
+    address: str, method: str = "GET", path: str = "", body: bytes | None = None, **headers: str
 ) -> tuple[int, bytes]:
     """The status and the body of an answer; `path` is behind the token unless it starts with a slash."""
     parts = urlsplit(address)
@@ -82,17 +78,7 @@ def test_the_page_and_its_files_are_served(address: str) -> None:
 
 
 @pytest.mark.parametrize(
-    "path",
-    [
-        "/",
-        "/given",
-        "/x/",
-        "/x/curve",
-        "//",
-        "/index.html",
-        "/%2e%2e/",
-        "/" + "A" * 22 + "/given",
-    ],
+    "path", ["/", "/given", "/x/", "/x/curve", "//", "/index.html", "/%2e%2e/", "/" + "A" * 22 + "/given"]
 )
 def test_without_the_token_nothing_is_answered(address: str, path: str) -> None:
     for method, body in (("GET", None), ("POST", b"{}")):
@@ -117,26 +103,12 @@ def test_another_host_is_refused(address: str, host: str) -> None:
 )
 def test_another_site_is_refused(address: str, headers: dict[str, str]) -> None:
     assert asked(address, "GET", "", None, **headers)[0] == 403
-    assert (
-        asked(
-            address,
-            "POST",
-            "curve",
-            question(address),
-            Content_Type="application/json",
-            **headers,
-        )[0]
-        == 403
-    )
+    assert asked(address, "POST", "curve", question(address), Content_Type="application/json", **headers)[0] == 403
 
 
 def test_its_own_page_is_answered(address: str) -> None:
     own = f"http://{urlsplit(address).netloc}"
-    headers = {
-        "Origin": own,
-        "Sec_Fetch_Site": "same-origin",
-        "Content_Type": "application/json",
-    }
+    headers = {"Origin": own, "Sec_Fetch_Site": "same-origin", "Content_Type": "application/json"}
     status, said = asked(address, "POST", "curve", question(address), **headers)
     assert status == 200 and json.loads(said)["refusal"] is None
 
@@ -155,14 +127,7 @@ def test_answers_forbid_what_the_page_does_not_need(address: str) -> None:
 
 
 def test_only_its_own_files_are_served(address: str) -> None:
-    for path in (
-        "../server.py",
-        "%2e%2e/server.py",
-        "..%2fserver.py",
-        "static/main.js",
-        "server.py",
-        "/etc/passwd",
-    ):
+    for path in ("../server.py", "%2e%2e/server.py", "..%2fserver.py", "static/main.js", "server.py", "/etc/passwd"):
         assert asked(address, path=path)[0] in (403, 404)
 
 
@@ -177,16 +142,7 @@ def test_a_body_that_is_too_large_is_refused(address: str, size: int) -> None:
     assert connection.getresponse().status == 413  # before any of it is read
     connection.close()
     try:
-        assert (
-            asked(
-                address,
-                "POST",
-                "curve",
-                question(address).ljust(size),
-                Content_Type="application/json",
-            )[0]
-            == 413
-        )
+        assert asked(address, "POST", "curve", question(address).ljust(size), Content_Type="application/json")[0] == 413
     except ConnectionError:  # it may close before all is sent
         pass
     assert lives(address)
@@ -208,25 +164,12 @@ def test_a_body_that_is_too_large_in_chunks_is_refused(address: str) -> None:
 
 
 def test_the_largest_body_is_read(address: str) -> None:
-    status, _ = asked(
-        address,
-        "POST",
-        "curve",
-        question(address).ljust(MOST_BODY),
-        Content_Type="application/json",
-    )
+    status, _ = asked(address, "POST", "curve", question(address).ljust(MOST_BODY), Content_Type="application/json")
     assert status == 200
 
 
 @pytest.mark.parametrize(
-    "sent",
-    [
-        b"",
-        b"\r\n\r\n",
-        b"GET / HTTP/1.1\r\n",
-        b"\x00" * 300,
-        b"GET " + b"/" * 300_000 + b" HTTP/1.1\r\n\r\n",
-    ],
+    "sent", [b"", b"\r\n\r\n", b"GET / HTTP/1.1\r\n", b"\x00" * 300, b"GET " + b"/" * 300_000 + b" HTTP/1.1\r\n\r\n"]
 )
 def test_what_is_no_request_does_no_harm(address: str, sent: bytes) -> None:
     with connected(address) as connection:
@@ -262,10 +205,7 @@ def test_only_this_machine_is_answered(address: str) -> None:
 
 
 def started(folder: Path, *arguments: object) -> tuple[subprocess.Popen[str], str]:
-    environment = os.environ | {
-        "PYTHONPATH": str(ROOT / "python/src"),
-        "PYTHONUNBUFFERED": "1",
-    }
+    environment = os.environ | {"PYTHONPATH": str(ROOT / "python/src"), "PYTHONUNBUFFERED": "1"}
     command = [sys.executable, "-m", "walzhik", "view", *map(str, arguments)]
     process = subprocess.Popen(command, stdout=subprocess.PIPE, text=True, cwd=folder, env=environment)
     assert process.stdout is not None
@@ -283,16 +223,7 @@ def test_the_command_prints_its_address_and_writes_nothing(tmp_path: Path) -> No
         assert design["series"]["ring"] == "ROOF04L"
         for kind in ("sheet", "csv", "png"):
             body = json.dumps({"design": design}).encode()
-            assert (
-                asked(
-                    address,
-                    "POST",
-                    f"download/{kind}",
-                    body,
-                    Content_Type="application/json",
-                )[0]
-                == 200
-            )
+            assert asked(address, "POST", f"download/{kind}", body, Content_Type="application/json")[0] == 200
     finally:
         process.send_signal(signal.SIGINT)
         assert process.wait(LONG_WAIT) == 0
@@ -310,27 +241,13 @@ def test_every_server_has_a_token_of_its_own() -> None:
     ("arguments", "status", "words"),
     [
         (["no-such.rwl"], 2, "no-such.rwl"),
-        (
-            ["examples/tucson/oak.rwl", "--series", "NOBODY"],
-            2,
-            "No series is named NOBODY",
-        ),
+        (["examples/tucson/oak.rwl", "--series", "NOBODY"], 2, "No series is named NOBODY"),
         (["--series", "ROOF04E"], 2, "no Tucson file is given"),
-        (
-            ["examples/tucson/oak.rwl", "--series", "ROOF04E", "--latewood", "ROOF04L"],
-            2,
-            "Give --series, or",
-        ),
+        (["examples/tucson/oak.rwl", "--series", "ROOF04E", "--latewood", "ROOF04L"], 2, "Give --series, or"),
         (["--curve", "examples/refusals/refused_5.sheet"], 1, "no=5,0"),
         (["examples/refusals/refused_12.rwl", "--strict"], 1, "no=12"),
         (
-            [
-                "examples/tucson/oak.rwl",
-                "--curve",
-                "examples/sheets/roof.sheet",
-                "--series",
-                "ROOF04E",
-            ],
+            ["examples/tucson/oak.rwl", "--curve", "examples/sheets/roof.sheet", "--series", "ROOF04E"],
             2,
             "--earlywood NAME",
         ),

@@ -41,11 +41,7 @@ def browser(downloads: Path) -> Iterator[webdriver.Chrome]:
     ):
         options.add_argument(argument)
     options.add_experimental_option(
-        "prefs",
-        {
-            "download.default_directory": str(downloads),
-            "download.prompt_for_download": False,
-        },
+        "prefs", {"download.default_directory": str(downloads), "download.prompt_for_download": False}
     )
     options.set_capability("goog:loggingPrefs", {"browser": "ALL"})
     driver = webdriver.Chrome(service=Service(CHROMEDRIVER), options=options)
@@ -99,18 +95,14 @@ class Page:
     def path(self, wood: str) -> list[tuple[str, list[float]]]:
         """The commands of a curve's path with their numbers."""
         found = self.script(
-            "return document.querySelector(`path.curve[data-curve=\"${arguments[0]}\"]`)?.getAttribute('d')",
-            wood,
+            "return document.querySelector(`path.curve[data-curve=\"${arguments[0]}\"]`)?.getAttribute('d')", wood
         )
         commands = re.findall(r"([MLQC])([^MLQC]*)", found or "")
         return [(letter, [float(number) for number in NUMBER.findall(body)]) for letter, body in commands]
 
     def low(self, wood: str) -> str:
         return str(
-            self.script(
-                "return document.querySelector(`path[data-low=\"${arguments[0]}\"]`).getAttribute('d')",
-                wood,
-            )
+            self.script("return document.querySelector(`path[data-low=\"${arguments[0]}\"]`).getAttribute('d')", wood)
         )
 
     def stroke(self, wood: str) -> str:
@@ -155,18 +147,12 @@ class Page:
         """Drag a handle by pixels, in steps as a hand does."""
         hand = ActionChains(self.driver, duration=20).click_and_hold(self.handle(control))
         for step in range(DRAG_STEPS):
-            hand.move_by_offset(
-                across * (step + 1) // DRAG_STEPS - across * step // DRAG_STEPS,
-                down // DRAG_STEPS,
-            )
+            hand.move_by_offset(across * (step + 1) // DRAG_STEPS - across * step // DRAG_STEPS, down // DRAG_STEPS)
         hand.release().perform()
 
     def key(self, control: str, name: str, shift: bool = False) -> None:
         """Focus a handle and press a key."""
-        self.script(
-            'document.querySelector(`[data-control="${arguments[0]}"]`).focus()',
-            control,
-        )
+        self.script('document.querySelector(`[data-control="${arguments[0]}"]`).focus()', control)
         key = {
             "ArrowUp": Keys.ARROW_UP,
             "ArrowDown": Keys.ARROW_DOWN,
@@ -185,8 +171,7 @@ class Page:
     def press(self, *buttons: str) -> None:
         for button in buttons:
             self.until(
-                lambda: self.driver.find_element(By.ID, button).is_enabled(),
-                f"the button {button} can't be pressed",
+                lambda: self.driver.find_element(By.ID, button).is_enabled(), f"the button {button} can't be pressed"
             )
             self.driver.find_element(By.ID, button).click()
 

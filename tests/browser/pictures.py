@@ -57,11 +57,7 @@ def printed(page: Page, path: Path) -> None:
     pdf.unlink()
 
 
-def take_pictures(
-    driver: webdriver.Chrome,
-    serving: Callable[..., AbstractContextManager[str]],
-    folder: Path,
-) -> None:
+def take_pictures(driver: webdriver.Chrome, serving: Callable[..., AbstractContextManager[str]], folder: Path) -> None:
     """Take all pictures into a folder."""
     folder.mkdir(parents=True, exist_ok=True)
     with serving(*ROOF) as address:

@@ -12,6 +12,7 @@ from ..curve import Curve, Wood
 from ..reasons import UNIT, WOOD
 from ..sheet import Sheet
 from ..space import Space
+from ..tucson import Series
 
 RING = "ring"  # the name of a curve of the whole ring where a wood part's name would stand
 Positions = Literal["none", "rings", "given"]
@@ -97,6 +98,11 @@ def ring_positions(breaks: Sequence[int]) -> list[int]:
     first, last = breaks[0], breaks[-1]
     step = 1 + max(0, last - first) // MOST_POSITIONS
     return [UNIT * ring for ring in range(first, last + 1, step)]
+
+
+def ring_of(series: Series, first: int | None) -> int:
+    """The ring of a series' first width: its year where no ring is named."""
+    return series.first if first is None else first
 
 
 def wood_of(name: str) -> Wood | None:

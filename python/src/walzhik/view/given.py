@@ -13,7 +13,7 @@ from ..fit import Unfittable, fit, template
 from ..reasons import DEGREES, MOST_BREAKPOINT, MOST_COEFFICIENT, MOST_ORDER, SCAR, WOOD
 from ..sheet import Sheet
 from ..tucson import Series
-from .design import RING, Design
+from .design import RING, Design, ring_of
 
 START = Sheet([0, 20, 60, 100], [3, 2, 1], [1, 0], [(n, n) for n in (1500, 2600, 2400, 1500, 1000, 800)])
 LIMITS = {
@@ -70,20 +70,18 @@ def chosen_series(series: Mapping[str, Series], named: Mapping[str, str], is_who
 def fitted(series: Mapping[str, Series], chosen: Mapping[str, str], first: int | None) -> Design:
     """A design by the template over the chosen series, with coefficients fitted to each."""
     used = [series[name] for name in chosen.values()]
-    start = min(each.first for each in used)
-    rings = max(each.last for each in used) - start + 1
-    is_whole_ring = set(chosen) == {RING}
-    shift = 0 if first is None else first - start
+    begin = min(ring_of(each, first) for each in used)
+    rings = max(ring_of(each, first) + len(each) for each in used) - begin
     try:
-        space = template(rings, start + shift)
-        sides = {wood: fit(space, series[name].widths, series[name].first + shift) for wood, name in chosen.items()}
+        space = template(rings, begin)
+        sides = {wood: fit(space, series[name].widths, ring_of(series[name], first)) for wood, name in chosen.items()}
     except Unfittable as error:
         raise Refusal(
             f"Series {', '.join(chosen.values())}: no curve to begin with. {error} Give a sheet with --curve."
         ) from error
     columns = [(sides.get(wood) or next(iter(sides.values()))).coefficients.tolist() for wood in WOOD]
-    lists = space.lists()
-    pairs = list(zip(*columns))
+    lists, pairs = space.lists(), list(zip(*columns))
+    is_whole_ring = set(chosen) == {RING}
     return Design(
         list(lists.breaks), list(lists.degrees), list(lists.orders), pairs, is_whole_ring, dict(chosen), first
     )

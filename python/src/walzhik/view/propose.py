@@ -10,9 +10,8 @@ from typing import Any
 from ..fit import Unfittable, fit
 from ..reasons import WOOD
 from ..tucson import Series
-from .design import RING, Design
+from .design import RING, Design, ring_of
 from .given import fitted
-from .shown import ring_of
 
 
 def figures(mean_square: float, share: float | None) -> str:

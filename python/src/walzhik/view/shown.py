@@ -14,7 +14,7 @@ from ..errors import Refused
 from ..reasons import SCAR, UNIT, WOOD, Lists, rows_sum
 from ..tucson import Series
 from .carry import carried, handle_places
-from .design import Design, Malformed, wood_of
+from .design import Design, Malformed, ring_of, wood_of
 from .faults import control, told
 from .promises import promises
 
@@ -77,11 +77,6 @@ def part_rows(curve: Curve) -> list[int]:
         rows_sum(Lists(lists.breaks[first : end + 1], lists.degrees[first:end], lists.orders[first : end - 1]))[0]
         for first, end in curve.space.parts
     ]
-
-
-def ring_of(series: Series, first: int | None) -> int:
-    """The ring of a series' first width."""
-    return series.first if first is None else first
 
 
 def measured(design: Design, curve: Curve | None, series: Mapping[str, Series]) -> list[dict[str, Any]]:

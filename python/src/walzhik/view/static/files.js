@@ -33,11 +33,11 @@ export function showFiles(design, onSaved, onFailure) {
 }
 
 // Which positions the sheet lists; those of the given sheet only where it lists some.
-export function showPositions(design, given, onChange) {
+export function showPositions(given, onChange) {
   const options = [["none", "none"], ["rings", "every ring"]];
   if (given) options.push(["given", `the ${given} of the given sheet`]);
-  const made = select("at", "Positions that the sheet lists", options, design.at);
-  made.addEventListener("change", () => onChange({ ...design, at: made.value }));
+  const made = select("at", "Positions that the sheet lists", options, "none");
+  made.addEventListener("change", () => onChange(made.value));
   const field = make("label", { class: "field" }, make("span", {}, "positions in the sheet (at=)"), made);
   found("positions").replaceChildren(field);
 }

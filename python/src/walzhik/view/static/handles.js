@@ -50,7 +50,7 @@ function wanted(design, places) {
 
 export class Handles {
   constructor(svg, limits, onMove) {
-    Object.assign(this, { svg, limits, onMove, layer: draw("g", { class: "handles" }), held: null, current: {} });
+    Object.assign(this, { svg, limits, onMove, layer: draw("g", { class: "handles" }), held: null, pressed: null, current: {} });
     this.elements = new Map();
     svg.append(this.layer);
   }
@@ -122,6 +122,7 @@ export class Handles {
       element.addEventListener(name, (event) => this.held === element && this.let(element, event));
     }
     element.addEventListener("keydown", (event) => this.key(element, event));
+    for (const name of ["keyup", "blur"]) element.addEventListener(name, () => this.release(element));
     element.addEventListener("focus", () => (this.current[element.handle.group] = element.handle.id));
   }
 
@@ -154,12 +155,20 @@ export class Handles {
     this.follow(element, event, true);
   }
 
+  // However long a key is held, it is one step to undo.
+  release(element) {
+    if (this.pressed !== element) return;
+    this.pressed = null;
+    this.onMove(element.handle, element.handle.value, true);
+  }
+
   key(element, event) {
     const { kind, group, place, value } = element.handle;
     const [moving, going] = kind === "break" ? [ALONG, UPWARDS] : [UPWARDS, ALONG];
     if (event.key in moving) {
       const step = KEY_STEPS[kind] * (event.shiftKey ? LARGER : 1);
-      this.onMove(element.handle, value + moving[event.key] * step, true);
+      this.pressed = element;
+      this.onMove(element.handle, value + moving[event.key] * step, false);
     } else if (event.key in going) {
       const id = kind === "break" ? `break-${place + going[event.key]}` : `coefficient-${place + going[event.key]}-${group}`;
       this.elements.get(id)?.focus();

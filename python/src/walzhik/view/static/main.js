@@ -9,7 +9,7 @@ import { History } from "./history.js";
 import { Picture } from "./picture.js";
 import { showPromises } from "./promises.js";
 import { clearRefusals, showRefusal } from "./refusals.js";
-import { showSeries } from "./series.js";
+import { Series } from "./series.js";
 import { ask, given, Newest, Refusal } from "./server.js";
 import { Stretches } from "./stretches.js";
 
@@ -26,6 +26,7 @@ const newest = new Newest("curve", onAnswer, (error) => {
 });
 const stretches = new Stretches(start.limits, (design) => change(design, true));
 const coefficients = new Coefficients((design) => change(design, true));
+const choices = new Series(start.series, (design) => change(design, true));
 const picture = new Picture(start.limits, (handle, value, isLasting) => {
   const { kind, place, group } = handle;
   const design = history.present;
@@ -40,6 +41,7 @@ function change(design, isLasting) {
 
 function askForPresent() {
   showControls();
+  if (good) picture.showHandles(history.present);
   newest.ask({ design: history.present, before: good?.design ?? null });
 }
 
@@ -61,16 +63,19 @@ function onAnswer(answer, asked, isNewest) {
   refusals = [answer.refusal, ...series.map((each) => each.refusal)].filter((each) => each !== null);
   if (answer.refusal !== null) say(`Refused: ${answer.refusal.words} The last good curve stays, grey.`);
   else if (isNewest && found("status").textContent.startsWith("Refused")) say("");
-  showAll(answer.refusal !== null);
+  if (good) {
+    picture.show({ design: history.present, answer: good.answer, series, isStale: answer.refusal !== null });
+    showPromises(good.answer.promises);
+  }
+  showControls();
 }
 
 function showControls() {
   const design = history.present;
   stretches.show(design);
   coefficients.show(design, good?.answer.places ?? []);
-  if (good) picture.show({ design, answer: good.answer, series, isStale: picture.shown.isStale });
-  showSeries(start.series, design, (next) => change(next, true));
-  showPositions(design, start.positions, (next) => change(next, true));
+  choices.show(design);
+  found("at").value = design.at;
   found("undo").disabled = !history.past.length;
   found("redo").disabled = !history.future.length;
   markRefusals();
@@ -83,14 +88,6 @@ function markRefusals() {
     const box = words.closest(".scroll");
     if (box) box.scrollTop = words.offsetTop - box.clientHeight / 2;
   }
-}
-
-function showAll(isStale) {
-  if (good) {
-    picture.show({ design: history.present, answer: good.answer, series, isStale });
-    showPromises(good.answer.promises);
-  }
-  showControls();
 }
 
 function refused(error) {
@@ -131,5 +128,6 @@ found("redo").addEventListener("click", redo);
 found("fit").addEventListener("click", () => propose(false));
 found("template").addEventListener("click", () => propose(true));
 document.addEventListener("keydown", key);
+showPositions(start.positions, (at) => change({ ...history.present, at }, true));
 showFiles(() => history.present, (name) => say(`The browser saves ${name}.`), refused);
 askForPresent();

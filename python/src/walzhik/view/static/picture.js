@@ -37,8 +37,13 @@ export class Picture {
     this.svg.setAttribute("viewBox", `0 0 ${this.svg.clientWidth} ${this.svg.clientHeight}`);
     this.svg.classList.toggle("stale", isStale);
     this.layer.replaceChildren(...this.upper(), ...(this.scales.index ? this.lower() : []));
-    this.handles.show(design, answer.places, this.scales);
+    this.showHandles(design);
     this.legend();
+  }
+
+  // Moves the handles alone: they follow the hand before the answer is there.
+  showHandles(design) {
+    this.handles.show(design, this.shown.answer.places, this.scales);
   }
 
   scaled(design, answer, series) {

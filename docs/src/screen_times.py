@@ -1,0 +1,77 @@
+"""Times a hand that drags on the screen, for a core of 300 rings: from a change to the picture of the engine's answer, in a real browser,
+and the server's share of it. docs/PERFORMANCE.md has its figures.
+
+    PYTHONPATH=python/src:tests /usr/bin/python3 docs/src/screen_times.py
+"""
+
+import http.client
+import json
+import statistics
+import tempfile
+import time
+from pathlib import Path
+from urllib.parse import urlsplit
+
+import numpy as np
+from browser.page import Page, browser
+from screen import serving
+from walzhik import tucson
+from walzhik.fit import template
+
+RINGS, FIRST, SEED = 300, 1700, 1
+MOVES = 200
+PER_SECOND = 1000
+
+
+def core():
+    """A series that falls from wide to narrow rings, with noise."""
+    random = np.random.default_rng(SEED)
+    trend = 500 + 2500 * np.exp(-np.arange(RINGS) / 60)
+    return tucson.Series("CORE300", FIRST, (trend * random.lognormal(0, 0.2, RINGS)).astype(np.int32))
+
+
+def summary(times):
+    """The median and the 95th of a hundred."""
+    ranked = sorted(times)
+    return f"median {statistics.median(ranked):.1f} ms, 95 of 100 within {ranked[len(ranked) * 95 // 100]:.1f} ms"
+
+
+def browser_times(page):
+    """Milliseconds from each change under the hand to its picture."""
+    page.script("performance.clearMeasures('change')")
+    for move in range(MOVES):
+        page.key("coefficient-3-ring", "ArrowUp" if move % 2 else "ArrowDown")
+        page.until(lambda: len(page.script("return performance.getEntriesByName('change')")) > move, "no answer")
+    return page.script("return performance.getEntriesByName('change').map((each) => each.duration)")
+
+
+def server_times(address):
+    """Milliseconds of the same requests over one connection, without a browser."""
+    parts = urlsplit(address)
+    connection = http.client.HTTPConnection(parts.hostname, parts.port)
+    connection.request("GET", f"{parts.path}given")
+    body = json.dumps({"design": json.load(connection.getresponse())["design"], "before": None})
+    times = []
+    for _ in range(MOVES):
+        start = time.perf_counter()
+        connection.request("POST", f"{parts.path}curve", body, {"Content-Type": "application/json"})
+        connection.getresponse().read()
+        times.append(PER_SECOND * (time.perf_counter() - start))
+    return times
+
+
+def main():
+    """Print both."""
+    with tempfile.TemporaryDirectory() as folder:
+        path = Path(folder) / "core.rwl"
+        path.write_bytes(tucson.write([core()]))
+        with serving(str(path)) as address, browser(Path(folder)) as driver:
+            space = template(RINGS, FIRST)
+            print(f"{RINGS} rings, {len(space.degrees)} stretches, {space.n} coefficients, {MOVES} changes each")
+            page = Page(driver, address, Path(folder))
+            print(f"browser, change to picture: {summary(browser_times(page))}")
+            print(f"server alone, request to answer: {summary(server_times(address))}")
+
+
+if __name__ == "__main__":
+    main()
