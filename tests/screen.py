@@ -1,6 +1,7 @@
 #!/usr/bin/python3
-"""The screen in a real browser: Debian's chromium, headless, through its driver. It drags, types, undoes, fits and downloads as a hand would,
-and holds what the page draws against the package's piece calls. It waits for what must come, never for a time.
+"""The screen in a real browser: Debian's chromium, headless, through its driver. It drags, types, undoes, fits and
+downloads as a hand would, and holds what the page draws against the package's piece calls. It waits for what must come,
+never for a time.
 
     /usr/bin/python3 tests/screen.py                       # the test
     /usr/bin/python3 tests/screen.py --pictures FOLDER     # the manual's pictures of the screen, too
@@ -51,7 +52,7 @@ def serving(*arguments: str) -> Iterator[str]:
 
 
 def exact_points(page: Page, wood: str) -> list[tuple[str, list[float]]]:
-    """The commands of a path by the piece calls, for the lists that the page's controls show; none where the engine refuses them."""
+    """A path's commands by the piece calls, for the lists that the page shows; none where the engine refuses them."""
     lists = page.lists()
     try:
         curve = Curve(Space(lists.breaks, lists.degrees, lists.orders), [list(pair) for pair in lists.pairs])
@@ -220,7 +221,8 @@ def test_page_itself(page: Page) -> None:
         lambda: page.script("return document.documentElement.scrollWidth <= innerWidth"), "at 200 % it is too wide"
     )
     assert page.script(
-        "return [...document.querySelectorAll('main button, main select')].every((each) => each.getBoundingClientRect().right <= innerWidth)"
+        "return [...document.querySelectorAll('main button, main select')]"
+        ".every((each) => each.getBoundingClientRect().right <= innerWidth)"
     )
 
 

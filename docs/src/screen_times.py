@@ -1,5 +1,5 @@
-"""Times a hand that drags on the screen, for a core of 300 rings: from a change to the picture of the engine's answer, in a real browser,
-and the server's share of it. docs/PERFORMANCE.md has its figures.
+"""Times a hand that drags on the screen, for a core of 300 rings: from a change to the picture of the engine's answer,
+in a real browser, and the server's share of it. docs/PERFORMANCE.md has its figures.
 
     PYTHONPATH=python/src:tests /usr/bin/python3 docs/src/screen_times.py
 """

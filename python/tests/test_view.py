@@ -1,5 +1,5 @@
-"""What the screen's server makes of a design, without a browser: the numbers that are drawn, refusals at their controls, coefficients that
-are carried over, and files with the commands' bytes.
+"""What the screen's server makes of a design, without a browser: the numbers that are drawn, refusals at their
+controls, coefficients that are carried over, and files with the commands' bytes.
 """
 
 from __future__ import annotations

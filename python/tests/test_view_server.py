@@ -1,5 +1,5 @@
-"""The screen's server on a port of its own: who may ask, what is too large or broken, many requests at once, and the command that starts
-it.
+"""The screen's server on a port of its own: who may ask, what is too large or broken, many requests at once, and the
+command that starts it.
 """
 
 from __future__ import annotations
@@ -150,7 +150,8 @@ def test_a_body_that_is_too_large_is_refused(address: str, size: int) -> None:
 
 def test_a_body_that_is_too_large_in_chunks_is_refused(address: str) -> None:
     parts = urlsplit(address)
-    head = f"POST {parts.path}curve HTTP/1.1\r\nHost: {parts.netloc}\r\nContent-Type: application/json\r\nTransfer-Encoding: chunked\r\n\r\n"
+    kind = "Content-Type: application/json\r\nTransfer-Encoding: chunked"
+    head = f"POST {parts.path}curve HTTP/1.1\r\nHost: {parts.netloc}\r\n{kind}\r\n\r\n"
     with connected(address) as connection:
         connection.sendall(head.encode())
         try:

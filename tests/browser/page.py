@@ -1,5 +1,5 @@
-"""The screen's page as a hand and an eye know it: drag, press, type, choose, and read what is drawn. Apart from the tests, so that these
-say what must come and not how a browser is asked for it.
+"""The screen's page as a hand and an eye know it: drag, press, type, choose, and read what is drawn. Apart from the
+tests, so that these say what must come and not how a browser is asked for it.
 """
 
 from __future__ import annotations
@@ -84,10 +84,10 @@ class Page:
     def lists(self) -> Sheet:
         """The lists that the controls show, read at one moment."""
         read = """
-            const numbers = (kind) => [...document.querySelectorAll(`[id^="${kind}-"]`)].filter((each) => "value" in each)
-                .map((each) => [each.id, Number(each.value)]);
+            const numbers = (kind) => [...document.querySelectorAll(`[id^="${kind}-"]`)]
+                .filter((each) => "value" in each).map((each) => [each.id, Number(each.value)]);
             const inRows = (wood) => numbers("coefficient").filter(([id]) => id.endsWith(wood));
-            return [numbers("break"), numbers("degree"), numbers("order"), inRows("ring"), inRows("earlywood"), inRows("latewood")]"""
+            return [...["break", "degree", "order"].map(numbers), ...["ring", "earlywood", "latewood"].map(inRows)]"""
         found = [{int(id.split("-")[1]): int(number) for id, number in each} for each in self.script(read)]
         breaks, degrees, orders, ring, early, late = ([each[place] for place in sorted(each)] for each in found)
         return Sheet(breaks, degrees, orders, list(zip(early or ring, late or ring)))
@@ -121,7 +121,9 @@ class Page:
 
     def words_of(self, control: str) -> str:
         """The words that a marked control is described by."""
-        read = "const at = document.getElementById(arguments[0]).getAttribute('aria-describedby'); return at ? document.getElementById(at).textContent : ''"
+        read = """
+            const at = document.getElementById(arguments[0]).getAttribute("aria-describedby");
+            return at ? document.getElementById(at).textContent : ''"""
         return str(self.script(read, control))
 
     def is_beside(self, control: str) -> bool:

@@ -1,4 +1,6 @@
-"""The manual's pictures of the screen, taken by the test's own browser: wide, at 200 %, in print, with a refusal, and a beam with scars."""
+"""The manual's pictures of the screen, taken by the test's own browser: wide, at 200 %, in print, with a refusal, and a
+beam with scars.
+"""
 
 from __future__ import annotations
 
@@ -8,34 +10,30 @@ from collections.abc import Callable
 from contextlib import AbstractContextManager
 from pathlib import Path
 
+from PIL import Image
 from selenium import webdriver
 
 from .page import Page
 
-ROOF = [
-    "examples/tucson/oak.rwl",
-    "--curve",
-    "examples/sheets/roof.sheet",
-    "--earlywood",
-    "ROOF04E",
-    "--latewood",
-    "ROOF04L",
-]
+PARTS = ["--earlywood", "ROOF04E", "--latewood", "ROOF04L"]
+ROOF = ["examples/tucson/oak.rwl", "--curve", "examples/sheets/roof.sheet", *PARTS]
 WIDE, NARROW = (1280, 1000), (640, 1900)
 PRINT_DOTS = 75  # an inch
+COLOURS = 128  # enough for the page, and a third of the bytes
+
+
+def kept_small(path: Path) -> None:
+    """A picture with few colours, in fewer bytes."""
+    Image.open(path).convert("RGB").quantize(COLOURS).save(path, optimize=True)
 
 
 def shot(page: Page, size: tuple[int, int], path: Path) -> None:
     """A picture of the page in a window of a size."""
     page.resize(*size)
-    page.until(
-        lambda: page.script(
-            "return Math.abs(document.getElementById('picture').clientWidth - "
-            "document.getElementById('picture').parentElement.clientWidth) < 60"
-        ),
-        "no room",
-    )
+    drawn = "const svg = document.getElementById('picture'); return svg.viewBox.baseVal.width === svg.clientWidth"
+    page.until(lambda: page.script(drawn), "the picture does not follow the window")
     page.driver.save_screenshot(str(path))
+    kept_small(path)
 
 
 def printed(page: Page, path: Path) -> None:
@@ -43,18 +41,11 @@ def printed(page: Page, path: Path) -> None:
     made = page.driver.execute_cdp_cmd("Page.printToPDF", {"preferCSSPageSize": True, "printBackground": True})
     pdf = path.with_suffix(".pdf")
     pdf.write_bytes(base64.b64decode(made["data"]))
-    command = [
-        "gs",
-        "-q",
-        "-dBATCH",
-        "-dNOPAUSE",
-        "-sDEVICE=png16m",
-        f"-r{PRINT_DOTS}",
-        "-dTextAlphaBits=4",
-        "-dGraphicsAlphaBits=4",
-    ]
-    subprocess.run([*command, "-dLastPage=1", f"-sOutputFile={path}", str(pdf)], check=True)
+    smooth = ["-dTextAlphaBits=4", "-dGraphicsAlphaBits=4", f"-r{PRINT_DOTS}", "-dLastPage=1"]
+    command = ["gs", "-q", "-dBATCH", "-dNOPAUSE", "-sDEVICE=png16m", *smooth, f"-sOutputFile={path}", str(pdf)]
+    subprocess.run(command, check=True)
     pdf.unlink()
+    kept_small(path)
 
 
 def take_pictures(driver: webdriver.Chrome, serving: Callable[..., AbstractContextManager[str]], folder: Path) -> None:

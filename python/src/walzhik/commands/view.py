@@ -44,9 +44,9 @@ def command(
 ) -> int:
     """Show a curve on a page in this machine's browser, to be changed by hand.
 
-    The address is printed; open it in a browser. Breakpoints and coefficients are dragged or typed, and every change is answered by the
-    engine. The page gives sheets, printouts, indices and pictures as files of the browser; the server writes none, and answers this
-    machine alone. End it with Ctrl-C.
+    The address is printed; open it in a browser. Breakpoints and coefficients are dragged or typed, and every change is
+    answered by the engine. The page gives sheets, printouts, indices and pictures as files of the browser; the server
+    writes none, and answers this machine alone. End it with Ctrl-C.
 
     \b
     ./walzhik view examples/tucson/oak.rwl --curve examples/sheets/roof.sheet

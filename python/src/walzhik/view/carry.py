@@ -1,5 +1,5 @@
-"""Where the handles of coefficients stand, and coefficients for a space that has changed: the curve that was there, as nearly as
-the new space can hold it. Both only propose and place; what the coefficients give is the engine's to say.
+"""Where the handles of coefficients stand, and coefficients for a space that has changed: the curve that was there, as
+nearly as the new space can hold it. Both only propose and place; what the coefficients give is the engine's to say.
 """
 
 from __future__ import annotations
@@ -32,7 +32,7 @@ def ordinate_places(space: Space) -> NDArray[np.int64]:
 
 
 def handle_places(space: Space) -> list[float]:
-    """The rings where the handles of coefficients stand: those coefficients whose curve at each ring is the ring itself.
+    """The rings where the handles of coefficients stand: as coefficients they give the curve that is the ring itself.
 
     Examples
     --------
@@ -51,7 +51,8 @@ def handle_places(space: Space) -> list[float]:
 def carried(old: Curve, space: Space) -> list[tuple[int, int]]:
     """Coefficients over a space for the curve that was there: least squares, rounded to whole thousandths.
 
-    A curve that the space holds is kept, but for the rounding. Where all old coefficients are above zero, the new ones are too.
+    A curve that the space holds is kept, but for the rounding. Where all old coefficients are above zero, the new ones
+    are too.
 
     Examples
     --------

@@ -1,5 +1,5 @@
-"""What the page sends: a design, that is the lists of a curve, its coefficients and the series beside it. Here it is only taken
-from JSON; whether the lists are a curve is the engine's decision.
+"""What the page sends: a design, that is the lists of a curve, its coefficients and the series beside it. Here it is
+only taken from JSON; whether the lists are a curve is the engine's decision.
 """
 
 from __future__ import annotations

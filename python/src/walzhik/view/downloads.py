@@ -1,5 +1,5 @@
-"""What leaves the page as a file: the sheet, the printout, indices and pictures, made by the same functions as the commands'
-output, so that both have the same bytes.
+"""What leaves the page as a file: the sheet, the printout, indices and pictures, made by the same functions as the
+commands' output, so that both have the same bytes.
 """
 
 from __future__ import annotations

@@ -1,5 +1,5 @@
-"""What the page says of a refusal: its words, and the control that it is about, so that the page can mark it and put the words
-beside it.
+"""What the page says of a refusal: its words, and the control that it is about, so that the page can mark it and put
+the words beside it.
 """
 
 from __future__ import annotations

@@ -1,5 +1,5 @@
-"""What the server was given at its start: the series of a Tucson file, a sheet, and the design that the page begins with. It is
-read once, and nothing is kept beside it.
+"""What the server was given at its start: the series of a Tucson file, a sheet, and the design that the page begins
+with. It is read once, and nothing is kept beside it.
 """
 
 from __future__ import annotations
@@ -57,10 +57,11 @@ class Given:
 
 
 def chosen_series(series: Mapping[str, Series], named: Mapping[str, str], is_whole_ring: bool) -> dict[str, str]:
-    """The series beside each curve at the start: those that are named, or the first one beside a curve of the whole ring."""
+    """The series beside each curve at the start: those that are named, or the first one beside the whole ring's."""
     if not is_whole_ring and RING in named:
         raise Unusable(
-            "The sheet has a curve for each wood part: name the series of each, with --earlywood NAME and --latewood NAME."
+            "The sheet has a curve for each wood part: name the series of each, with --earlywood NAME and "
+            "--latewood NAME."
         )
     if is_whole_ring and not named and series:
         return {RING: next(iter(series))}

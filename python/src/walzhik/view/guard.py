@@ -1,5 +1,5 @@
-"""Who may ask: only this machine's browser, at the address that was printed. A request with another Host or Origin, or without
-the token, is refused before anything of it is looked at.
+"""Who may ask: only this machine's browser, at the address that was printed. A request with another Host or Origin, or
+without the token, is refused before anything of it is looked at.
 """
 
 from __future__ import annotations
@@ -12,7 +12,7 @@ TOKEN_BYTES = 16
 HOST = "127.0.0.1"
 OWN_SITES = ("same-origin", "none")  # of Sec-Fetch-Site: the page itself, or an address that was typed
 HEADERS = {
-    "Content-Security-Policy": "default-src 'self'; base-uri 'none'; form-action 'none'; frame-ancestors 'none'; object-src 'none'",
+    "Content-Security-Policy": "default-src 'self'; base-uri 'none'; form-action 'none'; frame-ancestors 'none'",
     "X-Content-Type-Options": "nosniff",
     "X-Frame-Options": "DENY",
     "Referrer-Policy": "no-referrer",

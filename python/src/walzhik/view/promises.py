@@ -1,5 +1,5 @@
-"""What the engine promises of a curve, in sentences for the page: the count of coefficients, the limits and how near they are,
-which spaces are never refused, and when the curve stays above zero. The theorems stand in docs/THEOREMS.md.
+"""What the engine promises of a curve, in sentences for the page: the count of coefficients, the limits and how near
+they are, which spaces are never refused, and when the curve stays above zero. The theorems stand in docs/THEOREMS.md.
 """
 
 from __future__ import annotations
@@ -50,8 +50,8 @@ def size_promise(curve: Curve) -> Promise:
     if not high:
         return Promise("All orders are at most 1: such lists, within the limits, are never refused.", True)
     joins = ", ".join(map(str, high))
-    words = f"Order 2 at join {joins}: other breakpoints there can be refused (no=8). With orders up to 1 lists are never refused."
-    return Promise(words, False)
+    words = f"Order 2 at join {joins}: other breakpoints there can be refused (no=8)."
+    return Promise(f"{words} With orders up to 1 lists are never refused.", False)
 
 
 def above_zero_promise(design: Design, curve: Curve) -> Promise:
@@ -59,8 +59,8 @@ def above_zero_promise(design: Design, curve: Curve) -> Promise:
     for row, pair in enumerate(curve.coefficients.tolist()):
         for wood, coefficient in zip(design.woods, pair):
             if coefficient <= 0:
-                words = f"Coefficient {row} ({wood}) is {coefficient}: only coefficients above zero promise a curve above zero."
-                return Promise(words, False)
+                words = f"Coefficient {row} ({wood}) is {coefficient}"
+                return Promise(f"{words}: only coefficients above zero promise a curve above zero.", False)
     return Promise("All coefficients are above zero, so the curve is above zero everywhere.", True)
 
 

@@ -1,5 +1,5 @@
-"""The page's button "fit": coefficients for the chosen series by least squares, over the design's own space or over a template. A
-fit is a choice in floating point and is not proved.
+"""The page's button "fit": coefficients for the chosen series by least squares, over the design's own space or over a
+template. A fit is a choice in floating point and is not proved.
 """
 
 from __future__ import annotations

@@ -1,5 +1,5 @@
-"""The server of the screen: Flask for its requests, waitress for its connections. It listens on 127.0.0.1 alone, answers from
-what it was given at its start, and writes no file.
+"""The server of the screen: Flask for its requests, waitress for its connections. It listens on 127.0.0.1 alone,
+answers from what it was given at its start, and writes no file.
 """
 
 from __future__ import annotations
@@ -30,7 +30,7 @@ KINDS = {".html": "text/html", ".js": "text/javascript", ".css": "text/css", ".s
 PAGE = "index.html"
 FORBIDDEN, REFUSED = 403, 422
 POSITIONS = 7  # the number of a refusal of a sheet's positions
-# One person's browser needs few threads; others wait in line, and none can hold the server up by opening many connections.
+# One person's browser needs few threads: all others wait in line, however many connections are opened.
 WAITING: dict[str, Any] = {
     "threads": 4,
     "connection_limit": 500,

@@ -1,6 +1,6 @@
-"""What the page draws of a design, in one answer: the pieces of each curve, low places, the measured rings with their indices,
-and what the engine promises of it. All numbers are from the proved calls; floats here are whole 256ths of a thousandth and hence
-exact.
+"""What the page draws of a design, in one answer: the pieces of each curve, low places, the measured rings with their
+indices, and what the engine promises of it. All numbers are from the proved calls; floats here are whole 256ths of a
+thousandth and hence exact.
 """
 
 from __future__ import annotations
@@ -29,10 +29,10 @@ MOST_LOOKED_AT = 4_000  # positions at which a curve is looked at for low places
 
 
 def piece(curve: Curve, segment: int, side: int) -> dict[str, Any]:
-    """A segment as points over rings, in thousandths: Bezier points for degrees 1 to 3, else points of the curve itself.
+    """A segment as points over rings, in thousandths: Bezier points for degrees 1 to 3, else points of the curve.
 
-    At a discontinuity the breakpoint is read from the segment that ends there, so that values of the one that starts there begin a
-    256th of a ring after it.
+    At a discontinuity the breakpoint is read from the segment that ends there, so that values of the one that starts
+    there begin a 256th of a ring after it.
     """
     degree = int(curve.space.degrees[segment])
     is_apart = segment == 0 or int(curve.space.orders[segment - 1]) == SCAR
@@ -99,8 +99,11 @@ def measured(design: Design, curve: Curve | None, series: Mapping[str, Series]) 
 
 
 def with_pairs(design: Design, before: Design | None) -> tuple[Design, Curve]:
-    """The design with its curve. Where its coefficients are as many as those of the design before, and the space asks for another
-    number, the curve before is carried over."""
+    """The design with its curve.
+
+    Where it has as many coefficients as the design before, and its space asks for another number, the curve before is
+    carried over.
+    """
     space = design.space()
     if before is not None and len(design.pairs) != space.n and len(design.pairs) == len(before.pairs):
         try:
