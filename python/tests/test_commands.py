@@ -21,6 +21,7 @@ from walzhik.cli import cli
 from walzhik.files import write_whole
 
 COMMANDS = cli.list_commands(click.Context(cli))  # type: ignore[attr-defined]
+SERVING = ("view",)  # answers until it is interrupted: test_view_server.py starts the example of its help
 HEAVY = """
 import sys
 from walzhik.cli import main
@@ -123,7 +124,7 @@ def help_of(name: str) -> str:
 
 
 def examples_of_help() -> list[str]:
-    lines = [line.strip() for name in COMMANDS for line in help_of(name).splitlines()]
+    lines = [line.strip() for name in COMMANDS if name not in SERVING for line in help_of(name).splitlines()]
     return [line for line in lines if line.startswith("./walzhik ") and "examples/" in line]
 
 

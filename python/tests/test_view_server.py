@@ -231,6 +231,18 @@ def test_the_command_prints_its_address_and_writes_nothing(tmp_path: Path) -> No
     assert {path: path.stat().st_mtime_ns for path in tmp_path.iterdir()} == before
 
 
+def test_the_example_of_help_runs() -> None:
+    from walzhik.commands.view import command
+
+    line = re.sub(r"\n +(?=--)", " ", str(command.help)).split("./walzhik view ")[1].split("\n")[0]
+    process, address = started(ROOT, *line.split())
+    try:
+        assert json.loads(asked(address, path="given")[1])["names"] == ["oak.rwl", "roof.sheet"]
+    finally:
+        process.send_signal(signal.SIGINT)
+        assert process.wait(LONG_WAIT) == 0
+
+
 def test_every_server_has_a_token_of_its_own() -> None:
     screens = [Screen(roof()) for _ in (0, 1)]
     assert len({urlsplit(screen.address).path for screen in screens}) == 2
