@@ -158,6 +158,7 @@ def test_typing(page: Page) -> None:
     page.type("coefficient-3-earlywood", "-3000")
     page.until(lambda: page.is_invalid("series-earlywood"), "a ring over a curve below zero is not told")
     assert "no=14" in page.words_of("series-earlywood") and page.low("earlywood") and not page.low("latewood")
+    assert page.count('circle[data-fault="earlywood"]') == 1, "the ring without an index is not marked"
     assert "Coefficient 3 (earlywood) is -3000" in page.text("promises") and not page.is_stale()
     page.press("undo")
     page.until(lambda: not page.low("earlywood") and not page.is_invalid("series-earlywood"), "the low places stay")

@@ -99,7 +99,7 @@ def test_low_places_are_marked() -> None:
     made = shown(design, None, {})
     assert made["curves"][0]["low"] == [[0.0, 2.0]]
     assert [promise["holds"] for promise in made["promises"]] == [True, True, True, False, False, True]
-    assert "Coefficient 0 (ring) is -1000" in made["promises"][3]["words"]
+    assert "Coefficient 0 is -1000" in made["promises"][3]["words"]
 
 
 def test_promises_of_orders_and_coefficients() -> None:
@@ -158,6 +158,15 @@ def test_a_refused_ring_leaves_the_curve() -> None:
     design.breaks[-1], design.pairs[-1] = 1802, (700, -260)
     late = shown(design, None, files_given.series)["series"][1]
     assert late["refusal"]["number"] == 14 and late["indices"] is None
+    assert design.curve().values([256 * (1703 + late["fault"])])[0, 1] <= 0
+
+
+def test_a_series_of_too_many_rings_is_told_and_marks_none() -> None:
+    long = tucson.Series("LONG", 0, np.full(5_000, 900, dtype=np.int32))
+    design = whole([0, 2000, 4000, 6000], [1, 1, 1], [-1, -1], [9] * 6)
+    design.series = {"ring": "LONG"}
+    [made] = shown(design, None, {"LONG": long})["series"]
+    assert made["refusal"]["number"] == 2 and made["fault"] is None
 
 
 # Coefficients that are carried over.
@@ -305,6 +314,7 @@ def test_positions_of_a_sheet(client: FlaskClient) -> None:
         {"at": "often"},
         {"at": []},
         {"is_whole_ring": 1},
+        {"is_whole_ring": True},
     ],
 )
 def test_what_is_no_design_is_refused(client: FlaskClient, change: dict[str, Any]) -> None:

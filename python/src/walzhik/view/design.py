@@ -162,6 +162,8 @@ def design_of(sent: object) -> Design:
     is_whole_ring = sent.get("is_whole_ring")
     if not isinstance(is_whole_ring, bool):
         raise Malformed("is_whole_ring is neither true nor false.")
+    if is_whole_ring and any(early != late for early, late in pairs):
+        raise Malformed("A curve of the whole ring has pairs with two equal sides.")
     return Design(
         lists[0], lists[1], lists[2], pairs, is_whole_ring, series_of(sent.get("series")), first, cast(Positions, at)
     )

@@ -59,7 +59,8 @@ def above_zero_promise(design: Design, curve: Curve) -> Promise:
     for row, pair in enumerate(curve.coefficients.tolist()):
         for wood, coefficient in zip(design.woods, pair):
             if coefficient <= 0:
-                words = f"Coefficient {row} ({wood}) is {coefficient}"
+                part = "" if design.is_whole_ring else f" ({wood})"
+                words = f"Coefficient {row}{part} is {coefficient}"
                 return Promise(f"{words}: only coefficients above zero promise a curve above zero.", False)
     return Promise("All coefficients are above zero, so the curve is above zero everywhere.", True)
 

@@ -15,7 +15,7 @@ from ..reasons import SCAR, UNIT, WOOD, Lists, rows_sum
 from ..tucson import Series
 from .carry import carried, handle_places
 from .design import Design, Malformed, ring_of, wood_of
-from .faults import control, told
+from .faults import INDEX, OUTSIDE, control, told
 from .promises import promises
 
 if TYPE_CHECKING:
@@ -88,12 +88,13 @@ def measured(design: Design, curve: Curve | None, series: Mapping[str, Series]) 
         each = series[design.series[wood]]
         start = ring_of(each, design.first)
         made: dict[str, Any] = {"name": each.name, "wood": wood, "first": start, "year": each.first}
-        made |= {"widths": np.asarray(each.widths).tolist(), "indices": None, "refusal": None}
+        made |= {"widths": np.asarray(each.widths).tolist(), "indices": None, "refusal": None, "fault": None}
         if curve is not None:
             try:
                 made["indices"] = curve.indices(each.widths, start, wood_of(wood)).tolist()
             except Refused as error:
                 made["refusal"] = told(error, f"series-{wood}")
+                made["fault"] = error.place if error.number in (OUTSIDE, INDEX) else None
         shown.append(made)
     return shown
 

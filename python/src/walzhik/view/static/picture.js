@@ -13,6 +13,7 @@ const ON_CURVE = 1000; // the index of a ring as wide as the curve
 const PIXELS_PER_TICK = { across: 80, up: 40 };
 const DOT_PIXELS = 5; // between two dots, at least
 const CROSS = 4;
+const FAULT_RADIUS = 8;
 
 const plane = (across, up) => `matrix(${across.factor} 0 0 ${up.factor} ${across.shift} ${up.shift})`;
 
@@ -76,6 +77,7 @@ export class Picture {
       ...this.breakLines(up, 2),
       ...this.rings(up, series, ({ widths }) => hidden(widths, (width) => width === 0)),
       ...series.map((each) => this.absent(each)),
+      ...series.filter(({ fault }) => fault !== null).map((each) => this.fault(each)),
       ...answer.curves.map(({ wood, low }) => this.low(wood, low)),
       ...answer.curves.map(({ wood }) => this.polygon(wood)),
       ...answer.curves.map(({ wood, pieces }) =>
@@ -151,6 +153,13 @@ export class Picture {
       return width === 0 ? `M${x - CROSS} ${y - CROSS}l${2 * CROSS} ${2 * CROSS}m0 ${-2 * CROSS}l${-2 * CROSS} ${2 * CROSS}` : "";
     });
     return draw("path", { class: "absent", d: crosses.join("") });
+  }
+
+  // A ring around the measured ring that has no index.
+  fault(series) {
+    const { across, up } = this.scales;
+    const at = { cx: across.at(series.first + series.fault), cy: up.at(series.widths[series.fault]) };
+    return draw("circle", { class: "fault-ring", "data-fault": series.wood, r: FAULT_RADIUS, ...at });
   }
 
   low(wood, places) {
