@@ -168,6 +168,17 @@ def test_typing(page: Page) -> None:
     agrees(page)
 
 
+def test_reload(page: Page) -> None:
+    page.type("coefficient-2-latewood", "777")
+    agrees(page)
+    page.reload()
+    page.until(lambda: page.value("coefficient-2-latewood") == 777, "the curve is lost by a reload")
+    agrees(page)
+    page.press("undo")
+    page.until(lambda: page.value("coefficient-2-latewood") == 760, "what was given is not behind it")
+    agrees(page)
+
+
 def test_structure(page: Page) -> None:
     page.choose("order-2", "-1")
     page.until(lambda: page.count("#picture line.scar") == 4, "the scar is not drawn in both panels")
@@ -186,7 +197,9 @@ def test_structure(page: Page) -> None:
     agrees(page)
     page.press(*["undo"] * 5)
     page.until(lambda: len(page.lists().pairs) == 9 and page.lists().orders == [1, -1, 0], "five steps are not undone")
-    assert "n = 9 " in page.text("promises") and "never refused" in page.text("promises")
+    agrees(page)
+    page.until(lambda: "n = 9 " in page.text("promises"), "n is not told")
+    assert "never refused" in page.text("promises")
 
 
 def test_fit(page: Page) -> None:
@@ -265,7 +278,17 @@ def hurting_file(folder: Path) -> Path:
 
 def run(pictures: Path | None) -> int:
     """All tests, one browser for all; the number of those that passed."""
-    roof = (test_dragging, test_keys, test_refusal, test_typing, test_structure, test_fit, test_files, test_page_itself)
+    roof = (
+        test_dragging,
+        test_keys,
+        test_refusal,
+        test_typing,
+        test_reload,
+        test_structure,
+        test_fit,
+        test_files,
+        test_page_itself,
+    )
     with tempfile.TemporaryDirectory() as made, browser(Path(made) / "saved") as driver:
         hurting = hurting_file(Path(made))
         pages = [

@@ -168,6 +168,13 @@ def test_missing_packages_are_named_where_it_may_not(checkout: Checkout, tmp_pat
     assert "sudo apt-get install python3-numpy python3-scipy python3-matplotlib python3-cffi python3-click" in err
 
 
+def test_the_screen_alone_needs_its_packages(checkout: Checkout, tmp_path: Path) -> None:
+    without_modules(checkout, tmp_path / "modules")
+    script(checkout.tools / "id", "#!/bin/sh\necho 1000\n")
+    needed = "python3-flask python3-waitress"
+    assert needed in checkout.run("view", "--help")[2] and needed not in checkout.run("explain", SHEET)[2]
+
+
 def test_pip_installs_it_without_a_network(tmp_path: Path) -> None:
     """Into a folder of its own; the installed package needs no checkout."""
     source = tmp_path / "source"

@@ -58,7 +58,15 @@ class Page:
         self.driver, self.address, self.downloads = driver, address, downloads
         self.resize(WIDE, HIGH)
         driver.get(address)
+        self.is_drawn()
+
+    def is_drawn(self) -> None:
+        """Wait for the first answer."""
         self.until(lambda: self.count("path.curve") > 0, "no curve is drawn")
+
+    def reload(self) -> None:
+        self.driver.refresh()
+        self.is_drawn()
 
     # What an eye sees.
 

@@ -1,8 +1,15 @@
-// Undo and redo: the designs before and after the present one. A drag is one step, however often the hand moved.
+// Undo and redo: the designs before and after the present one. A drag is one step, however often the hand moved. The last
+// accepted design outlives a reload of the page, in the tab's own store.
 
 export class History {
   constructor(design) {
-    Object.assign(this, { past: [], present: design, future: [], begun: null });
+    Object.assign(this, { past: [], present: design, future: [], begun: null, name: location.pathname });
+    const kept = sessionStorage.getItem(this.name);
+    if (kept !== null) this.change(JSON.parse(kept), true);
+  }
+
+  keep() {
+    sessionStorage.setItem(this.name, JSON.stringify(this.present));
   }
 
   // A change that lasts is a step; one under the hand becomes a step when a lasting one follows.

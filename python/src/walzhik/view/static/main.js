@@ -58,7 +58,10 @@ function onAnswer(answer, asked, isNewest) {
     const { breaks, orders } = asked.design;
     const design = { ...asked.design, pairs: answer.pairs };
     good = { design, answer: { ...answer, lists: { breaks, orders } } };
-    if (asked.design === history.present) history.adopt(design);
+    if (asked.design === history.present) {
+      history.adopt(design);
+      history.keep();
+    }
   }
   refusals = [answer.refusal, ...series.map((each) => each.refusal)].filter((each) => each !== null);
   if (answer.refusal !== null) say(`Refused: ${answer.refusal.words} The last good curve stays, grey.`);
