@@ -108,7 +108,7 @@ def test_keys(page: Page) -> None:
     page.until(lambda: page.value("break-3") == 1767, "the arrows did not move the breakpoint by 1 and by 10 rings")
     agrees(page)
     page.key("coefficient-3-latewood", "ArrowRight")
-    assert page.focused() == "coefficient-4-latewood", "the arrow right did not go to the neighbour"
+    assert page.focused().startswith("Coefficient 4, latewood"), "the arrow right did not go to the neighbour"
     for _ in range(4):
         page.shortcut("z")
     page.until(
@@ -165,6 +165,24 @@ def test_typing(page: Page) -> None:
     page.type("break-4", "1795")
     page.until(lambda: "no=7" in page.words_of("series-latewood"), "rings past the curve are not told")
     page.press("undo")
+    agrees(page)
+
+
+def test_a_hand_is_not_disturbed(page: Page) -> None:
+    page.key("break-1", "ArrowRight")
+    page.until(lambda: page.value("break-1") == 1716, "the breakpoint did not move")
+    page.write("coefficient-5-latewood", "1")
+    page.script("document.getElementById('undo').click()")  # an answer comes while somebody types
+    page.until(lambda: page.value("break-1") == 1715, "the breakpoint is not back")
+    agrees(page, "earlywood")
+    assert page.value("coefficient-5-latewood") == 5201, "what is being typed is lost"
+    page.reload()
+    page.focus("Split stretch 1")
+    page.enter()
+    page.until(lambda: len(page.lists().breaks) == 6, "the stretch is not split by the keyboard")
+    assert page.focused() == "Split stretch 1", "the focus is lost"
+    page.press("undo")
+    page.until(lambda: len(page.lists().breaks) == 5, "the split is not undone")
     agrees(page)
 
 
@@ -267,6 +285,12 @@ def test_beam(page: Page) -> None:
         assert curve.values([int(256 * ring)])[0, 1] == 256 * height
 
 
+def test_server_that_is_gone(page: Page) -> None:
+    page.key("break-1", "ArrowRight")
+    page.until(lambda: "./walzhik view still running" in page.text("status"), "that nobody answers is not told")
+    print("test_server_that_is_gone: passed")
+
+
 def hurting_file(folder: Path) -> Path:
     """A file whose name, and whose series' names, would be markup if they were no text."""
     oak = tucson.read(ROOT / OAK)
@@ -283,6 +307,7 @@ def run(pictures: Path | None) -> int:
         test_keys,
         test_refusal,
         test_typing,
+        test_a_hand_is_not_disturbed,
         test_reload,
         test_structure,
         test_fit,
@@ -304,9 +329,10 @@ def run(pictures: Path | None) -> int:
                     print(f"{test.__name__}: passed", flush=True)
                 errors = [each for each in driver.get_log("browser") if each["level"] == SEVERE]
                 assert not errors, errors
+        test_server_that_is_gone(page)
         if pictures is not None:
             take_pictures(driver, serving, pictures)
-    return sum(len(tests) for _, tests in pages)
+    return sum(len(tests) for _, tests in pages) + 1
 
 
 def main() -> None:

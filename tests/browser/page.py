@@ -143,7 +143,8 @@ class Page:
         return bool(self.script(read, control))
 
     def focused(self) -> str:
-        return str(self.script("return document.activeElement.dataset.control ?? document.activeElement.id"))
+        """The name of the control that has the focus."""
+        return str(self.script("return document.activeElement.getAttribute('aria-label')"))
 
     # What a hand does.
 
@@ -171,6 +172,16 @@ class Page:
         }[name]
         hand = ActionChains(self.driver, duration=0)
         (hand.key_down(Keys.SHIFT).send_keys(key).key_up(Keys.SHIFT) if shift else hand.send_keys(key)).perform()
+
+    def focus(self, label: str) -> None:
+        self.script('document.querySelector(`[aria-label="${arguments[0]}"]`).focus()', label)
+
+    def enter(self) -> None:
+        ActionChains(self.driver, duration=0).send_keys(Keys.ENTER).perform()
+
+    def write(self, control: str, text: str) -> None:
+        """Type behind what a field holds, and stay there."""
+        self.driver.find_element(By.ID, control).send_keys(Keys.END, text)
 
     def shortcut(self, letter: str) -> None:
         ActionChains(self.driver, duration=0).key_down(Keys.CONTROL).send_keys(letter).key_up(Keys.CONTROL).perform()

@@ -1,6 +1,6 @@
 // The table of coefficients: a row for each, with the ring near which its handle stands.
 
-import { found, make, number, woodWords } from "./elements.js";
+import { fill, found, make, number, rebuilt, woodWords } from "./elements.js";
 import { coefficient, withCoefficient, woods } from "./design.js";
 import { notWhole, showRefusal, typedWhole } from "./refusals.js";
 
@@ -27,10 +27,10 @@ export class Coefficients {
     const shape = `${design.pairs.length} ${design.is_whole_ring}`;
     const isSame = shape === this.shape;
     Object.assign(this, { design, shape });
-    if (!isSame) this.build();
+    if (!isSame) rebuilt(() => this.build());
     design.pairs.forEach((_, row) => {
       found(`place-${row}`).textContent = row in places ? places[row].toFixed(TENTHS) : "";
-      for (const wood of woods(design)) found(`coefficient-${row}-${wood}`).value = coefficient(design, row, wood);
+      for (const wood of woods(design)) fill(`coefficient-${row}-${wood}`, coefficient(design, row, wood));
     });
   }
 

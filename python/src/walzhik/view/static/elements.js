@@ -25,8 +25,26 @@ export function select(id, label, options, value) {
   return made;
 }
 
-export const number = (id, label, value) =>
-  furnish(make("input", { id, type: "number", step: 1, "aria-label": label, value }), {}, []);
+// A field for a number. While somebody types in it, it is theirs: `fill` leaves it alone until they are done.
+export function number(id, label, value) {
+  const made = make("input", { id, type: "number", step: 1, "aria-label": label, value });
+  made.addEventListener("input", () => (made.dataset.typing = ""));
+  made.addEventListener("change", () => delete made.dataset.typing);
+  return made;
+}
+
+export function fill(id, value) {
+  const control = found(id);
+  if (!("typing" in control.dataset)) control.value = value;
+}
+
+// Builds a part of the page anew; the focus stays on the control of the same name.
+export function rebuilt(build) {
+  const focused = document.activeElement;
+  const label = focused?.getAttribute("aria-label");
+  build();
+  if (label && !focused.isConnected) document.querySelector(`[aria-label="${CSS.escape(label)}"]`)?.focus();
+}
 
 // Thousandths of a millimetre as a text in millimetres.
 const PER_MM = 1000;

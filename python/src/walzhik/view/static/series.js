@@ -1,6 +1,6 @@
 // Which series stand beside the curves, and which ring their first width is.
 
-import { found, make, number, select, woodWords } from "./elements.js";
+import { fill, found, make, number, select, woodWords } from "./elements.js";
 import { woods } from "./design.js";
 import { notWhole, showRefusal, typedWhole } from "./refusals.js";
 
@@ -55,6 +55,6 @@ export class Series {
       const place = this.all.findIndex(({ name }) => name === design.series[wood]);
       found(`series-${wood}`).value = place < 0 ? NONE : String(place);
     }
-    found("first").value = design.first ?? "";
+    fill("first", design.first ?? "");
   }
 }

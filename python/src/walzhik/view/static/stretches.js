@@ -1,6 +1,6 @@
 // The table of breakpoints, stretches and joins, in their order along the wood.
 
-import { found, make, number, select } from "./elements.js";
+import { fill, found, make, number, rebuilt, select } from "./elements.js";
 import { SCAR, split, withBreak, withDegree, withOrder, withoutJoin } from "./design.js";
 import { notWhole, showRefusal, typedWhole } from "./refusals.js";
 
@@ -57,13 +57,13 @@ export class Stretches {
     const isSame = this.design && this.design.degrees.length === design.degrees.length;
     this.design = design;
     if (isSame) this.fill();
-    else this.build();
+    else rebuilt(() => this.build());
   }
 
   fill() {
-    this.design.breaks.forEach((ring, place) => (found(`break-${place}`).value = ring));
-    this.design.degrees.forEach((degree, place) => (found(`degree-${place}`).value = degree));
-    this.design.orders.forEach((order, place) => (found(`order-${place}`).value = order));
+    this.design.breaks.forEach((ring, place) => fill(`break-${place}`, ring));
+    this.design.degrees.forEach((degree, place) => fill(`degree-${place}`, degree));
+    this.design.orders.forEach((order, place) => fill(`order-${place}`, order));
   }
 
   build() {
