@@ -212,6 +212,9 @@ def test_another_number_of_coefficients_is_carried_over(client: FlaskClient) -> 
     design = begun(client)
     made = answer(client, "curve", design=design | {"orders": [0, -1, 0]}, before=design).get_json()
     assert made["refusal"] is None and len(made["pairs"]) == made["n"] == 10
+    later = design | {"orders": [0, -1, 0], "pairs": made["pairs"]}
+    back = answer(client, "curve", design=design | {"orders": [-1, -1, 0]}, before=later).get_json()
+    assert back["refusal"] is None and len(back["pairs"]) == back["n"] == 11
     alone = answer(client, "curve", design=design | {"orders": [0, -1, 0]}, before=None).get_json()
     assert alone["refusal"]["number"] == 6
 

@@ -102,11 +102,10 @@ def measured(design: Design, curve: Curve | None, series: Mapping[str, Series]) 
 def with_pairs(design: Design, before: Design | None) -> tuple[Design, Curve]:
     """The design with its curve.
 
-    Where it has as many coefficients as the design before, and its space asks for another number, the curve before is
-    carried over.
+    Where its space asks for another number of coefficients than it has, the curve of the design before is carried over.
     """
     space = design.space()
-    if before is not None and len(design.pairs) != space.n and len(design.pairs) == len(before.pairs):
+    if before is not None and len(design.pairs) != space.n:
         try:
             design.pairs = carried(before.curve(), space)
         except Refused as error:

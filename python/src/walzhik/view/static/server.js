@@ -31,9 +31,18 @@ export async function askFile(kind, design) {
   return { name, blob: await response.blob() };
 }
 
+const KEPT_TIMES = 1000; // of changes, for whoever measures them
+
 export class Newest {
   constructor(path, onAnswer, onFailure) {
-    Object.assign(this, { path, onAnswer, onFailure, waiting: null, isBusy: false });
+    Object.assign(this, { path, onAnswer, onFailure, waiting: null, isBusy: false, answers: 0 });
+  }
+
+  // How long a change takes, from the question to the picture, in the browser's own list of times.
+  note(start) {
+    this.answers += 1;
+    if (this.answers % KEPT_TIMES === 0) performance.clearMeasures("change");
+    performance.measure("change", { start, end: performance.now() });
   }
 
   async ask(body) {
@@ -46,7 +55,7 @@ export class Newest {
       const start = performance.now();
       try {
         this.onAnswer(await ask(this.path, next), next, this.waiting === null);
-        performance.measure("change", { start, end: performance.now() });
+        this.note(start);
       } catch (error) {
         this.onFailure(error);
       }
