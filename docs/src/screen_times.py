@@ -14,12 +14,16 @@ from urllib.parse import urlsplit
 
 import numpy as np
 from browser.page import Page, browser
-from screen import serving
-from walzhik import tucson
+from screen import ROOT, serving
+from walzhik import Space, sheet, tucson
 from walzhik.fit import template
+from walzhik.reasons import MOST_PART_STRETCHES, MOST_STRETCHES, SCAR
+from walzhik.view.design import Design
+from walzhik.view.shown import shown
 
 RINGS, FIRST, SEED = 300, 1700, 1
-MOVES = 200
+MOVES, ANSWERS = 200, 21
+LENGTH = 40  # rings of a stretch of the large designs
 PER_SECOND = 1000
 
 
@@ -60,8 +64,30 @@ def server_times(address):
     return times
 
 
+def large_designs():
+    """The beam of the examples, and the longest ones of cubic stretches and of stretches drawn by values."""
+    beam = sheet.read((ROOT / "examples/sheets/beam.sheet").read_bytes())
+    yield "the beam of 31 stretches", Design(beam.breaks, beam.degrees, beam.orders, beam.pairs, False)
+    breaks = list(range(0, LENGTH * MOST_STRETCHES + 1, LENGTH))
+    cubic = [SCAR if join % MOST_PART_STRETCHES == 0 else 2 for join in range(1, MOST_STRETCHES)]
+    for degree, orders in ((3, cubic), (5, [SCAR] * (MOST_STRETCHES - 1))):
+        space = Space(breaks, [degree] * MOST_STRETCHES, orders)
+        pairs = [(500 + row, 300 + row) for row in range(space.n)]
+        yield f"48 stretches of degree {degree}", Design(breaks, [degree] * MOST_STRETCHES, orders, pairs, False)
+
+
+def answer_time(design):
+    """Milliseconds of processor time for one answer, the median of several."""
+    times = []
+    for _ in range(ANSWERS):
+        start = time.process_time()
+        assert shown(design, None, {})["refusal"] is None
+        times.append(PER_SECOND * (time.process_time() - start))
+    return statistics.median(times)
+
+
 def main():
-    """Print both."""
+    """Print all times."""
     with tempfile.TemporaryDirectory() as folder:
         path = Path(folder) / "core.rwl"
         path.write_bytes(tucson.write([core()]))
@@ -71,6 +97,8 @@ def main():
             page = Page(driver, address, Path(folder))
             print(f"browser, change to picture: {summary(browser_times(page))}")
             print(f"server alone, request to answer: {summary(server_times(address))}")
+    for name, design in large_designs():
+        print(f"{name}: {answer_time(design):.1f} ms of processor time")
 
 
 if __name__ == "__main__":
