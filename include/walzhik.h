@@ -55,6 +55,11 @@
 extern "C" {
 #endif
 
+/* The version of both libraries, of the command and of the packages: it stands here alone, and they take it from here. */
+#define WALZHIK_VERSION_MAJOR 2
+#define WALZHIK_VERSION_MINOR 0
+#define WALZHIK_VERSION_PATCH 0
+
 #define WALZHIK_CELLS 5184
 #define WALZHIK_LARGEST_PLACE UINT32_C(4294967295)
 

@@ -31,4 +31,6 @@ class BuildWithEngine(build_py):
             shutil.copy(path, native / path.name)
 
 
-setup(cmdclass={"build_py": BuildWithEngine})
+HEADER = HERE.parent / "include" / "walzhik.h"
+
+setup(version=_build.version(HEADER.read_text(encoding="ascii")), cmdclass={"build_py": BuildWithEngine})

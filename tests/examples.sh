@@ -1,6 +1,6 @@
 #!/usr/bin/env bash
 # The examples: each sheet and each Tucson text gives the printout that stands beside it, C and Rust print the values that the
-# sheet of W1 has, the README shows what the program prints, and a printout that can't be written is said on standard error.
+# sheet of W1 has, and a printout that can't be written is said on standard error.
 set -u
 cd "$(dirname "$0")/.."
 from_c=$1 from_rust=$2 sheet=$3 tucson=$4
@@ -27,12 +27,6 @@ done
 values=$(sed -n 's/^v=//p' examples/sheets/w1.out)
 [ "$("$from_c")" = "$values" ] || { echo 'differs: examples/c/curve.c'; failed=1; }
 [ "$("$from_rust")" = "$values" ] || { echo 'differs: examples/rust/curve.rs'; failed=1; }
-while IFS= read -r line; do
-    grep -qxF -- "    $line" README.md || { printf 'not in the README: %s\n' "$line"; failed=1; }
-done <examples/sheets/w1.out
-for line in $(grep -oE '`[nwv]=[^`]+`' README.md | tr -d '`'); do
-    grep -qxF -- "$line" examples/sheets/growth.out || { printf 'in the README, but not printed: %s\n' "$line"; failed=1; }
-done
 if [ -e /dev/full ]; then
     "$sheet" <examples/sheets/w1.sheet 2>&1 >/dev/full | grep -q '^write: ' || { echo 'no message where nothing can be written'; failed=1; }
 fi

@@ -34,7 +34,6 @@ STEPS = [f"step_{step}" for step in range(1, 5)] + [f"order_{order}" for order i
 DRAWN = {name: (f"sheets/{name}.sheet", {}, NARROW) for name in STEPS}
 DRAWN |= {name: (f"sheets/{name}.sheet", {}, []) for name in ("low", "beam")}
 DRAWN |= {"roof": ("sheets/roof.sheet", ROOF, []), "oak_fit": ("day/oak_fit.sheet", {WHOLE: "ROOF04E"}, [])}
-IN_README = {"growth": ("sheets/growth.sheet", {}, [])}
 OAK = "examples/tucson/oak.rwl"
 CLOSE = 1e-5                 # of a scale's length: what a picture's numbers are rounded to, and less
 CODES = {MOVE: "M", LINE: "L", QUADRATIC: "Q", CUBIC: "C"}
@@ -45,7 +44,6 @@ DAY = ((["clean", "examples/refusals/refused_11_laboratory.rwl"], "tucson/oak.rw
        (["indices", OAK, "--curve", FITTED, "--series", "ROOF04E"], "day/oak_fit.csv", "day/indices.txt"),
        (["curve", "examples/sheets/step_4.sheet", "--every", "30"], "day/step_4.csv", None),
        (["clean", "examples/refusals/refused_12.rwl"], None, "day/gap.txt"))
-EXPLAINED_IN_README = "refused_5"
 COMMANDS = ("target/bin/sheet", "target/bin/tucson", "./walzhik ", "rt check sheet", "rt check tucson", "seq -s,")
 faults = []
 
@@ -177,8 +175,6 @@ def hold(path, source, series, options, write):
 def pictures(write):
     for name, how in DRAWN.items():
         hold(PICTURES / f"{name}.svg", *how, write)
-    for name, how in IN_README.items():
-        hold(PICTURES.parent / f"{name}.svg", *how, write)
     for kept in PICTURES.glob("*"):
         if kept.stem not in DRAWN:
             fault(f"a picture that nothing draws: {kept.name}")
@@ -203,14 +199,6 @@ def quotes(text, lines):
     for line in re.findall(r"`((?:n|w|v|no|low|breaks|degrees|orders|coefs|at)=[^`]+)`", text):
         if line not in lines:
             fault(f"in the manual, but in no example: {line}")
-
-
-def readme():
-    """The README shows an explanation as it is kept."""
-    text = (ROOT / "README.md").read_text(encoding="utf-8")
-    for line in (EXAMPLES / "refusals" / f"{EXPLAINED_IN_README}.explained").read_text(encoding="ascii").splitlines():
-        if f"\n    {line}\n" not in text:
-            fault(f"not in the README: {line}")
 
 
 def links(text):
@@ -248,7 +236,6 @@ def main():
     quotes(text, kept_lines())
     links(text)
     numbers(text)
-    readme()
     print(f"manual: {len(sources())} explanations, {len(DRAWN)} pictures, {len(faults)} faults")
     return 1 if faults else 0
 

@@ -17,13 +17,21 @@ from importlib import import_module
 from typing import TYPE_CHECKING
 
 if TYPE_CHECKING:
+    from ._engine import __version__
     from .curve import Curve, Piece
     from .errors import Refused
     from .space import Space, Weights
 
-__all__ = ["Curve", "Piece", "Refused", "Space", "Weights"]
+__all__ = ["Curve", "Piece", "Refused", "Space", "Weights", "__version__"]
 
-HOMES = {"Curve": "curve", "Piece": "curve", "Refused": "errors", "Space": "space", "Weights": "space"}
+HOMES = {
+    "Curve": "curve",
+    "Piece": "curve",
+    "Refused": "errors",
+    "Space": "space",
+    "Weights": "space",
+    "__version__": "_engine",
+}
 
 
 def __getattr__(name: str) -> object:

@@ -15,6 +15,7 @@ from pathlib import Path
 
 LIBRARY = "libwalzhik.so"
 PROGRAMS = ("sheet",)
+VERSION_PARTS = ("WALZHIK_VERSION_MAJOR", "WALZHIK_VERSION_MINOR", "WALZHIK_VERSION_PATCH")
 COMMENT = re.compile(r"/\*.*?\*/", re.DOTALL)
 INCLUDED = re.compile(r'^#include "([^"]+)"', re.MULTILINE)
 SHARED_MODE = 0o755
@@ -35,6 +36,19 @@ def declarations(header: str) -> str:
     plain = CONDITION.sub("", COMMENT.sub("", header))
     kept = [line for line in plain.splitlines() if line.strip() and not line.startswith("#")]
     return "\n".join(kept)
+
+
+def version(header: str) -> str:
+    """The version that a header states, which is that of the libraries, the command and the packages.
+
+    Examples
+    --------
+    >>> parts = zip(VERSION_PARTS, (2, 0, 1))
+    >>> version("".join(f"#define {name} {number}\\n" for name, number in parts))
+    '2.0.1'
+    """
+    stated = constants(header)
+    return ".".join(str(stated[name]) for name in VERSION_PARTS)
 
 
 def constants(header: str) -> dict[str, int]:

@@ -74,6 +74,7 @@ def _loaded() -> tuple[Any, Any, dict[str, int]]:
 ffi, library, _CONSTANTS = _loaded()
 CELLS = _CONSTANTS["WALZHIK_CELLS"]
 LARGEST_PLACE = _CONSTANTS["WALZHIK_LARGEST_PLACE"]
+__version__ = ".".join(str(_CONSTANTS[name]) for name in _build.VERSION_PARTS)
 SIDE = int(CELLS**0.5)  # the weights are a square table
 
 

@@ -33,7 +33,19 @@ class Commands(click.MultiCommand):
         return command
 
 
+def _print_version(ctx: click.Context, _: click.Parameter, asked: bool) -> None:
+    """The version as the header states it; the engine is loaded only where it is asked for."""
+    if asked:
+        from ._engine import __version__
+
+        click.echo(f"walzhik {__version__}")
+        ctx.exit()
+
+
 @click.command(cls=Commands, context_settings={"help_option_names": ["-h", "--help"], "max_content_width": 120})
+@click.option(
+    "--version", is_flag=True, is_eager=True, expose_value=False, callback=_print_version, help="Print the version."
+)
 def cli() -> None:
     """Growth curves of tree rings, and ring indices by them.
 

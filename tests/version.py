@@ -1,0 +1,49 @@
+"""Holds every place that states the version against the one in include/walzhik.h: the changelog's newest entry, the Rust crate, the R
+package, the Python package and what the command prints.
+
+usage: version.py
+"""
+
+import re
+import subprocess
+import sys
+from pathlib import Path
+
+ROOT = Path(__file__).resolve().parent.parent
+PYTHON = "/usr/bin/python3"
+
+
+def header():
+    text = (ROOT / "include" / "walzhik.h").read_text(encoding="utf-8")
+    return ".".join(re.search(rf"^#define WALZHIK_VERSION_{part} (\d+)$", text, re.MULTILINE)[1] for part in ("MAJOR", "MINOR", "PATCH"))
+
+
+def written(path, pattern):
+    found = re.search(pattern, (ROOT / path).read_text(encoding="utf-8"), re.MULTILINE)
+    return found[1] if found else "none"
+
+
+def printed(*command):
+    said = subprocess.run(command, cwd=ROOT, capture_output=True, text=True, check=False)
+    found = re.search(r"\d+\.\d+\.\d+", said.stdout)
+    return found[0] if found else f"none (status {said.returncode}: {said.stderr.strip()})"
+
+
+def main():
+    version = header()
+    stated = {
+        "CHANGELOG.md": written("CHANGELOG.md", r"^## (\S+)$"),
+        "rust/Cargo.toml": written("rust/Cargo.toml", r'^version = "([^"]+)"$'),
+        "r/DESCRIPTION": written("r/DESCRIPTION", r"^Version: (\S+)$"),
+        "./walzhik --version": printed("./walzhik", "--version"),
+        "python/setup.py": printed(PYTHON, "python/setup.py", "--version"),
+    }
+    wrong = {place: other for place, other in stated.items() if other != version}
+    for place, other in wrong.items():
+        print(f"{place}: {other}, but include/walzhik.h has {version}")
+    print(f"version: {version}, {len(stated)} places, {len(wrong)} faults")
+    return 1 if wrong else 0
+
+
+if __name__ == "__main__":
+    sys.exit(main())
