@@ -1,0 +1,89 @@
+"""What is asked of every file of a data bank, and what works it out: plain values that can be sent to a worker, and a
+hash of each, by which a later run knows whether a file must be done again.
+"""
+
+from __future__ import annotations
+
+import json
+import os
+from functools import lru_cache
+from hashlib import sha256
+from pathlib import Path
+from typing import Literal, NamedTuple
+
+from .. import _build
+from .._engine import found
+from ..commands.indices import Names
+from ..curve import Curve
+from ..sheet import Sheet
+from ..space import Space
+from ..tucson import Unit
+
+THREADS = ("OMP_NUM_THREADS", "OPENBLAS_NUM_THREADS", "MKL_NUM_THREADS")
+ONE_THREAD = dict.fromkeys(THREADS, "1")  # sums in another order could round another way
+
+
+class Options(NamedTuple):
+    """What is asked of every file.
+
+    Attributes
+    ----------
+    ending : {"csv", "rwl"}
+        How the indices are written.
+    space : tuple of three lists, or None
+        Breakpoints, degrees and orders of the fits; None for a template for each series.
+    sheet : tuple of four lists, or None
+        Breakpoints, degrees, orders and pairs of the curve that divides all series; None for fits.
+    names : tuple of three lists of patterns
+        The series, those of the earlywood and those of the latewood that are asked for; all where none is.
+    first : int or None
+        The ring of each first width; None where rings are years.
+    strict, split_gaps : bool
+    unit : {"hundredths", "thousandths"} or None
+    """
+
+    ending: Literal["csv", "rwl"] = "csv"
+    space: tuple[list[int], list[int], list[int]] | None = None
+    sheet: tuple[list[int], list[int], list[int], list[tuple[int, int]]] | None = None
+    names: Names = Names((), (), ())
+    first: int | None = None
+    strict: bool = False
+    split_gaps: bool = False
+    unit: Unit | None = None
+
+    def key(self) -> str:
+        """The hash of the options.
+
+        Examples
+        --------
+        >>> Options().key() == Options().key() != Options(first=1).key()
+        True
+        """
+        return sha256(json.dumps(self).encode("ascii")).hexdigest()
+
+    def given_space(self) -> Space | None:
+        """The space of the fits, where it is given."""
+        return None if self.space is None else Space(*self.space)
+
+    def given_curve(self) -> Curve | None:
+        """The curve that divides all series, where it is given."""
+        return None if self.sheet is None else Sheet(*self.sheet).curve()
+
+
+@lru_cache(maxsize=None)
+def version() -> str:
+    """The hash of what works the outputs out: this package, the engine, NumPy and SciPy."""
+    import numpy
+    import scipy
+
+    package = Path(__file__).resolve().parents[1]
+    files = sorted([*package.rglob("*.py"), package / "words.tsv"])
+    made = sha256(f"{numpy.__version__} {scipy.__version__}".encode("ascii"))
+    for path in [*files, found(_build.LIBRARY, f"target/lib/{_build.LIBRARY}")]:
+        made.update(sha256(path.read_bytes()).digest())
+    return made.hexdigest()
+
+
+def is_one_thread() -> bool:
+    """Whether numerical libraries were told, before they were loaded, to keep to one thread."""
+    return all(os.environ.get(name) == number for name, number in ONE_THREAD.items())
