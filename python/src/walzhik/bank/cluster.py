@@ -6,6 +6,8 @@ from __future__ import annotations
 
 import logging
 import os
+from importlib import import_module
+from queue import Empty, SimpleQueue
 from time import monotonic
 from typing import Any
 
@@ -58,17 +60,19 @@ class ClusterWorkers:
 
     def __init__(self, address: str, first: Task) -> None:
         try:
-            import distributed
+            distributed: Any = import_module("distributed")  # Debian's has types only in part
         except ImportError as error:
             raise Unusable("--scheduler needs the Debian package python3-distributed.") from error
         logging.getLogger("distributed").setLevel(logging.CRITICAL)
         self.killed = 0
         self._address, self._distributed = address, distributed
+        self._window = LEAST_WINDOW
         try:
             self._client: Any = distributed.Client(address, timeout=CONNECTING_SECONDS, set_as_default=False)
         except (OSError, ValueError, TypeError) as error:
             raise Unusable(f"There is no scheduler at {address}: {error}. {HOW}") from error
         self._pending: dict[Any, Task] = {}
+        self._ended: SimpleQueue[Any] = SimpleQueue()
         try:
             self._ask(first)
         except BaseException:
@@ -96,7 +100,9 @@ class ClusterWorkers:
 
     def give(self, task: Task) -> None:
         """Send a task to the scheduler."""
-        self._pending[self._client.submit(run, task, pure=False)] = task
+        future = self._client.submit(run, task, pure=False)
+        self._pending[future] = task
+        future.add_done_callback(self._ended.put)
 
     def take(self) -> bytes:
         """The next line, when it is there. What a killed worker held the scheduler gives to others by itself.
@@ -109,11 +115,8 @@ class ClusterWorkers:
         alone = monotonic()
         while True:
             try:
-                done = self._distributed.wait(
-                    list(self._pending), timeout=WAITING_SECONDS, return_when="FIRST_COMPLETED"
-                ).done
-                return self._result(min(done, key=lambda future: str(future.key)))
-            except self._distributed.TimeoutError:
+                return self._result(self._ended.get(timeout=WAITING_SECONDS))
+            except Empty:
                 if self._has_workers():
                     alone = monotonic()
                 elif monotonic() - alone > ALONE_SECONDS:
@@ -122,7 +125,7 @@ class ClusterWorkers:
     def _has_workers(self) -> bool:
         try:
             return bool(self._client.nthreads())
-        except (OSError, self._distributed.comm.CommClosedError) as error:
+        except OSError as error:
             raise Halt(f"The scheduler at {self._address} is gone.") from error
 
     def _result(self, future: Any) -> bytes:

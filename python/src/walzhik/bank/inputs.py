@@ -122,7 +122,9 @@ def _listed(name: str, output: str) -> Input:
         )
     path = os.path.normpath(name).lstrip("/")
     if path.startswith("../"):
-        raise Unusable(f"{shown(name)}: a path that goes up has no place below the output folder. Give it from the root.")
+        raise Unusable(
+            f"{shown(name)}: a path that goes up has no place below the output folder. Give it from the root."
+        )
     if Path(os.path.realpath(name)).is_relative_to(os.path.realpath(output)):
         raise Unusable(f"{shown(name)} lies in the output folder. Give another output folder.")
     return Input(path, name, _complaint(path, name))
@@ -176,4 +178,3 @@ def _without_shared_stems(inputs: Iterable[Input]) -> Iterator[Input]:
             words = f"Its outputs would have the names of those of {shown(before)}. Give one of them another name."
             each = each._replace(complaint=words)
         yield each
-

@@ -133,10 +133,11 @@ def started() -> Worker:
     """A new worker. It is in a group of its own, so that an interrupt at the terminal reaches only who sends it tasks."""
     ours, theirs = socket.socketpair()
     with theirs:
-        environment = os.environ | ONE_THREAD | {"PYTHONPATH": f"{PACKAGE}:{os.environ.get('PYTHONPATH', '')}".rstrip(":")}
+        environment = (
+            os.environ | ONE_THREAD | {"PYTHONPATH": f"{PACKAGE}:{os.environ.get('PYTHONPATH', '')}".rstrip(":")}
+        )
         arguments = [sys.executable, "-m", "walzhik.bank.worker", str(theirs.fileno())]
         process = subprocess.Popen(
             arguments, env=environment, pass_fds=[theirs.fileno()], stdin=subprocess.DEVNULL, process_group=0
         )
     return Worker(process, Connection(ours.detach()), deque())
-

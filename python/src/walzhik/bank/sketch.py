@@ -49,7 +49,9 @@ def drawn(path: str, series: Series, values: np.ndarray[tuple[int], np.dtype[np.
     top = float(max(widths.max(), values.max(), 1 / PER_MM))
     across = np.linspace(MARGIN, WIDTH - MARGIN, len(widths))
 
-    def points(heights: np.ndarray[tuple[int], np.dtype[np.float64]], kept: np.ndarray[tuple[int], np.dtype[np.bool_]]) -> str:
+    def points(
+        heights: np.ndarray[tuple[int], np.dtype[np.float64]], kept: np.ndarray[tuple[int], np.dtype[np.bool_]]
+    ) -> str:
         down = HEIGHT - MARGIN - heights / top * (HEIGHT - 2 * MARGIN)
         return " ".join(f"{x:.1f},{y:.1f}" for x, y in zip(across[kept].tolist(), down[kept].tolist()))
 

@@ -6,6 +6,7 @@ from __future__ import annotations
 
 import signal
 import sys
+from importlib import import_module
 from multiprocessing.connection import Connection
 
 from .task import Halt, run
@@ -14,7 +15,8 @@ from .task import Halt, run
 def main(descriptor: int) -> None:
     """Do tasks from a connection until it is closed."""
     signal.signal(signal.SIGINT, signal.SIG_IGN)  # whoever sends the tasks says when to end
-    connection: Connection = Connection(descriptor)
+    import_module("scipy.optimize")  # so that no file's seconds are those of loading it
+    connection = Connection(descriptor)
     while True:
         try:
             task = connection.recv()

@@ -54,14 +54,18 @@ def lists_of_sheet(path: str, names: Names) -> tuple[list[int], list[int], list[
 
 def made_workers(first: Task, workers: int | None, scheduler: str | None) -> Workers:
     """The workers that are asked for."""
-    return LocalWorkers(workers or cores()) if scheduler is None else ClusterWorkers(scheduler, first)
+    if scheduler is not None:
+        return ClusterWorkers(scheduler, first)
+    return LocalWorkers(workers or cores())
 
 
 @click.command()
 @click.argument("inputs", nargs=-1, required=True, metavar="INPUT... ")
 @click.argument("output", metavar="OUTPUT")
 @click.option("--curve", metavar="SHEET", help="The sheet that divides all series. Without it each series is fitted.")
-@click.option("--fit", "is_fit", is_flag=True, help="Fit each series by a curve of its own, which is what it does anyway.")
+@click.option(
+    "--fit", "is_fit", is_flag=True, help="Fit each series by a curve of its own, which is what it does anyway."
+)
 @click.option("--series", multiple=True, metavar="PATTERN", help="Series to take, as OAK*; all without it.")
 @click.option("--earlywood", multiple=True, metavar="PATTERN", help="With --curve: series of the earlywood, as *E.")
 @click.option("--latewood", multiple=True, metavar="PATTERN", help="With --curve: series of the latewood, as *L.")
