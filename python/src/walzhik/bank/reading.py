@@ -98,6 +98,8 @@ def unpacked(source: str, raw: bytes) -> bytes:
     if not source.lower().endswith(PACKED):
         return raw
     try:
+        if not raw:  # which the library takes for an empty text
+            raise EOFError
         with gzip.GzipFile(fileobj=io.BytesIO(raw)) as file:
             text = file.read(MOST_BYTES + 1)
     except EOFError as error:

@@ -21,7 +21,7 @@ from .page import page
 from .progress import Progress
 from .reading import Damaged, Unsteady
 from .records import Record
-from .report import Summary
+from .report import Summary, counted
 from .sketch import series_picture
 from .task import Halt, Task
 
@@ -145,8 +145,10 @@ def done_all(
         finally:
             progress.close()
             made.close()
-            if made.killed or interrupt.is_asked:
-                whole.sweep(manifest.output)
+            whole.sweep(manifest.output)
+    if made.killed:
+        whose = "was killed; what it" if made.killed == 1 else "were killed; what they"
+        progress.say(f"{counted(made.killed, 'worker')} {whose} had was done again.")
     if interrupt.is_asked:
         raise Failure(f"Interrupted. {left(progress)}", INTERRUPTED)
 

@@ -1,0 +1,399 @@
+"""The parts of the data bank's run by themselves: what is found and what is complained about, files that are damaged or
+change, what a record keeps, a task that kills its workers, and the page."""
+
+from __future__ import annotations
+
+import gzip
+import io
+import os
+from collections import Counter
+from html.parser import HTMLParser
+from pathlib import Path
+
+import pytest
+from bankruns import python, refusals, report, started
+from hypothesis import given
+from hypothesis import strategies as st
+
+from walzhik import tucson
+from walzhik.bank import local, reading, sketch
+from walzhik.bank.inputs import Input, found, shown, stem
+from walzhik.bank.options import Options, version
+from walzhik.bank.page import page
+from walzhik.bank.progress import Progress
+from walzhik.bank.records import Record, Row
+from walzhik.bank.report import Summary, kind, rows_of
+from walzhik.bank.task import Halt, Task, run
+from walzhik.failures import Unusable
+from walzhik.tucson import Series
+
+TEXT = tucson.write([Series("FEW", 1998, [12, 9, 7])])
+EVIL = "<script>alert('x')</script>&\".rwl"
+
+
+def paths(inputs: list[Input]) -> list[tuple[str, bool]]:
+    return [(each.path, bool(each.complaint)) for each in inputs]
+
+
+def put(path: Path, data: bytes = TEXT) -> Path:
+    path.parent.mkdir(parents=True, exist_ok=True)
+    path.write_bytes(data)
+    return path
+
+
+# What is found.
+
+
+def test_folders_are_searched_deep_and_in_order(tmp_path: Path) -> None:
+    for name in ("b/x.rwl", "a.rwl", "a/y.RWL", "a/y.txt", "a-z.rwl", "b/c/d/z.rwl.gz"):
+        put(tmp_path / name)
+    names = [path for path, _ in paths(found([str(tmp_path)], "/nowhere"))]
+    assert names == sorted(names) == ["a-z.rwl", "a.rwl", "a/y.RWL", "b/c/d/z.rwl.gz", "b/x.rwl"]
+
+
+def test_links_are_followed_but_not_in_circles(tmp_path: Path) -> None:
+    put(tmp_path / "in/real/x.rwl")
+    os.symlink(tmp_path / "in/real", tmp_path / "in/twice")
+    os.symlink(tmp_path / "in", tmp_path / "in/real/up")
+    os.symlink("x.rwl", tmp_path / "in/real/same.rwl")
+    os.symlink("nothing.rwl", tmp_path / "in/real/broken.rwl")
+    taken = paths(found([str(tmp_path / "in")], str(tmp_path / "out")))
+    for folder in ("real", "twice"):
+        expected = {("x.rwl", False), ("same.rwl", False), ("broken.rwl", True), ("up/", True)}
+        assert {(f"{folder}/{name}", is_refused) for name, is_refused in expected} <= set(taken)
+    assert len(taken) == 8
+
+
+def test_the_output_folder_is_no_input(tmp_path: Path) -> None:
+    put(tmp_path / "x.rwl")
+    put(tmp_path / "out/x.indices.rwl")
+    assert paths(found([str(tmp_path)], str(tmp_path / "out"))) == [("x.rwl", False)]
+    for inside in (".", "deeper"):
+        (tmp_path / inside).mkdir(exist_ok=True)
+        with pytest.raises(Unusable, match="lies in the output folder"):
+            found([str(tmp_path / inside)], str(tmp_path))
+    with pytest.raises(Unusable, match="lies in the output folder"):
+        found([str(tmp_path / "x.rwl")], str(tmp_path))
+
+
+def test_lists(tmp_path: Path, monkeypatch: pytest.MonkeyPatch) -> None:
+    monkeypatch.chdir(tmp_path)
+    put(Path("in/a.rwl"))
+    put(Path("in/b c.rwl.gz"))
+    listed = put(
+        Path("list.txt"), b"in/a.rwl\r\n./in/b c.rwl.gz\n\nin/a.rwl\n" + os.fsencode(tmp_path / "in/a.rwl") + b"\n"
+    )
+    absolute = str(tmp_path / "in/a.rwl")[1:]
+    names = sorted([("in/a.rwl", False), ("in/b c.rwl.gz", False), (absolute, False)])
+    assert paths(found([str(listed)], "out")) == names
+    monkeypatch.setattr("sys.stdin", io.TextIOWrapper(io.BytesIO(b"in/a.rwl\n")))
+    assert paths(found(["-"], "out")) == [("in/a.rwl", False)]
+    with pytest.raises(Unusable, match="goes up"):
+        found(["../x.rwl"], "out")
+    with pytest.raises(Unusable, match="an input is a folder"):
+        found(["in/a.csv"], "out")
+    with pytest.raises(Unusable, match="would both have the place a.rwl"):
+        put(Path("other/a.rwl"))
+        found(["in", "other"], "out")
+
+
+def test_complaints(tmp_path: Path) -> None:
+    os.mkfifo(tmp_path / "pipe.rwl")
+    put(tmp_path / "x.rwl")
+    put(tmp_path / "x.rwl.gz", gzip.compress(TEXT))
+    put(tmp_path / "report.csv/y.rwl")
+    said = {each.path: each.complaint for each in found([str(tmp_path)], "/nowhere")}
+    assert said == {
+        "pipe.rwl": "It is no plain file.",
+        "x.rwl": "",
+        "x.rwl.gz": "Its outputs would have the names of those of x.rwl. Give one of them another name.",
+        "report.csv/y.rwl": "Its folder has the name of a file of the report. Give the folder another name.",
+    }
+
+
+@given(st.binary(min_size=1, max_size=20).filter(lambda name: b"/" not in name and b"\0" not in name))
+def test_any_name_can_be_shown(name: bytes) -> None:
+    text = shown(os.fsdecode(name + b".rwl"))
+    assert text.isprintable() and text.encode("utf-8")
+    assert stem(os.fsdecode(name + b".rwl")) == os.fsdecode(name)
+
+
+# What is read.
+
+
+def test_files_that_change_are_not_taken(tmp_path: Path, monkeypatch: pytest.MonkeyPatch) -> None:
+    path = put(tmp_path / "x.rwl")
+    plain = reading._all_of
+
+    def appended(file: io.BufferedReader) -> bytes:
+        data = plain(file)
+        path.write_bytes(TEXT + TEXT)
+        return data
+
+    def replaced(file: io.BufferedReader) -> bytes:
+        data = plain(file)
+        os.replace(put(tmp_path / "new"), path)
+        return data
+
+    for change in (appended, replaced):
+        monkeypatch.setattr(reading, "_all_of", change)
+        with pytest.raises(reading.Unsteady, match="It changed while it was read"):
+            reading.read(str(path))
+    monkeypatch.setattr(reading, "_all_of", plain)
+    assert reading.read(str(path)).data == TEXT
+    with pytest.raises(reading.Unsteady, match="It can't be read: No such file"):
+        reading.read(str(tmp_path / "gone.rwl"))
+    os.mkfifo(tmp_path / "pipe.rwl")
+    with pytest.raises(reading.Unsteady, match="no plain file"):
+        reading.read(str(tmp_path / "pipe.rwl"))
+
+
+def test_files_that_are_too_large(tmp_path: Path, monkeypatch: pytest.MonkeyPatch) -> None:
+    monkeypatch.setattr(reading, "MOST_BYTES", len(TEXT))
+    assert reading.read(str(put(tmp_path / "x.rwl"))).data == TEXT
+    with pytest.raises(reading.Damaged, match="It has more than"):
+        reading.read(str(put(tmp_path / "x.rwl", TEXT + b"\n")))
+    bomb = gzip.compress(b"\n" * 10_000_000)
+    with pytest.raises(reading.Damaged, match="when it is unpacked"):
+        reading.unpacked("x.rwl.gz", bomb)
+    assert reading.unpacked("x.rwl.gz", gzip.compress(TEXT)) == TEXT
+
+
+@given(st.integers(0, len(gzip.compress(TEXT, mtime=0)) - 1), st.integers(1, 255))
+def test_damage_of_a_packed_file_is_seen(place: int, flip: int) -> None:
+    raw = bytearray(gzip.compress(TEXT, mtime=0))
+    raw[place] ^= flip
+    try:
+        assert reading.unpacked("x.rwl.gz", bytes(raw)) == TEXT  # a byte of the head that says nothing
+    except reading.Damaged:
+        pass
+    with pytest.raises(reading.Damaged):
+        reading.unpacked("x.rwl.gz", gzip.compress(TEXT, mtime=0)[:place])
+
+
+# A file's task.
+
+
+@pytest.fixture
+def task(tmp_path: Path, monkeypatch: pytest.MonkeyPatch) -> Task:
+    for name, number in local.ONE_THREAD.items():
+        monkeypatch.setenv(name, number)
+    put(tmp_path / "out/journal.jsonl", b"token\n")
+    source = Input("x.rwl", str(put(tmp_path / "x.rwl")))
+    return Task(source, str(tmp_path / "out"), Options(), version(), "token")
+
+
+def test_a_task_asks_its_worker(task: Task, monkeypatch: pytest.MonkeyPatch) -> None:
+    assert Record.read(run(task)).rows[0][:4] == ("FEW", 3, 2, "")
+    with pytest.raises(Halt, match="another version"):
+        run(task._replace(version="0"))
+    with pytest.raises(Halt, match="does not see the output folder"):
+        run(task._replace(token="another"))
+    with pytest.raises(Halt, match="does not see the output folder"):
+        run(task._replace(output="/nowhere"))
+    monkeypatch.setenv("OPENBLAS_NUM_THREADS", "2")
+    with pytest.raises(Halt, match="several threads"):
+        run(task)
+
+
+def test_a_fault_is_told_and_the_rest_goes_on(task: Task, monkeypatch: pytest.MonkeyPatch) -> None:
+    def fault(*_: object, **__: object) -> None:
+        raise ZeroDivisionError("of all things")
+
+    monkeypatch.setattr("walzhik.tucson.clean", fault)
+    record = Record.read(run(task))
+    assert not record.digest and record.refusal.startswith("A fault of the program itself, ZeroDivisionError")
+
+
+def test_names_in_the_way_concern_one_file(task: Task) -> None:
+    (Path(task.output) / "x.indices.csv").mkdir()
+    record = Record.read(run(task))
+    assert not record.digest and record.refusal.startswith("Its outputs can't be written: ")
+
+
+def test_series_of_one_name_are_refused(task: Task) -> None:
+    strict = task._replace(options=Options(strict=True))
+    other = tucson.write([Series("B", 1998, [12, 9, 7])])
+    Path(task.input.source).write_bytes(TEXT + other + TEXT)
+    rows = Record.read(run(strict)).rows
+    assert [(row.name, bool(row.refusal)) for row in rows] == [("B", False), ("FEW", True), ("FEW", True)]
+    assert rows[1].refusal == "2 series of the file are named FEW. Give each its own name."
+
+
+def test_names_of_series_make_safe_files(task: Task) -> None:
+    Path(task.input.source).write_bytes(tucson.write([Series("../A/b", 1998, [12, 9, 7]), Series("..", 1998, [5, 6])]))
+    outputs = Record.read(run(task)).outputs
+    assert sorted(outputs) == ["x.indices.csv", "x.sheets/..%2FA%2Fb.sheet", "x.sheets/...sheet"]
+
+
+def test_a_zero_index_has_no_place_in_a_tucson_text(task: Task) -> None:
+    Path(task.input.source).write_bytes(tucson.write([Series("Z", 1, [9000, 1, 9000, 9000]), Series("Y", 1, [50, 50])]))
+    lists: tuple[list[int], list[int], list[int], list[tuple[int, int]]] = ([0, 9], [1], [], [(9000, 9000)] * 2)
+    record = Record.read(run(task._replace(options=Options(ending="rwl", sheet=lists))))
+    assert [(row.name, row.n, bool(row.refusal)) for row in record.rows] == [("Y", 2, False), ("Z", None, True)]
+    assert "Series Z, 2: the index is 0" in record.rows[1].refusal
+    assert sorted(record.outputs) == ["x.indices.rwl"]
+
+
+def test_records_survive_any_text() -> None:
+    for path in ("x.rwl", "\udcff\n\u2028.rwl", EVIL):
+        record = Record(path, "1f", rows=[Row("A", 3, None, "no\n", 0.5)], changes=["a"], outputs={path: "2e"})
+        assert record.line().count(b"\n") == 1 and Record.read(record.line()) == record
+    for line in (b"", b"{}", b"[]", b'{"path":"x"', b"\xff\n", b'{"path":"x","more":1}'):
+        with pytest.raises(ValueError):
+            Record.read(line)
+
+
+# Workers.
+
+
+def test_a_task_that_kills_its_workers_is_given_up(task: Task, monkeypatch: pytest.MonkeyPatch, tmp_path: Path) -> None:
+    killer = "import os, signal, sys\nfrom walzhik.bank import worker\nplain = worker.run\n"
+    killer += "def run(task):\n    if 'bad' in task.input.path: os.kill(os.getpid(), signal.SIGKILL)\n"
+    killer += "    return plain(task)\nworker.run = run\nworker.main(int(sys.argv[1]))\n"
+    script = put(tmp_path / "killer.py", killer.encode())
+    popen = local.subprocess.Popen
+
+    def started_with_killer(arguments: list[str], **given: object) -> object:
+        return popen([arguments[0], str(script), arguments[-1]], **given)  # type: ignore[call-overload]
+
+    monkeypatch.setattr(local.subprocess, "Popen", started_with_killer)
+    workers = local.LocalWorkers(2)
+    try:
+        for path in ("a.rwl", "bad.rwl", "c.rwl"):
+            workers.give(task._replace(input=Input(path, task.input.source)))
+        lines = []
+        while workers.is_busy():
+            lines.append(Record.read(workers.take()))
+    finally:
+        workers.close()
+    said = {record.path: record.refusal for record in lines}
+    assert said.keys() == {"a.rwl", "bad.rwl", "c.rwl"} and not said["a.rwl"] and not said["c.rwl"]
+    assert said["bad.rwl"].startswith("3 workers were killed while they had it.")
+    assert workers.killed >= 3
+
+
+def test_a_worker_that_cannot_start_ends_the_run(task: Task, monkeypatch: pytest.MonkeyPatch) -> None:
+    popen = local.subprocess.Popen
+
+    def started_wrongly(arguments: list[str], **given: object) -> object:
+        return popen([arguments[0], "-c", "raise SystemExit(3)"], **given)  # type: ignore[call-overload]
+
+    monkeypatch.setattr(local.subprocess, "Popen", started_wrongly)
+    workers = local.LocalWorkers(1)
+    workers.give(task)
+    with pytest.raises(Halt, match="with status 3"):
+        workers.take()
+    workers.close()
+
+
+# The report.
+
+
+def test_one_line_a_minute() -> None:
+    moments = iter(range(0, 1_000, 20))
+    stream = io.StringIO()
+    progress = Progress(12, stream=stream, clock=lambda: next(moments))
+    for _ in range(9):
+        progress.advance()
+    assert stream.getvalue().splitlines() == [
+        "3 of 12 files are done, 3.0 a minute; about 3 minutes left.",
+        "6 of 12 files are done, 3.0 a minute; about 2 minutes left.",
+        "9 of 12 files are done, 3.0 a minute; about 1 minute left.",
+    ]
+    quiet = Progress(2, is_quiet=True, stream=stream, clock=lambda: 0)
+    quiet.advance()
+    quiet.say("nothing")
+    assert len(stream.getvalue().splitlines()) == 3
+
+
+class Tags(HTMLParser):
+    """The tags of a page, and whether they are closed in order."""
+
+    def __init__(self) -> None:
+        super().__init__()
+        self.open: list[str] = []
+        self.seen: Counter[str] = Counter()
+
+    def handle_starttag(self, tag: str, attrs: list[tuple[str, str | None]]) -> None:
+        self.seen[tag] += 1
+        if tag != "meta":
+            self.open.append(tag)
+
+    def handle_startendtag(self, tag: str, attrs: list[tuple[str, str | None]]) -> None:
+        self.seen[tag] += 1
+
+    def handle_endtag(self, tag: str) -> None:
+        assert self.open.pop() == tag
+
+
+def test_the_page_is_safe_and_tells(tmp_path: Path) -> None:
+    put(tmp_path / "in" / EVIL.replace("/", "\\"), tucson.write([Series("<b>&x", 1900, list(range(500, 560)))]))
+    put(tmp_path / "in" / os.fsdecode(b"\xff\n.rwl"), b"<i>nothing\n")
+    ended = started(tmp_path / "in", tmp_path / "out")
+    assert ended.returncode == 1, ended.stderr
+    text = (tmp_path / "out/report.html").read_text("utf-8")
+    tags = Tags()
+    tags.feed(text)
+    assert not tags.open and not {"script", "b", "i", "img"} & tags.seen.keys()
+    assert tags.seen["figure"] == 1 and tags.seen["polyline"] == 2 and tags.seen["svg"] == 2
+    assert "&lt;b&gt;&amp;x" in text and "\\xff\\x0a.rwl" in text
+    assert "http" not in text
+    assert ["\\xff\\x0a.rwl", ""] in [[row["file"], row["series"]] for row in report(tmp_path / "out")]
+
+
+def test_the_pages_numbers() -> None:
+    summary = Summary()
+    for number in range(300):
+        rows = [Row(f"A{number}", 40 + number, 4, ""), Row("B", 1, None, "Series B: no fit. It has 1 ring: so.")]
+        summary.add(Record(f"{number:03}.rwl", "1f", rows=rows, seconds=float(number)))
+    summary.add(Record("x.rwl", refusal="It can't be read: Permission denied."))
+    assert (summary.files, summary.series, summary.refused_series, summary.unread_files) == (301, 600, 300, 1)
+    assert summary.reasons == {"Series ..: no fit. It has .. ring: so.": 300, "It can't be read: Permission denied.": 1}
+    assert [slow.seconds for slow in summary.slowest] == [float(number) for number in range(299, 289, -1)]
+    assert len(summary.pictures) == len(set(summary.pictures)) == 12
+    text = page(summary, "t", [])
+    assert "report.csv has 101 more" in text and "600" not in text.split("</dl>")[0].replace("66rem", "")
+    assert sum(count for _, _, count in sketch.bins(summary.lengths)) == 600
+    assert len(sketch.bins(summary.lengths)) <= sketch.MOST_BARS
+
+
+def test_kinds_of_refusals_leave_out_names_and_numbers() -> None:
+    one = "refused, no=13,2. Line 2 ends series 'FEW     ' with 9: its last field must be 999 or -9999."
+    other = "refused, no=13,7. Line 7 ends series 'B' with 12: its last field must be 999 or -9999."
+    assert kind(one) == kind(other) and "FEW" not in kind(one)
+
+
+def test_the_report_takes_any_text() -> None:
+    record = Record('a,"b".rwl', refusal="one, two", changes=["x", "y"], seconds=1.0)
+    assert rows_of(record) == '"a,""b"".rwl",,0,,"one, two",x y,1.0000\n'
+
+
+def test_nothing_to_do(tmp_path: Path) -> None:
+    ended = started(tmp_path, tmp_path.parent / f"{tmp_path.name}-out")
+    assert ended.returncode == 2 and ended.stderr == "There is no file that ends in .rwl or .rwl.gz.\n"
+    os.mkfifo(tmp_path / "pipe.rwl")
+    ended = started(tmp_path, tmp_path.parent / f"{tmp_path.name}-out")
+    assert ended.returncode == 2
+    assert refusals(tmp_path.parent / f"{tmp_path.name}-out") == {("pipe.rwl", ""): "It is no plain file."}
+
+
+def test_usage(tmp_path: Path) -> None:
+    for arguments, words in {
+        ("--curve", "examples/sheets/roof.sheet", "--fit"): "Give --curve, or fit",
+        ("--earlywood", "*E"): "go with --curve",
+        ("--curve", "examples/refusals/refused_5.sheet"): "refused, no=5,0",
+        ("--breaks", "0,10"): "Give --breaks, --degrees and --orders together",
+        ("--workers", "0"): "Invalid value for '--workers'",
+        ("--hundredths", "--thousandths"): "not both",
+    }.items():
+        ended = started("examples/tucson", tmp_path / "out", *arguments)
+        assert ended.returncode == (1 if "refused" in words else 2) and words in ended.stderr, ended.stderr
+    assert not (tmp_path / "out").exists()
+
+
+def test_the_workers_of_this_machine_have_one_thread() -> None:
+    script = "import os\nfrom walzhik.bank import local\nfrom pathlib import Path\nworker = local.started()\n"
+    script += "print(Path(f'/proc/{worker.process.pid}/environ').read_bytes().decode())\nworker.connection.close()"
+    said = python("-c", script).stdout
+    assert all(f"{name}=1" in said for name in ("OMP_NUM_THREADS", "OPENBLAS_NUM_THREADS", "MKL_NUM_THREADS"))
