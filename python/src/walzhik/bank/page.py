@@ -10,6 +10,8 @@ from html import escape
 from .report import SHOWN_REFUSALS, Summary, counted
 from .sketch import histogram
 
+FIRST = frozenset([0])
+FIRST_TWO = frozenset([0, 1])
 STYLE = """
 :root { color-scheme: light; }
 body { font: 1rem/1.5 system-ui, "DejaVu Sans", sans-serif; color: #1b1b1b; background: #fff; max-width: 66rem;
@@ -18,7 +20,8 @@ h1 { font-size: 1.6rem; } h2 { font-size: 1.2rem; margin-top: 2.5rem; }
 table { border-collapse: collapse; width: 100%; }
 th, td { text-align: left; vertical-align: top; padding: .3rem .8rem .3rem 0; border-bottom: 1px solid #ddd;
          overflow-wrap: anywhere; }
-td.number, th.number { text-align: right; white-space: nowrap; }
+th { white-space: nowrap; min-width: 4.5rem; } th.wide { min-width: 14rem; }
+td.number, th.number { text-align: right; white-space: nowrap; width: 1%; }
 dl { display: flex; flex-wrap: wrap; gap: 1rem 2.5rem; margin: 1.5rem 0; }
 dl div { display: flex; flex-direction: column-reverse; }
 dt { color: #555; } dd { margin: 0; font-size: 1.8rem; font-variant-numeric: tabular-nums; }
@@ -35,16 +38,17 @@ def table(heads: Sequence[str], rows: Iterable[Sequence[object]], numbers: froze
 
     Examples
     --------
-    >>> table(["file"], [["<a>.rwl"]])
-    '<table><thead><tr><th>file</th></tr></thead><tbody><tr><td>&lt;a&gt;.rwl</td></tr></tbody></table>'
+    >>> table(["name"], [["<a>"]])
+    '<table><thead><tr><th>name</th></tr></thead><tbody><tr><td>&lt;a&gt;</td></tr></tbody></table>'
     """
 
     def cells(row: Sequence[object], tag: str) -> str:
         marks = (' class="number"' if place in numbers else "" for place in range(len(row)))
         return "".join(f"<{tag}{mark}>{escape(str(cell))}</{tag}>" for mark, cell in zip(marks, row))
 
+    head = cells(heads, "th").replace("<th>file</th>", '<th class="wide">file</th>')
     body = "".join(f"<tr>{cells(row, 'td')}</tr>" for row in rows)
-    return f"<table><thead><tr>{cells(heads, 'th')}</tr></thead><tbody>{body}</tbody></table>"
+    return f"<table><thead><tr>{head}</tr></thead><tbody>{body}</tbody></table>"
 
 
 def figures(summary: Summary) -> str:
@@ -66,14 +70,11 @@ def refusals(summary: Summary) -> str:
     """Why something was refused: the kinds by how often they came, then the first ones one by one."""
     if not summary.refused:
         return "<p>Nothing was refused.</p>"
-    kinds = table(["times", "why"], [(f"{count:,}", words) for words, count in summary.reasons.most_common()], NUMBER)
+    kinds = table(["times", "why"], [(f"{count:,}", words) for words, count in summary.reasons.most_common()], FIRST)
     each = table(["file", "series", "why, and what to do"], summary.refusals)
     more = summary.refused - len(summary.refusals)
     rest = f"<p>These are the first {SHOWN_REFUSALS:,}; report.csv has {more:,} more.</p>" if more else ""
     return f"{kinds}<h3>One by one</h3>{each}{rest}"
-
-
-NUMBER = frozenset([0])
 
 
 def slowest(summary: Summary) -> str:
@@ -81,7 +82,7 @@ def slowest(summary: Summary) -> str:
     if not summary.slowest:
         return "<p>All files were done before.</p>"
     rows = [(f"{seconds:.3f}", f"{series:,}", path) for seconds, path, series in summary.slowest]
-    return table(["seconds", "series", "file"], rows, frozenset([0, 1]))
+    return table(["seconds", "series", "file"], rows, FIRST_TWO)
 
 
 def page(summary: Summary, title: str, pictures: Iterable[tuple[str, str]]) -> str:

@@ -144,11 +144,12 @@ def kind(words: str) -> str:
     >>> kind("Line 14: it holds a tab that does not stand between two whole fields. Put the name ..")
     'Line ..: it holds a tab that does not stand between two whole fields.'
     """
-    plain = re.sub(r"^Series .*?: ", "Series ..: ", words)
+    plain = re.sub(r"^refused, no=[0-9]+,[0-9]+[.] ", "", words)
+    plain = re.sub(r"^Series .*?: ", "Series ..: ", plain)
     plain = re.sub(r"'[^']*'", "..", plain)
     plain = re.sub(r"(?<![A-Za-z0-9])-?[0-9][0-9,.]*(?<![,.])", "..", plain)
-    sentences = re.split(r"(?<=[a-z][.]) ", plain, maxsplit=2)
-    return " ".join(sentences[: 2 if len(sentences[0]) < len("Series ..: no template.") + 1 else 1])
+    sentences = re.split(r"(?<=[a-z.][.]) (?=[A-Z])", plain)
+    return " ".join(sentences[: 2 if len(sentences[0]) <= len("Series ..: no template.") else 1])
 
 
 def write(records: Iterable[Record], file: IO[bytes]) -> Summary:
