@@ -6,14 +6,14 @@ done it becomes the manifest, in order of path and without seconds, the same wha
 from __future__ import annotations
 
 import fcntl
+import json
 import os
 import secrets
-from collections.abc import Iterable
+from collections.abc import Iterable, Iterator
 from pathlib import Path
 from typing import IO
 
 from ..failures import Unusable
-from . import whole
 from .records import Record
 
 MANIFEST, JOURNAL = "manifest.jsonl", "journal.jsonl"
@@ -75,24 +75,23 @@ class Manifest:
         file.seek(place)
         return Record.read(file.readline())
 
-    def add(self, record: Record) -> None:
-        """Put a record into the journal."""
+    def add(self, line: bytes) -> None:
+        """Put a record, as a line, into the journal."""
         place = self._journal.seek(0, os.SEEK_END)
-        self._journal.write(record.line())
+        self._journal.write(line)
         self._journal.flush()
-        self._places[record.path] = (self._journal, place)
+        self._places[json.loads(line)["path"]] = (self._journal, place)
 
-    def others(self, paths: Iterable[str]) -> int:
-        """How many records have a path that is none of these."""
-        return len(self._places.keys() - set(paths))
+    def copied(self, paths: Iterable[str], kept: IO[bytes]) -> Iterator[Record]:
+        """The records of paths; each is put into the next manifest as it is given."""
+        for path in paths:
+            record = self.of(path)
+            if record is not None:
+                kept.write(record.without_seconds().line())
+                yield record
 
-    def finish(self, paths: Iterable[str]) -> None:
-        """Make the manifest of the paths' records, and take the journal away."""
-        with whole.written(self.output / MANIFEST, is_synced=True) as file:
-            for path in paths:
-                record = self.of(path)
-                if record is not None:
-                    file.write(record.without_seconds().line())
+    def finish(self) -> None:
+        """Take the journal away: all that it says is in the manifest."""
         os.unlink(self.output / JOURNAL)
 
     def close(self) -> None:

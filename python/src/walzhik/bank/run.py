@@ -15,7 +15,7 @@ from ..cli import INTERRUPTED
 from ..failures import Failure, Unusable
 from . import report, whole
 from .inputs import Input, found, shown
-from .manifest import Manifest
+from .manifest import MANIFEST, Manifest
 from .options import Options, version
 from .page import page
 from .progress import Progress
@@ -129,7 +129,7 @@ def done_all(
     """Have every input done, and its record in the journal."""
     for each in inputs:
         if each.complaint:
-            manifest.add(Record(each.path, refusal=each.complaint))
+            manifest.add(Record(each.path, refusal=each.complaint).line())
             progress.advance()
     tasks = tasks_of(inputs, manifest, options)
     first = next(tasks_of(inputs, manifest, options), None)
@@ -159,7 +159,7 @@ def handed_out(
     """Give tasks while there is room for them, and note what they come to; after an interrupt none is given any more."""
 
     def note() -> None:
-        manifest.add(Record.read(workers.take()))
+        manifest.add(workers.take())
         progress.advance()
 
     for task in tasks:
@@ -179,21 +179,16 @@ def left(progress: Progress) -> str:
 
 def reported(inputs: Sequence[Input], manifest: Manifest, options: Options) -> Summary:
     """Write the table, the page and the manifest."""
-
-    def records() -> Iterator[Record]:
-        for each in inputs:
-            record = manifest.of(each.path)
-            if record is not None:
-                yield record
-
     output = manifest.output
-    with whole.written(output / REPORT, is_synced=True) as file:
-        summary = report.write(records(), file)
+    with whole.written(output / MANIFEST, is_synced=True) as kept, whole.written(
+        output / REPORT, is_synced=True
+    ) as file:
+        summary = report.write(manifest.copied((each.path for each in inputs), kept), file)
     by_path = {each.path: each for each in inputs}
     pictures = list(drawn(summary, by_path, output, options))
     with whole.written(output / PAGE, is_synced=True) as file:
         file.write(page(summary, shown(output.name or str(output)), pictures).encode("utf-8"))
-    manifest.finish(each.path for each in inputs)
+    manifest.finish()
     return summary
 
 
