@@ -133,6 +133,8 @@ def test_the_examples_of_help_run(run: Run, tmp_path: Path, line: str) -> None:
     words = shlex.split(line)[1:]
     if "-o" in words:
         words[words.index("-o") + 1] = str(tmp_path / words[words.index("-o") + 1])
+    if words[0] == "bank":
+        words[2] = str(tmp_path / words[2])
     ended = run(*words)
     assert ended.status == (REFUSED if "refused" in line else 0), ended.err
     shown = [each.strip() for each in help_of(words[0]).split(line)[1].split("\n\n")[0].splitlines() if each.strip()]

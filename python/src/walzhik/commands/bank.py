@@ -116,7 +116,7 @@ def command(
 
     \b
     ./walzhik bank examples/tucson bank
-    ./walzhik bank examples/tucson bank --curve examples/sheets/roof.sheet --earlywood '*E' --latewood '*L'
+    ./walzhik bank examples/tucson/oak.rwl bank --curve examples/sheets/roof.sheet --earlywood '*E' --latewood '*L'
 
     Exit status: 0 all went well, 1 something was refused, 2 wrong usage, or something can't be read or written.
     """
