@@ -101,10 +101,10 @@ def histogram(lengths: Counter[int]) -> str:
             f'height="{tall:.1f}"><title>{told}: {count:,} series</title></rect>'
         )
         if place % every == 0:
-            parts.append(f'<text x="{x + 1:.1f}" y="{BARS_HEIGHT - MARGIN}">{first:,}</text>')
+            parts.append(f'<text x="{x + 1:.1f}" y="{BARS_HEIGHT - MARGIN - 2}">{first:,}</text>')
     return (
         f'<svg class="bars" viewBox="0 0 {BARS_WIDTH} {BARS_HEIGHT}" role="img" aria-label="Histogram of lengths">'
         f'<text x="{LEFT - 6}" y="{2 * MARGIN - 4}" text-anchor="end">{most:,}</text>'
         f'<text x="{LEFT - 6}" y="{BARS_HEIGHT - 2 * MARGIN}" text-anchor="end">0</text>{"".join(parts)}'
-        f'<text x="{BARS_WIDTH}" y="{BARS_HEIGHT - 1}" text-anchor="end">rings of a series</text></svg>'
+        f'<text x="{BARS_WIDTH}" y="{BARS_HEIGHT - 4}" text-anchor="end">rings of a series</text></svg>'
     )
