@@ -4,7 +4,7 @@ usage: compare_coefficients.py DRIVER [--count N] [--seed S] [--case LINE] [--va
 
 A call line is `coefficients` with the lists of a space, `ordinates=` and the
 lent buffers `num=`, `den=`, `coef_num=` and `coef_den=`. The driver's line must
-equal the model's: the reply and every lent cell. What change request 13 names
+equal the model's: the reply and every lent cell. What § 12 names
 must come up: ordinates made from coefficients and those with one off by one,
 counts off by one, beams, each number at the first, a middle and the last join,
 each kind of fraction that can be too large, answer buffers too short, just long

@@ -1,4 +1,4 @@
-//! The plain program: document 01 and the change requests that have landed, as a programmer writes them in Rust on the first day.
+//! The plain program: the specification and the change requests that have landed, as a programmer writes them in Rust on the first day.
 //! Sums and products with a zero return early, columns of zeros are not mixed, rows are moved in one piece, each degree has an arm
 //! of its own, a blend takes one division, and a beam is cut at its discontinuities. Nothing is proved. It is what the engine's
 //! speed is measured against, and gives the same answers, cells and values.

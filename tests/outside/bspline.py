@@ -4,7 +4,7 @@ usage: bspline.py [--driver DRIVER] [--count N] [--seed S]
 
 A space of one degree without inner discontinuities is a B-spline space whose
 knots repeat degree minus order times at each join. scipy knows nothing of
-document 01, so its agreement shows that both programs build the right space.
+the specification, so its agreement shows that both programs build the right space.
 Without a driver the rational program's values are tested, else the engine's.
 """
 

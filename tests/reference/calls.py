@@ -1,4 +1,4 @@
-"""The two public calls of document 01, modelled with every lent cell.
+"""The two public calls of the specification, modelled with every lent cell.
 
 An `Outcome` is the sparse form: the reply, the non-zero weights by cell and
 the pairs of values. `build` and `curve` expand it to the full lent buffers. Comparing

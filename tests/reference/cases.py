@@ -1,8 +1,8 @@
-"""W1 to W10 of document 01, as one table of what the papers state of them, with
-the values of document 02's CR 5 and CR 8, two in which a limit of step 1 acts,
-and some in which the parts of CR 10 differ.
+"""W1 to W10 of the specification, as one table of what the papers state of them, with
+the values of § 6, two in which a limit of step 1 acts,
+and some in which the parts of § 8 differ.
 
-In document 01's cases each coefficient stands for both parts. A case without
+In the specification's cases each coefficient stands for both parts. A case without
 coefficients is a build; every other is a curve call. Only
 stated facts stand here, none that the model worked out.
 """
@@ -133,7 +133,7 @@ v=256,17067:17067
 v=512,4267:4267
 """
 
-# (breaks, degrees, orders, number) from the readings of document 01: a span of
+# (breaks, degrees, orders, number) from the readings of the specification: a span of
 # 22 is the least that is refused for its size, and a partial sum is counted too.
 SIZE_CASES = [
     ([0, 1, 21, 22], [5, 3, 4], [2, 2], 8),

@@ -1,8 +1,8 @@
-"""The exact curve of document 01 and the limits that demand 3 sets around it,
-with the closeness of document 02's CR 8, for each part of CR 10 apart: all
+"""The exact curve of the specification and the limits that demand 3 sets around it,
+with the closeness of § 6, for each part of § 8 apart: all
 coefficients and values here are those of one part, except where pairs are named.
 
-`exact_curve` is document 01's double sum word for word. `ClosenessTest` holds
+`exact_curve` is the specification's double sum word for word. `ClosenessTest` holds
 the same sum grouped by ordinate over one common denominator, which is quick
 enough to test every value of every call; the self-check compares the two.
 """

@@ -1,8 +1,8 @@
-"""Ring indices, by document 02's CR 2, with the two wood parts of CR 10.
+"""Ring indices, by § 9, with the two wood parts of § 8.
 
 Ring r is read at position 256·r, however large r is. An index is the floor of
 256,000 times the width over the named part's value; an absent ring has -1. 14
-comes after all of document 01's numbers and leaves the values written.
+comes after all of the specification's numbers and leaves the values written.
 """
 
 from typing import NamedTuple, Optional

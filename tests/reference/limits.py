@@ -1,4 +1,4 @@
-"""The limits of document 01, each under one name.
+"""The limits of the specification, each under one name.
 
 They stand apart so that no other file of the reference model holds a bare
 number, and a change of a limit is a change of one line.
@@ -7,7 +7,7 @@ number, and a change of a limit is a change of one line.
 SIDE = 72                    # rows and columns of the table that the buffers hold
 CELLS = SIDE * SIDE          # cells of one weight buffer that a call may write
 
-MOST_SEGMENTS = 48           # of a beam; document 01 says stretch for segment
+MOST_SEGMENTS = 48           # of a beam; the specification says stretch for segment
 MOST_PART_SEGMENTS = 12      # of a part of a beam, between discontinuities
 BREAKPOINT_LIMIT = 10_000    # size of a breakpoint
 SPAN_LIMIT = 2_000           # last breakpoint minus first, of a part
@@ -30,7 +30,7 @@ MOST_SHEET_BYTES = 65_536
 MOST_LIST_ENTRIES = 4_096    # of one line of a sheet
 MOST_DIGITS = 7              # of one number of a sheet
 
-# Tucson decadal files (change request 1).
+# Tucson decadal files (§ 14).
 NAME_COLUMNS = 8
 YEAR_COLUMNS = 4
 FIELD_COLUMNS = 6

@@ -1,4 +1,4 @@
-"""Pieces for the screen, by document 02's CR 12.
+"""Pieces for the screen, by § 11.
 
 A piece of a wood part is a segment's step 1 ordinates over 256 and its two
 breakpoints, as exact fractions; `bits` gives the one 64-bit float that is such a

@@ -1,4 +1,4 @@
-"""Random calls that recover coefficients (document 02's CR 13).
+"""Random calls that recover coefficients (§ 12).
 
 The mix of spaces: 45 in 100 of any kind, 15 near the build's size limit, 20 of
 the highest orders, 20 with two segments and ordinates near the size limit of the

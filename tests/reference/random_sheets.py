@@ -1,6 +1,6 @@
 """Random sheets: legal text of random calls, and damage to the text itself.
 
-Text damage aims at number 10 in each way document 01 names, at every line, and
+Text damage aims at number 10 in each way the specification names, at every line, and
 at the forms that a pair can't have; damage to the lists aims at the other numbers. As with calls, the model
 decides what the program must print.
 """

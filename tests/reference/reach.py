@@ -1,4 +1,4 @@
-"""When the curve reaches a width, by document 02's CR 11.
+"""When the curve reaches a width, by § 10.
 
 The least position of the span whose value is 256 times the width or more, ends
 included, by the values of the curve call. A stretch of a segment is left out

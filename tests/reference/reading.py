@@ -1,4 +1,4 @@
-"""Curve values, by document 01's "Reading the curve" and document 02's CR 5, 8 and 10.
+"""Curve values, by § 6 and § 6, § 8.
 
 Step 1 turns the coefficients of a wood part into a segment's Bernstein ordinates
 in whole 256ths; step 2 blends them in a de Casteljau triangle. Every quotient is
@@ -66,7 +66,7 @@ def blend(ordinates, u, whole):
 
 
 def local(space, position):
-    """The position's segment, and u and D of document 01."""
+    """The position's segment, and u and D of the specification."""
     segment = segment_of(space, position)
     return segment, position - UNIT * space.breaks[segment], UNIT * space.length(segment)
 

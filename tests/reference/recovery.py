@@ -1,4 +1,4 @@
-"""Coefficients from local ordinates, by document 02's CR 13.
+"""Coefficients from local ordinates, by § 12.
 
 The steps of the build are taken in order on the whole beam. After the build's
 own work on a step the present numbers times the jumps must add up to zero

@@ -1,4 +1,4 @@
-"""Checks the model of recovered coefficients by what document 02's CR 13 says of it.
+"""Checks the model of recovered coefficients by what § 12 says of it.
 
 An answer's coefficients reproduce each ordinate, and no others do; after 19 the
 ordinates miss a join condition, so that none would. Ordinates made from

@@ -1,4 +1,4 @@
-"""Checks the rational program against what document 01 states.
+"""Checks the rational program against what the specification states.
 
 usage: selfcheck.py [--count N] [--seed S]
 

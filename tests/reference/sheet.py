@@ -1,4 +1,4 @@
-"""The sheet program's text, by document 01's "Sheet and printout" and document 02's CR 6 and 10.
+"""The sheet program's text, by § 13 and § 13, § 8.
 
 `sheet` takes everything on standard input and gives everything printed. Each
 coefficient is a pair earlywood:latewood, and so is each position's value. The

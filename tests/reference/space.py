@@ -1,5 +1,5 @@
-"""Multi-degree spline spaces and the refusals 1 to 7 of document 01, with the
-pairs of document 02's CR 10 and the beams of its CR 7.
+"""Multi-degree spline spaces and the refusals 1 to 7 of the specification, with the
+pairs of § 8 and the beams of § 4.
 
 A space is three lists: breakpoints, degrees and continuity orders. It is a beam
 of one part or more, cut at its discontinuities. Every test here looks at lists
@@ -14,7 +14,7 @@ from limits import (BREAKPOINT_LIMIT, CELLS, COEFFICIENT_LIMIT, DISCONTINUITY,
                     MOST_PART_SEGMENTS, MOST_POSITIONS, MOST_SEGMENTS, PARTS,
                     SPAN_LIMIT, UNIT)
 
-# The numbers of document 01's table.
+# The numbers of the specification's table.
 SHORT_BUFFER, BAD_LENGTHS, BAD_BREAKPOINT, BAD_DEGREE, BAD_ORDER = 1, 2, 3, 4, 5
 BAD_COEFFICIENT, BAD_POSITION, TOO_LARGE, BAD_JUMPS, BAD_TEXT = 6, 7, 8, 9, 10
 TOO_MANY_SEGMENTS = 15

@@ -2,7 +2,7 @@
 
 Continuity at the joins is tested by differences of ordinates, not only by the
 columns of conditions that the build itself uses. The exact curve is the
-double sum of document 01; the grouped form that comparisons use is tested
+double sum of the specification; the grouped form that comparisons use is tested
 against it.
 """
 

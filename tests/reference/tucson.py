@@ -1,4 +1,4 @@
-"""Tucson decadal files, by change request 1 of document 02.
+"""Tucson decadal files, by § 14.
 
 `read_tucson` gives the series of a text, `write_tucson` the text of a list of
 series; both refuse with a number and a place. `tucson_read` and `tucson_write`

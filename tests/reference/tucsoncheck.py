@@ -1,4 +1,4 @@
-"""Checks the model of Tucson files against what change request 1 states.
+"""Checks the model of Tucson files against what § 14 states.
 
 Small texts with each number and its place, then random texts and lists: what
 is written reads back, what is read is written in as many bytes, and refusals

@@ -1,4 +1,4 @@
-"""The rational program: an exact model of document 01, independent of the engine.
+"""The rational program: an exact model of the specification, independent of the engine.
 
 This file is the whole public surface; the modules beside it hold one idea
 each. They share nothing with the engine but the paper.

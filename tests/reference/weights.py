@@ -1,4 +1,4 @@
-"""The weights of a space, by document 01's "Building the weights".
+"""The weights of a space, by § 5.
 
 A beam is built whole here, as one table, though the engine builds its parts. A table is a list of rows; a row maps a column to its non-zero weight, columns
 rising. Zero weights are left out: products, sums and mixtures of zeros are

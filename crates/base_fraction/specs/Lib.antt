@@ -1,4 +1,4 @@
--- Machine fractions: the definitions that the contracts cite. Size has the test of document 01, Machine what a pair of
+-- Machine fractions: the definitions that the contracts cite. Size has the test of the specification, Machine what a pair of
 -- machine numbers stands for and which pairs are operands.
 pub mod Size
 pub mod Machine

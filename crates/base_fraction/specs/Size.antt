@@ -1,4 +1,4 @@
--- Counted fractions: the size test of document 01 ("Building the weights", last paragraph). The test stands here alone;
+-- Counted fractions: the size test of § 5. The test stands here alone;
 -- every operation and the definition of the build use it.
 use Prim.Native.Nat.{ℕ, _^_}
 use mathlib.Core.Bool.{Bool, _&&_, cond}

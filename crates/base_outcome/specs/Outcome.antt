@@ -1,9 +1,9 @@
--- What a call of document 01 ends with: an answer, or a refusal with its number and place.
--- Document 01, "Numbers and places"; the steps of a computation are chained so that the first refusal is the one that counts.
+-- What a call of the specification ends with: an answer, or a refusal with its number and place.
+-- § 3; the steps of a computation are chained so that the first refusal is the one that counts.
 use mathlib.Core.List.{List, [], _∷_, _++_}
 use Prim.Native.Nat.{ℕ, zero, suc, min}
 
--- An answer, or the number and the place of document 01's table.
+-- An answer, or the number and the place of the specification's table.
 pub data Outcome (A : Type 0) : Type 0 where
   answer : A → Outcome A
   refusal : ℕ → ℕ → Outcome A

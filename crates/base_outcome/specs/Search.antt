@@ -1,5 +1,5 @@
 -- The first and the last index below a bound that meets a test, and how many do.
--- Document 01 speaks of "the first" entry that breaks a rule, and of the first and last row with a non-zero jump.
+-- The specification speaks of "the first" entry that breaks a rule, and of the first and last row with a non-zero jump.
 use mathlib.Core.Bool.{Bool, true, false, cond}
 use mathlib.Core.Option.{Option, some, none}
 use Prim.Native.Nat.{ℕ, zero, suc, _+_}

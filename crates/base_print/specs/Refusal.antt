@@ -1,4 +1,4 @@
--- The line that a refusal prints (document 01, "Sheet and printout").
+-- The line that a refusal prints (§ 13).
 use mathlib.Core.List.{[], _∷_, _++_}
 use Prim.Native.Nat.{ℕ}
 use Rattle.base_text.specs.Bytes.{Text, newline, comma}

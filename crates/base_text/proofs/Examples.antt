@@ -1,4 +1,4 @@
--- What document 01's sentence on numbers allows and refuses, by computation on the definitions: "decimal, minus allowed, 1 to
+-- What the specification's sentence on numbers allows and refuses, by computation on the definitions: "decimal, minus allowed, 1 to
 -- 7 digits, no spare zeros, no -0".
 use mathlib.Core.Option.{some, none}
 use mathlib.Core.Path.{_≡_, refl}

@@ -1,4 +1,4 @@
--- Whole numbers as the sheet writes them (document 01, "Sheet and printout"): decimal, minus allowed, no spare zeros, no -0.
+-- Whole numbers as the sheet writes them (§ 13): decimal, minus allowed, no spare zeros, no -0.
 use mathlib.Core.Bool.{Bool, true, false, cond, _&&_, not}
 use mathlib.Core.List.{[], _∷_, _++_}
 use mathlib.Core.Option.{Option, some, none}

@@ -1,4 +1,4 @@
-// The weights of a multi-degree spline space: exact fractions in two lent buffers, by document 01's steps.
+// The weights of a multi-degree spline space: exact fractions in two lent buffers, by the specification's steps.
 ghost use mathlib.Core.Path.{_≡_};
 ghost use Rattle.spec_spline.specs.Build.{buildEnd};
 ghost use Rattle.build_space.specs.Machine.{space};

@@ -1,4 +1,4 @@
--- Document 01's numbers and places for the cases of what the curve call answers.
+-- The specification's numbers and places for the cases of what the curve call answers.
 use Prim.Native.Nat.{ℕ}
 use Rattle.base_outcome.specs.Outcome.{Outcome, answer, refusal}
 use Rattle.curve.specs.declared.Answer.{Answer}

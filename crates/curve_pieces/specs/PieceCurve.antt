@@ -1,4 +1,4 @@
--- What a piece has to do with the curve (document 02, CR 12): at every position of its segment its polynomial differs from the
+-- What a piece has to do with the curve (§ 11): at every position of its segment its polynomial differs from the
 -- exact curve by at most s/2 units, and at its ends it is the value itself.
 use mathlib.Core.Path.{_≡_}
 use mathlib.Core.Bool.{false}

@@ -1,4 +1,4 @@
--- One piece of a curve for the screen (document 02, CR 12): its ordinates are step 1's whole numbers after the limits, in 256ths,
+-- One piece of a curve for the screen (§ 11): its ordinates are step 1's whole numbers after the limits, in 256ths,
 -- and its ends are breakpoints. The machine gives the same numbers as 64-bit floats, exactly.
 use mathlib.Core.Bool.{Bool, cond, _&&_}
 use mathlib.Core.List.{List}

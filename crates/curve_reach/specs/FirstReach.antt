@@ -1,4 +1,4 @@
--- What the answer means (document 02, CR 11), in the words of the curve call's definition: the value at the answer reaches the
+-- What the answer means (§ 10), in the words of the curve call's definition: the value at the answer reaches the
 -- width, no earlier position's does, and after 16 none does.
 use mathlib.Core.Path.{_≡_}
 use mathlib.Core.List.{List}

@@ -1,4 +1,4 @@
--- When the curve reaches a width (document 02, CR 11): the call in Reach, the statements in FirstReach, the machine's form in
+-- When the curve reaches a width (§ 10): the call in Reach, the statements in FirstReach, the machine's form in
 -- Machine.
 pub mod Reach
 pub mod FirstReach

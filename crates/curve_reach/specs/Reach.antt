@@ -1,4 +1,4 @@
--- The least position whose value reaches a width (document 02, CR 11), by the values that the curve call gives.
+-- The least position whose value reaches a width (§ 10), by the values that the curve call gives.
 use mathlib.Core.Bool.{Bool}
 use mathlib.Core.List.{List}
 use mathlib.Core.Option.{Option, some, none}

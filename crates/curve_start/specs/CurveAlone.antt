@@ -1,4 +1,4 @@
--- The curve call that lends no positions and no values, from which the calls of document 02, CR 11 and CR 12, start.
+-- The curve call that lends no positions and no values, from which the calls of § 10 and § 11 start.
 use mathlib.Core.List.{List, []}
 use Prim.Native.Nat.{ℕ}
 use lib.IntN.{ℤ}
@@ -6,7 +6,7 @@ use Rattle.base_outcome.specs.Outcome.{Outcome}
 use Rattle.spec_spline.specs.Space.{Space}
 use Rattle.spec_spline.specs.CurveCall.{CurveResult, curveOutcome}
 
--- What it ends with, given the lengths of the two buffers: its weights, or one of "all numbers that a curve call can give" (CR 11),
--- "the curve's own numbers" (CR 12).
+-- What it ends with, given the lengths of the two buffers: its weights, or one of "all numbers that a curve call can give" (§ 10),
+-- "the curve's own numbers" (§ 11).
 abbrev pub curveAlone : Space → List ℤ → ℕ → ℕ → Outcome CurveResult
 curveAlone s coefs numLength denLength = curveOutcome s coefs [] numLength denLength 0

@@ -1,4 +1,4 @@
--- Ring indices (document 02, CR 2): each measured ring divided by the curve of a named wood part, "floor(256,000 × width /
+-- Ring indices (§ 9): each measured ring divided by the curve of a named wood part, "floor(256,000 × width /
 -- value)". The rings are consecutive, the first one's number is given, and "ring r is read at position 256·r". What the call
 -- ends with is said by the curve call's own definitions, and by number 14 and the indices after them.
 use mathlib.Core.Bool.{Bool, cond, not, _&&_, _||_}

@@ -1,4 +1,4 @@
--- What is proved of ring indices (document 02, CR 2): "each index" is "computed from a value with the closeness voted for". The
+-- What is proved of ring indices (§ 9): "each index" is "computed from a value with the closeness voted for". The
 -- index of a present ring is a floored quotient by the value cell after the call, that value is as close to the exact curve as
 -- demand 3 says, and this bounds the index itself; what absent rings, refusals and later cells have is said beside it.
 use mathlib.Core.Path.{_≡_}
@@ -56,7 +56,7 @@ valueCell c i = getD (endOf c .values) (2 * i + woodIndex (c .wood)) (pos 0)
 abbrev pub indexCell : RingsCall → ℕ → ℤ
 indexCell c i = getD (endOf c .indices) i (pos 0)
 
--- The curve call at the rings' positions is within document 01's limits.
+-- The curve call at the rings' positions is within the specification's limits.
 abbrev pub CurveIsLegal : RingsCall → Type 0
 CurveIsLegal c = Legal (c .space) (c .coefs) (ringPositions (c .firstRing) (ringCount c)) (length (c .num)) (length (c .den))
     (length (c .values))

@@ -1,4 +1,4 @@
-// The coefficients that give a list of local ordinates: exact fractions, by the steps of document 02's CR 13.
+// The coefficients that give a list of local ordinates: exact fractions, by the steps of § 12.
 ghost use mathlib.Core.Path.{_≡_};
 ghost use mathlib.Core.List.{[]};
 ghost use Prim.Native.Nat.{_≤_};

@@ -1,4 +1,4 @@
--- Document 01's printout of case W1, a refusal and low lines, by computation on the definitions.
+-- The specification's printout of case W1, a refusal and low lines, by computation on the definitions.
 use mathlib.Core.Path.{_≡_, refl}
 use mathlib.Core.List.{List, [], _∷_, _++_}
 use lib.IntN.{pos, negsuc}
@@ -10,7 +10,7 @@ use Rattle.base_text.specs.Numeral.{digitsUpTo, digits, decimal}
 use Rattle.sheet_print.specs.Printout.{joined, countLine, weightLine, weightLines, valueLine, valueLines, isLow, lowLine, lowLines, lowPositions, answerText}
 use Rattle.base_print.specs.Refusal.{refusalLine}
 
--- The lines as document 01 prints them.
+-- The lines as the specification prints them.
 abbrev w1 : List Text
 w1 =
     -- n=4

@@ -1,4 +1,4 @@
--- The printout (document 01, "Sheet and printout"; document 02, CR 10, for the two wood parts): n, the w lines, the v lines and
+-- The printout (§ 13; § 8, for the two wood parts): n, the w lines, the v lines and
 -- the low lines, or the refusal alone.
 use mathlib.Core.Bool.{Bool, cond, _||_}
 use mathlib.Core.List.{List, [], _∷_, _++_, map}
@@ -77,7 +77,7 @@ unfoldable pub lowLines : List ℤ → Text
 lowLines xs = joined (map lowLine xs)
 
 -- The whole printout of an answer. "Low lines now come by rising position, a repeated position once for each time it was
--- listed" (change request 6).
+-- listed" (§ 13).
 unfoldable pub answerText : Table → List ℤ → List Pair → Text
 answerText t xs vs = countLine (length t) ++ (weightLines (tableWeights 0 t)
     ++ (valueLines xs vs ++ lowLines (sorted (lowPositions xs vs))))

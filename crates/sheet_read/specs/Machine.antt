@@ -1,5 +1,5 @@
 -- The machine's form of what the definitions of reading say: the cases of the enums that the reading functions answer, with
--- document 01's number and place for those of the public one, and what the five lent buffers hold afterwards: the coefficients'
+-- the specification's number and place for those of the public one, and what the five lent buffers hold afterwards: the coefficients'
 -- buffer holds the numbers of its pairs side by side.
 use mathlib.Core.Bool.{Bool, true, false, _||_}
 use mathlib.Core.List.{List, [], _∷_, _++_}

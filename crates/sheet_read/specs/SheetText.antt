@@ -1,4 +1,4 @@
--- The text of a sheet with given lists (document 01, "Sheet and printout"; document 02, CR 10): what is written for numbers and
+-- The text of a sheet with given lists (§ 13; § 8): what is written for numbers and
 -- pairs reads back to them. The statement at the end is proved in proofs/RoundTrip.
 use mathlib.Core.List.{List, [], _∷_, _++_, map}
 use mathlib.Core.Path.{_≡_}

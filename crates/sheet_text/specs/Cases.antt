@@ -1,5 +1,5 @@
--- Cases W1 and W9 as sheets and their printouts (document 01, "Sheet and printout" and "Cases"; document 02, CR 8 for the values,
--- CR 10 for the pairs), byte for byte. W9 is a beam of two parts, whose w lines count over the beam (CR 7). The statement at the
+-- Cases W1 and W9 as sheets and their printouts (§ 13, § 15; § 6 for the values,
+-- § 8 for the pairs), byte for byte. W9 is a beam of two parts, whose w lines count over the beam (§ 4). The statement at the
 -- end is proved by computation in proofs/Cases; the cases of the calls alone are crate spec_spline's.
 use mathlib.Core.List.{[], _∷_}
 use mathlib.Core.Path.{_≡_}

@@ -1,4 +1,4 @@
--- The whole program as one function on texts (document 01, "Sheet and printout"; document 02, CR 7 and CR 10): five lines in,
+-- The whole program as one function on texts (§ 13; § 4, § 8): five lines in,
 -- the printout out.
 use mathlib.Core.List.{List, []}
 use mathlib.Core.Path.{_≡_}

@@ -21,7 +21,7 @@ use Rattle.spec_spline.specs.CurveCall.{badCoefficient, badPosition, cur
 use Rattle.spec_spline.specs.Listing.{rowWeights, tableWeights}
 use Rattle.spec_spline.specs.Cases.{outcome, cases, positionCases, EveryCaseHolds, EveryCasePublished, EveryCaseNeedsTwoCellsEach, EveryPositionBelongs}
 
--- Weights, counts, values and refusals of document 01's cases.
+-- Weights, counts, values and refusals of the specification's cases.
 pub every-case-holds : EveryCaseHolds
 unfolding gcd gcdF mk int inv _+ᵠ_ _*ᵠ_ -ᵠ_ isZero ltᵠ sum nearest tab fits capped collect repeat first last lengthsFit badBreak startsPart partEnd spanTooLong tooManySegments badDegree badOrder checkedEntries checked firstColumn conditionsBefore falling binomial alternating undivided commonDivisor conditions identity count addProducts span partialSum quotientFactor factors newEntry newRows step orderSteps joinSteps weights spaceWeights built startsAtDiscontinuity startsBy segmentAt rounded term termSum best ordinate ordinates blend triangle blended valueAt pairAt values sideBySide badCoefficient badPosition curveChecked curveRead curveOutcome rowWeights tableWeights outcome cases
 every-case-holds = (refl, (refl, (refl, (refl, (refl, (refl, (refl, (refl, (refl, (refl, (refl, (refl, (refl, (refl, (refl, (refl, (refl, (refl, (refl, (refl, (refl, (refl, (refl, (refl, (refl, (refl, tt))))))))))))))))))))))))))

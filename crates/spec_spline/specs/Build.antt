@@ -1,4 +1,4 @@
--- The build (document 01, "Building the weights" and "Numbers and places"; document 02, CR 7, for the buffers of a beam): the
+-- The build (§ 5, § 3; § 4, for the buffers of a beam): the
 -- table of the whole beam or the first refusal, and what the two lent buffers hold afterwards.
 use mathlib.Core.Bool.{Bool, cond, _||_}
 use mathlib.Core.List.{List, [], map}

@@ -1,5 +1,4 @@
--- The cases W1 to W10 (document 01, "Sheet and printout" for W1 and "Cases" for the others; document 02 for the values of W1
--- and W2 (CR 8) and of W9 (CR 5)), two in which a limit of step 1 acts and some in which the wood parts differ (CR 10), as one
+-- The cases W1 to W10 (§ 13 for W1 and § 15 for the others), two in which a limit of step 1 acts and some in which the wood parts differ (§ 8), as one
 -- table of inputs and outcomes; and the segments of positions on joins of each kind and beside them. The statements at the end
 -- are proved by computation in proofs/Cases.
 use mathlib.Core.Path.{_≡_}
@@ -82,7 +81,7 @@ weightAt r c n d = record { row = r; column = c; numerator = pos n; denominator 
 
 -- ---- the spaces, and their weights where they are accepted
 
--- W1, W2, W3 and W10: the weights are those that document 01 prints.
+-- W1, W2, W3 and W10: the weights are those that the specification prints.
 abbrev pub space1 : Space
 space1 = space (0 ∷ 1 ∷ 3 ∷ []) (2 ∷ 2 ∷ []) (pos 1 ∷ [])
 
@@ -186,7 +185,7 @@ unfoldable pub cases : List Case
 cases =
     -- W1
     line space1 (reading (pos 0 ∷ pos 100 ∷ pos 0 ∷ pos 0 ∷ []) (pos 256 ∷ pos 512 ∷ [])) (answers 4 weights1 (pos 17067 ∷ pos 4267 ∷ [])) ∷
-    -- W2: "W1 with coefficient -100", and document 02: "at 512 becomes -4266"
+    -- W2: "W1 with coefficient -100": "at 512 becomes -4266"
     line space1 (reading (pos 0 ∷ negℤ (pos 100) ∷ pos 0 ∷ pos 0 ∷ []) (pos 512 ∷ [])) (answers 4 weights1 (negℤ (pos 4266) ∷ [])) ∷
     -- W3: "W1 with four coefficients 1: 256 at both"
     line space1 (reading (pos 1 ∷ pos 1 ∷ pos 1 ∷ pos 1 ∷ []) (pos 256 ∷ pos 512 ∷ [])) (answers 4 weights1 (pos 256 ∷ pos 256 ∷ [])) ∷

@@ -1,4 +1,4 @@
--- The column of conditions of a join and an order (document 01, "Building the weights"), as its few non-zero entries.
+-- The column of conditions of a join and an order (§ 5), as its few non-zero entries.
 use mathlib.Core.List.{List, [], _∷_, _++_, map}
 use Prim.Native.Nat.{ℕ, zero, suc, _+_, _-_, _*_, _^_, _/_}
 use lib.IntN.{ℤ, pos, _*ℤ_, negℤ, natAbs}

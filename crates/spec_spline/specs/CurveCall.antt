@@ -1,4 +1,4 @@
--- The curve call (document 01, "What the engine takes" and "Numbers and places"; document 02, CR 10): what it ends with, and
+-- The curve call (§ 1, § 3; § 8): what it ends with, and
 -- what the three lent buffers hold afterwards. The refusals are tested in number order, within a number by place.
 use mathlib.Core.Bool.{Bool, cond, not}
 use mathlib.Core.List.{List, _++_}

@@ -1,6 +1,6 @@
--- The exact curve, and the words of demand 3 (document 01, the second half of "Reading the curve"; document 02, CR 10: "for
+-- The exact curve, and the words of demand 3 (§ 7; § 8: "for
 -- each part apart"): the sum that values are held against, s, the coefficients with weight on a segment, and which curve calls
--- are within document 01's limits. p is `degree s (segmentAt s x)`.
+-- are within the specification's limits. p is `degree s (segmentAt s x)`.
 use mathlib.Core.Path.{_≡_}
 use mathlib.Core.Bool.{Bool, not}
 use mathlib.Core.List.{List}
@@ -62,7 +62,7 @@ leastOn s w wood coefs j = Option·getD (least (length w) (weighsOn s w j) (coef
 unfoldable pub greatestOn : Space → Table → Wood → List ℤ → ℕ → ℤ
 greatestOn s w wood coefs j = Option·getD (greatest (length w) (weighsOn s w j) (coefficient wood coefs)) (pos 0)
 
--- "Whatever coefficients, positions and buffers within document 01's limits go with" an accepted space.
+-- "Whatever coefficients, positions and buffers within the specification's limits go with" an accepted space.
 pub record Legal (s : Space) (coefs positions : List ℤ) (numLength denLength valuesLength : ℕ) : Type 0 where
   pub accepted : Accepted s
   pub coefficientCount : length coefs ≡ 2 * rowCount s

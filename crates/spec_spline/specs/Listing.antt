@@ -1,4 +1,4 @@
--- The non-zero weights of a table as a list (document 01, "Sheet and printout"): "w is row, column, non-zero weight, rows
+-- The non-zero weights of a table as a list (§ 13): "w is row, column, non-zero weight, rows
 -- rising, then columns". The cases and the sheet show tables in this form.
 use mathlib.Core.Bool.{cond}
 use mathlib.Core.List.{List, [], _∷_, _++_}

@@ -1,5 +1,5 @@
 -- Demand 2's words: piecewise curves, the join conditions they meet, combinations of rows, and accepted spaces
--- (document 01, the end of "Reading the curve"). All sums are exact; nothing is tested for its size here.
+-- (§ 7). All sums are exact; nothing is tested for its size here.
 use mathlib.Core.Path.{_≡_}
 use mathlib.Core.List.{List, [], _∷_}
 use Prim.Native.Nat.{ℕ, _-_, _<_}
@@ -28,7 +28,7 @@ pub record MeetsAll (s : Space) (o : Row) : Type 0 where
   pub columns : length o ≡ columnCount s
   pub meets : (j k : ℕ) → j < segments s - 1 → k < conditionCount s j → Meets s o j k
 
--- "combination of its rows": multiplier i, document 01's factor, times row i, summed over the rows, for a table with this many columns.
+-- "combination of its rows": multiplier i, the specification's factor, times row i, summed over the rows, for a table with this many columns.
 unfoldable pub combination : ℕ → List ℚ → Table → Row
 combination columns multipliers t = tab columns (λ c. sum (length t) (λ i. entry multipliers i *ᵠ cell t i c))
 

@@ -1,5 +1,5 @@
--- Reading the curve (document 01, "Reading the curve", up to the exact curve; document 02, CR 5 and CR 8, for positions on
--- discontinuities and for the rounding, CR 10 for the two wood parts): the segment of a position, the ordinates, the de
+-- Reading the curve (§ 6, also for positions on
+-- discontinuities and for the rounding, § 8 for the two wood parts): the segment of a position, the ordinates, the de
 -- Casteljau triangle and the values.
 -- Two rules stand in one definition each: `segmentAt` says which segment a position belongs to, and `rounded` how a quotient
 -- becomes a whole number. Coefficients come as a function of the row.
@@ -36,7 +36,7 @@ unfoldable pub startsBy : Space → ℤ → ℕ → Bool
 startsBy s x i = cond (startsAtDiscontinuity s i) (ltZ (fine (break s i)) x) (leZ (fine (break s i)) x)
 
 -- "A position belongs to the last stretch that starts at or before it", and "exactly on" a discontinuity "to the stretch
--- that ends there" (document 02, CR 5). The last breakpoint, where no segment starts, thereby belongs to the last one. Before
+-- that ends there" (§ 6). The last breakpoint, where no segment starts, thereby belongs to the last one. Before
 -- the first breakpoint, where number 7 refuses, it is segment 0.
 unfoldable pub segmentAt : Space → ℤ → ℕ
 segmentAt s x = Option·getD (last (segments s) (startsBy s x)) 0

@@ -1,6 +1,6 @@
--- A space: breakpoints, degrees and continuity orders, and the refusals 2 to 5 of document 01 ("What the engine takes",
--- "Numbers and places") and 15 of document 02 (CR 7), which cuts a beam into parts. The lists hold any whole numbers and have
--- any length; all functions here are total. A segment is document 01's stretch; an order of -1 is its scar.
+-- A space: breakpoints, degrees and continuity orders, and the refusals 2 to 5 and 15
+-- (§ 1, § 3, § 4), which cuts a beam into parts. The lists hold any whole numbers and have
+-- any length; all functions here are total. A segment is the laboratory's stretch; an order of -1 is its scar.
 use mathlib.Core.Bool.{Bool, true, false, cond, not, _&&_, _||_}
 use mathlib.Core.List.{List}
 use mathlib.Core.Option.{Option, some, none, Option·getD}
@@ -69,7 +69,7 @@ badBreak s (suc i) = not (between (negℤ (pos breakLimit)) (pos breakLimit) (br
 abbrev pub conditionCount : Space → ℕ → ℕ
 conditionCount s i = natAbs (order s i +ℤ pos 1)
 
--- Join i is a discontinuity, document 01's "scar, no condition": its order is -1.
+-- Join i is a discontinuity, the laboratory's "scar, no condition": its order is -1.
 abbrev pub isDiscontinuity : Space → ℕ → Bool
 isDiscontinuity s i = eqb (conditionCount s i) 0
 

@@ -1,5 +1,5 @@
 -- One step of the build: the jumps, the rows they span, the factors and the new rows, with the counted fractions in
--- document 01's order ("Building the weights"). j is the join, which is the place of 8 and 9.
+-- the order of the specification (§ 5). j is the join, which is the place of 8 and 9.
 use mathlib.Core.Bool.{Bool, cond, not, _&&_}
 use mathlib.Core.List.{List, [], _∷_, _++_}
 use mathlib.Core.Option.{Option, some, none}

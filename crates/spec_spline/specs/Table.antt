@@ -1,4 +1,4 @@
--- Tables of fractions, and how they lie in the two lent buffers (document 01, "What the engine takes").
+-- Tables of fractions, and how they lie in the two lent buffers (§ 1).
 use mathlib.Core.Bool.{cond}
 use mathlib.Core.List.{List, [], _++_}
 use Prim.Native.Nat.{ℕ, _/_, _%_}

@@ -1,1 +1,1 @@
-// Document 01 and the published construction as definitions, in specs/. This crate has no code.
+// The specification and the published construction as definitions, in specs/. This crate has no code.

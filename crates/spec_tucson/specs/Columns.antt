@@ -1,4 +1,4 @@
--- Numbers in columns (document 02, change request 1): "numbers right-aligned, minus allowed, without spare zeros or -0".
+-- Numbers in columns (§ 14): "numbers right-aligned, minus allowed, without spare zeros or -0".
 -- A numeral is that of the sheet (crate base_text); its seven digits are more than any column here has room for.
 use mathlib.Core.Bool.{cond}
 use mathlib.Core.List.{[], _∷_, _++_}

@@ -1,4 +1,4 @@
--- Tucson decadal files (document 02, change request 1): what a line, a series and a text are, and what reading and writing end
+-- Tucson decadal files (§ 14): what a line, a series and a text are, and what reading and writing end
 -- with, the lent cells too. What is proved of these definitions is in crate theorems_tucson.
 pub mod Columns
 pub mod Line

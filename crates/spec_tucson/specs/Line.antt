@@ -1,4 +1,4 @@
--- A line of a Tucson file (document 02, change request 1): "a series name in columns 1 to 8 (printable ASCII, not all blank),
+-- A line of a Tucson file (§ 14): "a series name in columns 1 to 8 (printable ASCII, not all blank),
 -- a year in 9 to 12, then one to ten fields of six columns", "ended by byte 10", and number 11's tests of one line.
 use mathlib.Core.Bool.{Bool, true, cond, _&&_, _||_, not}
 use mathlib.Core.List.{List, [], _∷_}

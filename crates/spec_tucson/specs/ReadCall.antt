@@ -1,4 +1,4 @@
--- The read call (document 02, change request 1): what it ends with, and what the four lent buffers hold afterwards. "Then 1,
+-- The read call (§ 14): what it ends with, and what the four lent buffers hold afterwards. "Then 1,
 -- place 0, for a lent buffer too short for the answer; refusals write nothing. Reading returns how many series"; "later cells
 -- stay".
 use mathlib.Core.Bool.{Bool, cond, _&&_}

@@ -1,4 +1,4 @@
--- A series (document 02, change request 1): "Consecutive lines with one name are a series, its fields consecutive years."
+-- A series (§ 14): "Consecutive lines with one name are a series, its fields consecutive years."
 -- Its last field closes it and says the unit; widths are held in thousandths of a millimetre.
 use mathlib.Core.Bool.{Bool, true, cond, _&&_}
 use mathlib.Core.List.{List, [], _∷_, map}

@@ -1,4 +1,4 @@
--- Reading a Tucson text (document 02, change request 1): its series, or the first refusal. "Lines are tested from the top, in
+-- Reading a Tucson text (§ 14): its series, or the first refusal. "Lines are tested from the top, in
 -- that number order, place the line from 1": each line for 11, then 12, then 13, before the next.
 use mathlib.Core.Bool.{Bool, true, false, cond, _&&_, not}
 use mathlib.Core.List.{List, [], _∷_, _++_, dropLast}

@@ -1,4 +1,4 @@
--- The write call (document 02, change request 1): "Writing gives 2, place 0, if its lists don't fit each other, then 11", "place
+-- The write call (§ 14): "Writing gives 2, place 0, if its lists don't fit each other, then 11", "place
 -- the series from 0. Then 1, place 0, for a lent buffer too short for the answer; refusals write nothing"; writing returns
 -- "how many bytes; later cells stay".
 use mathlib.Core.Bool.{Bool, cond, _&&_}

@@ -1,4 +1,4 @@
--- Writing a Tucson text (document 02, change request 1): "writing always uses thousandths". The first line of a series goes
+-- Writing a Tucson text (§ 14): "writing always uses thousandths". The first line of a series goes
 -- from its first year to its decade's end, the later ones are full decades, the last ends with the closing.
 use mathlib.Core.Bool.{Bool, true, cond, _&&_, not}
 use mathlib.Core.List.{List, [], _∷_, _++_}

@@ -1,4 +1,4 @@
--- Curve calls: number 9 never comes from one, and one within document 01's limits on a space of orders at most 1 answers.
+-- Curve calls: number 9 never comes from one, and one within the specification's limits on a space of orders at most 1 answers.
 use mathlib.Core.Path.{_≡_, refl, _∙_, ap}
 use mathlib.Core.Bool.{Bool, true, false, cond}
 use Prim.Native.Nat.{_/_}

@@ -1,4 +1,4 @@
--- Which spaces are always answered (document 02, CR 9): where no join asks for more than order 1 building is never refused
+-- Which spaces are always answered (§ 5): where no join asks for more than order 1 building is never refused
 -- for a size or a shape, number 9 never comes, and number 8 comes at a step of order 2 alone.
 use mathlib.Core.Path.{_≡_}
 use mathlib.Core.List.{List, _∷_, _++_}

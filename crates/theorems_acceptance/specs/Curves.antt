@@ -1,4 +1,4 @@
--- Curve calls on spaces whose orders are all at most 1 (document 02, CR 9): within document 01's limits they answer, and
+-- Curve calls on spaces whose orders are all at most 1 (§ 5): within the specification's limits they answer, and
 -- nothing is asked of the space but legal lists.
 use mathlib.Core.Path.{_≡_}
 use mathlib.Core.Bool.{not}
@@ -13,7 +13,7 @@ use Rattle.spec_spline.specs.Table.{tableCells}
 use Rattle.spec_spline.specs.CurveCall.{positionLimit, badCoefficient, badPosition, curveOutcome, returned}
 use Rattle.theorems_acceptance.specs.Acceptance.{OrdersAtMostOne}
 
--- Lists, coefficients, positions and buffers within document 01's limits, the lists part by part: what the numbers 1 to 7 and
+-- Lists, coefficients, positions and buffers within the specification's limits, the lists part by part: what the numbers 1 to 7 and
 -- 15 ask for.
 pub record WithinLimits (s : Space) (coefs positions : List ℤ) (numLength denLength valuesLength : ℕ) : Type 0 where
   pub lists : checked s ≡ answer s

@@ -1,4 +1,4 @@
--- How close every value of every accepted curve is (document 02, CR 9), in one number: s is at most three and p at most five,
+-- How close every value of every accepted curve is (§ 5), in one number: s is at most three and p at most five,
 -- so (s + p)/2 is at most four. Stated of the value cells after a call.
 use mathlib.Core.List.{List}
 use Prim.Native.Nat.{ℕ, _+_, _*_, _<_}
@@ -21,7 +21,7 @@ pub record Near (s : Space) (t : Table) (wood : Wood) (coefs : List ℤ) (x v : 
   pub exact-at-most : exactCurve s t wood coefs x ≤ᵠ int v +ᵠ int (pos unitLimit)
   pub at-most-exact : int v ≤ᵠ exactCurve s t wood coefs x +ᵠ int (pos unitLimit)
 
--- After a call within document 01's limits on an accepted space each value cell holds such a number for its position and part.
+-- After a call within the specification's limits on an accepted space each value cell holds such a number for its position and part.
 abbrev pub ValuesAreNear : Type 0
 ValuesAreNear = (s : Space) (coefs positions : List ℤ) (numLength denLength valuesLength : ℕ)
     (l : Legal s coefs positions numLength denLength valuesLength) (before : List ℤ) (k : ℕ) → k < length positions → (wood : Wood)

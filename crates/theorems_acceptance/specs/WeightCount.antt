@@ -1,4 +1,4 @@
--- How many rows have weight on an ordinate of an accepted space (document 02, CR 9): exactly one, and one more for each
+-- How many rows have weight on an ordinate of an accepted space (§ 5): exactly one, and one more for each
 -- condition of its two joins that reaches it; so never more than three.
 use mathlib.Core.Path.{_≡_}
 use mathlib.Core.Bool.{cond}

@@ -1,4 +1,4 @@
--- Recovered coefficients in every legal space (document 02, CR 13), also where building gives 8: after 19 none of any size would
+-- Recovered coefficients in every legal space (§ 12), also where building gives 8: after 19 none of any size would
 -- reproduce the ordinates, and the ordinates of a curve that meets all conditions are refused for the size of a fraction alone.
 -- The weights here are the published construction's, which every legal space has.
 use mathlib.Core.Path.{_≡_}

@@ -1,4 +1,4 @@
--- The theorem that joins the parts of a beam (document 02, CR 7): "a part's weights must be the whole table's weights on its
+-- The theorem that joins the parts of a beam (§ 4): "a part's weights must be the whole table's weights on its
 -- rows and columns, with zeros elsewhere", and the whole build is refused exactly where the first refused part is.
 use mathlib.Core.Path.{_≡_}
 use mathlib.Core.Bool.{true}

@@ -1,4 +1,4 @@
--- Sections of a beam (document 02, CR 7): some segments in a row as a space of their own, tables that lie in one table without
+-- Sections of a beam (§ 4): some segments in a row as a space of their own, tables that lie in one table without
 -- a common row or column, and places counted over the beam.
 use mathlib.Core.List.{List, _++_, map}
 use Prim.Native.Nat.{ℕ, suc, _+_, _-_}

@@ -1,4 +1,4 @@
--- A space without discontinuities (document 02, CR 7: "cut at the scars") has one part, and is its own last part. So for such a
+-- A space without discontinuities (§ 4: "cut at the scars") has one part, and is its own last part. So for such a
 -- space all that is said of the last part, and of the buffers that hold it, is said of the whole space.
 use mathlib.Core.Path.{_≡_}
 use mathlib.Core.Bool.{true}

@@ -1,4 +1,4 @@
--- Coefficients of a beam (document 02, CR 13): "One call takes a whole beam, its parts from the left". What is recovered of a beam
+-- Coefficients of a beam (§ 12): "One call takes a whole beam, its parts from the left". What is recovered of a beam
 -- cut at a discontinuity is what is recovered of its sections by themselves.
 use mathlib.Core.Path.{_≡_}
 use mathlib.Core.List.{List, _++_}

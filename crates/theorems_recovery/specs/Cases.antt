@@ -1,5 +1,5 @@
--- Calls that recover coefficients (document 02, CR 13) and what they end with, as one table; its statement is proved by
--- computation in proofs/Cases. Each refusal of CR 13 has a line, and each kind of fraction that can be too large.
+-- Calls that recover coefficients (§ 12) and what they end with, as one table; its statement is proved by
+-- computation in proofs/Cases. Each refusal of § 12 has a line, and each kind of fraction that can be too large.
 use mathlib.Core.Path.{_≡_}
 use mathlib.Core.List.{List, [], _∷_, map, _++_}
 use Prim.Native.Nat.{ℕ, suc, _-_}

@@ -1,4 +1,4 @@
--- Coefficients from local ordinates (document 02, CR 13): the definitions in Recovery, the call in RecoveryCall, the statements
+-- Coefficients from local ordinates (§ 12): the definitions in Recovery, the call in RecoveryCall, the statements
 -- in Reproduction, in RecoveredCells of the cells after a call, and in Beams of the parts of a beam, a table of calls in Cases.
 pub mod Recovery
 pub mod RecoveryCall

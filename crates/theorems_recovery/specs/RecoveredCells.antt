@@ -1,4 +1,4 @@
--- What the cells are good for after a call that recovers coefficients (document 02, CR 13): "If an answer is given, its coefficients
+-- What the cells are good for after a call that recovers coefficients (§ 12): "If an answer is given, its coefficients
 -- reproduce each ordinate exactly and no others do; after 19 none of any size would".
 use mathlib.Core.Path.{_≡_}
 use mathlib.Core.List.{List, map}

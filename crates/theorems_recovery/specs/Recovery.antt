@@ -1,4 +1,4 @@
--- The coefficients that give a list of local ordinates (document 02, CR 13): the steps of the build in order, each followed by
+-- The coefficients that give a list of local ordinates (§ 12): the steps of the build in order, each followed by
 -- the undoing of its weights. Ordinates and coefficients are both in 256ths. j is the join, which is the place of 19 and 20.
 use mathlib.Core.Bool.{cond}
 use mathlib.Core.List.{List, [], _∷_, _++_, map}

@@ -1,4 +1,4 @@
--- The call that recovers coefficients (document 02, CR 13): what it ends with, and what its four lent buffers hold afterwards.
+-- The call that recovers coefficients (§ 12): what it ends with, and what its four lent buffers hold afterwards.
 use mathlib.Core.Bool.{Bool, cond, not, _||_}
 use mathlib.Core.List.{List, [], _++_}
 use Prim.Native.Nat.{ℕ}

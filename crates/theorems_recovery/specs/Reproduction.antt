@@ -1,4 +1,4 @@
--- What recovered coefficients are good for (document 02, CR 13): they "reproduce each ordinate exactly and no others do; after
+-- What recovered coefficients are good for (§ 12): they "reproduce each ordinate exactly and no others do; after
 -- 19 none of any size would". All sums are exact.
 use mathlib.Core.Path.{_≡_}
 use mathlib.Core.Bool.{true}

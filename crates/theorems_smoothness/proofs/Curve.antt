@@ -1,4 +1,4 @@
--- Document 01's exact curve is, on each segment, the polynomial with the ordinates that the rows and the coefficients give; at
+-- The specification's exact curve is, on each segment, the polynomial with the ordinates that the rows and the coefficients give; at
 -- a join it is the value of the polynomial before it or after it.
 use mathlib.Core.Path.{_≡_, refl, sym, _∙_, ap, ap₂, fun-ext}
 use mathlib.Core.List.{List, [], _∷_}

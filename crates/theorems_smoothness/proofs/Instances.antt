@@ -1,4 +1,4 @@
--- The theorems at three spaces of document 01's cases, W4, W5 and W9, with numbers: ordinates that join smoothly, ordinates
+-- The theorems at three spaces of the specification's cases, W4, W5 and W9, with numbers: ordinates that join smoothly, ordinates
 -- that do not, the derivatives from both sides, and the exact curve at a join.
 use mathlib.Core.Path.{_≡_, refl, sym, _∙_, ap}
 use mathlib.Core.List.{List, [], _∷_}

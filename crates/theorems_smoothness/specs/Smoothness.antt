@@ -1,4 +1,4 @@
--- What the join conditions of document 01 mean: at a join the derivatives of the polynomials on its two sides agree. So the
+-- What the join conditions of the specification mean: at a join the derivatives of the polynomials on its two sides agree. So the
 -- combinations of the rows are exactly the smooth piecewise curves, and the exact curve is made of such polynomials.
 use mathlib.Core.Path.{_≡_}
 use mathlib.Core.Logic.{_↔_}
@@ -56,7 +56,7 @@ SmoothCurvesAreCombinations = (s : Space) (a : Accepted s) (o : Row) → Smooth 
 abbrev pub curveOrdinates : Space → Table → Wood → List ℤ → Row
 curveOrdinates s t wood coefs = combination (columnCount s) (tab (length t) (λ i. int (fine (coefficient wood coefs i)))) t
 
--- Document 01's exact curve at a position is the value of its segment's polynomial with these ordinates, 256 positions being a ring.
+-- The specification's exact curve at a position is the value of its segment's polynomial with these ordinates, 256 positions being a ring.
 abbrev pub ExactCurveIsPolynomial : Type 0
 ExactCurveIsPolynomial = (s : Space) (a : Accepted s) (wood : Wood) (coefs : List ℤ) (x : ℤ) → InSpan s x
     → exactCurve s (a .table) wood coefs x ≡ value (piece s (curveOrdinates s (a .table) wood coefs) (segmentAt s x))

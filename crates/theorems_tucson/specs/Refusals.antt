@@ -1,4 +1,4 @@
--- Which refusals the two calls can give (document 02, change request 1), whatever the text, the lists and the buffers are. The
+-- Which refusals the two calls can give (§ 14), whatever the text, the lists and the buffers are. The
 -- proofs are in proofs/Refusals.
 use mathlib.Core.Bool.{true, false}
 use mathlib.Core.List.{List}

@@ -1,4 +1,4 @@
--- What is proved of reading and writing (document 02, change request 1): "a written series reads back to the same name, years
+-- What is proved of reading and writing (§ 14): "a written series reads back to the same name, years
 -- and widths", and the reverse, what reading accepts can be written, in as many bytes as were read. The proofs are in proofs/.
 use mathlib.Core.List.{List}
 use mathlib.Core.Option.{none}

@@ -1,4 +1,4 @@
--- The same of the cells after the two calls (document 02, change request 1): what the write call writes the read call reads
+-- The same of the cells after the two calls (§ 14): what the write call writes the read call reads
 -- back, and what the read call has left in its buffers the write call writes, in as many bytes as were read. The proofs are in
 -- proofs/TucsonCells.
 use mathlib.Core.List.{List}

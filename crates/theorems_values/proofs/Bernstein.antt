@@ -1,4 +1,4 @@
--- The exact triangle and document 01's sum: n exact blends with factors α and β leave the sum of C(n, t)·β^t·α^(n - t)
+-- The exact triangle and the specification's sum: n exact blends with factors α and β leave the sum of C(n, t)·β^t·α^(n - t)
 -- times number t (Pascal's rule), and dividing both factors by D divides it by D^n. Nothing is rounded here.
 use mathlib.Core.Path.{_≡_, refl, sym, _∙_, ap, ap₂}
 use mathlib.Core.Logic.{_≢_}

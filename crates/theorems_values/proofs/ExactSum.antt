@@ -1,4 +1,4 @@
--- A sum over the Bernstein polynomials at a position is what exact blends leave; so document 01's exact curve, a double sum over
+-- A sum over the Bernstein polynomials at a position is what exact blends leave; so the specification's exact curve, a double sum over
 -- rows and ordinates, is what they leave of the exact ordinates.
 use mathlib.Core.Path.{_≡_, refl, sym, _∙_, ap, ap₂}
 use mathlib.Core.List.{List, [], _∷_}

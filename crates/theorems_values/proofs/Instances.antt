@@ -1,4 +1,4 @@
--- The theorems at document 01's cases with numbers, W1 as the earlywood and W2 as the latewood of one call, and W9: the
+-- The theorems at the specification's cases with numbers, W1 as the earlywood and W2 as the latewood of one call, and W9: the
 -- hypotheses can be met, and at 512 the values 4267 and -4266 differ from the exact 12800/3 and -12800/3 by at most
 -- (s + p)/2 = 2, the first between 0 and 25600, the second between -25600 and 0. Then two spaces in which a limit of step 1
 -- acts, one whose values differ by more than (s + p - 1)/2 on either side, and a beam of two parts.

@@ -1,4 +1,4 @@
--- Which curve calls answer: those within document 01's limits on an accepted space, and no others. Each test of the call
+-- Which curve calls answer: those within the specification's limits on an accepted space, and no others. Each test of the call
 -- passes for such a call, and each is read back from an answer.
 use mathlib.Core.Path.{_≡_, refl, sym, _∙_, ap, subst}
 use mathlib.Core.Bool.{Bool, true, false, cond, not}

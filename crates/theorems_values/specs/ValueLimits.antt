@@ -1,7 +1,7 @@
--- The second half of demand 3, with the closeness of document 02, CR 8: a curve call within document 01's limits on an
+-- The second half of demand 3, with the closeness of § 6: a curve call within the specification's limits on an
 -- accepted space answers with two values for each position, each on either side of the exact curve by at most (s + p)/2, and
 -- between 256 times the least and the greatest coefficient with weight on the position's segment; for each wood part apart
--- (document 02, CR 10). `CellsAreClose` says all this of the cells after a call.
+-- (§ 8). `CellsAreClose` says all this of the cells after a call.
 use mathlib.Core.Path.{_≡_}
 use mathlib.Core.List.{List}
 use Prim.Native.Nat.{ℕ, _+_, _*_, _<_, _≤_}
@@ -50,7 +50,7 @@ abbrev pub ValueAtMostGreatest : Type 0
 ValueAtMostGreatest = (s : Space) (a : Accepted s) (wood : Wood) (coefs : List ℤ) (x : ℤ) → InSpan s x
     → valueAt s (a .table) wood coefs x ≤ℤ fine (greatestOn s (a .table) wood coefs (segmentAt s x))
 
--- ---- a call within document 01's limits
+-- ---- a call within the specification's limits
 
 -- What such a call has worked out: the accepted weights, and a pair of values for each position.
 abbrev pub legalResult : (s : Space) → Accepted s → List ℤ → List ℤ → CurveResult

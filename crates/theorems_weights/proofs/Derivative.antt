@@ -1,4 +1,4 @@
--- The published constraints are document 01's conditions up to a factor: the derivatives of the Bernstein pieces at the
+-- The published constraints are the specification's conditions up to a factor: the derivatives of the Bernstein pieces at the
 -- two sides of a join are finite differences of the ordinates, times falling factorials over powers of the lengths, and
 -- clearing those powers gives the conditions before their division.
 use mathlib.Core.Path.{_≡_, refl, sym, _∙_, ap, ap₂}

@@ -1,4 +1,4 @@
--- Finite differences: the signed binomials of document 01's conditions as the k-th difference of k + 1 numbers. Pascal's
+-- Finite differences: the signed binomials of the specification's conditions as the k-th difference of k + 1 numbers. Pascal's
 -- rule makes a difference the difference of two lower ones; so it vanishes on equal numbers, and it is the recurrence by
 -- which the published construction takes derivatives.
 use mathlib.Core.Path.{_≡_, refl, sym, _∙_, ap, ap₂}

@@ -1,4 +1,4 @@
--- The theorems at two spaces of document 01's cases, W4 and W5, with numbers: the hypotheses can be met, and what the
+-- The theorems at two spaces of the specification's cases, W4 and W5, with numbers: the hypotheses can be met, and what the
 -- theorems say of these spaces is what the cases say. And at a beam of two parts, whose second part the buffers hold.
 use mathlib.Core.Path.{_≡_, refl, sym, _∙_, ap}
 use mathlib.Core.Logic.{_⊎_, inl, inr}

@@ -1,4 +1,4 @@
--- Numbers 8 and 9 as a list of tests (document 01, "Building the weights", the last paragraph): the counted fractions in
+-- Numbers 8 and 9 as a list of tests (§ 5): the counted fractions in
 -- their order, with the tests of the shape where they stand between them. Here everything is exact arithmetic: nothing
 -- is refused while the list is made. The build refuses with the first test of the list that fails, and for no other reason.
 use mathlib.Core.Path.{_≡_}
@@ -111,7 +111,7 @@ unfoldable pub exactRow : List ℚ → List ℚ → Table → ℕ → Row
 exactRow js ws t d = tab (length (row t (firstJump js + d))) (λ c. entry ws d *ᵠ cell t (firstJump js + d) c +ᵠ
     (int (pos 1) -ᵠ entry ws (suc d)) *ᵠ cell t (firstJump js + suc d) c)
 
--- All tests of a step, in document 01's order.
+-- All tests of a step, in the specification's order.
 unfoldable pub stepTests : ℕ → List Entry → Table → List Test
 stepTests join κ t =
     let js = exactJumps κ t in

@@ -1,4 +1,4 @@
--- The filter as one function on texts (document 02, change request 1): a Tucson text in, the same series in thousandths out, or
+-- The filter as one function on texts (§ 14): a Tucson text in, the same series in thousandths out, or
 -- the line of a refusal. "A program that reads a text longer than it can hold says no=1,0."
 use mathlib.Core.Bool.{cond}
 use mathlib.Core.List.{List}

@@ -1,4 +1,4 @@
--- Document 02's numbers and places for the cases of what the write call answers.
+-- The specification's numbers and places for the cases of what the write call answers.
 use Prim.Native.Nat.{ℕ}
 use Rattle.base_outcome.specs.Outcome.{Outcome, answer, refusal}
 use Rattle.tucson_write.specs.declared.Answer.{Answer}

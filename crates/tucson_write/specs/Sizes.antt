@@ -1,4 +1,4 @@
--- The sizes of series (document 02, change request 1), from the first year and the count of widths: whether all lines' years
+-- The sizes of series (§ 14), from the first year and the count of widths: whether all lines' years
 -- can be written, and how many bytes the lines take. That the lines of crate spec_tucson have these years and bytes is proved
 -- in proofs/Sizes.
 use mathlib.Core.Bool.{Bool, true, _&&_}

@@ -1,4 +1,4 @@
-// Writing Tucson decadal files (document 02, change request 1): four lists of series into a lent text. What can be refused is
+// Writing Tucson decadal files (§ 14): four lists of series into a lent text. What can be refused is
 // tested before the first byte is written.
 ghost use mathlib.Core.Path.{_≡_};
 ghost use Rattle.spec_tucson.specs.WriteCall.{writeEnd};

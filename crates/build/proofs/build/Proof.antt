@@ -1,4 +1,4 @@
--- The tests in document 01's order: a buffer that is too short, lists that are refused, and the build of a beam whose lists are legal.
+-- The tests in the specification's order: a buffer that is too short, lists that are refused, and the build of a beam whose lists are legal.
 -- Assumes nothing.
 use borrow.Author.Needs.{needs}
 use mathlib.Core.Path.{refl, sym, _∙_, ap}

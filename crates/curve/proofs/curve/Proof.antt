@@ -1,4 +1,4 @@
--- The tests in document 01's order, the parts of the beam, and the values of an accepted one. Assumes nothing.
+-- The tests in the specification's order, the parts of the beam, and the values of an accepted one. Assumes nothing.
 use borrow.Author.Needs.{needs}
 use native.Mathlib.Omega.{arith}
 use mathlib.Core.List.{List, _++_, map}

@@ -1,4 +1,4 @@
--- The tests in document 02's order: a buffer that is too short, lists and ordinates that are refused, and the parts of a beam where
+-- The tests in the specification's order: a buffer that is too short, lists and ordinates that are refused, and the parts of a beam where
 -- all is legal. Assumes nothing.
 use borrow.Author.Needs.{needs}
 use mathlib.Core.Path.{_≡_, refl, sym, _∙_, ap, subst}

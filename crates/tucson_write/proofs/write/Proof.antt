@@ -1,4 +1,4 @@
--- `write` meets its contract: the tests in document 02's order, and the text where all pass.
+-- `write` meets its contract: the tests in the specification's order, and the text where all pass.
 use borrow.Author.Needs.{needs}
 use mathlib.Core.Path.{_≡_, sym, _∙_, ap}
 use mathlib.Core.Bool.{true}
