@@ -16,7 +16,7 @@ SOURCES = (".antt", ".rt", ".py", ".rs", ".c", ".h", ".sh", ".R", ".js", ".tsv",
 # Notes of the requests' landings tell what was there then: only their links are held to the tree (tests/pages.py).
 PAGES = ("*.md", "docs/*.md", "tests/*.md")
 # Words between backticks that look like names and are none of the tree's.
-FOREIGN = {"rt", "python3", "apt-get", "read_tucson", "rwl", "rwi", "detrend"}
+FOREIGN = {"dask-scheduler", "dask-worker", "apt-get"}
 
 
 def pages():
