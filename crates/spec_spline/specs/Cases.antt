@@ -1,6 +1,6 @@
--- The cases W1 to W10 (§ 13 for W1 and § 15 for the others), two in which a limit of step 1 acts and some in which the wood parts differ (§ 8), as one
--- table of inputs and outcomes; and the segments of positions on joins of each kind and beside them. The statements at the end
--- are proved by computation in proofs/Cases.
+-- The cases W1 to W10 (§ 13 for W1 and § 15 for the others), two in which a limit of step 1 acts and some in which the wood parts
+-- differ (§ 8), as one table of inputs and outcomes; and the segments of positions on joins of each kind and beside them. The
+-- statements at the end are proved by computation in proofs/Cases.
 use mathlib.Core.Path.{_≡_}
 use mathlib.Core.List.{List, [], _∷_, map}
 use Prim.Native.Nat.{ℕ, _*_, _-_}

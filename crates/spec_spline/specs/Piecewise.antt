@@ -28,7 +28,7 @@ pub record MeetsAll (s : Space) (o : Row) : Type 0 where
   pub columns : length o ≡ columnCount s
   pub meets : (j k : ℕ) → j < segments s - 1 → k < conditionCount s j → Meets s o j k
 
--- "combination of its rows": multiplier i, the specification's factor, times row i, summed over the rows, for a table with this many columns.
+-- "combination of its rows": multiplier i times row i, summed over the rows, for a table with this many columns.
 unfoldable pub combination : ℕ → List ℚ → Table → Row
 combination columns multipliers t = tab columns (λ c. sum (length t) (λ i. entry multipliers i *ᵠ cell t i c))
 
