@@ -144,6 +144,10 @@ def test_other_options_and_other_inputs_are_done_again(bank: Path, tmp_path: Pat
     (source / "w0008.rwl").write_bytes(b"nothing\n")
     assert started(source, output, "--format", "rwl", "--series", "W*").returncode == REFUSED_STATUS
     assert sorted(path.name for path in output.glob("w*")) == ["w0050.indices.rwl", "w0050.sheets"]
+    (source / "w0050.rwl").unlink()
+    ended = started(source, output)
+    assert "Inputs that are there no more: 1. Their outputs are left as they are." in ended.stderr
+    assert sorted(path.name for path in output.glob("w*")) == ["w0050.indices.rwl", "w0050.sheets"]
 
 
 def test_one_curve_for_all_with_patterns(tmp_path: Path) -> None:

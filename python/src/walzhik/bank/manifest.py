@@ -90,6 +90,11 @@ class Manifest:
                 kept.write(record.without_seconds().line())
                 yield record
 
+    def others(self, paths: Iterable[str]) -> int:
+        """How many records with outputs have a path that is none of these."""
+        records = map(self.of, self._places.keys() - set(paths))
+        return sum(record is not None and bool(record.outputs) for record in records)
+
     def finish(self) -> None:
         """Take the journal away: all that it says is in the manifest."""
         os.unlink(self.output / JOURNAL)

@@ -102,7 +102,11 @@ def run(
     manifest = Manifest(output)
     try:
         whole.sweep(output)
-        done_all(inputs, manifest, options, workers, Progress(len(inputs), is_quiet))
+        progress = Progress(len(inputs), is_quiet)
+        done_all(inputs, manifest, options, workers, progress)
+        others = manifest.others(each.path for each in inputs)
+        if others:
+            progress.say(f"Inputs that are there no more: {others:,}. Their outputs are left as they are.")
         return reported(inputs, manifest, options)
     except OSError as error:
         raise Unusable(f"The output folder can't be used. {error.filename or output}: {error.strerror}.") from error
