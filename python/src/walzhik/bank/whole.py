@@ -5,7 +5,7 @@
 from __future__ import annotations
 
 import os
-import tempfile
+import secrets
 from collections.abc import Iterator
 from contextlib import contextmanager
 from pathlib import Path
@@ -13,6 +13,7 @@ from typing import IO
 
 PREFIX, SUFFIX = ".walzhik-", ".part"
 ALL_MAY = 0o666  # before the user's mask
+NAME_BYTES = 8
 
 
 @contextmanager
@@ -28,21 +29,21 @@ def written(path: Path, *, is_synced: bool = False) -> Iterator[IO[bytes]]:
 
     Examples
     --------
+    >>> import tempfile
     >>> folder = Path(tempfile.mkdtemp())
     >>> with written(folder / "a" / "b") as file:
     ...     _ = file.write(b"whole")
     >>> [path.name for path in (folder / "a").iterdir()]
     ['b']
     """
-    path.parent.mkdir(parents=True, exist_ok=True)
-    handle, made = tempfile.mkstemp(prefix=PREFIX, suffix=SUFFIX, dir=path.parent)
+    made = path.parent / f"{PREFIX}{secrets.token_hex(NAME_BYTES)}{SUFFIX}"
+    handle = _created(made)
     try:
         with os.fdopen(handle, "wb") as file:
             yield file
             file.flush()
             if is_synced:
                 os.fsync(file.fileno())
-        os.chmod(made, ALL_MAY & ~_mask())
         os.replace(made, path)
     except BaseException:
         try:
@@ -63,6 +64,7 @@ def sweep(folder: Path) -> int:
 
     Examples
     --------
+    >>> import tempfile
     >>> folder = Path(tempfile.mkdtemp())
     >>> _ = (folder / ".walzhik-a1.part").write_bytes(b"ha")
     >>> sweep(folder)
@@ -77,7 +79,11 @@ def sweep(folder: Path) -> int:
     return count
 
 
-def _mask() -> int:
-    mask = os.umask(0)
-    os.umask(mask)
-    return mask
+def _created(made: Path) -> int:
+    """A new file, and its folder where that is missing: asked for in this order, since it is mostly there."""
+    flags = os.O_CREAT | os.O_EXCL | os.O_WRONLY | os.O_CLOEXEC
+    try:
+        return os.open(made, flags, ALL_MAY)
+    except FileNotFoundError:
+        made.parent.mkdir(parents=True, exist_ok=True)
+        return os.open(made, flags, ALL_MAY)
