@@ -9,6 +9,7 @@ import pty
 import resource
 import shutil
 import signal
+import socket
 import subprocess
 import sys
 from collections.abc import Iterator
@@ -21,7 +22,6 @@ from bankruns import disturbed, environment, left, make_bank, python, refusals, 
 REFUSED_STATUS, UNUSABLE, INTERRUPTED = 1, 2, 130
 MIDDLE = 20
 SMALL = 4_096  # bytes: less than an output has
-PORT = 18_787
 
 
 @pytest.fixture(scope="module")
@@ -235,11 +235,19 @@ def test_a_bar_on_a_terminal(bank: Path, tmp_path: Path) -> None:
     assert f"/{FILES} [" in said and "files/s]" in said
 
 
+def free_port() -> int:
+    """A port of loopback that nobody has now."""
+    with socket.create_server(("127.0.0.1", 0)) as taken:
+        port: int = taken.getsockname()[1]
+    return port
+
+
 @pytest.fixture
 def cluster(tmp_path: Path) -> Iterator[tuple[str, list[subprocess.Popen[bytes]]]]:
     """A scheduler and two workers, processes of their own on loopback."""
-    address = f"tcp://127.0.0.1:{PORT}"
-    scheduler = ["--host", "127.0.0.1", "--port", str(PORT), "--no-dashboard"]
+    port = free_port()
+    address = f"tcp://127.0.0.1:{port}"
+    scheduler = ["--host", "127.0.0.1", "--port", str(port), "--no-dashboard"]
     worker = [address, "--nthreads", "1", "--no-dashboard", "--nanny", "--local-directory"]
     commands = [("scheduler", scheduler), *(("worker", [*worker, str(tmp_path / f"dask{n}")]) for n in (1, 2))]
     processes = []
