@@ -22,29 +22,29 @@ LINE = re.compile(r"(degree \d order \d|mixed degrees) segments (\d+) parts (\d+
 
 # The engine's instructions to the plain program's: of the build, and of the curve calls the largest.
 MEASURED = {
-    ("degree 1 order 0", 12, 1): (0.80, 0.76),
-    ("degree 2 order 0", 12, 1): (0.71, 0.72),
-    ("degree 2 order 1", 12, 1): (0.72, 0.72),
-    ("degree 3 order 0", 12, 1): (0.66, 0.71),
-    ("degree 3 order 1", 12, 1): (0.67, 0.71),
-    ("degree 3 order 2", 12, 1): (0.66, 0.70),
-    ("degree 4 order 0", 12, 1): (0.63, 0.68),
-    ("degree 4 order 1", 12, 1): (0.63, 0.68),
-    ("degree 4 order 2", 12, 1): (0.63, 0.68),
-    ("degree 5 order 0", 12, 1): (0.58, 0.66),
-    ("degree 5 order 1", 12, 1): (0.60, 0.66),
-    ("degree 5 order 2", 12, 1): (0.60, 0.65),
-    ("mixed degrees", 12, 1): (0.67, 0.70),
-    ("mixed degrees", 12, 4): (1.06, 0.73),
-    ("mixed degrees", 48, 4): (0.67, 0.70),
-    ("degree 3 order 1", 6, 1): (0.89, 0.77),
+    ("degree 1 order 0", 12, 1): (0.70, 0.74),
+    ("degree 2 order 0", 12, 1): (0.62, 0.72),
+    ("degree 2 order 1", 12, 1): (0.62, 0.71),
+    ("degree 3 order 0", 12, 1): (0.59, 0.71),
+    ("degree 3 order 1", 12, 1): (0.58, 0.70),
+    ("degree 3 order 2", 12, 1): (0.58, 0.69),
+    ("degree 4 order 0", 12, 1): (0.56, 0.68),
+    ("degree 4 order 1", 12, 1): (0.56, 0.67),
+    ("degree 4 order 2", 12, 1): (0.55, 0.67),
+    ("degree 5 order 0", 12, 1): (0.53, 0.66),
+    ("degree 5 order 1", 12, 1): (0.53, 0.65),
+    ("degree 5 order 2", 12, 1): (0.53, 0.64),
+    ("mixed degrees", 12, 1): (0.59, 0.69),
+    ("mixed degrees", 12, 4): (0.94, 0.72),
+    ("mixed degrees", 48, 4): (0.59, 0.67),
+    ("degree 3 order 1", 6, 1): (0.78, 0.72),
 }
 
 # A build of 12 segments to one of 2, and a beam of 48 in 48 parts to one in 4.
 MEASURED_GROWTH = {
-    "degree 1 order 0": (5.2, 1.48),
-    "degree 3 order 1": (9.5, 0.50),
-    "degree 5 order 2": (12.9, 0.22),
+    "degree 1 order 0": (4.8, 1.69),
+    "degree 3 order 1": (9.1, 0.57),
+    "degree 5 order 2": (12.8, 0.25),
 }
 
 
