@@ -22,7 +22,7 @@ SPACE = "breaks=0,2000\ndegrees=1\norders=\ncoefs=-1000:-1000,-1000:-1000\n"
 SHUFFLED_SEED = 1
 MOST_RATIO = 2
 FACTOR = 2.5
-SORT = re.compile(r"^\s*([\d,]+) .*\bsorting::", re.MULTILINE)
+SORT = re.compile(r"^\s*([\d,]+) .*\bbase_sorting::", re.MULTILINE)
 TOTAL = re.compile(r"^\s*([\d,]+) .*PROGRAM TOTALS", re.MULTILINE)
 
 
