@@ -24,6 +24,12 @@ use Rattle.curve.proofs.Call.{call-stopped, call-answers, checks-answer, lists-
 use Rattle.curve_start.specs.CurveAlone.{curveAlone}
 use Rattle.curve_start.specs.Machine.{CurvesLeave}
 
+-- a refusal leaves the same numerators whatever the space's parts are
+pub refused-numerators : (s t : Space) (o : Outcome CurveResult) (num : List ℤ) {number place : ℕ} → o ≡ refusal number place
+    → curveNumerators s o num ≡ curveNumerators t o num
+refused-numerators s t o num e =
+    ap (λ (x : Outcome CurveResult). curveNumerators s x num) e ∙ sym (ap (λ (x : Outcome CurveResult). curveNumerators t x num) e)
+
 module _ (b d o coefs num den early late : List ℤ) where
   abbrev s : Space
   s = space b d o

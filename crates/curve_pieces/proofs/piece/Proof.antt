@@ -1,7 +1,7 @@
 -- The curves without positions, and then the piece from the named part's ordinates. Assumes nothing.
 use borrow.Author.Needs.{needs}
 use mathlib.Core.List.{List}
-use mathlib.Core.Path.{_≡_, sym, ap, subst}
+use mathlib.Core.Path.{_≡_, sym, _∙_, ap, subst}
 use lib.IntN.{ℤ, pos}
 use lib.ListN.{length, replicate}
 use Rattle.spec_spline.specs.Space.{Space}
@@ -12,6 +12,7 @@ use Rattle.build.specs.declared.Built.the-variants.{Rows}
 use Rattle.curve_ordinates.specs.Wood.{woodOf}
 use Rattle.curve_triangle.specs.Offsets.{columnLimit}
 use Rattle.curve_start.specs.Machine.{CurvesTold}
+use Rattle.curve_start.proofs.Leaves.{refused-numerators}
 use Rattle.curve_pieces.specs.Pieces.{pieceOutcome}
 use Rattle.curve_pieces.specs.Machine.{Replies}
 use Rattle.curve_pieces.proofs.Held.{piece-refused, piece-drawn}
@@ -88,8 +89,10 @@ returns c =
     let d = c .before .before .before .before .before .before .before in
     let a = start d .args in
     let l = d .build-curves .ensures in
-    let r = subst (Told d) (c .before .built .given .1) (l .told) in
-    (piece-refused (lists d) (woodOf (a .wood)) (a .coefs .now) (a .segment) (length (a .num .now)) (length (a .den .now)) r, (l .numerators-are, l .denominators-are))
+    let r = subst (Told d) (c .before .built .given .1) (l .told) in (
+      piece-refused (lists d) (woodOf (a .wood)) (a .coefs .now) (a .segment) (length (a .num .now)) (length (a .den .now)) r,
+      (l .numerators-are ∙ refused-numerators (lists d) _ _ (a .num .now) r, l .denominators-are),
+    )
 
 same-length-3 : tie.Need-same-length-3
 same-length-3 c = search needs

@@ -1,7 +1,7 @@
 -- `reach::reach` meets its contract: the curves without positions, and the search with the ordinates of both parts. Assumes nothing.
 use borrow.Author.Needs.{needs}
 use mathlib.Core.List.{List}
-use mathlib.Core.Path.{_≡_, subst}
+use mathlib.Core.Path.{_≡_, _∙_, subst}
 use Prim.Native.Nat.{_+_, _*_}
 use lib.IntN.{ℤ, pos}
 use lib.ListN.{length, replicate}
@@ -16,6 +16,7 @@ use Rattle.curve_ordinates.specs.Wood.{woodOf}
 use Rattle.curve_triangle.specs.Offsets.{columnLimit}
 use Rattle.curve.proofs.Pairs.{fronted, fronted-bounded}
 use Rattle.curve_start.specs.Machine.{CurvesTold}
+use Rattle.curve_start.proofs.Leaves.{refused-numerators}
 use Rattle.curve_reach.specs.Machine.{chosen}
 use Rattle.curve_reach.proofs.Call.{reach-refused, reach-searched}
 use Rattle.curve_reach.proofs.reach.Statement.{statement}
@@ -99,8 +100,10 @@ returns c =
     let d = c .before .before .before .before .before .before .before in
     let a = start d .args in
     let l = d .build-curves .ensures in
-    let r = subst (Told d) (c .before .built .given .1) (l .told) in
-    (reach-refused (beam d) (wood d) (a .coefs .now) (a .width) (length (a .num .now)) (length (a .den .now)) r, (l .numerators-are, l .denominators-are))
+    let r = subst (Told d) (c .before .built .given .1) (l .told) in (
+      reach-refused (beam d) (wood d) (a .coefs .now) (a .width) (length (a .num .now)) (length (a .den .now)) r,
+      (l .numerators-are ∙ refused-numerators (beam d) _ _ (a .num .now) r, l .denominators-are),
+    )
 
 same-length-3 : tie.Need-same-length-3
 same-length-3 c = search needs
