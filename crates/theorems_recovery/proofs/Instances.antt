@@ -2,10 +2,11 @@
 -- ordinates 0,256,257,257,768,0 have the coefficients 0,1,3,0 times 256; and W1's space with ordinates whose slopes differ.
 use mathlib.Core.Path.{_≡_, refl, _∙_, ap, ap₂, subst}
 use mathlib.Core.List.{List, [], _∷_, map}
+use mathlib.Core.Bool.{true}
 use Prim.Native.Nat.{ℕ, zero, suc, _<_}
 use native.Mathlib.Omega.{arith}
 use lib.IntN.{ℤ, pos, natAbs}
-use lib.ListN.{length}
+use lib.ListN.{length, take, drop}
 use Rattle.base_exact.specs.Gcd.{gcd, gcdF}
 use Rattle.base_exact.specs.Rational.{ℚ, mk, int, inv, _+ᵠ_, _*ᵠ_, -ᵠ_, _//_}
 use Rattle.base_exact.specs.Order.{isZero, ltᵠ}
@@ -14,9 +15,9 @@ use Rattle.base_exact.specs.Floor.{nearest}
 use Rattle.base_exact.specs.Tabulate.{tab}
 use Rattle.base_exact.proofs.Rational.{int-inj}
 use Rattle.base_fraction.specs.Size.{fits}
-use Rattle.base_outcome.specs.Outcome.{Outcome, answer, refusal, capped, with-answer, collect, repeat}
+use Rattle.base_outcome.specs.Outcome.{Outcome, answer, refusal, capped, _then_, with-answer, collect, repeat}
 use Rattle.base_outcome.specs.Search.{first, last}
-use Rattle.spec_spline.specs.Space.{Space, lengthsFit, badBreak, startsPart, partEnd, spanTooLong, tooManySegments, badDegree, badOrder, checkedEntries, checked, firstColumn, conditionsBefore, rowCount}
+use Rattle.spec_spline.specs.Space.{Space, columnCount, lengthsFit, badBreak, startsPart, partEnd, spanTooLong, tooManySegments, badDegree, badOrder, checkedEntries, checked, firstColumn, conditionsBefore, rowCount}
 use Rattle.spec_spline.specs.Conditions.{falling, binomial, alternating, undivided, commonDivisor, conditions}
 use Rattle.spec_spline.specs.Table.{entry, identity, tableCells}
 use Rattle.spec_spline.specs.Step.{count, addProducts, span, partialSum, quotientFactor, factors, newEntry, newRows, step}
@@ -30,10 +31,14 @@ use Rattle.theorems_weights.proofs.PublishedBasis.{combinations-meet-conditions
 use Rattle.theorems_recovery.specs.Recovery.{Numbered, sized, jumpSum, balanced, undoneNumber, undoneRows, undone, recoverStep, recoverOrders, recoverJoins, recovered}
 use Rattle.theorems_recovery.specs.RecoveryCall.{badOrdinate, recoveryOutcome, answersAfter, numeratorOf, recoveryEnd}
 use Rattle.theorems_recovery.specs.Reproduction.{MissedCondition, RecoveredOrTooLarge}
-use Rattle.theorems_recovery.specs.Cases.{joined}
+use Rattle.theorems_recovery.specs.Cases.{joined, beam}
+use Rattle.theorems_recovery.specs.Beams.{together}
+use Rattle.theorems_beams.specs.Sections.{section, later}
+use Rattle.theorems_beams.specs.Parts.{Starts}
 use Rattle.theorems_recovery.specs.RecoveredCells.{HeldCoefficients, NoCoefficients}
 use Rattle.theorems_recovery.proofs.Reproduction.{answers-have-the-weights, answers-reproduce, no-others-reproduce, nineteen-misses-a-condition, exact-curve-has-the-ordinates, curves-are-recovered}
 use Rattle.theorems_recovery.proofs.Refusals.{eight-and-nine-are-the-builds}
+use Rattle.theorems_recovery.proofs.Cut.{cut-recovered}
 use Rattle.theorems_recovery.proofs.RecoveredCells.{cells-reproduce, nineteen-means-none}
 
 abbrev q0 : ℚ
@@ -174,3 +179,28 @@ outcome19 = refl
 
 none : (num den : List ℤ) → length num ≡ tableCells → length den ≡ tableCells → NoCoefficients space1 others
 none num den p q = nineteen-means-none space1 others num den lent lent 0 (ap₂ (answersOf space1 others) p q ∙ ap (with-answer (λ _. rowCount space1)) outcome19)
+
+-- ---- a beam of two parts, cut at its discontinuity: W1's space, and two segments of degree 1
+
+abbrev beamOrdinates : List ℤ
+beamOrdinates = pos 0 ∷ pos 300 ∷ pos 200 ∷ pos 200 ∷ pos 0 ∷ pos 0 ∷ pos 1 ∷ pos 2 ∷ pos 2 ∷ pos 3 ∷ []
+
+beam-legal : checked beam ≡ answer beam
+unfolding first startsPart partEnd lengthsFit badBreak spanTooLong tooManySegments badDegree badOrder checkedEntries checked
+beam-legal = refl
+
+beam-starts : Starts beam 2
+unfolding startsPart
+beam-starts = record { below = omega arith; starts = refl }
+
+beam-is-cut : recovered beam beamOrdinates ≡ (recovered (section beam 0 2) (take (columnCount (section beam 0 2)) beamOrdinates) then λ r.
+    later 2 (recovered (section beam 2 2) (drop (columnCount (section beam 0 2)) beamOrdinates)) then λ q.
+    answer (together (section beam 0 2) (section beam 2 2) r q))
+unfolding firstColumn
+beam-is-cut = cut-recovered beam beam-legal 2 2 beam-starts refl beamOrdinates refl
+
+-- the coefficients are 0, 300, 0, 0 of the one part and 1, 2, 3 of the other
+beam-coefficients : with-answer (λ (r : Numbered). r .numbers) (recovered beam beamOrdinates)
+    ≡ answer (int (pos 0) ∷ int (pos 300) ∷ int (pos 0) ∷ int (pos 0) ∷ int (pos 1) ∷ int (pos 2) ∷ int (pos 3) ∷ [])
+unfolding gcd gcdF mk int inv _+ᵠ_ _*ᵠ_ -ᵠ_ _//_ isZero ltᵠ sum tab fits capped collect repeat first last firstColumn falling binomial alternating undivided commonDivisor conditions identity count addProducts span partialSum quotientFactor factors newEntry newRows step sized jumpSum balanced undoneNumber undoneRows undone recoverStep recoverOrders recoverJoins recovered
+beam-coefficients = refl

@@ -2,18 +2,20 @@
 -- a text in hundredths that is written in thousandths, in as many bytes; the cells after the two calls; and two refusals. The
 -- hypotheses are met by computation.
 use mathlib.Core.List.{List, [], _∷_}
+use mathlib.Core.Bool.{true, false}
+use mathlib.Core.Option.{some, none}
 use mathlib.Core.Path.{_≡_, refl}
 use Prim.Native.Nat.{_≤_}
 use native.Mathlib.Omega.{arith}
-use lib.IntN.{pos, negℤ}
+use lib.IntN.{pos, negℤ, _+ℤ_}
 use lib.ListN.{length, take}
 use Rattle.base_outcome.specs.Outcome.{answer, refusal, capped}
 use Rattle.base_text.specs.Bytes.{Text, bytes, lines, cut, beginsWith}
 use Rattle.base_text.specs.Numeral.{allDigits, digitsValue, isNatural, numeral, digitsUpTo, digits, decimal}
 use Rattle.spec_tucson.specs.Columns.{inColumns, columns}
-use Rattle.spec_tucson.specs.Line.{linesOf, allPrintable, allBlank, isName, fieldNumbers, columnsFit, lineInColumns, lineOf, yearInDecade, withinDecade, isWidth, fieldsAllowed, goodLine}
+use Rattle.spec_tucson.specs.Line.{Line, linesOf, allPrintable, allBlank, isName, fieldNumbers, columnsFit, lineInColumns, lineOf, yearInDecade, withinDecade, isWidth, fieldsAllowed, goodLine}
 use Rattle.spec_tucson.specs.Series.{Series, allHundredths, fromHundredths, closedBy}
-use Rattle.spec_tucson.specs.TextReading.{goesOn, yearFollows, lastField, closing, lineStep, readLine, readLines, readText}
+use Rattle.spec_tucson.specs.TextReading.{Begun, opened, goesOn, yearFollows, lastField, closing, lineStep, readLine, readLines, readText}
 use Rattle.spec_tucson.specs.ReadCall.{namesOf, yearsOf, countsOf, widthsOf, roomFor, readOutcome, filled, ReadEnd, readEnd}
 use Rattle.spec_tucson.specs.Writing.{inLines, linesFrom, seriesLines, fieldsText, lineText, linesText, written, yearsFit, allWidths, isWritable, firstUnwritable}
 use Rattle.spec_tucson.specs.WriteCall.{total, listsFit, seriesOf, seriesOutcome, writeOutcome, textAfter, writeEnd}
@@ -24,6 +26,7 @@ use Rattle.theorems_tucson.proofs.ReadsBack.{written-reads-back}
 use Rattle.theorems_tucson.proofs.Rewritten.{read-is-writable, read-keeps-length, rewritten-reads-back}
 use Rattle.theorems_tucson.proofs.TucsonCells.{written-cells-read-back, read-cells-are-written, rewritten-cells-read-back}
 use Rattle.theorems_tucson.proofs.Refusals.{read-refuses, write-refuses}
+use Rattle.theorems_tucson.proofs.FirstSeries.{next-year-by-line}
 
 -- ---- two series, the first across the year 0
 
@@ -115,3 +118,18 @@ named-again = refl
 
 named-again-refusal : WriteRefusal (pos 1 ∷ pos 1 ∷ pos 1 ∷ []) 11 2
 named-again-refusal = write-refuses (bytes "ABC01   ABC02   ABC02   ") (pos 1 ∷ pos 1 ∷ pos 1 ∷ []) (0 ∷ 0 ∷ 0 ∷ []) [] [] 11 2 named-again .0
+
+-- ---- the year that number 12 asks of the line after the first one of the text in hundredths
+
+abbrev firstLine : Text
+firstLine = lines ("ABC01   1908   120     0" ∷ [])
+
+abbrev begun : Begun
+begun = record { firstYear = pos 1908; widths = pos 120 ∷ pos 0 ∷ [] }
+
+first-line-reads : readLine 1 none true firstLine ≡ answer (opened begun)
+unfolding bytes lines cut beginsWith allDigits digitsValue isNatural numeral inColumns linesOf allPrintable allBlank isName fieldNumbers columnsFit lineInColumns lineOf yearInDecade withinDecade isWidth fieldsAllowed goodLine allHundredths fromHundredths closedBy goesOn yearFollows lastField closing lineStep readLine
+first-line-reads = refl
+
+nineteen-ten-by-the-line : (l : Line) × (goodLine false firstLine ≡ some l) × (pos 1910 ≡ l .year +ℤ pos (length (l .fields)))
+nineteen-ten-by-the-line = next-year-by-line 1 none firstLine begun first-line-reads
