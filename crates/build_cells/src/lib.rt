@@ -42,7 +42,7 @@ pub fn clear(num: &mut [i64], den: &mut [i64], from: usize, to: usize)
 }
 
 // 1 at the first n places of the diagonal.
-pub fn mark_diagonal(num: &mut [i64], n: usize)
+fn mark_diagonal(num: &mut [i64], n: usize)
     requires { ⌜ (n ≤ Table.rowCells) × (diagonalStep * n ≤ length (now num) + Table.rowCells) ⌝ }
     ensures { λ _. ⌜ now (num .exit) ≡ marked n (now (num .entry)) ⌝ }
 {
@@ -55,7 +55,7 @@ pub fn mark_diagonal(num: &mut [i64], n: usize)
 }
 
 // The cells from the one index up to the other take what stands a row further on.
-pub fn move_up(num: &mut [i64], den: &mut [i64], from: usize, to: usize)
+fn move_up(num: &mut [i64], den: &mut [i64], from: usize, to: usize)
     requires { ⌜ (from ≤ to) × ((to + Table.rowCells ≤ length (now num)) × (to + Table.rowCells ≤ length (now den))) ⌝ }
     ensures { λ _. ⌜ now (num .exit) ≡ moved from to (now (num .entry)) ⌝ }
     ensures { λ _. ⌜ now (den .exit) ≡ moved from to (now (den .entry)) ⌝ }
