@@ -133,9 +133,9 @@ CASES: list[tuple[int, str, Callable[[], object], str]] = [
         14,
         "value",
         lambda: Curve(Space([0, 2], [1], []), [9, -9]).indices([0, 7], 1),
-        "the curve of the earlywood is at -0.009 mm",
+        "the curve of the whole ring is at -0.009 mm",
     ),
-    (16, "width", lambda: line().reach(3001), "No position from ring 0 to ring 2 reaches 3.001 mm in the earlywood"),
+    (16, "width", lambda: line().reach(3001), "No position from ring 0 to ring 2 reaches 3.001 mm in the whole ring"),
     (17, "none", lambda: line().piece(1), "There is no stretch 1: the curve has 1 stretch"),
     (
         17,

@@ -22,6 +22,7 @@ if TYPE_CHECKING:
     from .space import Space
 
 Wood = Literal["earlywood", "latewood"]
+WHOLE_RING = "whole ring"  # what a refusal calls a curve whose wood nobody had to name
 EMPTY = np.zeros(1, dtype=np.int32)
 NOTHING = (pointer(EMPTY), 0)  # a list or buffer without entries, which still needs a valid pointer
 
@@ -192,7 +193,7 @@ class Curve:
         )
         if reply.number:
             told = held[:count, side].tolist()
-            raise self._refused(reply, widths=list(widths), first=first, wood=WOOD[side], values=told)
+            raise self._refused(reply, widths=list(widths), first=first, wood=wood or WHOLE_RING, values=told)
         return held[:count, side].copy(), indices
 
     def reach(self, width: int, wood: Wood | None = None) -> int:
@@ -225,7 +226,7 @@ class Curve:
         call = library.walzhik_latewood_reach if side else library.walzhik_earlywood_reach
         reply = call(*self._lent, whole(width, "width"), *lent.weights)
         if reply.number:
-            raise self._refused(reply, width=width, wood=WOOD[side])
+            raise self._refused(reply, width=width, wood=wood or WHOLE_RING)
         return int(reply.position)
 
     def piece(self, segment: int, wood: Wood | None = None) -> Piece:
@@ -254,7 +255,7 @@ class Curve:
         number = segment if isinstance(segment, int) and 0 <= segment <= LARGEST_PLACE else LARGEST_PLACE
         reply = call(*self._lent, number, *lent.weights)
         if reply.number:
-            raise self._refused(reply, wood=WOOD[side])
+            raise self._refused(reply, wood=wood or WHOLE_RING)
         ordinates = (reply.o0, reply.o1, reply.o2, reply.o3)[: reply.degree + 1]
         return Piece(int(reply.degree), ordinates, reply.start, reply.end)
 
