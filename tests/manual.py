@@ -81,7 +81,7 @@ def sources():
 
 def explanations(write):
     for source in sources():
-        status, said, told = walzhik("explain", str(source.relative_to(ROOT)))
+        status, said, told = walzhik("explain", "--strict", str(source.relative_to(ROOT)))
         wanted = REFUSED if source.name.startswith("refused") else ACCEPTED
         if status != wanted or told:
             fault(f"explain {source.name}: status {status}, {told.decode()}")

@@ -48,6 +48,28 @@ def test_explain(run: Run) -> None:
     assert run("explain", "-", "--tucson", stdin=(ROOT / OAK).read_bytes()).out.startswith("Accepted: 2 series.")
 
 
+def test_explain_reads_a_laboratorys_file(run: Run) -> None:
+    plain = run("explain", OAK)
+    path = "examples/refusals/refused_11_laboratory.rwl"
+    ended = run("explain", path)
+    assert (ended.status, ended.out) == (0, plain.out)
+    assert ended.err == (ROOT / "examples/day/clean.txt").read_text()
+    ended = run("explain", "--strict", path)
+    assert ended == (REFUSED, (ROOT / path).with_suffix(".explained").read_text(), "")
+
+
+def test_explain_guesses_nothing(run: Run) -> None:
+    ended = run("explain", "examples/refusals/refused_12.rwl")
+    assert (ended.status, ended.out) == (REFUSED, "")
+    assert ended.err == (ROOT / "examples/day/gap.txt").read_text()
+    ended = run("explain", "--split-gaps", "examples/refusals/refused_12.rwl")
+    assert ended.status == 0 and ended.out.startswith("Accepted: 2 series.\n") and "Line 2" in ended.err
+    text = b"\nFEW     1998    12     9\r\n"
+    ended = run("explain", "--tucson", "-", stdin=text)
+    assert ended.status == REFUSED and ended.out.startswith("Refused: no=13,2.\nLine 2 ends series")
+    assert run("explain", "--hundredths", "--thousandths", OAK).status == UNUSABLE
+
+
 def number_of(path: Path) -> str:
     """Number and place of a refused example."""
     found = re.match(r"Refused: (no=\d+,\d+)", path.with_suffix(".explained").read_text())

@@ -4,7 +4,7 @@ rule, or a summary. Number and place are the engine's; only the words are from h
 
 from __future__ import annotations
 
-from typing import NamedTuple
+from typing import TYPE_CHECKING, NamedTuple
 
 import numpy as np
 
@@ -13,6 +13,9 @@ from .errors import Refused
 from .reasons import PER_MM, SCAR, WOOD, count, millimetres
 from .quoting import quoted
 from .tucson_reasons import HUNDREDTHS, closings
+
+if TYPE_CHECKING:
+    from .tolerant import Cleaned
 
 
 class Explained(NamedTuple):
@@ -91,6 +94,12 @@ def series_line(series: tucson.Series, closing: int) -> str:
     return f"Series {name}: {count(len(series), 'width')} in {unit}, {years}{spread}, {absent} absent."
 
 
+def summary_of_series(text: bytes, series: list[tucson.Series]) -> Explained:
+    """How many series a strict text holds, and a line for each."""
+    lines = [series_line(each, closing) for each, closing in zip(series, closings(text))]
+    return Explained("\n".join([f"Accepted: {len(series):,} series.", *lines]), True)
+
+
 def explain_tucson(text: bytes) -> Explained:
     """What a Tucson text holds, by the proved reader.
 
@@ -101,8 +110,21 @@ def explain_tucson(text: bytes) -> Explained:
     Series 'FEW     ': 3 widths in thousandths, 1998 to 2000, 0.007 to 0.012 mm, no rings absent.
     """
     try:
-        series = tucson.read_strict(text)
+        return summary_of_series(text, tucson.read_strict(text))
     except Refused as error:
         return refused(error)
-    lines = [series_line(each, closing) for each, closing in zip(series, closings(text))]
-    return Explained("\n".join([f"Accepted: {len(series):,} series.", *lines]), True)
+
+
+def explain_cleaned(cleaned: Cleaned) -> Explained:
+    """What a text that was cleaned holds, by the proved reader; a refusal names the line of the file as it was before.
+
+    Examples
+    --------
+    >>> print(explain_cleaned(tucson.clean(b"\\nFEW     1998    12     9\\r\\n")).words)
+    Refused: no=13,2.
+    Line 2 ends series 'FEW     ' with 9: its last field must be 999 or -9999.
+    """
+    try:
+        return summary_of_series(cleaned.text, tucson.read_cleaned(cleaned))
+    except Refused as error:
+        return refused(error)

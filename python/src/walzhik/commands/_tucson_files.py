@@ -5,7 +5,7 @@ behind it. Apart because no command may read such a file in a way of its own.
 from __future__ import annotations
 
 from collections.abc import Callable
-from typing import Any, NamedTuple, TypeVar
+from typing import TYPE_CHECKING, Any, NamedTuple, TypeVar
 
 import click
 
@@ -14,6 +14,9 @@ from ..failures import Refusal, telling
 from ..files import read_whole
 from ..quoting import quoted
 from ..tucson import Series, Unit
+
+if TYPE_CHECKING:
+    from ..tolerant import Cleaned
 
 Decorated = TypeVar("Decorated", bound=Callable[..., Any])
 
@@ -58,15 +61,21 @@ def strict_option(function: Decorated) -> Decorated:
     return click.option("--strict", is_flag=True, help=words)(function)
 
 
+def told_clean(name: str, data: bytes, reading: Reading) -> Cleaned:
+    """The bytes of a file in the strict form; each change is told on standard error."""
+    front = tucson.clean(data, unit=reading.unit, split_gaps=reading.split_gaps)
+    for change in front.changes:
+        click.echo(f"{name}: {change}", err=True)
+    return front
+
+
 def cleaned(name: str, reading: Reading) -> tuple[bytes, list[Series]]:
     """A file, or standard input for ``-``, as a strict text and its series; each change is told on standard error."""
     with telling(name):
         data = read_whole(name)
         if reading.strict:
             return data, tucson.read_strict(data)
-        front = tucson.clean(data, unit=reading.unit, split_gaps=reading.split_gaps)
-        for change in front.changes:
-            click.echo(f"{name}: {change}", err=True)
+        front = told_clean(name, data, reading)
         return front.text, tucson.read_cleaned(front)
 
 
