@@ -5,7 +5,7 @@ use Prim.Native.Nat.{ℕ}
 use native.Mathlib.Omega.{arith}
 use Rattle.base_exact.specs.Rational.{ℚ}
 use Rattle.base_fraction.specs.Size.{fits, Counting, counted, too-large, count}
-use Rattle.base_fraction.specs.Machine.{fraction, value, answer, Sized}
+use Rattle.base_fraction.specs.Machine.{fraction, value, answer, FractionFits}
 use Rattle.base_fraction.specs.declared.Fraction.{Fraction}
 use Rattle.base_fraction.specs.declared.Counted.the-variants.{Fits, TooLarge}
 use Rattle.base_fraction.proofs.Value.{ratio-is, den-positive, value-fraction}
@@ -13,11 +13,11 @@ use Rattle.base_fraction.proofs.Size.{fits-num, fits-den, is-fits, coun
 
 -- ---- sizes
 
-pub fits-sized : (q : ℚ) → fits q ≡ true → Sized (fraction q)
+pub fits-sized : (q : ℚ) → fits q ≡ true → FractionFits (fraction q)
 unfolding fraction
 fits-sized q e = record { num-small = fits-num q e; den-pos = den-positive q; den-small = fits-den q e }
 
-pub sized-fits : {f : Fraction} → Sized f → fits (value f) ≡ true
+pub sized-fits : {f : Fraction} → FractionFits f → fits (value f) ≡ true
 unfolding value
 sized-fits {f} s = is-fits (ratio-is (f .num) (f .den) (s .den-pos)) (s .num-small) (s .den-small)
 
@@ -53,14 +53,14 @@ pub record Kept (q : ℚ) (f : Fraction) : Type 0 where
   pub value-is : value f ≡ q
   pub fraction-is : f ≡ fraction q
   pub small : fits q ≡ true
-  pub sized : Sized f
+  pub fitted : FractionFits f
 
 pub kept : (q : ℚ) (f : Fraction) → answer (count q) ≡ Fits f → Kept q f
 kept q f e =
     let a = fits-answer (count q) f e in
     let k = counted-is q (value f) (a .0) in
     let w : f ≡ fraction q = a .1 ∙ ap fraction (k .0) in
-    record { value-is = k .0; fraction-is = w; small = k .1; sized = rw w (fits-sized q (k .1)) }
+    record { value-is = k .0; fraction-is = w; small = k .1; fitted = rw w (fits-sized q (k .1)) }
 
 pub not-kept : (q : ℚ) → answer (count q) ≡ TooLarge → fits q ≡ false
 not-kept q e = too-large-is q (large-answer (count q) e)

@@ -7,15 +7,15 @@ use mir.Syntax.{w64}
 use mir.Val.{SFits}
 use Rattle.base_exact.proofs.Word.{sfits-abs, abs-add, abs-sub, abs-mul-le}
 use Rattle.base_fraction.specs.Size.{limit}
-use Rattle.base_fraction.specs.Machine.{Sized}
+use Rattle.base_fraction.specs.Machine.{FractionFits}
 use Rattle.base_fraction.specs.declared.Fraction.{Fraction}
 
 -- ---- the parts of an operand fit a word
 
-pub num-fits : {f : Fraction} → Sized f → SFits w64 (f .num)
+pub num-fits : {f : Fraction} → FractionFits f → SFits w64 (f .num)
 num-fits h = sfits-abs (omega (arith, h .num-small))
 
-pub den-fits : {f : Fraction} → Sized f → SFits w64 (f .den)
+pub den-fits : {f : Fraction} → FractionFits f → SFits w64 (f .den)
 den-fits h = sfits-abs (omega (arith, h .den-small))
 
 -- ---- and so do the numbers that the operations make of parts

@@ -28,7 +28,7 @@ answer (counted q) = Fits (fraction q)
 answer too-large = TooLarge
 
 -- a machine fraction whose parts are below the limit: no operation on two of these can overflow
-pub record Sized (f : Fraction) : Type 0 where
+pub record FractionFits (f : Fraction) : Type 0 where
   pub num-small : natAbs (f .num) < limit
   pub den-pos : pos 0 <ℤ f .den
   pub den-small : natAbs (f .den) < limit

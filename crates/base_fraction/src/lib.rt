@@ -10,7 +10,7 @@ ghost use Rattle.base_exact.specs.Rational.{int, _+ᵠ_, _*ᵠ_, _/ᵠ_};
 ghost use Rattle.base_exact.specs.Floor.{floorDiv, nearest};
 ghost use Rattle.base_exact.specs.Order.{ltᵠ};
 ghost use Rattle.base_fraction.specs.Size.{count};
-ghost use Rattle.base_fraction.specs.Machine.{fraction, ratio, value, answer, Sized};
+ghost use Rattle.base_fraction.specs.Machine.{fraction, ratio, value, answer, FractionFits};
 
 pub struct Fraction {
     pub num: i64,
@@ -91,14 +91,14 @@ fn checked(n: i64, d: i64) -> Counted
 }
 
 pub fn product(a: Fraction, b: Fraction) -> Counted
-    requires { ⌜ Sized a × Sized b ⌝ }
+    requires { ⌜ FractionFits a × FractionFits b ⌝ }
     ensures { λ r. ⌜ r ≡ answer (count (value a *ᵠ value b)) ⌝ }
 {
     checked(a.num * b.num, a.den * b.den)
 }
 
 pub fn sum(a: Fraction, b: Fraction) -> Counted
-    requires { ⌜ Sized a × Sized b ⌝ }
+    requires { ⌜ FractionFits a × FractionFits b ⌝ }
     ensures { λ r. ⌜ r ≡ answer (count (value a +ᵠ value b)) ⌝ }
 {
     checked(a.num * b.den + b.num * a.den, a.den * b.den)
@@ -106,7 +106,7 @@ pub fn sum(a: Fraction, b: Fraction) -> Counted
 
 // Crosswise products; the signs are turned where the new denominator is below zero.
 pub fn quotient(a: Fraction, b: Fraction) -> Counted
-    requires { ⌜ Sized a × Sized b × (b .num ≢ pos 0) ⌝ }
+    requires { ⌜ FractionFits a × FractionFits b × (b .num ≢ pos 0) ⌝ }
     ensures { λ r. ⌜ r ≡ answer (count (value a /ᵠ value b)) ⌝ }
 {
     let n = a.num * b.den;

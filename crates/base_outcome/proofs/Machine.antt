@@ -41,9 +41,9 @@ module _ {A : Type 0} where
   pub legal-answers : (o : Outcome A) → legality o ≡ Legal → Answered o
   unfolding legality
   legal-answers (answer a) e = record { given = a; is = refl }
-  legal-answers (refusal number place) e = absurd (let z : _≡_ {A = ℕ} 0 1 = cc in omega arith)
+  legal-answers (refusal code place) e = absurd (let z : _≡_ {A = ℕ} 0 1 = cc in omega arith)
 
-  pub refused-refuses : (o : Outcome A) {number place : ℕ} → legality o ≡ Refused number place → o ≡ refusal number place
+  pub refused-refuses : (o : Outcome A) {code place : ℕ} → legality o ≡ Refused code place → o ≡ refusal code place
   unfolding legality
   refused-refuses (answer a) e = absurd (let z : _≡_ {A = ℕ} 0 1 = cc in omega arith)
   refused-refuses (refusal n p) e = cc
@@ -52,7 +52,7 @@ module _ {A : Type 0} where
   unfolding legality
   answer-legal o e = ap legality e
 
-  pub refusal-refused : (o : Outcome A) {number place : ℕ} → o ≡ refusal number place → legality o ≡ Refused number place
+  pub refusal-refused : (o : Outcome A) {code place : ℕ} → o ≡ refusal code place → legality o ≡ Refused code place
   unfolding legality
   refusal-refused o e = ap legality e
 
@@ -60,4 +60,4 @@ module _ {A : Type 0} where
 pub legality-then : {A B : Type 0} (o : Outcome A) (f : A → B) → legality (o then λ a. answer (f a)) ≡ legality o
 unfolding legality
 legality-then (answer a) f = refl
-legality-then (refusal number place) f = refl
+legality-then (refusal code place) f = refl

@@ -10,7 +10,7 @@ use Rattle.base_outcome.specs.declared.Found.the-variants.{At, Nothing}
 -- A check that passed, or its refusal.
 unfoldable pub legality : {A : Type 0} → Outcome A → Legality
 legality (answer a) = Legal
-legality (refusal number place) = Refused number place
+legality (refusal code place) = Refused code place
 
 -- What a search found.
 unfoldable pub found : Option ℕ → Found

@@ -12,5 +12,5 @@ between low high z = leZ low z && leZ z high
 
 -- The refusal at the first index that breaks the rule, or the value given.
 abbrev pub refuseFirst : {A : Type 0} → ℕ → Option ℕ → Outcome A → Outcome A
-refuseFirst number none rest = rest
-refuseFirst number (some i) rest = refuse number i
+refuseFirst code none rest = rest
+refuseFirst code (some i) rest = refuse code i

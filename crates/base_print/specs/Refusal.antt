@@ -10,7 +10,7 @@ refusalKey = 110 ∷ 111 ∷ 61 ∷ []
 
 -- "A refusal prints only no=number,place."
 unfoldable pub refusalLine : ℕ → ℕ → Text
-refusalLine number place = refusalKey ++ (digits number ++ (comma ∷ (digits place ++ (newline ∷ []))))
+refusalLine code place = refusalKey ++ (digits code ++ (comma ∷ (digits place ++ (newline ∷ []))))
 
 -- The most bytes of such a line: both numbers are counted with the 20 digits that 64 bits can have.
 abbrev pub refusalLineLimit : ℕ

@@ -78,13 +78,13 @@ pub fn put_decimal(out: &mut [u8], at: usize, z: i64) -> usize
 }
 
 // The printout of a refusal: no=number,place
-pub fn refusal(number: u8, place: u32, out: &mut [u8]) -> usize
-    ensures { λ r. ⌜ r ≡ length (refusalLine number place) ⌝ }
-    ensures { λ r. ⌜ now (out .exit) ≡ written 0 (refusalLine number place) (now (out .entry)) ⌝ }
+pub fn refusal(code: u8, place: u32, out: &mut [u8]) -> usize
+    ensures { λ r. ⌜ r ≡ length (refusalLine code place) ⌝ }
+    ensures { λ r. ⌜ now (out .exit) ≡ written 0 (refusalLine code place) (now (out .entry)) ⌝ }
     ensures { λ r. ⌜ r ≤ refusalLineLimit ⌝ }
 {
     let a = put_text(out, 0, b"no=");
-    let b = put_digits(out, a, number as u64);
+    let b = put_digits(out, a, code as u64);
     let c = put(out, b, b',');
     let d = put_digits(out, c, place as u64);
     put(out, d, 10)

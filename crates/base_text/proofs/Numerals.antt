@@ -13,7 +13,7 @@ use Rattle.base_exact.proofs.Word.{zero-sub}
 use Rattle.base_text.specs.Bytes.{Text, minus}
 use Rattle.base_text.specs.Numeral.{isNatural, digitsValue, negated, numeral}
 use Rattle.base_text.specs.Machine.{field}
-use Rattle.base_text.specs.declared.numeral.Field.the-variants.{Number, Bad}
+use Rattle.base_text.specs.declared.numeral.Field.the-variants.{Numeral, Bad}
 use Rattle.base_text.proofs.Slice.{slice-step}
 
 -- ---- of a text
@@ -47,14 +47,14 @@ module _ (text : Text) (from to : ℕ) (before : from < to) (within : to ≤ len
   pub minus-zero : getD text from 0 ≡ minus → isNatural rest ≡ true → digitsValue 0 rest ≡ 0 → numeral (slice from to text) ≡ none
   minus-zero e d z = minus-is e ∙ ap (λ (b : Bool). negated b (digitsValue 0 rest)) d ∙ ap (negated true) z
 
-  pub minus-number : getD text from 0 ≡ minus → isNatural rest ≡ true → (digitsValue 0 rest ≡ 0 → ⊥) → numeral (slice from to text) ≡ some (pos 0 -ℤ pos (digitsValue 0 rest))
-  minus-number e d z = minus-is e ∙ ap (λ (b : Bool). negated b (digitsValue 0 rest)) d ∙ negated-some (digitsValue 0 rest) z
+  pub minus-numeral : getD text from 0 ≡ minus → isNatural rest ≡ true → (digitsValue 0 rest ≡ 0 → ⊥) → numeral (slice from to text) ≡ some (pos 0 -ℤ pos (digitsValue 0 rest))
+  minus-numeral e d z = minus-is e ∙ ap (λ (b : Bool). negated b (digitsValue 0 rest)) d ∙ negated-some (digitsValue 0 rest) z
 
   plain-is : (getD text from 0 ≡ minus → ⊥) → numeral (slice from to text) ≡ cond (isNatural (slice from to text)) (some (pos (digitsValue 0 (slice from to text)))) none
   plain-is h = rw (slice-step from to text 0 before within) (numeral-plain _ rest h)
 
-  pub plain-number : (getD text from 0 ≡ minus → ⊥) → isNatural (slice from to text) ≡ true → numeral (slice from to text) ≡ some (pos (digitsValue 0 (slice from to text)))
-  plain-number h d = plain-is h ∙ ap (λ (b : Bool). cond b (some (pos (digitsValue 0 (slice from to text)))) none) d
+  pub plain-numeral : (getD text from 0 ≡ minus → ⊥) → isNatural (slice from to text) ≡ true → numeral (slice from to text) ≡ some (pos (digitsValue 0 (slice from to text)))
+  plain-numeral h d = plain-is h ∙ ap (λ (b : Bool). cond b (some (pos (digitsValue 0 (slice from to text)))) none) d
 
   pub plain-bad : (getD text from 0 ≡ minus → ⊥) → isNatural (slice from to text) ≡ false → numeral (slice from to text) ≡ none
   plain-bad h d = plain-is h ∙ ap (λ (b : Bool). cond b (some (pos (digitsValue 0 (slice from to text)))) none) d
@@ -65,7 +65,7 @@ unfolding field
 field-none none e = refl
 field-none (some z) e = absurd (let x : _≡_ {A = ℕ} 0 1 = cc in omega arith)
 
-pub field-some : (o : Option ℤ) (z : ℤ) → field o ≡ Number z → o ≡ some z
+pub field-some : (o : Option ℤ) (z : ℤ) → field o ≡ Numeral z → o ≡ some z
 unfolding field
 field-some none z e = absurd (let x : _≡_ {A = ℕ} 0 1 = cc in omega arith)
 field-some (some y) z e = cc

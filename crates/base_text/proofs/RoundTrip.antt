@@ -11,7 +11,7 @@ use lib.IntN.{ℤ, pos, negsuc}
 use lib.ListN.{length, length-append}
 use Rattle.base_exact.proofs.Decide.{and-true, le-or-lt}
 use Rattle.base_text.specs.Bytes.{Text, digitZero}
-use Rattle.base_text.specs.Numeral.{isDigit, allDigits, digitsValue, spareZero, isNatural, negated, numeral, digitsUpTo, digits, decimal, numberLimit, NumeralReadsBack}
+use Rattle.base_text.specs.Numeral.{isDigit, allDigits, digitsValue, spareZero, isNatural, negated, numeral, digitsUpTo, digits, decimal, numeralLimit, NumeralReadsBack}
 use Rattle.base_text.proofs.Decimal.{lastDigit, upTo-small, upTo-large, digits-length-le}
 use Rattle.base_text.proofs.Digits.{digit-yes, digit-bounds, natural-parts, natural-digits}
 use Rattle.base_text.proofs.Numerals.{numeral-plain}
@@ -103,7 +103,7 @@ digits-all n = digits-are n .all
 digits-value : (n : ℕ) → digitsValue 0 (digits n) ≡ n
 digits-value n = digits-are n .value
 
-digits-natural : (n : ℕ) → n < numberLimit → isNatural (digits n) ≡ true
+digits-natural : (n : ℕ) → n < numeralLimit → isNatural (digits n) ≡ true
 digits-natural n h = natural-digits (digits n) (digits-are n .any) (digits-length-le 6 n h) (digits-spare n) ∙ digits-all n
 
 -- a number is no empty text

@@ -2,9 +2,9 @@
 use mathlib.Core.Option.{Option, some, none}
 use lib.IntN.{ℤ}
 use Rattle.base_text.specs.declared.numeral.Field.{Field}
-use Rattle.base_text.specs.declared.numeral.Field.the-variants.{Number, Bad}
+use Rattle.base_text.specs.declared.numeral.Field.the-variants.{Numeral, Bad}
 
 -- A numeral's number, if the field is one.
 unfoldable pub field : Option ℤ → Field
 field none = Bad
-field (some z) = Number z
+field (some z) = Numeral z

@@ -65,9 +65,9 @@ decimal (negsuc n) = minus ∷ digits (suc n)
 -- ---- reading what was printed
 
 -- "1 to 7 digits": the least number that has more.
-abbrev pub numberLimit : ℕ
-numberLimit = 10000000
+abbrev pub numeralLimit : ℕ
+numeralLimit = 10000000
 
 -- A number reads back; proved in proofs/RoundTrip.
 abbrev pub NumeralReadsBack : Type 0
-NumeralReadsBack = (z : ℤ) → natAbs z < numberLimit → numeral (decimal z) ≡ some z
+NumeralReadsBack = (z : ℤ) → natAbs z < numeralLimit → numeral (decimal z) ≡ some z

@@ -9,7 +9,7 @@ ghost use Rattle.base_text.specs.Machine.{field};
 
 // What stands between two commas: a whole number, or no numeral.
 pub enum Field {
-    Number(i32),
+    Numeral(i32),
     Bad,
 }
 
@@ -84,12 +84,12 @@ pub fn numeral(text: &[u8], from: usize, to: usize) -> Field
             if v == 0 {
                 return Field::Bad;
             }
-            return Field::Number(0 - v as i32);
+            return Field::Numeral(0 - v as i32);
         }
         return Field::Bad;
     }
     if is_natural(text, from, to) {
-        return Field::Number(digits_value(text, from, to) as i32);
+        return Field::Numeral(digits_value(text, from, to) as i32);
     }
     Field::Bad
 }

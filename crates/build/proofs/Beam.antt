@@ -47,7 +47,7 @@ module _ (s : Space) (o : Outcome Table) (num den : List ℤ) where
   }
 
   -- a refusal that clears the buffers
-  pub beam-cleared : {number place : ℕ} {num′ den′ : List ℤ} → o ≡ refusal number place → clears number ≡ true → num′ ≡ numerators [] num → den′ ≡ denominators [] den → BeamEnds s o (Refused number place) num den num′ den′
+  pub beam-cleared : {code place : ℕ} {num′ den′ : List ℤ} → o ≡ refusal code place → clears code ≡ true → num′ ≡ numerators [] num → den′ ≡ denominators [] den → BeamEnds s o (Refused code place) num den num′ den′
   unfolding reply numeratorsAfter denominatorsAfter
   beam-cleared e told p q = record {
     answers = sym (ap (with-answer (λ _. rowCount s)) e);
@@ -56,7 +56,7 @@ module _ (s : Space) (o : Outcome Table) (num den : List ℤ) where
   }
 
   -- one that leaves them
-  pub beam-unchanged : {number place : ℕ} → o ≡ refusal number place → clears number ≡ false → BeamEnds s o (Refused number place) num den num den
+  pub beam-unchanged : {code place : ℕ} → o ≡ refusal code place → clears code ≡ false → BeamEnds s o (Refused code place) num den num den
   unfolding reply numeratorsAfter denominatorsAfter
   beam-unchanged e kept = record {
     answers = sym (ap (with-answer (λ _. rowCount s)) e);
@@ -74,12 +74,12 @@ pub record Answered (o : Outcome Table) (m n : ℕ) : Type 0 where
 pub told-rows : (o : Outcome Table) {m n : ℕ} → reply (Rows m) ≡ with-answer (λ _. n) o → Answered o m n
 unfolding reply
 told-rows (answer t) {m} {n} e = record { table = t; is = refl; count = let z : m ≡ n = cc in z }
-told-rows (refusal number place) e = absurd (let z : _≡_ {A = ℕ} 0 1 = cc in omega arith)
+told-rows (refusal code place) e = absurd (let z : _≡_ {A = ℕ} 0 1 = cc in omega arith)
 
-pub told-refused : (o : Outcome Table) (n : ℕ) {number place : ℕ} → reply (Refused number place) ≡ with-answer (λ _. n) o → o ≡ refusal number place
+pub told-refused : (o : Outcome Table) (n : ℕ) {code place : ℕ} → reply (Refused code place) ≡ with-answer (λ _. n) o → o ≡ refusal code place
 unfolding reply
 told-refused (answer t) n e = absurd (let z : _≡_ {A = ℕ} 0 1 = cc in omega arith)
-told-refused (refusal a b) n {number} {place} e = let z : _≡_ {A = Outcome Table} (refusal a b) (refusal number place) = cc in z
+told-refused (refusal a b) n {code} {place} e = let z : _≡_ {A = Outcome Table} (refusal a b) (refusal code place) = cc in z
 
 -- ---- the parts of a beam
 
@@ -156,9 +156,9 @@ module _ (b d o : List ℤ) (legal : ListsLegal b d o) where
           last-is = front-lastPart (space b d o) a starts (st .table) u (st .answers)
 
       -- a part that is refused
-      pub part-refused : {number place : ℕ} {num′ den′ : List ℤ} → weights (partAt (space b d o) a) ≡ refusal number place
+      pub part-refused : {code place : ℕ} {num′ den′ : List ℤ} → weights (partAt (space b d o) a) ≡ refusal code place
           → num′ ≡ numeratorsAfter (weights (partAt (space b d o) a)) num → den′ ≡ denominatorsAfter (weights (partAt (space b d o) a)) den
-          → BeamEnds (space b d o) (weights (space b d o)) (Refused number (capped (a + place))) num₀ den₀ num′ den′
+          → BeamEnds (space b d o) (weights (space b d o)) (Refused code (capped (a + place))) num₀ den₀ num′ den′
       unfolding numeratorsAfter denominatorsAfter
       part-refused e p q =
           let told = weights-cleared (partAt (space b d o) a) e in

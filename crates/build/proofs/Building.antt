@@ -52,7 +52,7 @@ module _ (s : Space) (numLength denLength : ℕ) where
     unfolding built
     built-long = long-enough numLength denLength (spaceWeights s) h k
 
-    pub built-refused : {number place : ℕ} → checked s ≡ refusal number place → built s numLength denLength ≡ refusal number place
+    pub built-refused : {code place : ℕ} → checked s ≡ refusal code place → built s numLength denLength ≡ refusal code place
     unfolding spaceWeights
     built-refused e = built-long ∙ then-refuses weights e
 
@@ -62,19 +62,19 @@ module _ (s : Space) (numLength denLength : ℕ) where
 
 -- ---- the joins' table or refusal
 
--- the weights are refused by number 8 or 9 alone
-weights-refuse : (s : Space) → RefusedAs (λ number place. (number ≡ 8) ⊎ (number ≡ 9)) (weights s)
+-- the weights are refused by code 8 or 9 alone
+weights-refuse : (s : Space) → RefusedAs (λ code place. (code ≡ 8) ⊎ (code ≡ 9)) (weights s)
 unfolding weights joinSteps
-weights-refuse s = repeat-refused (λ number place. (number ≡ 8) ⊎ (number ≡ 9)) (segments s - 1) (λ j. orderSteps s j (conditionCount s j)) (identity (columnCount s))
-    (λ j t h e number place r. orders-refuse s j (conditionCount s j) t number place r .0)
+weights-refuse s = repeat-refused (λ code place. (code ≡ 8) ⊎ (code ≡ 9)) (segments s - 1) (λ j. orderSteps s j (conditionCount s j)) (identity (columnCount s))
+    (λ j t h e code place r. orders-refuse s j (conditionCount s j) t code place r .0)
 
 -- after which the buffers are cleared
-clears-either : {number : ℕ} → (number ≡ 8) ⊎ (number ≡ 9) → clears number ≡ true
+clears-either : {code : ℕ} → (code ≡ 8) ⊎ (code ≡ 9) → clears code ≡ true
 clears-either (inl e) = ap clears e
 clears-either (inr e) = ap clears e
 
-pub weights-cleared : (s : Space) {number place : ℕ} → weights s ≡ refusal number place → clears number ≡ true
-weights-cleared s {number} {place} e = clears-either (weights-refuse s number place e)
+pub weights-cleared : (s : Space) {code place : ℕ} → weights s ≡ refusal code place → clears code ≡ true
+weights-cleared s {code} {place} e = clears-either (weights-refuse s code place e)
 
 -- what the joins leave of buffers that held a table, where they answer, and where the buffers are then cleared
 module _ (n : ℕ) (i : Table) (num₀ den₀ num den num′ den′ : List ℤ) (num-is : num ≡ numerators i num₀) (den-is : den ≡ denominators i den₀) where
@@ -85,15 +85,15 @@ module _ (n : ℕ) (i : Table) (num₀ den₀ num den num′ den′ : List ℤ) 
     numerators-are = left .1 ∙ ap (numerators t) num-is ∙ numerators-again t i num₀;
     denominators-are = left .2 ∙ ap (denominators t) den-is ∙ denominators-again t i den₀;
   }
-  ends-rows (refusal number place) left = absurd (let e = left .0 in let z : _≡_ {A = ℕ} 0 1 = cc in omega arith)
+  ends-rows (refusal code place) left = absurd (let e = left .0 in let z : _≡_ {A = ℕ} 0 1 = cc in omega arith)
 
-  pub ends-cleared : (s : Space) {number place : ℕ} {num₂ den₂ : List ℤ} → tableCells ≤ length num₀ → tableCells ≤ length den₀
-      → JoinsLeave (weights s) n (Refused number place) num den num′ den′ → num₂ ≡ filled 0 tableCells (pos 0) num′ → den₂ ≡ filled 0 tableCells (pos 1) den′
-      → Ends (weights s) n (Refused number place) num₀ den₀ num₂ den₂
+  pub ends-cleared : (s : Space) {code place : ℕ} {num₂ den₂ : List ℤ} → tableCells ≤ length num₀ → tableCells ≤ length den₀
+      → JoinsLeave (weights s) n (Refused code place) num den num′ den′ → num₂ ≡ filled 0 tableCells (pos 0) num′ → den₂ ≡ filled 0 tableCells (pos 1) den′
+      → Ends (weights s) n (Refused code place) num₀ den₀ num₂ den₂
   unfolding reply numeratorsAfter denominatorsAfter
-  ends-cleared s {number} {place} {num₂} {den₂} long long′ left p q = go (weights s) refl left
+  ends-cleared s {code} {place} {num₂} {den₂} long long′ left p q = go (weights s) refl left
     where
-      go : (o : Outcome Table) → weights s ≡ o → JoinsLeave o n (Refused number place) num den num′ den′ → Ends o n (Refused number place) num₀ den₀ num₂ den₂
+      go : (o : Outcome Table) → weights s ≡ o → JoinsLeave o n (Refused code place) num den num′ den′ → Ends o n (Refused code place) num₀ den₀ num₂ den₂
       go (answer t) z left = absurd (let e = left .0 in let z : _≡_ {A = ℕ} 0 1 = cc in omega arith)
       go (refusal a b) z left =
           let told = weights-cleared s z in

@@ -14,7 +14,7 @@ use Rattle.spec_spline.specs.Table.{Table, row, entry, cell, identity, rowCells
 use Rattle.spec_spline.proofs.Table.{cell-past, identity-rows, identity-wide, identity-on, identity-off, identity-low}
 use Rattle.build_cells.specs.Held.{Shaped}
 use Rattle.build_cells.proofs.Added.{units-length, unit-row}
-use Rattle.build.proofs.Stepped.{Proper, Fitting, append-fits, take-fits, drop-fits, identity-fits}
+use Rattle.build.proofs.Stepped.{Proper, TableFits, append-fits, take-fits, drop-fits, identity-fits}
 
 module _ (t : Table) (rows column n columns : ℕ) (proper : Proper t rows columns) (wide : column + n ≤ columns) (low : rows + n ≤ rowCells) where
   abbrev units : Table

@@ -81,11 +81,11 @@ unfolding orderSteps
 orders-refuse s j n t = repeat-refused (EightOrNine j) n (λ k. step j (conditions s j k)) t (λ k u h e. step-refuses j (conditions s j k) u)
 
 -- a number with one name is not the other
-pub named-eight : {number : ℕ} → (number ≡ 8) ⊎ (number ≡ 9) → refusalOf number ≡ refusals.TooLarge → number ≡ 8
+pub named-eight : {code : ℕ} → (code ≡ 8) ⊎ (code ≡ 9) → refusalOf code ≡ refusals.TooLarge → code ≡ 8
 named-eight (inl e) h = e
 named-eight (inr e) h = absurd (let n = nine-named e in let z : _≡_ {A = ℕ} 0 1 = cc in omega arith)
 
-pub named-nine : {number : ℕ} → (number ≡ 8) ⊎ (number ≡ 9) → refusalOf number ≡ refusals.Shape → number ≡ 9
+pub named-nine : {code : ℕ} → (code ≡ 8) ⊎ (code ≡ 9) → refusalOf code ≡ refusals.Shape → code ≡ 9
 named-nine (inl e) h = absurd (let n = eight-named e in let z : _≡_ {A = ℕ} 0 1 = cc in omega arith)
 named-nine (inr e) h = e
 
@@ -95,5 +95,5 @@ module _ (n : ℕ) (num den num′ den′ : List ℤ) where
   pub joins-answer : {o : Outcome Table} {t : Table} {r : Built} → o ≡ answer t → r ≡ Rows n → num′ ≡ numerators t num → den′ ≡ denominators t den → JoinsLeave o n r num den num′ den′
   joins-answer {r = r} e h p q = subst (λ (o : Outcome Table). JoinsLeave o n r num den num′ den′) (sym e) (h, p, q)
 
-  pub joins-refusal : {o : Outcome Table} {number place : ℕ} {r : Built} → o ≡ refusal number place → r ≡ Refused number place → Kept num num′ → Kept den den′ → JoinsLeave o n r num den num′ den′
+  pub joins-refusal : {o : Outcome Table} {code place : ℕ} {r : Built} → o ≡ refusal code place → r ≡ Refused code place → Kept num num′ → Kept den den′ → JoinsLeave o n r num den num′ den′
   joins-refusal {r = r} e h p q = subst (λ (o : Outcome Table). JoinsLeave o n r num den num′ den′) (sym e) (h, p, q)

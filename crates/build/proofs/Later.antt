@@ -131,7 +131,7 @@ module _ (j : ℕ) (κ : List Entry) (t later : Table) (idle : (i : ℕ) → i <
   jumps-all : {js : List ℚ} → jumps j κ t ≡ answer js → jumps j κ all ≡ answer (longer js)
   jumps-all {js} e = collect-answers (length all) (λ i. jump j κ (row all i)) (entry js) (λ i h. jump-at e i h (le-or-lt (length t) i))
 
-  jumps-refused : {number place : ℕ} → jumps j κ t ≡ refusal number place → jumps j κ all ≡ refusal number place
+  jumps-refused : {code place : ℕ} → jumps j κ t ≡ refusal code place → jumps j κ all ≡ refusal code place
   jumps-refused e =
       let s = collect-refuses (length t) (λ i. jump j κ (row t i)) e in
       let c = collect-inverts (s .index) (λ i. jump j κ (row t i)) (s .before) in
@@ -164,18 +164,18 @@ module _ (j : ℕ) (κ : List Entry) (t later : Table) (idle : (i : ℕ) → i <
     where
       with-rows : (o : Outcome Table) → (o then λ rs. answer (take (g .f) all ++ (rs ++ drop (suc (g .l)) all))) ≡ with-answer (λ u. u ++ later) (o then λ rs. answer (take (g .f) t ++ (rs ++ drop (suc (g .l)) t)))
       with-rows (answer rs) = ap answer (spliced (g .f) (g .l) rs order below)
-      with-rows (refusal number place) = refl
+      with-rows (refusal code place) = refl
 
       with-factors : (o : Outcome (List ℚ)) → (o then λ ws. newRows j g ws all then λ rs. answer (take (g .f) all ++ (rs ++ drop (suc (g .l)) all))) ≡ with-answer (λ u. u ++ later) (o then λ ws. newRows j g ws t then λ rs. answer (take (g .f) t ++ (rs ++ drop (suc (g .l)) t)))
       with-factors (answer ws) = ap (λ (o : Outcome Table). o then λ rs. answer (take (g .f) all ++ (rs ++ drop (suc (g .l)) all))) (new-rows g ws below) ∙ with-rows (newRows j g ws t)
-      with-factors (refusal number place) = refl
+      with-factors (refusal code place) = refl
 
   pub step-all : step j κ all ≡ with-answer (λ u. u ++ later) (step j κ t)
   unfolding step
   step-all = go (jumps j κ t) refl
     where
       go : (o : Outcome (List ℚ)) → jumps j κ t ≡ o → (jumps j κ all then λ js. span j js then λ g. mixed j all js g) ≡ with-answer (λ u. u ++ later) (o then λ js. span j js then λ g. mixed j t js g)
-      go (refusal number place) e = then-refuses (λ js. span j js then λ g. mixed j all js g) (jumps-refused e)
+      go (refusal code place) e = then-refuses (λ js. span j js then λ g. mixed j all js g) (jumps-refused e)
       go (answer js) e =
           then-answers (λ js. span j js then λ g. mixed j all js g) (jumps-all e)
           ∙ ap (λ (o : Outcome Span). o then λ g. mixed j all (longer js) g) (span-longer j js (longer js) (omega (arith, tab-length (length all) (entry js), size, n)) (same-entries js n))
@@ -185,7 +185,7 @@ module _ (j : ℕ) (κ : List Entry) (t later : Table) (idle : (i : ℕ) → i <
           n = jumps-length j κ t e
 
           spanned : (o : Outcome Span) → span j js ≡ o → (o then λ g. mixed j all (longer js) g) ≡ with-answer (λ u. u ++ later) (o then λ g. mixed j t js g)
-          spanned (refusal number place) z = refl
+          spanned (refusal code place) z = refl
           spanned (answer g) z = let s = span-inverts j js z in mixed-all js g n (s .ordered) (omega (arith, s .below, n))
 
 -- ---- a row whose entries under the conditions are zero
@@ -211,7 +211,7 @@ orders-all s j (suc n) t later h = ap (λ (o : Outcome Table). o then step j (co
   where
     go : (o : Outcome Table) → (with-answer (λ u. u ++ later) o then step j (conditions s j n)) ≡ with-answer (λ u. u ++ later) (o then step j (conditions s j n))
     go (answer u) = step-all j (conditions s j n) u later (h n (omega arith))
-    go (refusal number place) = refl
+    go (refusal code place) = refl
 
 -- ---- the rows of the identity past both segments of a join
 

@@ -37,7 +37,7 @@ module _ (num den num′ den′ : List ℤ) where
   pub leaves-answer : {o : Outcome Table} {t : Table} {r : Refusal} → o ≡ answer t → r ≡ refusals.None → num′ ≡ numerators t num → den′ ≡ denominators t den → Leaves o r num den num′ den′
   leaves-answer {r = r} e h p q = subst (λ (o : Outcome Table). Leaves o r num den num′ den′) (sym e) (h, p, q)
 
-  pub leaves-refusal : {o : Outcome Table} {number place : ℕ} {r : Refusal} → o ≡ refusal number place → refusalOf number ≡ r → Kept num num′ → Kept den den′ → Leaves o r num den num′ den′
+  pub leaves-refusal : {o : Outcome Table} {code place : ℕ} {r : Refusal} → o ≡ refusal code place → refusalOf code ≡ r → Kept num num′ → Kept den den′ → Leaves o r num den num′ den′
   leaves-refusal {r = r} e h p q = subst (λ (o : Outcome Table). Leaves o r num den num′ den′) (sym e) (sym h, p, q)
 
   -- from buffers that another table was laid in before
@@ -45,7 +45,7 @@ module _ (num den num′ den′ : List ℤ) where
       → (o : Outcome Table) → Leaves o r num den num′ den′ → Leaves o r num₀ den₀ num′ den′
   leaves-from r g num₀ den₀ long long′ p q (answer t) left =
       (left .0, left .1 ∙ ap (numerators t) p ∙ numerators-again t g num₀, left .2 ∙ ap (denominators t) q ∙ denominators-again t g den₀)
-  leaves-from r g num₀ den₀ long long′ p q (refusal number place) left =
+  leaves-from r g num₀ den₀ long long′ p q (refusal code place) left =
       (left .0, kept-then (subst (Kept num₀) (sym p) (kept-numerators g num₀ long)) (left .1), kept-then (subst (Kept den₀) (sym q) (kept-denominators g den₀ long′)) (left .2))
 
   -- ---- from what is left
@@ -59,7 +59,7 @@ module _ (num den num′ den′ : List ℤ) where
 
   pub leaves-none : (o : Outcome Table) (r : Refusal) → Leaves o r num den num′ den′ → r ≡ refusals.None → Done o
   leaves-none (answer t) r left e = record { table = t; answers = refl; num-is = left .1; den-is = left .2 }
-  leaves-none (refusal number place) r left e = absurd (refusal-some number (sym (left .0) ∙ e))
+  leaves-none (refusal code place) r left e = absurd (refusal-some code (sym (left .0) ∙ e))
 
   -- refused, with a number of that name
   pub record Halted (o : Outcome Table) (reason : Refusal) : Type 0 where
@@ -69,8 +69,8 @@ module _ (num den num′ den′ : List ℤ) where
 
   pub leaves-some : (o : Outcome Table) (r reason : Refusal) → Leaves o r num den num′ den′ → r ≡ reason → reason ≢ refusals.None → Halted o reason
   leaves-some (answer t) r reason left e n = absurd (n (sym e ∙ left .0))
-  leaves-some (refusal number place) r reason left e n = record {
-    ended = record { number = number; place = place; refuses = refl; named = sym (left .0) ∙ e };
+  leaves-some (refusal code place) r reason left e n = record {
+    ended = record { code = code; place = place; refuses = refl; named = sym (left .0) ∙ e };
     num-kept = left .1;
     den-kept = left .2;
   }
@@ -93,8 +93,8 @@ module _ (j : ℕ) (t : Table) (qs : List ℚ) (g : Span) {ws : List ℚ} (e : f
     where
       go : (o : Outcome Table) → newRows j g ws t ≡ o → LeavesIf (with-answer with-new o) b num den num′ den′ → Leaves (mixed j t qs g) refusals.TooLarge num den num′ den′
       go (answer rs) z left = absurd (false≢true (sym h ∙ left .0))
-      go (refusal number place) z left =
-          leaves-refusal num den num′ den′ (mixed-then ∙ then-refuses (λ rs. answer (stepped rs)) z) (eight-named (newRows-refuse-8 j g ws t number place z .0)) (left .1) (left .2)
+      go (refusal code place) z left =
+          leaves-refusal num den num′ den′ (mixed-then ∙ then-refuses (λ rs. answer (stepped rs)) z) (eight-named (newRows-refuse-8 j g ws t code place z .0)) (left .1) (left .2)
 
   pub mixed-done : {rows columns : ℕ} (num den num′ den′ num₂ den₂ : List ℤ) (b : Bool) → b ≡ true → Holds num den t → Shaped t rows columns → g .f ≤ g .l → g .l < rows
       → LeavesIf (with-answer with-new (newRows j g ws t)) b num den num′ den′
@@ -113,7 +113,7 @@ module _ (j : ℕ) (t : Table) (qs : List ℚ) (g : Span) {ws : List ℚ} (e : f
           leaves-answer num den num₂ den₂ (mixed-then ∙ then-answers (λ rs. answer (stepped rs)) z) refl
           (d .0 ∙ ap (numerators _) (left .1) ∙ numerators-again _ (with-new rs) num ∙ ap (λ s. numerators s num) whole)
           (d .1 ∙ ap (denominators _) (left .2) ∙ denominators-again _ (with-new rs) den ∙ ap (λ s. denominators s den) whole)
-      go (refusal number place) z left = absurd (false≢true (sym (left .0) ∙ h))
+      go (refusal code place) z left = absurd (false≢true (sym (left .0) ∙ h))
 
 -- factors that are refused end the step
 pub mixed-ended : (j : ℕ) (t : Table) (qs : List ℚ) (g : Span) (num den : List ℤ) {reason : Refusal} → Ended (factors j qs g) reason → Leaves (mixed j t qs g) reason num den num den
@@ -126,13 +126,13 @@ module _ (j : ℕ) (κ : List Entry) (t : Table) (num den : List ℤ) where
   pub step-large : Refused (jumps j κ t) → Leaves (step j κ t) refusals.TooLarge num den num den
   unfolding step
   step-large e =
-      leaves-refusal num den num den (then-refuses (λ js. span j js then λ g. mixed j t js g) (e .refuses)) (eight-named (jumps-refuse-8 j κ t (e .number) (e .place) (e .refuses) .0)) (kept-same num) (kept-same den)
+      leaves-refusal num den num den (then-refuses (λ js. span j js then λ g. mixed j t js g) (e .refuses)) (eight-named (jumps-refuse-8 j κ t (e .code) (e .place) (e .refuses) .0)) (kept-same num) (kept-same den)
 
   pub step-shapeless : {qs : List ℚ} → jumps j κ t ≡ answer qs → Refused (span j qs) → Leaves (step j κ t) refusals.Shape num den num den
   unfolding step
   step-shapeless {qs} e r =
       leaves-refusal num den num den (then-answers (λ js. span j js then λ g. mixed j t js g) e ∙ then-refuses (λ g. mixed j t qs g) (r .refuses))
-      (nine-named (span-refuses-9 j qs (r .number) (r .place) (r .refuses) .0)) (kept-same num) (kept-same den)
+      (nine-named (span-refuses-9 j qs (r .code) (r .place) (r .refuses) .0)) (kept-same num) (kept-same den)
 
   pub step-mixed : {qs : List ℚ} {g : Span} (r : Refusal) (num′ den′ : List ℤ) → jumps j κ t ≡ answer qs → span j qs ≡ answer g → Leaves (mixed j t qs g) r num den num′ den′ → Leaves (step j κ t) r num den num′ den′
   unfolding step

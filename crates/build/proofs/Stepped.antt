@@ -28,13 +28,13 @@ use Rattle.build_rows.proofs.Mixing.{newRow-fits}
 
 -- ---- tables whose entries all fit
 
-abbrev pub Fitting : Table → Type 0
-Fitting t = (i c : ℕ) → fits (cell t i c) ≡ true
+abbrev pub TableFits : Table → Type 0
+TableFits t = (i c : ℕ) → fits (cell t i c) ≡ true
 
 zero-fits : fits (int (pos 0)) ≡ true
 zero-fits = int-fits (pos 0) (omega arith)
 
-pub identity-fits : (n : ℕ) → Fitting (identity n)
+pub identity-fits : (n : ℕ) → TableFits (identity n)
 identity-fits n i c = go (ℕ-discrete i c) (decLt i n)
   where
     go : Dec (i ≡ c) → Dec (i < n) → fits (cell (identity n) i c) ≡ true
@@ -42,7 +42,7 @@ identity-fits n i c = go (ℕ-discrete i c) (decLt i n)
     go (yes e) (no h) = ap fits (identity-low n i c (omega arith)) ∙ zero-fits
     go (no e) d = ap fits (identity-off n i c e) ∙ zero-fits
 
-pub append-fits : (s t : Table) → Fitting s → Fitting t → Fitting (s ++ t)
+pub append-fits : (s t : Table) → TableFits s → TableFits t → TableFits (s ++ t)
 append-fits s t p q i c = go (decLt i (length s))
   where
     go : Dec (i < length s) → fits (cell (s ++ t) i c) ≡ true
@@ -52,17 +52,17 @@ append-fits s t p q i c = go (decLt i (length s))
         ∙ ap (λ r. fits (entry r c)) (getD-append-add s t (i - length s) [])
         ∙ q (i - length s) c
 
-pub take-fits : (n : ℕ) (t : Table) → Fitting t → Fitting (take n t)
+pub take-fits : (n : ℕ) (t : Table) → TableFits t → TableFits (take n t)
 take-fits n t p i c = go (decLt i n)
   where
     go : Dec (i < n) → fits (cell (take n t) i c) ≡ true
     go (yes h) = ap (λ r. fits (entry r c)) (getD-take n t i [] h) ∙ p i c
     go (no h) = ap fits (cell-past (take n t) i c (omega (arith, length-take n t))) ∙ zero-fits
 
-pub drop-fits : (n : ℕ) (t : Table) → Fitting t → Fitting (drop n t)
+pub drop-fits : (n : ℕ) (t : Table) → TableFits t → TableFits (drop n t)
 drop-fits n t p i c = ap (λ r. fits (entry r c)) (getD-drop n t i []) ∙ p (n + i) c
 
-pub renewed-fits : (f : ℕ) (t rs : Table) (i : ℕ) → Fitting t → Fitting rs → Fitting (renewed f t rs i)
+pub renewed-fits : (f : ℕ) (t rs : Table) (i : ℕ) → TableFits t → TableFits rs → TableFits (renewed f t rs i)
 renewed-fits f t rs i p q = append-fits (take f t) (rs ++ drop i t) (take-fits f t p) (append-fits rs (drop i t) q (drop-fits i t p))
 
 -- ---- new rows
@@ -78,7 +78,7 @@ module _ (j : ℕ) (g : Span) (ws : Row) (t : Table) {rs : Table} (e : newRows j
   pub newRows-wide : (d : ℕ) → d < g .l - g .f → length (row rs d) ≡ length (row t (g .f + d))
   newRows-wide d h = collect-inverts (length (row t (g .f + d))) (λ c. newEntry j (entry ws d) (entry ws (suc d)) (entry (row t (g .f + d)) c) (entry (row t (g .f + suc d)) c)) (collected .at d h []) .size
 
-  pub newRows-fit : Fitting rs
+  pub newRows-fit : TableFits rs
   newRows-fit d c = go (decLt d (g .l - g .f))
     where
       go : Dec (d < g .l - g .f) → fits (cell rs d c) ≡ true
@@ -118,7 +118,7 @@ identity-shaped n h = record { row-count = identity-rows n; wide = λ i l. ident
 -- a table of this shape whose entries all fit
 pub record Proper (t : Table) (rows columns : ℕ) : Type 0 where
   pub shaped : Shaped t rows columns
-  pub fit : Fitting t
+  pub fit : TableFits t
 
 mixed-one-less : (j : ℕ) (t : Table) (qs : List ℚ) (g : Span) {next : Table} {rows columns : ℕ} → mixed j t qs g ≡ answer next → Proper t rows columns → g .f ≤ g .l → g .l < rows → Proper next (rows - 1) columns
 mixed-one-less j t qs g {next} {rows} {columns} e proper order below =

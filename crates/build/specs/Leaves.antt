@@ -18,7 +18,7 @@ use Rattle.build.specs.declared.Built.the-variants.{Rows, Refused}
 -- A computation in place: the table it answers is in the buffers, or it is refused and they hold whatever they hold.
 abbrev pub Leaves : Outcome Table → Refusal → List ℤ → List ℤ → List ℤ → List ℤ → Type 0
 Leaves (answer t) r num den num′ den′ = (r ≡ refusals.None) × (num′ ≡ numerators t num) × (den′ ≡ denominators t den)
-Leaves (refusal number place) r num den num′ den′ = (r ≡ refusalOf number) × Kept num num′ × Kept den den′
+Leaves (refusal code place) r num den num′ den′ = (r ≡ refusalOf code) × Kept num num′ × Kept den den′
 
 -- The table with the identity's rows for the segment on the right of a join, of all of the space's columns.
 abbrev pub grown : Join → ℕ → Table → Table
@@ -33,4 +33,4 @@ pub record Start (s : Space) (num den : List ℤ) (columns : ℕ) : Type 0 where
 -- What the joins leave: the table with its n rows, or the refusal.
 abbrev pub JoinsLeave : Outcome Table → ℕ → Built → List ℤ → List ℤ → List ℤ → List ℤ → Type 0
 JoinsLeave (answer t) n r num den num′ den′ = (r ≡ Rows n) × (num′ ≡ numerators t num) × (den′ ≡ denominators t den)
-JoinsLeave (refusal number place) n r num den num′ den′ = (r ≡ Refused number place) × Kept num num′ × Kept den den′
+JoinsLeave (refusal code place) n r num den num′ den′ = (r ≡ Refused code place) × Kept num num′ × Kept den den′

@@ -1,4 +1,4 @@
--- The specification's numbers and places for the cases of the machine's answer.
+-- The specification's codes and places for the cases of the machine's answer.
 use Prim.Native.Nat.{ℕ}
 use Rattle.base_outcome.specs.Outcome.{Outcome, answer, refusal}
 use Rattle.build.specs.declared.Built.{Built}
@@ -7,4 +7,4 @@ use Rattle.build.specs.declared.Built.the-variants.{Rows, Refused}
 -- The specification's words for the cases of what building answers.
 unfoldable pub reply : Built → Outcome ℕ
 reply (Rows n) = answer n
-reply (Refused number place) = refusal number place
+reply (Refused code place) = refusal code place

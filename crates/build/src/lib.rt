@@ -7,7 +7,7 @@ ghost use Rattle.build.specs.Machine.{reply};
 pub mod parts;
 pub mod step;
 
-// What building answers: the row count n, or a refusal's number and place.
+// What building answers: the row count n, or a refusal's code and place.
 pub enum Built {
     Rows(usize),
     Refused(u8, u32),
@@ -35,6 +35,6 @@ pub fn build(
     let legality = build_space::check(breaks, degrees, orders);
     match legality {
         base_outcome::Legality::Legal => parts::build_parts(breaks, degrees, orders, num, den),
-        base_outcome::Legality::Refused(number, place) => Built::Refused(number, place),
+        base_outcome::Legality::Refused(code, place) => Built::Refused(code, place),
     }
 }

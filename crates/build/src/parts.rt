@@ -67,8 +67,8 @@ pub fn build_parts(
             Built::Rows(n) => {
                 rows += n;
             }
-            Built::Refused(number, place) => {
-                return Built::Refused(number, base_outcome::place(a + place as usize));
+            Built::Refused(code, place) => {
+                return Built::Refused(code, base_outcome::place(a + place as usize));
             }
         }
         a = b;

@@ -227,9 +227,9 @@ pub fn build_legal(
     let built = join_steps(breaks, degrees, orders, num, den, columns);
     match built {
         Built::Rows(n) => Built::Rows(n),
-        Built::Refused(number, place) => {
+        Built::Refused(code, place) => {
             build_cells::clear(num, den, 0, build_cells::TABLE_CELLS);
-            Built::Refused(number, place)
+            Built::Refused(code, place)
         }
     }
 }

@@ -35,19 +35,19 @@ spanned j qs is fit room e =
 pub factors-in-arrays : (o : Outcome (List ℚ)) (r : RowFactors) → r ≡ rowFactors o → r .refusal ≡ refusals.None → InArrays o (r .of)
 unfolding rowFactors
 factors-in-arrays (answer ws) r e h = record { of = ws; answers = refl; is = ap (λ (x : RowFactors). x .of) e }
-factors-in-arrays (refusal number place) r e h = absurd (refusal-some number (sym (ap (λ (x : RowFactors). x .refusal) e) ∙ h))
+factors-in-arrays (refusal code place) r e h = absurd (refusal-some code (sym (ap (λ (x : RowFactors). x .refusal) e) ∙ h))
 
 pub factors-ended : (o : Outcome (List ℚ)) (r : RowFactors) (reason : Refusal) → r ≡ rowFactors o → r .refusal ≡ reason → reason ≢ refusals.None → Ended o reason
 unfolding rowFactors
 factors-ended (answer ws) r reason e h n = absurd (n (sym h ∙ ap (λ (x : RowFactors). x .refusal) e))
-factors-ended (refusal number place) r reason e h n = record { number = number; place = place; refuses = refl; named = sym (ap (λ (x : RowFactors). x .refusal) e) ∙ h }
+factors-ended (refusal code place) r reason e h n = record { code = code; place = place; refuses = refl; named = sym (ap (λ (x : RowFactors). x .refusal) e) ∙ h }
 
 -- ---- the names of the two numbers
 
-pub eight-named : {number : ℕ} → number ≡ 8 → refusalOf number ≡ refusals.TooLarge
+pub eight-named : {code : ℕ} → code ≡ 8 → refusalOf code ≡ refusals.TooLarge
 unfolding refusalOf
 eight-named e = ap (λ n. cond (eqb n 8) refusals.TooLarge refusals.Shape) e
 
-pub nine-named : {number : ℕ} → number ≡ 9 → refusalOf number ≡ refusals.Shape
+pub nine-named : {code : ℕ} → code ≡ 9 → refusalOf code ≡ refusals.Shape
 unfolding refusalOf
 nine-named e = ap (λ n. cond (eqb n 8) refusals.TooLarge refusals.Shape) e

@@ -34,12 +34,12 @@ zero-is f p q = zero-record ∙ sym (fraction-int (pos 0))
 -- ---- to the record
 
 -- The empty record with the refusal's name.
-pub next-refused : (s : ℚ) (o : Outcome ℚ) {number place : ℕ} (r : NextFactor) → o ≡ refusal number place → r .refusal ≡ refusalOf number
+pub next-refused : (s : ℚ) (o : Outcome ℚ) {code place : ℕ} (r : NextFactor) → o ≡ refusal code place → r .refusal ≡ refusalOf code
     → r .sum .num ≡ pos 0 → r .sum .den ≡ pos 1 → r .w .num ≡ pos 0 → r .w .den ≡ pos 1 → r ≡ nextFactor s o
 unfolding nextFactor
-next-refused s o {number} {place} r e a p q u v = empty ∙ sym (ap (nextFactor s) e)
+next-refused s o {code} {place} r e a p q u v = empty ∙ sym (ap (nextFactor s) e)
   where
-    empty : r ≡ record { refusal = refusalOf number; sum = fraction (int (pos 0)); w = fraction (int (pos 0)) }
+    empty : r ≡ record { refusal = refusalOf code; sum = fraction (int (pos 0)); w = fraction (int (pos 0)) }
     empty = λ i. record { refusal = a i; sum = zero-is (r .sum) p q i; w = zero-is (r .w) u v i }
 
 pub next-answered : (s w : ℚ) (o : Outcome ℚ) (f g : Fraction) → o ≡ answer w → f ≡ fraction s → g ≡ fraction w → record { refusal = refusals.None; sum = f; w = g } ≡ nextFactor s o
@@ -51,9 +51,9 @@ next-answered s w o f g e p q = whole ∙ sym (ap (nextFactor s) e)
 
 -- ---- from the record
 
-pub refusal-some : (number : ℕ) → refusalOf number ≡ refusals.None → ⊥
+pub refusal-some : (code : ℕ) → refusalOf code ≡ refusals.None → ⊥
 unfolding refusalOf
-refusal-some number e = go (eqb number 8) e
+refusal-some code e = go (eqb code 8) e
   where
     go : (b : Bool) → cond b refusals.TooLarge refusals.Shape ≡ refusals.None → ⊥
     go true e = let z : _≡_ {A = ℕ} 0 1 = cc in omega arith
@@ -69,31 +69,31 @@ pub record Next (s : ℚ) (o : Outcome ℚ) (r : NextFactor) : Type 0 where
 pub next-none : (s : ℚ) (o : Outcome ℚ) (r : NextFactor) → r ≡ nextFactor s o → r .refusal ≡ refusals.None → Next s o r
 unfolding nextFactor
 next-none s (answer w) r e h = record { factor = w; answers = refl; sum-is = ap (λ (x : NextFactor). x .sum) e; w-is = ap (λ (x : NextFactor). x .w) e }
-next-none s (refusal number place) r e h = absurd (refusal-some number (sym (ap (λ (x : NextFactor). x .refusal) e) ∙ h))
+next-none s (refusal code place) r e h = absurd (refusal-some code (sym (ap (λ (x : NextFactor). x .refusal) e) ∙ h))
 
 -- A refusal: the outcome is refused, with a number of that name.
 pub record Ended {A : Type 0} (o : Outcome A) (reason : Refusal) : Type 0 where
-  pub number : ℕ
+  pub code : ℕ
   pub place : ℕ
-  pub refuses : o ≡ refusal number place
-  pub named : refusalOf number ≡ reason
+  pub refuses : o ≡ refusal code place
+  pub named : refusalOf code ≡ reason
 
 pub next-ended : (s : ℚ) (o : Outcome ℚ) (r : NextFactor) (reason : Refusal) → r ≡ nextFactor s o → r .refusal ≡ reason → reason ≢ refusals.None → Ended o reason
 unfolding nextFactor
 next-ended s (answer w) r reason e h n = absurd (n (sym h ∙ ap (λ (x : NextFactor). x .refusal) e))
-next-ended s (refusal number place) r reason e h n = record { number = number; place = place; refuses = refl; named = sym (ap (λ (x : NextFactor). x .refusal) e) ∙ h }
+next-ended s (refusal code place) r reason e h n = record { code = code; place = place; refuses = refl; named = sym (ap (λ (x : NextFactor). x .refusal) e) ∙ h }
 
 -- ---- the factors of a span, from those of the rows between its ends
 module _ (j : ℕ) (qs : List ℚ) (f l : ℕ) where
   abbrev between-factors : Outcome (List ℚ)
   between-factors = collect (l - f - 1) (λ d. factor j qs f (f + 1 + d))
 
-  pub factors-refused : {number place : ℕ} {reason : Refusal} {none : Fractions} → between-factors ≡ refusal number place → refusalOf number ≡ reason → none ≡ fractions []
+  pub factors-refused : {code place : ℕ} {reason : Refusal} {none : Fractions} → between-factors ≡ refusal code place → refusalOf code ≡ reason → none ≡ fractions []
       → record { refusal = reason; of = none } ≡ rowFactors (factors j qs (record { f = f; l = l }))
   unfolding factors rowFactors
-  factors-refused {number} {place} {reason} {none} e named is = named-record ∙ sym (ap rowFactors (then-refuses (λ ws. answer (int (pos 1) ∷ (ws ++ (int (pos 0) ∷ [])))) e))
+  factors-refused {code} {place} {reason} {none} e named is = named-record ∙ sym (ap rowFactors (then-refuses (λ ws. answer (int (pos 1) ∷ (ws ++ (int (pos 0) ∷ [])))) e))
     where
-      named-record : _≡_ {A = RowFactors} (record { refusal = reason; of = none }) (record { refusal = refusalOf number; of = fractions [] })
+      named-record : _≡_ {A = RowFactors} (record { refusal = reason; of = none }) (record { refusal = refusalOf code; of = fractions [] })
       named-record = λ i. record { refusal = sym named i; of = is i }
 
   pub factors-answered : {done : List ℚ} {ws : Fractions} → between-factors ≡ answer done → ws ≡ fractions (int (pos 1) ∷ done)

@@ -13,16 +13,16 @@ use Rattle.build_factors.specs.declared.Refusal.the-variants as refusals
 use Rattle.build_factors.specs.declared.NextFactor.{NextFactor}
 use Rattle.build_factors.specs.declared.RowFactors.{RowFactors}
 
--- Number 8 or 9.
+-- Code 8 or 9.
 unfoldable pub refusalOf : ℕ → Refusal
-refusalOf number = cond (eqb number 8) refusals.TooLarge refusals.Shape
+refusalOf code = cond (eqb code 8) refusals.TooLarge refusals.Shape
 
 -- The next factor with the partial sum that it comes from.
 unfoldable pub nextFactor : ℚ → Outcome ℚ → NextFactor
 nextFactor s (answer w) = record { refusal = refusals.None; sum = fraction s; w = fraction w }
-nextFactor s (refusal number place) = record { refusal = refusalOf number; sum = fraction (int (pos 0)); w = fraction (int (pos 0)) }
+nextFactor s (refusal code place) = record { refusal = refusalOf code; sum = fraction (int (pos 0)); w = fraction (int (pos 0)) }
 
 -- The factors of a step.
 unfoldable pub rowFactors : Outcome (List ℚ) → RowFactors
 rowFactors (answer ws) = record { refusal = refusals.None; of = fractions ws }
-rowFactors (refusal number place) = record { refusal = refusalOf number; of = fractions [] }
+rowFactors (refusal code place) = record { refusal = refusalOf code; of = fractions [] }

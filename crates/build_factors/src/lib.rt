@@ -6,7 +6,7 @@ ghost use Prim.Native.Nat.{ℕ, _<_};
 ghost use lib.IntN.{pos};
 ghost use lib.Signed.{_<ℤ_};
 ghost use Rattle.base_exact.specs.Rational.{ℚ, _+ᵠ_};
-ghost use Rattle.base_fraction.specs.Machine.{Sized, value};
+ghost use Rattle.base_fraction.specs.Machine.{FractionFits, value};
 ghost use Rattle.spec_spline.specs.Step;
 ghost use Rattle.build_jumps.specs.Machine.{fractions};
 ghost use Rattle.build_factors.specs.Machine.{nextFactor, rowFactors};
@@ -15,7 +15,7 @@ use base_fraction::Counted;
 use base_fraction::Fraction;
 use build_jumps::Fractions;
 
-// Why a step was not done, if it was not: number 8 or number 9.
+// Why a step was not done, if it was not: code 8 or code 9.
 pub enum Refusal {
     None,
     TooLarge,
@@ -58,7 +58,7 @@ fn strictly_between(w: Fraction) -> bool
 
 // The next factor, from the sum of the jumps before and the jump itself.
 fn factor(before: Fraction, jump: Fraction) -> NextFactor
-    requires { ⌜ Sized before × (Sized jump × (jump .num ≢ pos 0)) ⌝ }
+    requires { ⌜ FractionFits before × (FractionFits jump × (jump .num ≢ pos 0)) ⌝ }
     ensures { λ r. ⌜ ((j : ℕ) → r ≡ nextFactor (value before +ᵠ value jump)
         (Step.quotientFactor j (value before +ᵠ value jump) (value jump))) ⌝ }
 {

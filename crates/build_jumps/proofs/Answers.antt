@@ -24,12 +24,12 @@ pub record InArrays (o : Outcome (List ℚ)) (js : Fractions) : Type 0 where
 pub jumps-in-arrays : (o : Outcome (List ℚ)) (r : RowJumps) → r ≡ rowJumps o → r .fit ≡ true → InArrays o (r .of)
 unfolding rowJumps
 jumps-in-arrays (answer qs) r e h = record { of = qs; answers = refl; is = ap (λ (x : RowJumps). x .of) e }
-jumps-in-arrays (refusal number place) r e h = absurd (let p = ap (λ (x : RowJumps). x .fit) e in let z : _≡_ {A = ℕ} 0 1 = cc (p, h) in omega arith)
+jumps-in-arrays (refusal code place) r e h = absurd (let p = ap (λ (x : RowJumps). x .fit) e in let z : _≡_ {A = ℕ} 0 1 = cc (p, h) in omega arith)
 
 pub jumps-refused : (o : Outcome (List ℚ)) (r : RowJumps) → r ≡ rowJumps o → r .fit ≡ false → Refused o
 unfolding rowJumps
 jumps-refused (answer qs) r e h = absurd (let p = ap (λ (x : RowJumps). x .fit) e in let z : _≡_ {A = ℕ} 0 1 = cc (p, h) in omega arith)
-jumps-refused (refusal number place) r e h = record { number = number; place = place; refuses = refl }
+jumps-refused (refusal code place) r e h = record { code = code; place = place; refuses = refl }
 
 -- ---- the span
 
@@ -42,9 +42,9 @@ span-rows (answer g) f l e = ap answer (λ i. record { f = first i; l = last i }
 
     last : g .l ≡ l
     last = cc
-span-rows (refusal number place) f l e = absurd (let z : _≡_ {A = ℕ} 0 1 = cc in omega arith)
+span-rows (refusal code place) f l e = absurd (let z : _≡_ {A = ℕ} 0 1 = cc in omega arith)
 
 pub span-refused : (o : Outcome Span) → jumpSpan o ≡ spans.Nothing → Refused o
 unfolding jumpSpan
 span-refused (answer g) e = absurd (let z : _≡_ {A = ℕ} 0 1 = cc in omega arith)
-span-refused (refusal number place) e = record { number = number; place = place; refuses = refl }
+span-refused (refusal code place) e = record { code = code; place = place; refuses = refl }

@@ -10,7 +10,7 @@ use Rattle.base_exact.proofs.Rational.{add-zero, zero-add, zero-mul}
 use Rattle.base_fraction.specs.Size as size
 use Rattle.base_fraction.specs.Size.{fits}
 use Rattle.base_fraction.specs.Machine as machine
-use Rattle.base_fraction.specs.Machine.{fraction, value, Sized}
+use Rattle.base_fraction.specs.Machine.{fraction, value, FractionFits}
 use Rattle.base_fraction.specs.declared.Fraction.{Fraction}
 use Rattle.base_fraction.specs.declared.Counted.the-variants.{Fits, TooLarge}
 use Rattle.base_fraction.proofs.Value.{value-fraction}
@@ -42,20 +42,20 @@ fits-answered (answer q) f e =
     let w : fraction q ≡ f = cc in
     let v : q ≡ value f = sym (value-fraction q) ∙ ap value w in
     record { answers = ap answer v; lowest = sym w ∙ ap fraction v }
-fits-answered (refusal number place) f e = absurd (let z : _≡_ {A = ℕ} 0 1 = cc in omega arith)
+fits-answered (refusal code place) f e = absurd (let z : _≡_ {A = ℕ} 0 1 = cc in omega arith)
 
 -- ---- an outcome that is too large: it is refused
 pub record Refused {A : Type 0} (o : Outcome A) : Type 0 where
-  pub number : ℕ
+  pub code : ℕ
   pub place : ℕ
-  pub refuses : o ≡ refusal number place
+  pub refuses : o ≡ refusal code place
 
 pub large-refused : (o : Outcome ℚ) → counted o ≡ TooLarge → Refused o
 unfolding counted
 large-refused (answer q) e = absurd (let z : _≡_ {A = ℕ} 0 1 = cc in omega arith)
-large-refused (refusal number place) e = record { number = number; place = place; refuses = refl }
+large-refused (refusal code place) e = record { code = code; place = place; refuses = refl }
 
-pub refused-large : {o : Outcome ℚ} {number place : ℕ} → o ≡ refusal number place → counted o ≡ TooLarge
+pub refused-large : {o : Outcome ℚ} {code place : ℕ} → o ≡ refusal code place → counted o ≡ TooLarge
 unfolding counted
 refused-large e = ap counted e
 
@@ -79,7 +79,7 @@ pub zero-before : (j : ℕ) (q s : ℚ) → s ≡ int (pos 0) → (count j q the
 zero-before j q s e = count-again j q (λ p. count j (s +ᵠ p)) (λ _. ap (λ z. count j (z +ᵠ q)) e ∙ ap (count j) (zero-add q))
 
 -- a product with zero, and the sum with it: neither can be too large, and the sum is what it was
-pub zero-then : (j : ℕ) (w : ℚ) (z : ℚ) (f : Fraction) → w ≡ int (pos 0) → Sized f → f ≡ fraction (value f) → counted (count j (w *ᵠ z) then λ p. count j (value f +ᵠ p)) ≡ Fits f
+pub zero-then : (j : ℕ) (w : ℚ) (z : ℚ) (f : Fraction) → w ≡ int (pos 0) → FractionFits f → f ≡ fraction (value f) → counted (count j (w *ᵠ z) then λ p. count j (value f +ᵠ p)) ≡ Fits f
 unfolding counted
 zero-then j w z f e s lowest =
     ap counted (
@@ -89,14 +89,14 @@ zero-then j w z f e s lowest =
     ∙ ap Fits (sym lowest)
 
 -- a fraction in lowest terms that fits has parts below the limit
-pub lowest-sized : {f : Fraction} → f ≡ fraction (value f) → fits (value f) ≡ true → Sized f
+pub lowest-sized : {f : Fraction} → f ≡ fraction (value f) → fits (value f) ≡ true → FractionFits f
 lowest-sized {f} e h = rw e (fits-sized (value f) h)
 
 -- ---- what is counted last fits
-pub count-sized : (j : ℕ) (q : ℚ) (f : Fraction) → counted (count j q) ≡ Fits f → (value f ≡ q) × Sized f
-count-sized j q f e = let k = kept q f (machine-counted j q ∙ e) in (k .value-is, k .sized)
+pub count-sized : (j : ℕ) (q : ℚ) (f : Fraction) → counted (count j q) ≡ Fits f → (value f ≡ q) × FractionFits f
+count-sized j q f e = let k = kept q f (machine-counted j q ∙ e) in (k .value-is, k .fitted)
 
-pub then-count-sized : (j : ℕ) (o : Outcome ℚ) (g : ℚ → ℚ) (f : Fraction) → counted (o then λ p. count j (g p)) ≡ Fits f → Sized f
+pub then-count-sized : (j : ℕ) (o : Outcome ℚ) (g : ℚ → ℚ) (f : Fraction) → counted (o then λ p. count j (g p)) ≡ Fits f → FractionFits f
 then-count-sized j o g f e =
     let a = fits-answered (o then λ p. count j (g p)) f e in
     let c = then-inverts o (λ p. count j (g p)) (a .answers) in

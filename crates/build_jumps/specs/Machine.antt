@@ -18,7 +18,7 @@ use Rattle.build_jumps.specs.declared.JumpSpan.the-variants as spans
 -- A counted fraction.
 unfoldable pub counted : Outcome ℚ → Counted
 counted (answer q) = Fits (fraction q)
-counted (refusal number place) = TooLarge
+counted (refusal code place) = TooLarge
 
 -- Fractions in the two arrays of 72, 0/1 past their number.
 unfoldable pub fractions : List ℚ → Fractions
@@ -27,9 +27,9 @@ fractions qs = record { num = tab rowCells (λ i. (entry qs i) .num); den = tab 
 -- The jumps of a step.
 unfoldable pub rowJumps : Outcome (List ℚ) → RowJumps
 rowJumps (answer qs) = record { fit = true; of = fractions qs }
-rowJumps (refusal number place) = record { fit = false; of = fractions [] }
+rowJumps (refusal code place) = record { fit = false; of = fractions [] }
 
 -- The rows that the jumps span.
 unfoldable pub jumpSpan : Outcome Span → JumpSpan
 jumpSpan (answer g) = spans.Rows (g .f) (g .l)
-jumpSpan (refusal number place) = spans.Nothing
+jumpSpan (refusal code place) = spans.Nothing

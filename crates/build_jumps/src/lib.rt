@@ -5,7 +5,7 @@ ghost use Prim.Native.Nat.{ℕ, _^_, _<_, _≤_};
 ghost use lib.IntN.{natAbs};
 ghost use lib.ListN.{length};
 ghost use Rattle.base_exact.specs.Rational.{ℚ, int, _+ᵠ_, _*ᵠ_};
-ghost use Rattle.base_fraction.specs.Machine.{Sized, value, fraction};
+ghost use Rattle.base_fraction.specs.Machine.{FractionFits, value, fraction};
 ghost use Rattle.base_outcome.specs.Outcome.{_then_};
 ghost use Rattle.base_outcome.specs.Search;
 ghost use Rattle.spec_spline.specs.Space.{Space};
@@ -44,7 +44,7 @@ pub enum JumpSpan {
 // The sum with one more product, weight times condition. A product by a weight of zero is zero, and the sum stays as it is; the sum
 // of zero and a product is the product: all of them were counted before.
 fn add_product(sum: Fraction, weight: Fraction, condition: i64) -> Counted
-    requires { ⌜ Sized sum × (Sized weight × (natAbs condition < 2 ^ 31)) ⌝ }
+    requires { ⌜ FractionFits sum × (FractionFits weight × (natAbs condition < 2 ^ 31)) ⌝ }
     requires { ⌜ sum ≡ fraction (value sum) ⌝ }
     ensures { λ r. ⌜ ((j : ℕ) → r ≡ counted (Step.count j (value weight *ᵠ int condition) then λ p. Step.count j (value sum +ᵠ p))) ⌝ }
 {

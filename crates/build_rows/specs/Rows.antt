@@ -31,8 +31,8 @@ pub record UnitFactors (ws : Fractions) : Type 0 where
   pub low : (i : ℕ) → leᵠ (int (pos 0)) (entry of i) ≡ true
   pub high : (i : ℕ) → leᵠ (entry of i) (int (pos 1)) ≡ true
 
--- A computation in place that only number 8 can refuse, where b tells whether it was done: the table it answers is in the
+-- A computation in place that only code 8 can refuse, where b tells whether it was done: the table it answers is in the
 -- buffers, or it is refused and they hold whatever they hold.
 abbrev pub LeavesIf : Outcome Table → Bool → List ℤ → List ℤ → List ℤ → List ℤ → Type 0
 LeavesIf (answer t) b num den num′ den′ = (b ≡ true) × (num′ ≡ numerators t num) × (den′ ≡ denominators t den)
-LeavesIf (refusal number place) b num den num′ den′ = (b ≡ false) × Kept num num′ × Kept den den′
+LeavesIf (refusal code place) b num den num′ den′ = (b ≡ false) × Kept num num′ × Kept den den′

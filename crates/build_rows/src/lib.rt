@@ -5,7 +5,7 @@ ghost use Prim.Native.Nat.{ℕ, suc, _+_, _<_, _≤_};
 ghost use lib.IntN.{pos};
 ghost use lib.ListN.{length, set, take, drop};
 ghost use Rattle.base_exact.specs.Rational.{ℚ, int, _-ᵠ_};
-ghost use Rattle.base_fraction.specs.Machine.{Sized, value};
+ghost use Rattle.base_fraction.specs.Machine.{FractionFits, value};
 ghost use Rattle.base_outcome.specs.Outcome.{with-answer};
 ghost use Rattle.spec_spline.specs.Table.{Table, row, rowCells};
 ghost use Rattle.spec_spline.specs.Step;
@@ -19,7 +19,7 @@ use build_jumps::Fractions;
 // w x + u y, with both products and the sum counted. A product with a zero is zero, and the sum with it is the other product, which
 // was counted before.
 fn new_entry(w: Fraction, u: Fraction, x: Fraction, y: Fraction) -> Counted
-    requires { ⌜ Sized w × (Sized u × (Sized x × Sized y)) ⌝ }
+    requires { ⌜ FractionFits w × (FractionFits u × (FractionFits x × FractionFits y)) ⌝ }
     ensures { λ r. ⌜ ((j : ℕ) (v : ℚ) → value u ≡ int (pos 1) -ᵠ v → r ≡ counted (Step.newEntry j (value w) v (value x) (value y))) ⌝ }
 {
     if x.num == 0 {
@@ -53,7 +53,7 @@ fn mix_row(
     u: Fraction,
     columns: usize,
 ) -> bool
-    requires { ⌜ Sized w × (Sized u × ((i + 1 < rowCells) × (columns ≤ rowCells))) ⌝ }
+    requires { ⌜ FractionFits w × (FractionFits u × ((i + 1 < rowCells) × (columns ≤ rowCells))) ⌝ }
     requires { ⌜ ((t : Table) × Holds (now num) (now den) t) ⌝ }
     ensures { λ r. ⌜ ((t : Table) (j : ℕ) (v : ℚ) → Holds (now (num .entry)) (now (den .entry)) t → value u ≡ int (pos 1) -ᵠ v
         → i < length t → length (row t i) ≡ columns
@@ -86,7 +86,7 @@ fn mix_row(
 // The complement 1 - w of a factor from 0 to 1, which is never too large.
 pub fn complement(w: Fraction) -> Fraction
     requires { ⌜ UnitFactor w ⌝ }
-    ensures { λ r. ⌜ (value r ≡ int (pos 1) -ᵠ value w) × Sized r ⌝ }
+    ensures { λ r. ⌜ (value r ≡ int (pos 1) -ᵠ value w) × FractionFits r ⌝ }
 {
     Fraction {
         num: w.den - w.num,

@@ -20,14 +20,14 @@ use Rattle.build_space.proofs.Partial.{bad-break-partial, bad-degree-pa
 
 -- ---- one refusal
 
-module _ {A : Type 0} (number : ℕ) where
-  refuse-at : {o : Option ℕ} {i : ℕ} (rest : Outcome A) → o ≡ some i → refuseFirst number o rest ≡ refuse number i
-  refuse-at rest e = ap (λ q. refuseFirst number q rest) e
+module _ {A : Type 0} (code : ℕ) where
+  refuse-at : {o : Option ℕ} {i : ℕ} (rest : Outcome A) → o ≡ some i → refuseFirst code o rest ≡ refuse code i
+  refuse-at rest e = ap (λ q. refuseFirst code q rest) e
 
-  refuse-none : {o : Option ℕ} (rest : Outcome A) → o ≡ none → refuseFirst number o rest ≡ rest
-  refuse-none rest e = ap (λ q. refuseFirst number q rest) e
+  refuse-none : {o : Option ℕ} (rest : Outcome A) → o ≡ none → refuseFirst code o rest ≡ rest
+  refuse-none rest e = ap (λ q. refuseFirst code q rest) e
 
--- ---- number 3
+-- ---- code 3
 
 module _ (breaks degrees orders : List ℤ) where
   pub spans-refused : {i : ℕ} → first (length degrees) (spanTooLong (space breaks degrees orders)) ≡ some i → spansChecked breaks degrees orders ≡ refuse 3 (partEnd (space breaks degrees orders) i)
@@ -46,7 +46,7 @@ module _ (breaks degrees orders : List ℤ) where
   unfolding breaksChecked
   breaks-pass e = refuse-none 3 (spansChecked breaks degrees orders) e
 
--- ---- numbers 4, 5 and 15
+-- ---- codes 4, 5 and 15
 
 module _ (degrees : List ℤ) where
   pub degrees-refused : {i : ℕ} → first (length degrees) (badDegree (space [] degrees [])) ≡ some i → degreesChecked degrees ≡ refuse 4 i
@@ -76,9 +76,9 @@ module _ (degrees orders : List ℤ) where
 
 -- ---- the whole check
 
-refuse-first-then : {A B : Type 0} (number : ℕ) (o : Option ℕ) (rest : Outcome A) (f : A → Outcome B) → (refuseFirst number o rest then f) ≡ refuseFirst number o (rest then f)
-refuse-first-then number none rest f = refl
-refuse-first-then number (some i) rest f = refl
+refuse-first-then : {A B : Type 0} (code : ℕ) (o : Option ℕ) (rest : Outcome A) (f : A → Outcome B) → (refuseFirst code o rest then f) ≡ refuseFirst code o (rest then f)
+refuse-first-then code none rest f = refl
+refuse-first-then code (some i) rest f = refl
 
 module _ (b d o : List ℤ) where
   abbrev whole : Space
@@ -128,12 +128,12 @@ module _ (b d o : List ℤ) where
   unfolding checked
   checked-lengths e = ap (λ t. cond t (checkedEntries whole) (refuse 2 0)) e ∙ ap (refusal 2) (capped-small 0 (omega arith))
 
-  module _ (h : Lengths whole) {number place : ℕ} where
+  module _ (h : Lengths whole) {code place : ℕ} where
     -- the first list that is refused gives the answer
-    pub checked-breaks-refused : breaksChecked b d o ≡ refusal number place → checked whole ≡ refusal number place
+    pub checked-breaks-refused : breaksChecked b d o ≡ refusal code place → checked whole ≡ refusal code place
     checked-breaks-refused e = checked-lists h ∙ then-refuses (λ _. (degreesChecked d then λ _. (ordersChecked d o then λ _. answer whole))) e
 
-    pub checked-degrees-refused : breaksChecked b d o ≡ answer tt → degreesChecked d ≡ refusal number place → checked whole ≡ refusal number place
+    pub checked-degrees-refused : breaksChecked b d o ≡ answer tt → degreesChecked d ≡ refusal code place → checked whole ≡ refusal code place
     checked-degrees-refused p e = checked-lists h ∙ then-answers (λ _. (degreesChecked d then λ _. (ordersChecked d o then λ _. answer whole))) p ∙ then-refuses (λ _. (ordersChecked d o then λ _. answer whole)) e
 
   pub checked-orders : Lengths whole → breaksChecked b d o ≡ answer tt → degreesChecked d ≡ answer tt → checked whole ≡ (ordersChecked d o then λ _. answer whole)

@@ -1,4 +1,4 @@
--- What the numbers 3 to 5 and 15 leave of legal lists, entry by entry and part by part, and the checks of each list by itself.
+-- What the codes 3 to 5 and 15 leave of legal lists, entry by entry and part by part, and the checks of each list by itself.
 use mathlib.Core.Bool.{true}
 use mathlib.Core.List.{List, []}
 use mathlib.Core.Path.{_≡_}
@@ -13,25 +13,25 @@ use Rattle.spec_spline.specs.Space.{badBreak, spanTooLong, badDegree, badOrder,
 use Rattle.base_outcome.specs.Tests.{refuseFirst}
 use Rattle.build_space.specs.Machine.{space}
 
--- Number 3 of the parts: the first whose span is too long, at its last breakpoint.
+-- Code 3 of the parts: the first whose span is too long, at its last breakpoint.
 unfoldable pub spansChecked : List ℤ → List ℤ → List ℤ → Outcome (Unit {0})
 spansChecked breaks degrees orders = let s = space breaks degrees orders in
     refuseFirst 3 (partEndAt s (first (length degrees) (spanTooLong s))) (answer tt)
 
--- Number 3: the first bad breakpoint, then the parts.
+-- Code 3: the first bad breakpoint, then the parts.
 unfoldable pub breaksChecked : List ℤ → List ℤ → List ℤ → Outcome (Unit {0})
 breaksChecked breaks degrees orders = refuseFirst 3 (first (length breaks) (badBreak (space breaks [] [])))
     (spansChecked breaks degrees orders)
 
--- Number 4.
+-- Code 4.
 unfoldable pub degreesChecked : List ℤ → Outcome (Unit {0})
 degreesChecked degrees = refuseFirst 4 (first (length degrees) (badDegree (space [] degrees []))) (answer tt)
 
--- Number 15: the first part of too many segments.
+-- Code 15: the first part of too many segments.
 unfoldable pub partsChecked : List ℤ → List ℤ → Outcome (Unit {0})
 partsChecked degrees orders = refuseFirst 15 (first (length degrees) (tooManySegments (space [] degrees orders))) (answer tt)
 
--- Number 5, then 15.
+-- Code 5, then 15.
 unfoldable pub ordersChecked : List ℤ → List ℤ → Outcome (Unit {0})
 ordersChecked degrees orders = refuseFirst 5 (first (length orders) (badOrder (space [] degrees orders))) (partsChecked degrees orders)
 

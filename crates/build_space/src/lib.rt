@@ -255,7 +255,7 @@ fn first_bad_order(degrees: &[i32], orders: &[i32]) -> Found
     found
 }
 
-// Number 3 of the parts, once every breakpoint has passed: the place is the last breakpoint of the part.
+// Code 3 of the parts, once every breakpoint has passed: the place is the last breakpoint of the part.
 fn check_spans(breaks: &[i32], degrees: &[i32], orders: &[i32]) -> Legality
     requires { ⌜ (length (now degrees) ≡ length (now orders) + 1) × (length (now breaks) ≡ length (now degrees) + 1) ⌝ }
     requires { ⌜ ((k : ℕ) → k < length (now breaks) → badBreak (space (now breaks) [] []) k ≡ false) ⌝ }
@@ -271,7 +271,7 @@ fn check_spans(breaks: &[i32], degrees: &[i32], orders: &[i32]) -> Legality
     }
 }
 
-// Number 3: every breakpoint, then the spans.
+// Code 3: every breakpoint, then the spans.
 fn check_breaks(breaks: &[i32], degrees: &[i32], orders: &[i32]) -> Legality
     requires { ⌜ (length (now degrees) ≡ length (now orders) + 1) × (length (now breaks) ≡ length (now degrees) + 1) ⌝ }
     ensures { λ r. ⌜ r ≡ legality (breaksChecked (now (breaks .entry)) (now (degrees .entry)) (now (orders .entry))) ⌝ }
@@ -283,7 +283,7 @@ fn check_breaks(breaks: &[i32], degrees: &[i32], orders: &[i32]) -> Legality
     }
 }
 
-// Number 4.
+// Code 4.
 fn check_degrees(degrees: &[i32]) -> Legality
     ensures { λ r. ⌜ r ≡ legality (degreesChecked (now (degrees .entry))) ⌝ }
 {
@@ -294,7 +294,7 @@ fn check_degrees(degrees: &[i32]) -> Legality
     }
 }
 
-// Number 15: the place is the first segment of the part.
+// Code 15: the place is the first segment of the part.
 fn check_parts(degrees: &[i32], orders: &[i32]) -> Legality
     requires { ⌜ length (now degrees) ≡ length (now orders) + 1 ⌝ }
     ensures { λ r. ⌜ r ≡ legality (partsChecked (now (degrees .entry)) (now (orders .entry))) ⌝ }
@@ -306,7 +306,7 @@ fn check_parts(degrees: &[i32], orders: &[i32]) -> Legality
     }
 }
 
-// Number 5, and 15 right after it.
+// Code 5, and 15 right after it.
 fn check_orders(degrees: &[i32], orders: &[i32]) -> Legality
     requires { ⌜ length (now degrees) ≡ length (now orders) + 1 ⌝ }
     ensures { λ r. ⌜ r ≡ legality (ordersChecked (now (degrees .entry)) (now (orders .entry))) ⌝ }
@@ -325,11 +325,11 @@ pub fn check(breaks: &[i32], degrees: &[i32], orders: &[i32]) -> Legality
     if lengths_fit(breaks, degrees, orders) {
         let b = check_breaks(breaks, degrees, orders);
         match b {
-            Legality::Refused(number, place) => Legality::Refused(number, place),
+            Legality::Refused(code, place) => Legality::Refused(code, place),
             Legality::Legal => {
                 let d = check_degrees(degrees);
                 match d {
-                    Legality::Refused(number, place) => Legality::Refused(number, place),
+                    Legality::Refused(code, place) => Legality::Refused(code, place),
                     Legality::Legal => check_orders(degrees, orders),
                 }
             }

@@ -43,8 +43,8 @@ module _ (s : Space) where
 
   module _ {o : Outcome CurveResult} (num den vs : List ℤ) where
     -- a refusal: the two buffers as after building, the values as they were
-    pub ends-refused : {number place : ℕ} {num′ den′ : List ℤ} → o ≡ refusal number place → num′ ≡ numeratorsAfter (refusal number place) num → den′ ≡ denominatorsAfter (refusal number place) den
-        → Ends o (Refused number place) num den vs num′ den′ vs
+    pub ends-refused : {code place : ℕ} {num′ den′ : List ℤ} → o ≡ refusal code place → num′ ≡ numeratorsAfter (refusal code place) num → den′ ≡ denominatorsAfter (refusal code place) den
+        → Ends o (Refused code place) num den vs num′ den′ vs
     unfolding reply valuesAfter
     ends-refused e p q = record {
       answers = sym (ap returned e);
@@ -54,7 +54,7 @@ module _ (s : Space) where
     }
 
     -- a refusal that is not 8 or 9 leaves the buffers
-    pub ends-unchanged : {number place : ℕ} → o ≡ refusal number place → clears number ≡ false → Ends o (Refused number place) num den vs num den vs
+    pub ends-unchanged : {code place : ℕ} → o ≡ refusal code place → clears code ≡ false → Ends o (Refused code place) num den vs num den vs
     unfolding numeratorsAfter denominatorsAfter
     ends-unchanged e h = ends-refused e (sym (cond-false (numerators [] num) num h)) (sym (cond-false (denominators [] den) den h))
 
@@ -92,11 +92,11 @@ module _ (s : Space) (coefs positions : List ℤ) (numLength denLength valuesLen
     unfolding curveOutcome
     all-long = long-enough numLength denLength _ h k ∙ cond-false _ _ (le-ltb (valuesLength / 2) (length positions) l)
 
-    pub call-refused : {number place : ℕ} → curveChecked s coefs positions ≡ refusal number place → outcome ≡ refusal number place
+    pub call-refused : {code place : ℕ} → curveChecked s coefs positions ≡ refusal code place → outcome ≡ refusal code place
     call-refused e = all-long ∙ then-refuses (curveRead coefs positions) e
 
     module _ (c : curveChecked s coefs positions ≡ answer s) where
-      pub call-stopped : {number place : ℕ} → weights s ≡ refusal number place → outcome ≡ refusal number place
+      pub call-stopped : {code place : ℕ} → weights s ≡ refusal code place → outcome ≡ refusal code place
       unfolding curveRead
       call-stopped e = all-long ∙ then-answers (curveRead coefs positions) c ∙ ap (with-answer (λ t. record { table = t; values = values s t coefs positions })) e
 

@@ -107,7 +107,7 @@ module _ (b d o : List ℤ) (legal : ListsLegal b d o) where
       -- the last part of a part is all of it
       one-part : (x : Outcome Table) → with-answer (lastPart part) x ≡ x
       one-part (answer u) = ap answer (part-lastPart s a (starts b d o legal (f .state) l) u)
-      one-part (refusal number place) = refl
+      one-part (refusal code place) = refl
 
       -- it is built in the columns up to `end`
       module _ (end : ℕ) (end-is : end ≡ firstColumn s (partEnd s a)) (r : Built) {num′ den′ early′ late′ : List ℤ}
@@ -148,13 +148,13 @@ module _ (b d o : List ℤ) (legal : ListsLegal b d o) where
         front-more {m} next z e = subst (λ k. Front s coefs num₀ den₀ early₀ late₀ (row + m) end k num′ den′ (take column early ++ (early′ ++ drop (end - column) (drop column early))) (take column late ++ (late′ ++ drop (end - column) (drop column late)))) (sym z) (answered e)
 
         -- with a refusal
-        pub front-refused : {number place counted : ℕ} (early″ late″ : List ℤ) → r ≡ Refused number place → counted ≡ capped (a + place)
-            → PartsLeave s (λ wood. coefficient wood coefs) (Refused number counted) num₀ den₀ early₀ late₀ num′ den′ early″ late″
-        front-refused {number} {place} early″ late″ e p =
+        pub front-refused : {code place counted : ℕ} (early″ late″ : List ℤ) → r ≡ Refused code place → counted ≡ capped (a + place)
+            → PartsLeave s (λ wood. coefficient wood coefs) (Refused code counted) num₀ den₀ early₀ late₀ num′ den′ early″ late″
+        front-refused {code} {place} early″ late″ e p =
             let ends = part-refused b d o legal (f .state) l (told-refused (weights part) (rowCount part) (ap reply (sym e) ∙ left .answers)) num-is den-is in
             let refused = told-refused (weights s) (rowCount s) (ends .answers) in
             record {
-              answers = ap (λ (n : ℕ). reply (Refused number n)) p ∙ ends .answers;
+              answers = ap (λ (n : ℕ). reply (Refused code n)) p ∙ ends .answers;
               numerators-are = ends .numerators-are;
               denominators-are = ends .denominators-are;
               early-is = λ t z. absurd (answer-not-refusal z refused);

@@ -158,7 +158,7 @@ module _ (b d o : List ℤ) (h : ListsLegal b d o) (a e : ℕ) (A : Starts (spac
           size w = proper w .shaped .row-count ∙ sym (answered .count)
 
     -- it is refused
-    pub leaves-refused : {number place : ℕ} (coefs : Wood → ℕ → ℤ) (early late early′ late′ : List ℤ) → r ≡ Refused number place → PartsLeave part coefs (Refused number place) num den early late num′ den′ early′ late′
+    pub leaves-refused : {code place : ℕ} (coefs : Wood → ℕ → ℤ) (early late early′ late′ : List ℤ) → r ≡ Refused code place → PartsLeave part coefs (Refused code place) num den early late num′ den′ early′ late′
     leaves-refused coefs early late early′ late′ told = let answers = ap reply (sym told) ∙ part-answers in record {
       answers = answers;
       numerators-are = part-numerators;

@@ -8,7 +8,7 @@ ghost use Rattle.curve.specs.Machine.{reply};
 pub mod parts;
 mod reading;
 
-// What the curve call answers: the number of positions, each of which has two values, or a refusal's number and place.
+// What the curve call answers: the number of positions, each of which has two values, or a refusal's code and place.
 pub enum Answer {
     Values(usize),
     Refused(u8, u32),
@@ -42,7 +42,7 @@ pub fn curve(
     }
     let checked = curve_limits::check(breaks, degrees, orders, coefs, positions);
     match checked {
-        base_outcome::Legality::Refused(number, place) => Answer::Refused(number, place),
+        base_outcome::Legality::Refused(code, place) => Answer::Refused(code, place),
         base_outcome::Legality::Legal => {
             let mut early = [0; curve_triangle::MAX_COLUMNS];
             let mut late = [0; curve_triangle::MAX_COLUMNS];
@@ -57,7 +57,7 @@ pub fn curve(
                 &mut late,
             );
             match built {
-                build::Built::Refused(number, place) => Answer::Refused(number, place),
+                build::Built::Refused(code, place) => Answer::Refused(code, place),
                 build::Built::Rows(_) => {
                     reading::write_values(
                         breaks,

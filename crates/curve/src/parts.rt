@@ -49,7 +49,7 @@ fn build_part(
         den,
     );
     match built {
-        Built::Refused(number, place) => Built::Refused(number, place),
+        Built::Refused(code, place) => Built::Refused(code, place),
         Built::Rows(n) => {
             let own = &coefs[2 * row..2 * (row + n)];
             curve_ordinates::ordinates(num, den, own, Wood::Earlywood, n, early);
@@ -102,8 +102,8 @@ pub fn build_parts(
             Built::Rows(n) => {
                 row += n;
             }
-            Built::Refused(number, place) => {
-                return Built::Refused(number, base_outcome::place(a + place as usize));
+            Built::Refused(code, place) => {
+                return Built::Refused(code, base_outcome::place(a + place as usize));
             }
         }
         column = end;

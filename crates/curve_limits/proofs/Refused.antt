@@ -19,7 +19,7 @@ use Rattle.build_space.specs.Machine.{space}
 use Rattle.build_space.proofs.Partial.{row-count-partial}
 use Rattle.curve_limits.specs.Limits.{coefficientsChecked, outside, positionsChecked}
 
--- ---- number 6
+-- ---- code 6
 
 module _ (s : Space) (coefs : List ℤ) where
   pub coefficients-count : (length coefs ≡ 2 * rowCount s → ⊥) → coefficientsChecked s coefs ≡ refusal 6 largestPlace
@@ -35,7 +35,7 @@ module _ (s : Space) (coefs : List ℤ) where
     unfolding coefficientsChecked
     coefficients-pass e = cond-true _ _ (eq-eqb _ _ h) ∙ ap (λ o. refuseFirst 6 o (answer tt)) e
 
--- ---- number 7
+-- ---- code 7
 
 module _ (positions : List ℤ) (low high : ℤ) where
   pub positions-refused : {i : ℕ} → first (length positions) (outside positions low high) ≡ some i → positionsChecked positions low high ≡ refusal 7 (capped i)

@@ -11,7 +11,7 @@ use Rattle.spec_spline.specs.Space.{Space, rowCount}
 use Rattle.base_outcome.specs.Tests.{between, refuseFirst}
 use Rattle.spec_spline.specs.CurveCall.{badCoefficient}
 
--- Number 6: the count first, two numbers a row.
+-- Code 6: the count first, two numbers a row.
 unfoldable pub coefficientsChecked : Space → List ℤ → Outcome (Unit {0})
 coefficientsChecked s coefs = cond (eqb (length coefs) (2 * rowCount s))
     (refuseFirst 6 (first (length coefs) (badCoefficient coefs)) (answer tt)) (refuse 6 largestPlace)
@@ -20,6 +20,6 @@ coefficientsChecked s coefs = cond (eqb (length coefs) (2 * rowCount s))
 abbrev pub outside : List ℤ → ℤ → ℤ → ℕ → Bool
 outside list low high i = not (between low high (getD list i (pos 0)))
 
--- Number 7.
+-- Code 7.
 unfoldable pub positionsChecked : List ℤ → ℤ → ℤ → Outcome (Unit {0})
 positionsChecked positions low high = refuseFirst 7 (first (length positions) (outside positions low high)) (answer tt)

@@ -41,7 +41,7 @@ pub fn first_outside(list: &[i32], low: i32, high: i32) -> Found
     found
 }
 
-// Number 6 of a legal space: the count first, two numbers a row.
+// Code 6 of a legal space: the count first, two numbers a row.
 fn check_coefficients(degrees: &[i32], orders: &[i32], coefs: &[i32]) -> Legality
     requires { ⌜ JoinsLegal (now degrees) (now orders) ⌝ }
     ensures { λ r. ⌜ r ≡ legality (coefficientsChecked (space [] (now (degrees .entry)) (now (orders .entry))) (now (coefs .entry))) ⌝ }
@@ -57,7 +57,7 @@ fn check_coefficients(degrees: &[i32], orders: &[i32], coefs: &[i32]) -> Legalit
     }
 }
 
-// Number 7 of a legal space.
+// Code 7 of a legal space.
 fn check_positions(breaks: &[i32], m: usize, positions: &[i32]) -> Legality
     requires { ⌜ (length (now breaks) ≡ m + 1) × BreaksLegal (now breaks) ⌝ }
     ensures { λ r. ⌜ r ≡ legality (positionsChecked (now (positions .entry)) (fine (getD (now (breaks .entry)) 0 (pos 0)))
@@ -72,7 +72,7 @@ fn check_positions(breaks: &[i32], m: usize, positions: &[i32]) -> Legality
     }
 }
 
-// Numbers 6 and 7 of a legal space.
+// Codes 6 and 7 of a legal space.
 fn check_entries(
     breaks: &[i32],
     degrees: &[i32],
@@ -87,7 +87,7 @@ fn check_entries(
 {
     let c = check_coefficients(degrees, orders, coefs);
     match c {
-        Legality::Refused(number, at) => Legality::Refused(number, at),
+        Legality::Refused(code, at) => Legality::Refused(code, at),
         Legality::Legal => check_positions(breaks, degrees.len(), positions),
     }
 }
@@ -111,7 +111,7 @@ pub fn check(
     }
     let lists = build_space::check(breaks, degrees, orders);
     match lists {
-        Legality::Refused(number, at) => Legality::Refused(number, at),
+        Legality::Refused(code, at) => Legality::Refused(code, at),
         Legality::Legal => check_entries(breaks, degrees, orders, coefs, positions),
     }
 }

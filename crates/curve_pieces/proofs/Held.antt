@@ -1,4 +1,4 @@
--- A piece by the ordinates of all columns: the floats of each case, number 17, the piece of the definition, and the call's
+-- A piece by the ordinates of all columns: the floats of each case, code 17, the piece of the definition, and the call's
 -- outcome.
 use mathlib.Core.Path.{_≡_, refl, sym, _∙_, ap, subst}
 use mathlib.Core.Logic.{_⊎_, inl, inr}
@@ -52,7 +52,7 @@ module _ (os : List ℤ) (c d : ℕ) where
   unfolding tab
   cubic-held {x} e p q r t = counted e (more (here x p) (more q (more r (more t none))))
 
--- ---- number 17
+-- ---- code 17
 
 module _ (s : Space) (os : List ℤ) (k : ℕ) where
   drawable : k < segments s → degree s k ≤ drawableDegree → isDrawable s k ≡ true
@@ -109,9 +109,9 @@ module _ (s : Space) (t : Table) (wood : Wood) (coefs rest : List ℤ) (k : ℕ)
 -- ---- the call's outcome
 
 module _ (s : Space) (wood : Wood) (coefs : List ℤ) (k numLength denLength : ℕ) where
-  pub piece-refused : {number place : ℕ} → curveAlone s coefs numLength denLength ≡ refusal number place → Replies (Refused number place) (pieceOutcome s wood coefs k numLength denLength)
+  pub piece-refused : {code place : ℕ} → curveAlone s coefs numLength denLength ≡ refusal code place → Replies (Refused code place) (pieceOutcome s wood coefs k numLength denLength)
   unfolding pieceOutcome
-  piece-refused {number} {place} e = subst (Replies (Refused number place)) (sym (then-refuses (λ r. cond (isDrawable s k) (answer (pieceOf s (r .table) wood coefs k)) (refuse 17 k)) e)) refused
+  piece-refused {code} {place} e = subst (Replies (Refused code place)) (sym (then-refuses (λ r. cond (isDrawable s k) (answer (pieceOf s (r .table) wood coefs k)) (refuse 17 k)) e)) refused
 
   pub piece-drawn : {a : Answer} {os : List ℤ} (rest : List ℤ) (c : CurveResult) → curveAlone s coefs numLength denLength ≡ answer c → os ≡ ordinates s (c .table) (coefficient wood coefs) ++ rest
       → Replies a (drawnHeld s os k) → Replies a (pieceOutcome s wood coefs k numLength denLength)

@@ -214,7 +214,7 @@ cubic-drawn = refl
 cubic-end : IsTheValue lowerLimitSpace earlywood lowerCoefs cubic 0 (pos 256)
 cubic-end = pieces-end-at-the-value lowerLimitSpace earlywood lowerCoefs 0 5184 5184 cubic cubic-drawn
 
--- ---- number 17, place the number named
+-- ---- code 17, place the number named
 
 -- a segment past the end
 past-the-end : pieceOutcome space9 latewood coefs9 2 5184 5184 ≡ refusal 17 2

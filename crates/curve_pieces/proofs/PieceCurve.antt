@@ -221,7 +221,7 @@ pub pieces-never-give-nine : PiecesNeverGiveNine
 unfolding pieceOutcome
 pieces-never-give-nine s wood coefs k num den place e = go (then-breaks (curveAlone s coefs (length num) (length den)) (λ r. cond (isDrawable s k) (answer (pieceOf s (r .table) wood coefs k)) (refuse 17 k)) e)
   where
-    -- number 17 is not 9
+    -- code 17 is not 9
     seventeen : (b : Bool) (p : Piece) → cond b (answer p) (refuse 17 k) ≡ refusal 9 place → ⊥
     seventeen true p r = answer-not-refusal refl r
     seventeen false p r = true-not-false refl (keeping-refusal 17 k refl r)

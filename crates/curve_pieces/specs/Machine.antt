@@ -43,10 +43,10 @@ pub record Shows (r : Drawing) (p : Piece) : Type 0 where
   pub start : Is (r .ends .start) (p .start) 1
   pub end : Is (r .ends .end) (p .end) 1
 
--- The answer is the outcome: the piece, or the number and place of a refusal.
+-- The answer is the outcome: the piece, or the code and place of a refusal.
 pub data Replies : Answer → Outcome Piece → Type 0 where
   drawn : {r : Drawing} {p : Piece} → Shows r p → Replies (Drawn r) (answer p)
-  refused : {number place : ℕ} → Replies (Refused number place) (refusal number place)
+  refused : {code place : ℕ} → Replies (Refused code place) (refusal code place)
 
 -- ---- a piece by the ordinates of all columns
 

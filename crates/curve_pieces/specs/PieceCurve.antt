@@ -56,7 +56,7 @@ PiecesStartAtTheValue = (s : Space) (wood : Wood) (coefs : List ℤ) (k numLengt
     → pieceOutcome s wood coefs k numLength denLength ≡ answer p
     → startsAtDiscontinuity s k ≡ false → IsTheValue s wood coefs p k (fine (break s k))
 
--- Number 9 never comes, whatever the call is given.
+-- Code 9 never comes, whatever the call is given.
 abbrev pub PiecesNeverGiveNine : Type 0
 PiecesNeverGiveNine = (s : Space) (wood : Wood) (coefs : List ℤ) (k : ℕ) (num den : List ℤ) (place : ℕ)
     → pieceEnd s wood coefs k num den .answers ≡ refusal 9 place → ⊥

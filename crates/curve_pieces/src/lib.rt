@@ -35,7 +35,7 @@ pub struct Drawing {
     pub ends: Ends,
 }
 
-// What the call answers: the piece, or a refusal's number and place.
+// What the call answers: the piece, or a refusal's code and place.
 pub enum Answer {
     Drawn(Drawing),
     Refused(u8, u32),
@@ -106,7 +106,7 @@ fn piece_at(breaks: &[i32], degrees: &[i32], orders: &[i32], ordinates: &[i32], 
     Drawing { curve, ends }
 }
 
-// The piece of the named segment, or number 17.
+// The piece of the named segment, or code 17.
 fn draw(breaks: &[i32], degrees: &[i32], orders: &[i32], ordinates: &[i32], segment: u32) -> Answer
     requires { ⌜ ListsLegal (now breaks) (now degrees) (now orders) × (length (now ordinates) ≡ columnLimit) ⌝ }
     ensures { λ r. ⌜ Replies r (drawnHeld (space (now (breaks .entry)) (now (degrees .entry)) (now (orders .entry)))
@@ -152,7 +152,7 @@ pub fn piece(
         &mut late,
     );
     match built {
-        Built::Refused(number, place) => Answer::Refused(number, place),
+        Built::Refused(code, place) => Answer::Refused(code, place),
         Built::Rows(_) => match wood {
             Wood::Earlywood => draw(breaks, degrees, orders, &early, segment),
             Wood::Latewood => draw(breaks, degrees, orders, &late, segment),

@@ -42,7 +42,7 @@ reached-fronted s t n wood coefs width = first-ext (positionCount s) (λ i h. ap
 -- ---- the call's outcome
 
 module _ (s : Space) (wood : Wood) (coefs : List ℤ) (width : ℤ) (numLength denLength : ℕ) where
-  pub reach-refused : {number place : ℕ} → curveAlone s coefs numLength denLength ≡ refusal number place → reply (Refused number place) ≡ reachOutcome s wood coefs width numLength denLength
+  pub reach-refused : {code place : ℕ} → curveAlone s coefs numLength denLength ≡ refusal code place → reply (Refused code place) ≡ reachOutcome s wood coefs width numLength denLength
   unfolding reply reachOutcome
   reach-refused e = sym (then-refuses (λ r. reachedAt s (first (positionCount s) (reaches s (r .table) wood coefs width))) e)
 

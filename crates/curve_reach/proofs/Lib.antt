@@ -1,5 +1,5 @@
 -- The proofs of the statements in specs/, and the laws of the search.
-pub mod Numbers
+pub mod Codes
 pub mod Positions
 pub mod FirstReach
 pub mod Instances

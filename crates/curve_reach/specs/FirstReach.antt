@@ -32,7 +32,7 @@ abbrev pub SixteenIsNever : Type 0
 SixteenIsNever = (s : Space) (wood : Wood) (coefs : List ℤ) (width : ℤ) (numLength denLength place : ℕ)
     → reachOutcome s wood coefs width numLength denLength ≡ refusal 16 place → NeverReached s wood coefs width
 
--- Number 9 never comes, whatever the call is given.
+-- Code 9 never comes, whatever the call is given.
 abbrev pub ReachNeverGivesNine : Type 0
 ReachNeverGivesNine = (s : Space) (wood : Wood) (coefs : List ℤ) (width : ℤ) (num den : List ℤ) (place : ℕ)
     → reachEnd s wood coefs width num den .answers ≡ refusal 9 place → ⊥

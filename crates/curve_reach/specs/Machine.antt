@@ -20,10 +20,10 @@ use Rattle.curve_reach.specs.declared.search.Found.the-variants.{At, Now
 
 -- ---- what the call answers
 
--- The position, or the number and place of a refusal.
+-- The position, or the code and place of a refusal.
 unfoldable pub reply : Answer → Outcome ℤ
 reply (Reached x) = answer x
-reply (Refused number place) = refusal number place
+reply (Refused code place) = refusal code place
 
 -- ---- the offsets of a segment
 

@@ -17,13 +17,13 @@ mod search;
 use crate::search::Found;
 use curve_ordinates::Wood;
 
-// What the call answers: the position, or a refusal's number and place.
+// What the call answers: the position, or a refusal's code and place.
 pub enum Answer {
     Reached(i32),
     Refused(u8, u32),
 }
 
-// The first position at which the curve with these ordinates reaches the width, or number 16.
+// The first position at which the curve with these ordinates reaches the width, or code 16.
 fn first_reach(
     breaks: &[i32],
     degrees: &[i32],
@@ -94,7 +94,7 @@ pub fn reach(
         &mut late,
     );
     match built {
-        build::Built::Refused(number, place) => Answer::Refused(number, place),
+        build::Built::Refused(code, place) => Answer::Refused(code, place),
         build::Built::Rows(_) => part_reach(wood, breaks, degrees, orders, &early, &late, width),
     }
 }

@@ -25,7 +25,7 @@ use Rattle.curve_start.specs.CurveAlone.{curveAlone}
 use Rattle.curve_start.specs.Machine.{CurvesLeave}
 
 -- a refusal leaves the same numerators whatever the space's parts are
-pub refused-numerators : (s t : Space) (o : Outcome CurveResult) (num : List ℤ) {number place : ℕ} → o ≡ refusal number place
+pub refused-numerators : (s t : Space) (o : Outcome CurveResult) (num : List ℤ) {code place : ℕ} → o ≡ refusal code place
     → curveNumerators s o num ≡ curveNumerators t o num
 refused-numerators s t o num e =
     ap (λ (x : Outcome CurveResult). curveNumerators s x num) e ∙ sym (ap (λ (x : Outcome CurveResult). curveNumerators t x num) e)
@@ -38,7 +38,7 @@ module _ (b d o coefs num den early late : List ℤ) where
   outcome = curveAlone s coefs (length num) (length den)
 
   -- a refusal that leaves the buffers as they were
-  pub leaves-unchanged : {number place : ℕ} → outcome ≡ refusal number place → clears number ≡ false → CurvesLeave b d o coefs (Refused number place) num den early late num den early late
+  pub leaves-unchanged : {code place : ℕ} → outcome ≡ refusal code place → clears code ≡ false → CurvesLeave b d o coefs (Refused code place) num den early late num den early late
   unfolding numeratorsAfter denominatorsAfter
   leaves-unchanged e h = record {
     told = e;
@@ -70,7 +70,7 @@ module _ (b d o coefs num den early late : List ℤ) where
           numerators-are = p .numerators-are ∙ ap (λ x. numeratorsAfter (with-answer (lastPart s) x) num) (t .is) ∙ sym (ap (λ x. curveNumerators s x num) e);
           denominators-are = p .denominators-are ∙ ap (λ x. denominatorsAfter (with-answer (lastPart s) x) den) (t .is) ∙ sym (ap (λ x. curveDenominators s x den) e);
         }
-    leaves-built (Refused number place) p =
+    leaves-built (Refused code place) p =
         let t = told-refused (weights s) (rowCount s) (p .answers) in
         let e = call-stopped s coefs [] (length num) (length den) 0 h k (omega arith) (checks-answer b d o coefs [] passes) t in
         record {

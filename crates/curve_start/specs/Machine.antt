@@ -29,8 +29,8 @@ pub record CurvesHeld (n : ℕ) (b d o coefs num den early late early′ late′
 -- What the machine's answer tells: the curves are held, or the call is refused so.
 abbrev pub CurvesTold : (b d o coefs num den early late early′ late′ : List ℤ) → Built → Type 0
 CurvesTold b d o coefs num den early late early′ late′ (Rows n) = CurvesHeld n b d o coefs num den early late early′ late′
-CurvesTold b d o coefs num den early late early′ late′ (Refused number place) = curveAlone (space b d o) coefs (length num) (length den)
-    ≡ refusal number place
+CurvesTold b d o coefs num den early late early′ late′ (Refused code place) = curveAlone (space b d o) coefs (length num) (length den)
+    ≡ refusal code place
 
 -- The answer, and both weight buffers as after a curve call.
 pub record CurvesLeave (b d o coefs : List ℤ) (r : Built) (num den early late num′ den′ early′ late′ : List ℤ) : Type 0 where

@@ -6,7 +6,7 @@ ghost use Rattle.curve_triangle.specs.Offsets.{columnLimit};
 ghost use Rattle.curve_start.specs.Machine.{CurvesLeave};
 use build::Built;
 
-// Builds the weights, and writes the ordinates of all columns for each wood part. The count of rows, or a refusal's number and
+// Builds the weights, and writes the ordinates of all columns for each wood part. The count of rows, or a refusal's code and
 // place.
 pub fn build_curves(
     breaks: &[i32],
@@ -31,7 +31,7 @@ pub fn build_curves(
     }
     let checked = curve_limits::check(breaks, degrees, orders, coefs, &coefs[0..0]);
     match checked {
-        base_outcome::Legality::Refused(number, place) => Built::Refused(number, place),
+        base_outcome::Legality::Refused(code, place) => Built::Refused(code, place),
         base_outcome::Legality::Legal => curve::parts::build_parts(
             breaks,
             degrees,

@@ -32,7 +32,7 @@ use Rattle.indices.specs.declared.Answer as ours
 use Rattle.indices.specs.declared.Answer.the-variants.{Refused}
 use Rattle.indices.proofs.Positions.{exact-length, words-length, outcome-same}
 
--- ---- number 14 and the indices by the cells
+-- ---- code 14 and the indices by the cells
 
 module _ (widths cells : List ℤ) (offset : ℕ) where
   pub cells-refused : {i : ℕ} → first (length widths) (badCell widths cells offset) ≡ some i → length widths ≤ positionLimit → cellsIndexed widths cells offset ≡ refusal 14 i
@@ -75,8 +75,8 @@ pub record Ends (s : Space) (wood : Wood) (widths : List ℤ) (o : Outcome Curve
 
 module _ (s : Space) (wood : Wood) (widths : List ℤ) {o : Outcome CurveResult} (num den vs is : List ℤ) where
   -- a refusal of the curve call: the buffers as it leaves them, the indices as they were
-  pub ends-refused : {number place : ℕ} {num′ den′ vs′ : List ℤ} → o ≡ refusal number place → num′ ≡ curveNumerators s o num → den′ ≡ curveDenominators s o den → vs′ ≡ valuesAfter o vs
-      → Ends s wood widths o (Refused number place) num den vs is num′ den′ vs′ is
+  pub ends-refused : {code place : ℕ} {num′ den′ vs′ : List ℤ} → o ≡ refusal code place → num′ ≡ curveNumerators s o num → den′ ≡ curveDenominators s o den → vs′ ≡ valuesAfter o vs
+      → Ends s wood widths o (Refused code place) num den vs is num′ den′ vs′ is
   unfolding reply indicesAfter
   ends-refused e p q w = record {
     answers = sym (ap (λ x. indicesReturned (x then ringsIndexed wood widths)) e);
@@ -86,7 +86,7 @@ module _ (s : Space) (wood : Wood) (widths : List ℤ) {o : Outcome CurveResult}
     indices-are = sym (ap (λ x. indicesAfter (x then ringsIndexed wood widths) is) e);
   }
 
-  -- number 1 leaves all
+  -- code 1 leaves all
   pub ends-unchanged : {place : ℕ} → o ≡ refusal 1 place → Ends s wood widths o (Refused 1 place) num den vs is num den vs is
   unfolding numeratorsAfter denominatorsAfter valuesAfter
   ends-unchanged e = ends-refused e
@@ -94,7 +94,7 @@ module _ (s : Space) (wood : Wood) (widths : List ℤ) {o : Outcome CurveResult}
       (sym (ap (λ x. curveDenominators s x den) e ∙ cond-false (denominators [] den) den refl))
       (sym (ap (λ x. valuesAfter x vs) e))
 
-  -- an answer of the curve call: number 14 or the indices, by the cells after it
+  -- an answer of the curve call: code 14 or the indices, by the cells after it
   pub ends-indexed : {r : CurveResult} {a : ours.Answer} {num′ den′ vs′ is′ : List ℤ} → o ≡ answer r → length (r .values) ≡ length widths → num′ ≡ curveNumerators s o num → den′ ≡ curveDenominators s o den → vs′ ≡ valuesAfter o vs
       → reply a ≡ indicesReturned (cellsIndexed widths vs′ (woodIndex wood)) → is′ ≡ indicesAfter (cellsIndexed widths vs′ (woodIndex wood)) is
       → Ends s wood widths o a num den vs is num′ den′ vs′ is′
@@ -157,7 +157,7 @@ values-kept r before h = length-pairs (r .values) before h
 
 -- ---- what the curve call answered
 
-pub refused-inverts : (o : Outcome CurveResult) {number place : ℕ} → curves.reply (answered.Refused number place) ≡ returned o → o ≡ refusal number place
+pub refused-inverts : (o : Outcome CurveResult) {code place : ℕ} → curves.reply (answered.Refused code place) ≡ returned o → o ≡ refusal code place
 unfolding curves.reply
 refused-inverts (answer t) e = absurd (let z : _≡_ {A = ℕ} 0 1 = cc in omega arith)
 refused-inverts (refusal a b) e = cc

@@ -153,7 +153,7 @@ module _ (firstRing : ℤ) (n : ℕ) where
       where
         go : (b : Bool) → lengthsFit s ≡ b → (o : Outcome Space) → checkedEntries s ≡ o → cond b (rest words o) (refuse 2 0) ≡ cond b (rest exact o) (refuse 2 0)
         go false fit o e = refl
-        go true fit (refusal number place) e = rest-same (refusal number place) refl
+        go true fit (refusal code place) e = rest-same (refusal code place) refl
         go true fit (answer t) e = rest-same (answer t) (subst (λ (u : Space). legalEntries u coefs words (answer u) ≡ legalEntries u coefs exact (answer u)) (legal .0) (entries-same (legal .1)))
           where
             legal : (s ≡ t) × Checked s
@@ -163,7 +163,7 @@ module _ (firstRing : ℤ) (n : ℕ) where
     read-same = ap (λ (o : Outcome Space). o then curveRead coefs words) checks-same ∙ go (curveChecked s coefs exact) refl
       where
         go : (o : Outcome Space) → curveChecked s coefs exact ≡ o → (o then curveRead coefs words) ≡ (o then curveRead coefs exact)
-        go (refusal number place) e = refl
+        go (refusal code place) e = refl
         go (answer t) e = let p = checks-passed s coefs exact e .0 in ap (λ (l : List ℤ). curveRead coefs l t) (same-inside s (checked-inverts s (p .space) .1) (p .entries .positions-inside))
 
 -- ---- more than the curve call takes

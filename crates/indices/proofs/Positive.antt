@@ -1,4 +1,4 @@
--- Positive coefficients are enough, proved: number 14 asks for a width out of range or a value at or below zero, and there is neither.
+-- Positive coefficients are enough, proved: code 14 asks for a width out of range or a value at or below zero, and there is neither.
 use mathlib.Core.Path.{_≡_, refl, sym, _∙_, ap, ap₂}
 use mathlib.Core.Bool.{Bool, true, false, not, _&&_, _||_}
 use Prim.Native.Nat.{ℕ, _+_, _*_, _<_, _≤_}
@@ -25,7 +25,7 @@ and-false : (b : Bool) → (b && false) ≡ false
 and-false true = refl
 and-false false = refl
 
--- a ring that number 14 does not refuse
+-- a ring that code 14 does not refuse
 not-refused : (width value : ℤ) → T (between (pos 0) (pos widthLimit) width) → pos 0 <ℤ value → isRefused width value ≡ false
 unfolding isRefused
 not-refused width value h k =

@@ -1,4 +1,4 @@
--- One ring: when number 14 refuses it, as the machine tests it one bound after the other, what a ring that passes has, and its
+-- One ring: when code 14 refuses it, as the machine tests it one bound after the other, what a ring that passes has, and its
 -- index; and a position brought into 32 bits.
 use mathlib.Core.Path.{_≡_, refl, sym, _∙_, ap, ap₂}
 use mathlib.Core.Logic.{_≢_}
@@ -20,7 +20,7 @@ use Rattle.spec_spline.proofs.Space.{between-inverts}
 use Rattle.indices.specs.Indices.{widthLimit, isAbsent, isRefused, indexScale, indexOf}
 use Rattle.indices.specs.Machine.{leastWord, greatestWord, nearestWord}
 
--- ---- number 14
+-- ---- code 14
 
 module _ (width value : ℤ) where
   abbrev byValue : Bool

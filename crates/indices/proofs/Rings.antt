@@ -120,7 +120,7 @@ record Returned (o : Outcome (List ℤ)) (n : ℕ) : Type 0 where
 
 returned-inverts : (o : Outcome (List ℤ)) {n : ℕ} → indicesReturned o ≡ answer n → Returned o n
 returned-inverts (answer zs) e = record { given = zs; is = refl; count = answer-unique {o = indicesReturned (answer zs)} refl e }
-returned-inverts (refusal number place) e = absurd (answer-not-refusal e refl)
+returned-inverts (refusal code place) e = absurd (answer-not-refusal e refl)
 
 -- What an answer tells.
 record Answered (c : RingsCall) (n : ℕ) : Type 0 where
@@ -168,7 +168,7 @@ pub rings-never-give-nine : RingsNeverGiveNine
 unfolding ringsRead ringsIndexed
 rings-never-give-nine c place e = returned (indexed c) refl e
   where
-    -- number 14 is not 9
+    -- code 14 is not 9
     fourteen : (o : Option ℕ) (zs : List ℤ) → refuseFirst 14 o (answer zs) ≡ refusal 9 place → ⊥
     fourteen none zs r = answer-not-refusal refl r
     fourteen (some i) zs r = true-not-false refl (keeping-refusal 14 i refl r)
@@ -189,13 +189,13 @@ rings-never-give-nine c place e = returned (indexed c) refl e
 
     returned : (o : Outcome (List ℤ)) → indexed c ≡ o → indicesReturned o ≡ refusal 9 place → ⊥
     returned (answer zs) p r = answer-not-refusal refl r
-    returned (refusal number q) p r = broken (then-breaks (read c) (ringsIndexed (c .wood) (c .widths)) (p ∙ cc))
+    returned (refusal code q) p r = broken (then-breaks (read c) (ringsIndexed (c .wood) (c .widths)) (p ∙ cc))
 
 pub refusals-keep-the-indices : RefusalsKeepTheIndices
 unfolding indicesAfter
-refusals-keep-the-indices c number place e = go (indexed c) e
+refusals-keep-the-indices c code place e = go (indexed c) e
   where
-    go : (o : Outcome (List ℤ)) → indicesReturned o ≡ refusal number place → indicesAfter o (c .indices) ≡ c .indices
+    go : (o : Outcome (List ℤ)) → indicesReturned o ≡ refusal code place → indicesAfter o (c .indices) ≡ c .indices
     go (answer zs) k = absurd (answer-not-refusal refl k)
     go (refusal a b) k = refl
 
@@ -230,7 +230,7 @@ indices-past-are-kept c k h = go (endOf c .answers) refl
   where
     go : (o : Outcome ℕ) → endOf c .answers ≡ o → getD (endOf c .indices) k (pos 0) ≡ getD (c .indices) k (pos 0)
     go (answer n) e = ap (λ (l : List ℤ). getD l k (pos 0)) (cells-are c n e) ∙ getD-past-tab (ringCount c) _ (c .indices) k (pos 0) h
-    go (refusal number place) e = ap (λ (l : List ℤ). getD l k (pos 0)) (refusals-keep-the-indices c number place e)
+    go (refusal code place) e = ap (λ (l : List ℤ). getD l k (pos 0)) (refusals-keep-the-indices c code place e)
 
 -- ---- the bounds
 

@@ -1,6 +1,6 @@
 -- Ring indices (§ 9): each measured ring divided by the curve of a named wood part, "floor(256,000 × width /
 -- value)". The rings are consecutive, the first one's number is given, and "ring r is read at position 256·r". What the call
--- ends with is said by the curve call's own definitions, and by number 14 and the indices after them.
+-- ends with is said by the curve call's own definitions, and by code 14 and the indices after them.
 use mathlib.Core.Bool.{Bool, cond, not, _&&_, _||_}
 use mathlib.Core.List.{List, _++_}
 use mathlib.Core.Option.{Option, some, none}
@@ -41,7 +41,7 @@ ofWood latewood p = p .late
 abbrev pub ringValue : Wood → List Pair → ℕ → ℤ
 ringValue wood values i = ofWood wood (getD values i noPair)
 
--- ---- number 14
+-- ---- code 14
 
 -- "a width is below 0 or over 99,999".
 abbrev pub widthLimit : ℕ
@@ -75,7 +75,7 @@ ringIndices wood widths values = tab (length widths) (λ i. indexOf (ringWidth w
 
 -- ---- the call
 
--- Up to the values: number 1, "a short index buffer gives 1, place 3", and then "all of 01's numbers", as the curve call gives
+-- Up to the values: code 1, "a short index buffer gives 1, place 3", and then "all of 01's numbers", as the curve call gives
 -- them at the rings' positions.
 unfoldable pub ringsRead : Space → List ℤ → ℤ → List ℤ → ℕ → ℕ → ℕ → ℕ → Outcome CurveResult
 ringsRead s coefs firstRing widths numLength denLength valuesLength indicesLength =
@@ -92,12 +92,12 @@ ringsIndexed wood widths r = refuseFirst 14 (first (length widths) (badRing wood
 -- "The call returns the rings' count".
 abbrev pub indicesReturned : Outcome (List ℤ) → Outcome ℕ
 indicesReturned (answer zs) = answer (length zs)
-indicesReturned (refusal number place) = refusal number place
+indicesReturned (refusal code place) = refusal code place
 
 -- The index buffer after the call: "index cells past it stay", and "no refusal touches the indices".
 unfoldable pub indicesAfter : Outcome (List ℤ) → List ℤ → List ℤ
 indicesAfter (answer zs) before = zs ++ drop (length zs) before
-indicesAfter (refusal number place) before = before
+indicesAfter (refusal code place) before = before
 
 -- What the call ends with: the answer and all four lent buffers. After 14 "all but the indices is then as after an answer, the
 -- values too".

@@ -18,10 +18,10 @@ use Rattle.indices.specs.declared.Answer.the-variants.{Indices, Refused}
 
 -- ---- answers
 
--- The rings' count, or the number and place of a refusal.
+-- The rings' count, or the code and place of a refusal.
 unfoldable pub reply : Answer → Outcome ℕ
 reply (Indices n) = answer n
-reply (Refused number place) = refusal number place
+reply (Refused code place) = refusal code place
 
 -- ---- positions that fit
 
@@ -51,7 +51,7 @@ wordPositions firstRing n = tab n (wordPosition firstRing)
 
 -- ---- rings by the value cells
 
--- Number 14 of ring i, by the cell of its value.
+-- Code 14 of ring i, by the cell of its value.
 unfoldable pub badCell : List ℤ → List ℤ → ℕ → ℕ → Bool
 badCell widths cells offset i = isRefused (ringWidth widths i) (getD cells (2 * i + offset) (pos 0))
 
@@ -59,7 +59,7 @@ badCell widths cells offset i = isRefused (ringWidth widths i) (getD cells (2 * 
 unfoldable pub cellIndex : List ℤ → List ℤ → ℕ → ℕ → ℤ
 cellIndex widths cells offset i = indexOf (ringWidth widths i) (getD cells (2 * i + offset) (pos 0))
 
--- Number 14 at the first ring that it refuses, or the indices.
+-- Code 14 at the first ring that it refuses, or the indices.
 unfoldable pub cellsIndexed : List ℤ → List ℤ → ℕ → Outcome (List ℤ)
 cellsIndexed widths cells offset = refuseFirst 14 (first (length widths) (badCell widths cells offset))
     (answer (tab (length widths) (cellIndex widths cells offset)))

@@ -63,7 +63,7 @@ CurveIsLegal c = Legal (c .space) (c .coefs) (ringPositions (c .firstRing) (ring
 
 -- ---- which calls answer
 
--- Where the curve call is legal and the indices have room, number 14 or the rings' count: "14 .. after all of 01's numbers,
+-- Where the curve call is legal and the indices have room, code 14 or the rings' count: "14 .. after all of 01's numbers,
 -- place the first such entry".
 abbrev pub LegalRingsEnd : Type 0
 LegalRingsEnd = (c : RingsCall) → CurveIsLegal c → ringCount c ≤ length (c .indices)
@@ -89,13 +89,13 @@ PositiveCoefficientsAreEnough = (c : RingsCall) → CurveIsLegal c → ringCount
     → ((i : ℕ) → i < ringCount c → T (between (pos 0) (pos widthLimit) (ringWidth (c .widths) i)))
     → endOf c .answers ≡ answer (ringCount c)
 
--- Number 9 never comes, whatever the call is given.
+-- Code 9 never comes, whatever the call is given.
 abbrev pub RingsNeverGiveNine : Type 0
 RingsNeverGiveNine = (c : RingsCall) (place : ℕ) → endOf c .answers ≡ refusal 9 place → ⊥
 
 -- "No refusal touches the indices".
 abbrev pub RefusalsKeepTheIndices : Type 0
-RefusalsKeepTheIndices = (c : RingsCall) (number place : ℕ) → endOf c .answers ≡ refusal number place → endOf c .indices ≡ c .indices
+RefusalsKeepTheIndices = (c : RingsCall) (code place : ℕ) → endOf c .answers ≡ refusal code place → endOf c .indices ≡ c .indices
 
 -- "index cells past it stay".
 abbrev pub IndicesPastAreKept : Type 0

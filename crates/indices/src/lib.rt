@@ -32,7 +32,7 @@ const WIDTH_LIMIT: i32 = 99999;
 // 256 for the values' units, 1,000 for three decimals.
 const INDEX_SCALE: i64 = 256000;
 
-// What the call answers: the rings' count, or a refusal's number and place.
+// What the call answers: the rings' count, or a refusal's code and place.
 pub enum Answer {
     Indices(usize),
     Refused(u8, u32),
@@ -104,7 +104,7 @@ fn wood_index(wood: curve_ordinates::Wood) -> usize
     }
 }
 
-// Number 14 of one ring.
+// Code 14 of one ring.
 fn ring_is_bad(widths: &[i32], values: &[i32], offset: usize, i: usize) -> bool
     requires { ⌜ (i < length (now widths)) × (2 * i + offset < length (now values)) ⌝ }
     ensures { λ r. ⌜ r ≡ badCell (now (widths .entry)) (now (values .entry)) offset i ⌝ }
@@ -142,7 +142,7 @@ fn first_bad_ring(widths: &[i32], values: &[i32], offset: usize) -> base_outcome
     found
 }
 
-// The index of one ring that passed number 14.
+// The index of one ring that passed code 14.
 fn index(widths: &[i32], values: &[i32], offset: usize, i: usize) -> i64
     requires { ⌜ ((i < length (now widths)) × (2 * i + offset < length (now values)))
         × (badCell (now widths) (now values) offset i ≡ false) ⌝ }
@@ -173,7 +173,7 @@ fn write_indices(widths: &[i32], values: &[i32], offset: usize, indices: &mut [i
     }
 }
 
-// Number 14, or the indices, of rings whose values have been written.
+// Code 14, or the indices, of rings whose values have been written.
 fn index_rings(
     wood: curve_ordinates::Wood,
     widths: &[i32],
@@ -243,7 +243,7 @@ pub fn indices(
         values,
     );
     match read {
-        curve::Answer::Refused(number, place) => Answer::Refused(number, place),
+        curve::Answer::Refused(code, place) => Answer::Refused(code, place),
         curve::Answer::Values(_) => index_rings(wood, widths, values, indices),
     }
 }

@@ -1,5 +1,5 @@
 -- The loop over the parts of a beam, in the definitions' terms: after the parts before segment a the weight buffers hold the last of
--- them, the answer buffers the numbers of all of them, and the beam's front up to a is answered. A part that is refused refuses the
+-- them, the answer buffers the coefficients of all of them, and the beam's front up to a is answered. A part that is refused refuses the
 -- beam; after the last part the front is the beam.
 use mathlib.Core.Path.{_≡_, refl, sym, _∙_, ap, ap₂}
 use mathlib.Core.Bool.{true, cond}
@@ -35,7 +35,7 @@ use Rattle.build.specs.Machine.{reply}
 use Rattle.build.specs.declared.Built.{Built}
 use Rattle.build.specs.declared.Built.the-variants.{Rows, Refused}
 use Rattle.build.proofs.Beam.{part-legal}
-use Rattle.theorems_recovery.specs.Recovery.{Numbered, recovered}
+use Rattle.theorems_recovery.specs.Recovery.{Combination, recovered}
 use Rattle.theorems_recovery.specs.RecoveryCall.{clearsAll, weightsAfter, listed, answersAfter, numeratorOf, denominatorOf}
 use Rattle.theorems_recovery.proofs.Reproduction.{answers-have-the-weights}
 use Rattle.theorems_recovery.proofs.Refusals.{recovered-clears}
@@ -46,10 +46,10 @@ use Rattle.recover.proofs.Listed.{rest-cleared, all-cleared, zero-numer
 
 -- ---- what a call answers and leaves
 
-module _ (s : Space) (n : ℕ) (o : Outcome Numbered) (num den coefNum coefDen : List ℤ) where
+module _ (s : Space) (n : ℕ) (o : Outcome Combination) (num den coefNum coefDen : List ℤ) where
   -- an answer
-  beam-answers : {t : Numbered} {m : ℕ} {num′ den′ coefNum′ coefDen′ : List ℤ} → o ≡ answer t → m ≡ rowCount s → num′ ≡ numerators (lastPart s (t .table)) num → den′ ≡ denominators (lastPart s (t .table)) den
-      → coefNum′ ≡ listed numeratorOf n (t .numbers) coefNum → coefDen′ ≡ listed denominatorOf n (t .numbers) coefDen → BeamEnds s n o (Rows m) num den coefNum coefDen num′ den′ coefNum′ coefDen′
+  beam-answers : {t : Combination} {m : ℕ} {num′ den′ coefNum′ coefDen′ : List ℤ} → o ≡ answer t → m ≡ rowCount s → num′ ≡ numerators (lastPart s (t .table)) num → den′ ≡ denominators (lastPart s (t .table)) den
+      → coefNum′ ≡ listed numeratorOf n (t .coefficients) coefNum → coefDen′ ≡ listed denominatorOf n (t .coefficients) coefDen → BeamEnds s n o (Rows m) num den coefNum coefDen num′ den′ coefNum′ coefDen′
   unfolding reply
   beam-answers e h p q u v = record {
     answers = ap answer h ∙ sym (ap (with-answer (λ _. rowCount s)) e);
@@ -60,8 +60,8 @@ module _ (s : Space) (n : ℕ) (o : Outcome Numbered) (num den coefNum coefDen :
   }
 
   -- a refusal that clears the buffers
-  beam-cleared : {number place : ℕ} {num′ den′ coefNum′ coefDen′ : List ℤ} → o ≡ refusal number place → clearsAll number ≡ true → num′ ≡ numerators [] num → den′ ≡ denominators [] den
-      → coefNum′ ≡ listed numeratorOf n [] coefNum → coefDen′ ≡ listed denominatorOf n [] coefDen → BeamEnds s n o (Refused number place) num den coefNum coefDen num′ den′ coefNum′ coefDen′
+  beam-cleared : {code place : ℕ} {num′ den′ coefNum′ coefDen′ : List ℤ} → o ≡ refusal code place → clearsAll code ≡ true → num′ ≡ numerators [] num → den′ ≡ denominators [] den
+      → coefNum′ ≡ listed numeratorOf n [] coefNum → coefDen′ ≡ listed denominatorOf n [] coefDen → BeamEnds s n o (Refused code place) num den coefNum coefDen num′ den′ coefNum′ coefDen′
   unfolding reply
   beam-cleared e told p q u v = record {
     answers = sym (ap (with-answer (λ _. rowCount s)) e);
@@ -73,15 +73,15 @@ module _ (s : Space) (n : ℕ) (o : Outcome Numbered) (num den coefNum coefDen :
 
 -- ---- what the machine's answer of a part says of its outcome
 
-pub record PartDone (o : Outcome Numbered) (n : ℕ) (r : Joined) (num den num′ den′ : List ℤ) : Type 0 where
-  pub reached : Numbered
+pub record PartDone (o : Outcome Combination) (n : ℕ) (r : Joined) (num den num′ den′ : List ℤ) : Type 0 where
+  pub reached : Combination
   pub answers : o ≡ answer reached
   pub rows-are : r .rows ≡ n
-  pub of-is : r .of ≡ fractions (reached .numbers)
+  pub of-is : r .of ≡ fractions (reached .coefficients)
   pub num-is : num′ ≡ numerators (reached .table) num
   pub den-is : den′ ≡ denominators (reached .table) den
 
-pub record PartRefused (o : Outcome Numbered) (r : Joined) (num den num′ den′ : List ℤ) : Type 0 where
+pub record PartRefused (o : Outcome Combination) (r : Joined) (num den num′ den′ : List ℤ) : Type 0 where
   pub refuses : o ≡ refusal (r .refused) (r .place)
   pub num-kept : Kept num num′
   pub den-kept : Kept den den′
@@ -90,36 +90,36 @@ module _ (n : ℕ) (r : Joined) (num den num′ den′ : List ℤ) where
   pub told-done : (s : Space) (ordinates : List ℤ) → JoinsLeave (recovered s ordinates) n r num den num′ den′ → r .refused ≡ 0 → PartDone (recovered s ordinates) n r num den num′ den′
   told-done s ordinates left z = go (recovered s ordinates) (recovered-clears s ordinates) left
     where
-      go : (o : Outcome Numbered) → RefusedAs (λ number place. clearsAll number ≡ true) o → JoinsLeave o n r num den num′ den′ → PartDone o n r num den num′ den′
+      go : (o : Outcome Combination) → RefusedAs (λ code place. clearsAll code ≡ true) o → JoinsLeave o n r num den num′ den′ → PartDone o n r num den num′ den′
       go (answer t) H left = record { reached = t; answers = refl; rows-are = ap (λ (x : Joined). x .rows) (left .0); of-is = ap (λ (x : Joined). x .of) (left .0); num-is = left .1; den-is = left .2 }
-      go (refusal number place) H left = absurd (let e : number ≡ 0 = sym (ap (λ (x : Joined). x .refused) (left .0)) ∙ z in let q : _≡_ {A = ℕ} 0 1 = let w : clearsAll 0 ≡ true = ap clearsAll (sym e) ∙ H number place refl in cc in omega arith)
+      go (refusal code place) H left = absurd (let e : code ≡ 0 = sym (ap (λ (x : Joined). x .refused) (left .0)) ∙ z in let q : _≡_ {A = ℕ} 0 1 = let w : clearsAll 0 ≡ true = ap clearsAll (sym e) ∙ H code place refl in cc in omega arith)
 
-  pub told-refused : (o : Outcome Numbered) → JoinsLeave o n r num den num′ den′ → (r .refused ≡ 0 → ⊥) → PartRefused o r num den num′ den′
+  pub told-refused : (o : Outcome Combination) → JoinsLeave o n r num den num′ den′ → (r .refused ≡ 0 → ⊥) → PartRefused o r num den num′ den′
   told-refused (answer t) left z = absurd (z (ap (λ (x : Joined). x .refused) (left .0)))
-  told-refused (refusal number place) left z = record { refuses = sym (ap₂ refusal (ap (λ (x : Joined). x .refused) (left .0)) (ap (λ (x : Joined). x .place) (left .0))); num-kept = left .1; den-kept = left .2 }
+  told-refused (refusal code place) left z = record { refuses = sym (ap₂ refusal (ap (λ (x : Joined). x .refused) (left .0)) (ap (λ (x : Joined). x .place) (left .0))); num-kept = left .1; den-kept = left .2 }
 
 -- ---- the parts of a beam
 
 -- The parts before segment a are recovered.
 pub record Before (s : Space) (ordinates num₀ den₀ coefNum₀ coefDen₀ num den coefNum coefDen : List ℤ) (rows a : ℕ) : Type 0 where
   pub boundary : Boundary s a
-  pub reached : Numbered
+  pub reached : Combination
   pub answers : recovered (section s 0 a) (take (firstColumn s a) ordinates) ≡ answer reached
   pub has-weights : weights (section s 0 a) ≡ answer (reached .table)
   pub rows-are : rows ≡ rowCount (section s 0 a)
-  pub count : length (reached .numbers) ≡ rows
+  pub count : length (reached .coefficients) ≡ rows
   pub num-over : (t : Table) → numerators t num ≡ numerators t num₀
   pub den-over : (t : Table) → denominators t den ≡ denominators t den₀
   pub num-is : 0 < a → num ≡ numerators (lastPart (section s 0 a) (reached .table)) num₀
   pub den-is : 0 < a → den ≡ denominators (lastPart (section s 0 a) (reached .table)) den₀
-  pub coef-num-is : coefNum ≡ listed numeratorOf rows (reached .numbers) coefNum₀
-  pub coef-den-is : coefDen ≡ listed denominatorOf rows (reached .numbers) coefDen₀
+  pub coef-num-is : coefNum ≡ listed numeratorOf rows (reached .coefficients) coefNum₀
+  pub coef-den-is : coefDen ≡ listed denominatorOf rows (reached .coefficients) coefDen₀
 
 pub before-first : (s : Space) (ordinates num den coefNum coefDen : List ℤ) → Before s ordinates num den coefNum coefDen num den coefNum coefDen 0 0
 unfolding firstColumn conditionsBefore
 before-first s ordinates num den coefNum coefDen = record {
   boundary = record { within = omega arith; starts = λ _. first-starts s };
-  reached = record { table = []; numbers = [] };
+  reached = record { table = []; coefficients = [] };
   answers = no-front s;
   has-weights = built.no-front s;
   rows-are = refl;
@@ -169,20 +169,20 @@ module _ (b d o : List ℤ) (legal : ListsLegal b d o) (ordinates : List ℤ) (s
       pub more-within : rows + rowCount part ≤ length ordinates
       more-within = omega (arith, rows-more, size, built.front-rows-within (space b d o) (lengths-fit-inverts (space b d o) (checks .lengths)) (orders-fit (space b d o) checks) (partEnd (space b d o) a) (part-ends (space b d o) a l .boundary))
 
-      pub part-count : {q : Numbered} → recovered part own ≡ answer q → length (q .numbers) ≡ rowCount part
+      pub part-count : {q : Combination} → recovered part own ≡ answer q → length (q .coefficients) ≡ rowCount part
       part-count {q} e = answers-have-the-weights part part-checked own own-size q e .1
 
       -- one part more
-      pub part-more : {q : Numbered} {num′ den′ coefNum′ coefDen′ : List ℤ} → recovered part own ≡ answer q → num′ ≡ numerators (q .table) num → den′ ≡ denominators (q .table) den
-          → coefNum′ ≡ listed numeratorOf (rows + rowCount part) (st .reached .numbers ++ q .numbers) coefNum₀ → coefDen′ ≡ listed denominatorOf (rows + rowCount part) (st .reached .numbers ++ q .numbers) coefDen₀
+      pub part-more : {q : Combination} {num′ den′ coefNum′ coefDen′ : List ℤ} → recovered part own ≡ answer q → num′ ≡ numerators (q .table) num → den′ ≡ denominators (q .table) den
+          → coefNum′ ≡ listed numeratorOf (rows + rowCount part) (st .reached .coefficients ++ q .coefficients) coefNum₀ → coefDen′ ≡ listed denominatorOf (rows + rowCount part) (st .reached .coefficients ++ q .coefficients) coefDen₀
           → Before (space b d o) ordinates num₀ den₀ coefNum₀ coefDen₀ num′ den′ coefNum′ coefDen′ (rows + rowCount part) (partEnd (space b d o) a)
       part-more {q} e p p′ u v = record {
         boundary = part-ends (space b d o) a l .boundary;
-        reached = record { table = beside (firstColumn (space b d o) a) (columnCount part) (st .reached .table) (q .table); numbers = st .reached .numbers ++ q .numbers };
+        reached = record { table = beside (firstColumn (space b d o) a) (columnCount part) (st .reached .table) (q .table); coefficients = st .reached .coefficients ++ q .coefficients };
         answers = front-answers (space b d o) (orders-fit (space b d o) checks) a starts ordinates size (st .answers) e;
         has-weights = built.front-answers (space b d o) (orders-fit (space b d o) checks) a starts (st .has-weights) (answers-have-the-weights part part-checked own own-size q e .0);
         rows-are = rows-more;
-        count = length-append (st .reached .numbers) (q .numbers) ∙ omega (arith, st .count, part-count e);
+        count = length-append (st .reached .coefficients) (q .coefficients) ∙ omega (arith, st .count, part-count e);
         num-over = λ t. ap (numerators t) p ∙ numerators-again t (q .table) num ∙ st .num-over t;
         den-over = λ t. ap (denominators t) p′ ∙ denominators-again t (q .table) den ∙ st .den-over t;
         num-is = λ _. p ∙ st .num-over (q .table) ∙ ap (λ x. numerators x num₀) (sym last-is);
@@ -195,18 +195,18 @@ module _ (b d o : List ℤ) (legal : ListsLegal b d o) (ordinates : List ℤ) (s
           last-is = built.front-lastPart (space b d o) a starts (st .reached .table) (q .table) (st .has-weights)
 
       -- a part that is refused
-      pub part-refused : {number place : ℕ} {num′ den′ num″ den″ coefNum″ coefDen″ : List ℤ} → recovered part own ≡ refusal number place → tableCells ≤ length num → tableCells ≤ length den → length ordinates ≤ length coefNum₀ → length ordinates ≤ length coefDen₀
+      pub part-refused : {code place : ℕ} {num′ den′ num″ den″ coefNum″ coefDen″ : List ℤ} → recovered part own ≡ refusal code place → tableCells ≤ length num → tableCells ≤ length den → length ordinates ≤ length coefNum₀ → length ordinates ≤ length coefDen₀
           → Kept num num′ → Kept den den′ → num″ ≡ filled 0 tableCells (pos 0) num′ → den″ ≡ filled 0 tableCells (pos 1) den′
           → coefNum″ ≡ filled 0 (length ordinates) (pos 0) coefNum → coefDen″ ≡ filled 0 (length ordinates) (pos 1) coefDen
-          → BeamEnds (space b d o) (length ordinates) (recovered (space b d o) ordinates) (Refused number (capped (a + place))) num₀ den₀ coefNum₀ coefDen₀ num″ den″ coefNum″ coefDen″
-      part-refused {number} {place} {num′} {den′} e long long′ room room′ k k′ p q u v =
+          → BeamEnds (space b d o) (length ordinates) (recovered (space b d o) ordinates) (Refused code (capped (a + place))) num₀ den₀ coefNum₀ coefDen₀ num″ den″ coefNum″ coefDen″
+      part-refused {code} {place} {num′} {den′} e long long′ room room′ k k′ p q u v =
           beam-cleared (space b d o) (length ordinates) (recovered (space b d o) ordinates) num₀ den₀ coefNum₀ coefDen₀
           (refused-front (space b d o) checks (partEnd (space b d o) a) (part-ends (space b d o) a l .boundary) ordinates size (front-refuses (space b d o) (orders-fit (space b d o) checks) a starts ordinates size (st .answers) e))
-          (recovered-clears part own number place e)
+          (recovered-clears part own code place e)
           (p ∙ numerators-cleared num num′ long k ∙ st .num-over [])
           (q ∙ denominators-cleared den den′ long′ k′ ∙ st .den-over [])
-          (u ∙ all-cleared numeratorOf zero-numerator (st .reached .numbers) coefNum₀ rows-within room (st .coef-num-is))
-          (v ∙ all-cleared denominatorOf zero-denominator (st .reached .numbers) coefDen₀ rows-within room′ (st .coef-den-is))
+          (u ∙ all-cleared numeratorOf zero-numerator (st .reached .coefficients) coefNum₀ rows-within room (st .coef-num-is))
+          (v ∙ all-cleared denominatorOf zero-denominator (st .reached .coefficients) coefDen₀ rows-within room′ (st .coef-den-is))
 
     -- after the last part
     pub parts-done : length d ≤ a → length ordinates ≤ length coefNum₀ → length ordinates ≤ length coefDen₀ → {coefNum″ coefDen″ : List ℤ} → coefNum″ ≡ filled rows (length ordinates) (pos 0) coefNum → coefDen″ ≡ filled rows (length ordinates) (pos 1) coefDen
@@ -217,8 +217,8 @@ module _ (b d o : List ℤ) (legal : ListsLegal b d o) (ordinates : List ℤ) (s
         (st .rows-are ∙ ap rowCount front)
         (st .num-is some ∙ ap (λ x. numerators (lastPart x (st .reached .table)) num₀) front)
         (st .den-is some ∙ ap (λ x. denominators (lastPart x (st .reached .table)) den₀) front)
-        (u ∙ rest-cleared numeratorOf zero-numerator (st .reached .numbers) coefNum₀ (st .count) rows-within room (st .coef-num-is))
-        (v ∙ rest-cleared denominatorOf zero-denominator (st .reached .numbers) coefDen₀ (st .count) rows-within room′ (st .coef-den-is))
+        (u ∙ rest-cleared numeratorOf zero-numerator (st .reached .coefficients) coefNum₀ (st .count) rows-within room (st .coef-num-is))
+        (v ∙ rest-cleared denominatorOf zero-denominator (st .reached .coefficients) coefDen₀ (st .count) rows-within room′ (st .coef-den-is))
       where
         all : a ≡ length d
         all = omega (arith, st .boundary .within)

@@ -1,4 +1,4 @@
--- The call for coefficients, case by case: number 18 from what its search found, what the call ends with after too short a buffer,
+-- The call for coefficients, case by case: code 18 from what its search found, what the call ends with after too short a buffer,
 -- lists or ordinates that are refused, and where all is legal, and the refusals that leave all four buffers.
 use mathlib.Core.Path.{_≡_, refl, sym, _∙_, ap}
 use mathlib.Core.Logic.{_⊎_, inl, inr}
@@ -22,7 +22,7 @@ use Rattle.base_outcome.specs.Tests.{refuseFirst}
 use Rattle.spec_spline.specs.Table.{tableCells}
 use Rattle.base_outcome.proofs.Outcome.{answer-not-refusal, then-answers, then-refuses}
 use Rattle.base_outcome.proofs.Search.{first-none-inverts}
-use Rattle.spec_spline.proofs.Legal.{refuseFirst-inverts, fitting-inverts, refusal-number, first-number, checked-number}
+use Rattle.spec_spline.proofs.Legal.{refuseFirst-inverts, fitting-inverts, refusal-code, first-code, checked-code}
 use Rattle.spec_spline.proofs.Build.{long-enough}
 use Rattle.build_space.specs.Machine.{space}
 use Rattle.build_space.proofs.Partial.{column-count-partial}
@@ -31,14 +31,14 @@ use Rattle.build.specs.Machine.{reply}
 use Rattle.build.specs.declared.Built.the-variants.{Refused}
 use Rattle.curve_limits.specs.Limits.{outside}
 use Rattle.curve_limits.proofs.Entries.{inside-size}
-use Rattle.theorems_recovery.specs.Recovery.{Numbered, recovered}
+use Rattle.theorems_recovery.specs.Recovery.{Combination, recovered}
 use Rattle.theorems_recovery.specs.RecoveryCall.{ordinateLimit, badOrdinate, legalOrdinates, recoveryOutcome, clearsAll}
 use Rattle.recover.specs.Leaves.{ordinatesChecked, BeamEnds}
 
 abbrev passed : Outcome (Unit {0})
 passed = answer tt
 
--- ---- number 18
+-- ---- code 18
 
 -- the definition's test of an ordinate, as the bounds that the search takes
 pub ordinate-outside : (ordinates : List ℤ) → badOrdinate ordinates ≡ outside ordinates (negℤ (pos ordinateLimit)) (pos ordinateLimit)
@@ -94,7 +94,7 @@ unfolding ordinatesChecked
 ordinates-chain s ordinates rest = tested rest (eqb (length ordinates) (columnCount s)) (first (length ordinates) (badOrdinate ordinates))
 
 module _ (s : Space) (ordinates : List ℤ) (numLength denLength coefNumLength coefDenLength : ℕ) where
-  abbrev ends : Outcome Numbered
+  abbrev ends : Outcome Combination
   ends = recoveryOutcome s ordinates numLength denLength coefNumLength coefDenLength
 
   pub recovery-first-short : numLength < tableCells → ends ≡ refusal 1 0
@@ -122,7 +122,7 @@ module _ (s : Space) (ordinates : List ℤ) (numLength denLength coefNumLength c
           unfolding recoveryOutcome
           checks-next = long-enough numLength denLength _ h k ∙ cond-false _ _ (le-ltb _ _ l) ∙ cond-false _ _ (le-ltb _ _ m)
 
-          pub recovery-lists-refused : {number place : ℕ} → checked s ≡ refusal number place → ends ≡ refusal number place
+          pub recovery-lists-refused : {code place : ℕ} → checked s ≡ refusal code place → ends ≡ refusal code place
           recovery-lists-refused e = checks-next ∙ then-refuses _ e
 
           module _ (legal : checked s ≡ answer s) where
@@ -130,7 +130,7 @@ module _ (s : Space) (ordinates : List ℤ) (numLength denLength coefNumLength c
             ordinates-next : ends ≡ (ordinatesChecked s ordinates then λ _. recovered s ordinates)
             ordinates-next = checks-next ∙ then-answers (λ s. legalOrdinates s ordinates (recovered s ordinates)) legal ∙ ordinates-chain s ordinates (recovered s ordinates)
 
-            pub recovery-ordinates-refused : {number place : ℕ} → ordinatesChecked s ordinates ≡ refusal number place → ends ≡ refusal number place
+            pub recovery-ordinates-refused : {code place : ℕ} → ordinatesChecked s ordinates ≡ refusal code place → ends ≡ refusal code place
             recovery-ordinates-refused e = ordinates-next ∙ then-refuses (λ _. recovered s ordinates) e
 
             pub recovery-legal : ordinatesChecked s ordinates ≡ passed → ends ≡ recovered s ordinates
@@ -139,20 +139,20 @@ module _ (s : Space) (ordinates : List ℤ) (numLength denLength coefNumLength c
 -- ---- refusals that leave all buffers
 
 abbrev Keeps : ℕ → Type 0
-Keeps number = clearsAll number ≡ false
+Keeps code = clearsAll code ≡ false
 
-pub lists-keep : (s : Space) {number place : ℕ} → checked s ≡ refusal number place → clearsAll number ≡ false
-lists-keep s e = checked-number Keeps s refl refl refl refl refl e
+pub lists-keep : (s : Space) {code place : ℕ} → checked s ≡ refusal code place → clearsAll code ≡ false
+lists-keep s e = checked-code Keeps s refl refl refl refl refl e
 
-pub ordinates-keep : (s : Space) (ordinates : List ℤ) {number place : ℕ} → ordinatesChecked s ordinates ≡ refusal number place → clearsAll number ≡ false
+pub ordinates-keep : (s : Space) (ordinates : List ℤ) {code place : ℕ} → ordinatesChecked s ordinates ≡ refusal code place → clearsAll code ≡ false
 unfolding ordinatesChecked
-ordinates-keep s ordinates {number} {place} e = go (eqb (length ordinates) (columnCount s)) e
+ordinates-keep s ordinates {code} {place} e = go (eqb (length ordinates) (columnCount s)) e
   where
-    go : (b : Bool) → cond b (refuseFirst 18 (first (length ordinates) (badOrdinate ordinates)) passed) (refuse 18 largestPlace) ≡ refusal number place → clearsAll number ≡ false
-    go true r = first-number Keeps 18 (first (length ordinates) (badOrdinate ordinates)) passed refl (λ z. absurd (answer-not-refusal refl z)) r
-    go false r = refusal-number Keeps 18 largestPlace refl r
+    go : (b : Bool) → cond b (refuseFirst 18 (first (length ordinates) (badOrdinate ordinates)) passed) (refuse 18 largestPlace) ≡ refusal code place → clearsAll code ≡ false
+    go true r = first-code Keeps 18 (first (length ordinates) (badOrdinate ordinates)) passed refl (λ z. absurd (answer-not-refusal refl z)) r
+    go false r = refusal-code Keeps 18 largestPlace refl r
 
-pub beam-unchanged : (s : Space) (n : ℕ) {num den coefNum coefDen : List ℤ} {number place : ℕ} → clearsAll number ≡ false → BeamEnds s n (refusal number place) (Refused number place) num den coefNum coefDen num den coefNum coefDen
+pub beam-unchanged : (s : Space) (n : ℕ) {num den coefNum coefDen : List ℤ} {code place : ℕ} → clearsAll code ≡ false → BeamEnds s n (refusal code place) (Refused code place) num den coefNum coefDen num den coefNum coefDen
 unfolding reply
 beam-unchanged s n kept = record {
   answers = refl;

@@ -1,4 +1,4 @@
--- The steps one after the other: what a step that is answered leaves of the numbers, which refusals end it, and what the machine's
+-- The steps one after the other: what a step that is answered leaves of the coefficients, which refusals end it, and what the machine's
 -- answer tells.
 use mathlib.Core.Path.{_≡_, refl, sym, _∙_, ap, subst}
 use mathlib.Core.Bool.{true}
@@ -21,43 +21,43 @@ use Rattle.spec_spline.proofs.Splice.{spliced-length, spliced-before, spliced-i
 use Rattle.build_cells.specs.Held.{Kept}
 use Rattle.build_factors.specs.Jumps.{AllFit}
 use Rattle.build_jumps.specs.Machine.{fractions}
-use Rattle.recover_step.proofs.Sized.{undone-fits}
+use Rattle.recover_step.proofs.FractionFits.{undone-fits}
 use Rattle.recover_step.proofs.Rows.{more-fit}
 use Rattle.build.proofs.Stepped.{Proper, step-one-less}
-use Rattle.theorems_recovery.specs.Recovery.{Numbered, undoneRow, undoneRows, recoverStep, recoverOrders}
+use Rattle.theorems_recovery.specs.Recovery.{Combination, undoneRow, undoneRows, recoverStep, recoverOrders}
 use Rattle.theorems_recovery.specs.RecoveryCall.{clearsAll}
 use Rattle.theorems_recovery.proofs.Answers.{rows-undone}
 use Rattle.theorems_recovery.proofs.Steps.{parts-of}
 use Rattle.theorems_recovery.proofs.Refusals.{Stops}
 use Rattle.recover.specs.Leaves.{Leaves}
-use Rattle.recover.specs.declared.Numbers.{Numbers}
+use Rattle.recover.specs.declared.RowCoefficients.{RowCoefficients}
 
 -- ---- what the machine's answer tells
 
 module _ (num den num′ den′ : List ℤ) where
-  pub record Done (o : Outcome Numbered) (r : Numbers) : Type 0 where
-    pub reached : Numbered
+  pub record Done (o : Outcome Combination) (r : RowCoefficients) : Type 0 where
+    pub reached : Combination
     pub answers : o ≡ answer reached
-    pub of-is : r .of ≡ fractions (reached .numbers)
+    pub of-is : r .of ≡ fractions (reached .coefficients)
     pub num-is : num′ ≡ numerators (reached .table) num
     pub den-is : den′ ≡ denominators (reached .table) den
 
-  pub record Stopped (o : Outcome Numbered) (r : Numbers) : Type 0 where
-    pub number : ℕ
+  pub record Stopped (o : Outcome Combination) (r : RowCoefficients) : Type 0 where
+    pub code : ℕ
     pub place : ℕ
-    pub refuses : o ≡ refusal number place
-    pub told : r ≡ record { refused = number; of = fractions [] }
+    pub refuses : o ≡ refusal code place
+    pub told : r ≡ record { refused = code; of = fractions [] }
     pub num-kept : Kept num num′
     pub den-kept : Kept den den′
 
-  pub told-done : (j : ℕ) (o : Outcome Numbered) (r : Numbers) → RefusedAs (Stops j) o → Leaves o r num den num′ den′ → r .refused ≡ 0 → Done o r
-  told-done j (answer t) r H left e = record { reached = t; answers = refl; of-is = ap (λ (x : Numbers). x .of) (left .0); num-is = left .1; den-is = left .2 }
-  told-done j (refusal number place) r H left e =
-      absurd (let z : number ≡ 0 = sym (ap (λ (x : Numbers). x .refused) (left .0)) ∙ e in let q : _≡_ {A = ℕ} 0 1 = let w : clearsAll 0 ≡ true = ap clearsAll (sym z) ∙ H number place refl .0 in cc in omega arith)
+  pub told-done : (j : ℕ) (o : Outcome Combination) (r : RowCoefficients) → RefusedAs (Stops j) o → Leaves o r num den num′ den′ → r .refused ≡ 0 → Done o r
+  told-done j (answer t) r H left e = record { reached = t; answers = refl; of-is = ap (λ (x : RowCoefficients). x .of) (left .0); num-is = left .1; den-is = left .2 }
+  told-done j (refusal code place) r H left e =
+      absurd (let z : code ≡ 0 = sym (ap (λ (x : RowCoefficients). x .refused) (left .0)) ∙ e in let q : _≡_ {A = ℕ} 0 1 = let w : clearsAll 0 ≡ true = ap clearsAll (sym z) ∙ H code place refl .0 in cc in omega arith)
 
-  pub told-stopped : (o : Outcome Numbered) (r : Numbers) → Leaves o r num den num′ den′ → (r .refused ≡ 0 → ⊥) → Stopped o r
-  told-stopped (answer t) r left e = absurd (e (ap (λ (x : Numbers). x .refused) (left .0)))
-  told-stopped (refusal number place) r left e = record { number = number; place = place; refuses = refl; told = left .0; num-kept = left .1; den-kept = left .2 }
+  pub told-stopped : (o : Outcome Combination) (r : RowCoefficients) → Leaves o r num den num′ den′ → (r .refused ≡ 0 → ⊥) → Stopped o r
+  told-stopped (answer t) r left e = absurd (e (ap (λ (x : RowCoefficients). x .refused) (left .0)))
+  told-stopped (refusal code place) r left e = record { code = code; place = place; refuses = refl; told = left .0; num-kept = left .1; den-kept = left .2 }
 
 -- ---- a step that is answered: one number less, and all fit
 
@@ -79,27 +79,27 @@ spliced-fit ps ds f i within after p q k = go (decLt k f) (decLt k (f + length d
     go (no a) (yes b) = ap fits (spliced-inside ps ds f i within k (int (pos 0)) (omega arith) b) ∙ q (k - f)
     go (no a) (no b) = ap fits (spliced-after ps ds f i within k (k + i - (f + length ds)) (int (pos 0)) (omega arith) (omega arith)) ∙ p (k + i - (f + length ds))
 
--- A table of this shape whose entries all fit, with a number for each row, which fits too.
-pub record Sound (r : Numbered) (rows columns : ℕ) : Type 0 where
+-- A table of this shape whose entries all fit, with a coefficient for each row, which fits too.
+pub record Sound (r : Combination) (rows columns : ℕ) : Type 0 where
   pub proper : Proper (r .table) rows columns
-  pub count : length (r .numbers) ≡ rows
-  pub fit : AllFit (r .numbers)
+  pub count : length (r .coefficients) ≡ rows
+  pub fit : AllFit (r .coefficients)
 
-pub recover-one-less : (j : ℕ) (κ : List Entry) (r : Numbered) {next : Numbered} {rows columns : ℕ} → recoverStep j κ r ≡ answer next → Sound r rows columns → Sound next (rows - 1) columns
+pub recover-one-less : (j : ℕ) (κ : List Entry) (r : Combination) {next : Combination} {rows columns : ℕ} → recoverStep j κ r ≡ answer next → Sound r rows columns → Sound next (rows - 1) columns
 recover-one-less j κ r {next} {rows} {columns} e sound =
     let p = parts-of j κ r next e in
     let s = span-inverts j (p .js) (p .has-span) in
-    let below : p .l < length (r .numbers) = omega (arith, s .below, jumps-length j κ (r .table) (p .has-jumps), sound .proper .shaped .row-count, sound .count) in
-    let size = rows-undone j (p .ws) (r .numbers) (p .f) (p .l - p .f) (p .has-rows) .size in
+    let below : p .l < length (r .coefficients) = omega (arith, s .below, jumps-length j κ (r .table) (p .has-jumps), sound .proper .shaped .row-count, sound .count) in
+    let size = rows-undone j (p .ws) (r .coefficients) (p .f) (p .l - p .f) (p .has-rows) .size in
     record {
       proper = step-one-less j κ (r .table) (p .has-step) (sound .proper);
-      count = ap length (sym (p .whole)) ∙ spliced-length (r .numbers) (p .ds) (p .f) (suc (p .l)) (omega (arith, s .ordered, below)) ∙ omega (arith, size, s .ordered, below, sound .count);
-      fit = subst AllFit (p .whole) (spliced-fit (r .numbers) (p .ds) (p .f) (suc (p .l)) (omega (arith, s .ordered, below)) (omega (arith, size, s .ordered)) (sound .fit) (rows-fit j (p .ws) (r .numbers) (p .f) (p .l - p .f) (sound .fit) (p .has-rows)));
+      count = ap length (sym (p .whole)) ∙ spliced-length (r .coefficients) (p .ds) (p .f) (suc (p .l)) (omega (arith, s .ordered, below)) ∙ omega (arith, size, s .ordered, below, sound .count);
+      fit = subst AllFit (p .whole) (spliced-fit (r .coefficients) (p .ds) (p .f) (suc (p .l)) (omega (arith, s .ordered, below)) (omega (arith, size, s .ordered)) (sound .fit) (rows-fit j (p .ws) (r .coefficients) (p .f) (p .l - p .f) (sound .fit) (p .has-rows)));
     }
 
 -- ---- the orders at a join
 
-pub orders-sound : (s : Space) (j n : ℕ) (r : Numbered) {next : Numbered} {rows columns : ℕ} → recoverOrders s j n r ≡ answer next → Sound r rows columns → Sound next (rows - n) columns
+pub orders-sound : (s : Space) (j n : ℕ) (r : Combination) {next : Combination} {rows columns : ℕ} → recoverOrders s j n r ≡ answer next → Sound r rows columns → Sound next (rows - n) columns
 unfolding recoverOrders
 orders-sound s j n r {next} {rows} {columns} e sound =
     repeat-keeps (λ k u. Sound u (rows - k) columns) n (λ k. recoverStep j (conditions s j k)) r (subst (λ m. Sound r m columns) (let z : rows ≡ rows - 0 = omega arith in z) sound)

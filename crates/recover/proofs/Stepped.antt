@@ -14,9 +14,9 @@ use Rattle.build_cells.specs.Held.{Kept}
 use Rattle.build_cells.proofs.Buffer.{kept-numerators, kept-denominators}
 use Rattle.build_jumps.specs.Machine.{fractions, rowJumps}
 use Rattle.build_jumps.specs.declared.RowJumps.{RowJumps}
-use Rattle.theorems_recovery.specs.Recovery.{Numbered, balanced, undone, recoverStep}
-use Rattle.recover.specs.Leaves.{Done, numbersOf, Leaves}
-use Rattle.recover.specs.declared.Numbers.{Numbers}
+use Rattle.theorems_recovery.specs.Recovery.{Combination, balanced, undone, recoverStep}
+use Rattle.recover.specs.Leaves.{Done, coefficientsOf, Leaves}
+use Rattle.recover.specs.declared.RowCoefficients.{RowCoefficients}
 
 -- ---- a step that the build has done
 pub record Parts (j : ℕ) (κ : List Entry) (t : Table) : Type 0 where
@@ -43,33 +43,33 @@ jumps-held o r e h = ap (λ (x : RowJumps). x .of) (e ∙ ap rowJumps h)
 
 -- ---- the step with its undoing
 module _ (j : ℕ) (κ : List Entry) (t : Table) (ps : List ℚ) where
-  pub recover-refused : {number place : ℕ} → step j κ t ≡ refusal number place → recoverStep j κ (record { table = t; numbers = ps }) ≡ refusal number place
+  pub recover-refused : {code place : ℕ} → step j κ t ≡ refusal code place → recoverStep j κ (record { table = t; coefficients = ps }) ≡ refusal code place
   unfolding recoverStep
   recover-refused e = then-refuses _ e
 
-  numbered : Table → List ℚ → Outcome Numbered
-  numbered next ds = answer (record { table = next; numbers = ds })
+  with-coefficients : Table → List ℚ → Outcome Combination
+  with-coefficients next ds = answer (record { table = next; coefficients = ds })
 
   pub recover-done : {next : Table} → step j κ t ≡ answer next → (p : Parts j κ t)
-      → recoverStep j κ (record { table = t; numbers = ps }) ≡ ((balanced j (p .js) ps then λ _. undone j (p .done .span-is) (p .done .ws) ps) then λ ds. answer (record { table = next; numbers = ds }))
+      → recoverStep j κ (record { table = t; coefficients = ps }) ≡ ((balanced j (p .js) ps then λ _. undone j (p .done .span-is) (p .done .ws) ps) then λ ds. answer (record { table = next; coefficients = ds }))
   unfolding recoverStep
   recover-done {next} e p =
-      then-answers (λ next. jumps j κ t then λ js. span j js then λ g. factors j js g then λ ws. balanced j js ps then λ _. undone j g ws ps then λ ds. answer (record { table = next; numbers = ds })) e
-      ∙ then-answers (λ js. span j js then λ g. factors j js g then λ ws. balanced j js ps then λ _. undone j g ws ps then λ ds. answer (record { table = next; numbers = ds })) (p .has-jumps)
-      ∙ then-answers (λ g. factors j (p .js) g then λ ws. balanced j (p .js) ps then λ _. undone j g ws ps then λ ds. answer (record { table = next; numbers = ds })) (p .done .has-span)
-      ∙ then-answers (λ ws. balanced j (p .js) ps then λ _. undone j (p .done .span-is) ws ps then λ ds. answer (record { table = next; numbers = ds })) (p .done .has-factors)
-      ∙ sym (then-assoc (balanced j (p .js) ps) (λ _. undone j (p .done .span-is) (p .done .ws) ps) (λ ds. answer (record { table = next; numbers = ds })))
+      then-answers (λ next. jumps j κ t then λ js. span j js then λ g. factors j js g then λ ws. balanced j js ps then λ _. undone j g ws ps then λ ds. answer (record { table = next; coefficients = ds })) e
+      ∙ then-answers (λ js. span j js then λ g. factors j js g then λ ws. balanced j js ps then λ _. undone j g ws ps then λ ds. answer (record { table = next; coefficients = ds })) (p .has-jumps)
+      ∙ then-answers (λ g. factors j (p .js) g then λ ws. balanced j (p .js) ps then λ _. undone j g ws ps then λ ds. answer (record { table = next; coefficients = ds })) (p .done .has-span)
+      ∙ then-answers (λ ws. balanced j (p .js) ps then λ _. undone j (p .done .span-is) ws ps then λ ds. answer (record { table = next; coefficients = ds })) (p .done .has-factors)
+      ∙ sym (then-assoc (balanced j (p .js) ps) (λ _. undone j (p .done .span-is) (p .done .ws) ps) (λ ds. answer (record { table = next; coefficients = ds })))
 
 -- ---- what is left
 module _ (num den num′ den′ : List ℤ) where
-  pub leaves-answer : {o : Outcome Numbered} {t : Numbered} {r : Numbers} → o ≡ answer t → r ≡ record { refused = 0; of = fractions (t .numbers) } → num′ ≡ numerators (t .table) num → den′ ≡ denominators (t .table) den → Leaves o r num den num′ den′
-  leaves-answer {r = r} e h p q = subst (λ (o : Outcome Numbered). Leaves o r num den num′ den′) (sym e) (h, p, q)
+  pub leaves-answer : {o : Outcome Combination} {t : Combination} {r : RowCoefficients} → o ≡ answer t → r ≡ record { refused = 0; of = fractions (t .coefficients) } → num′ ≡ numerators (t .table) num → den′ ≡ denominators (t .table) den → Leaves o r num den num′ den′
+  leaves-answer {r = r} e h p q = subst (λ (o : Outcome Combination). Leaves o r num den num′ den′) (sym e) (h, p, q)
 
-  pub leaves-refusal : {o : Outcome Numbered} {number place : ℕ} {r : Numbers} → o ≡ refusal number place → r ≡ record { refused = number; of = fractions [] } → Kept num num′ → Kept den den′ → Leaves o r num den num′ den′
-  leaves-refusal {r = r} e h p q = subst (λ (o : Outcome Numbered). Leaves o r num den num′ den′) (sym e) (h, p, q)
+  pub leaves-refusal : {o : Outcome Combination} {code place : ℕ} {r : RowCoefficients} → o ≡ refusal code place → r ≡ record { refused = code; of = fractions [] } → Kept num num′ → Kept den den′ → Leaves o r num den num′ den′
+  leaves-refusal {r = r} e h p q = subst (λ (o : Outcome Combination). Leaves o r num den num′ den′) (sym e) (h, p, q)
 
-  pub leaves-undone : (y : Outcome (List ℚ)) (t : Table) {o : Outcome Numbered} {r : Numbers} → tableCells ≤ length num → tableCells ≤ length den → o ≡ (y then λ ds. answer (record { table = t; numbers = ds })) → r ≡ numbersOf y
+  pub leaves-undone : (y : Outcome (List ℚ)) (t : Table) {o : Outcome Combination} {r : RowCoefficients} → tableCells ≤ length num → tableCells ≤ length den → o ≡ (y then λ ds. answer (record { table = t; coefficients = ds })) → r ≡ coefficientsOf y
       → num′ ≡ numerators t num → den′ ≡ denominators t den → Leaves o r num den num′ den′
-  unfolding numbersOf
+  unfolding coefficientsOf
   leaves-undone (answer ds) t long long′ e h p q = leaves-answer e h p q
-  leaves-undone (refusal number place) t long long′ e h p q = leaves-refusal e h (subst (Kept num) (sym p) (kept-numerators t num long)) (subst (Kept den) (sym q) (kept-denominators t den long′))
+  leaves-undone (refusal code place) t long long′ e h p q = leaves-refusal e h (subst (Kept num) (sym p) (kept-numerators t num long)) (subst (Kept den) (sym q) (kept-denominators t den long′))

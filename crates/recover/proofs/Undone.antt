@@ -1,4 +1,4 @@
--- The numbers after a step, as the machine holds them: the new ones without row l, and factors that divide.
+-- The coefficients after a step, as the machine holds them: the new ones without row l, and factors that divide.
 use mathlib.Core.Path.{_≡_, sym, _∙_, ap}
 use mathlib.Core.Logic.{_≢_}
 use mathlib.Core.List.{List, [], _++_}
@@ -23,18 +23,18 @@ use Rattle.build_jumps.proofs.Arrays.{fraction-at}
 use Rattle.recover_step.specs.Machine.{NonZero}
 use Rattle.recover_step.proofs.Arrays.{fractions-ext}
 use Rattle.recover_step.proofs.Rows.{renewed, renewed-length, renewed-old, without, without-before, without-from}
-use Rattle.recover.specs.Leaves.{numbersOf}
-use Rattle.recover.specs.declared.Numbers.{Numbers}
+use Rattle.recover.specs.Leaves.{coefficientsOf}
+use Rattle.recover.specs.declared.RowCoefficients.{RowCoefficients}
 
 -- ---- what is told
 
-pub numbers-answer : {o : Outcome (List ℚ)} {cs : List ℚ} {of : Fractions} → o ≡ answer cs → of ≡ fractions cs → record { refused = 0; of = of } ≡ numbersOf o
-unfolding numbersOf
-numbers-answer e h = ap (λ (a : Fractions). record { refused = 0; of = a }) h ∙ sym (ap numbersOf e)
+pub coefficients-answer : {o : Outcome (List ℚ)} {cs : List ℚ} {of : Fractions} → o ≡ answer cs → of ≡ fractions cs → record { refused = 0; of = of } ≡ coefficientsOf o
+unfolding coefficientsOf
+coefficients-answer e h = ap (λ (a : Fractions). record { refused = 0; of = a }) h ∙ sym (ap coefficientsOf e)
 
-pub numbers-refusal : {o : Outcome (List ℚ)} {number place : ℕ} {r : Numbers} → o ≡ refusal number place → r ≡ record { refused = number; of = fractions [] } → r ≡ numbersOf o
-unfolding numbersOf
-numbers-refusal e h = h ∙ sym (ap numbersOf e)
+pub coefficients-refusal : {o : Outcome (List ℚ)} {code place : ℕ} {r : RowCoefficients} → o ≡ refusal code place → r ≡ record { refused = code; of = fractions [] } → r ≡ coefficientsOf o
+unfolding coefficientsOf
+coefficients-refusal e h = h ∙ sym (ap coefficientsOf e)
 
 -- ---- arrays that are equal hold the same fractions
 
@@ -53,7 +53,7 @@ factors-nonzero j qs g ws e few us h d below z = some d below (entries-same ws u
     some zero l k = let z : pos 1 ≡ pos 0 = sym (int-num (pos 1)) ∙ ap (λ (q : ℚ). q .num) (sym (factors-inverts j qs g e .at-first) ∙ k) ∙ int-num (pos 0) in let q : _≡_ {A = ℕ} 1 0 = ap natAbs z in omega arith
     some (suc d) l k = pos-nonzero (ltᵠ-true _ _ (factors-inverts j qs g e .inside (g .f + suc d) (omega arith) (omega arith) .above-zero)) (ap (entry ws) (let q : g .f + suc d - g .f ≡ suc d = omega arith in q) ∙ k)
 
--- ---- the new numbers without that of row l
+-- ---- the new coefficients without that of row l
 
 module _ (f l : ℕ) (ps ds : List ℚ) (order : f ≤ l) (inside : l < length ps) (size : length ds ≡ l - f) where
   long : l < length (renewed f ps ds l)

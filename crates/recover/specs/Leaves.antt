@@ -1,4 +1,4 @@
--- The machine's form of the numbers of the rows, and what the steps ask and leave.
+-- The machine's form of the coefficients of the rows, and what the steps ask and leave.
 use mathlib.Core.List.{List, [], map}
 use mathlib.Core.Path.{_≡_}
 use Prim.Native.Nat.{ℕ, _<_, _≤_}
@@ -15,15 +15,15 @@ use Rattle.build_jumps.specs.Machine.{fractions}
 use Rattle.build_jumps.specs.declared.Fractions.{Fractions}
 use Rattle.build.specs.Machine.{reply}
 use Rattle.build.specs.declared.Built.{Built}
-use Rattle.theorems_recovery.specs.Recovery.{Numbered}
+use Rattle.theorems_recovery.specs.Recovery.{Combination}
 use Rattle.theorems_recovery.specs.RecoveryCall.{legalOrdinates, weightsAfter, answersAfter, numeratorOf, denominatorOf}
 use Rattle.recover.specs.declared.Joined.{Joined}
-use Rattle.recover.specs.declared.Numbers.{Numbers}
+use Rattle.recover.specs.declared.RowCoefficients.{RowCoefficients}
 
--- The numbers, or the refusal's number.
-unfoldable pub numbersOf : Outcome (List ℚ) → Numbers
-numbersOf (answer cs) = record { refused = 0; of = fractions cs }
-numbersOf (refusal number place) = record { refused = number; of = fractions [] }
+-- The coefficients, or the refusal's code.
+unfoldable pub coefficientsOf : Outcome (List ℚ) → RowCoefficients
+coefficientsOf (answer cs) = record { refused = 0; of = fractions cs }
+coefficientsOf (refusal code place) = record { refused = code; of = fractions [] }
 
 -- Jumps of a step that the build has done: their span is f to l, and they have factors.
 pub record Worked (js : Fractions) (f l rows : ℕ) : Type 0 where
@@ -61,7 +61,7 @@ pub record Jumped (js : Fractions) (rows : ℕ) : Type 0 where
   pub fit : AllFit of
   pub done : Done join of
 
--- The arrays hold a number for each row, and all of them fit.
+-- The arrays hold a coefficient for each row, and all of them fit.
 pub record Present (cs : Fractions) (rows : ℕ) : Type 0 where
   pub of : List ℚ
   pub is : cs ≡ fractions of
@@ -75,26 +75,26 @@ pub record Given (cs : Fractions) (columns : ℕ) : Type 0 where
   pub fit : AllFit (map int ordinates)
   pub count : length ordinates ≡ columns
 
--- A computation in place: the table it answers is in the buffers and its numbers are told, or it is refused and they hold whatever
+-- A computation in place: the table it answers is in the buffers and its coefficients are told, or it is refused and they hold whatever
 -- they hold.
-abbrev pub Leaves : Outcome Numbered → Numbers → List ℤ → List ℤ → List ℤ → List ℤ → Type 0
-Leaves (answer t) r num den num′ den′ = (r ≡ record { refused = 0; of = fractions (t .numbers) }) × (num′ ≡ numerators (t .table) num)
+abbrev pub Leaves : Outcome Combination → RowCoefficients → List ℤ → List ℤ → List ℤ → List ℤ → Type 0
+Leaves (answer t) r num den num′ den′ = (r ≡ record { refused = 0; of = fractions (t .coefficients) }) × (num′ ≡ numerators (t .table) num)
     × (den′ ≡ denominators (t .table) den)
-Leaves (refusal number place) r num den num′ den′ = (r ≡ record { refused = number; of = fractions [] }) × Kept num num′ × Kept den den′
+Leaves (refusal code place) r num den num′ den′ = (r ≡ record { refused = code; of = fractions [] }) × Kept num num′ × Kept den den′
 
--- What the joins leave: the table and the numbers of its n rows, or the refusal.
-abbrev pub JoinsLeave : Outcome Numbered → ℕ → Joined → List ℤ → List ℤ → List ℤ → List ℤ → Type 0
-JoinsLeave (answer t) n r num den num′ den′ = (r ≡ record { refused = 0; place = 0; rows = n; of = fractions (t .numbers) })
+-- What the joins leave: the table and the coefficients of its n rows, or the refusal.
+abbrev pub JoinsLeave : Outcome Combination → ℕ → Joined → List ℤ → List ℤ → List ℤ → List ℤ → Type 0
+JoinsLeave (answer t) n r num den num′ den′ = (r ≡ record { refused = 0; place = 0; rows = n; of = fractions (t .coefficients) })
     × (num′ ≡ numerators (t .table) num) × (den′ ≡ denominators (t .table) den)
-JoinsLeave (refusal number place) n r num den num′ den′ = (r ≡ record { refused = number; place = place; rows = 0; of = fractions [] })
+JoinsLeave (refusal code place) n r num den num′ den′ = (r ≡ record { refused = code; place = place; rows = 0; of = fractions [] })
     × Kept num num′ × Kept den den′
 
--- Number 18 of a legal space, by itself.
+-- Code 18 of a legal space, by itself.
 unfoldable pub ordinatesChecked : Space → List ℤ → Outcome (Unit {0})
 ordinatesChecked s ordinates = legalOrdinates s ordinates (answer tt)
 
 -- What a call with n ordinates answers and leaves, by the outcome of the whole beam, of which the weight buffers hold the last part.
-pub record BeamEnds (s : Space) (n : ℕ) (o : Outcome Numbered) (r : Built) (num den coefNum coefDen num′ den′ coefNum′ coefDen′ : List ℤ)
+pub record BeamEnds (s : Space) (n : ℕ) (o : Outcome Combination) (r : Built) (num den coefNum coefDen num′ den′ coefNum′ coefDen′ : List ℤ)
     : Type 0 where
   pub answers : reply r ≡ with-answer (λ _. rowCount s) o
   pub numerators-are : num′ ≡ weightsAfter numerators s o num

@@ -18,13 +18,13 @@ use build_jumps::Fractions;
 mod parts;
 mod step;
 
-// The numbers of the rows, or the number of the refusal; it is 0 where there is none.
-pub struct Numbers {
+// The coefficients of the rows, or the code of the refusal; it is 0 where there is none.
+pub struct RowCoefficients {
     pub refused: u8,
     pub of: Fractions,
 }
 
-// The numbers of a part's rows with their count, or the refusal's number, which is 0 where there is none, and its place.
+// The coefficients of a part's rows with their count, or the refusal's code, which is 0 where there is none, and its place.
 pub struct Joined {
     pub refused: u8,
     pub place: u32,
@@ -35,7 +35,7 @@ pub struct Joined {
 // Ordinates run from minus this to this.
 const ORDINATE_LIMIT: i32 = 256000000;
 
-// Number 18 of a legal space: the count first.
+// Code 18 of a legal space: the count first.
 fn check_ordinates(degrees: &[i32], ordinates: &[i32]) -> Legality
     requires { ⌜ (length (now degrees) ≤ segmentLimit) × DegreesLegal (now degrees) ⌝ }
     ensures { λ r. ⌜ r ≡ legality (ordinatesChecked (space [] (now (degrees .entry)) []) (now (ordinates .entry))) ⌝ }
@@ -83,11 +83,11 @@ pub fn coefficients(
     }
     let lists = build_space::check(breaks, degrees, orders);
     match lists {
-        Legality::Refused(number, place) => Built::Refused(number, place),
+        Legality::Refused(code, place) => Built::Refused(code, place),
         Legality::Legal => {
             let entries = check_ordinates(degrees, ordinates);
             match entries {
-                Legality::Refused(number, place) => Built::Refused(number, place),
+                Legality::Refused(code, place) => Built::Refused(code, place),
                 Legality::Legal => parts::recover_parts(
                     breaks,
                     degrees,

@@ -1,4 +1,4 @@
-// The parts of a beam: each is recovered by itself from the left, and its numbers are written behind those of the parts before it.
+// The parts of a beam: each is recovered by itself from the left, and its coefficients are written behind those of the parts before it.
 ghost use mathlib.Core.Path.{_≡_};
 ghost use mathlib.Core.List.{List, _++_, map};
 ghost use Prim.Native.Nat.{ℕ, _+_, _-_, _≤_};
@@ -21,7 +21,7 @@ use crate::step;
 use build::Built;
 use build_jumps::Fractions;
 
-// The first n numbers in the cells from `from` on.
+// The first n coefficients in the cells from `from` on.
 fn write(coef_num: &mut [i64], coef_den: &mut [i64], from: usize, cs: Fractions, n: usize)
     requires { ⌜ (n ≤ rowCells) × ((from + n ≤ length (now «coef_num»)) × (from + n ≤ length (now «coef_den»))) ⌝ }
     ensures { λ _. ⌜ ((done ps : List ℚ) (num den : List ℤ) → cs ≡ fractions ps → length done ≡ from → length ps ≡ n
@@ -102,14 +102,14 @@ pub fn recover_parts(
     while a < degrees.len() {
         let b = build_space::part_end(degrees, orders, a);
         let joined = recover_at(breaks, degrees, orders, ordinates, a, b, num, den);
-        let number = joined.refused;
+        let code = joined.refused;
         let place = joined.place;
         let n = joined.rows;
         let of = joined.of;
-        if number != 0 {
+        if code != 0 {
             build_cells::clear(num, den, 0, build_cells::TABLE_CELLS);
             build_cells::clear(coef_num, coef_den, 0, ordinates.len());
-            return Built::Refused(number, base_outcome::place(a + place as usize));
+            return Built::Refused(code, base_outcome::place(a + place as usize));
         }
         write(coef_num, coef_den, rows, of, n);
         rows += n;

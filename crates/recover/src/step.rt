@@ -1,4 +1,4 @@
-// The steps of the build, each followed by its undoing on the present numbers of the rows.
+// The steps of the build, each followed by its undoing on the present coefficients of the rows.
 ghost use mathlib.Core.Path.{_≡_};
 ghost use mathlib.Core.List.{List, [], map};
 ghost use Prim.Native.Nat.{ℕ, _<_, _≤_};
@@ -16,32 +16,32 @@ ghost use Rattle.build_cells.specs.Held.{Holds, Shaped, Held};
 ghost use Rattle.build_conditions.specs.Sides.{JoinIs, JoinFits};
 ghost use Rattle.build_jumps.specs.Machine.{fractions};
 ghost use Rattle.build_factors.specs.Jumps.{AllFit};
-ghost use Rattle.recover_step.specs.Machine.{Fit};
+ghost use Rattle.recover_step.specs.Machine.{FractionsFit};
 ghost use Rattle.theorems_recovery.specs.Recovery;
-ghost use Rattle.recover.specs.Leaves.{Worked, Done, Jumped, Present, Given, numbersOf, Leaves, JoinsLeave, Started};
+ghost use Rattle.recover.specs.Leaves.{Worked, Done, Jumped, Present, Given, coefficientsOf, Leaves, JoinsLeave, Started};
 use crate::Joined;
-use crate::Numbers;
+use crate::RowCoefficients;
 use build_conditions::Join;
 use build_factors::Refusal;
 use build_jumps::Fractions;
 use build_jumps::JumpSpan;
 use recover_step::Balance;
 
-fn refuse(number: u8) -> Numbers
-    ensures { λ r. ⌜ r ≡ record { refused = number; of = fractions [] } ⌝ }
+fn refuse(code: u8) -> RowCoefficients
+    ensures { λ r. ⌜ r ≡ record { refused = code; of = fractions [] } ⌝ }
 {
-    Numbers {
-        refused: number,
+    RowCoefficients {
+        refused: code,
         of: build_jumps::no_fractions(),
     }
 }
 
-// The numbers after a step with these jumps, which span the rows f to l.
-fn undo_span(js: Fractions, cs: Fractions, f: usize, l: usize, rows: usize) -> Numbers
-    requires { ⌜ Worked js f l rows × (Fit js rows × Fit cs rows) ⌝ }
+// The coefficients after a step with these jumps, which span the rows f to l.
+fn undo_span(js: Fractions, cs: Fractions, f: usize, l: usize, rows: usize) -> RowCoefficients
+    requires { ⌜ Worked js f l rows × (FractionsFit js rows × FractionsFit cs rows) ⌝ }
     ensures { λ r. ⌜ ((j : ℕ) (qs ps ws : List ℚ) → js ≡ fractions qs → cs ≡ fractions ps → length qs ≡ rows → length ps ≡ rows
         → Step.factors j qs (record { f = f; l = l }) ≡ answer ws
-        → r ≡ numbersOf (Recovery.balanced j qs ps then λ _. Recovery.undone j (record { f = f; l = l }) ws ps)) ⌝ }
+        → r ≡ coefficientsOf (Recovery.balanced j qs ps then λ _. Recovery.undone j (record { f = f; l = l }) ws ps)) ⌝ }
 {
     let sum = recover_step::balanced(js, cs, rows);
     match sum {
@@ -53,8 +53,8 @@ fn undo_span(js: Fractions, cs: Fractions, f: usize, l: usize, rows: usize) -> N
             if !undone.fit {
                 return refuse(20);
             }
-            let left = recover_step::drop_number(undone.of, l, rows);
-            Numbers {
+            let left = recover_step::drop_coefficient(undone.of, l, rows);
+            RowCoefficients {
                 refused: 0,
                 of: left,
             }
@@ -63,11 +63,11 @@ fn undo_span(js: Fractions, cs: Fractions, f: usize, l: usize, rows: usize) -> N
 }
 
 // The undoing of a step that the build has done with these jumps.
-fn undo_step(js: Fractions, cs: Fractions, rows: usize) -> Numbers
-    requires { ⌜ Jumped js rows × Fit cs rows ⌝ }
+fn undo_step(js: Fractions, cs: Fractions, rows: usize) -> RowCoefficients
+    requires { ⌜ Jumped js rows × FractionsFit cs rows ⌝ }
     ensures { λ r. ⌜ ((j : ℕ) (qs ps : List ℚ) → js ≡ fractions qs → cs ≡ fractions ps → length qs ≡ rows → length ps ≡ rows
         → (d : Done j qs)
-        → r ≡ numbersOf (Recovery.balanced j qs ps then λ _. Recovery.undone j (d .span-is) (d .ws) ps)) ⌝ }
+        → r ≡ coefficientsOf (Recovery.balanced j qs ps then λ _. Recovery.undone j (d .span-is) (d .ws) ps)) ⌝ }
 {
     let span = build_jumps::span(js, rows);
     match span {
@@ -76,7 +76,7 @@ fn undo_step(js: Fractions, cs: Fractions, rows: usize) -> Numbers
     }
 }
 
-// One step of the build and its undoing: the numbers of the rows that are left, or the number of the refusal.
+// One step of the build and its undoing: the coefficients of the rows that are left, or the code of the refusal.
 fn recover_step(
     num: &mut [i64],
     den: &mut [i64],
@@ -85,11 +85,11 @@ fn recover_step(
     rows: usize,
     columns: usize,
     cs: Fractions,
-) -> Numbers
-    requires { ⌜ JoinFits join k × (Held (now num) (now den) rows columns × Fit cs rows) ⌝ }
+) -> RowCoefficients
+    requires { ⌜ JoinFits join k × (Held (now num) (now den) rows columns × FractionsFit cs rows) ⌝ }
     ensures { λ r. ⌜ ((s : Space) (j : ℕ) (t : Table) (ps : List ℚ) → JoinIs join s j → Holds (now (num .entry)) (now (den .entry)) t
         → Shaped t rows columns → cs ≡ fractions ps → length ps ≡ rows
-        → Leaves (Recovery.recoverStep j (Conditions.conditions s j k) (record { table = t; numbers = ps })) r (now (num .entry))
+        → Leaves (Recovery.recoverStep j (Conditions.conditions s j k) (record { table = t; coefficients = ps })) r (now (num .entry))
         (now (den .entry)) (now (num .exit)) (now (den .exit))) ⌝ }
 {
     let js = build_jumps::jumps(num, den, rows, join, k);
@@ -110,11 +110,11 @@ fn recover_orders(
     rows: usize,
     columns: usize,
     cs: Fractions,
-) -> Numbers
+) -> RowCoefficients
     requires { ⌜ (n ≤ rows) × (((k : ℕ) → k < n → JoinFits join k) × (Held (now num) (now den) rows columns × Present cs rows)) ⌝ }
     ensures { λ r. ⌜ ((s : Space) (j : ℕ) (t : Table) (ps : List ℚ) → JoinIs join s j → Holds (now (num .entry)) (now (den .entry)) t
         → Shaped t rows columns → cs ≡ fractions ps → length ps ≡ rows → AllFit ps
-        → Leaves (Recovery.recoverOrders s j n (record { table = t; numbers = ps })) r (now (num .entry)) (now (den .entry))
+        → Leaves (Recovery.recoverOrders s j n (record { table = t; coefficients = ps })) r (now (num .entry)) (now (den .entry))
         (now (num .exit)) (now (den .exit))) ⌝ }
 {
     let mut present = cs;
@@ -127,13 +127,13 @@ fn recover_orders(
         present = next.of;
         k += 1;
     }
-    Numbers {
+    RowCoefficients {
         refused: 0,
         of: present,
     }
 }
 
-// The joins from the left, from the ordinates: the numbers at the end, or the refusal with its join.
+// The joins from the left, from the ordinates: the coefficients at the end, or the refusal with its join.
 fn recover_joins(
     breaks: &[i32],
     degrees: &[i32],
@@ -197,6 +197,6 @@ pub fn recover_part(
 {
     let columns = build_space::first_column(degrees, degrees.len());
     build_cells::identity(num, den, columns);
-    let cs = recover_step::numbers(ordinates);
+    let cs = recover_step::coefficients(ordinates);
     recover_joins(breaks, degrees, orders, num, den, columns, cs)
 }

@@ -1,4 +1,4 @@
 -- The crate's hand-written modules.
-pub mod Sized
+pub mod FractionFits
 pub mod Arrays
 pub mod Rows

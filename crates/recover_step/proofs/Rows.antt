@@ -1,4 +1,4 @@
--- The numbers while a step is undone: those of the rows f to i - 1 are new, the others old.
+-- The coefficients while a step is undone: those of the rows f to i - 1 are new, the others old.
 use mathlib.Core.Path.{_≡_, refl, sym, _∙_, ap, ap₂}
 use mathlib.Core.Logic.{_≢_, _⊎_, inl, inr}
 use mathlib.Core.Bool.{true, false, cond}
@@ -21,12 +21,12 @@ use Rattle.base_outcome.proofs.Outcome.{then-answers, then-refuses}
 use Rattle.spec_spline.proofs.Splice.{spliced-length, spliced-before, spliced-inside, spliced-after}
 use Rattle.build_factors.specs.Jumps.{AllFit}
 use Rattle.build_jumps.proofs.Arrays.{entry-new, entry-kept}
-use Rattle.theorems_recovery.specs.Recovery.{sized, jumpSum, balanced, undoneNumber, undoneRow, undoneRows}
+use Rattle.theorems_recovery.specs.Recovery.{fitted, jumpSum, balanced, undoneCoefficient, undoneRow, undoneRows}
 use Rattle.theorems_recovery.proofs.Answers.{sum-refused}
 use Rattle.recover_step.specs.Machine.{balanceOf}
 use Rattle.recover_step.specs.declared.Balance.the-variants as balances
 
--- The old numbers with the new ones ds from f up to i.
+-- The old coefficients with the new ones ds from f up to i.
 abbrev pub renewed : ℕ → List ℚ → List ℚ → ℕ → List ℚ
 renewed f ps ds i = take f ps ++ (ds ++ drop i ps)
 
@@ -40,13 +40,13 @@ module _ (f i : ℕ) (ps ds : List ℚ) (order : f ≤ i) (within : i ≤ length
   pub renewed-new : (n : ℕ) → n < i - f → entry (renewed f ps ds i) (f + n) ≡ entry ds n
   renewed-new n h = spliced-inside ps ds f i (omega arith) (f + n) (int (pos 0)) (omega arith) (omega (arith, size)) ∙ ap (entry ds) (let z : f + n - f ≡ n = omega arith in z)
 
-  -- the number of row i is worked out from these as from the old ones
+  -- the coefficient of row i is worked out from these as from the old ones
   pub row-same : (j : ℕ) (us : List ℚ) → undoneRow j us (renewed f ps ds i) f (i - f) (drop f (renewed f ps ds i)) ≡ undoneRow j us ps f (i - f) ds
   row-same j us = go (i - f) refl
     where
       go : (n : ℕ) → n ≡ i - f → undoneRow j us (renewed f ps ds i) f n (drop f (renewed f ps ds i)) ≡ undoneRow j us ps f n ds
       go zero z = ap answer (renewed-old f (omega arith))
-      go (suc n) z = ap₂ (undoneNumber j (entry us (suc n))) (renewed-old (f + suc n) (omega arith)) (getD-drop f (renewed f ps ds i) n (int (pos 0)) ∙ renewed-new n (omega arith))
+      go (suc n) z = ap₂ (undoneCoefficient j (entry us (suc n))) (renewed-old (f + suc n) (omega arith)) (getD-drop f (renewed f ps ds i) n (int (pos 0)) ∙ renewed-new n (omega arith))
 
   -- one number more
   more-size : (d : ℚ) → length (ds ++ (d ∷ [])) ≡ suc i - f
@@ -82,7 +82,7 @@ more-fit ds d p h k = go (ℕ-discrete k (length ds))
     go (yes e) = ap fits (entry-new ds d k (sym e)) ∙ h
     go (no e) = ap fits (sym (entry-kept ds d k e)) ∙ p k
 
--- ---- the new numbers of the rows, one after the other
+-- ---- the new coefficients of the rows, one after the other
 module _ (j : ℕ) (us ps : List ℚ) (f : ℕ) where
   pub rows-none : undoneRows j us ps f 0 ≡ answer []
   unfolding undoneRows
@@ -92,52 +92,52 @@ module _ (j : ℕ) (us ps : List ℚ) (f : ℕ) where
   unfolding undoneRows
   rows-more n {ds} e h = then-answers (λ xs. undoneRow j us ps f n xs then λ x. answer (xs ++ (x ∷ []))) e ∙ then-answers (λ x. answer (ds ++ (x ∷ []))) h
 
-  pub rows-end : (n : ℕ) {ds : List ℚ} {number place : ℕ} → undoneRows j us ps f n ≡ answer ds → undoneRow j us ps f n ds ≡ refusal number place → undoneRows j us ps f (suc n) ≡ refusal number place
+  pub rows-end : (n : ℕ) {ds : List ℚ} {code place : ℕ} → undoneRows j us ps f n ≡ answer ds → undoneRow j us ps f n ds ≡ refusal code place → undoneRows j us ps f (suc n) ≡ refusal code place
   unfolding undoneRows
   rows-end n {ds} e h = then-answers (λ xs. undoneRow j us ps f n xs then λ x. answer (xs ++ (x ∷ []))) e ∙ then-refuses (λ x. answer (ds ++ (x ∷ []))) h
 
-  rows-next : (n : ℕ) {number place : ℕ} → undoneRows j us ps f n ≡ refusal number place → undoneRows j us ps f (suc n) ≡ refusal number place
+  rows-next : (n : ℕ) {code place : ℕ} → undoneRows j us ps f n ≡ refusal code place → undoneRows j us ps f (suc n) ≡ refusal code place
   unfolding undoneRows
   rows-next n e = then-refuses (λ xs. undoneRow j us ps f n xs then λ x. answer (xs ++ (x ∷ []))) e
 
-  pub rows-stay : (m n : ℕ) {number place : ℕ} → m ≤ n → undoneRows j us ps f m ≡ refusal number place → undoneRows j us ps f n ≡ refusal number place
+  pub rows-stay : (m n : ℕ) {code place : ℕ} → m ≤ n → undoneRows j us ps f m ≡ refusal code place → undoneRows j us ps f n ≡ refusal code place
   rows-stay m zero h e = ap (undoneRows j us ps f) (let z : 0 ≡ m = omega arith in z) ∙ e
-  rows-stay m (suc n) {number} {place} h e = go (λ l. rows-stay m n l e) (eq-or-lt-of-le h)
+  rows-stay m (suc n) {code} {place} h e = go (λ l. rows-stay m n l e) (eq-or-lt-of-le h)
     where
-      go : (m ≤ n → undoneRows j us ps f n ≡ refusal number place) → (m ≡ suc n) ⊎ (m < suc n) → undoneRows j us ps f (suc n) ≡ refusal number place
+      go : (m ≤ n → undoneRows j us ps f n ≡ refusal code place) → (m ≡ suc n) ⊎ (m < suc n) → undoneRows j us ps f (suc n) ≡ refusal code place
       go ih (inl z) = ap (undoneRows j us ps f) (sym z) ∙ e
       go ih (inr l) = rows-next n (ih (omega arith))
 
--- ---- the sum of numbers times jumps, one row after the other
+-- ---- the sum of coefficients times jumps, one row after the other
 module _ (j : ℕ) (qs ps : List ℚ) where
   pub sum-none : jumpSum j qs ps 0 ≡ answer (int (pos 0))
   unfolding jumpSum
   sum-none = refl
 
   abbrev pub added : ℕ → ℚ → Outcome ℚ
-  added n s = cond (jumpsAt qs n) (sized j (entry ps n *ᵠ entry qs n) then λ p. sized j (s +ᵠ p)) (answer s)
+  added n s = cond (jumpsAt qs n) (fitted j (entry ps n *ᵠ entry qs n) then λ p. fitted j (s +ᵠ p)) (answer s)
 
   pub sum-more : (n : ℕ) {s : ℚ} → jumpSum j qs ps n ≡ answer s → jumpSum j qs ps (suc n) ≡ added n s
   unfolding jumpSum
   sum-more n e = then-answers (added n) e
 
-  sum-next : (n : ℕ) {number place : ℕ} → jumpSum j qs ps n ≡ refusal number place → jumpSum j qs ps (suc n) ≡ refusal number place
+  sum-next : (n : ℕ) {code place : ℕ} → jumpSum j qs ps n ≡ refusal code place → jumpSum j qs ps (suc n) ≡ refusal code place
   unfolding jumpSum
   sum-next n e = then-refuses (added n) e
 
-  pub sum-stays : (m n : ℕ) {number place : ℕ} → m ≤ n → jumpSum j qs ps m ≡ refusal number place → jumpSum j qs ps n ≡ refusal number place
+  pub sum-stays : (m n : ℕ) {code place : ℕ} → m ≤ n → jumpSum j qs ps m ≡ refusal code place → jumpSum j qs ps n ≡ refusal code place
   sum-stays m zero h e = ap (jumpSum j qs ps) (let z : 0 ≡ m = omega arith in z) ∙ e
-  sum-stays m (suc n) {number} {place} h e = go (λ l. sum-stays m n l e) (eq-or-lt-of-le h)
+  sum-stays m (suc n) {code} {place} h e = go (λ l. sum-stays m n l e) (eq-or-lt-of-le h)
     where
-      go : (m ≤ n → jumpSum j qs ps n ≡ refusal number place) → (m ≡ suc n) ⊎ (m < suc n) → jumpSum j qs ps (suc n) ≡ refusal number place
+      go : (m ≤ n → jumpSum j qs ps n ≡ refusal code place) → (m ≡ suc n) ⊎ (m < suc n) → jumpSum j qs ps (suc n) ≡ refusal code place
       go ih (inl z) = ap (jumpSum j qs ps) (sym z) ∙ e
       go ih (inr l) = sum-next n (ih (omega arith))
 
   -- what the sum tells
-  pub balance-large : {number place : ℕ} → jumpSum j qs ps (length qs) ≡ refusal number place → balances.TooLarge ≡ balanceOf (balanced j qs ps)
+  pub balance-large : {code place : ℕ} → jumpSum j qs ps (length qs) ≡ refusal code place → balances.TooLarge ≡ balanceOf (balanced j qs ps)
   unfolding balanced balanceOf
-  balance-large {number} {place} e =
-      sym (ap balanceOf (then-refuses (λ s. cond (isZero s) (answer tt) (refuse 19 j)) e) ∙ ap (λ n. cond (eqb n 19) balances.NotZero balances.TooLarge) (sum-refused j qs ps (length qs) number place e))
+  balance-large {code} {place} e =
+      sym (ap balanceOf (then-refuses (λ s. cond (isZero s) (answer tt) (refuse 19 j)) e) ∙ ap (λ n. cond (eqb n 19) balances.NotZero balances.TooLarge) (sum-refused j qs ps (length qs) code place e))
 
   pub balance-zero : {s : ℚ} → jumpSum j qs ps (length qs) ≡ answer s → isZero s ≡ true → balances.Zero ≡ balanceOf (balanced j qs ps)
   unfolding balanced balanceOf
@@ -147,7 +147,7 @@ module _ (j : ℕ) (qs ps : List ℚ) where
   unfolding balanced balanceOf
   balance-not e h = sym (ap balanceOf (then-answers (λ s. cond (isZero s) (answer tt) (refuse 19 j)) e ∙ ap (λ b. cond b (answer tt) (refuse 19 j)) h))
 
--- ---- the numbers without that of row l
+-- ---- the coefficients without that of row l
 module _ (ps : List ℚ) (l : ℕ) (within : l < length ps) where
   abbrev pub without : List ℚ
   without = take l ps ++ drop (suc l) ps

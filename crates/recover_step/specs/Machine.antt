@@ -1,4 +1,4 @@
--- The machine's form of what the definitions of crate theorems_recovery give, and what undoing asks of numbers and factors.
+-- The machine's form of what the definitions of crate theorems_recovery give, and what undoing asks of coefficients and factors.
 use mathlib.Core.Bool.{true, cond}
 use mathlib.Core.List.{List}
 use mathlib.Core.Logic.{_≢_}
@@ -16,13 +16,13 @@ use Rattle.build_jumps.specs.declared.Fractions.{Fractions}
 use Rattle.recover_step.specs.declared.Balance.{Balance}
 use Rattle.recover_step.specs.declared.Balance.the-variants as balances
 
--- Zero, number 19 or number 20.
+-- Zero, code 19 or code 20.
 unfoldable pub balanceOf : Outcome (Unit {0}) → Balance
 balanceOf (answer u) = balances.Zero
-balanceOf (refusal number place) = cond (eqb number 19) balances.NotZero balances.TooLarge
+balanceOf (refusal code place) = cond (eqb code 19) balances.NotZero balances.TooLarge
 
 -- At least n fractions, all of which fit.
-pub record Fit (cs : Fractions) (n : ℕ) : Type 0 where
+pub record FractionsFit (cs : Fractions) (n : ℕ) : Type 0 where
   pub of : List ℚ
   pub is : cs ≡ fractions of
   pub fit : AllFit of

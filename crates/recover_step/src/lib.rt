@@ -1,4 +1,4 @@
-// A step of the build undone on the present numbers of the rows: the zero test, the new numbers, and row l dropped.
+// A step of the build undone on the present coefficients of the rows: the zero test, the new coefficients, and row l dropped.
 ghost use mathlib.Core.Path.{_≡_};
 ghost use mathlib.Core.Bool.{cond, not};
 ghost use mathlib.Core.List.{List, _++_, map};
@@ -8,7 +8,7 @@ ghost use lib.IntN.{pos};
 ghost use lib.ListN.{length, take, drop};
 ghost use Rattle.base_exact.specs.Rational.{ℚ, int, _+ᵠ_, _*ᵠ_};
 ghost use Rattle.base_exact.specs.Order.{isZero};
-ghost use Rattle.base_fraction.specs.Machine.{Sized, fraction};
+ghost use Rattle.base_fraction.specs.Machine.{FractionFits, fraction};
 ghost use Rattle.base_fraction.specs.declared.Fraction.{Fraction};
 ghost use Rattle.base_fraction.specs.declared.Counted.the-variants.{Fits};
 ghost use Rattle.base_outcome.specs.Outcome.{answer, _then_, with-answer};
@@ -16,13 +16,13 @@ ghost use Rattle.spec_spline.specs.Table.{rowCells};
 ghost use Rattle.build_jumps.specs.Machine.{counted, fractions, rowJumps};
 ghost use Rattle.build_rows.specs.Rows.{UnitFactor, UnitFactors};
 ghost use Rattle.theorems_recovery.specs.Recovery;
-ghost use Rattle.recover_step.specs.Machine.{balanceOf, Fit, NonZero};
+ghost use Rattle.recover_step.specs.Machine.{balanceOf, FractionsFit, NonZero};
 use base_fraction::Counted;
 use base_fraction::Fraction;
 use build_jumps::Fractions;
 use build_jumps::RowJumps;
 
-// The sum of numbers times jumps.
+// The sum of coefficients times jumps.
 pub enum Balance {
     Zero,
     NotZero,
@@ -30,34 +30,34 @@ pub enum Balance {
 }
 
 // The sum with one more product, number times jump; a zero jump is passed over.
-fn add_term(sum: Fraction, number: Fraction, jump: Fraction) -> Counted
-    requires { ⌜ Sized sum × (Sized number × Sized jump) ⌝ }
-    ensures { λ r. ⌜ ((j : ℕ) (s c q : ℚ) → sum ≡ fraction s → number ≡ fraction c → jump ≡ fraction q
-        → r ≡ counted (cond (not (isZero q)) (Recovery.sized j (c *ᵠ q) then λ p. Recovery.sized j (s +ᵠ p)) (answer s))) ⌝ }
-    ensures { λ r. ⌜ ((f : Fraction) → r ≡ Fits f → Sized f) ⌝ }
+fn add_term(sum: Fraction, coefficient: Fraction, jump: Fraction) -> Counted
+    requires { ⌜ FractionFits sum × (FractionFits coefficient × FractionFits jump) ⌝ }
+    ensures { λ r. ⌜ ((j : ℕ) (s c q : ℚ) → sum ≡ fraction s → coefficient ≡ fraction c → jump ≡ fraction q
+        → r ≡ counted (cond (not (isZero q)) (Recovery.fitted j (c *ᵠ q) then λ p. Recovery.fitted j (s +ᵠ p)) (answer s))) ⌝ }
+    ensures { λ r. ⌜ ((f : Fraction) → r ≡ Fits f → FractionFits f) ⌝ }
 {
     if jump.num == 0 {
         return Counted::Fits(sum);
     }
-    let term = base_fraction::product(number, jump);
+    let term = base_fraction::product(coefficient, jump);
     match term {
         Counted::Fits(t) => base_fraction::sum(sum, t),
         Counted::TooLarge => Counted::TooLarge,
     }
 }
 
-// The sum of the rows' numbers times their jumps, rows rising: whether it is zero.
+// The sum of the rows' coefficients times their jumps, rows rising: whether it is zero.
 pub fn balanced(js: Fractions, cs: Fractions, rows: usize) -> Balance
-    requires { ⌜ (rows ≤ rowCells) × (Fit js rows × Fit cs rows) ⌝ }
+    requires { ⌜ (rows ≤ rowCells) × (FractionsFit js rows × FractionsFit cs rows) ⌝ }
     ensures { λ r. ⌜ ((j : ℕ) (qs ps : List ℚ) → js ≡ fractions qs → cs ≡ fractions ps → length qs ≡ rows
         → r ≡ balanceOf (Recovery.balanced j qs ps)) ⌝ }
 {
     let mut sum = Fraction { num: 0, den: 1 };
     let mut i = 0;
     while i < rows {
-        let number = build_jumps::fraction_at(cs, i);
+        let coefficient = build_jumps::fraction_at(cs, i);
         let jump = build_jumps::fraction_at(js, i);
-        let next = add_term(sum, number, jump);
+        let next = add_term(sum, coefficient, jump);
         match next {
             Counted::Fits(s) => {
                 sum = s;
@@ -75,10 +75,10 @@ pub fn balanced(js: Fractions, cs: Fractions, rows: usize) -> Balance
 }
 
 // (number - (1 - w) before) / w, with the share, the difference and the quotient counted.
-fn undo_number(w: Fraction, number: Fraction, before: Fraction) -> Counted
-    requires { ⌜ UnitFactor w × ((w .num ≢ pos 0) × (Sized number × Sized before)) ⌝ }
-    ensures { λ r. ⌜ ((j : ℕ) (v c b : ℚ) → w ≡ fraction v → number ≡ fraction c → before ≡ fraction b
-        → r ≡ counted (Recovery.undoneNumber j v c b)) ⌝ }
+fn undo_coefficient(w: Fraction, coefficient: Fraction, before: Fraction) -> Counted
+    requires { ⌜ UnitFactor w × ((w .num ≢ pos 0) × (FractionFits coefficient × FractionFits before)) ⌝ }
+    ensures { λ r. ⌜ ((j : ℕ) (v c b : ℚ) → w ≡ fraction v → coefficient ≡ fraction c → before ≡ fraction b
+        → r ≡ counted (Recovery.undoneCoefficient j v c b)) ⌝ }
 {
     let rest = build_rows::complement(w);
     let share = base_fraction::product(rest, before);
@@ -87,7 +87,7 @@ fn undo_number(w: Fraction, number: Fraction, before: Fraction) -> Counted
         Counted::Fits(s) => {
             let n = s.num;
             let d = s.den;
-            let difference = base_fraction::sum(number, Fraction { num: 0 - n, den: d });
+            let difference = base_fraction::sum(coefficient, Fraction { num: 0 - n, den: d });
             match difference {
                 Counted::TooLarge => Counted::TooLarge,
                 Counted::Fits(t) => base_fraction::quotient(t, w),
@@ -96,24 +96,24 @@ fn undo_number(w: Fraction, number: Fraction, before: Fraction) -> Counted
     }
 }
 
-// The new number of row i, where the rows f to i - 1 have their new numbers.
+// The new coefficient of row i, where the rows f to i - 1 have their new coefficients.
 fn undo_row(cs: Fractions, ws: Fractions, f: usize, i: usize) -> Counted
-    requires { ⌜ (f ≤ i) × ((i < rowCells) × (Fit cs (suc i) × (UnitFactors ws × NonZero ws (suc (i - f))))) ⌝ }
+    requires { ⌜ (f ≤ i) × ((i < rowCells) × (FractionsFit cs (suc i) × (UnitFactors ws × NonZero ws (suc (i - f))))) ⌝ }
     ensures { λ r. ⌜ ((j : ℕ) (us ps : List ℚ) → ws ≡ fractions us → cs ≡ fractions ps
         → r ≡ counted (Recovery.undoneRow j us ps f (i - f) (drop f ps))) ⌝ }
 {
-    let number = build_jumps::fraction_at(cs, i);
+    let coefficient = build_jumps::fraction_at(cs, i);
     if i == f {
-        return Counted::Fits(number);
+        return Counted::Fits(coefficient);
     }
     let w = build_jumps::fraction_at(ws, i - f);
     let before = build_jumps::fraction_at(cs, i - 1);
-    undo_number(w, number, before)
+    undo_coefficient(w, coefficient, before)
 }
 
-// The new numbers of the rows f to l - 1, rows rising; the others as they were.
+// The new coefficients of the rows f to l - 1, rows rising; the others as they were.
 pub fn undo_rows(cs: Fractions, ws: Fractions, f: usize, l: usize) -> RowJumps
-    requires { ⌜ (f ≤ l) × ((l < rowCells) × (Fit cs l × (UnitFactors ws × NonZero ws (l - f)))) ⌝ }
+    requires { ⌜ (f ≤ l) × ((l < rowCells) × (FractionsFit cs l × (UnitFactors ws × NonZero ws (l - f)))) ⌝ }
     ensures { λ r. ⌜ ((j : ℕ) (us ps : List ℚ) → ws ≡ fractions us → cs ≡ fractions ps → l ≤ length ps
         → r ≡ rowJumps (with-answer (λ ds. take f ps ++ (ds ++ drop l ps)) (Recovery.undoneRows j us ps f (l - f)))) ⌝ }
 {
@@ -151,8 +151,8 @@ fn kept_row(i: usize, l: usize) -> usize
     i + 1
 }
 
-// The numbers without that of row l.
-pub fn drop_number(cs: Fractions, l: usize, rows: usize) -> Fractions
+// The coefficients without that of row l.
+pub fn drop_coefficient(cs: Fractions, l: usize, rows: usize) -> Fractions
     requires { ⌜ (l < rows) × (rows ≤ rowCells) ⌝ }
     ensures { λ r. ⌜ ((ps : List ℚ) → cs ≡ fractions ps → length ps ≡ rows → r ≡ fractions (take l ps ++ drop (suc l) ps)) ⌝ }
 {
@@ -170,8 +170,8 @@ pub fn drop_number(cs: Fractions, l: usize, rows: usize) -> Fractions
     left
 }
 
-// The ordinates as the first numbers.
-pub fn numbers(ordinates: &[i32]) -> Fractions
+// The ordinates as the first coefficients.
+pub fn coefficients(ordinates: &[i32]) -> Fractions
     requires { ⌜ length (now ordinates) ≤ rowCells ⌝ }
     ensures { λ r. ⌜ r ≡ fractions (map int (now (ordinates .entry))) ⌝ }
 {

@@ -17,10 +17,10 @@ use Rattle.spec_spline.proofs.Legal.{cond-refuse-inverts}
 use Rattle.base_text.specs.Bytes.{Text, newline, Cut, cut, stripped, Range}
 use Rattle.base_text.specs.Numeral.{numeral}
 use Rattle.sheet_read.specs.SheetReading.{pair, Lists, Line, listOf, lineOf, bodyOf, cutLine, line, readLine, breaksKey, degreesKey, ordersKey, coefsKey, atKey, ended, fiveLines, listLimit, textLimit, read}
-use Rattle.sheet_read.specs.Machine.{ListAt, numbersOf, numbers, overwritten, Lengths, lengths, reply, counted, after}
+use Rattle.sheet_read.specs.Machine.{ListAt, numeralsOf, numerals, overwritten, Lengths, lengths, reply, counted, after}
 use Rattle.sheet_read.specs.declared.Lists.{Lists as Answer}
 use Rattle.sheet_read.specs.declared.Lists.the-variants.{Read, Refused}
-use Rattle.sheet_read.proofs.Numbers.{list-few, plain-numbers, pair-numbers}
+use Rattle.sheet_read.proofs.Numerals.{list-few, plain-numerals, pair-numerals}
 
 -- ---- from the outcome to the answer and the buffers
 pub refused : (text : Text) (place : ℕ) → read text ≡ refusal 10 place → (b d o c p : List ℤ) →
@@ -45,36 +45,36 @@ replied text l e b d o c p hb hd ho hc hp = rw (e, hb, hd, ho, hc, hp)
 -- ---- writing a list
 
 -- A list with these numbers, at most so many, in a part of the text.
-pub record NumbersAt (limit : ℕ) (text : Text) (zs : List ℤ) (start end : ℕ) : Type 0 where
+pub record NumeralsAt (limit : ℕ) (text : Text) (zs : List ℤ) (start end : ℕ) : Type 0 where
   pub range : Range text start end
-  pub are : numbersOf (slice start end text) ≡ some zs
+  pub are : numeralsOf (slice start end text) ≡ some zs
   pub few : length zs ≤ limit
 
-pub numbers-at : {text : Text} {zs : List ℤ} {start end : ℕ} → ListAt numeral text zs start end → NumbersAt listLimit text zs start end
-numbers-at {text} {zs} {start} {end} at = record { range = at .range; are = plain-numbers (slice start end text) zs (at .list); few = list-few numeral (slice start end text) zs (at .list) }
+pub numerals-at : {text : Text} {zs : List ℤ} {start end : ℕ} → ListAt numeral text zs start end → NumeralsAt listLimit text zs start end
+numerals-at {text} {zs} {start} {end} at = record { range = at .range; are = plain-numerals (slice start end text) zs (at .list); few = list-few numeral (slice start end text) zs (at .list) }
 
 -- two numbers for each pair
-pub pairs-at : {text : Text} {ps : List Pair} {start end : ℕ} → ListAt pair text ps start end → NumbersAt (2 * listLimit) text (sideBySide ps) start end
+pub pairs-at : {text : Text} {ps : List Pair} {start end : ℕ} → ListAt pair text ps start end → NumeralsAt (2 * listLimit) text (sideBySide ps) start end
 pairs-at {text} {ps} {start} {end} at =
     record {
       range = at .range;
-      are = pair-numbers (slice start end text) ps (at .list);
+      are = pair-numerals (slice start end text) ps (at .list);
       few = omega (arith, sideBySide-length ps, list-few pair (slice start end text) ps (at .list));
     }
 
-module _ (limit : ℕ) (text : Text) (zs : List ℤ) (start end : ℕ) (at : NumbersAt limit text zs start end) where
-  pub fill-ready : (room : ℕ) → room ≡ limit → Range text start end × ((numbersOf (slice start end text) ≡ some (numbers (numbersOf (slice start end text)))) × (length (numbers (numbersOf (slice start end text))) ≤ room))
+module _ (limit : ℕ) (text : Text) (zs : List ℤ) (start end : ℕ) (at : NumeralsAt limit text zs start end) where
+  pub fill-ready : (room : ℕ) → room ≡ limit → Range text start end × ((numeralsOf (slice start end text) ≡ some (numerals (numeralsOf (slice start end text)))) × (length (numerals (numeralsOf (slice start end text))) ≤ room))
   fill-ready room h = (at .range, (rw (at .are), rw (at .are) (omega (arith, at .few))))
 
-  pub fill-count : (n : ℕ) → n ≡ length (numbers (numbersOf (slice start end text))) → n ≡ length zs
-  fill-count n e = e ∙ ap (λ (o : Option (List ℤ)). length (numbers o)) (at .are)
+  pub fill-count : (n : ℕ) → n ≡ length (numerals (numeralsOf (slice start end text))) → n ≡ length zs
+  fill-count n e = e ∙ ap (λ (o : Option (List ℤ)). length (numerals o)) (at .are)
 
-  pub fill-written : (before now : List ℤ) → now ≡ overwritten (numbers (numbersOf (slice start end text))) before → now ≡ overwritten zs before
-  fill-written before now e = e ∙ ap (λ (o : Option (List ℤ)). overwritten (numbers o) before) (at .are)
+  pub fill-written : (before now : List ℤ) → now ≡ overwritten (numerals (numeralsOf (slice start end text))) before → now ≡ overwritten zs before
+  fill-written before now e = e ∙ ap (λ (o : Option (List ℤ)). overwritten (numerals o) before) (at .are)
 
 -- ---- from the answer and the buffers back to the outcome
 
--- A reply of five lengths comes from five such lists, one of a place from number 10 at that place.
+-- A reply of five lengths comes from five such lists, one of a place from code 10 at that place.
 pub record Listed (o : Outcome Lists) (n : Lengths) : Type 0 where
   pub lists : Lists
   pub is : o ≡ answer lists
@@ -84,7 +84,7 @@ pub reply-read : (o : Outcome Lists) (a : Answer) (b d r c p : ℕ) → reply a 
     → Listed o (record { breaks = b; degrees = d; orders = r; coefs = c; positions = p })
 unfolding reply
 reply-read (answer l) a b d r c p e v = record { lists = l; is = refl; counts = answer-unique (ap reply v) e }
-reply-read (refusal number place) a b d r c p e v = absurd (answer-not-refusal (ap reply v) e)
+reply-read (refusal code place) a b d r c p e v = absurd (answer-not-refusal (ap reply v) e)
 
 pub reply-malformed : (o : Outcome Lists) (a : Answer) (place : ℕ) → reply a ≡ counted o → a ≡ Refused place → o ≡ refusal 10 place
 unfolding reply

@@ -10,9 +10,9 @@ use lib.ListN.{take, length, getD}
 use Rattle.base_outcome.specs.Outcome.{answer, refusal, capped}
 use Rattle.spec_spline.specs.Reading.{Pair, sideBySide}
 use Rattle.base_text.specs.Bytes.{Text, newline, bytes, lines, cut, fieldsBetween, stripped}
-use Rattle.base_text.specs.Numeral.{allDigits, digitsValue, isNatural, numeral, digitsUpTo, digits, decimal, numberLimit}
+use Rattle.base_text.specs.Numeral.{allDigits, digitsValue, isNatural, numeral, digitsUpTo, digits, decimal, numeralLimit}
 use Rattle.sheet_read.specs.SheetReading.{pair, entries, listOf, line, readLine, fiveLines, read, Lists, textLimit}
-use Rattle.sheet_read.specs.SheetText.{pairText, commaJoined, listText, lineText, sheetText, WritableNumbers, WritablePairs}
+use Rattle.sheet_read.specs.SheetText.{pairText, commaJoined, listText, lineText, sheetText, WritableNumerals, WritablePairs}
 use Rattle.sheet_read.proofs.RoundTrip.{sheet-reads-back}
 
 -- ---- "commas between, an empty list allowed"
@@ -49,9 +49,9 @@ unfolding cut fieldsBetween allDigits digitsValue isNatural numeral pair entries
 not-paired = (refl, refl, refl, refl, refl, refl, refl, refl, refl, refl, refl, refl)
 
 -- no pair stands in a list of numbers
-not-numbers : NoList "5:6"
+not-numerals : NoList "5:6"
 unfolding fieldsBetween allDigits digitsValue isNatural numeral entries listOf bytes
-not-numbers = refl
+not-numerals = refl
 
 -- ---- "the place is the first bad or missing line from 1, 6 for anything after line five"
 abbrev RefusedAt : Text → ℕ → Type 0
@@ -93,12 +93,12 @@ lists1 = record {
 }
 
 abbrev Small : List ℤ → Type 0
-Small zs = (i : ℕ) → natAbs (getD zs i (pos 0)) < numberLimit
+Small zs = (i : ℕ) → natAbs (getD zs i (pos 0)) < numeralLimit
 
 none-small : Small []
 none-small i = omega arith
 
-one-more : (z : ℤ) (zs : List ℤ) → natAbs z < numberLimit → Small zs → Small (z ∷ zs)
+one-more : (z : ℤ) (zs : List ℤ) → natAbs z < numeralLimit → Small zs → Small (z ∷ zs)
 one-more z zs h k zero = h
 one-more z zs h k (suc i) = k i
 
@@ -110,16 +110,16 @@ short1 : length (sheetText lists1) ≤ textLimit
 unfolding bytes lines
 short1 = omega (arith, ap length text1)
 
-breaks1 : WritableNumbers (lists1 .breaks)
+breaks1 : WritableNumerals (lists1 .breaks)
 breaks1 = record { few = omega arith; small = one-more (pos 0) (pos 1 ∷ pos 3 ∷ []) (omega arith) (one-more (pos 1) (pos 3 ∷ []) (omega arith) (one-more (pos 3) [] (omega arith) none-small)) }
 
-degrees1 : WritableNumbers (lists1 .degrees)
+degrees1 : WritableNumerals (lists1 .degrees)
 degrees1 = record { few = omega arith; small = one-more (pos 2) (pos 2 ∷ []) (omega arith) (one-more (pos 2) [] (omega arith) none-small) }
 
-orders1 : WritableNumbers (lists1 .orders)
+orders1 : WritableNumerals (lists1 .orders)
 orders1 = record { few = omega arith; small = one-more (pos 1) [] (omega arith) none-small }
 
-one-pair-more : (p : Pair) (zs : List ℤ) → natAbs (p .early) < numberLimit → natAbs (p .late) < numberLimit → Small zs → Small (p .early ∷ p .late ∷ zs)
+one-pair-more : (p : Pair) (zs : List ℤ) → natAbs (p .early) < numeralLimit → natAbs (p .late) < numeralLimit → Small zs → Small (p .early ∷ p .late ∷ zs)
 one-pair-more p zs h k s = one-more (p .early) (p .late ∷ zs) h (one-more (p .late) zs k s)
 
 coefs1 : WritablePairs (lists1 .coefs)
@@ -131,7 +131,7 @@ coefs1 =
     let three = one-pair-more (both (pos 100) (pos 100)) (sideBySide (zeros ∷ zeros ∷ [])) (omega arith) (omega arith) two in
     record { few = omega arith; small = one-pair-more zeros (sideBySide (both (pos 100) (pos 100) ∷ zeros ∷ zeros ∷ [])) (omega arith) (omega arith) three }
 
-positions1 : WritableNumbers (lists1 .positions)
+positions1 : WritableNumerals (lists1 .positions)
 positions1 = record { few = omega arith; small = one-more (pos 256) (pos 512 ∷ []) (omega arith) (one-more (pos 512) [] (omega arith) none-small) }
 
 read1 : read w1 ≡ answer lists1

@@ -11,7 +11,7 @@ use lib.Seq.{slice, slice-empty, drop-cons, take-suc, set-at, length-take-le, le
 use Rattle.base_text.specs.Bytes.{Text, fieldsBetween}
 use Rattle.base_text.specs.Numeral.{numeral}
 use Rattle.sheet_read.specs.SheetReading.{prepended, entries}
-use Rattle.sheet_read.specs.Machine.{isSeparator, numbersOf, overwritten}
+use Rattle.sheet_read.specs.Machine.{isSeparator, numeralsOf, overwritten}
 
 -- The buffer holds the first n numbers of a list in front of what it held before, and the text that is left is the list of
 -- the others.
@@ -22,18 +22,18 @@ pub record Filled (zs : List ℤ) (left : Text) (before now : List ℤ) (n : ℕ
   pub written : now ≡ take n zs ++ drop n before
 
 -- the numbers of a text that is not empty
-pub numbers-fields : (t : Text) → 0 < length t → numbersOf t ≡ entries numeral (fieldsBetween isSeparator t)
-unfolding numbersOf
-numbers-fields [] h = absurd (omega arith)
-numbers-fields (c ∷ cs) h = refl
+pub numerals-fields : (t : Text) → 0 < length t → numeralsOf t ≡ entries numeral (fieldsBetween isSeparator t)
+unfolding numeralsOf
+numerals-fields [] h = absurd (omega arith)
+numerals-fields (c ∷ cs) h = refl
 
-pub numbers-empty : (text : Text) (to : ℕ) → numbersOf (slice to to text) ≡ some []
-unfolding numbersOf
-numbers-empty text to = ap numbersOf (slice-empty to text)
+pub numerals-empty : (text : Text) (to : ℕ) → numeralsOf (slice to to text) ≡ some []
+unfolding numeralsOf
+numerals-empty text to = ap numeralsOf (slice-empty to text)
 
-pub filled-start : (t : Text) → 0 < length t → (zs before : List ℤ) → numbersOf t ≡ some zs → length zs ≤ length before → Filled zs t before before 0
+pub filled-start : (t : Text) → 0 < length t → (zs before : List ℤ) → numeralsOf t ≡ some zs → length zs ≤ length before → Filled zs t before before 0
 filled-start t h zs before e room =
-    record { up-to = omega arith; room = room; others = sym (numbers-fields t h) ∙ e; written = refl }
+    record { up-to = omega arith; room = room; others = sym (numerals-fields t h) ∙ e; written = refl }
 
 pub prepended-some : {A : Type 0} (a : Option A) (o : Option (List A)) (l : List A) → prepended a o ≡ some l → (x : A) × (ys : List A) × (a ≡ some x) × (o ≡ some ys) × (l ≡ x ∷ ys)
 prepended-some none o l e = absurd (let x : _≡_ {A = ℕ} 0 1 = cc in omega arith)

@@ -3,7 +3,7 @@
 pub mod Entries
 pub mod Ranges
 pub mod Filling
-pub mod Numbers
+pub mod Numerals
 pub mod Lines
 pub mod Sheets
 pub mod Answers

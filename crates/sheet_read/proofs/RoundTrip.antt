@@ -13,13 +13,13 @@ use lib.ListN.{length, length-append, getD}
 use Rattle.base_outcome.specs.Outcome.{Outcome, _then_}
 use Rattle.spec_spline.specs.Reading.{Pair, sideBySide}
 use Rattle.base_text.specs.Bytes.{Text, newline, comma, minus, colon, cut, fields}
-use Rattle.base_text.specs.Numeral.{isDigit, numeral, decimal, numberLimit}
+use Rattle.base_text.specs.Numeral.{isDigit, numeral, decimal, numeralLimit}
 use Rattle.base_text.proofs.RoundTrip.{numeral-reads-back, decimal-any}
 use Rattle.base_text.proofs.Lacking.{lacks, byte, byte-outside, lacks-append, decimal-lacks, cut-first, fields-only, fields-first, stripped-key}
 use Rattle.sheet_read.specs.SheetReading.{bothOf, sidesOf, pair, prepended, entries, limitedList, listOf, listLimit, Line, lineOf, bodyOf, cutLine, line, readLine, breaksKey, degreesKey, ordersKey, coefsKey, atKey, Lists, fiveLines}
-use Rattle.sheet_read.specs.SheetText.{pairText, commaJoined, listText, lineText, sheetText, WritableNumbers, WritablePairs, SheetReadsBack}
+use Rattle.sheet_read.specs.SheetText.{pairText, commaJoined, listText, lineText, sheetText, WritableNumerals, WritablePairs, SheetReadsBack}
 use Rattle.sheet_read.proofs.Entries.{list-fields}
-use Rattle.sheet_read.proofs.Sheets.{NumberLine, PairLine, read-short, line-answers, lists, after-one, after-two, after-three, after-four, after-five}
+use Rattle.sheet_read.proofs.Sheets.{NumeralLine, PairLine, read-short, line-answers, lists, after-one, after-two, after-three, after-four, after-five}
 
 -- ---- entries
 
@@ -35,8 +35,8 @@ abbrev AllShown : {A : Type 0} → (Text → Option A) → (A → Text) → List
 AllShown entry text [] = Unit {0}
 AllShown entry text (x ∷ xs) = Shown entry text x × AllShown entry text xs
 
-number-shown : (z : ℤ) → natAbs z < numberLimit → Shown numeral decimal z
-number-shown z h =
+numeral-shown : (z : ℤ) → natAbs z < numeralLimit → Shown numeral decimal z
+numeral-shown z h =
     record {
       no-comma = decimal-lacks (byte comma) (byte-outside comma refl refl) z;
       no-newline = decimal-lacks (byte newline) (byte-outside newline refl refl) z;
@@ -51,7 +51,7 @@ pair-lacks b d m k p =
     lacks-append (byte b) (decimal (p .early)) (colon ∷ decimal (p .late)) (side (p .early))
     (ap₂ (λ (x y : Bool). not x && y) k (side (p .late)))
 
-pair-shown : (p : Pair) → natAbs (p .early) < numberLimit → natAbs (p .late) < numberLimit → Shown pair pairText p
+pair-shown : (p : Pair) → natAbs (p .early) < numeralLimit → natAbs (p .late) < numeralLimit → Shown pair pairText p
 unfolding pair pairText
 pair-shown p h k =
     record {
@@ -63,11 +63,11 @@ pair-shown p h k =
           ∙ ap₂ bothOf (numeral-reads-back (p .early) h) (numeral-reads-back (p .late) k);
     }
 
-all-numbers : (zs : List ℤ) → ((i : ℕ) → natAbs (getD zs i (pos 0)) < numberLimit) → AllShown numeral decimal zs
-all-numbers [] h = tt
-all-numbers (z ∷ zs) h = (number-shown z (h 0), all-numbers zs (λ i. h (suc i)))
+all-numerals : (zs : List ℤ) → ((i : ℕ) → natAbs (getD zs i (pos 0)) < numeralLimit) → AllShown numeral decimal zs
+all-numerals [] h = tt
+all-numerals (z ∷ zs) h = (numeral-shown z (h 0), all-numerals zs (λ i. h (suc i)))
 
-all-pairs : (ps : List Pair) → ((i : ℕ) → natAbs (getD (sideBySide ps) i (pos 0)) < numberLimit) → AllShown pair pairText ps
+all-pairs : (ps : List Pair) → ((i : ℕ) → natAbs (getD (sideBySide ps) i (pos 0)) < numeralLimit) → AllShown pair pairText ps
 unfolding sideBySide
 all-pairs [] h = tt
 all-pairs (p ∷ ps) h = (pair-shown p (h 0) (h 1), all-pairs ps (λ i. h (suc (suc i))))
@@ -121,9 +121,9 @@ module _ {A : Type 0} (entry : Text → Option A) (text : A → Text) where
     goes-on : (rest : Text) → (readLine place entry key (lineText text key xs ++ rest) then next) ≡ next (record { list = xs; rest = rest })
     goes-on rest = ap (λ (o : Outcome (Line A)). o then next) (line-answers entry place key (lineText text key xs ++ rest) (line-reads-back key k xs few h rest))
 
-abbrev numbers-go-on : (place : ℕ) (key : Text) → lacks (byte newline) key ≡ true → (zs : List ℤ) → WritableNumbers zs → (next : NumberLine → Outcome Lists) (rest : Text) →
+abbrev numerals-go-on : (place : ℕ) (key : Text) → lacks (byte newline) key ≡ true → (zs : List ℤ) → WritableNumerals zs → (next : NumeralLine → Outcome Lists) (rest : Text) →
     (readLine place numeral key (lineText decimal key zs ++ rest) then next) ≡ next (record { list = zs; rest = rest })
-numbers-go-on place key k zs w = goes-on numeral decimal place key k zs (w .few) (all-numbers zs (w .small))
+numerals-go-on place key k zs w = goes-on numeral decimal place key k zs (w .few) (all-numerals zs (w .small))
 
 abbrev pairs-go-on : (place : ℕ) (key : Text) → lacks (byte newline) key ≡ true → (ps : List Pair) → WritablePairs ps → (next : PairLine → Outcome Lists) (rest : Text) →
     (readLine place pair key (lineText pairText key ps ++ rest) then next) ≡ next (record { list = ps; rest = rest })
@@ -144,13 +144,13 @@ module _ (l : Lists) where
   abbrev after-breaks : Text
   after-breaks = lineText decimal degreesKey (l .degrees) ++ after-degrees
 
-  abbrev first : NumberLine
+  abbrev first : NumeralLine
   first = record { list = l .breaks; rest = after-breaks }
 
-  abbrev second : NumberLine
+  abbrev second : NumeralLine
   second = record { list = l .degrees; rest = after-degrees }
 
-  abbrev third : NumberLine
+  abbrev third : NumeralLine
   third = record { list = l .orders; rest = after-orders }
 
   abbrev fourth : PairLine
@@ -160,9 +160,9 @@ pub sheet-reads-back : SheetReadsBack
 unfolding sheetText fiveLines
 sheet-reads-back l b d o c p short =
     read-short (sheetText l) short
-    ∙ numbers-go-on 1 breaksKey refl (l .breaks) b (after-one lists) (after-breaks l)
-    ∙ numbers-go-on 2 degreesKey refl (l .degrees) d (after-two (lists (first l))) (after-degrees l)
-    ∙ numbers-go-on 3 ordersKey refl (l .orders) o (after-three (lists (first l) (second l))) (after-orders l)
+    ∙ numerals-go-on 1 breaksKey refl (l .breaks) b (after-one lists) (after-breaks l)
+    ∙ numerals-go-on 2 degreesKey refl (l .degrees) d (after-two (lists (first l))) (after-degrees l)
+    ∙ numerals-go-on 3 ordersKey refl (l .orders) o (after-three (lists (first l) (second l))) (after-orders l)
     ∙ pairs-go-on 4 coefsKey refl (l .coefs) c (after-four (lists (first l) (second l) (third l))) (after-coefs l)
     ∙ ap (λ (t : Text). readLine 5 numeral atKey t then after-five (lists (first l) (second l) (third l) (fourth l))) (sym (append-nil (after-coefs l)))
-    ∙ numbers-go-on 5 atKey refl (l .positions) p (after-five (lists (first l) (second l) (third l) (fourth l))) []
+    ∙ numerals-go-on 5 atKey refl (l .positions) p (after-five (lists (first l) (second l) (third l) (fourth l))) []

@@ -78,30 +78,30 @@ module _ {A : Type 0} (entry : Text → Option A) (text : Text) (place : ℕ) (k
 
 -- ---- what is left to read after the lines that are known
 -- A line of numbers, and one of pairs.
-abbrev pub NumberLine : Type 0
-NumberLine = Line ℤ
+abbrev pub NumeralLine : Type 0
+NumeralLine = Line ℤ
 
 abbrev pub PairLine : Type 0
 PairLine = Line Pair
 
 -- The five lists, from their lines.
-abbrev pub lists : NumberLine → NumberLine → NumberLine → PairLine → NumberLine → Lists
+abbrev pub lists : NumeralLine → NumeralLine → NumeralLine → PairLine → NumeralLine → Lists
 lists b d o c p = record { breaks = b .list; degrees = d .list; orders = o .list; coefs = c .list; positions = p .list }
 
 -- What is left after each line, given how the lists are made of it and of the lines to come.
-abbrev pub after-five : (NumberLine → Lists) → NumberLine → Outcome Lists
+abbrev pub after-five : (NumeralLine → Lists) → NumeralLine → Outcome Lists
 after-five make p = ended (p .rest) (make p)
 
-abbrev pub after-four : (PairLine → NumberLine → Lists) → PairLine → Outcome Lists
+abbrev pub after-four : (PairLine → NumeralLine → Lists) → PairLine → Outcome Lists
 after-four make c = readLine 5 numeral atKey (c .rest) then after-five (make c)
 
-abbrev pub after-three : (NumberLine → PairLine → NumberLine → Lists) → NumberLine → Outcome Lists
+abbrev pub after-three : (NumeralLine → PairLine → NumeralLine → Lists) → NumeralLine → Outcome Lists
 after-three make o = readLine 4 pair coefsKey (o .rest) then after-four (make o)
 
-abbrev pub after-two : (NumberLine → NumberLine → PairLine → NumberLine → Lists) → NumberLine → Outcome Lists
+abbrev pub after-two : (NumeralLine → NumeralLine → PairLine → NumeralLine → Lists) → NumeralLine → Outcome Lists
 after-two make d = readLine 3 numeral ordersKey (d .rest) then after-three (make d)
 
-abbrev pub after-one : (NumberLine → NumberLine → NumberLine → PairLine → NumberLine → Lists) → NumberLine → Outcome Lists
+abbrev pub after-one : (NumeralLine → NumeralLine → NumeralLine → PairLine → NumeralLine → Lists) → NumeralLine → Outcome Lists
 after-one make b = readLine 2 numeral degreesKey (b .rest) then after-two (make b)
 
 module _ (text : Text) (short : length text ≤ textLimit) (r : LineSpan) (found : LineAt numeral text (line numeral breaksKey text) r) where
@@ -123,7 +123,7 @@ module _ {A B : Type 0} (before : Text → Option A) (entry : Text → Option B)
   pub next-bad : r ≡ span-cases.Bad → read text ≡ refuse 10 place
   next-bad = refuse-line entry text place key (next (prev .line)) (t + 1) (prev .line .rest) (prev .spans .rest) (prev .so-far) r found
 
-module _ (text : Text) (make : NumberLine → Lists) (s t : ℕ) (prev : Reached numeral text (after-five make) s t) where
+module _ (text : Text) (make : NumeralLine → Lists) (s t : ℕ) (prev : Reached numeral text (after-five make) s t) where
   pub last-line : t + 1 ≡ length text → read text ≡ answer (make (prev .line))
   last-line e =
       prev .so-far
@@ -144,11 +144,11 @@ scan-lists text e at = rw e at
 
 refusal-scanned : (text : Text) (o : Outcome Lists) (place : ℕ) → Scanned text o (places-cases.Refused place) → o ≡ refusal 10 place
 refusal-scanned text (answer l) place h = absurd h
-refusal-scanned text (refusal number at) place h = ap₂ refusal (h .0) (h .1)
+refusal-scanned text (refusal code at) place h = ap₂ refusal (h .0) (h .1)
 
 lists-scanned : (text : Text) (outcome : Outcome Lists) (b b-end d d-end o o-end c c-end p p-end : ℕ) → Scanned text outcome (places-cases.Lists b b-end d d-end o o-end c c-end p p-end) → (l : Lists) × (outcome ≡ answer l) × ListsAt text l b b-end d d-end o o-end c c-end p p-end
 lists-scanned text (answer l) b b-end d d-end o o-end c c-end p p-end h = (l, refl, h)
-lists-scanned text (refusal number at) b b-end d d-end o o-end c c-end p p-end h = absurd h
+lists-scanned text (refusal code at) b b-end d d-end o o-end c c-end p p-end h = absurd h
 
 module _ (text : Text) (r : Places) (scanned : Scanned text (read text) r) where
   pub scanned-refusal : (place : ℕ) → r ≡ places-cases.Refused place → read text ≡ refusal 10 place

@@ -1,5 +1,5 @@
 -- The machine's form of what the definitions of reading say: the cases of the enums that the reading functions answer, with
--- the specification's number and place for those of the public one, and what the five lent buffers hold afterwards: the coefficients'
+-- the specification's code and place for those of the public one, and what the five lent buffers hold afterwards: the coefficients'
 -- buffer holds the numbers of its pairs side by side.
 use mathlib.Core.Bool.{Bool, true, false, _||_}
 use mathlib.Core.List.{List, [], _∷_, _++_}
@@ -30,12 +30,12 @@ use Rattle.sheet_read.specs.declared.Lists.the-variants as answer-cases
 
 -- What an entry of either kind stands for: a number, or a pair.
 abbrev pub Value : Entry → Type 0
-Value entry-cases.Number = ℤ
+Value entry-cases.Numeral = ℤ
 Value entry-cases.Pair = Pair
 
 -- The number or the pair that a field stands for.
 abbrev pub entryOf : (kind : Entry) → Text → Option (Value kind)
-entryOf entry-cases.Number = numeral
+entryOf entry-cases.Numeral = numeral
 entryOf entry-cases.Pair = pair
 
 -- There is one.
@@ -55,14 +55,14 @@ abbrev pub isSeparator : ℕ → Bool
 isSeparator c = eqb c comma || eqb c colon
 
 -- All numbers of a list of either kind, in their order.
-unfoldable pub numbersOf : Text → Option (List ℤ)
-numbersOf [] = some []
-numbersOf (c ∷ cs) = entries numeral (fieldsBetween isSeparator (c ∷ cs))
+unfoldable pub numeralsOf : Text → Option (List ℤ)
+numeralsOf [] = some []
+numeralsOf (c ∷ cs) = entries numeral (fieldsBetween isSeparator (c ∷ cs))
 
 -- The numbers; none where there is no list.
-abbrev pub numbers : Option (List ℤ) → List ℤ
-numbers none = []
-numbers (some zs) = zs
+abbrev pub numerals : Option (List ℤ) → List ℤ
+numerals none = []
+numerals (some zs) = zs
 
 -- A buffer with a list at its front; the cells past the list keep what they held.
 abbrev pub overwritten : List ℤ → List ℤ → List ℤ
@@ -98,13 +98,13 @@ pub record ListsAt (text : Text) (l : Lists) (b b-end d d-end o o-end c c-end p 
   pub coefs : ListAt pair text (l .coefs) c c-end
   pub positions : ListAt numeral text (l .positions) p p-end
 
--- The answer for a whole text: where the five lists stand, or the place of number 10.
+-- The answer for a whole text: where the five lists stand, or the place of code 10.
 abbrev pub Scanned : Text → Outcome Lists → Places → Type 0
 Scanned text (answer l)
     (places-cases.Lists b b-end d d-end o o-end c c-end p p-end) = ListsAt text l b b-end d d-end o o-end c c-end p p-end
 Scanned text (answer l) (places-cases.Refused place) = ⊥
-Scanned text (refusal number place) (places-cases.Lists b b-end d d-end o o-end c c-end p p-end) = ⊥
-Scanned text (refusal number place) (places-cases.Refused at) = (number ≡ 10) × (place ≡ at)
+Scanned text (refusal code place) (places-cases.Lists b b-end d d-end o o-end c c-end p p-end) = ⊥
+Scanned text (refusal code place) (places-cases.Refused at) = (code ≡ 10) × (place ≡ at)
 
 -- How many numbers the five lists have; a pair has two.
 pub record Lengths : Type 0 where
@@ -136,7 +136,7 @@ counted o = with-answer lengths o
 -- A buffer after reading: the numbers of one of the lists at its front after an answer, unchanged after a refusal.
 unfoldable pub after : (Lists → List ℤ) → Outcome Lists → List ℤ → List ℤ
 after list (answer l) before = overwritten (list l) before
-after list (refusal number place) before = before
+after list (refusal code place) before = before
 
 -- What reading ends with: the answer and all five lent buffers.
 pub record ReadEnd : Type 0 where

@@ -1,5 +1,5 @@
 -- Reading the sheet's five lines (§ 13; § 8, for the pairs of coefficients): four
--- lists of numbers and one of pairs, or number 10 with its place. What a list and a line are is said once, for entries of
+-- lists of numbers and one of pairs, or code 10 with its place. What a list and a line are is said once, for entries of
 -- either kind: the first argument reads an entry.
 use mathlib.Core.Bool.{cond}
 use mathlib.Core.List.{List, [], _∷_}

@@ -8,7 +8,7 @@ use lib.ListN.{length, getD}
 use Rattle.base_outcome.specs.Outcome.{answer}
 use Rattle.spec_spline.specs.Reading.{Pair, sideBySide}
 use Rattle.base_text.specs.Bytes.{Text, newline, comma, colon}
-use Rattle.base_text.specs.Numeral.{decimal, numberLimit}
+use Rattle.base_text.specs.Numeral.{decimal, numeralLimit}
 use Rattle.sheet_read.specs.SheetReading.{listLimit, textLimit, breaksKey, degreesKey, ordersKey, coefsKey, atKey, Lists, read}
 
 -- A pair as earlywood:latewood.
@@ -41,11 +41,11 @@ sheetText l =
 -- Numbers that a line can hold, in at most 4,096 entries.
 pub record Writable (count : ℕ) (zs : List ℤ) : Type 0 where
   pub few : count ≤ listLimit
-  pub small : (i : ℕ) → natAbs (getD zs i (pos 0)) < numberLimit
+  pub small : (i : ℕ) → natAbs (getD zs i (pos 0)) < numeralLimit
 
 -- A list of numbers that a line can hold.
-abbrev pub WritableNumbers : List ℤ → Type 0
-WritableNumbers zs = Writable (length zs) zs
+abbrev pub WritableNumerals : List ℤ → Type 0
+WritableNumerals zs = Writable (length zs) zs
 
 -- A list of pairs that a line can hold.
 abbrev pub WritablePairs : List Pair → Type 0
@@ -54,6 +54,6 @@ WritablePairs ps = Writable (length ps) (sideBySide ps)
 -- A sheet reads back to its lists.
 abbrev pub SheetReadsBack : Type 0
 SheetReadsBack =
-    (l : Lists) → WritableNumbers (l .breaks) → WritableNumbers (l .degrees) → WritableNumbers (l .orders) → WritablePairs (l .coefs)
-    → WritableNumbers (l .positions) →
+    (l : Lists) → WritableNumerals (l .breaks) → WritableNumerals (l .degrees) → WritableNumerals (l .orders) → WritablePairs (l .coefs)
+    → WritableNumerals (l .positions) →
     length (sheetText l) ≤ textLimit → read (sheetText l) ≡ answer l

@@ -8,7 +8,7 @@ ghost use Rattle.base_text.specs.Bytes.{Range, indexWhere};
 ghost use Rattle.base_text.specs.Numeral;
 ghost use Rattle.sheet_read.specs.SheetReading;
 ghost use Rattle.sheet_read.specs.SheetReading.{listOf};
-ghost use Rattle.sheet_read.specs.Machine.{entryOf, isSome, count, numbersOf, numbers, isSeparator, overwritten, LineAt, Scanned};
+ghost use Rattle.sheet_read.specs.Machine.{entryOf, isSome, count, numeralsOf, numerals, isSeparator, overwritten, LineAt, Scanned};
 ghost use Rattle.sheet_read.specs.Machine.{reply, readEnd};
 use base_text::numeral::Field;
 
@@ -20,7 +20,7 @@ pub const LIST_LIMIT: usize = 4096;
 // The most numbers of the list of coefficients, two a pair.
 pub const COEFFICIENT_NUMBERS: usize = 8192;
 
-// How many numbers the five lists have, two for each pair of coefficients, or the place of number 10.
+// How many numbers the five lists have, two for each pair of coefficients, or the place of code 10.
 pub enum Lists {
     Read(usize, usize, usize, usize, usize),
     Refused(u32),
@@ -28,7 +28,7 @@ pub enum Lists {
 
 // What the entries of a list are: numbers, or pairs earlywood:latewood.
 enum Entry {
-    Number,
+    Numeral,
     Pair,
 }
 
@@ -44,21 +44,21 @@ enum LineSpan {
     Bad,
 }
 
-// Where the five lists begin and end, or the place of number 10.
+// Where the five lists begin and end, or the place of code 10.
 enum Places {
     Lists(usize, usize, usize, usize, usize, usize, usize, usize, usize, usize),
     Refused(u32),
 }
 
 // Whether the part of the text is a numeral.
-fn is_number(text: &[u8], from: usize, to: usize) -> bool
+fn is_numeral(text: &[u8], from: usize, to: usize) -> bool
     requires { ⌜ Range (now text) from to ⌝ }
     ensures { λ r. ⌜ r ≡ isSome (Numeral.numeral (slice from to (now (text .entry)))) ⌝ }
 {
     let field = base_text::numeral::numeral(text, from, to);
     match field {
         Field::Bad => false,
-        Field::Number(_) => true,
+        Field::Numeral(_) => true,
     }
 }
 
@@ -71,10 +71,10 @@ fn is_pair(text: &[u8], from: usize, to: usize) -> bool
     if colon == to {
         return false;
     }
-    if !is_number(text, from, colon) {
+    if !is_numeral(text, from, colon) {
         return false;
     }
-    is_number(text, colon + 1, to)
+    is_numeral(text, colon + 1, to)
 }
 
 // Whether the part is an entry of this kind.
@@ -83,7 +83,7 @@ fn is_entry(text: &[u8], from: usize, to: usize, kind: Entry) -> bool
     ensures { λ r. ⌜ r ≡ isSome (entryOf kind (slice from to (now (text .entry)))) ⌝ }
 {
     match kind {
-        Entry::Number => is_number(text, from, to),
+        Entry::Numeral => is_numeral(text, from, to),
         Entry::Pair => is_pair(text, from, to),
     }
 }
@@ -148,10 +148,10 @@ fn separator(text: &[u8], from: usize, to: usize) -> usize
 // What stands between the commas and colons of such a list are numbers, so the bad case is never met.
 fn fill(text: &[u8], from: usize, to: usize, list: &mut [i32]) -> usize
     requires { ⌜ Range (now text) from to ⌝ }
-    requires { ⌜ numbersOf (slice from to (now text)) ≡ some (numbers (numbersOf (slice from to (now text)))) ⌝ }
-    requires { ⌜ length (numbers (numbersOf (slice from to (now text)))) ≤ length (now list) ⌝ }
-    ensures { λ r. ⌜ r ≡ length (numbers (numbersOf (slice from to (now (text .entry))))) ⌝ }
-    ensures { λ r. ⌜ now (list .exit) ≡ overwritten (numbers (numbersOf (slice from to (now (text .entry))))) (now (list .entry)) ⌝ }
+    requires { ⌜ numeralsOf (slice from to (now text)) ≡ some (numerals (numeralsOf (slice from to (now text)))) ⌝ }
+    requires { ⌜ length (numerals (numeralsOf (slice from to (now text)))) ≤ length (now list) ⌝ }
+    ensures { λ r. ⌜ r ≡ length (numerals (numeralsOf (slice from to (now (text .entry))))) ⌝ }
+    ensures { λ r. ⌜ now (list .exit) ≡ overwritten (numerals (numeralsOf (slice from to (now (text .entry))))) (now (list .entry)) ⌝ }
 {
     if from == to {
         return 0;
@@ -165,7 +165,7 @@ fn fill(text: &[u8], from: usize, to: usize, list: &mut [i32]) -> usize
             Field::Bad => {
                 return n;
             }
-            Field::Number(z) => {
+            Field::Numeral(z) => {
                 list[n] = z;
                 n += 1;
             }
@@ -184,19 +184,19 @@ fn scan(text: &[u8]) -> Places
     if text.len() > TEXT_LIMIT {
         return Places::Refused(0);
     }
-    let LineSpan::List(b, b_end) = line(text, 0, b"breaks=", Entry::Number) else {
+    let LineSpan::List(b, b_end) = line(text, 0, b"breaks=", Entry::Numeral) else {
         return Places::Refused(1);
     };
-    let LineSpan::List(d, d_end) = line(text, b_end + 1, b"degrees=", Entry::Number) else {
+    let LineSpan::List(d, d_end) = line(text, b_end + 1, b"degrees=", Entry::Numeral) else {
         return Places::Refused(2);
     };
-    let LineSpan::List(o, o_end) = line(text, d_end + 1, b"orders=", Entry::Number) else {
+    let LineSpan::List(o, o_end) = line(text, d_end + 1, b"orders=", Entry::Numeral) else {
         return Places::Refused(3);
     };
     let LineSpan::List(c, c_end) = line(text, o_end + 1, b"coefs=", Entry::Pair) else {
         return Places::Refused(4);
     };
-    let LineSpan::List(p, p_end) = line(text, c_end + 1, b"at=", Entry::Number) else {
+    let LineSpan::List(p, p_end) = line(text, c_end + 1, b"at=", Entry::Numeral) else {
         return Places::Refused(5);
     };
     if p_end + 1 != text.len() {
@@ -206,7 +206,7 @@ fn scan(text: &[u8]) -> Places
 }
 
 // The five lists of a sheet's text, each written to the front of its buffer, the coefficients as the numbers of their pairs
-// side by side. The text may be any bytes: after number 10 no buffer is changed.
+// side by side. The text may be any bytes: after code 10 no buffer is changed.
 pub fn read(
     text: &[u8],
     breaks: &mut [i32; LIST_LIMIT],

@@ -122,8 +122,8 @@ module _ (s : Space) (x : Accepted s) where
     pub rows-told : (r : Built) (n : ℕ) → reply r ≡ with-answer (λ _. rowCount part) (weights part) → r ≡ Rows n → n ≡ rowCount part
     rows-told r n e v = told-rows (weights part) (ap reply (sym v) ∙ e) .count
 
-    pub never-refused : (r : Built) (number place : ℕ) → reply r ≡ with-answer (λ _. rowCount part) (weights part) → r ≡ Refused number place → ⊥
-    never-refused r number place e v = answer-not-refusal part-answers (told-refused (weights part) (rowCount part) (ap reply (sym v) ∙ e))
+    pub never-refused : (r : Built) (code place : ℕ) → reply r ≡ with-answer (λ _. rowCount part) (weights part) → r ≡ Refused code place → ⊥
+    never-refused r code place e v = answer-not-refusal part-answers (told-refused (weights part) (rowCount part) (ap reply (sym v) ∙ e))
 
     -- and leaves the buffers as long as they were
     pub numerators-long : (num : List ℤ) → tableCells ≤ length num → length (numeratorsAfter (weights part) num) ≡ length num

@@ -26,7 +26,7 @@ module _ (xs : List ℤ) (n : ℕ) (ws : List Weight) (vs : List ℤ) where
   shown-prints (answer r) e =
       let same : shown (r .table) (r .values) ≡ record { rows = n; weights = ws; values = forBoth vs } = cc in
       ap (λ (a : Answered). countLine (a .rows) ++ (weightLines (a .weights) ++ (valueLines xs (a .values) ++ lowLines (sorted (lowPositions xs (a .values)))))) same
-  shown-prints (refusal number place) e = absurd (let x : _≡_ {A = ℕ} 0 1 = cc in omega arith)
+  shown-prints (refusal code place) e = absurd (let x : _≡_ {A = ℕ} 0 1 = cc in omega arith)
 
 -- ---- W1
 

@@ -77,7 +77,7 @@ module _ (l : Lists) (positive : AllPositive l) where
   outcome-printed : (o : Outcome CurveResult) → called a ≡ o → WithoutLowLines (outcomeText (a .positions) o)
   unfolding outcomeText
   outcome-printed (answer r) e = answered (r .table) (a .positions) (r .values) (printed r e)
-  outcome-printed (refusal number place) e = refused number place refl
+  outcome-printed (refusal code place) e = refused code place refl
 
 pub positive-sheets-have-no-low-lines : PositiveSheetsHaveNoLowLines
 unfolding printout readText

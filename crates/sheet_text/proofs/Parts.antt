@@ -1,5 +1,5 @@
 -- From what reading leaves to the printout of the text: the call on the lists that were read is the sheet's, and a text that
--- is not read prints number 10.
+-- is not read prints code 10.
 use mathlib.Core.Path.{_≡_, sym, ap, _∙_}
 use Prim.Native.Nat.{ℕ}
 use Rattle.base_outcome.specs.Outcome.{answer}

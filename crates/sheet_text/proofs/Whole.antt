@@ -67,21 +67,21 @@ record Counted (o : Outcome CurveResult) (n : ℕ) : Type 0 where
 reply-values : (o : Outcome CurveResult) (a : Answer) (n : ℕ) → curve.reply a ≡ returned o → a ≡ Values n → Counted o n
 unfolding curve.reply
 reply-values (answer r) a n e v = record { result = r; is = refl; count = answer-unique e (ap curve.reply v) }
-reply-values (refusal number place) a n e v = absurd (answer-not-refusal (ap curve.reply v) e)
+reply-values (refusal code place) a n e v = absurd (answer-not-refusal (ap curve.reply v) e)
 
-reply-refused : (o : Outcome CurveResult) (a : Answer) (number place : ℕ) → curve.reply a ≡ returned o → a ≡ Refused number place → o ≡ refusal number place
+reply-refused : (o : Outcome CurveResult) (a : Answer) (code place : ℕ) → curve.reply a ≡ returned o → a ≡ Refused code place → o ≡ refusal code place
 unfolding curve.reply
-reply-refused (answer r) a number place e v = absurd (answer-not-refusal e (ap curve.reply v))
-reply-refused (refusal n p) a number place e v = same (sym e ∙ ap curve.reply v)
+reply-refused (answer r) a code place e v = absurd (answer-not-refusal e (ap curve.reply v))
+reply-refused (refusal n p) a code place e v = same (sym e ∙ ap curve.reply v)
   where
-    same : _≡_ {A = Outcome ℕ} (refusal n p) (refusal number place) → _≡_ {A = Outcome CurveResult} (refusal n p) (refusal number place)
-    same z = let x : n ≡ number = cc in let y : p ≡ place = cc in ap₂ refusal x y
+    same : _≡_ {A = Outcome ℕ} (refusal n p) (refusal code place) → _≡_ {A = Outcome CurveResult} (refusal n p) (refusal code place)
+    same z = let x : n ≡ code = cc in let y : p ≡ place = cc in ap₂ refusal x y
 
 module _ (l : Arguments) (m : Answer) (e : curve.reply m ≡ returned (called l)) where
   -- a refusal is printed as it is
-  pub refused-prints : (number place : ℕ) → m ≡ Refused number place → refusalLine number place ≡ calledText l
+  pub refused-prints : (code place : ℕ) → m ≡ Refused code place → refusalLine code place ≡ calledText l
   unfolding outcomeText
-  refused-prints number place r = ap (outcomeText (l .positions)) (sym (reply-refused (called l) m number place e r))
+  refused-prints code place r = ap (outcomeText (l .positions)) (sym (reply-refused (called l) m code place e r))
 
   module _ (n : ℕ) (r : m ≡ Values n) where
     counted : Counted (called l) n

@@ -21,7 +21,7 @@ AllPositive l = (k : ℕ) → k < length (sideBySide (l .coefs)) → pos 0 <ℤ 
 
 -- A printout without a low line: a refusal alone, or n, the w lines and the v lines, and nothing after them.
 pub data WithoutLowLines (printed : Text) : Type 0 where
-  refused : (number place : ℕ) → printed ≡ refusalLine number place → WithoutLowLines printed
+  refused : (code place : ℕ) → printed ≡ refusalLine code place → WithoutLowLines printed
   answered : (t : Table) (positions : List ℤ) (values : List Pair)
       → printed ≡ countLine (length t) ++ (weightLines (tableWeights 0 t) ++ valueLines positions values) → WithoutLowLines printed
 

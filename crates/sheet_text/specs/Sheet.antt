@@ -30,7 +30,7 @@ printoutLimit = countLineLimit + weightLineLimit * (rowCells * rowLimit) + value
 -- The table of an outcome; no rows where it is refused.
 unfoldable pub tableOf : Outcome Table → Table
 tableOf (answer t) = t
-tableOf (refusal number place) = []
+tableOf (refusal code place) = []
 
 -- The w lines of a beam, "of all parts": those of its whole table.
 unfoldable pub weightsText : Space → Text
@@ -78,16 +78,16 @@ called a = curveOutcome (spaceOf a) (a .coefs) (a .positions) tableCells tableCe
 -- The printout of a call's outcome at these positions.
 unfoldable pub outcomeText : List ℤ → Outcome CurveResult → Text
 outcomeText xs (answer r) = answerText (r .table) xs (r .values)
-outcomeText xs (refusal number place) = refusalLine number place
+outcomeText xs (refusal code place) = refusalLine code place
 
 -- The printout of the call on the five lists.
 abbrev pub calledText : Arguments → Text
 calledText a = outcomeText (a .positions) (called a)
 
--- The printout of what was read: of the call on the five lists, or of number 10.
+-- The printout of what was read: of the call on the five lists, or of code 10.
 unfoldable pub readText : Outcome Lists → Text
 readText (answer l) = calledText (argumentsOf l)
-readText (refusal number place) = refusalLine number place
+readText (refusal code place) = refusalLine code place
 
 -- The printout of a sheet.
 unfoldable pub printout : Text → Text

@@ -40,7 +40,7 @@ fn build_rows(
     let built = build::parts::build_part(breaks, degrees, orders, a, b, num, den);
     match built {
         build::Built::Rows(n) => n,
-        build::Built::Refused(_number, _place) => 0,
+        build::Built::Refused(_code, _place) => 0,
     }
 }
 
@@ -162,7 +162,7 @@ fn run(
         &mut values,
     );
     match answer {
-        curve::Answer::Refused(number, place) => base_print::refusal(number, place, out),
+        curve::Answer::Refused(code, place) => base_print::refusal(code, place, out),
         curve::Answer::Values(n) => {
             let cells = 2 * n;
             put_answer(

@@ -31,7 +31,7 @@ pub every-case-published : EveryCasePublished
 unfolding gcd gcdF mk int inv _+ᵠ_ _*ᵠ_ -ᵠ_ isZero sum tab first last firstColumn identity derivativeCoefficient leftConstraint rightConstraint constraint constraints diagonal aboveDiagonal bidiagonal nullspace product constrain for smooth extraction rowWeights tableWeights cases
 every-case-published = (refl, (refl, (refl, (refl, (refl, (refl, (refl, (refl, (refl, (refl, (refl, (refl, (refl, (refl, (refl, (refl, (refl, (refl, (refl, (refl, (refl, (refl, (refl, (refl, (refl, (refl, tt))))))))))))))))))))))))))
 
--- One value cell short, number 1 comes first.
+-- One value cell short, code 1 comes first.
 pub every-case-needs-two-cells-each : EveryCaseNeedsTwoCellsEach
 unfolding capped curveOutcome cases
 every-case-needs-two-cells-each = (refl, (refl, (refl, (tt, (tt, (refl, (tt, (tt, (tt, (tt, (refl, (refl, (tt, (tt, (tt, (tt, (tt, (tt, (refl, (refl, (refl, (refl, (refl, (refl, (refl, (refl, tt))))))))))))))))))))))))))

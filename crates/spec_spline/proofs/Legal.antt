@@ -1,4 +1,4 @@
--- What the checks of a space leave: a space that none of the numbers 2 to 5 and 15 refuses has lists of lengths that fit together,
+-- What the checks of a space leave: a space that none of the codes 2 to 5 and 15 refuses has lists of lengths that fit together,
 -- segments of positive length, and at each join no more conditions than either neighbouring degree. And what the checks need.
 use mathlib.Core.Path.{_≡_, refl, _∙_, ap, ap₂, subst}
 use mathlib.Core.Bool.{Bool, true, false, cond, not, _&&_, _||_}
@@ -31,17 +31,17 @@ pub record Checked (s : Space) : Type 0 where
   pub orders : (i : ℕ) → i < segments s - 1 → badOrder s i ≡ false
   pub few : (i : ℕ) → i < segments s → tooManySegments s i ≡ false
 
-pub refuseFirst-inverts : {A : Type 0} (number : ℕ) (o : Option ℕ) (rest : Outcome A) {a : A} → refuseFirst number o rest ≡ answer a → (o ≡ none) × (rest ≡ answer a)
-refuseFirst-inverts number none rest e = (refl, e)
-refuseFirst-inverts number (some i) rest e = absurd (answer-not-refusal e refl)
+pub refuseFirst-inverts : {A : Type 0} (code : ℕ) (o : Option ℕ) (rest : Outcome A) {a : A} → refuseFirst code o rest ≡ answer a → (o ≡ none) × (rest ≡ answer a)
+refuseFirst-inverts code none rest e = (refl, e)
+refuseFirst-inverts code (some i) rest e = absurd (answer-not-refusal e refl)
 
-pub cond-refuse-inverts : {A : Type 0} (b : Bool) (number place : ℕ) (rest : Outcome A) {a : A} → cond b (refuse number place) rest ≡ answer a → (b ≡ false) × (rest ≡ answer a)
-cond-refuse-inverts true number place rest e = absurd (answer-not-refusal e refl)
-cond-refuse-inverts false number place rest e = (refl, e)
+pub cond-refuse-inverts : {A : Type 0} (b : Bool) (code place : ℕ) (rest : Outcome A) {a : A} → cond b (refuse code place) rest ≡ answer a → (b ≡ false) × (rest ≡ answer a)
+cond-refuse-inverts true code place rest e = absurd (answer-not-refusal e refl)
+cond-refuse-inverts false code place rest e = (refl, e)
 
-pub fitting-inverts : {A : Type 0} (b : Bool) (number place : ℕ) (rest : Outcome A) {a : A} → cond b rest (refuse number place) ≡ answer a → (b ≡ true) × (rest ≡ answer a)
-fitting-inverts true number place rest e = (refl, e)
-fitting-inverts false number place rest e = absurd (answer-not-refusal e refl)
+pub fitting-inverts : {A : Type 0} (b : Bool) (code place : ℕ) (rest : Outcome A) {a : A} → cond b rest (refuse code place) ≡ answer a → (b ≡ true) × (rest ≡ answer a)
+fitting-inverts true code place rest e = (refl, e)
+fitting-inverts false code place rest e = absurd (answer-not-refusal e refl)
 
 pub partEndAt-inverts : (s : Space) (o : Option ℕ) → partEndAt s o ≡ none → o ≡ none
 partEndAt-inverts s none e = refl
@@ -82,22 +82,22 @@ checked-inverts s {s′} e = finish (fitting-inverts (lengthsFit s) 2 0 _ e)
           },
         )
 
--- what holds of the number of a test holds of the number of its refusal, where it refuses by itself or before the rest
+-- what holds of the code of a test holds of the code of its refusal, where it refuses by itself or before the rest
 module _ (P : ℕ → Type 0) where
-  pub refusal-number : {A : Type 0} (n p : ℕ) {number place : ℕ} → P n → _≡_ {A = Outcome A} (refuse n p) (refusal number place) → P number
-  refusal-number n p {number} h r = let z : n ≡ number = cc in subst P z h
+  pub refusal-code : {A : Type 0} (n p : ℕ) {code place : ℕ} → P n → _≡_ {A = Outcome A} (refuse n p) (refusal code place) → P code
+  refusal-code n p {code} h r = let z : n ≡ code = cc in subst P z h
 
-  pub first-number : {A : Type 0} (n : ℕ) (o : Option ℕ) (rest : Outcome A) {number place : ℕ} → P n → (rest ≡ refusal number place → P number) → refuseFirst n o rest ≡ refusal number place → P number
-  first-number n none rest h later r = later r
-  first-number n (some i) rest h later r = refusal-number n i h r
+  pub first-code : {A : Type 0} (n : ℕ) (o : Option ℕ) (rest : Outcome A) {code place : ℕ} → P n → (rest ≡ refusal code place → P code) → refuseFirst n o rest ≡ refusal code place → P code
+  first-code n none rest h later r = later r
+  first-code n (some i) rest h later r = refusal-code n i h r
 
 -- numbers that do not clear the buffers
-pub keeping-refusal : {A : Type 0} (n p : ℕ) {number place : ℕ} → clears n ≡ false → _≡_ {A = Outcome A} (refuse n p) (refusal number place) → clears number ≡ false
-keeping-refusal n p h r = refusal-number (λ k. clears k ≡ false) n p h r
+pub keeping-refusal : {A : Type 0} (n p : ℕ) {code place : ℕ} → clears n ≡ false → _≡_ {A = Outcome A} (refuse n p) (refusal code place) → clears code ≡ false
+keeping-refusal n p h r = refusal-code (λ k. clears k ≡ false) n p h r
 
-pub keeping-first : {A : Type 0} (n : ℕ) (o : Option ℕ) (rest : Outcome A) {number place : ℕ} → clears n ≡ false → (rest ≡ refusal number place → clears number ≡ false)
-    → refuseFirst n o rest ≡ refusal number place → clears number ≡ false
-keeping-first n o rest h later r = first-number (λ k. clears k ≡ false) n o rest h later r
+pub keeping-first : {A : Type 0} (n : ℕ) (o : Option ℕ) (rest : Outcome A) {code place : ℕ} → clears n ≡ false → (rest ≡ refusal code place → clears code ≡ false)
+    → refuseFirst n o rest ≡ refusal code place → clears code ≡ false
+keeping-first n o rest h later r = first-code (λ k. clears k ≡ false) n o rest h later r
 
 -- and a space of which each test leaves its fact is the answer
 pub checked-passes : (s : Space) → Checked s → checked s ≡ answer s
@@ -110,27 +110,27 @@ checked-passes s c =
     ∙ pass 5 (first-none (badOrder s) (segments s - 1) (c .orders))
     ∙ pass 15 (first-none (tooManySegments s) (segments s) (c .few))
   where
-    pass : (number : ℕ) {o : Option ℕ} {rest : Outcome Space} → o ≡ none → refuseFirst number o rest ≡ rest
-    pass number {o} {rest} e = ap (λ q. refuseFirst number q rest) e
+    pass : (code : ℕ) {o : Option ℕ} {rest : Outcome Space} → o ≡ none → refuseFirst code o rest ≡ rest
+    pass code {o} {rest} e = ap (λ q. refuseFirst code q rest) e
 
--- what holds of the numbers 2 to 5 and 15 holds of the number of a refusal of the checks
-pub checked-number : (P : ℕ → Type 0) (s : Space) {number place : ℕ} → P 2 → P 3 → P 4 → P 5 → P 15 → checked s ≡ refusal number place → P number
+-- what holds of the codes 2 to 5 and 15 holds of the code of a refusal of the checks
+pub checked-code : (P : ℕ → Type 0) (s : Space) {code place : ℕ} → P 2 → P 3 → P 4 → P 5 → P 15 → checked s ≡ refusal code place → P code
 unfolding checked checkedEntries
-checked-number P s {number} {place} two three four five fifteen e = fitting (lengthsFit s) e
+checked-code P s {code} {place} two three four five fifteen e = fitting (lengthsFit s) e
   where
-    fitting : (b : Bool) → cond b (checkedEntries s) (refuse 2 0) ≡ refusal number place → P number
-    fitting false r = refusal-number P 2 0 two r
+    fitting : (b : Bool) → cond b (checkedEntries s) (refuse 2 0) ≡ refusal code place → P code
+    fitting false r = refusal-code P 2 0 two r
     fitting true r =
-        first-number P 3 (first (segments s + 1) (badBreak s)) _ three
-        (first-number P 3 (partEndAt s (first (segments s) (spanTooLong s))) _ three
-        (first-number P 4 (first (segments s) (badDegree s)) _ four
-        (first-number P 5 (first (segments s - 1) (badOrder s)) _ five
-        (first-number P 15 (first (segments s) (tooManySegments s)) (answer s) fifteen (λ z. absurd (answer-not-refusal refl z))))))
+        first-code P 3 (first (segments s + 1) (badBreak s)) _ three
+        (first-code P 3 (partEndAt s (first (segments s) (spanTooLong s))) _ three
+        (first-code P 4 (first (segments s) (badDegree s)) _ four
+        (first-code P 5 (first (segments s - 1) (badOrder s)) _ five
+        (first-code P 15 (first (segments s) (tooManySegments s)) (answer s) fifteen (λ z. absurd (answer-not-refusal refl z))))))
         r
 
 -- the checks give neither 8 nor 9, the numbers that clear the buffers
-pub checked-numbers : (s : Space) {number place : ℕ} → checked s ≡ refusal number place → clears number ≡ false
-checked-numbers s e = checked-number (λ k. clears k ≡ false) s refl refl refl refl refl e
+pub checked-codes : (s : Space) {code place : ℕ} → checked s ≡ refusal code place → clears code ≡ false
+checked-codes s e = checked-code (λ k. clears k ≡ false) s refl refl refl refl refl e
 
 -- What the lengths of the three lists are.
 pub record Lengths (s : Space) : Type 0 where

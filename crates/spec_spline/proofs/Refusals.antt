@@ -1,4 +1,4 @@
--- The refusals of a step and of its parts: number 8 or number 9, at the step's join and nowhere else.
+-- The refusals of a step and of its parts: code 8 or code 9, at the step's join and nowhere else.
 use mathlib.Core.Path.{_≡_, refl, sym, _∙_}
 use mathlib.Core.Logic.{_⊎_, inl, inr}
 use mathlib.Core.Bool.{Bool, true, false, cond, _&&_}
@@ -21,40 +21,40 @@ use Rattle.spec_spline.proofs.Step.{oneMore, products-none, products-sp
 -- ---- the two refusals, at join j
 
 abbrev pub Eight : ℕ → ℕ → ℕ → Type 0
-Eight j number place = (number ≡ 8) × (place ≡ capped j)
+Eight j code place = (code ≡ 8) × (place ≡ capped j)
 
 abbrev pub Nine : ℕ → ℕ → ℕ → Type 0
-Nine j number place = (number ≡ 9) × (place ≡ capped j)
+Nine j code place = (code ≡ 9) × (place ≡ capped j)
 
 abbrev pub EightOrNine : ℕ → ℕ → ℕ → Type 0
-EightOrNine j number place = ((number ≡ 8) ⊎ (number ≡ 9)) × (place ≡ capped j)
+EightOrNine j code place = ((code ≡ 8) ⊎ (code ≡ 9)) × (place ≡ capped j)
 
-refuse-is : {A : Type 0} (n j : ℕ) {number place : ℕ} → _≡_ {A = Outcome A} (refuse n j) (refusal number place) → (number ≡ n) × (place ≡ capped j)
+refuse-is : {A : Type 0} (n j : ℕ) {code place : ℕ} → _≡_ {A = Outcome A} (refuse n j) (refusal code place) → (code ≡ n) × (place ≡ capped j)
 refuse-is n j e = (cc, cc)
 
 either-8 : {A : Type 0} (j : ℕ) (o : Outcome A) → RefusedAs (Eight j) o → RefusedAs (EightOrNine j) o
-either-8 j o h number place e = let r = h number place e in (inl (r .0), r .1)
+either-8 j o h code place e = let r = h code place e in (inl (r .0), r .1)
 
 either-9 : {A : Type 0} (j : ℕ) (o : Outcome A) → RefusedAs (Nine j) o → RefusedAs (EightOrNine j) o
-either-9 j o h number place e = let r = h number place e in (inr (r .0), r .1)
+either-9 j o h code place e = let r = h code place e in (inr (r .0), r .1)
 
 -- ---- a counted fraction, and the jumps
 
 pub count-refuses-8 : (j : ℕ) (q : ℚ) → RefusedAs (Eight j) (count j q)
 unfolding count
-count-refuses-8 j q number place e = go (fits q) e
+count-refuses-8 j q code place e = go (fits q) e
   where
-    go : (b : Bool) → cond b (answer q) (refuse 8 j) ≡ refusal number place → Eight j number place
+    go : (b : Bool) → cond b (answer q) (refuse 8 j) ≡ refusal code place → Eight j code place
     go true e = absurd (answer-not-refusal refl e)
     go false e = refuse-is 8 j e
 
 products-refuse-8 : (j : ℕ) (r : Row) (s : ℚ) (es : List Entry) → RefusedAs (Eight j) (addProducts j r s es)
-products-refuse-8 j r s [] number place e = answer-refused (Eight j) s number place (sym (products-none j r s) ∙ e)
-products-refuse-8 j r s (e ∷ es) number place k =
+products-refuse-8 j r s [] code place e = answer-refused (Eight j) s code place (sym (products-none j r s) ∙ e)
+products-refuse-8 j r s (e ∷ es) code place k =
     then-refused (Eight j) (oneMore j r s e) (λ t. addProducts j r t es)
     (then-refused (Eight j) (count j (entry r (e .column) *ᵠ int (e .condition))) (λ p. count j (s +ᵠ p)) (count-refuses-8 j (entry r (e .column) *ᵠ int (e .condition))) (λ p h. count-refuses-8 j (s +ᵠ p)))
     (λ t h. products-refuse-8 j r t es)
-    number
+    code
     place
     (sym (products-split j r s e es) ∙ k)
 
@@ -68,13 +68,13 @@ jumps-refuse-8 j κ t = collect-refused (Eight j) (length t) (λ i. jump j κ (r
 
 pub span-refuses-9 : (j : ℕ) (js : List ℚ) → RefusedAs (Nine j) (span j js)
 unfolding span
-span-refuses-9 j js number place e = go (first (length js) (jumpsAt js)) (last (length js) (jumpsAt js)) e
+span-refuses-9 j js code place e = go (first (length js) (jumpsAt js)) (last (length js) (jumpsAt js)) e
   where
-    ends : (f l : ℕ) (b : Bool) → cond b (refuse {A = Span} 9 j) (answer (record { f = f; l = l })) ≡ refusal number place → Nine j number place
+    ends : (f l : ℕ) (b : Bool) → cond b (refuse {A = Span} 9 j) (answer (record { f = f; l = l })) ≡ refusal code place → Nine j code place
     ends f l true h = refuse-is 9 j h
     ends f l false h = absurd (answer-not-refusal refl h)
 
-    go : (a b : Option ℕ) → spanOf j js a b ≡ refusal number place → Nine j number place
+    go : (a b : Option ℕ) → spanOf j js a b ≡ refusal code place → Nine j code place
     go none b h = refuse-is 9 j h
     go (some f) none h = refuse-is 9 j h
     go (some f) (some l) h = ends f l (zeroBetween js f l) h
@@ -85,9 +85,9 @@ factor-refuses j s q = then-refused (EightOrNine j) (count j s) (quotientTested 
     (λ a h. then-refused (EightOrNine j) (count j (a /ᵠ q)) (tested j) (either-8 j (count j (a /ᵠ q)) (count-refuses-8 j (a /ᵠ q))) (λ w k. outside w))
   where
     outside : (w : ℚ) → RefusedAs (EightOrNine j) (tested j w)
-    outside w number place e = go (ltᵠ (int (pos 0)) w && ltᵠ w (int (pos 1))) e
+    outside w code place e = go (ltᵠ (int (pos 0)) w && ltᵠ w (int (pos 1))) e
       where
-        go : (b : Bool) → cond b (answer w) (refuse 9 j) ≡ refusal number place → EightOrNine j number place
+        go : (b : Bool) → cond b (answer w) (refuse 9 j) ≡ refusal code place → EightOrNine j code place
         go true e = absurd (answer-not-refusal refl e)
         go false e = let r = refuse-is 9 j e in (inr (r .0), r .1)
 

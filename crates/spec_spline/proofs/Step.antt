@@ -57,7 +57,7 @@ module _ (j : ℕ) (r : Row) where
   pub products-more : (s : ℚ) (e : Entry) (es : List Entry) {t : ℚ} → oneMore s e ≡ answer t → addProducts j r s (e ∷ es) ≡ addProducts j r t es
   products-more s e es h = products-split s e es ∙ then-answers (λ t. addProducts j r t es) h
 
-  pub products-refused : (s : ℚ) (e : Entry) (es : List Entry) {number place : ℕ} → oneMore s e ≡ refusal number place → addProducts j r s (e ∷ es) ≡ refusal number place
+  pub products-refused : (s : ℚ) (e : Entry) (es : List Entry) {code place : ℕ} → oneMore s e ≡ refusal code place → addProducts j r s (e ∷ es) ≡ refusal code place
   products-refused s e es h = products-split s e es ∙ then-refuses (λ t. addProducts j r t es) h
 
 -- ---- a factor, from the partial sum s and the jump q: what ends it, and its answer

@@ -21,7 +21,7 @@ orderSteps s j n t = repeat n (λ k. step j (conditions s j k)) t
 unfoldable pub joinSteps : Space → ℕ → Outcome Table
 joinSteps s n = repeat n (λ j. orderSteps s j (conditionCount s j)) (identity (columnCount s))
 
--- The weights of a legal space, or number 8 or 9.
+-- The weights of a legal space, or code 8 or 9.
 unfoldable pub weights : Space → Outcome Table
 weights s = joinSteps s (segments s - 1)
 
@@ -29,7 +29,7 @@ weights s = joinSteps s (segments s - 1)
 unfoldable pub spaceWeights : Space → Outcome Table
 spaceWeights s = checked s then weights
 
--- Number 1: the place of the first buffer with fewer than 5,184 cells.
+-- Code 1: the place of the first buffer with fewer than 5,184 cells.
 abbrev pub longEnough : {A : Type 0} → ℕ → ℕ → Outcome A → Outcome A
 longEnough numLength denLength rest = cond (ltb numLength tableCells) (refuse 1 0) (cond (ltb denLength tableCells) (refuse 1 1) rest)
 
@@ -43,18 +43,18 @@ lastPart s t = let a = lastPartStart s in map (drop (firstColumn s a)) (drop (ro
 
 -- "After 8 or 9 the 5,184 cells are all 0/1": the buffers are cleared.
 abbrev pub clears : ℕ → Bool
-clears number = eqb number 8 || eqb number 9
+clears code = eqb code 8 || eqb code 9
 
 -- The numerators after the call, given the table that they are to hold: the table's, cleared after 8 or 9, unchanged after the other
 -- refusals.
 unfoldable pub numeratorsAfter : Outcome Table → List ℤ → List ℤ
 numeratorsAfter (answer t) before = numerators t before
-numeratorsAfter (refusal number place) before = cond (clears number) (numerators [] before) before
+numeratorsAfter (refusal code place) before = cond (clears code) (numerators [] before) before
 
 -- The denominators after the call, likewise.
 unfoldable pub denominatorsAfter : Outcome Table → List ℤ → List ℤ
 denominatorsAfter (answer t) before = denominators t before
-denominatorsAfter (refusal number place) before = cond (clears number) (denominators [] before) before
+denominatorsAfter (refusal code place) before = cond (clears code) (denominators [] before) before
 
 -- What a call of the build ends with: the answer and both lent buffers.
 pub record BuildEnd : Type 0 where

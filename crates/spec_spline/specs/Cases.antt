@@ -277,7 +277,7 @@ withPublished c = with-answer (λ r. shown (extraction (c .space)) (r .values)) 
 abbrev pub AsPublished : Case → Type 0
 AsPublished c = withPublished c ≡ c .ends
 
--- With one value cell less than two a position the call ends with number 1, place 2.
+-- With one value cell less than two a position the call ends with code 1, place 2.
 abbrev pub NeedsTwoCellsEach : Space → Call → Type 0
 NeedsTwoCellsEach s building = Unit {0}
 NeedsTwoCellsEach s (curve coefs positions) = curveOutcome s coefs positions tableCells tableCells (2 * length positions - 1) ≡ refusal 1 2

@@ -1,5 +1,5 @@
 -- The curve call (§ 1, § 3; § 8): what it ends with, and
--- what the three lent buffers hold afterwards. The refusals are tested in number order, within a number by place.
+-- what the three lent buffers hold afterwards. The refusals are tested in the order of the codes, within a code by place.
 use mathlib.Core.Bool.{Bool, cond, not}
 use mathlib.Core.List.{List, _++_}
 use Prim.Native.Nat.{ℕ, _*_, _/_}
@@ -22,21 +22,21 @@ positionLimit = 4096
 abbrev pub coefficientLimit : ℕ
 coefficientLimit = 1000000
 
--- Number 6: entry i is out of range.
+-- Code 6: entry i is out of range.
 unfoldable pub badCoefficient : List ℤ → ℕ → Bool
 badCoefficient coefs i = not (between (negℤ (pos coefficientLimit)) (pos coefficientLimit) (getD coefs i (pos 0)))
 
--- Number 7: entry i is below 256·x0 or above 256·xm.
+-- Code 7: entry i is below 256·x0 or above 256·xm.
 unfoldable pub badPosition : Space → List ℤ → ℕ → Bool
 badPosition s positions i = not (between (fine (break s 0)) (fine (break s (segments s))) (getD positions i (pos 0)))
 
--- Number 1, all three places, or the value given; it "counts two cells a position".
+-- Code 1, all three places, or the value given; it "counts two cells a position".
 abbrev pub allLongEnough : {A : Type 0} → List ℤ → ℕ → ℕ → ℕ → Outcome A → Outcome A
 allLongEnough positions numLength denLength valuesLength rest =
     longEnough numLength denLength
     (cond (ltb (valuesLength / 2) (length positions)) (refuse 1 2) rest)
 
--- Numbers 6 and 7 of a legal space, or the value given. 6 counts and places the "2n numbers" singly; the count is tested first
+-- Codes 6 and 7 of a legal space, or the value given. 6 counts and places the "2n numbers" singly; the count is tested first
 -- and has the largest place.
 abbrev pub legalEntries : {A : Type 0} → Space → List ℤ → List ℤ → Outcome A → Outcome A
 legalEntries s coefs positions rest =
@@ -88,7 +88,7 @@ curveDenominators s o before = denominatorsAfter (heldBy s o) before
 -- held are those past twice that count"; unchanged after every refusal.
 unfoldable pub valuesAfter : Outcome CurveResult → List ℤ → List ℤ
 valuesAfter (answer r) before = sideBySide (r .values) ++ drop (2 * length (r .values)) before
-valuesAfter (refusal number place) before = before
+valuesAfter (refusal code place) before = before
 
 -- What a curve call ends with: the answer and all three lent buffers.
 pub record CurveEnd : Type 0 where

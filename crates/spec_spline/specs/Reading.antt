@@ -37,7 +37,7 @@ startsBy s x i = cond (startsAtDiscontinuity s i) (ltZ (fine (break s i)) x) (le
 
 -- "A position belongs to the last stretch that starts at or before it", and "exactly on" a discontinuity "to the stretch
 -- that ends there" (§ 6). The last breakpoint, where no segment starts, thereby belongs to the last one. Before
--- the first breakpoint, where number 7 refuses, it is segment 0.
+-- the first breakpoint, where code 7 refuses, it is segment 0.
 unfoldable pub segmentAt : Space → ℤ → ℕ
 segmentAt s x = Option·getD (last (segments s) (startsBy s x)) 0
 

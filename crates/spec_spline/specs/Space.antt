@@ -55,12 +55,12 @@ spanLimit = 2000
 abbrev pub degreeLimit : ℕ
 degreeLimit = 5
 
--- Number 2, place 0: the lengths are m + 1, m and m - 1 for one m in 1 to 48.
+-- Code 2, place 0: the lengths are m + 1, m and m - 1 for one m in 1 to 48.
 unfoldable pub lengthsFit : Space → Bool
 lengthsFit s = leb 1 (segments s) && leb (segments s) segmentLimit && eqb (length (s .breaks)) (segments s + 1)
     && eqb (length (s .orders) + 1) (segments s)
 
--- Number 3: out of -10,000 to 10,000, or not above the one before.
+-- Code 3: out of -10,000 to 10,000, or not above the one before.
 unfoldable pub badBreak : Space → ℕ → Bool
 badBreak s zero = not (between (negℤ (pos breakLimit)) (pos breakLimit) (break s zero))
 badBreak s (suc i) = not (between (negℤ (pos breakLimit)) (pos breakLimit) (break s (suc i))) || leZ (break s (suc i)) (break s i)
@@ -86,24 +86,24 @@ partEnd s i = Option·getD (first (segments s) (λ k. ltb i k && startsPart s k)
 unfoldable pub lastPartStart : Space → ℕ
 lastPartStart s = Option·getD (last (segments s) (startsPart s)) 0
 
--- Number 3, at its last breakpoint: the part that starts with segment i has a span over 2,000.
+-- Code 3, at its last breakpoint: the part that starts with segment i has a span over 2,000.
 unfoldable pub spanTooLong : Space → ℕ → Bool
 spanTooLong s i = startsPart s i && ltZ (pos spanLimit) (break s (partEnd s i) -ℤ break s i)
 
--- Number 15: the part that starts with segment i has more than 12 segments.
+-- Code 15: the part that starts with segment i has more than 12 segments.
 unfoldable pub tooManySegments : Space → ℕ → Bool
 tooManySegments s i = startsPart s i && ltb partSegmentLimit (partEnd s i - i)
 
--- Number 4: out of 1 to 5.
+-- Code 4: out of 1 to 5.
 unfoldable pub badDegree : Space → ℕ → Bool
 badDegree s i = not (between (pos 1) (pos degreeLimit) (degreeEntry s i))
 
--- Number 5: out of -1 to 2, or above the smaller neighbouring degree minus 1.
+-- Code 5: out of -1 to 2, or above the smaller neighbouring degree minus 1.
 unfoldable pub badOrder : Space → ℕ → Bool
 badOrder s i = not (between (negℤ (pos 1)) (pos 2) (order s i)) || leZ (degreeEntry s i) (order s i)
     || leZ (degreeEntry s (suc i)) (order s i)
 
--- Number 2, place 0, or the value given.
+-- Code 2, place 0, or the value given.
 abbrev pub fitting : {A : Type 0} → Space → Outcome A → Outcome A
 fitting s rest = cond (lengthsFit s) rest (refuse 2 0)
 

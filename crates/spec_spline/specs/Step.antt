@@ -15,7 +15,7 @@ use Rattle.base_outcome.specs.Search.{first, last, found}
 use Rattle.spec_spline.specs.Conditions.{Entry}
 use Rattle.spec_spline.specs.Table.{Row, Table, entry, row}
 
--- A counted fraction: number 8 where it is too large.
+-- A counted fraction: code 8 where it is too large.
 unfoldable pub count : ℕ → ℚ → Outcome ℚ
 count j q = cond (fits q) (answer q) (refuse 8 j)
 
@@ -58,7 +58,7 @@ span j js = spanOf j js (first (length js) (jumpsAt js)) (last (length js) (jump
 unfoldable pub partialSum : List ℚ → ℕ → ℕ → ℚ
 partialSum js f i = sum (suc i - f) (λ d. entry js (f + d))
 
--- The factor from S and the jump: "each S, then its w, tested for 8 before 9"; number 9 where w is not strictly between 0 and 1.
+-- The factor from S and the jump: "each S, then its w, tested for 8 before 9"; code 9 where w is not strictly between 0 and 1.
 unfoldable pub quotientFactor : ℕ → ℚ → ℚ → Outcome ℚ
 quotientFactor j s q =
     count j s then λ s.

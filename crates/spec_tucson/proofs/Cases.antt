@@ -9,7 +9,7 @@ use Rattle.base_outcome.specs.Outcome.{Outcome, answer, refusal, capped}
 use Rattle.base_text.specs.Bytes.{bytes, lines, cut, beginsWith}
 use Rattle.base_text.specs.Numeral.{allDigits, digitsValue, isNatural, numeral, digitsUpTo, digits, decimal}
 use Rattle.spec_tucson.specs.Columns.{inColumns, columns}
-use Rattle.spec_tucson.specs.Line.{linesOf, allPrintable, allBlank, isName, fieldNumbers, columnsFit, lineInColumns, lineOf, yearInDecade, withinDecade, isWidth, fieldsAllowed, goodLine}
+use Rattle.spec_tucson.specs.Line.{linesOf, allPrintable, allBlank, isName, fieldNumerals, columnsFit, lineInColumns, lineOf, yearInDecade, withinDecade, isWidth, fieldsAllowed, goodLine}
 use Rattle.spec_tucson.specs.Series.{Series, allHundredths, fromHundredths, closedBy}
 use Rattle.spec_tucson.specs.TextReading.{goesOn, yearFollows, lastField, closing, lineStep, readLine, readLines, readText}
 use Rattle.spec_tucson.specs.ReadCall.{namesOf, yearsOf, countsOf, widthsOf, roomFor, readOutcome, filled, readEnd}
@@ -33,15 +33,15 @@ good-texts :
     × Reads ("ABC01   1903   120  9999   999" ∷ []) (answer (series "ABC01   " (pos 1903) (pos 1200 ∷ pos 99990 ∷ []) ∷ []))
     × Reads (" A B C    -1 99999" ∷ " A B C     0   999 -9999" ∷ []) (answer (series " A B C  " (negℤ (pos 1)) (pos 99999 ∷ pos 999 ∷ []) ∷ []))
     × Reads ("ABC01   -999   999" ∷ "ABC02   9999 -9999" ∷ "ABC01      0   999" ∷ []) (answer (series "ABC01   " (negℤ (pos 999)) [] ∷ series "ABC02   " (pos 9999) [] ∷ series "ABC01   " (pos 0) [] ∷ []))
-unfolding bytes lines cut beginsWith allDigits digitsValue isNatural numeral inColumns linesOf allPrintable allBlank isName fieldNumbers columnsFit lineInColumns lineOf yearInDecade withinDecade isWidth fieldsAllowed goodLine allHundredths fromHundredths closedBy goesOn yearFollows lastField closing lineStep readLine readLines readText
+unfolding bytes lines cut beginsWith allDigits digitsValue isNatural numeral inColumns linesOf allPrintable allBlank isName fieldNumerals columnsFit lineInColumns lineOf yearInDecade withinDecade isWidth fieldsAllowed goodLine allHundredths fromHundredths closedBy goesOn yearFollows lastField closing lineStep readLine readLines readText
 good-texts = (refl, refl, refl, refl, refl)
 
 -- a decade's end: the last width on its last year, the closing on the next line
 decade-end : Reads ("ABC01   1908     7     8" ∷ "ABC01   1910   999" ∷ []) (answer (series "ABC01   " (pos 1908) (pos 70 ∷ pos 80 ∷ []) ∷ []))
-unfolding bytes lines cut beginsWith allDigits digitsValue isNatural numeral inColumns linesOf allPrintable allBlank isName fieldNumbers columnsFit lineInColumns lineOf yearInDecade withinDecade isWidth fieldsAllowed goodLine allHundredths fromHundredths closedBy goesOn yearFollows lastField closing lineStep readLine readLines readText capped
+unfolding bytes lines cut beginsWith allDigits digitsValue isNatural numeral inColumns linesOf allPrintable allBlank isName fieldNumerals columnsFit lineInColumns lineOf yearInDecade withinDecade isWidth fieldsAllowed goodLine allHundredths fromHundredths closedBy goesOn yearFollows lastField closing lineStep readLine readLines readText capped
 decade-end = refl
 
--- number 11: no field, a column over, a name of blanks, a year that is no number, -9999 before the line's and before the series'
+-- code 11: no field, a column over, a name of blanks, a year that is no number, -9999 before the line's and before the series'
 -- end, a negative field, over 99,999, past the decade, past it below 0, an empty line
 elevens :
     Reads ("ABC01   1903" ∷ []) (refusal 11 1)
@@ -55,29 +55,29 @@ elevens :
     × Reads ("ABC01   1908   999" ∷ "ABC02   1908     1     2   999" ∷ []) (refusal 11 2)
     × Reads ("ABC01     -1     1   999" ∷ []) (refusal 11 1)
     × Reads ("ABC01   1908   999" ∷ "" ∷ []) (refusal 11 2)
-unfolding bytes lines cut beginsWith allDigits digitsValue isNatural numeral inColumns linesOf allPrintable allBlank isName fieldNumbers columnsFit lineInColumns lineOf yearInDecade withinDecade isWidth fieldsAllowed goodLine allHundredths fromHundredths closedBy goesOn yearFollows lastField closing lineStep readLine readLines readText capped
+unfolding bytes lines cut beginsWith allDigits digitsValue isNatural numeral inColumns linesOf allPrintable allBlank isName fieldNumerals columnsFit lineInColumns lineOf yearInDecade withinDecade isWidth fieldsAllowed goodLine allHundredths fromHundredths closedBy goesOn yearFollows lastField closing lineStep readLine readLines readText capped
 elevens = (refl, refl, refl, refl, refl, refl, refl, refl, refl, refl, refl)
 
 -- a last line without byte 10
 unended : readText (bytes "ABC01   1903 -9999") ≡ refusal 11 1
-unfolding bytes cut beginsWith allDigits digitsValue isNatural numeral inColumns linesOf allPrintable allBlank isName fieldNumbers columnsFit lineInColumns lineOf yearInDecade withinDecade isWidth fieldsAllowed goodLine goesOn readLine readLines readText capped
+unfolding bytes cut beginsWith allDigits digitsValue isNatural numeral inColumns linesOf allPrintable allBlank isName fieldNumerals columnsFit lineInColumns lineOf yearInDecade withinDecade isWidth fieldsAllowed goodLine goesOn readLine readLines readText capped
 unended = refl
 
--- number 12: not the next year, the next year without a 0 at its end
+-- code 12: not the next year, the next year without a 0 at its end
 twelves :
     Reads ("ABC01   1908     7     8" ∷ "ABC01   1920   999" ∷ []) (refusal 12 2)
     × Reads ("ABC01   1908     7" ∷ "ABC01   1909   999" ∷ []) (refusal 12 2)
-unfolding bytes lines cut beginsWith allDigits digitsValue isNatural numeral inColumns linesOf allPrintable allBlank isName fieldNumbers columnsFit lineInColumns lineOf yearInDecade withinDecade isWidth fieldsAllowed goodLine allHundredths fromHundredths closedBy goesOn yearFollows lastField closing lineStep readLine readLines readText capped
+unfolding bytes lines cut beginsWith allDigits digitsValue isNatural numeral inColumns linesOf allPrintable allBlank isName fieldNumerals columnsFit lineInColumns lineOf yearInDecade withinDecade isWidth fieldsAllowed goodLine allHundredths fromHundredths closedBy goesOn yearFollows lastField closing lineStep readLine readLines readText capped
 twelves = (refl, refl)
 
--- number 13: a last line without a closing, 999 after a width over 9,999 on an earlier line, and a series that the next line,
+-- code 13: a last line without a closing, 999 after a width over 9,999 on an earlier line, and a series that the next line,
 -- which has its name and is malformed, keeps open: 11 on that line
 thirteens :
     Reads ("ABC01   1908     7" ∷ "ABC02   1909   999" ∷ []) (refusal 13 1)
     × Reads ("ABC01   1909 10000" ∷ "ABC01   1910   999" ∷ []) (refusal 13 2)
     × Reads ("ABC01   1909     7" ∷ "ABC01   " ∷ []) (refusal 11 2)
     × Reads ("ABC01   1909     7" ∷ "ABC01  " ∷ []) (refusal 13 1)
-unfolding bytes lines cut beginsWith allDigits digitsValue isNatural numeral inColumns linesOf allPrintable allBlank isName fieldNumbers columnsFit lineInColumns lineOf yearInDecade withinDecade isWidth fieldsAllowed goodLine allHundredths fromHundredths closedBy goesOn yearFollows lastField closing lineStep readLine readLines readText capped
+unfolding bytes lines cut beginsWith allDigits digitsValue isNatural numeral inColumns linesOf allPrintable allBlank isName fieldNumerals columnsFit lineInColumns lineOf yearInDecade withinDecade isWidth fieldsAllowed goodLine allHundredths fromHundredths closedBy goesOn yearFollows lastField closing lineStep readLine readLines readText capped
 thirteens = (refl, refl, refl, refl)
 
 -- ---- the read call: an answer with later cells kept, and a buffer too short
@@ -88,7 +88,7 @@ read-calls :
     ≡ record { answers = refusal 1 0; names = bytes "......."; years = pos 1 ∷ []; counts = 5 ∷ []; widths = pos 3 ∷ [] })
     × (readEnd (lines ("ABC01   1908     7   999" ∷ [])) (bytes "........") (pos 1 ∷ []) (5 ∷ []) []
     ≡ record { answers = refusal 1 0; names = bytes "........"; years = pos 1 ∷ []; counts = 5 ∷ []; widths = [] })
-unfolding bytes lines cut beginsWith allDigits digitsValue isNatural numeral inColumns linesOf allPrintable allBlank isName fieldNumbers columnsFit lineInColumns lineOf yearInDecade withinDecade isWidth fieldsAllowed goodLine allHundredths fromHundredths closedBy goesOn yearFollows lastField closing lineStep readLine readLines readText capped namesOf yearsOf countsOf widthsOf roomFor readOutcome filled
+unfolding bytes lines cut beginsWith allDigits digitsValue isNatural numeral inColumns linesOf allPrintable allBlank isName fieldNumerals columnsFit lineInColumns lineOf yearInDecade withinDecade isWidth fieldsAllowed goodLine allHundredths fromHundredths closedBy goesOn yearFollows lastField closing lineStep readLine readLines readText capped namesOf yearsOf countsOf widthsOf roomFor readOutcome filled
 read-calls = (refl, refl, refl)
 
 -- ---- writing
@@ -110,14 +110,14 @@ written-texts = (refl, refl, refl, refl)
 
 -- The call with a buffer of twenty cells refuses so.
 abbrev Refuses : String → List ℤ → List ℕ → List ℤ → ℕ → ℕ → Type 0
-Refuses names years counts widths number place = writeEnd (bytes names) years counts widths (bytes "....................") ≡ record { answers = refusal number place; text = bytes "...................." }
+Refuses names years counts widths code place = writeEnd (bytes names) years counts widths (bytes "....................") ≡ record { answers = refusal code place; text = bytes "...................." }
 
 write-answers : writeEnd (bytes "ABC01   ") (pos 1908 ∷ []) (0 ∷ []) [] (bytes "....................") ≡ record { answers = answer 19; text = bytes "ABC01   1908 -9999\n." }
 unfolding bytes beginsWith digitsUpTo digits decimal columns allPrintable allBlank isName yearInDecade isWidth inLines linesFrom seriesLines fieldsText lineText linesText written yearsFit allWidths isWritable firstUnwritable total listsFit seriesOf seriesOutcome writeOutcome textAfter
 write-answers = refl
 
--- number 2: seven bytes, two years, two counts, a width too many; number 11: a name of blanks, a tab, a first year, the closing's
--- line, a negative width, a width too large, a name again; number 1
+-- code 2: seven bytes, two years, two counts, a width too many; code 11: a name of blanks, a tab, a first year, the closing's
+-- line, a negative width, a width too large, a name again; code 1
 write-refuses :
     Refuses "ABC01  " (pos 1908 ∷ []) (0 ∷ []) [] 2 0
     × Refuses "ABC01   " (pos 1908 ∷ pos 1908 ∷ []) (0 ∷ []) [] 2 0

@@ -1,5 +1,5 @@
 -- A line of a Tucson file (§ 14): "a series name in columns 1 to 8 (printable ASCII, not all blank),
--- a year in 9 to 12, then one to ten fields of six columns", "ended by byte 10", and number 11's tests of one line.
+-- a year in 9 to 12, then one to ten fields of six columns", "ended by byte 10", and code 11's tests of one line.
 use mathlib.Core.Bool.{Bool, true, cond, _&&_, _||_, not}
 use mathlib.Core.List.{List, [], _∷_}
 use mathlib.Core.Option.{Option, some, none}
@@ -76,9 +76,9 @@ withField (some f) none = none
 withField (some f) (some fs) = some (f ∷ fs)
 
 -- The numbers of so many fields, if each is one.
-unfoldable pub fieldNumbers : ℕ → Text → Option (List ℤ)
-fieldNumbers zero t = some []
-fieldNumbers (suc n) t = withField (inColumns (take fieldColumns t)) (fieldNumbers n (drop fieldColumns t))
+unfoldable pub fieldNumerals : ℕ → Text → Option (List ℤ)
+fieldNumerals zero t = some []
+fieldNumerals (suc n) t = withField (inColumns (take fieldColumns t)) (fieldNumerals n (drop fieldColumns t))
 
 -- How many fields there are after the name and the year.
 abbrev pub fieldCount : Text → ℕ
@@ -90,18 +90,18 @@ columnsFit body = eqb (length body) (nameColumns + yearColumns + fieldCount body
     && leb (fieldCount body) decade
 
 -- The line with this name, if the year and the fields are numbers.
-abbrev pub withNumbers : Text → Option ℤ → Option (List ℤ) → Option Line
-withNumbers name none fs = none
-withNumbers name (some y) none = none
-withNumbers name (some y) (some fs) = some (record { name = name; year = y; fields = fs })
+abbrev pub withNumerals : Text → Option ℤ → Option (List ℤ) → Option Line
+withNumerals name none fs = none
+withNumerals name (some y) none = none
+withNumerals name (some y) (some fs) = some (record { name = name; year = y; fields = fs })
 
 -- The line of these columns, the byte 10 left out.
 unfoldable pub lineInColumns : Text → Option Line
 lineInColumns body =
     cond (columnsFit body && isName (take nameColumns body))
-    (withNumbers (take nameColumns body)
+    (withNumerals (take nameColumns body)
     (inColumns (take yearColumns (drop nameColumns body)))
-    (fieldNumbers (fieldCount body) (drop (nameColumns + yearColumns) body)))
+    (fieldNumerals (fieldCount body) (drop (nameColumns + yearColumns) body)))
     none
 
 -- The line of what stands before byte 10, if that byte is there.
@@ -140,13 +140,13 @@ fieldsAllowed last [] = true
 fieldsAllowed last (f ∷ []) = isWidth f || (last && same f thousandths)
 fieldsAllowed last (f ∷ g ∷ fs) = isWidth f && fieldsAllowed last (g ∷ fs)
 
--- ---- number 11
+-- ---- code 11
 
 -- A well-formed line, if it ends within its decade and its fields are allowed.
 abbrev pub ifAllowed : Bool → Option Line → Option Line
 ifAllowed last none = none
 ifAllowed last (some l) = cond (withinDecade l && fieldsAllowed last (l .fields)) (some l) none
 
--- The line of these bytes, its series' last or not, if none of number 11's tests refuses it.
+-- The line of these bytes, its series' last or not, if none of code 11's tests refuses it.
 unfoldable pub goodLine : Bool → Text → Option Line
 goodLine last t = ifAllowed last (lineOf t)

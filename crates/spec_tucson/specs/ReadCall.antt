@@ -52,7 +52,7 @@ overwritten xs before = xs ++ drop (length xs) before
 -- A buffer after the call: a list of the series at its front after an answer, unchanged after a refusal.
 unfoldable pub filled : {A : Type 0} → (List Series → List A) → Outcome (List Series) → List A → List A
 filled list (answer ss) before = overwritten (list ss) before
-filled list (refusal number place) before = before
+filled list (refusal code place) before = before
 
 -- What a read call ends with: the answer and all four lent buffers.
 pub record ReadEnd : Type 0 where

@@ -31,7 +31,7 @@ begunBy (some b) l = b
 abbrev pub nextYear : Begun → ℤ
 nextYear b = b .firstYear +ℤ pos (length (b .widths))
 
--- Number 12: "a later line's year isn't the next one or doesn't end in 0".
+-- Code 12: "a later line's year isn't the next one or doesn't end in 0".
 unfoldable pub yearFollows : Option Begun → Line → Bool
 yearFollows none l = true
 yearFollows (some b) l = same (l .year) (nextYear b) && eqb (yearInDecade (l .year)) 0
@@ -56,7 +56,7 @@ abbrev pub wholeSeries : ℕ → Text → ℤ → Option (List ℤ) → Outcome 
 wholeSeries place name year none = refuse 13 place
 wholeSeries place name year (some ws) = answer (closed (record { name = name; firstYear = year; widths = ws }))
 
--- Number 13 on a series' last line, or the series that its last field closes.
+-- Code 13 on a series' last line, or the series that its last field closes.
 unfoldable pub closing : ℕ → Begun → Line → Outcome Step
 closing place b l = wholeSeries place (l .name) (b .firstYear) (closedBy (lastField (l .fields)) (b .widths ++ dropLast (l .fields)))
 
@@ -67,12 +67,12 @@ lineStep place b more l =
     (cond more (answer (opened (extended (begunBy b l) l))) (closing place (begunBy b l) l))
     (refuse 12 place)
 
--- Number 11, or what a good line leaves.
+-- Code 11, or what a good line leaves.
 abbrev pub ifGood : ℕ → Option Begun → Bool → Option Line → Outcome Step
 ifGood place b more none = refuse 11 place
 ifGood place b more (some l) = lineStep place b more l
 
--- The tests of the line at this place, in number order, and what it leaves.
+-- The tests of the line at this place, in the order of the codes, and what it leaves.
 unfoldable pub readLine : ℕ → Option Begun → Bool → Text → Outcome Step
 readLine place b more t = ifGood place b more (goodLine (not more) t)
 

@@ -46,7 +46,7 @@ writeOutcome names years counts widths textLength =
 -- The text's buffer after the call: the text at its front after an answer, unchanged after a refusal.
 unfoldable pub textAfter : Outcome Text → Text → Text
 textAfter (answer t) before = overwritten t before
-textAfter (refusal number place) before = before
+textAfter (refusal code place) before = before
 
 -- What a write call ends with: the answer and the lent buffer.
 pub record WriteEnd : Type 0 where

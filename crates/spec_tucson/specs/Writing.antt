@@ -56,7 +56,7 @@ unfoldable pub written : List Series → Text
 written [] = []
 written (s ∷ ss) = linesText (seriesLines s) ++ written ss
 
--- ---- number 11
+-- ---- code 11
 
 -- The least year that four columns hold.
 abbrev pub leastYear : ℤ

@@ -1,6 +1,6 @@
 -- The theorems at some spaces, with numbers: one of order 1 whose counted fractions nearly reach the limit, W5 with three
 -- weights on the join's ordinate, a segment of degree 3 with order 2 at both joins, the one case in which a step changes what
--- an earlier join left, the shortest space that number 8 refuses, a beam of two parts, and a curve call.
+-- an earlier join left, the shortest space that code 8 refuses, a beam of two parts, and a curve call.
 use mathlib.Core.Path.{_≡_, refl}
 use mathlib.Core.Bool.{not}
 use mathlib.Core.List.{List, [], _∷_, _++_}

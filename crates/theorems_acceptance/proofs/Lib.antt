@@ -1,6 +1,6 @@
 -- The proofs of the statements in specs/. Rows to Support are about one ordinate: which rows have weight on it, in numbers and
 -- under mixing. Factors to Invariant go from the steps of the build to the form of the table at every stage. Cumulative to
--- Signs work out the partial sums of a step's jumps, Tests to NineNever conclude that number 9 never comes. WeightCount counts
+-- Signs work out the partial sums of a step's jumps, Tests to NineNever conclude that code 9 never comes. WeightCount counts
 -- weights. Small to LowOrders are the sizes of the orders 0 and 1; Curves and Values speak of curve calls. StepFactors to
 -- ClosedForms give every weight as a formula, Instances are examples with numbers.
 pub mod Rows
@@ -16,7 +16,7 @@ pub mod JumpSums
 pub mod OrderSums
 pub mod Signs
 pub mod Tests
-pub mod Fitting
+pub mod TableFits
 pub mod Reached
 pub mod Refusals
 pub mod NineNever

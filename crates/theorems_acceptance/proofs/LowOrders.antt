@@ -1,5 +1,5 @@
 -- A legal space whose orders are all at most 1: step by step the exact tables have small entries, every test is good, and so
--- the space is accepted. And number 8 in any space: it comes at a step of order 2.
+-- the space is accepted. And code 8 in any space: it comes at a step of order 2.
 use mathlib.Core.Path.{_≡_, refl, sym, _∙_, ap, subst}
 use mathlib.Core.Logic.{_⊎_, inl, inr}
 use Prim.Native.Nat.{ℕ, zero, suc, _-_, _<_, _≤_}
@@ -18,7 +18,7 @@ use Rattle.spec_spline.specs.Build.{orderSteps, joinSteps, weights, spaceWeight
 use Rattle.spec_spline.specs.Published.{for}
 use Rattle.base_outcome.proofs.Outcome.{then-answers, then-breaks, Broken, first-refuses, second-refuses}
 use Rattle.spec_spline.proofs.Table.{identity-on, identity-off, identity-low}
-use Rattle.spec_spline.proofs.Legal.{Checked, Legal, legal, checked-inverts, checked-numbers}
+use Rattle.spec_spline.proofs.Legal.{Checked, Legal, legal, checked-inverts, checked-codes}
 use Rattle.spec_spline.proofs.Refusals.{step-refuses}
 use Rattle.theorems_weights.specs.Counted.{counted, stepTests, exactStep, exactOrders, exactJoins, exactWeights, buildTests}
 use Rattle.theorems_weights.proofs.Counted.{step-passes, passing-is-accepted}
@@ -27,7 +27,7 @@ use Rattle.theorems_acceptance.specs.Acceptance.{OrdersAtMostOne, counte
 use Rattle.theorems_acceptance.proofs.Limits.{Limits, limits, low-count, third-order}
 use Rattle.theorems_acceptance.proofs.Tests.{Good, Every, every-joined, every-one}
 use Rattle.theorems_acceptance.proofs.Refusals.{no-refusal, every-passes}
-use Rattle.theorems_acceptance.proofs.Fitting.{TableHas, Fitting}
+use Rattle.theorems_acceptance.proofs.TableFits.{TableHas, TableFits}
 use Rattle.theorems_acceptance.proofs.Reached.{Reached, start-reached, step-reached, join-reached, RefusedAt, weights-refused}
 use Rattle.theorems_acceptance.proofs.Small.{Small, small-int, small-zero, small-fits, fits-small}
 use Rattle.theorems_acceptance.proofs.LowSteps.{low-step-good, low-step-cells}
@@ -103,14 +103,14 @@ low-orders-are-built s e low numLength denLength a b = let A = low-orders-are-ac
 pub counted-fractions-are-small : CountedFractionsAreSmall
 counted-fractions-are-small s e low before after join q parts = let z = every-one before after (counted join q) (subst (Every (Good (Small countedLimit))) parts (low-good s e low)) in (z .numerator, z .denominator)
 
--- ---- number 8
+-- ---- code 8
 
 -- the largest size that is counted
 mostCounted : ℕ
 mostCounted = limit - 1
 
 pub eight-comes-at-order-two : EightComesAtOrderTwo
-unfolding spaceWeights mostCounted Fitting
+unfolding spaceWeights mostCounted TableFits
 eight-comes-at-order-two s place e = go (then-breaks (checked s) weights e)
   where
     at : Checked s → RefusedAt s 8 place → EightAtOrderTwo s place
@@ -134,5 +134,5 @@ eight-comes-at-order-two s place e = go (then-breaks (checked s) weights e)
         }
 
     go : Broken (checked s) weights 8 place → EightAtOrderTwo s place
-    go (first-refuses p) = absurd (true-not-false refl (checked-numbers s p))
+    go (first-refuses p) = absurd (true-not-false refl (checked-codes s p))
     go (second-refuses s′ p q) = let c = checked-inverts s p in at (c .1) (weights-refused s (c .1) (ap weights (c .0) ∙ q))

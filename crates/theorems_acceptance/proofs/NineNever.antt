@@ -1,4 +1,4 @@
--- Number 9 never comes: at every stage the jumps have the shape that it asks for.
+-- Code 9 never comes: at every stage the jumps have the shape that it asks for.
 use mathlib.Core.Path.{_≡_, refl, _∙_, ap}
 use mathlib.Core.Bool.{Bool, true, false, cond}
 use mathlib.Core.List.{List, [], _∷_}
@@ -14,12 +14,12 @@ use Rattle.spec_spline.specs.Table.{Row, Table, tableCells}
 use Rattle.spec_spline.specs.Step.{step}
 use Rattle.spec_spline.specs.Build.{weights, spaceWeights, built}
 use Rattle.base_outcome.proofs.Outcome.{then-breaks, Broken, first-refuses, second-refuses}
-use Rattle.spec_spline.proofs.Legal.{Checked, Legal, legal, checked-inverts, checked-numbers}
+use Rattle.spec_spline.proofs.Legal.{Checked, Legal, legal, checked-inverts, checked-codes}
 use Rattle.theorems_weights.specs.Counted.{jumpTests, entryTests}
 use Rattle.theorems_acceptance.specs.Acceptance.{NineNeverComes, BuildingNeverGivesNine}
 use Rattle.theorems_acceptance.proofs.Limits.{Limits, limits}
 use Rattle.theorems_acceptance.proofs.Tests.{Good, Every, nothing, more, step-good}
-use Rattle.theorems_acceptance.proofs.Refusals.{refused-number, no-nine}
+use Rattle.theorems_acceptance.proofs.Refusals.{refused-code, no-nine}
 use Rattle.theorems_acceptance.proofs.Reached.{Reached, alternate, spread, weights-refused}
 
 -- nothing is asked of the counted fractions
@@ -49,7 +49,7 @@ unfolding spaceWeights
 nine-never-comes s place e = go (then-breaks (checked s) weights e)
   where
     go : Broken (checked s) weights 9 place → ⊥
-    go (first-refuses p) = true-not-false refl (checked-numbers s p)
+    go (first-refuses p) = true-not-false refl (checked-codes s p)
     go (second-refuses s′ p q) = let c = checked-inverts s p in weights-not-nine s (c .1) (ap weights (c .0) ∙ q)
 
 pub building-never-gives-nine : BuildingNeverGivesNine
@@ -57,6 +57,6 @@ unfolding built
 building-never-gives-nine s place numLength denLength e = go (ltb numLength tableCells) (ltb denLength tableCells) e
   where
     go : (a b : Bool) → cond a (refuse 1 0) (cond b (refuse 1 1) (spaceWeights s)) ≡ refusal 9 place → ⊥
-    go true b z = omega (arith, refused-number 1 0 z)
-    go false true z = omega (arith, refused-number 1 1 z)
+    go true b z = omega (arith, refused-code 1 0 z)
+    go false true z = omega (arith, refused-code 1 1 z)
     go false false z = nine-never-comes s place z

@@ -28,7 +28,7 @@ use Rattle.theorems_acceptance.proofs.Stages.{met, join-met}
 use Rattle.theorems_acceptance.proofs.Invariant.{Shaped, identity-shaped, step-shaped}
 use Rattle.theorems_acceptance.proofs.Alternating.{Alternates, jump-before, jump-after, jump-inside}
 use Rattle.theorems_acceptance.proofs.Signs.{jumps-alternate, span-spread}
-use Rattle.theorems_acceptance.proofs.Fitting.{Fitting, identity-fitting, step-fitting}
+use Rattle.theorems_acceptance.proofs.TableFits.{TableFits, identity-fitting, step-fitting}
 
 -- A step at a table of the form that Invariant states mixes the rows that it should.
 module _ (s : Space) (M : Limits s) (join k : ℕ) (h : join < segments s - 1) (m : k < conditionCount s join) (t : Table) (C : Shaped s (met s join k) t)
@@ -53,7 +53,7 @@ module _ (s : Space) (M : Limits s) (join k : ℕ) (h : join < segments s - 1) (
 pub record Reached (s : Space) (join k : ℕ) (t : Table) : Type 0 where
   pub basis : Basis (Done s join k) (columnCount s) t
   pub shape : Shaped s (met s join k) t
-  pub fitting : Fitting t
+  pub fitting : TableFits t
 
 module _ (s : Space) (L : Legal s) (M : Limits s) where
   pub start-reached : Reached s 0 0 (identity (columnCount s))
@@ -98,7 +98,7 @@ module _ (s : Space) (L : Legal s) (M : Limits s) where
   joins-reached n h t e = repeat-keeps (λ j b. Reached s j 0 b) n (λ j. orderSteps s j (conditionCount s j)) (identity (columnCount s)) start-reached (λ j b c l P r. join-reached j (omega arith) b c P r) t e
 
 -- A build that is refused: the step that refuses it, and the table before that step.
-pub record RefusedAt (s : Space) (number place : ℕ) : Type 0 where
+pub record RefusedAt (s : Space) (code place : ℕ) : Type 0 where
   pub join : ℕ
   pub order : ℕ
   pub join-below : join < segments s - 1
@@ -106,11 +106,11 @@ pub record RefusedAt (s : Space) (number place : ℕ) : Type 0 where
   pub table : Table
   pub before : (joinSteps s join then orderSteps s join order) ≡ answer table
   pub reached : Reached s join order table
-  pub refuses : step join (conditions s join order) table ≡ refusal number place
+  pub refuses : step join (conditions s join order) table ≡ refusal code place
 
-pub weights-refused : (s : Space) → Checked s → {number place : ℕ} → weights s ≡ refusal number place → RefusedAt s number place
+pub weights-refused : (s : Space) → Checked s → {code place : ℕ} → weights s ≡ refusal code place → RefusedAt s code place
 unfolding weights joinSteps orderSteps
-weights-refused s c {number} {place} e = at-join (repeat-refuses (segments s - 1) (λ j. orderSteps s j (conditionCount s j)) (identity (columnCount s)) e)
+weights-refused s c {code} {place} e = at-join (repeat-refuses (segments s - 1) (λ j. orderSteps s j (conditionCount s j)) (identity (columnCount s)) e)
   where
     L : Legal s
     L = legal s c
@@ -118,10 +118,10 @@ weights-refused s c {number} {place} e = at-join (repeat-refuses (segments s - 1
     M : Limits s
     M = limits s c
 
-    at-join : Halted (segments s - 1) (λ j. orderSteps s j (conditionCount s j)) (identity (columnCount s)) number place → RefusedAt s number place
+    at-join : Halted (segments s - 1) (λ j. orderSteps s j (conditionCount s j)) (identity (columnCount s)) code place → RefusedAt s code place
     at-join H = at-order (repeat-refuses (conditionCount s (H .index)) (λ k. step (H .index) (conditions s (H .index) k)) (H .reached) (H .refuses))
       where
-        at-order : Halted (conditionCount s (H .index)) (λ k. step (H .index) (conditions s (H .index) k)) (H .reached) number place → RefusedAt s number place
+        at-order : Halted (conditionCount s (H .index)) (λ k. step (H .index) (conditions s (H .index) k)) (H .reached) code place → RefusedAt s code place
         at-order K = record {
           join = H .index;
           order = K .index;

@@ -1,5 +1,5 @@
 -- The partial sums of a step's jumps change their sign from row to row, at every stage: so the jumps have the shape that
--- number 9 asks for.
+-- code 9 asks for.
 use mathlib.Core.Path.{_≡_, refl, sym, _∙_, ap, subst}
 use mathlib.Core.List.{[], _∷_}
 use Prim.Native.Nat.{ℕ, zero, suc, _+_, _-_, _<_, _≤_}

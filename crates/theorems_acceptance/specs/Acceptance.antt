@@ -1,5 +1,5 @@
 -- Which spaces are always answered (§ 5): where no join asks for more than order 1 building is never refused
--- for a size or a shape, number 9 never comes, and number 8 comes at a step of order 2 alone.
+-- for a size or a shape, code 9 never comes, and code 8 comes at a step of order 2 alone.
 use mathlib.Core.Path.{_≡_}
 use mathlib.Core.List.{List, _∷_, _++_}
 use Prim.Native.Nat.{ℕ, _-_, _<_, _≤_}
@@ -38,13 +38,13 @@ LowOrdersAreBuilt = (s : Space) → checked s ≡ answer s → OrdersAtMostOne s
 abbrev pub countedLimit : ℕ
 countedLimit = 10000
 
--- Every fraction that the build of such a space counts is that small, far below the limit of number 8.
+-- Every fraction that the build of such a space counts is that small, far below the limit of code 8.
 abbrev pub CountedFractionsAreSmall : Type 0
 CountedFractionsAreSmall = (s : Space) → checked s ≡ answer s → OrdersAtMostOne s
     → (before after : List Test) (join : ℕ) (q : ℚ) → buildTests s ≡ before ++ (counted join q ∷ after)
     → (natAbs (q .num) ≤ countedLimit) × (den q ≤ countedLimit)
 
--- Number 9 never comes, whatever the lists.
+-- Code 9 never comes, whatever the lists.
 abbrev pub NineNeverComes : Type 0
 NineNeverComes = (s : Space) (place : ℕ) → spaceWeights s ≡ refusal 9 place → ⊥
 
@@ -67,6 +67,6 @@ pub record EightAtOrderTwo (s : Space) (place : ℕ) : Type 0 where
   pub refuses : step join (conditions s join 2) table ≡ refusal 8 place
   pub place-is : place ≡ capped join
 
--- Number 8 comes from such a step, and from no other.
+-- Code 8 comes from such a step, and from no other.
 abbrev pub EightComesAtOrderTwo : Type 0
 EightComesAtOrderTwo = (s : Space) (place : ℕ) → spaceWeights s ≡ refusal 8 place → EightAtOrderTwo s place

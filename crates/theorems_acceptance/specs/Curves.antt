@@ -13,7 +13,7 @@ use Rattle.spec_spline.specs.Table.{tableCells}
 use Rattle.spec_spline.specs.CurveCall.{positionLimit, badCoefficient, badPosition, curveOutcome, returned}
 use Rattle.theorems_acceptance.specs.Acceptance.{OrdersAtMostOne}
 
--- Lists, coefficients, positions and buffers within the specification's limits, the lists part by part: what the numbers 1 to 7 and
+-- Lists, coefficients, positions and buffers within the specification's limits, the lists part by part: what the codes 1 to 7 and
 -- 15 ask for.
 pub record WithinLimits (s : Space) (coefs positions : List ℤ) (numLength denLength valuesLength : ℕ) : Type 0 where
   pub lists : checked s ≡ answer s

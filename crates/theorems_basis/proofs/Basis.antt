@@ -18,7 +18,7 @@ use Rattle.spec_spline.specs.Build.{weights, spaceWeights, built, buildEnd}
 use Rattle.spec_spline.specs.Published.{extraction}
 use Rattle.spec_spline.specs.Piecewise.{MeetsAll}
 use Rattle.base_outcome.proofs.Outcome.{then-answers, then-breaks, Broken, first-refuses, second-refuses}
-use Rattle.spec_spline.proofs.Legal.{Checked, checked-inverts, checked-numbers}
+use Rattle.spec_spline.proofs.Legal.{Checked, checked-inverts, checked-codes}
 use Rattle.spec_spline.proofs.Refusals.{step-refuses}
 use Rattle.theorems_weights.proofs.Basis.{Basis}
 use Rattle.theorems_weights.proofs.Built.{Done, earlier}
@@ -52,13 +52,13 @@ module _ (s : Space) (t : Table) (n : length t ≡ rowCount s) (B : Basis (Done 
 pub published-is-a-basis : PublishedIsABasis
 published-is-a-basis s e = is-basis s (extraction s) (extraction-rows s e) (last-stage s e .basis)
 
--- ---- number 8
+-- ---- code 8
 
 -- a legal space is refused by a step, and no step gives 9
-pub refused-with-eight : (s : Space) → Checked s → {number place : ℕ} → weights s ≡ refusal number place → number ≡ 8
-refused-with-eight s c {number} {place} e = let R = weights-refused s c e in go (step-refuses (R .join) (conditions s (R .join) (R .order)) (R .table) number place (R .refuses) .0)
+pub refused-with-eight : (s : Space) → Checked s → {code place : ℕ} → weights s ≡ refusal code place → code ≡ 8
+refused-with-eight s c {code} {place} e = let R = weights-refused s c e in go (step-refuses (R .join) (conditions s (R .join) (R .order)) (R .table) code place (R .refuses) .0)
   where
-    go : (number ≡ 8) ⊎ (number ≡ 9) → number ≡ 8
+    go : (code ≡ 8) ⊎ (code ≡ 9) → code ≡ 8
     go (inl z) = z
     go (inr z) = absurd (weights-not-nine s c (e ∙ ap (λ n. refusal n place) z))
 
@@ -68,7 +68,7 @@ legal-is-published-or-too-large s e = go (weights s) refl
   where
     go : (o : Outcome Table) → weights s ≡ o → PublishedOrTooLarge s (checked s then weights)
     go (answer t) w = let p = then-answers weights e ∙ w in published (p ∙ ap answer (weights-are-published s (record { table = t; is = p })))
-    go (refusal number place) w = too-large place (then-answers weights e ∙ w ∙ ap (λ n. refusal n place) (refused-with-eight s (checked-inverts s e .1) w))
+    go (refusal code place) w = too-large place (then-answers weights e ∙ w ∙ ap (λ n. refusal n place) (refused-with-eight s (checked-inverts s e .1) w))
 
 pub legal-is-built-or-too-large : LegalIsBuiltOrTooLarge
 unfolding built
@@ -89,5 +89,5 @@ unfolding spaceWeights
 eight-has-a-basis s place e = go (then-breaks (checked s) weights e)
   where
     go : Broken (checked s) weights 8 place → IsBasis s (extraction s)
-    go (first-refuses p) = absurd (true-not-false refl (checked-numbers s p))
+    go (first-refuses p) = absurd (true-not-false refl (checked-codes s p))
     go (second-refuses s′ p q) = published-is-a-basis s (p ∙ ap answer (sym (checked-inverts s p .0)))

@@ -1,5 +1,5 @@
 -- Recovered coefficients in every legal space: a missed condition leaves no coefficients, since every combination of the published
--- rows meets all; and of the build's two numbers only 8 comes.
+-- rows meets all; and of the build's two codes only 8 comes.
 use mathlib.Core.Path.{_≡_, sym, _∙_, ap, subst}
 use mathlib.Core.Bool.{false}
 use mathlib.Core.List.{List, map}
@@ -31,20 +31,20 @@ use Rattle.theorems_recovery.proofs.RecoveredCells.{call-nineteen}
 use Rattle.theorems_basis.specs.Coefficients.{NoneAfterNineteen, NoneAfterCallsWithNineteen, AnsweredOrTooLarge, answered, weights-too-large, coefficients-too-large, RefusedForSizeAlone, CallsRefusedForSizeAlone, CurvesHaveOneList, AnswersAreOfPublishedRows}
 use Rattle.theorems_basis.proofs.Basis.{published-is-a-basis, refused-with-eight}
 
--- ---- number 19
+-- ---- code 19
 
 pub none-after-nineteen : NoneAfterNineteen
-none-after-nineteen s e ordinates n place h numbers q = go (nineteen-misses-a-condition s e ordinates n place h)
+none-after-nineteen s e ordinates n place h coefficients q = go (nineteen-misses-a-condition s e ordinates n place h)
   where
     go : MissedCondition s ordinates → ⊥
     go M = M .missed (ap (λ o. pairing o (conditions s (M .join) (M .order))) (sym q)
-        ∙ published-is-a-basis s e .combinations-meet numbers .meets (M .join) (M .order) (M .join-below) (M .order-below))
+        ∙ published-is-a-basis s e .combinations-meet coefficients .meets (M .join) (M .order) (M .join-below) (M .order-below))
 
 pub none-after-calls-with-nineteen : NoneAfterCallsWithNineteen
-none-after-calls-with-nineteen s ordinates num den coefNum coefDen place e numbers q =
+none-after-calls-with-nineteen s ordinates num den coefNum coefDen place e coefficients q =
     let o = recoveryOutcome s ordinates (length num) (length den) (length coefNum) (length coefDen) in
     let h = call-nineteen s ordinates (length num) (length den) (length coefNum) (length coefDen) (with-refuses (λ _. rowCount s) o e) in
-    none-after-nineteen s (h .legal) ordinates (h .size) place (h .ends) numbers q
+    none-after-nineteen s (h .legal) ordinates (h .size) place (h .ends) coefficients q
 
 -- ---- curves that meet all conditions
 
@@ -53,7 +53,7 @@ refused-for-size-alone s e ordinates M = go (curve-ends s (legal s (checked-inve
   where
     go : CurveEnd s ordinates → AnsweredOrTooLarge (recovered s ordinates)
     go (by-an-answer r p) = answered r p
-    go (by-the-build number place p w) = weights-too-large place (p ∙ ap (λ n. refusal n place) (refused-with-eight s (checked-inverts s e .1) w))
+    go (by-the-build code place p w) = weights-too-large place (p ∙ ap (λ n. refusal n place) (refused-with-eight s (checked-inverts s e .1) w))
     go (by-twenty place p) = coefficients-too-large place p
 
 not-below : {m n : ℕ} → n ≤ m → ltb m n ≡ false
@@ -85,7 +85,7 @@ curves-have-one-list s e ordinates M = published-is-a-basis s e .one-combination
 
 pub answers-are-of-published-rows : AnswersAreOfPublishedRows
 unfolding spaceWeights
-answers-are-of-published-rows s e ordinates n r h = (same, ap (combination (columnCount s) (r .numbers)) (sym same) ∙ answers-reproduce s e ordinates n r h)
+answers-are-of-published-rows s e ordinates n r h = (same, ap (combination (columnCount s) (r .coefficients)) (sym same) ∙ answers-reproduce s e ordinates n r h)
   where
     same : r .table ≡ extraction s
     same = weights-are-published s (record { table = r .table; is = then-answers weights e ∙ answers-have-the-weights s e ordinates n r h .0 })

@@ -1,4 +1,4 @@
--- The theorems at a space that number 8 refuses: breaks 0,67,70, degrees 3,5, order 2, where the weight of row 2 on the join's
+-- The theorems at a space that code 8 refuses: breaks 0,67,70, degrees 3,5, order 2, where the weight of row 2 on the join's
 -- ordinate is 113177070/2221007983, which no cell can hold. Ordinates that miss a condition there have no coefficients; those
 -- of a straight line have one list, though the call that recovers them ends with 8. And an answer in W1's space.
 use mathlib.Core.Path.{_≡_, refl, sym, _∙_, ap, ap₂}
@@ -27,7 +27,7 @@ use Rattle.spec_spline.specs.Piecewise.{pairing, MeetsAll, combination}
 use Rattle.spec_spline.specs.Cases.{space, space1}
 use Rattle.base_outcome.proofs.Search.{first-none-inverts}
 use Rattle.theorems_weights.proofs.Instances.{q0, q1}
-use Rattle.theorems_recovery.specs.Recovery.{Numbered, sized, jumpSum, balanced, undoneNumber, undoneRows, undone, recoverStep, recoverOrders, recoverJoins, recovered}
+use Rattle.theorems_recovery.specs.Recovery.{Combination, fitted, jumpSum, balanced, undoneCoefficient, undoneRows, undone, recoverStep, recoverOrders, recoverJoins, recovered}
 use Rattle.theorems_recovery.specs.RecoveryCall.{badOrdinate, recoveryOutcome, recoveryEnd}
 use Rattle.theorems_basis.specs.Basis.{IsBasis, BuiltOrTooLarge}
 use Rattle.theorems_basis.specs.Coefficients.{Reproduce, AnsweredOrTooLarge}
@@ -80,26 +80,26 @@ sums : sum 7 (λ i. cell (extraction refusedSpace) i 3) ≡ q1
 unfolding firstColumn conditionsBefore
 sums = basis .column-sums 3 (omega arith)
 
--- ---- number 19: the segments do not meet at the join
+-- ---- code 19: the segments do not meet at the join
 
 abbrev apart : List ℤ
 apart = pos 0 ∷ pos 0 ∷ pos 0 ∷ pos 1 ∷ pos 0 ∷ pos 0 ∷ pos 0 ∷ pos 0 ∷ pos 0 ∷ pos 0 ∷ []
 
 nineteen : recovered refusedSpace apart ≡ refusal 19 0
-unfolding gcd gcdF mk int inv _+ᵠ_ _*ᵠ_ -ᵠ_ isZero ltᵠ sum tab fits capped collect repeat first last firstColumn falling binomial alternating undivided commonDivisor conditions identity count addProducts span partialSum quotientFactor factors newEntry newRows step sized jumpSum balanced undoneNumber undoneRows undone recoverStep recoverOrders recoverJoins recovered
+unfolding gcd gcdF mk int inv _+ᵠ_ _*ᵠ_ -ᵠ_ isZero ltᵠ sum tab fits capped collect repeat first last firstColumn falling binomial alternating undivided commonDivisor conditions identity count addProducts span partialSum quotientFactor factors newEntry newRows step fitted jumpSum balanced undoneCoefficient undoneRows undone recoverStep recoverOrders recoverJoins recovered
 nineteen = refl
 
-no-numbers : (numbers : List ℚ) → combination 10 numbers publishedRows ≡ map int apart → ⊥
+no-coefficients : (coefficients : List ℚ) → combination 10 coefficients publishedRows ≡ map int apart → ⊥
 unfolding firstColumn
-no-numbers numbers e = none-after-nineteen refusedSpace legal apart refl 0 nineteen numbers (ap (combination 10 numbers) rows-are ∙ e)
+no-coefficients coefficients e = none-after-nineteen refusedSpace legal apart refl 0 nineteen coefficients (ap (combination 10 coefficients) rows-are ∙ e)
 
 -- after a call with ten cells in each answer buffer
 nineteen-called : recoveryOutcome refusedSpace apart tableCells tableCells 10 10 ≡ refusal 19 0
-unfolding gcd gcdF mk int inv _+ᵠ_ _*ᵠ_ -ᵠ_ isZero ltᵠ sum tab fits capped collect repeat first last lengthsFit badBreak startsPart partEnd spanTooLong tooManySegments badDegree badOrder checkedEntries checked firstColumn falling binomial alternating undivided commonDivisor conditions identity count addProducts span partialSum quotientFactor factors newEntry newRows step sized jumpSum balanced undoneNumber undoneRows undone recoverStep recoverOrders recoverJoins recovered badOrdinate recoveryOutcome
+unfolding gcd gcdF mk int inv _+ᵠ_ _*ᵠ_ -ᵠ_ isZero ltᵠ sum tab fits capped collect repeat first last lengthsFit badBreak startsPart partEnd spanTooLong tooManySegments badDegree badOrder checkedEntries checked firstColumn falling binomial alternating undivided commonDivisor conditions identity count addProducts span partialSum quotientFactor factors newEntry newRows step fitted jumpSum balanced undoneCoefficient undoneRows undone recoverStep recoverOrders recoverJoins recovered badOrdinate recoveryOutcome
 nineteen-called = refl
 
-no-numbers-called : (num den : List ℤ) → length num ≡ tableCells → length den ≡ tableCells → (numbers : List ℚ) → Reproduce refusedSpace apart numbers → ⊥
-no-numbers-called num den p q = none-after-calls-with-nineteen refusedSpace apart num den apart apart 0
+no-coefficients-called : (num den : List ℤ) → length num ≡ tableCells → length den ≡ tableCells → (coefficients : List ℚ) → Reproduce refusedSpace apart coefficients → ⊥
+no-coefficients-called num den p q = none-after-calls-with-nineteen refusedSpace apart num den apart apart 0
     (ap₂ (λ n d. with-answer (λ _. rowCount refusedSpace) (recoveryOutcome refusedSpace apart n d 10 10)) p q ∙ ap (with-answer (λ _. rowCount refusedSpace)) nineteen-called)
 
 -- ---- a straight line: 15 times the ring
@@ -118,9 +118,9 @@ line-meets = record { columns = refl; meets = met }
     met zero (suc (suc (suc k))) h l = absurd (omega arith)
     met (suc j) k h l = absurd (omega arith)
 
--- the call ends with 8, one of the numbers that are left
+-- the call ends with 8, one of the codes that are left
 line-too-large : recovered refusedSpace line ≡ refusal 8 0
-unfolding gcd gcdF mk int inv _+ᵠ_ _*ᵠ_ -ᵠ_ isZero ltᵠ sum tab fits capped collect repeat first last firstColumn falling binomial alternating undivided commonDivisor conditions identity count addProducts span partialSum quotientFactor factors newEntry newRows step sized jumpSum balanced undoneNumber undoneRows undone recoverStep recoverOrders recoverJoins recovered
+unfolding gcd gcdF mk int inv _+ᵠ_ _*ᵠ_ -ᵠ_ isZero ltᵠ sum tab fits capped collect repeat first last firstColumn falling binomial alternating undivided commonDivisor conditions identity count addProducts span partialSum quotientFactor factors newEntry newRows step fitted jumpSum balanced undoneCoefficient undoneRows undone recoverStep recoverOrders recoverJoins recovered
 line-too-large = refl
 
 line-ends : AnsweredOrTooLarge (recovered refusedSpace line)
@@ -137,30 +137,30 @@ line-call-ends : (num den : List ℤ) → length num ≡ tableCells → length d
 line-call-ends num den p q = calls-refused-for-size-alone refusedSpace legal line num den line line line-meets line-in-range (omega (arith, p)) (omega (arith, q)) (omega arith) (omega arith)
 
 -- and there is one list of coefficients all the same
-abbrev lineNumbers : List ℚ
-lineNumbers = q0 ∷ int (pos 335) ∷ pos 6219074 // 9178 ∷ int (pos 1023) ∷ int (pos 1032) ∷ int (pos 1041) ∷ int (pos 1050) ∷ []
+abbrev lineCoefficients : List ℚ
+lineCoefficients = q0 ∷ int (pos 335) ∷ pos 6219074 // 9178 ∷ int (pos 1023) ∷ int (pos 1032) ∷ int (pos 1041) ∷ int (pos 1050) ∷ []
 
-line-reproduced : Reproduce refusedSpace line lineNumbers
+line-reproduced : Reproduce refusedSpace line lineCoefficients
 unfolding gcd gcdF mk int _+ᵠ_ _*ᵠ_ _//_ sum tab firstColumn combination
-line-reproduced = ap (combination 10 lineNumbers) rows-are ∙ refl
+line-reproduced = ap (combination 10 lineCoefficients) rows-are ∙ refl
 
-line-numbers : curves-have-one-list refusedSpace legal line line-meets .multipliers ≡ lineNumbers
+line-coefficients : curves-have-one-list refusedSpace legal line line-meets .multipliers ≡ lineCoefficients
 unfolding firstColumn conditionsBefore
-line-numbers = sym (curves-have-one-list refusedSpace legal line line-meets .only lineNumbers refl line-reproduced)
+line-coefficients = sym (curves-have-one-list refusedSpace legal line line-meets .only lineCoefficients refl line-reproduced)
 
 -- ---- an answer: the constant 3 in W1's space, breaks 0,1,3, degrees 2,2, order 1
 
 abbrev threes : List ℤ
 threes = pos 3 ∷ pos 3 ∷ pos 3 ∷ pos 3 ∷ pos 3 ∷ pos 3 ∷ []
 
-abbrev given : Numbered
+abbrev given : Combination
 given = record {
   table =
       (q1 ∷ q0 ∷ q0 ∷ q0 ∷ q0 ∷ q0 ∷ []) ∷
       (q0 ∷ q1 ∷ pos 2 // 2 ∷ pos 2 // 2 ∷ q0 ∷ q0 ∷ []) ∷
       (q0 ∷ q0 ∷ pos 1 // 2 ∷ pos 1 // 2 ∷ q1 ∷ q0 ∷ []) ∷
       (q0 ∷ q0 ∷ q0 ∷ q0 ∷ q0 ∷ q1 ∷ []) ∷ [];
-  numbers = int (pos 3) ∷ int (pos 3) ∷ int (pos 3) ∷ int (pos 3) ∷ [];
+  coefficients = int (pos 3) ∷ int (pos 3) ∷ int (pos 3) ∷ int (pos 3) ∷ [];
 }
 
 legal1 : checked space1 ≡ answer space1
@@ -168,7 +168,7 @@ unfolding first startsPart partEnd lengthsFit badBreak spanTooLong tooManySegmen
 legal1 = refl
 
 answered1 : recovered space1 threes ≡ answer given
-unfolding gcd gcdF mk int inv _+ᵠ_ _*ᵠ_ -ᵠ_ _//_ isZero ltᵠ sum tab fits capped collect repeat first last firstColumn falling binomial alternating undivided commonDivisor conditions identity count addProducts span partialSum quotientFactor factors newEntry newRows step sized jumpSum balanced undoneNumber undoneRows undone recoverStep recoverOrders recoverJoins recovered
+unfolding gcd gcdF mk int inv _+ᵠ_ _*ᵠ_ -ᵠ_ _//_ isZero ltᵠ sum tab fits capped collect repeat first last firstColumn falling binomial alternating undivided commonDivisor conditions identity count addProducts span partialSum quotientFactor factors newEntry newRows step fitted jumpSum balanced undoneCoefficient undoneRows undone recoverStep recoverOrders recoverJoins recovered
 answered1 = refl
 
 published1 : given .table ≡ extraction space1

@@ -1,5 +1,5 @@
 -- The published construction is a basis for every space whose lists pass 2 to 5 and 15, whatever the size of its fractions:
--- nothing is tested for its size here, so number 8 is a limit of the machine alone and says nothing against the space.
+-- nothing is tested for its size here, so code 8 is a limit of the machine alone and says nothing against the space.
 use mathlib.Core.Path.{_≡_}
 use mathlib.Core.List.{List}
 use Prim.Native.Nat.{ℕ, _+_, _*_, _<_, _≤_}
@@ -37,7 +37,7 @@ pub record IsBasis (s : Space) (t : Table) : Type 0 where
 abbrev pub PublishedIsABasis : Type 0
 PublishedIsABasis = (s : Space) → LegalLists s → IsBasis s (extraction s)
 
--- The weights are these rows, or number 8.
+-- The weights are these rows, or code 8.
 pub data PublishedOrTooLarge (s : Space) (o : Outcome Table) : Type 0 where
   published : o ≡ answer (extraction s) → PublishedOrTooLarge s o
   too-large : (place : ℕ) → o ≡ refusal 8 place → PublishedOrTooLarge s o
@@ -51,7 +51,7 @@ abbrev pub HoldsPublished : Space → List ℤ → List ℤ → Type 0
 HoldsPublished s nums dens =
     (i c : ℕ) → i < rowCells → c < rowCells → HoldsFraction (lastPartCell s (extraction s) i c) nums dens (rowCells * i + c)
 
--- After building with these two buffers lent: n is answered and they hold the published weights, or number 8 is given.
+-- After building with these two buffers lent: n is answered and they hold the published weights, or code 8 is given.
 pub data BuiltOrTooLarge (s : Space) (nums dens : List ℤ) : Type 0 where
   holds : buildEnd s nums dens .answers ≡ answer (rowCount s)
       → HoldsPublished s (buildEnd s nums dens .numerators) (buildEnd s nums dens .denominators) → BuiltOrTooLarge s nums dens

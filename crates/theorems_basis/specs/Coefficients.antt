@@ -14,27 +14,27 @@ use Rattle.spec_spline.specs.Table.{tableCells}
 use Rattle.spec_spline.specs.Published.{extraction}
 use Rattle.spec_spline.specs.Piecewise.{MeetsAll, combination}
 use Rattle.theorems_weights.specs.PublishedBasis.{OneCombination}
-use Rattle.theorems_recovery.specs.Recovery.{Numbered, recovered}
+use Rattle.theorems_recovery.specs.Recovery.{Combination, recovered}
 use Rattle.theorems_recovery.specs.RecoveryCall.{badOrdinate, recoveryEnd}
 use Rattle.theorems_basis.specs.Basis.{LegalLists}
 
 -- These fractions, as many as there may be, reproduce the ordinates.
 abbrev pub Reproduce : Space → List ℤ → List ℚ → Type 0
-Reproduce s ordinates numbers = combination (columnCount s) numbers (extraction s) ≡ map int ordinates
+Reproduce s ordinates coefficients = combination (columnCount s) coefficients (extraction s) ≡ map int ordinates
 
 -- "after 19 none of any size would", in every legal space.
 abbrev pub NoneAfterNineteen : Type 0
 NoneAfterNineteen = (s : Space) → LegalLists s → (ordinates : List ℤ) → length ordinates ≡ columnCount s
     → (place : ℕ) → recovered s ordinates ≡ refusal 19 place
-    → (numbers : List ℚ) → Reproduce s ordinates numbers → ⊥
+    → (coefficients : List ℚ) → Reproduce s ordinates coefficients → ⊥
 
 -- Nor after a call that ends with 19, whatever lists and buffers it was lent.
 abbrev pub NoneAfterCallsWithNineteen : Type 0
 NoneAfterCallsWithNineteen = (s : Space) (ordinates num den coefNum coefDen : List ℤ) (place : ℕ)
     → recoveryEnd s ordinates num den coefNum coefDen .answers ≡ refusal 19 place
-    → (numbers : List ℚ) → Reproduce s ordinates numbers → ⊥
+    → (coefficients : List ℚ) → Reproduce s ordinates coefficients → ⊥
 
--- An answer, number 8 or number 20.
+-- An answer, code 8 or code 20.
 pub data AnsweredOrTooLarge {A : Type 0} (o : Outcome A) : Type 0 where
   answered : (a : A) → o ≡ answer a → AnsweredOrTooLarge o
   weights-too-large : (place : ℕ) → o ≡ refusal 8 place → AnsweredOrTooLarge o
@@ -60,5 +60,5 @@ CurvesHaveOneList = (s : Space) → LegalLists s → (ordinates : List ℤ) → 
 -- Where they are answered, the weights are the published ones, and the coefficients reproduce the ordinates: they are this list.
 abbrev pub AnswersAreOfPublishedRows : Type 0
 AnswersAreOfPublishedRows = (s : Space) → LegalLists s → (ordinates : List ℤ) → length ordinates ≡ columnCount s
-    → (r : Numbered) → recovered s ordinates ≡ answer r
-    → (r .table ≡ extraction s) × Reproduce s ordinates (r .numbers)
+    → (r : Combination) → recovered s ordinates ≡ answer r
+    → (r .table ≡ extraction s) × Reproduce s ordinates (r .coefficients)

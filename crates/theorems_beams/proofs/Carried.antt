@@ -14,13 +14,13 @@ use Rattle.theorems_beams.specs.Sections.{later}
 -- The outcome with its answer changed by f and its place by ρ.
 abbrev pub carried : {A B : Type 0} → (ℕ → ℕ) → (A → B) → Outcome A → Outcome B
 carried ρ f (answer a) = answer (f a)
-carried ρ f (refusal number place) = refusal number (ρ place)
+carried ρ f (refusal code place) = refusal code (ρ place)
 
 -- ---- an outcome that is carried to the beam's place
 
 pub carried-later : {A B : Type 0} (n : ℕ) (f : A → B) (o : Outcome A) → carried (λ p. capped (n + p)) f o ≡ (later n o then λ a. answer (f a))
 carried-later n f (answer a) = refl
-carried-later n f (refusal number place) = refl
+carried-later n f (refusal code place) = refl
 
 -- a place that is capped, counted over the beam
 pub capped-later : (n j : ℕ) → capped (n + capped j) ≡ capped (n + j)
@@ -42,19 +42,19 @@ module _ {A B C : Type 0} (n : ℕ) (g : A → B → C) where
 
   pub joined-inverts : (o : Outcome A) (o′ : Outcome B) {c : C} → joined o o′ ≡ answer c → Joined o o′ c
   joined-inverts (answer a) (answer b) e = record { one = a; other = b; answers = refl; other-answers = refl; together = answer-unique refl e }
-  joined-inverts (answer a) (refusal number place) e = absurd (answer-not-refusal e refl)
-  joined-inverts (refusal number place) o′ e = absurd (answer-not-refusal e refl)
+  joined-inverts (answer a) (refusal code place) e = absurd (answer-not-refusal e refl)
+  joined-inverts (refusal code place) o′ e = absurd (answer-not-refusal e refl)
 
 -- ---- chains, collections, repetitions
 pub then-itself : {A : Type 0} (o : Outcome A) → (o then λ a. answer a) ≡ o
 then-itself (answer a) = refl
-then-itself (refusal number place) = refl
+then-itself (refusal code place) = refl
 
 module _ (ρ : ℕ → ℕ) where
   pub carried-then : {A A′ B B′ : Type 0} (f : A → A′) (g : B → B′) (o : Outcome A) {o′ : Outcome A′} (k : A → Outcome B) (k′ : A′ → Outcome B′)
       → o′ ≡ carried ρ f o → ((a : A) → o ≡ answer a → k′ (f a) ≡ carried ρ g (k a)) → (o′ then k′) ≡ carried ρ g (o then k)
   carried-then f g (answer a) k k′ e h = ap (λ x. x then k′) e ∙ h a refl
-  carried-then f g (refusal number place) k k′ e h = ap (λ x. x then k′) e
+  carried-then f g (refusal code place) k k′ e h = ap (λ x. x then k′) e
 
   -- F changes each element of a list by f
   module _ {A B : Type 0} (f : A → B) (F : List A → List B) (more : (xs : List A) (x : A) → F (xs ++ (x ∷ [])) ≡ F xs ++ (f x ∷ [])) where
@@ -88,7 +88,7 @@ module _ (ρ : ℕ → ℕ) where
       where
         trailing : (o : Outcome (List A)) → carried ρ (λ xs. tab p (λ _. z) ++ xs) o ≡ carried ρ (framed 0) o
         trailing (answer xs) = ap answer (sym (append-nil (tab p (λ _. z) ++ xs)))
-        trailing (refusal number place) = refl
+        trailing (refusal code place) = refl
     framed-collect (suc q) before inside after =
         ap (λ m. collect m h′) (add-suc (p + n) q)
         ∙ carried-then (framed q) (framed (suc q)) (collect n h) answer (λ xs. h′ (p + n + q) then λ x. answer (xs ++ (x ∷ [])))
@@ -119,7 +119,7 @@ module _ {A : Type 0} where
     where
       last : (o : Outcome A) → (o then f n) ≡ (o then g n)
       last (answer b) = h n b (omega arith)
-      last (refusal number place) = refl
+      last (refusal code place) = refl
 
   pub repeat-add : (m n : ℕ) (f : ℕ → A → Outcome A) (a : A) → repeat (m + n) f a ≡ (repeat m f a then λ b. repeat n (λ i. f (m + i)) b)
   unfolding repeat

@@ -92,7 +92,7 @@ module _ (left right : ℕ) where
     where
       back : (o : Outcome Table) → carried (λ p. capped (d + p)) (λ u′. map (λ r. r ++ zeros right) t ++ map (padded left 0) u′ ++ []) o ≡ carried (λ p. capped (d + p)) (beside left right t) o
       back (answer u′) = ap answer (padded-right t u′)
-      back (refusal number place) = refl
+      back (refusal code place) = refl
 
   -- ---- the identity
   eqb-moved : (i k : ℕ) → eqb (left + i) (left + k) ≡ eqb i k
@@ -139,7 +139,7 @@ joins-cut {A} s n stepped quiet (suc c) starts some t =
   where
     at-cut : (o : Outcome A) → (o then stepped c) ≡ o
     at-cut (answer b) = quiet c b (eqb-true (conditionCount s c) 0 starts)
-    at-cut (refusal number place) = refl
+    at-cut (refusal code place) = refl
 
 module _ (s : Space) (F : OrdersFit s) (a n : ℕ) (whole : a + n ≡ segments s) where
   abbrev before : Space
@@ -236,4 +236,4 @@ module _ (s : Space) (F : OrdersFit s) (a n : ℕ) (whole : a + n ≡ segments s
       go : (o : Outcome Table) → weights before ≡ o
           → (carried (λ p. p) (λ t. beside L R t (identity R)) o then λ b. repeat (n - 1) (λ i. stepped (a + i)) b) ≡ (o then λ t. later a (weights behind) then λ u. answer (beside L R t u))
       go (answer t) e = behind-joins t (weights-shaped before e .wide) ∙ carried-later a (beside L R t) (weights behind)
-      go (refusal number place) e = refl
+      go (refusal code place) e = refl

@@ -60,7 +60,7 @@ module _ (s : Space) (F : OrdersFit s) (a : ℕ) (A : Starts s a) where
   pub front-answers : {t u : Table} → weights (section s 0 a) ≡ answer t → weights part ≡ answer u → weights (section s 0 b) ≡ answer (beside (firstColumn s a) (columnCount part) t u)
   front-answers {t} e h = front-weights ∙ then-answers _ e ∙ ap (λ o. later a o then λ u. answer (beside (firstColumn s a) (columnCount part) t u)) h
 
-  pub front-refuses : {t : Table} {number place : ℕ} → weights (section s 0 a) ≡ answer t → weights part ≡ refusal number place → weights (section s 0 b) ≡ refusal number (capped (a + place))
+  pub front-refuses : {t : Table} {code place : ℕ} → weights (section s 0 a) ≡ answer t → weights part ≡ refusal code place → weights (section s 0 b) ≡ refusal code (capped (a + place))
   front-refuses {t} e h = front-weights ∙ then-answers _ e ∙ ap (λ o. later a o then λ u. answer (beside (firstColumn s a) (columnCount part) t u)) h
 
   -- a front that answers: the front before it and the part do
@@ -147,9 +147,9 @@ front-lastPart s a A t u e =
 pub whole-front : (s : Space) → Lengths s → (a : ℕ) → partEnd s a ≡ segments s → section s 0 (partEnd s a) ≡ s
 whole-front s L a e = ap (section s 0) e ∙ section-all s L
 
-pub refused-front : (s : Space) → Checked s → (b : ℕ) → Boundary s b → {number place : ℕ} → weights (section s 0 b) ≡ refusal number place → weights s ≡ refusal number place
-refused-front s c b B {number} {place} e = go (le-or-lt (segments s) b)
+pub refused-front : (s : Space) → Checked s → (b : ℕ) → Boundary s b → {code place : ℕ} → weights (section s 0 b) ≡ refusal code place → weights s ≡ refusal code place
+refused-front s c b B {code} {place} e = go (le-or-lt (segments s) b)
   where
-    go : (segments s ≤ b) ⊎ (b < segments s) → weights s ≡ refusal number place
+    go : (segments s ≤ b) ⊎ (b < segments s) → weights s ≡ refusal code place
     go (inl h) = ap weights (sym (section-all s (lengths-fit-inverts s (c .lengths)))) ∙ ap (λ m. weights (section s 0 m)) (let z : segments s ≡ b = omega (arith, B .within) in z) ∙ e
     go (inr h) = cut-weights s (orders-fit s c) b (segments s - b) (omega arith) (B .starts h) (omega arith) ∙ then-refuses _ e

@@ -144,7 +144,7 @@ weights-by-parts s x a A = finish (fronts s c (x .table) (accepted-checked s x .
 -- Up to b no part is refused, or the beam is refused where and as a part is.
 data SoFar (s : Space) (b : ℕ) : Type 0 where
   accepted : (t : Table) → weights (section s 0 b) ≡ answer t → ((a : ℕ) → a < b → Starts s a → Accepted (partAt s a)) → SoFar s b
-  refused : ((number place : ℕ) → weights s ≡ refusal number place → FirstRefused s number place) → SoFar s b
+  refused : ((code place : ℕ) → weights s ≡ refusal code place → FirstRefused s code place) → SoFar s b
 
 module _ (s : Space) (c : Checked s) where
   one-part : (a : ℕ) → Starts s a → SoFar s a → SoFar s (partEnd s a)
@@ -164,15 +164,15 @@ module _ (s : Space) (c : Checked s) where
               place : (k ≡ a) ⊎ (k < a) → Accepted (partAt s k)
               place (inl z) = subst (λ i. Accepted (partAt s i)) (sym z) (checked-accepted (partAt s a) (part-checked s a A c) u h)
               place (inr z) = earlier k z K
-      go (refusal number own) h = refused (λ number′ place e′. found number′ place (let z : refusal number′ place ≡ refusal number (capped (a + own)) = sym e′ ∙ refused-front s c (partEnd s a) (E .boundary) (front-refuses s (orders-fit s c) a A e h) in z))
+      go (refusal code own) h = refused (λ code′ place e′. found code′ place (let z : refusal code′ place ≡ refusal code (capped (a + own)) = sym e′ ∙ refused-front s c (partEnd s a) (E .boundary) (front-refuses s (orders-fit s c) a A e h) in z))
         where
-          found : (number′ place : ℕ) → _≡_ {A = Outcome Table} (refusal number′ place) (refusal number (capped (a + own))) → FirstRefused s number′ place
-          found number′ place z = record {
+          found : (code′ place : ℕ) → _≡_ {A = Outcome Table} (refusal code′ place) (refusal code (capped (a + own))) → FirstRefused s code′ place
+          found code′ place z = record {
             start = a;
             starts = A;
             earlier = earlier;
             own = own;
-            refuses = h ∙ ap (λ n. refusal n own) (let y : number ≡ number′ = cc in y);
+            refuses = h ∙ ap (λ n. refusal n own) (let y : code ≡ code′ = cc in y);
             place-is = cc;
           }
 
@@ -180,17 +180,17 @@ module _ (s : Space) (c : Checked s) where
   all-parts = by-parts s (SoFar s) (accepted [] (no-front s) (λ a h A. absurd (omega arith))) one-part (segments s) (whole-boundary s)
 
 pub refused-with-a-part : RefusedWithAPart
-refused-with-a-part s e number place r = go (all-parts s c)
+refused-with-a-part s e code place r = go (all-parts s c)
   where
     c : Checked s
     c = checked-inverts s e .1
 
-    go : SoFar s (segments s) → FirstRefused s number place
-    go (refused f) = f number place r
+    go : SoFar s (segments s) → FirstRefused s code place
+    go (refused f) = f code place r
     go (accepted t h earlier) = absurd (answer-not-refusal (ap weights (sym (section-all s (lengths-fit-inverts s (c .lengths)))) ∙ h) r)
 
 pub refused-by-a-part : RefusedByAPart
-refused-by-a-part s e number place x = refused-front s c (partEnd s a) (part-ends s a (A .below) .boundary) (front-refuses s (orders-fit s c) a A (before .1) (x .refuses)) ∙ ap (refusal number) (sym (x .place-is))
+refused-by-a-part s e code place x = refused-front s c (partEnd s a) (part-ends s a (A .below) .boundary) (front-refuses s (orders-fit s c) a A (before .1) (x .refuses)) ∙ ap (refusal code) (sym (x .place-is))
   where
     c : Checked s
     c = checked-inverts s e .1

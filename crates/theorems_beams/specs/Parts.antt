@@ -44,19 +44,19 @@ pub record PartOf (s : Space) (whole : Table) (a : ℕ) : Type 0 where
 abbrev pub WeightsByParts : Type 0
 WeightsByParts = (s : Space) (x : Accepted s) (a : ℕ) → Starts s a → PartOf s (x .table) a
 
--- The first part that is refused, with this number and place.
-pub record FirstRefused (s : Space) (number place : ℕ) : Type 0 where
+-- The first part that is refused, with this code and place.
+pub record FirstRefused (s : Space) (code place : ℕ) : Type 0 where
   pub start : ℕ
   pub starts : Starts s start
   pub earlier : (a : ℕ) → a < start → Starts s a → Accepted (partAt s a)
   pub own : ℕ
-  pub refuses : weights (partAt s start) ≡ refusal number own
+  pub refuses : weights (partAt s start) ≡ refusal code own
   pub place-is : place ≡ capped (start + own)
 
 -- A beam whose lists are legal is refused where, and as, its first refused part is.
 abbrev pub RefusedWithAPart : Type 0
-RefusedWithAPart = (s : Space) → checked s ≡ answer s → (number place : ℕ) → weights s ≡ refusal number place → FirstRefused s number place
+RefusedWithAPart = (s : Space) → checked s ≡ answer s → (code place : ℕ) → weights s ≡ refusal code place → FirstRefused s code place
 
 -- And where a part is refused, the beam is.
 abbrev pub RefusedByAPart : Type 0
-RefusedByAPart = (s : Space) → checked s ≡ answer s → (number place : ℕ) → FirstRefused s number place → weights s ≡ refusal number place
+RefusedByAPart = (s : Space) → checked s ≡ answer s → (code place : ℕ) → FirstRefused s code place → weights s ≡ refusal code place

@@ -33,4 +33,4 @@ beside left right t u = map (λ r. r ++ zeros right) t ++ map (λ r. zeros left 
 -- The outcome of a later part, its place counted over the beam: n segments, and so n joins, come before its own.
 abbrev pub later : {A : Type 0} → ℕ → Outcome A → Outcome A
 later n (answer a) = answer a
-later n (refusal number place) = refusal number (capped (n + place))
+later n (refusal code place) = refusal code (capped (n + place))

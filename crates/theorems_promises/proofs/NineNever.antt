@@ -1,4 +1,4 @@
--- Number 9 never comes from recovering coefficients, proved: it would be the build's own.
+-- Code 9 never comes from recovering coefficients, proved: it would be the build's own.
 use mathlib.Core.Path.{_≡_, refl, sym, _∙_, ap}
 use mathlib.Core.Bool.{Bool, true, false, cond}
 use mathlib.Core.Option.{Option, some, none}
@@ -13,7 +13,7 @@ use Rattle.base_outcome.specs.Tests.{refuseFirst}
 use Rattle.spec_spline.specs.Table.{tableCells}
 use Rattle.spec_spline.specs.Build.{weights}
 use Rattle.base_outcome.proofs.Outcome.{with-refuses, then-breaks, Broken, first-refuses, second-refuses}
-use Rattle.spec_spline.proofs.Legal.{Checked, checked-inverts, checked-numbers, keeping-refusal}
+use Rattle.spec_spline.proofs.Legal.{Checked, checked-inverts, checked-codes, keeping-refusal}
 use Rattle.theorems_recovery.specs.Recovery.{recovered}
 use Rattle.theorems_recovery.specs.RecoveryCall.{badOrdinate, legalOrdinates, recoveryOutcome}
 use Rattle.theorems_recovery.proofs.Refusals.{eight-and-nine-are-the-builds}
@@ -36,7 +36,7 @@ recovery-never-gives-nine s ordinates num den coefNum coefDen place e =
         tested (some i) r = true-not-false refl (keeping-refusal 18 i refl r)
 
     rest : Broken (checked s) (λ legal. legalOrdinates legal ordinates (recovered legal ordinates)) 9 place → ⊥
-    rest (first-refuses p) = true-not-false refl (checked-numbers s p)
+    rest (first-refuses p) = true-not-false refl (checked-codes s p)
     rest (second-refuses l p r) = let c = checked-inverts s p in entries l (eqb (length ordinates) (columnCount l)) (sym (c .0)) (c .1) r
 
     long : (a b c d : Bool) → cond a (refuse 1 0) (cond b (refuse 1 1) (cond c (refuse 1 3) (cond d (refuse 1 4) (checked s then λ legal. legalOrdinates legal ordinates (recovered legal ordinates))))) ≡ refusal 9 place → ⊥

@@ -1,4 +1,4 @@
--- Number 9 never comes from recovering coefficients either, whatever the call is given. Building and curve calls are in crate
+-- Code 9 never comes from recovering coefficients either, whatever the call is given. Building and curve calls are in crate
 -- theorems_acceptance, specs/Acceptance; indices, reach and pieces beside their own statements.
 use mathlib.Core.Path.{_≡_}
 use mathlib.Core.List.{List}

@@ -1,4 +1,4 @@
--- What the parts of a step that is undone tell by their answers and refusals: the sum is zero or not, and each new number is the
+-- What the parts of a step that is undone tell by their answers and refusals: the sum is zero or not, and each new coefficient is the
 -- quotient that the definition says.
 use mathlib.Core.Path.{_≡_, refl, sym, _∙_, ap, subst}
 use mathlib.Core.Logic.{_≢_, _⊎_, inl, inr}
@@ -21,36 +21,36 @@ use Rattle.base_outcome.specs.Outcome.{Outcome, answer, refusal, refuse, _then_
 use Rattle.spec_spline.specs.Table.{entry}
 use Rattle.spec_spline.specs.Step.{Span, jumpsAt}
 use Rattle.base_outcome.proofs.Outcome.{answer-unique, answer-not-refusal, Chained, then-inverts, Broken, first-refuses, second-refuses, then-breaks, RefusedAs, answer-refused, then-refused}
-use Rattle.theorems_recovery.specs.Recovery.{sized, jumpSum, balanced, undoneNumber, undoneRow, undoneRows, undone}
+use Rattle.theorems_recovery.specs.Recovery.{fitted, jumpSum, balanced, undoneCoefficient, undoneRow, undoneRows, undone}
 
 -- ---- a fraction under the size limit
 
--- The refusal is number 20.
+-- The refusal is code 20.
 abbrev pub Twenty : ℕ → ℕ → Type 0
-Twenty number place = number ≡ 20
+Twenty code place = code ≡ 20
 
-pub sized-answers : (j : ℕ) (q : ℚ) {p : ℚ} → sized j q ≡ answer p → p ≡ q
-unfolding sized
+pub sized-answers : (j : ℕ) (q : ℚ) {p : ℚ} → fitted j q ≡ answer p → p ≡ q
+unfolding fitted
 sized-answers j q {p} e = go (fits q) e
   where
     go : (b : Bool) → cond b (answer q) (refuse 20 j) ≡ answer p → p ≡ q
     go true e = answer-unique e refl
     go false e = absurd (answer-not-refusal e refl)
 
-pub sized-refuses-20 : (j : ℕ) (q : ℚ) → RefusedAs Twenty (sized j q)
-unfolding sized
-sized-refuses-20 j q number place e = go (fits q) e
+pub sized-refuses-20 : (j : ℕ) (q : ℚ) → RefusedAs Twenty (fitted j q)
+unfolding fitted
+sized-refuses-20 j q code place e = go (fits q) e
   where
-    go : (b : Bool) → cond b (answer q) (refuse 20 j) ≡ refusal number place → number ≡ 20
+    go : (b : Bool) → cond b (answer q) (refuse 20 j) ≡ refusal code place → code ≡ 20
     go true e = absurd (answer-not-refusal refl e)
     go false e = cc
 
--- ---- the sum of numbers times jumps
+-- ---- the sum of coefficients times jumps
 
 module _ (j : ℕ) (js cs : List ℚ) where
   -- row n's product, added
   added : ℕ → ℚ → Outcome ℚ
-  added n s = cond (jumpsAt js n) (sized j (entry cs n *ᵠ entry js n) then λ p. sized j (s +ᵠ p)) (answer s)
+  added n s = cond (jumpsAt js n) (fitted j (entry cs n *ᵠ entry js n) then λ p. fitted j (s +ᵠ p)) (answer s)
 
   term : ℕ → ℚ
   term i = entry cs i *ᵠ entry js i
@@ -59,8 +59,8 @@ module _ (j : ℕ) (js cs : List ℚ) where
   unfolding added term
   added-is n s {q} e = go (jumpsAt js n) refl e
     where
-      go : (b : Bool) → jumpsAt js n ≡ b → cond b (sized j (entry cs n *ᵠ entry js n) then λ p. sized j (s +ᵠ p)) (answer s) ≡ answer q → q ≡ s +ᵠ entry cs n *ᵠ entry js n
-      go true h e = let c = then-inverts (sized j (entry cs n *ᵠ entry js n)) (λ p. sized j (s +ᵠ p)) e in
+      go : (b : Bool) → jumpsAt js n ≡ b → cond b (fitted j (entry cs n *ᵠ entry js n) then λ p. fitted j (s +ᵠ p)) (answer s) ≡ answer q → q ≡ s +ᵠ entry cs n *ᵠ entry js n
+      go true h e = let c = then-inverts (fitted j (entry cs n *ᵠ entry js n)) (λ p. fitted j (s +ᵠ p)) e in
           sized-answers j (s +ᵠ c .middle) (c .after) ∙ ap (λ p. s +ᵠ p) (sized-answers j (entry cs n *ᵠ entry js n) (c .before))
       go false h e = answer-unique e refl ∙ sym (ap (λ t. s +ᵠ t) (ap (λ t. entry cs n *ᵠ t) (isZero-true (entry js n) (not-false _ h)) ∙ mul-zero (entry cs n)) ∙ add-zero s)
 
@@ -68,8 +68,8 @@ module _ (j : ℕ) (js cs : List ℚ) where
   unfolding added
   added-refused n s = go (jumpsAt js n)
     where
-      go : (b : Bool) → RefusedAs Twenty (cond b (sized j (entry cs n *ᵠ entry js n) then λ p. sized j (s +ᵠ p)) (answer s))
-      go true = then-refused Twenty (sized j (entry cs n *ᵠ entry js n)) (λ p. sized j (s +ᵠ p)) (sized-refuses-20 j (entry cs n *ᵠ entry js n)) (λ p h. sized-refuses-20 j (s +ᵠ p))
+      go : (b : Bool) → RefusedAs Twenty (cond b (fitted j (entry cs n *ᵠ entry js n) then λ p. fitted j (s +ᵠ p)) (answer s))
+      go true = then-refused Twenty (fitted j (entry cs n *ᵠ entry js n)) (λ p. fitted j (s +ᵠ p)) (sized-refuses-20 j (entry cs n *ᵠ entry js n)) (λ p h. sized-refuses-20 j (s +ᵠ p))
       go false = answer-refused Twenty s
 
   sum-is : (n : ℕ) {s : ℚ} → jumpSum j js cs n ≡ answer s → s ≡ sum n (λ i. entry cs i *ᵠ entry js i)
@@ -96,7 +96,7 @@ module _ (j : ℕ) (js cs : List ℚ) where
       go s true h e = isZero-true s h
       go s false h e = absurd (answer-not-refusal e refl)
 
-  -- number 19: it is not
+  -- code 19: it is not
   pub balanced-not : {place : ℕ} → balanced j js cs ≡ refusal 19 place → sum (length js) (λ i. entry cs i *ᵠ entry js i) ≢ int (pos 0)
   unfolding balanced zeroTested
   balanced-not {place} e = go (then-breaks (jumpSum j js cs (length js)) zeroTested e)
@@ -109,23 +109,23 @@ module _ (j : ℕ) (js cs : List ℚ) where
       go (first-refuses p) z = let q : _≡_ {A = ℕ} 19 20 = sum-refused (length js) 19 place p in omega arith
       go (second-refuses s p q) z = tested s (isZero s) refl q (sum-is (length js) p ∙ z)
 
--- ---- the rows' new numbers
+-- ---- the rows' new coefficients
 
 module _ (j : ℕ) (ws cs : List ℚ) (f : ℕ) where
-  number-is : (w c before : ℚ) {d : ℚ} → undoneNumber j w c before ≡ answer d → d ≡ (c -ᵠ (int (pos 1) -ᵠ w) *ᵠ before) /ᵠ w
-  unfolding undoneNumber
-  number-is w c before e =
-      let a = then-inverts (sized j ((int (pos 1) -ᵠ w) *ᵠ before)) (λ share. sized j (c -ᵠ share) then λ d. sized j (d /ᵠ w)) e in
-      let b = then-inverts (sized j (c -ᵠ a .middle)) (λ d. sized j (d /ᵠ w)) (a .after) in
+  code-is : (w c before : ℚ) {d : ℚ} → undoneCoefficient j w c before ≡ answer d → d ≡ (c -ᵠ (int (pos 1) -ᵠ w) *ᵠ before) /ᵠ w
+  unfolding undoneCoefficient
+  code-is w c before e =
+      let a = then-inverts (fitted j ((int (pos 1) -ᵠ w) *ᵠ before)) (λ share. fitted j (c -ᵠ share) then λ d. fitted j (d /ᵠ w)) e in
+      let b = then-inverts (fitted j (c -ᵠ a .middle)) (λ d. fitted j (d /ᵠ w)) (a .after) in
       sized-answers j (b .middle /ᵠ w) (b .after)
       ∙ ap (λ d. d /ᵠ w) (sized-answers j (c -ᵠ a .middle) (b .before) ∙ ap (λ share. c -ᵠ share) (sized-answers j ((int (pos 1) -ᵠ w) *ᵠ before) (a .before)))
 
-  number-refused : (w c before : ℚ) → RefusedAs Twenty (undoneNumber j w c before)
-  unfolding undoneNumber
-  number-refused w c before = then-refused Twenty (sized j ((int (pos 1) -ᵠ w) *ᵠ before)) (λ share. sized j (c -ᵠ share) then λ d. sized j (d /ᵠ w)) (sized-refuses-20 j ((int (pos 1) -ᵠ w) *ᵠ before))
-      (λ share h. then-refused Twenty (sized j (c -ᵠ share)) (λ d. sized j (d /ᵠ w)) (sized-refuses-20 j (c -ᵠ share)) (λ d k. sized-refuses-20 j (d /ᵠ w)))
+  code-refused : (w c before : ℚ) → RefusedAs Twenty (undoneCoefficient j w c before)
+  unfolding undoneCoefficient
+  code-refused w c before = then-refused Twenty (fitted j ((int (pos 1) -ᵠ w) *ᵠ before)) (λ share. fitted j (c -ᵠ share) then λ d. fitted j (d /ᵠ w)) (sized-refuses-20 j ((int (pos 1) -ᵠ w) *ᵠ before))
+      (λ share h. then-refused Twenty (fitted j (c -ᵠ share)) (λ d. fitted j (d /ᵠ w)) (sized-refuses-20 j (c -ᵠ share)) (λ d k. sized-refuses-20 j (d /ᵠ w)))
 
-  -- The numbers of n rows from row f on.
+  -- The coefficients of n rows from row f on.
   pub record Undone (n : ℕ) (ds : List ℚ) : Type 0 where
     pub size : length ds ≡ n
     pub at-first : 0 < n → entry ds 0 ≡ entry cs f
@@ -145,7 +145,7 @@ module _ (j : ℕ) (ws cs : List ℚ) (f : ℕ) where
       first (suc m) z = before 0 (omega arith) ∙ U .at-first (omega arith)
 
       new : (i : ℕ) → suc i ≡ n → d ≡ (entry cs (f + suc i) -ᵠ (int (pos 1) -ᵠ entry ws (suc i)) *ᵠ entry ds i) /ᵠ entry ws (suc i)
-      new i z = number-is (entry ws (suc i)) (entry cs (f + suc i)) (entry ds i) (ap (λ k. undoneRow j ws cs f k ds) z ∙ e)
+      new i z = code-is (entry ws (suc i)) (entry cs (f + suc i)) (entry ds i) (ap (λ k. undoneRow j ws cs f k ds) z ∙ e)
 
       later : (i : ℕ) → (suc (suc i) ≡ suc n) ⊎ (suc (suc i) < suc n)
           → entry (ds ++ (d ∷ [])) (suc i) ≡ (entry cs (f + suc i) -ᵠ (int (pos 1) -ᵠ entry ws (suc i)) *ᵠ entry (ds ++ (d ∷ [])) i) /ᵠ entry ws (suc i)
@@ -163,7 +163,7 @@ module _ (j : ℕ) (ws cs : List ℚ) (f : ℕ) where
 
   row-refused : (n : ℕ) (ds : List ℚ) → RefusedAs Twenty (undoneRow j ws cs f n ds)
   row-refused zero ds = answer-refused Twenty (entry cs f)
-  row-refused (suc n) ds = number-refused (entry ws (suc n)) (entry cs (f + suc n)) (entry ds n)
+  row-refused (suc n) ds = code-refused (entry ws (suc n)) (entry cs (f + suc n)) (entry ds n)
 
   rows-refused : (n : ℕ) → RefusedAs Twenty (undoneRows j ws cs f n)
   unfolding undoneRows
@@ -171,7 +171,7 @@ module _ (j : ℕ) (ws cs : List ℚ) (f : ℕ) where
   rows-refused (suc n) = then-refused Twenty (undoneRows j ws cs f n) (λ xs. undoneRow j ws cs f n xs then λ d. answer (xs ++ (d ∷ []))) (rows-refused n)
       (λ xs h. then-refused Twenty (undoneRow j ws cs f n xs) (λ d. answer (xs ++ (d ∷ []))) (row-refused n xs) (λ d k. answer-refused Twenty (xs ++ (d ∷ []))))
 
--- number 20 alone
+-- code 20 alone
 pub undone-refuses-20 : (j : ℕ) (g : Span) (ws cs : List ℚ) → RefusedAs Twenty (undone j g ws cs)
 unfolding undone
 undone-refuses-20 j g ws cs = then-refused Twenty (undoneRows j ws cs (g .f) (g .l - g .f)) (λ ds. answer (take (g .f) cs ++ (ds ++ drop (suc (g .l)) cs))) (rows-refused j ws cs (g .f) (g .l - g .f))

@@ -1,4 +1,4 @@
--- The fronts of a beam, from its first segment to the end of a part, as a loop over the parts recovers them: the table and the numbers
+-- The fronts of a beam, from its first segment to the end of a part, as a loop over the parts recovers them: the table and the coefficients
 -- of a front from those of the front before it and of the part; and a front that is refused refuses the beam.
 use mathlib.Core.Path.{_≡_, refl, sym, _∙_, ap, ap₂}
 use mathlib.Core.Logic.{_⊎_, inl, inr}
@@ -21,12 +21,12 @@ use Rattle.theorems_beams.specs.Sections.{section, partAt, beside, later}
 use Rattle.theorems_beams.specs.Parts.{Starts}
 use Rattle.theorems_beams.proofs.Sections.{section-segments, section-all, front-columns, front-starts, front-section, OrdersFit, orders-fit, section-orders-fit}
 use Rattle.theorems_beams.proofs.Fronts.{part-columns}
-use Rattle.theorems_recovery.specs.Recovery.{Numbered, recoverJoins, recovered}
+use Rattle.theorems_recovery.specs.Recovery.{Combination, recoverJoins, recovered}
 use Rattle.theorems_recovery.specs.Beams.{together}
 use Rattle.theorems_recovery.proofs.Cut.{cut}
 
 -- the front with no segment
-pub no-front : (s : Space) → recovered (section s 0 0) [] ≡ answer (record { table = []; numbers = [] })
+pub no-front : (s : Space) → recovered (section s 0 0) [] ≡ answer (record { table = []; coefficients = [] })
 unfolding recovered recoverJoins repeat identity tab firstColumn
 no-front s = refl
 
@@ -73,8 +73,8 @@ module _ (s : Space) (F : OrdersFit s) (a : ℕ) (A : Starts s a) (ordinates : L
       ∙ drop-at before own (firstColumn s a) (length-take-le (firstColumn s a) ordinates (omega (arith, inside, columns-with)))
 
   -- the two side by side
-  abbrev joined : Numbered → Numbered → Numbered
-  joined r q = record { table = beside (firstColumn s a) (columnCount part) (r .table) (q .table); numbers = r .numbers ++ q .numbers }
+  abbrev joined : Combination → Combination → Combination
+  joined r q = record { table = beside (firstColumn s a) (columnCount part) (r .table) (q .table); coefficients = r .coefficients ++ q .coefficients }
 
   pub front-recovered : recovered (section s 0 b) (take (firstColumn s b) ordinates) ≡ (recovered (section s 0 a) before then λ r. later a (recovered part own) then λ q. answer (joined r q))
   front-recovered =
@@ -83,21 +83,21 @@ module _ (s : Space) (F : OrdersFit s) (a : ℕ) (A : Starts s a) (ordinates : L
       ∙ ap₂ (λ x y. recovered x (take (columnCount x) (take (firstColumn s b) ordinates)) then λ r. later a (recovered y (drop (columnCount x) (take (firstColumn s b) ordinates))) then λ q. answer (together x y r q))
       (front-section s b 0 a (omega (arith, ends .above))) (front-section s b a (b - a) (omega (arith, whole)))
       ∙ ap (λ c. recovered (section s 0 a) (take c (take (firstColumn s b) ordinates)) then λ r. later a (recovered part (drop c (take (firstColumn s b) ordinates))) then λ q.
-      answer (record { table = beside c (columnCount part) (r .table) (q .table); numbers = r .numbers ++ q .numbers })) columns-before
+      answer (record { table = beside c (columnCount part) (r .table) (q .table); coefficients = r .coefficients ++ q .coefficients })) columns-before
       ∙ ap₂ (λ xs ys. recovered (section s 0 a) xs then λ r. later a (recovered part ys) then λ q. answer (joined r q)) before-is own-is
 
-  pub front-answers : {r q : Numbered} → recovered (section s 0 a) before ≡ answer r → recovered part own ≡ answer q → recovered (section s 0 b) (take (firstColumn s b) ordinates) ≡ answer (joined r q)
+  pub front-answers : {r q : Combination} → recovered (section s 0 a) before ≡ answer r → recovered part own ≡ answer q → recovered (section s 0 b) (take (firstColumn s b) ordinates) ≡ answer (joined r q)
   front-answers {r} e h = front-recovered ∙ then-answers _ e ∙ ap (λ o. later a o then λ q. answer (joined r q)) h
 
-  pub front-refuses : {r : Numbered} {number place : ℕ} → recovered (section s 0 a) before ≡ answer r → recovered part own ≡ refusal number place → recovered (section s 0 b) (take (firstColumn s b) ordinates) ≡ refusal number (capped (a + place))
+  pub front-refuses : {r : Combination} {code place : ℕ} → recovered (section s 0 a) before ≡ answer r → recovered part own ≡ refusal code place → recovered (section s 0 b) (take (firstColumn s b) ordinates) ≡ refusal code (capped (a + place))
   front-refuses {r} e h = front-recovered ∙ then-answers _ e ∙ ap (λ o. later a o then λ q. answer (joined r q)) h
 
 -- a front that is refused
-pub refused-front : (s : Space) → Checked s → (b : ℕ) → Boundary s b → (ordinates : List ℤ) → length ordinates ≡ columnCount s → {number place : ℕ} → recovered (section s 0 b) (take (firstColumn s b) ordinates) ≡ refusal number place
-    → recovered s ordinates ≡ refusal number place
-refused-front s c b B ordinates size {number} {place} e = go (le-or-lt (segments s) b)
+pub refused-front : (s : Space) → Checked s → (b : ℕ) → Boundary s b → (ordinates : List ℤ) → length ordinates ≡ columnCount s → {code place : ℕ} → recovered (section s 0 b) (take (firstColumn s b) ordinates) ≡ refusal code place
+    → recovered s ordinates ≡ refusal code place
+refused-front s c b B ordinates size {code} {place} e = go (le-or-lt (segments s) b)
   where
-    go : (segments s ≤ b) ⊎ (b < segments s) → recovered s ordinates ≡ refusal number place
+    go : (segments s ≤ b) ⊎ (b < segments s) → recovered s ordinates ≡ refusal code place
     go (inl h) =
         let z : segments s ≡ b = omega (arith, B .within) in
         ap (λ x. recovered x ordinates) (sym (section-all s (lengths-fit-inverts s (c .lengths))))

@@ -28,7 +28,7 @@ use Rattle.spec_spline.specs.ExactCurve.{power, bernsteinAt, exactOn}
 use Rattle.spec_spline.specs.Cases.{space1, upperLimitSpace}
 use Rattle.base_outcome.proofs.Outcome.{then-answers}
 use Rattle.theorems_weights.proofs.PublishedBasis.{combinations-meet-conditions}
-use Rattle.theorems_recovery.specs.Recovery.{Numbered, sized, jumpSum, balanced, undoneNumber, undoneRows, undone, recoverStep, recoverOrders, recoverJoins, recovered}
+use Rattle.theorems_recovery.specs.Recovery.{Combination, fitted, jumpSum, balanced, undoneCoefficient, undoneRows, undone, recoverStep, recoverOrders, recoverJoins, recovered}
 use Rattle.theorems_recovery.specs.RecoveryCall.{badOrdinate, recoveryOutcome, answersAfter, numeratorOf, recoveryEnd}
 use Rattle.theorems_recovery.specs.Reproduction.{MissedCondition, RecoveredOrTooLarge}
 use Rattle.theorems_recovery.specs.Cases.{joined, beam}
@@ -56,14 +56,14 @@ abbrev coefficients : List ℚ
 coefficients = q0 ∷ int (pos 256) ∷ int (pos 768) ∷ q0 ∷ []
 
 -- The table has the weights 511/512 and 1/512 on the ordinate of the join.
-abbrev given : Numbered
+abbrev given : Combination
 given = record {
   table =
       (q1 ∷ q0 ∷ q0 ∷ q0 ∷ q0 ∷ q0 ∷ []) ∷
       (q0 ∷ q1 ∷ pos 511 // 511 ∷ pos 511 // 511 ∷ q0 ∷ q0 ∷ []) ∷
       (q0 ∷ q0 ∷ pos 1 // 511 ∷ pos 1 // 511 ∷ q1 ∷ q0 ∷ []) ∷
       (q0 ∷ q0 ∷ q0 ∷ q0 ∷ q0 ∷ q1 ∷ []) ∷ [];
-  numbers = coefficients;
+  coefficients = coefficients;
 }
 
 legal : checked upperLimitSpace ≡ answer upperLimitSpace
@@ -71,7 +71,7 @@ unfolding first startsPart partEnd lengthsFit badBreak spanTooLong tooManySegmen
 legal = refl
 
 answered : recovered upperLimitSpace ordinates ≡ answer given
-unfolding gcd gcdF mk int inv _+ᵠ_ _*ᵠ_ -ᵠ_ _//_ isZero ltᵠ sum tab fits capped collect repeat first last firstColumn falling binomial alternating undivided commonDivisor conditions identity count addProducts span partialSum quotientFactor factors newEntry newRows step sized jumpSum balanced undoneNumber undoneRows undone recoverStep recoverOrders recoverJoins recovered
+unfolding gcd gcdF mk int inv _+ᵠ_ _*ᵠ_ -ᵠ_ _//_ isZero ltᵠ sum tab fits capped collect repeat first last firstColumn falling binomial alternating undivided commonDivisor conditions identity count addProducts span partialSum quotientFactor factors newEntry newRows step fitted jumpSum balanced undoneCoefficient undoneRows undone recoverStep recoverOrders recoverJoins recovered
 answered = refl
 
 built : weights upperLimitSpace ≡ answer (given .table)
@@ -110,7 +110,7 @@ rounded-join : ordinate (given .table) (coefficient earlywood coefs) 2 ≡ pos 2
 unfolding gcd gcdF mk int _//_ isZero nearest rounded term termSum best ordinate
 rounded-join = refl
 
--- ---- number 19
+-- ---- code 19
 
 abbrev others : List ℤ
 others = pos 0 ∷ pos 300 ∷ pos 201 ∷ pos 201 ∷ pos 0 ∷ pos 0 ∷ []
@@ -120,14 +120,14 @@ unfolding first startsPart partEnd lengthsFit badBreak spanTooLong tooManySegmen
 legal1 = refl
 
 refused : recovered space1 others ≡ refusal 19 0
-unfolding gcd gcdF mk int inv _+ᵠ_ _*ᵠ_ -ᵠ_ _//_ isZero ltᵠ sum tab fits capped collect repeat first last firstColumn falling binomial alternating undivided commonDivisor conditions identity count addProducts span partialSum quotientFactor factors newEntry newRows step sized jumpSum balanced undoneNumber undoneRows undone recoverStep recoverOrders recoverJoins recovered
+unfolding gcd gcdF mk int inv _+ᵠ_ _*ᵠ_ -ᵠ_ _//_ isZero ltᵠ sum tab fits capped collect repeat first last firstColumn falling binomial alternating undivided commonDivisor conditions identity count addProducts span partialSum quotientFactor factors newEntry newRows step fitted jumpSum balanced undoneCoefficient undoneRows undone recoverStep recoverOrders recoverJoins recovered
 refused = refl
 
 missed : MissedCondition space1 others
 unfolding firstColumn
 missed = nineteen-misses-a-condition space1 legal1 others refl 0 refused
 
--- ---- a curve that meets all conditions, and the build's own number 8
+-- ---- a curve that meets all conditions, and the build's own code 8
 
 table-given : Accepted upperLimitSpace
 unfolding spaceWeights
@@ -144,7 +144,7 @@ abbrev zeros : List ℤ
 zeros = pos 0 ∷ pos 0 ∷ pos 0 ∷ pos 0 ∷ pos 0 ∷ pos 0 ∷ pos 0 ∷ pos 0 ∷ pos 0 ∷ pos 0 ∷ []
 
 eight : recovered (joined 67 70 3 5 2) zeros ≡ refusal 8 0
-unfolding gcd gcdF mk int inv _+ᵠ_ _*ᵠ_ -ᵠ_ _//_ isZero ltᵠ sum tab fits capped collect repeat first last firstColumn falling binomial alternating undivided commonDivisor conditions identity count addProducts span partialSum quotientFactor factors newEntry newRows step sized jumpSum balanced undoneNumber undoneRows undone recoverStep recoverOrders recoverJoins recovered
+unfolding gcd gcdF mk int inv _+ᵠ_ _*ᵠ_ -ᵠ_ _//_ isZero ltᵠ sum tab fits capped collect repeat first last firstColumn falling binomial alternating undivided commonDivisor conditions identity count addProducts span partialSum quotientFactor factors newEntry newRows step fitted jumpSum balanced undoneCoefficient undoneRows undone recoverStep recoverOrders recoverJoins recovered
 eight = refl
 
 eight-of-the-build : weights (joined 67 70 3 5 2) ≡ refusal 8 0
@@ -160,7 +160,7 @@ abbrev answersOf : Space → List ℤ → ℕ → ℕ → Outcome ℕ
 answersOf s os n d = with-answer (λ _. rowCount s) (recoveryOutcome s os n d 7 7)
 
 outcome : recoveryOutcome upperLimitSpace ordinates tableCells tableCells 7 7 ≡ answer given
-unfolding gcd gcdF mk int inv _+ᵠ_ _*ᵠ_ -ᵠ_ _//_ isZero ltᵠ sum tab fits capped collect repeat first last lengthsFit badBreak startsPart partEnd spanTooLong tooManySegments badDegree badOrder checkedEntries checked firstColumn falling binomial alternating undivided commonDivisor conditions identity count addProducts span partialSum quotientFactor factors newEntry newRows step sized jumpSum balanced undoneNumber undoneRows undone recoverStep recoverOrders recoverJoins recovered badOrdinate recoveryOutcome
+unfolding gcd gcdF mk int inv _+ᵠ_ _*ᵠ_ -ᵠ_ _//_ isZero ltᵠ sum tab fits capped collect repeat first last lengthsFit badBreak startsPart partEnd spanTooLong tooManySegments badDegree badOrder checkedEntries checked firstColumn falling binomial alternating undivided commonDivisor conditions identity count addProducts span partialSum quotientFactor factors newEntry newRows step fitted jumpSum balanced undoneCoefficient undoneRows undone recoverStep recoverOrders recoverJoins recovered badOrdinate recoveryOutcome
 outcome = refl
 
 held : (num den : List ℤ) → length num ≡ tableCells → length den ≡ tableCells → HeldCoefficients upperLimitSpace ordinates lent lent 4 (recoveryEnd upperLimitSpace ordinates num den lent lent)
@@ -174,7 +174,7 @@ unfolding gcd gcdF mk int tab
 cells num den p q = ap (λ o. answersAfter numeratorOf 6 o lent) (ap₂ (λ n d. recoveryOutcome upperLimitSpace ordinates n d 7 7) p q ∙ outcome)
 
 outcome19 : recoveryOutcome space1 others tableCells tableCells 7 7 ≡ refusal 19 0
-unfolding gcd gcdF mk int inv _+ᵠ_ _*ᵠ_ -ᵠ_ _//_ isZero ltᵠ sum tab fits capped collect repeat first last lengthsFit badBreak startsPart partEnd spanTooLong tooManySegments badDegree badOrder checkedEntries checked firstColumn falling binomial alternating undivided commonDivisor conditions identity count addProducts span partialSum quotientFactor factors newEntry newRows step sized jumpSum balanced undoneNumber undoneRows undone recoverStep recoverOrders recoverJoins recovered badOrdinate recoveryOutcome
+unfolding gcd gcdF mk int inv _+ᵠ_ _*ᵠ_ -ᵠ_ _//_ isZero ltᵠ sum tab fits capped collect repeat first last lengthsFit badBreak startsPart partEnd spanTooLong tooManySegments badDegree badOrder checkedEntries checked firstColumn falling binomial alternating undivided commonDivisor conditions identity count addProducts span partialSum quotientFactor factors newEntry newRows step fitted jumpSum balanced undoneCoefficient undoneRows undone recoverStep recoverOrders recoverJoins recovered badOrdinate recoveryOutcome
 outcome19 = refl
 
 none : (num den : List ℤ) → length num ≡ tableCells → length den ≡ tableCells → NoCoefficients space1 others
@@ -200,7 +200,7 @@ unfolding firstColumn
 beam-is-cut = cut-recovered beam beam-legal 2 2 beam-starts refl beamOrdinates refl
 
 -- the coefficients are 0, 300, 0, 0 of the one part and 1, 2, 3 of the other
-beam-coefficients : with-answer (λ (r : Numbered). r .numbers) (recovered beam beamOrdinates)
+beam-coefficients : with-answer (λ (r : Combination). r .coefficients) (recovered beam beamOrdinates)
     ≡ answer (int (pos 0) ∷ int (pos 300) ∷ int (pos 0) ∷ int (pos 0) ∷ int (pos 1) ∷ int (pos 2) ∷ int (pos 3) ∷ [])
-unfolding gcd gcdF mk int inv _+ᵠ_ _*ᵠ_ -ᵠ_ _//_ isZero ltᵠ sum tab fits capped collect repeat first last firstColumn falling binomial alternating undivided commonDivisor conditions identity count addProducts span partialSum quotientFactor factors newEntry newRows step sized jumpSum balanced undoneNumber undoneRows undone recoverStep recoverOrders recoverJoins recovered
+unfolding gcd gcdF mk int inv _+ᵠ_ _*ᵠ_ -ᵠ_ _//_ isZero ltᵠ sum tab fits capped collect repeat first last firstColumn falling binomial alternating undivided commonDivisor conditions identity count addProducts span partialSum quotientFactor factors newEntry newRows step fitted jumpSum balanced undoneCoefficient undoneRows undone recoverStep recoverOrders recoverJoins recovered
 beam-coefficients = refl

@@ -1,4 +1,4 @@
--- A step that is undone on a table in a larger one, with numbers for the rows above and below it: these keep their numbers, and
+-- A step that is undone on a table in a larger one, with coefficients for the rows above and below it: these keep their coefficients, and
 -- the others become what they become by themselves.
 use mathlib.Core.Path.{_≡_, refl, sym, _∙_, ap, ap₂}
 use mathlib.Core.Bool.{Bool, true, false, cond}
@@ -20,7 +20,7 @@ use Rattle.spec_spline.proofs.Shape.{Wide}
 use Rattle.spec_spline.proofs.Answers.{jumps-length, span-inverts}
 use Rattle.theorems_beams.proofs.Carried.{carried, carried-then}
 use Rattle.theorems_beams.proofs.Embedded.{padded, padded-at, padded-length, jumps-before, jumps-inside, jumps-behind, movedSpan, span-carried, factors-carried, embedded, jumps-carried, embedded-step}
-use Rattle.theorems_recovery.specs.Recovery.{Numbered, sized, jumpSum, balanced, undoneNumber, undoneRow, undoneRows, undone, recoverStep}
+use Rattle.theorems_recovery.specs.Recovery.{Combination, fitted, jumpSum, balanced, undoneCoefficient, undoneRow, undoneRows, undone, recoverStep}
 
 -- ---- a list in a longer one
 
@@ -28,8 +28,8 @@ module _ (xs cs ys : List ℚ) where
   front-length : length (xs ++ cs) ≡ length xs + length cs
   front-length = length-append xs cs
 
-  number-inside : (i : ℕ) → i < length cs → entry (xs ++ cs ++ ys) (length xs + i) ≡ entry cs i
-  number-inside i h = List·getD-append (xs ++ cs) ys (int (pos 0)) (length xs + i) (omega (arith, front-length)) ∙ getD-append-add xs cs i (int (pos 0))
+  coefficient-inside : (i : ℕ) → i < length cs → entry (xs ++ cs ++ ys) (length xs + i) ≡ entry cs i
+  coefficient-inside i h = List·getD-append (xs ++ cs) ys (int (pos 0)) (length xs + i) (omega (arith, front-length)) ∙ getD-append-add xs cs i (int (pos 0))
 
   spliced : (f l : ℕ) (ds : List ℚ) → f ≤ length cs → suc l ≤ length cs
       → take (length xs + f) (xs ++ cs ++ ys) ++ (ds ++ drop (suc (length xs + l)) (xs ++ cs ++ ys)) ≡ xs ++ (take f cs ++ (ds ++ drop (suc l) cs)) ++ ys
@@ -48,8 +48,8 @@ module _ (xs cs ys : List ℚ) where
 
 -- ---- the parts of a step at joins j and j′, whose places correspond
 module _ (ρ : ℕ → ℕ) (j j′ : ℕ) (place : ρ (capped j) ≡ capped j′) where
-  sized-carried : (x : ℚ) → sized j′ x ≡ carried ρ (λ y. y) (sized j x)
-  unfolding sized
+  sized-carried : (x : ℚ) → fitted j′ x ≡ carried ρ (λ y. y) (fitted j x)
+  unfolding fitted
   sized-carried x = go (fits x)
     where
       go : (b : Bool) → cond b (answer x) (refuse 20 j′) ≡ carried ρ (λ y. y) (cond b (answer x) (refuse 20 j))
@@ -64,22 +64,22 @@ module _ (ρ : ℕ → ℕ) (j j′ : ℕ) (place : ρ (capped j) ≡ capped j�
     jumped = padded (length xs) q js
 
     added : ℕ → List ℚ → List ℚ → ℕ → ℚ → Outcome ℚ
-    added i ks ns n s = cond (jumpsAt ks n) (sized i (entry ns n *ᵠ entry ks n) then λ p. sized i (s +ᵠ p)) (answer s)
+    added i ks ns n s = cond (jumpsAt ks n) (fitted i (entry ns n *ᵠ entry ks n) then λ p. fitted i (s +ᵠ p)) (answer s)
 
     added-nothing : (n : ℕ) (o : Outcome ℚ) → jumpsAt jumped n ≡ false → (o then added j′ jumped all n) ≡ o
     unfolding added
-    added-nothing n (answer s) e = ap (λ b. cond b (sized j′ (entry all n *ᵠ entry jumped n) then λ p. sized j′ (s +ᵠ p)) (answer s)) e
-    added-nothing n (refusal number place) e = refl
+    added-nothing n (answer s) e = ap (λ b. cond b (fitted j′ (entry all n *ᵠ entry jumped n) then λ p. fitted j′ (s +ᵠ p)) (answer s)) e
+    added-nothing n (refusal code place) e = refl
 
     added-carried : (n : ℕ) → n < length cs → (s : ℚ) → added j′ jumped all (length xs + n) s ≡ carried ρ (λ y. y) (added j js cs n s)
     unfolding added
-    added-carried n h s = ap (λ b. cond b (sized j′ (entry all (length xs + n) *ᵠ entry jumped (length xs + n)) then λ p. sized j′ (s +ᵠ p)) (answer s)) (jumps-inside (length xs) q js n)
+    added-carried n h s = ap (λ b. cond b (fitted j′ (entry all (length xs + n) *ᵠ entry jumped (length xs + n)) then λ p. fitted j′ (s +ᵠ p)) (answer s)) (jumps-inside (length xs) q js n)
         ∙ go (jumpsAt js n)
       where
-        go : (b : Bool) → cond b (sized j′ (entry all (length xs + n) *ᵠ entry jumped (length xs + n)) then λ p. sized j′ (s +ᵠ p)) (answer s)
-            ≡ carried ρ (λ y. y) (cond b (sized j (entry cs n *ᵠ entry js n) then λ p. sized j (s +ᵠ p)) (answer s))
-        go true = carried-then ρ (λ y. y) (λ y. y) (sized j (entry cs n *ᵠ entry js n)) (λ p. sized j (s +ᵠ p)) (λ p. sized j′ (s +ᵠ p))
-            (ap (sized j′) (ap₂ _*ᵠ_ (number-inside xs cs ys n h) (padded-at (length xs) q js n)) ∙ sized-carried (entry cs n *ᵠ entry js n)) (λ p e. sized-carried (s +ᵠ p))
+        go : (b : Bool) → cond b (fitted j′ (entry all (length xs + n) *ᵠ entry jumped (length xs + n)) then λ p. fitted j′ (s +ᵠ p)) (answer s)
+            ≡ carried ρ (λ y. y) (cond b (fitted j (entry cs n *ᵠ entry js n) then λ p. fitted j (s +ᵠ p)) (answer s))
+        go true = carried-then ρ (λ y. y) (λ y. y) (fitted j (entry cs n *ᵠ entry js n)) (λ p. fitted j (s +ᵠ p)) (λ p. fitted j′ (s +ᵠ p))
+            (ap (fitted j′) (ap₂ _*ᵠ_ (coefficient-inside xs cs ys n h) (padded-at (length xs) q js n)) ∙ sized-carried (entry cs n *ᵠ entry js n)) (λ p e. sized-carried (s +ᵠ p))
         go false = refl
 
     sum-before : (n : ℕ) → n ≤ length xs → jumpSum j′ jumped all n ≡ answer (int (pos 0))
@@ -112,17 +112,17 @@ module _ (ρ : ℕ → ℕ) (j j′ : ℕ) (place : ρ (capped j) ≡ capped j�
         tested false = ap (refusal 19) (sym place)
 
   module _ (xs cs ys ws : List ℚ) where
-    number-carried : (w c before : ℚ) → undoneNumber j′ w c before ≡ carried ρ (λ y. y) (undoneNumber j w c before)
-    unfolding undoneNumber
-    number-carried w c before =
-        carried-then ρ (λ y. y) (λ y. y) (sized j ((int (pos 1) -ᵠ w) *ᵠ before)) _ _ (sized-carried ((int (pos 1) -ᵠ w) *ᵠ before))
-        (λ share e. carried-then ρ (λ y. y) (λ y. y) (sized j (c -ᵠ share)) _ _ (sized-carried (c -ᵠ share)) (λ d h. sized-carried (d /ᵠ w)))
+    coefficient-carried : (w c before : ℚ) → undoneCoefficient j′ w c before ≡ carried ρ (λ y. y) (undoneCoefficient j w c before)
+    unfolding undoneCoefficient
+    coefficient-carried w c before =
+        carried-then ρ (λ y. y) (λ y. y) (fitted j ((int (pos 1) -ᵠ w) *ᵠ before)) _ _ (sized-carried ((int (pos 1) -ᵠ w) *ᵠ before))
+        (λ share e. carried-then ρ (λ y. y) (λ y. y) (fitted j (c -ᵠ share)) _ _ (sized-carried (c -ᵠ share)) (λ d h. sized-carried (d /ᵠ w)))
 
     row-carried : (f n : ℕ) → f + n < length cs → (ds : List ℚ) → undoneRow j′ ws (xs ++ cs ++ ys) (length xs + f) n ds ≡ carried ρ (λ y. y) (undoneRow j ws cs f n ds)
-    row-carried f zero h ds = ap answer (number-inside xs cs ys f (omega arith))
+    row-carried f zero h ds = ap answer (coefficient-inside xs cs ys f (omega arith))
     row-carried f (suc n) h ds =
-        ap (λ c. undoneNumber j′ (entry ws (suc n)) c (entry ds n)) (ap (entry (xs ++ cs ++ ys)) (let e : length xs + f + suc n ≡ length xs + (f + suc n) = omega arith in e) ∙ number-inside xs cs ys (f + suc n) h)
-        ∙ number-carried (entry ws (suc n)) (entry cs (f + suc n)) (entry ds n)
+        ap (λ c. undoneCoefficient j′ (entry ws (suc n)) c (entry ds n)) (ap (entry (xs ++ cs ++ ys)) (let e : length xs + f + suc n ≡ length xs + (f + suc n) = omega arith in e) ∙ coefficient-inside xs cs ys (f + suc n) h)
+        ∙ coefficient-carried (entry ws (suc n)) (entry cs (f + suc n)) (entry ds n)
 
     rows-carried : (f n : ℕ) → f + n ≤ length cs → undoneRows j′ ws (xs ++ cs ++ ys) (length xs + f) n ≡ carried ρ (λ ds. ds) (undoneRows j ws cs f n)
     unfolding undoneRows
@@ -138,31 +138,31 @@ module _ (ρ : ℕ → ℕ) (j j′ : ℕ) (place : ρ (capped j) ≡ capped j�
         (ap (undoneRows j′ ws (xs ++ cs ++ ys) (length xs + g .f)) (let e : length xs + g .l - (length xs + g .f) ≡ g .l - g .f = omega arith in e) ∙ rows-carried (g .f) (g .l - g .f) (omega arith))
         (λ ds e. ap answer (spliced xs cs ys (g .f) (g .l) ds (omega arith) h))
 
-  -- ---- the step: the table t in a larger one, with the numbers xs for the rows P above it and ys for the rows Q below it
+  -- ---- the step: the table t in a larger one, with the coefficients xs for the rows P above it and ys for the rows Q below it
   module _ (κ κ′ : List Entry) (a b : ℕ) (P Q : Table)
       (same : (r : Row) → jump j′ κ′ (padded a b r) ≡ carried ρ (λ x. x) (jump j κ r))
       (above : (i : ℕ) → i < length P → jump j′ κ′ (row P i) ≡ answer (int (pos 0)))
       (below : (i : ℕ) → i < length Q → jump j′ κ′ (row Q i) ≡ answer (int (pos 0)))
       (xs ys : List ℚ) (count : length xs ≡ length P) where
-    abbrev pub within : Numbered → Numbered
-    within r = record { table = embedded ρ j j′ place κ κ′ a b P Q same above below (r .table); numbers = xs ++ r .numbers ++ ys }
+    abbrev pub within : Combination → Combination
+    within r = record { table = embedded ρ j j′ place κ κ′ a b P Q same above below (r .table); coefficients = xs ++ r .coefficients ++ ys }
 
-    pub recover-embedded : (r : Numbered) → length (r .numbers) ≡ length (r .table) → (n : ℕ) → Wide n (r .table) → recoverStep j′ κ′ (within r) ≡ carried ρ within (recoverStep j κ r)
+    pub recover-embedded : (r : Combination) → length (r .coefficients) ≡ length (r .table) → (n : ℕ) → Wide n (r .table) → recoverStep j′ κ′ (within r) ≡ carried ρ within (recoverStep j κ r)
     unfolding recoverStep
     recover-embedded r own n wide =
         carried-then ρ whole within (step j κ (r .table)) _ _ (embedded-step ρ j j′ place κ κ′ a b P Q same above below (r .table) n wide)
         (λ t e. carried-then ρ (padded (length P) (length Q)) within (jumps j κ (r .table)) _ _ (jumps-carried ρ j j′ place κ κ′ a b P Q same above below (r .table))
         (λ js i. carried-then ρ (movedSpan (length P)) within (span j js) _ _ (span-carried ρ j j′ place (length P) (length Q) js)
         (λ g h. carried-then ρ (λ ws. ws) within (factors j js g) _ _ (factors-carried ρ j j′ place (length P) (length Q) js g)
-        (λ ws m. carried-then ρ (λ u. u) within (balanced j js (r .numbers)) _ _ (moved-balance js (jumps-length j κ (r .table) i))
-        (λ u k. carried-then ρ (λ ds. xs ++ ds ++ ys) within (undone j g ws (r .numbers)) _ _ (moved-undone g ws (span-inverts j js h .ordered) (omega (arith, span-inverts j js h .below, jumps-length j κ (r .table) i, own)))
+        (λ ws m. carried-then ρ (λ u. u) within (balanced j js (r .coefficients)) _ _ (moved-balance js (jumps-length j κ (r .table) i))
+        (λ u k. carried-then ρ (λ ds. xs ++ ds ++ ys) within (undone j g ws (r .coefficients)) _ _ (moved-undone g ws (span-inverts j js h .ordered) (omega (arith, span-inverts j js h .below, jumps-length j κ (r .table) i, own)))
         (λ ds l. refl))))))
       where
         whole : Table → Table
         whole t = embedded ρ j j′ place κ κ′ a b P Q same above below t
 
-        moved-undone : (g : Span) (ws : List ℚ) → g .f ≤ g .l → g .l < length (r .numbers) → undone j′ (movedSpan (length P) g) ws (xs ++ r .numbers ++ ys) ≡ carried ρ (λ ds. xs ++ ds ++ ys) (undone j g ws (r .numbers))
-        moved-undone g ws o h = ap (λ p. undone j′ (movedSpan p g) ws (xs ++ r .numbers ++ ys)) (sym count) ∙ undone-carried xs (r .numbers) ys ws g o h
+        moved-undone : (g : Span) (ws : List ℚ) → g .f ≤ g .l → g .l < length (r .coefficients) → undone j′ (movedSpan (length P) g) ws (xs ++ r .coefficients ++ ys) ≡ carried ρ (λ ds. xs ++ ds ++ ys) (undone j g ws (r .coefficients))
+        moved-undone g ws o h = ap (λ p. undone j′ (movedSpan p g) ws (xs ++ r .coefficients ++ ys)) (sym count) ∙ undone-carried xs (r .coefficients) ys ws g o h
 
-        moved-balance : (js : List ℚ) → length js ≡ length (r .table) → balanced j′ (padded (length P) (length Q) js) (xs ++ r .numbers ++ ys) ≡ carried ρ (λ u. u) (balanced j js (r .numbers))
-        moved-balance js size = ap (λ p. balanced j′ (padded p (length Q) js) (xs ++ r .numbers ++ ys)) (sym count) ∙ balanced-carried xs (r .numbers) ys js (length Q) (size ∙ sym own)
+        moved-balance : (js : List ℚ) → length js ≡ length (r .table) → balanced j′ (padded (length P) (length Q) js) (xs ++ r .coefficients ++ ys) ≡ carried ρ (λ u. u) (balanced j js (r .coefficients))
+        moved-balance js size = ap (λ p. balanced j′ (padded p (length Q) js) (xs ++ r .coefficients ++ ys)) (sym count) ∙ balanced-carried xs (r .coefficients) ys js (length Q) (size ∙ sym own)

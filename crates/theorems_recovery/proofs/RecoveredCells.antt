@@ -1,4 +1,4 @@
--- From what a call ends with to its steps: an answer, and number 19, come from the steps alone, after every test has passed. So
+-- From what a call ends with to its steps: an answer, and code 19, come from the steps alone, after every test has passed. So
 -- the statements on the steps are statements on the cells.
 use mathlib.Core.Path.{_≡_, refl, sym, _∙_, ap}
 use mathlib.Core.Bool.{Bool, true, false, cond}
@@ -17,29 +17,29 @@ use Rattle.base_outcome.specs.Tests.{refuseFirst}
 use Rattle.spec_spline.specs.Table.{Table, tableCells}
 use Rattle.spec_spline.specs.Build.{weights, spaceWeights}
 use Rattle.base_outcome.proofs.Outcome.{then-answers, then-inverts, Broken, first-refuses, second-refuses, then-breaks, Changed, with-inverts, with-refuses}
-use Rattle.spec_spline.proofs.Legal.{checked-inverts, checked-number, refuseFirst-inverts, cond-refuse-inverts, fitting-inverts}
-use Rattle.theorems_recovery.specs.Recovery.{Numbered, recovered}
+use Rattle.spec_spline.proofs.Legal.{checked-inverts, checked-code, refuseFirst-inverts, cond-refuse-inverts, fitting-inverts}
+use Rattle.theorems_recovery.specs.Recovery.{Combination, recovered}
 use Rattle.theorems_recovery.specs.RecoveryCall.{badOrdinate, legalOrdinates, recoveryOutcome, answersAfter, numeratorOf, denominatorOf, recoveryEnd}
 use Rattle.theorems_recovery.specs.RecoveredCells.{HeldCoefficients, CellsReproduce, NineteenMeansNone}
 use Rattle.theorems_recovery.proofs.Reproduction.{answers-have-the-weights, answers-reproduce, no-others-reproduce, nineteen-misses-a-condition, nineteen-has-no-coefficients}
 
 -- a refusal with another number is not 19
-other-number : {A : Type 0} (n p : ℕ) {place : ℕ} → eqb n 19 ≡ false → _≡_ {A = Outcome A} (refuse n p) (refusal 19 place) → ⊥
-other-number n p h r = absurd (let z : n ≡ 19 = cc in let q : _≡_ {A = ℕ} 0 1 = let w : eqb 19 19 ≡ false = ap (λ k. eqb k 19) (sym z) ∙ h in cc in omega arith)
+other-coefficient : {A : Type 0} (n p : ℕ) {place : ℕ} → eqb n 19 ≡ false → _≡_ {A = Outcome A} (refuse n p) (refusal 19 place) → ⊥
+other-coefficient n p h r = absurd (let z : n ≡ 19 = cc in let q : _≡_ {A = ℕ} 0 1 = let w : eqb 19 19 ≡ false = ap (λ k. eqb k 19) (sym z) ∙ h in cc in omega arith)
 
 -- Every test has passed, and the steps end like this.
-pub record Reached (s : Space) (ordinates : List ℤ) (o : Outcome Numbered) : Type 0 where
+pub record Reached (s : Space) (ordinates : List ℤ) (o : Outcome Combination) : Type 0 where
   pub legal : checked s ≡ answer s
   pub size : length ordinates ≡ columnCount s
   pub ends : recovered s ordinates ≡ o
 
 module _ (ordinates : List ℤ) where
   -- the ordinates' tests, then the steps
-  abbrev entriesThenSteps : Space → Outcome Numbered
+  abbrev entriesThenSteps : Space → Outcome Combination
   entriesThenSteps s = legalOrdinates s ordinates (recovered s ordinates)
 
   module _ (s : Space) (legal : checked s ≡ answer s) where
-    answer-after : {r : Numbered} → entriesThenSteps s ≡ answer r → Reached s ordinates (answer r)
+    answer-after : {r : Combination} → entriesThenSteps s ≡ answer r → Reached s ordinates (answer r)
     answer-after e =
         let p = fitting-inverts (eqb (length ordinates) (columnCount s)) 18 largestPlace _ e in
         record { legal = legal; size = eqb-true (length ordinates) (columnCount s) (p .0); ends = refuseFirst-inverts 18 (first (length ordinates) (badOrdinate ordinates)) (recovered s ordinates) (p .1) .1 }
@@ -49,14 +49,14 @@ module _ (ordinates : List ℤ) where
       where
         searched : length ordinates ≡ columnCount s → (o : Option ℕ) → refuseFirst 18 o (recovered s ordinates) ≡ refusal 19 place → Reached s ordinates (refusal 19 place)
         searched size none e = record { legal = legal; size = size; ends = e }
-        searched size (some i) e = absurd (other-number 18 i refl e)
+        searched size (some i) e = absurd (other-coefficient 18 i refl e)
 
         counted : (b : Bool) → eqb (length ordinates) (columnCount s) ≡ b → cond b (refuseFirst 18 (first (length ordinates) (badOrdinate ordinates)) (recovered s ordinates)) (refuse 18 largestPlace) ≡ refusal 19 place → Reached s ordinates (refusal 19 place)
         counted true z e = searched (eqb-true (length ordinates) (columnCount s) z) (first (length ordinates) (badOrdinate ordinates)) e
-        counted false z e = absurd (other-number 18 largestPlace refl e)
+        counted false z e = absurd (other-coefficient 18 largestPlace refl e)
 
   module _ (s : Space) where
-    answer-reached : {r : Numbered} → (checked s then entriesThenSteps) ≡ answer r → Reached s ordinates (answer r)
+    answer-reached : {r : Combination} → (checked s then entriesThenSteps) ≡ answer r → Reached s ordinates (answer r)
     answer-reached {r} e =
         let c = then-inverts (checked s) entriesThenSteps e in
         let z = checked-inverts s (c .before) .0 in
@@ -66,12 +66,12 @@ module _ (ordinates : List ℤ) where
     nineteen-reached {place} e = go (then-breaks (checked s) entriesThenSteps e)
       where
         go : Broken (checked s) entriesThenSteps 19 place → Reached s ordinates (refusal 19 place)
-        go (first-refuses h) = absurd (checked-number (λ n. n ≡ 19 → ⊥) s (λ z. omega arith) (λ z. omega arith) (λ z. omega arith) (λ z. omega arith) (λ z. omega arith) h refl)
+        go (first-refuses h) = absurd (checked-code (λ n. n ≡ 19 → ⊥) s (λ z. omega arith) (λ z. omega arith) (λ z. omega arith) (λ z. omega arith) (λ z. omega arith) h refl)
         go (second-refuses m h k) = let z = checked-inverts s h .0 in nineteen-after s (h ∙ ap answer (sym z)) (ap entriesThenSteps z ∙ k)
 
 -- the whole call
 module _ (s : Space) (ordinates : List ℤ) (a b c d : ℕ) where
-  call-answered : {r : Numbered} → recoveryOutcome s ordinates a b c d ≡ answer r → Reached s ordinates (answer r)
+  call-answered : {r : Combination} → recoveryOutcome s ordinates a b c d ≡ answer r → Reached s ordinates (answer r)
   unfolding recoveryOutcome
   call-answered e =
       let p = cond-refuse-inverts (ltb a tableCells) 1 0 _ e in
@@ -84,8 +84,8 @@ module _ (s : Space) (ordinates : List ℤ) (a b c d : ℕ) where
   unfolding recoveryOutcome
   call-nineteen {place} e = nineteen-reached ordinates s (past (ltb d (length ordinates)) 4 (past (ltb c (length ordinates)) 3 (past (ltb b tableCells) 1 (past (ltb a tableCells) 0 e))))
     where
-      past : (t : Bool) (at : ℕ) {o : Outcome Numbered} → cond t (refuse 1 at) o ≡ refusal 19 place → o ≡ refusal 19 place
-      past true at e = absurd (other-number 1 at refl e)
+      past : (t : Bool) (at : ℕ) {o : Outcome Combination} → cond t (refuse 1 at) o ≡ refusal 19 place → o ≡ refusal 19 place
+      past true at e = absurd (other-coefficient 1 at refl e)
       past false at e = e
 
 -- ---- the statements
@@ -104,7 +104,7 @@ cells-reproduce s ordinates num den coefNum coefDen n e = go (with-inverts (λ _
         let w = answers-have-the-weights s (h .legal) ordinates (h .size) r (h .ends) in
         record {
           accepted = record { table = r .table; is = has-weights s (h .legal) (w .0) };
-          numbers = r .numbers;
+          coefficients = r .coefficients;
           count = w .1 ∙ c .changed;
           numerators-are = ap (λ o. answersAfter numeratorOf (length ordinates) o coefNum) (c .answers);
           denominators-are = ap (λ o. answersAfter denominatorOf (length ordinates) o coefDen) (c .answers);
@@ -115,4 +115,4 @@ cells-reproduce s ordinates num den coefNum coefDen n e = go (with-inverts (λ _
 pub nineteen-means-none : NineteenMeansNone
 nineteen-means-none s ordinates num den coefNum coefDen place e =
     let h = call-nineteen s ordinates (length num) (length den) (length coefNum) (length coefDen) (with-refuses (λ _. rowCount s) (recoveryOutcome s ordinates (length num) (length den) (length coefNum) (length coefDen)) e) in
-    record { missed = nineteen-misses-a-condition s (h .legal) ordinates (h .size) place (h .ends); none = λ a numbers q. nineteen-has-no-coefficients s a ordinates (h .size) place (h .ends) numbers q }
+    record { missed = nineteen-misses-a-condition s (h .legal) ordinates (h .size) place (h .ends); none = λ a coefficients q. nineteen-has-no-coefficients s a ordinates (h .size) place (h .ends) coefficients q }

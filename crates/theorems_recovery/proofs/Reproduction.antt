@@ -1,4 +1,4 @@
--- The induction over the steps, and the statements: at every step the present numbers give the ordinates, and the table is the
+-- The induction over the steps, and the statements: at every step the present coefficients give the ordinates, and the table is the
 -- one that the build has there.
 use mathlib.Core.Path.{_≡_, refl, sym, _∙_, ap}
 use mathlib.Core.Logic.{_⊎_, inl, inr}
@@ -33,20 +33,20 @@ use Rattle.theorems_weights.proofs.Basis.{Basis, combined}
 use Rattle.theorems_weights.proofs.Identity.{identity-basis, column-picks}
 use Rattle.theorems_weights.proofs.Built.{Done, nothing-done, order-stepped, order-kept, join-kept, Built, built, row-count}
 use Rattle.theorems_weights.proofs.PublishedBasis.{pairing-applied, combined-past, combination-at, combination-length, combinations-meet-conditions}
-use Rattle.theorems_recovery.specs.Recovery.{Numbered, recoverStep, recoverOrders, recoverJoins, recovered}
+use Rattle.theorems_recovery.specs.Recovery.{Combination, recoverStep, recoverOrders, recoverJoins, recovered}
 use Rattle.theorems_recovery.specs.Reproduction.{AnswersHaveTheWeights, AnswersReproduce, NoOthersReproduce, MissedCondition, NineteenMissesACondition, NineteenHasNoCoefficients, ExactCurveHasTheOrdinates, RecoveredOrTooLarge, recovers, too-large, CurvesAreRecovered}
 use Rattle.theorems_recovery.proofs.Refusals.{recovered-clears, eight-and-nine-are-the-builds}
-use Rattle.theorems_recovery.proofs.Steps.{Parts, parts-of, unbalanced, sum-of-jumps, numbers-count, combination-kept}
+use Rattle.theorems_recovery.proofs.Steps.{Parts, parts-of, unbalanced, sum-of-jumps, coefficients-count, combination-kept}
 
 module _ (s : Space) (L : Legal s) (ordinates : List ℤ) (columns : length ordinates ≡ columnCount s) where
   -- After the joins before this one and the first orders at it.
-  record Kept (join n : ℕ) (r : Numbered) : Type 0 where
+  record Kept (join n : ℕ) (r : Combination) : Type 0 where
     pub basis : Basis (Done s join n) (columnCount s) (r .table)
-    pub count : length (r .numbers) ≡ length (r .table)
-    pub gives : (c : ℕ) → combined (entry (r .numbers)) (r .table) c ≡ entry (map int ordinates) c
+    pub count : length (r .coefficients) ≡ length (r .table)
+    pub gives : (c : ℕ) → combined (entry (r .coefficients)) (r .table) c ≡ entry (map int ordinates) c
 
   -- one step
-  step-kept : (j k : ℕ) → j < segments s - 1 → k < conditionCount s j → (r r′ : Numbered) → Kept j k r → recoverStep j (conditions s j k) r ≡ answer r′ → Kept j (suc k) r′ × (step j (conditions s j k) (r .table) ≡ answer (r′ .table))
+  step-kept : (j k : ℕ) → j < segments s - 1 → k < conditionCount s j → (r r′ : Combination) → Kept j k r → recoverStep j (conditions s j k) r ≡ answer r′ → Kept j (suc k) r′ × (step j (conditions s j k) (r .table) ≡ answer (r′ .table))
   step-kept j k h l r r′ K e = go (parts-of j (conditions s j k) r r′ e)
     where
       go : Parts j (conditions s j k) r r′ → Kept j (suc k) r′ × (step j (conditions s j k) (r .table) ≡ answer (r′ .table))
@@ -56,25 +56,25 @@ module _ (s : Space) (L : Legal s) (ordinates : List ℤ) (columns : length ordi
           with-step S = (
             record {
               basis = order-kept s L j k (r .table) (r′ .table) (K .basis) S;
-              count = numbers-count (columnCount s) j (conditions s j k) r r′ (K .count) S P;
+              count = coefficients-count (columnCount s) j (conditions s j k) r r′ (K .count) S P;
               gives = λ c. combination-kept (columnCount s) j (conditions s j k) r r′ (K .count) S P c ∙ K .gives c;
             },
             P .has-step,
           )
 
   -- the first orders at a join
-  orders-kept : (j n : ℕ) → j < segments s - 1 → n ≤ conditionCount s j → (r r′ : Numbered) → Kept j 0 r → recoverOrders s j n r ≡ answer r′ → Kept j n r′ × (orderSteps s j n (r .table) ≡ answer (r′ .table))
+  orders-kept : (j n : ℕ) → j < segments s - 1 → n ≤ conditionCount s j → (r r′ : Combination) → Kept j 0 r → recoverOrders s j n r ≡ answer r′ → Kept j n r′ × (orderSteps s j n (r .table) ≡ answer (r′ .table))
   unfolding recoverOrders orderSteps repeat
   orders-kept j n h l r r′ K e = repeat-keeps (λ k b. Kept j k b × (repeat k (λ k. step j (conditions s j k)) (r .table) ≡ answer (b .table))) n (λ k. recoverStep j (conditions s j k)) r (K, refl)
       (λ k b c m Q q. let z = step-kept j k h (omega arith) b c (Q .0) q in (z .0, repeat-more k (λ k. step j (conditions s j k)) (r .table) (Q .1) ∙ z .1)) r′ e
 
   -- all of a join
-  join-undone : (j : ℕ) → j < segments s - 1 → (r r′ : Numbered) → Kept j 0 r → recoverOrders s j (conditionCount s j) r ≡ answer r′ → Kept (suc j) 0 r′ × (orderSteps s j (conditionCount s j) (r .table) ≡ answer (r′ .table))
+  join-undone : (j : ℕ) → j < segments s - 1 → (r r′ : Combination) → Kept j 0 r → recoverOrders s j (conditionCount s j) r ≡ answer r′ → Kept (suc j) 0 r′ × (orderSteps s j (conditionCount s j) (r .table) ≡ answer (r′ .table))
   join-undone j h r r′ K e = let z = orders-kept j (conditionCount s j) h (omega arith) r r′ K e in
       (record { basis = join-kept s L j h (r .table) (r′ .table) (K .basis) (z .1) .0; count = z .0 .count; gives = z .0 .gives }, z .1)
 
-  start : Numbered
-  start = record { table = identity (columnCount s); numbers = map int ordinates }
+  start : Combination
+  start = record { table = identity (columnCount s); coefficients = map int ordinates }
 
   size : length (map int ordinates) ≡ columnCount s
   size = length-map ordinates int ∙ columns
@@ -91,42 +91,42 @@ module _ (s : Space) (L : Legal s) (ordinates : List ℤ) (columns : length ordi
       go c (inr h) = column-picks (columnCount s) (entry (map int ordinates)) c h
 
   -- the first joins
-  joins-kept : (n : ℕ) → n ≤ segments s - 1 → (r : Numbered) → recoverJoins s ordinates n ≡ answer r → Kept n 0 r × (joinSteps s n ≡ answer (r .table))
+  joins-kept : (n : ℕ) → n ≤ segments s - 1 → (r : Combination) → recoverJoins s ordinates n ≡ answer r → Kept n 0 r × (joinSteps s n ≡ answer (r .table))
   unfolding recoverJoins joinSteps repeat start
   joins-kept n l r e = repeat-keeps (λ j b. Kept j 0 b × (repeat j (λ j. orderSteps s j (conditionCount s j)) (identity (columnCount s)) ≡ answer (b .table))) n (λ j. recoverOrders s j (conditionCount s j)) start (start-kept, refl)
       (λ j b c m Q q. let z = join-undone j (omega arith) b c (Q .0) q in (z .0, repeat-more j (λ j. orderSteps s j (conditionCount s j)) (identity (columnCount s)) (Q .1) ∙ z .1)) r e
 
   -- ---- an answer
 
-  module _ (r : Numbered) (e : recovered s ordinates ≡ answer r) where
+  module _ (r : Combination) (e : recovered s ordinates ≡ answer r) where
     all-kept : Kept (segments s - 1) 0 r × (weights s ≡ answer (r .table))
     unfolding recovered weights
     all-kept = joins-kept (segments s - 1) (omega arith) r e
 
-    reproduced : combination (columnCount s) (r .numbers) (r .table) ≡ map int ordinates
-    reproduced = ext-getD (int (pos 0)) (combination (columnCount s) (r .numbers) (r .table)) (map int ordinates) (combination-length (columnCount s) (r .numbers) (r .table) ∙ sym size)
-        (λ c h. combination-at (columnCount s) (r .table) (all-kept .0 .basis .wide) (r .numbers) c ∙ all-kept .0 .gives c)
+    reproduced : combination (columnCount s) (r .coefficients) (r .table) ≡ map int ordinates
+    reproduced = ext-getD (int (pos 0)) (combination (columnCount s) (r .coefficients) (r .table)) (map int ordinates) (combination-length (columnCount s) (r .coefficients) (r .table) ∙ sym size)
+        (λ c h. combination-at (columnCount s) (r .table) (all-kept .0 .basis .wide) (r .coefficients) c ∙ all-kept .0 .gives c)
 
     -- no others have the same combination
-    only : (others : List ℚ) → length others ≡ length (r .table) → combination (columnCount s) others (r .table) ≡ map int ordinates → others ≡ r .numbers
-    only others n q = ext-getD (int (pos 0)) others (r .numbers) (n ∙ sym (all-kept .0 .count))
-        (λ i h. all-kept .0 .basis .unique (entry others) (entry (r .numbers))
+    only : (others : List ℚ) → length others ≡ length (r .table) → combination (columnCount s) others (r .table) ≡ map int ordinates → others ≡ r .coefficients
+    only others n q = ext-getD (int (pos 0)) others (r .coefficients) (n ∙ sym (all-kept .0 .count))
+        (λ i h. all-kept .0 .basis .unique (entry others) (entry (r .coefficients))
         (λ c. sym (combination-at (columnCount s) (r .table) (all-kept .0 .basis .wide) others c) ∙ ap (λ o. entry o c) q ∙ sym (all-kept .0 .gives c)) i (rw n at h))
 
-  -- ---- number 19
+  -- ---- code 19
 
   -- at a step that ends with 19 the ordinates miss its condition
-  step-missed : (j k : ℕ) (r : Numbered) (place : ℕ) → Kept j k r → recoverStep j (conditions s j k) r ≡ refusal 19 place → Meets s (map int ordinates) j k → ⊥
+  step-missed : (j k : ℕ) (r : Combination) (place : ℕ) → Kept j k r → recoverStep j (conditions s j k) r ≡ refusal 19 place → Meets s (map int ordinates) j k → ⊥
   step-missed j k r place K e m = let U = unbalanced j (conditions s j k) r place e in
-      U .not-zero (sym (sum-of-jumps j (conditions s j k) (r .table) (r .numbers) (U .js) (U .has-jumps))
-      ∙ sym (applied-sum (conditions s j k) (length (r .table)) (entry (r .numbers)) (cell (r .table)))
+      U .not-zero (sym (sum-of-jumps j (conditions s j k) (r .table) (r .coefficients) (U .js) (U .has-jumps))
+      ∙ sym (applied-sum (conditions s j k) (length (r .table)) (entry (r .coefficients)) (cell (r .table)))
       ∙ applied-ext (conditions s j k) (K .gives) ∙ sym (pairing-applied (map int ordinates) (conditions s j k)) ∙ m)
 
   missed : (place : ℕ) → recovered s ordinates ≡ refusal 19 place → MissedCondition s ordinates
   unfolding recovered recoverJoins recoverOrders start
   missed place e = at-join (repeat-refuses (segments s - 1) (λ j. recoverOrders s j (conditionCount s j)) start e)
     where
-      at-order : (j : ℕ) → j < segments s - 1 → (r : Numbered) → Kept j 0 r → Halted (conditionCount s j) (λ k. recoverStep j (conditions s j k)) r 19 place → MissedCondition s ordinates
+      at-order : (j : ℕ) → j < segments s - 1 → (r : Combination) → Kept j 0 r → Halted (conditionCount s j) (λ k. recoverStep j (conditions s j k)) r 19 place → MissedCondition s ordinates
       at-order j h r K H = record {
         join = j;
         order = H .index;
@@ -164,10 +164,10 @@ pub nineteen-misses-a-condition : NineteenMissesACondition
 nineteen-misses-a-condition s e ordinates n place h = missed s (legal-of s e) ordinates n place h
 
 pub nineteen-has-no-coefficients : NineteenHasNoCoefficients
-nineteen-has-no-coefficients s a ordinates n place h numbers q = go (missed s (built s (a .table) (a .is) .legal-space) ordinates n place h)
+nineteen-has-no-coefficients s a ordinates n place h coefficients q = go (missed s (built s (a .table) (a .is) .legal-space) ordinates n place h)
   where
     go : MissedCondition s ordinates → ⊥
-    go M = M .missed (ap (λ o. pairing o (conditions s (M .join) (M .order))) (sym q) ∙ combinations-meet-conditions s a numbers .meets (M .join) (M .order) (M .join-below) (M .order-below))
+    go M = M .missed (ap (λ o. pairing o (conditions s (M .join) (M .order))) (sym q) ∙ combinations-meet-conditions s a coefficients .meets (M .join) (M .order) (M .join-below) (M .order-below))
 
 -- The double sum of the exact curve by columns: each ordinate times its Bernstein polynomial.
 pub exact-curve-has-the-ordinates : ExactCurveHasTheOrdinates
@@ -176,7 +176,7 @@ exact-curve-has-the-ordinates s e ordinates n r h part coefs same j below x =
     sum-swap (length (r .table)) (suc (degree s j)) (λ i t. int (fine (coefficient part coefs i)) *ᵠ cell (r .table) i (firstColumn s j + t) *ᵠ bernstein t)
     ∙ sum-ext (suc (degree s j)) (λ t k. sum-mul-right (length (r .table)) (bernstein t) (λ i. int (fine (coefficient part coefs i)) *ᵠ cell (r .table) i (firstColumn s j + t)) ∙ ap (λ q. q *ᵠ bernstein t) (column t))
   where
-    K : (weights s ≡ answer (r .table)) × (length (r .numbers) ≡ rowCount s)
+    K : (weights s ≡ answer (r .table)) × (length (r .coefficients) ≡ rowCount s)
     K = answers-have-the-weights s e ordinates n r h
 
     bernstein : ℕ → ℚ
@@ -189,37 +189,37 @@ exact-curve-has-the-ordinates s e ordinates n r h part coefs same j below x =
 
 -- What the steps end with on the ordinates of a curve that meets all join conditions.
 pub data CurveEnd (s : Space) (ordinates : List ℤ) : Type 0 where
-  by-an-answer : (r : Numbered) → recovered s ordinates ≡ answer r → CurveEnd s ordinates
-  by-the-build : (number place : ℕ) → recovered s ordinates ≡ refusal number place → weights s ≡ refusal number place → CurveEnd s ordinates
+  by-an-answer : (r : Combination) → recovered s ordinates ≡ answer r → CurveEnd s ordinates
+  by-the-build : (code place : ℕ) → recovered s ordinates ≡ refusal code place → weights s ≡ refusal code place → CurveEnd s ordinates
   by-twenty : (place : ℕ) → recovered s ordinates ≡ refusal 20 place → CurveEnd s ordinates
 
--- Of the four numbers that can end the steps 8 and 9 are the build's, and the ordinates miss no condition.
+-- Of the four codes that can end the steps 8 and 9 are the build's, and the ordinates miss no condition.
 pub curve-ends : (s : Space) → Legal s → (ordinates : List ℤ) → MeetsAll s (map int ordinates) → CurveEnd s ordinates
 curve-ends s L ordinates M = go (recovered s ordinates) refl
   where
     size : length ordinates ≡ columnCount s
     size = sym (length-map ordinates int) ∙ M .columns
 
-    decide : (number place : ℕ) (b c d : Bool) → clears number ≡ b → eqb number 19 ≡ c → eqb number 20 ≡ d → (b || c || d) ≡ true → recovered s ordinates ≡ refusal number place → CurveEnd s ordinates
-    decide number place true c d p q u told e = by-the-build number place e (eight-and-nine-are-the-builds s ordinates number place p e)
-    decide number place false true d p q u told e =
-        absurd (let N = missed s L ordinates size place (e ∙ ap (λ n. refusal n place) (eqb-true number 19 q)) in N .missed (M .meets (N .join) (N .order) (N .join-below) (N .order-below)))
-    decide number place false false true p q u told e = by-twenty place (e ∙ ap (λ n. refusal n place) (eqb-true number 20 u))
-    decide number place false false false p q u told e = absurd (let z : _≡_ {A = ℕ} 0 1 = cc in omega arith)
+    decide : (code place : ℕ) (b c d : Bool) → clears code ≡ b → eqb code 19 ≡ c → eqb code 20 ≡ d → (b || c || d) ≡ true → recovered s ordinates ≡ refusal code place → CurveEnd s ordinates
+    decide code place true c d p q u told e = by-the-build code place e (eight-and-nine-are-the-builds s ordinates code place p e)
+    decide code place false true d p q u told e =
+        absurd (let N = missed s L ordinates size place (e ∙ ap (λ n. refusal n place) (eqb-true code 19 q)) in N .missed (M .meets (N .join) (N .order) (N .join-below) (N .order-below)))
+    decide code place false false true p q u told e = by-twenty place (e ∙ ap (λ n. refusal n place) (eqb-true code 20 u))
+    decide code place false false false p q u told e = absurd (let z : _≡_ {A = ℕ} 0 1 = cc in omega arith)
 
-    go : (o : Outcome Numbered) → recovered s ordinates ≡ o → CurveEnd s ordinates
+    go : (o : Outcome Combination) → recovered s ordinates ≡ o → CurveEnd s ordinates
     go (answer r) e = by-an-answer r e
-    go (refusal number place) e = decide number place (clears number) (eqb number 19) (eqb number 20) refl refl refl (recovered-clears s ordinates number place e) e
+    go (refusal code place) e = decide code place (clears code) (eqb code 19) (eqb code 20) refl refl refl (recovered-clears s ordinates code place e) e
 
 -- An accepted space is not refused by the build.
 pub curves-are-recovered : CurvesAreRecovered
 unfolding spaceWeights
 curves-are-recovered s a ordinates M = go (curve-ends s (built s (a .table) (a .is) .legal-space) ordinates M)
   where
-    not-the-build : {number place : ℕ} → weights s ≡ refusal number place → ⊥
+    not-the-build : {code place : ℕ} → weights s ≡ refusal code place → ⊥
     not-the-build e = let c = then-inverts (checked s) weights (a .is) in answer-not-refusal (c .after) (ap weights (sym (checked-inverts s (c .before) .0)) ∙ e)
 
     go : CurveEnd s ordinates → RecoveredOrTooLarge (recovered s ordinates)
     go (by-an-answer r e) = recovers r e
-    go (by-the-build number place e w) = absurd (not-the-build w)
+    go (by-the-build code place e w) = absurd (not-the-build w)
     go (by-twenty place e) = too-large place e

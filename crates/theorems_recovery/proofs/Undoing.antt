@@ -1,5 +1,5 @@
--- One step undone, on functions: numbers that are worked out row by row, the share of the row before subtracted and the rest
--- divided by the factor, are the numbers of the new rows that NullSpace finds; and the jumps leave no choice of the factors.
+-- One step undone, on functions: coefficients that are worked out row by row, the share of the row before subtracted and the rest
+-- divided by the factor, are the coefficients of the new rows that NullSpace finds; and the jumps leave no choice of the factors.
 use mathlib.Core.Path.{_≡_, refl, sym, _∙_, ap}
 use mathlib.Core.Logic.{_≢_, _⊎_, inl, inr}
 use mathlib.Core.List.{[], _∷_}
@@ -54,7 +54,7 @@ module _ (n f l : ℕ) (J w : ℕ → ℚ) (G : Jumps n f l J w) where
             (by-eq ℚ-ring (int (pos 1)) (lifts (suc i) (omega arith)) (by-eq ℚ-ring (int (negsuc 0)) (next i (omega arith) k) (by-eq ℚ-ring (int (negsuc 0) +ᵠ w (suc i)) (ih (omega arith))
             (ring ℚ-ring (w (suc i) ∷ c (suc (suc i)) ∷ c (suc i) ∷ x (suc i) ∷ d (suc i) ∷ d i ∷ []) (search readsℚ depth 30) (search readsℚ depth 30) refl))))
 
-    -- they are the numbers of the new rows
+    -- they are the coefficients of the new rows
     pub undone-is : (i : ℕ) → suc i < n → c (suc i) ≡ d i
     undone-is i h = go (le-or-lt i f) (le-or-lt l i)
       where

@@ -9,14 +9,14 @@ use Rattle.base_outcome.specs.Outcome.{answer, _then_}
 use Rattle.spec_spline.specs.Space.{Space, segments, checked, columnCount}
 use Rattle.theorems_beams.specs.Sections.{section, beside, later}
 use Rattle.theorems_beams.specs.Parts.{Starts}
-use Rattle.theorems_recovery.specs.Recovery.{Numbered, recovered}
+use Rattle.theorems_recovery.specs.Recovery.{Combination, recovered}
 
--- The tables of the two spaces side by side, and their numbers in a row.
-abbrev pub together : Space → Space → Numbered → Numbered → Numbered
+-- The tables of the two spaces side by side, and their coefficients in a row.
+abbrev pub together : Space → Space → Combination → Combination → Combination
 together before behind r q = record {
   table = beside (columnCount before) (columnCount behind) (r .table) (q .table);
-  numbers = r .numbers
-      ++ q .numbers;
+  coefficients = r .coefficients
+      ++ q .coefficients;
 }
 
 -- A beam cut before segment a, each section with the ordinates of its own columns: its coefficients are those of the two

@@ -57,12 +57,12 @@ recovers s ordinates n numerators denominators =
 
 -- A refusal after building has begun: 0/1 in a cell for each ordinate.
 abbrev pub clears : Space → List ℤ → ℕ → ℕ → Case
-clears s ordinates number place =
+clears s ordinates code place =
     record {
       space = s;
       ordinates = ordinates;
       ends = record {
-        answers = refusal number place;
+        answers = refusal code place;
         numerators = map (λ z. pos 0) ordinates ++ (old ∷ []);
         denominators = map (λ z. pos 1) ordinates ++ (old ∷ []);
       };
@@ -70,12 +70,12 @@ clears s ordinates number place =
 
 -- A refusal before it: all is as it was.
 abbrev pub keeps : Space → List ℤ → ℕ → ℕ → Case
-keeps s ordinates number place =
+keeps s ordinates code place =
     record {
       space = s;
       ordinates = ordinates;
       ends = record {
-        answers = refusal number place;
+        answers = refusal code place;
         numerators = lent ordinates;
         denominators = lent ordinates;
       };
@@ -143,10 +143,10 @@ cases =
 
 -- What a call on W9's space with these ordinates and these lengths of the four buffers ends with.
 abbrev pub lengths : ℕ → ℕ → ℕ → ℕ → Outcome ℕ
-lengths num den coefNum coefDen = with-answer (λ r. length (r .numbers))
+lengths num den coefNum coefDen = with-answer (λ r. length (r .coefficients))
     (recoveryOutcome space9 (pos 1 ∷ pos 2 ∷ pos 3 ∷ pos 4 ∷ []) num den coefNum coefDen)
 
--- Number 1 with places 0, 1, 3 and 4, in this order.
+-- Code 1 with places 0, 1, 3 and 4, in this order.
 abbrev pub ShortBuffers : Type 0
 ShortBuffers =
     (lengths tableCells tableCells 4 4 ≡ answer 4) ×

@@ -15,13 +15,13 @@ use Rattle.theorems_recovery.specs.Reproduction.{MissedCondition}
 -- The answer buffers hold n fractions from the first cell on, and these alone reproduce the ordinates.
 pub record HeldCoefficients (s : Space) (ordinates coefNum coefDen : List ℤ) (n : ℕ) (e : RecoveryEnd) : Type 0 where
   pub accepted : Accepted s
-  pub numbers : List ℚ
-  pub count : length numbers ≡ n
-  pub numerators-are : e .coefficientNumerators ≡ listed numeratorOf (length ordinates) numbers coefNum
-  pub denominators-are : e .coefficientDenominators ≡ listed denominatorOf (length ordinates) numbers coefDen
-  pub reproduce : combination (columnCount s) numbers (accepted .table) ≡ map int ordinates
+  pub coefficients : List ℚ
+  pub count : length coefficients ≡ n
+  pub numerators-are : e .coefficientNumerators ≡ listed numeratorOf (length ordinates) coefficients coefNum
+  pub denominators-are : e .coefficientDenominators ≡ listed denominatorOf (length ordinates) coefficients coefDen
+  pub reproduce : combination (columnCount s) coefficients (accepted .table) ≡ map int ordinates
   pub no-others : (others : List ℚ) → length others ≡ n → combination (columnCount s) others (accepted .table) ≡ map int ordinates
-      → others ≡ numbers
+      → others ≡ coefficients
 
 -- Every call that answers, whatever lists and buffers it was lent.
 abbrev pub CellsReproduce : Type 0
@@ -32,7 +32,7 @@ CellsReproduce = (s : Space) (ordinates num den coefNum coefDen : List ℤ) (n :
 -- The ordinates miss a join condition, so that no fractions reproduce them.
 pub record NoCoefficients (s : Space) (ordinates : List ℤ) : Type 0 where
   pub missed : MissedCondition s ordinates
-  pub none : (a : Accepted s) (numbers : List ℚ) → combination (columnCount s) numbers (a .table) ≡ map int ordinates → ⊥
+  pub none : (a : Accepted s) (coefficients : List ℚ) → combination (columnCount s) coefficients (a .table) ≡ map int ordinates → ⊥
 
 -- Every call that ends with 19.
 abbrev pub NineteenMeansNone : Type 0

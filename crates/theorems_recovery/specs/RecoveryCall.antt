@@ -13,17 +13,17 @@ use Rattle.spec_spline.specs.Space.{Space, checked, columnCount, rowCount}
 use Rattle.base_outcome.specs.Tests.{between, refuseFirst}
 use Rattle.spec_spline.specs.Table.{Table, entry, numerators, denominators}
 use Rattle.spec_spline.specs.Build.{longEnough, lastPart, clears}
-use Rattle.theorems_recovery.specs.Recovery.{Numbered, recovered}
+use Rattle.theorems_recovery.specs.Recovery.{Combination, recovered}
 
 -- "in whole 256ths from -256,000,000 to 256,000,000".
 abbrev pub ordinateLimit : ℕ
 ordinateLimit = 256000000
 
--- Number 18: entry i is out of range.
+-- Code 18: entry i is out of range.
 unfoldable pub badOrdinate : List ℤ → ℕ → Bool
 badOrdinate ordinates i = not (between (negℤ (pos ordinateLimit)) (pos ordinateLimit) (getD ordinates i (pos 0)))
 
--- Number 18, or the value given: "the count isn't that of the columns (tested first)", with the largest place, or an ordinate is
+-- Code 18, or the value given: "the count isn't that of the columns (tested first)", with the largest place, or an ordinate is
 -- out of range.
 abbrev pub legalOrdinates : {A : Type 0} → Space → List ℤ → Outcome A → Outcome A
 legalOrdinates s ordinates rest =
@@ -31,35 +31,35 @@ legalOrdinates s ordinates rest =
     (refuseFirst 18 (first (length ordinates) (badOrdinate ordinates)) rest)
     (refuse 18 largestPlace)
 
--- Number 1, or the value given: "1, place 3 or 4, if one is shorter than the ordinates".
+-- Code 1, or the value given: "1, place 3 or 4, if one is shorter than the ordinates".
 abbrev pub allLongEnough : {A : Type 0} → List ℤ → ℕ → ℕ → ℕ → ℕ → Outcome A → Outcome A
 allLongEnough ordinates numLength denLength coefNumLength coefDenLength rest =
     longEnough numLength denLength
     (cond (ltb coefNumLength (length ordinates)) (refuse 1 3) (cond (ltb coefDenLength (length ordinates)) (refuse 1 4) rest))
 
 -- What the call ends with, given the lengths of the four buffers.
-unfoldable pub recoveryOutcome : Space → List ℤ → ℕ → ℕ → ℕ → ℕ → Outcome Numbered
+unfoldable pub recoveryOutcome : Space → List ℤ → ℕ → ℕ → ℕ → ℕ → Outcome Combination
 recoveryOutcome s ordinates numLength denLength coefNumLength coefDenLength =
     allLongEnough ordinates numLength denLength coefNumLength coefDenLength
     (checked s then λ legal. legalOrdinates legal ordinates (recovered legal ordinates))
 
 -- "after 8, 9, 19 and 20 the weights, and the answers up to the ordinate count, are 0/1".
 abbrev pub clearsAll : ℕ → Bool
-clearsAll number = clears number || eqb number 19 || eqb number 20
+clearsAll code = clears code || eqb code 19 || eqb code 20
 
 -- A weight buffer after the call: the last part's weights as `laid` lays a table in it, cleared, or as it was.
-abbrev pub weightsAfter : (Table → List ℤ → List ℤ) → Space → Outcome Numbered → List ℤ → List ℤ
+abbrev pub weightsAfter : (Table → List ℤ → List ℤ) → Space → Outcome Combination → List ℤ → List ℤ
 weightsAfter laid s (answer r) before = laid (lastPart s (r .table)) before
-weightsAfter laid s (refusal number place) before = cond (clearsAll number) (laid [] before) before
+weightsAfter laid s (refusal code place) before = cond (clearsAll code) (laid [] before) before
 
 -- Fractions as one of their parts, from the first cell on: n cells in all, past the fractions those of 0/1, later ones as before.
 abbrev pub listed : (ℚ → ℤ) → ℕ → List ℚ → List ℤ → List ℤ
 listed part n qs before = tab n (λ k. part (entry qs k)) ++ drop n before
 
 -- An answer buffer after the call with n ordinates: "the coefficients fill the first n cells", then 0/1 "up to the ordinate count".
-abbrev pub answersAfter : (ℚ → ℤ) → ℕ → Outcome Numbered → List ℤ → List ℤ
-answersAfter part n (answer r) before = listed part n (r .numbers) before
-answersAfter part n (refusal number place) before = cond (clearsAll number) (listed part n [] before) before
+abbrev pub answersAfter : (ℚ → ℤ) → ℕ → Outcome Combination → List ℤ → List ℤ
+answersAfter part n (answer r) before = listed part n (r .coefficients) before
+answersAfter part n (refusal code place) before = cond (clearsAll code) (listed part n [] before) before
 
 -- The numerator and the denominator of a fraction, as the cells hold them.
 abbrev pub numeratorOf : ℚ → ℤ

@@ -15,26 +15,26 @@ use Rattle.spec_spline.specs.Build.{weights, clears}
 use Rattle.spec_spline.specs.Piecewise.{Accepted, Meets, MeetsAll, combination}
 use Rattle.spec_spline.specs.Reading.{Wood, fine, coefficient, fineWidth, offset}
 use Rattle.spec_spline.specs.ExactCurve.{bernsteinAt, exactOn}
-use Rattle.theorems_recovery.specs.Recovery.{Numbered, recovered}
+use Rattle.theorems_recovery.specs.Recovery.{Combination, recovered}
 
--- An answer has the build's own weights, and a number for each of their n rows.
+-- An answer has the build's own weights, and a coefficient for each of their n rows.
 abbrev pub AnswersHaveTheWeights : Type 0
-AnswersHaveTheWeights = (s : Space) → checked s ≡ answer s → (ordinates : List ℤ) → length ordinates ≡ columnCount s → (r : Numbered)
+AnswersHaveTheWeights = (s : Space) → checked s ≡ answer s → (ordinates : List ℤ) → length ordinates ≡ columnCount s → (r : Combination)
     → recovered s ordinates ≡ answer r
-    → (weights s ≡ answer (r .table)) × (length (r .numbers) ≡ rowCount s)
+    → (weights s ≡ answer (r .table)) × (length (r .coefficients) ≡ rowCount s)
 
 -- "its coefficients reproduce each ordinate exactly".
 abbrev pub AnswersReproduce : Type 0
-AnswersReproduce = (s : Space) → checked s ≡ answer s → (ordinates : List ℤ) → length ordinates ≡ columnCount s → (r : Numbered)
+AnswersReproduce = (s : Space) → checked s ≡ answer s → (ordinates : List ℤ) → length ordinates ≡ columnCount s → (r : Combination)
     → recovered s ordinates ≡ answer r
-    → combination (columnCount s) (r .numbers) (r .table) ≡ map int ordinates
+    → combination (columnCount s) (r .coefficients) (r .table) ≡ map int ordinates
 
 -- "and no others do".
 abbrev pub NoOthersReproduce : Type 0
-NoOthersReproduce = (s : Space) → checked s ≡ answer s → (ordinates : List ℤ) → length ordinates ≡ columnCount s → (r : Numbered)
+NoOthersReproduce = (s : Space) → checked s ≡ answer s → (ordinates : List ℤ) → length ordinates ≡ columnCount s → (r : Combination)
     → recovered s ordinates ≡ answer r
     → (others : List ℚ) → length others ≡ rowCount s → combination (columnCount s) others (r .table) ≡ map int ordinates
-    → others ≡ r .numbers
+    → others ≡ r .coefficients
 
 -- A join condition that these ordinates miss.
 pub record MissedCondition (s : Space) (ordinates : List ℤ) : Type 0 where
@@ -54,25 +54,25 @@ NineteenMissesACondition = (s : Space) → checked s ≡ answer s → (ordinates
 abbrev pub NineteenHasNoCoefficients : Type 0
 NineteenHasNoCoefficients = (s : Space) (a : Accepted s) (ordinates : List ℤ) → length ordinates ≡ columnCount s → (place : ℕ)
     → recovered s ordinates ≡ refusal 19 place
-    → (numbers : List ℚ) → combination (columnCount s) numbers (a .table) ≡ map int ordinates → ⊥
+    → (coefficients : List ℚ) → combination (columnCount s) coefficients (a .table) ≡ map int ordinates → ⊥
 
 -- Coefficients that are 256 times whole numbers, given to the curve call, have exactly these ordinates in its exact curve.
 abbrev pub ExactCurveHasTheOrdinates : Type 0
-ExactCurveHasTheOrdinates = (s : Space) → checked s ≡ answer s → (ordinates : List ℤ) → length ordinates ≡ columnCount s → (r : Numbered)
+ExactCurveHasTheOrdinates = (s : Space) → checked s ≡ answer s → (ordinates : List ℤ) → length ordinates ≡ columnCount s → (r : Combination)
     → recovered s ordinates ≡ answer r
-    → (part : Wood) (coefs : List ℤ) → ((i : ℕ) → i < rowCount s → entry (r .numbers) i ≡ int (fine (coefficient part coefs i)))
+    → (part : Wood) (coefs : List ℤ) → ((i : ℕ) → i < rowCount s → entry (r .coefficients) i ≡ int (fine (coefficient part coefs i)))
     → (j : ℕ) → j < segments s → (x : ℤ)
     → exactOn s (r .table) part coefs j x ≡ sum (suc (degree s j))
     (λ t. int (getD ordinates (firstColumn s j + t) (pos 0)) *ᵠ bernsteinAt (degree s j) (fineWidth s j) (offset s j x) t)
 
 -- 8 and 9 are "the build's own work": they come where, and as, the build gives them.
 abbrev pub EightAndNineAreTheBuilds : Type 0
-EightAndNineAreTheBuilds = (s : Space) (ordinates : List ℤ) (number place : ℕ) → clears number ≡ true
-    → recovered s ordinates ≡ refusal number place → weights s ≡ refusal number place
+EightAndNineAreTheBuilds = (s : Space) (ordinates : List ℤ) (code place : ℕ) → clears code ≡ true
+    → recovered s ordinates ≡ refusal code place → weights s ≡ refusal code place
 
--- What is recovered, or number 20.
-pub data RecoveredOrTooLarge (o : Outcome Numbered) : Type 0 where
-  recovers : (r : Numbered) → o ≡ answer r → RecoveredOrTooLarge o
+-- What is recovered, or code 20.
+pub data RecoveredOrTooLarge (o : Outcome Combination) : Type 0 where
+  recovers : (r : Combination) → o ≡ answer r → RecoveredOrTooLarge o
   too-large : (place : ℕ) → o ≡ refusal 20 place → RecoveredOrTooLarge o
 
 -- The ordinates of a piecewise curve that meets all join conditions of an accepted space are refused for their sizes alone.

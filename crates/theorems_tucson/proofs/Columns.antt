@@ -17,7 +17,7 @@ use Rattle.base_exact.proofs.Integer.{≤-in, ≤-out}
 use Rattle.base_exact.proofs.Word.{leZ-true, le-test}
 use Rattle.base_outcome.specs.Tests.{between}
 use Rattle.base_text.specs.Bytes.{Text, newline, minus}
-use Rattle.base_text.specs.Numeral.{digitsValue, isNatural, negated, numeral, decimal, numberLimit}
+use Rattle.base_text.specs.Numeral.{digitsValue, isNatural, negated, numeral, decimal, numeralLimit}
 use Rattle.base_text.proofs.Decimal.{digits-length-le}
 use Rattle.base_text.proofs.Digits.{value-below, natural-parts}
 use Rattle.base_text.proofs.Lacking.{lacks, byte, byte-outside, lacks-append, decimal-lacks}
@@ -39,7 +39,7 @@ full-columns [] h l = absurd (omega arith)
 full-columns (c ∷ cs) h l =
     cond-false (inColumns cs) (numeral (c ∷ cs)) (not-true (eqb c blank) (and-true (not (eqb c blank)) (lacks (byte blank) cs) l .0))
 
-pub columns-read : (n : ℕ) (z : ℤ) → natAbs z < numberLimit → inColumns (columns n z) ≡ some z
+pub columns-read : (n : ℕ) (z : ℤ) → natAbs z < numeralLimit → inColumns (columns n z) ≡ some z
 unfolding columns
 columns-read n z h =
     blanks-skipped (n - length (decimal z)) (decimal z)
@@ -80,7 +80,7 @@ pub fits-year : (z : ℤ) → FitsColumns 3 z → between leastYear greatestYear
 fits-year (pos n) h = ap₂ (λ (a b : Bool). a && b) (le-test (≤-in leastYear (pos n) (omega arith))) (le-test (≤-in (pos n) greatestYear (omega arith)))
 fits-year (negsuc n) h = ap₂ (λ (a b : Bool). a && b) (le-test (≤-in leastYear (negsuc n) (omega arith))) (le-test (≤-in (negsuc n) greatestYear (omega arith)))
 
-pub fits-small : (k : ℕ) (z : ℤ) → k ≤ 5 → FitsColumns k z → natAbs z < numberLimit
+pub fits-small : (k : ℕ) (z : ℤ) → k ≤ 5 → FitsColumns k z → natAbs z < numeralLimit
 fits-small k (pos n) l h = omega (arith, pow-le-pow-right {n = 10} (omega arith) {i = suc k} {j = 6} (omega arith))
 fits-small k (negsuc n) l h = omega (arith, pow-le-pow-right {n = 10} (omega arith) {i = k} {j = 6} (omega arith))
 

@@ -1,4 +1,4 @@
--- What is known of a line that number 11 does not refuse: its name, year and fields, and how many bytes it has. And of a text
+-- What is known of a line that code 11 does not refuse: its name, year and fields, and how many bytes it has. And of a text
 -- cut into lines: each has byte 10 at its end at most, and together they are the text.
 use mathlib.Core.Path.{_≡_, refl, sym, _∙_, ap, ap₂}
 use mathlib.Core.Bool.{Bool, true, false, cond, _&&_, _||_, not}
@@ -15,7 +15,7 @@ use Rattle.base_exact.proofs.Decide.{and-true, true-not-false}
 use Rattle.base_text.specs.Bytes.{Text, newline, Cut, cut, onFirst}
 use Rattle.base_text.proofs.Cutting.{joined, cut-joins}
 use Rattle.spec_tucson.specs.Columns.{inColumns}
-use Rattle.spec_tucson.specs.Line.{Line, nameColumns, yearColumns, fieldColumns, decade, linesOf, isName, withField, fieldNumbers, fieldCount, columnsFit, withNumbers, lineInColumns, ofCut, lineOf, yearInDecade, withinDecade, same, isWidth, fieldsAllowed, ifAllowed, goodLine}
+use Rattle.spec_tucson.specs.Line.{Line, nameColumns, yearColumns, fieldColumns, decade, linesOf, isName, withField, fieldNumerals, fieldCount, columnsFit, withNumerals, lineInColumns, ofCut, lineOf, yearInDecade, withinDecade, same, isWidth, fieldsAllowed, ifAllowed, goodLine}
 use Rattle.spec_tucson.specs.TextReading.{lastField}
 use Rattle.spec_tucson.specs.Writing.{allWidths}
 use Rattle.theorems_tucson.proofs.Columns.{FitsColumns, columns-fit}
@@ -80,12 +80,12 @@ nothing-after (c ∷ d ∷ s) t h = nothing-after (d ∷ s) t (and-true (not (eq
 -- ---- the columns of a good line
 
 -- so many fields as were asked for
-fields-count : (n : ℕ) (t : Text) (fs : List ℤ) → fieldNumbers n t ≡ some fs → length fs ≡ n
-unfolding fieldNumbers
+fields-count : (n : ℕ) (t : Text) (fs : List ℤ) → fieldNumerals n t ≡ some fs → length fs ≡ n
+unfolding fieldNumerals
 fields-count zero t fs e = ap length (sym (Option·some-injective [] fs e))
-fields-count (suc n) t fs e = go (inColumns (take fieldColumns t)) (fieldNumbers n (drop fieldColumns t)) refl e (fields-count n (drop fieldColumns t))
+fields-count (suc n) t fs e = go (inColumns (take fieldColumns t)) (fieldNumerals n (drop fieldColumns t)) refl e (fields-count n (drop fieldColumns t))
   where
-    go : (o : Option ℤ) (p : Option (List ℤ)) → fieldNumbers n (drop fieldColumns t) ≡ p → withField o p ≡ some fs → ((gs : List ℤ) → fieldNumbers n (drop fieldColumns t) ≡ some gs → length gs ≡ n) → length fs ≡ suc n
+    go : (o : Option ℤ) (p : Option (List ℤ)) → fieldNumerals n (drop fieldColumns t) ≡ p → withField o p ≡ some fs → ((gs : List ℤ) → fieldNumerals n (drop fieldColumns t) ≡ some gs → length gs ≡ n) → length fs ≡ suc n
     go none p w e ih = absurd (let x : _≡_ {A = ℕ} 0 1 = cc in omega arith)
     go (some f) none w e ih = absurd (let x : _≡_ {A = ℕ} 0 1 = cc in omega arith)
     go (some f) (some gs) w e ih = ap length (sym (Option·some-injective (f ∷ gs) fs e)) ∙ ap suc (ih gs w)
@@ -98,10 +98,10 @@ pub record InBody (body : Text) (l : Line) : Type 0 where
   pub any : 1 ≤ length (l .fields)
   pub size : length body ≡ headColumns + length (l .fields) * fieldColumns
 
-numbers-inverted : (name : Text) (y : Option ℤ) (fs : Option (List ℤ)) (l : Line) → withNumbers name y fs ≡ some l → (name ≡ l .name) × (y ≡ some (l .year)) × (fs ≡ some (l .fields))
-numbers-inverted name none fs l e = absurd (let x : _≡_ {A = ℕ} 0 1 = cc in omega arith)
-numbers-inverted name (some y) none l e = absurd (let x : _≡_ {A = ℕ} 0 1 = cc in omega arith)
-numbers-inverted name (some y) (some fs) l e =
+numerals-inverted : (name : Text) (y : Option ℤ) (fs : Option (List ℤ)) (l : Line) → withNumerals name y fs ≡ some l → (name ≡ l .name) × (y ≡ some (l .year)) × (fs ≡ some (l .fields))
+numerals-inverted name none fs l e = absurd (let x : _≡_ {A = ℕ} 0 1 = cc in omega arith)
+numerals-inverted name (some y) none l e = absurd (let x : _≡_ {A = ℕ} 0 1 = cc in omega arith)
+numerals-inverted name (some y) (some fs) l e =
     let same = Option·some-injective (record { name = name; year = y; fields = fs }) l e in
     (ap (λ (m : Line). m .name) same, ap (λ (m : Line). some (m .year)) same, ap (λ (m : Line). some (m .fields)) same)
 
@@ -110,13 +110,13 @@ unfolding lineInColumns columnsFit
 body-inverted body l e = go (columnsFit body && isName (take nameColumns body)) refl e
   where
     go : (b : Bool) → (columnsFit body && isName (take nameColumns body)) ≡ b
-        → cond b (withNumbers (take nameColumns body) (inColumns (take yearColumns (drop nameColumns body))) (fieldNumbers (fieldCount body) (drop (nameColumns + yearColumns) body))) none ≡ some l → InBody body l
+        → cond b (withNumerals (take nameColumns body) (inColumns (take yearColumns (drop nameColumns body))) (fieldNumerals (fieldCount body) (drop (nameColumns + yearColumns) body))) none ≡ some l → InBody body l
     go false w e = absurd (let x : _≡_ {A = ℕ} 0 1 = cc in omega arith)
     go true w e =
         let both = and-true (columnsFit body) (isName (take nameColumns body)) w in
         let outer = and-true (eqb (length body) (headColumns + fieldCount body * fieldColumns) && leb 1 (fieldCount body)) (leb (fieldCount body) decade) (both .0) in
         let inner = and-true (eqb (length body) (headColumns + fieldCount body * fieldColumns)) (leb 1 (fieldCount body)) (outer .0) in
-        let parts = numbers-inverted (take nameColumns body) _ _ l e in
+        let parts = numerals-inverted (take nameColumns body) _ _ l e in
         let count = fields-count (fieldCount body) (drop (nameColumns + yearColumns) body) (l .fields) (parts .2) in
         let whole = eqb-true (length body) (headColumns + fieldCount body * fieldColumns) (inner .0) in
         let least = leb-true 1 (fieldCount body) (inner .1) in
@@ -128,7 +128,7 @@ body-inverted body l e = go (columnsFit body && isName (take nameColumns body)) 
           size = omega arith;
         }
 
--- ---- a line that number 11 does not refuse
+-- ---- a line that code 11 does not refuse
 
 -- What is known of it, its series' last or not.
 pub record Good (last : Bool) (t : Text) (l : Line) : Type 0 where

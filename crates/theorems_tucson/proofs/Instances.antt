@@ -13,7 +13,7 @@ use Rattle.base_outcome.specs.Outcome.{answer, refusal, capped}
 use Rattle.base_text.specs.Bytes.{Text, bytes, lines, cut, beginsWith}
 use Rattle.base_text.specs.Numeral.{allDigits, digitsValue, isNatural, numeral, digitsUpTo, digits, decimal}
 use Rattle.spec_tucson.specs.Columns.{inColumns, columns}
-use Rattle.spec_tucson.specs.Line.{Line, linesOf, allPrintable, allBlank, isName, fieldNumbers, columnsFit, lineInColumns, lineOf, yearInDecade, withinDecade, isWidth, fieldsAllowed, goodLine}
+use Rattle.spec_tucson.specs.Line.{Line, linesOf, allPrintable, allBlank, isName, fieldNumerals, columnsFit, lineInColumns, lineOf, yearInDecade, withinDecade, isWidth, fieldsAllowed, goodLine}
 use Rattle.spec_tucson.specs.Series.{Series, allHundredths, fromHundredths, closedBy}
 use Rattle.spec_tucson.specs.TextReading.{Begun, opened, goesOn, yearFollows, lastField, closing, lineStep, readLine, readLines, readText}
 use Rattle.spec_tucson.specs.ReadCall.{namesOf, yearsOf, countsOf, widthsOf, roomFor, readOutcome, filled, ReadEnd, readEnd}
@@ -51,7 +51,7 @@ abbrev inThousandths : List Series
 inThousandths = record { name = bytes "ABC01   "; firstYear = pos 1908; widths = pos 1200 ∷ pos 0 ∷ pos 99990 ∷ [] } ∷ []
 
 measured-reads : readText measured ≡ answer inThousandths
-unfolding bytes lines cut beginsWith allDigits digitsValue isNatural numeral inColumns linesOf allPrintable allBlank isName fieldNumbers columnsFit lineInColumns lineOf yearInDecade withinDecade isWidth fieldsAllowed goodLine allHundredths fromHundredths closedBy goesOn yearFollows lastField closing lineStep readLine readLines readText
+unfolding bytes lines cut beginsWith allDigits digitsValue isNatural numeral inColumns linesOf allPrintable allBlank isName fieldNumerals columnsFit lineInColumns lineOf yearInDecade withinDecade isWidth fieldsAllowed goodLine allHundredths fromHundredths closedBy goesOn yearFollows lastField closing lineStep readLine readLines readText
 measured-reads = refl
 
 measured-writable : Writable inThousandths
@@ -87,7 +87,7 @@ abbrev readOne : ReadEnd
 readOne = readEnd measured (bytes "........") (pos 1 ∷ []) (2 ∷ []) (pos 3 ∷ pos 4 ∷ pos 5 ∷ pos 6 ∷ [])
 
 one-series : readOne .answers ≡ answer 1
-unfolding bytes lines cut beginsWith allDigits digitsValue isNatural numeral inColumns linesOf allPrintable allBlank isName fieldNumbers columnsFit lineInColumns lineOf yearInDecade withinDecade isWidth fieldsAllowed goodLine allHundredths fromHundredths closedBy goesOn yearFollows lastField closing lineStep readLine readLines readText namesOf yearsOf countsOf widthsOf roomFor readOutcome filled
+unfolding bytes lines cut beginsWith allDigits digitsValue isNatural numeral inColumns linesOf allPrintable allBlank isName fieldNumerals columnsFit lineInColumns lineOf yearInDecade withinDecade isWidth fieldsAllowed goodLine allHundredths fromHundredths closedBy goesOn yearFollows lastField closing lineStep readLine readLines readText namesOf yearsOf countsOf widthsOf roomFor readOutcome filled
 one-series = refl
 
 module _ (text : Text) (long : 50 ≤ length text) where
@@ -106,7 +106,7 @@ skipped : Text
 skipped = lines ("ABC01   1908     7     8" ∷ "ABC01   1920   999" ∷ [])
 
 skipped-refused : readEnd skipped [] [] [] [] .answers ≡ refusal 12 2
-unfolding skipped bytes lines cut beginsWith allDigits digitsValue isNatural numeral inColumns linesOf allPrintable allBlank isName fieldNumbers columnsFit lineInColumns lineOf yearInDecade withinDecade isWidth fieldsAllowed goodLine allHundredths fromHundredths closedBy goesOn yearFollows lastField closing lineStep readLine readLines readText capped namesOf yearsOf countsOf widthsOf roomFor readOutcome filled
+unfolding skipped bytes lines cut beginsWith allDigits digitsValue isNatural numeral inColumns linesOf allPrintable allBlank isName fieldNumerals columnsFit lineInColumns lineOf yearInDecade withinDecade isWidth fieldsAllowed goodLine allHundredths fromHundredths closedBy goesOn yearFollows lastField closing lineStep readLine readLines readText capped namesOf yearsOf countsOf widthsOf roomFor readOutcome filled
 skipped-refused = refl
 
 skipped-refusal : ReadRefusal skipped 12 2
@@ -119,7 +119,7 @@ named-again = refl
 named-again-refusal : WriteRefusal (pos 1 ∷ pos 1 ∷ pos 1 ∷ []) 11 2
 named-again-refusal = write-refuses (bytes "ABC01   ABC02   ABC02   ") (pos 1 ∷ pos 1 ∷ pos 1 ∷ []) (0 ∷ 0 ∷ 0 ∷ []) [] [] 11 2 named-again .0
 
--- ---- the year that number 12 asks of the line after the first one of the text in hundredths
+-- ---- the year that code 12 asks of the line after the first one of the text in hundredths
 
 abbrev firstLine : Text
 firstLine = lines ("ABC01   1908   120     0" ∷ [])
@@ -128,7 +128,7 @@ abbrev begun : Begun
 begun = record { firstYear = pos 1908; widths = pos 120 ∷ pos 0 ∷ [] }
 
 first-line-reads : readLine 1 none true firstLine ≡ answer (opened begun)
-unfolding bytes lines cut beginsWith allDigits digitsValue isNatural numeral inColumns linesOf allPrintable allBlank isName fieldNumbers columnsFit lineInColumns lineOf yearInDecade withinDecade isWidth fieldsAllowed goodLine allHundredths fromHundredths closedBy goesOn yearFollows lastField closing lineStep readLine
+unfolding bytes lines cut beginsWith allDigits digitsValue isNatural numeral inColumns linesOf allPrintable allBlank isName fieldNumerals columnsFit lineInColumns lineOf yearInDecade withinDecade isWidth fieldsAllowed goodLine allHundredths fromHundredths closedBy goesOn yearFollows lastField closing lineStep readLine
 first-line-reads = refl
 
 nineteen-ten-by-the-line : (l : Line) × (goodLine false firstLine ≡ some l) × (pos 1910 ≡ l .year +ℤ pos (length (l .fields)))

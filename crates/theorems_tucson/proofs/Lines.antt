@@ -14,7 +14,7 @@ use Rattle.base_exact.proofs.Decide.{and-true, cond-true}
 use Rattle.base_text.specs.Bytes.{Text, newline, cut, onFirst}
 use Rattle.base_text.proofs.Lacking.{lacks, byte, lacks-append, lacks-first, cut-first}
 use Rattle.spec_tucson.specs.Columns.{blank, inColumns, columns}
-use Rattle.spec_tucson.specs.Line.{Line, nameColumns, yearColumns, fieldColumns, decade, lastPrintable, linesOf, allPrintable, allBlank, isName, withField, fieldNumbers, fieldCount, columnsFit, withNumbers, lineInColumns, ofCut, lineOf}
+use Rattle.spec_tucson.specs.Line.{Line, nameColumns, yearColumns, fieldColumns, decade, lastPrintable, linesOf, allPrintable, allBlank, isName, withField, fieldNumerals, fieldCount, columnsFit, withNumerals, lineInColumns, ofCut, lineOf}
 use Rattle.spec_tucson.specs.Writing.{fieldsText, lineText}
 use Rattle.theorems_tucson.proofs.Columns.{FitsColumns, fits-length, fits-small, columns-read, columns-length, columns-lack}
 
@@ -53,14 +53,14 @@ printable-lacks (c ∷ cs) e =
 -- ---- fields
 
 -- every field has room in its columns
-abbrev pub AllFit : List ℤ → Type 0
-AllFit [] = Unit {0}
-AllFit (f ∷ fs) = FitsColumns 5 f × AllFit fs
+abbrev pub FieldsHeld : List ℤ → Type 0
+FieldsHeld [] = Unit {0}
+FieldsHeld (f ∷ fs) = FitsColumns 5 f × FieldsHeld fs
 
 field-length : (f : ℤ) → FitsColumns 5 f → length (columns fieldColumns f) ≡ fieldColumns
 field-length f h = columns-length fieldColumns f (fits-length 4 f h)
 
-pub fields-length : (fs : List ℤ) → AllFit fs → length (fieldsText fs) ≡ length fs * fieldColumns
+pub fields-length : (fs : List ℤ) → FieldsHeld fs → length (fieldsText fs) ≡ length fs * fieldColumns
 unfolding fieldsText
 fields-length [] h = refl
 fields-length (f ∷ fs) h = length-append (columns fieldColumns f) (fieldsText fs) ∙ omega (arith, field-length f (h .0), fields-length fs (h .1))
@@ -70,24 +70,24 @@ unfolding fieldsText
 fields-lack [] = refl
 fields-lack (f ∷ fs) = lacks-append (byte newline) (columns fieldColumns f) (fieldsText fs) (columns-lack fieldColumns f) (fields-lack fs)
 
-fields-read : (fs : List ℤ) → AllFit fs → fieldNumbers (length fs) (fieldsText fs) ≡ some fs
-unfolding fieldsText fieldNumbers
+fields-read : (fs : List ℤ) → FieldsHeld fs → fieldNumerals (length fs) (fieldsText fs) ≡ some fs
+unfolding fieldsText fieldNumerals
 fields-read [] h = refl
 fields-read (f ∷ fs) h =
     let whole = field-length f (h .0) in
     ap₂ withField
     (ap inColumns (take-at (columns fieldColumns f) (fieldsText fs) fieldColumns whole) ∙ columns-read fieldColumns f (fits-small 5 f (omega arith) (h .0)))
-    (ap (fieldNumbers (length fs)) (drop-at (columns fieldColumns f) (fieldsText fs) fieldColumns whole) ∙ fields-read fs (h .1))
+    (ap (fieldNumerals (length fs)) (drop-at (columns fieldColumns f) (fieldsText fs) fieldColumns whole) ∙ fields-read fs (h .1))
 
 -- ---- lines
 
 -- a line that its columns hold
-pub record Fit (l : Line) : Type 0 where
+pub record LineHeld (l : Line) : Type 0 where
   pub named : isName (l .name) ≡ true
   pub dated : FitsColumns 3 (l .year)
   pub any : 1 ≤ length (l .fields)
   pub few : length (l .fields) ≤ decade
-  pub small : AllFit (l .fields)
+  pub small : FieldsHeld (l .fields)
 
 -- the line's bytes before byte 10
 abbrev bodyText : Line → Text
@@ -106,7 +106,7 @@ columns-fit-yes body n e h k =
     rw (columns-are body n e)
     (rw (eq-eqb (length body) (headColumns + n * fieldColumns) e, le-leb 1 n h, le-leb n decade k))
 
-module _ (l : Line) (f : Fit l) where
+module _ (l : Line) (f : LineHeld l) where
   name-length : length (l .name) ≡ nameColumns
   name-length = name-parts (l .name) (f .named) .0
 
@@ -149,9 +149,9 @@ module _ (l : Line) (f : Fit l) where
   unfolding lineInColumns
   body-reads =
       cond-true _ none (ap₂ (λ (a b : Bool). a && b) (columns-fit-yes (bodyText l) (length (l .fields)) body-length (f .any) (f .few)) (ap isName name-taken ∙ f .named))
-      ∙ ap₂ (λ (y : Option ℤ) (fs : Option (List ℤ)). withNumbers (take nameColumns (bodyText l)) y fs) year-read
-      (ap₂ fieldNumbers (columns-are (bodyText l) (length (l .fields)) body-length) fields-dropped ∙ fields-read (l .fields) (f .small))
-      ∙ ap (λ (t : Text). withNumbers t (some (l .year)) (some (l .fields))) name-taken
+      ∙ ap₂ (λ (y : Option ℤ) (fs : Option (List ℤ)). withNumerals (take nameColumns (bodyText l)) y fs) year-read
+      (ap₂ fieldNumerals (columns-are (bodyText l) (length (l .fields)) body-length) fields-dropped ∙ fields-read (l .fields) (f .small))
+      ∙ ap (λ (t : Text). withNumerals t (some (l .year)) (some (l .fields))) name-taken
 
   -- the line reads back
   pub line-reads : lineOf (lineText l) ≡ some l

@@ -24,7 +24,7 @@ use Rattle.spec_tucson.specs.Writing.{inLines, linesFrom, seriesLines, lineText
 use Rattle.theorems_tucson.specs.RoundTrip.{WrittenReadsBack}
 use Rattle.theorems_tucson.proofs.Columns.{FitsColumns, year-fits}
 use Rattle.theorems_tucson.proofs.Decade.{year-below, years-later}
-use Rattle.theorems_tucson.proofs.Lines.{name-parts, AllFit, Fit, line-reads, line-first, line-named}
+use Rattle.theorems_tucson.proofs.Lines.{name-parts, FieldsHeld, LineHeld, line-reads, line-first, line-named}
 use Rattle.theorems_tucson.proofs.InDecades.{InDecades, ends, goes, widths-parts, lines-in-decades}
 
 -- ---- fields of widths, and of widths and a closing
@@ -34,11 +34,11 @@ unfolding isWidth
 width-fits (pos n) e = omega (arith, ≤-out (pos n) (pos widthLimit) (leZ-true (pos n) (pos widthLimit) (and-true (leZ (pos 0) (pos n)) _ e .1)))
 width-fits (negsuc n) e = absurd (true-not-false e refl)
 
-pub widths-fit : (ws : List ℤ) → allWidths ws ≡ true → AllFit ws
+pub widths-fit : (ws : List ℤ) → allWidths ws ≡ true → FieldsHeld ws
 widths-fit [] h = tt
 widths-fit (w ∷ ws) h = let parts = widths-parts w ws h in (width-fits w (parts .0), widths-fit ws (parts .1))
 
-closed-fit : (ws : List ℤ) → allWidths ws ≡ true → AllFit (ws ++ (thousandths ∷ []))
+closed-fit : (ws : List ℤ) → allWidths ws ≡ true → FieldsHeld (ws ++ (thousandths ∷ []))
 closed-fit [] h = (omega arith, tt)
 closed-fit (w ∷ ws) h = let parts = widths-parts w ws h in (width-fits w (parts .0), closed-fit ws (parts .1))
 
@@ -72,11 +72,11 @@ thousandths-close ws = refl
 -- ---- one line
 
 -- a line of widths fits its columns
-pub full-fit : (name : Text) → isName name ≡ true → (year : ℤ) (fs : List ℤ) → 1 ≤ length fs → length fs ≤ decade → between leastYear greatestYear year ≡ true → allWidths fs ≡ true → Fit (record { name = name; year = year; fields = fs })
+pub full-fit : (name : Text) → isName name ≡ true → (year : ℤ) (fs : List ℤ) → 1 ≤ length fs → length fs ≤ decade → between leastYear greatestYear year ≡ true → allWidths fs ≡ true → LineHeld (record { name = name; year = year; fields = fs })
 full-fit name named year fs h k e w = record { named = named; dated = year-fits year e; any = h; few = k; small = widths-fit fs w }
 
 -- and one of widths and the closing
-pub closing-fit : (name : Text) → isName name ≡ true → (year : ℤ) (ws : List ℤ) → length ws < decade → between leastYear greatestYear year ≡ true → allWidths ws ≡ true → Fit (record { name = name; year = year; fields = ws ++ (thousandths ∷ []) })
+pub closing-fit : (name : Text) → isName name ≡ true → (year : ℤ) (ws : List ℤ) → length ws < decade → between leastYear greatestYear year ≡ true → allWidths ws ≡ true → LineHeld (record { name = name; year = year; fields = ws ++ (thousandths ∷ []) })
 closing-fit name named year ws h e w =
     let size : length (ws ++ (thousandths ∷ [])) ≡ length ws + 1 = length-append ws (thousandths ∷ []) in
     record { named = named; dated = year-fits year e; any = omega arith; few = omega arith; small = closed-fit ws w }
@@ -90,7 +90,7 @@ pub start-is : (b : Option Begun) (l : Line) → begunBy b l ≡ start b (l .yea
 start-is none l = refl
 start-is (some b) l = refl
 
-module _ (l : Line) (f : Fit l) (fills : yearInDecade (l .year) + length (l .fields) ≤ decade) where
+module _ (l : Line) (f : LineHeld l) (fills : yearInDecade (l .year) + length (l .fields) ≤ decade) where
   good-line : (last : Bool) → fieldsAllowed last (l .fields) ≡ true → goodLine last (lineText l) ≡ some l
   unfolding goodLine withinDecade
   good-line last h =
@@ -149,12 +149,12 @@ module _ (name : Text) (named : isName name ≡ true) where
   lineAt year fs = record { name = name; year = year; fields = fs }
 
   -- a line goes on where more lines of its series come
-  followed : {c : ℤ} {room : ℕ} {lines : List (List ℤ)} {ws : List ℤ} (l : Line) (f : Fit l) → l .name ≡ name → (year : ℤ) (rest : List Text) → InDecades c room lines ws → goesOn (lineText l) (texts year lines ++ rest) ≡ true
+  followed : {c : ℤ} {room : ℕ} {lines : List (List ℤ)} {ws : List ℤ} (l : Line) (f : LineHeld l) → l .name ≡ name → (year : ℤ) (rest : List Text) → InDecades c room lines ws → goesOn (lineText l) (texts year lines ++ rest) ≡ true
   unfolding goesOn linesFrom
   followed {c} l f e year rest (ends {ws = ws} h k) = ap (λ (t : Text). beginsWith t (lineText (lineAt year (ws ++ (c ∷ []))))) (line-named l f ∙ e) ∙ begins-line (lineAt year (ws ++ (c ∷ [])))
   followed l f e year rest (goes {fs = fs} h k d) = ap (λ (t : Text). beginsWith t (lineText (lineAt year fs))) (line-named l f ∙ e) ∙ begins-line (lineAt year fs)
 
-  module _ (rest : List Text) (later : List Series) (apart : (l : Line) → Fit l → l .name ≡ name → goesOn (lineText l) rest ≡ false) (reads : (place : ℕ) → readLines place none rest ≡ answer later) where
+  module _ (rest : List Text) (later : List Series) (apart : (l : Line) → LineHeld l → l .name ≡ name → goesOn (lineText l) rest ≡ false) (reads : (place : ℕ) → readLines place none rest ≡ answer later) where
     -- the first year of what is begun, and all widths
     abbrev whole : Option Begun → ℤ → List ℤ → Series
     whole b year ws = record { name = name; firstYear = start b year .firstYear; widths = start b year .widths ++ ws }
@@ -205,7 +205,7 @@ module _ (name : Text) (named : isName name ≡ true) where
 
 -- a line does not go on where those of another name come
 parted : (name other : Text) → isName name ≡ true → isName other ≡ true → beginsWith other name ≡ false → (year : ℤ) {c : ℤ} {room : ℕ} {lines : List (List ℤ)} {ws : List ℤ} (rest : List Text) → InDecades c room lines ws
-    → (l : Line) → Fit l → l .name ≡ name → goesOn (lineText l) (map lineText (linesFrom other year lines) ++ rest) ≡ false
+    → (l : Line) → LineHeld l → l .name ≡ name → goesOn (lineText l) (map lineText (linesFrom other year lines) ++ rest) ≡ false
 unfolding goesOn linesFrom lineText
 parted name other n m h year {c} rest (ends {ws = ws} a b) l f e =
     ap (λ (t : Text). beginsWith t (lineText (record { name = other; year = year; fields = ws ++ (c ∷ []) }))) (line-named l f ∙ e)
@@ -253,7 +253,7 @@ unfolding seriesLines
 series-cut before s w rest = lines-cut (s .name) (w .named) (s .firstYear) (omega (arith, year-below (s .firstYear))) (cut-in-decades s (w .measured)) (w .dated) rest
 
 -- the last line of a series does not go on in those of the next
-apart-from-next : (before : Text) (s : Series) (ss : List Series) (place : ℕ) → CanBeWritten before s → firstUnwritable place (s .name) ss ≡ none → (l : Line) → Fit l → l .name ≡ s .name → goesOn (lineText l) (linesOf (written ss)) ≡ false
+apart-from-next : (before : Text) (s : Series) (ss : List Series) (place : ℕ) → CanBeWritten before s → firstUnwritable place (s .name) ss ≡ none → (l : Line) → LineHeld l → l .name ≡ s .name → goesOn (lineText l) (linesOf (written ss)) ≡ false
 unfolding written linesOf goesOn seriesLines
 apart-from-next before s [] place w e l f n = refl
 apart-from-next before s (next ∷ ss) place w e l f n =

@@ -21,9 +21,9 @@ use Rattle.spec_tucson.specs.Writing.{written, isWritable, firstUnwritable, unw
 use Rattle.spec_tucson.specs.WriteCall.{listsFit, seriesOf, seriesOutcome, writeOutcome, textAfter, WriteEnd, writeEnd}
 use Rattle.theorems_tucson.specs.Refusals.{ReadRefusal, atLine, shortBuffers, ReadRefuses, WriteRefusal, unfitting, atSeries, shortBuffer, WriteRefuses}
 
--- An outcome that is a refusal by its number and place.
-refusal-number : {A : Type 0} {o : Outcome A} {m n p q : ℕ} → o ≡ refusal m p → o ≡ refusal n q → m ≡ n
-refusal-number e f = cc
+-- An outcome that is a refusal by its code and place.
+refusal-code : {A : Type 0} {o : Outcome A} {m n p q : ℕ} → o ≡ refusal m p → o ≡ refusal n q → m ≡ n
+refusal-code e f = cc
 
 refusal-place : {A : Type 0} {o : Outcome A} {m n p q : ℕ} → o ≡ refusal m p → o ≡ refusal n q → p ≡ q
 refusal-place e f = cc
@@ -31,99 +31,99 @@ refusal-place e f = cc
 -- ---- reading
 
 -- A refusal of the line at this place.
-record OfLine (line number place : ℕ) : Type 0 where
-  least : 11 ≤ number
-  most : number ≤ 13
+record OfLine (line code place : ℕ) : Type 0 where
+  least : 11 ≤ code
+  most : code ≤ 13
   is : capped line ≡ place
 
-refused-with : {A : Type 0} {o : Outcome A} {number place : ℕ} (n line : ℕ) → 11 ≤ n → n ≤ 13 → o ≡ refuse n line → o ≡ refusal number place → OfLine line number place
+refused-with : {A : Type 0} {o : Outcome A} {code place : ℕ} (n line : ℕ) → 11 ≤ n → n ≤ 13 → o ≡ refuse n line → o ≡ refusal code place → OfLine line code place
 refused-with n line l m e f =
-    let same = refusal-number e f in
+    let same = refusal-code e f in
     record { least = omega arith; most = omega arith; is = refusal-place e f }
 
-module _ (line : ℕ) (b : Option Begun) (more : Bool) (number place : ℕ) where
-  closing-refuses : (c : Begun) (l : Line) → closing line c l ≡ refusal number place → OfLine line number place
+module _ (line : ℕ) (b : Option Begun) (more : Bool) (code place : ℕ) where
+  closing-refuses : (c : Begun) (l : Line) → closing line c l ≡ refusal code place → OfLine line code place
   unfolding closing
   closing-refuses c l e = go (closedBy _ _) e
     where
-      go : (o : Option (List ℤ)) → wholeSeries line (l .name) (c .firstYear) o ≡ refusal number place → OfLine line number place
+      go : (o : Option (List ℤ)) → wholeSeries line (l .name) (c .firstYear) o ≡ refusal code place → OfLine line code place
       go none e = refused-with 13 line (omega arith) (omega arith) refl e
       go (some ws) e = absurd (answer-not-refusal refl e)
 
-  step-refuses : (l : Line) → lineStep line b more l ≡ refusal number place → OfLine line number place
+  step-refuses : (l : Line) → lineStep line b more l ≡ refusal code place → OfLine line code place
   unfolding lineStep
   step-refuses l e = go (yearFollows b l) more e
     where
-      go : (f m : Bool) → cond f (cond m (answer (opened (extended (begunBy b l) l))) (closing line (begunBy b l) l)) (refuse 12 line) ≡ refusal number place → OfLine line number place
+      go : (f m : Bool) → cond f (cond m (answer (opened (extended (begunBy b l) l))) (closing line (begunBy b l) l)) (refuse 12 line) ≡ refusal code place → OfLine line code place
       go true true e = absurd (answer-not-refusal refl e)
       go true false e = closing-refuses (begunBy b l) l e
       go false m e = refused-with 12 line (omega arith) (omega arith) refl e
 
-  line-refuses : (t : Text) → readLine line b more t ≡ refusal number place → OfLine line number place
+  line-refuses : (t : Text) → readLine line b more t ≡ refusal code place → OfLine line code place
   unfolding readLine
   line-refuses t e = go (goodLine _ t) e
     where
-      go : (o : Option Line) → ifGood line b more o ≡ refusal number place → OfLine line number place
+      go : (o : Option Line) → ifGood line b more o ≡ refusal code place → OfLine line code place
       go none e = refused-with 11 line (omega arith) (omega arith) refl e
       go (some l) e = step-refuses l e
 
 -- A refusal of one of so many lines from this place on.
-record OfLines (from count number place : ℕ) : Type 0 where
+record OfLines (from count code place : ℕ) : Type 0 where
   line : ℕ
-  refuses : OfLine line number place
+  refuses : OfLine line code place
   reached : from ≤ line
   before-end : line < from + count
 
-lines-refuse : (ts : List Text) (from : ℕ) (b : Option Begun) (number place : ℕ) → readLines from b ts ≡ refusal number place → OfLines from (length ts) number place
+lines-refuse : (ts : List Text) (from : ℕ) (b : Option Begun) (code place : ℕ) → readLines from b ts ≡ refusal code place → OfLines from (length ts) code place
 unfolding readLines
-lines-refuse [] from b number place e = absurd (answer-not-refusal refl e)
-lines-refuse (t ∷ ts) from b number place e = go (then-breaks (readLine from b (goesOn t ts) t) (after (λ b′. readLines (suc from) b′ ts)) e) (λ c f. lines-refuse ts (suc from) c number place f)
+lines-refuse [] from b code place e = absurd (answer-not-refusal refl e)
+lines-refuse (t ∷ ts) from b code place e = go (then-breaks (readLine from b (goesOn t ts) t) (after (λ b′. readLines (suc from) b′ ts)) e) (λ c f. lines-refuse ts (suc from) c code place f)
   where
-    later : OfLines (suc from) (length ts) number place → OfLines from (suc (length ts)) number place
+    later : OfLines (suc from) (length ts) code place → OfLines from (suc (length ts)) code place
     later r = record { line = r .line; refuses = r .refuses; reached = omega (arith, r .reached); before-end = omega (arith, r .before-end) }
 
-    leaves : (step : Step) → after (λ b′. readLines (suc from) b′ ts) step ≡ refusal number place → ((c : Option Begun) → readLines (suc from) c ts ≡ refusal number place → OfLines (suc from) (length ts) number place) → OfLines from (suc (length ts)) number place
+    leaves : (step : Step) → after (λ b′. readLines (suc from) b′ ts) step ≡ refusal code place → ((c : Option Begun) → readLines (suc from) c ts ≡ refusal code place → OfLines (suc from) (length ts) code place) → OfLines from (suc (length ts)) code place
     leaves (opened c) e ih = later (ih (some c) e)
     leaves (closed s) e ih = later (ih none (with-refuses (λ ss. s ∷ ss) (readLines (suc from) none ts) e))
 
-    go : Broken (readLine from b (goesOn t ts) t) (after (λ b′. readLines (suc from) b′ ts)) number place → ((c : Option Begun) → readLines (suc from) c ts ≡ refusal number place → OfLines (suc from) (length ts) number place) → OfLines from (suc (length ts)) number place
-    go (first-refuses e) ih = record { line = from; refuses = line-refuses from b (goesOn t ts) number place t e; reached = omega arith; before-end = omega arith }
+    go : Broken (readLine from b (goesOn t ts) t) (after (λ b′. readLines (suc from) b′ ts)) code place → ((c : Option Begun) → readLines (suc from) c ts ≡ refusal code place → OfLines (suc from) (length ts) code place) → OfLines from (suc (length ts)) code place
+    go (first-refuses e) ih = record { line = from; refuses = line-refuses from b (goesOn t ts) code place t e; reached = omega arith; before-end = omega arith }
     go (second-refuses step p q) ih = leaves step q ih
 
-text-refuses : (t : Text) (number place : ℕ) → readText t ≡ refusal number place → ReadRefusal t number place
+text-refuses : (t : Text) (code place : ℕ) → readText t ≡ refusal code place → ReadRefusal t code place
 unfolding readText
-text-refuses t number place e =
-    let r = lines-refuse (linesOf t) 1 none number place e in
-    subst (λ (p : ℕ). ReadRefusal t number p) (r .refuses .is) (atLine (r .line) (r .refuses .least) (r .refuses .most) (r .reached) (omega (arith, r .before-end)))
+text-refuses t code place e =
+    let r = lines-refuse (linesOf t) 1 none code place e in
+    subst (λ (p : ℕ). ReadRefusal t code p) (r .refuses .is) (atLine (r .line) (r .refuses .least) (r .refuses .most) (r .reached) (omega (arith, r .before-end)))
 
 -- the read call: the text's refusal, or a buffer too short
-module _ (t names : Text) (years : List ℤ) (counts : List ℕ) (widths : List ℤ) (number place : ℕ) where
+module _ (t names : Text) (years : List ℤ) (counts : List ℕ) (widths : List ℤ) (code place : ℕ) where
   abbrev outcome : Outcome (List Series)
   outcome = readOutcome t (length names) (length years) (length counts) (length widths)
 
-  read-outcome-refuses : outcome ≡ refusal number place → ReadRefusal t number place
+  read-outcome-refuses : outcome ≡ refusal code place → ReadRefusal t code place
   unfolding readOutcome capped
   read-outcome-refuses e = go (then-breaks (readText t) (λ ss. cond (roomFor ss (length names) (length years) (length counts) (length widths)) (answer ss) (refuse 1 0)) e)
     where
-      room : (ss : List Series) (b : Bool) → cond b (answer ss) (refuse 1 0) ≡ refusal number place → ReadRefusal t number place
+      room : (ss : List Series) (b : Bool) → cond b (answer ss) (refuse 1 0) ≡ refusal code place → ReadRefusal t code place
       room ss true e = absurd (answer-not-refusal refl e)
-      room ss false e = subst (λ (n : ℕ). ReadRefusal t n place) (refusal-number refl e) (subst (λ (p : ℕ). ReadRefusal t 1 p) (refusal-place refl e) shortBuffers)
+      room ss false e = subst (λ (n : ℕ). ReadRefusal t n place) (refusal-code refl e) (subst (λ (p : ℕ). ReadRefusal t 1 p) (refusal-place refl e) shortBuffers)
 
-      go : Broken (readText t) (λ ss. cond (roomFor ss (length names) (length years) (length counts) (length widths)) (answer ss) (refuse 1 0)) number place → ReadRefusal t number place
-      go (first-refuses e) = text-refuses t number place e
+      go : Broken (readText t) (λ ss. cond (roomFor ss (length names) (length years) (length counts) (length widths)) (answer ss) (refuse 1 0)) code place → ReadRefusal t code place
+      go (first-refuses e) = text-refuses t code place e
       go (second-refuses ss p q) = room ss (roomFor ss (length names) (length years) (length counts) (length widths)) q
 
   endOf : Outcome (List Series) → ReadEnd
   endOf o = record { answers = with-answer length o; names = filled namesOf o names; years = filled yearsOf o years; counts = filled countsOf o counts; widths = filled widthsOf o widths }
 
-  unchanged : outcome ≡ refusal number place → readEnd t names years counts widths ≡ record { answers = refusal number place; names = names; years = years; counts = counts; widths = widths }
+  unchanged : outcome ≡ refusal code place → readEnd t names years counts widths ≡ record { answers = refusal code place; names = names; years = years; counts = counts; widths = widths }
   unfolding endOf filled
   unchanged e = ap endOf e
 
 pub read-refuses : ReadRefuses
-read-refuses t names years counts widths number place e =
+read-refuses t names years counts widths code place e =
     let refuses = with-refuses length (readOutcome t (length names) (length years) (length counts) (length widths)) e in
-    (read-outcome-refuses t names years counts widths number place refuses, unchanged t names years counts widths number place refuses)
+    (read-outcome-refuses t names years counts widths code place refuses, unchanged t names years counts widths code place refuses)
 
 -- ---- writing
 
@@ -142,41 +142,41 @@ series-at-most [] names counts widths = omega arith
 series-at-most (y ∷ years) names [] widths = omega arith
 series-at-most (y ∷ years) names (n ∷ counts) widths = omega (arith, series-at-most years (drop nameColumns names) counts (drop n widths))
 
-module _ (names : Text) (years : List ℤ) (counts : List ℕ) (widths : List ℤ) (text : Text) (number place : ℕ) where
+module _ (names : Text) (years : List ℤ) (counts : List ℕ) (widths : List ℤ) (text : Text) (code place : ℕ) where
   abbrev listed : List Series
   listed = seriesOf names years counts widths
 
   abbrev textOutcome : Outcome Text
   textOutcome = writeOutcome names years counts widths (length text)
 
-  -- the refusal with this number at this place
-  refused-as : (n p : ℕ) → _≡_ {A = Outcome Text} (refusal n p) (refusal number place) → WriteRefusal years n p → WriteRefusal years number place
-  refused-as n p e r = subst (λ (m : ℕ). WriteRefusal years m place) (refusal-number refl e) (subst (λ (q : ℕ). WriteRefusal years n q) (refusal-place refl e) r)
+  -- the refusal with this code at this place
+  refused-as : (n p : ℕ) → _≡_ {A = Outcome Text} (refusal n p) (refusal code place) → WriteRefusal years n p → WriteRefusal years code place
+  refused-as n p e r = subst (λ (m : ℕ). WriteRefusal years m place) (refusal-code refl e) (subst (λ (q : ℕ). WriteRefusal years n q) (refusal-place refl e) r)
 
-  write-outcome-refuses : textOutcome ≡ refusal number place → WriteRefusal years number place
+  write-outcome-refuses : textOutcome ≡ refusal code place → WriteRefusal years code place
   unfolding writeOutcome seriesOutcome capped
   write-outcome-refuses e = fits (listsFit names years counts widths) e
     where
-      short : (b : Bool) → cond b (answer (written listed)) (refuse 1 0) ≡ refusal number place → WriteRefusal years number place
+      short : (b : Bool) → cond b (answer (written listed)) (refuse 1 0) ≡ refusal code place → WriteRefusal years code place
       short true e = absurd (answer-not-refusal refl e)
       short false e = refused-as 1 0 e shortBuffer
 
-      allowed : (o : Option ℕ) → unwritable listed ≡ o → refuseFirst 11 o (cond (leb (length (written listed)) (length text)) (answer (written listed)) (refuse 1 0)) ≡ refusal number place → WriteRefusal years number place
+      allowed : (o : Option ℕ) → unwritable listed ≡ o → refuseFirst 11 o (cond (leb (length (written listed)) (length text)) (answer (written listed)) (refuse 1 0)) ≡ refusal code place → WriteRefusal years code place
       allowed none w e = short (leb (length (written listed)) (length text)) e
       allowed (some i) w e = refused-as 11 (capped i) e (atSeries i (omega (arith, first-below listed 0 [] i w, series-at-most years names counts widths)))
 
-      fits : (b : Bool) → cond b (seriesOutcome listed (length text)) (refuse 2 0) ≡ refusal number place → WriteRefusal years number place
+      fits : (b : Bool) → cond b (seriesOutcome listed (length text)) (refuse 2 0) ≡ refusal code place → WriteRefusal years code place
       fits true e = allowed (unwritable listed) refl e
       fits false e = refused-as 2 0 e unfitting
 
   textEnd : Outcome Text → WriteEnd
   textEnd o = record { answers = with-answer length o; text = textAfter o text }
 
-  text-unchanged : textOutcome ≡ refusal number place → writeEnd names years counts widths text ≡ record { answers = refusal number place; text = text }
+  text-unchanged : textOutcome ≡ refusal code place → writeEnd names years counts widths text ≡ record { answers = refusal code place; text = text }
   unfolding textEnd textAfter
   text-unchanged e = ap textEnd e
 
 pub write-refuses : WriteRefuses
-write-refuses names years counts widths text number place e =
+write-refuses names years counts widths text code place e =
     let refuses = with-refuses length (writeOutcome names years counts widths (length text)) e in
-    (write-outcome-refuses names years counts widths text number place refuses, text-unchanged names years counts widths text number place refuses)
+    (write-outcome-refuses names years counts widths text code place refuses, text-unchanged names years counts widths text code place refuses)

@@ -31,19 +31,19 @@ use Rattle.theorems_tucson.proofs.Rewritten.{read-is-writable, read-kee
 -- ---- four lists and their series
 
 -- The lists fit each other.
-pub record Fitting (names : Text) (years : List ℤ) (counts : List ℕ) (widths : List ℤ) : Type 0 where
+pub record ListsFit (names : Text) (years : List ℤ) (counts : List ℕ) (widths : List ℤ) : Type 0 where
   pub names-fit : length names ≡ length years * nameColumns
   pub counts-fit : length counts ≡ length years
   pub widths-fit : total counts ≡ length widths
 
-pub fits-parts : (names : Text) (years : List ℤ) (counts : List ℕ) (widths : List ℤ) → listsFit names years counts widths ≡ true → Fitting names years counts widths
+pub fits-parts : (names : Text) (years : List ℤ) (counts : List ℕ) (widths : List ℤ) → listsFit names years counts widths ≡ true → ListsFit names years counts widths
 unfolding listsFit
 fits-parts names years counts widths e =
     let outer = and-true (eqb (length names) (length years * nameColumns) && eqb (length counts) (length years)) (eqb (total counts) (length widths)) e in
     let inner = and-true (eqb (length names) (length years * nameColumns)) (eqb (length counts) (length years)) (outer .0) in
     record { names-fit = eqb-true _ _ (inner .0); counts-fit = eqb-true _ _ (inner .1); widths-fit = eqb-true _ _ (outer .1) }
 
-parts-fit : (names : Text) (years : List ℤ) (counts : List ℕ) (widths : List ℤ) → Fitting names years counts widths → listsFit names years counts widths ≡ true
+parts-fit : (names : Text) (years : List ℤ) (counts : List ℕ) (widths : List ℤ) → ListsFit names years counts widths → listsFit names years counts widths ≡ true
 unfolding listsFit
 parts-fit names years counts widths f =
     ap₂ (λ (a b : Bool). a && b)
@@ -62,13 +62,13 @@ no-elements [] e = refl
 no-elements (x ∷ xs) e = absurd (omega arith)
 
 -- the series of lists that fit have these lists
-lists-back : (years : List ℤ) (names : Text) (counts : List ℕ) (widths : List ℤ) → Fitting names years counts widths → ListsOf (seriesOf names years counts widths) names years counts widths
+lists-back : (years : List ℤ) (names : Text) (counts : List ℕ) (widths : List ℤ) → ListsFit names years counts widths → ListsOf (seriesOf names years counts widths) names years counts widths
 unfolding seriesOf namesOf yearsOf countsOf widthsOf total
 lists-back [] names [] widths f = record { names-are = no-elements names (f .names-fit); years-are = refl; counts-are = refl; widths-are = no-elements widths (sym (f .widths-fit)) }
 lists-back [] names (n ∷ counts) widths f = absurd (omega (arith, f .counts-fit))
 lists-back (y ∷ years) names [] widths f = absurd (omega (arith, f .counts-fit))
 lists-back (y ∷ years) names (n ∷ counts) widths f =
-    let rest : Fitting (drop nameColumns names) years counts (drop n widths) = record {
+    let rest : ListsFit (drop nameColumns names) years counts (drop n widths) = record {
       names-fit = length-drop nameColumns names ∙ omega (arith, f .names-fit);
       counts-fit = omega (arith, f .counts-fit);
       widths-fit = omega (arith, f .widths-fit, length-drop n widths);
@@ -92,7 +92,7 @@ writable-named (s ∷ ss) place before e =
     let parts = first-parts place before s ss e in
     (name-parts (s .name) (parts .0 .named) .0, writable-named ss (suc place) (s .name) (parts .1))
 
-lists-of-fit : (ss : List Series) → AllNamed ss → Fitting (namesOf ss) (yearsOf ss) (countsOf ss) (widthsOf ss)
+lists-of-fit : (ss : List Series) → AllNamed ss → ListsFit (namesOf ss) (yearsOf ss) (countsOf ss) (widthsOf ss)
 unfolding namesOf yearsOf countsOf widthsOf total
 lists-of-fit [] h = record { names-fit = refl; counts-fit = refl; widths-fit = refl }
 lists-of-fit (s ∷ ss) h = let f = lists-of-fit ss (h .1) in record {
@@ -112,7 +112,7 @@ series-back (s ∷ ss) h =
     ∙ ap (λ (us : List Series). s ∷ us) (series-back ss (h .1))
 
 -- what reading accepts has lists that fit
-pub read-lists-fit : (t : Text) (ss : List Series) → readText t ≡ answer ss → Fitting (namesOf ss) (yearsOf ss) (countsOf ss) (widthsOf ss)
+pub read-lists-fit : (t : Text) (ss : List Series) → readText t ≡ answer ss → ListsFit (namesOf ss) (yearsOf ss) (countsOf ss) (widthsOf ss)
 read-lists-fit t ss e = lists-of-fit ss (writable-named ss 0 [] (read-is-writable t ss e))
 
 -- ---- a read call that answers
@@ -186,7 +186,7 @@ module _ (names : Text) (years : List ℤ) (counts : List ℕ) (widths : List �
       ap (λ (o : Option ℕ). refuseFirst 11 o (cond (leb (length (written ss)) (length text)) (answer (written ss)) (refuse 1 0))) w
       ∙ cond-true (answer (written ss)) (refuse 1 0) (le-leb (length (written ss)) (length text) h)
 
-  fitting-written : (ss : List Series) → Fitting names years counts widths → listed ≡ ss → Writable ss → length (written ss) ≤ length text → textOutcome ≡ answer (written ss)
+  fitting-written : (ss : List Series) → ListsFit names years counts widths → listed ≡ ss → Writable ss → length (written ss) ≤ length text → textOutcome ≡ answer (written ss)
   unfolding writeOutcome
   fitting-written ss f e w h =
       cond-true (seriesOutcome listed (length text)) (refuse 2 0) (parts-fit names years counts widths f)
@@ -199,7 +199,7 @@ module _ (names : Text) (years : List ℤ) (counts : List ℕ) (widths : List �
 
   -- what a call that answers has written
   record HasWritten (n : ℕ) : Type 0 where
-    fitting : Fitting names years counts widths
+    fitting : ListsFit names years counts widths
     writable : Writable listed
     answers : textOutcome ≡ answer (written listed)
     count : length (written listed) ≡ n
@@ -208,11 +208,11 @@ module _ (names : Text) (years : List ℤ) (counts : List ℕ) (widths : List �
   unfolding writeOutcome seriesOutcome
   has-written n e = go (with-inverts length textOutcome e)
     where
-      short : Fitting names years counts widths → Writable listed → (b : Bool) (t : Text) → cond b (answer (written listed)) (refuse 1 0) ≡ answer t → textOutcome ≡ answer t → length t ≡ n → HasWritten n
+      short : ListsFit names years counts widths → Writable listed → (b : Bool) (t : Text) → cond b (answer (written listed)) (refuse 1 0) ≡ answer t → textOutcome ≡ answer t → length t ≡ n → HasWritten n
       short f w true t e a c = let same : written listed ≡ t = answer-unique refl e in record { fitting = f; writable = w; answers = a ∙ ap answer (sym same); count = ap length same ∙ c }
       short f w false t e a c = absurd (answer-not-refusal e refl)
 
-      allowed : Fitting names years counts widths → (o : Option ℕ) → unwritable listed ≡ o → (t : Text) → refuseFirst 11 o (cond (leb (length (written listed)) (length text)) (answer (written listed)) (refuse 1 0)) ≡ answer t → textOutcome ≡ answer t → length t ≡ n → HasWritten n
+      allowed : ListsFit names years counts widths → (o : Option ℕ) → unwritable listed ≡ o → (t : Text) → refuseFirst 11 o (cond (leb (length (written listed)) (length text)) (answer (written listed)) (refuse 1 0)) ≡ answer t → textOutcome ≡ answer t → length t ≡ n → HasWritten n
       allowed f none w t e a c = short f w (leb (length (written listed)) (length text)) t e a c
       allowed f (some i) w t e a c = absurd (answer-not-refusal e refl)
 
@@ -247,7 +247,7 @@ module _ (t names : Text) (years : List ℤ) (counts : List ℕ) (widths : List 
   can-be-written : Writable ss
   can-be-written = read-is-writable t ss (r .reads)
 
-  read-fit : Fitting (namesOf ss) (yearsOf ss) (countsOf ss) (widthsOf ss)
+  read-fit : ListsFit (namesOf ss) (yearsOf ss) (countsOf ss) (widthsOf ss)
   read-fit = read-lists-fit t ss (r .reads)
 
   read-end : readEnd t names years counts widths ≡ endWith ss names years counts widths

@@ -17,17 +17,17 @@ use Rattle.spec_tucson.specs.WriteCall.{writeEnd}
 -- A refusal of the read call: 1 at place 0, or 11, 12 or 13 at a line of the text, from 1.
 pub data ReadRefusal (t : Text) : ℕ → ℕ → Type 0 where
   shortBuffers : ReadRefusal t 1 0
-  atLine : {number : ℕ} (line : ℕ) → 11 ≤ number → number ≤ 13 → 1 ≤ line → line ≤ length (linesOf t) → ReadRefusal t number (capped line)
+  atLine : {code : ℕ} (line : ℕ) → 11 ≤ code → code ≤ 13 → 1 ≤ line → line ≤ length (linesOf t) → ReadRefusal t code (capped line)
 
 -- The read call refuses so, and leaves all four buffers.
 abbrev pub ReadRefuses : Type 0
 ReadRefuses =
-    (t names : Text) (years : List ℤ) (counts : List ℕ) (widths : List ℤ) (number place : ℕ) →
-    readEnd t names years counts widths .answers ≡ refusal number place →
-    ReadRefusal t number place × (readEnd t names years counts widths
-    ≡ record { answers = refusal number place; names = names; years = years; counts = counts; widths = widths })
+    (t names : Text) (years : List ℤ) (counts : List ℕ) (widths : List ℤ) (code place : ℕ) →
+    readEnd t names years counts widths .answers ≡ refusal code place →
+    ReadRefusal t code place × (readEnd t names years counts widths
+    ≡ record { answers = refusal code place; names = names; years = years; counts = counts; widths = widths })
 
--- The year that number 12 asks of the line after one that goes on: that line's year and its count of fields.
+-- The year that code 12 asks of the line after one that goes on: that line's year and its count of fields.
 abbrev pub NextYearByLine : Type 0
 NextYearByLine =
     (place : ℕ) (b : Option Begun) (t : Text) (c : Begun) → readLine place b true t ≡ answer (opened c) →
@@ -42,6 +42,6 @@ pub data WriteRefusal (years : List ℤ) : ℕ → ℕ → Type 0 where
 -- The write call refuses so, and leaves its buffer.
 abbrev pub WriteRefuses : Type 0
 WriteRefuses =
-    (names : Text) (years : List ℤ) (counts : List ℕ) (widths : List ℤ) (text : Text) (number place : ℕ) →
-    writeEnd names years counts widths text .answers ≡ refusal number place →
-    WriteRefusal years number place × (writeEnd names years counts widths text ≡ record { answers = refusal number place; text = text })
+    (names : Text) (years : List ℤ) (counts : List ℕ) (widths : List ℤ) (text : Text) (code place : ℕ) →
+    writeEnd names years counts widths text .answers ≡ refusal code place →
+    WriteRefusal years code place × (writeEnd names years counts widths text ≡ record { answers = refusal code place; text = text })

@@ -21,7 +21,7 @@ use Rattle.spec_spline.specs.CurveCall.{positionLimit, badCoefficient, badPosit
 use Rattle.spec_spline.specs.ExactCurve.{Legal}
 use Rattle.base_outcome.proofs.Outcome.{answer-unique, answer-not-refusal, then-answers, Chained, then-inverts, then-breaks, Broken, first-refuses, second-refuses}
 use Rattle.base_outcome.proofs.Search.{first-none, first-none-inverts}
-use Rattle.spec_spline.proofs.Legal.{checked-inverts, checked-numbers, refuseFirst-inverts, cond-refuse-inverts, fitting-inverts, keeping-refusal, keeping-first}
+use Rattle.spec_spline.proofs.Legal.{checked-inverts, checked-codes, refuseFirst-inverts, cond-refuse-inverts, fitting-inverts, keeping-refusal, keeping-first}
 use Rattle.spec_spline.proofs.Pairs.{le-half, half-le}
 use Rattle.theorems_weights.proofs.Built.{built}
 use Rattle.theorems_values.specs.ValueLimits.{legalResult, LegalCallsAnswer, LegalCallsReturnCount, AnsweredCallsAreLegal}
@@ -111,23 +111,23 @@ checks-passed s coefs positions {s′} e =
         finish (c .middle) few k (checked-inverts s k .0) (entries-passed (c .middle) coefs positions (c .after))
 
 -- the checks of a curve call give neither 8 nor 9
-pub curve-checks : (s : Space) (coefs positions : List ℤ) {number place : ℕ} → curveChecked s coefs positions ≡ refusal number place → clears number ≡ false
+pub curve-checks : (s : Space) (coefs positions : List ℤ) {code place : ℕ} → curveChecked s coefs positions ≡ refusal code place → clears code ≡ false
 unfolding curveChecked checked
-curve-checks s coefs positions {number} {place} e = fit (lengthsFit s) refl e
+curve-checks s coefs positions {code} {place} e = fit (lengthsFit s) refl e
   where
-    entries : (legal : Space) (b : Bool) → cond b (refuseFirst 6 (first (length coefs) (badCoefficient coefs)) (refuseFirst 7 (first (length positions) (badPosition legal positions)) (answer legal))) (refuse 6 largestPlace) ≡ refusal number place → clears number ≡ false
+    entries : (legal : Space) (b : Bool) → cond b (refuseFirst 6 (first (length coefs) (badCoefficient coefs)) (refuseFirst 7 (first (length positions) (badPosition legal positions)) (answer legal))) (refuse 6 largestPlace) ≡ refusal code place → clears code ≡ false
     entries legal true r = keeping-first 6 (first (length coefs) (badCoefficient coefs)) _ refl (keeping-first 7 (first (length positions) (badPosition legal positions)) (answer legal) refl (λ r. absurd (answer-not-refusal refl r))) r
     entries legal false r = keeping-refusal 6 largestPlace refl r
 
-    listed : lengthsFit s ≡ true → Broken (checkedEntries s) (λ legal. legalEntries legal coefs positions (answer legal)) number place → clears number ≡ false
-    listed f (first-refuses p) = checked-numbers s (ap (λ b. cond b (checkedEntries s) (refuse 2 0)) f ∙ p)
+    listed : lengthsFit s ≡ true → Broken (checkedEntries s) (λ legal. legalEntries legal coefs positions (answer legal)) code place → clears code ≡ false
+    listed f (first-refuses p) = checked-codes s (ap (λ b. cond b (checkedEntries s) (refuse 2 0)) f ∙ p)
     listed f (second-refuses legal p q) = entries legal (eqb (length coefs) (2 * rowCount legal)) q
 
-    few : lengthsFit s ≡ true → (b : Bool) → cond b (refuse 2 1) (checkedEntries s then λ legal. legalEntries legal coefs positions (answer legal)) ≡ refusal number place → clears number ≡ false
+    few : lengthsFit s ≡ true → (b : Bool) → cond b (refuse 2 1) (checkedEntries s then λ legal. legalEntries legal coefs positions (answer legal)) ≡ refusal code place → clears code ≡ false
     few f true r = keeping-refusal 2 1 refl r
     few f false r = listed f (then-breaks (checkedEntries s) (λ legal. legalEntries legal coefs positions (answer legal)) r)
 
-    fit : (b : Bool) → lengthsFit s ≡ b → cond b (cond (ltb positionLimit (length positions)) (refuse 2 1) (checkedEntries s then λ legal. legalEntries legal coefs positions (answer legal))) (refuse 2 0) ≡ refusal number place → clears number ≡ false
+    fit : (b : Bool) → lengthsFit s ≡ b → cond b (cond (ltb positionLimit (length positions)) (refuse 2 1) (checkedEntries s then λ legal. legalEntries legal coefs positions (answer legal))) (refuse 2 0) ≡ refusal code place → clears code ≡ false
     fit true f r = few f (ltb positionLimit (length positions)) r
     fit false f r = keeping-refusal 2 0 refl r
 
@@ -144,7 +144,7 @@ answered-calls-are-legal s coefs positions numLength denLength valuesLength r e 
   where
     with-table : (o : Outcome Table) → with-answer (λ t. record { table = t; values = values s t coefs positions }) o ≡ answer r → o ≡ answer (r .table)
     with-table (answer t) p = ap (λ q. answer (q .table)) (answer-unique {a = record { table = t; values = values s t coefs positions }} refl p)
-    with-table (refusal number place) p = absurd (answer-not-refusal p refl)
+    with-table (refusal code place) p = absurd (answer-not-refusal p refl)
 
     go : ltb numLength tableCells ≡ false → ltb denLength tableCells ≡ false → ltb (valuesLength / 2) (length positions) ≡ false → Chained (curveChecked s coefs positions) (curveRead coefs positions) r
         → Legal s coefs positions numLength denLength valuesLength

@@ -24,26 +24,26 @@ use Rattle.spec_spline.specs.Build.{orderSteps, joinSteps, weights, spaceWeight
 use Rattle.spec_spline.specs.Published.{for}
 use Rattle.spec_spline.specs.Piecewise.{pairing}
 use Rattle.base_outcome.proofs.Outcome.{then-answers, then-breaks, Broken, first-refuses, second-refuses, answer-not-refusal}
-use Rattle.spec_spline.proofs.Legal.{checked-inverts, checked-numbers}
+use Rattle.spec_spline.proofs.Legal.{checked-inverts, checked-codes}
 use Rattle.base_outcome.proofs.Search.{first-some-inverts, last-none-inverts}
-use Rattle.theorems_weights.specs.Counted.{Test, counted, shaped, passes, numberOf, joinOf, joined, jumpTests, exactJumps, firstJump, lastJump, shapeTest, quotient, factorTests, innerRows, innerRow, exactFactors, entryTests, rowTests, exactRow, stepTests, exactStep, exactOrders, exactJoins, buildTests, exactWeights, allPass, FirstFailure, RefusedByFirstFailure, FirstFailureRefuses, PassingIsAccepted, FirstTooLarge, EightIsFirstTooLarge, FirstMisshapen, NineIsFirstMisshapen}
+use Rattle.theorems_weights.specs.Counted.{Test, counted, shaped, passes, codeOf, joinOf, joined, jumpTests, exactJumps, firstJump, lastJump, shapeTest, quotient, factorTests, innerRows, innerRow, exactFactors, entryTests, rowTests, exactRow, stepTests, exactStep, exactOrders, exactJoins, buildTests, exactWeights, allPass, FirstFailure, RefusedByFirstFailure, FirstFailureRefuses, PassingIsAccepted, FirstTooLarge, EightIsFirstTooLarge, FirstMisshapen, NineIsFirstMisshapen}
 
 -- An outcome behind tests: the first that fails refuses.
 judged : {A : Type 0} → List Test → Outcome A → Outcome A
 judged [] o = o
-judged (t ∷ ts) o = cond (passes t) (judged ts o) (refuse (numberOf t) (joinOf t))
+judged (t ∷ ts) o = cond (passes t) (judged ts o) (refuse (codeOf t) (joinOf t))
 
 judged-append : {A : Type 0} (xs ys : List Test) (o : Outcome A) → judged (xs ++ ys) o ≡ judged xs (judged ys o)
 unfolding judged
 judged-append [] ys o = refl
-judged-append (t ∷ xs) ys o = ap (λ u. cond (passes t) u (refuse (numberOf t) (joinOf t))) (judged-append xs ys o)
+judged-append (t ∷ xs) ys o = ap (λ u. cond (passes t) u (refuse (codeOf t) (joinOf t))) (judged-append xs ys o)
 
 judged-then : {A B : Type 0} (xs : List Test) (o : Outcome A) (f : A → Outcome B) → (judged xs o then f) ≡ judged xs (o then f)
 unfolding judged
 judged-then [] o f = refl
-judged-then (t ∷ xs) o f = go (passes t) ∙ ap (λ u. cond (passes t) u (refuse (numberOf t) (joinOf t))) (judged-then xs o f)
+judged-then (t ∷ xs) o f = go (passes t) ∙ ap (λ u. cond (passes t) u (refuse (codeOf t) (joinOf t))) (judged-then xs o f)
   where
-    go : (b : Bool) → (cond b (judged xs o) (refuse (numberOf t) (joinOf t)) then f) ≡ cond b (judged xs o then f) (refuse (numberOf t) (joinOf t))
+    go : (b : Bool) → (cond b (judged xs o) (refuse (codeOf t) (joinOf t)) then f) ≡ cond b (judged xs o then f) (refuse (codeOf t) (joinOf t))
     go true = refl
     go false = refl
 
@@ -143,20 +143,20 @@ weights-judged s = repeat-judged (segments s - 1) (identity (columnCount s)) (λ
 judged-pass : {A : Type 0} (xs : List Test) (o : Outcome A) → allPass xs ≡ true → judged xs o ≡ o
 unfolding judged allPass
 judged-pass [] o h = refl
-judged-pass (t ∷ xs) o h = let b = and-true (passes t) (allPass xs) h in ap (λ c. cond c (judged xs o) (refuse (numberOf t) (joinOf t))) (b .0) ∙ judged-pass xs o (b .1)
+judged-pass (t ∷ xs) o h = let b = and-true (passes t) (allPass xs) h in ap (λ c. cond c (judged xs o) (refuse (codeOf t) (joinOf t))) (b .0) ∙ judged-pass xs o (b .1)
 
-judged-fail : {A : Type 0} (xs : List Test) (o : Outcome A) {number place : ℕ} → FirstFailure xs number place → judged xs o ≡ refusal number place
+judged-fail : {A : Type 0} (xs : List Test) (o : Outcome A) {code place : ℕ} → FirstFailure xs code place → judged xs o ≡ refusal code place
 unfolding judged
 judged-fail xs o F = ap (λ ys. judged ys o) (F .parts) ∙ judged-append (F .before) (F .failing ∷ F .after) o ∙ judged-pass (F .before) _ (F .passed)
-    ∙ ap (λ c. cond c (judged (F .after) o) (refuse (numberOf (F .failing)) (joinOf (F .failing)))) (F .fails) ∙ ap₂ refusal (sym (F .number-is)) (sym (F .place-is))
+    ∙ ap (λ c. cond c (judged (F .after) o) (refuse (codeOf (F .failing)) (joinOf (F .failing)))) (F .fails) ∙ ap₂ refusal (sym (F .code-is)) (sym (F .place-is))
 
-judged-refuses : {A : Type 0} (xs : List Test) (a : A) {number place : ℕ} → judged xs (answer a) ≡ refusal number place → FirstFailure xs number place
+judged-refuses : {A : Type 0} (xs : List Test) (a : A) {code place : ℕ} → judged xs (answer a) ≡ refusal code place → FirstFailure xs code place
 unfolding judged allPass
 judged-refuses [] a h = absurd (answer-not-refusal refl h)
-judged-refuses (t ∷ xs) a {number} {place} h = go (passes t) refl h (λ e. judged-refuses xs a e)
+judged-refuses (t ∷ xs) a {code} {place} h = go (passes t) refl h (λ e. judged-refuses xs a e)
   where
-    go : (b : Bool) → passes t ≡ b → cond b (judged xs (answer a)) (refuse (numberOf t) (joinOf t)) ≡ refusal number place
-        → (judged xs (answer a) ≡ refusal number place → FirstFailure xs number place) → FirstFailure (t ∷ xs) number place
+    go : (b : Bool) → passes t ≡ b → cond b (judged xs (answer a)) (refuse (codeOf t) (joinOf t)) ≡ refusal code place
+        → (judged xs (answer a) ≡ refusal code place → FirstFailure xs code place) → FirstFailure (t ∷ xs) code place
     go true p e ih = let F = ih e in record {
       before = t ∷ F .before;
       failing = F .failing;
@@ -164,7 +164,7 @@ judged-refuses (t ∷ xs) a {number} {place} h = go (passes t) refl h (λ e. jud
       parts = ap (λ l. t ∷ l) (F .parts);
       passed = ap (λ b. b && allPass (F .before)) p ∙ F .passed;
       fails = F .fails;
-      number-is = F .number-is;
+      code-is = F .code-is;
       place-is = F .place-is;
     }
     go false p e ih = record {
@@ -174,14 +174,14 @@ judged-refuses (t ∷ xs) a {number} {place} h = go (passes t) refl h (λ e. jud
       parts = refl;
       passed = refl;
       fails = p;
-      number-is = cc;
+      code-is = cc;
       place-is = cc;
     }
 
 -- ---- one step by itself
 
 -- a step that refuses does so by its first test that fails
-pub step-refuses : (j : ℕ) (κ : List Entry) (t : Table) {number place : ℕ} → step j κ t ≡ refusal number place → FirstFailure (stepTests j κ t) number place
+pub step-refuses : (j : ℕ) (κ : List Entry) (t : Table) {code place : ℕ} → step j κ t ≡ refusal code place → FirstFailure (stepTests j κ t) code place
 step-refuses j κ t e = judged-refuses (stepTests j κ t) (exactStep κ t) (sym (step-judged j κ t .is) ∙ e)
 
 -- a step whose tests all pass answers
@@ -196,13 +196,13 @@ passing-is-accepted s c h = then-answers weights c ∙ weights-judged s .is ∙ 
 
 pub first-failure-refuses : FirstFailureRefuses
 unfolding spaceWeights
-first-failure-refuses s number place c F = then-answers weights c ∙ weights-judged s .is ∙ judged-fail (buildTests s) (answer (exactWeights s)) F
+first-failure-refuses s code place c F = then-answers weights c ∙ weights-judged s .is ∙ judged-fail (buildTests s) (answer (exactWeights s)) F
 
 pub refused-by-first-failure : RefusedByFirstFailure
 unfolding spaceWeights
-refused-by-first-failure s number place e = go (then-breaks (checked s) weights e)
+refused-by-first-failure s code place e = go (then-breaks (checked s) weights e)
   where
-    go : Broken (checked s) weights number place → (checked s ≡ refusal number place) ⊎ ((checked s ≡ answer s) × FirstFailure (buildTests s) number place)
+    go : Broken (checked s) weights code place → (checked s ≡ refusal code place) ⊎ ((checked s ≡ answer s) × FirstFailure (buildTests s) code place)
     go (first-refuses p) = inl p
     go (second-refuses s′ p q) = let same = checked-inverts s p .0 in
         inr (p ∙ ap answer (sym same), judged-refuses (buildTests s) (exactWeights s) (sym (weights-judged s .is) ∙ ap weights same ∙ q))
@@ -221,17 +221,17 @@ eight-is-first-too-large s place e = go (refused-by-first-failure s 8 place e)
       too-large = ap passes (sym p) ∙ F .fails;
       place-is = F .place-is ∙ ap (λ t. capped (joinOf t)) p;
     }
-    counted-fails F (shaped join b) p = absurd (omega (arith, F .number-is ∙ ap numberOf p))
+    counted-fails F (shaped join b) p = absurd (omega (arith, F .code-is ∙ ap codeOf p))
 
     go : (checked s ≡ refusal 8 place) ⊎ ((checked s ≡ answer s) × FirstFailure (buildTests s) 8 place) → FirstTooLarge s place
-    go (inl c) = absurd (true-not-false refl (checked-numbers s c))
+    go (inl c) = absurd (true-not-false refl (checked-codes s c))
     go (inr F) = counted-fails (F .1) (F .1 .failing) refl
 
 pub nine-is-first-misshapen : NineIsFirstMisshapen
 nine-is-first-misshapen s place e = go (refused-by-first-failure s 9 place e)
   where
     shaped-fails : (F : FirstFailure (buildTests s) 9 place) (t : Test) → F .failing ≡ t → FirstMisshapen s place
-    shaped-fails F (counted join q) p = absurd (omega (arith, F .number-is ∙ ap numberOf p))
+    shaped-fails F (counted join q) p = absurd (omega (arith, F .code-is ∙ ap codeOf p))
     shaped-fails F (shaped join b) p = record {
       before = F .before;
       join = join;
@@ -242,5 +242,5 @@ nine-is-first-misshapen s place e = go (refused-by-first-failure s 9 place e)
     }
 
     go : (checked s ≡ refusal 9 place) ⊎ ((checked s ≡ answer s) × FirstFailure (buildTests s) 9 place) → FirstMisshapen s place
-    go (inl c) = absurd (true-not-false refl (checked-numbers s c))
+    go (inl c) = absurd (true-not-false refl (checked-codes s c))
     go (inr F) = shaped-fails (F .1) (F .1 .failing) refl

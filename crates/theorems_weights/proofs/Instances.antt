@@ -28,7 +28,7 @@ use Rattle.spec_spline.specs.Cases.{space4, space5, lineSpace}
 use Rattle.spec_spline.specs.Piecewise.{Accepted, MeetsAll, Meets, pairing, combination}
 use Rattle.base_outcome.proofs.Outcome.{answer-not-refusal}
 use Rattle.theorems_weights.specs.Cells.{HoldsFraction, lastPartCell}
-use Rattle.theorems_weights.specs.Counted.{Test, counted, shaped, numberOf, passes, joined, jumpTests, exactJumps, firstJump, lastJump, shapeTest, quotient, factorTests, innerRows, innerRow, exactFactors, entryTests, rowTests, exactRow, stepTests, exactStep, exactOrders, exactJoins, buildTests, exactWeights, allPass, FirstTooLarge, FirstFailure}
+use Rattle.theorems_weights.specs.Counted.{Test, counted, shaped, codeOf, passes, joined, jumpTests, exactJumps, firstJump, lastJump, shapeTest, quotient, factorTests, innerRows, innerRow, exactFactors, entryTests, rowTests, exactRow, stepTests, exactStep, exactOrders, exactJoins, buildTests, exactWeights, allPass, FirstTooLarge, FirstFailure}
 use Rattle.theorems_weights.proofs.PublishedBasis.{rows-and-columns, combinations-meet-conditions, conditions-give-one-combination}
 use Rattle.theorems_weights.proofs.PartitionOfUnity.{no-weight-negative, column-sums-one}
 use Rattle.theorems_weights.proofs.Published.{weights-are-published}
@@ -273,7 +273,7 @@ failure8 = record {
   parts = split-at (buildTests space8) 194 (counted 0 q0) (omega (arith, length-take 195 (buildTests space8), size8)) ∙ ap (λ t. take 194 (buildTests space8) ++ (t ∷ drop 195 (buildTests space8))) fraction8;
   passed = passed8;
   fails = too-large-fraction8;
-  number-is = refl;
+  code-is = refl;
   place-is = refl;
 }
 
@@ -284,7 +284,7 @@ checked8 = refl
 refused-again8 : spaceWeights space8 ≡ refusal 8 0
 refused-again8 = first-failure-refuses space8 8 0 checked8 failure8
 
--- the refusal comes from that test: number 8 is none of 2 to 5 and 15
+-- the refusal comes from that test: code 8 is none of 2 to 5 and 15
 by-first-failure8 : FirstFailure (buildTests space8) 8 0
 by-first-failure8 = go (refused-by-first-failure space8 8 0 refused8)
   where
@@ -292,12 +292,12 @@ by-first-failure8 = go (refused-by-first-failure space8 8 0 refused8)
     go (inl e) = absurd (answer-not-refusal checked8 e)
     go (inr f) = f .1
 
--- W7: a span of 2,001 is refused before the build, by number 3
+-- W7: a span of 2,001 is refused before the build, by code 3
 refused7 : spaceWeights (lineSpace 2001) ≡ refusal 3 1
 unfolding capped first lengthsFit badBreak startsPart partEnd spanTooLong tooManySegments checkedEntries checked spaceWeights
 refused7 = refl
 
-three-is-no-test : (t : Test) → 3 ≡ numberOf t → ⊥
+three-is-no-test : (t : Test) → 3 ≡ codeOf t → ⊥
 three-is-no-test (counted join q) e = omega arith
 three-is-no-test (shaped join b) e = omega arith
 
@@ -306,7 +306,7 @@ before-build7 = go (refused-by-first-failure (lineSpace 2001) 3 1 refused7)
   where
     go : (checked (lineSpace 2001) ≡ refusal 3 1) ⊎ ((checked (lineSpace 2001) ≡ answer (lineSpace 2001)) × FirstFailure (buildTests (lineSpace 2001)) 3 1) → checked (lineSpace 2001) ≡ refusal 3 1
     go (inl e) = e
-    go (inr f) = absurd (three-is-no-test (f .1 .failing) (f .1 .number-is))
+    go (inr f) = absurd (three-is-no-test (f .1 .failing) (f .1 .code-is))
 
 -- ---- W4 and W5 pass all their tests
 

@@ -1,4 +1,4 @@
--- Numbers 8 and 9 as a list of tests (§ 5): the counted fractions in
+-- Codes 8 and 9 as a list of tests (§ 5): the counted fractions in
 -- their order, with the tests of the shape where they stand between them. Here everything is exact arithmetic: nothing
 -- is refused while the list is made. The build refuses with the first test of the list that fails, and for no other reason.
 use mathlib.Core.Path.{_≡_}
@@ -33,10 +33,10 @@ abbrev pub passes : Test → Bool
 passes (counted join q) = fits q
 passes (shaped join b) = b
 
--- The number that a failing test gives.
-abbrev pub numberOf : Test → ℕ
-numberOf (counted join q) = 8
-numberOf (shaped join b) = 9
+-- The code that a failing test gives.
+abbrev pub codeOf : Test → ℕ
+codeOf (counted join q) = 8
+codeOf (shaped join b) = 9
 
 -- Its place.
 abbrev pub joinOf : Test → ℕ
@@ -69,7 +69,7 @@ firstJump js = Option·getD (first (length js) (jumpsAt js)) 0
 unfoldable pub lastJump : List ℚ → ℕ
 lastJump js = Option·getD (last (length js) (jumpsAt js)) 0
 
--- Number 9's first test: there is a non-zero jump, and no zero lies between.
+-- Code 9's first test: there is a non-zero jump, and no zero lies between.
 unfoldable pub shapeTest : ℕ → List ℚ → Test
 shapeTest join js = shaped join (found (first (length js) (jumpsAt js)) && not (zeroBetween js (firstJump js) (lastJump js)))
 
@@ -153,25 +153,25 @@ allPass [] = true
 allPass (t ∷ ts) = passes t && allPass ts
 
 -- The first test that fails has this number and this place.
-pub record FirstFailure (tests : List Test) (number place : ℕ) : Type 0 where
+pub record FirstFailure (tests : List Test) (code place : ℕ) : Type 0 where
   pub before : List Test
   pub failing : Test
   pub after : List Test
   pub parts : tests ≡ before ++ (failing ∷ after)
   pub passed : allPass before ≡ true
   pub fails : passes failing ≡ false
-  pub number-is : number ≡ numberOf failing
+  pub code-is : code ≡ codeOf failing
   pub place-is : place ≡ capped (joinOf failing)
 
--- A space that is refused is refused by one of the numbers 2 to 5 and 15, or by the first test of the build that fails.
+-- A space that is refused is refused by one of the codes 2 to 5 and 15, or by the first test of the build that fails.
 abbrev pub RefusedByFirstFailure : Type 0
-RefusedByFirstFailure = (s : Space) (number place : ℕ) → spaceWeights s ≡ refusal number place
-    → (checked s ≡ refusal number place) ⊎ ((checked s ≡ answer s) × FirstFailure (buildTests s) number place)
+RefusedByFirstFailure = (s : Space) (code place : ℕ) → spaceWeights s ≡ refusal code place
+    → (checked s ≡ refusal code place) ⊎ ((checked s ≡ answer s) × FirstFailure (buildTests s) code place)
 
 -- And where a test of a legal space fails, the first one refuses it.
 abbrev pub FirstFailureRefuses : Type 0
-FirstFailureRefuses = (s : Space) (number place : ℕ) → checked s ≡ answer s → FirstFailure (buildTests s) number place
-    → spaceWeights s ≡ refusal number place
+FirstFailureRefuses = (s : Space) (code place : ℕ) → checked s ≡ answer s → FirstFailure (buildTests s) code place
+    → spaceWeights s ≡ refusal code place
 
 -- A legal space whose tests all pass is accepted.
 abbrev pub PassingIsAccepted : Type 0
@@ -201,6 +201,6 @@ pub record FirstMisshapen (s : Space) (place : ℕ) : Type 0 where
   pub passed : allPass before ≡ true
   pub place-is : place ≡ capped join
 
--- Number 9 comes where the jumps lack the needed shape, and for no other reason.
+-- Code 9 comes where the jumps lack the needed shape, and for no other reason.
 abbrev pub NineIsFirstMisshapen : Type 0
 NineIsFirstMisshapen = (s : Space) (place : ℕ) → spaceWeights s ≡ refusal 9 place → FirstMisshapen s place

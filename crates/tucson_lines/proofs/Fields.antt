@@ -14,7 +14,7 @@ use lib.Seq.{slice, length-slice}
 use Rattle.base_text.specs.Bytes.{Text}
 use Rattle.base_text.proofs.Slice.{take-slice, drop-slice}
 use Rattle.spec_tucson.specs.Columns.{inColumns}
-use Rattle.spec_tucson.specs.Line.{nameColumns, fieldColumns, allPrintable, allBlank, isName, withField, fieldNumbers, isWidth}
+use Rattle.spec_tucson.specs.Line.{nameColumns, fieldColumns, allPrintable, allBlank, isName, withField, fieldNumerals, isWidth}
 use Rattle.spec_tucson.specs.Series.{hundredthsLimit, allHundredths}
 use Rattle.spec_tucson.specs.Writing.{allWidths}
 use Rattle.tucson_lines.specs.Machine.{widthsTold}
@@ -34,18 +34,18 @@ module _ (text : Text) (from : ℕ) (within : from + nameColumns ≤ length text
 
 -- ---- the first field of a part, and the others
 pub fields-here : (n : ℕ) (text : Text) (at to : ℕ) → at + fieldColumns ≤ to →
-    fieldNumbers (suc n) (slice at to text) ≡ withField (inColumns (slice at (at + fieldColumns) text)) (fieldNumbers n (slice (at + fieldColumns) to text))
-unfolding fieldNumbers
-fields-here n text at to h = ap₂ withField (ap inColumns (take-slice fieldColumns at to text h)) (ap (fieldNumbers n) (drop-slice fieldColumns at to text))
+    fieldNumerals (suc n) (slice at to text) ≡ withField (inColumns (slice at (at + fieldColumns) text)) (fieldNumerals n (slice (at + fieldColumns) to text))
+unfolding fieldNumerals
+fields-here n text at to h = ap₂ withField (ap inColumns (take-slice fieldColumns at to text h)) (ap (fieldNumerals n) (drop-slice fieldColumns at to text))
 
 pub fields-first : (n : ℕ) (text : Text) (at to : ℕ) → 1 ≤ n → at + fieldColumns ≤ to →
-    fieldNumbers n (slice at to text) ≡ withField (inColumns (slice at (at + fieldColumns) text)) (fieldNumbers (n - 1) (slice (at + fieldColumns) to text))
-fields-first n text at to h k = let e : n ≡ suc (n - 1) = omega arith in ap (λ (m : ℕ). fieldNumbers m (slice at to text)) e ∙ fields-here (n - 1) text at to k
+    fieldNumerals n (slice at to text) ≡ withField (inColumns (slice at (at + fieldColumns) text)) (fieldNumerals (n - 1) (slice (at + fieldColumns) to text))
+fields-first n text at to h k = let e : n ≡ suc (n - 1) = omega arith in ap (λ (m : ℕ). fieldNumerals m (slice at to text)) e ∙ fields-here (n - 1) text at to k
 
 -- ---- widths
-pub widths-no-number : (small : Bool) (o : Option ℤ) (r : Option (List ℤ)) → o ≡ none → widthsTold small (withField o r) ≡ Bad
+pub widths-no-numeral : (small : Bool) (o : Option ℤ) (r : Option (List ℤ)) → o ≡ none → widthsTold small (withField o r) ≡ Bad
 unfolding widthsTold
-widths-no-number small o r e = ap (λ (x : Option ℤ). widthsTold small (withField x r)) e
+widths-no-numeral small o r e = ap (λ (x : Option ℤ). widthsTold small (withField x r)) e
 
 pub widths-no-width : (small : Bool) (o : Option ℤ) (z : ℤ) (r : Option (List ℤ)) → o ≡ some z → isWidth z ≡ false → widthsTold small (withField o r) ≡ Bad
 unfolding widthsTold allWidths
@@ -63,6 +63,6 @@ widths-next small o z r e h = ap (λ (x : Option ℤ). widthsTold small (withFie
     go none = refl
     go (some ws) = ap₂ (λ (b c : Bool). cond (b && allWidths ws) (Small c) Bad) h (sym (and-assoc small (leZ z (pos hundredthsLimit)) (allHundredths ws)))
 
-pub widths-end : (small : Bool) (t : Text) → widthsTold small (fieldNumbers 0 t) ≡ Small small
-unfolding widthsTold fieldNumbers allWidths allHundredths
+pub widths-end : (small : Bool) (t : Text) → widthsTold small (fieldNumerals 0 t) ≡ Small small
+unfolding widthsTold fieldNumerals allWidths allHundredths
 widths-end small t = ap Small (and-true-right small)

@@ -14,42 +14,42 @@ use lib.ListN.{length, take, drop}
 use lib.Seq.{slice, length-slice}
 use Rattle.base_exact.proofs.Decide.{and-true, le-or-lt}
 use Rattle.base_text.specs.Bytes.{Text, minus, newline, Cut, cut}
-use Rattle.base_text.specs.Numeral.{numeral, isNatural, digitsValue, negated, numberLimit}
+use Rattle.base_text.specs.Numeral.{numeral, isNatural, digitsValue, negated, numeralLimit}
 use Rattle.base_text.proofs.Digits.{natural-small}
 use Rattle.base_text.proofs.Slice.{take-slice, drop-slice}
 use Rattle.spec_tucson.specs.Columns.{blank, inColumns}
-use Rattle.spec_tucson.specs.Line.{Line, nameColumns, yearColumns, fieldColumns, decade, thousandths, fieldNumbers, fieldCount, columnsFit, allPrintable, allBlank, isName, isWidth, same, withNumbers, lineInColumns, ofCut, lineOf, yearInDecade, withinDecade, fieldsAllowed, ifAllowed, goodLine}
+use Rattle.spec_tucson.specs.Line.{Line, nameColumns, yearColumns, fieldColumns, decade, thousandths, fieldNumerals, fieldCount, columnsFit, allPrintable, allBlank, isName, isWidth, same, withNumerals, lineInColumns, ofCut, lineOf, yearInDecade, withinDecade, fieldsAllowed, ifAllowed, goodLine}
 use Rattle.spec_tucson.specs.TextReading.{lastField}
 use Rattle.tucson_lines.specs.Machine.{lineTold, LineEnd}
 use Rattle.tucson_lines.specs.declared.LineAnswer.the-variants as line-cases
 use Rattle.tucson_lines.proofs.Lines.{end-within, good-unended, good-columns}
-use Rattle.tucson_lines.proofs.LineNumbers.{fields-count}
+use Rattle.tucson_lines.proofs.LineNumerals.{fields-count}
 
 -- ---- the size of a number in columns
 clash : {A : Type 0} → _≡_ {A = ℕ} 0 1 → A
 clash e = absurd (omega arith)
 
-negated-small : (b : Bool) (n : ℕ) (z : ℤ) → negated b n ≡ some z → (b ≡ true → n < numberLimit) → natAbs z < numberLimit
+negated-small : (b : Bool) (n : ℕ) (z : ℤ) → negated b n ≡ some z → (b ≡ true → n < numeralLimit) → natAbs z < numeralLimit
 negated-small true zero z e h = clash (cc)
 negated-small true (suc n) z e h = let x : negsuc n ≡ z = cc in rw (sym x) (h refl)
 negated-small false n z e h = clash (cc)
 
-pub numeral-small : (t : Text) (z : ℤ) → numeral t ≡ some z → natAbs z < numberLimit
+pub numeral-small : (t : Text) (z : ℤ) → numeral t ≡ some z → natAbs z < numeralLimit
 unfolding numeral
 numeral-small [] z e = clash (cc)
 numeral-small (c ∷ cs) z e = go (eqb c minus) (isNatural (c ∷ cs)) refl e
   where
-    go : (m b : Bool) → isNatural (c ∷ cs) ≡ b → cond m (negated (isNatural cs) (digitsValue 0 cs)) (cond b (some (pos (digitsValue 0 (c ∷ cs)))) none) ≡ some z → natAbs z < numberLimit
+    go : (m b : Bool) → isNatural (c ∷ cs) ≡ b → cond m (negated (isNatural cs) (digitsValue 0 cs)) (cond b (some (pos (digitsValue 0 (c ∷ cs)))) none) ≡ some z → natAbs z < numeralLimit
     go true b k e = negated-small (isNatural cs) (digitsValue 0 cs) z e (λ h. natural-small cs h)
     go false true k e = let x : pos (digitsValue 0 (c ∷ cs)) ≡ z = cc in rw (sym x) (natural-small (c ∷ cs) k)
     go false false k e = clash (cc)
 
-pub columns-small : (t : Text) (z : ℤ) → inColumns t ≡ some z → natAbs z < numberLimit
+pub columns-small : (t : Text) (z : ℤ) → inColumns t ≡ some z → natAbs z < numeralLimit
 unfolding inColumns
 columns-small [] z e = clash (cc)
 columns-small (c ∷ cs) z e = go (eqb c blank) e (columns-small cs z)
   where
-    go : (b : Bool) → cond b (inColumns cs) (numeral (c ∷ cs)) ≡ some z → (inColumns cs ≡ some z → natAbs z < numberLimit) → natAbs z < numberLimit
+    go : (b : Bool) → cond b (inColumns cs) (numeral (c ∷ cs)) ≡ some z → (inColumns cs ≡ some z → natAbs z < numeralLimit) → natAbs z < numeralLimit
     go true e ih = ih e
     go false e ih = numeral-small (c ∷ cs) z e
 
@@ -92,8 +92,8 @@ pub record GoodLine (text : Text) (from end : ℕ) (l : Line) : Type 0 where
   pub few : length (l .fields) ≤ decade
   pub named : isName (slice from (from + nameColumns) text) ≡ true
   pub name : l .name ≡ slice from (from + nameColumns) text
-  pub numbers : fieldNumbers (length (l .fields)) (slice (from + 12) end text) ≡ some (l .fields)
-  pub year-small : natAbs (l .year) < numberLimit
+  pub numerals : fieldNumerals (length (l .fields)) (slice (from + 12) end text) ≡ some (l .fields)
+  pub year-small : natAbs (l .year) < numeralLimit
   pub allowed : fieldsAllowed true (l .fields) ≡ true
 
 -- the parts of a line in columns
@@ -102,9 +102,9 @@ record Columns (body : Text) (l : Line) : Type 0 where
   named : isName (take nameColumns body) ≡ true
   name : l .name ≡ take nameColumns body
   year : inColumns (take yearColumns (drop nameColumns body)) ≡ some (l .year)
-  fields : fieldNumbers (fieldCount body) (drop (nameColumns + yearColumns) body) ≡ some (l .fields)
+  fields : fieldNumerals (fieldCount body) (drop (nameColumns + yearColumns) body) ≡ some (l .fields)
 
-with-some : (name : Text) (y : Option ℤ) (fs : Option (List ℤ)) (l : Line) → withNumbers name y fs ≡ some l → (l .name ≡ name) × ((y ≡ some (l .year)) × (fs ≡ some (l .fields)))
+with-some : (name : Text) (y : Option ℤ) (fs : Option (List ℤ)) (l : Line) → withNumerals name y fs ≡ some l → (l .name ≡ name) × ((y ≡ some (l .year)) × (fs ≡ some (l .fields)))
 with-some name none fs l e = clash (cc)
 with-some name (some y) none l e = clash (cc)
 with-some name (some y) (some fs) l e =
@@ -116,10 +116,10 @@ unfolding lineInColumns
 columns-parts body l e = go (columnsFit body && isName (take nameColumns body)) refl e
   where
     go : (b : Bool) → (columnsFit body && isName (take nameColumns body)) ≡ b →
-        cond b (withNumbers (take nameColumns body) (inColumns (take yearColumns (drop nameColumns body))) (fieldNumbers (fieldCount body) (drop (nameColumns + yearColumns) body))) none ≡ some l → Columns body l
+        cond b (withNumerals (take nameColumns body) (inColumns (take yearColumns (drop nameColumns body))) (fieldNumerals (fieldCount body) (drop (nameColumns + yearColumns) body))) none ≡ some l → Columns body l
     go true k e =
         let both = and-true (columnsFit body) (isName (take nameColumns body)) k in
-        let made = with-some (take nameColumns body) (inColumns (take yearColumns (drop nameColumns body))) (fieldNumbers (fieldCount body) (drop (nameColumns + yearColumns) body)) l e in
+        let made = with-some (take nameColumns body) (inColumns (take yearColumns (drop nameColumns body))) (fieldNumerals (fieldCount body) (drop (nameColumns + yearColumns) body)) l e in
         record { fits = both .0; named = both .1; name = made .0; year = made .1 .0; fields = made .1 .1 }
     go false k e = clash (cc)
 
@@ -163,7 +163,7 @@ good-line text from end at l e = go (le-or-lt (length text) end)
           few = omega arith;
           named = rw name-at at (p .named);
           name = p .name ∙ name-at;
-          numbers = ap₂ fieldNumbers count (sym (drop-slice (nameColumns + yearColumns) from end text)) ∙ p .fields;
+          numerals = ap₂ fieldNumerals count (sym (drop-slice (nameColumns + yearColumns) from end text)) ∙ p .fields;
           year-small = columns-small _ (l .year) (p .year);
           allowed = allowed .1 .1;
         }

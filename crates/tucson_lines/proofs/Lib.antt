@@ -2,5 +2,5 @@
 pub mod Steps
 pub mod Fields
 pub mod Lines
-pub mod LineNumbers
+pub mod LineNumerals
 pub mod GoodLines

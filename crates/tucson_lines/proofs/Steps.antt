@@ -31,8 +31,8 @@ module _ (text : Text) (i to : ℕ) (before : i < to) (within : to ≤ length te
   pub columns-blank : byte ≡ blank → inColumns (slice i to text) ≡ inColumns rest
   columns-blank e = columns-here ∙ ap (λ (b : Bool). cond b (inColumns rest) (numeral (byte ∷ rest))) (eq-eqb byte blank e)
 
-  pub columns-number : (byte ≡ blank → ⊥) → inColumns (slice i to text) ≡ numeral (slice i to text)
-  columns-number h =
+  pub columns-numeral : (byte ≡ blank → ⊥) → inColumns (slice i to text) ≡ numeral (slice i to text)
+  columns-numeral h =
       columns-here ∙ ap (λ (b : Bool). cond b (inColumns rest) (numeral (byte ∷ rest))) (ne-eqb byte blank h)
       ∙ ap numeral (sym (slice-step i to text 0 before within))
 

@@ -9,7 +9,7 @@ use lib.ListN.{length, take, drop}
 use lib.Seq.{slice}
 use Rattle.base_text.specs.Bytes.{Text, newline, indexOf}
 use Rattle.spec_tucson.specs.Columns.{inColumns}
-use Rattle.spec_tucson.specs.Line.{nameColumns, yearColumns, fieldNumbers, Line, withNumbers, ifAllowed}
+use Rattle.spec_tucson.specs.Line.{nameColumns, yearColumns, fieldNumerals, Line, withNumerals, ifAllowed}
 use Rattle.spec_tucson.specs.Series.{allHundredths}
 use Rattle.spec_tucson.specs.TextReading.{lastField}
 use Rattle.spec_tucson.specs.Writing.{allWidths}
@@ -34,7 +34,7 @@ lineTold none = line-cases.Bad
 lineTold (some l) = line-cases.Good (l .year) (length (l .fields)) (allHundredths (dropLast (l .fields))) (lastField (l .fields))
 
 -- What is told of n fields behind the name and the year of these columns.
-abbrev pub numbersTold : Text → ℕ → LineAnswer
-numbersTold body n =
-    lineTold (ifAllowed true (withNumbers (take nameColumns body) (inColumns (take yearColumns (drop nameColumns body)))
-    (fieldNumbers n (drop (nameColumns + yearColumns) body))))
+abbrev pub numeralsTold : Text → ℕ → LineAnswer
+numeralsTold body n =
+    lineTold (ifAllowed true (withNumerals (take nameColumns body) (inColumns (take yearColumns (drop nameColumns body)))
+    (fieldNumerals n (drop (nameColumns + yearColumns) body))))

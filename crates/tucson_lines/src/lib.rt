@@ -8,11 +8,11 @@ ghost use lib.Seq.{slice};
 ghost use Rattle.base_text.specs.Bytes.{Range};
 ghost use Rattle.base_text.specs.Machine;
 ghost use Rattle.spec_tucson.specs.Columns.{inColumns};
-ghost use Rattle.spec_tucson.specs.Line.{fieldColumns, nameColumns, linesOf, allPrintable, allBlank, isName, fieldNumbers, yearInDecade};
+ghost use Rattle.spec_tucson.specs.Line.{fieldColumns, nameColumns, linesOf, allPrintable, allBlank, isName, fieldNumerals, yearInDecade};
 ghost use Rattle.spec_tucson.specs.Line.{isWidth, thousandths, lineInColumns, goodLine};
 ghost use Rattle.spec_tucson.specs.Line;
 ghost use Rattle.spec_tucson.specs.TextReading.{goesOn};
-ghost use Rattle.tucson_lines.specs.Machine.{widthsTold, numbersTold, lineTold, LineEnd};
+ghost use Rattle.tucson_lines.specs.Machine.{widthsTold, numeralsTold, lineTold, LineEnd};
 use base_text::numeral::Field;
 
 pub const NAME: usize = 8;
@@ -63,7 +63,7 @@ pub fn same(a: i32, b: i32) -> bool
 }
 
 // The number that stands right-aligned in some columns.
-pub fn number(text: &[u8], from: usize, to: usize) -> Field
+pub fn numeral(text: &[u8], from: usize, to: usize) -> Field
     requires { ⌜ Range (now text) from to ⌝ }
     ensures { λ r. ⌜ r ≡ Machine.field (inColumns (slice from to (now (text .entry)))) ⌝ }
 {
@@ -148,18 +148,18 @@ fn ends_series(field: i32) -> bool
 fn widths(text: &[u8], from: usize, to: usize, n: usize) -> WidthsAnswer
     requires { ⌜ Range (now text) from to ⌝ }
     requires { ⌜ from + n * fieldColumns ≤ to ⌝ }
-    ensures { λ r. ⌜ r ≡ widthsTold true (fieldNumbers n (slice from to (now (text .entry)))) ⌝ }
+    ensures { λ r. ⌜ r ≡ widthsTold true (fieldNumerals n (slice from to (now (text .entry)))) ⌝ }
 {
     let mut small = true;
     let mut at = from;
     let mut left = n;
     while left > 0 {
-        let field = number(text, at, at + FIELD);
+        let field = numeral(text, at, at + FIELD);
         match field {
             Field::Bad => {
                 return WidthsAnswer::Bad;
             }
-            Field::Number(z) => {
+            Field::Numeral(z) => {
                 if !is_width(z) {
                     return WidthsAnswer::Bad;
                 }
@@ -173,18 +173,18 @@ fn widths(text: &[u8], from: usize, to: usize, n: usize) -> WidthsAnswer
 }
 
 // The year and the n fields of the line from the one index up to the other, the decade's end and the last field tested too.
-fn numbers(text: &[u8], from: usize, end: usize, n: usize) -> LineAnswer
+fn numerals(text: &[u8], from: usize, end: usize, n: usize) -> LineAnswer
     requires { ⌜ Range (now text) from end ⌝ }
     requires { ⌜ (1 ≤ n) × (end ≡ from + 12 + n * fieldColumns) ⌝ }
-    ensures { λ r. ⌜ r ≡ numbersTold (slice from end (now (text .entry))) n ⌝ }
+    ensures { λ r. ⌜ r ≡ numeralsTold (slice from end (now (text .entry))) n ⌝ }
 {
-    let Field::Number(year) = number(text, from + NAME, from + HEAD) else {
+    let Field::Numeral(year) = numeral(text, from + NAME, from + HEAD) else {
         return LineAnswer::Bad;
     };
     let WidthsAnswer::Small(small) = widths(text, from + HEAD, end, n - 1) else {
         return LineAnswer::Bad;
     };
-    let Field::Number(last) = number(text, end - FIELD, end) else {
+    let Field::Numeral(last) = numeral(text, end - FIELD, end) else {
         return LineAnswer::Bad;
     };
     if year_in_decade(year) + n > DECADE {
@@ -218,7 +218,7 @@ pub fn line(text: &[u8], from: usize, end: usize) -> LineAnswer
     if !is_name(text, from) {
         return LineAnswer::Bad;
     }
-    numbers(text, from, end, n)
+    numerals(text, from, end, n)
 }
 
 // Whether the line from the one index on, whose name is good, goes on in the one that begins at the other.

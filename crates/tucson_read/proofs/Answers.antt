@@ -28,10 +28,10 @@ use Rattle.tucson_read.proofs.Sets.{sets-front}
 use Rattle.tucson_read.proofs.Writes.{turn-more, turn-last}
 
 -- ---- what the first pass says
-pub scan-refused : (o : Outcome (List Series)) (number place : ℕ) → scanned-cases.Refused number place ≡ scanTold 0 0 o → o ≡ refusal number place
+pub scan-refused : (o : Outcome (List Series)) (code place : ℕ) → scanned-cases.Refused code place ≡ scanTold 0 0 o → o ≡ refusal code place
 unfolding scanTold
-scan-refused (answer ss) number place e = absurd (let z : _≡_ {A = ℕ} 0 1 = cc in omega arith)
-scan-refused (refusal n p) number place e = let a : n ≡ number = cc in let b : p ≡ place = cc in ap₂ refusal a b
+scan-refused (answer ss) code place e = absurd (let z : _≡_ {A = ℕ} 0 1 = cc in omega arith)
+scan-refused (refusal n p) code place e = let a : n ≡ code = cc in let b : p ≡ place = cc in ap₂ refusal a b
 
 pub record Found (o : Outcome (List Series)) (series total : ℕ) : Type 0 where
   pub list : List Series
@@ -73,13 +73,13 @@ module _ (text names : List ℕ) (years : List ℤ) (counts : List ℕ) (widths 
       (reply r ≡ with-answer length outcome)
       × ((ns ≡ filled namesOf outcome names) × ((ys ≡ filled yearsOf outcome years) × ((cs ≡ filled countsOf outcome counts) × (ws ≡ filled widthsOf outcome widths))))
 
-  ends-refused : (number place : ℕ) → outcome ≡ refusal number place → Ends (answer-cases.Refused number place) names years counts widths
+  ends-refused : (code place : ℕ) → outcome ≡ refusal code place → Ends (answer-cases.Refused code place) names years counts widths
   unfolding reply filled
-  ends-refused number place e = rw e (refl, (refl, (refl, (refl, refl))))
+  ends-refused code place e = rw e (refl, (refl, (refl, (refl, refl))))
 
-  pub read-refused : (number place : ℕ) → readText text ≡ refusal number place → Ends (answer-cases.Refused number place) names years counts widths
+  pub read-refused : (code place : ℕ) → readText text ≡ refusal code place → Ends (answer-cases.Refused code place) names years counts widths
   unfolding readOutcome
-  read-refused number place e = ends-refused number place (ap (λ o. o then λ ss. cond (roomFor ss (length names) (length years) (length counts) (length widths)) (answer ss) (refusal 1 (capped 0))) e)
+  read-refused code place e = ends-refused code place (ap (λ o. o then λ ss. cond (roomFor ss (length names) (length years) (length counts) (length widths)) (answer ss) (refusal 1 (capped 0))) e)
 
   module _ (ss : List Series) (e : readText text ≡ answer ss) where
     abbrev room : Bool

@@ -57,13 +57,13 @@ told-series series total s (answer ss) =
     let e : series + suc (length ss) ≡ series + 1 + length ss = omega arith in
     let f : total + length (s .widths ++ widthsOf ss) ≡ total + length (s .widths) + length (widthsOf ss) = omega (arith, length-append (s .widths) (widthsOf ss)) in
     ap₂ scanned-cases.Totals e f
-told-series series total s (refusal number place) = refl
+told-series series total s (refusal code place) = refl
 
 -- what an answer says of a line's step
-refused-step : (place : ℕ) (b : Option Begun) (o : Outcome Step) (number : ℕ) → Told place b o (passed-cases.Refused number) → o ≡ refusal number (capped place)
-refused-step place b (answer (opened c)) number h = absurd h
-refused-step place b (answer (closed s)) number h = absurd h
-refused-step place b (refusal n at) number h = ap₂ refusal (h .0) (h .1)
+refused-step : (place : ℕ) (b : Option Begun) (o : Outcome Step) (code : ℕ) → Told place b o (passed-cases.Refused code) → o ≡ refusal code (capped place)
+refused-step place b (answer (opened c)) code h = absurd h
+refused-step place b (answer (closed s)) code h = absurd h
+refused-step place b (refusal n at) code h = ap₂ refusal (h .0) (h .1)
 
 module _ (text : Text) (from lines series total : ℕ) (begun : Bool) (next : ℤ) (small : Bool) (now : Scans text from lines series total begun next small) where
   -- ---- at the end
@@ -96,10 +96,10 @@ module _ (text : Text) (from lines series total : ℕ) (begun : Bool) (next : �
     unfolding readLines
     so-far = now .told ∙ ap (λ (ts : List Text). scanTold series (total - length (soFar b)) (readLines lines b ts)) (lines-step text from end at more-text)
 
-    pub scans-refused : (number : ℕ) → Told lines b step (passed-cases.Refused number) → scanned-cases.Refused number (capped lines) ≡ scanTold 0 0 (readText text)
+    pub scans-refused : (code : ℕ) → Told lines b step (passed-cases.Refused code) → scanned-cases.Refused code (capped lines) ≡ scanTold 0 0 (readText text)
     unfolding scanTold
-    scans-refused number h =
-        sym (so-far ∙ ap (λ (o : Outcome Step). scanTold series (total - length (soFar b)) (o then after (λ c. readLines (suc lines) c later))) (refused-step lines b step number h))
+    scans-refused code h =
+        sym (so-far ∙ ap (λ (o : Outcome Step). scanTold series (total - length (soFar b)) (o then after (λ c. readLines (suc lines) c later))) (refused-step lines b step code h))
 
     pub scans-next : (more : Bool) (n : ℕ) (y : ℤ) (all : Bool) → Told lines b step (passed-cases.On more n y all) → Ahead text from end more n → Scans text (end + 1) (lines + 1) (series + cond more 0 1) (total + n) more y all
     scans-next more n y all h ahead = go step refl h
@@ -143,4 +143,4 @@ module _ (text : Text) (from lines series total : ℕ) (begun : Bool) (next : �
                   ∙ ap (λ (k : ℕ). scanTold k (total + n - 0) (readLines (lines + 1) none later)) (sym one-more);
               alive = ahead .followed;
             }
-        go (refusal number place) e h = absurd h
+        go (refusal code place) e h = absurd h

@@ -18,44 +18,44 @@ use Rattle.base_exact.proofs.Word.{leZ-true, sfits-abs}
 use Rattle.base_text.specs.Bytes.{Text}
 use Rattle.base_text.proofs.Slice.{slice-step}
 use Rattle.spec_tucson.specs.Columns.{inColumns}
-use Rattle.spec_tucson.specs.Line.{fieldColumns, widthLimit, withField, fieldNumbers, isWidth}
+use Rattle.spec_tucson.specs.Line.{fieldColumns, widthLimit, withField, fieldNumerals, isWidth}
 use Rattle.spec_tucson.specs.Series.{fromHundredths}
 use Rattle.spec_tucson.specs.Writing.{allWidths}
 use Rattle.tucson_lines.proofs.Fields.{fields-first}
-use Rattle.tucson_read.specs.Write.{numbersOf}
+use Rattle.tucson_read.specs.Write.{numeralsOf}
 use Rattle.tucson_read.proofs.Sets.{slice-set}
 
 -- ---- the numbers of fields
-with-number : (a : Option ℤ) (x : Option (List ℤ)) → withField a x ≡ some (numbersOf (withField a x)) → a ≡ none → ⊥
-with-number none x e h = let z : _≡_ {A = ℕ} 0 1 = cc in omega arith
-with-number (some z) x e h = let z : _≡_ {A = ℕ} 0 1 = cc in omega arith
+with-numeral : (a : Option ℤ) (x : Option (List ℤ)) → withField a x ≡ some (numeralsOf (withField a x)) → a ≡ none → ⊥
+with-numeral none x e h = let z : _≡_ {A = ℕ} 0 1 = cc in omega arith
+with-numeral (some z) x e h = let z : _≡_ {A = ℕ} 0 1 = cc in omega arith
 
-with-rest : (a : Option ℤ) (x : Option (List ℤ)) (z : ℤ) → withField a x ≡ some (numbersOf (withField a x)) → a ≡ some z → (x ≡ some (numbersOf x)) × (numbersOf (withField a x) ≡ z ∷ numbersOf x)
+with-rest : (a : Option ℤ) (x : Option (List ℤ)) (z : ℤ) → withField a x ≡ some (numeralsOf (withField a x)) → a ≡ some z → (x ≡ some (numeralsOf x)) × (numeralsOf (withField a x) ≡ z ∷ numeralsOf x)
 with-rest none x z e h = absurd (let z : _≡_ {A = ℕ} 0 1 = cc in omega arith)
 with-rest (some y) none z e h = absurd (let z : _≡_ {A = ℕ} 0 1 = cc in omega arith)
 with-rest (some y) (some fs) z e h = let same : y ≡ z = cc in (refl, ap (λ (w : ℤ). w ∷ fs) same)
 
-module _ (text : Text) (start to m : ℕ) (some-left : 1 ≤ m) (longer : start + fieldColumns ≤ to) (good : fieldNumbers m (slice start to text) ≡ some (numbersOf (fieldNumbers m (slice start to text)))) where
+module _ (text : Text) (start to m : ℕ) (some-left : 1 ≤ m) (longer : start + fieldColumns ≤ to) (good : fieldNumerals m (slice start to text) ≡ some (numeralsOf (fieldNumerals m (slice start to text)))) where
   abbrev here : Option ℤ
   here = inColumns (slice start (start + fieldColumns) text)
 
   abbrev others : Option (List ℤ)
-  others = fieldNumbers (m - 1) (slice (start + fieldColumns) to text)
+  others = fieldNumerals (m - 1) (slice (start + fieldColumns) to text)
 
-  first : fieldNumbers m (slice start to text) ≡ withField here others
+  first : fieldNumerals m (slice start to text) ≡ withField here others
   first = fields-first m text start to some-left longer
 
-  good-first : withField here others ≡ some (numbersOf (withField here others))
-  good-first = sym first ∙ good ∙ ap (λ (o : Option (List ℤ)). some (numbersOf o)) first
+  good-first : withField here others ≡ some (numeralsOf (withField here others))
+  good-first = sym first ∙ good ∙ ap (λ (o : Option (List ℤ)). some (numeralsOf o)) first
 
-  pub field-number : here ≡ none → ⊥
-  field-number e = with-number here others good-first e
+  pub field-numeral : here ≡ none → ⊥
+  field-numeral e = with-numeral here others good-first e
 
-  pub field-next : (z : ℤ) → here ≡ some z → (others ≡ some (numbersOf others)) × (numbersOf (fieldNumbers m (slice start to text)) ≡ z ∷ numbersOf others)
-  field-next z e = let r = with-rest here others z good-first e in (r .0, ap numbersOf first ∙ r .1)
+  pub field-next : (z : ℤ) → here ≡ some z → (others ≡ some (numeralsOf others)) × (numeralsOf (fieldNumerals m (slice start to text)) ≡ z ∷ numeralsOf others)
+  field-next z e = let r = with-rest here others z good-first e in (r .0, ap numeralsOf first ∙ r .1)
 
-pub fields-none : (t : Text) → numbersOf (fieldNumbers 0 t) ≡ []
-unfolding fieldNumbers
+pub fields-none : (t : Text) → numeralsOf (fieldNumerals 0 t) ≡ []
+unfolding fieldNumerals
 fields-none t = refl
 
 -- ---- hundredths

@@ -132,7 +132,7 @@ unfolding allWidths
 widths-append [] vs e f = f
 widths-append (w ∷ ws) vs e f = let both = and-true (isWidth w) (allWidths ws) e in ap₂ _&&_ (both .0) (widths-append ws vs (both .1) f)
 
--- ---- number 11's test of the fields, and an answer with a series in front
+-- ---- code 11's test of the fields, and an answer with a series in front
 pub good-allowed : (last : Bool) (t : Text) (l : Line) → goodLine last t ≡ some l → fieldsAllowed last (l .fields) ≡ true
 unfolding goodLine
 good-allowed last t l e = go (lineOf t) e
@@ -147,4 +147,4 @@ good-allowed last t l e = go (lineOf t) e
 
 pub with-inverts : {A : Type 0} (f : A → A) (o : Outcome A) (r : A) → with-answer f o ≡ answer r → (a : A) × (o ≡ answer a) × (r ≡ f a)
 with-inverts f (answer a) r e = (a, refl, sym (answer-unique {o = answer (f a)} refl e))
-with-inverts f (refusal number place) r e = absurd (answer-not-refusal e refl)
+with-inverts f (refusal code place) r e = absurd (answer-not-refusal e refl)

@@ -198,4 +198,4 @@ followed-by text t next e = go (le-or-lt (length text) next)
 pub advances : (text : Text) (from end : ℕ) (goes : Bool) (n : ℕ) (r : Passed) → Within goes n r → end < length text → from + n ≤ end → (goes ≡ true → end + 1 < length text) → Advances text from end r
 advances text from end goes n (passed-cases.On more m next small) w ended longer followed =
     record { ended = ended; longer = omega (arith, w .1); followed = λ e. followed (sym (w .0) ∙ e) }
-advances text from end goes n (passed-cases.Refused number) w ended longer followed = tt
+advances text from end goes n (passed-cases.Refused code) w ended longer followed = tt

@@ -15,8 +15,8 @@ use Rattle.base_exact.proofs.Integer.{bal-+, abs-parts}
 use Rattle.base_outcome.specs.Outcome.{Outcome, answer, refusal, _then_, with-answer}
 use Rattle.base_outcome.proofs.Outcome.{answer-unique, answer-not-refusal, then-inverts}
 use Rattle.base_text.specs.Bytes.{Text}
-use Rattle.base_text.specs.Numeral.{numberLimit}
-use Rattle.spec_tucson.specs.Line.{Line, nameColumns, fieldColumns, decade, linesOf, fieldNumbers, isName, goodLine, yearInDecade, same}
+use Rattle.base_text.specs.Numeral.{numeralLimit}
+use Rattle.spec_tucson.specs.Line.{Line, nameColumns, fieldColumns, decade, linesOf, fieldNumerals, isName, goodLine, yearInDecade, same}
 use Rattle.spec_tucson.specs.Series.{Series}
 use Rattle.spec_tucson.specs.TextReading.{Begun, begunBy, goesOn, nextYear, yearFollows, Step, opened, closed, extended, lastField, readLine, after, readLines, readText}
 use Rattle.spec_tucson.specs.ReadCall.{namesOf, yearsOf, countsOf, widthsOf}
@@ -25,9 +25,9 @@ use Rattle.tucson_lines.specs.Machine.{LineEnd, lineTold}
 use Rattle.tucson_lines.specs.declared.LineAnswer.the-variants.{Good}
 use Rattle.tucson_lines.proofs.Lines.{end-within, lines-step}
 use Rattle.tucson_lines.proofs.GoodLines.{GoodLine, good-line, ifWidth, good-more}
-use Rattle.tucson_lines.proofs.LineNumbers.{fields-front}
+use Rattle.tucson_lines.proofs.LineNumerals.{fields-front}
 use Rattle.tucson_read.specs.Scan.{soFar}
-use Rattle.tucson_read.specs.Write.{numbersOf, FieldsAt, inThousandths}
+use Rattle.tucson_read.specs.Write.{numeralsOf, FieldsAt, inThousandths}
 use Rattle.tucson_read.proofs.Passing.{Says, says, same-is, begun-widths, front-length, followed-by}
 use Rattle.tucson_read.proofs.Sets.{sets-append, sets-over, slice-sets, sets-slice}
 use Rattle.tucson_read.proofs.Inverting.{Stepped, stepped, good-as-last, opens, Closes, closes, closed-widths, thousandths-length, all-widths, front-widths, widths-append, good-allowed, with-inverts}
@@ -125,7 +125,7 @@ begun-covered place c (t ∷ ts) rest h e = more-covered place c t ts rest (λ d
 -- ---- what holds before a line
 abbrev pub Begins : Option Begun → Bool → ℤ → Type 0
 Begins none begun first = begun ≡ false
-Begins (some c) begun first = (begun ≡ true) × ((c .firstYear ≡ first) × (natAbs (c .firstYear) < numberLimit))
+Begins (some c) begun first = (begun ≡ true) × ((c .firstYear ≡ first) × (natAbs (c .firstYear) < numeralLimit))
 
 pub record Writes (text names-end : List ℕ) (years-end : List ℤ) (counts-end : List ℕ) (widths-end : List ℤ) (names : List ℕ) (years : List ℤ) (counts : List ℕ) (widths : List ℤ) (from series start at : ℕ) (begun : Bool) (first : ℤ) : Type 0 where
   pub within : from ≤ length text
@@ -177,7 +177,7 @@ writes-start text names years counts widths ss first e hn hy hc hw = record {
 run-length : (x : ℤ) (m : ℕ) → m ≤ natAbs x + natAbs (x +ℤ pos m)
 run-length x m = omega (arith, bal-+ x (pos m), abs-parts x, abs-parts (x +ℤ pos m))
 
-run-small : (b : Option Begun) (begun : Bool) (first : ℤ) (l : Line) → Begins b begun first → yearFollows b l ≡ true → natAbs (l .year) < numberLimit → length (soFar b) < 20000000
+run-small : (b : Option Begun) (begun : Bool) (first : ℤ) (l : Line) → Begins b begun first → yearFollows b l ≡ true → natAbs (l .year) < numeralLimit → length (soFar b) < 20000000
 unfolding yearFollows
 run-small none begun first l h e k = omega arith
 run-small (some c) begun first l h e k =
@@ -188,7 +188,7 @@ first-is : (b : Option Begun) (begun : Bool) (first : ℤ) (l : Line) (year : �
 first-is none begun first l year h e = e ∙ sym (ap (λ (x : Bool). cond x first year) h)
 first-is (some c) begun first l year h e = h .1 .0 ∙ sym (ap (λ (x : Bool). cond x first year) (h .0))
 
-first-small : (b : Option Begun) (begun : Bool) (first : ℤ) (l : Line) → Begins b begun first → natAbs (l .year) < numberLimit → natAbs (begunBy b l .firstYear) < numberLimit
+first-small : (b : Option Begun) (begun : Bool) (first : ℤ) (l : Line) → Begins b begun first → natAbs (l .year) < numeralLimit → natAbs (begunBy b l .firstYear) < numeralLimit
 first-small none begun first l h k = k
 first-small (some c) begun first l h k = h .1 .1
 
@@ -262,8 +262,8 @@ module _ (text names-end : List ℕ) (years-end : List ℤ) (counts-end : List �
         count : length (m .line .fields) ≡ n
         count = said (m .line) (m .good) .count-is
 
-        numbers-are : fieldNumbers n fields-text ≡ some (m .line .fields)
-        numbers-are = ap (λ (j : ℕ). fieldNumbers j fields-text) (sym count) ∙ g .numbers
+        numerals-are : fieldNumerals n fields-text ≡ some (m .line .fields)
+        numerals-are = ap (λ (j : ℕ). fieldNumerals j fields-text) (sym count) ∙ g .numerals
 
         room : at + n ≤ start + length (widthsOf (now .rest))
         room =
@@ -274,13 +274,13 @@ module _ (text names-end : List ℕ) (years-end : List ℤ) (counts-end : List �
         more-ready = record {
           within = end-within text from end line-at .1;
           longer = omega (arith, g .size, count);
-          numbers = numbers-are ∙ ap some (sym (ap numbersOf numbers-are));
+          numerals = numerals-are ∙ ap some (sym (ap numeralsOf numerals-are));
           fits = omega (arith, room, now .widths-room);
         }
 
-        module _ (new-widths : List ℤ) (filled : new-widths ≡ sets widths at (numbersOf (fieldNumbers n fields-text))) where
+        module _ (new-widths : List ℤ) (filled : new-widths ≡ sets widths at (numeralsOf (fieldNumerals n fields-text))) where
           is : new-widths ≡ sets widths at (m .line .fields)
-          is = filled ∙ ap (λ o. sets widths at (numbersOf o)) numbers-are
+          is = filled ∙ ap (λ o. sets widths at (numeralsOf o)) numerals-are
 
           kept : length new-widths ≡ length widths
           kept = ap length is ∙ length-sets widths at (m .line .fields)
@@ -329,8 +329,8 @@ module _ (text names-end : List ℕ) (years-end : List ℤ) (counts-end : List �
         last-said : Says (z .line) year n front last
         last-said = said (z .line) (z .good)
 
-        front-are : fieldNumbers (n - 1) fields-text ≡ some (dropLast fs)
-        front-are = fields-front n fields-text fs (omega (arith, last-good .some-field, last-said .count-is)) (ap (λ (j : ℕ). fieldNumbers j fields-text) (sym (last-said .count-is)) ∙ last-good .numbers)
+        front-are : fieldNumerals (n - 1) fields-text ≡ some (dropLast fs)
+        front-are = fields-front n fields-text fs (omega (arith, last-good .some-field, last-said .count-is)) (ap (λ (j : ℕ). fieldNumerals j fields-text) (sym (last-said .count-is)) ∙ last-good .numerals)
 
         front-count : length (dropLast fs) ≡ n - 1
         front-count = front-length fs ∙ ap (λ (j : ℕ). j - 1) (last-said .count-is)
@@ -355,13 +355,13 @@ module _ (text names-end : List ℕ) (years-end : List ℤ) (counts-end : List �
         last-ready = record {
           within = end-within text from end line-at .1;
           longer = omega (arith, last-good .size, last-said .count-is);
-          numbers = front-are ∙ ap some (sym (ap numbersOf front-are));
+          numerals = front-are ∙ ap some (sym (ap numeralsOf front-are));
           fits = omega (arith, now .at-is, ws-length, rest-length, now .widths-room);
         }
 
-        module _ (filled-widths : List ℤ) (filled : filled-widths ≡ sets widths at (numbersOf (fieldNumbers (n - 1) fields-text))) where
+        module _ (filled-widths : List ℤ) (filled : filled-widths ≡ sets widths at (numeralsOf (fieldNumerals (n - 1) fields-text))) where
           filled-is : filled-widths ≡ sets widths at (dropLast fs)
-          filled-is = filled ∙ ap (λ o. sets widths at (numbersOf o)) front-are
+          filled-is = filled ∙ ap (λ o. sets widths at (numeralsOf o)) front-are
 
           filled-kept : length filled-widths ≡ length widths
           filled-kept = ap length filled-is ∙ length-sets widths at (dropLast fs)

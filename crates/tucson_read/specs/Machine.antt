@@ -4,7 +4,7 @@ use Rattle.base_outcome.specs.Outcome.{Outcome, answer, refusal}
 use Rattle.tucson_read.specs.declared.Answer.{Answer}
 use Rattle.tucson_read.specs.declared.Answer.the-variants.{Series, Refused}
 
--- How many series there are, or a refusal's number and place.
+-- How many series there are, or a refusal's code and place.
 unfoldable pub reply : Answer → Outcome ℕ
 reply (Series n) = answer n
-reply (Refused number place) = refusal number place
+reply (Refused code place) = refusal code place

@@ -34,19 +34,19 @@ abbrev pub Tracks : Option Begun → Bool → ℤ → Bool → Type 0
 Tracks none begun next small = (begun ≡ false) × (small ≡ true)
 Tracks (some b) begun next small = Kept b begun next small
 
--- The answer for the line at this place: what it leaves, and how many widths it has, or the number of its refusal.
+-- The answer for the line at this place: what it leaves, and how many widths it has, or the code of its refusal.
 abbrev pub Told : ℕ → Option Begun → Outcome Step → Passed → Type 0
 Told place b (answer (opened c)) (passed-cases.On more n next small) = Kept c more next small × (length (c .widths) ≡ length (soFar b) + n)
 Told place b (answer (closed s)) (passed-cases.On more n next small) = (more ≡ false)
     × ((small ≡ true) × (length (s .widths) ≡ length (soFar b) + n))
-Told place b (answer step) (passed-cases.Refused number) = ⊥
-Told place b (refusal number at) (passed-cases.On more n next small) = ⊥
-Told place b (refusal number at) (passed-cases.Refused told) = (number ≡ told) × (at ≡ capped place)
+Told place b (answer step) (passed-cases.Refused code) = ⊥
+Told place b (refusal code at) (passed-cases.On more n next small) = ⊥
+Told place b (refusal code at) (passed-cases.Refused told) = (code ≡ told) × (at ≡ capped place)
 
 -- A line of n fields that is not refused has at most n widths, and it is known whether its series goes on.
 abbrev pub Within : Bool → ℕ → Passed → Type 0
 Within goes n (passed-cases.On more m next small) = (more ≡ goes) × (m ≤ n)
-Within goes n (passed-cases.Refused number) = Unit {0}
+Within goes n (passed-cases.Refused code) = Unit {0}
 
 -- A line that is not refused ends with byte 10, has more bytes than widths, and is followed by another where its series goes
 -- on.
@@ -57,9 +57,9 @@ pub record Ahead (text : Text) (from end : ℕ) (more : Bool) (n : ℕ) : Type 0
 
 abbrev pub Advances : Text → ℕ → ℕ → Passed → Type 0
 Advances text from end (passed-cases.On more n next small) = Ahead text from end more n
-Advances text from end (passed-cases.Refused number) = Unit {0}
+Advances text from end (passed-cases.Refused code) = Unit {0}
 
 -- What the first pass answers after so many series and widths, from what reading the other lines ends with.
 unfoldable pub scanTold : ℕ → ℕ → Outcome (List Series) → Scanned
 scanTold series total (answer ss) = scanned-cases.Totals (series + length ss) (total + length (widthsOf ss))
-scanTold series total (refusal number place) = scanned-cases.Refused number place
+scanTold series total (refusal code place) = scanned-cases.Refused code place

@@ -9,25 +9,25 @@ use lib.ListN.{length}
 use lib.Seq.{slice}
 use Rattle.base_outcome.specs.Outcome.{Outcome, answer, refusal}
 use Rattle.base_text.specs.Bytes.{Text}
-use Rattle.spec_tucson.specs.Line.{fieldColumns, fieldNumbers, same}
+use Rattle.spec_tucson.specs.Line.{fieldColumns, fieldNumerals, same}
 use Rattle.spec_tucson.specs.Series.{Series, hundredths, fromHundredths}
 
 -- The numbers of some fields; none if they are no numbers.
-abbrev pub numbersOf : Option (List ℤ) → List ℤ
-numbersOf none = []
-numbersOf (some fs) = fs
+abbrev pub numeralsOf : Option (List ℤ) → List ℤ
+numeralsOf none = []
+numeralsOf (some fs) = fs
 
 -- The series of a text that is good; none if it is refused.
 abbrev pub seriesIn : Outcome (List Series) → List Series
 seriesIn (answer ss) = ss
-seriesIn (refusal number place) = []
+seriesIn (refusal code place) = []
 
 -- The fields from the one index up to the other: n of them are numbers, and a buffer of this length has room for them from
 -- index `at` on.
 pub record FieldsAt (text : Text) (from to n at room : ℕ) : Type 0 where
   pub within : to ≤ length text
   pub longer : from + n * fieldColumns ≤ to
-  pub numbers : fieldNumbers n (slice from to text) ≡ some (numbersOf (fieldNumbers n (slice from to text)))
+  pub numerals : fieldNumerals n (slice from to text) ≡ some (numeralsOf (fieldNumerals n (slice from to text)))
   pub fits : at + n ≤ room
 
 -- The widths in thousandths, by the closing.

@@ -8,7 +8,7 @@ use scanning::Scanned;
 mod scanning;
 mod writing;
 
-// What reading answers: how many series there are, or a refusal's number and place.
+// What reading answers: how many series there are, or a refusal's code and place.
 pub enum Answer {
     Series(usize),
     Refused(u8, u32),
@@ -32,7 +32,7 @@ pub fn read(
 {
     let scanned = scanning::scan(text);
     match scanned {
-        Scanned::Refused(number, place) => Answer::Refused(number, place),
+        Scanned::Refused(code, place) => Answer::Refused(code, place),
         Scanned::Totals(series, total) => {
             if names.len() / tucson_lines::NAME < series {
                 return Answer::Refused(SHORT_BUFFER, 0);

@@ -8,7 +8,7 @@ ghost use lib.IntN.{natAbs};
 ghost use lib.ListN.{drop};
 ghost use lib.Seq.{slice};
 ghost use Rattle.base_text.specs.Bytes.{Text};
-ghost use Rattle.base_text.specs.Numeral.{numberLimit};
+ghost use Rattle.base_text.specs.Numeral.{numeralLimit};
 ghost use Rattle.spec_tucson.specs.Line.{linesOf, decade, yearInDecade, same, goodLine};
 ghost use Rattle.spec_tucson.specs.TextReading.{Begun, goesOn, readLine, readText};
 ghost use Rattle.tucson_lines.specs.Machine.{LineEnd, lineTold};
@@ -16,14 +16,14 @@ ghost use Rattle.tucson_lines.specs.declared.LineAnswer.the-variants.{Good};
 ghost use Rattle.tucson_read.specs.Scan.{Tracks, Told, Within, Advances, scanTold};
 use tucson_lines::LineAnswer;
 
-// How many series and widths a text has, or a refusal's number and place.
+// How many series and widths a text has, or a refusal's code and place.
 pub enum Scanned {
     Totals(usize, usize),
     Refused(u8, u32),
 }
 
 // What a line leaves: whether its series goes on, how many widths it has, and if the series goes on the year that must come
-// next and whether all widths so far are at most 9,999. Or the number of its refusal.
+// next and whether all widths so far are at most 9,999. Or the code of its refusal.
 enum Passed {
     On(bool, usize, i32, bool),
     Refused(u8),
@@ -60,7 +60,7 @@ fn extend(
     front: bool,
     last: i32,
 ) -> Passed
-    requires { ⌜ (natAbs year < numberLimit) × ((1 ≤ n) × (n ≤ decade)) ⌝ }
+    requires { ⌜ (natAbs year < numeralLimit) × ((1 ≤ n) × (n ≤ decade)) ⌝ }
     ensures { λ r. ⌜ ((place : ℕ) (b : Option Begun) (t : Text) → Tracks b begun next small
         → lineTold (goodLine true t) ≡ Good year n front last →
         Told place b (readLine place b true t) r) ⌝ }
@@ -143,8 +143,8 @@ pub fn scan(text: &[u8]) -> Scanned
         let end = base_text::fields::find(text, from, text.len(), b'\n');
         let passed = pass(text, from, end, begun, next, small);
         match passed {
-            Passed::Refused(number) => {
-                return Scanned::Refused(number, base_outcome::place(lines));
+            Passed::Refused(code) => {
+                return Scanned::Refused(code, base_outcome::place(lines));
             }
             Passed::On(more, n, year, all) => {
                 series += whole(more);

@@ -1,4 +1,4 @@
--- From the contracts of reading and writing to what the filter gives, for a text that it holds and buffers of its sizes: number 1
+-- From the contracts of reading and writing to what the filter gives, for a text that it holds and buffers of its sizes: code 1
 -- never comes, a refusal is printed as it is, and what was read is written, whatever it is.
 use mathlib.Core.Path.{_≡_, refl, sym, _∙_, ap}
 use mathlib.Core.List.{List, []}
@@ -44,12 +44,12 @@ module _ (t : Text) (short : length t ≤ textLimit) where
             let n = years-count ss in
             roomy-reads t names years counts widths ss e
             (room-yes ss (length names) (length years) (length counts) (length widths) (omega (arith, f .names-fit)) (omega arith) (omega (arith, f .counts-fit)) (omega arith))
-        go (refusal number place) e = then-refuses _ e
+        go (refusal code place) e = then-refuses _ e
 
     -- so a refusal is printed as it is
-    pub refused-text : (number place : ℕ) → readEnd t names years counts widths .answers ≡ refusal number place → refusalLine number place ≡ outcomeText (readText t)
+    pub refused-text : (code place : ℕ) → readEnd t names years counts widths .answers ≡ refusal code place → refusalLine code place ≡ outcomeText (readText t)
     unfolding outcomeText
-    refused-text number place e = ap outcomeText (sym (with-refuses length outcome e) ∙ reads-whole)
+    refused-text code place e = ap outcomeText (sym (with-refuses length outcome e) ∙ reads-whole)
 
     module _ (n : ℕ) (e : readEnd t names years counts widths .answers ≡ answer n) where
       pub read : HasRead t names years counts widths n

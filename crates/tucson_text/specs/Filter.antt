@@ -19,7 +19,7 @@ textLimit = 1048576
 -- The text of what was read: the series as writing gives them, or the line of the refusal.
 unfoldable pub outcomeText : Outcome (List Series) → Text
 outcomeText (answer ss) = written ss
-outcomeText (refusal number place) = refusalLine number place
+outcomeText (refusal code place) = refusalLine code place
 
 -- What the filter gives for a text. A longer one than it can hold is refused, never cut.
 unfoldable pub filtered : Text → Text

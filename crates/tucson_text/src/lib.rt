@@ -50,7 +50,7 @@ fn rewrite(input: &[u8], out: &mut [u8; TEXT_LIMIT]) -> usize
     let mut widths = [0i32; WIDTHS];
     let series = tucson_read::read(input, &mut names, &mut years, &mut counts, &mut widths);
     match series {
-        tucson_read::Answer::Refused(number, place) => base_print::refusal(number, place, out),
+        tucson_read::Answer::Refused(code, place) => base_print::refusal(code, place, out),
         tucson_read::Answer::Series(n) => {
             let bytes = n * tucson_lines::NAME;
             let widths_read = sum(&counts[..n]);
@@ -62,11 +62,7 @@ fn rewrite(input: &[u8], out: &mut [u8; TEXT_LIMIT]) -> usize
                 out,
             );
             match text {
-                tucson_write::Answer::Refused(number, place) => base_print::refusal(
-                    number,
-                    place,
-                    out,
-                ),
+                tucson_write::Answer::Refused(code, place) => base_print::refusal(code, place, out),
                 tucson_write::Answer::Bytes(count) => count,
             }
         }

@@ -57,9 +57,9 @@ module _ (names : Text) (years : List ℤ) (counts : List ℕ) (widths : List �
 
   -- ---- the answer and the text
 
-  pub ends-refused : (number place : ℕ) → outcome ≡ refusal number place → (reply (Refused number place) ≡ writeEnd names years counts widths text .answers) × (text ≡ writeEnd names years counts widths text .text)
+  pub ends-refused : (code place : ℕ) → outcome ≡ refusal code place → (reply (Refused code place) ≡ writeEnd names years counts widths text .answers) × (text ≡ writeEnd names years counts widths text .text)
   unfolding reply textAfter
-  ends-refused number place e = (sym (ap (with-answer length) e), sym (ap (λ (o : Outcome Text). textAfter o text) e))
+  ends-refused code place e = (sym (ap (with-answer length) e), sym (ap (λ (o : Outcome Text). textAfter o text) e))
 
   pub ends-written : (count : ℕ) (after : List ℕ) → outcome ≡ answer (written listed) → length (written listed) ≤ length text → Wrote 0 (written listed) text after count → (reply (Bytes count) ≡ writeEnd names years counts widths text .answers) × (after ≡ writeEnd names years counts widths text .text)
   unfolding reply textAfter

@@ -1,4 +1,4 @@
--- Number 11's tests one by one, and the first series that can't be written, one series after another.
+-- Code 11's tests one by one, and the first series that can't be written, one series after another.
 use mathlib.Core.Path.{_≡_, refl, sym, ap, _∙_}
 use mathlib.Core.Bool.{true, false, not, and-false}
 use mathlib.Core.List.{List, [], _∷_, _++_}

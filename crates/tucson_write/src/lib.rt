@@ -9,7 +9,7 @@ mod putting;
 mod room;
 mod writable;
 
-// What the write call answers: the number of bytes written, or a refusal's number and place.
+// What the write call answers: the number of bytes written, or a refusal's code and place.
 pub enum Answer {
     Bytes(usize),
     Refused(u8, u32),

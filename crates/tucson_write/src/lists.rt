@@ -1,4 +1,4 @@
-// Number 2: whether the four lists fit each other.
+// Code 2: whether the four lists fit each other.
 ghost use mathlib.Core.Path.{_≡_};
 ghost use lib.Dec.{eqb};
 ghost use Rattle.spec_tucson.specs.WriteCall.{total, listsFit};

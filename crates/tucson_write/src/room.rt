@@ -1,4 +1,4 @@
-// Number 1: whether the text of the series has room in the buffer. It is known from the years and the counts.
+// Code 1: whether the text of the series has room in the buffer. It is known from the years and the counts.
 ghost use mathlib.Core.Path.{_≡_};
 ghost use mathlib.Core.Bool.{true};
 ghost use lib.Dec.{leb};

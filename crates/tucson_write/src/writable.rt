@@ -1,4 +1,4 @@
-// Number 11: the first series that can't be written.
+// Code 11: the first series that can't be written.
 ghost use mathlib.Core.Path.{_≡_};
 ghost use mathlib.Core.Bool.{true};
 ghost use Prim.Native.Nat.{_+_, _≤_};

@@ -46,13 +46,13 @@ four a b c d (more x (more y (more z (more w none)))) = record { size = refl; ea
 
 module _ (ends : Ends) (p : pieces.Piece) where
   pub line-sent : (a b : Float) → Shows (record { curve = Line a b; ends = ends }) p → Sent (struct 1 a b nought nought ends) (answer p)
-  line-sent a b s = let o = two a b (s .ordinates) in record { number-is = refl; place-is = refl; degree-is = o .size; unused-is = refl; ordinates-are = o .each; start-is = s .start; end-is = s .end }
+  line-sent a b s = let o = two a b (s .ordinates) in record { code-is = refl; place-is = refl; degree-is = o .size; unused-is = refl; ordinates-are = o .each; start-is = s .start; end-is = s .end }
 
   pub quadratic-sent : (a b c : Float) → Shows (record { curve = Quadratic a b c; ends = ends }) p → Sent (struct 2 a b c nought ends) (answer p)
-  quadratic-sent a b c s = let o = three a b c (s .ordinates) in record { number-is = refl; place-is = refl; degree-is = o .size; unused-is = refl; ordinates-are = o .each; start-is = s .start; end-is = s .end }
+  quadratic-sent a b c s = let o = three a b c (s .ordinates) in record { code-is = refl; place-is = refl; degree-is = o .size; unused-is = refl; ordinates-are = o .each; start-is = s .start; end-is = s .end }
 
   pub cubic-sent : (a b c d : Float) → Shows (record { curve = Cubic a b c d; ends = ends }) p → Sent (struct 3 a b c d ends) (answer p)
-  cubic-sent a b c d s = let o = four a b c d (s .ordinates) in record { number-is = refl; place-is = refl; degree-is = o .size; unused-is = refl; ordinates-are = o .each; start-is = s .start; end-is = s .end }
+  cubic-sent a b c d s = let o = four a b c d (s .ordinates) in record { code-is = refl; place-is = refl; degree-is = o .size; unused-is = refl; ordinates-are = o .each; start-is = s .start; end-is = s .end }
 
 -- ---- what the calls' answers tell
 
@@ -70,6 +70,6 @@ pub drawn-sent : (r : Piece) {a : Answer} {o : Outcome pieces.Piece} → Replies
 drawn-sent r (drawn {r = v} {p = p} s) w k h = h p (subst (λ x. Shows x p) (let z : v ≡ w = cc in z) s)
 drawn-sent r refused w k h = absurd (let z : _≡_ {A = ℕ} 0 1 = cc in omega arith)
 
-pub refused-sent : (r : Piece) {a : Answer} {o : Outcome pieces.Piece} → Replies a o → (number place : ℕ) → a ≡ Refused number place → Sent r (refusal number place) → Sent r o
-refused-sent r (drawn s) number place k h = absurd (let z : _≡_ {A = ℕ} 0 1 = cc in omega arith)
-refused-sent r (refused {number = m} {place = q}) number place k h = subst (λ y. Sent r (refusal m y)) (let z : place ≡ q = cc in z) (subst (λ x. Sent r (refusal x place)) (let z : number ≡ m = cc in z) h)
+pub refused-sent : (r : Piece) {a : Answer} {o : Outcome pieces.Piece} → Replies a o → (code place : ℕ) → a ≡ Refused code place → Sent r (refusal code place) → Sent r o
+refused-sent r (drawn s) code place k h = absurd (let z : _≡_ {A = ℕ} 0 1 = cc in omega arith)
+refused-sent r (refused {code = m} {place = q}) code place k h = subst (λ y. Sent r (refusal m y)) (let z : place ≡ q = cc in z) (subst (λ x. Sent r (refusal x place)) (let z : code ≡ m = cc in z) h)

@@ -19,8 +19,8 @@ abbrev pub ordinatesOf : Piece → List Float
 ordinatesOf r = r .o0 ∷ r .o1 ∷ r .o2 ∷ r .o3 ∷ []
 
 -- The struct's numbers: the floats exactly, "ordinates past the degree are 0.0".
-pub record Carries (r : Piece) (number place degree : ℕ) (ordinates : List ℤ) (start end : ℤ) : Type 0 where
-  pub number-is : r .number ≡ number
+pub record Carries (r : Piece) (code place degree : ℕ) (ordinates : List ℤ) (start end : ℤ) : Type 0 where
+  pub code-is : r .number ≡ code
   pub place-is : r .place ≡ place
   pub degree-is : r .degree ≡ degree
   pub unused-is : r .unused ≡ 0
@@ -28,7 +28,7 @@ pub record Carries (r : Piece) (number place degree : ℕ) (ordinates : List ℤ
   pub start-is : Is (r .start) start 1
   pub end-is : Is (r .end) end 1
 
--- The piece with number 0 and place 0; or the number and place of a refusal and "all but number and place is 0".
+-- The piece with code 0 and place 0; or the code and place of a refusal and "all but number and place is 0".
 abbrev pub Sent : Piece → Outcome pieces.Piece → Type 0
 Sent r (answer p) = Carries r 0 0 (length (p .ordinates) - 1) (p .ordinates) (p .start) (p .end)
-Sent r (refusal number place) = Carries r number place 0 [] (pos 0) (pos 0)
+Sent r (refusal code place) = Carries r code place 0 [] (pos 0) (pos 0)

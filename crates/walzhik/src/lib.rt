@@ -17,7 +17,7 @@ ghost use Rattle.walzhik_reply.specs.Machine.{replied};
 ghost use Rattle.walzhik.specs.Machine.{reached};
 ghost use Rattle.walzhik.specs.Piece.{Sent};
 
-// The position with number 0 and place 0; or position 0 with a refusal's number and place.
+// The position with code 0 and place 0; or position 0 with a refusal's code and place.
 #[repr(C)]
 pub struct Reach {
     pub position: i32,
@@ -25,7 +25,7 @@ pub struct Reach {
     pub place: u32,
 }
 
-// A piece: number 0 and place 0, its degree from 1 to 3, degree + 1 ordinates and its ends; or a refusal's number and place. All
+// A piece: code 0 and place 0, its degree from 1 to 3, degree + 1 ordinates and its ends; or a refusal's code and place. All
 // other numbers are 0.
 #[repr(C)]
 pub struct Piece {
@@ -47,7 +47,7 @@ fn rows_of(built: build::Built) -> walzhik_reply::Reply
 {
     match built {
         build::Built::Rows(n) => walzhik_reply::answered(n),
-        build::Built::Refused(number, place) => walzhik_reply::refused(number, place),
+        build::Built::Refused(code, place) => walzhik_reply::refused(code, place),
     }
 }
 
@@ -119,7 +119,7 @@ pub extern "C" fn walzhik_curve(
     let answer = curve::curve(breaks, degrees, orders, coefs, positions, num, den, values);
     match answer {
         curve::Answer::Values(n) => walzhik_reply::answered(n),
-        curve::Answer::Refused(number, place) => walzhik_reply::refused(number, place),
+        curve::Answer::Refused(code, place) => walzhik_reply::refused(code, place),
     }
 }
 
@@ -140,7 +140,7 @@ pub extern "C" fn walzhik_tucson_read(
     let answer = tucson_read::read(text, names, years, counts, widths);
     match answer {
         tucson_read::Answer::Series(n) => walzhik_reply::answered(n),
-        tucson_read::Answer::Refused(number, place) => walzhik_reply::refused(number, place),
+        tucson_read::Answer::Refused(code, place) => walzhik_reply::refused(code, place),
     }
 }
 
@@ -160,7 +160,7 @@ pub extern "C" fn walzhik_tucson_write(
     let answer = tucson_write::write(names, years, counts, widths, text);
     match answer {
         tucson_write::Answer::Bytes(n) => walzhik_reply::answered(n),
-        tucson_write::Answer::Refused(number, place) => walzhik_reply::refused(number, place),
+        tucson_write::Answer::Refused(code, place) => walzhik_reply::refused(code, place),
     }
 }
 
@@ -180,7 +180,7 @@ fn reach_of(answer: curve_reach::Answer) -> Reach
 {
     match answer {
         curve_reach::Answer::Reached(x) => reach_struct(x, 0, 0),
-        curve_reach::Answer::Refused(number, place) => reach_struct(0, number as u32, place),
+        curve_reach::Answer::Refused(code, place) => reach_struct(0, code as u32, place),
     }
 }
 
@@ -280,11 +280,11 @@ fn sent(drawing: curve_pieces::Drawing) -> Piece
     }
 }
 
-fn not_sent(number: u8, place: u32) -> Piece
-    ensures { λ r. ⌜ Sent r (refusal number place) ⌝ }
+fn not_sent(code: u8, place: u32) -> Piece
+    ensures { λ r. ⌜ Sent r (refusal code place) ⌝ }
 {
     Piece {
-        number: number as u32,
+        number: code as u32,
         place,
         degree: 0,
         unused: 0,
@@ -324,7 +324,7 @@ pub extern "C" fn walzhik_earlywood_piece(
     );
     match answer {
         curve_pieces::Answer::Drawn(drawing) => sent(drawing),
-        curve_pieces::Answer::Refused(number, place) => not_sent(number, place),
+        curve_pieces::Answer::Refused(code, place) => not_sent(code, place),
     }
 }
 
@@ -355,6 +355,6 @@ pub extern "C" fn walzhik_latewood_piece(
     );
     match answer {
         curve_pieces::Answer::Drawn(drawing) => sent(drawing),
-        curve_pieces::Answer::Refused(number, place) => not_sent(number, place),
+        curve_pieces::Answer::Refused(code, place) => not_sent(code, place),
     }
 }

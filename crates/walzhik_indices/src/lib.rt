@@ -12,7 +12,7 @@ fn rings_of(answer: indices::Answer) -> walzhik_reply::Reply
 {
     match answer {
         indices::Answer::Indices(n) => walzhik_reply::answered(n),
-        indices::Answer::Refused(number, place) => walzhik_reply::refused(number, place),
+        indices::Answer::Refused(code, place) => walzhik_reply::refused(code, place),
     }
 }
 

@@ -1,7 +1,7 @@
 // The struct with which a call for C and Rust answers by a count: both libraries give it, so it stands below both.
 ghost use mathlib.Core.Path.{_≡_};
 
-// The count of rows, positions, rings, series or bytes, with number 0 and place 0; or count 0 with a refusal's number and place.
+// The count of rows, positions, rings, series or bytes, with code 0 and place 0; or count 0 with a refusal's code and place.
 #[repr(C)]
 pub struct Reply {
     pub count: u64,
@@ -19,12 +19,12 @@ pub fn answered(count: usize) -> Reply
     }
 }
 
-pub fn refused(number: u8, place: u32) -> Reply
-    ensures { λ r. ⌜ (r .count ≡ 0) × ((r .number ≡ number) × (r .place ≡ place)) ⌝ }
+pub fn refused(code: u8, place: u32) -> Reply
+    ensures { λ r. ⌜ (r .count ≡ 0) × ((r .number ≡ code) × (r .place ≡ place)) ⌝ }
 {
     Reply {
         count: 0,
-        number: number as u32,
+        number: code as u32,
         place: place,
     }
 }

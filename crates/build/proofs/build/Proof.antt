@@ -9,7 +9,7 @@ use Rattle.base_outcome.specs.Outcome.{with-answer}
 use Rattle.spec_spline.specs.Space.{Space, checked, rowCount}
 use Rattle.spec_spline.specs.Table.{tableCells}
 use Rattle.spec_spline.specs.Build.{lastPart, numeratorsAfter, denominatorsAfter}
-use Rattle.spec_spline.proofs.Legal.{checked-numbers}
+use Rattle.spec_spline.proofs.Legal.{checked-codes}
 use Rattle.build_space.specs.Machine.{space}
 use Rattle.build_space.specs.Legal.{ListsLegal}
 use Rattle.base_outcome.proofs.Machine.{refused-refuses}
@@ -80,7 +80,7 @@ returns-4 c =
     let l = a .before in
     let s = l .before .before in
     let r = refused-refuses (checked (lists s)) (sym (a .check .ensures) ∙ c .before .legality .given .1) in
-    let e = beam-unchanged (lists s) _ _ _ (built-refused (lists s) _ _ (first-long l) (second-long l) r) (checked-numbers (lists s) r) in
+    let e = beam-unchanged (lists s) _ _ _ (built-refused (lists s) _ _ (first-long l) (second-long l) r) (checked-codes (lists s) r) in
     (e .answers, (e .numerators-are, e .denominators-are))
 
 pub build-spec : {M : Type 1} → statement M

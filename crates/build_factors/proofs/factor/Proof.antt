@@ -41,7 +41,7 @@ sum-kept : (c : tie.After-sum2) → Kept (total (c .before .before .before)) (c 
 sum-kept c = kept (total (c .before .before .before)) (c .sum2 .given .0 .0) (sym (c .before .before .sum .ensures) ∙ c .sum2 .given .1)
 
 quotient-requires : tie.Need-quotient-requires
-quotient-requires c κs = let s = c .before .before .before .before in (sum-kept (c .before) .sized, s .pre .1 .0, s .pre .1 .1)
+quotient-requires c κs = let s = c .before .before .before .before in (sum-kept (c .before) .fitted, s .pre .1 .0, s .pre .1 .1)
 
 enum-told-2 : tie.Need-enum-told-2
 enum-told-2 c = search needs
@@ -67,7 +67,7 @@ quotient-kept : (c : tie.After-quotient2) → Kept (total (before-sum (c .before
 quotient-kept c = kept (total (before-sum (c .before .before)) /ᵠ step (before-sum (c .before .before))) (c .quotient2 .given .0 .0) (sym (quotient-is (c .before .before)) ∙ c .quotient2 .given .1)
 
 strictly-between-requires : tie.Need-strictly-between-requires
-strictly-between-requires c κs = quotient-kept (c .before) .sized .den-pos
+strictly-between-requires c κs = quotient-kept (c .before) .fitted .den-pos
 
 module _ (c : tie.After-strictly-between) where
   abbrev start : tie.Start

@@ -12,7 +12,7 @@ use mir.ValLaws.{toZ-ofZ}
 use Rattle.base_exact.specs.Rational.{ℚ, int, _+ᵠ_}
 use Rattle.base_exact.proofs.Rational.{zero-is}
 use Rattle.base_exact.proofs.Order.{isZero-false}
-use Rattle.base_fraction.specs.Machine.{fraction, value, Sized}
+use Rattle.base_fraction.specs.Machine.{fraction, value, FractionFits}
 use Rattle.base_fraction.specs.declared.Fraction.{Fraction}
 use Rattle.base_fraction.proofs.Value.{value-fraction}
 use Rattle.base_fraction.proofs.Answer.{fits-sized}
@@ -41,7 +41,7 @@ record Collected (qs : List ℚ) (j f i : ℕ) (ws : Fractions) : Type 0 where
 record Inv (js : Fractions) (f l : ℕ) (ws : Fractions) (sum : Fraction) (i : ℕ) : Type 0 where
   after : f < i
   within : i - f - 1 ≤ l - f - 1
-  sized : Sized sum
+  fitted : FractionFits sum
   sum-is : (qs : List ℚ) → js ≡ fractions qs → sum ≡ fraction (partialSum qs f (i - 1))
   rest : (qs : List ℚ) (j : ℕ) → js ≡ fractions qs → Collected qs j f i ws
 
@@ -70,7 +70,7 @@ loop-holds c =
     record {
       after = omega arith;
       within = omega arith;
-      sized = rw (c .fraction-at .ensures (s .pre .of) (s .pre .is)) (fits-sized (entry (s .pre .of) f) (s .pre .fit f));
+      fitted = rw (c .fraction-at .ensures (s .pre .of) (s .pre .is)) (fits-sized (entry (s .pre .of) f) (s .pre .fit f));
       sum-is = λ qs e. c .fraction-at .ensures qs e ∙ ap fraction (sym (partial-first qs f) ∙ ap (partialSum qs f) (let z : f ≡ f + 1 - 1 = omega arith in z));
       rest = λ qs j e. record {
         done = [];
@@ -88,7 +88,7 @@ factor-requires c κs =
     let p = c .before .before .before .before .before .pre in
     let l = c .before .before .loop in
     let e = c .fraction-at2 .ensures (p .of) (p .is) in (
-      l .inv .sized,
+      l .inv .fitted,
       (
         rw e (fits-sized (entry (p .of) (l .i)) (p .fit (l .i))),
         λ z. isZero-false (entry (p .of) (l .i)) (p .jump (l .i) (omega arith) (omega arith)) (zero-is (entry (p .of) (l .i)) (sym (ap (λ (x : Fraction). x .num) e) ∙ z)),
@@ -126,7 +126,7 @@ module _ (c : tie.After-factor Inv-loop μ-loop) (qs : List ℚ) (j : ℕ) (e : 
   ended : (reason : Refusal) → c .factor .result .refusal ≡ reason → reason ≢ refusals.None → Ended (factor j qs first row) reason
   ended reason h n = next-ended (partialSum qs first row) (factor j qs first row) (c .factor .result) reason next-is h n
 
-  stopped : {number place : ℕ} → factor j qs first row ≡ refusal number place → collect (at-loop .before .before .before .args .l - first - 1) (λ d. factor j qs first (first + 1 + d)) ≡ refusal number place
+  stopped : {code place : ℕ} → factor j qs first row ≡ refusal code place → collect (at-loop .before .before .before .args .l - first - 1) (λ d. factor j qs first (first + 1 + d)) ≡ refusal code place
   stopped r = collect-stays (suc (row - first - 1)) _ _ (omega (arith, at-loop .loop .inv .after, c .before .before .loop-test .taken)) (collect-ends (row - first - 1) _ (rows-done .collects) (sym place ∙ r))
 
 enum-told : tie.Need-enum-told Inv-loop μ-loop
@@ -188,7 +188,7 @@ loop-again c =
     record {
       after = omega arith;
       within = omega arith;
-      sized = let x = answered a (s .pre .of) 0 (s .pre .is) told in rw (x .sum-is) (fits-sized _ (factor-answers 0 _ _ (x .answers) .sum-fits));
+      fitted = let x = answered a (s .pre .of) 0 (s .pre .is) told in rw (x .sum-is) (fits-sized _ (factor-answers 0 _ _ (x .answers) .sum-fits));
       sum-is = λ qs e. answered a qs 0 e told .sum-is ∙ ap (λ k. fraction (partialSum qs (s .args .f) k)) (let z : l .i ≡ l .i + 1 - 1 = omega arith in z);
       rest = λ qs j e.
           let x = answered a qs j e told in

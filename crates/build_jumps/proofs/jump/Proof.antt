@@ -12,7 +12,7 @@ use mir.Syntax.{w64}
 use mir.Val.{SFits}
 use mir.ValLaws.{toZ-ofZ}
 use Rattle.base_exact.specs.Rational.{ℚ, int, _+ᵠ_, _*ᵠ_}
-use Rattle.base_fraction.specs.Machine.{fraction, value, Sized}
+use Rattle.base_fraction.specs.Machine.{fraction, value, FractionFits}
 use Rattle.base_fraction.specs.declared.Fraction.{Fraction}
 use Rattle.base_fraction.specs.declared.Counted.the-variants.{Fits}
 use Rattle.base_fraction.proofs.Value.{value-fraction, fraction-int, value-int}
@@ -37,7 +37,7 @@ use Rattle.build_jumps.proofs.jump.Tie as tie
 
 record Inv (num den : List ℤ) (at : ℕ) (join : Join) (k : ℕ) (sum : Fraction) (e : ℕ) : Type 0 where
   within : e ≤ 2 * k + 2
-  sized : Sized sum
+  fitted : FractionFits sum
   lowest : sum ≡ fraction (value sum)
   rest : (s : Space) (j : ℕ) (t : Table) → JoinIs join s j → Holds num den t
       → addProducts j (row t at) (int (pos 0)) (conditions s j k) ≡ addProducts j (row t at) (value sum) (drop e (conditions s j k))
@@ -57,7 +57,7 @@ add-count c = omega arith
 loop-holds : tie.Need-loop-holds Inv-loop μ-loop
 loop-holds c = record {
   within = omega arith;
-  sized = rw (← fraction-int (pos 0)) (fits-sized (int (pos 0)) (int-fits (pos 0) (omega arith)));
+  fitted = rw (← fraction-int (pos 0)) (fits-sized (int (pos 0)) (int-fits (pos 0) (omega arith)));
   lowest = sym (fraction-int (pos 0)) ∙ ap fraction (sym (value-int (pos 0)));
   rest = λ s j t i h. ap (λ q. addProducts j (row t (c .args .at)) q (conditions s j (c .args .k))) (sym (value-int (pos 0)));
 }
@@ -114,8 +114,8 @@ add-product-requires c κs =
     let h = start c .pre .1 .1 in
     let x = read-fits c in
     let l = c .before .before .before .before .loop .inv in
-    let weight : Sized (c .before .read .result) = rw (weight-is c (f .space) (f .index) (f .is) (h .0) (h .1)) (fits-sized (cell (h .0) (start c .args .at) (this c (f .space) (f .index) (f .is) .column)) (h .1 .fit (start c .args .at) (this c (f .space) (f .index) (f .is) .column))) in
-    ((l .sized, (weight, simp toZ-ofZ (rw (condition-is c (f .space) (f .index) (f .is)) (entry-small f (place c))))), l .lowest)
+    let weight : FractionFits (c .before .read .result) = rw (weight-is c (f .space) (f .index) (f .is) (h .0) (h .1)) (fits-sized (cell (h .0) (start c .args .at) (this c (f .space) (f .index) (f .is) .column)) (h .1 .fit (start c .args .at) (this c (f .space) (f .index) (f .is) .column))) in
+    ((l .fitted, (weight, simp toZ-ofZ (rw (condition-is c (f .space) (f .index) (f .is)) (entry-small f (place c))))), l .lowest)
 
 -- what one more product and its sum answer
 module _ (c : tie.After-add-product Inv-loop μ-loop) (s : Space) (j : ℕ) (t : Table) (i : JoinIs (start (c .before) .args .join) s j) (h : Holds (start (c .before) .args .num .now) (start (c .before) .args .den .now) t) where
@@ -134,7 +134,7 @@ module _ (c : tie.After-add-product Inv-loop μ-loop) (s : Space) (j : ℕ) (t :
       (simp toZ-ofZ at (c .add-product .ensures j))
       ∙ ap₂ (λ q z. counted (count j (q *ᵠ int z) then λ p. count j (value (sum (c .before)) +ᵠ p))) (ap value (weight-is (c .before) s j i t h) ∙ value-fraction _) (condition-is (c .before) s j i)
 
-  more-sized : (f : Fraction) → c .add-product .result ≡ Fits f → Sized f
+  more-sized : (f : Fraction) → c .add-product .result ≡ Fits f → FractionFits f
   more-sized f e = then-count-sized j (count j (entry cells (this (c .before) s j i .column) *ᵠ int (this (c .before) s j i .condition))) (λ p. value (sum (c .before)) +ᵠ p) f (sym more-is ∙ e)
 
   -- the jump, from this entry on
@@ -169,7 +169,7 @@ loop-again c =
     let h = start (a .before) .pre .1 .1 in
     record {
       within = omega arith;
-      sized = more-sized a (f .space) (f .index) (h .0) (f .is) (h .1) (known .0 .0) (known .1);
+      fitted = more-sized a (f .space) (f .index) (h .0) (f .is) (h .1) (known .0 .0) (known .1);
       lowest = fits-answered (more a (f .space) (f .index) (h .0) (f .is) (h .1)) (known .0 .0) (sym (more-is a (f .space) (f .index) (h .0) (f .is) (h .1)) ∙ known .1) .lowest;
       rest = λ s j t i h.
           let x = fits-answered (more a s j t i h) (known .0 .0) (sym (more-is a s j t i h) ∙ known .1) in

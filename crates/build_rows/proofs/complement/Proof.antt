@@ -8,7 +8,7 @@ use mir.Val.{SFits}
 use mir.ValLaws.{toZ-ofZ}
 use Rattle.base_exact.proofs.Order.{leᵠ-true}
 use Rattle.base_fraction.specs.Size.{limit}
-use Rattle.base_fraction.specs.Machine.{fraction, value, Sized}
+use Rattle.base_fraction.specs.Machine.{fraction, value, FractionFits}
 use Rattle.base_fraction.specs.declared.Fraction.{Fraction}
 use Rattle.base_fraction.proofs.Size.{fits-den, complement-le}
 use Rattle.base_fraction.proofs.Value.{ratio-one-minus}
@@ -18,8 +18,8 @@ use Rattle.build_rows.specs.Rows.{UnitFactor}
 use Rattle.build_rows.proofs.complement.Statement.{statement}
 use Rattle.build_rows.proofs.complement.Tie as tie
 
-sized : (w : Fraction) → UnitFactor w → Sized w
-sized w h = subst Sized (sym (h .is)) (fits-sized (h .of) (h .fit))
+fitted : (w : Fraction) → UnitFactor w → FractionFits w
+fitted w h = subst FractionFits (sym (h .is)) (fits-sized (h .of) (h .fit))
 
 small : (w : Fraction) → UnitFactor w → natAbs (w .den -ℤ w .num) < limit
 unfolding fraction
@@ -27,12 +27,12 @@ small w h = subst (λ (f : Fraction). natAbs (f .den -ℤ f .num) < limit) (sym 
     (omega (arith, fits-den (h .of) (h .fit), complement-le (h .of) (leᵠ-true _ _ (h .low)) (leᵠ-true _ _ (h .high))))
 
 difference-fits : (s : tie.Start) → SFits w64 (s .args .w .den -ℤ s .args .w .num)
-difference-fits s = let z = sized (s .args .w) (s .pre) in sub-fits (s .args .w .den) (s .args .w .num) (z .den-small) (z .num-small)
+difference-fits s = let z = fitted (s .args .w) (s .pre) in sub-fits (s .args .w .den) (s .args .w .num) (z .den-small) (z .num-small)
 
 sub-t2 : tie.Need-sub-t2
 sub-t2 c =
     let s = c .before .before in
-    let z = sized (s .args .w) (s .pre) in
+    let z = fitted (s .args .w) (s .pre) in
     let f = num-fits z in
     let g = den-fits z in
     simp toZ-ofZ (difference-fits s)
@@ -41,7 +41,7 @@ returns : tie.Need-returns
 unfolding value
 returns c =
     let s = c .before .before .before in
-    let z = sized (s .args .w) (s .pre) in
+    let z = fitted (s .args .w) (s .pre) in
     let f = num-fits z in
     let g = den-fits z in
     let h = difference-fits s in

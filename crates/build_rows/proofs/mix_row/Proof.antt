@@ -14,7 +14,7 @@ use mir.Syntax.{w64}
 use mir.Val.{SFits}
 use mir.ValLaws.{toZ-ofZ}
 use Rattle.base_exact.specs.Rational.{ℚ, den, int, _-ᵠ_}
-use Rattle.base_fraction.specs.Machine.{fraction, value, Sized}
+use Rattle.base_fraction.specs.Machine.{fraction, value, FractionFits}
 use Rattle.base_fraction.specs.declared.Fraction.{Fraction}
 use Rattle.base_fraction.proofs.Answer.{fits-sized}
 use Rattle.base_fraction.proofs.Value.{value-fraction}
@@ -154,7 +154,7 @@ new-entry-requires c κs =
     let p = start c .pre in
     let t = p .1 .0 in
     let h = p .1 .1 in
-    (p .0 .0, (p .0 .1 .0, (subst Sized (sym (x-is c t h)) (fits-sized _ (h .fit _ _)), subst Sized (sym (y-is c t h)) (fits-sized _ (h .fit _ _)))))
+    (p .0 .0, (p .0 .1 .0, (subst FractionFits (sym (x-is c t h)) (fits-sized _ (h .fit _ _)), subst FractionFits (sym (y-is c t h)) (fits-sized _ (h .fit _ _)))))
 
 enum-known-made : tie.Need-enum-known-made Inv-loop μ-loop
 enum-known-made c = search needs

@@ -11,7 +11,7 @@ use lib.IntN.{ℤ, pos}
 use lib.ListN.{length, set, take, drop}
 use Rattle.base_exact.specs.Rational.{ℚ, int, _-ᵠ_}
 use Rattle.base_fraction.specs.Size.{fits}
-use Rattle.base_fraction.specs.Machine.{value, Sized}
+use Rattle.base_fraction.specs.Machine.{value, FractionFits}
 use Rattle.base_fraction.proofs.Answer.{fits-sized}
 use Rattle.base_fraction.proofs.Value.{value-fraction}
 use Rattle.base_outcome.specs.Outcome.{Outcome, answer, refusal, with-answer, collect}
@@ -95,14 +95,14 @@ module _ {num₀ den₀ num dens : List ℤ} {f i rows columns : ℕ} {t : Table
     where
       next : set current i r ≡ renewed f t (st .new ++ (r ∷ [])) (i + 1)
       next = renewed-more f t (st .new) i order (omega (arith, shaped .row-count)) count r (omega (arith, shaped .row-count)) ∙ ap (renewed f t (st .new ++ (r ∷ []))) (let z : suc i ≡ i + 1 = omega arith in z)
-  goes-on b num′ dens′ (refusal number place) e d left = absurd (false≢true (sym (left .0) ∙ d))
+  goes-on b num′ dens′ (refusal code place) e d left = absurd (false≢true (sym (left .0) ∙ d))
 
   -- it is refused: so are all
   ends : (l : ℕ) → i < l → (b : Bool) (num′ dens′ : List ℤ) (o : Outcome Row) → made j qs t f (i - f) ≡ o → b ≡ false → LeavesIf (with-answer (set current i) o) b num dens num′ dens′
       → LeavesIf (with-answer (λ rs. take f t ++ (rs ++ drop l t)) (newRows j (record { f = f; l = l }) qs t)) false num₀ den₀ num′ dens′
   unfolding newRows
   ends l k b num′ dens′ (answer r) e d left = absurd (false≢true (sym d ∙ left .0))
-  ends l k b num′ dens′ (refusal number place) e d left =
+  ends l k b num′ dens′ (refusal code place) e d left =
       subst (λ (out : Outcome Table). LeavesIf (with-answer (λ rs. take f t ++ (rs ++ drop l t)) out) false num₀ den₀ num′ dens′)
       (sym (collect-stays (suc (i - f)) (l - f) (made j qs t f) (omega arith) (collect-ends (i - f) (made j qs t f) (st .answers) e))) (
         refl,
@@ -211,7 +211,7 @@ mix-row-requires c κs =
     let u = s .pre .1 in
     let k = s .pre .0 .1 .1 in
     let b = room r in (
-      (subst Sized (sym (f .fraction-at .ensures (u .of) (u .is))) (fits-sized _ (u .fit _)), (c .before .before .complement .ensures .1, (omega arith, b .columns-fit))),
+      (subst FractionFits (sym (f .fraction-at .ensures (u .of) (u .is))) (fits-sized _ (u .fit _)), (c .before .before .complement .ensures .1, (omega arith, b .columns-fit))),
       (_, holds (k .holds) (k .shaped) (v .passed) (omega arith) (v .state (k .table) 0 (u .of) (k .holds) (k .shaped) (u .is))),
     )
 

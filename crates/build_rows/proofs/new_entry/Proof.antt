@@ -9,7 +9,7 @@ use mir.Syntax.{w64}
 use mir.Val.{ofZ}
 use Rattle.base_exact.specs.Rational.{ℚ, int, _+ᵠ_, _-ᵠ_, _*ᵠ_}
 use Rattle.base_exact.proofs.Word.{ofZ-inj, sfits-abs, sfits-nat}
-use Rattle.base_fraction.specs.Machine.{value, Sized}
+use Rattle.base_fraction.specs.Machine.{value, FractionFits}
 use Rattle.base_fraction.specs.declared.Fraction.{Fraction}
 use Rattle.base_fraction.proofs.Value.{value-zero}
 use Rattle.base_outcome.specs.Outcome.{Outcome, _then_}
@@ -52,7 +52,7 @@ unfolding newEntry
 first-fits c j v = let p = c .before .before in fits-then (count j (first p)) (rest p j v) (c .first .given .0 .0) (sym (first-is p j) ∙ c .first .given .1)
 
 -- a part of zero
-zero-part : (f : Fraction) → Sized f → ofZ w64 (f .num) ≡ ofZ w64 (pos 0) → value f ≡ int (pos 0)
+zero-part : (f : Fraction) → FractionFits f → ofZ w64 (f .num) ≡ ofZ w64 (pos 0) → value f ≡ int (pos 0)
 zero-part f s e = value-zero f (s .den-pos) (ofZ-inj w64 (f .num) (pos 0) (sfits-abs (omega (arith, s .num-small))) (sfits-nat 0 (omega arith)) e)
 
 -- two zeros

@@ -1,4 +1,4 @@
--- Number 17 or the piece. Assumes nothing.
+-- Code 17 or the piece. Assumes nothing.
 use borrow.Author.Needs.{needs}
 use native.Mathlib.Omega.{arith}
 use Prim.Native.Nat.{_≤_}

@@ -1,4 +1,4 @@
--- `indices::index` meets its contract: a ring that passed number 14 has a width of few digits and, where it is present, a value
+-- `indices::index` meets its contract: a ring that passed code 14 has a width of few digits and, where it is present, a value
 -- above zero. Assumes nothing.
 use borrow.Author.Needs.{needs}
 use native.Mathlib.Omega.{arith}

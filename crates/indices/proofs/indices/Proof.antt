@@ -1,4 +1,4 @@
--- `indices::indices` meets its contract: number 1 in the order of its places, what the curve call promises, and then number 14 or
+-- `indices::indices` meets its contract: code 1 in the order of its places, what the curve call promises, and then code 14 or
 -- the indices. Assumes nothing.
 use borrow.Author.Needs.{needs}
 use native.Mathlib.Omega.{arith}

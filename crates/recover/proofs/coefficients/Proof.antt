@@ -16,7 +16,7 @@ use Rattle.base_outcome.proofs.Machine.{legal-answers, refused-refuses}
 use Rattle.build_space.proofs.Legal.{legality-legal, legal-checked}
 use Rattle.build.specs.Machine.{reply}
 use Rattle.build.specs.declared.Built.{Built}
-use Rattle.theorems_recovery.specs.Recovery.{Numbered}
+use Rattle.theorems_recovery.specs.Recovery.{Combination}
 use Rattle.theorems_recovery.specs.RecoveryCall.{weightsAfter, answersAfter, numeratorOf, denominatorOf}
 use Rattle.recover.specs.Leaves.{ordinatesChecked, BeamEnds}
 use Rattle.recover.proofs.Calls.{ordinates-partial, ordinates-legal, recovery-first-short, recovery-second-short, recovery-third-short, recovery-fourth-short, recovery-lists-refused, recovery-ordinates-refused, recovery-legal, lists-keep, ordinates-keep, beam-unchanged}
@@ -28,7 +28,7 @@ lists c = space (c .args .breaks .now) (c .args .degrees .now) (c .args .orders 
 
 -- what the contract says, from what the call ends with
 module _ {s : Space} {n : ℕ} {r : Built} {num den coefNum coefDen num′ den′ coefNum′ coefDen′ : List ℤ} where
-  told : {o x : Outcome Numbered} → o ≡ x → BeamEnds s n x r num den coefNum coefDen num′ den′ coefNum′ coefDen′
+  told : {o x : Outcome Combination} → o ≡ x → BeamEnds s n x r num den coefNum coefDen num′ den′ coefNum′ coefDen′
       → (reply r ≡ with-answer (λ _. rowCount s) o) × ((num′ ≡ weightsAfter numerators s o num) × ((den′ ≡ weightsAfter denominators s o den) × ((coefNum′ ≡ answersAfter numeratorOf n o coefNum) × (coefDen′ ≡ answersAfter denominatorOf n o coefDen))))
   told e b =
       let t = subst (λ y. BeamEnds s n y r num den coefNum coefDen num′ den′ coefNum′ coefDen′) (sym e) b in

@@ -13,7 +13,7 @@ use Rattle.base_exact.specs.Rational.{ℚ, int}
 use Rattle.base_exact.proofs.Word.{ofZ-inj}
 use Rattle.base_exact.proofs.Rational.{zero-is, zero-num}
 use Rattle.base_exact.proofs.Order.{zero-test, nonzero-test}
-use Rattle.base_fraction.specs.Machine.{fraction, value, Sized}
+use Rattle.base_fraction.specs.Machine.{fraction, value, FractionFits}
 use Rattle.base_fraction.specs.declared.Fraction.{Fraction}
 use Rattle.base_fraction.proofs.Value.{fraction-int, value-int}
 use Rattle.base_fraction.proofs.Size.{int-fits}
@@ -31,7 +31,7 @@ use Rattle.recover_step.proofs.balanced.Tie as tie
 
 record Inv (js cs : Fractions) (rows : ℕ) (sum : Fraction) (i : ℕ) : Type 0 where
   within : i ≤ rows
-  sized : Sized sum
+  fitted : FractionFits sum
   lowest : sum ≡ fraction (value sum)
   state : (j : ℕ) (qs ps : List ℚ) → js ≡ fractions qs → cs ≡ fractions ps → jumpSum j qs ps i ≡ answer (value sum)
 
@@ -44,7 +44,7 @@ abbrev μ-loop : tie.MeasureT-loop
 loop-holds : tie.Need-loop-holds Inv-loop μ-loop
 loop-holds c = record {
   within = omega arith;
-  sized = rw (← fraction-int (pos 0)) (fits-sized (int (pos 0)) (int-fits (pos 0) (omega arith)));
+  fitted = rw (← fraction-int (pos 0)) (fits-sized (int (pos 0)) (int-fits (pos 0) (omega arith)));
   lowest = sym (fraction-int (pos 0)) ∙ ap fraction (sym (value-int (pos 0)));
   state = λ j qs ps e h. sum-none j qs ps ∙ ap answer (sym (value-int (pos 0)));
 }
@@ -59,7 +59,7 @@ add-term-requires : tie.Need-add-term-requires Inv-loop μ-loop
 add-term-requires c κs =
     let l = c .before .before .before in
     let p = l .before .pre .1 in (
-      l .loop .inv .sized,
+      l .loop .inv .fitted,
       (
         rw (c .before .fraction-at .ensures (p .1 .of) (p .1 .is)) (fits-sized _ (p .1 .fit (l .loop .i))),
         rw (c .fraction-at2 .ensures (p .0 .of) (p .0 .is)) (fits-sized _ (p .0 .fit (l .loop .i))),
@@ -100,7 +100,7 @@ loop-again c =
     let l = a .before .before .before .before .loop in
     record {
       within = omega arith;
-      sized = a .add-term .ensures .1 (k .0 .0) (k .1);
+      fitted = a .add-term .ensures .1 (k .0 .0) (k .1);
       lowest = let p = a .before .before .before .before .before .pre .1 in fits-answered (added 0 (p .0 .of) (p .1 .of) (l .i) (value (l .sum))) (k .0 .0) (sym (added-is a 0 (p .0 .of) (p .1 .of) (p .0 .is) (p .1 .is)) ∙ k .1) .lowest;
       state = λ j qs ps e h.
           ap (jumpSum j qs ps) (add-one (l .i))
@@ -118,7 +118,7 @@ unfolding fraction
 returns-2 c j qs ps e h size =
     let d = c .before in
     let v = d .before .before .before .loop .inv in
-    let n = num-fits (v .sized) in
+    let n = num-fits (v .fitted) in
     balance-zero j qs ps (whole (d .before .before) j qs ps e h size) (zero-test (zero-is _ (sym (ap (λ (x : Fraction). x .num) (v .lowest)) ∙ ofZ-inj w64 _ (pos 0) n (search needs) (c .if1 .taken))))
 
 returns-3 : tie.Need-returns-3 Inv-loop μ-loop

@@ -16,7 +16,7 @@ use Rattle.base_fraction.proofs.Answer.{fits-sized}
 use Rattle.base_outcome.specs.Outcome.{answer}
 use Rattle.spec_spline.specs.Table.{entry}
 use Rattle.build_jumps.specs.Machine.{counted}
-use Rattle.theorems_recovery.specs.Recovery.{undoneNumber, undoneRow}
+use Rattle.theorems_recovery.specs.Recovery.{undoneCoefficient, undoneRow}
 use Rattle.recover_step.proofs.undo_row.Statement.{statement}
 use Rattle.recover_step.proofs.undo_row.Tie as tie
 
@@ -24,11 +24,11 @@ module _ (j : ℕ) (us ps : List ℚ) (f i : ℕ) where
   first-row : i ≡ f → undoneRow j us ps f (i - f) (drop f ps) ≡ answer (entry ps i)
   first-row e = ap (λ n. undoneRow j us ps f n (drop f ps)) (let z : i - f ≡ 0 = omega (arith, e) in z) ∙ ap (λ k. answer (entry ps k)) (sym e)
 
-  later-row : f < i → undoneRow j us ps f (i - f) (drop f ps) ≡ undoneNumber j (entry us (i - f)) (entry ps i) (entry ps (i - 1))
+  later-row : f < i → undoneRow j us ps f (i - f) (drop f ps) ≡ undoneCoefficient j (entry us (i - f)) (entry ps i) (entry ps (i - 1))
   later-row h =
       ap (λ n. undoneRow j us ps f n (drop f ps)) next
-      ∙ ap₂ (undoneNumber j (entry us (suc (i - f - 1)))) (ap (entry ps) (let z : f + suc (i - f - 1) ≡ i = omega (arith, h) in z)) (getD-drop f ps (i - f - 1) (int (pos 0)) ∙ ap (entry ps) (let z : f + (i - f - 1) ≡ i - 1 = omega (arith, h) in z))
-      ∙ ap (λ n. undoneNumber j (entry us n) (entry ps i) (entry ps (i - 1))) (sym next)
+      ∙ ap₂ (undoneCoefficient j (entry us (suc (i - f - 1)))) (ap (entry ps) (let z : f + suc (i - f - 1) ≡ i = omega (arith, h) in z)) (getD-drop f ps (i - f - 1) (int (pos 0)) ∙ ap (entry ps) (let z : f + (i - f - 1) ≡ i - 1 = omega (arith, h) in z))
+      ∙ ap (λ n. undoneCoefficient j (entry us n) (entry ps i) (entry ps (i - 1))) (sym next)
     where
       next : i - f ≡ suc (i - f - 1)
       next = omega (arith, h)
@@ -54,9 +54,9 @@ sub-fraction-at-2 c = search needs
 fraction-at-requires-3 : tie.Need-fraction-at-requires-3
 fraction-at-requires-3 c κs = search needs
 
-undo-number-requires : tie.Need-undo-number-requires
+undo-coefficient-requires : tie.Need-undo-coefficient-requires
 unfolding fraction
-undo-number-requires c κs =
+undo-coefficient-requires c κs =
     let s = c .before .before .before .before in
     let n = s .pre .1 .1 .0 in
     let u = s .pre .1 .1 .1 .0 in
@@ -76,7 +76,7 @@ returns-2 : tie.Need-returns-2
 returns-2 c j us ps e h =
     let a = c .before in
     let s = a .before .before .before .before in
-    c .undo-number .ensures j (entry us (s .args .i - s .args .f)) (entry ps (s .args .i)) (entry ps (s .args .i - 1)) (a .before .fraction-at2 .ensures us e) (a .before .before .before .fraction-at .ensures ps h) (a .fraction-at3 .ensures ps h)
+    c .undo-coefficient .ensures j (entry us (s .args .i - s .args .f)) (entry ps (s .args .i)) (entry ps (s .args .i - 1)) (a .before .fraction-at2 .ensures us e) (a .before .before .before .fraction-at .ensures ps h) (a .fraction-at3 .ensures ps h)
     ∙ sym (ap counted (later-row j us ps (s .args .f) (s .args .i) (omega (arith, s .pre .0, a .before .before .if1 .left))))
 
 pub undo-row-spec : {M : Type 1} → statement M
@@ -89,5 +89,5 @@ undo-row-spec =
     fraction-at-requires-2
     sub-fraction-at-2
     fraction-at-requires-3
-    undo-number-requires
+    undo-coefficient-requires
     returns-2)

@@ -1,4 +1,4 @@
--- Before the turn at i the rows from f up to i have their new numbers. Assumes nothing.
+-- Before the turn at i the rows from f up to i have their new coefficients. Assumes nothing.
 use borrow.Author.Needs.{needs}
 use mathlib.Core.Path.{_≡_, sym, _∙_, ap}
 use mathlib.Core.Bool.{true, false}
@@ -21,14 +21,14 @@ use Rattle.build_jumps.specs.declared.Fractions.{Fractions}
 use Rattle.build_jumps.proofs.Counted.{fits-answered, large-refused}
 use Rattle.theorems_recovery.specs.Recovery.{undoneRow, undoneRows}
 use Rattle.theorems_recovery.proofs.Answers.{rows-undone}
-use Rattle.recover_step.specs.Machine.{Fit}
-use Rattle.recover_step.proofs.Sized.{undone-fits}
+use Rattle.recover_step.specs.Machine.{FractionsFit}
+use Rattle.recover_step.proofs.FractionFits.{undone-fits}
 use Rattle.recover_step.proofs.Arrays.{fractions-store}
 use Rattle.recover_step.proofs.Rows.{renewed, renewed-length, row-same, more-here, more-other, renewed-fit, more-fit, rows-none, rows-more, rows-end, rows-stay}
 use Rattle.recover_step.proofs.undo_rows.Statement.{statement}
 use Rattle.recover_step.proofs.undo_rows.Tie as tie
 
--- the rows from f up to i are answered, and the arrays hold their numbers among the old ones
+-- the rows from f up to i are answered, and the arrays hold their coefficients among the old ones
 record State (j : ℕ) (us ps : List ℚ) (f i : ℕ) (now : Fractions) : Type 0 where
   new : List ℚ
   answers : undoneRows j us ps f (i - f) ≡ answer new
@@ -74,7 +74,7 @@ module _ (a : tie.At-loop Inv-loop μ-loop) (inside : a .loop .i < a .before .ar
   size : length (st .new) ≡ i - f
   size = rows-undone j us ps f (i - f) (st .answers) .size
 
-  present-fit : AllFit ps → Fit (a .loop .now) (suc i)
+  present-fit : AllFit ps → FractionsFit (a .loop .now) (suc i)
   present-fit p = record {
     of = renewed f ps (st .new) i;
     is = st .is;

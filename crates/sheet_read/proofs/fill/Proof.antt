@@ -12,16 +12,16 @@ use mir.Syntax.{w32}
 use mir.Val.{SFits}
 use Rattle.base_exact.proofs.Word.{toZ-ofZ}
 use Rattle.base_text.specs.Bytes.{Text, Range, fieldsBetween}
-use Rattle.sheet_read.specs.Machine.{isSeparator, numbersOf, numbers, overwritten}
+use Rattle.sheet_read.specs.Machine.{isSeparator, numeralsOf, numerals, overwritten}
 use Rattle.base_text.specs.declared.numeral.Field.the-variants as field-cases
 use Rattle.base_text.proofs.Numerals.{field-none, field-some}
 use Rattle.sheet_read.proofs.Entries.{stop-part, stop-within, field-last, field-more, field-first}
-use Rattle.sheet_read.proofs.Filling.{Filled, Stored, filled-start, filled-length, filled-next, filled-last, numbers-empty, field-good, stored}
+use Rattle.sheet_read.proofs.Filling.{Filled, Stored, filled-start, filled-length, filled-next, filled-last, numerals-empty, field-good, stored}
 use Rattle.sheet_read.proofs.fill.Statement.{statement}
 use Rattle.sheet_read.proofs.fill.Tie as tie
 
 abbrev Inv-loop : tie.InvT-loop
-Inv-loop text from to list₀ n₀ start₀ list n start = (start ≤ to) × Filled (numbers (numbersOf (slice from to text))) (slice start to text) list₀ list n
+Inv-loop text from to list₀ n₀ start₀ list n start = (start ≤ to) × Filled (numerals (numeralsOf (slice from to text))) (slice start to text) list₀ list n
 
 abbrev μ-loop : tie.MeasureT-loop
 μ-loop text from to list₀ n₀ start₀ list n start = to + 1 - start
@@ -29,8 +29,8 @@ abbrev μ-loop : tie.MeasureT-loop
 returns : tie.Need-returns Inv-loop μ-loop
 returns c =
     let a = c .before .before .args in
-    let empty : numbersOf (slice (a .from) (a .to) (a .text .now)) ≡ some [] =
-    ap (λ (n : ℕ). numbersOf (slice n (a .to) (a .text .now))) (c .if1 .taken) ∙ numbers-empty (a .text .now) (a .to) in
+    let empty : numeralsOf (slice (a .from) (a .to) (a .text .now)) ≡ some [] =
+    ap (λ (n : ℕ). numeralsOf (slice n (a .to) (a .text .now))) (c .if1 .taken) ∙ numerals-empty (a .text .now) (a .to) in
     rw empty (refl, refl)
 
 loop-holds : tie.Need-loop-holds Inv-loop μ-loop
@@ -71,7 +71,7 @@ module _ (c : tie.After-numeral Inv-loop μ-loop) where
   stop = c .before .separator .result
 
   abbrev zs : List ℤ
-  zs = numbers (numbersOf (slice (c .before .before .before .before .before .args .from) to text))
+  zs = numerals (numeralsOf (slice (c .before .before .before .before .before .args .from) to text))
 
   range : Range text start to
   range = omega arith
@@ -90,7 +90,7 @@ module _ (c : tie.After-numeral Inv-loop μ-loop) where
       let first = field-first isSeparator text start to stop range (c .before .separator .ensures) in
       field-good zs (slice start to text) before list n filled (slice start stop text) (first .0) (first .1) (field-none _ (sym (c .numeral .ensures) ∙ e))
 
-  module _ (z : ℤ) (e : c .numeral .result ≡ field-cases.Number z) where
+  module _ (z : ℤ) (e : c .numeral .result ≡ field-cases.Numeral z) where
     store : (fs : List Text) → fieldsBetween isSeparator (slice start to text) ≡ slice start stop text ∷ fs → Stored zs fs before list n z
     store fs first = stored zs (slice start to text) before list n filled (slice start stop text) fs first z (field-some _ z (sym (c .numeral .ensures) ∙ e))
 

@@ -10,8 +10,8 @@ use Rattle.sheet_read.proofs.is_entry.Tie as tie
 enum-told : tie.Need-enum-told
 enum-told c = search needs
 
-is-number-requires : tie.Need-is-number-requires
-is-number-requires c κs = search needs
+is-numeral-requires : tie.Need-is-numeral-requires
+is-numeral-requires c κs = search needs
 
 enum-told-2 : tie.Need-enum-told-2
 enum-told-2 c = search needs
@@ -23,7 +23,7 @@ returns : tie.Need-returns
 returns c =
     let k = c .before in
     let a = k .before .before .before .args in
-    c .is-number .ensures ∙ sym (ap (λ (kind : Entry). isSome (entryOf kind (slice (a .from) (a .to) (a .text .now)))) (k .enum-told .given .1))
+    c .is-numeral .ensures ∙ sym (ap (λ (kind : Entry). isSome (entryOf kind (slice (a .from) (a .to) (a .text .now)))) (k .enum-told .given .1))
 
 returns-2 : tie.Need-returns-2
 returns-2 c =
@@ -32,4 +32,4 @@ returns-2 c =
     c .is-pair .ensures ∙ sym (ap (λ (kind : Entry). isSome (entryOf kind (slice (a .from) (a .to) (a .text .now)))) (k .enum-told2 .given .1))
 
 pub is-entry-spec : {M : Type 1} → statement M
-is-entry-spec = tie.close (tie.spec enum-told is-number-requires enum-told-2 is-pair-requires returns returns-2)
+is-entry-spec = tie.close (tie.spec enum-told is-numeral-requires enum-told-2 is-pair-requires returns returns-2)

@@ -50,28 +50,28 @@ returns c =
     let f = c .before in
     sym (ap isSome (pair-uncut (text f) (from f) (to f) (stop f) (range f) (f .find .ensures) (c .if1 .taken)))
 
-is-number-requires : tie.Need-is-number-requires
-is-number-requires c κs = front (c .before)
+is-numeral-requires : tie.Need-is-numeral-requires
+is-numeral-requires c κs = front (c .before)
 
 returns-2 : tie.Need-returns-2
 returns-2 c =
     let f = c .before .before .before in
-    sym (ap isSome (sides f (c .before .before .if1 .left)) ∙ one-bad (numeral (slice (from f) (stop f) (text f))) _ (sym (c .before .is-number .ensures) ∙ not-true _ (c .if2 .taken)))
+    sym (ap isSome (sides f (c .before .before .if1 .left)) ∙ one-bad (numeral (slice (from f) (stop f) (text f))) _ (sym (c .before .is-numeral .ensures) ∙ not-true _ (c .if2 .taken)))
 
-add-is-number : tie.Need-add-is-number
-add-is-number c =
+add-is-numeral : tie.Need-add-is-numeral
+add-is-numeral c =
     let f = c .before .before .before in
     omega (arith, back f (c .before .before .if1 .left) .ordered)
 
-is-number-requires-2 : tie.Need-is-number-requires-2
-is-number-requires-2 c κs = back (c .before .before .before) (c .before .before .if1 .left)
+is-numeral-requires-2 : tie.Need-is-numeral-requires-2
+is-numeral-requires-2 c κs = back (c .before .before .before) (c .before .before .if1 .left)
 
 returns-3 : tie.Need-returns-3
 returns-3 c =
     let e = c .before in
     let f = e .before .before .before in
-    c .is-number2 .ensures
-    ∙ sym (ap isSome (sides f (e .before .before .if1 .left)) ∙ one-good (numeral (slice (from f) (stop f) (text f))) _ (sym (e .before .is-number .ensures) ∙ not-false _ (e .if2 .left)))
+    c .is-numeral2 .ensures
+    ∙ sym (ap isSome (sides f (e .before .before .if1 .left)) ∙ one-good (numeral (slice (from f) (stop f) (text f))) _ (sym (e .before .is-numeral .ensures) ∙ not-false _ (e .if2 .left)))
 
 pub is-pair-spec : {M : Type 1} → statement M
-is-pair-spec = tie.close (tie.spec find-requires returns is-number-requires returns-2 add-is-number is-number-requires-2 returns-3)
+is-pair-spec = tie.close (tie.spec find-requires returns is-numeral-requires returns-2 add-is-numeral is-numeral-requires-2 returns-3)

@@ -7,7 +7,7 @@ use Rattle.base_outcome.specs.Outcome.{capped}
 use Rattle.base_text.specs.Bytes.{Text}
 use Rattle.base_text.specs.Numeral.{numeral}
 use Rattle.sheet_read.specs.SheetReading.{textLimit, pair, degreesKey, ordersKey, coefsKey, atKey, Lists}
-use Rattle.sheet_read.proofs.Sheets.{NumberLine, PairLine, Reached, read-long, first-line, first-bad, next-line, next-bad, last-line, last-more, after-one, after-two, after-three, after-four, after-five, lists, scan-refused, scan-lists}
+use Rattle.sheet_read.proofs.Sheets.{NumeralLine, PairLine, Reached, read-long, first-line, first-bad, next-line, next-bad, last-line, last-more, after-one, after-two, after-three, after-four, after-five, lists, scan-refused, scan-lists}
 use Rattle.sheet_read.proofs.scan.Statement.{statement}
 use Rattle.sheet_read.proofs.scan.Tie as tie
 
@@ -55,7 +55,7 @@ module _ (c : tie.After-known-told) where
   one : Reached numeral text-1 (after-one lists) (c .before .b .given .0 .0) (c .before .b .given .0 .1 .0)
   one = first-line text-1 short-1 (line-1 .line .result) (line-1 .line .ensures) _ _ (c .before .b .given .1)
 
-  abbrev make-1 : NumberLine → NumberLine → PairLine → NumberLine → Lists
+  abbrev make-1 : NumeralLine → NumeralLine → PairLine → NumeralLine → Lists
   make-1 = lists (one .line)
 
 add-line : tie.Need-add-line
@@ -96,7 +96,7 @@ module _ (c : tie.After-known-told2) where
       let l = c .before .before .before in
       next-line numeral numeral text-2 2 degreesKey (λ l. after-two (lists l)) _ _ (one known-1) (l .line2 .result) (l .line2 .ensures) _ _ (c .before .d .given .1)
 
-  abbrev make-2 : NumberLine → PairLine → NumberLine → Lists
+  abbrev make-2 : NumeralLine → PairLine → NumeralLine → Lists
   make-2 = make-1 known-1 (two .line)
 
 add-line-2 : tie.Need-add-line-2
@@ -137,7 +137,7 @@ module _ (c : tie.After-known-told3) where
       let l = c .before .before .before in
       next-line numeral numeral text-3 3 ordersKey (λ l. after-three (make-1 (known-1 known-2) l)) _ _ (two known-2) (l .line3 .result) (l .line3 .ensures) _ _ (c .before .o .given .1)
 
-  abbrev make-3 : PairLine → NumberLine → Lists
+  abbrev make-3 : PairLine → NumeralLine → Lists
   make-3 = make-2 known-2 (three .line)
 
 add-line-3 : tie.Need-add-line-3
@@ -178,7 +178,7 @@ module _ (c : tie.After-known-told4) where
       let l = c .before .before .before in
       next-line numeral pair text-4 4 coefsKey (λ l. after-four (make-2 (known-2 known-3) l)) _ _ (three known-3) (l .line4 .result) (l .line4 .ensures) _ _ (c .before .c .given .1)
 
-  abbrev make-4 : NumberLine → Lists
+  abbrev make-4 : NumeralLine → Lists
   make-4 = make-3 known-3 (four .line)
 
 add-line-4 : tie.Need-add-line-4

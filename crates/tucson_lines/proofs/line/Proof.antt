@@ -10,10 +10,10 @@ use lib.Seq.{slice}
 use Rattle.base_text.specs.Bytes.{Text}
 use Rattle.base_text.proofs.Slice.{take-slice}
 use Rattle.spec_tucson.specs.Line.{nameColumns, fieldColumns, columnsFit, isName, goodLine}
-use Rattle.tucson_lines.specs.Machine.{lineTold, numbersTold, LineEnd}
+use Rattle.tucson_lines.specs.Machine.{lineTold, numeralsTold, LineEnd}
 use Rattle.tucson_lines.specs.declared.LineAnswer.the-variants.{Bad}
 use Rattle.tucson_lines.proofs.Lines.{end-within, good-unended}
-use Rattle.tucson_lines.proofs.LineNumbers.{body, count-is, good-misfits, good-fits, misfit-short, misfit-over, misfit-many, fit}
+use Rattle.tucson_lines.proofs.LineNumerals.{body, count-is, good-misfits, good-fits, misfit-short, misfit-over, misfit-many, fit}
 use Rattle.tucson_lines.proofs.line.Statement.{statement}
 use Rattle.tucson_lines.proofs.line.Tie as tie
 
@@ -99,8 +99,8 @@ returns-5 : tie.Need-returns-5
 unfolding lineTold
 returns-5 c = let k = e1 (c .before) in sym (ap lineTold (good-misfits (text k) (from k) (end k) (s k .pre) (ended k) (named (c .before) ∙ not-true _ (c .if5 .taken))))
 
-numbers-requires : tie.Need-numbers-requires
-numbers-requires c κs =
+numerals-requires : tie.Need-numerals-requires
+numerals-requires c κs =
     let k = e1 (c .before) in
     let at = c .before .before in
     (omega (arith, within k), (omega (arith, at .before .before .if2 .left), omega (arith, within k, at .before .if3 .left, at .before .before .if2 .left)))
@@ -108,10 +108,10 @@ numbers-requires c κs =
 returns-6 : tie.Need-returns-6
 returns-6 c =
     let k = e1 (c .before .before) in
-    c .numbers .ensures
+    c .numerals .ensures
     ∙ sym (good-fits (text k) (from k) (end k) (s k .pre) (ended k) (named (c .before .before) ∙ not-false _ (c .before .if5 .left))
-    ∙ ap (numbersTold (body (text k) (from k) (end k) (s k .pre) (ended k))) (count-is (text k) (from k) (end k) (s k .pre) (ended k)))
+    ∙ ap (numeralsTold (body (text k) (from k) (end k) (s k .pre) (ended k))) (count-is (text k) (from k) (end k) (s k .pre) (ended k)))
 
 pub line-spec : {M : Type 1} → statement M
 line-spec =
-    tie.close (tie.spec returns sub-size add-if2 returns-2 sub-n mul-if3 add-if3 returns-3 returns-4 is-name-requires returns-5 numbers-requires returns-6)
+    tie.close (tie.spec returns sub-size add-if2 returns-2 sub-n mul-if3 add-if3 returns-3 returns-4 is-name-requires returns-5 numerals-requires returns-6)

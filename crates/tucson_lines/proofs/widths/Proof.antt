@@ -14,17 +14,17 @@ use mir.Syntax.{w32}
 use mir.Val.{SFits}
 use Rattle.base_exact.proofs.Word.{toZ-ofZ}
 use Rattle.spec_tucson.specs.Columns.{inColumns}
-use Rattle.spec_tucson.specs.Line.{fieldColumns, withField, fieldNumbers, isWidth}
+use Rattle.spec_tucson.specs.Line.{fieldColumns, withField, fieldNumerals, isWidth}
 use Rattle.spec_tucson.specs.Series.{hundredthsLimit}
 use Rattle.tucson_lines.specs.Machine.{widthsTold}
 use Rattle.base_text.proofs.Numerals.{field-none, field-some}
-use Rattle.tucson_lines.proofs.Fields.{fields-first, widths-no-number, widths-no-width, widths-next, widths-end}
+use Rattle.tucson_lines.proofs.Fields.{fields-first, widths-no-numeral, widths-no-width, widths-next, widths-end}
 use Rattle.tucson_lines.proofs.widths.Statement.{statement}
 use Rattle.tucson_lines.proofs.widths.Tie as tie
 
 abbrev Inv-loop : tie.InvT-loop
 Inv-loop text from to n small₀ at₀ left₀ small at left =
-    (at + left * fieldColumns ≤ to) × (widthsTold true (fieldNumbers n (slice from to text)) ≡ widthsTold small (fieldNumbers left (slice at to text)))
+    (at + left * fieldColumns ≤ to) × (widthsTold true (fieldNumerals n (slice from to text)) ≡ widthsTold small (fieldNumerals left (slice at to text)))
 
 abbrev μ-loop : tie.MeasureT-loop
 μ-loop text from to n small₀ at₀ left₀ small at left = left
@@ -32,14 +32,14 @@ abbrev μ-loop : tie.MeasureT-loop
 loop-holds : tie.Need-loop-holds Inv-loop μ-loop
 loop-holds c = (omega arith, refl)
 
-add-number : tie.Need-add-number Inv-loop μ-loop
-add-number c = omega arith
+add-numeral : tie.Need-add-numeral Inv-loop μ-loop
+add-numeral c = omega arith
 
-number-requires : tie.Need-number-requires Inv-loop μ-loop
-number-requires c κs = omega arith
+numeral-requires : tie.Need-numeral-requires Inv-loop μ-loop
+numeral-requires c κs = omega arith
 
 -- a turn's field, and the answer by it and the fields behind it
-module _ (c : tie.After-number Inv-loop μ-loop) where
+module _ (c : tie.After-numeral Inv-loop μ-loop) where
   abbrev s : tie.Start Inv-loop μ-loop
   s = c .before .before .before .before
 
@@ -56,9 +56,9 @@ module _ (c : tie.After-number Inv-loop μ-loop) where
   here = inColumns (slice at (at + fieldColumns) (s .args .text .now))
 
   abbrev others : Option (List ℤ)
-  others = fieldNumbers (left - 1) (slice (at + fieldColumns) (s .args .to) (s .args .text .now))
+  others = fieldNumerals (left - 1) (slice (at + fieldColumns) (s .args .to) (s .args .text .now))
 
-  so-far : widthsTold true (fieldNumbers (s .args .n) (slice (s .args .from) (s .args .to) (s .args .text .now))) ≡ widthsTold small (withField here others)
+  so-far : widthsTold true (fieldNumerals (s .args .n) (slice (s .args .from) (s .args .to) (s .args .text .now))) ≡ widthsTold small (withField here others)
   so-far = c .before .before .loop .inv .1 ∙ ap (widthsTold small) (fields-first left (s .args .text .now) at (s .args .to) (omega arith) (omega arith))
 
 enum-told : tie.Need-enum-told Inv-loop μ-loop
@@ -67,7 +67,7 @@ enum-told c = search needs
 returns : tie.Need-returns Inv-loop μ-loop
 returns c =
     let f = c .before .before in
-    sym (so-far f ∙ widths-no-number (small f) (here f) (others f) (field-none _ (sym (f .number .ensures) ∙ c .enum-told .given .1)))
+    sym (so-far f ∙ widths-no-numeral (small f) (here f) (others f) (field-none _ (sym (f .numeral .ensures) ∙ c .enum-told .given .1)))
 
 enum-known-field : tie.Need-enum-known-field Inv-loop μ-loop
 enum-known-field c = search needs
@@ -82,7 +82,7 @@ returns-2 c =
     let z = k .before .field .given .0 .0 in
     let fits : SFits w32 z = record { sfits = k .known-told .given .0 .1 } in
     let no-width : isWidth z ≡ false = sym (simp toZ-ofZ at (c .before .is-width .ensures)) ∙ not-true _ (c .if1 .taken) in
-    sym (so-far f ∙ widths-no-width (small f) (here f) z (others f) (field-some _ z (sym (f .number .ensures) ∙ k .before .field .given .1)) no-width)
+    sym (so-far f ∙ widths-no-width (small f) (here f) z (others f) (field-some _ z (sym (f .numeral .ensures) ∙ k .before .field .given .1)) no-width)
 
 both-requires : tie.Need-both-requires Inv-loop μ-loop
 both-requires c κs = search needs
@@ -106,7 +106,7 @@ loop-again c =
     let is-width : isWidth z ≡ true = sym (simp toZ-ofZ at (w .is-width .ensures)) ∙ not-false _ (c .before .if1 .left) in
     let both : c .both .result ≡ (small f && leZ z (pos hundredthsLimit)) = simp toZ-ofZ at (c .both .ensures) in (
       omega arith,
-      so-far f ∙ widths-next (small f) (here f) z (others f) (field-some _ z (sym (f .number .ensures) ∙ k .before .field .given .1)) is-width
+      so-far f ∙ widths-next (small f) (here f) z (others f) (field-some _ z (sym (f .numeral .ensures) ∙ k .before .field .given .1)) is-width
           ∙ ap (λ (b : Bool). widthsTold b (others f)) (sym both),
     )
 
@@ -115,7 +115,7 @@ returns-3 c =
     let l = c .before .loop in
     let s = c .before .before .before in
     let e : l .left ≡ 0 = omega arith in
-    sym (l .inv .1 ∙ ap (λ (n : ℕ). widthsTold (l .small) (fieldNumbers n (slice (l .at) (s .args .to) (s .args .text .now)))) e ∙ widths-end (l .small) _)
+    sym (l .inv .1 ∙ ap (λ (n : ℕ). widthsTold (l .small) (fieldNumerals n (slice (l .at) (s .args .to) (s .args .text .now)))) e ∙ widths-end (l .small) _)
 
 pub widths-spec : {M : Type 1} → statement M
 widths-spec =
@@ -124,8 +124,8 @@ widths-spec =
     Inv-loop
     μ-loop
     loop-holds
-    add-number
-    number-requires
+    add-numeral
+    numeral-requires
     enum-told
     returns
     enum-known-field

@@ -1,4 +1,4 @@
--- `rewrite` meets its contract: the buffers take what the text holds, so that number 1 never comes, and the lists at their fronts
+-- `rewrite` meets its contract: the buffers take what the text holds, so that code 1 never comes, and the lists at their fronts
 -- are written in full.
 use borrow.Author.Needs.{needs}
 use native.Mathlib.Omega.{arith}
@@ -90,10 +90,10 @@ module _ (k : tie.After-read) where
   short = k .before .before .before .before .before .before .pre
 
   -- a refusal
-  refused : (number place : ℕ) → reading.reply (k .read .result) ≡ refusal number place → refusalLine number place ≡ outcomeText (readText text)
-  refused number place e =
+  refused : (code place : ℕ) → reading.reply (k .read .result) ≡ refusal code place → refusalLine code place ≡ outcomeText (readText text)
+  refused code place e =
       refused-text text short names years counts widths names-are years-are counts-are widths-are
-      number place (sym (k .read .ensures .0) ∙ e)
+      code place (sym (k .read .ensures .0) ∙ e)
 
 -- ---- the lists, where it has been answered with their count
 

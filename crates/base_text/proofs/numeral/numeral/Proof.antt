@@ -15,9 +15,9 @@ use Rattle.base_exact.proofs.Word.{toZ-ofZ, toZ-pos, sfits-abs, abs-sub}
 use Rattle.base_text.specs.Numeral
 use Rattle.base_text.specs.Numeral.{isNatural}
 use Rattle.base_text.specs.Machine.{field}
-use Rattle.base_text.specs.declared.numeral.Field.the-variants.{Number}
+use Rattle.base_text.specs.declared.numeral.Field.the-variants.{Numeral}
 use Rattle.base_text.proofs.Digits.{natural-small}
-use Rattle.base_text.proofs.Numerals.{numeral-empty, minus-bad, minus-zero, minus-number, plain-number, plain-bad}
+use Rattle.base_text.proofs.Numerals.{numeral-empty, minus-bad, minus-zero, minus-numeral, plain-numeral, plain-bad}
 use Rattle.base_text.proofs.numeral.numeral.Statement.{statement}
 use Rattle.base_text.proofs.numeral.numeral.Tie as tie
 
@@ -104,8 +104,8 @@ returns-3 c =
     let v = d .digits-value .result in
     let fits : SFits w32 (pos 0 -ℤ pos v) = sfits-abs {w = w32} (omega (arith, small d, abs-sub (pos 0) (pos v))) in
     simp (toZ-pos w32 v (omega (arith, small d)), toZ-ofZ)
-    (ap (λ (n : ℕ). Number (pos 0 -ℤ pos n)) (d .digits-value .ensures)
-    ∙ sym (ap field (minus-number (text s) (from s) (to s) (before s) (within s) (d .before .before .before .if2 .taken) (natural d) (λ e. c .if4 .left (d .digits-value .ensures ∙ e)))))
+    (ap (λ (n : ℕ). Numeral (pos 0 -ℤ pos n)) (d .digits-value .ensures)
+    ∙ sym (ap field (minus-numeral (text s) (from s) (to s) (before s) (within s) (d .before .before .before .if2 .taken) (natural d) (λ e. c .if4 .left (d .digits-value .ensures ∙ e)))))
 
 returns-4 : tie.Need-returns-4
 unfolding field
@@ -128,8 +128,8 @@ returns-5 c =
     let s = start2 c in
     let v = c .digits-value2 .result in
     simp (toZ-pos w32 v (omega (arith, small2 c)))
-    (ap (λ (n : ℕ). Number (pos n)) (c .digits-value2 .ensures)
-    ∙ sym (ap field (plain-number (text s) (from s) (to s) (before s) (within s) (c .before .before .before .if2 .left) (natural2 c))))
+    (ap (λ (n : ℕ). Numeral (pos n)) (c .digits-value2 .ensures)
+    ∙ sym (ap field (plain-numeral (text s) (from s) (to s) (before s) (within s) (c .before .before .before .if2 .left) (natural2 c))))
 
 returns-6 : tie.Need-returns-6
 unfolding field

@@ -101,13 +101,13 @@ module _ {s : Space} {num₀ den₀ : List ℤ} {columns : ℕ} {num dens : List
     }
 
     -- one is refused: so is the build
-    ends : j < segments s - 1 → (num′ dens′ : List ℤ) {reason : Refusal} {number : ℕ} → (h : Halted num dens num′ dens′ (orderSteps s j (conditionCount s j) laid) reason)
-        → h .ended .number ≡ number → {place : ℕ} → place ≡ capped j → JoinsLeave (weights s) (rowCount s) (Refused number place) num₀ den₀ num′ dens′
+    ends : j < segments s - 1 → (num′ dens′ : List ℤ) {reason : Refusal} {code : ℕ} → (h : Halted num dens num′ dens′ (orderSteps s j (conditionCount s j) laid) reason)
+        → h .ended .code ≡ code → {place : ℕ} → place ≡ capped j → JoinsLeave (weights s) (rowCount s) (Refused code place) num₀ den₀ num′ dens′
     unfolding joinSteps weights
-    ends l num′ dens′ {number = number} h e placed =
+    ends l num′ dens′ {code = code} h e placed =
         joins-refusal (rowCount s) num₀ den₀ num′ dens′
         (repeat-stops (segments s - 1) j (λ j. orderSteps s j (conditionCount s j)) (identity (columnCount s)) l (st .answers) (whole-steps ∙ ap (with-answer (λ u. u ++ left-out)) (h .ended .refuses)))
-        (ap₂ Refused (sym e) (placed ∙ sym (orders-refuse s j (conditionCount s j) laid (h .ended .number) (h .ended .place) (h .ended .refuses) .1)))
+        (ap₂ Refused (sym e) (placed ∙ sym (orders-refuse s j (conditionCount s j) laid (h .ended .code) (h .ended .place) (h .ended .refuses) .1)))
         (kept-then (subst (Kept num₀) (sym (st .num-is)) (kept-numerators (st .reached) num₀ (start .holds .num-long))) (h .num-kept))
         (kept-then (subst (Kept den₀) (sym (st .den-is)) (kept-denominators (st .reached) den₀ (start .holds .den-long))) (h .den-kept))
 
@@ -187,10 +187,10 @@ module _ (c : tie.After-den Inv-loop μ-loop) where
       → Halted (at-loop sides .loop .num) (at-loop sides .loop .den) (c .before .before .join-step .last .0) (c .before .before .join-step .last .1 .0) (orderSteps (s sides) (j sides) (conditionCount (s sides) (j sides)) (laid-on sides)) reason
   halted reason e n = leaves-some _ _ _ _ (orderSteps (s sides) (j sides) (conditionCount (s sides) (j sides)) (laid-on sides)) _ reason left e n
 
-  -- the number of a refusal
+  -- the code of a refusal
   numbered : (reason : Refusal) (h : Halted (at-loop sides .loop .num) (at-loop sides .loop .den) (c .before .before .join-step .last .0) (c .before .before .join-step .last .1 .0) (orderSteps (s sides) (j sides) (conditionCount (s sides) (j sides)) (laid-on sides)) reason)
-      → (h .ended .number ≡ 8) ⊎ (h .ended .number ≡ 9)
-  numbered reason h = orders-refuse (s sides) (j sides) (conditionCount (s sides) (j sides)) (laid-on sides) (h .ended .number) (h .ended .place) (h .ended .refuses) .0
+      → (h .ended .code ≡ 8) ⊎ (h .ended .code ≡ 9)
+  numbered reason h = orders-refuse (s sides) (j sides) (conditionCount (s sides) (j sides)) (laid-on sides) (h .ended .code) (h .ended .place) (h .ended .refuses) .0
 
   num-same : length (c .before .before .join-step .last .0) ≡ length (start sides .args .num .now)
   num-same = c .before .before .join-step .kept .0 ∙ at-loop sides .loop .inv .num-long

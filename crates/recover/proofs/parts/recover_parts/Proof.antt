@@ -1,5 +1,5 @@
 -- Before the turn at a the parts before segment a are recovered: the weight buffers hold the last of them, the answer buffers the
--- numbers of all; one part more, or its refusal, and after the last part the beam. Assumes nothing.
+-- coefficients of all; one part more, or its refusal, and after the last part the beam. Assumes nothing.
 use mathlib.Core.List.{List, _++_}
 use mathlib.Core.Path.{_≡_, refl, sym, _∙_, ap, subst}
 use Prim.Native.Nat.{ℕ, _+_, _-_, _<_, _≤_}
@@ -196,7 +196,7 @@ write-requires c κs =
     let z : m .recover-at .result .refused ≡ 0 = omega (arith, c .before .before .if1 .left) in
     (own-few m z, (omega (arith, more-inside m z, p .0, v .coef-num-long), omega (arith, more-inside m z, p .1, v .coef-den-long)))
 
--- after its numbers are written
+-- after its coefficients are written
 module _ (c : tie.After-coef-den2 Inv-loop μ-loop) where
   abbrev answered-at : tie.After-recover-at Inv-loop μ-loop
   answered-at = c .before .before .before .before .before .before .before .before .before
@@ -224,7 +224,7 @@ loop-again c =
     let b = state m in
     let count = part-count _ _ _ (g .pre .0 .0) (given m) (g .pre .1 .0 .0) b (turn m) (q .answers) in
     let inside = more-inside m (ok c) in
-    let z = w .write .ensures (b .reached .numbers) (q .reached .numbers) (g .args .coef-num .now) (g .args .coef-den .now) (q .of-is) (b .count) (count ∙ sym n) (b .coef-num-is) (b .coef-den-is) (omega (arith, inside, g .pre .1 .1 .0)) (omega (arith, inside, g .pre .1 .1 .1)) in
+    let z = w .write .ensures (b .reached .coefficients) (q .reached .coefficients) (g .args .coef-num .now) (g .args .coef-den .now) (q .of-is) (b .count) (count ∙ sym n) (b .coef-num-is) (b .coef-den-is) (omega (arith, inside, g .pre .1 .1 .0)) (omega (arith, inside, g .pre .1 .1 .1)) in
     record {
       num-long = num-same m;
       den-long = den-same m;
@@ -233,8 +233,8 @@ loop-again c =
       state = subst (λ (e : ℕ). Before (s m) (given m) (g .args .num .now) (g .args .den .now) (g .args .coef-num .now) (g .args .coef-den .now) (num-after m) (den-after m) (w .write .last .0) (w .write .last .1 .0) (at m .loop .rows + m .recover-at .result .rows) e) (sym (end-is (ended m)))
           (subst (λ (k : ℕ). Before (s m) (given m) (g .args .num .now) (g .args .den .now) (g .args .coef-num .now) (g .args .coef-den .now) (num-after m) (den-after m) (w .write .last .0) (w .write .last .1 .0) (at m .loop .rows + k) (partEnd (s m) (first (ended m)))) (sym n)
           (part-more _ _ _ (g .pre .0 .0) (given m) (g .pre .1 .0 .0) b (turn m) (q .answers) (q .num-is) (q .den-is)
-          (z .0 ∙ ap (λ (k : ℕ). listed numeratorOf (at m .loop .rows + k) (b .reached .numbers ++ q .reached .numbers) (g .args .coef-num .now)) n)
-          (z .1 ∙ ap (λ (k : ℕ). listed denominatorOf (at m .loop .rows + k) (b .reached .numbers ++ q .reached .numbers) (g .args .coef-den .now)) n)));
+          (z .0 ∙ ap (λ (k : ℕ). listed numeratorOf (at m .loop .rows + k) (b .reached .coefficients ++ q .reached .coefficients) (g .args .coef-num .now)) n)
+          (z .1 ∙ ap (λ (k : ℕ). listed denominatorOf (at m .loop .rows + k) (b .reached .coefficients ++ q .reached .coefficients) (g .args .coef-den .now)) n)));
     }
 
 -- ---- after the last part

@@ -1,4 +1,4 @@
--- Before the turn at i the cells up to from + i hold the numbers before `from` and the first i of these. Assumes nothing.
+-- Before the turn at i the cells up to from + i hold the coefficients before `from` and the first i of these. Assumes nothing.
 use mathlib.Core.Path.{_≡_, refl, sym, _∙_, ap, ap₂}
 use mathlib.Core.List.{List, _++_}
 use Prim.Native.Nat.{ℕ, _+_, _-_, _<_, _≤_}
@@ -20,13 +20,13 @@ use Rattle.theorems_recovery.specs.RecoveryCall.{listed, numeratorOf, denominat
 use Rattle.recover.proofs.parts.write.Statement.{statement}
 use Rattle.recover.proofs.parts.write.Tie as tie
 
--- cells that hold part of the numbers
-abbrev Numbered : (ℚ → ℤ) → List ℤ → List ℤ → List ℚ → ℕ → Type 0
-Numbered part now before all n = now ≡ listed part n all before
+-- cells that hold part of the coefficients
+abbrev Combination : (ℚ → ℤ) → List ℤ → List ℤ → List ℚ → ℕ → Type 0
+Combination part now before all n = now ≡ listed part n all before
 
 record State (from i : ℕ) (all : List ℚ) (nums dens num den : List ℤ) : Type 0 where
-  num-is : Numbered numeratorOf nums num all (from + i)
-  den-is : Numbered denominatorOf dens den all (from + i)
+  num-is : Combination numeratorOf nums num all (from + i)
+  den-is : Combination denominatorOf dens den all (from + i)
 
 record Inv (nums₀ dens₀ : List ℤ) (from : ℕ) (cs : Fractions) (n : ℕ) (nums dens : List ℤ) (i : ℕ) : Type 0 where
   within : i ≤ n
@@ -41,13 +41,13 @@ Inv-loop nums₀ dens₀ from cs n i₀ nums dens i = Inv nums₀ dens₀ from c
 abbrev μ-loop : tie.MeasureT-loop
 μ-loop nums₀ dens₀ from cs n i₀ nums dens i = n - i
 
--- the numbers before are those of the longer list
+-- the coefficients before are those of the longer list
 first-is : (part : ℚ → ℤ) (from : ℕ) (done ps : List ℚ) (before : List ℤ) → length done ≡ from → listed part from done before ≡ listed part (from + 0) (done ++ ps) before
 first-is part from done ps before e =
     ap (λ t. t ++ drop from before) (tab-ext from (λ k h. ap part (sym (List·getD-append done ps (int (pos 0)) k (omega (arith, h, e))))))
     ∙ ap (λ m. listed part m (done ++ ps) before) (let z : from ≡ from + 0 = omega arith in z)
 
--- the number of row i of these
+-- the coefficient of row i of these
 here-is : (from i : ℕ) (done ps : List ℚ) → length done ≡ from → entry (done ++ ps) (from + i) ≡ entry ps i
 here-is from i done ps e = ap (λ m. entry (done ++ ps) (m + i)) (sym e) ∙ getD-append-add done ps i (int (pos 0))
 

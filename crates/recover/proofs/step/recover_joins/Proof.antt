@@ -25,20 +25,20 @@ use Rattle.build_jumps.specs.declared.Fractions.{Fractions}
 use Rattle.build.proofs.Stepped.{identity-shaped}
 use Rattle.spec_spline.proofs.Space.{firstColumn-mono}
 use Rattle.build.proofs.Joins.{join-whole, join-fits, conditions-left}
-use Rattle.theorems_recovery.specs.Recovery.{Numbered, recoverOrders, recoverJoins, recovered}
+use Rattle.theorems_recovery.specs.Recovery.{Combination, recoverOrders, recoverJoins, recovered}
 use Rattle.theorems_recovery.proofs.Refusals.{orders-stop}
 use Rattle.recover.specs.Leaves.{Leaves, JoinsLeave, Started}
-use Rattle.recover.specs.declared.Numbers.{Numbers}
+use Rattle.recover.specs.declared.RowCoefficients.{RowCoefficients}
 use Rattle.recover.proofs.Orders.{Done, told-done, Stopped, told-stopped, Sound, orders-sound}
 use Rattle.recover.proofs.step.recover_joins.Statement.{statement}
 use Rattle.recover.proofs.step.recover_joins.Tie as tie
 
 -- the first j joins are answered
 record State (s : Space) (os : List ℤ) (num₀ den₀ : List ℤ) (columns : ℕ) (num dens : List ℤ) (present : Fractions) (rows j : ℕ) : Type 0 where
-  reached : Numbered
+  reached : Combination
   answers : recoverJoins s os j ≡ answer reached
   sound : Sound reached rows columns
-  present-is : present ≡ fractions (reached .numbers)
+  present-is : present ≡ fractions (reached .coefficients)
   num-is : num ≡ numerators (reached .table) num₀
   den-is : dens ≡ denominators (reached .table) den₀
 
@@ -57,7 +57,7 @@ abbrev μ-loop : tie.MeasureT-loop
 
 -- ---- one turn, in the definitions' terms
 
-joins-none : (s : Space) (os : List ℤ) → recoverJoins s os 0 ≡ answer (record { table = identity (columnCount s); numbers = map int os })
+joins-none : (s : Space) (os : List ℤ) → recoverJoins s os 0 ≡ answer (record { table = identity (columnCount s); coefficients = map int os })
 unfolding recoverJoins repeat
 joins-none s os = refl
 
@@ -66,11 +66,11 @@ module _ {s : Space} {os : List ℤ} {num₀ den₀ : List ℤ} {columns : ℕ} 
   holds = holds-left num₀ den₀ (st .reached .table) (start .holds .num-long) (start .holds .den-long) (st .num-is) (st .den-is) (st .sound .proper .fit)
 
   -- all orders are done: one join more
-  goes-on : {n : ℕ} → n ≡ conditionCount s j → (num′ dens′ : List ℤ) (told : Numbers) → Done num dens num′ dens′ (recoverOrders s j (conditionCount s j) (st .reached)) told → State s os num₀ den₀ columns num′ dens′ (told .of) (rows - n) (j + 1)
+  goes-on : {n : ℕ} → n ≡ conditionCount s j → (num′ dens′ : List ℤ) (told : RowCoefficients) → Done num dens num′ dens′ (recoverOrders s j (conditionCount s j) (st .reached)) told → State s os num₀ den₀ columns num′ dens′ (told .of) (rows - n) (j + 1)
   unfolding recoverJoins
   goes-on count num′ dens′ told d = record {
     reached = d .reached;
-    answers = ap (recoverJoins s os) (add-one j) ∙ repeat-more j (λ j. recoverOrders s j (conditionCount s j)) (record { table = identity (columnCount s); numbers = map int os }) (st .answers) ∙ d .answers;
+    answers = ap (recoverJoins s os) (add-one j) ∙ repeat-more j (λ j. recoverOrders s j (conditionCount s j)) (record { table = identity (columnCount s); coefficients = map int os }) (st .answers) ∙ d .answers;
     sound = subst (λ n. Sound (d .reached) (rows - n) columns) (sym count) (orders-sound s j (conditionCount s j) (st .reached) (d .answers) (st .sound));
     present-is = d .of-is;
     num-is = d .num-is ∙ ap (numerators (d .reached .table)) (st .num-is) ∙ numerators-again (d .reached .table) (st .reached .table) num₀;
@@ -78,13 +78,13 @@ module _ {s : Space} {os : List ℤ} {num₀ den₀ : List ℤ} {columns : ℕ} 
   }
 
   -- one is refused: so is the part
-  ends : j < segments s - 1 → (num′ dens′ : List ℤ) (told : Numbers) → Stopped num dens num′ dens′ (recoverOrders s j (conditionCount s j) (st .reached)) told
+  ends : j < segments s - 1 → (num′ dens′ : List ℤ) (told : RowCoefficients) → Stopped num dens num′ dens′ (recoverOrders s j (conditionCount s j) (st .reached)) told
       → {place : ℕ} → place ≡ capped j → JoinsLeave (recovered s os) (rowCount s) (record { refused = told .refused; place = place; rows = 0; of = told .of }) num₀ den₀ num′ dens′
   unfolding recoverJoins recovered
   ends l num′ dens′ told d {place} placed =
-      subst (λ (o : Outcome Numbered). JoinsLeave o (rowCount s) (record { refused = told .refused; place = place; rows = 0; of = told .of }) num₀ den₀ num′ dens′)
-      (sym (repeat-stops (segments s - 1) j (λ j. recoverOrders s j (conditionCount s j)) (record { table = identity (columnCount s); numbers = map int os }) l (st .answers) (d .refuses))) (
-        ap₂ (λ (r : Numbers) (p : ℕ). record { refused = r .refused; place = p; rows = 0; of = r .of }) (d .told) (placed ∙ sym (orders-stop s j (conditionCount s j) (st .reached) (d .number) (d .place) (d .refuses) .1)),
+      subst (λ (o : Outcome Combination). JoinsLeave o (rowCount s) (record { refused = told .refused; place = place; rows = 0; of = told .of }) num₀ den₀ num′ dens′)
+      (sym (repeat-stops (segments s - 1) j (λ j. recoverOrders s j (conditionCount s j)) (record { table = identity (columnCount s); coefficients = map int os }) l (st .answers) (d .refuses))) (
+        ap₂ (λ (r : RowCoefficients) (p : ℕ). record { refused = r .refused; place = p; rows = 0; of = r .of }) (d .told) (placed ∙ sym (orders-stop s j (conditionCount s j) (st .reached) (d .code) (d .place) (d .refuses) .1)),
         kept-then (subst (Kept num₀) (sym (st .num-is)) (kept-numerators (st .reached .table) num₀ (start .holds .num-long))) (d .num-kept),
         kept-then (subst (Kept den₀) (sym (st .den-is)) (kept-denominators (st .reached .table) den₀ (start .holds .den-long))) (d .den-kept),
       )
@@ -143,7 +143,7 @@ module _ (c : tie.After-recover-orders Inv-loop μ-loop) where
     left =
         subst (λ n. Leaves (recoverOrders (s sides) (j sides) n (st .reached)) (c .recover-orders .result) (at-loop sides .loop .num) (at-loop sides .loop .den) (c .recover-orders .last .0) (c .recover-orders .last .1 .0))
         (sides .before .condition-count .ensures)
-        (c .recover-orders .ensures (s sides) (j sides) (st .reached .table) (st .reached .numbers) (is sides) (holds (start sides .pre .1 .0) st) (st .sound .proper .shaped) (st .present-is) (st .sound .count) (st .sound .fit))
+        (c .recover-orders .ensures (s sides) (j sides) (st .reached .table) (st .reached .coefficients) (is sides) (holds (start sides .pre .1 .0) st) (st .sound .proper .shaped) (st .present-is) (st .sound .count) (st .sound .fit))
 
   before-last : j sides < segments (s sides) - 1
   before-last = let t = turn (sides .before .before) in omega (arith, t .taken, t .count)
@@ -157,8 +157,8 @@ loop-holds c =
       num-long = refl;
       den-long = refl;
       state = λ os e size f. record {
-        reached = record { table = identity (c .args .columns); numbers = map int os };
-        answers = joins-none (lists c) os ∙ ap (λ n. answer (record { table = identity n; numbers = map int os })) (sym (b .count));
+        reached = record { table = identity (c .args .columns); coefficients = map int os };
+        answers = joins-none (lists c) os ∙ ap (λ n. answer (record { table = identity n; coefficients = map int os })) (sym (b .count));
         sound = record { proper = record { shaped = identity-shaped (c .args .columns) (b .room); fit = b .holds .fit }; count = length-map os int ∙ size; fit = f };
         present-is = e;
         num-is = b .holds .num-is;
@@ -177,7 +177,7 @@ recover-orders-requires c κs =
     let d = c .before .before in
     let g = start d .pre .1 .1 in
     let x = at-loop d .loop .inv .state (g .ordinates) (g .is) (g .count) (g .fit) in
-    (room d, (fitting d, (record { table = x .reached .table; holds = holds (start d .pre .1 .0) x; shaped = x .sound .proper .shaped }, record { of = x .reached .numbers; is = x .present-is; fit = x .sound .fit; count = x .sound .count })))
+    (room d, (fitting d, (record { table = x .reached .table; holds = holds (start d .pre .1 .0) x; shaped = x .sound .proper .shaped }, record { of = x .reached .coefficients; is = x .present-is; fit = x .sound .fit; count = x .sound .count })))
 
 place-requires : tie.Need-place-requires Inv-loop μ-loop
 place-requires c κs = search needs
@@ -232,7 +232,7 @@ returns-2 c os e size f =
     let p = b .pre .0 .lists in
     let x = l .inv .state os e size f in
     let z : l .j ≡ segments (lists b) - 1 = omega (arith, p .order-count) in
-    subst (λ (o : Outcome Numbered). JoinsLeave o (rowCount (lists b)) (record { refused = 0; place = 0; rows = l .rows; of = l .present }) (b .args .num .now) (b .args .den .now) (l .num) (l .den))
+    subst (λ (o : Outcome Combination). JoinsLeave o (rowCount (lists b)) (record { refused = 0; place = 0; rows = l .rows; of = l .present }) (b .args .num .now) (b .args .den .now) (l .num) (l .den))
     (sym (ap (recoverJoins (lists b) os) (sym z) ∙ x .answers))
     (ap₂ (λ (n : ℕ) (a : Fractions). record { refused = 0; place = 0; rows = n; of = a }) (omega (arith, l .inv .rows-are, legal-row-count-sum _ _ _ p, ap (conditionsBefore (lists b)) z)) (x .present-is), x .num-is, x .den-is)
 

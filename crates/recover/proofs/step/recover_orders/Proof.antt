@@ -19,21 +19,21 @@ use Rattle.build_conditions.specs.declared.Join.{Join}
 use Rattle.build_factors.specs.Jumps.{AllFit}
 use Rattle.build_jumps.specs.Machine.{fractions}
 use Rattle.build_jumps.specs.declared.Fractions.{Fractions}
-use Rattle.theorems_recovery.specs.Recovery.{Numbered, recoverStep, recoverOrders}
+use Rattle.theorems_recovery.specs.Recovery.{Combination, recoverStep, recoverOrders}
 use Rattle.theorems_recovery.proofs.Refusals.{recover-stops}
 use Rattle.recover.specs.Leaves.{Leaves}
-use Rattle.recover.specs.declared.Numbers.{Numbers}
+use Rattle.recover.specs.declared.RowCoefficients.{RowCoefficients}
 use Rattle.recover.proofs.Stepped.{leaves-answer, leaves-refusal}
 use Rattle.recover.proofs.Orders.{Done, told-done, Stopped, told-stopped, Sound, recover-one-less}
 use Rattle.recover.proofs.step.recover_orders.Statement.{statement}
 use Rattle.recover.proofs.step.recover_orders.Tie as tie
 
 -- the orders below k are answered
-record State (num₀ den₀ num dens : List ℤ) (present : Fractions) (rows columns k : ℕ) (s : Space) (j : ℕ) (r : Numbered) : Type 0 where
-  reached : Numbered
+record State (num₀ den₀ num dens : List ℤ) (present : Fractions) (rows columns k : ℕ) (s : Space) (j : ℕ) (r : Combination) : Type 0 where
+  reached : Combination
   answers : recoverOrders s j k r ≡ answer reached
   sound : Sound reached (rows - k) columns
-  present-is : present ≡ fractions (reached .numbers)
+  present-is : present ≡ fractions (reached .coefficients)
   num-is : num ≡ numerators (reached .table) num₀
   den-is : dens ≡ denominators (reached .table) den₀
 
@@ -42,7 +42,7 @@ record Inv (num₀ den₀ : List ℤ) (join : Join) (n rows columns : ℕ) (cs :
   num-long : length num ≡ length num₀
   den-long : length dens ≡ length den₀
   state : (s : Space) (j : ℕ) (t : Table) (ps : List ℚ) → JoinIs join s j → Holds num₀ den₀ t → Shaped t rows columns → cs ≡ fractions ps → length ps ≡ rows → AllFit ps
-      → State num₀ den₀ num dens present rows columns k s j (record { table = t; numbers = ps })
+      → State num₀ den₀ num dens present rows columns k s j (record { table = t; coefficients = ps })
 
 abbrev Inv-loop : tie.InvT-loop
 Inv-loop num₀ den₀ join n rows columns present₀ k₀ num den present k = Inv num₀ den₀ join n rows columns present₀ num den present k
@@ -52,16 +52,16 @@ abbrev μ-loop : tie.MeasureT-loop
 
 -- ---- one turn, in the definitions' terms
 
-orders-none : (s : Space) (j : ℕ) (r : Numbered) → recoverOrders s j 0 r ≡ answer r
+orders-none : (s : Space) (j : ℕ) (r : Combination) → recoverOrders s j 0 r ≡ answer r
 unfolding recoverOrders repeat
 orders-none s j r = refl
 
-module _ {num₀ den₀ num dens : List ℤ} {present : Fractions} {rows columns k : ℕ} {s : Space} {j : ℕ} {r : Numbered} (h : Holds num₀ den₀ (r .table)) (st : State num₀ den₀ num dens present rows columns k s j r) where
+module _ {num₀ den₀ num dens : List ℤ} {present : Fractions} {rows columns k : ℕ} {s : Space} {j : ℕ} {r : Combination} (h : Holds num₀ den₀ (r .table)) (st : State num₀ den₀ num dens present rows columns k s j r) where
   holds : Holds num dens (st .reached .table)
   holds = holds-left num₀ den₀ (st .reached .table) (h .num-long) (h .den-long) (st .num-is) (st .den-is) (st .sound .proper .fit)
 
   -- it is done: one order more
-  goes-on : (num′ dens′ : List ℤ) (told : Numbers) → Done num dens num′ dens′ (recoverStep j (conditions s j k) (st .reached)) told → State num₀ den₀ num′ dens′ (told .of) rows columns (k + 1) s j r
+  goes-on : (num′ dens′ : List ℤ) (told : RowCoefficients) → Done num dens num′ dens′ (recoverStep j (conditions s j k) (st .reached)) told → State num₀ den₀ num′ dens′ (told .of) rows columns (k + 1) s j r
   unfolding recoverOrders
   goes-on num′ dens′ told d =
       record {
@@ -74,7 +74,7 @@ module _ {num₀ den₀ num dens : List ℤ} {present : Fractions} {rows columns
       }
 
   -- it is refused: so are all
-  ends : (n : ℕ) → k < n → (num′ dens′ : List ℤ) (told : Numbers) → Stopped num dens num′ dens′ (recoverStep j (conditions s j k) (st .reached)) told → Leaves (recoverOrders s j n r) told num₀ den₀ num′ dens′
+  ends : (n : ℕ) → k < n → (num′ dens′ : List ℤ) (told : RowCoefficients) → Stopped num dens num′ dens′ (recoverStep j (conditions s j k) (st .reached)) told → Leaves (recoverOrders s j n r) told num₀ den₀ num′ dens′
   unfolding recoverOrders
   ends n l num′ dens′ told d =
       leaves-refusal num₀ den₀ num′ dens′ (repeat-stops n k (λ k. recoverStep j (conditions s j k)) r l (st .answers) (d .refuses)) (d .told)
@@ -87,9 +87,9 @@ loop-holds c = record {
   num-long = refl;
   den-long = refl;
   state = λ s j t ps is h shaped e m f. record {
-    reached = record { table = t; numbers = ps };
-    answers = orders-none s j (record { table = t; numbers = ps });
-    sound = subst (λ (m : ℕ). Sound (record { table = t; numbers = ps }) m (c .args .columns)) (let z : c .args .rows ≡ c .args .rows - 0 = omega arith in z) (record { proper = record { shaped = shaped; fit = h .fit }; count = m; fit = f });
+    reached = record { table = t; coefficients = ps };
+    answers = orders-none s j (record { table = t; coefficients = ps });
+    sound = subst (λ (m : ℕ). Sound (record { table = t; coefficients = ps }) m (c .args .columns)) (let z : c .args .rows ≡ c .args .rows - 0 = omega arith in z) (record { proper = record { shaped = shaped; fit = h .fit }; count = m; fit = f });
     present-is = e;
     num-is = h .num-is;
     den-is = h .den-is;
@@ -108,7 +108,7 @@ recover-step-requires c κs =
     let n = p .1 .1 .1 in
     let x = l .loop .inv .state (f .space) (f .index) (k .table) (n .of) (f .is) (k .holds) (k .shaped) (n .is) (n .count) (n .fit) in (
       f,
-      (record { table = x .reached .table; holds = holds (k .holds) x; shaped = x .sound .proper .shaped }, record { of = x .reached .numbers; is = x .present-is; fit = x .sound .fit; long = omega (arith, x .sound .count) }),
+      (record { table = x .reached .table; holds = holds (k .holds) x; shaped = x .sound .proper .shaped }, record { of = x .reached .coefficients; is = x .present-is; fit = x .sound .fit; long = omega (arith, x .sound .count) }),
     )
 
 -- what the turn leaves, in the definitions' terms
@@ -127,11 +127,11 @@ module _ (m : tie.After-recover-step Inv-loop μ-loop) where
 
   module _ (s : Space) (j : ℕ) (t : Table) (ps : List ℚ) (is : JoinIs (start .args .join) s j) (h : Holds (start .args .num .now) (start .args .den .now) t)
       (shaped : Shaped t (start .args .rows) (start .args .columns)) (e : start .args .cs ≡ fractions ps) (size : length ps ≡ start .args .rows) (f : AllFit ps) where
-    st : State (start .args .num .now) (start .args .den .now) (at-loop .loop .num) (at-loop .loop .den) (at-loop .loop .present) (start .args .rows) (start .args .columns) (at-loop .loop .k) s j (record { table = t; numbers = ps })
+    st : State (start .args .num .now) (start .args .den .now) (at-loop .loop .num) (at-loop .loop .den) (at-loop .loop .present) (start .args .rows) (start .args .columns) (at-loop .loop .k) s j (record { table = t; coefficients = ps })
     st = at-loop .loop .inv .state s j t ps is h shaped e size f
 
     left : Leaves (recoverStep j (conditions s j (at-loop .loop .k)) (st .reached)) (m .recover-step .result) (at-loop .loop .num) (at-loop .loop .den) (m .recover-step .last .0) (m .recover-step .last .1 .0)
-    left = m .recover-step .ensures s j (st .reached .table) (st .reached .numbers) is (holds h st) (st .sound .proper .shaped) (st .present-is) (st .sound .count)
+    left = m .recover-step .ensures s j (st .reached .table) (st .reached .coefficients) is (holds h st) (st .sound .proper .shaped) (st .present-is) (st .sound .count)
 
 same-length : tie.Need-same-length Inv-loop μ-loop
 same-length c = num-kept (c .before .before .before .before)
@@ -173,7 +173,7 @@ returns-2 : tie.Need-returns-2 Inv-loop μ-loop
 returns-2 c s j t ps is h shaped e m f =
     let l = c .before .loop in
     let x = l .inv .state s j t ps is h shaped e m f in
-    leaves-answer _ _ _ _ (ap (λ n. recoverOrders s j n (record { table = t; numbers = ps })) (let z : c .before .before .args .n ≡ l .k = omega arith in z) ∙ x .answers) (ap (λ (a : Fractions). record { refused = 0; of = a }) (x .present-is)) (x .num-is) (x .den-is)
+    leaves-answer _ _ _ _ (ap (λ n. recoverOrders s j n (record { table = t; coefficients = ps })) (let z : c .before .before .args .n ≡ l .k = omega arith in z) ∙ x .answers) (ap (λ (a : Fractions). record { refused = 0; of = a }) (x .present-is)) (x .num-is) (x .den-is)
 
 pub recover-orders-spec : {M : Type 1} → statement M
 recover-orders-spec =

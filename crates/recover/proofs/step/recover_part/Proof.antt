@@ -1,4 +1,4 @@
--- The identity of the part's columns and the ordinates as numbers, then the joins. Assumes nothing.
+-- The identity of the part's columns and the ordinates as coefficients, then the joins. Assumes nothing.
 use borrow.Author.Needs.{needs}
 use mathlib.Core.Path.{_≡_, sym, _∙_, ap, subst}
 use mathlib.Core.List.{List}
@@ -15,7 +15,7 @@ use Rattle.build_space.proofs.Legal.{part-column-count-high}
 use Rattle.build_cells.specs.Held.{Kept}
 use Rattle.build_cells.proofs.Buffer.{holds-left, numerators-again, denominators-again, kept-numerators, kept-denominators, kept-then}
 use Rattle.build.proofs.Stepped.{identity-fits}
-use Rattle.theorems_recovery.specs.Recovery.{Numbered, recovered}
+use Rattle.theorems_recovery.specs.Recovery.{Combination, recovered}
 use Rattle.recover.specs.Leaves.{JoinsLeave, Started}
 use Rattle.recover.specs.declared.Joined.{Joined}
 use Rattle.recover.proofs.step.recover_part.Statement.{statement}
@@ -23,9 +23,9 @@ use Rattle.recover.proofs.step.recover_part.Tie as tie
 
 -- what is left of buffers that held a table before
 module _ (n : ℕ) (r : Joined) (i : Table) (num₀ den₀ num den num′ den′ : List ℤ) (num-is : num ≡ numerators i num₀) (den-is : den ≡ denominators i den₀) where
-  joins-over : (o : Outcome Numbered) → tableCells ≤ length num₀ → tableCells ≤ length den₀ → JoinsLeave o n r num den num′ den′ → JoinsLeave o n r num₀ den₀ num′ den′
+  joins-over : (o : Outcome Combination) → tableCells ≤ length num₀ → tableCells ≤ length den₀ → JoinsLeave o n r num den num′ den′ → JoinsLeave o n r num₀ den₀ num′ den′
   joins-over (answer t) long long′ left = (left .0, left .1 ∙ ap (numerators (t .table)) num-is ∙ numerators-again (t .table) i num₀, left .2 ∙ ap (denominators (t .table)) den-is ∙ denominators-again (t .table) i den₀)
-  joins-over (refusal number place) long long′ left = (left .0, kept-then (subst (Kept num₀) (sym num-is) (kept-numerators i num₀ long)) (left .1), kept-then (subst (Kept den₀) (sym den-is) (kept-denominators i den₀ long′)) (left .2))
+  joins-over (refusal code place) long long′ left = (left .0, kept-then (subst (Kept num₀) (sym num-is) (kept-numerators i num₀ long)) (left .1), kept-then (subst (Kept den₀) (sym den-is) (kept-denominators i den₀ long′)) (left .2))
 
 abbrev lists : tie.Start → Space
 lists c = space (c .args .breaks .now) (c .args .degrees .now) (c .args .orders .now)
@@ -44,8 +44,8 @@ first-column-requires c κs = search needs
 identity-requires : tie.Need-identity-requires
 identity-requires c κs = let f = c .before .before in (columns-fit f, f .before .pre .0 .1)
 
-numbers-requires : tie.Need-numbers-requires
-numbers-requires c κs = let f = c .before .before .before .before .before in omega (arith, columns-fit f, columns-are f, f .before .pre .1 .0)
+coefficients-requires : tie.Need-coefficients-requires
+coefficients-requires c κs = let f = c .before .before .before .before .before in omega (arith, columns-fit f, columns-are f, f .before .pre .1 .0)
 
 -- the identity is in the buffers
 starts : (c : tie.After-identity) → Started (lists (c .before .before .before .before)) (c .identity .last .0) (c .identity .last .1 .0) (c .before .before .before .first-column .result)
@@ -63,7 +63,7 @@ recover-joins-requires c κs =
     let i = c .before .before .before .before .before in
     let s = i .before .before .before .before in (
       s .pre .0 .0,
-      (starts i, record { ordinates = s .args .ordinates .now; is = c .before .before .numbers .ensures; fit = s .pre .1 .1; count = s .pre .1 .0 ∙ sym (columns-are (i .before .before .before)) }),
+      (starts i, record { ordinates = s .args .ordinates .now; is = c .before .before .coefficients .ensures; fit = s .pre .1 .1; count = s .pre .1 .0 ∙ sym (columns-are (i .before .before .before)) }),
     )
 
 same-length : tie.Need-same-length
@@ -79,7 +79,7 @@ returns c =
     let i = a .before .before .before .before .before in
     let s = i .before .before .before .before in
     joins-over _ _ _ _ _ _ _ _ _ (i .identity .ensures .0) (i .identity .ensures .1) (recovered (lists s) (s .args .ordinates .now)) (s .pre .0 .1 .0) (s .pre .0 .1 .1)
-    (m .recover-joins .ensures (s .args .ordinates .now) (a .before .before .numbers .ensures) (s .pre .1 .0 ∙ sym (columns-are (i .before .before .before))) (s .pre .1 .1))
+    (m .recover-joins .ensures (s .args .ordinates .now) (a .before .before .coefficients .ensures) (s .pre .1 .0 ∙ sym (columns-are (i .before .before .before))) (s .pre .1 .1))
 
 pub recover-part-spec : {M : Type 1} → statement M
 recover-part-spec =
@@ -87,7 +87,7 @@ recover-part-spec =
     (tie.spec
     first-column-requires
     identity-requires
-    numbers-requires
+    coefficients-requires
     recover-joins-requires
     same-length
     same-length-2

@@ -104,7 +104,7 @@ returns : tie.Need-returns
 returns c s j t ps is h shaped e n =
     let m = c .before .before .before .before .before in
     let x = halted m s j t is h shaped refusals.TooLarge (c .before .enum-told .given .1) (λ z. let q : _≡_ {A = ℕ} 0 1 = cc in omega arith) in
-    let f = step-refuses j (conditions s j (start m .args .k)) t (x .ended .number) (x .ended .place) (x .ended .refuses) in
+    let f = step-refuses j (conditions s j (start m .args .k)) t (x .ended .code) (x .ended .place) (x .ended .refuses) in
     leaves-refusal _ _ _ _ (recover-refused j _ t ps (x .ended .refuses)) (c .refuse .ensures ∙ ap (λ q. record { refused = q; of = fractions [] }) (sym (named-eight (f .0) (x .ended .named)))) (x .num-kept) (x .den-kept)
 
 same-length-3 : tie.Need-same-length-3
@@ -117,7 +117,7 @@ returns-2 : tie.Need-returns-2
 returns-2 c s j t ps is h shaped e n =
     let m = c .before .before .before .before .before in
     let x = halted m s j t is h shaped refusals.Shape (c .before .enum-told2 .given .1) (λ z. let q : _≡_ {A = ℕ} 0 1 = cc in omega arith) in
-    let f = step-refuses j (conditions s j (start m .args .k)) t (x .ended .number) (x .ended .place) (x .ended .refuses) in
+    let f = step-refuses j (conditions s j (start m .args .k)) t (x .ended .code) (x .ended .place) (x .ended .refuses) in
     leaves-refusal _ _ _ _ (recover-refused j _ t ps (x .ended .refuses)) (c .refuse2 .ensures ∙ ap (λ q. record { refused = q; of = fractions [] }) (sym (named-nine (f .0) (x .ended .named)))) (x .num-kept) (x .den-kept)
 
 same-length-5 : tie.Need-same-length-5

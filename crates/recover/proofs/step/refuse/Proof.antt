@@ -9,7 +9,7 @@ no-fractions-requires : tie.Need-no-fractions-requires
 no-fractions-requires c κs = search needs
 
 returns : tie.Need-returns
-returns c = ap (λ (none : Fractions). record { refused = c .before .args .number; of = none }) (c .no-fractions .ensures)
+returns c = ap (λ (none : Fractions). record { refused = c .before .args .code; of = none }) (c .no-fractions .ensures)
 
 pub refuse-spec : {M : Type 1} → statement M
 refuse-spec = tie.close (tie.spec no-fractions-requires returns)

@@ -1,4 +1,4 @@
--- The zero test, then the new numbers with the factors of the step, then row l dropped; the first that is refused ends it.
+-- The zero test, then the new coefficients with the factors of the step, then row l dropped; the first that is refused ends it.
 -- Assumes nothing.
 use borrow.Author.Needs.{needs}
 use borrow.Author.Tests.{not-true, not-false}
@@ -22,9 +22,9 @@ use Rattle.recover_step.proofs.Rows.{renewed-length}
 use Rattle.theorems_recovery.proofs.Refusals.{balanced-here}
 use Rattle.theorems_recovery.specs.Recovery.{balanced, undoneRows, undone}
 use Rattle.theorems_recovery.proofs.Answers.{rows-undone, undone-refuses-20}
-use Rattle.recover.specs.Leaves.{numbersOf}
+use Rattle.recover.specs.Leaves.{coefficientsOf}
 use Rattle.recover.proofs.Refusals.{RefusedBy, told-zero, told-not, told-large}
-use Rattle.recover.proofs.Undone.{numbers-answer, numbers-refusal, factors-nonzero, renewed-without}
+use Rattle.recover.proofs.Undone.{coefficients-answer, coefficients-refusal, factors-nonzero, renewed-without}
 use Rattle.recover.proofs.step.undo_span.Statement.{statement}
 use Rattle.recover.proofs.step.undo_span.Tie as tie
 
@@ -105,11 +105,11 @@ module _ (u : tie.After-undo-rows) (j : ℕ) (qs ps ws : List ℚ) (e : u .befor
   too-large x =
       let r = jumps-refused (with-answer among new) (u .undo-rows .result) undone-is x in
       let z = then-refuses (λ ds. answer (take f ps ++ (ds ++ drop (suc l) ps))) (with-refuses among new (r .refuses)) in
-      record { place = r .place; refuses = then-answers (λ _. undone j (record { f = f; l = l }) ws ps) zero ∙ z ∙ ap (λ q. refusal q (r .place)) (undone-refuses-20 j (record { f = f; l = l }) ws ps (r .number) (r .place) z) }
+      record { place = r .place; refuses = then-answers (λ _. undone j (record { f = f; l = l }) ws ps) zero ∙ z ∙ ap (λ q. refusal q (r .place)) (undone-refuses-20 j (record { f = f; l = l }) ws ps (r .code) (r .place) z) }
 
   -- done
   done : {of : Fractions} → u .undo-rows .result .fit ≡ true → ((qs : List ℚ) → u .undo-rows .result .of ≡ fractions qs → length qs ≡ start .args .rows → of ≡ fractions (take l qs ++ drop (suc l) qs))
-      → record { refused = 0; of = of } ≡ numbersOf (balanced j qs ps then λ _. undone j (record { f = f; l = l }) ws ps)
+      → record { refused = 0; of = of } ≡ coefficientsOf (balanced j qs ps then λ _. undone j (record { f = f; l = l }) ws ps)
   unfolding undone
   done x dropped =
       let a = jumps-in-arrays (with-answer among new) (u .undo-rows .result) undone-is x in
@@ -117,7 +117,7 @@ module _ (u : tie.After-undo-rows) (j : ℕ) (qs ps ws : List ℚ) (e : u .befor
       let size = rows-undone j ws ps f (l - f) (d .answers) .size in
       let order = start .pre .0 .spanned .order in
       let below : l < length ps = omega (arith, n, start .pre .0 .below) in
-      numbers-answer (then-answers (λ _. undone j (record { f = f; l = l }) ws ps) zero ∙ then-answers (λ ds. answer (take f ps ++ (ds ++ drop (suc l) ps))) (d .answers))
+      coefficients-answer (then-answers (λ _. undone j (record { f = f; l = l }) ws ps) zero ∙ then-answers (λ ds. answer (take f ps ++ (ds ++ drop (suc l) ps))) (d .answers))
       (dropped (among (d .before)) (a .is ∙ ap fractions (sym (d .changed))) (renewed-length f l ps (d .before) order (omega arith) size ∙ n) ∙ renewed-without f l ps (d .before) order below size)
 
 refuse-requires-3 : tie.Need-refuse-requires-3
@@ -126,25 +126,25 @@ refuse-requires-3 c κs = search needs
 returns : tie.Need-returns
 returns c j qs ps ws e h m n k =
     let r = too-large (c .before .before .before) j qs ps ws e h m n k (not-true _ (c .before .if1 .taken)) in
-    numbers-refusal (r .refuses) (c .refuse3 .ensures)
+    coefficients-refusal (r .refuses) (c .refuse3 .ensures)
 
-drop-number-requires : tie.Need-drop-number-requires
-drop-number-requires c κs = search needs
+drop-coefficient-requires : tie.Need-drop-coefficient-requires
+drop-coefficient-requires c κs = search needs
 
 returns-2 : tie.Need-returns-2
 returns-2 c j qs ps ws e h m n k =
     let b = c .before .before .before in
     let r = told-large j (balanced j qs ps) (balanced-here j qs ps) (sym (b .balanced .ensures j qs ps e h m) ∙ c .before .enum-told .given .1) in
-    numbers-refusal (then-refuses (λ _. undone j (record { f = b .before .args .f; l = b .before .args .l }) ws ps) (r .refuses)) (c .refuse .ensures)
+    coefficients-refusal (then-refuses (λ _. undone j (record { f = b .before .args .f; l = b .before .args .l }) ws ps) (r .refuses)) (c .refuse .ensures)
 
 returns-3 : tie.Need-returns-3
 returns-3 c j qs ps ws e h m n k =
     let b = c .before .before .before in
     let r = told-not j (balanced j qs ps) (balanced-here j qs ps) (sym (b .balanced .ensures j qs ps e h m) ∙ c .before .enum-told2 .given .1) in
-    numbers-refusal (then-refuses (λ _. undone j (record { f = b .before .args .f; l = b .before .args .l }) ws ps) (r .refuses)) (c .refuse2 .ensures)
+    coefficients-refusal (then-refuses (λ _. undone j (record { f = b .before .args .f; l = b .before .args .l }) ws ps) (r .refuses)) (c .refuse2 .ensures)
 
 returns-4 : tie.Need-returns-4
-returns-4 c j qs ps ws e h m n k = done (c .before .before .before) j qs ps ws e h m n k (not-false _ (c .before .if1 .left)) (c .drop-number .ensures)
+returns-4 c j qs ps ws e h m n k = done (c .before .before .before) j qs ps ws e h m n k (not-false _ (c .before .if1 .left)) (c .drop-coefficient .ensures)
 
 pub undo-span-spec : {M : Type 1} → statement M
 undo-span-spec =
@@ -160,7 +160,7 @@ undo-span-spec =
     undo-rows-requires
     refuse-requires-3
     returns
-    drop-number-requires
+    drop-coefficient-requires
     returns-2
     returns-3
     returns-4)

@@ -14,7 +14,7 @@ use Rattle.build_jumps.specs.Machine.{fractions}
 use Rattle.build_jumps.proofs.Answers.{span-rows, span-refused}
 use Rattle.build_factors.proofs.Answers.{spanned}
 use Rattle.theorems_recovery.specs.Recovery.{balanced, undone}
-use Rattle.recover.specs.Leaves.{Done, numbersOf}
+use Rattle.recover.specs.Leaves.{Done, coefficientsOf}
 use Rattle.recover.proofs.step.undo_step.Statement.{statement}
 use Rattle.recover.proofs.step.undo_step.Tie as tie
 
@@ -75,7 +75,7 @@ returns-2 : tie.Need-returns-2
 returns-2 c j qs ps e h m n d =
     let b = c .before .before in
     c .undo-span .ensures j qs ps (d .ws) e h m n (factors-is b j qs e m d)
-    ∙ ap (λ (g : Span). numbersOf (balanced j qs ps then λ _. undone j g (d .ws) ps)) (sym (same b j qs e m d))
+    ∙ ap (λ (g : Span). coefficientsOf (balanced j qs ps then λ _. undone j g (d .ws) ps)) (sym (same b j qs e m d))
 
 pub undo-step-spec : {M : Type 1} → statement M
 undo-step-spec =

@@ -15,7 +15,7 @@ use Rattle.base_exact.proofs.Decide.{true-not-false}
 use Rattle.base_exact.proofs.Word.{toZ-ofZ}
 use Rattle.base_text.specs.Bytes.{Text}
 use Rattle.spec_tucson.specs.Line.{Line, linesOf, goodLine}
-use Rattle.base_text.specs.Numeral.{numberLimit}
+use Rattle.base_text.specs.Numeral.{numeralLimit}
 use Rattle.spec_tucson.specs.TextReading.{Begun, goesOn, readLine}
 use Rattle.tucson_lines.specs.Machine.{lineTold}
 use Rattle.tucson_lines.specs.declared.LineAnswer.the-variants.{Good}
@@ -92,7 +92,7 @@ extend-requires : tie.Need-extend-requires
 extend-requires c κs =
     let k = c .before .before in
     let f = year-fits k in
-    let small : natAbs (year k) < numberLimit = rw (said-year (is-line k .line) (year k) (n k) (front k) (last k) (is-line k .told)) at (good k .year-small) in
+    let small : natAbs (year k) < numeralLimit = rw (said-year (is-line k .line) (year k) (n k) (front k) (last k) (is-line k .told)) at (good k .year-small) in
     simp toZ-ofZ (small, (omega (arith, count k, good k .some-field), omega (arith, count k, good k .few)))
 
 -- what is told of the line's step, by the answer of the one or the other function

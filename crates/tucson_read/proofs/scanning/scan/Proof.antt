@@ -1,4 +1,4 @@
--- Each line that is not refused leads to the next, and the first that is refused to its number and place.
+-- Each line that is not refused leads to the next, and the first that is refused to its code and place.
 use borrow.Author.Needs.{needs}
 use mathlib.Core.Bool.{Bool, true, false, cond}
 use mathlib.Core.Path.{_≡_, sym, _∙_, ap, ap₂, subst}

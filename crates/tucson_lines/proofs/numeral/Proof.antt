@@ -5,9 +5,9 @@ use native.Mathlib.Omega.{arith}
 use lib.Seq.{slice}
 use Rattle.base_text.specs.Machine.{field}
 use Rattle.spec_tucson.specs.Columns.{inColumns}
-use Rattle.tucson_lines.proofs.Steps.{columns-blank, columns-number, columns-end}
-use Rattle.tucson_lines.proofs.number.Statement.{statement}
-use Rattle.tucson_lines.proofs.number.Tie as tie
+use Rattle.tucson_lines.proofs.Steps.{columns-blank, columns-numeral, columns-end}
+use Rattle.tucson_lines.proofs.numeral.Statement.{statement}
+use Rattle.tucson_lines.proofs.numeral.Tie as tie
 
 abbrev Inv-loop : tie.InvT-loop
 Inv-loop text from to i₀ i = (i ≤ to) × (inColumns (slice from to text) ≡ inColumns (slice i to text))
@@ -29,7 +29,7 @@ returns c =
     let s = c .before .before .before .before .before .before in
     let l = c .before .before .before .before .loop in
     c .numeral .ensures
-    ∙ sym (ap field (l .inv .1 ∙ columns-number (s .args .text .now) (l .i) (s .args .to) (omega arith) (s .pre .within) (c .before .if1 .taken)))
+    ∙ sym (ap field (l .inv .1 ∙ columns-numeral (s .args .text .now) (l .i) (s .args .to) (omega arith) (s .pre .within) (c .before .if1 .taken)))
 
 add-i : tie.Need-add-i Inv-loop μ-loop
 add-i c = omega arith
@@ -50,6 +50,6 @@ returns-2 c =
     let e : c .before .loop .i ≡ s .args .to = omega arith in
     sym (ap field (c .before .loop .inv .1 ∙ ap (λ (n : ℕ). inColumns (slice n (s .args .to) (s .args .text .now))) e ∙ columns-end (s .args .text .now) (s .args .to)))
 
-pub number-spec : {M : Type 1} → statement M
-number-spec =
+pub numeral-spec : {M : Type 1} → statement M
+numeral-spec =
     tie.close (tie.spec Inv-loop μ-loop loop-holds shared-slice-read-if1 numeral-requires returns add-i loop-less loop-again returns-2)

@@ -3,8 +3,8 @@ use borrow.Author.Needs.{needs}
 use mathlib.Core.Path.{sym, _∙_, ap}
 use Rattle.base_text.proofs.Numerals.{field-none, field-some}
 use Rattle.sheet_read.specs.Machine.{isSome}
-use Rattle.sheet_read.proofs.is_number.Statement.{statement}
-use Rattle.sheet_read.proofs.is_number.Tie as tie
+use Rattle.sheet_read.proofs.is_numeral.Statement.{statement}
+use Rattle.sheet_read.proofs.is_numeral.Tie as tie
 
 numeral-requires : tie.Need-numeral-requires
 numeral-requires c κs = search needs
@@ -21,5 +21,5 @@ returns c = sym (ap isSome (field-none _ (sym (c .before .before .numeral .ensur
 returns-2 : tie.Need-returns-2
 returns-2 c = sym (ap isSome (field-some _ _ (sym (c .before .before .numeral .ensures) ∙ c .enum-told2 .given .1)))
 
-pub is-number-spec : {M : Type 1} → statement M
-is-number-spec = tie.close (tie.spec numeral-requires enum-told enum-told-2 returns returns-2)
+pub is-numeral-spec : {M : Type 1} → statement M
+is-numeral-spec = tie.close (tie.spec numeral-requires enum-told enum-told-2 returns returns-2)

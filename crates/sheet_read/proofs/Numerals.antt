@@ -14,7 +14,7 @@ use Rattle.base_text.specs.Bytes.{Text, comma, colon, Cut, withByte, cut, onFir
 use Rattle.base_text.specs.Numeral.{numeral}
 use Rattle.base_text.proofs.Lacking.{Outside, byte, byte-outside, either-outside, numeral-lacks, fields-only, fields-first}
 use Rattle.sheet_read.specs.SheetReading.{bothOf, sidesOf, pair, prepended, entries, limitedList, listOf, listLimit}
-use Rattle.sheet_read.specs.Machine.{isSeparator, numbersOf}
+use Rattle.sheet_read.specs.Machine.{isSeparator, numeralsOf}
 use Rattle.sheet_read.proofs.Filling.{prepended-some}
 
 -- ---- the limit
@@ -112,24 +112,24 @@ pair-sides t p e = go (cut colon t) refl e
     go none q f = absurd (let x : _≡_ {A = ℕ} 0 1 = cc in omega arith)
     go (some c) q f = let sides = both (numeral (c .before)) (numeral (c .after)) f in (c, cut-sides colon t c q, sides .0, sides .1)
 
-number-only : (f : Text) (z : ℤ) → numeral f ≡ some z → separated f ≡ f ∷ []
-number-only f z e = fields-only isSeparator f (numeral-lacks isSeparator separator-outside f z e)
+numeral-only : (f : Text) (z : ℤ) → numeral f ≡ some z → separated f ≡ f ∷ []
+numeral-only f z e = fields-only isSeparator f (numeral-lacks isSeparator separator-outside f z e)
 
 -- The numbers between the separators of each field are those of its entry.
-abbrev Numbered : {A : Type 0} → (Text → Option A) → (A → List ℤ) → Type 0
-Numbered {A} entry numbersIn = (f : Text) (x : A) → entry f ≡ some x → entries numeral (separated f) ≡ some (numbersIn x)
+abbrev Spelled : {A : Type 0} → (Text → Option A) → (A → List ℤ) → Type 0
+Spelled {A} entry numeralsIn = (f : Text) (x : A) → entry f ≡ some x → entries numeral (separated f) ≡ some (numeralsIn x)
 
-number-numbered : Numbered numeral (λ z. z ∷ [])
+numeral-numeraled : Spelled numeral (λ z. z ∷ [])
 unfolding entries
-number-numbered f z e = ap (entries numeral) (number-only f z e) ∙ ap (λ (o : Option ℤ). prepended o (some [])) e
+numeral-numeraled f z e = ap (entries numeral) (numeral-only f z e) ∙ ap (λ (o : Option ℤ). prepended o (some [])) e
 
-pair-numbered : Numbered pair (λ p. p .early ∷ p .late ∷ [])
+pair-spelled : Spelled pair (λ p. p .early ∷ p .late ∷ [])
 unfolding entries
-pair-numbered f p e =
+pair-spelled f p e =
     let s = pair-sides f p e in
     let first = fields-first isSeparator (s .0 .before) colon (s .0 .after) refl (numeral-lacks isSeparator separator-outside (s .0 .before) (p .early) (s .2)) in
     ap (λ (t : Text). entries numeral (separated t)) (s .1)
-    ∙ ap (entries numeral) (first ∙ ap (λ (fs : List Text). s .0 .before ∷ fs) (number-only (s .0 .after) (p .late) (s .3)))
+    ∙ ap (entries numeral) (first ∙ ap (λ (fs : List Text). s .0 .before ∷ fs) (numeral-only (s .0 .after) (p .late) (s .3)))
     ∙ ap₂ (λ (a b : Option ℤ). prepended a (prepended b (some []))) (s .2) (s .3)
 
 -- ---- the numbers of a list
@@ -144,24 +144,24 @@ entries-append (f ∷ fs) gs ys zs e h =
 
 -- The numbers of the entries, one after the other.
 abbrev laidOut : {A : Type 0} → (A → List ℤ) → List A → List ℤ
-laidOut numbersIn [] = []
-laidOut numbersIn (x ∷ xs) = numbersIn x ++ laidOut numbersIn xs
+laidOut numeralsIn [] = []
+laidOut numeralsIn (x ∷ xs) = numeralsIn x ++ laidOut numeralsIn xs
 
-module _ {A : Type 0} (entry : Text → Option A) (numbersIn : A → List ℤ) (numbered : Numbered entry numbersIn) where
-  apart-numbers : (fs : List Text) (xs : List A) → entries entry fs ≡ some xs → entries numeral (apart fs) ≡ some (laidOut numbersIn xs)
+module _ {A : Type 0} (entry : Text → Option A) (numeralsIn : A → List ℤ) (spelled : Spelled entry numeralsIn) where
+  apart-numerals : (fs : List Text) (xs : List A) → entries entry fs ≡ some xs → entries numeral (apart fs) ≡ some (laidOut numeralsIn xs)
   unfolding entries
-  apart-numbers [] xs e = let empty : [] ≡ xs = cc in ap (λ (l : List A). some (laidOut numbersIn l)) empty
-  apart-numbers (f ∷ fs) xs e =
+  apart-numerals [] xs e = let empty : [] ≡ xs = cc in ap (λ (l : List A). some (laidOut numeralsIn l)) empty
+  apart-numerals (f ∷ fs) xs e =
       let q = prepended-some (entry f) (entries entry fs) xs e in
-      entries-append (separated f) (apart fs) (numbersIn (q .0)) (laidOut numbersIn (q .1)) (numbered f (q .0) (q .2)) (apart-numbers fs (q .1) (q .3))
-      ∙ ap (λ (l : List A). some (laidOut numbersIn l)) (sym (q .4))
+      entries-append (separated f) (apart fs) (numeralsIn (q .0)) (laidOut numeralsIn (q .1)) (spelled f (q .0) (q .2)) (apart-numerals fs (q .1) (q .3))
+      ∙ ap (λ (l : List A). some (laidOut numeralsIn l)) (sym (q .4))
 
-  list-numbers : (t : Text) (xs : List A) → listOf entry t ≡ some xs → numbersOf t ≡ some (laidOut numbersIn xs)
-  unfolding listOf numbersOf
-  list-numbers [] xs e = let empty : [] ≡ xs = cc in ap (λ (l : List A). some (laidOut numbersIn l)) empty
-  list-numbers (c ∷ cs) xs e =
+  list-numerals : (t : Text) (xs : List A) → listOf entry t ≡ some xs → numeralsOf t ≡ some (laidOut numeralsIn xs)
+  unfolding listOf numeralsOf
+  list-numerals [] xs e = let empty : [] ≡ xs = cc in ap (λ (l : List A). some (laidOut numeralsIn l)) empty
+  list-numerals (c ∷ cs) xs e =
       ap (entries numeral) (separated-apart (c ∷ cs))
-      ∙ apart-numbers (fields (c ∷ cs)) xs (limited-some (entries entry (fields (c ∷ cs))) xs e .0)
+      ∙ apart-numerals (fields (c ∷ cs)) xs (limited-some (entries entry (fields (c ∷ cs))) xs e .0)
 
 singles : (zs : List ℤ) → laidOut (λ z. z ∷ []) zs ≡ zs
 singles [] = refl
@@ -172,8 +172,8 @@ unfolding sideBySide
 pairs [] = refl
 pairs (p ∷ ps) = ap (λ (l : List ℤ). p .early ∷ p .late ∷ l) (pairs ps)
 
-pub plain-numbers : (t : Text) (zs : List ℤ) → listOf numeral t ≡ some zs → numbersOf t ≡ some zs
-plain-numbers t zs e = list-numbers numeral (λ z. z ∷ []) number-numbered t zs e ∙ ap some (singles zs)
+pub plain-numerals : (t : Text) (zs : List ℤ) → listOf numeral t ≡ some zs → numeralsOf t ≡ some zs
+plain-numerals t zs e = list-numerals numeral (λ z. z ∷ []) numeral-numeraled t zs e ∙ ap some (singles zs)
 
-pub pair-numbers : (t : Text) (ps : List Pair) → listOf pair t ≡ some ps → numbersOf t ≡ some (sideBySide ps)
-pair-numbers t ps e = list-numbers pair (λ p. p .early ∷ p .late ∷ []) pair-numbered t ps e ∙ ap some (pairs ps)
+pub pair-numerals : (t : Text) (ps : List Pair) → listOf pair t ≡ some ps → numeralsOf t ≡ some (sideBySide ps)
+pair-numerals t ps e = list-numerals pair (λ p. p .early ∷ p .late ∷ []) pair-spelled t ps e ∙ ap some (pairs ps)

@@ -1,4 +1,4 @@
--- Before the turn at i the new arrays hold the first i of the numbers that are left. Assumes nothing.
+-- Before the turn at i the new arrays hold the first i of the coefficients that are left. Assumes nothing.
 use borrow.Author.Needs.{needs}
 use mathlib.Core.Path.{_≡_, refl, sym, _∙_, ap}
 use mathlib.Core.List.{List, []}
@@ -20,8 +20,8 @@ use Rattle.build_jumps.specs.Machine.{fractions}
 use Rattle.build_jumps.specs.declared.Fractions.{Fractions}
 use Rattle.build_jumps.proofs.Arrays.{fractions-more}
 use Rattle.recover_step.proofs.Rows.{without, without-length, without-before, without-from}
-use Rattle.recover_step.proofs.drop_number.Statement.{statement}
-use Rattle.recover_step.proofs.drop_number.Tie as tie
+use Rattle.recover_step.proofs.drop_coefficient.Statement.{statement}
+use Rattle.recover_step.proofs.drop_coefficient.Tie as tie
 
 record Inv (cs : Fractions) (l rows : ℕ) (left : Fractions) (i : ℕ) : Type 0 where
   within : i ≤ rows - 1
@@ -115,8 +115,8 @@ returns c ps e size =
     l .inv .state ps e long
     ∙ ap fractions (ap (λ m. tab m (entry (without ps (a .l) long))) (let z : l .i ≡ length (without ps (a .l) long) = omega (arith, without-length ps (a .l) long, size, l .inv .within, c .loop-test .left) in z) ∙ tab-self (without ps (a .l) long) (int (pos 0)))
 
-pub drop-number-spec : {M : Type 1} → statement M
-drop-number-spec =
+pub drop-coefficient-spec : {M : Type 1} → statement M
+drop-coefficient-spec =
     tie.close
     (tie.spec
     Inv-loop

@@ -15,15 +15,15 @@ use lib.ListN.{length, take, drop, length-append}
 use lib.Seq.{slice, drop-drop, length-slice}
 use Rattle.base_exact.proofs.Decide.{and-true}
 use Rattle.base_text.specs.Bytes.{Text}
-use Rattle.base_text.specs.Numeral.{numeral, isNatural, digitsValue, negated, numberLimit}
+use Rattle.base_text.specs.Numeral.{numeral, isNatural, digitsValue, negated, numeralLimit}
 use Rattle.base_text.proofs.Digits.{natural-small}
 use Rattle.base_text.proofs.Slice.{take-slice, drop-slice}
 use Rattle.spec_tucson.specs.Columns.{inColumns}
-use Rattle.spec_tucson.specs.Line.{Line, nameColumns, yearColumns, fieldColumns, decade, thousandths, withField, fieldNumbers, fieldCount, columnsFit, isName, isWidth, same, withNumbers, lineInColumns, yearInDecade, withinDecade, fieldsAllowed, ifAllowed, goodLine}
+use Rattle.spec_tucson.specs.Line.{Line, nameColumns, yearColumns, fieldColumns, decade, thousandths, withField, fieldNumerals, fieldCount, columnsFit, isName, isWidth, same, withNumerals, lineInColumns, yearInDecade, withinDecade, fieldsAllowed, ifAllowed, goodLine}
 use Rattle.spec_tucson.specs.Series.{allHundredths}
 use Rattle.spec_tucson.specs.TextReading.{lastField}
 use Rattle.spec_tucson.specs.Writing.{allWidths}
-use Rattle.tucson_lines.specs.Machine.{widthsTold, lineTold, numbersTold, LineEnd}
+use Rattle.tucson_lines.specs.Machine.{widthsTold, lineTold, numeralsTold, LineEnd}
 use Rattle.tucson_lines.specs.declared.WidthsAnswer.the-variants as widths-cases
 use Rattle.tucson_lines.specs.declared.LineAnswer.{LineAnswer}
 use Rattle.tucson_lines.specs.declared.LineAnswer.the-variants as line-cases
@@ -45,14 +45,14 @@ behind-none : (a : Option ℤ) → withField a (some []) ≡ behind (some []) a
 behind-none none = refl
 behind-none (some z) = refl
 
-fields-behind : (n : ℕ) (t : Text) → fieldNumbers (suc n) t ≡ behind (fieldNumbers n t) (inColumns (take fieldColumns (drop (n * fieldColumns) t)))
-unfolding fieldNumbers
+fields-behind : (n : ℕ) (t : Text) → fieldNumerals (suc n) t ≡ behind (fieldNumerals n t) (inColumns (take fieldColumns (drop (n * fieldColumns) t)))
+unfolding fieldNumerals
 fields-behind zero t = behind-none (inColumns (take fieldColumns t))
 fields-behind (suc n) t =
     let e : fieldColumns + n * fieldColumns ≡ suc n * fieldColumns = omega arith in
     ap (withField (inColumns (take fieldColumns t))) (fields-behind n (drop fieldColumns t))
-    ∙ behind-with (inColumns (take fieldColumns t)) (fieldNumbers n (drop fieldColumns t)) _
-    ∙ ap (λ (u : Text). behind (fieldNumbers (suc n) t) (inColumns (take fieldColumns u))) (drop-drop (n * fieldColumns) fieldColumns t ∙ ap (λ (k : ℕ). drop k t) e)
+    ∙ behind-with (inColumns (take fieldColumns t)) (fieldNumerals n (drop fieldColumns t)) _
+    ∙ ap (λ (u : Text). behind (fieldNumerals (suc n) t) (inColumns (take fieldColumns u))) (drop-drop (n * fieldColumns) fieldColumns t ∙ ap (λ (k : ℕ). drop k t) e)
 
 -- ---- a list and its last field
 allowed-behind : (ws : List ℤ) (f : ℤ) → fieldsAllowed true (ws ++ (f ∷ [])) ≡ (allWidths ws && (isWidth f || same f thousandths))
@@ -72,10 +72,10 @@ front-behind [] f = refl
 front-behind (w ∷ []) f = refl
 front-behind (w ∷ v ∷ vs) f = ap (λ (l : List ℤ). w ∷ l) (front-behind (v ∷ vs) f)
 
-pub fields-count : (n : ℕ) (t : Text) (fs : List ℤ) → fieldNumbers n t ≡ some fs → length fs ≡ n
-unfolding fieldNumbers
+pub fields-count : (n : ℕ) (t : Text) (fs : List ℤ) → fieldNumerals n t ≡ some fs → length fs ≡ n
+unfolding fieldNumerals
 fields-count zero t fs e = let z : fs ≡ [] = cc in ap length z
-fields-count (suc n) t fs e = go (inColumns (take fieldColumns t)) (fieldNumbers n (drop fieldColumns t)) e (fields-count n (drop fieldColumns t))
+fields-count (suc n) t fs e = go (inColumns (take fieldColumns t)) (fieldNumerals n (drop fieldColumns t)) e (fields-count n (drop fieldColumns t))
   where
     go : (a : Option ℤ) (x : Option (List ℤ)) → withField a x ≡ some fs → ((gs : List ℤ) → x ≡ some gs → length gs ≡ n) → length fs ≡ suc n
     go none x e ih = absurd (let z : _≡_ {A = ℕ} 0 1 = cc in omega arith)
@@ -88,10 +88,10 @@ behind-front none o fs e = absurd (let z : _≡_ {A = ℕ} 0 1 = cc in omega ari
 behind-front (some ws) none fs e = absurd (let z : _≡_ {A = ℕ} 0 1 = cc in omega arith)
 behind-front (some ws) (some f) fs e = let is : ws ++ (f ∷ []) ≡ fs = cc in ap some (sym (front-behind ws f) ∙ ap dropLast is)
 
-pub fields-front : (n : ℕ) (t : Text) (fs : List ℤ) → 1 ≤ n → fieldNumbers n t ≡ some fs → fieldNumbers (n - 1) t ≡ some (dropLast fs)
+pub fields-front : (n : ℕ) (t : Text) (fs : List ℤ) → 1 ≤ n → fieldNumerals n t ≡ some fs → fieldNumerals (n - 1) t ≡ some (dropLast fs)
 fields-front n t fs h e =
     let k : n ≡ suc (n - 1) = omega arith in
-    behind-front (fieldNumbers (n - 1) t) _ fs (sym (fields-behind (n - 1) t) ∙ ap (λ (m : ℕ). fieldNumbers m t) (sym k) ∙ e)
+    behind-front (fieldNumerals (n - 1) t) _ fs (sym (fields-behind (n - 1) t) ∙ ap (λ (m : ℕ). fieldNumerals m t) (sym k) ∙ e)
 
 -- ---- a year's place in its decade is below ten
 pub year-below : (z : ℤ) → yearInDecade z < decade
@@ -101,7 +101,7 @@ year-below (negsuc n) = omega arith
 
 -- ---- what is told of a year, the fields but the last, and the last
 abbrev told : Text → Option ℤ → Option (List ℤ) → Option ℤ → LineAnswer
-told name y front last = lineTold (ifAllowed true (withNumbers name y (behind front last)))
+told name y front last = lineTold (ifAllowed true (withNumerals name y (behind front last)))
 
 told-no-year : (name : Text) (front : Option (List ℤ)) (last : Option ℤ) → told name none front last ≡ line-cases.Bad
 unfolding lineTold
@@ -173,16 +173,16 @@ module _ (text : Text) (from end n : ℕ) (some-field : 1 ≤ n) (size : end ≡
   abbrev name-text : Text
   name-text = take nameColumns (slice from end text)
 
-  abbrev pub year-number : Option ℤ
-  year-number = inColumns (slice (from + nameColumns) (from + 12) text)
+  abbrev pub year-numeral : Option ℤ
+  year-numeral = inColumns (slice (from + nameColumns) (from + 12) text)
 
-  abbrev pub front-numbers : Option (List ℤ)
-  front-numbers = fieldNumbers (n - 1) (slice (from + 12) end text)
+  abbrev pub front-numerals : Option (List ℤ)
+  front-numerals = fieldNumerals (n - 1) (slice (from + 12) end text)
 
-  abbrev pub last-number : Option ℤ
-  last-number = inColumns (slice (end - fieldColumns) end text)
+  abbrev pub last-numeral : Option ℤ
+  last-numeral = inColumns (slice (end - fieldColumns) end text)
 
-  year-at : inColumns (take yearColumns (drop nameColumns (slice from end text))) ≡ year-number
+  year-at : inColumns (take yearColumns (drop nameColumns (slice from end text))) ≡ year-numeral
   year-at =
       let e : from + nameColumns + yearColumns ≡ from + 12 = omega arith in
       ap (λ (t : Text). inColumns (take yearColumns t)) (drop-slice nameColumns from end text)
@@ -195,47 +195,47 @@ module _ (text : Text) (from end n : ℕ) (some-field : 1 ≤ n) (size : end ≡
       ap (take fieldColumns) (drop-slice ((n - 1) * fieldColumns) (from + 12) end text ∙ ap (λ (k : ℕ). slice k end text) e)
       ∙ take-slice fieldColumns (end - fieldColumns) end text (omega arith) ∙ ap (λ (k : ℕ). slice (end - fieldColumns) k text) f
 
-  fields-at : fieldNumbers n (drop (nameColumns + yearColumns) (slice from end text)) ≡ behind front-numbers last-number
+  fields-at : fieldNumerals n (drop (nameColumns + yearColumns) (slice from end text)) ≡ behind front-numerals last-numeral
   fields-at =
       let e : n ≡ suc (n - 1) = omega arith in
-      ap₂ fieldNumbers e (drop-slice (nameColumns + yearColumns) from end text)
+      ap₂ fieldNumerals e (drop-slice (nameColumns + yearColumns) from end text)
       ∙ fields-behind (n - 1) (slice (from + 12) end text)
-      ∙ ap (λ (t : Text). behind front-numbers (inColumns t)) last-at
+      ∙ ap (λ (t : Text). behind front-numerals (inColumns t)) last-at
 
-  parts : numbersTold (slice from end text) n ≡ told name-text year-number front-numbers last-number
-  parts = ap₂ (λ (y : Option ℤ) (fs : Option (List ℤ)). lineTold (ifAllowed true (withNumbers name-text y fs))) year-at fields-at
+  parts : numeralsTold (slice from end text) n ≡ told name-text year-numeral front-numerals last-numeral
+  parts = ap₂ (λ (y : Option ℤ) (fs : Option (List ℤ)). lineTold (ifAllowed true (withNumerals name-text y fs))) year-at fields-at
 
-  pub numbers-no-year : year-number ≡ none → numbersTold (slice from end text) n ≡ line-cases.Bad
-  numbers-no-year e = parts ∙ ap (λ (y : Option ℤ). told name-text y front-numbers last-number) e ∙ told-no-year name-text front-numbers last-number
+  pub numerals-no-year : year-numeral ≡ none → numeralsTold (slice from end text) n ≡ line-cases.Bad
+  numerals-no-year e = parts ∙ ap (λ (y : Option ℤ). told name-text y front-numerals last-numeral) e ∙ told-no-year name-text front-numerals last-numeral
 
-  module _ (y : ℤ) (is-year : year-number ≡ some y) where
-    with-year : numbersTold (slice from end text) n ≡ told name-text (some y) front-numbers last-number
-    with-year = parts ∙ ap (λ (o : Option ℤ). told name-text o front-numbers last-number) is-year
+  module _ (y : ℤ) (is-year : year-numeral ≡ some y) where
+    with-year : numeralsTold (slice from end text) n ≡ told name-text (some y) front-numerals last-numeral
+    with-year = parts ∙ ap (λ (o : Option ℤ). told name-text o front-numerals last-numeral) is-year
 
-    pub numbers-no-widths : widthsTold true front-numbers ≡ widths-cases.Bad → numbersTold (slice from end text) n ≡ line-cases.Bad
-    numbers-no-widths e = with-year ∙ told-bad-widths name-text y front-numbers last-number e
+    pub numerals-no-widths : widthsTold true front-numerals ≡ widths-cases.Bad → numeralsTold (slice from end text) n ≡ line-cases.Bad
+    numerals-no-widths e = with-year ∙ told-bad-widths name-text y front-numerals last-numeral e
 
-    pub numbers-no-last : last-number ≡ none → numbersTold (slice from end text) n ≡ line-cases.Bad
-    numbers-no-last e = with-year ∙ ap (told name-text (some y) front-numbers) e ∙ told-no-last name-text y front-numbers
+    pub numerals-no-last : last-numeral ≡ none → numeralsTold (slice from end text) n ≡ line-cases.Bad
+    numerals-no-last e = with-year ∙ ap (told name-text (some y) front-numerals) e ∙ told-no-last name-text y front-numerals
 
-    module _ (small : Bool) (are : widthsTold true front-numbers ≡ widths-cases.Small small) (f : ℤ) (is-last : last-number ≡ some f) where
-      abbrev widths : AreWidths front-numbers small
-      widths = are-widths front-numbers small are
+    module _ (small : Bool) (are : widthsTold true front-numerals ≡ widths-cases.Small small) (f : ℤ) (is-last : last-numeral ≡ some f) where
+      abbrev widths : AreWidths front-numerals small
+      widths = are-widths front-numerals small are
 
       front-count : length (widths .list) + 1 ≡ n
       front-count = omega (arith, fields-count (n - 1) (slice (from + 12) end text) (widths .list) (widths .is))
 
-      with-all : numbersTold (slice from end text) n ≡ told name-text (some y) (some (widths .list)) (some f)
+      with-all : numeralsTold (slice from end text) n ≡ told name-text (some y) (some (widths .list)) (some f)
       with-all = with-year ∙ ap₂ (told name-text (some y)) (widths .is) is-last
 
-      pub numbers-late : decade < yearInDecade y + n → numbersTold (slice from end text) n ≡ line-cases.Bad
-      numbers-late h = with-all ∙ told-late name-text y (widths .list) f (rw front-count h)
+      pub numerals-late : decade < yearInDecade y + n → numeralsTold (slice from end text) n ≡ line-cases.Bad
+      numerals-late h = with-all ∙ told-late name-text y (widths .list) f (rw front-count h)
 
-      pub numbers-no-end : (isWidth f || same f thousandths) ≡ false → numbersTold (slice from end text) n ≡ line-cases.Bad
-      numbers-no-end h = with-all ∙ told-no-end name-text y (widths .list) f h
+      pub numerals-no-end : (isWidth f || same f thousandths) ≡ false → numeralsTold (slice from end text) n ≡ line-cases.Bad
+      numerals-no-end h = with-all ∙ told-no-end name-text y (widths .list) f h
 
-      pub numbers-good : yearInDecade y + n ≤ decade → (isWidth f || same f thousandths) ≡ true → numbersTold (slice from end text) n ≡ line-cases.Good y n small f
-      numbers-good h k =
+      pub numerals-good : yearInDecade y + n ≤ decade → (isWidth f || same f thousandths) ≡ true → numeralsTold (slice from end text) n ≡ line-cases.Good y n small f
+      numerals-good h k =
           with-all ∙ told-good name-text y (widths .list) f (rw front-count h) (widths .all) k
           ∙ ap₂ (λ (m : ℕ) (s : Bool). line-cases.Good y m s f) front-count (widths .below)
 
@@ -251,7 +251,7 @@ module _ (text : Text) (from end : ℕ) (at : LineEnd text from end) (ended : en
   count-is = ap (λ (k : ℕ). (k - 12) / fieldColumns) body-length
 
   abbrev column-line : Option Line
-  column-line = withNumbers (take nameColumns body) (inColumns (take yearColumns (drop nameColumns body))) (fieldNumbers (fieldCount body) (drop (nameColumns + yearColumns) body))
+  column-line = withNumerals (take nameColumns body) (inColumns (take yearColumns (drop nameColumns body))) (fieldNumerals (fieldCount body) (drop (nameColumns + yearColumns) body))
 
   good-is : goodLine true (slice from (end + 1) text) ≡ ifAllowed true (lineInColumns body)
   good-is = good-columns text from end at true ended
@@ -260,7 +260,7 @@ module _ (text : Text) (from end : ℕ) (at : LineEnd text from end) (ended : en
   unfolding lineInColumns
   good-misfits e = good-is ∙ ap (λ (b : Bool). ifAllowed true (cond b column-line none)) e
 
-  pub good-fits : (columnsFit body && isName (take nameColumns body)) ≡ true → lineTold (goodLine true (slice from (end + 1) text)) ≡ numbersTold body (fieldCount body)
+  pub good-fits : (columnsFit body && isName (take nameColumns body)) ≡ true → lineTold (goodLine true (slice from (end + 1) text)) ≡ numeralsTold body (fieldCount body)
   unfolding lineInColumns
   good-fits e = ap lineTold (good-is ∙ ap (λ (b : Bool). ifAllowed true (cond b column-line none)) e)
 

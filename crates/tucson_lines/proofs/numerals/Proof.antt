@@ -15,12 +15,12 @@ use Rattle.base_text.proofs.Numerals.{field-none, field-some}
 use Rattle.spec_tucson.specs.Line.{decade, isWidth, same, thousandths, yearInDecade}
 use Rattle.tucson_lines.specs.Machine.{widthsTold}
 use Rattle.tucson_lines.specs.declared.WidthsAnswer.the-variants.{Small}
-use Rattle.tucson_lines.proofs.LineNumbers.{year-below, year-number, front-numbers, last-number, numbers-no-year, numbers-no-widths, numbers-no-last, numbers-late, numbers-no-end, numbers-good}
-use Rattle.tucson_lines.proofs.numbers.Statement.{statement}
-use Rattle.tucson_lines.proofs.numbers.Tie as tie
+use Rattle.tucson_lines.proofs.LineNumerals.{year-below, year-numeral, front-numerals, last-numeral, numerals-no-year, numerals-no-widths, numerals-no-last, numerals-late, numerals-no-end, numerals-good}
+use Rattle.tucson_lines.proofs.numerals.Statement.{statement}
+use Rattle.tucson_lines.proofs.numerals.Tie as tie
 
 -- where the year's columns are read
-module _ (c : tie.After-number) where
+module _ (c : tie.After-numeral) where
   abbrev s : tie.Start
   s = c .before .before
 
@@ -44,7 +44,7 @@ module _ (c : tie.After-number) where
 
 -- a year
 module _ (c : tie.After-known-told) where
-  abbrev f : tie.After-number
+  abbrev f : tie.After-numeral
   f = c .before .before .before
 
   abbrev year : ℤ
@@ -53,8 +53,8 @@ module _ (c : tie.After-known-told) where
   year-fits : SFits w32 year
   year-fits = record { sfits = c .known-told .given .0 .1 }
 
-  is-year : year-number (text f) (from f) (end f) (n f) (some-field f) (size f) ≡ some year
-  is-year = field-some _ year (sym (f .number .ensures) ∙ c .before .year .given .1)
+  is-year : year-numeral (text f) (from f) (end f) (n f) (some-field f) (size f) ≡ some year
+  is-year = field-some _ year (sym (f .numeral .ensures) ∙ c .before .year .given .1)
 
 -- widths before the last field
 module _ (c : tie.After-known-told2) where
@@ -64,7 +64,7 @@ module _ (c : tie.After-known-told2) where
   abbrev small : Bool
   small = c .before .small .given .0 .0
 
-  are-widths : widthsTold true (front-numbers (text (f y)) (from (f y)) (end (f y)) (n (f y)) (some-field (f y)) (size (f y))) ≡ Small small
+  are-widths : widthsTold true (front-numerals (text (f y)) (from (f y)) (end (f y)) (n (f y)) (some-field (f y)) (size (f y))) ≡ Small small
   are-widths = sym (c .before .before .before .widths .ensures) ∙ c .before .small .given .1
 
 -- a last field
@@ -78,21 +78,21 @@ module _ (c : tie.After-known-told3) where
   last-fits : SFits w32 last
   last-fits = record { sfits = c .known-told3 .given .0 .1 }
 
-  is-last : last-number (text (f (y w))) (from (f (y w))) (end (f (y w))) (n (f (y w))) (some-field (f (y w))) (size (f (y w))) ≡ some last
-  is-last = field-some _ last (sym (c .before .before .before .number2 .ensures) ∙ c .before .last .given .1)
+  is-last : last-numeral (text (f (y w))) (from (f (y w))) (end (f (y w))) (n (f (y w))) (some-field (f (y w))) (size (f (y w))) ≡ some last
+  is-last = field-some _ last (sym (c .before .before .before .numeral2 .ensures) ∙ c .before .last .given .1)
 
 -- the year's place in its decade
 in-decade : (c : tie.After-year-in-decade) → c .year-in-decade .result ≡ yearInDecade (year (y (w (c .before))))
 in-decade c = let g = year-fits (y (w (c .before))) in simp toZ-ofZ at (c .year-in-decade .ensures)
 
-add-number : tie.Need-add-number
-add-number c = search needs
+add-numeral : tie.Need-add-numeral
+add-numeral c = search needs
 
-add-number-2 : tie.Need-add-number-2
-add-number-2 c = search needs
+add-numeral-2 : tie.Need-add-numeral-2
+add-numeral-2 c = search needs
 
-number-requires : tie.Need-number-requires
-number-requires c κs = search needs
+numeral-requires : tie.Need-numeral-requires
+numeral-requires c κs = search needs
 
 enum-known-year : tie.Need-enum-known-year
 enum-known-year c = search needs
@@ -103,7 +103,7 @@ enum-told c = search needs
 returns : tie.Need-returns
 returns c =
     let k = c .before .before in
-    sym (numbers-no-year (text k) (from k) (end k) (n k) (some-field k) (size k) (field-none _ (sym (k .number .ensures) ∙ c .enum-told .given .1)))
+    sym (numerals-no-year (text k) (from k) (end k) (n k) (some-field k) (size k) (field-none _ (sym (k .numeral .ensures) ∙ c .enum-told .given .1)))
 
 add-widths : tie.Need-add-widths
 add-widths c = search needs
@@ -124,13 +124,13 @@ returns-2 : tie.Need-returns-2
 returns-2 c =
     let l = c .before .before in
     let k = f (l .before) in
-    sym (numbers-no-widths (text k) (from k) (end k) (n k) (some-field k) (size k) (year (l .before)) (is-year (l .before)) (sym (l .widths .ensures) ∙ c .enum-told2 .given .1))
+    sym (numerals-no-widths (text k) (from k) (end k) (n k) (some-field k) (size k) (year (l .before)) (is-year (l .before)) (sym (l .widths .ensures) ∙ c .enum-told2 .given .1))
 
-sub-number : tie.Need-sub-number
-sub-number c = search needs
+sub-numeral : tie.Need-sub-numeral
+sub-numeral c = search needs
 
-number-requires-2 : tie.Need-number-requires-2
-number-requires-2 c κs = search needs
+numeral-requires-2 : tie.Need-numeral-requires-2
+numeral-requires-2 c κs = search needs
 
 enum-known-last : tie.Need-enum-known-last
 enum-known-last c = search needs
@@ -143,7 +143,7 @@ returns-3 c =
     let l = c .before .before in
     let m = y (l .before) in
     let k = f m in
-    sym (numbers-no-last (text k) (from k) (end k) (n k) (some-field k) (size k) (year m) (is-year m) (field-none _ (sym (l .number2 .ensures) ∙ c .enum-told3 .given .1)))
+    sym (numerals-no-last (text k) (from k) (end k) (n k) (some-field k) (size k) (year m) (is-year m) (field-none _ (sym (l .numeral2 .ensures) ∙ c .enum-told3 .given .1)))
 
 year-in-decade-requires : tie.Need-year-in-decade-requires
 year-in-decade-requires c κs = search needs
@@ -159,7 +159,7 @@ returns-4 c =
     let v = w l in
     let m = y v in
     let k = f m in
-    sym (numbers-late (text k) (from k) (end k) (n k) (some-field k) (size k) (year m) (is-year m) (small v) (are-widths v) (last l) (is-last l) (omega (arith, in-decade (c .before), c .if1 .taken)))
+    sym (numerals-late (text k) (from k) (end k) (n k) (some-field k) (size k) (year m) (is-year m) (small v) (are-widths v) (last l) (is-last l) (omega (arith, in-decade (c .before), c .if1 .taken)))
 
 ends-series-requires : tie.Need-ends-series-requires
 ends-series-requires c κs = search needs
@@ -174,7 +174,7 @@ returns-5 c =
     let v = w l in
     let m = y v in
     let k = f m in
-    sym (numbers-no-end (text k) (from k) (end k) (n k) (some-field k) (size k) (year m) (is-year m) (small v) (are-widths v) (last l) (is-last l) (sym (end-test (c .before)) ∙ not-true _ (c .if2 .taken)))
+    sym (numerals-no-end (text k) (from k) (end k) (n k) (some-field k) (size k) (year m) (is-year m) (small v) (are-widths v) (last l) (is-last l) (sym (end-test (c .before)) ∙ not-true _ (c .if2 .taken)))
 
 returns-6 : tie.Need-returns-6
 returns-6 c =
@@ -185,15 +185,15 @@ returns-6 c =
     let g = year-fits m in
     let h = last-fits l in
     simp toZ-ofZ
-    (sym (numbers-good (text k) (from k) (end k) (n k) (some-field k) (size k) (year m) (is-year m) (small v) (are-widths v) (last l) (is-last l) (omega (arith, in-decade (c .before .before .before), c .before .before .if1 .left)) (sym (end-test (c .before)) ∙ not-false _ (c .if2 .left))))
+    (sym (numerals-good (text k) (from k) (end k) (n k) (some-field k) (size k) (year m) (is-year m) (small v) (are-widths v) (last l) (is-last l) (omega (arith, in-decade (c .before .before .before), c .before .before .if1 .left)) (sym (end-test (c .before)) ∙ not-false _ (c .if2 .left))))
 
-pub numbers-spec : {M : Type 1} → statement M
-numbers-spec =
+pub numerals-spec : {M : Type 1} → statement M
+numerals-spec =
     tie.close
     (tie.spec
-    add-number
-    add-number-2
-    number-requires
+    add-numeral
+    add-numeral-2
+    numeral-requires
     enum-known-year
     enum-told
     returns
@@ -203,8 +203,8 @@ numbers-spec =
     enum-known-small
     enum-told-2
     returns-2
-    sub-number
-    number-requires-2
+    sub-numeral
+    numeral-requires-2
     enum-known-last
     enum-told-3
     returns-3

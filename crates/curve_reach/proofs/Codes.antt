@@ -24,10 +24,10 @@ use Rattle.spec_spline.proofs.Refusals.{step-refuses}
 
 -- Every refusal of the outcome has a number of at most 15.
 abbrev pub Low : {A : Type 0} → Outcome A → Type 0
-Low o = RefusedAs (λ number place. number ≤ 15) o
+Low o = RefusedAs (λ code place. code ≤ 15) o
 
 low-refuse : {A : Type 0} (n p : ℕ) → n ≤ 15 → Low {A = A} (refuse n p)
-low-refuse n p h number place e = let z : n ≡ number = cc in omega arith
+low-refuse n p h code place e = let z : n ≡ code = cc in omega arith
 
 low-first : {A : Type 0} (n : ℕ) (o : Option ℕ) (rest : Outcome A) → n ≤ 15 → Low rest → Low (refuseFirst n o rest)
 low-first n none rest h l = l
@@ -38,10 +38,10 @@ low-cond true x y l m = l
 low-cond false x y l m = m
 
 low-answer : {A : Type 0} (a : A) → Low (answer a)
-low-answer = answer-refused (λ number place. number ≤ 15)
+low-answer = answer-refused (λ code place. code ≤ 15)
 
 low-then : {A B : Type 0} (o : Outcome A) (f : A → Outcome B) → Low o → ((a : A) → Low (f a)) → Low (o then f)
-low-then o f l m = then-refused (λ number place. number ≤ 15) o f l (λ a e. m a)
+low-then o f l m = then-refused (λ code place. code ≤ 15) o f l (λ a e. m a)
 
 low-entries : (s : Space) → Low (checkedEntries s)
 unfolding checkedEntries
@@ -69,20 +69,20 @@ low-weights : (s : Space) → Low (weights s)
 unfolding weights joinSteps orderSteps
 low-weights s = repeat-refused P (segments s - 1) (λ j. orderSteps s j (conditionCount s j)) (identity (columnCount s))
     (λ j t h e. repeat-refused P (conditionCount s j) (λ k. step j (conditions s j k)) t
-    (λ k u l f number place r. either (step-refuses j (conditions s j k) u number place r .0)))
+    (λ k u l f code place r. either (step-refuses j (conditions s j k) u code place r .0)))
   where
     P : ℕ → ℕ → Type 0
-    P number place = number ≤ 15
+    P code place = code ≤ 15
 
-    either : {number : ℕ} → (number ≡ 8) ⊎ (number ≡ 9) → number ≤ 15
+    either : {code : ℕ} → (code ≡ 8) ⊎ (code ≡ 9) → code ≤ 15
     either (inl e) = omega arith
     either (inr e) = omega arith
 
-pub curve-numbers : (s : Space) (coefs positions : List ℤ) (numLength denLength valuesLength : ℕ) → Low (curveOutcome s coefs positions numLength denLength valuesLength)
+pub curve-codes : (s : Space) (coefs positions : List ℤ) (numLength denLength valuesLength : ℕ) → Low (curveOutcome s coefs positions numLength denLength valuesLength)
 unfolding curveOutcome curveRead
-curve-numbers s coefs positions numLength denLength valuesLength =
+curve-codes s coefs positions numLength denLength valuesLength =
     low-cond (ltb numLength tableCells) _ _ (low-refuse 1 0 (omega arith))
     (low-cond (ltb denLength tableCells) _ _ (low-refuse 1 1 (omega arith))
     (low-cond (ltb (valuesLength / 2) (length positions)) _ _ (low-refuse 1 2 (omega arith))
     (low-then (curveChecked s coefs positions) (curveRead coefs positions) (low-checked s coefs positions)
-    (λ legal number place e. low-weights legal number place (with-refuses (λ t. record { table = t; values = values legal t coefs positions }) (weights legal) e)))))
+    (λ legal code place e. low-weights legal code place (with-refuses (λ t. record { table = t; values = values legal t coefs positions }) (weights legal) e)))))

@@ -8,7 +8,7 @@ use mir.Syntax.{w64}
 use mir.Val.{SFits}
 use mir.ValLaws.{toZ-ofZ}
 use Rattle.base_exact.specs.Rational.{ℚ, int, _+ᵠ_, -ᵠ_, _-ᵠ_, _*ᵠ_, _/ᵠ_}
-use Rattle.base_fraction.specs.Machine.{fraction, value, Sized}
+use Rattle.base_fraction.specs.Machine.{fraction, value, FractionFits}
 use Rattle.base_fraction.specs.declared.Fraction.{Fraction}
 use Rattle.base_fraction.proofs.Value.{value-fraction}
 use Rattle.base_fraction.proofs.Answer.{fits-sized}
@@ -17,31 +17,31 @@ use Rattle.base_outcome.specs.Outcome.{Outcome, _then_}
 use Rattle.build_jumps.specs.Machine.{counted}
 use Rattle.build_jumps.proofs.Counted.{fits-then, large-then}
 use Rattle.build_rows.specs.Rows.{UnitFactor}
-use Rattle.theorems_recovery.specs.Recovery.{sized, undoneNumber}
-use Rattle.recover_step.proofs.Sized.{machine-sized, sized-sized, neg-value, neg-sized}
-use Rattle.recover_step.proofs.undo_number.Statement.{statement}
-use Rattle.recover_step.proofs.undo_number.Tie as tie
+use Rattle.theorems_recovery.specs.Recovery.{fitted, undoneCoefficient}
+use Rattle.recover_step.proofs.FractionFits.{machine-sized, sized-sized, neg-value, neg-sized}
+use Rattle.recover_step.proofs.undo_coefficient.Statement.{statement}
+use Rattle.recover_step.proofs.undo_coefficient.Tie as tie
 
-unit-sized : (w : Fraction) → UnitFactor w → Sized w
-unit-sized w h = subst Sized (sym (h .is)) (fits-sized (h .of) (h .fit))
+unit-sized : (w : Fraction) → UnitFactor w → FractionFits w
+unit-sized w h = subst FractionFits (sym (h .is)) (fits-sized (h .of) (h .fit))
 
 -- what is left to do after the share, and after the difference
 abbrev divided : ℕ → ℚ → ℚ → Outcome ℚ
-divided j v d = sized j (d /ᵠ v)
+divided j v d = fitted j (d /ᵠ v)
 
 abbrev subtracted : ℕ → ℚ → ℚ → ℚ → Outcome ℚ
-subtracted j v a share = sized j (a -ᵠ share) then λ d. divided j v d
+subtracted j v a share = fitted j (a -ᵠ share) then λ d. divided j v d
 
 -- the share
 module _ (p : tie.After-product) where
   abbrev start : tie.Start
   start = p .before .before
 
-  plain : (j : ℕ) → p .product .result ≡ counted (sized j (value (p .before .complement .result) *ᵠ value (start .args .before)))
+  plain : (j : ℕ) → p .product .result ≡ counted (fitted j (value (p .before .complement .result) *ᵠ value (start .args .before)))
   plain j = p .product .ensures ∙ machine-sized j _
 
-  share-is : (j : ℕ) (v b : ℚ) → start .args .w ≡ fraction v → start .args .before ≡ fraction b → p .product .result ≡ counted (sized j ((int (pos 1) -ᵠ v) *ᵠ b))
-  share-is j v b e h = plain j ∙ ap₂ (λ x y. counted (sized j (x *ᵠ y))) (p .before .complement .ensures .0 ∙ ap (λ x. int (pos 1) -ᵠ x) (ap value e ∙ value-fraction v)) (ap value h ∙ value-fraction b)
+  share-is : (j : ℕ) (v b : ℚ) → start .args .w ≡ fraction v → start .args .before ≡ fraction b → p .product .result ≡ counted (fitted j ((int (pos 1) -ᵠ v) *ᵠ b))
+  share-is j v b e h = plain j ∙ ap₂ (λ x y. counted (fitted j (x *ᵠ y))) (p .before .complement .ensures .0 ∙ ap (λ x. int (pos 1) -ᵠ x) (ap value e ∙ value-fraction v)) (ap value h ∙ value-fraction b)
 
 module _ (s : tie.After-share) where
   abbrev at-product : tie.After-product
@@ -50,7 +50,7 @@ module _ (s : tie.After-share) where
   abbrev share : Fraction
   share = s .share .given .0 .0
 
-  share-sized : Sized share
+  share-sized : FractionFits share
   share-sized = sized-sized 0 _ share (sym (plain at-product 0) ∙ s .share .given .1) .1
 
   negated-fits : SFits w64 (pos 0 -ℤ share .num)
@@ -64,22 +64,22 @@ module _ (m : tie.After-sum) where
   abbrev whole : tie.Start
   whole = start (at-product at-share)
 
-  difference : (j : ℕ) → m .sum .result ≡ counted (sized j (value (whole .args .number) -ᵠ value (share at-share)))
+  difference : (j : ℕ) → m .sum .result ≡ counted (fitted j (value (whole .args .coefficient) -ᵠ value (share at-share)))
   difference j =
       let f = num-fits (share-sized at-share) in
       let g = den-fits (share-sized at-share) in
       let h = negated-fits at-share in
       (simp toZ-ofZ at (m .sum .ensures))
       ∙ machine-sized j _
-      ∙ ap (λ q. counted (sized j (value (whole .args .number) +ᵠ q))) (neg-value (share at-share) (share-sized at-share .den-pos))
+      ∙ ap (λ q. counted (fitted j (value (whole .args .coefficient) +ᵠ q))) (neg-value (share at-share) (share-sized at-share .den-pos))
 
-  difference-is : (j : ℕ) (a : ℚ) → whole .args .number ≡ fraction a → m .sum .result ≡ counted (sized j (a -ᵠ value (share at-share)))
-  difference-is j a e = difference j ∙ ap (λ x. counted (sized j (x -ᵠ value (share at-share)))) (ap value e ∙ value-fraction a)
+  difference-is : (j : ℕ) (a : ℚ) → whole .args .coefficient ≡ fraction a → m .sum .result ≡ counted (fitted j (a -ᵠ value (share at-share)))
+  difference-is j a e = difference j ∙ ap (λ x. counted (fitted j (x -ᵠ value (share at-share)))) (ap value e ∙ value-fraction a)
 
   -- the share fits: the rest goes on with it
-  after-share : (j : ℕ) (v a b : ℚ) → whole .args .w ≡ fraction v → whole .args .before ≡ fraction b → counted (undoneNumber j v a b) ≡ counted (subtracted j v a (value (share at-share)))
-  unfolding undoneNumber
-  after-share j v a b e h = fits-then (sized j ((int (pos 1) -ᵠ v) *ᵠ b)) (subtracted j v a) (share at-share) (sym (share-is (at-product at-share) j v b e h) ∙ at-share .share .given .1)
+  after-share : (j : ℕ) (v a b : ℚ) → whole .args .w ≡ fraction v → whole .args .before ≡ fraction b → counted (undoneCoefficient j v a b) ≡ counted (subtracted j v a (value (share at-share)))
+  unfolding undoneCoefficient
+  after-share j v a b e h = fits-then (fitted j ((int (pos 1) -ᵠ v) *ᵠ b)) (subtracted j v a) (share at-share) (sym (share-is (at-product at-share) j v b e h) ∙ at-share .share .given .1)
 
 complement-requires : tie.Need-complement-requires
 complement-requires c κs = search needs
@@ -121,13 +121,13 @@ quotient-requires c κs =
     (sized-sized 0 _ (d .difference .given .0 .0) (sym (difference m 0) ∙ d .difference .given .1) .1, unit-sized (whole m .args .w) (p .0), p .1 .0)
 
 returns : tie.Need-returns
-unfolding undoneNumber
-returns c j v a b e h k = let p = c .before .before in sym (large-then (sized j ((int (pos 1) -ᵠ v) *ᵠ b)) (subtracted j v a) (sym (share-is p j v b e k) ∙ c .enum-told .given .1))
+unfolding undoneCoefficient
+returns c j v a b e h k = let p = c .before .before in sym (large-then (fitted j ((int (pos 1) -ᵠ v) *ᵠ b)) (subtracted j v a) (sym (share-is p j v b e k) ∙ c .enum-told .given .1))
 
 returns-2 : tie.Need-returns-2
 returns-2 c j v a b e h k =
     let m = c .before .before in
-    sym (after-share m j v a b e k ∙ large-then (sized j (a -ᵠ value (share (at-share m)))) (divided j v) (sym (difference-is m j a h) ∙ c .enum-told2 .given .1))
+    sym (after-share m j v a b e k ∙ large-then (fitted j (a -ᵠ value (share (at-share m)))) (divided j v) (sym (difference-is m j a h) ∙ c .enum-told2 .given .1))
 
 returns-3 : tie.Need-returns-3
 returns-3 c j v a b e h k =
@@ -136,11 +136,11 @@ returns-3 c j v a b e h k =
     let g = d .difference .given in
     c .quotient .ensures
     ∙ machine-sized j _
-    ∙ ap (λ x. counted (sized j (value (g .0 .0) /ᵠ x))) (ap value e ∙ value-fraction v)
-    ∙ sym (after-share m j v a b e k ∙ fits-then (sized j (a -ᵠ value (share (at-share m)))) (divided j v) (g .0 .0) (sym (difference-is m j a h) ∙ g .1))
+    ∙ ap (λ x. counted (fitted j (value (g .0 .0) /ᵠ x))) (ap value e ∙ value-fraction v)
+    ∙ sym (after-share m j v a b e k ∙ fits-then (fitted j (a -ᵠ value (share (at-share m)))) (divided j v) (g .0 .0) (sym (difference-is m j a h) ∙ g .1))
 
-pub undo-number-spec : {M : Type 1} → statement M
-undo-number-spec =
+pub undo-coefficient-spec : {M : Type 1} → statement M
+undo-coefficient-spec =
     tie.close
     (tie.spec
     complement-requires

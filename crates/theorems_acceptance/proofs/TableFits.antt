@@ -50,8 +50,8 @@ module _ (Q : ℚ → Type 0) (none : Q (int (pos 0))) where
   spliced-has t rs f l p q = append-has (take f t) (rs ++ drop (suc l) t) (take-has f t p) (append-has rs (drop (suc l) t) q (drop-has (suc l) t p))
 
 -- Where all entries fit, they do after a step that answers.
-unfoldable pub Fitting : Table → Type 0
-Fitting t = TableHas (λ q. fits q ≡ true) t
+unfoldable pub TableFits : Table → Type 0
+TableFits t = TableHas (λ q. fits q ≡ true) t
 
 zero-fits : fits (int (pos 0)) ≡ true
 unfolding fits int mk gcd gcdF
@@ -61,8 +61,8 @@ one-fits : fits (int (pos 1)) ≡ true
 unfolding fits int mk gcd gcdF
 one-fits = refl
 
-new-rows-fit : (j n : ℕ) (w v : ℕ → ℚ) (r r′ : ℕ → Row) (rs : Table) → collect n (λ d. newRow j (w d) (v d) (r d) (r′ d)) ≡ answer rs → Fitting rs
-unfolding Fitting
+new-rows-fit : (j n : ℕ) (w v : ℕ → ℚ) (r r′ : ℕ → Row) (rs : Table) → collect n (λ d. newRow j (w d) (v d) (r d) (r′ d)) ≡ answer rs → TableFits rs
+unfolding TableFits
 new-rows-fit j n w v r r′ rs e i c = place (le-or-lt n i)
   where
     parts : Collected n (λ d. newRow j (w d) (v d) (r d) (r′ d)) rs
@@ -76,14 +76,14 @@ new-rows-fit j n w v r r′ rs e i c = place (le-or-lt n i)
     place (inl h) = ap (λ q. fits (entry q c)) (row-past rs i (rw (parts .size) h)) ∙ zero-fits
     place (inr h) = in-row h (le-or-lt (length (r i)) c)
 
-pub step-fitting : (j : ℕ) (κ : List Entry) (t t′ : Table) → Fitting t → step j κ t ≡ answer t′ → Fitting t′
-unfolding Fitting
+pub step-fitting : (j : ℕ) (κ : List Entry) (t t′ : Table) → TableFits t → step j κ t ≡ answer t′ → TableFits t′
+unfolding TableFits
 step-fitting j κ t t′ F e = let p = parts-of j κ t e in
     subst (TableHas (λ q. fits q ≡ true)) (p .whole) (spliced-has (λ q. fits q ≡ true) zero-fits t (p .rs) (p .f) (p .l) F
     (new-rows-fit j (p .l - p .f) (λ d. entry (p .ws) d) (λ d. entry (p .ws) (suc d)) (λ d. row t (p .f + d)) (λ d. row t (p .f + suc d)) (p .rs) (p .has-rows)))
 
-pub identity-fitting : (n : ℕ) → Fitting (identity n)
-unfolding Fitting
+pub identity-fitting : (n : ℕ) → TableFits (identity n)
+unfolding TableFits
 identity-fitting n i c = go (ℕ-discrete i c) (decLt i n)
   where
     go : Dec (i ≡ c) → Dec (i < n) → fits (cell (identity n) i c) ≡ true

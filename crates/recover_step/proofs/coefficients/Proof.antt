@@ -18,16 +18,16 @@ use Rattle.base_fraction.proofs.Value.{fraction-int}
 use Rattle.build_jumps.specs.Machine.{fractions}
 use Rattle.build_jumps.specs.declared.Fractions.{Fractions}
 use Rattle.build_jumps.proofs.Arrays.{fractions-more}
-use Rattle.recover_step.proofs.numbers.Statement.{statement}
-use Rattle.recover_step.proofs.numbers.Tie as tie
+use Rattle.recover_step.proofs.coefficients.Statement.{statement}
+use Rattle.recover_step.proofs.coefficients.Tie as tie
 
 -- ordinate k as a fraction
-abbrev number : List ℤ → ℕ → ℚ
-number ordinates k = int (getD ordinates k (pos 0))
+abbrev coefficient : List ℤ → ℕ → ℚ
+coefficient ordinates k = int (getD ordinates k (pos 0))
 
 record Inv (ordinates : List ℤ) (all : Fractions) (i : ℕ) : Type 0 where
   within : i ≤ length ordinates
-  is : all ≡ fractions (tab i (number ordinates))
+  is : all ≡ fractions (tab i (coefficient ordinates))
 
 abbrev Inv-loop : tie.InvT-loop
 Inv-loop ordinates all₀ i₀ all i = Inv ordinates all i
@@ -83,8 +83,8 @@ loop-again c =
     let m = sfits-widen n in
     record {
       within = omega arith;
-      is = (simp toZ-ofZ (fractions-more (tab (l .i) (number os)) (number os (l .i)) (l .i) (l .all) (record { num = getD os (l .i) (pos 0); den = pos 1 }) (tab-length (l .i) (number os)) (omega arith) (l .inv .is) (sym (fraction-int (getD os (l .i) (pos 0))))))
-          ∙ ap fractions (sym (tab-snoc (l .i) (number os)) ∙ ap (λ m. tab m (number os)) (sym (add-one (l .i))));
+      is = (simp toZ-ofZ (fractions-more (tab (l .i) (coefficient os)) (coefficient os (l .i)) (l .i) (l .all) (record { num = getD os (l .i) (pos 0); den = pos 1 }) (tab-length (l .i) (coefficient os)) (omega arith) (l .inv .is) (sym (fraction-int (getD os (l .i) (pos 0))))))
+          ∙ ap fractions (sym (tab-snoc (l .i) (coefficient os)) ∙ ap (λ m. tab m (coefficient os)) (sym (add-one (l .i))));
     }
 
 returns : tie.Need-returns Inv-loop μ-loop
@@ -92,10 +92,10 @@ returns c =
     let l = c .before .loop in
     let os = c .before .before .before .args .ordinates .now in
     l .inv .is
-    ∙ ap fractions (ap (λ m. tab m (number os)) (let z : l .i ≡ length os = omega arith in z) ∙ sym (map-tab int (length os) (λ k. getD os k (pos 0))) ∙ ap (map int) (tab-self os (pos 0)))
+    ∙ ap fractions (ap (λ m. tab m (coefficient os)) (let z : l .i ≡ length os = omega arith in z) ∙ sym (map-tab int (length os) (λ k. getD os k (pos 0))) ∙ ap (map int) (tab-self os (pos 0)))
 
-pub numbers-spec : {M : Type 1} → statement M
-numbers-spec =
+pub coefficients-spec : {M : Type 1} → statement M
+coefficients-spec =
     tie.close
     (tie.spec
     Inv-loop
