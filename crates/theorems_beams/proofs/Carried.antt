@@ -1,6 +1,6 @@
 -- Outcomes that follow one another: an outcome carried to another place and kind of answer, through chains, collections and
 -- repetitions. A step on a part of a table and the same step on the whole table end so.
-use mathlib.Core.Path.{_≡_, refl, sym, _∙_, ap}
+use mathlib.Core.Path.{_≡_, refl, sym, _∙_, ap, ap₂}
 use mathlib.Core.List.{List, [], _∷_, _++_, append-nil, append-assoc}
 use Prim.Native.Nat.{ℕ, zero, suc, _+_, _<_}
 use native.Mathlib.Omega.{arith}
@@ -15,6 +15,10 @@ use Rattle.theorems_beams.specs.Sections.{later}
 abbrev pub carried : {A B : Type 0} → (ℕ → ℕ) → (A → B) → Outcome A → Outcome B
 carried ρ f (answer a) = answer (f a)
 carried ρ f (refusal code place) = refusal code (ρ place)
+
+pub carried-ext : {A B : Type 0} (ρ : ℕ → ℕ) {f g : A → B} (o : Outcome A) → ((a : A) → f a ≡ g a) → carried ρ f o ≡ carried ρ g o
+carried-ext ρ (answer a) h = ap answer (h a)
+carried-ext ρ (refusal code place) h = refl
 
 -- ---- an outcome that is carried to the beam's place
 
@@ -31,6 +35,12 @@ capped-later n j = omega arith
 module _ {A B C : Type 0} (n : ℕ) (g : A → B → C) where
   abbrev pub joined : Outcome A → Outcome B → Outcome C
   joined o o′ = o then λ a. later n o′ then λ b. answer (g a b)
+
+  pub joined-answers : {o : Outcome A} {o′ : Outcome B} {a : A} {b : B} → o ≡ answer a → o′ ≡ answer b → joined o o′ ≡ answer (g a b)
+  joined-answers e h = ap₂ joined e h
+
+  pub joined-refuses : {o : Outcome A} {o′ : Outcome B} {a : A} {code place : ℕ} → o ≡ answer a → o′ ≡ refusal code place → joined o o′ ≡ refusal code (capped (n + place))
+  joined-refuses e h = ap₂ joined e h
 
   -- what an answer tells
   pub record Joined (o : Outcome A) (o′ : Outcome B) (c : C) : Type 0 where

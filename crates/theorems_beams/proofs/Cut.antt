@@ -1,239 +1,190 @@
--- A beam cut at a discontinuity: the steps of the joins before the cut act on the upper left table alone, those behind it on the
--- lower right one, and the cut has no condition. So the weights of the beam are those of its two sections.
+-- A beam cut at a discontinuity, for every kind of state that the steps of a build change (a table alone, or a table with a number
+-- for each row): the steps of the joins before the cut act on the left state alone, those behind it on the right one, and the cut
+-- has no condition. So what all joins make of a beam is what they make of its two sections.
 use mathlib.Core.Path.{_≡_, refl, sym, _∙_, ap, ap₂}
-use mathlib.Core.Bool.{true, cond}
-use mathlib.Core.List.{List, [], _∷_, _++_, map, append-nil}
-use Prim.Native.Nat.{ℕ, zero, suc, _+_, _-_, _<_}
+use mathlib.Core.Logic.{_⊎_, inl, inr}
+use mathlib.Core.Bool.{true}
+use mathlib.Core.List.{List}
+use Prim.Native.Nat.{ℕ, zero, suc, _+_, _-_, _<_, _≤_}
 use native.Mathlib.Omega.{arith}
-use native.Mathlib.Decide.{ℕ-discrete}
 use native.Mathlib.Nat.{zero-add as nothing-add}
-use borrow.Author.Tests.{eq-eqb, ne-eqb, eqb-true}
-use lib.Dec.{eqb}
-use lib.IntN.{pos}
-use lib.ListN.{length, length-map}
-use Rattle.base_exact.specs.Rational.{ℚ, int, _+ᵠ_, _*ᵠ_}
-use Rattle.base_exact.specs.Tabulate.{tab}
-use Rattle.base_exact.proofs.Decide.{cond-false}
-use Rattle.base_exact.proofs.Rational.{zero-mul, add-zero}
-use Rattle.base_exact.proofs.Tabulate.{tab-ext, tab-add, map-tab}
+use borrow.Author.Tests.{eqb-true}
+use Rattle.base_exact.proofs.Decide.{le-or-lt}
 use Rattle.base_outcome.specs.Outcome.{Outcome, answer, refusal, capped, _then_, repeat}
-use Rattle.spec_spline.specs.Space.{Space, segments, conditionCount, startsPart, firstColumn, columnCount}
+use Rattle.base_outcome.proofs.Outcome.{then-refuses, repeat-keeps}
+use Rattle.spec_spline.specs.Space.{Space, segments, startsPart, partEnd, conditionCount, firstColumn, columnCount}
 use Rattle.spec_spline.specs.Conditions.{Entry, conditions}
-use Rattle.spec_spline.specs.Table.{Row, Table, entry, row, identity}
-use Rattle.spec_spline.specs.Step.{addProducts, count, jump, step}
-use Rattle.spec_spline.specs.Build.{orderSteps, joinSteps, weights}
-use Rattle.base_outcome.proofs.Outcome.{then-answers}
-use Rattle.spec_spline.proofs.Conditions.{Inside, none, more, conditions-inside}
-use Rattle.spec_spline.proofs.Table.{entry-past, identity-rows, identity-wide}
-use Rattle.spec_spline.proofs.Step.{count-fits, products-none, products-more, oneMore}
-use Rattle.spec_spline.proofs.Shape.{Wide, step-shaped, orders-shaped, weights-shaped}
-use Rattle.theorems_beams.specs.Sections.{section, zeros, beside, later}
-use Rattle.theorems_beams.proofs.Carried.{carried, carried-later, capped-later, carried-then, carried-repeat, repeat-ext, repeat-add}
-use Rattle.theorems_beams.proofs.Embedded.{zero-fits, padded, padded-at, zeros-behind, zeros-low, count-carried, mapped-row, embedded-step}
-use Rattle.theorems_beams.proofs.Sections.{section-segments, section-conditionCount, section-columnCount, front-columns, moved, section-conditions, OrdersFit, section-orders-fit}
+use Rattle.spec_spline.proofs.Conditions.{Inside, conditions-inside}
+use Rattle.spec_spline.proofs.Parts.{Boundary, Ends, part-ends}
+use Rattle.spec_spline.proofs.Legal.{Checked, lengths-fit-inverts}
+use Rattle.theorems_beams.specs.Sections.{section, partAt}
+use Rattle.theorems_beams.specs.Parts.{Starts}
+use Rattle.theorems_beams.proofs.Carried.{carried, carried-later, carried-repeat, joined, repeat-ext, repeat-add}
+use Rattle.theorems_beams.proofs.Sections.{section-segments, section-conditionCount, section-columnCount, section-all, front-columns, front-starts, front-section, moved, section-conditions, OrdersFit, orders-fit, section-orders-fit}
 
--- ---- jumps of padded rows, and of rows that have zeros in the condition's columns
-
-products-carried : (ρ : ℕ → ℕ) (j j′ : ℕ) → ρ (capped j) ≡ capped j′ → (a : ℕ) (r r′ : Row) → ((c : ℕ) → entry r′ (a + c) ≡ entry r c) → (s : ℚ) (κ : List Entry) → addProducts j′ r′ s (moved a κ) ≡ carried ρ (λ x. x) (addProducts j r s κ)
-unfolding addProducts
-products-carried ρ j j′ place a r r′ same s [] = refl
-products-carried ρ j j′ place a r r′ same s (e ∷ κ) =
-    carried-then ρ (λ x. x) (λ x. x) (count j (entry r (e .column) *ᵠ int (e .condition))) _ _
-    (ap (λ x. count j′ (x *ᵠ int (e .condition))) (same (e .column)) ∙ count-carried ρ j j′ place (entry r (e .column) *ᵠ int (e .condition)))
-    (λ p h. carried-then ρ (λ x. x) (λ x. x) (count j (s +ᵠ p)) _ _ (count-carried ρ j j′ place (s +ᵠ p)) (λ t k. products-carried ρ j j′ place a r r′ same t κ))
-
-quiet : (j a n : ℕ) (r : Row) → ((c : ℕ) → c < n → entry r (a + c) ≡ int (pos 0)) → {κ : List Entry} → Inside n κ → jump j (moved a κ) r ≡ answer (int (pos 0))
-quiet j a n r nothing none = products-none j r (int (pos 0))
-quiet j a n r nothing (more {e = e} {es = es} h I) = products-more j r (int (pos 0)) (record { column = a + e .column; condition = e .condition }) (moved a es) product ∙ quiet j a n r nothing I
-  where
-    product : oneMore j r (int (pos 0)) (record { column = a + e .column; condition = e .condition }) ≡ answer (int (pos 0))
-    product =
-        then-answers (λ p. count j (int (pos 0) +ᵠ p)) (ap (λ x. count j (x *ᵠ int (e .condition))) (nothing (e .column) h) ∙ ap (count j) (zero-mul (int (e .condition))) ∙ count-fits j (int (pos 0)) zero-fits)
-        ∙ ap (count j) (add-zero (int (pos 0))) ∙ count-fits j (int (pos 0)) zero-fits
-
--- ---- one step on two tables side by side
-module _ (left right : ℕ) where
-  -- on the left one: its rows jump as they do by themselves, the others do not
-  pub left-jumps : (j : ℕ) (κ : List Entry) (r : Row) → jump j (moved 0 κ) (padded 0 right r) ≡ carried (λ p. p) (λ x. x) (jump j κ r)
-  left-jumps j κ r = products-carried (λ p. p) j j refl 0 r (padded 0 right r) (padded-at 0 right r) (int (pos 0)) κ
-
-  pub left-quiet : (j : ℕ) (κ : List Entry) (u : Table) → Inside left κ → (i : ℕ) → i < length (map (λ r. zeros left ++ r) u) → jump j (moved 0 κ) (row (map (λ r. zeros left ++ r) u) i) ≡ answer (int (pos 0))
-  left-quiet j κ u inside i h =
-      ap (jump j (moved 0 κ)) (mapped-row (λ r. zeros left ++ r) u i (rw (length-map u (λ r. zeros left ++ r)) at h))
-      ∙ quiet j 0 left (zeros left ++ row u i) (λ c l. ap (entry (zeros left ++ row u i)) (nothing-add c) ∙ zeros-low left (row u i) c l) inside
-
-  pub left-step : (j : ℕ) (κ : List Entry) (t u : Table) → Wide left t → Inside left κ → step j (moved 0 κ) (beside left right t u) ≡ carried (λ p. p) (λ t′. beside left right t′ u) (step j κ t)
-  unfolding beside tab
-  left-step j κ t u wide inside =
-      embedded-step (λ p. p) j j refl κ (moved 0 κ) 0 right [] (map (λ r. zeros left ++ r) u) (left-jumps j κ) (λ i h. absurd (omega arith)) (left-quiet j κ u inside) t left wide
-
-  pub padded-right : (t u : Table) → map (λ r. r ++ zeros right) t ++ map (padded left 0) u ++ [] ≡ beside left right t u
-  unfolding beside tab
-  padded-right t u = append-nil (map (λ r. r ++ zeros right) t ++ map (padded left 0) u) ∙ ap (λ x. map (λ r. r ++ zeros right) t ++ x) (rows u)
-    where
-      rows : (u : Table) → map (padded left 0) u ≡ map (λ r. zeros left ++ r) u
-      rows [] = refl
-      rows (r ∷ u) = ap₂ _∷_ (append-nil (zeros left ++ r)) (rows u)
-
-  -- on the right one, d joins later
-  pub right-jumps : (d j : ℕ) (κ : List Entry) (r : Row) → jump (d + j) (moved left κ) (padded left 0 r) ≡ carried (λ p. capped (d + p)) (λ x. x) (jump j κ r)
-  right-jumps d j κ r = products-carried (λ p. capped (d + p)) j (d + j) (capped-later d j) left r (padded left 0 r) (padded-at left 0 r) (int (pos 0)) κ
-
-  pub right-quiet : (j : ℕ) (κ : List Entry) (t : Table) → Wide left t → Inside right κ → (i : ℕ) → i < length (map (λ r. r ++ zeros right) t) → jump j (moved left κ) (row (map (λ r. r ++ zeros right) t) i) ≡ answer (int (pos 0))
-  right-quiet j κ t wide inside i h = let k : i < length t = rw (length-map t (λ r. r ++ zeros right)) at h in
-      ap (jump j (moved left κ)) (mapped-row (λ r. r ++ zeros right) t i k)
-      ∙ quiet j left right (row t i ++ zeros right) (λ c l. zeros-behind (row t i) right (left + c) ∙ entry-past (row t i) (left + c) (rw (wide .each i k) (omega arith))) inside
-
-  pub right-step : (d j : ℕ) (κ : List Entry) (t u : Table) → Wide left t → Wide right u → Inside right κ → step (d + j) (moved left κ) (beside left right t u) ≡ carried (λ p. capped (d + p)) (beside left right t) (step j κ u)
-  right-step d j κ t u wide wide′ inside =
-      ap (step (d + j) (moved left κ)) (sym (padded-right t u))
-      ∙ embedded-step (λ p. capped (d + p)) j (d + j) (capped-later d j) κ (moved left κ) left 0 (map (λ r. r ++ zeros right) t) [] (right-jumps d j κ) (right-quiet (d + j) κ t wide inside) (λ i h. absurd (omega arith)) u right wide′
-      ∙ back (step j κ u)
-    where
-      back : (o : Outcome Table) → carried (λ p. capped (d + p)) (λ u′. map (λ r. r ++ zeros right) t ++ map (padded left 0) u′ ++ []) o ≡ carried (λ p. capped (d + p)) (beside left right t) o
-      back (answer u′) = ap answer (padded-right t u′)
-      back (refusal code place) = refl
-
-  -- ---- the identity
-  eqb-moved : (i k : ℕ) → eqb (left + i) (left + k) ≡ eqb i k
-  eqb-moved i k = go (ℕ-discrete i k)
-    where
-      go : Dec (i ≡ k) → eqb (left + i) (left + k) ≡ eqb i k
-      go (yes e) = eq-eqb (left + i) (left + k) (ap (λ n. left + n) e) ∙ sym (eq-eqb i k e)
-      go (no n) = ne-eqb (left + i) (left + k) (λ e. n (omega arith)) ∙ sym (ne-eqb i k n)
-
-  pub identity-beside : identity (left + right) ≡ beside left right (identity left) (identity right)
-  unfolding identity beside
-  identity-beside =
-      tab-add left right (λ i. tab (left + right) (one i))
-      ∙ ap₂ _++_ (tab-ext left (λ i h. upper i h) ∙ sym (map-tab (λ r. r ++ zeros right) left (λ i. tab left (one i)))) (tab-ext right (λ i h. lower i) ∙ sym (map-tab (λ r. zeros left ++ r) right (λ i. tab right (one i))))
-    where
-      one : ℕ → ℕ → ℚ
-      one i k = cond (eqb i k) (int (pos 1)) (int (pos 0))
-
-      upper : (i : ℕ) → i < left → tab (left + right) (one i) ≡ tab left (one i) ++ zeros right
-      upper i h = tab-add left right (one i) ∙ ap (λ x. tab left (one i) ++ x) (tab-ext right (λ k l. cond-false (int (pos 1)) (int (pos 0)) (ne-eqb i (left + k) (λ e. omega arith))))
-
-      lower : (i : ℕ) → tab (left + right) (one (left + i)) ≡ zeros left ++ tab right (one i)
-      lower i = tab-add left right (one (left + i)) ∙ ap₂ _++_ (tab-ext left (λ k l. cond-false (int (pos 1)) (int (pos 0)) (ne-eqb (left + i) k (λ e. omega arith)))) (tab-ext right (λ k l. ap (λ b. cond b (int (pos 1)) (int (pos 0))) (eqb-moved i k)))
-
--- ---- the steps of the beam's joins, and those of its sections
-keeps-wide : (width j : ℕ) (κ : List Entry) (t t′ : Table) → Wide width t → step j κ t ≡ answer t′ → Wide width t′
-keeps-wide width j κ t t′ W e = step-shaped width (length t) j κ t (record { wide = W; rows = refl }) e .wide
-
-orders-keep-wide : (s : Space) (width j k : ℕ) (t t′ : Table) → Wide width t → orderSteps s j k t ≡ answer t′ → Wide width t′
-orders-keep-wide s width j k t t′ W e = orders-shaped s width (length t) j k t (record { wide = W; rows = refl }) e .wide
-
-pub identity-is-wide : (n : ℕ) → Wide n (identity n)
-identity-is-wide n = record { each = λ i h. identity-wide n i (rw (identity-rows n) at h) }
+-- A kind of state, with what a cut asks of it: a step by a condition on the columns of one of two states that stand side by side
+-- acts on that state alone, and the state at the start is two such states.
+pub record Kind (State : Type 0) : Type 1 where
+  -- one step, at a join by a condition
+  pub act : ℕ → List Entry → State → Outcome State
+  -- what a state with this many columns satisfies
+  pub Fits : ℕ → State → Type 0
+  -- two states with this many columns side by side
+  pub beside : ℕ → ℕ → State → State → State
+  pub keeps : (width j : ℕ) (κ : List Entry) (x y : State) → Fits width x → act j κ x ≡ answer y → Fits width y
+  pub on-left : (left right j : ℕ) (κ : List Entry) (x y : State) → Fits left x → Inside left κ
+      → act j (moved 0 κ) (beside left right x y) ≡ carried (λ p. p) (λ z. beside left right z y) (act j κ x)
+  -- d joins later
+  pub on-right : (left right d j : ℕ) (κ : List Entry) (x y : State) → Fits left x → Fits right y → Inside right κ
+      → act (d + j) (moved left κ) (beside left right x y) ≡ carried (λ p. capped (d + p)) (beside left right x) (act j κ y)
+  -- the state at the start for the n columns from column c on; there are so many columns in all
+  pub columns : ℕ
+  pub start : ℕ → ℕ → State
+  pub start-fits : (c n : ℕ) → c + n ≤ columns → Fits n (start c n)
+  pub start-beside : (c m n : ℕ) → start c (m + n) ≡ beside m n (start c m) (start (c + m) n)
 
 -- joins in a row, one step at each: those before a cut, where there is nothing to do, and those behind it
-pub joins-cut : {A : Type 0} (s : Space) (n : ℕ) (stepped : ℕ → A → Outcome A) → ((c : ℕ) (b : A) → conditionCount s c ≡ 0 → stepped c b ≡ answer b)
-    → (a : ℕ) → startsPart s a ≡ true → 0 < n → (t : A) → repeat (a + n - 1) stepped t ≡ (repeat (a - 1) stepped t then λ b. repeat (n - 1) (λ i. stepped (a + i)) b)
+joins-cut : {State : Type 0} (s : Space) (n : ℕ) (stepped : ℕ → State → Outcome State) → ((c : ℕ) (x : State) → conditionCount s c ≡ 0 → stepped c x ≡ answer x)
+    → (a : ℕ) → startsPart s a ≡ true → 0 < n → (x : State) → repeat (a + n - 1) stepped x ≡ (repeat (a - 1) stepped x then λ y. repeat (n - 1) (λ i. stepped (a + i)) y)
 unfolding repeat startsPart
-joins-cut s n stepped quiet zero starts some t = ap (λ m. repeat m stepped t) (let e : 0 + n - 1 ≡ n - 1 = omega arith in e) ∙ repeat-ext (n - 1) stepped (λ i. stepped (0 + i)) t (λ i b h. ap (λ m. stepped m b) (sym (nothing-add i)))
-joins-cut {A} s n stepped quiet (suc c) starts some t =
-    ap (λ m. repeat m stepped t) (let e : suc c + n - 1 ≡ suc c + (n - 1) = omega arith in e)
-    ∙ repeat-add (suc c) (n - 1) stepped t
-    ∙ ap (λ o. o then λ b. repeat (n - 1) (λ i. stepped (suc c + i)) b) (at-cut (repeat c stepped t) ∙ ap (λ m. repeat m stepped t) (let e : c ≡ suc c - 1 = omega arith in e))
+joins-cut s n stepped quiet zero starts some x =
+    ap (λ m. repeat m stepped x) (let e : 0 + n - 1 ≡ n - 1 = omega arith in e)
+    ∙ repeat-ext (n - 1) stepped (λ i. stepped (0 + i)) x (λ i b h. ap (λ m. stepped m b) (sym (nothing-add i)))
+joins-cut {State} s n stepped quiet (suc c) starts some x =
+    ap (λ m. repeat m stepped x) (let e : suc c + n - 1 ≡ suc c + (n - 1) = omega arith in e)
+    ∙ repeat-add (suc c) (n - 1) stepped x
+    ∙ ap (λ o. o then behind) (at-cut (repeat c stepped x) ∙ ap (λ m. repeat m stepped x) (let e : c ≡ suc c - 1 = omega arith in e))
   where
-    at-cut : (o : Outcome A) → (o then stepped c) ≡ o
-    at-cut (answer b) = quiet c b (eqb-true (conditionCount s c) 0 starts)
+    behind : State → Outcome State
+    behind y = repeat (n - 1) (λ i. stepped (suc c + i)) y
+
+    at-cut : (o : Outcome State) → (o then stepped c) ≡ o
+    at-cut (answer y) = quiet c y (eqb-true (conditionCount s c) 0 starts)
     at-cut (refusal code place) = refl
 
-module _ (s : Space) (F : OrdersFit s) (a n : ℕ) (whole : a + n ≡ segments s) where
-  abbrev before : Space
-  before = section s 0 a
+module _ {State : Type 0} (K : Kind State) where
+  -- the orders of join j, all joins, and all joins from the start, with the columns from column c on
+  abbrev pub orders : Space → ℕ → State → Outcome State
+  orders s j x = repeat (conditionCount s j) (λ k. K .act j (conditions s j k)) x
 
-  abbrev behind : Space
-  behind = section s a n
+  abbrev pub joins : Space → State → Outcome State
+  joins s x = repeat (segments s - 1) (orders s) x
 
-  abbrev L : ℕ
-  L = columnCount before
+  abbrev pub run : Space → ℕ → Outcome State
+  run s c = joins s (K .start c (columnCount s))
 
-  abbrev R : ℕ
-  R = columnCount behind
+  orders-keep : (s : Space) (width j : ℕ) (x y : State) → K .Fits width x → orders s j x ≡ answer y → K .Fits width y
+  orders-keep s width j x y F e = repeat-keeps (λ _ z. K .Fits width z) (conditionCount s j) (λ k. K .act j (conditions s j k)) x F (λ k a b h. K .keeps width j (conditions s j k) a b) y e
 
-  pub before-segments : segments before ≡ a
-  before-segments = section-segments s 0 a (omega arith)
+  joins-keep : (s : Space) (width : ℕ) (x y : State) → K .Fits width x → joins s x ≡ answer y → K .Fits width y
+  joins-keep s width x y F e = repeat-keeps (λ _ z. K .Fits width z) (segments s - 1) (orders s) x F (λ j a b h. orders-keep s width j a b) y e
 
-  pub behind-segments : segments behind ≡ n
-  behind-segments = section-segments s a n (omega arith)
+  -- ---- the joins of a section, as joins of the beam: `within` puts a state of the section among the others
+  module _ (s : Space) (F : OrdersFit s) (d m : ℕ) (fits : d + m ≤ segments s) where
+    abbrev part : Space
+    part = section s d m
 
-  before-columns : L ≡ firstColumn s a
-  before-columns = front-columns s a (omega arith)
+    abbrev width : ℕ
+    width = columnCount part
 
-  pub columns : columnCount s ≡ L + R
-  columns = ap (firstColumn s) (sym whole) ∙ section-columnCount s a n (omega arith) ∙ omega (arith, before-columns)
+    inside : (i k : ℕ) → suc i < m → k < conditionCount part i → Inside width (conditions part i k)
+    inside i k h l = let G = section-orders-fit s d m fits F in let n : suc i < segments part = rw (section-segments s d m fits) h in
+        conditions-inside part i k n (omega (arith, G .left i n)) (omega (arith, G .right i n))
 
-  pub inside-before : (i k : ℕ) → suc i < a → k < conditionCount before i → Inside L (conditions before i k)
-  inside-before i k h l = let G = section-orders-fit s 0 a (omega arith) F in let m : suc i < segments before = rw before-segments h in
-      conditions-inside before i k m (omega (arith, G .left i m)) (omega (arith, G .right i m))
+    module _ (ρ : ℕ → ℕ) (within : State → State)
+        (same : (i : ℕ) (κ : List Entry) (x : State) → K .Fits width x → Inside width κ → K .act (d + i) (moved (firstColumn s d) κ) (within x) ≡ carried ρ within (K .act i κ x)) where
+      orders-within : (i : ℕ) (x : State) → suc i < m → K .Fits width x → orders s (d + i) (within x) ≡ carried ρ within (orders part i x)
+      orders-within i x h f =
+          ap (λ c. repeat c (λ k. K .act (d + i) (conditions s (d + i) k)) (within x)) (sym (section-conditionCount s d m i h))
+          ∙ carried-repeat ρ (K .Fits width) within (conditionCount part i) (λ k. K .act i (conditions part i k)) (λ k. K .act (d + i) (conditions s (d + i) k)) x f
+          (λ k y z l. K .keeps width i (conditions part i k) y z)
+          (λ k y l g. ap (λ κ. K .act (d + i) κ (within y)) (section-conditions s d m i k h) ∙ same i (conditions part i k) y g (inside i k h l))
 
-  pub inside-behind : (i k : ℕ) → suc i < n → k < conditionCount behind i → Inside R (conditions behind i k)
-  inside-behind i k h l = let G = section-orders-fit s a n (omega arith) F in let m : suc i < segments behind = rw behind-segments h in
-      conditions-inside behind i k m (omega (arith, G .left i m)) (omega (arith, G .right i m))
+      joins-within : (x : State) → K .Fits width x → repeat (m - 1) (λ i. orders s (d + i)) (within x) ≡ carried ρ within (joins part x)
+      joins-within x f =
+          carried-repeat ρ (K .Fits width) within (m - 1) (orders part) (λ i. orders s (d + i)) x f (λ j y z h. orders-keep part width j y z) (λ j y h. orders-within j y (omega arith))
+          ∙ ap (λ n. carried ρ within (repeat (n - 1) (orders part) x)) (sym (section-segments s d m fits))
 
-  pub before-conditions : (i k : ℕ) → suc i < a → conditions s i k ≡ moved 0 (conditions before i k)
-  unfolding firstColumn
-  before-conditions i k h = ap (λ m. conditions s m k) (sym (nothing-add i)) ∙ section-conditions s 0 a i k h
+  -- ---- a beam cut before segment a, which starts a part
+  module _ (s : Space) (F : OrdersFit s) (a n : ℕ) (whole : a + n ≡ segments s) where
+    abbrev before : Space
+    before = section s 0 a
 
-  pub behind-conditions : (i k : ℕ) → suc i < n → conditions s (a + i) k ≡ moved L (conditions behind i k)
-  behind-conditions i k h = section-conditions s a n i k h ∙ ap (λ m. moved m (conditions behind i k)) (sym before-columns)
+    abbrev behind : Space
+    behind = section s a n
 
-  before-orders : (u : Table) (i : ℕ) (t : Table) → suc i < a → Wide L t → orderSteps s i (conditionCount s i) (beside L R t u) ≡ carried (λ p. p) (λ t′. beside L R t′ u) (orderSteps before i (conditionCount before i) t)
-  unfolding orderSteps
-  before-orders u i t h W =
-      ap (λ c. repeat c (λ k. step i (conditions s i k)) (beside L R t u)) (sym (section-conditionCount s 0 a i h ∙ ap (conditionCount s) (nothing-add i)))
-      ∙ carried-repeat (λ p. p) (Wide L) (λ t′. beside L R t′ u) (conditionCount before i) (λ k. step i (conditions before i k)) (λ k. step i (conditions s i k)) t W
-      (λ k b c l. keeps-wide L i (conditions before i k) b c)
-      (λ k b l U. ap (λ κ. step i κ (beside L R b u)) (before-conditions i k h) ∙ left-step L R i (conditions before i k) b u U (inside-before i k h l))
+    abbrev L : ℕ
+    L = columnCount before
 
-  behind-orders : (t : Table) (i : ℕ) (u : Table) → suc i < n → Wide L t → Wide R u → orderSteps s (a + i) (conditionCount s (a + i)) (beside L R t u) ≡ carried (λ p. capped (a + p)) (beside L R t) (orderSteps behind i (conditionCount behind i) u)
-  unfolding orderSteps
-  behind-orders t i u h W U =
-      ap (λ c. repeat c (λ k. step (a + i) (conditions s (a + i) k)) (beside L R t u)) (sym (section-conditionCount s a n i h))
-      ∙ carried-repeat (λ p. capped (a + p)) (Wide R) (beside L R t) (conditionCount behind i) (λ k. step i (conditions behind i k)) (λ k. step (a + i) (conditions s (a + i) k)) u U
-      (λ k b c l. keeps-wide R i (conditions behind i k) b c)
-      (λ k b l X. ap (λ κ. step (a + i) κ (beside L R t b)) (behind-conditions i k h) ∙ right-step L R a i (conditions behind i k) t b W X (inside-behind i k h l))
+    abbrev R : ℕ
+    R = columnCount behind
 
-  -- all joins before the cut, and all behind it
-  before-joins : (u : Table) → repeat (a - 1) (λ j. orderSteps s j (conditionCount s j)) (beside L R (identity L) u) ≡ carried (λ p. p) (λ t. beside L R t u) (weights before)
-  unfolding weights joinSteps
-  before-joins u =
-      carried-repeat (λ p. p) (Wide L) (λ t. beside L R t u) (a - 1) (λ j. orderSteps before j (conditionCount before j)) (λ j. orderSteps s j (conditionCount s j)) (identity L) (identity-is-wide L)
-      (λ j b c h. orders-keep-wide before L j (conditionCount before j) b c)
-      (λ j b h W. before-orders u j b (omega arith) W)
-      ∙ ap (λ m. carried (λ p. p) (λ t. beside L R t u) (repeat (m - 1) (λ j. orderSteps before j (conditionCount before j)) (identity L))) (sym before-segments)
+    before-columns : L ≡ firstColumn s a
+    before-columns = front-columns s a (omega arith)
 
-  behind-joins : (t : Table) → Wide L t → repeat (n - 1) (λ i. orderSteps s (a + i) (conditionCount s (a + i))) (beside L R t (identity R)) ≡ carried (λ p. capped (a + p)) (beside L R t) (weights behind)
-  unfolding weights joinSteps
-  behind-joins t W =
-      carried-repeat (λ p. capped (a + p)) (Wide R) (beside L R t) (n - 1) (λ j. orderSteps behind j (conditionCount behind j)) (λ i. orderSteps s (a + i) (conditionCount s (a + i))) (identity R) (identity-is-wide R)
-      (λ j b c h. orders-keep-wide behind R j (conditionCount behind j) b c)
-      (λ j b h U. behind-orders t j b (omega arith) W U)
-      ∙ ap (λ m. carried (λ p. capped (a + p)) (beside L R t) (repeat (m - 1) (λ j. orderSteps behind j (conditionCount behind j)) (identity R))) (sym behind-segments)
+    pub both-columns : columnCount s ≡ L + R
+    both-columns = ap (firstColumn s) (sym whole) ∙ section-columnCount s a n (omega arith) ∙ omega (arith, before-columns)
 
-  abbrev stepped : ℕ → Table → Outcome Table
-  stepped j = orderSteps s j (conditionCount s j)
+    joins-before : (x y : State) → K .Fits L x → repeat (a - 1) (orders s) (K .beside L R x y) ≡ carried (λ p. p) (λ z. K .beside L R z y) (joins before x)
+    unfolding firstColumn
+    joins-before x y f =
+        repeat-ext (a - 1) (orders s) (λ i. orders s (0 + i)) (K .beside L R x y) (λ i z h. ap (λ m. orders s m z) (sym (nothing-add i)))
+        ∙ joins-within s F 0 a (omega arith) (λ p. p) (λ z. K .beside L R z y)
+        (λ i κ z g inside. ap (λ m. K .act m (moved 0 κ) (K .beside L R z y)) (nothing-add i) ∙ K .on-left L R i κ z y g inside) x f
 
-  -- the joins before the cut, none at it, and those behind it
-  all-joins : startsPart s a ≡ true → 0 < n → (t : Table) → repeat (segments s - 1) stepped t ≡ (repeat (a - 1) stepped t then λ b. repeat (n - 1) (λ i. stepped (a + i)) b)
-  unfolding repeat orderSteps
-  all-joins starts some t = ap (λ m. repeat (m - 1) stepped t) (sym whole) ∙ joins-cut s n stepped (λ c b e. ap (λ k. orderSteps s c k b) e) a starts some t
+    joins-behind : (x y : State) → K .Fits L x → K .Fits R y → repeat (n - 1) (λ i. orders s (a + i)) (K .beside L R x y) ≡ carried (λ p. capped (a + p)) (K .beside L R x) (joins behind y)
+    joins-behind x y f g = joins-within s F a n (omega arith) (λ p. capped (a + p)) (K .beside L R x)
+        (λ i κ z h inside. ap (λ c. K .act (a + i) (moved c κ) (K .beside L R x z)) (sym before-columns) ∙ K .on-right L R a i κ x z f h inside) y g
 
-  opened : startsPart s a ≡ true → 0 < n → weights s ≡ (carried (λ p. p) (λ t. beside L R t (identity R)) (weights before) then λ b. repeat (n - 1) (λ i. stepped (a + i)) b)
-  unfolding weights joinSteps
-  opened starts some =
-      ap (λ t. repeat (segments s - 1) stepped t) (ap identity columns ∙ identity-beside L R)
-      ∙ all-joins starts some (beside L R (identity L) (identity R))
-      ∙ ap (λ o. o then λ b. repeat (n - 1) (λ i. stepped (a + i)) b) (before-joins (identity R))
+    module _ (starts : startsPart s a ≡ true) (some : 0 < n) where
+      cut-joins : (x y : State) → K .Fits L x → K .Fits R y → joins s (K .beside L R x y) ≡ joined a (K .beside L R) (joins before x) (joins behind y)
+      unfolding repeat
+      cut-joins x y f g =
+          ap (λ m. repeat (m - 1) (orders s) (K .beside L R x y)) (sym whole)
+          ∙ joins-cut s n (orders s) (λ c z e. ap (λ m. repeat m (λ k. K .act c (conditions s c k)) z) e) a starts some (K .beside L R x y)
+          ∙ ap (λ o. o then rest) (joins-before x y f)
+          ∙ go (joins before x) refl
+        where
+          rest : State → Outcome State
+          rest z = repeat (n - 1) (λ i. orders s (a + i)) z
 
-  -- the weights of a beam that is cut before segment a
-  pub cut-weights : startsPart s a ≡ true → 0 < n → weights s ≡ (weights before then λ t. later a (weights behind) then λ u. answer (beside L R t u))
-  cut-weights starts some = opened starts some ∙ go (weights before) refl
+          go : (o : Outcome State) → joins before x ≡ o → (carried (λ p. p) (λ z. K .beside L R z y) o then rest) ≡ joined a (K .beside L R) o (joins behind y)
+          go (answer z) e = joins-behind z y (joins-keep before L x z f e) g ∙ carried-later a (K .beside L R z) (joins behind y)
+          go (refusal code place) e = refl
+
+      pub cut-run : (c : ℕ) → c + columnCount s ≤ K .columns → run s c ≡ joined a (K .beside L R) (run before c) (run behind (c + L))
+      cut-run c h =
+          ap (λ m. joins s (K .start c m)) both-columns ∙ ap (joins s) (K .start-beside c L R)
+          ∙ cut-joins (K .start c L) (K .start (c + L) R) (K .start-fits c L (omega (arith, both-columns))) (K .start-fits (c + L) R (omega (arith, both-columns)))
+
+  -- ---- the front of a beam up to the end of a part: the front before the part, and the part
+  module _ (s : Space) (F : OrdersFit s) (a : ℕ) (A : Starts s a) (enough : firstColumn s (partEnd s a) ≤ K .columns) where
+    abbrev b : ℕ
+    b = partEnd s a
+
+    ends : Ends s a b
+    ends = part-ends s a (A .below)
+
+    in-beam : b ≤ segments s
+    in-beam = ends .boundary .within
+
+    whole-front : a + (b - a) ≡ segments (section s 0 b)
+    whole-front = omega (arith, ends .above, section-segments s 0 b (omega (arith, in-beam)))
+
+    columns-before : columnCount (section s 0 a) ≡ firstColumn s a
+    columns-before = front-columns s a (omega (arith, A .below))
+
+    pub front-run : run (section s 0 b) 0 ≡ joined a (K .beside (firstColumn s a) (columnCount (partAt s a))) (run (section s 0 a) 0) (run (partAt s a) (firstColumn s a))
+    front-run =
+        cut-run (section s 0 b) (section-orders-fit s 0 b (omega (arith, in-beam)) F) a (b - a) whole-front (front-starts s b a (ends .above) ∙ A .starts) (omega (arith, ends .above))
+        0 (omega (arith, enough, front-columns s b in-beam))
+        ∙ ap₂ (λ x y. joined a (K .beside (columnCount x) (columnCount y)) (run x 0) (run y (0 + columnCount x))) (front-section s b 0 a (omega (arith, ends .above))) (front-section s b a (b - a) (omega (arith, ends .above)))
+        ∙ ap₂ (λ m c. joined a (K .beside m (columnCount (partAt s a))) (run (section s 0 a) 0) (run (partAt s a) c)) columns-before (nothing-add (columnCount (section s 0 a)) ∙ columns-before)
+
+  -- a front that is refused refuses the beam
+  pub refused-run : (s : Space) → Checked s → columnCount s ≤ K .columns → (b : ℕ) → Boundary s b → {code place : ℕ} → run (section s 0 b) 0 ≡ refusal code place → run s 0 ≡ refusal code place
+  refused-run s c enough b B {code} {place} e = go (le-or-lt (segments s) b)
     where
-      go : (o : Outcome Table) → weights before ≡ o
-          → (carried (λ p. p) (λ t. beside L R t (identity R)) o then λ b. repeat (n - 1) (λ i. stepped (a + i)) b) ≡ (o then λ t. later a (weights behind) then λ u. answer (beside L R t u))
-      go (answer t) e = behind-joins t (weights-shaped before e .wide) ∙ carried-later a (beside L R t) (weights behind)
-      go (refusal code place) e = refl
+      go : (segments s ≤ b) ⊎ (b < segments s) → run s 0 ≡ refusal code place
+      go (inl h) = ap (λ x. run x 0) (sym (section-all s (lengths-fit-inverts s (c .lengths)))) ∙ ap (λ m. run (section s 0 m) 0) (let z : segments s ≡ b = omega (arith, B .within) in z) ∙ e
+      go (inr h) = cut-run s (orders-fit s c) b (segments s - b) (omega arith) (B .starts h) (omega arith) 0 (omega (arith, enough)) ∙ then-refuses _ e

@@ -3,13 +3,13 @@
 use mathlib.Core.Path.{_≡_, refl, sym, _∙_, ap, ap₂}
 use mathlib.Core.Logic.{_⊎_, inl, inr}
 use mathlib.Core.Bool.{Bool, true, false, cond, not, _&&_}
-use mathlib.Core.List.{List, [], _∷_, _++_, map, map-append, append-assoc}
+use mathlib.Core.List.{List, [], _∷_, _++_, map, map-append}
 use mathlib.Core.Option.{Option, some, none}
 use Prim.Native.Nat.{ℕ, zero, suc, _+_, _-_, _<_, _≤_}
 use native.Mathlib.Omega.{arith}
 use lib.IntN.{pos}
 use lib.ListN.{length, take, drop, length-append, length-map, List·getD-append}
-use lib.Seq.{getD-append-add, take-append-add, take-append-le, drop-append-add, drop-append-le}
+use lib.Seq.{getD-append-add}
 use Rattle.base_exact.specs.Rational.{ℚ, int, _+ᵠ_, _*ᵠ_, _-ᵠ_, _/ᵠ_}
 use Rattle.base_exact.specs.Order.{isZero, ltᵠ}
 use Rattle.base_exact.specs.Sum.{sum}
@@ -30,6 +30,7 @@ use Rattle.base_outcome.proofs.Search.{at, nowhere, Searched, search-first, fir
 use Rattle.spec_spline.proofs.Table.{entry-past}
 use Rattle.spec_spline.proofs.Shape.{Wide}
 use Rattle.spec_spline.proofs.Step.{count-fits}
+use Rattle.spec_spline.proofs.Splice.{spliced-within}
 use Rattle.spec_spline.proofs.Answers.{jumps-length, Spans, span-inverts}
 use Rattle.theorems_beams.specs.Sections.{zeros}
 use Rattle.theorems_beams.proofs.Carried.{carried, carried-then, carried-collect, framed-collect}
@@ -228,88 +229,102 @@ module _ (ρ : ℕ → ℕ) (j j′ : ℕ) (place : ρ (capped j) ≡ capped j�
       new : ℕ → Outcome ℚ
       new c = newEntry j′ w v (entry (padded a b r) c) (entry (padded a b r′) c)
 
-  -- ---- the table t of width n in a larger one: above it the rows P, below it the rows Q, none of which jumps
-  module _ (κ κ′ : List Entry) (a b : ℕ) (P Q : Table)
-      (same : (r : Row) → jump j′ κ′ (padded a b r) ≡ carried ρ (λ x. x) (jump j κ r))
-      (above : (i : ℕ) → i < length P → jump j′ κ′ (row P i) ≡ answer (int (pos 0)))
-      (below : (i : ℕ) → i < length Q → jump j′ κ′ (row Q i) ≡ answer (int (pos 0))) where
-    abbrev pub embedded : Table → Table
-    embedded t = P ++ map (padded a b) t ++ Q
+-- ---- a table in a larger one
 
-    module _ (t : Table) where
-      pub embedded-length : length (embedded t) ≡ length P + length t + length Q
-      embedded-length = length-append (P ++ map (padded a b) t) Q ∙ omega (arith, length-append P (map (padded a b) t), length-map t (padded a b))
+-- The same step at join j on a table and at join j′ on a larger one, with the places corresponding by ρ: zeros stand before and behind
+-- the columns of the table, whose rows jump as they do by themselves, and the rows above and below it do not jump.
+pub record Around (ρ : ℕ → ℕ) (j j′ : ℕ) (κ κ′ : List Entry) : Type 0 where
+  pub place : ρ (capped j) ≡ capped j′
+  pub before : ℕ
+  pub behind : ℕ
+  pub above : Table
+  pub below : Table
+  pub same : (r : Row) → jump j′ κ′ (padded before behind r) ≡ carried ρ (λ x. x) (jump j κ r)
+  pub above-quiet : (i : ℕ) → i < length above → jump j′ κ′ (row above i) ≡ answer (int (pos 0))
+  pub below-quiet : (i : ℕ) → i < length below → jump j′ κ′ (row below i) ≡ answer (int (pos 0))
 
-      front-length : length (P ++ map (padded a b) t) ≡ length P + length t
-      front-length = length-append P (map (padded a b) t) ∙ omega (arith, length-map t (padded a b))
+module _ {ρ : ℕ → ℕ} {j j′ : ℕ} {κ κ′ : List Entry} (E : Around ρ j j′ κ κ′) where
+  abbrev pad : Row → Row
+  pad = padded (E .before) (E .behind)
 
-      row-above : (i : ℕ) → i < length P → row (embedded t) i ≡ row P i
-      row-above i h = List·getD-append (P ++ map (padded a b) t) Q [] i (omega (arith, front-length)) ∙ List·getD-append P (map (padded a b) t) [] i h
+  abbrev pub embedded : Table → Table
+  embedded t = E .above ++ map pad t ++ E .below
 
-      row-inside : (i : ℕ) → i < length t → row (embedded t) (length P + i) ≡ padded a b (row t i)
-      row-inside i h =
-          List·getD-append (P ++ map (padded a b) t) Q [] (length P + i) (omega (arith, front-length))
-          ∙ getD-append-add P (map (padded a b) t) i []
-          ∙ mapped-row (padded a b) t i h
+  -- how many rows stand above and below
+  abbrev p : ℕ
+  p = length (E .above)
 
-      row-below : (i : ℕ) → row (embedded t) (length P + length t + i) ≡ row Q i
-      row-below i = ap (λ n. row (embedded t) (n + i)) (sym front-length) ∙ getD-append-add (P ++ map (padded a b) t) Q i []
+  abbrev q : ℕ
+  q = length (E .below)
 
-      -- the jumps, with none above and below
-      pub jumps-carried : jumps j′ κ′ (embedded t) ≡ carried ρ (padded (length P) (length Q)) (jumps j κ t)
-      jumps-carried =
-          ap (λ n. collect n (λ i. jump j′ κ′ (row (embedded t) i))) embedded-length
-          ∙ framed-collect ρ (int (pos 0)) (length P) (length Q) (length t) (λ i. jump j κ (row t i)) (λ i. jump j′ κ′ (row (embedded t) i)) (length Q)
-          (λ i h. ap (jump j′ κ′) (row-above i h) ∙ above i h)
-          (λ i h. ap (jump j′ κ′) (row-inside i h) ∙ same (row t i))
-          (λ i h. ap (jump j′ κ′) (row-below i) ∙ below i h)
+  module _ (t : Table) where
+    front-length : length (E .above ++ map pad t) ≡ p + length t
+    front-length = length-append (E .above) (map pad t) ∙ omega (arith, length-map t pad)
 
-      module _ (n : ℕ) (wide : Wide n t) where
-        newRows-carried : (g : Span) (ws : List ℚ) → g .l < length t → newRows j′ (movedSpan (length P) g) ws (embedded t) ≡ carried ρ (map (padded a b)) (newRows j g ws t)
-        unfolding newRows
-        newRows-carried g ws within =
-            ap (λ k. collect k new) (let e : length P + g .l - (length P + g .f) ≡ g .l - g .f = omega arith in e)
-            ∙ carried-collect ρ (padded a b) (map (padded a b)) (λ xs x. map-append (padded a b) xs (x ∷ [])) (g .l - g .f) (λ d. newRow j (entry ws d) (entry ws (suc d)) (row t (g .f + d)) (row t (g .f + suc d))) new refl (λ d h. one d h)
-          where
-            new : ℕ → Outcome Row
-            new d = newRow j′ (entry ws d) (entry ws (suc d)) (row (embedded t) (length P + g .f + d)) (row (embedded t) (length P + g .f + suc d))
+    pub embedded-length : length (embedded t) ≡ p + length t + q
+    embedded-length = length-append (E .above ++ map pad t) (E .below) ∙ omega (arith, front-length)
 
-            one : (d : ℕ) → d < g .l - g .f → new d ≡ carried ρ (padded a b) (newRow j (entry ws d) (entry ws (suc d)) (row t (g .f + d)) (row t (g .f + suc d)))
-            one d h =
-                ap₂ (newRow j′ (entry ws d) (entry ws (suc d)))
-                (ap (row (embedded t)) (let e : length P + g .f + d ≡ length P + (g .f + d) = omega arith in e) ∙ row-inside (g .f + d) (omega arith))
-                (ap (row (embedded t)) (let e : length P + g .f + suc d ≡ length P + (g .f + suc d) = omega arith in e) ∙ row-inside (g .f + suc d) (omega arith))
-                ∙ newRow-carried a b (entry ws d) (entry ws (suc d)) (row t (g .f + d)) (row t (g .f + suc d)) (wide .each (g .f + suc d) (omega arith) ∙ sym (wide .each (g .f + d) (omega arith)))
+    row-above : (i : ℕ) → i < p → row (embedded t) i ≡ row (E .above) i
+    row-above i h = List·getD-append (E .above ++ map pad t) (E .below) [] i (omega (arith, front-length)) ∙ List·getD-append (E .above) (map pad t) [] i h
 
-        -- the rows replaced in the larger table
-        spliced : (f l : ℕ) (rs : Table) → f ≤ length t → suc l ≤ length t → take (length P + f) (embedded t) ++ (map (padded a b) rs ++ drop (suc (length P + l)) (embedded t)) ≡ embedded (take f t ++ (rs ++ drop (suc l) t))
-        spliced f l rs h k =
-            ap₂ (λ x y. x ++ (map (padded a b) rs ++ y)) front back
-            ∙ sym (ap (λ x. P ++ x ++ Q) (map-append (padded a b) (take f t) (rs ++ drop (suc l) t) ∙ ap (λ x. map (padded a b) (take f t) ++ x) (map-append (padded a b) rs (drop (suc l) t)))
-            ∙ regroup P (map (padded a b) (take f t)) (map (padded a b) rs) (map (padded a b) (drop (suc l) t)) Q)
-          where
-            regroup : (A B C D E : Table) → A ++ (B ++ (C ++ D)) ++ E ≡ A ++ B ++ (C ++ (D ++ E))
-            regroup A B C D E = append-assoc A (B ++ (C ++ D)) E ∙ ap (λ x. A ++ x) (append-assoc B (C ++ D) E) ∙ sym (append-assoc A B (C ++ D ++ E)) ∙ ap (λ x. A ++ B ++ x) (append-assoc C D E)
+    row-inside : (i : ℕ) → i < length t → row (embedded t) (p + i) ≡ pad (row t i)
+    row-inside i h =
+        List·getD-append (E .above ++ map pad t) (E .below) [] (p + i) (omega (arith, front-length))
+        ∙ getD-append-add (E .above) (map pad t) i []
+        ∙ mapped-row pad t i h
 
-            front : take (length P + f) (embedded t) ≡ P ++ map (padded a b) (take f t)
-            front = take-append-le (length P + f) (P ++ map (padded a b) t) Q (omega (arith, front-length)) ∙ take-append-add P (map (padded a b) t) f ∙ ap (λ x. P ++ x) (map-take (padded a b) f t)
+    row-below : (i : ℕ) → row (embedded t) (p + length t + i) ≡ row (E .below) i
+    row-below i = ap (λ n. row (embedded t) (n + i)) (sym front-length) ∙ getD-append-add (E .above ++ map pad t) (E .below) i []
 
-            back : drop (suc (length P + l)) (embedded t) ≡ map (padded a b) (drop (suc l) t) ++ Q
-            back =
-                ap (λ n. drop n (embedded t)) (let e : suc (length P + l) ≡ length P + suc l = omega arith in e)
-                ∙ drop-append-le (length P + suc l) (P ++ map (padded a b) t) Q (omega (arith, front-length))
-                ∙ ap (λ x. x ++ Q) (drop-append-add P (map (padded a b) t) (suc l) ∙ map-drop (padded a b) (suc l) t)
+    -- the jumps, with none above and below
+    pub jumps-carried : jumps j′ κ′ (embedded t) ≡ carried ρ (padded p q) (jumps j κ t)
+    jumps-carried =
+        ap (λ n. collect n (λ i. jump j′ κ′ (row (embedded t) i))) embedded-length
+        ∙ framed-collect ρ (int (pos 0)) p q (length t) (λ i. jump j κ (row t i)) (λ i. jump j′ κ′ (row (embedded t) i)) q
+        (λ i h. ap (jump j′ κ′) (row-above i h) ∙ E .above-quiet i h)
+        (λ i h. ap (jump j′ κ′) (row-inside i h) ∙ E .same (row t i))
+        (λ i h. ap (jump j′ κ′) (row-below i) ∙ E .below-quiet i h)
 
-        mixed-carried : (js : List ℚ) (g : Span) → Spans js (g .f) (g .l) → length js ≡ length t
-            → mixed j′ (embedded t) (padded (length P) (length Q) js) (movedSpan (length P) g) ≡ carried ρ embedded (mixed j t js g)
-        mixed-carried js g s size =
-            carried-then ρ (λ ws. ws) embedded (factors j js g) _ _ (factors-carried (length P) (length Q) js g)
-            (λ ws e. carried-then ρ (map (padded a b)) embedded (newRows j g ws t) _ _ (newRows-carried g ws (omega (arith, s .below, size)))
-            (λ rs h. ap answer (spliced (g .f) (g .l) rs (omega (arith, s .ordered, s .below, size)) (omega (arith, s .below, size)))))
+    module _ (n : ℕ) (wide : Wide n t) where
+      newRows-carried : (g : Span) (ws : List ℚ) → g .l < length t → newRows j′ (movedSpan p g) ws (embedded t) ≡ carried ρ (map pad) (newRows j g ws t)
+      unfolding newRows
+      newRows-carried g ws within =
+          ap (λ k. collect k new) (let e : p + g .l - (p + g .f) ≡ g .l - g .f = omega arith in e)
+          ∙ carried-collect ρ pad (map pad) (λ xs x. map-append pad xs (x ∷ [])) (g .l - g .f) old new refl (λ d h. one d h)
+        where
+          old : ℕ → Outcome Row
+          old d = newRow j (entry ws d) (entry ws (suc d)) (row t (g .f + d)) (row t (g .f + suc d))
 
-        pub embedded-step : step j′ κ′ (embedded t) ≡ carried ρ embedded (step j κ t)
-        unfolding step
-        embedded-step =
-            carried-then ρ (padded (length P) (length Q)) embedded (jumps j κ t) _ _ jumps-carried
-            (λ js e. carried-then ρ (movedSpan (length P)) embedded (span j js) _ _ (span-carried (length P) (length Q) js)
-            (λ g h. mixed-carried js g (span-inverts j js h) (jumps-length j κ t e)))
+          new : ℕ → Outcome Row
+          new d = newRow j′ (entry ws d) (entry ws (suc d)) (row (embedded t) (p + g .f + d)) (row (embedded t) (p + g .f + suc d))
+
+          there : (d : ℕ) → g .f + d < length t → row (embedded t) (p + g .f + d) ≡ pad (row t (g .f + d))
+          there d h = ap (row (embedded t)) (let e : p + g .f + d ≡ p + (g .f + d) = omega arith in e) ∙ row-inside (g .f + d) h
+
+          one : (d : ℕ) → d < g .l - g .f → new d ≡ carried ρ pad (old d)
+          one d h =
+              ap₂ (newRow j′ (entry ws d) (entry ws (suc d))) (there d (omega arith)) (there (suc d) (omega arith))
+              ∙ newRow-carried ρ j j′ (E .place) (E .before) (E .behind) (entry ws d) (entry ws (suc d)) (row t (g .f + d)) (row t (g .f + suc d))
+              (wide .each (g .f + suc d) (omega arith) ∙ sym (wide .each (g .f + d) (omega arith)))
+
+      -- the rows replaced in the larger table
+      spliced : (f l : ℕ) (rs : Table) → f ≤ length t → suc l ≤ length t → take (p + f) (embedded t) ++ (map pad rs ++ drop (suc (p + l)) (embedded t)) ≡ embedded (take f t ++ (rs ++ drop (suc l) t))
+      spliced f l rs h k =
+          spliced-within (E .above) (map pad t) (E .below) (map pad rs) f l (rw (length-map t pad) h) (rw (length-map t pad) k)
+          ∙ ap (λ x. E .above ++ x ++ E .below) (ap₂ (λ x y. x ++ (map pad rs ++ y)) (map-take pad f t) (map-drop pad (suc l) t) ∙ sym (mapped (take f t) rs (drop (suc l) t)))
+        where
+          mapped : (x y z : Table) → map pad (x ++ (y ++ z)) ≡ map pad x ++ (map pad y ++ map pad z)
+          mapped x y z = map-append pad x (y ++ z) ∙ ap (λ u. map pad x ++ u) (map-append pad y z)
+
+      mixed-carried : (js : List ℚ) (g : Span) → Spans js (g .f) (g .l) → length js ≡ length t → mixed j′ (embedded t) (padded p q js) (movedSpan p g) ≡ carried ρ embedded (mixed j t js g)
+      mixed-carried js g s size =
+          carried-then ρ (λ ws. ws) embedded (factors j js g) _ _ (factors-carried ρ j j′ (E .place) p q js g)
+          (λ ws e. carried-then ρ (map pad) embedded (newRows j g ws t) _ _ (newRows-carried g ws (omega (arith, s .below, size)))
+          (λ rs h. ap answer (spliced (g .f) (g .l) rs (omega (arith, s .ordered, s .below, size)) (omega (arith, s .below, size)))))
+
+      pub embedded-step : step j′ κ′ (embedded t) ≡ carried ρ embedded (step j κ t)
+      unfolding step
+      embedded-step =
+          carried-then ρ (padded p q) embedded (jumps j κ t) _ _ jumps-carried
+          (λ js e. carried-then ρ (movedSpan p) embedded (span j js) _ _ (span-carried ρ j j′ (E .place) p q js)
+          (λ g h. mixed-carried js g (span-inverts j js h) (jumps-length j κ t e)))

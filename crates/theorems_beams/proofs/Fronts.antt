@@ -13,20 +13,20 @@ use Rattle.base_exact.specs.Rational.{int}
 use Rattle.base_exact.specs.Tabulate.{tab}
 use Rattle.base_exact.proofs.Decide.{le-or-lt}
 use Rattle.base_exact.proofs.Tabulate.{drop-tab}
-use Rattle.base_outcome.specs.Outcome.{answer, refusal, capped, _then_, repeat}
+use Rattle.base_outcome.specs.Outcome.{answer, refusal, capped, repeat}
 use Rattle.spec_spline.specs.Space.{Space, segments, startsPart, partEnd, firstColumn, columnCount, conditionCount, conditionsBefore, rowCount, rowsBefore}
 use Rattle.spec_spline.specs.Table.{Table, identity}
-use Rattle.spec_spline.specs.Build.{joinSteps, weights, lastPart}
-use Rattle.base_outcome.proofs.Outcome.{then-answers, then-refuses}
+use Rattle.spec_spline.specs.Build.{orderSteps, joinSteps, weights, lastPart}
 use Rattle.spec_spline.proofs.Parts.{Boundary, Ends, part-ends}
 use Rattle.spec_spline.proofs.Space.{firstColumn-mono}
-use Rattle.spec_spline.proofs.Legal.{Checked, Lengths, lengths-fit-inverts}
+use Rattle.spec_spline.proofs.Legal.{Checked, Lengths}
 use Rattle.spec_spline.proofs.Shape.{weights-shaped}
-use Rattle.theorems_beams.specs.Sections.{section, partAt, zeros, beside, later}
+use Rattle.theorems_beams.specs.Sections.{section, partAt, zeros, beside}
 use Rattle.theorems_beams.specs.Parts.{Starts}
-use Rattle.theorems_beams.proofs.Carried.{Joined, joined-inverts}
-use Rattle.theorems_beams.proofs.Sections.{section-segments, section-conditionsBefore, section-columnCount, section-all, front-columns, front-firstColumn, front-conditionsBefore, front-starts, front-section, OrdersFit, orders-fit, section-orders-fit, conditions-fewer, conditions-between}
-use Rattle.theorems_beams.proofs.Cut.{cut-weights}
+use Rattle.theorems_beams.proofs.Carried.{joined, joined-answers, joined-refuses, Joined, joined-inverts}
+use Rattle.theorems_beams.proofs.Sections.{section-segments, section-conditionsBefore, section-columnCount, section-all, front-columns, front-firstColumn, front-conditionsBefore, OrdersFit, section-orders-fit, conditions-fewer, conditions-between}
+use Rattle.theorems_beams.proofs.Cut.{front-run, refused-run}
+use Rattle.theorems_beams.proofs.Sides.{tables}
 use Rattle.theorems_beams.proofs.Ends.{boundary-starts, front-lastPartStart}
 
 -- the front with no segment
@@ -51,17 +51,15 @@ module _ (s : Space) (F : OrdersFit s) (a : ℕ) (A : Starts s a) where
   whole : a + (b - a) ≡ b
   whole = omega (arith, ends .above)
 
-  pub front-weights : weights (section s 0 b) ≡ (weights (section s 0 a) then λ t. later a (weights part) then λ u. answer (beside (firstColumn s a) (columnCount part) t u))
-  front-weights =
-      cut-weights (section s 0 b) (section-orders-fit s 0 b (omega (arith, within)) F) a (b - a) (whole ∙ sym (section-segments s 0 b (omega (arith, within)))) (front-starts s b a (ends .above) ∙ A .starts) (omega (arith, ends .above))
-      ∙ ap₂ (λ x y. weights x then λ t. later a (weights y) then λ u. answer (beside (columnCount x) (columnCount y) t u)) (front-section s b 0 a (omega (arith, ends .above))) (front-section s b a (b - a) (omega (arith, whole)))
-      ∙ ap (λ c. weights (section s 0 a) then λ t. later a (weights part) then λ u. answer (beside c (columnCount part) t u)) (front-columns s a (omega (arith, A .below)))
+  pub front-weights : weights (section s 0 b) ≡ joined a (beside (firstColumn s a) (columnCount part)) (weights (section s 0 a)) (weights part)
+  unfolding weights joinSteps orderSteps
+  front-weights = front-run (tables (firstColumn s b)) s F a A (omega arith)
 
   pub front-answers : {t u : Table} → weights (section s 0 a) ≡ answer t → weights part ≡ answer u → weights (section s 0 b) ≡ answer (beside (firstColumn s a) (columnCount part) t u)
-  front-answers {t} e h = front-weights ∙ then-answers _ e ∙ ap (λ o. later a o then λ u. answer (beside (firstColumn s a) (columnCount part) t u)) h
+  front-answers e h = front-weights ∙ joined-answers a (beside (firstColumn s a) (columnCount part)) e h
 
   pub front-refuses : {t : Table} {code place : ℕ} → weights (section s 0 a) ≡ answer t → weights part ≡ refusal code place → weights (section s 0 b) ≡ refusal code (capped (a + place))
-  front-refuses {t} e h = front-weights ∙ then-answers _ e ∙ ap (λ o. later a o then λ u. answer (beside (firstColumn s a) (columnCount part) t u)) h
+  front-refuses e h = front-weights ∙ joined-refuses a (beside (firstColumn s a) (columnCount part)) e h
 
   -- a front that answers: the front before it and the part do
   pub front-inverts : {w : Table} → weights (section s 0 b) ≡ answer w → Joined a (beside (firstColumn s a) (columnCount part)) (weights (section s 0 a)) (weights part) w
@@ -148,8 +146,5 @@ pub whole-front : (s : Space) → Lengths s → (a : ℕ) → partEnd s a ≡ se
 whole-front s L a e = ap (section s 0) e ∙ section-all s L
 
 pub refused-front : (s : Space) → Checked s → (b : ℕ) → Boundary s b → {code place : ℕ} → weights (section s 0 b) ≡ refusal code place → weights s ≡ refusal code place
-refused-front s c b B {code} {place} e = go (le-or-lt (segments s) b)
-  where
-    go : (segments s ≤ b) ⊎ (b < segments s) → weights s ≡ refusal code place
-    go (inl h) = ap weights (sym (section-all s (lengths-fit-inverts s (c .lengths)))) ∙ ap (λ m. weights (section s 0 m)) (let z : segments s ≡ b = omega (arith, B .within) in z) ∙ e
-    go (inr h) = cut-weights s (orders-fit s c) b (segments s - b) (omega arith) (B .starts h) (omega arith) ∙ then-refuses _ e
+unfolding weights joinSteps orderSteps
+refused-front s c b B e = refused-run (tables (columnCount s)) s c (omega arith) b B e

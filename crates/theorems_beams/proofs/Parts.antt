@@ -23,7 +23,7 @@ use Rattle.theorems_beams.specs.Sections.{section, partAt, beside}
 use Rattle.theorems_beams.specs.Parts.{Starts, CutWeights, PartOf, WeightsByParts, FirstRefused, RefusedWithAPart, RefusedByAPart}
 use Rattle.theorems_beams.proofs.Carried.{joined-inverts}
 use Rattle.theorems_beams.proofs.Sections.{section-all, front-columns, orders-fit}
-use Rattle.theorems_beams.proofs.Cut.{cut-weights}
+use Rattle.theorems_beams.proofs.Sides.{cut-weights}
 use Rattle.theorems_beams.proofs.Ends.{starts-boundary, by-parts}
 use Rattle.theorems_beams.proofs.PartLegal.{part-checked}
 use Rattle.theorems_beams.proofs.Fronts.{no-front, front-answers, front-inverts, front-refuses, part-columns, front-rows, refused-front}

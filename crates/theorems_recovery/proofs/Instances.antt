@@ -2,7 +2,6 @@
 -- ordinates 0,256,257,257,768,0 have the coefficients 0,1,3,0 times 256; and W1's space with ordinates whose slopes differ.
 use mathlib.Core.Path.{_≡_, refl, _∙_, ap, ap₂, subst}
 use mathlib.Core.List.{List, [], _∷_, map}
-use mathlib.Core.Bool.{true}
 use Prim.Native.Nat.{ℕ, zero, suc, _<_}
 use native.Mathlib.Omega.{arith}
 use lib.IntN.{ℤ, pos, natAbs}

@@ -1,6 +1,6 @@
 -- The proofs of the statements in specs/. Undoing is one step undone, on functions; Answers and Steps bring a step of the
 -- definition into that form; Reproduction goes through the steps and states the results, RecoveredCells those on cells, Instances are examples with numbers;
--- Moved is a step on a table in a larger one, Cut the parts of a beam, Fronts the loop over them; Cases is the table of calls.
+-- Moved is a step on a table in a larger one, Cut combinations as a kind of state that a beam is cut with, Fronts the loop over its parts; Cases is the table of calls.
 pub mod Undoing
 pub mod Answers
 pub mod Steps

@@ -2,49 +2,31 @@
 -- the others become what they become by themselves.
 use mathlib.Core.Path.{_≡_, refl, sym, _∙_, ap, ap₂}
 use mathlib.Core.Bool.{Bool, true, false, cond}
-use mathlib.Core.List.{List, _++_, append-assoc}
+use mathlib.Core.List.{List, _++_}
 use Prim.Native.Nat.{ℕ, zero, suc, _+_, _-_, _<_, _≤_}
 use native.Mathlib.Omega.{arith}
 use native.Mathlib.Nat.{add-zero as nothing-more, add-suc}
 use lib.IntN.{pos}
-use lib.ListN.{length, take, drop, length-append, List·getD-append}
-use lib.Seq.{getD-append-add, take-append-add, take-append-le, drop-append-add, drop-append-le}
+use lib.ListN.{length, length-append, List·getD-append}
+use lib.Seq.{getD-append-add}
 use Rattle.base_exact.specs.Rational.{ℚ, int, _+ᵠ_, _*ᵠ_, _-ᵠ_, _/ᵠ_}
 use Rattle.base_exact.specs.Order.{isZero}
 use Rattle.base_fraction.specs.Size.{fits}
 use Rattle.base_outcome.specs.Outcome.{Outcome, answer, refusal, refuse, capped, _then_}
 use Rattle.spec_spline.specs.Conditions.{Entry}
-use Rattle.spec_spline.specs.Table.{Row, Table, entry, row}
-use Rattle.spec_spline.specs.Step.{Span, jump, jumps, jumpsAt, span, factors, step}
+use Rattle.spec_spline.specs.Table.{entry}
+use Rattle.spec_spline.specs.Step.{Span, jumps, jumpsAt, span, factors, step}
 use Rattle.spec_spline.proofs.Shape.{Wide}
+use Rattle.spec_spline.proofs.Splice.{spliced-within}
 use Rattle.spec_spline.proofs.Answers.{jumps-length, span-inverts}
 use Rattle.theorems_beams.proofs.Carried.{carried, carried-then}
-use Rattle.theorems_beams.proofs.Embedded.{padded, padded-at, padded-length, jumps-before, jumps-inside, jumps-behind, movedSpan, span-carried, factors-carried, embedded, jumps-carried, embedded-step}
+use Rattle.theorems_beams.proofs.Embedded.{padded, padded-at, padded-length, jumps-before, jumps-inside, jumps-behind, movedSpan, span-carried, factors-carried, Around, embedded, jumps-carried, embedded-step}
 use Rattle.theorems_recovery.specs.Recovery.{Combination, fitted, jumpSum, balanced, undoneCoefficient, undoneRow, undoneRows, undone, recoverStep}
 
 -- ---- a list in a longer one
 
-module _ (xs cs ys : List ℚ) where
-  front-length : length (xs ++ cs) ≡ length xs + length cs
-  front-length = length-append xs cs
-
-  coefficient-inside : (i : ℕ) → i < length cs → entry (xs ++ cs ++ ys) (length xs + i) ≡ entry cs i
-  coefficient-inside i h = List·getD-append (xs ++ cs) ys (int (pos 0)) (length xs + i) (omega (arith, front-length)) ∙ getD-append-add xs cs i (int (pos 0))
-
-  spliced : (f l : ℕ) (ds : List ℚ) → f ≤ length cs → suc l ≤ length cs
-      → take (length xs + f) (xs ++ cs ++ ys) ++ (ds ++ drop (suc (length xs + l)) (xs ++ cs ++ ys)) ≡ xs ++ (take f cs ++ (ds ++ drop (suc l) cs)) ++ ys
-  spliced f l ds h k = ap₂ (λ u v. u ++ (ds ++ v)) front back ∙ sym (regroup xs (take f cs) ds (drop (suc l) cs) ys)
-    where
-      front : take (length xs + f) (xs ++ cs ++ ys) ≡ xs ++ take f cs
-      front = take-append-le (length xs + f) (xs ++ cs) ys (omega (arith, front-length)) ∙ take-append-add xs cs f
-
-      back : drop (suc (length xs + l)) (xs ++ cs ++ ys) ≡ drop (suc l) cs ++ ys
-      back =
-          ap (λ n. drop n (xs ++ cs ++ ys)) (let e : suc (length xs + l) ≡ length xs + suc l = omega arith in e)
-          ∙ drop-append-le (length xs + suc l) (xs ++ cs) ys (omega (arith, front-length)) ∙ ap (λ u. u ++ ys) (drop-append-add xs cs (suc l))
-
-      regroup : (A B C D E : List ℚ) → A ++ (B ++ (C ++ D)) ++ E ≡ A ++ B ++ (C ++ (D ++ E))
-      regroup A B C D E = append-assoc A (B ++ (C ++ D)) E ∙ ap (λ x. A ++ x) (append-assoc B (C ++ D) E) ∙ sym (append-assoc A B (C ++ D ++ E)) ∙ ap (λ x. A ++ B ++ x) (append-assoc C D E)
+coefficient-inside : (xs cs ys : List ℚ) (i : ℕ) → i < length cs → entry (xs ++ cs ++ ys) (length xs + i) ≡ entry cs i
+coefficient-inside xs cs ys i h = List·getD-append (xs ++ cs) ys (int (pos 0)) (length xs + i) (omega (arith, length-append xs cs)) ∙ getD-append-add xs cs i (int (pos 0))
 
 -- ---- the parts of a step at joins j and j′, whose places correspond
 module _ (ρ : ℕ → ℕ) (j j′ : ℕ) (place : ρ (capped j) ≡ capped j′) where
@@ -136,33 +118,35 @@ module _ (ρ : ℕ → ℕ) (j j′ : ℕ) (place : ρ (capped j) ≡ capped j�
     undone-carried g o h =
         carried-then ρ (λ ds. ds) (λ ds. xs ++ ds ++ ys) (undoneRows j ws cs (g .f) (g .l - g .f)) _ _
         (ap (undoneRows j′ ws (xs ++ cs ++ ys) (length xs + g .f)) (let e : length xs + g .l - (length xs + g .f) ≡ g .l - g .f = omega arith in e) ∙ rows-carried (g .f) (g .l - g .f) (omega arith))
-        (λ ds e. ap answer (spliced xs cs ys (g .f) (g .l) ds (omega arith) h))
+        (λ ds e. ap answer (spliced-within xs cs ys ds (g .f) (g .l) (omega arith) h))
 
-  -- ---- the step: the table t in a larger one, with the coefficients xs for the rows P above it and ys for the rows Q below it
-  module _ (κ κ′ : List Entry) (a b : ℕ) (P Q : Table)
-      (same : (r : Row) → jump j′ κ′ (padded a b r) ≡ carried ρ (λ x. x) (jump j κ r))
-      (above : (i : ℕ) → i < length P → jump j′ κ′ (row P i) ≡ answer (int (pos 0)))
-      (below : (i : ℕ) → i < length Q → jump j′ κ′ (row Q i) ≡ answer (int (pos 0)))
-      (xs ys : List ℚ) (count : length xs ≡ length P) where
-    abbrev pub within : Combination → Combination
-    within r = record { table = embedded ρ j j′ place κ κ′ a b P Q same above below (r .table); coefficients = xs ++ r .coefficients ++ ys }
+-- ---- the step: a table in a larger one, with the coefficients xs for the rows above it and ys for the rows below it
+module _ {ρ : ℕ → ℕ} {j j′ : ℕ} {κ κ′ : List Entry} (E : Around ρ j j′ κ κ′) (xs ys : List ℚ) (count : length xs ≡ length (E .above)) where
+  abbrev p : ℕ
+  p = length (E .above)
 
-    pub recover-embedded : (r : Combination) → length (r .coefficients) ≡ length (r .table) → (n : ℕ) → Wide n (r .table) → recoverStep j′ κ′ (within r) ≡ carried ρ within (recoverStep j κ r)
-    unfolding recoverStep
-    recover-embedded r own n wide =
-        carried-then ρ whole within (step j κ (r .table)) _ _ (embedded-step ρ j j′ place κ κ′ a b P Q same above below (r .table) n wide)
-        (λ t e. carried-then ρ (padded (length P) (length Q)) within (jumps j κ (r .table)) _ _ (jumps-carried ρ j j′ place κ κ′ a b P Q same above below (r .table))
-        (λ js i. carried-then ρ (movedSpan (length P)) within (span j js) _ _ (span-carried ρ j j′ place (length P) (length Q) js)
-        (λ g h. carried-then ρ (λ ws. ws) within (factors j js g) _ _ (factors-carried ρ j j′ place (length P) (length Q) js g)
-        (λ ws m. carried-then ρ (λ u. u) within (balanced j js (r .coefficients)) _ _ (moved-balance js (jumps-length j κ (r .table) i))
-        (λ u k. carried-then ρ (λ ds. xs ++ ds ++ ys) within (undone j g ws (r .coefficients)) _ _ (moved-undone g ws (span-inverts j js h .ordered) (omega (arith, span-inverts j js h .below, jumps-length j κ (r .table) i, own)))
-        (λ ds l. refl))))))
-      where
-        whole : Table → Table
-        whole t = embedded ρ j j′ place κ κ′ a b P Q same above below t
+  abbrev q : ℕ
+  q = length (E .below)
 
-        moved-undone : (g : Span) (ws : List ℚ) → g .f ≤ g .l → g .l < length (r .coefficients) → undone j′ (movedSpan (length P) g) ws (xs ++ r .coefficients ++ ys) ≡ carried ρ (λ ds. xs ++ ds ++ ys) (undone j g ws (r .coefficients))
-        moved-undone g ws o h = ap (λ p. undone j′ (movedSpan p g) ws (xs ++ r .coefficients ++ ys)) (sym count) ∙ undone-carried xs (r .coefficients) ys ws g o h
+  abbrev among : List ℚ → List ℚ
+  among ds = xs ++ ds ++ ys
 
-        moved-balance : (js : List ℚ) → length js ≡ length (r .table) → balanced j′ (padded (length P) (length Q) js) (xs ++ r .coefficients ++ ys) ≡ carried ρ (λ u. u) (balanced j js (r .coefficients))
-        moved-balance js size = ap (λ p. balanced j′ (padded p (length Q) js) (xs ++ r .coefficients ++ ys)) (sym count) ∙ balanced-carried xs (r .coefficients) ys js (length Q) (size ∙ sym own)
+  abbrev pub within : Combination → Combination
+  within r = record { table = embedded E (r .table); coefficients = among (r .coefficients) }
+
+  pub recover-embedded : (r : Combination) → length (r .coefficients) ≡ length (r .table) → (n : ℕ) → Wide n (r .table) → recoverStep j′ κ′ (within r) ≡ carried ρ within (recoverStep j κ r)
+  unfolding recoverStep
+  recover-embedded r own n wide =
+      carried-then ρ (embedded E) within (step j κ (r .table)) _ _ (embedded-step E (r .table) n wide)
+      (λ t e. carried-then ρ (padded p q) within (jumps j κ (r .table)) _ _ (jumps-carried E (r .table))
+      (λ js i. let size = jumps-length j κ (r .table) i in carried-then ρ (movedSpan p) within (span j js) _ _ (span-carried ρ j j′ (E .place) p q js)
+      (λ g h. let s = span-inverts j js h in carried-then ρ (λ ws. ws) within (factors j js g) _ _ (factors-carried ρ j j′ (E .place) p q js g)
+      (λ ws m. carried-then ρ (λ u. u) within (balanced j js (r .coefficients)) _ _ (balance js size)
+      (λ u k. carried-then ρ among within (undone j g ws (r .coefficients)) _ _ (undoing g ws (s .ordered) (omega (arith, s .below, size, own)))
+      (λ ds l. refl))))))
+    where
+      undoing : (g : Span) (ws : List ℚ) → g .f ≤ g .l → g .l < length (r .coefficients) → undone j′ (movedSpan p g) ws (among (r .coefficients)) ≡ carried ρ among (undone j g ws (r .coefficients))
+      undoing g ws o h = ap (λ m. undone j′ (movedSpan m g) ws (among (r .coefficients))) (sym count) ∙ undone-carried ρ j j′ (E .place) xs (r .coefficients) ys ws g o h
+
+      balance : (js : List ℚ) → length js ≡ length (r .table) → balanced j′ (padded p q js) (among (r .coefficients)) ≡ carried ρ (λ u. u) (balanced j js (r .coefficients))
+      balance js size = ap (λ m. balanced j′ (padded m q js) (among (r .coefficients))) (sym count) ∙ balanced-carried ρ j j′ (E .place) xs (r .coefficients) ys js q (size ∙ sym own)
