@@ -88,13 +88,13 @@ pub record Sound (r : Combination) (rows columns : ℕ) : Type 0 where
 pub recover-one-less : (j : ℕ) (κ : List Entry) (r : Combination) {next : Combination} {rows columns : ℕ} → recoverStep j κ r ≡ answer next → Sound r rows columns → Sound next (rows - 1) columns
 recover-one-less j κ r {next} {rows} {columns} e sound =
     let p = parts-of j κ r next e in
-    let s = span-inverts j (p .js) (p .has-span) in
-    let below : p .l < length (r .coefficients) = omega (arith, s .below, jumps-length j κ (r .table) (p .has-jumps), sound .proper .shaped .row-count, sound .count) in
-    let size = rows-undone j (p .ws) (r .coefficients) (p .f) (p .l - p .f) (p .has-rows) .size in
+    let s = span-inverts j (p .own .js) (p .own .has-span) in
+    let below : p .own .g .l < length (r .coefficients) = omega (arith, s .below, jumps-length j κ (r .table) (p .own .has-jumps), sound .proper .shaped .row-count, sound .count) in
+    let size = rows-undone j (p .own .ws) (r .coefficients) (p .own .g .f) (p .own .g .l - p .own .g .f) (p .has-rows) .size in
     record {
       proper = step-one-less j κ (r .table) (p .has-step) (sound .proper);
-      count = ap length (sym (p .whole)) ∙ spliced-length (r .coefficients) (p .ds) (p .f) (suc (p .l)) (omega (arith, s .ordered, below)) ∙ omega (arith, size, s .ordered, below, sound .count);
-      fit = subst AllFit (p .whole) (spliced-fit (r .coefficients) (p .ds) (p .f) (suc (p .l)) (omega (arith, s .ordered, below)) (omega (arith, size, s .ordered)) (sound .fit) (rows-fit j (p .ws) (r .coefficients) (p .f) (p .l - p .f) (sound .fit) (p .has-rows)));
+      count = ap length (sym (p .whole)) ∙ spliced-length (r .coefficients) (p .ds) (p .own .g .f) (suc (p .own .g .l)) (omega (arith, s .ordered, below)) ∙ omega (arith, size, s .ordered, below, sound .count);
+      fit = subst AllFit (p .whole) (spliced-fit (r .coefficients) (p .ds) (p .own .g .f) (suc (p .own .g .l)) (omega (arith, s .ordered, below)) (omega (arith, size, s .ordered)) (sound .fit) (rows-fit j (p .own .ws) (r .coefficients) (p .own .g .f) (p .own .g .l - p .own .g .f) (sound .fit) (p .has-rows)));
     }
 
 -- ---- the orders at a join

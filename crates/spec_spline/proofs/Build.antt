@@ -1,7 +1,6 @@
 -- Buffers that are long enough let the build's outcome through, and what they hold is the last part of the whole table.
 use mathlib.Core.Path.{_≡_, _∙_}
 use Prim.Native.Nat.{ℕ, _+_, _≤_}
-use native.Mathlib.Omega.{arith}
 use borrow.Author.Tests.{le-ltb}
 use Rattle.base_exact.proofs.Decide.{cond-false}
 use Rattle.base_outcome.specs.Outcome.{Outcome}

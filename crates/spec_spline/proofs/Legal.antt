@@ -10,7 +10,7 @@ use lib.Dec.{eqb, leb}
 use lib.IntN.{ℤ, pos, negsuc, _+ℤ_, _-ℤ_, negℤ, natAbs}
 use lib.ListN.{length}
 use lib.Signed.{leZ, _<ℤ_}
-use Rattle.base_exact.proofs.Decide.{and-true, or-false, cond-true}
+use Rattle.base_exact.proofs.Decide.{and-true, or-false}
 use Rattle.base_exact.proofs.Integer.{up, dn, bal-+, bal-neg, ≤-out, <-out, abs-parts}
 use Rattle.base_exact.proofs.Word.{leZ-false}
 use Rattle.base_outcome.specs.Outcome.{Outcome, answer, refusal, refuse}

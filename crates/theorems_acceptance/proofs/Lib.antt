@@ -16,7 +16,7 @@ pub mod JumpSums
 pub mod OrderSums
 pub mod Signs
 pub mod Tests
-pub mod TableFits
+pub mod Entries
 pub mod Reached
 pub mod Refusals
 pub mod NineNever

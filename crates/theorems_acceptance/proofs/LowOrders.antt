@@ -27,7 +27,7 @@ use Rattle.theorems_acceptance.specs.Acceptance.{OrdersAtMostOne, counte
 use Rattle.theorems_acceptance.proofs.Limits.{Limits, limits, low-count, third-order}
 use Rattle.theorems_acceptance.proofs.Tests.{Good, Every, every-joined, every-one}
 use Rattle.theorems_acceptance.proofs.Refusals.{no-refusal, every-passes}
-use Rattle.theorems_acceptance.proofs.TableFits.{TableHas, TableFits}
+use Rattle.theorems_acceptance.proofs.Entries.{TableHas}
 use Rattle.theorems_acceptance.proofs.Reached.{Reached, start-reached, step-reached, join-reached, RefusedAt, weights-refused}
 use Rattle.theorems_acceptance.proofs.Small.{Small, small-int, small-zero, small-fits, fits-small}
 use Rattle.theorems_acceptance.proofs.LowSteps.{low-step-good, low-step-cells}
@@ -110,7 +110,7 @@ mostCounted : ℕ
 mostCounted = limit - 1
 
 pub eight-comes-at-order-two : EightComesAtOrderTwo
-unfolding spaceWeights mostCounted TableFits
+unfolding spaceWeights mostCounted
 eight-comes-at-order-two s place e = go (then-breaks (checked s) weights e)
   where
     at : Checked s → RefusedAt s 8 place → EightAtOrderTwo s place

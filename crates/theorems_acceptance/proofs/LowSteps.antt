@@ -36,7 +36,7 @@ use Rattle.theorems_acceptance.proofs.Invariant.{column, column-inside}
 use Rattle.theorems_acceptance.proofs.Alternating.{Alternates, jump-inside, quotient-above, quotient-below}
 use Rattle.theorems_acceptance.proofs.JumpSums.{stage, room, room′}
 use Rattle.theorems_acceptance.proofs.Tests.{Good, Every, first-is, last-is as last-jump-is, quotient-is, step-good}
-use Rattle.theorems_acceptance.proofs.TableFits.{TableHas, spliced-has}
+use Rattle.theorems_acceptance.proofs.Entries.{TableHas, spliced-has}
 use Rattle.theorems_acceptance.proofs.Reached.{Reached, alternate}
 use Rattle.theorems_acceptance.proofs.WeightCount.{column-within}
 use Rattle.theorems_acceptance.proofs.Small.{Small, small-int, small-zero, small-quotient, small-rest, only-first, only-second, first-one, second-one, last-entry}

@@ -16,6 +16,7 @@ use Rattle.spec_spline.specs.Step.{step}
 use Rattle.spec_spline.specs.Build.{orderSteps, joinSteps, weights}
 use Rattle.base_outcome.proofs.Outcome.{repeat-keeps, Halted, repeat-refuses, then-answers}
 use Rattle.spec_spline.proofs.Legal.{Checked, Legal, legal}
+use Rattle.spec_spline.proofs.TableFits.{TableFits, identity-fits, step-fits}
 use Rattle.theorems_weights.proofs.Basis.{Basis}
 use Rattle.theorems_weights.proofs.Identity.{identity-basis}
 use Rattle.theorems_weights.proofs.Stepped.{Stepped, values}
@@ -28,7 +29,6 @@ use Rattle.theorems_acceptance.proofs.Stages.{met, join-met}
 use Rattle.theorems_acceptance.proofs.Invariant.{Shaped, identity-shaped, step-shaped}
 use Rattle.theorems_acceptance.proofs.Alternating.{Alternates, jump-before, jump-after, jump-inside}
 use Rattle.theorems_acceptance.proofs.Signs.{jumps-alternate, span-spread}
-use Rattle.theorems_acceptance.proofs.TableFits.{TableFits, identity-fitting, step-fitting}
 
 -- A step at a table of the form that Invariant states mixes the rows that it should.
 module _ (s : Space) (M : Limits s) (join k : ℕ) (h : join < segments s - 1) (m : k < conditionCount s join) (t : Table) (C : Shaped s (met s join k) t)
@@ -57,7 +57,7 @@ pub record Reached (s : Space) (join k : ℕ) (t : Table) : Type 0 where
 
 module _ (s : Space) (L : Legal s) (M : Limits s) where
   pub start-reached : Reached s 0 0 (identity (columnCount s))
-  start-reached = record { basis = identity-basis (columnCount s) (Done s 0 0) (nothing-done s); shape = identity-shaped s; fitting = identity-fitting (columnCount s) }
+  start-reached = record { basis = identity-basis (columnCount s) (Done s 0 0) (nothing-done s); shape = identity-shaped s; fitting = identity-fits (columnCount s) }
 
   module _ (join k : ℕ) (h : join < segments s - 1) (m : k < conditionCount s join) (t : Table) (R : Reached s join k t) where
     pub alternate : Alternates (firstSpanned (degree s) (met s join k) join k) (lastSpanned (degree s) (met s join k) join) (λ n. sum n (values (conditions s join k) t))
@@ -79,7 +79,7 @@ module _ (s : Space) (L : Legal s) (M : Limits s) where
     step-reached t′ e = let A = advance t′ e in let B = order-kept s L join k t t′ (R .basis) (A .stepped) in record {
       basis = B;
       shape = step-shaped s M join k h m (conditions s join k) t t′ (R .shape) (A .stepped) (A .mixing) (B .column-sums);
-      fitting = step-fitting join (conditions s join k) t t′ (R .fitting) e;
+      fitting = step-fits join (conditions s join k) t (R .fitting) e;
     }
 
   -- the first n conditions of a join

@@ -2,7 +2,7 @@
 -- alone, those behind it the lower right table and its coefficients. So the beam's coefficients are those of its two sections.
 use mathlib.Core.Path.{_≡_, refl, sym, _∙_, ap, ap₂}
 use mathlib.Core.List.{List, [], _++_, map, map-append, append-nil}
-use Prim.Native.Nat.{ℕ, suc, _+_, _-_, _≤_}
+use Prim.Native.Nat.{ℕ, _+_, _-_, _≤_}
 use native.Mathlib.Omega.{arith}
 use native.Mathlib.Nat.{zero-add as nothing-add}
 use lib.IntN.{ℤ}
@@ -17,9 +17,7 @@ use Rattle.spec_spline.specs.Table.{Table, identity}
 use Rattle.spec_spline.proofs.Legal.{checked-inverts}
 use Rattle.spec_spline.proofs.Table.{identity-rows}
 use Rattle.spec_spline.proofs.Conditions.{Inside}
-use Rattle.spec_spline.proofs.Splice.{spliced-length}
-use Rattle.spec_spline.proofs.Answers.{jumps-length, span-inverts}
-use Rattle.spec_spline.proofs.Shape.{Wide, step-shaped}
+use Rattle.spec_spline.proofs.Shape.{Wide, Shaped, step-shaped}
 use Rattle.theorems_beams.specs.Sections.{section, zeros, beside}
 use Rattle.theorems_beams.proofs.Carried.{carried, carried-ext, joined}
 use Rattle.theorems_beams.proofs.Embedded.{Around}
@@ -28,8 +26,7 @@ use Rattle.theorems_beams.proofs.Cut.{Kind, both-columns, cut-run}
 use Rattle.theorems_beams.proofs.Sides.{left-around, right-around, right-embedded, identity-beside, identity-is-wide}
 use Rattle.theorems_recovery.specs.Recovery.{Combination, recoverStep, recoverOrders, recoverJoins, recovered}
 use Rattle.theorems_recovery.specs.Beams.{together, CutRecovered}
-use Rattle.theorems_recovery.proofs.Answers.{rows-undone}
-use Rattle.theorems_recovery.proofs.Steps.{Parts, parts-of}
+use Rattle.theorems_recovery.proofs.Steps.{Parts, parts-of, numbers-less}
 use Rattle.theorems_recovery.proofs.Moved.{within, recover-embedded}
 
 -- ---- rows of one width, and a coefficient for each
@@ -39,17 +36,13 @@ pub record Fine (width : ℕ) (r : Combination) : Type 0 where
   pub count : length (r .coefficients) ≡ length (r .table)
 
 pub step-fine : (width j : ℕ) (κ : List Entry) (r r′ : Combination) → Fine width r → recoverStep j κ r ≡ answer r′ → Fine width r′
-step-fine width j κ r r′ F e = go (parts-of j κ r r′ e)
+step-fine width j κ r r′ F e = record { wide = S .wide; count = omega (arith, numbers-less (F .count) P, F .count, S .rows) }
   where
-    go : Parts j κ r r′ → Fine width r′
-    go P = let S = step-shaped width (length (r .table)) j κ (r .table) (record { wide = F .wide; rows = refl }) (P .has-step) in
-        let p = span-inverts j (P .js) (P .has-span) in
-        record {
-          wide = S .wide;
-          count = ap length (sym (P .whole))
-              ∙ spliced-length (r .coefficients) (P .ds) (P .f) (suc (P .l)) (omega (arith, p .ordered, p .below, jumps-length j κ (r .table) (P .has-jumps), F .count))
-              ∙ omega (arith, p .ordered, p .below, jumps-length j κ (r .table) (P .has-jumps), F .count, S .rows, rows-undone j (P .ws) (r .coefficients) (P .f) (P .l - P .f) (P .has-rows) .size);
-        }
+    P : Parts j κ r r′
+    P = parts-of j κ r r′ e
+
+    S : Shaped width (length (r .table) - 1) (r′ .table)
+    S = step-shaped width (length (r .table)) j κ (r .table) (record { wide = F .wide; rows = refl }) (P .has-step)
 
 -- ---- one step on two tables side by side, with their coefficients
 abbrev pub sideBySide : ℕ → ℕ → Combination → Combination → Combination

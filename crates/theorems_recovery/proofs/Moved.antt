@@ -22,6 +22,7 @@ use Rattle.spec_spline.proofs.Answers.{jumps-length, span-inverts}
 use Rattle.theorems_beams.proofs.Carried.{carried, carried-then}
 use Rattle.theorems_beams.proofs.Embedded.{padded, padded-at, padded-length, jumps-before, jumps-inside, jumps-behind, movedSpan, span-carried, factors-carried, Around, embedded, jumps-carried, embedded-step}
 use Rattle.theorems_recovery.specs.Recovery.{Combination, fitted, jumpSum, balanced, undoneCoefficient, undoneRow, undoneRows, undone, recoverStep}
+use Rattle.theorems_recovery.proofs.Answers.{added}
 
 -- ---- a list in a longer one
 
@@ -45,16 +46,11 @@ module _ (ρ : ℕ → ℕ) (j j′ : ℕ) (place : ρ (capped j) ≡ capped j�
     abbrev jumped : List ℚ
     jumped = padded (length xs) q js
 
-    added : ℕ → List ℚ → List ℚ → ℕ → ℚ → Outcome ℚ
-    added i ks ns n s = cond (jumpsAt ks n) (fitted i (entry ns n *ᵠ entry ks n) then λ p. fitted i (s +ᵠ p)) (answer s)
-
     added-nothing : (n : ℕ) (o : Outcome ℚ) → jumpsAt jumped n ≡ false → (o then added j′ jumped all n) ≡ o
-    unfolding added
     added-nothing n (answer s) e = ap (λ b. cond b (fitted j′ (entry all n *ᵠ entry jumped n) then λ p. fitted j′ (s +ᵠ p)) (answer s)) e
     added-nothing n (refusal code place) e = refl
 
     added-carried : (n : ℕ) → n < length cs → (s : ℚ) → added j′ jumped all (length xs + n) s ≡ carried ρ (λ y. y) (added j js cs n s)
-    unfolding added
     added-carried n h s = ap (λ b. cond b (fitted j′ (entry all (length xs + n) *ᵠ entry jumped (length xs + n)) then λ p. fitted j′ (s +ᵠ p)) (answer s)) (jumps-inside (length xs) q js n)
         ∙ go (jumpsAt js n)
       where
@@ -65,18 +61,18 @@ module _ (ρ : ℕ → ℕ) (j j′ : ℕ) (place : ρ (capped j) ≡ capped j�
         go false = refl
 
     sum-before : (n : ℕ) → n ≤ length xs → jumpSum j′ jumped all n ≡ answer (int (pos 0))
-    unfolding jumpSum added
+    unfolding jumpSum
     sum-before zero h = refl
     sum-before (suc n) h = added-nothing n (jumpSum j′ jumped all n) (jumps-before (length xs) q js n h) ∙ sum-before n (omega arith)
 
     sum-inside : (n : ℕ) → n ≤ length cs → jumpSum j′ jumped all (length xs + n) ≡ carried ρ (λ y. y) (jumpSum j js cs n)
-    unfolding jumpSum added
+    unfolding jumpSum
     sum-inside zero h = ap (jumpSum j′ jumped all) (nothing-more (length xs)) ∙ sum-before (length xs) (omega arith)
     sum-inside (suc n) h = ap (jumpSum j′ jumped all) (add-suc (length xs) n)
         ∙ carried-then ρ (λ y. y) (λ y. y) (jumpSum j js cs n) (added j js cs n) (added j′ jumped all (length xs + n)) (sum-inside n (omega arith)) (λ s e. added-carried n h s)
 
     sum-behind : (n : ℕ) → jumpSum j′ jumped all (length xs + length cs + n) ≡ jumpSum j′ jumped all (length xs + length cs)
-    unfolding jumpSum added
+    unfolding jumpSum
     sum-behind zero = ap (jumpSum j′ jumped all) (nothing-more (length xs + length cs))
     sum-behind (suc n) = ap (jumpSum j′ jumped all) (add-suc (length xs + length cs) n)
         ∙ added-nothing (length xs + length cs + n) (jumpSum j′ jumped all (length xs + length cs + n))

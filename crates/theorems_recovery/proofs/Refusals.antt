@@ -2,27 +2,25 @@
 -- 20, at the join.
 use mathlib.Core.Path.{_≡_, refl, sym, _∙_, ap}
 use mathlib.Core.Logic.{_⊎_, inl, inr}
-use mathlib.Core.Bool.{Bool, true, false, cond}
-use mathlib.Core.List.{List, [], _∷_, _++_, map}
-use Prim.Native.Nat.{ℕ, zero, suc, _+_, _-_}
+use mathlib.Core.Bool.{true}
+use mathlib.Core.List.{List, map}
+use Prim.Native.Nat.{ℕ, _-_}
 use native.Mathlib.Omega.{arith}
-use lib.IntN.{ℤ, pos}
-use lib.ListN.{length, take, drop}
-use Rattle.base_exact.specs.Rational.{ℚ, int, _+ᵠ_, _-ᵠ_, _*ᵠ_, _/ᵠ_}
-use Rattle.base_exact.specs.Order.{isZero}
-use Rattle.base_fraction.specs.Size.{fits}
-use Rattle.base_outcome.specs.Outcome.{Outcome, answer, refusal, refuse, capped, _then_, repeat}
+use lib.IntN.{ℤ}
+use Rattle.base_exact.specs.Rational.{ℚ, int}
+use Rattle.base_outcome.specs.Outcome.{Outcome, answer, refusal, capped, _then_, repeat}
 use Rattle.spec_spline.specs.Space.{Space, segments, columnCount, conditionCount}
 use Rattle.spec_spline.specs.Conditions.{Entry, conditions}
-use Rattle.spec_spline.specs.Table.{Table, entry, identity}
-use Rattle.spec_spline.specs.Step.{Span, jumps, jumpsAt, span, factors, newRows, mixed, step}
+use Rattle.spec_spline.specs.Table.{Table, identity}
+use Rattle.spec_spline.specs.Step.{Span, step}
 use Rattle.spec_spline.specs.Build.{orderSteps, joinSteps, weights, clears}
-use Rattle.base_outcome.proofs.Outcome.{answer-not-refusal, then-answers, then-inverts, Broken, first-refuses, second-refuses, then-breaks, RefusedAs, answer-refused, then-refused, repeat-refused, repeat-more, repeat-stops, repeat-keeps, Halted, repeat-refuses}
-use Rattle.spec_spline.proofs.Refusals.{EightOrNine, step-refuses, jumps-refuse-8, span-refuses-9, factors-refuse}
-use Rattle.theorems_recovery.specs.Recovery.{Combination, fitted, jumpSum, balanced, undoneCoefficient, undoneRow, undoneRows, undone, recoverStep, recoverOrders, recoverJoins, recovered}
+use Rattle.base_outcome.proofs.Outcome.{RefusedAs, answer-refused, then-refused, repeat-refused, repeat-more, repeat-stops, repeat-keeps, Halted, repeat-refuses}
+use Rattle.spec_spline.proofs.Refusals.{EightOrNine, step-refuses}
+use Rattle.theorems_recovery.specs.Recovery.{Combination, balanced, undone, recoverStep, recoverOrders, recoverJoins, recovered}
 use Rattle.theorems_recovery.specs.RecoveryCall.{clearsAll}
 use Rattle.theorems_recovery.specs.Reproduction.{EightAndNineAreTheBuilds}
-use Rattle.theorems_recovery.proofs.Steps.{parts-of}
+use Rattle.theorems_recovery.proofs.Steps.{undoing, RefusedIn, in-step, in-undoing, refused-in, parts-of}
+use Rattle.theorems_recovery.proofs.Answers.{balanced-refused-as, undone-refused-as}
 
 -- ---- what comes after the build's own work
 
@@ -30,67 +28,20 @@ use Rattle.theorems_recovery.proofs.Steps.{parts-of}
 abbrev pub Here : ℕ → ℕ → ℕ → Type 0
 Here j code place = ((code ≡ 19) ⊎ (code ≡ 20)) × (place ≡ capped j)
 
-sized-here : (j : ℕ) (q : ℚ) → RefusedAs (Here j) (fitted j q)
-unfolding fitted
-sized-here j q code place e = go (fits q) e
-  where
-    go : (b : Bool) → cond b (answer q) (refuse 20 j) ≡ refusal code place → Here j code place
-    go true e = absurd (answer-not-refusal refl e)
-    go false e = (inr cc, cc)
-
--- the zero test
-zeroTested : ℕ → ℚ → Outcome (Unit {0})
-zeroTested j s = cond (isZero s) (answer tt) (refuse 19 j)
-
-tested-here : (j : ℕ) (s : ℚ) → RefusedAs (Here j) (zeroTested j s)
-unfolding zeroTested
-tested-here j s code place e = go (isZero s) e
-  where
-    go : (b : Bool) → _≡_ {A = Outcome (Unit {0})} (cond b (answer tt) (refuse 19 j)) (refusal code place) → Here j code place
-    go true e = absurd (answer-not-refusal refl e)
-    go false e = (inl cc, cc)
-
-module _ (j : ℕ) (js cs : List ℚ) where
-  -- one row's product added
-  abbrev added : ℕ → ℚ → Outcome ℚ
-  added n s = cond (jumpsAt js n) (fitted j (entry cs n *ᵠ entry js n) then λ p. fitted j (s +ᵠ p)) (answer s)
-
-  added-here : (n : ℕ) (s : ℚ) → RefusedAs (Here j) (added n s)
-  added-here n s = go (jumpsAt js n)
-    where
-      go : (b : Bool) → RefusedAs (Here j) (cond b (fitted j (entry cs n *ᵠ entry js n) then λ p. fitted j (s +ᵠ p)) (answer s))
-      go true = then-refused (Here j) (fitted j (entry cs n *ᵠ entry js n)) (λ p. fitted j (s +ᵠ p)) (sized-here j _) (λ p h. sized-here j (s +ᵠ p))
-      go false = answer-refused (Here j) s
-
-  sum-here : (n : ℕ) → RefusedAs (Here j) (jumpSum j js cs n)
-  unfolding jumpSum
-  sum-here zero = answer-refused (Here j) (int (pos 0))
-  sum-here (suc n) = then-refused (Here j) (jumpSum j js cs n) (added n) (sum-here n) (λ s h. added-here n s)
-
-  pub balanced-here : RefusedAs (Here j) (balanced j js cs)
-  unfolding balanced zeroTested
-  balanced-here = then-refused (Here j) (jumpSum j js cs (length js)) (zeroTested j) (sum-here (length js)) (λ s h. tested-here j s)
-
-module _ (j : ℕ) (ws cs : List ℚ) (f : ℕ) where
-  coefficient-here : (w c before : ℚ) → RefusedAs (Here j) (undoneCoefficient j w c before)
-  unfolding undoneCoefficient
-  coefficient-here w c before = then-refused (Here j) (fitted j ((int (pos 1) -ᵠ w) *ᵠ before)) (λ share. fitted j (c -ᵠ share) then λ d. fitted j (d /ᵠ w)) (sized-here j _)
-      (λ share h. then-refused (Here j) (fitted j (c -ᵠ share)) (λ d. fitted j (d /ᵠ w)) (sized-here j _) (λ d k. sized-here j _))
-
-  row-here : (n : ℕ) (ds : List ℚ) → RefusedAs (Here j) (undoneRow j ws cs f n ds)
-  row-here zero ds = answer-refused (Here j) (entry cs f)
-  row-here (suc n) ds = coefficient-here (entry ws (suc n)) (entry cs (f + suc n)) (entry ds n)
-
-  rows-here : (n : ℕ) → RefusedAs (Here j) (undoneRows j ws cs f n)
-  unfolding undoneRows
-  rows-here zero = answer-refused (Here j) []
-  rows-here (suc n) = then-refused (Here j) (undoneRows j ws cs f n) (λ xs. undoneRow j ws cs f n xs then λ d. answer (xs ++ (d ∷ []))) (rows-here n)
-      (λ xs h. then-refused (Here j) (undoneRow j ws cs f n xs) (λ d. answer (xs ++ (d ∷ []))) (row-here n xs) (λ d k. answer-refused (Here j) (xs ++ (d ∷ []))))
+pub balanced-here : (j : ℕ) (js cs : List ℚ) → RefusedAs (Here j) (balanced j js cs)
+balanced-here j js cs = balanced-refused-as (Here j) j (inr refl, refl) js cs (inl refl, refl)
 
 pub undone-here : (j : ℕ) (g : Span) (ws cs : List ℚ) → RefusedAs (Here j) (undone j g ws cs)
-unfolding undone
-undone-here j g ws cs = then-refused (Here j) (undoneRows j ws cs (g .f) (g .l - g .f)) (λ ds. answer (take (g .f) cs ++ (ds ++ drop (suc (g .l)) cs))) (rows-here j ws cs (g .f) (g .l - g .f))
-    (λ ds h. answer-refused (Here j) (take (g .f) cs ++ (ds ++ drop (suc (g .l)) cs)))
+undone-here j g ws cs = undone-refused-as (Here j) j (inr refl, refl) g ws cs
+
+-- what is left of a step once the build has done its own
+undoing-here : (j : ℕ) (κ : List Entry) (r : Combination) (t : Table) (js : List ℚ) (g : Span) (ws : List ℚ) → RefusedAs (Here j) (undoing j κ r t js g ws)
+undoing-here j κ r t js g ws =
+    then-refused (Here j) (balanced j js (r .coefficients)) (λ _. undone j g ws (r .coefficients) then with-coefficients) (balanced-here j js (r .coefficients))
+    (λ _ _. then-refused (Here j) (undone j g ws (r .coefficients)) with-coefficients (undone-here j g ws (r .coefficients)) (λ ds _. answer-refused (Here j) (record { table = t; coefficients = ds })))
+  where
+    with-coefficients : List ℚ → Outcome Combination
+    with-coefficients ds = answer (record { table = t; coefficients = ds })
 
 -- ---- all refusals of a step
 
@@ -98,30 +49,20 @@ undone-here j g ws cs = then-refused (Here j) (undoneRows j ws cs (g .f) (g .l -
 abbrev pub Stops : ℕ → ℕ → ℕ → Type 0
 Stops j code place = (clearsAll code ≡ true) × (place ≡ capped j)
 
-build-stops : {A : Type 0} (j : ℕ) (o : Outcome A) → RefusedAs (EightOrNine j) o → RefusedAs (Stops j) o
-build-stops j o H code place e = go (H code place e .0)
-  where
-    go : (code ≡ 8) ⊎ (code ≡ 9) → Stops j code place
-    go (inl z) = (ap clearsAll z, H code place e .1)
-    go (inr z) = (ap clearsAll z, H code place e .1)
-
-here-stops : {A : Type 0} (j : ℕ) (o : Outcome A) → RefusedAs (Here j) o → RefusedAs (Stops j) o
-here-stops j o H code place e = go (H code place e .0)
-  where
-    go : (code ≡ 19) ⊎ (code ≡ 20) → Stops j code place
-    go (inl z) = (ap clearsAll z, H code place e .1)
-    go (inr z) = (ap clearsAll z, H code place e .1)
-
 pub recover-stops : (j : ℕ) (κ : List Entry) (r : Combination) → RefusedAs (Stops j) (recoverStep j κ r)
-unfolding recoverStep
-recover-stops j κ r =
-    then-refused (Stops j) (step j κ (r .table)) _ (build-stops j (step j κ (r .table)) (step-refuses j κ (r .table))) (λ t a.
-    then-refused (Stops j) (jumps j κ (r .table)) _ (λ n p e. let x = jumps-refuse-8 j κ (r .table) n p e in (ap clearsAll (x .0), x .1)) (λ js b.
-    then-refused (Stops j) (span j js) _ (λ n p e. let x = span-refuses-9 j js n p e in (ap clearsAll (x .0), x .1)) (λ g c.
-    then-refused (Stops j) (factors j js g) _ (build-stops j (factors j js g) (factors-refuse j js g)) (λ ws d.
-    then-refused (Stops j) (balanced j js (r .coefficients)) _ (here-stops j (balanced j js (r .coefficients)) (balanced-here j js (r .coefficients))) (λ u e.
-    then-refused (Stops j) (undone j g ws (r .coefficients)) _ (here-stops j (undone j g ws (r .coefficients)) (undone-here j g ws (r .coefficients))) (λ ds f.
-    answer-refused (Stops j) (record { table = t; coefficients = ds })))))))
+recover-stops j κ r code place e = go (refused-in j κ r e)
+  where
+    build's : EightOrNine j code place → Stops j code place
+    build's (inl z, p) = (ap clearsAll z, p)
+    build's (inr z, p) = (ap clearsAll z, p)
+
+    undoing's : Here j code place → Stops j code place
+    undoing's (inl z, p) = (ap clearsAll z, p)
+    undoing's (inr z, p) = (ap clearsAll z, p)
+
+    go : RefusedIn j κ r code place → Stops j code place
+    go (in-step q) = build's (step-refuses j κ (r .table) code place q)
+    go (in-undoing {t} p q) = undoing's (undoing-here j κ r t (p .js) (p .g) (p .ws) code place q)
 
 pub orders-stop : (s : Space) (j n : ℕ) (r : Combination) → RefusedAs (Stops j) (recoverOrders s j n r)
 unfolding recoverOrders
@@ -140,38 +81,12 @@ cleared-not : {code : ℕ} → clears code ≡ true → (code ≡ 19) ⊎ (code 
 cleared-not told (inl z) = absurd (let q : _≡_ {A = ℕ} 0 1 = let w : clears 19 ≡ true = ap clears (sym z) ∙ told in cc in omega arith)
 cleared-not told (inr z) = absurd (let q : _≡_ {A = ℕ} 0 1 = let w : clears 20 ≡ true = ap clears (sym z) ∙ told in cc in omega arith)
 
-module _ (j : ℕ) (κ : List Entry) (r : Combination) where
-  -- what follows the factors
-  abbrev undoing : Table → List ℚ → Span → List ℚ → Outcome Combination
-  undoing t js g ws = balanced j js (r .coefficients) then λ _. undone j g ws (r .coefficients) then λ ds. answer (record { table = t; coefficients = ds })
-
-  undoing-here : (t : Table) (js : List ℚ) (g : Span) (ws : List ℚ) → RefusedAs (Here j) (undoing t js g ws)
-  undoing-here t js g ws =
-      then-refused (Here j) (balanced j js (r .coefficients)) (λ _. undone j g ws (r .coefficients) then λ ds. answer (record { table = t; coefficients = ds })) (balanced-here j js (r .coefficients))
-      (λ _ _. then-refused (Here j) (undone j g ws (r .coefficients)) (λ ds. answer (record { table = t; coefficients = ds })) (undone-here j g ws (r .coefficients)) (λ ds _. answer-refused (Here j) (record { table = t; coefficients = ds })))
-
-  -- and what follows the step, whose parts answer where it does
-  abbrev after : Table → Outcome Combination
-  after t = jumps j κ (r .table) then λ js. span j js then λ g. factors j js g then λ ws. undoing t js g ws
-
-  after-here : {t : Table} → step j κ (r .table) ≡ answer t → RefusedAs (Here j) (after t)
-  unfolding step
-  after-here {t} e code place k =
-      let a = then-inverts (jumps j κ (r .table)) (λ js. span j js then λ g. mixed j (r .table) js g) e in
-      let b = then-inverts (span j (a .middle)) (λ g. mixed j (r .table) (a .middle) g) (a .after) in
-      let c = then-inverts (factors j (a .middle) (b .middle)) (λ ws. newRows j (b .middle) ws (r .table) then λ rs. answer _) (b .after) in
-      undoing-here t (a .middle) (b .middle) (c .middle) code place
-      (sym (then-answers (λ js. span j js then λ g. factors j js g then λ ws. undoing t js g ws) (a .before)
-      ∙ then-answers (λ g. factors j (a .middle) g then λ ws. undoing t (a .middle) g ws) (b .before)
-      ∙ then-answers (λ ws. undoing t (a .middle) (b .middle) ws) (c .before)) ∙ k)
-
-  step-first : {code place : ℕ} → clears code ≡ true → recoverStep j κ r ≡ refusal code place → step j κ (r .table) ≡ refusal code place
-  unfolding recoverStep
-  step-first {code} {place} told e = go (then-breaks (step j κ (r .table)) after e)
-    where
-      go : Broken (step j κ (r .table)) after code place → step j κ (r .table) ≡ refusal code place
-      go (first-refuses h) = h
-      go (second-refuses t h k) = absurd (cleared-not told (after-here h code place k .0))
+step-first : (j : ℕ) (κ : List Entry) (r : Combination) {code place : ℕ} → clears code ≡ true → recoverStep j κ r ≡ refusal code place → step j κ (r .table) ≡ refusal code place
+step-first j κ r {code} {place} told e = go (refused-in j κ r e)
+  where
+    go : RefusedIn j κ r code place → step j κ (r .table) ≡ refusal code place
+    go (in-step q) = q
+    go (in-undoing {t} p q) = absurd (cleared-not told (undoing-here j κ r t (p .js) (p .g) (p .ws) code place q .0))
 
 -- ---- the steps one after the other
 

@@ -16,158 +16,139 @@ use Rattle.base_outcome.specs.Outcome.{Outcome, answer, refusal, _then_}
 use Rattle.spec_spline.specs.Conditions.{Entry}
 use Rattle.spec_spline.specs.Table.{Table, entry, cell}
 use Rattle.spec_spline.specs.Step.{jumps, Span, span, factors, step}
-use Rattle.base_outcome.proofs.Outcome.{answer-unique, answer-not-refusal, Chained, then-inverts, Broken, first-refuses, second-refuses, then-breaks}
-use Rattle.spec_spline.proofs.Refusals.{EightOrNine, step-refuses, jumps-refuse-8, span-refuses-9, factors-refuse}
+use Rattle.base_outcome.proofs.Outcome.{answer-unique, Chained, then-inverts, Broken, first-refuses, second-refuses, then-breaks, then-answers, RefusedAs, answer-refused, then-refused}
+use Rattle.spec_spline.proofs.Refusals.{EightOrNine, step-refuses}
+use Rattle.spec_spline.proofs.Stepped.{StepParts, step-parts, step-spans, step-factors, span-below}
 use Rattle.spec_spline.proofs.Splice.{spliced-length, spliced-before, spliced-inside, spliced-after}
-use Rattle.spec_spline.proofs.Answers.{Spans, span-inverts, factors-inverts}
+use Rattle.spec_spline.proofs.Answers.{Spans}
 use Rattle.theorems_weights.proofs.NullSpace.{Jumps, lifted, coefficient-lifts}
 use Rattle.theorems_weights.proofs.Extended.{extended, extended-from, null-space}
 use Rattle.theorems_weights.proofs.Stepped.{values, jumps-inverts, Stepped}
 use Rattle.theorems_weights.proofs.Basis.{combined, combination-lifts}
 use Rattle.theorems_recovery.specs.Recovery.{Combination, balanced, undoneRows, undone, recoverStep}
 use Rattle.theorems_recovery.proofs.Undoing.{factor-nonzero, c, undone-is, factors-agree}
-use Rattle.theorems_recovery.proofs.Answers.{balanced-zero, balanced-not, Undone, rows-undone, undone-refuses-20}
+use Rattle.theorems_recovery.proofs.Answers.{balanced-zero, balanced-not, Undone, rows-undone, Twenty, undone-refuses-20}
 
 -- ---- the parts of a step
 
--- The parts of the definition's chain, from its end: the table with its coefficients, the rows put together, and what follows each test.
 module _ (j : ℕ) (κ : List Entry) (r : Combination) where
-  with-coefficients : Table → List ℚ → Outcome Combination
-  with-coefficients t ds = answer (record { table = t; coefficients = ds })
-
-  spliced : Span → List ℚ → Outcome (List ℚ)
-  spliced g ds = answer (take (g .f) (r .coefficients) ++ (ds ++ drop (suc (g .l)) (r .coefficients)))
-
-  after-balance : Table → Span → List ℚ → Unit {0} → Outcome Combination
-  after-balance t g ws u = undone j g ws (r .coefficients) then with-coefficients t
-
-  after-factors : Table → List ℚ → Span → List ℚ → Outcome Combination
-  after-factors t js g ws = balanced j js (r .coefficients) then after-balance t g ws
-
-  after-span : Table → List ℚ → Span → Outcome Combination
-  after-span t js g = factors j js g then after-factors t js g
-
-  after-jumps : Table → List ℚ → Outcome Combination
-  after-jumps t js = span j js then after-span t js
-
-  after-step : Table → Outcome Combination
-  after-step t = jumps j κ (r .table) then after-jumps t
-
-  -- The intermediate results of a step that answers.
+  -- The intermediate results of a step that answers: the build's own, and those of the undoing.
   pub record Parts (r′ : Combination) : Type 0 where
-    pub js : List ℚ
-    pub f : ℕ
-    pub l : ℕ
-    pub ws : List ℚ
-    pub ds : List ℚ
     pub has-step : step j κ (r .table) ≡ answer (r′ .table)
-    pub has-jumps : jumps j κ (r .table) ≡ answer js
-    pub has-span : span j js ≡ answer (record { f = f; l = l })
-    pub has-factors : factors j js (record { f = f; l = l }) ≡ answer ws
-    pub balance : sum (length js) (λ i. entry (r .coefficients) i *ᵠ entry js i) ≡ int (pos 0)
-    pub has-rows : undoneRows j ws (r .coefficients) f (l - f) ≡ answer ds
-    pub whole : take f (r .coefficients) ++ (ds ++ drop (suc l) (r .coefficients)) ≡ r′ .coefficients
+    pub own : StepParts j κ (r .table) (r′ .table)
+    pub ds : List ℚ
+    pub balance : sum (length (own .js)) (λ i. entry (r .coefficients) i *ᵠ entry (own .js) i) ≡ int (pos 0)
+    pub has-rows : undoneRows j (own .ws) (r .coefficients) (own .g .f) (own .g .l - own .g .f) ≡ answer ds
+    pub whole : take (own .g .f) (r .coefficients) ++ (ds ++ drop (suc (own .g .l)) (r .coefficients)) ≡ r′ .coefficients
 
+  -- what is left once the build has done its step
+  abbrev pub undoing : Table → List ℚ → Span → List ℚ → Outcome Combination
+  undoing t js g ws = balanced j js (r .coefficients) then λ _. undone j g ws (r .coefficients) then λ ds. answer (record { table = t; coefficients = ds })
+
+  abbrev after-step : Table → Outcome Combination
+  after-step t = jumps j κ (r .table) then λ js. span j js then λ g. factors j js g then undoing t js g
+
+  after-is : {t : Table} (p : StepParts j κ (r .table) t) → after-step t ≡ undoing t (p .js) (p .g) (p .ws)
+  after-is p = then-answers _ (p .has-jumps) ∙ then-answers _ (p .has-span) ∙ then-answers _ (p .has-factors)
+
+  pub recover-done : {t : Table} → step j κ (r .table) ≡ answer t → (p : StepParts j κ (r .table) t) → recoverStep j κ r ≡ undoing t (p .js) (p .g) (p .ws)
+  unfolding recoverStep
+  recover-done e p = then-answers after-step e ∙ after-is p
+
+  -- a refusal is the build's, or one of the zero test and the undoing
+  pub data RefusedIn (code place : ℕ) : Type 0 where
+    in-step : step j κ (r .table) ≡ refusal code place → RefusedIn code place
+    in-undoing : {t : Table} (p : StepParts j κ (r .table) t) → undoing t (p .js) (p .g) (p .ws) ≡ refusal code place → RefusedIn code place
+
+  pub refused-in : {code place : ℕ} → recoverStep j κ r ≡ refusal code place → RefusedIn code place
+  unfolding recoverStep
+  refused-in {code} {place} e = go (then-breaks (step j κ (r .table)) after-step e)
+    where
+      go : Broken (step j κ (r .table)) after-step code place → RefusedIn code place
+      go (first-refuses q) = in-step q
+      go (second-refuses t q k) = let p = step-parts j κ (r .table) q in in-undoing p (sym (after-is p) ∙ k)
+
+  -- ---- a step that answers
   module _ (r′ : Combination) where
-    module _ (t : Table) (has-step : step j κ (r .table) ≡ answer t) (js : List ℚ) (has-jumps : jumps j κ (r .table) ≡ answer js) (g : Span) (has-span : span j js ≡ answer g)
-        (ws : List ℚ) (has-factors : factors j js g ≡ answer ws) (balance : sum (length js) (λ i. entry (r .coefficients) i *ᵠ entry js i) ≡ int (pos 0)) where
-      from-rows : (ns : List ℚ) → with-coefficients t ns ≡ answer r′ → Chained (undoneRows j ws (r .coefficients) (g .f) (g .l - g .f)) (spliced g) ns → Parts r′
-      unfolding with-coefficients spliced
-      from-rows ns e k = record {
-        js = js;
-        f = g .f;
-        l = g .l;
-        ws = ws;
-        ds = k .middle;
-        has-step = has-step ∙ ap (λ q. answer (q .table)) z;
-        has-jumps = has-jumps;
-        has-span = has-span;
-        has-factors = has-factors;
-        balance = balance;
-        has-rows = k .before;
-        whole = answer-unique refl (k .after) ∙ ap (λ q. q .coefficients) z;
-      }
-        where
-          z : _≡_ {A = Combination} (record { table = t; coefficients = ns }) r′
-          z = answer-unique refl e
+    module _ (t : Table) (js : List ℚ) (g : Span) (ws : List ℚ) (e : undoing t js g ws ≡ answer r′) where
+      with-coefficients : List ℚ → Outcome Combination
+      with-coefficients ds = answer (record { table = t; coefficients = ds })
 
-      from-undone : Chained (undone j g ws (r .coefficients)) (with-coefficients t) r′ → Parts r′
+      spliced : List ℚ → Outcome (List ℚ)
+      spliced ds = answer (take (g .f) (r .coefficients) ++ (ds ++ drop (suc (g .l)) (r .coefficients)))
+
+      tested : Chained (balanced j js (r .coefficients)) (λ _. undone j g ws (r .coefficients) then with-coefficients) r′
+      unfolding with-coefficients
+      tested = then-inverts (balanced j js (r .coefficients)) (λ _. undone j g ws (r .coefficients) then with-coefficients) e
+
+      done : Chained (undone j g ws (r .coefficients)) with-coefficients r′
+      done = then-inverts (undone j g ws (r .coefficients)) with-coefficients (tested .after)
+
+      answered : _≡_ {A = Combination} (record { table = t; coefficients = done .middle }) r′
+      unfolding with-coefficients
+      answered = answer-unique refl (done .after)
+
+      new-rows : Chained (undoneRows j ws (r .coefficients) (g .f) (g .l - g .f)) spliced (done .middle)
       unfolding undone spliced
-      from-undone k = from-rows (k .middle) (k .after) (then-inverts (undoneRows j ws (r .coefficients) (g .f) (g .l - g .f)) (spliced g) (k .before))
+      new-rows = then-inverts (undoneRows j ws (r .coefficients) (g .f) (g .l - g .f)) spliced (done .before)
 
-    module _ (t : Table) (has-step : step j κ (r .table) ≡ answer t) (js : List ℚ) (has-jumps : jumps j κ (r .table) ≡ answer js) where
-      from-balance : (g : Span) → span j js ≡ answer g → (ws : List ℚ) → factors j js g ≡ answer ws → Chained (balanced j js (r .coefficients)) (after-balance t g ws) r′ → Parts r′
-      unfolding after-balance
-      from-balance g p ws q k = from-undone t has-step js has-jumps g p ws q (balanced-zero j js (r .coefficients) (k .before)) (then-inverts (undone j g ws (r .coefficients)) (with-coefficients t) (k .after))
+      all-rows : take (g .f) (r .coefficients) ++ (new-rows .middle ++ drop (suc (g .l)) (r .coefficients)) ≡ r′ .coefficients
+      unfolding spliced
+      all-rows = answer-unique refl (new-rows .after) ∙ ap (λ q. q .coefficients) answered
 
-      from-factors : (g : Span) → span j js ≡ answer g → Chained (factors j js g) (after-factors t js g) r′ → Parts r′
-      unfolding after-factors
-      from-factors g p k = from-balance g p (k .middle) (k .before) (then-inverts (balanced j js (r .coefficients)) (after-balance t g (k .middle)) (k .after))
-
-      from-span : Chained (span j js) (after-span t js) r′ → Parts r′
-      unfolding after-span
-      from-span k = from-factors (k .middle) (k .before) (then-inverts (factors j js (k .middle)) (after-factors t js (k .middle)) (k .after))
-
-    from-jumps : (t : Table) → step j κ (r .table) ≡ answer t → Chained (jumps j κ (r .table)) (after-jumps t) r′ → Parts r′
-    unfolding after-jumps
-    from-jumps t p k = from-span t p (k .middle) (k .before) (then-inverts (span j (k .middle)) (after-span t (k .middle)) (k .after))
-
-    from-step : Chained (step j κ (r .table)) after-step r′ → Parts r′
-    unfolding after-step
-    from-step k = from-jumps (k .middle) (k .before) (then-inverts (jumps j κ (r .table)) (after-jumps (k .middle)) (k .after))
+    -- the build's own step answers
+    step-of : recoverStep j κ r ≡ answer r′ → step j κ (r .table) ≡ answer (r′ .table)
+    unfolding recoverStep
+    step-of e =
+        let a = then-inverts (step j κ (r .table)) after-step e in
+        let p = step-parts j κ (r .table) (a .before) in
+        a .before ∙ ap (λ q. answer (q .table)) (answered (a .middle) (p .js) (p .g) (p .ws) (sym (after-is p) ∙ a .after))
 
     pub parts-of : recoverStep j κ r ≡ answer r′ → Parts r′
-    unfolding recoverStep with-coefficients after-balance after-factors after-span after-jumps after-step
-    parts-of e = from-step (then-inverts (step j κ (r .table)) after-step e)
+    parts-of e = record {
+      has-step = step-of e;
+      own = p;
+      ds = new-rows (r′ .table) (p .js) (p .g) (p .ws) left .middle;
+      balance = balanced-zero j (p .js) (r .coefficients) (tested (r′ .table) (p .js) (p .g) (p .ws) left .before);
+      has-rows = new-rows (r′ .table) (p .js) (p .g) (p .ws) left .before;
+      whole = all-rows (r′ .table) (p .js) (p .g) (p .ws) left;
+    }
+      where
+        p : StepParts j κ (r .table) (r′ .table)
+        p = step-parts j κ (r .table) (step-of e)
 
-  -- Code 19: the jumps, and that the sum is not zero.
+        left : undoing (r′ .table) (p .js) (p .g) (p .ws) ≡ answer r′
+        left = sym (recover-done (step-of e) p) ∙ e
+
+  -- ---- code 19: the jumps, and that the sum is not zero
   pub record Unbalanced : Type 0 where
     pub js : List ℚ
     pub has-jumps : jumps j κ (r .table) ≡ answer js
     pub not-zero : sum (length js) (λ i. entry (r .coefficients) i *ᵠ entry js i) ≢ int (pos 0)
 
-  module _ (place : ℕ) where
-    not-the-build's : EightOrNine j 19 place → Unbalanced
-    not-the-build's h = go (h .0)
-      where
-        go : (_≡_ {A = ℕ} 19 8) ⊎ (_≡_ {A = ℕ} 19 9) → Unbalanced
-        go (inl z) = absurd (omega arith)
-        go (inr z) = absurd (omega arith)
+  pub unbalanced : (place : ℕ) → recoverStep j κ r ≡ refusal 19 place → Unbalanced
+  unbalanced place e = go (refused-in e)
+    where
+      not-the-build's : EightOrNine j 19 place → Unbalanced
+      not-the-build's h = other (h .0)
+        where
+          other : (_≡_ {A = ℕ} 19 8) ⊎ (_≡_ {A = ℕ} 19 9) → Unbalanced
+          other (inl z) = absurd (omega arith)
+          other (inr z) = absurd (omega arith)
 
-    module _ (t : Table) (js : List ℚ) (p : jumps j κ (r .table) ≡ answer js) where
-      at-undone : (g : Span) (ws : List ℚ) → Broken (undone j g ws (r .coefficients)) (with-coefficients t) 19 place → Unbalanced
-      unfolding with-coefficients
-      at-undone g ws (first-refuses q) = let z = undone-refuses-20 j g ws (r .coefficients) 19 place q in absurd (omega arith)
-      at-undone g ws (second-refuses ds q k) = absurd (answer-not-refusal refl k)
+      rest : Table → Span → List ℚ → Unit {0} → Outcome Combination
+      rest t g ws _ = undone j g ws (r .coefficients) then λ ds. answer (record { table = t; coefficients = ds })
 
-      at-balance : (g : Span) (ws : List ℚ) → Broken (balanced j js (r .coefficients)) (after-balance t g ws) 19 place → Unbalanced
-      unfolding after-balance
-      at-balance g ws (first-refuses q) = record { js = js; has-jumps = p; not-zero = balanced-not j js (r .coefficients) q }
-      at-balance g ws (second-refuses u q k) = at-undone g ws (then-breaks (undone j g ws (r .coefficients)) (with-coefficients t) k)
+      rest-refused : (t : Table) (g : Span) (ws : List ℚ) (u : Unit {0}) → RefusedAs Twenty (rest t g ws u)
+      rest-refused t g ws u = then-refused Twenty (undone j g ws (r .coefficients)) _ (undone-refuses-20 j g ws (r .coefficients)) (λ ds h. answer-refused Twenty (record { table = t; coefficients = ds }))
 
-      at-factors : (g : Span) → Broken (factors j js g) (after-factors t js g) 19 place → Unbalanced
-      unfolding after-factors
-      at-factors g (first-refuses q) = not-the-build's (factors-refuse j js g 19 place q)
-      at-factors g (second-refuses ws q k) = at-balance g ws (then-breaks (balanced j js (r .coefficients)) (after-balance t g ws) k)
+      in-test : (t : Table) (p : StepParts j κ (r .table) t) → Broken (balanced j (p .js) (r .coefficients)) (rest t (p .g) (p .ws)) 19 place → Unbalanced
+      in-test t p (first-refuses q) = record { js = p .js; has-jumps = p .has-jumps; not-zero = balanced-not j (p .js) (r .coefficients) q }
+      in-test t p (second-refuses u q k) = let z = rest-refused t (p .g) (p .ws) u 19 place k in absurd (omega arith)
 
-      at-span : Broken (span j js) (after-span t js) 19 place → Unbalanced
-      unfolding after-span
-      at-span (first-refuses q) = let z = span-refuses-9 j js 19 place q .0 in absurd (omega arith)
-      at-span (second-refuses g q k) = at-factors g (then-breaks (factors j js g) (after-factors t js g) k)
-
-    at-jumps : (t : Table) → Broken (jumps j κ (r .table)) (after-jumps t) 19 place → Unbalanced
-    unfolding after-jumps
-    at-jumps t (first-refuses q) = let z = jumps-refuse-8 j κ (r .table) 19 place q .0 in absurd (omega arith)
-    at-jumps t (second-refuses js q k) = at-span t js q (then-breaks (span j js) (after-span t js) k)
-
-    at-step : Broken (step j κ (r .table)) after-step 19 place → Unbalanced
-    unfolding after-step
-    at-step (first-refuses q) = not-the-build's (step-refuses j κ (r .table) 19 place q)
-    at-step (second-refuses t q k) = at-jumps t (then-breaks (jumps j κ (r .table)) (after-jumps t) k)
-
-    pub unbalanced : recoverStep j κ r ≡ refusal 19 place → Unbalanced
-    unfolding recoverStep with-coefficients after-balance after-factors after-span after-jumps after-step
-    unbalanced e = at-step (then-breaks (step j κ (r .table)) after-step e)
+      go : RefusedIn 19 place → Unbalanced
+      go (in-step q) = not-the-build's (step-refuses j κ (r .table) 19 place q)
+      go (in-undoing {t} p q) = in-test t p (then-breaks (balanced j (p .js) (r .coefficients)) (rest t (p .g) (p .ws)) q)
 
 -- ---- the combination
 
@@ -177,85 +158,104 @@ pub sum-of-jumps : (j : ℕ) (κ : List Entry) (t : Table) (coefficients js : Li
 sum-of-jumps j κ t coefficients js e = let J = jumps-inverts j κ t e in
     sum-ext (length t) (λ i h. ap (λ q. entry coefficients i *ᵠ q) (sym (J .1 i))) ∙ ap (λ n. sum n (λ i. entry coefficients i *ᵠ entry js i)) (sym (J .0))
 
+-- one number less
+pub numbers-less : {j : ℕ} {κ : List Entry} {r r′ : Combination} → length (r .coefficients) ≡ length (r .table) → Parts j κ r r′ → suc (length (r′ .coefficients)) ≡ length (r .coefficients)
+numbers-less {j} {r = r} count P =
+    ap (λ u. suc (length u)) (sym (P .whole)) ∙ ap suc (spliced-length (r .coefficients) (P .ds) (P .own .g .f) (suc (P .own .g .l)) (omega (arith, s .ordered, span-below (P .own), count)))
+    ∙ omega (arith, s .ordered, span-below (P .own), count, rows-undone j (P .own .ws) (r .coefficients) (P .own .g .f) (P .own .g .l - P .own .g .f) (P .has-rows) .size)
+  where
+    s : Spans (P .own .js) (P .own .g .f) (P .own .g .l)
+    s = step-spans (P .own)
+
 module _ (width j : ℕ) (κ : List Entry) (r r′ : Combination) (count : length (r .coefficients) ≡ length (r .table)) (S : Stepped κ width (r .table) (r′ .table)) (P : Parts j κ r r′) where
-  has : (length (P .js) ≡ length (r .table)) × ((i : ℕ) → entry (P .js) i ≡ values κ (r .table) i)
-  has = jumps-inverts j κ (r .table) (P .has-jumps)
+  abbrev f : ℕ
+  f = P .own .g .f
 
-  spans : Spans (P .js) (P .f) (P .l)
-  spans = span-inverts j (P .js) (P .has-span)
+  abbrev l : ℕ
+  l = P .own .g .l
 
-  zero-sum : sum (length (r .table)) (values κ (r .table)) ≡ int (pos 0)
-  zero-sum = sum-past (suc (S .l)) (length (r .table)) (values κ (r .table)) (S .null .below) (λ i h k. S .null .after i h .0) ∙ S .null .whole
+  abbrev old : ℕ → ℚ
+  old = entry (r .coefficients)
+
+  abbrev new : ℕ → ℚ
+  new = entry (r′ .coefficients)
+
+  -- the functional's values on the rows
+  abbrev J : ℕ → ℚ
+  J = values κ (r .table)
+
+  zero-sum : sum (length (r .table)) J ≡ int (pos 0)
+  zero-sum = sum-past (suc (S .l)) (length (r .table)) J (S .null .below) (λ i h k. S .null .after i h .0) ∙ S .null .whole
 
   -- the factors of all rows, from the list of those that were worked out
   w : ℕ → ℚ
-  w = extended (P .ws) (P .f)
+  w = extended (P .own .ws) f
 
-  null : Jumps (length (r .table)) (P .f) (P .l) (values κ (r .table)) w
+  null : Jumps (length (r .table)) f l J w
   unfolding w
-  null = null-space (P .js) (P .ws) (P .f) (P .l) (length (r .table)) (values κ (r .table)) (has .1) (omega (arith, spans .below, has .0)) spans
-      (factors-inverts j (P .js) (record { f = P .f; l = P .l }) (P .has-factors)) zero-sum
+  null = null-space (P .own .js) (P .own .ws) f l (length (r .table)) J (jumps-inverts j κ (r .table) (P .own .has-jumps) .1) (span-below (P .own)) (step-spans (P .own)) (step-factors (P .own)) zero-sum
 
-  annihilated : sum (length (r .table)) (λ i. entry (r .coefficients) i *ᵠ values κ (r .table) i) ≡ int (pos 0)
-  annihilated = sum-of-jumps j κ (r .table) (r .coefficients) (P .js) (P .has-jumps) ∙ P .balance
+  annihilated : sum (length (r .table)) (λ i. old i *ᵠ J i) ≡ int (pos 0)
+  annihilated = sum-of-jumps j κ (r .table) (r .coefficients) (P .own .js) (P .own .has-jumps) ∙ P .balance
 
-  rows : Undone j (P .ws) (r .coefficients) (P .f) (P .l - P .f) (P .ds)
-  rows = rows-undone j (P .ws) (r .coefficients) (P .f) (P .l - P .f) (P .has-rows)
+  rows : Undone j (P .own .ws) (r .coefficients) f (l - f) (P .ds)
+  rows = rows-undone j (P .own .ws) (r .coefficients) f (l - f) (P .has-rows)
+
+  within : f ≤ length (r .coefficients)
+  within = omega (arith, null .ordered, null .below, count)
 
   -- ---- the new coefficients, row by row
 
   pub coefficients-count : length (r′ .coefficients) ≡ length (r′ .table)
-  coefficients-count = let o = null .ordered in let b = null .below in
-      ap length (sym (P .whole)) ∙ spliced-length (r .coefficients) (P .ds) (P .f) (suc (P .l)) (omega (arith, count)) ∙ omega (arith, rows .size, count, S .rows)
+  coefficients-count = omega (arith, numbers-less count P, count, S .rows)
 
-  before : (i : ℕ) → i < P .f → entry (r′ .coefficients) i ≡ entry (r .coefficients) i
-  before i h = let o = null .ordered in let b = null .below in
-      ap (λ u. entry u i) (sym (P .whole)) ∙ spliced-before (r .coefficients) (P .ds) (P .f) (suc (P .l)) (omega (arith, count)) i (int (pos 0)) h
+  at : (i : ℕ) (q : ℚ) → entry (take f (r .coefficients) ++ (P .ds ++ drop (suc l) (r .coefficients))) i ≡ q → new i ≡ q
+  at i q e = ap (λ u. entry u i) (sym (P .whole)) ∙ e
 
-  inside : (i : ℕ) → P .f ≤ i → i < P .l → entry (r′ .coefficients) i ≡ entry (P .ds) (i - P .f)
-  inside i h k = let o = null .ordered in let b = null .below in
-      ap (λ u. entry u i) (sym (P .whole)) ∙ spliced-inside (r .coefficients) (P .ds) (P .f) (suc (P .l)) (omega (arith, count)) i (int (pos 0)) h (omega (arith, rows .size))
+  before : (i : ℕ) → i < f → new i ≡ old i
+  before i h = at i (old i) (spliced-before (r .coefficients) (P .ds) f (suc l) within i (int (pos 0)) h)
 
-  high : (i : ℕ) → P .l ≤ i → entry (r′ .coefficients) i ≡ entry (r .coefficients) (suc i)
-  high i h = let o = null .ordered in let b = null .below in
-      ap (λ u. entry u i) (sym (P .whole)) ∙ spliced-after (r .coefficients) (P .ds) (P .f) (suc (P .l)) (omega (arith, count)) i (suc i) (int (pos 0)) (omega (arith, rows .size)) (omega (arith, rows .size))
+  inside : (i : ℕ) → f ≤ i → i < l → new i ≡ entry (P .ds) (i - f)
+  inside i h k = at i (entry (P .ds) (i - f)) (spliced-inside (r .coefficients) (P .ds) f (suc l) within i (int (pos 0)) h (omega (arith, rows .size)))
 
-  low : (i : ℕ) → i ≤ P .f → entry (r′ .coefficients) i ≡ entry (r .coefficients) i
+  high : (i : ℕ) → l ≤ i → new i ≡ old (suc i)
+  high i h = let o = null .ordered in at i (old (suc i)) (spliced-after (r .coefficients) (P .ds) f (suc l) within i (suc i) (int (pos 0)) (omega (arith, rows .size)) (omega (arith, rows .size)))
+
+  low : (i : ℕ) → i ≤ f → new i ≡ old i
   low i h = let o = null .ordered in go o (eq-or-lt-of-le h)
     where
-      go : P .f < P .l → (i ≡ P .f) ⊎ (i < P .f) → entry (r′ .coefficients) i ≡ entry (r .coefficients) i
-      go o (inl e) = inside i (omega arith) (omega arith) ∙ ap (entry (P .ds)) (let z : i - P .f ≡ 0 = omega arith in z) ∙ rows .at-first (omega arith) ∙ ap (entry (r .coefficients)) (sym e)
+      go : f < l → (i ≡ f) ⊎ (i < f) → new i ≡ old i
+      go o (inl e) = inside i (omega arith) (omega arith) ∙ ap (entry (P .ds)) (let z : i - f ≡ 0 = omega arith in z) ∙ rows .at-first (omega arith) ∙ ap old (sym e)
       go o (inr k) = before i k
 
-  next : (i : ℕ) → P .f ≤ i → suc i < P .l → w (suc i) *ᵠ entry (r′ .coefficients) (suc i) ≡ entry (r .coefficients) (suc i) -ᵠ (int (pos 1) -ᵠ w (suc i)) *ᵠ entry (r′ .coefficients) i
+  next : (i : ℕ) → f ≤ i → suc i < l → w (suc i) *ᵠ new (suc i) ≡ old (suc i) -ᵠ (int (pos 1) -ᵠ w (suc i)) *ᵠ new i
   unfolding w
   next i h k =
       ap (λ q. w (suc i) *ᵠ q) quotient ∙ mul-comm _ _
-      ∙ div-mul (entry (r .coefficients) (suc i) -ᵠ (int (pos 1) -ᵠ w (suc i)) *ᵠ entry (r′ .coefficients) i) (w (suc i))
-      (factor-nonzero (length (r .table)) (P .f) (P .l) (values κ (r .table)) w null (suc i) (omega arith) k)
+      ∙ div-mul (old (suc i) -ᵠ (int (pos 1) -ᵠ w (suc i)) *ᵠ new i) (w (suc i)) (factor-nonzero null (suc i) (omega arith) k)
     where
-      factor-is : entry (P .ws) (suc (i - P .f)) ≡ w (suc i)
-      factor-is = ap (entry (P .ws)) (let z : suc (i - P .f) ≡ suc i - P .f = omega arith in z) ∙ sym (extended-from (P .ws) (P .f) (suc i) (omega arith))
+      factor-is : entry (P .own .ws) (suc (i - f)) ≡ w (suc i)
+      factor-is = ap (entry (P .own .ws)) (let z : suc (i - f) ≡ suc i - f = omega arith in z) ∙ sym (extended-from (P .own .ws) f (suc i) (omega arith))
 
-      quotient : entry (r′ .coefficients) (suc i) ≡ (entry (r .coefficients) (suc i) -ᵠ (int (pos 1) -ᵠ w (suc i)) *ᵠ entry (r′ .coefficients) i) /ᵠ w (suc i)
+      quotient : new (suc i) ≡ (old (suc i) -ᵠ (int (pos 1) -ᵠ w (suc i)) *ᵠ new i) /ᵠ w (suc i)
       quotient =
-          inside (suc i) (omega arith) k ∙ ap (entry (P .ds)) (let z : suc i - P .f ≡ suc (i - P .f) = omega arith in z) ∙ rows .next (i - P .f) (omega arith)
-          ∙ ap₂ (λ u v. (entry (r .coefficients) (P .f + suc (i - P .f)) -ᵠ (int (pos 1) -ᵠ u) *ᵠ v) /ᵠ u) factor-is (sym (inside i h (omega arith)))
-          ∙ ap (λ n. (entry (r .coefficients) n -ᵠ (int (pos 1) -ᵠ w (suc i)) *ᵠ entry (r′ .coefficients) i) /ᵠ w (suc i)) (let z : P .f + suc (i - P .f) ≡ suc i = omega arith in z)
+          inside (suc i) (omega arith) k ∙ ap (entry (P .ds)) (let z : suc i - f ≡ suc (i - f) = omega arith in z) ∙ rows .next (i - f) (omega arith)
+          ∙ ap₂ (λ u v. (old (f + suc (i - f)) -ᵠ (int (pos 1) -ᵠ u) *ᵠ v) /ᵠ u) factor-is (sym (inside i h (omega arith)))
+          ∙ ap (λ n. (old n -ᵠ (int (pos 1) -ᵠ w (suc i)) *ᵠ new i) /ᵠ w (suc i)) (let z : f + suc (i - f) ≡ suc i = omega arith in z)
 
   -- ---- what they give is what the old coefficients gave
 
-  abbrev new : ℕ → ℚ
-  new = c (length (r .table)) (P .f) (P .l) (values κ (r .table)) w null (entry (r .coefficients)) annihilated (entry (r′ .coefficients)) low next high
+  abbrev lifting : ℕ → ℚ
+  lifting = c null old annihilated new low next high
 
-  same-lifted : (i : ℕ) → i < length (r .table) → lifted (S .w) new i ≡ entry (r .coefficients) i
+  same-lifted : (i : ℕ) → i < length (r .table) → lifted (S .w) lifting i ≡ old i
   unfolding lifted
   same-lifted i h =
-      ap (λ q. q *ᵠ new (suc i) +ᵠ (int (pos 1) -ᵠ q) *ᵠ new i) (factors-agree (length (r .table)) (values κ (r .table)) (S .f) (S .l) (P .f) (P .l) (S .w) w (S .null) null i h)
-      ∙ coefficient-lifts (length (r .table)) (P .f) (P .l) (values κ (r .table)) w null (entry (r .coefficients)) annihilated i h
+      ap (λ q. q *ᵠ lifting (suc i) +ᵠ (int (pos 1) -ᵠ q) *ᵠ lifting i) (factors-agree (S .null) null i h)
+      ∙ coefficient-lifts null old annihilated i h
 
-  pub combination-kept : (col : ℕ) → combined (entry (r′ .coefficients)) (r′ .table) col ≡ combined (entry (r .coefficients)) (r .table) col
+  pub combination-kept : (col : ℕ) → combined new (r′ .table) col ≡ combined old (r .table) col
   combination-kept col =
-      sum-ext (length (r′ .table)) (λ i h. ap (λ q. q *ᵠ cell (r′ .table) i col) (sym (undone-is (length (r .table)) (P .f) (P .l) (values κ (r .table)) w null (entry (r .coefficients)) annihilated (entry (r′ .coefficients)) low next high i (omega (arith, S .rows)))))
-      ∙ combination-lifts width κ (r .table) (r′ .table) S new col
+      sum-ext (length (r′ .table)) (λ i h. ap (λ q. q *ᵠ cell (r′ .table) i col) (sym (undone-is null old annihilated new low next high i (omega (arith, S .rows)))))
+      ∙ combination-lifts width κ (r .table) (r′ .table) S lifting col
       ∙ sum-ext (length (r .table)) (λ i h. ap (λ q. q *ᵠ cell (r .table) i col) (same-lifted i h))

@@ -5,24 +5,15 @@ use mathlib.Core.Logic.{_≢_, _⊎_, inl, inr}
 use mathlib.Core.List.{[], _∷_}
 use Prim.Native.Nat.{ℕ, zero, suc, _<_, _≤_}
 use native.Mathlib.Omega.{arith}
-use native.Mathlib.Nat.{eq-or-lt-of-le}
 use lib.IntN.{pos, negsuc}
 use Rattle.base_exact.specs.Rational.{ℚ, _+ᵠ_, _*ᵠ_, -ᵠ_, _-ᵠ_, int}
 use Rattle.base_exact.specs.Sum.{sum}
 use Rattle.base_exact.proofs.Decide.{le-or-lt}
 use Rattle.base_exact.proofs.Ring.{ring, by-eq}
 use Rattle.base_exact.proofs.Rational.{ℚ-ring, readsℚ, mul-cancel, zero-mul}
-use Rattle.theorems_weights.proofs.NullSpace.{Jumps, lifted, lifted-at-one, lifted-at-zero, last-factor, coefficient, coefficient-lifts}
+use Rattle.theorems_weights.proofs.NullSpace.{Jumps, lifted, lifted-at-one, lifted-at-zero, one-up-to, last-factor, coefficient, coefficient-lifts}
 
-module _ (n f l : ℕ) (J w : ℕ → ℚ) (G : Jumps n f l J w) where
-  -- the factors up to f
-  one-up-to : (i : ℕ) → i ≤ f → w i ≡ int (pos 1)
-  one-up-to i h = go (eq-or-lt-of-le h)
-    where
-      go : (i ≡ f) ⊎ (i < f) → w i ≡ int (pos 1)
-      go (inl e) = ap w e ∙ G .at-first
-      go (inr k) = G .before i k .1
-
+module _ {n f l : ℕ} {J w : ℕ → ℚ} (G : Jumps n f l J w) where
   pub factor-nonzero : (i : ℕ) → f ≤ i → i < l → w i ≢ int (pos 0)
   factor-nonzero i h k e = let b = G .below in G .part (suc i) (omega arith) (omega arith) (sym (G .weight i (omega arith)) ∙ ap (λ t. t *ᵠ J i) e ∙ zero-mul (J i))
 
@@ -31,16 +22,16 @@ module _ (n f l : ℕ) (J w : ℕ → ℚ) (G : Jumps n f l J w) where
       (next : (i : ℕ) → f ≤ i → suc i < l → w (suc i) *ᵠ d (suc i) ≡ x (suc i) -ᵠ (int (pos 1) -ᵠ w (suc i)) *ᵠ d i)
       (high : (i : ℕ) → l ≤ i → d i ≡ x (suc i)) where
     abbrev pub c : ℕ → ℚ
-    c = coefficient n f l J w G x annihilated
+    c = coefficient G x annihilated
 
     lifts : (j : ℕ) → j < n → lifted w c j ≡ x j
-    lifts = coefficient-lifts n f l J w G x annihilated
+    lifts = coefficient-lifts G x annihilated
 
     up-to-f : (i : ℕ) → i ≤ f → c (suc i) ≡ d i
-    up-to-f i h = let o = G .ordered in let b = G .below in sym (lifted-at-one w c i (one-up-to i h)) ∙ lifts i (omega arith) ∙ sym (low i h)
+    up-to-f i h = let o = G .ordered in let b = G .below in sym (lifted-at-one w c i (one-up-to G i h)) ∙ lifts i (omega arith) ∙ sym (low i h)
 
     from-l : (i : ℕ) → l ≤ i → suc i < n → c (suc i) ≡ d i
-    from-l i h k = sym (lifted-at-zero w c (suc i) (last-factor n f l J w G (suc i) (omega arith))) ∙ lifts (suc i) k ∙ sym (high i h)
+    from-l i h k = sym (lifted-at-zero w c (suc i) (last-factor G (suc i) (omega arith))) ∙ lifts (suc i) k ∙ sym (high i h)
 
     between : (i : ℕ) → f ≤ i → i < l → c (suc i) ≡ d i
     unfolding lifted
@@ -65,26 +56,24 @@ module _ (n f l : ℕ) (J w : ℕ → ℚ) (G : Jumps n f l J w) where
 
 -- ---- two lists of factors for the same jumps
 
-module _ (n : ℕ) (J : ℕ → ℚ) where
-  first-at-most : (f l f′ l′ : ℕ) (w w′ : ℕ → ℚ) → Jumps n f l J w → Jumps n f′ l′ J w′ → f ≤ f′
-  first-at-most f l f′ l′ w w′ G H = go (le-or-lt f f′)
+module _ {n : ℕ} {J : ℕ → ℚ} where
+  first-at-most : {f l f′ l′ : ℕ} {w w′ : ℕ → ℚ} → Jumps n f l J w → Jumps n f′ l′ J w′ → f ≤ f′
+  first-at-most {f} {f′ = f′} G H = go (le-or-lt f f′)
     where
       go : (f ≤ f′) ⊎ (f′ < f) → f ≤ f′
       go (inl h) = h
       go (inr h) = let o = H .ordered in absurd (H .jump f′ (omega arith) (omega arith) (G .before f′ h .0))
 
-  last-at-most : (f l f′ l′ : ℕ) (w w′ : ℕ → ℚ) → Jumps n f l J w → Jumps n f′ l′ J w′ → l ≤ l′
-  last-at-most f l f′ l′ w w′ G H = go (le-or-lt l l′)
+  last-at-most : {f l f′ l′ : ℕ} {w w′ : ℕ → ℚ} → Jumps n f l J w → Jumps n f′ l′ J w′ → l ≤ l′
+  last-at-most {l = l} {l′ = l′} G H = go (le-or-lt l l′)
     where
       go : (l ≤ l′) ⊎ (l′ < l) → l ≤ l′
       go (inl h) = h
       go (inr h) = let o = G .ordered in absurd (G .jump l (omega arith) (omega arith) (H .after l h .0))
 
-  pub factors-agree : (f l f′ l′ : ℕ) (w w′ : ℕ → ℚ) → Jumps n f l J w → Jumps n f′ l′ J w′ → (j : ℕ) → j < n → w j ≡ w′ j
-  factors-agree f l f′ l′ w w′ G H j h =
-      let a = first-at-most f l f′ l′ w w′ G H in let b = first-at-most f′ l′ f l w′ w H G in
-      let c = last-at-most f l f′ l′ w w′ G H in let d = last-at-most f′ l′ f l w′ w H G in
-      go a b c d (le-or-lt f j) (le-or-lt j l)
+  pub factors-agree : {f l f′ l′ : ℕ} {w w′ : ℕ → ℚ} → Jumps n f l J w → Jumps n f′ l′ J w′ → (j : ℕ) → j < n → w j ≡ w′ j
+  factors-agree {f} {l} {f′} {l′} {w} {w′} G H j h =
+      go (first-at-most G H) (first-at-most H G) (last-at-most G H) (last-at-most H G) (le-or-lt f j) (le-or-lt j l)
     where
       go : f ≤ f′ → f′ ≤ f → l ≤ l′ → l′ ≤ l → (f ≤ j) ⊎ (j < f) → (j ≤ l) ⊎ (l < j) → w j ≡ w′ j
       go a b c d (inr p) q = G .before j p .1 ∙ sym (H .before j (omega arith) .1)

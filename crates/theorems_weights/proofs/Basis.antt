@@ -64,7 +64,7 @@ pub combination-lifts : (width : ℕ) (κ : List Entry) (t t′ : Table) (S : St
 combination-lifts width κ t t′ S c col =
     let G = S .null in let n = S .rows in let b = G .below in
     sum-ext (length t′) (λ i h. ap (λ u. c (suc i) *ᵠ u) (S .cells i col))
-    ∙ reindex (S .w) c (λ k. cell t k col) (length t′) (first-factor (length t) (S .f) (S .l) (values κ t) (S .w) G) (last-factor (length t) (S .f) (S .l) (values κ t) (S .w) G (length t′) (omega arith))
+    ∙ reindex (S .w) c (λ k. cell t k col) (length t′) (first-factor G) (last-factor G (length t′) (omega arith))
     ∙ ap (λ m. sum m (λ i. lifted (S .w) c i *ᵠ cell t i col)) (S .rows)
 
 module _ (K K′ : List Entry → Type 0) (width : ℕ) (κ : List Entry) (t t′ : Table) (B : Basis K width t) (S : Stepped κ width t t′)
@@ -96,23 +96,23 @@ module _ (K K′ : List Entry → Type 0) (width : ℕ) (κ : List Entry) (t t�
       go : K κ′ ⊎ (κ ≡ κ′) → (length t′ ≤ i) ⊎ (i < length t′) → values κ′ t′ i ≡ int (pos 0)
       go k (inl h) = values-past κ′ t′ i h
       go (inl k) (inr h) = values-mixed κ′ i ∙ ap₂ (λ u v. S .w i *ᵠ u +ᵠ (int (pos 1) -ᵠ S .w (suc i)) *ᵠ v) (B .meets κ′ k i) (B .meets κ′ k (suc i)) ∙ nothing (S .w i) (int (pos 1) -ᵠ S .w (suc i))
-      go (inr e) (inr h) = let n = S .rows in ap (λ λ′. values λ′ t′ i) (sym e) ∙ values-mixed κ i ∙ mixed-null (length t) (S .f) (S .l) (values κ t) (S .w) (S .null) i (omega arith)
+      go (inr e) (inr h) = let n = S .rows in ap (λ λ′. values λ′ t′ i) (sym e) ∙ values-mixed κ i ∙ mixed-null (S .null) i (omega arith)
 
   new-spans : (z : ℕ → ℚ) → ((c : ℕ) → width ≤ c → z c ≡ int (pos 0)) → ((κ′ : List Entry) → K′ κ′ → applied κ′ z ≡ int (pos 0)) → (a : ℕ → ℚ) × ((c : ℕ) → combined a t′ c ≡ z c)
   new-spans z out met = go (B .spans z out (λ κ′ k. met κ′ (kept κ′ k)))
     where
       go : (a : ℕ → ℚ) × ((c : ℕ) → combined a t c ≡ z c) → (a : ℕ → ℚ) × ((c : ℕ) → combined a t′ c ≡ z c)
-      go s = (λ i. c (suc i), λ col. combined-lifts c col ∙ sum-ext (length t) (λ i h. ap (λ u. u *ᵠ cell t i col) (coefficient-lifts (length t) (S .f) (S .l) (values κ t) (S .w) (S .null) (s .0) annihilated i h)) ∙ s .1 col)
+      go s = (λ i. c (suc i), λ col. combined-lifts c col ∙ sum-ext (length t) (λ i h. ap (λ u. u *ᵠ cell t i col) (coefficient-lifts (S .null) (s .0) annihilated i h)) ∙ s .1 col)
         where
           annihilated : sum (length t) (λ i. s .0 i *ᵠ values κ t i) ≡ int (pos 0)
           annihilated = sym (applied-sum κ (length t) (s .0) (cell t)) ∙ applied-ext κ (s .1) ∙ met κ new
 
           c : ℕ → ℚ
-          c = coefficient (length t) (S .f) (S .l) (values κ t) (S .w) (S .null) (s .0) annihilated
+          c = coefficient (S .null) (s .0) annihilated
 
   new-unique : (a b : ℕ → ℚ) → ((c : ℕ) → combined a t′ c ≡ combined b t′ c) → (i : ℕ) → i < length t′ → a i ≡ b i
   unfolding shifted
-  new-unique a b e i h = let n = S .rows in lifted-unique (length t) (S .f) (S .l) (values κ t) (S .w) (S .null) (shifted a) (shifted b)
+  new-unique a b e i h = let n = S .rows in lifted-unique (S .null) (shifted a) (shifted b)
       (λ k m. B .unique (lifted (S .w) (shifted a)) (lifted (S .w) (shifted b)) (λ c. sym (combined-lifts (shifted a) c) ∙ e c ∙ combined-lifts (shifted b) c) k m) i (omega arith)
 
   -- a basis for K and the step's own condition

@@ -86,7 +86,7 @@ module _ (v : Row) (n f l : ℕ) (J w : ℕ → ℚ) (ρ : ℚ) (G : Jumps n f l
 
   diagonal-is : (r : ℕ) → diagonal v f l r ≡ w r
   unfolding diagonal
-  diagonal-is zero = sym (first-factor n f l J w G)
+  diagonal-is zero = sym (first-factor G)
   diagonal-is (suc j) = go (diagonal-is j) (le-or-lt (suc j) f) (le-or-lt l (suc j))
     where
       rest : ℚ
@@ -100,7 +100,7 @@ module _ (v : Row) (n f l : ℕ) (J w : ℕ → ℚ) (ρ : ℚ) (G : Jumps n f l
 
       go : diagonal v f l j ≡ w j → (suc j ≤ f) ⊎ (f < suc j) → (l ≤ suc j) ⊎ (suc j < l) → cond (leb (suc j) f) (int (pos 1)) rest ≡ w (suc j)
       go ih (inl h) k = cond-true (int (pos 1)) rest (holds-true (leb (suc j) f) (le→leb (suc j) f h)) ∙ sym (up-to-first (suc j) h)
-      go ih (inr h) (inl k) = past h ∙ cond-false _ _ (fails-false (ltb (suc j) l) (le→nltb (suc j) l k)) ∙ sym (last-factor n f l J w G (suc j) k)
+      go ih (inr h) (inl k) = past h ∙ cond-false _ _ (fails-false (ltb (suc j) l) (le→nltb (suc j) l k)) ∙ sym (last-factor G (suc j) k)
       go ih (inr h) (inr k) = past h ∙ cond-true _ _ (holds-true (ltb (suc j) l) (lt→ltb (suc j) l k))
           ∙ ap (λ u. int (pos 1) -ᵠ u) (ap (carried v j) ih ∙ carried-is j (omega arith) (omega arith)) ∙ twice (w (suc j))
 
@@ -116,7 +116,7 @@ module _ (v : Row) (n f l : ℕ) (J w : ℕ → ℚ) (ρ : ℚ) (G : Jumps n f l
 
       go : (l ≤ suc r) ⊎ (suc r < l) → (suc r ≤ f) ⊎ (f < suc r) → cond (leb l (suc r)) (int (pos 1)) rest ≡ int (pos 1) -ᵠ w (suc r)
       go (inl k) h = cond-true (int (pos 1)) rest (holds-true (leb l (suc r)) (le→leb l (suc r) k))
-          ∙ ring ℚ-ring [] (search readsℚ) (search readsℚ) refl ∙ ap (λ u. int (pos 1) -ᵠ u) (sym (last-factor n f l J w G (suc r) k))
+          ∙ ring ℚ-ring [] (search readsℚ) (search readsℚ) refl ∙ ap (λ u. int (pos 1) -ᵠ u) (sym (last-factor G (suc r) k))
       go (inr k) (inl h) = before k ∙ cond-true _ _ (holds-true (leb (suc r) f) (le→leb (suc r) f h))
           ∙ ring ℚ-ring [] (search readsℚ) (search readsℚ) refl ∙ ap (λ u. int (pos 1) -ᵠ u) (sym (up-to-first (suc r) h))
       go (inr k) (inr h) = before k ∙ cond-false _ _ (fails-false (leb (suc r) f) (lt→nleb (suc r) f h)) ∙ ap (carried v r) (diagonal-is r) ∙ carried-is r (omega arith) (omega arith)

@@ -7,6 +7,7 @@ use mathlib.Core.Bool.{cond}
 use mathlib.Core.List.{[], _∷_}
 use Prim.Native.Nat.{ℕ, zero, suc, _-_, _<_, _≤_}
 use native.Mathlib.Omega.{arith}
+use native.Mathlib.Nat.{eq-or-lt-of-le}
 use lib.Dec.{leb, le→leb}
 use lib.Arith.{lt→nleb}
 use lib.IntN.{pos, negsuc}
@@ -98,14 +99,17 @@ pub lifted-one : (w : ℕ → ℚ) (i : ℕ) → lifted w (λ j. int (pos 1)) i 
 unfolding lifted
 lifted-one w i = ring ℚ-ring (w i ∷ []) (search readsℚ depth 20) (search readsℚ depth 20) refl
 
-module _ (n f l : ℕ) (J w : ℕ → ℚ) (G : Jumps n f l J w) where
-  -- the first factor is 1 and the last is 0
-  pub first-factor : w 0 ≡ int (pos 1)
-  first-factor = go f refl
+module _ {n f l : ℕ} {J w : ℕ → ℚ} (G : Jumps n f l J w) where
+  -- the factors are 1 up to f and 0 from l on
+  pub one-up-to : (i : ℕ) → i ≤ f → w i ≡ int (pos 1)
+  one-up-to i h = go (eq-or-lt-of-le h)
     where
-      go : (k : ℕ) → f ≡ k → w 0 ≡ int (pos 1)
-      go zero e = ap w (sym e) ∙ G .at-first
-      go (suc k) e = G .before 0 (omega arith) .1
+      go : (i ≡ f) ⊎ (i < f) → w i ≡ int (pos 1)
+      go (inl e) = ap w e ∙ G .at-first
+      go (inr k) = G .before i k .1
+
+  pub first-factor : w 0 ≡ int (pos 1)
+  first-factor = one-up-to 0 (omega arith)
 
   pub last-factor : (k : ℕ) → l ≤ k → w k ≡ int (pos 0)
   last-factor k h = go (place l l k)

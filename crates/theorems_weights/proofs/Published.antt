@@ -135,7 +135,7 @@ module _ (s : Space) (L : Legal s) (j k : ℕ) (h : j < segments s - 1) (l : k <
         go : (length (nullspace v) ≤ i) ⊎ (i < length (nullspace v)) → (columnCount s ≤ c) ⊎ (c < columnCount s)
             → cell next i c ≡ w i *ᵠ cell t i c +ᵠ (int (pos 1) -ᵠ w (suc i)) *ᵠ cell t (suc i) c
         go (inl p) q = cell-past next i c (rw rows p)
-            ∙ sym (zeros (int (pos 1) -ᵠ w (suc i)) (ap (λ u. u *ᵠ cell t i c) (last-factor (length t) f e (values (conditions s j k) t) w G i (let b = G .below in omega (arith, null-rows))) ∙ zero-mul (cell t i c))
+            ∙ sym (zeros (int (pos 1) -ᵠ w (suc i)) (ap (λ u. u *ᵠ cell t i c) (last-factor G i (let b = G .below in omega (arith, null-rows))) ∙ zero-mul (cell t i c))
             (cell-past t (suc i) c (omega (arith, null-rows))))
         go (inr p) (inl q) = cell-beside (columnCount s) next (product-wide (columnCount s) (nullspace v) t) i c q
             ∙ sym (zeros (int (pos 1) -ᵠ w (suc i)) (ap (λ u. w i *ᵠ u) (cell-beside (columnCount s) t W i c q) ∙ mul-zero (w i)) (cell-beside (columnCount s) t W (suc i) c q))
