@@ -15,6 +15,10 @@ le-or-lt a b = go (leb a b) (leb→le a b) (nleb→lt a b)
     go true p q = inl (p tt)
     go false p q = inr (q tt)
 
+-- two constructors that are told apart: `clash cc`, where an equation between them is at hand
+pub clash : {A : Type 0} → _≡_ {A = ℕ} 0 1 → A
+clash z = absurd (omega arith)
+
 -- what holds of the numbers below n and of n
 pub below-suc : {n : ℕ} (P : ℕ → Type 0) → ((k : ℕ) → k < n → P k) → P n → (k : ℕ) → k < suc n → P k
 below-suc {n} P h p k l = go (eq-or-lt-of-le l)
@@ -49,6 +53,10 @@ refuted-false false f = refl
 pub and-true : (a b : Bool) → (a && b) ≡ true → (a ≡ true) × (b ≡ true)
 and-true true b e = (refl, e)
 and-true false b e = absurd (true-not-false e refl)
+
+pub and-false : (b : Bool) → (b && false) ≡ false
+and-false true = refl
+and-false false = refl
 
 pub or-false : (a b : Bool) → (a || b) ≡ false → (a ≡ false) × (b ≡ false)
 or-false true b e = absurd (true-not-false refl e)

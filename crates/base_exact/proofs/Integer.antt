@@ -232,6 +232,10 @@ zero-sub-pos x h = <-in _ _ (omega (arith, <-out x (pos 0) h, bal-+ (pos 0) (neg
 pub *-mono : (x y : ℤ) (k : ℕ) → x ≤ℤ y → (x *ℤ pos k) ≤ℤ (y *ℤ pos k)
 *-mono x y k h = ≤-in _ _ (omega (arith, bal-* x (pos k), bal-* y (pos k), mul-le-mul-right k (≤-out x y h)))
 
+pub *-mono-left : (k x y : ℤ) → pos 0 ≤ℤ k → x ≤ℤ y → (k *ℤ x) ≤ℤ (k *ℤ y)
+*-mono-left (pos k) x y h l = ≤-in _ _ (omega (arith, bal-* (pos k) x, bal-* (pos k) y, mul-le-mul-right k (≤-out x y l)))
+*-mono-left (negsuc k) x y h l = absurd (h .le)
+
 pub *-mono-< : (x y : ℤ) (k : ℕ) → x <ℤ y → (x *ℤ pos (suc k)) <ℤ (y *ℤ pos (suc k))
 *-mono-< x y k h = <-in _ _ (omega (arith, bal-* x (pos (suc k)), bal-* y (pos (suc k)), mul-lt-mul-of-pos-right {k = suc k} (<-out x y h) (omega arith)))
 

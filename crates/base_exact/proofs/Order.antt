@@ -5,7 +5,7 @@ use mathlib.Core.Path.{_≡_, refl, sym, _∙_, ap, ap₂, subst}
 use mathlib.Core.Logic.{_≢_, _⊎_, inl, inr}
 use mathlib.Core.Bool.{true, false, _&&_}
 use mathlib.Core.List.{[], _∷_}
-use Prim.Native.Nat.{ℕ, zero, suc, _*_, _<_}
+use Prim.Native.Nat.{ℕ, zero, suc, _*_, _<_, _≤_}
 use native.Mathlib.Omega.{arith}
 use lib.Dec.{T, eqb, eqb→eq}
 use lib.IntN.{ℤ, pos, negsuc, _+ℤ_, _*ℤ_, negℤ, natAbs}
@@ -203,6 +203,18 @@ pos-int n = nn-pos (nn-int (suc n)) (int-nonzero n)
 
 pub zero<one : int (pos 0) <ᵠ int (pos 1)
 zero<one = pos-int 0
+
+pub pos-of-nat : (n : ℕ) → 0 < n → int (pos 0) <ᵠ int (pos n)
+pos-of-nat zero h = absurd (omega arith)
+pos-of-nat (suc n) h = pos-int n
+
+-- a number from 0 to 1 has a numerator no larger than its denominator
+pub unit-num-le-den : (q : ℚ) → Nn q → q ≤ᵠ int (pos 1) → natAbs (q .num) ≤ den q
+unit-num-le-den q h k = go (q .num) (h .nn) (le-is (self q) (is-int (pos 1)) k)
+  where
+    go : (z : ℤ) → T (nonNeg z) → (z *ℤ pos 1) ≤ℤ (pos 1 *ℤ pos (den q)) → natAbs z ≤ den q
+    go (pos n) p l = omega (arith, Z.≤-out _ _ l)
+    go (negsuc n) p l = absurd p
 
 pub pos-add : {p q : ℚ} → int (pos 0) <ᵠ p → Nn q → int (pos 0) <ᵠ p +ᵠ q
 pos-add {p} {q} h k = not-≥-< (λ l. <-not-≥ h (le-by (nn-add (le-nn l) k) (ring ℚ-ring (p ∷ q ∷ []) (search readsℚ) (search readsℚ) refl)))

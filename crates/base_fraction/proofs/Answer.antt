@@ -1,9 +1,8 @@
 -- What an answer says of the fraction that was counted: for `checked`, which picks it, and for callers, who match on it.
 use mathlib.Core.Path.{_≡_, refl, sym, ap, _∙_}
 use mathlib.Core.Bool.{true, false}
-use Prim.Native.Nat.{ℕ}
-use native.Mathlib.Omega.{arith}
 use Rattle.base_exact.specs.Rational.{ℚ}
+use Rattle.base_exact.proofs.Decide.{clash}
 use Rattle.base_fraction.specs.Size.{fits, Counting, counted, too-large, count}
 use Rattle.base_fraction.specs.Machine.{fraction, value, answer, FractionFits}
 use Rattle.base_fraction.specs.declared.Fraction.{Fraction}
@@ -38,12 +37,12 @@ fits-answer (counted q) f e =
     let w : fraction q ≡ f = cc in
     let v : q ≡ value f = sym (value-fraction q) ∙ ap value w in
     (ap counted v, sym w ∙ ap fraction v)
-fits-answer too-large f e = absurd (let z : _≡_ {A = ℕ} 0 1 = cc in omega arith)
+fits-answer too-large f e = clash cc
 
 -- `TooLarge`: it is not
 pub large-answer : (x : Counting ℚ) → answer x ≡ TooLarge → x ≡ too-large
 unfolding answer
-large-answer (counted q) e = absurd (let z : _≡_ {A = ℕ} 0 1 = cc in omega arith)
+large-answer (counted q) e = clash cc
 large-answer too-large e = refl
 
 -- ---- one counted fraction

@@ -11,7 +11,7 @@ use Rattle.base_exact.specs.Rational.{ℚ, den, int}
 use Rattle.base_exact.specs.Order.{_≤ᵠ_}
 use Rattle.base_exact.proofs.Integer.{up, dn, *-one, ≤-out, bal-+, bal-neg, abs-le}
 use Rattle.base_exact.proofs.Rational.{_is_over_, self, is-int, is-least}
-use Rattle.base_exact.proofs.Decide.{and-true, cond-true, cond-false}
+use Rattle.base_exact.proofs.Decide.{and-true, cond-true, cond-false, clash}
 use Rattle.base_exact.proofs.Order.{le-is}
 use Rattle.base_fraction.specs.Size.{limit, fits, counted, too-large, count}
 
@@ -80,12 +80,12 @@ counted-is q p e = go (fits q) refl e
   where
     go : (b : Bool) → fits q ≡ b → cond b (counted q) too-large ≡ counted p → (p ≡ q) × (fits q ≡ true)
     go true f e = (cc, f)
-    go false f e = absurd (let z : _≡_ {A = ℕ} 0 1 = cc in omega arith)
+    go false f e = clash cc
 
 pub too-large-is : (q : ℚ) → count q ≡ too-large → fits q ≡ false
 unfolding count
 too-large-is q e = go (fits q) refl e
   where
     go : (b : Bool) → fits q ≡ b → cond b (counted q) too-large ≡ too-large → fits q ≡ false
-    go true f e = absurd (let z : _≡_ {A = ℕ} 0 1 = cc in omega arith)
+    go true f e = clash cc
     go false f e = f

@@ -3,7 +3,7 @@ use mathlib.Core.Path.{_≡_, refl, sym, ap}
 use mathlib.Core.Bool.{Bool, true, false}
 use mathlib.Core.Option.{Option, some, none}
 use Prim.Native.Nat.{ℕ, _<_}
-use native.Mathlib.Omega.{arith}
+use Rattle.base_exact.proofs.Decide.{clash}
 use Rattle.base_outcome.specs.Outcome.{Outcome, answer, refusal, _then_}
 use Rattle.base_outcome.specs.Search.{first}
 use Rattle.base_outcome.proofs.Search.{first-at, first-none}
@@ -24,11 +24,11 @@ found-at test n i h t before = sym (ap found (first-at test n i h t before))
 pub found-some-inverts : (o : Option ℕ) {i : ℕ} → found o ≡ At i → o ≡ some i
 unfolding found
 found-some-inverts (some k) e = cc
-found-some-inverts none e = absurd (let z : _≡_ {A = ℕ} 0 1 = cc in omega arith)
+found-some-inverts none e = clash cc
 
 pub found-none-inverts : (o : Option ℕ) → found o ≡ Nothing → o ≡ none
 unfolding found
-found-none-inverts (some k) e = absurd (let z : _≡_ {A = ℕ} 0 1 = cc in omega arith)
+found-none-inverts (some k) e = clash cc
 found-none-inverts none e = refl
 
 -- ---- an outcome
@@ -41,11 +41,11 @@ module _ {A : Type 0} where
   pub legal-answers : (o : Outcome A) → legality o ≡ Legal → Answered o
   unfolding legality
   legal-answers (answer a) e = record { given = a; is = refl }
-  legal-answers (refusal code place) e = absurd (let z : _≡_ {A = ℕ} 0 1 = cc in omega arith)
+  legal-answers (refusal code place) e = clash cc
 
   pub refused-refuses : (o : Outcome A) {code place : ℕ} → legality o ≡ Refused code place → o ≡ refusal code place
   unfolding legality
-  refused-refuses (answer a) e = absurd (let z : _≡_ {A = ℕ} 0 1 = cc in omega arith)
+  refused-refuses (answer a) e = clash cc
   refused-refuses (refusal n p) e = cc
 
   pub answer-legal : (o : Outcome A) {a : A} → o ≡ answer a → legality o ≡ Legal

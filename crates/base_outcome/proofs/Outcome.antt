@@ -10,6 +10,7 @@ use lib.ListN.{length, getD, length-append, List·getD-append}
 use lib.Seq.{getD-at}
 use Rattle.base_exact.specs.Tabulate.{tab}
 use Rattle.base_exact.proofs.Tabulate.{tab-snoc}
+use Rattle.base_exact.proofs.Decide.{clash}
 use Rattle.base_outcome.specs.Outcome.{Outcome, answer, refusal, largestPlace, capped, _then_, with-answer, collect, repeat}
 
 -- ---- one outcome
@@ -19,7 +20,7 @@ pub answer-unique : {A : Type 0} {o : Outcome A} {a b : A} → o ≡ answer a �
 answer-unique p q = cc
 
 pub answer-not-refusal : {A : Type 0} {o : Outcome A} {a : A} {code place : ℕ} → o ≡ answer a → o ≡ refusal code place → ⊥
-answer-not-refusal p q = let z : _≡_ {A = ℕ} 0 1 = cc in omega arith
+answer-not-refusal p q = clash cc
 
 -- a place that fits a byte stays
 pub capped-small : (n : ℕ) → n ≤ largestPlace → capped n ≡ n

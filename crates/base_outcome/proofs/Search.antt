@@ -7,11 +7,11 @@ use mathlib.Core.Option.{Option, some, none}
 use Prim.Native.Nat.{ℕ, zero, suc, _<_}
 use native.Mathlib.Omega.{arith}
 use native.Mathlib.Nat.{eq-or-lt-of-le}
-use Rattle.base_exact.proofs.Decide.{below-suc}
+use Rattle.base_exact.proofs.Decide.{below-suc, clash}
 use Rattle.base_outcome.specs.Search.{first, last, or-else}
 
 pub some-not-none : {o : Option ℕ} {i : ℕ} → o ≡ some i → o ≡ none → ⊥
-some-not-none p q = let z : _≡_ {A = ℕ} 0 1 = cc in omega arith
+some-not-none p q = clash cc
 
 -- ---- the first index
 

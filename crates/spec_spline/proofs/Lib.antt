@@ -19,4 +19,5 @@ pub mod Stepped
 pub mod Shape
 pub mod TableFits
 pub mod Refusals
+pub mod Computing
 pub mod Cases

@@ -12,7 +12,7 @@ use lib.Signed.{leZ, _≤ℤ_}
 use Rattle.base_exact.proofs.Decide.{and-true, not-false}
 use Rattle.base_exact.proofs.Integer.{up, dn, bal-+, ext, abs-zero}
 use Rattle.base_exact.proofs.Word.{leZ-true}
-use Rattle.spec_spline.specs.Space.{Space, order, degree, conditionCount, isDiscontinuity, firstColumn}
+use Rattle.spec_spline.specs.Space.{Space, order, degree, conditionCount, isDiscontinuity, firstColumn, segments, columnCount}
 use Rattle.base_outcome.specs.Tests.{between}
 
 pub between-inverts : (low high z : ℤ) → not (between low high z) ≡ false → (low ≤ℤ z) × (z ≤ℤ high)
@@ -36,3 +36,8 @@ firstColumn-mono s i (suc n) h = go (λ l. firstColumn-mono s i n l) (eq-or-lt-o
     go : (i ≤ n → firstColumn s i ≤ firstColumn s n) → (i ≡ suc n) ⊎ (i < suc n) → firstColumn s i ≤ firstColumn s n + (degree s n + 1)
     go ih (inl e) = omega (arith, ap (firstColumn s) e)
     go ih (inr l) = omega (arith, ih (omega arith))
+
+-- a column of segment j
+pub segment-column : (s : Space) (j k : ℕ) → j < segments s → k ≤ degree s j → firstColumn s j + k < columnCount s
+unfolding firstColumn
+segment-column s j k h l = omega (arith, firstColumn-mono s (suc j) (segments s) h)

@@ -1,7 +1,7 @@
 -- The weights that a join leaves as formulas, and the factors of the next step from them: what the join's ordinate has in its
 -- last row, and what the join before has taken of the ordinate where a step of order 2 begins, are such weights.
 use mathlib.Core.Path.{_≡_, refl, sym, _∙_, ap, ap₂}
-use mathlib.Core.Bool.{Bool, cond, _&&_, true, false}
+use mathlib.Core.Bool.{cond, _&&_, false}
 use Prim.Native.Nat.{ℕ, zero, suc, _+_, _-_, _<_, _≤_}
 use native.Mathlib.Omega.{arith}
 use native.Mathlib.Decide.{ℕ-discrete}
@@ -9,7 +9,7 @@ use borrow.Author.Tests.{eq-eqb, ne-eqb}
 use lib.Dec.{eqb}
 use lib.IntN.{pos}
 use Rattle.base_exact.specs.Rational.{ℚ, _*ᵠ_, -ᵠ_, _-ᵠ_, int}
-use Rattle.base_exact.proofs.Decide.{cond-true, cond-false}
+use Rattle.base_exact.proofs.Decide.{cond-true, cond-false, and-false}
 use Rattle.base_exact.proofs.Rational.{one-mul}
 use Rattle.spec_spline.specs.Space.{Space, segments, degree, conditionCount, firstColumn}
 use Rattle.spec_spline.specs.Table.{Table, cell}
@@ -39,10 +39,6 @@ pub record Closed (s : Space) (e : ℕ → ℕ) (t : Table) : Type 0 where
   pub last : (i : ℕ) → suc i < segments s → e i ≡ fullCount → cell t (top s e i) (firstColumn s i + degree s i) ≡ over s e i *ᵠ (upperFactor s i *ᵠ share s i)
   pub near : (i : ℕ) → suc i < segments s → e i ≡ fullCount → cell t (top s e i - 1) (firstColumn s i + (degree s i - 1)) ≡ lowerFactor s i
   pub beyond : (i : ℕ) → suc i < segments s → e i ≡ fullCount → cell t (top s e i) (firstColumn s (suc i) + 1) ≡ over s e i *ᵠ upperFactor s i
-
-pub and-false : (b : Bool) → (b && false) ≡ false
-and-false true = refl
-and-false false = refl
 
 module _ (s : Space) (L : Legal s) (M : Limits s) (join k : ℕ) (h : join < segments s - 1) (m : k < conditionCount s join) (t : Table) (R : Reached s join k t) (t′ : Table) (N : Advance s L M join k h m t R t′)
     (Q : Closed s (met s join k) t) where

@@ -17,6 +17,7 @@ use Rattle.spec_spline.specs.Piecewise.{Accepted}
 use Rattle.base_outcome.proofs.Outcome.{repeat-keeps}
 use Rattle.spec_spline.proofs.Table.{cell-past}
 use Rattle.spec_spline.proofs.Legal.{Legal, legal}
+use Rattle.spec_spline.proofs.Space.{segment-column}
 use Rattle.theorems_weights.proofs.Built.{built}
 use Rattle.theorems_values.proofs.Segment.{accepted-checked}
 use Rattle.theorems_acceptance.specs.ClosedForms.{lowerFactor, upperFactor, share, cubic, fullCount, leftOver, ownRow, joinRow, joinColumn, firstWeight, lastWeight, JoinWeightsAtOrderOne, JoinWeightsAtOrderTwo, WeightsBeforeJoin, WeightsAfterJoin, JoinOrdinatesAgree, OwnOrdinatesAreRows}
@@ -24,7 +25,7 @@ use Rattle.theorems_acceptance.proofs.Rows.{firstRow, leftCount, lowest
 use Rattle.theorems_acceptance.proofs.Support.{Support, support-ends}
 use Rattle.theorems_acceptance.proofs.Limits.{Limits, limits}
 use Rattle.theorems_acceptance.proofs.Stages.{met, met-before, met-here, met-after, join-met, none-met, Compared, before, same, after, compared}
-use Rattle.theorems_acceptance.proofs.Invariant.{column, column-inside}
+use Rattle.theorems_acceptance.proofs.Invariant.{column}
 use Rattle.theorems_acceptance.proofs.Cumulative.{first-of-two, middle-of-three}
 use Rattle.theorems_acceptance.proofs.Reached.{Reached, start-reached, step-reached, join-reached, advance}
 use Rattle.theorems_acceptance.proofs.WeightCount.{left-is, right-is}
@@ -137,11 +138,11 @@ module _ (s : Space) (a : Accepted s) where
 
   -- two weights, and three, on an ordinate
   two : (j u r : ℕ) → j < segments s → u ≤ degree s j → lowest (degree s) (e s a) j u ≡ r → highest (degree s) (e s a) j u ≡ suc r → cell t r (firstColumn s j + u) ≡ int (pos 1) -ᵠ cell t (suc r) (firstColumn s j + u)
-  two j u r h k p q = first-of-two (length t) (column s t j u) r (suc r) (support-ends p q (F .reached .shape .supported j u h k)) (F .reached .basis .column-sums _ (column-inside s j u h k)) (λ i b. cell-past t i _ b) refl
+  two j u r h k p q = first-of-two (length t) (column s t j u) r (suc r) (support-ends p q (F .reached .shape .supported j u h k)) (F .reached .basis .column-sums _ (segment-column s j u h k)) (λ i b. cell-past t i _ b) refl
 
   three : (j u r : ℕ) → j < segments s → u ≤ degree s j → lowest (degree s) (e s a) j u ≡ r → highest (degree s) (e s a) j u ≡ suc (suc r)
       → cell t (suc r) (firstColumn s j + u) ≡ int (pos 1) -ᵠ cell t r (firstColumn s j + u) -ᵠ cell t (suc (suc r)) (firstColumn s j + u)
-  three j u r h k p q = middle-of-three (length t) (column s t j u) r (suc (suc r)) (support-ends p q (F .reached .shape .supported j u h k)) (F .reached .basis .column-sums _ (column-inside s j u h k)) (λ i b. cell-past t i _ b) refl
+  three j u r h k p q = middle-of-three (length t) (column s t j u) r (suc (suc r)) (support-ends p q (F .reached .shape .supported j u h k)) (F .reached .basis .column-sums _ (segment-column s j u h k)) (λ i b. cell-past t i _ b) refl
 
   -- ---- a join of order 1, and one of order 2
   module _ (j : ℕ) (h : suc j < segments s) where
@@ -219,7 +220,7 @@ own-ends p e j u h l r = omega arith
 
 pub own-ordinates-are-rows : OwnOrdinatesAreRows
 own-ordinates-are-rows s a j u h k l r = ap (λ n. cell (a .table) n (firstColumn s j + u)) (sym (own-row-is s a j u h))
-    ∙ unit-of (a .table) (firstColumn s j + u) (firstRow (degree s) (e s a) j + u) support (formed s a .reached .basis .column-sums _ (column-inside s j u h k)) .one
+    ∙ unit-of (a .table) (firstColumn s j + u) (firstRow (degree s) (e s a) j + u) support (formed s a .reached .basis .column-sums _ (segment-column s j u h k)) .one
   where
     support : Support (column s (a .table) j u) (firstRow (degree s) (e s a) j + u) (firstRow (degree s) (e s a) j + u)
     support = let z = own-ends (degree s) (e s a) j u k (rw (left-is s j h) l) (rw (right-is s j h) r) in support-ends (z .0) (z .1) (formed s a .reached .shape .supported j u h k)

@@ -13,7 +13,7 @@ use lib.Dec.{eqb}
 use lib.IntN.{pos}
 use Rattle.base_exact.specs.Rational.{ℚ, _+ᵠ_, _*ᵠ_, -ᵠ_, _-ᵠ_, int}
 use Rattle.base_exact.specs.Sum.{sum}
-use Rattle.base_exact.proofs.Decide.{cond-true, cond-false}
+use Rattle.base_exact.proofs.Decide.{cond-true, cond-false, and-false}
 use Rattle.base_exact.proofs.Ring.{ring}
 use Rattle.base_exact.proofs.Rational.{ℚ-ring, readsℚ, one-mul, mul-one, zero-add}
 use Rattle.base_exact.proofs.Sum.{sum-last, sum-zero}
@@ -30,7 +30,7 @@ use Rattle.theorems_acceptance.proofs.JumpSums.{summed, onLeft, stage, 
 use Rattle.theorems_acceptance.proofs.Reached.{Reached, Advance}
 use Rattle.theorems_acceptance.proofs.LowJumps.{unit}
 use Rattle.theorems_acceptance.proofs.StepFactors.{b-is, factor-at-one}
-use Rattle.theorems_acceptance.proofs.Closed.{top, over, Closed, and-false, past, join-weight, over-none, lower-is, upper-is}
+use Rattle.theorems_acceptance.proofs.Closed.{top, over, Closed, past, join-weight, over-none, lower-is, upper-is}
 
 module _ (s : Space) (L : Legal s) (M : Limits s) (join k : ℕ) (h : join < segments s - 1) (m : k < conditionCount s join) (t : Table) (R : Reached s join k t) (t′ : Table) (N : Advance s L M join k h m t R t′)
     (Q : Closed s (met s join k) t) where

@@ -1,38 +1,23 @@
 -- The factors of a step that answers: 1 up to the first row with a jump, 0 from the last one on, strictly between 0 and 1 in
 -- between. And which rows these are, from where the jumps are zero.
-use mathlib.Core.Path.{_≡_, refl, sym, _∙_, ap}
+use mathlib.Core.Path.{_≡_, refl, _∙_}
 use mathlib.Core.Logic.{_≢_, _⊎_, inl, inr}
 use mathlib.Core.List.{[], _∷_}
-use Prim.Native.Nat.{ℕ, suc, _<_, _≤_}
+use Prim.Native.Nat.{ℕ, _<_, _≤_}
 use native.Mathlib.Omega.{arith}
-use native.Mathlib.Nat.{eq-or-lt-of-le}
 use lib.IntN.{pos, negsuc}
-use Rattle.base_exact.specs.Rational.{ℚ, _*ᵠ_, -ᵠ_, _-ᵠ_, int}
+use Rattle.base_exact.specs.Rational.{ℚ, -ᵠ_, _-ᵠ_, int}
 use Rattle.base_exact.specs.Order.{Nn}
 use Rattle.base_exact.specs.Sum.{sum}
 use Rattle.base_exact.proofs.Decide.{le-or-lt}
 use Rattle.base_exact.proofs.Ring.{ring, by-eq}
-use Rattle.base_exact.proofs.Rational.{ℚ-ring, readsℚ, zero-mul, int-nonzero}
+use Rattle.base_exact.proofs.Rational.{ℚ-ring, readsℚ, int-nonzero}
 use Rattle.base_exact.proofs.Order.{nn-pos}
 use Rattle.base_exact.proofs.Sum.{sum-last}
-use Rattle.theorems_weights.proofs.NullSpace.{Jumps, last-factor}
+use Rattle.theorems_weights.proofs.NullSpace.{Jumps, last-factor, one-up-to, factor-nonzero}
 use Rattle.theorems_acceptance.proofs.Support.{Mixing}
 
 module _ (n f l : ℕ) (J w : ℕ → ℚ) (G : Jumps n f l J w) where
-  at-one : (i : ℕ) → i ≤ f → w i ≡ int (pos 1)
-  at-one i h = go (eq-or-lt-of-le h)
-    where
-      go : (i ≡ f) ⊎ (i < f) → w i ≡ int (pos 1)
-      go (inl e) = ap w e ∙ G .at-first
-      go (inr k) = G .before i k .1
-
-  not-zero : (i : ℕ) → i < l → w i ≢ int (pos 0)
-  not-zero i h e = go (le-or-lt i f)
-    where
-      go : (i ≤ f) ⊎ (f < i) → ⊥
-      go (inl k) = int-nonzero 0 (sym (at-one i k) ∙ e)
-      go (inr k) = let b = G .below in G .part (suc i) (omega arith) (omega arith) (sym (G .weight i (omega arith)) ∙ ap (λ t. t *ᵠ J i) e ∙ zero-mul (J i))
-
   not-one : (i : ℕ) → f < i → int (pos 1) -ᵠ w i ≢ int (pos 0)
   not-one i h e = go (le-or-lt l i)
     where
@@ -43,9 +28,9 @@ module _ (n f l : ℕ) (J w : ℕ → ℚ) (G : Jumps n f l J w) where
 
   pub factors-mix : ((i : ℕ) → Nn (w i)) → ((i : ℕ) → Nn (int (pos 1) -ᵠ w i)) → Mixing f l w
   factors-mix nn rest = record {
-    full = at-one;
+    full = one-up-to G;
     none = last-factor G;
-    some = λ i h. nn-pos (nn i) (not-zero i h);
+    some = λ i h. nn-pos (nn i) (factor-nonzero G i h);
     rest = λ i h. nn-pos (rest i) (not-one i h);
   }
 

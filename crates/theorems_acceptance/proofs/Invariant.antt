@@ -17,7 +17,7 @@ use Rattle.base_exact.proofs.Order.{zero<one}
 use Rattle.spec_spline.specs.Space.{Space, segments, degree, conditionCount, firstColumn, columnCount}
 use Rattle.spec_spline.specs.Conditions.{Entry}
 use Rattle.spec_spline.specs.Table.{Table, cell, identity}
-use Rattle.spec_spline.proofs.Space.{firstColumn-mono}
+use Rattle.spec_spline.proofs.Space.{segment-column}
 use Rattle.spec_spline.proofs.Table.{identity-on, identity-off, cell-past}
 use Rattle.theorems_weights.proofs.NullSpace.{mixed}
 use Rattle.theorems_weights.proofs.Stepped.{Stepped}
@@ -30,10 +30,6 @@ use Rattle.theorems_acceptance.proofs.Stages.{met, met-here, met-stage,
 -- The weights of all rows on ordinate u of segment j.
 abbrev pub column : Space → Table → ℕ → ℕ → ℕ → ℚ
 column s t j u i = cell t i (firstColumn s j + u)
-
-pub column-inside : (s : Space) (j u : ℕ) → j < segments s → u ≤ degree s j → firstColumn s j + u < columnCount s
-unfolding firstColumn
-column-inside s j u h k = let m = firstColumn-mono s (suc j) (segments s) h in omega arith
 
 -- The form of the table where e counts the conditions met.
 pub record Shaped (s : Space) (e : ℕ → ℕ) (t : Table) : Type 0 where
@@ -61,7 +57,7 @@ identity-highest s j u = omega (arith, first-row-column s j, none-left s j)
 
 pub identity-shaped : (s : Space) → Shaped s (met s 0 0) (identity (columnCount s))
 identity-shaped s = record {
-  supported = λ j u h k. support-ends (identity-lowest s j u k) (identity-highest s j u) (unit (firstColumn s j + u) (column-inside s j u h k));
+  supported = λ j u h k. support-ends (identity-lowest s j u k) (identity-highest s j u) (unit (firstColumn s j + u) (segment-column s j u h k));
   joined = λ j h k i. absurd (omega (arith, none-met s j));
 }
   where
@@ -117,7 +113,7 @@ module _ (s : Space) (L : Limits s) (join k : ℕ) (h : join < segments s - 1) (
 
   -- the first condition at this join makes two columns equal
   new-single : k ≡ 0 → (i : ℕ) → column s t′ join (degree s join) i ≡ column s t′ (suc join) 0 i
-  new-single z i = single-same t′ _ _ (single-one t′ _ (sums _ (column-inside s join (degree s join) (omega arith) (omega arith))) left) (single-one t′ _ (sums _ (column-inside s (suc join) 0 (omega arith) (omega arith))) right) left right i
+  new-single z i = single-same t′ _ _ (single-one t′ _ (sums _ (segment-column s join (degree s join) (omega arith) (omega arith))) left) (single-one t′ _ (sums _ (segment-column s (suc join) 0 (omega arith) (omega arith))) right) left right i
     where
       rows : Single (degree s) (met s join (suc k)) join (firstRow (degree s) (met s join (suc k)) join + degree s join)
       rows = met-once (degree s) (met s join (suc k)) join (subst (λ n. Stage (degree s) (met s join (suc k)) join (suc n)) z stage′)

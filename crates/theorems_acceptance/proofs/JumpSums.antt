@@ -2,7 +2,7 @@
 -- column sums so far. They are zero up to the first row with a jump and past the last one.
 use mathlib.Core.Path.{_≡_, refl, sym, _∙_, ap, ap₂}
 use mathlib.Core.List.{[], _∷_}
-use Prim.Native.Nat.{ℕ, zero, suc, _+_, _-_, _<_, _≤_}
+use Prim.Native.Nat.{ℕ, suc, _+_, _-_, _<_, _≤_}
 use native.Mathlib.Omega.{arith}
 use lib.IntN.{pos}
 use lib.ListN.{length}
@@ -11,13 +11,14 @@ use Rattle.base_exact.specs.Order.{_<ᵠ_}
 use Rattle.base_exact.specs.Sum.{sum}
 use Rattle.base_exact.proofs.Ring.{ring}
 use Rattle.base_exact.proofs.Rational.{ℚ-ring, readsℚ, one-mul, mul-zero}
-use Rattle.base_exact.proofs.Order.{pos-int}
+use Rattle.base_exact.proofs.Order.{pos-of-nat}
 use Rattle.base_exact.proofs.Sum.{sum-ext}
 use Rattle.spec_spline.specs.Space.{Space, segments, degree, width, conditionCount, firstColumn, columnCount}
 use Rattle.spec_spline.specs.Conditions.{conditions}
 use Rattle.spec_spline.specs.Table.{Table, cell}
 use Rattle.spec_spline.proofs.Table.{cell-past}
 use Rattle.spec_spline.proofs.Conditions.{scale-pos}
+use Rattle.spec_spline.proofs.Space.{segment-column}
 use Rattle.theorems_weights.proofs.Functional.{applied-ext, applied-sum}
 use Rattle.theorems_weights.proofs.Stepped.{values}
 use Rattle.theorems_weights.proofs.Difference.{difference, difference-ext, difference-none}
@@ -26,7 +27,7 @@ use Rattle.theorems_acceptance.proofs.Rows.{lowest, highest, lowest-at-
 use Rattle.theorems_acceptance.proofs.RowMoves.{firstSpanned, lastSpanned, left-within, right-within}
 use Rattle.theorems_acceptance.proofs.Limits.{Limits}
 use Rattle.theorems_acceptance.proofs.Stages.{met, met-stage}
-use Rattle.theorems_acceptance.proofs.Invariant.{Shaped, column, column-inside}
+use Rattle.theorems_acceptance.proofs.Invariant.{Shaped, column}
 use Rattle.theorems_acceptance.proofs.Cumulative.{sum-none, sum-all, sum-some, sum-rest}
 
 -- The first n weights of a column, summed.
@@ -50,22 +51,18 @@ partial-is s join k t n = ap (λ v. int (pos (divisor s join k)) *ᵠ v)
     (sum-ext n (λ i h. sym (one-mul (values (conditions s join k) t i))) ∙ sym (applied-sum (conditions s join k) n (λ i. int (pos 1)) (cell t)) ∙ applied-ext (conditions s join k) (λ c. sum-ext n (λ i h. one-mul (cell t i c))))
     ∙ applied-conditions s join k (λ c. sum n (λ i. cell t i c))
 
-pos-of : (n : ℕ) → 0 < n → int (pos 0) <ᵠ int (pos n)
-pos-of zero h = absurd (omega arith)
-pos-of (suc n) h = pos-int n
-
 -- The two sides of a condition, and its divisor, are positive.
 module _ (s : Space) (L : Limits s) (join k : ℕ) (h : join < segments s - 1) (m : k < conditionCount s join) where
   pub divisor-positive : int (pos 0) <ᵠ int (pos (divisor s join k))
-  divisor-positive = pos-of _ (divisor-pos s join k (omega (arith, L .within-left join h)) (L .positive-width (suc join) (omega arith)))
+  divisor-positive = pos-of-nat _ (divisor-pos s join k (omega (arith, L .within-left join h)) (L .positive-width (suc join) (omega arith)))
 
   pub left-positive : int (pos 0) <ᵠ int (pos (leftScale s join k))
   unfolding leftScale
-  left-positive = pos-of _ (scale-pos (degree s join) k (width s (suc join)) (omega (arith, L .within-left join h)) (L .positive-width (suc join) (omega arith)))
+  left-positive = pos-of-nat _ (scale-pos (degree s join) k (width s (suc join)) (omega (arith, L .within-left join h)) (L .positive-width (suc join) (omega arith)))
 
   pub right-positive : int (pos 0) <ᵠ int (pos (rightScale s join k))
   unfolding rightScale
-  right-positive = pos-of _ (scale-pos (degree s (suc join)) k (width s join) (omega (arith, L .within-right join h)) (L .positive-width join (omega arith)))
+  right-positive = pos-of-nat _ (scale-pos (degree s (suc join)) k (width s join) (omega (arith, L .within-right join h)) (L .positive-width join (omega arith)))
 
   -- the stage that it starts from
   pub stage : Stage (degree s) (met s join k) join k
@@ -87,19 +84,19 @@ module _ (s : Space) (L : Limits s) (join k : ℕ) (h : join < segments s - 1) (
   module _ (j u : ℕ) (a : j < segments s) (b : u ≤ degree s j) (n : ℕ) where
     pub none-yet : n ≤ lowest (degree s) (met s join k) j u → summed t n (firstColumn s j + u) ≡ int (pos 0)
     unfolding summed
-    none-yet c = sum-none (length t) (column s t j u) _ _ (C .supported j u a b) (sums _ (column-inside s j u a b)) (λ i d. cell-past t i _ d) n c
+    none-yet c = sum-none (length t) (column s t j u) _ _ (C .supported j u a b) (sums _ (segment-column s j u a b)) (λ i d. cell-past t i _ d) n c
 
     pub all-done : highest (degree s) (met s join k) j u < n → summed t n (firstColumn s j + u) ≡ int (pos 1)
     unfolding summed
-    all-done c = sum-all (length t) (column s t j u) _ _ (C .supported j u a b) (sums _ (column-inside s j u a b)) (λ i d. cell-past t i _ d) n c
+    all-done c = sum-all (length t) (column s t j u) _ _ (C .supported j u a b) (sums _ (segment-column s j u a b)) (λ i d. cell-past t i _ d) n c
 
     pub some-done : lowest (degree s) (met s join k) j u < n → int (pos 0) <ᵠ summed t n (firstColumn s j + u)
     unfolding summed
-    some-done c = sum-some (length t) (column s t j u) _ _ (C .supported j u a b) (sums _ (column-inside s j u a b)) (λ i d. cell-past t i _ d) n (lowest-at-most-highest (degree s) (met s join k) j u) c
+    some-done c = sum-some (length t) (column s t j u) _ _ (C .supported j u a b) (sums _ (segment-column s j u a b)) (λ i d. cell-past t i _ d) n (lowest-at-most-highest (degree s) (met s join k) j u) c
 
     pub some-left : n ≤ highest (degree s) (met s join k) j u → int (pos 0) <ᵠ int (pos 1) -ᵠ summed t n (firstColumn s j + u)
     unfolding summed
-    some-left c = sum-rest (length t) (column s t j u) _ _ (C .supported j u a b) (sums _ (column-inside s j u a b)) (λ i d. cell-past t i _ d) n (lowest-at-most-highest (degree s) (met s join k) j u) c
+    some-left c = sum-rest (length t) (column s t j u) _ _ (C .supported j u a b) (sums _ (segment-column s j u a b)) (λ i d. cell-past t i _ d) n (lowest-at-most-highest (degree s) (met s join k) j u) c
 
   pub sums-before : (n : ℕ) → n ≤ firstSpanned (degree s) (met s join k) join k → jumpSum s join k t n ≡ int (pos 0)
   unfolding jumpSum onLeft onRight

@@ -15,13 +15,14 @@ use Rattle.base_exact.proofs.Decide.{le-or-lt}
 use Rattle.spec_spline.specs.Space.{Space, segments, degree, width, conditionCount, firstColumn}
 use Rattle.spec_spline.specs.Conditions.{Entry, leftEntry, rightEntry, undivided, divided, commonDivisor, conditions}
 use Rattle.spec_spline.specs.Table.{Row, Table, row, cell}
+use Rattle.spec_spline.proofs.Space.{segment-column}
 use Rattle.theorems_acceptance.specs.Acceptance.{countedLimit}
 use Rattle.theorems_acceptance.proofs.Rows.{lowest, highest}
 use Rattle.theorems_acceptance.proofs.RowMoves.{firstSpanned, start-low, start-high-low, left-low, left-high, right-low, right-high, right-last}
 use Rattle.theorems_acceptance.proofs.Support.{Support, support-ends}
 use Rattle.theorems_acceptance.proofs.Limits.{Limits}
 use Rattle.theorems_acceptance.proofs.Stages.{met}
-use Rattle.theorems_acceptance.proofs.Invariant.{column-inside, single-one}
+use Rattle.theorems_acceptance.proofs.Invariant.{single-one}
 use Rattle.theorems_acceptance.proofs.JumpSums.{stage, room, room′}
 use Rattle.theorems_acceptance.proofs.Reached.{Reached}
 use Rattle.theorems_acceptance.proofs.Loads.{Load, empty, skip, take, conditions-zero, conditions-one, left-zero, right-zero, left-one, right-one}
@@ -50,7 +51,7 @@ module _ (s : Space) (M : Limits s) (join k : ℕ) (h : join < segments s - 1) (
 
   pub unit : (j u : ℕ) (a : j < segments s) (b : u ≤ degree s j) (r : ℕ) → lowest (degree s) (met s join k) j u ≡ r → highest (degree s) (met s join k) j u ≡ r → Unit t (firstColumn s j + u) r
   unit j u a b r p q = unit-of t (firstColumn s j + u) r (support-ends p q (R .shape .supported j u a b))
-      (R .basis .column-sums _ (column-inside s j u a b))
+      (R .basis .column-sums _ (segment-column s j u a b))
 
   room-left : k < degree s join
   room-left = room s M join k h m

@@ -23,6 +23,7 @@ use Rattle.spec_spline.specs.Conditions.{conditions}
 use Rattle.spec_spline.specs.Table.{Table, entry, row, cell}
 use Rattle.spec_spline.proofs.Table.{entry-past, row-past}
 use Rattle.spec_spline.proofs.Legal.{Legal}
+use Rattle.spec_spline.proofs.Space.{segment-column}
 use Rattle.theorems_weights.specs.Counted.{exactJumps, firstJump, lastJump, quotient, innerRows, innerRow, exactFactors, jumpTests, entryTests, stepTests, exactRow, exactStep}
 use Rattle.theorems_weights.proofs.Stepped.{values}
 use Rattle.theorems_weights.proofs.PublishedBasis.{cell-beside}
@@ -32,7 +33,7 @@ use Rattle.theorems_acceptance.proofs.RowMoves.{firstSpanned, lastSpann
 use Rattle.theorems_acceptance.proofs.Support.{Support, support-ends}
 use Rattle.theorems_acceptance.proofs.Limits.{Limits}
 use Rattle.theorems_acceptance.proofs.Stages.{met}
-use Rattle.theorems_acceptance.proofs.Invariant.{column, column-inside}
+use Rattle.theorems_acceptance.proofs.Invariant.{column}
 use Rattle.theorems_acceptance.proofs.Alternating.{Alternates, jump-inside, quotient-above, quotient-below}
 use Rattle.theorems_acceptance.proofs.JumpSums.{stage, room, room′}
 use Rattle.theorems_acceptance.proofs.Tests.{Good, Every, first-is, last-is as last-jump-is, quotient-is, step-good}
@@ -88,7 +89,7 @@ module _ (s : Space) (L : Legal s) (M : Limits s) (join k : ℕ) (h : join < seg
           stand : Stands f l (lowest (degree s) (met s join k) j u) (highest (degree s) (met s join k) j u) → Entries t (firstColumn s j + u) f l
           stand (under x) = low (λ i y. S .above i (omega arith))
           stand (inside x y) = let o = lowest-at-most-highest (degree s) (met s join k) j u in let e = end in middle (omega arith)
-              (unit-of t (firstColumn s j + u) (suc f) (support-ends (let z : lowest (degree s) (met s join k) j u ≡ suc f = omega arith in z) (let z : highest (degree s) (met s join k) j u ≡ suc f = omega arith in z) S) (R .basis .column-sums _ (column-inside s j u a b)))
+              (unit-of t (firstColumn s j + u) (suc f) (support-ends (let z : lowest (degree s) (met s join k) j u ≡ suc f = omega arith in z) (let z : highest (degree s) (met s join k) j u ≡ suc f = omega arith in z) S) (R .basis .column-sums _ (segment-column s j u a b)))
           stand (over x) = high (λ i y. S .below i (omega arith))
 
       go : (columnCount s ≤ c) ⊎ (c < columnCount s) → Entries t c f l

@@ -3,19 +3,18 @@
 use mathlib.Core.Path.{_≡_, refl, sym, _∙_, ap, ap₂, subst}
 use mathlib.Core.Bool.{true, _&&_}
 use mathlib.Core.List.{[], _∷_}
-use Prim.Native.Nat.{ℕ, suc, _+_, _*_, _<_, _≤_}
+use Prim.Native.Nat.{ℕ, suc, _*_, _<_, _≤_}
 use native.Mathlib.Omega.{arith}
 use borrow.Author.Tests.{ltb-true, lt-ltb}
-use lib.Dec.{T, ltb}
-use lib.IntN.{ℤ, pos, negsuc, _*ℤ_, natAbs}
-use lib.Signed.{nonNeg}
+use lib.Dec.{ltb}
+use lib.IntN.{ℤ, pos, natAbs}
 use Rattle.base_exact.specs.Rational.{ℚ, den, int, signed, signed-abs, _+ᵠ_, _*ᵠ_, -ᵠ_, _-ᵠ_, _/ᵠ_}
-use Rattle.base_exact.specs.Order.{_≤ᵠ_, _<ᵠ_, Nn}
+use Rattle.base_exact.specs.Order.{_≤ᵠ_, _<ᵠ_}
 use Rattle.base_exact.proofs.Decide.{and-true}
-use Rattle.base_exact.proofs.Integer.{up, dn, ≤-out, abs-mul}
+use Rattle.base_exact.proofs.Integer.{abs-mul}
 use Rattle.base_exact.proofs.Ring.{ring}
 use Rattle.base_exact.proofs.Rational.{ℚ-ring, readsℚ, add-zero, zero-add, mul-zero, mul-one, one-mul, self, is-int, is-sub, is-div, is-least, int-num, int-den}
-use Rattle.base_exact.proofs.Order.{le-is, le-nn, le-by, pos-nn, <-≤}
+use Rattle.base_exact.proofs.Order.{le-nn, le-by, pos-nn, <-≤, unit-num-le-den}
 use Rattle.base_fraction.specs.Size.{fits, limit}
 use Rattle.theorems_weights.specs.Counted.{entryTests}
 use Rattle.theorems_acceptance.proofs.Tests.{Good, Every, nothing, more}
@@ -53,15 +52,8 @@ small-quotient a c h k p = let l = is-least (is-div (is-int a) (is-int c) p) in
 
 -- ---- what is left to one
 
-unit-numerator : (q : ℚ) → Nn q → q ≤ᵠ int (pos 1) → natAbs (q .num) ≤ den q
-unit-numerator q h k = go (q .num) (den q) (h .nn) (≤-out _ _ (le-is (self q) (is-int (pos 1)) k))
-  where
-    go : (z : ℤ) (d : ℕ) → T (nonNeg z) → up (z *ℤ pos 1) + dn (pos 1 *ℤ pos d) ≤ dn (z *ℤ pos 1) + up (pos 1 *ℤ pos d) → natAbs z ≤ d
-    go (pos m) d t l = omega arith
-    go (negsuc m) d t l = absurd t
-
 pub small-rest : {n : ℕ} (w : ℚ) → Small n w → int (pos 0) <ᵠ w → w <ᵠ int (pos 1) → Small n (int (pos 1) -ᵠ w)
-small-rest {n} w s p q = record { numerator = omega (arith, unit-numerator (int (pos 1) -ᵠ w) (le-nn (<-≤ q)) below, bound); denominator = omega (arith, bound) }
+small-rest {n} w s p q = record { numerator = omega (arith, unit-num-le-den (int (pos 1) -ᵠ w) (le-nn (<-≤ q)) below, bound); denominator = omega (arith, bound) }
   where
     bound : den (int (pos 1) -ᵠ w) ≤ n
     bound = omega (arith, is-least (is-sub (is-int (pos 1)) (self w)) .1, s .denominator)

@@ -13,13 +13,13 @@ use Rattle.spec_spline.specs.Space.{Space, segments, degree, firstColumn}
 use Rattle.spec_spline.specs.Piecewise.{Accepted}
 use Rattle.spec_spline.specs.Reading.{segmentAt}
 use Rattle.spec_spline.specs.ExactCurve.{largest, mostWeights}
+use Rattle.spec_spline.proofs.Space.{segment-column}
 use Rattle.theorems_values.specs.ValueLimits.{InSpan, closeness}
 use Rattle.theorems_values.proofs.Segment.{accepted-checked, located}
 use Rattle.theorems_values.proofs.Cells.{position-inside, cells-are-close}
 use Rattle.theorems_acceptance.specs.WeightCount.{weightLimit, weightCount}
 use Rattle.theorems_acceptance.specs.Values.{unitLimit, ValuesAreNear}
 use Rattle.theorems_acceptance.proofs.Limits.{limits}
-use Rattle.theorems_acceptance.proofs.Invariant.{column-inside}
 use Rattle.theorems_acceptance.proofs.WeightCount.{at-most-three-weights}
 
 largest-at-most : (n b : ℕ) (f : ℕ → ℕ) → ((i : ℕ) → i < n → f i ≤ b) → largest n f ≤ b
@@ -30,7 +30,7 @@ largest-at-most (suc n) b f h = omega (arith, largest-at-most n b f (λ i l. h i
 -- s of a segment
 pub most-weights-three : (s : Space) (a : Accepted s) (j : ℕ) → j < segments s → mostWeights s (a .table) j ≤ weightLimit
 unfolding mostWeights
-most-weights-three s a j h = largest-at-most (suc (degree s j)) weightLimit (λ u. weightCount (a .table) (firstColumn s j + u)) (λ u l. at-most-three-weights s a (firstColumn s j + u) (column-inside s j u h (omega arith)))
+most-weights-three s a j h = largest-at-most (suc (degree s j)) weightLimit (λ u. weightCount (a .table) (firstColumn s j + u)) (λ u l. at-most-three-weights s a (firstColumn s j + u) (segment-column s j u h (omega arith)))
 
 -- half of a number that is at most twice another
 half-at-most : (n m : ℕ) → n ≤ m * 2 → int (pos n) /ᵠ int (pos 2) ≤ᵠ int (pos m)

@@ -4,12 +4,12 @@ use mathlib.Core.Path.{_≡_, sym, _∙_, ap, subst}
 use mathlib.Core.Bool.{false}
 use mathlib.Core.List.{List, map}
 use Prim.Native.Nat.{ℕ, _<_, _≤_}
-use lib.Arith.{le→nltb}
-use lib.Dec.{T, eqb, ltb, eqb-refl}
+use lib.Dec.{T, eqb, eqb-refl}
 use lib.IntN.{ℤ}
 use lib.ListN.{length, length-map}
 use Rattle.base_exact.specs.Rational.{int}
-use Rattle.base_exact.proofs.Decide.{holds-true, fails-false, cond-true, cond-false}
+use Rattle.base_exact.proofs.Decide.{holds-true, cond-true, cond-false}
+use borrow.Author.Tests.{le-ltb}
 use Rattle.base_outcome.specs.Outcome.{answer, refusal, refuse, largestPlace, with-answer}
 use Rattle.spec_spline.specs.Space.{Space, checked, columnCount, rowCount}
 use Rattle.base_outcome.specs.Tests.{refuseFirst}
@@ -56,15 +56,12 @@ refused-for-size-alone s e ordinates M = go (curve-ends s (legal s (checked-inve
     go (by-the-build code place p w) = weights-too-large place (p ∙ ap (λ n. refusal n place) (refused-with-eight s (checked-inverts s e .1) w))
     go (by-twenty place p) = coefficients-too-large place p
 
-not-below : {m n : ℕ} → n ≤ m → ltb m n ≡ false
-not-below {m} {n} h = fails-false (ltb m n) (le→nltb m n h)
-
 -- every test of the call passes, so that it ends as the steps do
 call-ends : (s : Space) → checked s ≡ answer s → (ordinates : List ℤ) (a b c d : ℕ) → length ordinates ≡ columnCount s → ((i : ℕ) → i < length ordinates → badOrdinate ordinates i ≡ false)
     → tableCells ≤ a → tableCells ≤ b → length ordinates ≤ c → length ordinates ≤ d → recoveryOutcome s ordinates a b c d ≡ recovered s ordinates
 unfolding recoveryOutcome
 call-ends s e ordinates a b c d n inside p q u v =
-    cond-false (refuse 1 0) _ (not-below p) ∙ cond-false (refuse 1 1) _ (not-below q) ∙ cond-false (refuse 1 3) _ (not-below u) ∙ cond-false (refuse 1 4) _ (not-below v)
+    cond-false (refuse 1 0) _ (le-ltb _ _ p) ∙ cond-false (refuse 1 1) _ (le-ltb _ _ q) ∙ cond-false (refuse 1 3) _ (le-ltb _ _ u) ∙ cond-false (refuse 1 4) _ (le-ltb _ _ v)
     ∙ then-answers (λ l. legalOrdinates l ordinates (recovered l ordinates)) e
     ∙ cond-true _ (refuse 18 largestPlace) (holds-true (eqb (length ordinates) (columnCount s)) (subst (λ m. T (eqb (length ordinates) m)) n (eqb-refl (length ordinates))))
     ∙ ap (λ o. refuseFirst 18 o (recovered s ordinates)) (first-none (badOrdinate ordinates) (length ordinates) inside)

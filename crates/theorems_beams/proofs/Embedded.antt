@@ -19,7 +19,6 @@ use Rattle.base_exact.proofs.Rational.{mul-zero, add-zero}
 use Rattle.base_exact.proofs.Sum.{sum-ext}
 use Rattle.base_exact.proofs.Tabulate.{tab-length, tab-getD}
 use Rattle.base_fraction.specs.Size.{fits}
-use Rattle.base_fraction.proofs.Size.{int-fits}
 use Rattle.base_outcome.specs.Outcome.{Outcome, answer, refusal, refuse, capped, collect}
 use Rattle.base_outcome.specs.Search.{first, last, found}
 use Rattle.spec_spline.specs.Conditions.{Entry}
@@ -32,13 +31,11 @@ use Rattle.spec_spline.proofs.Shape.{Wide}
 use Rattle.spec_spline.proofs.Step.{count-fits}
 use Rattle.spec_spline.proofs.Splice.{spliced-within}
 use Rattle.spec_spline.proofs.Answers.{jumps-length, Spans, span-inverts}
+use Rattle.spec_spline.proofs.TableFits.{zero-fits}
 use Rattle.theorems_beams.specs.Sections.{zeros}
 use Rattle.theorems_beams.proofs.Carried.{carried, carried-then, carried-collect, framed-collect}
 
 -- ---- zeros around a row or a list of jumps
-
-pub zero-fits : fits (int (pos 0)) ≡ true
-zero-fits = int-fits (pos 0) (omega arith)
 
 -- a zeros before and b behind
 abbrev pub padded : ℕ → ℕ → Row → Row

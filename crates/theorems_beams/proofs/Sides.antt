@@ -27,9 +27,10 @@ use Rattle.spec_spline.proofs.Conditions.{Inside, none, more}
 use Rattle.spec_spline.proofs.Table.{entry-past, identity-rows, identity-wide}
 use Rattle.spec_spline.proofs.Step.{count-fits, products-none, products-more, oneMore}
 use Rattle.spec_spline.proofs.Shape.{Wide, step-shaped}
+use Rattle.spec_spline.proofs.TableFits.{zero-fits}
 use Rattle.theorems_beams.specs.Sections.{section, zeros, beside}
 use Rattle.theorems_beams.proofs.Carried.{carried, carried-ext, capped-later, carried-then, joined}
-use Rattle.theorems_beams.proofs.Embedded.{zero-fits, padded, padded-at, zeros-behind, zeros-low, count-carried, mapped-row, Around, embedded, embedded-step}
+use Rattle.theorems_beams.proofs.Embedded.{padded, padded-at, zeros-behind, zeros-low, count-carried, mapped-row, Around, embedded, embedded-step}
 use Rattle.theorems_beams.proofs.Sections.{moved, OrdersFit}
 use Rattle.theorems_beams.proofs.Cut.{Kind, cut-run}
 

@@ -7,15 +7,14 @@ use Prim.Native.Nat.{ℕ, zero, suc, _+_, _<_, _≤_}
 use native.Mathlib.Omega.{arith}
 use lib.IntN.{ℤ, pos, _+ℤ_, _-ℤ_, _*ℤ_}
 use lib.ListN.{length}
-use lib.Dec.{T}
-use lib.Signed.{_≤ℤ_, nonNeg, yes-nonNeg}
+use lib.Signed.{_≤ℤ_}
 use Rattle.base_exact.proofs.Floor.{nearest-mono}
 use Rattle.base_exact.proofs.Integer as Z
 use Rattle.base_exact.proofs.Integer.{ℤ-ring, readsℤ}
 use Rattle.base_exact.proofs.Ring.{ring}
 use Rattle.spec_spline.specs.Table.{Table}
 use Rattle.spec_spline.specs.Reading.{fine, rounded, hasWeight, ordinate, blend, triangle}
-use Rattle.theorems_values.proofs.Triangle.{Between, blend-between}
+use Rattle.theorems_values.proofs.Triangle.{blend-between}
 use Rattle.theorems_values.proofs.Weights.{Column}
 use Rattle.theorems_values.proofs.Ordinate.{ordinate-between}
 
@@ -32,12 +31,6 @@ pub record Direction (before : ℤ → ℤ → Type 0) : Type 0 where
 
 -- ---- the two
 
-scaled-le : (k x y : ℤ) → pos 0 ≤ℤ k → x ≤ℤ y → (k *ℤ x) ≤ℤ (k *ℤ y)
-scaled-le k x y h l = Z.sub-le (k *ℤ x) (k *ℤ y) (subst (λ z. T (nonNeg z)) (alg k x y) (yes-nonNeg (Z.*-pos k (y -ℤ x) h (Z.nonNeg-le (y -ℤ x) (Z.le-sub x y l)))))
-  where
-    alg : (k x y : ℤ) → k *ℤ (y -ℤ x) ≡ k *ℤ y -ℤ k *ℤ x
-    alg k x y = ring ℤ-ring (k ∷ x ∷ y ∷ []) (search readsℤ depth 20) (search readsℤ depth 20) refl
-
 rounded-le : (x y : ℤ) (d : ℕ) → 0 < d → x ≤ℤ y → rounded x d ≤ℤ rounded y d
 unfolding rounded
 rounded-le x y d h l = nearest-mono x y d h l
@@ -48,7 +41,7 @@ climbing = record {
   chain = λ x y z p q. Z.≤-trans x y z p q;
   rounds = λ x y d h l. rounded-le x y d h l;
   adds = λ x y z w p q. Z.+-mono x y z w p q;
-  scales = λ k x y h l. scaled-le k x y h l;
+  scales = λ k x y h l. Z.*-mono-left k x y h l;
   limits = λ t a c C p q from to. let b = ordinate-between t a c C p q from to in (b .at-least, b .at-most);
   mixes = λ d u x y h p q l. let b = blend-between d u h p q {low = x} {high = y} {g = x} {g′ = y} (record { at-least = Z.≤-refl x; at-most = l }) (record { at-least = l; at-most = Z.≤-refl y }) in (b .at-least, b .at-most);
 }
@@ -59,7 +52,7 @@ falling = record {
   chain = λ x y z p q. Z.≤-trans z y x q p;
   rounds = λ x y d h l. rounded-le y x d h l;
   adds = λ x y z w p q. Z.+-mono y x w z p q;
-  scales = λ k x y h l. scaled-le k y x h l;
+  scales = λ k x y h l. Z.*-mono-left k y x h l;
   limits = λ t a c C p q from to. let b = ordinate-between t a c C q p to from in (b .at-most, b .at-least);
   mixes = λ d u x y h p q l. let b = blend-between d u h p q {low = y} {high = x} {g = x} {g′ = y} (record { at-least = l; at-most = Z.≤-refl x }) (record { at-least = Z.≤-refl y; at-most = l }) in (b .at-most, b .at-least);
 }

@@ -1,6 +1,6 @@
 -- The statements at some spaces, with numbers: W1's space is one part, which W9's, with a discontinuity, is
 -- not; and the cells of a column after building a beam of two parts.
-use mathlib.Core.Path.{_≡_, refl, _∙_, ap}
+use mathlib.Core.Path.{_≡_, refl, ap}
 use mathlib.Core.Bool.{true}
 use Prim.Native.Nat.{ℕ, zero, suc, _+_, _*_}
 use native.Mathlib.Omega.{arith}

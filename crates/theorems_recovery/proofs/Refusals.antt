@@ -5,9 +5,9 @@ use mathlib.Core.Logic.{_⊎_, inl, inr}
 use mathlib.Core.Bool.{true}
 use mathlib.Core.List.{List, map}
 use Prim.Native.Nat.{ℕ, _-_}
-use native.Mathlib.Omega.{arith}
 use lib.IntN.{ℤ}
 use Rattle.base_exact.specs.Rational.{ℚ, int}
+use Rattle.base_exact.proofs.Decide.{clash}
 use Rattle.base_outcome.specs.Outcome.{Outcome, answer, refusal, capped, _then_, repeat}
 use Rattle.spec_spline.specs.Space.{Space, segments, columnCount, conditionCount}
 use Rattle.spec_spline.specs.Conditions.{Entry, conditions}
@@ -78,8 +78,8 @@ recovered-clears s ordinates = repeat-refused (λ code place. clearsAll code ≡
 
 -- neither 19 nor 20
 cleared-not : {code : ℕ} → clears code ≡ true → (code ≡ 19) ⊎ (code ≡ 20) → ⊥
-cleared-not told (inl z) = absurd (let q : _≡_ {A = ℕ} 0 1 = let w : clears 19 ≡ true = ap clears (sym z) ∙ told in cc in omega arith)
-cleared-not told (inr z) = absurd (let q : _≡_ {A = ℕ} 0 1 = let w : clears 20 ≡ true = ap clears (sym z) ∙ told in cc in omega arith)
+cleared-not told (inl z) = let w : clears 19 ≡ true = ap clears (sym z) ∙ told in clash cc
+cleared-not told (inr z) = let w : clears 20 ≡ true = ap clears (sym z) ∙ told in clash cc
 
 step-first : (j : ℕ) (κ : List Entry) (r : Combination) {code place : ℕ} → clears code ≡ true → recoverStep j κ r ≡ refusal code place → step j κ (r .table) ≡ refusal code place
 step-first j κ r {code} {place} told e = go (refused-in j κ r e)

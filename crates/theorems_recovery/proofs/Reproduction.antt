@@ -13,7 +13,7 @@ use lib.ListN.{length, getD, length-map, List·getD-map}
 use lib.Seq.{ext-getD}
 use Rattle.base_exact.specs.Rational.{ℚ, int, _*ᵠ_}
 use Rattle.base_exact.specs.Sum.{sum}
-use Rattle.base_exact.proofs.Decide.{le-or-lt}
+use Rattle.base_exact.proofs.Decide.{le-or-lt, clash}
 use Rattle.base_exact.proofs.Sum.{sum-ext, sum-swap, sum-mul-right}
 use Rattle.base_outcome.specs.Outcome.{Outcome, answer, refusal, repeat}
 use Rattle.spec_spline.specs.Space.{Space, segments, checked, degree, conditionCount, firstColumn, columnCount, rowCount}
@@ -205,7 +205,7 @@ curve-ends s L ordinates M = go (recovered s ordinates) refl
     decide code place false true d p q u told e =
         absurd (let N = missed s L ordinates size place (e ∙ ap (λ n. refusal n place) (eqb-true code 19 q)) in N .missed (M .meets (N .join) (N .order) (N .join-below) (N .order-below)))
     decide code place false false true p q u told e = by-twenty place (e ∙ ap (λ n. refusal n place) (eqb-true code 20 u))
-    decide code place false false false p q u told e = absurd (let z : _≡_ {A = ℕ} 0 1 = cc in omega arith)
+    decide code place false false false p q u told e = clash cc
 
     go : (o : Outcome Combination) → recovered s ordinates ≡ o → CurveEnd s ordinates
     go (answer r) e = by-an-answer r e

@@ -21,12 +21,12 @@ use Rattle.spec_spline.proofs.Refusals.{EightOrNine, step-refuses}
 use Rattle.spec_spline.proofs.Stepped.{StepParts, step-parts, step-spans, step-factors, span-below}
 use Rattle.spec_spline.proofs.Splice.{spliced-length, spliced-before, spliced-inside, spliced-after}
 use Rattle.spec_spline.proofs.Answers.{Spans}
-use Rattle.theorems_weights.proofs.NullSpace.{Jumps, lifted, coefficient-lifts}
+use Rattle.theorems_weights.proofs.NullSpace.{Jumps, lifted, coefficient-lifts, factor-nonzero}
 use Rattle.theorems_weights.proofs.Extended.{extended, extended-from, null-space}
 use Rattle.theorems_weights.proofs.Stepped.{values, jumps-inverts, Stepped}
 use Rattle.theorems_weights.proofs.Basis.{combined, combination-lifts}
 use Rattle.theorems_recovery.specs.Recovery.{Combination, balanced, undoneRows, undone, recoverStep}
-use Rattle.theorems_recovery.proofs.Undoing.{factor-nonzero, c, undone-is, factors-agree}
+use Rattle.theorems_recovery.proofs.Undoing.{c, undone-is, factors-agree}
 use Rattle.theorems_recovery.proofs.Answers.{balanced-zero, balanced-not, Undone, rows-undone, Twenty, undone-refuses-20}
 
 -- ---- the parts of a step
@@ -232,7 +232,7 @@ module _ (width j : ℕ) (κ : List Entry) (r r′ : Combination) (count : lengt
   unfolding w
   next i h k =
       ap (λ q. w (suc i) *ᵠ q) quotient ∙ mul-comm _ _
-      ∙ div-mul (old (suc i) -ᵠ (int (pos 1) -ᵠ w (suc i)) *ᵠ new i) (w (suc i)) (factor-nonzero null (suc i) (omega arith) k)
+      ∙ div-mul (old (suc i) -ᵠ (int (pos 1) -ᵠ w (suc i)) *ᵠ new i) (w (suc i)) (factor-nonzero null (suc i) k)
     where
       factor-is : entry (P .own .ws) (suc (i - f)) ≡ w (suc i)
       factor-is = ap (entry (P .own .ws)) (let z : suc (i - f) ≡ suc i - f = omega arith in z) ∙ sym (extended-from (P .own .ws) f (suc i) (omega arith))

@@ -1,7 +1,7 @@
 -- One step undone, on functions: coefficients that are worked out row by row, the share of the row before subtracted and the rest
 -- divided by the factor, are the coefficients of the new rows that NullSpace finds; and the jumps leave no choice of the factors.
-use mathlib.Core.Path.{_≡_, refl, sym, _∙_, ap}
-use mathlib.Core.Logic.{_≢_, _⊎_, inl, inr}
+use mathlib.Core.Path.{_≡_, refl, sym, _∙_}
+use mathlib.Core.Logic.{_⊎_, inl, inr}
 use mathlib.Core.List.{[], _∷_}
 use Prim.Native.Nat.{ℕ, zero, suc, _<_, _≤_}
 use native.Mathlib.Omega.{arith}
@@ -10,13 +10,10 @@ use Rattle.base_exact.specs.Rational.{ℚ, _+ᵠ_, _*ᵠ_, -ᵠ_, _-ᵠ_, int}
 use Rattle.base_exact.specs.Sum.{sum}
 use Rattle.base_exact.proofs.Decide.{le-or-lt}
 use Rattle.base_exact.proofs.Ring.{ring, by-eq}
-use Rattle.base_exact.proofs.Rational.{ℚ-ring, readsℚ, mul-cancel, zero-mul}
-use Rattle.theorems_weights.proofs.NullSpace.{Jumps, lifted, lifted-at-one, lifted-at-zero, one-up-to, last-factor, coefficient, coefficient-lifts}
+use Rattle.base_exact.proofs.Rational.{ℚ-ring, readsℚ, mul-cancel}
+use Rattle.theorems_weights.proofs.NullSpace.{Jumps, lifted, lifted-at-one, lifted-at-zero, one-up-to, last-factor, coefficient, coefficient-lifts, factor-nonzero}
 
 module _ {n f l : ℕ} {J w : ℕ → ℚ} (G : Jumps n f l J w) where
-  pub factor-nonzero : (i : ℕ) → f ≤ i → i < l → w i ≢ int (pos 0)
-  factor-nonzero i h k e = let b = G .below in G .part (suc i) (omega arith) (omega arith) (sym (G .weight i (omega arith)) ∙ ap (λ t. t *ᵠ J i) e ∙ zero-mul (J i))
-
   module _ (x : ℕ → ℚ) (annihilated : sum n (λ j. x j *ᵠ J j) ≡ int (pos 0)) (d : ℕ → ℚ)
       (low : (i : ℕ) → i ≤ f → d i ≡ x i)
       (next : (i : ℕ) → f ≤ i → suc i < l → w (suc i) *ᵠ d (suc i) ≡ x (suc i) -ᵠ (int (pos 1) -ᵠ w (suc i)) *ᵠ d i)
@@ -41,7 +38,7 @@ module _ {n f l : ℕ} {J w : ℕ → ℚ} (G : Jumps n f l J w) where
         go : (f ≤ i → c (suc i) ≡ d i) → (suc i ≤ f) ⊎ (f < suc i) → c (suc (suc i)) ≡ d (suc i)
         go ih (inl p) = up-to-f (suc i) p
         go ih (inr p) = let b = G .below in
-            mul-cancel (factor-nonzero (suc i) h k)
+            mul-cancel (factor-nonzero G (suc i) k)
             (by-eq ℚ-ring (int (pos 1)) (lifts (suc i) (omega arith)) (by-eq ℚ-ring (int (negsuc 0)) (next i (omega arith) k) (by-eq ℚ-ring (int (negsuc 0) +ᵠ w (suc i)) (ih (omega arith))
             (ring ℚ-ring (w (suc i) ∷ c (suc (suc i)) ∷ c (suc i) ∷ x (suc i) ∷ d (suc i) ∷ d i ∷ []) (search readsℚ depth 30) (search readsℚ depth 30) refl))))
 

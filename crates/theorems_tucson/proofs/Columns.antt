@@ -12,7 +12,7 @@ use lib.Dec.{eqb}
 use lib.IntN.{ℤ, pos, negsuc, natAbs}
 use lib.ListN.{length, replicate, length-append, length-replicate}
 use lib.Signed.{leZ}
-use Rattle.base_exact.proofs.Decide.{and-true, cond-false}
+use Rattle.base_exact.proofs.Decide.{and-true, cond-false, clash}
 use Rattle.base_exact.proofs.Integer.{≤-in, ≤-out}
 use Rattle.base_exact.proofs.Word.{leZ-true, le-test}
 use Rattle.base_outcome.specs.Tests.{between}
@@ -87,10 +87,10 @@ fits-small k (negsuc n) l h = omega (arith, pow-le-pow-right {n = 10} (omega ari
 -- ---- what a number read from some columns can be
 
 negated-fits : (k : ℕ) (b : Bool) (v : ℕ) (z : ℤ) → (b ≡ true → v < 10 ^ k) → negated b v ≡ some z → FitsColumns k z
-negated-fits k true zero z h e = absurd (let x : _≡_ {A = ℕ} 0 1 = cc in omega arith)
+negated-fits k true zero z h e = clash cc
 negated-fits k true (suc n) z h e = subst (λ (y : ℤ). FitsColumns k y) (Option·some-injective (negsuc n) z e) (h refl)
-negated-fits k false zero z h e = absurd (let x : _≡_ {A = ℕ} 0 1 = cc in omega arith)
-negated-fits k false (suc n) z h e = absurd (let x : _≡_ {A = ℕ} 0 1 = cc in omega arith)
+negated-fits k false zero z h e = clash cc
+negated-fits k false (suc n) z h e = clash cc
 
 natural-fits : (t : Text) → isNatural t ≡ true → digitsValue 0 t < 10 ^ length t
 natural-fits t e = omega (arith, value-below 0 t (natural-parts t e .2))
@@ -103,7 +103,7 @@ numeral-fits c cs z e = go (eqb c minus) (isNatural (c ∷ cs)) refl e
         cond m (negated (isNatural cs) (digitsValue 0 cs)) (cond b (some (pos (digitsValue 0 (c ∷ cs)))) none) ≡ some z → FitsColumns (length cs) z
     go true b w e = negated-fits (length cs) (isNatural cs) (digitsValue 0 cs) z (natural-fits cs) e
     go false true w e = subst (λ (y : ℤ). FitsColumns (length cs) y) (Option·some-injective (pos (digitsValue 0 (c ∷ cs))) z e) (natural-fits (c ∷ cs) w)
-    go false false w e = absurd (let x : _≡_ {A = ℕ} 0 1 = cc in omega arith)
+    go false false w e = clash cc
 
 fits-more : (j k : ℕ) (z : ℤ) → j ≤ k → FitsColumns j z → FitsColumns k z
 fits-more j k (pos n) l h = omega (arith, pow-le-pow-right {n = 10} (omega arith) {i = suc j} {j = suc k} (omega arith))
@@ -111,7 +111,7 @@ fits-more j k (negsuc n) l h = omega (arith, pow-le-pow-right {n = 10} (omega ar
 
 pub columns-fit : (k : ℕ) (t : Text) (z : ℤ) → length t ≤ suc k → inColumns t ≡ some z → FitsColumns k z
 unfolding inColumns
-columns-fit k [] z l e = absurd (let x : _≡_ {A = ℕ} 0 1 = cc in omega arith)
+columns-fit k [] z l e = clash cc
 columns-fit k (c ∷ cs) z l e = go (eqb c blank) (columns-fit k cs z (omega arith)) e
   where
     go : (b : Bool) → (inColumns cs ≡ some z → FitsColumns k z) → cond b (inColumns cs) (numeral (c ∷ cs)) ≡ some z → FitsColumns k z

@@ -11,7 +11,7 @@ use lib.Dec.{eqb, leb}
 use lib.IntN.{ℤ}
 use lib.ListN.{length, take, drop, length-append, length-take}
 use lib.Seq.{take-append-le}
-use Rattle.base_exact.proofs.Decide.{and-true, true-not-false}
+use Rattle.base_exact.proofs.Decide.{and-true, true-not-false, clash}
 use Rattle.base_text.specs.Bytes.{Text, newline, Cut, cut, onFirst}
 use Rattle.base_text.proofs.Cutting.{joined, cut-joins}
 use Rattle.spec_tucson.specs.Columns.{inColumns}
@@ -86,8 +86,8 @@ fields-count zero t fs e = ap length (sym (Option·some-injective [] fs e))
 fields-count (suc n) t fs e = go (inColumns (take fieldColumns t)) (fieldNumerals n (drop fieldColumns t)) refl e (fields-count n (drop fieldColumns t))
   where
     go : (o : Option ℤ) (p : Option (List ℤ)) → fieldNumerals n (drop fieldColumns t) ≡ p → withField o p ≡ some fs → ((gs : List ℤ) → fieldNumerals n (drop fieldColumns t) ≡ some gs → length gs ≡ n) → length fs ≡ suc n
-    go none p w e ih = absurd (let x : _≡_ {A = ℕ} 0 1 = cc in omega arith)
-    go (some f) none w e ih = absurd (let x : _≡_ {A = ℕ} 0 1 = cc in omega arith)
+    go none p w e ih = clash cc
+    go (some f) none w e ih = clash cc
     go (some f) (some gs) w e ih = ap length (sym (Option·some-injective (f ∷ gs) fs e)) ∙ ap suc (ih gs w)
 
 -- What the columns of a line say.
@@ -99,8 +99,8 @@ pub record InBody (body : Text) (l : Line) : Type 0 where
   pub size : length body ≡ headColumns + length (l .fields) * fieldColumns
 
 numerals-inverted : (name : Text) (y : Option ℤ) (fs : Option (List ℤ)) (l : Line) → withNumerals name y fs ≡ some l → (name ≡ l .name) × (y ≡ some (l .year)) × (fs ≡ some (l .fields))
-numerals-inverted name none fs l e = absurd (let x : _≡_ {A = ℕ} 0 1 = cc in omega arith)
-numerals-inverted name (some y) none l e = absurd (let x : _≡_ {A = ℕ} 0 1 = cc in omega arith)
+numerals-inverted name none fs l e = clash cc
+numerals-inverted name (some y) none l e = clash cc
 numerals-inverted name (some y) (some fs) l e =
     let same = Option·some-injective (record { name = name; year = y; fields = fs }) l e in
     (ap (λ (m : Line). m .name) same, ap (λ (m : Line). some (m .year)) same, ap (λ (m : Line). some (m .fields)) same)
@@ -111,7 +111,7 @@ body-inverted body l e = go (columnsFit body && isName (take nameColumns body)) 
   where
     go : (b : Bool) → (columnsFit body && isName (take nameColumns body)) ≡ b
         → cond b (withNumerals (take nameColumns body) (inColumns (take yearColumns (drop nameColumns body))) (fieldNumerals (fieldCount body) (drop (nameColumns + yearColumns) body))) none ≡ some l → InBody body l
-    go false w e = absurd (let x : _≡_ {A = ℕ} 0 1 = cc in omega arith)
+    go false w e = clash cc
     go true w e =
         let both = and-true (columnsFit body) (isName (take nameColumns body)) w in
         let outer = and-true (eqb (length body) (headColumns + fieldCount body * fieldColumns) && leb 1 (fieldCount body)) (leb (fieldCount body) decade) (both .0) in
@@ -141,11 +141,11 @@ pub record Good (last : Bool) (t : Text) (l : Line) : Type 0 where
   pub allowed : fieldsAllowed last (l .fields) ≡ true
 
 allowed-inverted : (last : Bool) (o : Option Line) (l : Line) → ifAllowed last o ≡ some l → (o ≡ some l) × (withinDecade l ≡ true) × (fieldsAllowed last (l .fields) ≡ true)
-allowed-inverted last none l e = absurd (let x : _≡_ {A = ℕ} 0 1 = cc in omega arith)
+allowed-inverted last none l e = clash cc
 allowed-inverted last (some m) l e = go (withinDecade m && fieldsAllowed last (m .fields)) refl e
   where
     go : (b : Bool) → (withinDecade m && fieldsAllowed last (m .fields)) ≡ b → cond b (some m) none ≡ some l → (some m ≡ some l) × (withinDecade l ≡ true) × (fieldsAllowed last (l .fields) ≡ true)
-    go false w e = absurd (let x : _≡_ {A = ℕ} 0 1 = cc in omega arith)
+    go false w e = clash cc
     go true w e =
         let both = and-true (withinDecade m) (fieldsAllowed last (m .fields)) w in
         let same = Option·some-injective m l e in
@@ -170,7 +170,7 @@ unfolding goodLine lineOf
 good-inverted last t l once e = let parts = allowed-inverted last (ofCut (cut newline t)) l e in go (cut newline t) refl (parts .0)
   where
     go : (o : Option Cut) → cut newline t ≡ o → ofCut o ≡ some l → Good last t l
-    go none w f = absurd (let x : _≡_ {A = ℕ} 0 1 = cc in omega arith)
+    go none w f = clash cc
     go (some c) w f = let parts = allowed-inverted last (ofCut (cut newline t)) l e in body-good last t c l once (cut-joins newline t c w) (body-inverted (c .before) l f) (parts .1) (parts .2)
 
 -- ---- its fields

@@ -10,7 +10,7 @@ use borrow.Author.Tests.{eq-eqb, le-leb, not-true}
 use lib.IntN.{ℤ, pos, negsuc, _+ℤ_, +ℤ-idr, +ℤ-assoc, pos-+ℤ-pos}
 use lib.ListN.{length, length-append}
 use lib.Signed.{leZ, ≤ℤ-refl}
-use Rattle.base_exact.proofs.Decide.{and-true, cond-true, true-not-false}
+use Rattle.base_exact.proofs.Decide.{and-true, cond-true, true-not-false, clash}
 use Rattle.base_exact.proofs.Integer.{≤-out}
 use Rattle.base_exact.proofs.Word.{leZ-true, le-test}
 use Rattle.base_outcome.specs.Outcome.{Outcome, answer, refuse, _then_, with-answer}
@@ -235,7 +235,7 @@ first-parts place before s ss e = go (isWritable before s) refl e
   where
     go : (b : Bool) → isWritable before s ≡ b → cond b (firstUnwritable (suc place) (s .name) ss) (some place) ≡ none → CanBeWritten before s × (firstUnwritable (suc place) (s .name) ss ≡ none)
     go true w e = (writable-parts before s w, e)
-    go false w e = absurd (let x : _≡_ {A = ℕ} 0 1 = cc in omega arith)
+    go false w e = clash cc
 
 -- the room of a series' first line
 abbrev pub roomOf : Series → ℕ

@@ -9,6 +9,7 @@ use native.Mathlib.Omega.{arith}
 use lib.IntN.{ℤ}
 use lib.Dec.{leb}
 use lib.ListN.{length, drop}
+use Rattle.base_exact.proofs.Decide.{clash}
 use Rattle.base_outcome.specs.Outcome.{Outcome, answer, refusal, capped, refuse, with-answer}
 use Rattle.base_outcome.specs.Tests.{refuseFirst}
 use Rattle.base_outcome.proofs.Outcome.{answer-not-refusal, Broken, first-refuses, second-refuses, then-breaks, with-refuses}
@@ -129,7 +130,7 @@ read-refuses t names years counts widths code place e =
 
 first-below : (ss : List Series) (from : ℕ) (before : Text) (i : ℕ) → firstUnwritable from before ss ≡ some i → i < from + length ss
 unfolding firstUnwritable
-first-below [] from before i e = absurd (let x : _≡_ {A = ℕ} 0 1 = cc in omega arith)
+first-below [] from before i e = clash cc
 first-below (s ∷ ss) from before i e = go (isWritable before s) e (first-below ss (suc from) (s .name) i)
   where
     go : (b : Bool) → cond b (firstUnwritable (suc from) (s .name) ss) (some from) ≡ some i → (firstUnwritable (suc from) (s .name) ss ≡ some i → i < suc from + length ss) → i < from + suc (length ss)

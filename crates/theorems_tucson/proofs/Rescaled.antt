@@ -9,7 +9,7 @@ use native.Mathlib.Omega.{arith}
 use lib.IntN.{ℤ, pos, negsuc, _+ℤ_, _*ℤ_}
 use lib.ListN.{length, length-append, length-map}
 use lib.Signed.{leZ}
-use Rattle.base_exact.proofs.Decide.{and-true, true-not-false}
+use Rattle.base_exact.proofs.Decide.{and-true, true-not-false, clash}
 use Rattle.base_exact.proofs.Integer.{≤-in, ≤-out}
 use Rattle.base_exact.proofs.Word.{leZ-true, le-test}
 use Rattle.base_outcome.specs.Tests.{between}
@@ -30,7 +30,7 @@ widths-length c ws vs e = go (same c thousandths) (same c hundredths && allHundr
     go : (a b : Bool) → cond a (some ws) (cond b (some (map (λ w. w *ℤ pos perHundredth) ws)) none) ≡ some vs → length vs ≡ length ws
     go true b e = ap length (sym (Option·some-injective ws vs e))
     go false true e = ap length (sym (Option·some-injective (map (λ w. w *ℤ pos perHundredth) ws) vs e)) ∙ length-map ws (λ w. w *ℤ pos perHundredth)
-    go false false e = absurd (let x : _≡_ {A = ℕ} 0 1 = cc in omega arith)
+    go false false e = clash cc
 
 -- a width of at most 9,999 hundredths is one in thousandths
 tenfold-width : (w : ℤ) → isWidth w ≡ true → leZ w (pos hundredthsLimit) ≡ true → isWidth (w *ℤ pos perHundredth) ≡ true
@@ -55,7 +55,7 @@ closed-widths c ws vs h e = go (same c thousandths) (same c hundredths && allHun
     go : (a b : Bool) → (same c hundredths && allHundredths ws) ≡ b → cond a (some ws) (cond b (some (map (λ w. w *ℤ pos perHundredth) ws)) none) ≡ some vs → allWidths vs ≡ true
     go true b k e = ap allWidths (sym (Option·some-injective ws vs e)) ∙ h
     go false true k e = ap allWidths (sym (Option·some-injective (map (λ w. w *ℤ pos perHundredth) ws) vs e)) ∙ hundredths-widths ws h (and-true (same c hundredths) (allHundredths ws) k .1)
-    go false false k e = absurd (let x : _≡_ {A = ℕ} 0 1 = cc in omega arith)
+    go false false k e = clash cc
 
 -- ---- lines in decades, again
 

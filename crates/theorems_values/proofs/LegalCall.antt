@@ -5,11 +5,11 @@ use mathlib.Core.Bool.{Bool, true, false, cond, not}
 use mathlib.Core.List.{List}
 use mathlib.Core.Option.{none}
 use Prim.Native.Nat.{ℕ, _*_, _/_, _≤_}
-use lib.Arith.{le→nltb}
 use lib.Dec.{T, eqb, ltb, eqb-refl, eqb→eq, nltb→le}
 use lib.IntN.{ℤ}
 use lib.ListN.{length, length-map}
 use Rattle.base_exact.proofs.Decide.{true-holds, holds-true, fails-false, cond-true, cond-false}
+use borrow.Author.Tests.{le-ltb}
 use Rattle.base_outcome.specs.Outcome.{Outcome, answer, refusal, refuse, largestPlace, _then_, with-answer}
 use Rattle.base_outcome.specs.Search.{first}
 use Rattle.spec_spline.specs.Space.{Space, lengthsFit, checkedEntries, checked, rowCount}
@@ -26,9 +26,6 @@ use Rattle.spec_spline.proofs.Pairs.{le-half, half-le}
 use Rattle.theorems_weights.proofs.Built.{built}
 use Rattle.theorems_values.specs.ValueLimits.{legalResult, LegalCallsAnswer, LegalCallsReturnCount, AnsweredCallsAreLegal}
 use Rattle.theorems_values.proofs.Segment.{accepted-checked}
-
-not-below : {m n : ℕ} → n ≤ m → ltb m n ≡ false
-not-below {m} {n} h = fails-false (ltb m n) (le→nltb m n h)
 
 below-not : (m n : ℕ) → ltb m n ≡ false → n ≤ m
 below-not m n e = nltb→le m n (rw e tt)
@@ -49,16 +46,16 @@ module _ {s : Space} {coefs positions : List ℤ} {numLength denLength valuesLen
   unfolding curveChecked checked
   checks-pass = let c = accepted-checked s (l .accepted) in
       cond-true _ (refuse 2 0) (c .1 .lengths)
-      ∙ cond-false (refuse 2 1) _ (not-below (l .positionCount))
+      ∙ cond-false (refuse 2 1) _ (le-ltb _ _ (l .positionCount))
       ∙ then-answers (λ legal. legalEntries legal coefs positions (answer legal)) (sym (cond-true (checkedEntries s) (refuse 2 0) (c .1 .lengths)) ∙ c .0)
       ∙ entries-pass
 
   call-answers : curveOutcome s coefs positions numLength denLength valuesLength ≡ answer (legalResult s (l .accepted) coefs positions)
   unfolding curveOutcome curveRead
   call-answers =
-      cond-false (refuse 1 0) _ (not-below (l .numerators))
-      ∙ cond-false (refuse 1 1) _ (not-below (l .denominators))
-      ∙ cond-false (refuse 1 2) _ (not-below (le-half (length positions) valuesLength (l .values)))
+      cond-false (refuse 1 0) _ (le-ltb _ _ (l .numerators))
+      ∙ cond-false (refuse 1 1) _ (le-ltb _ _ (l .denominators))
+      ∙ cond-false (refuse 1 2) _ (le-ltb _ _ (le-half (length positions) valuesLength (l .values)))
       ∙ then-answers (curveRead coefs positions) checks-pass
       ∙ ap (with-answer (λ t. record { table = t; values = values s t coefs positions })) (built s (l .accepted .table) (l .accepted .is) .weights-are)
 

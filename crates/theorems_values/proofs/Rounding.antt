@@ -3,28 +3,24 @@
 -- count of its errors, and no other argument.
 use mathlib.Core.Path.{_≡_, refl, sym, _∙_, ap, ap₂, subst}
 use mathlib.Core.List.{[], _∷_}
-use Prim.Native.Nat.{ℕ, zero, suc, _<_}
-use native.Mathlib.Omega.{arith}
+use Prim.Native.Nat.{ℕ, _<_}
 use lib.IntN.{ℤ, pos, negℤ, _-ℤ_, _*ℤ_}
 use lib.Signed.{_≤ℤ_, _<ℤ_}
 use Rattle.base_exact.specs.Rational.{ℚ, int, inv, _+ᵠ_, _*ᵠ_, -ᵠ_, _-ᵠ_, _/ᵠ_}
-use Rattle.base_exact.specs.Order.{_≤ᵠ_, _<ᵠ_, Nn}
+use Rattle.base_exact.specs.Order.{_≤ᵠ_, Nn}
 use Rattle.base_exact.specs.Floor.{nearest}
 use Rattle.base_exact.proofs.Integer as Z
 use Rattle.base_exact.proofs.Ring.{ring, by-eq}
 use Rattle.base_exact.proofs.Floor.{nearest-error, nearest-mono, nearest-exact}
 use Rattle.base_exact.proofs.Rational.{ℚ-ring, readsℚ, div-mul, mul-inv, int-nonzero, int-mul, int-neg, int-sub}
-use Rattle.base_exact.proofs.Order.{pos-int, pos-nonzero, nn-int, nn-inv, nn-mul, le-nn, le-by, int-mono, int-cancel, *-mono}
+pub use Rattle.base_exact.proofs.Order.{pos-of-nat}
+use Rattle.base_exact.proofs.Order.{pos-nonzero, nn-int, nn-inv, nn-mul, le-nn, le-by, int-mono, int-cancel, *-mono}
 use Rattle.spec_spline.specs.Reading.{rounded}
 use Rattle.theorems_values.proofs.Within.{Within, halves}
 
 -- The quotient that is rounded.
 abbrev pub quotient : ℤ → ℕ → ℚ
 quotient z d = int z /ᵠ int (pos d)
-
-pub pos-of-nat : (d : ℕ) → 0 < d → int (pos 0) <ᵠ int (pos d)
-pos-of-nat zero h = absurd (omega arith)
-pos-of-nat (suc d) h = pos-int d
 
 -- it is undone by the divisor
 pub quotient-mul : (z : ℤ) (d : ℕ) → 0 < d → quotient z d *ᵠ int (pos d) ≡ int z

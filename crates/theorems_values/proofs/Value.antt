@@ -3,16 +3,16 @@
 -- Which segment a position belongs to is not used.
 use mathlib.Core.Path.{_≡_, sym, subst}
 use mathlib.Core.List.{List}
-use Prim.Native.Nat.{ℕ, suc, _+_, _<_, _≤_}
+use Prim.Native.Nat.{ℕ, _+_, _≤_}
 use native.Mathlib.Omega.{arith}
 use lib.IntN.{ℤ, pos}
 use lib.ListN.{getD}
 use Rattle.base_exact.proofs.Tabulate.{tab-getD}
-use Rattle.spec_spline.specs.Space.{Space, segments, degree, firstColumn, columnCount}
+use Rattle.spec_spline.specs.Space.{Space, degree, firstColumn, columnCount}
 use Rattle.spec_spline.specs.Piecewise.{Accepted}
 use Rattle.spec_spline.specs.Reading.{fine, Wood, coefficient, ordinate, ordinates, fineWidth, offset, triangle, blended}
 use Rattle.spec_spline.specs.ExactCurve.{exactOn, mostWeights, leastOn, greatestOn}
-use Rattle.spec_spline.proofs.Space.{firstColumn-mono}
+pub use Rattle.spec_spline.proofs.Space.{segment-column}
 use Rattle.theorems_values.proofs.Within.{Within, halves, halves-mono, within-more}
 use Rattle.theorems_values.proofs.Triangle.{Between, triangle-within, triangle-between}
 use Rattle.theorems_values.proofs.Weights.{Column, accepted-column}
@@ -20,11 +20,6 @@ use Rattle.theorems_values.proofs.Ordinate.{ordinate-within, ordinate-b
 use Rattle.theorems_values.proofs.Segment.{Located}
 use Rattle.theorems_values.proofs.ExactSum.{exactOrdinates, exactOn-is-triangle}
 use Rattle.theorems_values.proofs.OnSegment.{column-at-most-s, weighs-in-column, leastOn-le, le-greatestOn}
-
--- a column of segment j
-pub segment-column : (s : Space) (j k : ℕ) → j < segments s → k ≤ degree s j → firstColumn s j + k < columnCount s
-unfolding firstColumn
-segment-column s j k h l = omega (arith, firstColumn-mono s (suc j) (segments s) h)
 
 module _ (s : Space) (a : Accepted s) (wood : Wood) (coefs : List ℤ) (x : ℤ) (j : ℕ) (at : Located s x j) where
   abbrev given : ℕ → ℤ

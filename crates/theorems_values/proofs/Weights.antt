@@ -6,17 +6,15 @@ use mathlib.Core.Bool.{Bool, true, false, cond}
 use Prim.Native.Nat.{ℕ, zero, suc, _+_, _<_, _≤_}
 use native.Mathlib.Omega.{arith}
 use native.Mathlib.Nat.{eq-or-lt-of-le}
-use lib.IntN.{ℤ, pos, negsuc, _*ℤ_, natAbs}
+use lib.IntN.{pos, natAbs}
 use lib.ListN.{length}
-use lib.Dec.{T}
-use lib.Signed.{_≤ℤ_, nonNeg}
 use Rattle.base_exact.specs.Rational.{ℚ, den, int}
 use Rattle.base_exact.specs.Order.{isZero, _≤ᵠ_, Nn}
 use Rattle.base_exact.specs.Sum.{sum}
 use Rattle.base_exact.proofs.Decide.{le-or-lt, not-false}
 use Rattle.base_exact.proofs.Integer as Z
-use Rattle.base_exact.proofs.Rational.{self, is-int, int-nonzero}
-use Rattle.base_exact.proofs.Order.{int-mono, le-is, isZero-true}
+use Rattle.base_exact.proofs.Rational.{int-nonzero}
+use Rattle.base_exact.proofs.Order.{int-mono, isZero-true, unit-num-le-den}
 use Rattle.base_exact.proofs.Sum.{sum-zero, sum-place-le}
 use Rattle.base_outcome.specs.Search.{howMany}
 use Rattle.spec_spline.specs.Space.{Space, columnCount}
@@ -75,14 +73,6 @@ some-weight t c C = go (le-or-lt (howMany (length t) (hasWeight t c)) 0)
     go (inr h) = h
 
 -- ---- the size of a weight
-
--- a number from 0 to 1 has a numerator no larger than its denominator
-pub unit-num-le-den : (q : ℚ) → Nn q → q ≤ᵠ int (pos 1) → natAbs (q .num) ≤ den q
-unit-num-le-den q h k = go (q .num) (h .nn) (le-is (self q) (is-int (pos 1)) k)
-  where
-    go : (z : ℤ) → T (nonNeg z) → (z *ℤ pos 1) ≤ℤ (pos 1 *ℤ pos (den q)) → natAbs z ≤ den q
-    go (pos n) p l = omega (arith, Z.≤-out _ _ l)
-    go (negsuc n) p l = absurd p
 
 -- no weight is above one
 pub weight-at-most-one : (s : Space) (a : Accepted s) (i c : ℕ) → cell (a .table) i c ≤ᵠ int (pos 1)

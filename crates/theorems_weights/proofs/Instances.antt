@@ -26,6 +26,7 @@ use Rattle.spec_spline.specs.Build.{orderSteps, joinSteps, weights, spaceWeight
 use Rattle.spec_spline.specs.Published.{for, extraction}
 use Rattle.spec_spline.specs.Cases.{space4, space5, lineSpace}
 use Rattle.spec_spline.specs.Piecewise.{Accepted, MeetsAll, Meets, pairing, combination}
+use Rattle.spec_spline.proofs.Computing.{building}
 use Rattle.base_outcome.proofs.Outcome.{answer-not-refusal}
 use Rattle.theorems_weights.specs.Cells.{HoldsFraction, lastPartCell}
 use Rattle.theorems_weights.specs.Counted.{Test, counted, shaped, codeOf, passes, joined, jumpTests, exactJumps, firstJump, lastJump, shapeTest, quotient, factorTests, innerRows, innerRow, exactFactors, entryTests, rowTests, exactRow, stepTests, exactStep, exactOrders, exactJoins, buildTests, exactWeights, allPass, FirstTooLarge, FirstFailure}
@@ -52,7 +53,7 @@ table4 =
     (q0 ∷ q0 ∷ q0 ∷ q0 ∷ q0 ∷ q0 ∷ q1 ∷ []) ∷ []
 
 accepted4 : Accepted space4
-unfolding gcd gcdF mk int inv _+ᵠ_ _*ᵠ_ -ᵠ_ _//_ isZero ltᵠ sum tab fits capped collect repeat first last lengthsFit badBreak startsPart partEnd spanTooLong tooManySegments badDegree badOrder checkedEntries checked firstColumn conditionsBefore falling binomial alternating undivided commonDivisor conditions identity count addProducts span partialSum quotientFactor factors newEntry newRows step orderSteps joinSteps weights spaceWeights
+unfolding building
 accepted4 = record { table = table4; is = refl }
 
 -- the published construction has weights 4/7 and 3/7 on the join's ordinate
@@ -149,7 +150,7 @@ table5 =
     (q0 ∷ q0 ∷ q0 ∷ q0 ∷ q0 ∷ q0 ∷ q0 ∷ q1 ∷ []) ∷ []
 
 unfoldable pub accepted5 : Accepted space5
-unfolding gcd gcdF mk int inv _+ᵠ_ _*ᵠ_ -ᵠ_ _//_ isZero ltᵠ sum tab fits capped collect repeat first last lengthsFit badBreak startsPart partEnd spanTooLong tooManySegments badDegree badOrder checkedEntries checked firstColumn conditionsBefore falling binomial alternating undivided commonDivisor conditions identity count addProducts span partialSum quotientFactor factors newEntry newRows step orderSteps joinSteps weights spaceWeights
+unfolding building
 accepted5 = record { table = table5; is = refl }
 
 -- the published construction has weights 1/4, 1/2 and 1/4 on the join's ordinate
@@ -216,7 +217,7 @@ beamTable =
     (q0 ∷ q0 ∷ q0 ∷ q0 ∷ q0 ∷ q0 ∷ q0 ∷ q0 ∷ q1 ∷ []) ∷ []
 
 unfoldable pub acceptedBeam : Accepted beam
-unfolding gcd gcdF mk int inv _+ᵠ_ _*ᵠ_ -ᵠ_ _//_ isZero ltᵠ sum tab fits capped collect repeat first last lengthsFit badBreak startsPart partEnd spanTooLong tooManySegments badDegree badOrder checkedEntries checked firstColumn conditionsBefore falling binomial alternating undivided commonDivisor conditions identity count addProducts span partialSum quotientFactor factors newEntry newRows step orderSteps joinSteps weights spaceWeights
+unfolding building
 acceptedBeam = record { table = beamTable; is = refl }
 
 -- two rows and two columns lie before the second part: cell 74 holds 4/7, as of W4, and cell 360, below its five rows, 0/1
@@ -241,7 +242,7 @@ abbrev space8 : Space
 space8 = record { breaks = pos 0 ∷ pos 1 ∷ pos 1291 ∷ []; degrees = pos 3 ∷ pos 3 ∷ []; orders = pos 2 ∷ [] }
 
 refused8 : spaceWeights space8 ≡ refusal 8 0
-unfolding gcd gcdF mk int inv _+ᵠ_ _*ᵠ_ -ᵠ_ _//_ isZero ltᵠ sum tab fits capped collect repeat first last lengthsFit badBreak startsPart partEnd spanTooLong tooManySegments badDegree badOrder checkedEntries checked firstColumn conditionsBefore falling binomial alternating undivided commonDivisor conditions identity count addProducts span partialSum quotientFactor factors newEntry newRows step orderSteps joinSteps weights spaceWeights
+unfolding building
 refused8 = refl
 
 too-large8 : FirstTooLarge space8 0

@@ -15,7 +15,7 @@ use Rattle.base_exact.specs.Rational.{ℚ, _+ᵠ_, _*ᵠ_, -ᵠ_, _-ᵠ_, int, 
 use Rattle.base_exact.specs.Sum.{sum}
 use Rattle.base_exact.proofs.Decide.{le-or-lt, holds-true, fails-false, cond-true, cond-false}
 use Rattle.base_exact.proofs.Ring.{ring, by-eq}
-use Rattle.base_exact.proofs.Rational.{ℚ-ring, readsℚ, mul-inv, mul-cancel, mul-comm, zero-mul}
+use Rattle.base_exact.proofs.Rational.{ℚ-ring, readsℚ, mul-inv, mul-cancel, mul-comm, zero-mul, int-nonzero}
 use Rattle.base_exact.proofs.Sum.{sum-zero, sum-past}
 
 -- where k stands: up to f, up to l, or past l
@@ -118,6 +118,13 @@ module _ {n f l : ℕ} {J w : ℕ → ℚ} (G : Jumps n f l J w) where
       go (low q) = ap w (let e : k ≡ l = omega arith in e) ∙ G .at-last
       go (mid q r) = absurd (omega arith)
       go (high q) = G .after k q .1
+
+  pub factor-nonzero : (i : ℕ) → i < l → w i ≢ int (pos 0)
+  factor-nonzero i h e = go (le-or-lt i f)
+    where
+      go : (i ≤ f) ⊎ (f < i) → ⊥
+      go (inl k) = int-nonzero 0 (sym (one-up-to i k) ∙ e)
+      go (inr k) = let b = G .below in G .part (suc i) (omega arith) (omega arith) (sym (G .weight i (omega arith)) ∙ ap (λ t. t *ᵠ J i) e ∙ zero-mul (J i))
 
   -- every mixed row is annihilated
   pub mixed-null : (i : ℕ) → suc i < n → mixed w J i ≡ int (pos 0)
