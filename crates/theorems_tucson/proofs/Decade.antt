@@ -8,11 +8,6 @@ use lib.IntN.{ℤ, pos, negsuc, subℕ, _+ℤ_}
 use Rattle.base_exact.proofs.Decide.{le-or-lt, cond-true, cond-false}
 use Rattle.spec_tucson.specs.Line.{decade, yearInDecade}
 
-pub year-below : (y : ℤ) → yearInDecade y < decade
-unfolding yearInDecade
-year-below (pos n) = omega arith
-year-below (negsuc n) = omega arith
-
 sub-decade : (n m : ℕ) → yearInDecade (subℕ n (suc m)) ≡ (decade - 1 - m % decade + n) % decade
 unfolding yearInDecade
 sub-decade n m = go (le-or-lt (suc m) n)

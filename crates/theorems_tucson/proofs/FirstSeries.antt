@@ -12,10 +12,7 @@ use lib.Dec.{eqb}
 use lib.IntN.{ℤ, pos, _+ℤ_, +ℤ-idr}
 use lib.ListN.{length, take, length-append}
 use lib.Seq.{take-all}
-use lib.Signed.{leZ}
 use Rattle.base_exact.proofs.Decide.{and-true, true-not-false}
-use Rattle.base_exact.proofs.Integer.{≤-antisym}
-use Rattle.base_exact.proofs.Word.{leZ-true}
 use Rattle.base_outcome.specs.Outcome.{Outcome, answer, refuse, _then_}
 use Rattle.base_outcome.proofs.Outcome.{answer-unique, answer-not-refusal, Chained, then-inverts, with-inverts}
 use Rattle.base_text.specs.Bytes.{Text, beginsWith}
@@ -24,12 +21,13 @@ use Rattle.spec_tucson.specs.Line.{Line, nameColumns, decade, thousandths, isNa
 use Rattle.spec_tucson.specs.Series.{Series, closedBy}
 use Rattle.spec_tucson.specs.TextReading.{goesOn, Begun, begunBy, nextYear, yearFollows, Step, opened, closed, extended, lastField, wholeSeries, closing, lineStep, ifGood, readLine, after, readLines}
 use Rattle.spec_tucson.specs.Writing.{linesFrom, seriesLines, linesText, written, yearsFit, allWidths, isWritable, firstUnwritable}
+use Rattle.spec_tucson.proofs.Lines.{same-is, all-widths, year-below, front-widths-of}
 use Rattle.theorems_tucson.specs.Refusals.{NextYearByLine}
 use Rattle.theorems_tucson.proofs.Columns.{fits-year}
-use Rattle.theorems_tucson.proofs.Decade.{year-below, years-later}
+use Rattle.theorems_tucson.proofs.Decade.{years-later}
 use Rattle.theorems_tucson.proofs.Lines.{name-parts}
 use Rattle.theorems_tucson.proofs.InDecades.{InDecades, ends, goes, sizes, same-sizes, bytesOf, same-years}
-use Rattle.theorems_tucson.proofs.GoodLines.{atEndOnly, AllAtEndOnly, bytesIn, Good, good-inverted, going-widths, front-widths-of, front-and-last}
+use Rattle.theorems_tucson.proofs.GoodLines.{atEndOnly, AllAtEndOnly, bytesIn, Good, good-inverted, front-and-last}
 use Rattle.theorems_tucson.proofs.ReadsBack.{start, start-is, next-extended, roomOf, cutOf, cut-in-decades}
 use Rattle.theorems_tucson.proofs.Rescaled.{widths-length, closed-widths, decades-widths, lines-length}
 
@@ -76,15 +74,12 @@ abbrev pub Due : Option Begun → ℤ → Type 0
 Due none year = Unit {0}
 Due (some b) year = (year ≡ nextYear b) × (yearInDecade year ≡ 0)
 
-same-equal : (a b : ℤ) → same a b ≡ true → a ≡ b
-same-equal a b e = let both = and-true (leZ a b) (leZ b a) e in ≤-antisym a b (leZ-true a b (both .0)) (leZ-true b a (both .1))
-
 follows-due : (b : Option Begun) (l : Line) → yearFollows b l ≡ true → Due b (l .year)
 unfolding yearFollows
 follows-due none l e = tt
 follows-due (some b) l e =
     let both = and-true (same (l .year) (nextYear b)) (eqb (yearInDecade (l .year)) 0) e in
-    (same-equal (l .year) (nextYear b) (both .0), eqb-true (yearInDecade (l .year)) 0 (both .1))
+    (same-is (l .year) (nextYear b) (both .0), eqb-true (yearInDecade (l .year)) 0 (both .1))
 
 -- The first series of lines that read to ss, the rest of it where part is begun, and what is known of the series after it.
 pub record FirstSeries (t : Text) (ts : List Text) (b : Option Begun) (ss : List Series) : Type 0 where
@@ -277,7 +272,7 @@ module _ (t next : Text) (ts : List Text) (b : Option Begun) (ss : List Series) 
         named = f .named;
         titled = next-titled (l .name) (f .name) (g .named) (g .titled) (f .titled) more;
         roomy = omega (arith, year-below (l .year));
-        cut = goes {room = decade - 1 - yearInDecade (l .year)} {fs = fs} {more = f .lines} {ws = f .ws} full (going-widths fs (g .allowed)) (subst (λ (r : ℕ). InDecades (f .unit) r (f .lines) (f .ws)) rest (f .cut));
+        cut = goes {room = decade - 1 - yearInDecade (l .year)} {fs = fs} {more = f .lines} {ws = f .ws} full (all-widths fs (g .allowed)) (subst (λ (r : ℕ). InDecades (f .unit) r (f .lines) (f .ws)) rest (f .cut));
         dated = ap₂ (λ (x y : Bool). x && y) (fits-year (l .year) (g .dated)) (ap (λ (y : ℤ). yearsFit (linesFrom (f .name) y (f .lines))) (sym years) ∙ f .dated);
         due = due;
         scaled =

@@ -1,10 +1,10 @@
 -- What is known of a line that code 11 does not refuse: its name, year and fields, and how many bytes it has. And of a text
 -- cut into lines: each has byte 10 at its end at most, and together they are the text.
 use mathlib.Core.Path.{_≡_, refl, sym, _∙_, ap, ap₂}
-use mathlib.Core.Bool.{Bool, true, false, cond, _&&_, _||_, not}
+use mathlib.Core.Bool.{Bool, true, false, cond, _&&_, not}
 use mathlib.Core.List.{List, [], _∷_, _++_, dropLast}
 use mathlib.Core.Option.{Option, some, none, Option·some-injective}
-use Prim.Native.Nat.{ℕ, zero, suc, _+_, _*_, _≤_}
+use Prim.Native.Nat.{ℕ, suc, _+_, _*_, _≤_}
 use native.Mathlib.Omega.{arith}
 use borrow.Author.Tests.{eqb-true, leb-true}
 use lib.Dec.{eqb, leb}
@@ -15,9 +15,9 @@ use Rattle.base_exact.proofs.Decide.{and-true, true-not-false, clash}
 use Rattle.base_text.specs.Bytes.{Text, newline, Cut, cut, onFirst}
 use Rattle.base_text.proofs.Cutting.{joined, cut-joins}
 use Rattle.spec_tucson.specs.Columns.{inColumns}
-use Rattle.spec_tucson.specs.Line.{Line, nameColumns, yearColumns, fieldColumns, decade, linesOf, isName, withField, fieldNumerals, fieldCount, columnsFit, withNumerals, lineInColumns, ofCut, lineOf, yearInDecade, withinDecade, same, isWidth, fieldsAllowed, ifAllowed, goodLine}
+use Rattle.spec_tucson.specs.Line.{Line, nameColumns, yearColumns, fieldColumns, decade, linesOf, isName, fieldNumerals, fieldCount, columnsFit, withNumerals, lineInColumns, ofCut, lineOf, yearInDecade, withinDecade, same, fieldsAllowed, ifAllowed, goodLine}
 use Rattle.spec_tucson.specs.TextReading.{lastField}
-use Rattle.spec_tucson.specs.Writing.{allWidths}
+use Rattle.spec_tucson.proofs.Lines.{fields-count}
 use Rattle.theorems_tucson.proofs.Columns.{FitsColumns, columns-fit}
 use Rattle.theorems_tucson.proofs.Lines.{headColumns, lineBytes}
 
@@ -78,17 +78,6 @@ nothing-after (c ∷ []) t h = nothing-after [] t (and-true (not (eqb c newline)
 nothing-after (c ∷ d ∷ s) t h = nothing-after (d ∷ s) t (and-true (not (eqb c newline)) (atEndOnly (d ∷ (s ++ (newline ∷ t)))) h .1)
 
 -- ---- the columns of a good line
-
--- so many fields as were asked for
-fields-count : (n : ℕ) (t : Text) (fs : List ℤ) → fieldNumerals n t ≡ some fs → length fs ≡ n
-unfolding fieldNumerals
-fields-count zero t fs e = ap length (sym (Option·some-injective [] fs e))
-fields-count (suc n) t fs e = go (inColumns (take fieldColumns t)) (fieldNumerals n (drop fieldColumns t)) refl e (fields-count n (drop fieldColumns t))
-  where
-    go : (o : Option ℤ) (p : Option (List ℤ)) → fieldNumerals n (drop fieldColumns t) ≡ p → withField o p ≡ some fs → ((gs : List ℤ) → fieldNumerals n (drop fieldColumns t) ≡ some gs → length gs ≡ n) → length fs ≡ suc n
-    go none p w e ih = clash cc
-    go (some f) none w e ih = clash cc
-    go (some f) (some gs) w e ih = ap length (sym (Option·some-injective (f ∷ gs) fs e)) ∙ ap suc (ih gs w)
 
 -- What the columns of a line say.
 pub record InBody (body : Text) (l : Line) : Type 0 where
@@ -172,30 +161,6 @@ good-inverted last t l once e = let parts = allowed-inverted last (ofCut (cut ne
     go : (o : Option Cut) → cut newline t ≡ o → ofCut o ≡ some l → Good last t l
     go none w f = clash cc
     go (some c) w f = let parts = allowed-inverted last (ofCut (cut newline t)) l e in body-good last t c l once (cut-joins newline t c w) (body-inverted (c .before) l f) (parts .1) (parts .2)
-
--- ---- its fields
-
--- those of a line that goes on are widths
-pub going-widths : (fs : List ℤ) → fieldsAllowed false fs ≡ true → allWidths fs ≡ true
-unfolding fieldsAllowed allWidths
-going-widths [] h = refl
-going-widths (f ∷ []) h = ap (λ (b : Bool). b && true) (or-right-false (isWidth f) h)
-  where
-    or-right-false : (a : Bool) → (a || false) ≡ true → a ≡ true
-    or-right-false true e = refl
-    or-right-false false e = e
-going-widths (f ∷ g ∷ fs) h =
-    let both = and-true (isWidth f) (fieldsAllowed false (g ∷ fs)) h in
-    ap₂ (λ (a b : Bool). a && b) (both .0) (going-widths (g ∷ fs) (both .1))
-
--- and all but the last of any line
-pub front-widths-of : (last : Bool) (fs : List ℤ) → fieldsAllowed last fs ≡ true → allWidths (dropLast fs) ≡ true
-unfolding fieldsAllowed allWidths
-front-widths-of last [] h = refl
-front-widths-of last (f ∷ []) h = refl
-front-widths-of last (f ∷ g ∷ fs) h =
-    let both = and-true (isWidth f) (fieldsAllowed last (g ∷ fs)) h in
-    ap₂ (λ (a b : Bool). a && b) (both .0) (front-widths-of last (g ∷ fs) (both .1))
 
 -- a field is the last, those before it are the front
 pub front-and-last : (fs : List ℤ) → 1 ≤ length fs → dropLast fs ++ (lastField fs ∷ []) ≡ fs

@@ -13,6 +13,7 @@ use Rattle.base_outcome.specs.Tests.{between}
 use Rattle.base_text.specs.Bytes.{Text}
 use Rattle.spec_tucson.specs.Line.{decade, isWidth}
 use Rattle.spec_tucson.specs.Writing.{ontoFirst, inLines, linesFrom, yearsFit, allWidths, leastYear, greatestYear}
+use Rattle.spec_tucson.proofs.Lines.{no-lines}
 use Rattle.theorems_tucson.proofs.Lines.{lineBytes}
 
 -- Lines of these widths with the closing c behind them.
@@ -34,11 +35,6 @@ widths-parts w ws h = and-true (isWidth w) (allWidths ws) h
 onto-first : {c : ℤ} {room : ℕ} {lines : List (List ℤ)} {ws : List ℤ} (w : ℤ) → isWidth w ≡ true → InDecades c room lines ws → InDecades c (suc room) (ontoFirst w lines) (w ∷ ws)
 onto-first w h (ends {room = room} {ws = ws} l k) = ends {room = suc room} {ws = w ∷ ws} (omega arith) (widths-more w ws h k)
 onto-first w h (goes {room = room} {fs = fs} l k d) = goes {room = suc room} {fs = w ∷ fs} (omega arith) (widths-more w fs h k) d
-
-no-lines : (room : ℕ) → inLines room [] ≡ []
-unfolding inLines
-no-lines zero = refl
-no-lines (suc room) = refl
 
 no-widths : allWidths [] ≡ true
 unfolding allWidths

@@ -21,9 +21,10 @@ use Rattle.spec_tucson.specs.Line.{Line, decade, thousandths, widthLimit, lines
 use Rattle.spec_tucson.specs.Series.{Series, closedBy}
 use Rattle.spec_tucson.specs.TextReading.{goesOn, Begun, begunBy, nextYear, yearFollows, Step, opened, closed, extended, lastField, wholeSeries, closing, lineStep, ifGood, readLine, after, readLines, readText}
 use Rattle.spec_tucson.specs.Writing.{inLines, linesFrom, seriesLines, lineText, linesText, written, yearsFit, allWidths, isWritable, firstUnwritable, leastYear, greatestYear}
+use Rattle.spec_tucson.proofs.Lines.{year-below}
 use Rattle.theorems_tucson.specs.RoundTrip.{WrittenReadsBack}
 use Rattle.theorems_tucson.proofs.Columns.{FitsColumns, year-fits}
-use Rattle.theorems_tucson.proofs.Decade.{year-below, years-later}
+use Rattle.theorems_tucson.proofs.Decade.{years-later}
 use Rattle.theorems_tucson.proofs.Lines.{name-parts, FieldsHeld, LineHeld, line-reads, line-first, line-named}
 use Rattle.theorems_tucson.proofs.InDecades.{InDecades, ends, goes, widths-parts, lines-in-decades}
 

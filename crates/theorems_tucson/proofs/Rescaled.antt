@@ -17,8 +17,9 @@ use Rattle.base_text.specs.Bytes.{Text}
 use Rattle.spec_tucson.specs.Line.{Line, decade, thousandths, widthLimit, isName, same, isWidth}
 use Rattle.spec_tucson.specs.Series.{hundredths, hundredthsLimit, perHundredth, allHundredths, fromHundredths, closedBy}
 use Rattle.spec_tucson.specs.Writing.{linesFrom, lineText, linesText, yearsFit, allWidths, leastYear, greatestYear}
+use Rattle.spec_tucson.proofs.Lines.{widths-append}
 use Rattle.theorems_tucson.proofs.Lines.{line-length}
-use Rattle.theorems_tucson.proofs.InDecades.{InDecades, ends, goes, widths-parts, sizes, bytesOf}
+use Rattle.theorems_tucson.proofs.InDecades.{InDecades, ends, goes, sizes, bytesOf}
 use Rattle.theorems_tucson.proofs.ReadsBack.{full-fit, closing-fit}
 
 -- ---- a closing's widths
@@ -58,11 +59,6 @@ closed-widths c ws vs h e = go (same c thousandths) (same c hundredths && allHun
     go false false k e = clash cc
 
 -- ---- lines in decades, again
-
-widths-append : (vs us : List ℤ) → allWidths vs ≡ true → allWidths us ≡ true → allWidths (vs ++ us) ≡ true
-unfolding allWidths
-widths-append [] us h k = k
-widths-append (v ∷ vs) us h k = let parts = widths-parts v vs h in ap₂ (λ (a b : Bool). a && b) (parts .0) (widths-append vs us (parts .1) k)
 
 pub decades-widths : {c : ℤ} {room : ℕ} {lines : List (List ℤ)} {ws : List ℤ} → InDecades c room lines ws → allWidths ws ≡ true
 decades-widths (ends h k) = k

@@ -12,7 +12,7 @@ use lib.Dec.{eqb, leb}
 use lib.IntN.{ℤ, pos, negsuc, natAbs}
 use lib.ListN.{length, take, drop}
 use lib.Seq.{slice, length-slice}
-use Rattle.base_exact.proofs.Decide.{and-true, le-or-lt}
+use Rattle.base_exact.proofs.Decide.{and-true, le-or-lt, clash}
 use Rattle.base_text.specs.Bytes.{Text, minus, newline, Cut, cut}
 use Rattle.base_text.specs.Numeral.{numeral, isNatural, digitsValue, negated, numeralLimit}
 use Rattle.base_text.proofs.Digits.{natural-small}
@@ -26,9 +26,6 @@ use Rattle.tucson_lines.proofs.Lines.{end-within, good-unended, good-co
 use Rattle.tucson_lines.proofs.LineNumerals.{fields-count}
 
 -- ---- the size of a number in columns
-clash : {A : Type 0} → _≡_ {A = ℕ} 0 1 → A
-clash e = absurd (omega arith)
-
 negated-small : (b : Bool) (n : ℕ) (z : ℤ) → negated b n ≡ some z → (b ≡ true → n < numeralLimit) → natAbs z < numeralLimit
 negated-small true zero z e h = clash (cc)
 negated-small true (suc n) z e h = let x : negsuc n ≡ z = cc in rw (sym x) (h refl)

@@ -23,6 +23,7 @@ use Rattle.spec_tucson.specs.Line.{Line, nameColumns, yearColumns, fieldColumns
 use Rattle.spec_tucson.specs.Series.{allHundredths}
 use Rattle.spec_tucson.specs.TextReading.{lastField}
 use Rattle.spec_tucson.specs.Writing.{allWidths}
+pub use Rattle.spec_tucson.proofs.Lines.{fields-count, year-below}
 use Rattle.tucson_lines.specs.Machine.{widthsTold, lineTold, numeralsTold, LineEnd}
 use Rattle.tucson_lines.specs.declared.WidthsAnswer.the-variants as widths-cases
 use Rattle.tucson_lines.specs.declared.LineAnswer.{LineAnswer}
@@ -72,16 +73,6 @@ front-behind [] f = refl
 front-behind (w ∷ []) f = refl
 front-behind (w ∷ v ∷ vs) f = ap (λ (l : List ℤ). w ∷ l) (front-behind (v ∷ vs) f)
 
-pub fields-count : (n : ℕ) (t : Text) (fs : List ℤ) → fieldNumerals n t ≡ some fs → length fs ≡ n
-unfolding fieldNumerals
-fields-count zero t fs e = let z : fs ≡ [] = cc in ap length z
-fields-count (suc n) t fs e = go (inColumns (take fieldColumns t)) (fieldNumerals n (drop fieldColumns t)) e (fields-count n (drop fieldColumns t))
-  where
-    go : (a : Option ℤ) (x : Option (List ℤ)) → withField a x ≡ some fs → ((gs : List ℤ) → x ≡ some gs → length gs ≡ n) → length fs ≡ suc n
-    go none x e ih = absurd (let z : _≡_ {A = ℕ} 0 1 = cc in omega arith)
-    go (some z) none e ih = absurd (let z : _≡_ {A = ℕ} 0 1 = cc in omega arith)
-    go (some z) (some gs) e ih = let z : z ∷ gs ≡ fs = cc in omega (arith, ap length z, ih gs refl)
-
 -- the fields but the last
 behind-front : (x : Option (List ℤ)) (o : Option ℤ) (fs : List ℤ) → behind x o ≡ some fs → x ≡ some (dropLast fs)
 behind-front none o fs e = absurd (let z : _≡_ {A = ℕ} 0 1 = cc in omega arith)
@@ -92,12 +83,6 @@ pub fields-front : (n : ℕ) (t : Text) (fs : List ℤ) → 1 ≤ n → fieldNum
 fields-front n t fs h e =
     let k : n ≡ suc (n - 1) = omega arith in
     behind-front (fieldNumerals (n - 1) t) _ fs (sym (fields-behind (n - 1) t) ∙ ap (λ (m : ℕ). fieldNumerals m t) (sym k) ∙ e)
-
--- ---- a year's place in its decade is below ten
-pub year-below : (z : ℤ) → yearInDecade z < decade
-unfolding yearInDecade
-year-below (pos n) = mod-lt n (omega arith)
-year-below (negsuc n) = omega arith
 
 -- ---- what is told of a year, the fields but the last, and the last
 abbrev told : Text → Option ℤ → Option (List ℤ) → Option ℤ → LineAnswer

@@ -11,7 +11,7 @@ use lib.Dec.{eqb}
 use lib.IntN.{ℤ, pos, natAbs, _+ℤ_}
 use lib.ListN.{length, length-append, length-map}
 use lib.Signed.{leZ}
-use Rattle.base_exact.proofs.Decide.{and-true, true-not-false}
+use Rattle.base_exact.proofs.Decide.{and-true, true-not-false, clash}
 use Rattle.base_exact.proofs.Integer.{bal-+, abs-parts}
 use Rattle.base_outcome.specs.Outcome.{Outcome, answer, refusal, refuse, _then_, with-answer}
 use Rattle.base_outcome.proofs.Outcome.{answer-unique, answer-not-refusal, then-inverts}
@@ -21,13 +21,12 @@ use Rattle.spec_tucson.specs.Series.{Series, hundredths, allHundredths, fromHun
 use Rattle.spec_tucson.specs.TextReading.{Begun, begunBy, goesOn, nextYear, yearFollows, Step, opened, closed, extended, lastField, wholeSeries, closing, lineStep, ifGood, readLine, after, readLines}
 use Rattle.spec_tucson.specs.ReadCall.{namesOf, widthsOf}
 use Rattle.spec_tucson.specs.Writing.{allWidths}
+use Rattle.spec_tucson.proofs.Lines.{front-widths-of}
+pub use Rattle.spec_tucson.proofs.Lines.{all-widths, widths-append}
 use Rattle.tucson_lines.proofs.GoodLines.{ifWidth, good-more}
 use Rattle.tucson_read.specs.Scan.{soFar}
 use Rattle.tucson_read.specs.Write.{inThousandths}
 use Rattle.tucson_read.proofs.Passing.{same-is, begun-widths, front-length}
-
-clash : {A : Type 0} → _≡_ {A = ℕ} 0 1 → A
-clash e = absurd (omega arith)
 
 -- ---- one line
 
@@ -58,10 +57,10 @@ good-as-last true t l e = go (goodLine true t) (sym (good-more t) ∙ e)
   where
     test : (m : Line) (w : Bool) → cond w (some m) none ≡ some l → some m ≡ some l
     test m true e = e
-    test m false e = clash (cc)
+    test m false e = clash cc
 
     go : (o : Option Line) → ifWidth o ≡ some l → o ≡ some l
-    go none e = clash (cc)
+    go none e = clash cc
     go (some m) e = test m (isWidth (lastField (m .fields))) e
 
 -- ---- a line that opens
@@ -99,8 +98,8 @@ closed-widths z ws vs e = go (same z thousandths) (same z hundredths) (allHundre
     go true true a k m e = clash (let x : pos 999 ≡ thousandths = sym (same-is z hundredths m) ∙ same-is z thousandths k in cc)
     go true false a k m e = cc
     go false true true k m e = cc
-    go false true false k m e = clash (cc)
-    go false false a k m e = clash (cc)
+    go false true false k m e = clash cc
+    go false false a k m e = clash cc
 
 pub thousandths-length : (z : ℤ) (ws : List ℤ) → length (inThousandths z ws) ≡ length ws
 unfolding inThousandths fromHundredths
@@ -111,26 +110,8 @@ thousandths-length z ws = go (same z hundredths)
     go false = refl
 
 -- ---- the fields are widths
-pub all-widths : (fs : List ℤ) → fieldsAllowed false fs ≡ true → allWidths fs ≡ true
-unfolding fieldsAllowed allWidths
-all-widths [] e = refl
-all-widths (f ∷ []) e = go (isWidth f) (same f thousandths) e
-  where
-    go : (w s : Bool) → (w || false) ≡ true → (w && true) ≡ true
-    go true s e = refl
-    go false s e = e
-all-widths (f ∷ g ∷ fs) e = let both = and-true (isWidth f) (fieldsAllowed false (g ∷ fs)) e in ap₂ _&&_ (both .0) (all-widths (g ∷ fs) (both .1))
-
 pub front-widths : (fs : List ℤ) → fieldsAllowed true fs ≡ true → allWidths (dropLast fs) ≡ true
-unfolding fieldsAllowed allWidths
-front-widths [] e = refl
-front-widths (f ∷ []) e = refl
-front-widths (f ∷ g ∷ fs) e = let both = and-true (isWidth f) (fieldsAllowed true (g ∷ fs)) e in ap₂ _&&_ (both .0) (front-widths (g ∷ fs) (both .1))
-
-pub widths-append : (ws vs : List ℤ) → allWidths ws ≡ true → allWidths vs ≡ true → allWidths (ws ++ vs) ≡ true
-unfolding allWidths
-widths-append [] vs e f = f
-widths-append (w ∷ ws) vs e f = let both = and-true (isWidth w) (allWidths ws) e in ap₂ _&&_ (both .0) (widths-append ws vs (both .1) f)
+front-widths = front-widths-of true
 
 -- ---- code 11's test of the fields, and an answer with a series in front
 pub good-allowed : (last : Bool) (t : Text) (l : Line) → goodLine last t ≡ some l → fieldsAllowed last (l .fields) ≡ true
@@ -139,10 +120,10 @@ good-allowed last t l e = go (lineOf t) e
   where
     test : (m : Line) (b : Bool) → (withinDecade m && fieldsAllowed last (m .fields)) ≡ b → cond b (some m) none ≡ some l → fieldsAllowed last (l .fields) ≡ true
     test m true k e = let is : m ≡ l = cc in subst (λ x. fieldsAllowed last (x .fields) ≡ true) is (and-true (withinDecade m) (fieldsAllowed last (m .fields)) k .1)
-    test m false k e = clash (cc)
+    test m false k e = clash cc
 
     go : (o : Option Line) → ifAllowed last o ≡ some l → fieldsAllowed last (l .fields) ≡ true
-    go none e = clash (cc)
+    go none e = clash cc
     go (some m) e = test m (withinDecade m && fieldsAllowed last (m .fields)) refl e
 
 pub with-inverts : {A : Type 0} (f : A → A) (o : Outcome A) (r : A) → with-answer f o ≡ answer r → (a : A) × (o ≡ answer a) × (r ≡ f a)

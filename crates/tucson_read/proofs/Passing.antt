@@ -19,6 +19,7 @@ use Rattle.base_text.specs.Bytes.{Text}
 use Rattle.spec_tucson.specs.Line.{Line, linesOf, thousandths, isWidth, same, yearInDecade, goodLine}
 use Rattle.spec_tucson.specs.Series.{Series, hundredths, hundredthsLimit, allHundredths, fromHundredths, closedBy}
 use Rattle.spec_tucson.specs.TextReading.{Begun, goesOn, begunBy, nextYear, yearFollows, Step, opened, closed, extended, lastField, wholeSeries, closing, lineStep, ifGood, readLine}
+pub use Rattle.spec_tucson.proofs.Lines.{same-is}
 use Rattle.tucson_lines.specs.Machine.{lineTold}
 use Rattle.tucson_lines.specs.declared.LineAnswer.the-variants.{Good}
 use Rattle.tucson_lines.proofs.GoodLines.{ifWidth, good-more, IsLine, line-some}
@@ -27,9 +28,6 @@ use Rattle.tucson_read.specs.declared.scanning.Passed.{Passed}
 use Rattle.tucson_read.specs.declared.scanning.Passed.the-variants as passed-cases
 
 -- ---- numbers and lists
-pub same-is : (a b : ℤ) → same a b ≡ true → a ≡ b
-same-is a b e = let both = and-true (leZ a b) (leZ b a) e in ≤-antisym a b (leZ-true a b (both .0)) (leZ-true b a (both .1))
-
 pub add-more : (z : ℤ) (m n : ℕ) → z +ℤ pos (m + n) ≡ z +ℤ pos m +ℤ pos n
 add-more z m n = ext _ _ (omega (arith, bal-+ z (pos (m + n)), bal-+ z (pos m), bal-+ (z +ℤ pos m) (pos n)))
 

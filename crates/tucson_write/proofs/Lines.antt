@@ -14,6 +14,7 @@ use Rattle.base_text.proofs.Slice.{slice-take}
 use Rattle.spec_tucson.specs.Columns.{columns}
 use Rattle.spec_tucson.specs.Line.{yearColumns, fieldColumns, decade, thousandths, isName, yearInDecade}
 use Rattle.spec_tucson.specs.Writing.{leastYear, greatestYear, ontoFirst, inLines, linesFrom, seriesLines, fieldsText, lineText, linesText, allWidths}
+use Rattle.spec_tucson.proofs.Lines.{no-lines}
 use Rattle.theorems_tucson.proofs.Columns.{year-fits, fits-length, columns-length}
 use Rattle.theorems_tucson.proofs.Lines.{name-parts}
 use Rattle.theorems_tucson.proofs.InDecades.{widths-parts}
@@ -64,11 +65,6 @@ pub widths-slice : (from to : ℕ) (ws : List ℤ) → allWidths ws ≡ true →
 widths-slice from to ws h = widths-drop from (take to ws) (widths-take to ws h)
 
 -- ---- the first line of those to come
-
-no-lines : (room : ℕ) → inLines room [] ≡ []
-unfolding inLines
-no-lines zero = refl
-no-lines (suc room) = refl
 
 -- a full line
 lines-full : (c : ℤ) (room : ℕ) (vs : List ℤ) → room < length vs → inLines room (vs ++ (c ∷ [])) ≡ take (suc room) vs ∷ inLines (decade - 1) (drop (suc room) vs ++ (c ∷ []))
