@@ -19,6 +19,7 @@ use Rattle.spec_spline.specs.Published.{derivativeCoefficient, leftConst
 use Rattle.spec_spline.specs.Published.{bidiagonal, nullspace, product, constrain, for, smooth, extraction}
 use Rattle.spec_spline.specs.Reading.{startsAtDiscontinuity, startsBy, segmentAt, rounded, term, termSum, best, ordinate, ordinates}
 use Rattle.spec_spline.specs.Reading.{blend, triangle, blended, valueAt, pairAt, values, sideBySide}
+use Rattle.spec_spline.specs.CurveCall.{badCoefficient, badPosition, curveChecked, curveRead, curveOutcome}
 use Rattle.spec_spline.specs.ExactCurve.{power, bernsteinAt, exactTerm, exactOn, exactCurve}
 
 -- fractions, and sums and lists of them
@@ -60,3 +61,8 @@ reading = tt
 unfoldable pub exactReading : Unit {0}
 unfolding fractions last firstColumn startsAtDiscontinuity startsBy segmentAt binomial power bernsteinAt exactTerm exactOn exactCurve sideBySide
 exactReading = tt
+
+-- a curve call
+unfoldable pub calling : Unit {0}
+unfolding building reading badCoefficient badPosition curveChecked curveRead curveOutcome
+calling = tt

@@ -11,26 +11,22 @@ use lib.Dec.{T}
 use lib.IntN.{ℤ, pos, negsuc}
 use lib.ListN.{length, getD}
 use lib.Signed.{ltZ}
-use Rattle.base_exact.specs.Gcd.{gcd, gcdF}
-use Rattle.base_exact.specs.Rational.{mk, int, inv, _+ᵠ_, _*ᵠ_, -ᵠ_, _//_}
-use Rattle.base_exact.specs.Order.{isZero, ltᵠ}
-use Rattle.base_exact.specs.Sum.{sum}
+use Rattle.base_exact.specs.Rational.{_//_}
 use Rattle.base_exact.specs.Tabulate.{tab}
 use Rattle.base_exact.proofs.Integer.{≤-refl}
 use Rattle.base_exact.proofs.Word.{ltZ-false}
-use Rattle.base_fraction.specs.Size.{fits}
-use Rattle.base_outcome.specs.Outcome.{answer, refusal, capped, collect, repeat}
-use Rattle.base_outcome.specs.Search.{first, last}
-use Rattle.spec_spline.specs.Space.{Space, segments, order, lengthsFit, badBreak, startsPart, partEnd, spanTooLong, tooManySegments, badDegree, badOrder, checkedEntries, checked, firstColumn, conditionsBefore}
-use Rattle.spec_spline.specs.Conditions.{falling, binomial, alternating, undivided, commonDivisor, conditions}
-use Rattle.spec_spline.specs.Table.{Table, cell, identity}
-use Rattle.spec_spline.specs.Step.{count, addProducts, span, partialSum, quotientFactor, factors, newEntry, newRows, step}
-use Rattle.spec_spline.specs.Build.{orderSteps, joinSteps, weights, spaceWeights}
+use Rattle.base_outcome.specs.Outcome.{answer, refusal}
+use Rattle.base_outcome.specs.Search.{first}
+use Rattle.spec_spline.specs.Space.{Space, segments, order, checked, firstColumn, conditionsBefore}
+use Rattle.spec_spline.specs.Conditions.{falling}
+use Rattle.spec_spline.specs.Table.{Table, cell}
+use Rattle.spec_spline.specs.Build.{spaceWeights}
 use Rattle.spec_spline.specs.Cases.{space, space1, space5}
 use Rattle.spec_spline.specs.Reading.{latewood}
 use Rattle.spec_spline.specs.CurveCall.{badCoefficient, badPosition, curveOutcome, returned, valuesAfter}
 use Rattle.spec_spline.specs.ExactCurve.{Legal}
 use Rattle.spec_spline.specs.Piecewise.{Accepted}
+use Rattle.spec_spline.proofs.Computing.{building, checking, fractions}
 use Rattle.base_outcome.proofs.Search.{first-none-inverts}
 use Rattle.theorems_weights.proofs.Instances.{q0, q1}
 use Rattle.theorems_acceptance.specs.Acceptance.{OrdersAtMostOne, EightAtOrderTwo}
@@ -50,7 +46,7 @@ abbrev nearSpace : Space
 nearSpace = space (0 ∷ 1 ∷ 2000 ∷ []) (5 ∷ 4 ∷ []) (pos 1 ∷ [])
 
 near-checked : checked nearSpace ≡ answer nearSpace
-unfolding lengthsFit badBreak startsPart partEnd spanTooLong tooManySegments badDegree badOrder checkedEntries checked first
+unfolding checking
 near-checked = refl
 
 near-orders : OrdersAtMostOne nearSpace
@@ -74,7 +70,7 @@ nearTable =
     (q0 ∷ q0 ∷ q0 ∷ q0 ∷ q0 ∷ q0 ∷ q0 ∷ q0 ∷ q0 ∷ q0 ∷ q1 ∷ []) ∷ []
 
 near-weights : spaceWeights nearSpace ≡ answer nearTable
-unfolding gcd gcdF mk int inv _+ᵠ_ _*ᵠ_ -ᵠ_ _//_ isZero ltᵠ sum tab fits capped collect repeat first last lengthsFit badBreak startsPart partEnd spanTooLong tooManySegments badDegree badOrder checkedEntries checked firstColumn conditionsBefore falling binomial alternating undivided commonDivisor conditions identity count addProducts span partialSum quotientFactor factors newEntry newRows step orderSteps joinSteps weights spaceWeights
+unfolding building
 near-weights = refl
 
 -- two weights on the join's ordinate, as many as the theorem allows
@@ -93,7 +89,7 @@ table5 =
     (q0 ∷ q0 ∷ q0 ∷ q0 ∷ q0 ∷ q0 ∷ q0 ∷ q1 ∷ []) ∷ []
 
 weights5 : spaceWeights space5 ≡ answer table5
-unfolding gcd gcdF mk int inv _+ᵠ_ _*ᵠ_ -ᵠ_ _//_ isZero ltᵠ sum tab fits capped collect repeat first last lengthsFit badBreak startsPart partEnd spanTooLong tooManySegments badDegree badOrder checkedEntries checked firstColumn conditionsBefore falling binomial alternating undivided commonDivisor conditions identity count addProducts span partialSum quotientFactor factors newEntry newRows step orderSteps joinSteps weights spaceWeights
+unfolding building
 weights5 = refl
 
 three5 : weightCount table5 3 ≡ 3
@@ -116,7 +112,7 @@ bothTable =
 
 -- the second join makes 1/2, 1/2 of the first one's on ordinate 1 of the middle segment into 2/3, 1/3
 both-weights : spaceWeights bothSpace ≡ answer bothTable
-unfolding gcd gcdF mk int inv _+ᵠ_ _*ᵠ_ -ᵠ_ _//_ isZero ltᵠ sum tab fits capped collect repeat first last lengthsFit badBreak startsPart partEnd spanTooLong tooManySegments badDegree badOrder checkedEntries checked firstColumn conditionsBefore falling binomial alternating undivided commonDivisor conditions identity count addProducts span partialSum quotientFactor factors newEntry newRows step orderSteps joinSteps weights spaceWeights
+unfolding building
 both-weights = refl
 
 -- the ordinates of the middle segment have 3, 2, 2 and 3 weights
@@ -138,7 +134,7 @@ both-last = weights-are-counted bothSpace (record { table = bothTable; is = both
 
 -- the formulas there: the first join's ordinate has 1/4, 7/12 and 1/6, of which the next join has left 2/3 of 1/4
 both-formulas : (firstWeight bothSpace 0 ≡ pos 1 // 3) × (leftOver bothSpace 0 ≡ pos 2 // 2) × (lastWeight bothSpace 0 ≡ pos 1 // 5)
-unfolding gcd gcdF mk int inv _+ᵠ_ _*ᵠ_ -ᵠ_ _//_ falling leftSize rightSize share balance upperFactor takenBefore lowerFactor leftOver rightConditions firstWeight lastWeight
+unfolding fractions falling leftSize rightSize share balance upperFactor takenBefore lowerFactor leftOver rightConditions firstWeight lastWeight
 both-formulas = (refl, refl, refl)
 
 both-join : cell bothTable 3 3 ≡ lastWeight bothSpace 0
@@ -151,7 +147,7 @@ abbrev refusedSpace : Space
 refusedSpace = space (0 ∷ 1 ∷ 21 ∷ 22 ∷ []) (5 ∷ 3 ∷ 4 ∷ []) (pos 2 ∷ pos 2 ∷ [])
 
 refused : spaceWeights refusedSpace ≡ refusal 8 1
-unfolding gcd gcdF mk int inv _+ᵠ_ _*ᵠ_ -ᵠ_ _//_ isZero ltᵠ sum tab fits capped collect repeat first last lengthsFit badBreak startsPart partEnd spanTooLong tooManySegments badDegree badOrder checkedEntries checked firstColumn conditionsBefore falling binomial alternating undivided commonDivisor conditions identity count addProducts span partialSum quotientFactor factors newEntry newRows step orderSteps joinSteps weights spaceWeights
+unfolding building
 refused = refl
 
 refused-at-two : EightAtOrderTwo refusedSpace 1
@@ -163,7 +159,7 @@ abbrev beam : Space
 beam = record { breaks = tab 15 (λ i. pos (285 * i)); degrees = tab 14 (λ i. pos 2); orders = tab 6 (λ j. pos 1) ++ (negsuc 0 ∷ tab 6 (λ j. pos 1)) }
 
 beam-checked : checked beam ≡ answer beam
-unfolding tab lengthsFit badBreak startsPart partEnd spanTooLong tooManySegments badDegree badOrder checkedEntries checked first
+unfolding checking tab
 beam-checked = refl
 
 none-above : first (segments beam - 1) (λ k. ltZ (pos 1) (order beam k)) ≡ none
@@ -198,7 +194,7 @@ abbrev positions1 : List ℤ
 positions1 = pos 256 ∷ pos 512 ∷ []
 
 within1 : WithinLimits space1 coefs1 positions1 5184 5184 4
-unfolding lengthsFit badBreak startsPart partEnd spanTooLong tooManySegments badDegree badOrder checkedEntries checked first firstColumn conditionsBefore badCoefficient badPosition
+unfolding checking firstColumn conditionsBefore badCoefficient badPosition
 within1 = record { lists = refl; coefficientCount = refl; coefficients = coefficients; positionCount = omega arith; inSpan = inside; numerators = omega arith; denominators = omega arith; values = omega arith }
   where
     coefficients : (i : ℕ) → i < length coefs1 → T (not (badCoefficient coefs1 i))

@@ -10,25 +10,24 @@ use native.Mathlib.Omega.{arith}
 use lib.IntN.{ℤ, pos}
 use lib.ListN.{length}
 use Rattle.base_exact.specs.Gcd.{gcd, gcdF}
-use Rattle.base_exact.specs.Rational.{ℚ, mk, int, inv, _+ᵠ_, _*ᵠ_, -ᵠ_, _//_}
-use Rattle.base_exact.specs.Order.{isZero, ltᵠ}
+use Rattle.base_exact.specs.Rational.{ℚ, mk, int, _+ᵠ_, _*ᵠ_, _//_}
 use Rattle.base_exact.specs.Sum.{sum}
 use Rattle.base_exact.specs.Tabulate.{tab}
-use Rattle.base_fraction.specs.Size.{fits}
-use Rattle.base_outcome.specs.Outcome.{answer, refusal, capped, with-answer, collect, repeat}
-use Rattle.base_outcome.specs.Search.{first, last}
-use Rattle.spec_spline.specs.Space.{Space, lengthsFit, badBreak, startsPart, partEnd, spanTooLong, tooManySegments, badDegree, badOrder, checkedEntries, checked, firstColumn, conditionCount, conditionsBefore, rowCount}
-use Rattle.spec_spline.specs.Conditions.{falling, binomial, alternating, undivided, commonDivisor, conditions}
-use Rattle.spec_spline.specs.Table.{Table, cell, identity, tableCells}
-use Rattle.spec_spline.specs.Step.{count, addProducts, span, partialSum, quotientFactor, factors, newEntry, newRows, step}
-use Rattle.spec_spline.specs.Build.{orderSteps, joinSteps, weights, spaceWeights, built, buildEnd}
-use Rattle.spec_spline.specs.Published.{derivativeCoefficient, leftConstraint, rightConstraint, constraint, constraints, diagonal, aboveDiagonal, bidiagonal, nullspace, product, constrain, for, smooth, extraction}
+use Rattle.base_outcome.specs.Outcome.{answer, refusal, with-answer}
+use Rattle.base_outcome.specs.Search.{first}
+use Rattle.spec_spline.specs.Space.{Space, checked, firstColumn, conditionCount, conditionsBefore, rowCount}
+use Rattle.spec_spline.specs.Conditions.{conditions}
+use Rattle.spec_spline.specs.Table.{Table, cell, tableCells}
+use Rattle.spec_spline.specs.Build.{spaceWeights, built, buildEnd}
+use Rattle.spec_spline.specs.Published.{extraction}
 use Rattle.spec_spline.specs.Piecewise.{pairing, MeetsAll, combination}
 use Rattle.spec_spline.specs.Cases.{space, space1}
+use Rattle.spec_spline.proofs.Computing.{building, checking, conditioning, publishing}
 use Rattle.base_outcome.proofs.Search.{first-none-inverts}
 use Rattle.theorems_weights.proofs.Instances.{q0, q1}
-use Rattle.theorems_recovery.specs.Recovery.{Combination, fitted, jumpSum, balanced, undoneCoefficient, undoneRows, undone, recoverStep, recoverOrders, recoverJoins, recovered}
+use Rattle.theorems_recovery.specs.Recovery.{Combination, recovered}
 use Rattle.theorems_recovery.specs.RecoveryCall.{badOrdinate, recoveryOutcome, recoveryEnd}
+use Rattle.theorems_recovery.proofs.Computing.{recovering}
 use Rattle.theorems_basis.specs.Basis.{IsBasis, BuiltOrTooLarge}
 use Rattle.theorems_basis.specs.Coefficients.{Reproduce, AnsweredOrTooLarge}
 use Rattle.theorems_basis.proofs.Basis.{eight-has-a-basis, legal-is-built-or-too-large}
@@ -40,11 +39,11 @@ abbrev refusedSpace : Space
 refusedSpace = space (0 ∷ 67 ∷ 70 ∷ []) (3 ∷ 5 ∷ []) (pos 2 ∷ [])
 
 legal : checked refusedSpace ≡ answer refusedSpace
-unfolding first startsPart partEnd lengthsFit badBreak spanTooLong tooManySegments badDegree badOrder checkedEntries checked
+unfolding checking
 legal = refl
 
 eight : spaceWeights refusedSpace ≡ refusal 8 0
-unfolding gcd gcdF mk int inv _+ᵠ_ _*ᵠ_ -ᵠ_ isZero ltᵠ sum tab fits capped collect repeat first last lengthsFit badBreak startsPart partEnd spanTooLong tooManySegments badDegree badOrder checkedEntries checked firstColumn conditionsBefore falling binomial alternating undivided commonDivisor conditions identity count addProducts span partialSum quotientFactor factors newEntry newRows step orderSteps joinSteps weights spaceWeights
+unfolding building
 eight = refl
 
 basis : IsBasis refusedSpace (extraction refusedSpace)
@@ -65,7 +64,7 @@ publishedRows =
     (q0 ∷ q0 ∷ q0 ∷ q0 ∷ q0 ∷ q0 ∷ q0 ∷ q0 ∷ q0 ∷ q1 ∷ []) ∷ []
 
 rows-are : extraction refusedSpace ≡ publishedRows
-unfolding gcd gcdF mk int inv _+ᵠ_ _*ᵠ_ -ᵠ_ _//_ isZero sum tab first last firstColumn identity derivativeCoefficient leftConstraint rightConstraint constraint constraints diagonal aboveDiagonal bidiagonal nullspace product constrain for smooth extraction
+unfolding publishing
 rows-are = refl
 
 -- what is left for building it in long buffers, and what comes
@@ -86,7 +85,7 @@ abbrev apart : List ℤ
 apart = pos 0 ∷ pos 0 ∷ pos 0 ∷ pos 1 ∷ pos 0 ∷ pos 0 ∷ pos 0 ∷ pos 0 ∷ pos 0 ∷ pos 0 ∷ []
 
 nineteen : recovered refusedSpace apart ≡ refusal 19 0
-unfolding gcd gcdF mk int inv _+ᵠ_ _*ᵠ_ -ᵠ_ isZero ltᵠ sum tab fits capped collect repeat first last firstColumn falling binomial alternating undivided commonDivisor conditions identity count addProducts span partialSum quotientFactor factors newEntry newRows step fitted jumpSum balanced undoneCoefficient undoneRows undone recoverStep recoverOrders recoverJoins recovered
+unfolding recovering
 nineteen = refl
 
 no-coefficients : (coefficients : List ℚ) → combination 10 coefficients publishedRows ≡ map int apart → ⊥
@@ -95,7 +94,7 @@ no-coefficients coefficients e = none-after-nineteen refusedSpace legal apart re
 
 -- after a call with ten cells in each answer buffer
 nineteen-called : recoveryOutcome refusedSpace apart tableCells tableCells 10 10 ≡ refusal 19 0
-unfolding gcd gcdF mk int inv _+ᵠ_ _*ᵠ_ -ᵠ_ isZero ltᵠ sum tab fits capped collect repeat first last lengthsFit badBreak startsPart partEnd spanTooLong tooManySegments badDegree badOrder checkedEntries checked firstColumn falling binomial alternating undivided commonDivisor conditions identity count addProducts span partialSum quotientFactor factors newEntry newRows step fitted jumpSum balanced undoneCoefficient undoneRows undone recoverStep recoverOrders recoverJoins recovered badOrdinate recoveryOutcome
+unfolding recovering checking badOrdinate recoveryOutcome
 nineteen-called = refl
 
 no-coefficients-called : (num den : List ℤ) → length num ≡ tableCells → length den ≡ tableCells → (coefficients : List ℚ) → Reproduce refusedSpace apart coefficients → ⊥
@@ -108,7 +107,7 @@ abbrev line : List ℤ
 line = pos 0 ∷ pos 335 ∷ pos 670 ∷ pos 1005 ∷ pos 1005 ∷ pos 1014 ∷ pos 1023 ∷ pos 1032 ∷ pos 1041 ∷ pos 1050 ∷ []
 
 line-meets : MeetsAll refusedSpace (map int line)
-unfolding gcd gcdF mk int _+ᵠ_ _*ᵠ_ tab firstColumn falling binomial alternating undivided commonDivisor conditions pairing
+unfolding conditioning pairing
 line-meets = record { columns = refl; meets = met }
   where
     met : (j k : ℕ) → j < 1 → k < conditionCount refusedSpace j → pairing (map int line) (conditions refusedSpace j k) ≡ q0
@@ -120,7 +119,7 @@ line-meets = record { columns = refl; meets = met }
 
 -- the call ends with 8, one of the codes that are left
 line-too-large : recovered refusedSpace line ≡ refusal 8 0
-unfolding gcd gcdF mk int inv _+ᵠ_ _*ᵠ_ -ᵠ_ isZero ltᵠ sum tab fits capped collect repeat first last firstColumn falling binomial alternating undivided commonDivisor conditions identity count addProducts span partialSum quotientFactor factors newEntry newRows step fitted jumpSum balanced undoneCoefficient undoneRows undone recoverStep recoverOrders recoverJoins recovered
+unfolding recovering
 line-too-large = refl
 
 line-ends : AnsweredOrTooLarge (recovered refusedSpace line)
@@ -164,11 +163,11 @@ given = record {
 }
 
 legal1 : checked space1 ≡ answer space1
-unfolding first startsPart partEnd lengthsFit badBreak spanTooLong tooManySegments badDegree badOrder checkedEntries checked
+unfolding checking
 legal1 = refl
 
 answered1 : recovered space1 threes ≡ answer given
-unfolding gcd gcdF mk int inv _+ᵠ_ _*ᵠ_ -ᵠ_ _//_ isZero ltᵠ sum tab fits capped collect repeat first last firstColumn falling binomial alternating undivided commonDivisor conditions identity count addProducts span partialSum quotientFactor factors newEntry newRows step fitted jumpSum balanced undoneCoefficient undoneRows undone recoverStep recoverOrders recoverJoins recovered
+unfolding recovering
 answered1 = refl
 
 published1 : given .table ≡ extraction space1

@@ -7,20 +7,16 @@ use Prim.Native.Nat.{ℕ, zero, suc, _<_}
 use native.Mathlib.Omega.{arith}
 use lib.IntN.{pos, negsuc}
 use Rattle.base_exact.specs.Gcd.{gcd, gcdF}
-use Rattle.base_exact.specs.Rational.{ℚ, mk, int, inv, _+ᵠ_, _*ᵠ_, -ᵠ_}
-use Rattle.base_exact.specs.Order.{isZero, ltᵠ}
-use Rattle.base_exact.specs.Sum.{sum}
+use Rattle.base_exact.specs.Rational.{ℚ, mk, int}
 use Rattle.base_exact.specs.Tabulate.{tab}
-use Rattle.base_fraction.specs.Size.{fits}
-use Rattle.base_outcome.specs.Outcome.{answer, refusal, capped, collect, repeat}
+use Rattle.base_outcome.specs.Outcome.{answer, refusal, capped, repeat}
 use Rattle.base_outcome.specs.Search.{first, last}
-use Rattle.spec_spline.specs.Space.{Space, lengthsFit, badBreak, startsPart, partEnd, lastPartStart, spanTooLong, tooManySegments, badDegree, badOrder, checkedEntries, checked, firstColumn, conditionsBefore, rowsBefore}
-use Rattle.spec_spline.specs.Conditions.{falling, binomial, alternating, undivided, commonDivisor, conditions}
+use Rattle.spec_spline.specs.Space.{Space, startsPart, partEnd, lastPartStart, checked, firstColumn, conditionsBefore, rowsBefore}
 use Rattle.spec_spline.specs.Table.{Table, identity}
-use Rattle.spec_spline.specs.Step.{count, addProducts, span, partialSum, quotientFactor, factors, newEntry, newRows, step}
 use Rattle.spec_spline.specs.Build.{orderSteps, joinSteps, weights, spaceWeights, lastPart}
 use Rattle.spec_spline.specs.Piecewise.{Accepted}
 use Rattle.spec_spline.specs.Cases.{threeLines}
+use Rattle.spec_spline.proofs.Computing.{building, checking, conditioning, stepping}
 use Rattle.base_outcome.proofs.Outcome.{answer-unique}
 use Rattle.theorems_beams.specs.Sections.{partAt, beside}
 use Rattle.theorems_beams.specs.Parts.{Starts, PartOf}
@@ -62,11 +58,11 @@ abbrev unit : Table
 unit = (q1 ∷ q0 ∷ []) ∷ (q0 ∷ q1 ∷ []) ∷ []
 
 accepted : Accepted beam
-unfolding gcd gcdF mk int inv _+ᵠ_ _*ᵠ_ -ᵠ_ isZero ltᵠ sum tab fits capped collect repeat first last lengthsFit badBreak startsPart partEnd spanTooLong tooManySegments badDegree badOrder checkedEntries checked firstColumn conditionsBefore falling binomial alternating undivided commonDivisor conditions identity count addProducts span partialSum quotientFactor factors newEntry newRows step orderSteps joinSteps weights spaceWeights
+unfolding building
 accepted = record { table = whole; is = refl }
 
 accepted-second : spaceWeights (partAt beam 1) ≡ answer second
-unfolding gcd gcdF mk int inv _+ᵠ_ _*ᵠ_ -ᵠ_ isZero ltᵠ sum tab fits capped collect repeat first last lengthsFit badBreak startsPart partEnd spanTooLong tooManySegments badDegree badOrder checkedEntries checked firstColumn conditionsBefore falling binomial alternating undivided commonDivisor conditions identity count addProducts span partialSum quotientFactor factors newEntry newRows step orderSteps joinSteps weights spaceWeights
+unfolding building
 accepted-second = refl
 
 -- the first part's table above and to the left of the second's
@@ -93,16 +89,16 @@ abbrev refusedBeam : Space
 refusedBeam = record { breaks = pos 0 ∷ pos 1 ∷ pos 131 ∷ pos 132 ∷ []; degrees = pos 1 ∷ pos 3 ∷ pos 4 ∷ []; orders = negsuc 0 ∷ pos 2 ∷ [] }
 
 legal : checked refusedBeam ≡ answer refusedBeam
-unfolding first startsPart partEnd lengthsFit badBreak spanTooLong tooManySegments badDegree badOrder checkedEntries checked
+unfolding checking
 legal = refl
 
 first-accepted : spaceWeights (partAt refusedBeam 0) ≡ answer unit
-unfolding gcd gcdF mk int tab capped repeat first lengthsFit badBreak startsPart partEnd spanTooLong tooManySegments badDegree badOrder checkedEntries checked firstColumn identity joinSteps weights spaceWeights
+unfolding checking gcd gcdF mk int tab repeat firstColumn identity joinSteps weights spaceWeights
 first-accepted = refl
 
 -- by itself the second part is refused at its own join 0
 second-refused : weights (partAt refusedBeam 1) ≡ refusal 8 0
-unfolding gcd gcdF mk int inv _+ᵠ_ _*ᵠ_ -ᵠ_ isZero ltᵠ sum tab fits capped collect repeat first last startsPart partEnd firstColumn falling binomial alternating undivided commonDivisor conditions identity count addProducts span partialSum quotientFactor factors newEntry newRows step orderSteps joinSteps weights
+unfolding stepping conditioning repeat startsPart partEnd orderSteps joinSteps weights
 second-refused = refl
 
 -- and so the beam at join 1

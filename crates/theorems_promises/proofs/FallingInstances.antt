@@ -8,25 +8,16 @@ use native.Mathlib.Omega.{arith}
 use lib.Dec.{T}
 use lib.IntN.{ℤ, pos}
 use lib.Signed.{_≤ℤ_, _<ℤ_}
-use Rattle.base_exact.specs.Gcd.{gcd, gcdF}
-use Rattle.base_exact.specs.Rational.{mk, int, inv, _+ᵠ_, _*ᵠ_, -ᵠ_, _//_}
-use Rattle.base_exact.specs.Order.{isZero, ltᵠ}
-use Rattle.base_exact.specs.Sum.{sum}
-use Rattle.base_exact.specs.Tabulate.{tab}
-use Rattle.base_exact.specs.Floor.{nearest}
+use Rattle.base_exact.specs.Rational.{_//_}
 use Rattle.base_exact.proofs.Integer.{≤-in, <-in}
-use Rattle.base_fraction.specs.Size.{fits}
-use Rattle.base_outcome.specs.Outcome.{capped, collect, repeat}
 use Rattle.base_outcome.specs.Search.{first, last}
-use Rattle.spec_spline.specs.Space.{Space, partEnd, lengthsFit, badBreak, startsPart, spanTooLong, tooManySegments, badDegree, badOrder, checkedEntries, checked, firstColumn, conditionsBefore}
+use Rattle.spec_spline.specs.Space.{Space, partEnd, startsPart, firstColumn, conditionsBefore}
 use Rattle.base_outcome.specs.Tests.{between}
-use Rattle.spec_spline.specs.Conditions.{falling, binomial, alternating, undivided, commonDivisor, conditions}
-use Rattle.spec_spline.specs.Table.{Table, identity}
-use Rattle.spec_spline.specs.Step.{count, addProducts, span, partialSum, quotientFactor, factors, newEntry, newRows, step}
-use Rattle.spec_spline.specs.Build.{orderSteps, joinSteps, weights, spaceWeights}
+use Rattle.spec_spline.specs.Table.{Table}
 use Rattle.spec_spline.specs.Piecewise.{Accepted}
-use Rattle.spec_spline.specs.Reading.{startsAtDiscontinuity, startsBy, segmentAt, earlywood, latewood, rounded, sideBySide, term, termSum, best, ordinate, ordinates, blend, triangle, blended, valueAt}
+use Rattle.spec_spline.specs.Reading.{startsAtDiscontinuity, startsBy, segmentAt, earlywood, latewood, sideBySide, valueAt}
 use Rattle.spec_spline.specs.Cases.{pair, forBoth, space}
+use Rattle.spec_spline.proofs.Computing.{building, reading}
 use Rattle.theorems_weights.proofs.Instances.{q0, q1, beam, beamTable, acceptedBeam}
 use Rattle.theorems_beams.specs.Parts.{Starts}
 use Rattle.theorems_promises.specs.FallingCurves.{LowOrders, Falls, Climbs, InPart}
@@ -66,7 +57,7 @@ in-third = record { inside = tt; from = omega arith; to = omega arith }
 
 -- 2143 at 300 and 1441 at 700
 beam-values : (valueAt beam beamTable latewood beamCoefs (pos 300) ≡ pos 2143) × (valueAt beam beamTable latewood beamCoefs (pos 700) ≡ pos 1441)
-unfolding gcd gcdF mk int _//_ isZero nearest tab firstColumn last startsAtDiscontinuity startsBy segmentAt rounded sideBySide term termSum best ordinate ordinates blend triangle blended valueAt
+unfolding reading
 beam-values = (refl, refl)
 
 beam-falls : pos 1441 ≤ℤ pos 2143
@@ -93,7 +84,7 @@ unfolding startsPart partEnd first
 in-first x i e = record { inside = i; from = omega arith; to = omega arith }
 
 climbing-values : (valueAt beam beamTable latewood beamCoefs (pos 0) ≡ pos 256) × (valueAt beam beamTable latewood beamCoefs (pos 128) ≡ pos 768)
-unfolding gcd gcdF mk int _//_ isZero nearest tab firstColumn last startsAtDiscontinuity startsBy segmentAt rounded sideBySide term termSum best ordinate ordinates blend triangle blended valueAt
+unfolding reading
 climbing-values = (refl, refl)
 
 beam-climbs : pos 256 ≤ℤ pos 768
@@ -103,7 +94,7 @@ beam-climbs = subst (λ v. pos 256 ≤ℤ v) (climbing-values .1) (subst (λ v. 
 
 -- on the discontinuity the latewood is 1280, less than the 2300 behind it: positions of two parts are not compared
 beam-jumps : (valueAt beam beamTable latewood beamCoefs (pos 256) ≡ pos 1280) × (valueAt beam beamTable latewood beamCoefs (pos 257) ≡ pos 2300)
-unfolding gcd gcdF mk int _//_ isZero nearest tab firstColumn last startsAtDiscontinuity startsBy segmentAt rounded sideBySide term termSum best ordinate ordinates blend triangle blended valueAt
+unfolding reading
 beam-jumps = (refl, refl)
 
 -- ---- order 2
@@ -121,7 +112,7 @@ risingTable =
     (q0 ∷ q0 ∷ q0 ∷ q0 ∷ q0 ∷ q0 ∷ q0 ∷ q0 ∷ q0 ∷ q0 ∷ q0 ∷ q1 ∷ []) ∷ []
 
 rising-accepted : Accepted risingSpace
-unfolding gcd gcdF mk int inv _+ᵠ_ _*ᵠ_ -ᵠ_ _//_ isZero ltᵠ sum tab fits capped collect repeat first last lengthsFit badBreak startsPart partEnd spanTooLong tooManySegments badDegree badOrder checkedEntries checked firstColumn conditionsBefore falling binomial alternating undivided commonDivisor conditions identity count addProducts span partialSum quotientFactor factors newEntry newRows step orderSteps joinSteps weights spaceWeights
+unfolding building
 rising-accepted = record { table = risingTable; is = refl }
 
 abbrev risingCoefs : List ℤ
@@ -144,7 +135,7 @@ rising-inside = (record { inside = tt; from = omega arith; to = omega arith }, r
 
 -- the values do
 rising-values : (valueAt risingSpace risingTable earlywood risingCoefs (pos 179327) ≡ pos 253252353) × (valueAt risingSpace risingTable earlywood risingCoefs (pos 179328) ≡ pos 253252354)
-unfolding gcd gcdF mk int _//_ isZero nearest tab firstColumn last startsAtDiscontinuity startsBy segmentAt rounded sideBySide term termSum best ordinate ordinates blend triangle blended valueAt
+unfolding reading
 rising-values = (refl, refl)
 
 rising-rises : valueAt risingSpace (rising-accepted .table) earlywood risingCoefs (pos 179327) <ℤ valueAt risingSpace (rising-accepted .table) earlywood risingCoefs (pos 179328)

@@ -10,11 +10,12 @@ use Rattle.base_exact.specs.Rational.{int}
 use Rattle.base_exact.specs.Sum.{sum}
 use Rattle.base_exact.proofs.Integer.{up}
 use Rattle.base_outcome.specs.Outcome.{answer, with-answer}
-use Rattle.base_outcome.specs.Search.{first, last}
-use Rattle.spec_spline.specs.Space.{lengthsFit, badBreak, startsPart, partEnd, lastPartStart, spanTooLong, tooManySegments, badDegree, badOrder, checkedEntries, checked, firstColumn, conditionsBefore, rowCount}
+use Rattle.base_outcome.specs.Search.{last}
+use Rattle.spec_spline.specs.Space.{startsPart, partEnd, lastPartStart, checked, firstColumn, conditionsBefore, rowCount}
 use Rattle.spec_spline.specs.Table.{rowCells}
 use Rattle.spec_spline.specs.Build.{lastPart, buildEnd}
 use Rattle.spec_spline.specs.Cases.{space1, space9}
+use Rattle.spec_spline.proofs.Computing.{checking}
 use Rattle.theorems_weights.proofs.Instances.{lent, lent-length, beam, acceptedBeam}
 use Rattle.theorems_weights.proofs.Cells.{accepted-spaces-are-built}
 use Rattle.theorems_beams.specs.Sections.{partAt}
@@ -27,7 +28,7 @@ use Rattle.theorems_promises.proofs.WeightColumns.{built-cells-sum-to-o
 -- ---- one part
 
 checked1 : checked space1 ≡ answer space1
-unfolding lengthsFit badBreak startsPart partEnd spanTooLong tooManySegments badDegree badOrder checkedEntries checked first
+unfolding checking
 checked1 = refl
 
 none1 : NoDiscontinuity space1

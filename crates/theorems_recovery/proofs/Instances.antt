@@ -7,27 +7,24 @@ use native.Mathlib.Omega.{arith}
 use lib.IntN.{ℤ, pos, natAbs}
 use lib.ListN.{length, take, drop}
 use Rattle.base_exact.specs.Gcd.{gcd, gcdF}
-use Rattle.base_exact.specs.Rational.{ℚ, mk, int, inv, _+ᵠ_, _*ᵠ_, -ᵠ_, _//_}
-use Rattle.base_exact.specs.Order.{isZero, ltᵠ}
-use Rattle.base_exact.specs.Sum.{sum}
+use Rattle.base_exact.specs.Rational.{ℚ, mk, int, _//_}
+use Rattle.base_exact.specs.Order.{isZero}
 use Rattle.base_exact.specs.Floor.{nearest}
 use Rattle.base_exact.specs.Tabulate.{tab}
 use Rattle.base_exact.proofs.Rational.{int-inj}
-use Rattle.base_fraction.specs.Size.{fits}
-use Rattle.base_outcome.specs.Outcome.{Outcome, answer, refusal, capped, _then_, with-answer, collect, repeat}
-use Rattle.base_outcome.specs.Search.{first, last}
-use Rattle.spec_spline.specs.Space.{Space, columnCount, lengthsFit, badBreak, startsPart, partEnd, spanTooLong, tooManySegments, badDegree, badOrder, checkedEntries, checked, firstColumn, conditionsBefore, rowCount}
-use Rattle.spec_spline.specs.Conditions.{falling, binomial, alternating, undivided, commonDivisor, conditions}
-use Rattle.spec_spline.specs.Table.{entry, identity, tableCells}
-use Rattle.spec_spline.specs.Step.{count, addProducts, span, partialSum, quotientFactor, factors, newEntry, newRows, step}
+use Rattle.base_outcome.specs.Outcome.{Outcome, answer, refusal, _then_, with-answer}
+use Rattle.spec_spline.specs.Space.{Space, columnCount, startsPart, checked, firstColumn, conditionsBefore, rowCount}
+use Rattle.spec_spline.specs.Conditions.{binomial}
+use Rattle.spec_spline.specs.Table.{entry, tableCells}
 use Rattle.spec_spline.specs.Build.{weights, spaceWeights}
 use Rattle.spec_spline.specs.Piecewise.{Accepted, MeetsAll, combination}
 use Rattle.spec_spline.specs.Reading.{earlywood, fine, coefficient, rounded, term, termSum, best, ordinate}
 use Rattle.spec_spline.specs.ExactCurve.{power, bernsteinAt, exactOn}
 use Rattle.spec_spline.specs.Cases.{space1, upperLimitSpace}
+use Rattle.spec_spline.proofs.Computing.{checking, fractions}
 use Rattle.base_outcome.proofs.Outcome.{then-answers}
 use Rattle.theorems_weights.proofs.PublishedBasis.{combinations-meet-conditions}
-use Rattle.theorems_recovery.specs.Recovery.{Combination, fitted, jumpSum, balanced, undoneCoefficient, undoneRows, undone, recoverStep, recoverOrders, recoverJoins, recovered}
+use Rattle.theorems_recovery.specs.Recovery.{Combination, recovered}
 use Rattle.theorems_recovery.specs.RecoveryCall.{badOrdinate, recoveryOutcome, answersAfter, numeratorOf, recoveryEnd}
 use Rattle.theorems_recovery.specs.Reproduction.{MissedCondition, RecoveredOrTooLarge}
 use Rattle.theorems_recovery.specs.Cases.{joined, beam}
@@ -39,6 +36,7 @@ use Rattle.theorems_recovery.proofs.Reproduction.{answers-have-the-weig
 use Rattle.theorems_recovery.proofs.Refusals.{eight-and-nine-are-the-builds}
 use Rattle.theorems_recovery.proofs.Cut.{cut-recovered}
 use Rattle.theorems_recovery.proofs.RecoveredCells.{cells-reproduce, nineteen-means-none}
+use Rattle.theorems_recovery.proofs.Computing.{recovering}
 
 abbrev q0 : ℚ
 q0 = int (pos 0)
@@ -66,11 +64,11 @@ given = record {
 }
 
 legal : checked upperLimitSpace ≡ answer upperLimitSpace
-unfolding first startsPart partEnd lengthsFit badBreak spanTooLong tooManySegments badDegree badOrder checkedEntries checked
+unfolding checking
 legal = refl
 
 answered : recovered upperLimitSpace ordinates ≡ answer given
-unfolding gcd gcdF mk int inv _+ᵠ_ _*ᵠ_ -ᵠ_ _//_ isZero ltᵠ sum tab fits capped collect repeat first last firstColumn falling binomial alternating undivided commonDivisor conditions identity count addProducts span partialSum quotientFactor factors newEntry newRows step fitted jumpSum balanced undoneCoefficient undoneRows undone recoverStep recoverOrders recoverJoins recovered
+unfolding recovering
 answered = refl
 
 built : weights upperLimitSpace ≡ answer (given .table)
@@ -95,7 +93,7 @@ abbrev coefs : List ℤ
 coefs = pos 0 ∷ pos 0 ∷ pos 1 ∷ pos 1 ∷ pos 3 ∷ pos 3 ∷ pos 0 ∷ pos 0 ∷ []
 
 at-join : exactOn upperLimitSpace (given .table) earlywood coefs 1 (pos 256) ≡ int (pos 257)
-unfolding gcd gcdF mk int inv _+ᵠ_ _*ᵠ_ -ᵠ_ sum power bernsteinAt binomial firstColumn conditionsBefore
+unfolding fractions power bernsteinAt binomial firstColumn conditionsBefore
 at-join = exact-curve-has-the-ordinates upperLimitSpace legal ordinates refl given answered earlywood coefs whole 1 (omega arith) (pos 256) ∙ refl
   where
     whole : (i : ℕ) → i < 4 → entry coefficients i ≡ int (fine (coefficient earlywood coefs i))
@@ -115,11 +113,11 @@ abbrev others : List ℤ
 others = pos 0 ∷ pos 300 ∷ pos 201 ∷ pos 201 ∷ pos 0 ∷ pos 0 ∷ []
 
 legal1 : checked space1 ≡ answer space1
-unfolding first startsPart partEnd lengthsFit badBreak spanTooLong tooManySegments badDegree badOrder checkedEntries checked
+unfolding checking
 legal1 = refl
 
 refused : recovered space1 others ≡ refusal 19 0
-unfolding gcd gcdF mk int inv _+ᵠ_ _*ᵠ_ -ᵠ_ _//_ isZero ltᵠ sum tab fits capped collect repeat first last firstColumn falling binomial alternating undivided commonDivisor conditions identity count addProducts span partialSum quotientFactor factors newEntry newRows step fitted jumpSum balanced undoneCoefficient undoneRows undone recoverStep recoverOrders recoverJoins recovered
+unfolding recovering
 refused = refl
 
 missed : MissedCondition space1 others
@@ -143,7 +141,7 @@ abbrev zeros : List ℤ
 zeros = pos 0 ∷ pos 0 ∷ pos 0 ∷ pos 0 ∷ pos 0 ∷ pos 0 ∷ pos 0 ∷ pos 0 ∷ pos 0 ∷ pos 0 ∷ []
 
 eight : recovered (joined 67 70 3 5 2) zeros ≡ refusal 8 0
-unfolding gcd gcdF mk int inv _+ᵠ_ _*ᵠ_ -ᵠ_ _//_ isZero ltᵠ sum tab fits capped collect repeat first last firstColumn falling binomial alternating undivided commonDivisor conditions identity count addProducts span partialSum quotientFactor factors newEntry newRows step fitted jumpSum balanced undoneCoefficient undoneRows undone recoverStep recoverOrders recoverJoins recovered
+unfolding recovering
 eight = refl
 
 eight-of-the-build : weights (joined 67 70 3 5 2) ≡ refusal 8 0
@@ -159,7 +157,7 @@ abbrev answersOf : Space → List ℤ → ℕ → ℕ → Outcome ℕ
 answersOf s os n d = with-answer (λ _. rowCount s) (recoveryOutcome s os n d 7 7)
 
 outcome : recoveryOutcome upperLimitSpace ordinates tableCells tableCells 7 7 ≡ answer given
-unfolding gcd gcdF mk int inv _+ᵠ_ _*ᵠ_ -ᵠ_ _//_ isZero ltᵠ sum tab fits capped collect repeat first last lengthsFit badBreak startsPart partEnd spanTooLong tooManySegments badDegree badOrder checkedEntries checked firstColumn falling binomial alternating undivided commonDivisor conditions identity count addProducts span partialSum quotientFactor factors newEntry newRows step fitted jumpSum balanced undoneCoefficient undoneRows undone recoverStep recoverOrders recoverJoins recovered badOrdinate recoveryOutcome
+unfolding recovering checking badOrdinate recoveryOutcome
 outcome = refl
 
 held : (num den : List ℤ) → length num ≡ tableCells → length den ≡ tableCells → HeldCoefficients upperLimitSpace ordinates lent lent 4 (recoveryEnd upperLimitSpace ordinates num den lent lent)
@@ -173,7 +171,7 @@ unfolding gcd gcdF mk int tab
 cells num den p q = ap (λ o. answersAfter numeratorOf 6 o lent) (ap₂ (λ n d. recoveryOutcome upperLimitSpace ordinates n d 7 7) p q ∙ outcome)
 
 outcome19 : recoveryOutcome space1 others tableCells tableCells 7 7 ≡ refusal 19 0
-unfolding gcd gcdF mk int inv _+ᵠ_ _*ᵠ_ -ᵠ_ _//_ isZero ltᵠ sum tab fits capped collect repeat first last lengthsFit badBreak startsPart partEnd spanTooLong tooManySegments badDegree badOrder checkedEntries checked firstColumn falling binomial alternating undivided commonDivisor conditions identity count addProducts span partialSum quotientFactor factors newEntry newRows step fitted jumpSum balanced undoneCoefficient undoneRows undone recoverStep recoverOrders recoverJoins recovered badOrdinate recoveryOutcome
+unfolding recovering checking badOrdinate recoveryOutcome
 outcome19 = refl
 
 none : (num den : List ℤ) → length num ≡ tableCells → length den ≡ tableCells → NoCoefficients space1 others
@@ -185,7 +183,7 @@ abbrev beamOrdinates : List ℤ
 beamOrdinates = pos 0 ∷ pos 300 ∷ pos 200 ∷ pos 200 ∷ pos 0 ∷ pos 0 ∷ pos 1 ∷ pos 2 ∷ pos 2 ∷ pos 3 ∷ []
 
 beam-legal : checked beam ≡ answer beam
-unfolding first startsPart partEnd lengthsFit badBreak spanTooLong tooManySegments badDegree badOrder checkedEntries checked
+unfolding checking
 beam-legal = refl
 
 beam-starts : Starts beam 2
@@ -201,5 +199,5 @@ beam-is-cut = cut-recovered beam beam-legal 2 2 beam-starts refl beamOrdinates r
 -- the coefficients are 0, 300, 0, 0 of the one part and 1, 2, 3 of the other
 beam-coefficients : with-answer (λ (r : Combination). r .coefficients) (recovered beam beamOrdinates)
     ≡ answer (int (pos 0) ∷ int (pos 300) ∷ int (pos 0) ∷ int (pos 0) ∷ int (pos 1) ∷ int (pos 2) ∷ int (pos 3) ∷ [])
-unfolding gcd gcdF mk int inv _+ᵠ_ _*ᵠ_ -ᵠ_ _//_ isZero ltᵠ sum tab fits capped collect repeat first last firstColumn falling binomial alternating undivided commonDivisor conditions identity count addProducts span partialSum quotientFactor factors newEntry newRows step fitted jumpSum balanced undoneCoefficient undoneRows undone recoverStep recoverOrders recoverJoins recovered
+unfolding recovering
 beam-coefficients = refl

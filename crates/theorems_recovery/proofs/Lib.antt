@@ -7,6 +7,7 @@ pub mod Steps
 pub mod Refusals
 pub mod Reproduction
 pub mod RecoveredCells
+pub mod Computing
 pub mod Instances
 pub mod Moved
 pub mod Cut

@@ -7,19 +7,19 @@ use native.Mathlib.Omega.{arith}
 use lib.IntN.{ℤ, pos, negsuc, natAbs}
 use lib.ListN.{length}
 use Rattle.base_exact.specs.Gcd.{gcd, gcdF}
-use Rattle.base_exact.specs.Rational.{ℚ, mk, int, inv, _+ᵠ_, _*ᵠ_, -ᵠ_, _/ᵠ_, _//_}
-use Rattle.base_exact.specs.Sum.{sum}
+use Rattle.base_exact.specs.Rational.{ℚ, mk, int, _+ᵠ_, _*ᵠ_, _/ᵠ_}
 use Rattle.base_exact.specs.Tabulate.{tab}
 use Rattle.base_exact.proofs.Integer.{up}
 use Rattle.base_exact.proofs.Rational.{int-inj}
 use Rattle.base_outcome.specs.Search.{last}
 use Rattle.spec_spline.specs.Space.{segments, conditionCount, firstColumn, conditionsBefore}
-use Rattle.spec_spline.specs.Conditions.{falling, binomial, alternating, undivided, commonDivisor, conditions}
+use Rattle.spec_spline.specs.Conditions.{binomial, conditions}
 use Rattle.spec_spline.specs.Table.{Row}
 use Rattle.spec_spline.specs.Piecewise.{Meets, pairing, combination}
 use Rattle.spec_spline.specs.Reading.{fineness, startsAtDiscontinuity, startsBy, segmentAt, earlywood, latewood, sideBySide, offset}
 use Rattle.spec_spline.specs.ExactCurve.{exactCurve}
 use Rattle.spec_spline.specs.Cases.{pair, space4, space5, space9}
+use Rattle.spec_spline.proofs.Computing.{conditioning, fractions}
 use Rattle.theorems_weights.proofs.Instances.{q0, q1, multipliers4, ordinates4, checked4, table5, ordinates5, accepted5, given5, checked5}
 use Rattle.theorems_values.proofs.Instances.{table9, coefs9, accepted9, exact9}
 use Rattle.theorems_smoothness.specs.Polynomial.{value, _+ᵖ_, _·ᵖ_, _*ᵖ_, power, total, derivative, iterated}
@@ -27,6 +27,11 @@ use Rattle.theorems_smoothness.specs.Bernstein.{bernsteinPolynomial, ber
 use Rattle.theorems_smoothness.specs.Smoothness.{piece, leftDerivative, rightDerivative, Smooth, curveOrdinates}
 use Rattle.theorems_smoothness.proofs.Smoothness.{conditions-are-smoothness, combinations-are-smooth, smooth-curves-are-combinations}
 use Rattle.theorems_smoothness.proofs.Curve.{exact-curve-is-polynomial, exact-curve-at-discontinuity, exact-curve-at-other-join}
+
+-- what the polynomials of a segment are computed with
+polynomials : Unit {0}
+unfolding fractions firstColumn binomial value _+ᵖ_ _·ᵖ_ _*ᵖ_ power total derivative iterated bernsteinPolynomial bernsteinForm piece
+polynomials = tt
 
 -- ---- polynomials
 
@@ -43,21 +48,21 @@ value-example = refl
 
 -- 12 x - 15 x^2 + 7 x^3
 piece5 : piece space5 ordinates5 0 ≡ q0 ∷ int (pos 12) ∷ int (negsuc 14) ∷ int (pos 7) ∷ []
-unfolding gcd gcdF mk int inv _+ᵠ_ _*ᵠ_ -ᵠ_ firstColumn binomial _+ᵖ_ _·ᵖ_ _*ᵖ_ power total bernsteinPolynomial bernsteinForm piece
+unfolding polynomials
 piece5 = refl
 
 -- at the join the value is 4, the slope 3 and the second derivative 12, from the left
 left5 : leftDerivative space5 ordinates5 0 0 ∷ leftDerivative space5 ordinates5 0 1 ∷ leftDerivative space5 ordinates5 0 2 ∷ [] ≡ int (pos 4) ∷ int (pos 3) ∷ int (pos 12) ∷ []
-unfolding gcd gcdF mk int inv _+ᵠ_ _*ᵠ_ -ᵠ_ tab firstColumn binomial value _+ᵖ_ _·ᵖ_ _*ᵖ_ power total derivative iterated bernsteinPolynomial bernsteinForm piece
+unfolding polynomials
 left5 = refl
 
 -- and from the right
 right5 : rightDerivative space5 ordinates5 0 0 ∷ rightDerivative space5 ordinates5 0 1 ∷ rightDerivative space5 ordinates5 0 2 ∷ [] ≡ int (pos 4) ∷ int (pos 3) ∷ int (pos 12) ∷ []
-unfolding gcd gcdF mk int inv _+ᵠ_ _*ᵠ_ -ᵠ_ tab firstColumn binomial value _+ᵖ_ _·ᵖ_ _*ᵖ_ power total derivative iterated bernsteinPolynomial bernsteinForm piece
+unfolding polynomials
 right5 = refl
 
 agree5 : (j k : ℕ) → j < segments space5 - 1 → k < conditionCount space5 j → leftDerivative space5 ordinates5 j k ≡ rightDerivative space5 ordinates5 j k
-unfolding gcd gcdF mk int inv _+ᵠ_ _*ᵠ_ -ᵠ_ tab firstColumn binomial value _+ᵖ_ _·ᵖ_ _*ᵖ_ power total derivative iterated bernsteinPolynomial bernsteinForm piece
+unfolding polynomials
 agree5 zero zero h l = refl
 agree5 zero (suc zero) h l = refl
 agree5 zero (suc (suc zero)) h l = refl
@@ -78,11 +83,11 @@ abbrev broken5 : Row
 broken5 = q0 ∷ int (pos 4) ∷ int (pos 3) ∷ int (pos 4) ∷ int (pos 4) ∷ int (pos 5) ∷ int (pos 7) ∷ q1 ∷ []
 
 left-broken5 : leftDerivative space5 broken5 0 2 ≡ int (pos 12)
-unfolding gcd gcdF mk int inv _+ᵠ_ _*ᵠ_ -ᵠ_ tab firstColumn binomial value _+ᵖ_ _·ᵖ_ _*ᵖ_ power total derivative iterated bernsteinPolynomial bernsteinForm piece
+unfolding polynomials
 left-broken5 = refl
 
 right-broken5 : rightDerivative space5 broken5 0 2 ≡ int (pos 6)
-unfolding gcd gcdF mk int inv _+ᵠ_ _*ᵠ_ -ᵠ_ tab firstColumn binomial value _+ᵖ_ _·ᵖ_ _*ᵖ_ power total derivative iterated bernsteinPolynomial bernsteinForm piece
+unfolding polynomials
 right-broken5 = refl
 
 twelve-not-six : int (pos 12) ≡ int (pos 6) → ⊥
@@ -94,7 +99,7 @@ unmet5 m = twelve-not-six (sym left-broken5 ∙ conditions-are-smoothness space5
 
 -- it comes to 1
 condition-broken5 : pairing broken5 (conditions space5 0 2) ≡ int (pos 1)
-unfolding gcd gcdF mk int _+ᵠ_ _*ᵠ_ tab firstColumn falling binomial alternating undivided commonDivisor conditions pairing
+unfolding conditioning pairing
 condition-broken5 = refl
 
 -- ---- the rows of W5
@@ -116,7 +121,7 @@ coefs5 = sideBySide (pair (pos 7) (pos 0) ∷ pair (pos 7) (pos 4) ∷ pair (pos
 
 -- after half a ring the polynomial, times 256, is 256 (12/2 - 15/4 + 7/8) = 800
 half5 : value (piece space5 (curveOrdinates space5 table5 latewood coefs5) (segmentAt space5 (pos 128))) (int (offset space5 (segmentAt space5 (pos 128)) (pos 128)) /ᵠ int (pos fineness)) ≡ int (pos 800)
-unfolding sideBySide gcd gcdF mk int inv _+ᵠ_ _*ᵠ_ -ᵠ_ _//_ sum tab last firstColumn binomial combination startsAtDiscontinuity startsBy segmentAt value _+ᵖ_ _·ᵖ_ _*ᵖ_ power total bernsteinPolynomial bernsteinForm piece
+unfolding polynomials sideBySide last combination startsAtDiscontinuity startsBy segmentAt
 half5 = refl
 
 -- and so is the exact curve
@@ -138,7 +143,7 @@ end9 = sym (exact-curve-at-discontinuity space9 accepted9 earlywood coefs9 0 (om
 -- ---- W4: breaks 0,1,3, degrees 2,3, order 1
 
 condition4 : Meets space4 ordinates4 0 1
-unfolding gcd gcdF mk int _+ᵠ_ _*ᵠ_ tab firstColumn falling binomial alternating undivided commonDivisor conditions pairing
+unfolding conditioning pairing
 condition4 = refl
 
 -- segments of different lengths and degrees meet with the same slope
@@ -147,5 +152,5 @@ slopes4 = conditions-are-smoothness space4 checked4 ordinates4 0 1 (omega arith)
 
 -- which is -6
 slope4 : rightDerivative space4 ordinates4 0 1 ≡ int (negsuc 5)
-unfolding gcd gcdF mk int inv _+ᵠ_ _*ᵠ_ -ᵠ_ tab firstColumn binomial value _+ᵖ_ _·ᵖ_ _*ᵖ_ power total derivative iterated bernsteinPolynomial bernsteinForm piece
+unfolding polynomials
 slope4 = refl

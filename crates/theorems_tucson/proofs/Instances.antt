@@ -28,6 +28,20 @@ use Rattle.theorems_tucson.proofs.TucsonCells.{written-cells-read-back,
 use Rattle.theorems_tucson.proofs.Refusals.{read-refuses, write-refuses}
 use Rattle.theorems_tucson.proofs.FirstSeries.{next-year-by-line}
 
+-- ---- what texts are read with, a line and all of them, and written with
+
+lineRead : Unit {0}
+unfolding bytes lines cut beginsWith allDigits digitsValue isNatural numeral inColumns linesOf allPrintable allBlank isName fieldNumerals columnsFit lineInColumns lineOf
+lineRead = tt
+
+linesRead : Unit {0}
+unfolding lineRead yearInDecade withinDecade isWidth fieldsAllowed goodLine allHundredths fromHundredths closedBy goesOn yearFollows lastField closing lineStep readLine readLines readText capped
+linesRead = tt
+
+linesWritten : Unit {0}
+unfolding bytes lines beginsWith digitsUpTo digits decimal columns allPrintable allBlank isName yearInDecade isWidth inLines linesFrom seriesLines fieldsText lineText linesText written
+linesWritten = tt
+
 -- ---- two series, the first across the year 0
 
 abbrev two : List Series
@@ -51,7 +65,7 @@ abbrev inThousandths : List Series
 inThousandths = record { name = bytes "ABC01   "; firstYear = pos 1908; widths = pos 1200 ∷ pos 0 ∷ pos 99990 ∷ [] } ∷ []
 
 measured-reads : readText measured ≡ answer inThousandths
-unfolding bytes lines cut beginsWith allDigits digitsValue isNatural numeral inColumns linesOf allPrintable allBlank isName fieldNumerals columnsFit lineInColumns lineOf yearInDecade withinDecade isWidth fieldsAllowed goodLine allHundredths fromHundredths closedBy goesOn yearFollows lastField closing lineStep readLine readLines readText
+unfolding linesRead
 measured-reads = refl
 
 measured-writable : Writable inThousandths
@@ -65,13 +79,13 @@ measured-again = rewritten-reads-back measured inThousandths measured-reads
 
 -- the two texts differ, and have 50 bytes each
 measured-written : (written inThousandths ≡ lines ("ABC01   1908  1200     0" ∷ "ABC01   1910 99990 -9999" ∷ [])) × (length measured ≡ 50)
-unfolding bytes lines digitsUpTo digits decimal columns yearInDecade inLines linesFrom seriesLines fieldsText lineText linesText written
+unfolding linesWritten
 measured-written = (refl, refl)
 
 -- ---- the cells: a write call with a buffer of 20 cells, and a read call with buffers longer than the answer
 
 written-19 : writeEnd (bytes "ABC01   ") (pos 1908 ∷ []) (0 ∷ []) [] (bytes "....................") .answers ≡ answer 19
-unfolding bytes beginsWith digitsUpTo digits decimal columns allPrintable allBlank isName yearInDecade isWidth inLines linesFrom seriesLines fieldsText lineText linesText written yearsFit allWidths isWritable firstUnwritable total listsFit seriesOf seriesOutcome writeOutcome textAfter
+unfolding linesWritten yearsFit allWidths isWritable firstUnwritable total listsFit seriesOf seriesOutcome writeOutcome textAfter
 written-19 = refl
 
 written-19-read :
@@ -87,7 +101,7 @@ abbrev readOne : ReadEnd
 readOne = readEnd measured (bytes "........") (pos 1 ∷ []) (2 ∷ []) (pos 3 ∷ pos 4 ∷ pos 5 ∷ pos 6 ∷ [])
 
 one-series : readOne .answers ≡ answer 1
-unfolding bytes lines cut beginsWith allDigits digitsValue isNatural numeral inColumns linesOf allPrintable allBlank isName fieldNumerals columnsFit lineInColumns lineOf yearInDecade withinDecade isWidth fieldsAllowed goodLine allHundredths fromHundredths closedBy goesOn yearFollows lastField closing lineStep readLine readLines readText namesOf yearsOf countsOf widthsOf roomFor readOutcome filled
+unfolding linesRead namesOf yearsOf countsOf widthsOf roomFor readOutcome filled
 one-series = refl
 
 module _ (text : Text) (long : 50 ≤ length text) where
@@ -106,14 +120,14 @@ skipped : Text
 skipped = lines ("ABC01   1908     7     8" ∷ "ABC01   1920   999" ∷ [])
 
 skipped-refused : readEnd skipped [] [] [] [] .answers ≡ refusal 12 2
-unfolding skipped bytes lines cut beginsWith allDigits digitsValue isNatural numeral inColumns linesOf allPrintable allBlank isName fieldNumerals columnsFit lineInColumns lineOf yearInDecade withinDecade isWidth fieldsAllowed goodLine allHundredths fromHundredths closedBy goesOn yearFollows lastField closing lineStep readLine readLines readText capped namesOf yearsOf countsOf widthsOf roomFor readOutcome filled
+unfolding linesRead skipped namesOf yearsOf countsOf widthsOf roomFor readOutcome filled
 skipped-refused = refl
 
 skipped-refusal : ReadRefusal skipped 12 2
 skipped-refusal = read-refuses skipped [] [] [] [] 12 2 skipped-refused .0
 
 named-again : writeEnd (bytes "ABC01   ABC02   ABC02   ") (pos 1 ∷ pos 1 ∷ pos 1 ∷ []) (0 ∷ 0 ∷ 0 ∷ []) [] [] .answers ≡ refusal 11 2
-unfolding bytes beginsWith digitsUpTo digits decimal columns allPrintable allBlank isName yearInDecade isWidth inLines linesFrom seriesLines fieldsText lineText linesText written yearsFit allWidths isWritable firstUnwritable capped total listsFit seriesOf seriesOutcome writeOutcome textAfter
+unfolding linesWritten yearsFit allWidths isWritable firstUnwritable capped total listsFit seriesOf seriesOutcome writeOutcome textAfter
 named-again = refl
 
 named-again-refusal : WriteRefusal (pos 1 ∷ pos 1 ∷ pos 1 ∷ []) 11 2
@@ -128,7 +142,7 @@ abbrev begun : Begun
 begun = record { firstYear = pos 1908; widths = pos 120 ∷ pos 0 ∷ [] }
 
 first-line-reads : readLine 1 none true firstLine ≡ answer (opened begun)
-unfolding bytes lines cut beginsWith allDigits digitsValue isNatural numeral inColumns linesOf allPrintable allBlank isName fieldNumerals columnsFit lineInColumns lineOf yearInDecade withinDecade isWidth fieldsAllowed goodLine allHundredths fromHundredths closedBy goesOn yearFollows lastField closing lineStep readLine
+unfolding linesRead
 first-line-reads = refl
 
 nineteen-ten-by-the-line : (l : Line) × (goodLine false firstLine ≡ some l) × (pos 1910 ≡ l .year +ℤ pos (length (l .fields)))

@@ -12,26 +12,23 @@ use lib.IntN.{ℤ, pos, negsuc, natAbs}
 use lib.ListN.{length, getD}
 use lib.Signed.{_≤ℤ_, ltZ-yes}
 use Rattle.base_exact.specs.Gcd.{gcd, gcdF}
-use Rattle.base_exact.specs.Rational.{den, mk, int, inv, _+ᵠ_, _*ᵠ_, -ᵠ_, _//_}
+use Rattle.base_exact.specs.Rational.{den, mk, int, inv, _+ᵠ_, _*ᵠ_, _//_}
 use Rattle.base_exact.specs.Order.{isZero, ltᵠ, _≤ᵠ_, _<ᵠ_}
 use Rattle.base_exact.specs.Floor.{nearest}
-use Rattle.base_exact.specs.Sum.{sum}
 use Rattle.base_exact.specs.Tabulate.{tab}
 use Rattle.base_exact.proofs.Integer as Z
 use Rattle.base_exact.proofs.Integer.{up}
-use Rattle.base_fraction.specs.Size.{fits}
-use Rattle.base_outcome.specs.Outcome.{answer, capped, collect, repeat}
+use Rattle.base_outcome.specs.Outcome.{answer, collect, repeat}
 use Rattle.base_outcome.specs.Search.{first, last, howMany}
-use Rattle.spec_spline.specs.Space.{Space, lengthsFit, badBreak, startsPart, partEnd, lastPartStart, spanTooLong, tooManySegments, badDegree, badOrder, checkedEntries, checked, firstColumn, conditionsBefore}
-use Rattle.spec_spline.specs.Conditions.{falling, binomial, alternating, undivided, commonDivisor, conditions}
+use Rattle.spec_spline.specs.Space.{Space, startsPart, lastPartStart, checked, firstColumn, conditionsBefore}
 use Rattle.spec_spline.specs.Table.{Table, cell, identity}
-use Rattle.spec_spline.specs.Step.{count, addProducts, span, partialSum, quotientFactor, factors, newEntry, newRows, step}
 use Rattle.spec_spline.specs.Build.{orderSteps, joinSteps, weights, spaceWeights}
 use Rattle.spec_spline.specs.Piecewise.{Accepted}
-use Rattle.spec_spline.specs.Reading.{fine, startsAtDiscontinuity, startsBy, segmentAt, Wood, earlywood, latewood, woodIndex, Pair, sideBySide, rounded, term, termSum, best, ordinate, ordinates, blend, triangle, blended, valueAt, pairAt, values}
-use Rattle.spec_spline.specs.CurveCall.{badCoefficient, badPosition, curveChecked, curveRead, curveOutcome, returned, valuesAfter, curveEnd}
+use Rattle.spec_spline.specs.Reading.{fine, startsAtDiscontinuity, startsBy, segmentAt, Wood, earlywood, latewood, woodIndex, Pair, sideBySide, rounded, term, termSum, best, valueAt, values}
+use Rattle.spec_spline.specs.CurveCall.{badCoefficient, badPosition, curveOutcome, returned, valuesAfter, curveEnd}
 use Rattle.spec_spline.specs.Cases.{space, pair, forBoth, space1, space9, upperLimitSpace, lowerLimitSpace}
-use Rattle.spec_spline.specs.ExactCurve.{power, bernsteinAt, exactTerm, exactOn, exactCurve, largest, mostWeights, weighsOn, leastOn, greatestOn, Legal}
+use Rattle.spec_spline.specs.ExactCurve.{exactCurve, largest, mostWeights, weighsOn, leastOn, greatestOn, Legal}
+use Rattle.spec_spline.proofs.Computing.{building, calling, checking, exactReading, reading}
 use Rattle.theorems_weights.specs.Cells.{HoldsFraction, lastPartCell}
 use Rattle.theorems_weights.proofs.Published.{weights-are-published}
 use Rattle.theorems_weights.proofs.Instances.{q0, q1, lent, lent-length, beam, beamTable, acceptedBeam}
@@ -60,7 +57,7 @@ abbrev pub positions1 : List ℤ
 positions1 = pos 256 ∷ pos 512 ∷ []
 
 unfoldable pub accepted1 : Accepted space1
-unfolding gcd gcdF mk int inv _+ᵠ_ _*ᵠ_ -ᵠ_ _//_ isZero ltᵠ sum tab fits capped collect repeat first last lengthsFit badBreak startsPart partEnd spanTooLong tooManySegments badDegree badOrder checkedEntries checked firstColumn conditionsBefore falling binomial alternating undivided commonDivisor conditions identity count addProducts span partialSum quotientFactor factors newEntry newRows step orderSteps joinSteps weights spaceWeights
+unfolding building
 accepted1 = record { table = table1; is = refl }
 
 pub coefficients1 : (i : ℕ) → i < length coefs1 → T (not (badCoefficient coefs1 i))
@@ -101,19 +98,19 @@ abbrev pub pairs1 : List Pair
 pairs1 = pair (pos 17067) (negsuc 17066) ∷ pair (pos 4267) (negsuc 4265) ∷ []
 
 pub values1 : values space1 table1 coefs1 positions1 ≡ pairs1
-unfolding gcd gcdF mk int _//_ isZero nearest tab firstColumn last startsAtDiscontinuity startsBy segmentAt rounded term termSum best ordinate ordinates blend triangle blended valueAt pairAt values
+unfolding reading
 values1 = refl
 
 pub exact1 : exactCurve space1 table1 earlywood coefs1 (pos 256) ≡ pos 51200 // 2
-unfolding gcd gcdF mk int inv _+ᵠ_ _*ᵠ_ -ᵠ_ _//_ sum firstColumn last startsAtDiscontinuity startsBy segmentAt binomial power bernsteinAt exactTerm exactOn exactCurve
+unfolding exactReading
 exact1 = refl
 
 early-exact1 : exactCurve space1 table1 earlywood coefs1 (pos 512) ≡ pos 12800 // 2
-unfolding gcd gcdF mk int inv _+ᵠ_ _*ᵠ_ -ᵠ_ _//_ sum firstColumn last startsAtDiscontinuity startsBy segmentAt binomial power bernsteinAt exactTerm exactOn exactCurve
+unfolding exactReading
 early-exact1 = refl
 
 late-exact1 : exactCurve space1 table1 latewood coefs1 (pos 512) ≡ negsuc 12799 // 2
-unfolding gcd gcdF mk int inv _+ᵠ_ _*ᵠ_ -ᵠ_ _//_ sum firstColumn last startsAtDiscontinuity startsBy segmentAt binomial power bernsteinAt exactTerm exactOn exactCurve
+unfolding exactReading
 late-exact1 = refl
 
 -- s = 2 and p = 2 on the second segment
@@ -201,7 +198,7 @@ abbrev upperCoefs : List ℤ
 upperCoefs = pos 0 ∷ pos 1 ∷ pos 0 ∷ pos 1 ∷ pos 0 ∷ pos 1 ∷ pos 0 ∷ pos 1 ∷ []
 
 upper-accepted : Accepted upperLimitSpace
-unfolding gcd gcdF mk int inv _+ᵠ_ _*ᵠ_ -ᵠ_ _//_ isZero ltᵠ sum tab fits capped collect repeat first last lengthsFit badBreak startsPart partEnd spanTooLong tooManySegments badDegree badOrder checkedEntries checked firstColumn conditionsBefore falling binomial alternating undivided commonDivisor conditions identity count addProducts span partialSum quotientFactor factors newEntry newRows step orderSteps joinSteps weights spaceWeights
+unfolding building
 upper-accepted = record { table = upperTable; is = refl }
 
 upper-sum : termSum upperTable (λ i. pos 1) 3 4 ≡ pos 257
@@ -233,7 +230,7 @@ abbrev lowerCoefs : List ℤ
 lowerCoefs = pos 1 ∷ pos 0 ∷ pos 1 ∷ pos 0 ∷ pos 1 ∷ pos 0 ∷ pos 1 ∷ pos 0 ∷ pos 1 ∷ pos 0 ∷ pos 1 ∷ pos 0 ∷ []
 
 lower-accepted : Accepted lowerLimitSpace
-unfolding gcd gcdF mk int inv _+ᵠ_ _*ᵠ_ -ᵠ_ _//_ isZero ltᵠ sum tab fits capped collect repeat first last lengthsFit badBreak startsPart partEnd spanTooLong tooManySegments badDegree badOrder checkedEntries checked firstColumn conditionsBefore falling binomial alternating undivided commonDivisor conditions identity count addProducts span partialSum quotientFactor factors newEntry newRows step orderSteps joinSteps weights spaceWeights
+unfolding building
 lower-accepted = record { table = lowerTable; is = refl }
 
 lower-sum : termSum lowerTable (λ i. pos 1) 4 6 ≡ pos 255
@@ -267,7 +264,7 @@ abbrev farCoefs : List ℤ
 farCoefs = pos 0 ∷ pos 0 ∷ pos 1 ∷ negsuc 0 ∷ negsuc 0 ∷ pos 1 ∷ pos 0 ∷ pos 0 ∷ []
 
 far-accepted : Accepted farSpace
-unfolding gcd gcdF mk int inv _+ᵠ_ _*ᵠ_ -ᵠ_ _//_ isZero ltᵠ sum tab fits capped collect repeat first last lengthsFit badBreak startsPart partEnd spanTooLong tooManySegments badDegree badOrder checkedEntries checked firstColumn conditionsBefore falling binomial alternating undivided commonDivisor conditions identity count addProducts span partialSum quotientFactor factors newEntry newRows step orderSteps joinSteps weights spaceWeights
+unfolding building
 far-accepted = record { table = farTable; is = refl }
 
 far-closeness : closeness farSpace farTable (pos 508) ≡ int (pos 2)
@@ -275,11 +272,11 @@ unfolding gcd gcdF mk int inv _*ᵠ_ _//_ isZero firstColumn last startsAtDiscon
 far-closeness = refl
 
 high-value : valueAt farSpace farTable earlywood farCoefs (pos 508) ≡ pos 56
-unfolding gcd gcdF mk int _//_ isZero nearest tab firstColumn last startsAtDiscontinuity startsBy segmentAt rounded term termSum best ordinate ordinates blend triangle blended valueAt
+unfolding reading
 high-value = refl
 
 high-exact : exactCurve farSpace farTable earlywood farCoefs (pos 508) ≡ pos 17399 // 319
-unfolding gcd gcdF mk int inv _+ᵠ_ _*ᵠ_ -ᵠ_ _//_ sum firstColumn last startsAtDiscontinuity startsBy segmentAt binomial power bernsteinAt exactTerm exactOn exactCurve
+unfolding exactReading
 high-exact = refl
 
 high-apart : pos 17399 // 319 +ᵠ pos 3 // 1 <ᵠ int (pos 56)
@@ -292,11 +289,11 @@ high-within = subst (λ v. int v ≤ᵠ pos 17399 // 319 +ᵠ int (pos 2)) high-
     (subst (λ b. int (valueAt farSpace farTable earlywood farCoefs (pos 508)) ≤ᵠ exactCurve farSpace farTable earlywood farCoefs (pos 508) +ᵠ b) far-closeness (value-at-most-exact-and-closeness farSpace far-accepted earlywood farCoefs (pos 508) tt)))
 
 low-value : valueAt farSpace farTable latewood farCoefs (pos 508) ≡ negsuc 55
-unfolding gcd gcdF mk int _//_ isZero nearest tab firstColumn last startsAtDiscontinuity startsBy segmentAt rounded term termSum best ordinate ordinates blend triangle blended valueAt
+unfolding reading
 low-value = refl
 
 low-exact : exactCurve farSpace farTable latewood farCoefs (pos 508) ≡ negsuc 17398 // 319
-unfolding gcd gcdF mk int inv _+ᵠ_ _*ᵠ_ -ᵠ_ _//_ sum firstColumn last startsAtDiscontinuity startsBy segmentAt binomial power bernsteinAt exactTerm exactOn exactCurve
+unfolding exactReading
 low-exact = refl
 
 low-apart : int (negsuc 55) +ᵠ pos 3 // 1 <ᵠ negsuc 17398 // 319
@@ -321,11 +318,11 @@ abbrev pub coefs9 : List ℤ
 coefs9 = sideBySide (forBoth (pos 0 ∷ pos 10 ∷ pos 20 ∷ pos 30 ∷ []))
 
 checked9 : checked space9 ≡ answer space9
-unfolding capped first lengthsFit badBreak startsPart partEnd spanTooLong tooManySegments badDegree badOrder checkedEntries checked
+unfolding checking
 checked9 = refl
 
 unfoldable pub accepted9 : Accepted space9
-unfolding gcd gcdF mk int tab capped collect repeat first lengthsFit badBreak startsPart partEnd spanTooLong tooManySegments badDegree badOrder checkedEntries checked firstColumn conditionsBefore identity orderSteps joinSteps weights spaceWeights
+unfolding checking gcd gcdF mk int tab collect repeat firstColumn conditionsBefore identity orderSteps joinSteps weights spaceWeights
 accepted9 = record { table = table9; is = refl }
 
 segments9 : (segmentAt space9 (pos 0) ≡ 0) × ((segmentAt space9 (pos 256) ≡ 0) × ((segmentAt space9 (pos 257) ≡ 1) × (suc (segmentAt space9 (pos 512)) ≡ 2)))
@@ -333,7 +330,7 @@ segments9 = (first-breakpoint-belongs-first space9 checked9, (discontinuities-be
 
 -- the exact curve is at that segment's end, 256 times 10, and the value is no more
 pub exact9 : exactCurve space9 table9 earlywood coefs9 (pos 256) ≡ int (pos 2560)
-unfolding sideBySide gcd gcdF mk int inv _+ᵠ_ _*ᵠ_ -ᵠ_ _//_ sum firstColumn last startsAtDiscontinuity startsBy segmentAt binomial power bernsteinAt exactTerm exactOn exactCurve
+unfolding exactReading
 exact9 = refl
 
 greatest9 : greatestOn space9 table9 earlywood coefs9 0 ≡ pos 10
@@ -347,7 +344,7 @@ at-most9 = subst (λ z. valueAt space9 table9 earlywood coefs9 (pos 256) ≤ℤ 
 -- ---- W1: the join of order 1 belongs to the segment that starts there
 
 checked1 : checked space1 ≡ answer space1
-unfolding capped first lengthsFit badBreak startsPart partEnd spanTooLong tooManySegments badDegree badOrder checkedEntries checked
+unfolding checking
 checked1 = refl
 
 join1 : segmentAt space1 (pos 256) ≡ 1
@@ -363,7 +360,7 @@ abbrev beamPositions : List ℤ
 beamPositions = pos 256 ∷ pos 512 ∷ []
 
 beam-answers : curveOutcome beam beamCoefs beamPositions 6000 6000 6000 ≡ answer (record { table = beamTable; values = forBoth (pos 2560 ∷ pos 1792 ∷ []) })
-unfolding gcd gcdF mk int inv _+ᵠ_ _*ᵠ_ -ᵠ_ _//_ isZero ltᵠ sum nearest tab fits capped collect repeat first last lengthsFit badBreak startsPart partEnd spanTooLong tooManySegments badDegree badOrder checkedEntries checked firstColumn conditionsBefore falling binomial alternating undivided commonDivisor conditions identity count addProducts span partialSum quotientFactor factors newEntry newRows step orderSteps joinSteps weights startsAtDiscontinuity startsBy segmentAt rounded term termSum best ordinate ordinates blend triangle blended valueAt pairAt values sideBySide badCoefficient badPosition curveChecked curveRead curveOutcome
+unfolding calling
 beam-answers = refl
 
 beam-legal : Legal beam beamCoefs beamPositions (length lent) (length lent) (length lent)

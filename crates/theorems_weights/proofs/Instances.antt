@@ -10,23 +10,23 @@ use lib.IntN.{ℤ, pos, negsuc}
 use lib.ListN.{length, getD, take, drop, length-take}
 use lib.Seq.{split-at}
 use Rattle.base_exact.specs.Gcd.{gcd, gcdF}
-use Rattle.base_exact.specs.Rational.{ℚ, mk, int, inv, _+ᵠ_, _*ᵠ_, -ᵠ_, _//_}
-use Rattle.base_exact.specs.Order.{isZero, ltᵠ, _≤ᵠ_}
+use Rattle.base_exact.specs.Rational.{ℚ, mk, int, _+ᵠ_, _*ᵠ_, _//_}
+use Rattle.base_exact.specs.Order.{isZero, _≤ᵠ_}
 use Rattle.base_exact.specs.Sum.{sum}
 use Rattle.base_exact.specs.Tabulate.{tab}
 use Rattle.base_exact.proofs.Tabulate.{tab-length}
 use Rattle.base_fraction.specs.Size.{fits}
-use Rattle.base_outcome.specs.Outcome.{answer, refusal, capped, collect, repeat}
+use Rattle.base_outcome.specs.Outcome.{answer, refusal, capped}
 use Rattle.base_outcome.specs.Search.{first, last}
-use Rattle.spec_spline.specs.Space.{Space, segments, conditionCount, lengthsFit, badBreak, startsPart, partEnd, lastPartStart, spanTooLong, tooManySegments, badDegree, badOrder, checkedEntries, checked, firstColumn, conditionsBefore}
-use Rattle.spec_spline.specs.Conditions.{falling, binomial, alternating, undivided, commonDivisor, conditions}
+use Rattle.spec_spline.specs.Space.{Space, segments, conditionCount, startsPart, lastPartStart, checked, firstColumn, conditionsBefore}
+use Rattle.spec_spline.specs.Conditions.{conditions}
 use Rattle.spec_spline.specs.Table.{Row, Table, row, cell, identity, rowCells}
-use Rattle.spec_spline.specs.Step.{count, addProducts, span, partialSum, quotientFactor, factors, newEntry, newRows, step}
-use Rattle.spec_spline.specs.Build.{orderSteps, joinSteps, weights, spaceWeights, built, buildEnd}
+use Rattle.spec_spline.specs.Step.{partialSum}
+use Rattle.spec_spline.specs.Build.{spaceWeights, built, buildEnd}
 use Rattle.spec_spline.specs.Published.{for, extraction}
 use Rattle.spec_spline.specs.Cases.{space4, space5, lineSpace}
 use Rattle.spec_spline.specs.Piecewise.{Accepted, MeetsAll, Meets, pairing, combination}
-use Rattle.spec_spline.proofs.Computing.{building}
+use Rattle.spec_spline.proofs.Computing.{building, checking, conditioning}
 use Rattle.base_outcome.proofs.Outcome.{answer-not-refusal}
 use Rattle.theorems_weights.specs.Cells.{HoldsFraction, lastPartCell}
 use Rattle.theorems_weights.specs.Counted.{Test, counted, shaped, codeOf, passes, joined, jumpTests, exactJumps, firstJump, lastJump, shapeTest, quotient, factorTests, innerRows, innerRow, exactFactors, entryTests, rowTests, exactRow, stepTests, exactStep, exactOrders, exactJoins, buildTests, exactWeights, allPass, FirstTooLarge, FirstFailure}
@@ -35,6 +35,16 @@ use Rattle.theorems_weights.proofs.PartitionOfUnity.{no-weight-negative
 use Rattle.theorems_weights.proofs.Published.{weights-are-published}
 use Rattle.theorems_weights.proofs.Cells.{accepted-spaces-are-built, cells-hold-published-weights}
 use Rattle.theorems_weights.proofs.Counted.{refused-by-first-failure, eight-is-first-too-large, first-failure-refuses, passing-is-accepted}
+
+-- ---- what the tests of a build are computed with: those of a step, and of all steps
+
+stepTesting : Unit {0}
+unfolding conditioning capped first last fits identity partialSum pairing for joined jumpTests exactJumps firstJump lastJump shapeTest
+stepTesting = tt
+
+testing : Unit {0}
+unfolding stepTesting quotient factorTests innerRows innerRow exactFactors entryTests rowTests exactRow stepTests exactStep exactOrders exactJoins buildTests allPass
+testing = tt
 
 abbrev pub q0 : ℚ
 q0 = int (pos 0)
@@ -121,7 +131,7 @@ abbrev pub ordinates4 : Row
 ordinates4 = q0 ∷ int (pos 7) ∷ int (pos 4) ∷ int (pos 4) ∷ q0 ∷ q1 ∷ int (pos 2) ∷ []
 
 met4 : (j k : ℕ) → j < segments space4 - 1 → k < conditionCount space4 j → Meets space4 ordinates4 j k
-unfolding gcd gcdF mk int _+ᵠ_ _*ᵠ_ tab firstColumn falling binomial alternating undivided commonDivisor conditions pairing
+unfolding conditioning pairing
 met4 zero zero h l = refl
 met4 zero (suc zero) h l = refl
 met4 zero (suc (suc k)) h l = absurd (omega arith)
@@ -182,7 +192,7 @@ abbrev pub ordinates5 : Row
 ordinates5 = q0 ∷ int (pos 4) ∷ int (pos 3) ∷ int (pos 4) ∷ int (pos 4) ∷ int (pos 5) ∷ int (pos 8) ∷ q1 ∷ []
 
 met5 : (j k : ℕ) → j < segments space5 - 1 → k < conditionCount space5 j → Meets space5 ordinates5 j k
-unfolding gcd gcdF mk int _+ᵠ_ _*ᵠ_ tab firstColumn falling binomial alternating undivided commonDivisor conditions pairing
+unfolding conditioning pairing
 met5 zero zero h l = refl
 met5 zero (suc zero) h l = refl
 met5 zero (suc (suc zero)) h l = refl
@@ -233,7 +243,7 @@ unused-cell-beam = let w = held beam acceptedBeam 5 0 (omega arith) (omega arith
 
 -- a step of height 1 at the join of W4 does not meet its first condition
 broken4 : pairing (q1 ∷ q1 ∷ q1 ∷ q0 ∷ q0 ∷ q0 ∷ q0 ∷ []) (conditions space4 0 0) ≡ int (pos 1)
-unfolding gcd gcdF mk int _+ᵠ_ _*ᵠ_ tab firstColumn falling binomial alternating undivided commonDivisor conditions pairing
+unfolding conditioning pairing
 broken4 = refl
 
 -- ---- a space that is refused for a partial sum: breaks 0,1,1291, degrees 3,3, order 2
@@ -250,15 +260,15 @@ too-large8 = eight-is-first-too-large space8 0 refused8
 
 -- the fraction: 194 tests pass before it
 fraction8 : getD (buildTests space8) 194 (counted 0 q0) ≡ counted 0 (negsuc 2150017199 // 1290)
-unfolding gcd gcdF mk int inv _+ᵠ_ _*ᵠ_ -ᵠ_ _//_ isZero ltᵠ sum tab fits capped first last firstColumn falling binomial alternating undivided commonDivisor conditions identity partialSum pairing for joined jumpTests exactJumps firstJump lastJump shapeTest quotient factorTests innerRows innerRow exactFactors entryTests rowTests exactRow stepTests exactStep exactOrders exactJoins buildTests allPass
+unfolding testing
 fraction8 = refl
 
 passed8 : allPass (take 194 (buildTests space8)) ≡ true
-unfolding gcd gcdF mk int inv _+ᵠ_ _*ᵠ_ -ᵠ_ _//_ isZero ltᵠ sum tab fits capped first last firstColumn falling binomial alternating undivided commonDivisor conditions identity partialSum pairing for joined jumpTests exactJumps firstJump lastJump shapeTest quotient factorTests innerRows innerRow exactFactors entryTests rowTests exactRow stepTests exactStep exactOrders exactJoins buildTests allPass
+unfolding testing
 passed8 = refl
 
 size8 : length (take 195 (buildTests space8)) ≡ 195
-unfolding gcd gcdF mk int inv _+ᵠ_ _*ᵠ_ -ᵠ_ _//_ isZero ltᵠ sum tab fits capped first last firstColumn falling binomial alternating undivided commonDivisor conditions identity partialSum pairing for joined jumpTests exactJumps firstJump lastJump shapeTest quotient factorTests innerRows innerRow exactFactors entryTests rowTests exactRow stepTests exactStep exactOrders exactJoins buildTests allPass
+unfolding testing
 size8 = refl
 
 too-large-fraction8 : fits (negsuc 2150017199 // 1290) ≡ false
@@ -279,7 +289,7 @@ failure8 = record {
 }
 
 checked8 : checked space8 ≡ answer space8
-unfolding first lengthsFit badBreak startsPart partEnd spanTooLong tooManySegments badDegree badOrder checkedEntries checked
+unfolding checking
 checked8 = refl
 
 refused-again8 : spaceWeights space8 ≡ refusal 8 0
@@ -295,7 +305,7 @@ by-first-failure8 = go (refused-by-first-failure space8 8 0 refused8)
 
 -- W7: a span of 2,001 is refused before the build, by code 3
 refused7 : spaceWeights (lineSpace 2001) ≡ refusal 3 1
-unfolding capped first lengthsFit badBreak startsPart partEnd spanTooLong tooManySegments checkedEntries checked spaceWeights
+unfolding checking spaceWeights
 refused7 = refl
 
 three-is-no-test : (t : Test) → 3 ≡ codeOf t → ⊥
@@ -312,33 +322,33 @@ before-build7 = go (refused-by-first-failure (lineSpace 2001) 3 1 refused7)
 -- ---- W4 and W5 pass all their tests
 
 passes4 : allPass (buildTests space4) ≡ true
-unfolding gcd gcdF mk int inv _+ᵠ_ _*ᵠ_ -ᵠ_ _//_ isZero ltᵠ sum tab fits capped first last firstColumn falling binomial alternating undivided commonDivisor conditions identity partialSum pairing for joined jumpTests exactJumps firstJump lastJump shapeTest quotient factorTests innerRows innerRow exactFactors entryTests rowTests exactRow stepTests exactStep exactOrders exactJoins buildTests allPass
+unfolding testing
 passes4 = refl
 
 pub checked4 : checked space4 ≡ answer space4
-unfolding first lengthsFit badBreak startsPart partEnd spanTooLong tooManySegments badDegree badOrder checkedEntries checked
+unfolding checking
 checked4 = refl
 
 accepted-by-tests4 : spaceWeights space4 ≡ answer (exactWeights space4)
 accepted-by-tests4 = passing-is-accepted space4 checked4 passes4
 
 tests4 : length (buildTests space4) ≡ 144
-unfolding gcd gcdF mk int inv _+ᵠ_ _*ᵠ_ -ᵠ_ _//_ isZero ltᵠ sum tab fits capped first last firstColumn falling binomial alternating undivided commonDivisor conditions identity partialSum pairing for joined jumpTests exactJumps firstJump lastJump shapeTest quotient factorTests innerRows innerRow exactFactors entryTests rowTests exactRow stepTests exactStep exactOrders exactJoins buildTests allPass
+unfolding testing
 tests4 = refl
 
 passes5 : allPass (buildTests space5) ≡ true
-unfolding gcd gcdF mk int inv _+ᵠ_ _*ᵠ_ -ᵠ_ _//_ isZero ltᵠ sum tab fits capped first last firstColumn falling binomial alternating undivided commonDivisor conditions identity partialSum pairing for joined jumpTests exactJumps firstJump lastJump shapeTest quotient factorTests innerRows innerRow exactFactors entryTests rowTests exactRow stepTests exactStep exactOrders exactJoins buildTests allPass
+unfolding testing
 passes5 = refl
 
 pub checked5 : checked space5 ≡ answer space5
-unfolding first lengthsFit badBreak startsPart partEnd spanTooLong tooManySegments badDegree badOrder checkedEntries checked
+unfolding checking
 checked5 = refl
 
 accepted-by-tests5 : spaceWeights space5 ≡ answer (exactWeights space5)
 accepted-by-tests5 = passing-is-accepted space5 checked5 passes5
 
 tests5 : length (buildTests space5) ≡ 316
-unfolding gcd gcdF mk int inv _+ᵠ_ _*ᵠ_ -ᵠ_ _//_ isZero ltᵠ sum tab fits capped first last firstColumn falling binomial alternating undivided commonDivisor conditions identity partialSum pairing for joined jumpTests exactJumps firstJump lastJump shapeTest quotient factorTests innerRows innerRow exactFactors entryTests rowTests exactRow stepTests exactStep exactOrders exactJoins buildTests allPass
+unfolding testing
 tests5 = refl
 
 -- the shape can fail: jumps with a zero between
