@@ -13,17 +13,92 @@ use Rattle.spec_spline.specs.Cases.{outcome, cases, positionCases, Every
 -- Weights, counts, values and refusals of the specification's cases.
 pub every-case-holds : EveryCaseHolds
 unfolding calling built rowWeights tableWeights outcome cases
-every-case-holds = (refl, (refl, (refl, (refl, (refl, (refl, (refl, (refl, (refl, (refl, (refl, (refl, (refl, (refl, (refl, (refl, (refl, (refl, (refl, (refl, (refl, (refl, (refl, (refl, (refl, (refl, tt))))))))))))))))))))))))))
+every-case-holds = (
+  refl,
+  (
+    refl,
+    (
+      refl,
+      (
+        refl,
+        (
+          refl,
+          (
+            refl,
+            (
+              refl,
+              (
+                refl,
+                (
+                  refl,
+                  (
+                    refl,
+                    (refl, (refl, (refl, (refl, (refl, (refl, (refl, (refl, (refl, (refl, (refl, (refl, (refl, (refl, (refl, (refl, tt)))))))))))))))),
+                  ),
+                ),
+              ),
+            ),
+          ),
+        ),
+      ),
+    ),
+  ),
+)
 
 -- The same weights by the published construction.
 pub every-case-published : EveryCasePublished
 unfolding publishing rowWeights tableWeights cases
-every-case-published = (refl, (refl, (refl, (refl, (refl, (refl, (refl, (refl, (refl, (refl, (refl, (refl, (refl, (refl, (refl, (refl, (refl, (refl, (refl, (refl, (refl, (refl, (refl, (refl, (refl, (refl, tt))))))))))))))))))))))))))
+every-case-published = (
+  refl,
+  (
+    refl,
+    (
+      refl,
+      (
+        refl,
+        (
+          refl,
+          (
+            refl,
+            (
+              refl,
+              (
+                refl,
+                (
+                  refl,
+                  (
+                    refl,
+                    (refl, (refl, (refl, (refl, (refl, (refl, (refl, (refl, (refl, (refl, (refl, (refl, (refl, (refl, (refl, (refl, tt)))))))))))))))),
+                  ),
+                ),
+              ),
+            ),
+          ),
+        ),
+      ),
+    ),
+  ),
+)
 
 -- One value cell short, code 1 comes first.
 pub every-case-needs-two-cells-each : EveryCaseNeedsTwoCellsEach
 unfolding capped curveOutcome cases
-every-case-needs-two-cells-each = (refl, (refl, (refl, (tt, (tt, (refl, (tt, (tt, (tt, (tt, (refl, (refl, (tt, (tt, (tt, (tt, (tt, (tt, (refl, (refl, (refl, (refl, (refl, (refl, (refl, (refl, tt))))))))))))))))))))))))))
+every-case-needs-two-cells-each = (
+  refl,
+  (
+    refl,
+    (
+      refl,
+      (
+        tt,
+        (
+          tt,
+          (refl, (tt, (tt, (tt, (tt, (refl, (refl, (tt, (tt, (tt, (tt, (tt, (tt, (refl, (refl, (refl, (refl, (refl, (refl, (refl, (refl, tt))))))))))))))))))))),
+        ),
+      ),
+    ),
+  ),
+)
 
 -- The segments of positions on joins and beside them.
 pub every-position-belongs : EveryPositionBelongs

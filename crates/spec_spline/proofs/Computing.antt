@@ -47,9 +47,13 @@ unfoldable pub building : Unit {0}
 unfolding checking conditioning stepping repeat orderSteps joinSteps weights spaceWeights
 building = tt
 
--- the published construction
+-- a constraint of the published construction, and the whole of it
+unfoldable pub constraining : Unit {0}
+unfolding fractions first last firstColumn identity derivativeCoefficient leftConstraint rightConstraint constraint constraints
+constraining = tt
+
 unfoldable pub publishing : Unit {0}
-unfolding fractions first last firstColumn identity derivativeCoefficient leftConstraint rightConstraint constraint constraints diagonal aboveDiagonal bidiagonal nullspace product constrain for smooth extraction
+unfolding constraining diagonal aboveDiagonal bidiagonal nullspace product constrain for smooth extraction
 publishing = tt
 
 -- values of a curve, rounded

@@ -49,4 +49,6 @@ pub conditions-inside : (s : Space) (j k : ℕ) → suc j < segments s → k ≤
 unfolding conditions undivided firstColumn
 conditions-inside s j k h p q =
     let a = firstColumn-mono s (suc (suc j)) (segments s) h in
-    inside-divided (columnCount s) _ (inside-append (columnCount s) (inside-tab (columnCount s) (suc k) (leftEntry s j k) (λ t l. omega arith)) (inside-tab (columnCount s) (suc k) (rightEntry s j k) (λ t l. omega arith)))
+    inside-divided (columnCount s) _
+    (inside-append (columnCount s) (inside-tab (columnCount s) (suc k) (leftEntry s j k) (λ t l. omega arith))
+    (inside-tab (columnCount s) (suc k) (rightEntry s j k) (λ t l. omega arith)))

@@ -15,7 +15,8 @@ use Rattle.base_exact.proofs.Integer.{up, dn, bal-+, bal-neg, ≤-out, <-out, a
 use Rattle.base_exact.proofs.Word.{leZ-false}
 use Rattle.base_outcome.specs.Outcome.{Outcome, answer, refusal, refuse}
 use Rattle.base_outcome.specs.Search.{first}
-use Rattle.spec_spline.specs.Space.{Space, segments, break, degreeEntry, order, segmentLimit, lengthsFit, badBreak, spanTooLong, tooManySegments, badDegree, badOrder, partEndAt, checkedEntries, checked, degree, width, conditionCount}
+use Rattle.spec_spline.specs.Space.{Space, segments, break, degreeEntry, order, segmentLimit, lengthsFit, badBreak, spanTooLong, tooManySegments}
+use Rattle.spec_spline.specs.Space.{badDegree, badOrder, partEndAt, checkedEntries, checked, degree, width, conditionCount}
 use Rattle.base_outcome.specs.Tests.{between, refuseFirst}
 use Rattle.spec_spline.specs.Build.{clears}
 use Rattle.base_outcome.proofs.Outcome.{answer-unique, answer-not-refusal}
@@ -197,4 +198,5 @@ legal s c = record {
 pub lengths-fit : (s : Space) → Lengths s → lengthsFit s ≡ true
 unfolding lengthsFit
 lengths-fit s L =
-    ap₂ _&&_ (ap₂ _&&_ (ap₂ _&&_ (le-leb 1 (segments s) (L .some-segment)) (le-leb (segments s) segmentLimit (L .few-segments))) (eq-eqb (length (s .breaks)) (segments s + 1) (L .break-count))) (eq-eqb (length (s .orders) + 1) (segments s) (L .order-count))
+    ap₂ _&&_ (ap₂ _&&_ (ap₂ _&&_ (le-leb 1 (segments s) (L .some-segment)) (le-leb (segments s) segmentLimit (L .few-segments)))
+    (eq-eqb (length (s .breaks)) (segments s + 1) (L .break-count))) (eq-eqb (length (s .orders) + 1) (segments s) (L .order-count))

@@ -52,7 +52,8 @@ products-refuse-8 : (j : ℕ) (r : Row) (s : ℚ) (es : List Entry) → RefusedA
 products-refuse-8 j r s [] code place e = answer-refused (Eight j) s code place (sym (products-none j r s) ∙ e)
 products-refuse-8 j r s (e ∷ es) code place k =
     then-refused (Eight j) (oneMore j r s e) (λ t. addProducts j r t es)
-    (then-refused (Eight j) (count j (entry r (e .column) *ᵠ int (e .condition))) (λ p. count j (s +ᵠ p)) (count-refuses-8 j (entry r (e .column) *ᵠ int (e .condition))) (λ p h. count-refuses-8 j (s +ᵠ p)))
+    (then-refused (Eight j) (count j (entry r (e .column) *ᵠ int (e .condition))) (λ p. count j (s +ᵠ p)) (count-refuses-8 j (entry r (e .column) *ᵠ int (e .condition)))
+    (λ p h. count-refuses-8 j (s +ᵠ p)))
     (λ t h. products-refuse-8 j r t es)
     code
     place

@@ -45,7 +45,9 @@ pub joins-shaped : (s : Space) (n : ℕ) {t : Table} → joinSteps s n ≡ answe
 unfolding joinSteps conditionsBefore
 joins-shaped s n {t} e = repeat-keeps (λ i b. Shaped (columnCount s) (columnCount s - conditionsBefore s i) b) n (λ j. orderSteps s j (conditionCount s j)) (identity (columnCount s))
     (record { wide = record { each = λ i h. identity-wide (columnCount s) i (rw (identity-rows (columnCount s)) at h) }; rows = identity-rows (columnCount s) ∙ omega arith })
-    (λ i b c h P r. subst (λ m. Shaped (columnCount s) m c) (let z : columnCount s - conditionsBefore s i - conditionCount s i ≡ columnCount s - (conditionsBefore s i + conditionCount s i) = omega arith in z) (orders-shaped s (columnCount s) (columnCount s - conditionsBefore s i) i (conditionCount s i) b P r))
+    (λ i b c h P r. subst (λ m. Shaped (columnCount s) m c)
+    (let z : columnCount s - conditionsBefore s i - conditionCount s i ≡ columnCount s - (conditionsBefore s i + conditionCount s i) = omega arith in z)
+    (orders-shaped s (columnCount s) (columnCount s - conditionsBefore s i) i (conditionCount s i) b P r))
     t e
 
 pub weights-shaped : (s : Space) {t : Table} → weights s ≡ answer t → Shaped (columnCount s) (rowCount s) t

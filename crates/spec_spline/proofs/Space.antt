@@ -24,7 +24,9 @@ pub is-discontinuity : (s : Space) (i : ℕ) → order s i ≡ negsuc 0 → isDi
 is-discontinuity s i e = eq-eqb (conditionCount s i) 0 (ap (λ z. natAbs (z +ℤ pos 1)) e)
 
 pub is-no-discontinuity : (s : Space) (i : ℕ) → ¬ (order s i ≡ negsuc 0) → isDiscontinuity s i ≡ false
-is-no-discontinuity s i n = ne-eqb (conditionCount s i) 0 (λ e. n (ext (order s i) (negsuc 0) (omega (arith, bal-+ (order s i) (pos 1), ap up (abs-zero (order s i +ℤ pos 1) e), ap dn (abs-zero (order s i +ℤ pos 1) e)))))
+is-no-discontinuity s i n =
+    ne-eqb (conditionCount s i) 0
+    (λ e. n (ext (order s i) (negsuc 0) (omega (arith, bal-+ (order s i) (pos 1), ap up (abs-zero (order s i +ℤ pos 1) e), ap dn (abs-zero (order s i +ℤ pos 1) e)))))
 
 -- ---- columns
 

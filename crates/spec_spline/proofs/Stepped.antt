@@ -97,8 +97,11 @@ module _ {j : ℕ} {κ : List Entry} {t t′ : Table} (p : StepParts j κ t t′
 
       go : (f ≤ i) ⊎ (i < f) → (l ≤ i) ⊎ (i < l) → Source i
       go (inr h) k = kept h (at (row t i) (spliced-before t (p .rs) f (suc l) within i [] h))
-      go (inl h) (inl k) = later k (at (row t (suc i)) (spliced-after t (p .rs) f (suc l) within i (suc i) [] (omega (arith, new-rows .size, step-spans .ordered)) (omega (arith, new-rows .size, step-spans .ordered))))
+      go (inl h) (inl k) =
+          later k (at (row t (suc i)) (spliced-after t (p .rs) f (suc l) within i (suc i) [] (omega (arith, new-rows .size, step-spans .ordered))
+          (omega (arith, new-rows .size, step-spans .ordered))))
       go (inl h) (inr k) = new h k
-          (ap₂ (λ m n. newRow j (entry (p .ws) (i - f)) (entry (p .ws) (suc (i - f))) (row t m) (row t n)) (let z : i ≡ f + (i - f) = omega arith in z) (let z : suc i ≡ f + suc (i - f) = omega arith in z)
+          (ap₂ (λ m n. newRow j (entry (p .ws) (i - f)) (entry (p .ws) (suc (i - f))) (row t m) (row t n)) (let z : i ≡ f + (i - f) = omega arith in z)
+          (let z : suc i ≡ f + suc (i - f) = omega arith in z)
           ∙ new-rows .at (i - f) (omega arith) []
           ∙ ap answer (sym (at (row (p .rs) (i - f)) (spliced-inside t (p .rs) f (suc l) within i [] h (omega (arith, new-rows .size, step-spans .ordered))))))

@@ -27,7 +27,8 @@ use Rattle.theorems_weights.proofs.Cells.{cells-hold-published-weights}
 use Rattle.theorems_weights.proofs.PublishedBasis.{pairing-applied, basis-meets, basis-gives-one}
 use Rattle.theorems_acceptance.proofs.Reached.{weights-refused}
 use Rattle.theorems_acceptance.proofs.NineNever.{weights-not-nine}
-use Rattle.theorems_basis.specs.Basis.{IsBasis, PublishedIsABasis, PublishedOrTooLarge, published, too-large, LegalIsPublishedOrTooLarge, BuiltOrTooLarge, holds, refused, LegalIsBuiltOrTooLarge, EightHasABasis}
+use Rattle.theorems_basis.specs.Basis.{IsBasis, PublishedIsABasis, PublishedOrTooLarge, published, too-large, LegalIsPublishedOrTooLarge, BuiltOrTooLarge}
+use Rattle.theorems_basis.specs.Basis.{holds, refused, LegalIsBuiltOrTooLarge, EightHasABasis}
 use Rattle.theorems_basis.proofs.Stages.{last-stage, extraction-rows}
 
 -- n rows that are a basis for the conditions of all joins are one in the words of demand 2

@@ -28,7 +28,9 @@ use Rattle.theorems_recovery.specs.RecoveryCall.{badOrdinate, legalOrdinates, r
 use Rattle.theorems_recovery.specs.Reproduction.{MissedCondition}
 use Rattle.theorems_recovery.proofs.Reproduction.{answers-have-the-weights, answers-reproduce, nineteen-misses-a-condition, CurveEnd, by-an-answer, by-the-build, by-twenty, curve-ends}
 use Rattle.theorems_recovery.proofs.RecoveredCells.{call-nineteen}
-use Rattle.theorems_basis.specs.Coefficients.{NoneAfterNineteen, NoneAfterCallsWithNineteen, AnsweredOrTooLarge, answered, weights-too-large, coefficients-too-large, RefusedForSizeAlone, CallsRefusedForSizeAlone, CurvesHaveOneList, AnswersAreOfPublishedRows}
+use Rattle.theorems_basis.specs.Coefficients.{NoneAfterNineteen, NoneAfterCallsWithNineteen, AnsweredOrTooLarge, answered, weights-too-large}
+use Rattle.theorems_basis.specs.Coefficients.{coefficients-too-large, RefusedForSizeAlone, CallsRefusedForSizeAlone, CurvesHaveOneList}
+use Rattle.theorems_basis.specs.Coefficients.{AnswersAreOfPublishedRows}
 use Rattle.theorems_basis.proofs.Basis.{published-is-a-basis, refused-with-eight}
 
 -- ---- code 19

@@ -31,7 +31,8 @@ use Rattle.theorems_recovery.proofs.Computing.{recovering}
 use Rattle.theorems_basis.specs.Basis.{IsBasis, BuiltOrTooLarge}
 use Rattle.theorems_basis.specs.Coefficients.{Reproduce, AnsweredOrTooLarge}
 use Rattle.theorems_basis.proofs.Basis.{eight-has-a-basis, legal-is-built-or-too-large}
-use Rattle.theorems_basis.proofs.Coefficients.{none-after-nineteen, none-after-calls-with-nineteen, refused-for-size-alone, calls-refused-for-size-alone, curves-have-one-list, answers-are-of-published-rows}
+use Rattle.theorems_basis.proofs.Coefficients.{none-after-nineteen, none-after-calls-with-nineteen, refused-for-size-alone, calls-refused-for-size-alone}
+use Rattle.theorems_basis.proofs.Coefficients.{curves-have-one-list, answers-are-of-published-rows}
 
 -- ---- the space and its basis
 

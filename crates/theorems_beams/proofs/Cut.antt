@@ -20,7 +20,8 @@ use Rattle.spec_spline.proofs.Legal.{Checked, lengths-fit-inverts}
 use Rattle.theorems_beams.specs.Sections.{section, partAt}
 use Rattle.theorems_beams.specs.Parts.{Starts}
 use Rattle.theorems_beams.proofs.Carried.{carried, carried-later, carried-repeat, joined, repeat-ext, repeat-add}
-use Rattle.theorems_beams.proofs.Sections.{section-segments, section-conditionCount, section-columnCount, section-all, front-columns, front-starts, front-section, moved, section-conditions, OrdersFit, orders-fit, section-orders-fit}
+use Rattle.theorems_beams.proofs.Sections.{section-segments, section-conditionCount, section-columnCount, section-all, front-columns, front-starts}
+use Rattle.theorems_beams.proofs.Sections.{front-section, moved, section-conditions, OrdersFit, orders-fit, section-orders-fit}
 
 -- A kind of state, with what a cut asks of it: a step by a condition on the columns of one of two states that stand side by side
 -- acts on that state alone, and the state at the start is two such states.
@@ -178,7 +179,8 @@ module _ {State : Type 0} (K : Kind State) where
     front-run =
         cut-run (section s 0 b) (section-orders-fit s 0 b (omega (arith, in-beam)) F) a (b - a) whole-front (front-starts s b a (ends .above) ∙ A .starts) (omega (arith, ends .above))
         0 (omega (arith, enough, front-columns s b in-beam))
-        ∙ ap₂ (λ x y. joined a (K .beside (columnCount x) (columnCount y)) (run x 0) (run y (0 + columnCount x))) (front-section s b 0 a (omega (arith, ends .above))) (front-section s b a (b - a) (omega (arith, ends .above)))
+        ∙ ap₂ (λ x y. joined a (K .beside (columnCount x) (columnCount y)) (run x 0) (run y (0 + columnCount x))) (front-section s b 0 a (omega (arith, ends .above)))
+        (front-section s b a (b - a) (omega (arith, ends .above)))
         ∙ ap₂ (λ m c. joined a (K .beside m (columnCount (partAt s a))) (run (section s 0 a) 0) (run (partAt s a) c)) columns-before (nothing-add (columnCount (section s 0 a)) ∙ columns-before)
 
   -- a front that is refused refuses the beam

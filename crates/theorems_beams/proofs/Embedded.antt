@@ -53,7 +53,9 @@ pub zeros-behind : (r : Row) (b c : ℕ) → entry (r ++ zeros b) c ≡ entry r 
 zeros-behind r b c = go (le-or-lt (length r) c)
   where
     go : (length r ≤ c) ⊎ (c < length r) → entry (r ++ zeros b) c ≡ entry r c
-    go (inl h) = ap (entry (r ++ zeros b)) (let e : c ≡ length r + (c - length r) = omega arith in e) ∙ getD-append-add r (zeros b) (c - length r) (int (pos 0)) ∙ zeros-entry b (c - length r) ∙ sym (entry-past r c h)
+    go (inl h) =
+        ap (entry (r ++ zeros b)) (let e : c ≡ length r + (c - length r) = omega arith in e) ∙ getD-append-add r (zeros b) (c - length r) (int (pos 0))
+        ∙ zeros-entry b (c - length r) ∙ sym (entry-past r c h)
     go (inr h) = List·getD-append r (zeros b) (int (pos 0)) c h
 
 pub zeros-before : (a : ℕ) (r : Row) (c : ℕ) → entry (zeros a ++ r) (a + c) ≡ entry r c
@@ -192,7 +194,8 @@ module _ (ρ : ℕ → ℕ) (j j′ : ℕ) (place : ρ (capped j) ≡ capped j�
   unfolding factors
   factors-carried p q js g = carried-then ρ (λ ws. ws) (λ ws. ws) (collect (g .l - g .f - 1) (λ d. factor j js (g .f) (g .f + 1 + d))) _ _
       (ap (λ n. collect n (λ d. factor j′ (padded p q js) (p + g .f) (p + g .f + 1 + d))) (let e : p + g .l - (p + g .f) - 1 ≡ g .l - g .f - 1 = omega arith in e)
-      ∙ carried-collect ρ (λ y. y) (λ ws. ws) (λ xs x. refl) (g .l - g .f - 1) (λ d. factor j js (g .f) (g .f + 1 + d)) (λ d. factor j′ (padded p q js) (p + g .f) (p + g .f + 1 + d)) refl (λ d h. one d))
+      ∙ carried-collect ρ (λ y. y) (λ ws. ws) (λ xs x. refl) (g .l - g .f - 1) (λ d. factor j js (g .f) (g .f + 1 + d))
+      (λ d. factor j′ (padded p q js) (p + g .f) (p + g .f + 1 + d)) refl (λ d h. one d))
       (λ ws e. refl)
     where
       one : (d : ℕ) → factor j′ (padded p q js) (p + g .f) (p + g .f + 1 + d) ≡ carried ρ (λ y. y) (factor j js (g .f) (g .f + 1 + d))
@@ -221,7 +224,8 @@ module _ (ρ : ℕ → ℕ) (j j′ : ℕ) (place : ρ (capped j) ≡ capped j�
       ∙ framed-collect ρ (int (pos 0)) a b (length r) (λ c. newEntry j w v (entry r c) (entry r′ c)) new b
       (λ c h. ap₂ (newEntry j′ w v) (padded-before a b r c h) (padded-before a b r′ c h) ∙ newEntry-zero w v)
       (λ c h. ap₂ (newEntry j′ w v) (padded-at a b r c) (padded-at a b r′ c) ∙ newEntry-carried w v (entry r c) (entry r′ c))
-      (λ c h. ap new (let e : a + length r + c ≡ a + (length r + c) = omega arith in e) ∙ ap₂ (newEntry j′ w v) (padded-behind a b r (length r + c) (omega arith)) (padded-behind a b r′ (length r + c) (omega (arith, same))) ∙ newEntry-zero w v)
+      (λ c h. ap new (let e : a + length r + c ≡ a + (length r + c) = omega arith in e)
+      ∙ ap₂ (newEntry j′ w v) (padded-behind a b r (length r + c) (omega arith)) (padded-behind a b r′ (length r + c) (omega (arith, same))) ∙ newEntry-zero w v)
     where
       new : ℕ → Outcome ℚ
       new c = newEntry j′ w v (entry (padded a b r) c) (entry (padded a b r′) c)

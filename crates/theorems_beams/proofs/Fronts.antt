@@ -24,7 +24,9 @@ use Rattle.spec_spline.proofs.Shape.{weights-shaped}
 use Rattle.theorems_beams.specs.Sections.{section, partAt, zeros, beside}
 use Rattle.theorems_beams.specs.Parts.{Starts}
 use Rattle.theorems_beams.proofs.Carried.{joined, joined-answers, joined-refuses, Joined, joined-inverts}
-use Rattle.theorems_beams.proofs.Sections.{section-segments, section-conditionsBefore, section-columnCount, section-all, front-columns, front-firstColumn, front-conditionsBefore, OrdersFit, section-orders-fit, conditions-fewer, conditions-between}
+use Rattle.theorems_beams.proofs.Sections.{section-segments, section-conditionsBefore, section-columnCount, section-all, front-columns}
+use Rattle.theorems_beams.proofs.Sections.{front-firstColumn, front-conditionsBefore, OrdersFit, section-orders-fit, conditions-fewer}
+use Rattle.theorems_beams.proofs.Sections.{conditions-between}
 use Rattle.theorems_beams.proofs.Cut.{front-run, refused-run}
 use Rattle.theorems_beams.proofs.Sides.{tables}
 use Rattle.theorems_beams.proofs.Ends.{boundary-starts, front-lastPartStart}
@@ -71,7 +73,9 @@ module _ (s : Space) (F : OrdersFit s) (a : ℕ) (A : Starts s a) where
 
   pub front-rows-more : rowCount (section s 0 b) ≡ rowsBefore s a + rowCount part
   front-rows-more =
-      ap₂ _-_ (front-columns s b within ∙ part-columns) (ap (λ m. conditionsBefore (section s 0 b) (m - 1)) (section-segments s 0 b (omega (arith, within))) ∙ front-conditionsBefore s b (b - 1) (omega (arith, ends .above)) ∙ counted)
+      ap₂ _-_ (front-columns s b within ∙ part-columns)
+      (ap (λ m. conditionsBefore (section s 0 b) (m - 1)) (section-segments s 0 b (omega (arith, within)))
+      ∙ front-conditionsBefore s b (b - 1) (omega (arith, ends .above)) ∙ counted)
       ∙ omega (arith, conditions-fewer s F a (A .below), fewer)
     where
       size : segments part ≡ b - a
@@ -84,14 +88,22 @@ module _ (s : Space) (F : OrdersFit s) (a : ℕ) (A : Starts s a) where
           ∙ ap (λ m. conditionsBefore s a + conditionsBefore part (m - 1)) (sym size)
 
       fewer : conditionsBefore part (segments part - 1) ≤ columnCount part
-      fewer = omega (arith, conditions-fewer part (section-orders-fit s a (b - a) (omega (arith, within, whole)) F) (segments part - 1) (omega (arith, size, ends .above)), firstColumn-mono part (segments part - 1) (segments part) (omega arith))
+      fewer =
+          omega (
+            arith,
+            conditions-fewer part (section-orders-fit s a (b - a) (omega (arith, within, whole)) F) (segments part - 1)
+                (omega (arith, size, ends .above)),
+            firstColumn-mono part (segments part - 1) (segments part) (omega arith),
+          )
 
 -- the rows of a front that ends where a part starts
 pub front-rows : (s : Space) (a : ℕ) → Starts s a → rowCount (section s 0 a) ≡ rowsBefore s a
 unfolding firstColumn conditionsBefore startsPart
 front-rows s zero A = refl
 front-rows s (suc a) A =
-    ap₂ _-_ (front-columns s (suc a) (omega (arith, A .below))) (ap (λ m. conditionsBefore (section s 0 (suc a)) (m - 1)) (section-segments s 0 (suc a) (omega (arith, A .below))) ∙ ap (conditionsBefore (section s 0 (suc a))) (let e : suc a - 1 ≡ a = omega arith in e) ∙ front-conditionsBefore s (suc a) a (omega arith) ∙ counted)
+    ap₂ _-_ (front-columns s (suc a) (omega (arith, A .below)))
+    (ap (λ m. conditionsBefore (section s 0 (suc a)) (m - 1)) (section-segments s 0 (suc a) (omega (arith, A .below)))
+    ∙ ap (conditionsBefore (section s 0 (suc a))) (let e : suc a - 1 ≡ a = omega arith in e) ∙ front-conditionsBefore s (suc a) a (omega arith) ∙ counted)
   where
     counted : conditionsBefore s a ≡ conditionsBefore s a + conditionCount s a
     counted = omega (arith, eqb-true (conditionCount s a) 0 (A .starts))
@@ -108,7 +120,9 @@ pub front-rows-within : (s : Space) → Lengths s → OrdersFit s → (b : ℕ) 
 front-rows-within s L F b B = go (le-or-lt (segments s) b)
   where
     go : (segments s ≤ b) ⊎ (b < segments s) → rowCount (section s 0 b) ≤ rowCount s
-    go (inl h) = let e : rowCount (section s 0 b) ≡ rowCount s = ap (λ n. rowCount (section s 0 n)) (let z : b ≡ segments s = omega (arith, B .within) in z) ∙ ap rowCount (section-all s L) in omega arith
+    go (inl h) =
+        let e : rowCount (section s 0 b) ≡ rowCount s = ap (λ n. rowCount (section s 0 n)) (let z : b ≡ segments s = omega (arith, B .within) in z)
+        ∙ ap rowCount (section-all s L) in omega arith
     go (inr h) =
         let e : b + (segments s - 1 - b) ≡ segments s - 1 = omega arith in
         omega (arith, front-rows s b (boundary-starts B h), rw e at (conditions-between s F b (segments s - 1 - b) (omega arith)), firstColumn-mono s (segments s - 1) (segments s) (omega arith))
@@ -124,11 +138,14 @@ lower-right left right t u = ap (map (drop left)) (drop-at (map (λ r. r ++ zero
     rows [] = refl
     rows (r ∷ u) = ap₂ _∷_ (drop-tab left (λ _. int (pos 0)) r) (rows u)
 
-pub front-lastPart : (s : Space) (a : ℕ) → Starts s a → (t u : Table) → weights (section s 0 a) ≡ answer t → lastPart (section s 0 (partEnd s a)) (beside (firstColumn s a) (columnCount (partAt s a)) t u) ≡ u
+pub front-lastPart : (s : Space) (a : ℕ) → Starts s a → (t u : Table) → weights (section s 0 a) ≡ answer t
+    → lastPart (section s 0 (partEnd s a)) (beside (firstColumn s a) (columnCount (partAt s a)) t u) ≡ u
 unfolding lastPart
 front-lastPart s a A t u e =
     ap (λ c. map (drop (firstColumn (section s 0 b) c)) (drop (rowsBefore (section s 0 b) c) T)) (front-lastPartStart s a b (A .starts) E)
-    ∙ ap₂ (λ c r. map (drop c) (drop r T)) (front-firstColumn s b a (omega (arith, E .above))) (ap₂ _-_ (front-firstColumn s b a (omega (arith, E .above))) (front-conditionsBefore s b a (E .above)) ∙ sym (front-rows s a A) ∙ sym (weights-shaped (section s 0 a) e .rows))
+    ∙ ap₂ (λ c r. map (drop c) (drop r T)) (front-firstColumn s b a (omega (arith, E .above)))
+    (ap₂ _-_ (front-firstColumn s b a (omega (arith, E .above))) (front-conditionsBefore s b a (E .above)) ∙ sym (front-rows s a A)
+    ∙ sym (weights-shaped (section s 0 a) e .rows))
     ∙ lower-right (firstColumn s a) (columnCount (partAt s a)) t u
   where
     b : ℕ

@@ -14,7 +14,8 @@ use lib.Seq.{length-take-le}
 use lib.Signed.{leZ, ltZ}
 use Rattle.base_exact.proofs.Decide.{or-false}
 use Rattle.base_outcome.specs.Search.{last}
-use Rattle.spec_spline.specs.Space.{Space, segments, break, degreeEntry, order, partSegmentLimit, breakLimit, spanLimit, degreeLimit, badBreak, badDegree, badOrder, spanTooLong, tooManySegments, startsPart, partEnd, lastPartStart, firstColumn, conditionsBefore}
+use Rattle.spec_spline.specs.Space.{Space, segments, break, degreeEntry, order, partSegmentLimit, breakLimit, spanLimit, degreeLimit, badBreak, badDegree}
+use Rattle.spec_spline.specs.Space.{badOrder, spanTooLong, tooManySegments, startsPart, partEnd, lastPartStart, firstColumn, conditionsBefore}
 use Rattle.base_outcome.specs.Tests.{between}
 use Rattle.spec_spline.specs.Table.{Table}
 use Rattle.spec_spline.specs.Build.{lastPart}
@@ -91,7 +92,9 @@ module _ (s : Space) (a : ℕ) (A : Starts s a) where
     lengths = lengths-fit part (section-lengths s (lengths-fit-inverts s (c .lengths)) a n (omega (arith, ends .above)) (omega (arith, behind, ends .boundary .within)));
     breaks = λ i h. good-break i (omega (arith, part-segments));
     spans = λ i h. no-span i (omega (arith, part-segments));
-    degrees = λ i h. ap (λ d. not (between (pos 1) (pos degreeLimit) d)) (section-degreeEntry s a n i (omega (arith, part-segments))) ∙ c .degrees (a + i) (omega (arith, part-segments, behind, ends .boundary .within));
+    degrees =
+        λ i h. ap (λ d. not (between (pos 1) (pos degreeLimit) d)) (section-degreeEntry s a n i (omega (arith, part-segments)))
+        ∙ c .degrees (a + i) (omega (arith, part-segments, behind, ends .boundary .within));
     orders = λ i h. good-order i (omega (arith, part-segments));
     few = λ i h. few i (omega (arith, part-segments));
   }
@@ -116,7 +119,8 @@ module _ (s : Space) (a : ℕ) (A : Starts s a) where
       good-order : (i : ℕ) → suc i < n → badOrder part i ≡ false
       good-order i h =
           ap₂ (λ o d. not (between (negℤ (pos 1)) (pos 2) o) || leZ d o || leZ (degreeEntry part (suc i)) o) (section-order s a n i h) (section-degreeEntry s a n i (omega arith))
-          ∙ ap (λ d. not (between (negℤ (pos 1)) (pos 2) (order s (a + i))) || leZ (degreeEntry s (a + i)) (order s (a + i)) || leZ d (order s (a + i))) (section-degreeEntry s a n (suc i) h ∙ ap (degreeEntry s) (add-suc a i))
+          ∙ ap (λ d. not (between (negℤ (pos 1)) (pos 2) (order s (a + i))) || leZ (degreeEntry s (a + i)) (order s (a + i)) || leZ d (order s (a + i)))
+          (section-degreeEntry s a n (suc i) h ∙ ap (degreeEntry s) (add-suc a i))
           ∙ c .orders (a + i) (omega (arith, behind, ends .boundary .within))
 
       few : (i : ℕ) → i < n → tooManySegments part i ≡ false
@@ -131,7 +135,9 @@ module _ (s : Space) (a : ℕ) (A : Starts s a) where
   pub part-short : Checked s → ltZ (pos spanLimit) (break part (segments part) -ℤ break part 0) ≡ false
   unfolding spanTooLong
   part-short c =
-      ap (λ z. ltZ (pos spanLimit) z) (ap₂ _-ℤ_ (ap (break part) part-segments ∙ section-break s a n n (omega arith) ∙ ap (break s) behind) (section-break s a n 0 (omega arith) ∙ ap (break s) (add-zero a)))
+      ap (λ z. ltZ (pos spanLimit) z)
+      (ap₂ _-ℤ_ (ap (break part) part-segments ∙ section-break s a n n (omega arith) ∙ ap (break s) behind)
+      (section-break s a n 0 (omega arith) ∙ ap (break s) (add-zero a)))
       ∙ sym (ap (λ b. b && ltZ (pos spanLimit) (break s (partEnd s a) -ℤ break s a)) (A .starts)) ∙ c .spans a (A .below)
 
 pub parts-are-legal : PartsAreLegal

@@ -164,7 +164,10 @@ module _ (s : Space) (c : Checked s) where
               place : (k ≡ a) ⊎ (k < a) → Accepted (partAt s k)
               place (inl z) = subst (λ i. Accepted (partAt s i)) (sym z) (checked-accepted (partAt s a) (part-checked s a A c) u h)
               place (inr z) = earlier k z K
-      go (refusal code own) h = refused (λ code′ place e′. found code′ place (let z : refusal code′ place ≡ refusal code (capped (a + own)) = sym e′ ∙ refused-front s c (partEnd s a) (E .boundary) (front-refuses s (orders-fit s c) a A e h) in z))
+      go (refusal code own) h =
+          refused (λ code′ place e′. found code′ place
+          (let z : refusal code′ place ≡ refusal code (capped (a + own)) = sym e′
+          ∙ refused-front s c (partEnd s a) (E .boundary) (front-refuses s (orders-fit s c) a A e h) in z))
         where
           found : (code′ place : ℕ) → _≡_ {A = Outcome Table} (refusal code′ place) (refusal code (capped (a + own))) → FirstRefused s code′ place
           found code′ place z = record {
@@ -190,7 +193,9 @@ refused-with-a-part s e code place r = go (all-parts s c)
     go (accepted t h earlier) = absurd (answer-not-refusal (ap weights (sym (section-all s (lengths-fit-inverts s (c .lengths)))) ∙ h) r)
 
 pub refused-by-a-part : RefusedByAPart
-refused-by-a-part s e code place x = refused-front s c (partEnd s a) (part-ends s a (A .below) .boundary) (front-refuses s (orders-fit s c) a A (before .1) (x .refuses)) ∙ ap (refusal code) (sym (x .place-is))
+refused-by-a-part s e code place x =
+    refused-front s c (partEnd s a) (part-ends s a (A .below) .boundary) (front-refuses s (orders-fit s c) a A (before .1) (x .refuses))
+    ∙ ap (refusal code) (sym (x .place-is))
   where
     c : Checked s
     c = checked-inverts s e .1

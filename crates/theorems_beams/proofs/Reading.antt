@@ -70,7 +70,9 @@ sums-agree t t′ a a′ c c′ (suc n) h k = ap₂ _+ℤ_ (sums-agree t t′ a 
 sum-past : (t : Table) (a : ℕ → ℤ) (c m n : ℕ) → ((i : ℕ) → i < n → cell t (m + i) c ≡ int (pos 0)) → termSum t a c (m + n) ≡ termSum t a c m
 unfolding termSum
 sum-past t a c m zero h = ap (termSum t a c) (add-zero m)
-sum-past t a c m (suc n) h = ap (termSum t a c) (add-suc m n) ∙ ap (λ z. termSum t a c (m + n) +ℤ z) (weighed-zero (a (m + n)) (h n (omega arith))) ∙ +-zero (termSum t a c (m + n)) ∙ sum-past t a c m n (λ i l. h i (omega arith))
+sum-past t a c m (suc n) h =
+    ap (termSum t a c) (add-suc m n) ∙ ap (λ z. termSum t a c (m + n) +ℤ z) (weighed-zero (a (m + n)) (h n (omega arith))) ∙ +-zero (termSum t a c (m + n))
+    ∙ sum-past t a c m n (λ i l. h i (omega arith))
 
 sum-none : (t : Table) (a : ℕ → ℤ) (c m : ℕ) → ((i : ℕ) → i < m → cell t i c ≡ int (pos 0)) → termSum t a c m ≡ pos 0
 unfolding termSum
@@ -101,7 +103,8 @@ module _ (left right : ℕ) (t u : Table) (a : ℕ → ℤ) where
   pub ordinate-left : (c : ℕ) → c < left → ordinate both a c ≡ ordinate t a c
   unfolding ordinate
   ordinate-left c h = same-ordinate (bests (λ y z. leZ z y)) (bests leZ)
-      (ap (termSum both a c) (beside-length left right t u) ∙ sum-past both a c (length t) (length u) (λ i l. cell-lower-left left right t u i c h) ∙ sums-agree both t a a c c (length t) (λ i l. cell-upper left right t u i c l) (λ i l. refl))
+      (ap (termSum both a c) (beside-length left right t u) ∙ sum-past both a c (length t) (length u) (λ i l. cell-lower-left left right t u i c h)
+      ∙ sums-agree both t a a c c (length t) (λ i l. cell-upper left right t u i c l) (λ i l. refl))
     where
       bests : (prefers : ℤ → ℤ → Bool) → best prefers (length both) (hasWeight both c) a ≡ best prefers (length t) (hasWeight t c) a
       bests prefers =
@@ -121,11 +124,13 @@ module _ (left right : ℕ) (t u : Table) (a : ℕ → ℤ) where
       bests prefers =
           ap (λ n. best prefers n (hasWeight both (left + c)) a) (beside-length left right t u)
           ∙ best-skip prefers (length t) (length u) (hasWeight both (left + c)) a (λ i l. ap not (zero-test (nothing i l)))
-          ∙ best-agree prefers (length u) (λ i. hasWeight both (left + c) (length t + i)) (hasWeight u c) (λ i. a (length t + i)) (λ i. a (length t + i)) (λ i l. ap (λ q. not (isZero q)) (cell-lower left right t u i c)) (λ i l. refl)
+          ∙ best-agree prefers (length u) (λ i. hasWeight both (left + c) (length t + i)) (hasWeight u c) (λ i. a (length t + i)) (λ i. a (length t + i))
+          (λ i l. ap (λ q. not (isZero q)) (cell-lower left right t u i c)) (λ i l. refl)
 
 -- the ordinates of a front: those of the front before the part, then the part's
 pub front-ordinates : (s : Space) → OrdersFit s → (a : ℕ) → Starts s a → (t u : Table) → weights (section s 0 a) ≡ answer t → (coefs : ℕ → ℤ)
-    → ordinates (section s 0 (partEnd s a)) (beside (firstColumn s a) (columnCount (partAt s a)) t u) coefs ≡ ordinates (section s 0 a) t coefs ++ ordinates (partAt s a) u (λ i. coefs (rowsBefore s a + i))
+    → ordinates (section s 0 (partEnd s a)) (beside (firstColumn s a) (columnCount (partAt s a)) t u) coefs
+    ≡ ordinates (section s 0 a) t coefs ++ ordinates (partAt s a) u (λ i. coefs (rowsBefore s a + i))
 unfolding ordinates
 front-ordinates s F a A t u e coefs =
     ap (λ n. tab n (ordinate T coefs)) (front-columns s (partEnd s a) (part-ends s a (A .below) .boundary .within) ∙ part-columns s F a A)

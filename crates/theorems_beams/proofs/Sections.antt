@@ -85,7 +85,9 @@ module _ (s : Space) (a n : ℕ) where
 
 -- the whole beam
 pub section-all : (s : Space) → Lengths s → section s 0 (segments s) ≡ s
-section-all s L = space-is (take-all (suc (segments s)) (s .breaks) (omega (arith, L .break-count))) (take-all (segments s) (s .degrees) (omega arith)) (take-all (segments s - 1) (s .orders) (omega (arith, L .order-count)))
+section-all s L =
+    space-is (take-all (suc (segments s)) (s .breaks) (omega (arith, L .break-count))) (take-all (segments s) (s .degrees) (omega arith))
+    (take-all (segments s - 1) (s .orders) (omega (arith, L .order-count)))
 
 -- ---- the front of a beam: its sections from segment 0
 module _ (s : Space) (b : ℕ) where
@@ -150,7 +152,8 @@ module _ (s : Space) (a n i k : ℕ) (inside : suc i < n) where
   undivided-moved : undivided s (a + i) k ≡ moved (firstColumn s a) (undivided part i k)
   unfolding undivided
   undivided-moved =
-      ap₂ _++_ (tab-ext (suc k) (λ t h. left-moved t) ∙ sym (map-tab (movedEntry (firstColumn s a)) (suc k) (leftEntry part i k))) (tab-ext (suc k) (λ t h. right-moved t) ∙ sym (map-tab (movedEntry (firstColumn s a)) (suc k) (rightEntry part i k)))
+      ap₂ _++_ (tab-ext (suc k) (λ t h. left-moved t) ∙ sym (map-tab (movedEntry (firstColumn s a)) (suc k) (leftEntry part i k)))
+      (tab-ext (suc k) (λ t h. right-moved t) ∙ sym (map-tab (movedEntry (firstColumn s a)) (suc k) (rightEntry part i k)))
       ∙ sym (map-append (movedEntry (firstColumn s a)) (tab (suc k) (leftEntry part i k)) (tab (suc k) (rightEntry part i k)))
 
   -- the conditions of the section's join are those of the beam's, in the section's columns
@@ -172,7 +175,9 @@ orders-fit s c = let L = legal s c in record { left = λ j h. L .below-left-degr
 pub section-orders-fit : (s : Space) (a n : ℕ) → a + n ≤ segments s → OrdersFit s → OrdersFit (section s a n)
 section-orders-fit s a n h F = record {
   left = λ j l. let k : suc j < n = rw (section-segments s a n h) at l in omega (arith, F .left (a + j) (omega arith), section-conditionCount s a n j k, section-degree s a n j (omega arith));
-  right = λ j l. let k : suc j < n = rw (section-segments s a n h) at l in omega (arith, F .right (a + j) (omega arith), section-conditionCount s a n j k, section-degree s a n (suc j) k, ap (degree s) (add-suc a j));
+  right =
+      λ j l. let k : suc j < n = rw (section-segments s a n h) at l in
+      omega (arith, F .right (a + j) (omega arith), section-conditionCount s a n j k, section-degree s a n (suc j) k, ap (degree s) (add-suc a j));
 }
 
 -- the conditions before a join are fewer than the columns before it

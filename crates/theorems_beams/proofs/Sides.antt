@@ -36,7 +36,8 @@ use Rattle.theorems_beams.proofs.Cut.{Kind, cut-run}
 
 -- ---- jumps of padded rows, and of rows that have zeros in the condition's columns
 
-pub products-carried : (ρ : ℕ → ℕ) (j j′ : ℕ) → ρ (capped j) ≡ capped j′ → (a : ℕ) (r r′ : Row) → ((c : ℕ) → entry r′ (a + c) ≡ entry r c) → (s : ℚ) (κ : List Entry) → addProducts j′ r′ s (moved a κ) ≡ carried ρ (λ x. x) (addProducts j r s κ)
+pub products-carried : (ρ : ℕ → ℕ) (j j′ : ℕ) → ρ (capped j) ≡ capped j′ → (a : ℕ) (r r′ : Row) → ((c : ℕ) → entry r′ (a + c) ≡ entry r c) → (s : ℚ) (κ : List Entry)
+    → addProducts j′ r′ s (moved a κ) ≡ carried ρ (λ x. x) (addProducts j r s κ)
 unfolding addProducts
 products-carried ρ j j′ place a r r′ same s [] = refl
 products-carried ρ j j′ place a r r′ same s (e ∷ κ) =
@@ -50,7 +51,8 @@ quiet j a n r nothing (more {e = e} {es = es} h I) = products-more j r (int (pos
   where
     product : oneMore j r (int (pos 0)) (record { column = a + e .column; condition = e .condition }) ≡ answer (int (pos 0))
     product =
-        then-answers (λ p. count j (int (pos 0) +ᵠ p)) (ap (λ x. count j (x *ᵠ int (e .condition))) (nothing (e .column) h) ∙ ap (count j) (zero-mul (int (e .condition))) ∙ count-fits j (int (pos 0)) zero-fits)
+        then-answers (λ p. count j (int (pos 0) +ᵠ p))
+        (ap (λ x. count j (x *ᵠ int (e .condition))) (nothing (e .column) h) ∙ ap (count j) (zero-mul (int (e .condition))) ∙ count-fits j (int (pos 0)) zero-fits)
         ∙ ap (count j) (add-zero (int (pos 0))) ∙ count-fits j (int (pos 0)) zero-fits
 
 -- ---- one step on two tables side by side
@@ -100,7 +102,8 @@ module _ (left right : ℕ) where
       rows [] = refl
       rows (r ∷ u) = ap₂ _∷_ (append-nil (zeros left ++ r)) (rows u)
 
-  pub right-step : (d j : ℕ) (κ : List Entry) (t u : Table) → Wide left t → Wide right u → Inside right κ → step (d + j) (moved left κ) (beside left right t u) ≡ carried (λ p. capped (d + p)) (beside left right t) (step j κ u)
+  pub right-step : (d j : ℕ) (κ : List Entry) (t u : Table) → Wide left t → Wide right u → Inside right κ
+      → step (d + j) (moved left κ) (beside left right t u) ≡ carried (λ p. capped (d + p)) (beside left right t) (step j κ u)
   right-step d j κ t u wide wide′ inside =
       ap (step (d + j) (moved left κ)) (sym (right-embedded d j κ t u wide inside))
       ∙ embedded-step (right-around d j κ t wide inside) u right wide′
@@ -118,7 +121,8 @@ module _ (left right : ℕ) where
   unfolding identity beside
   identity-beside =
       tab-add left right (λ i. tab (left + right) (one i))
-      ∙ ap₂ _++_ (tab-ext left (λ i h. upper i h) ∙ sym (map-tab (λ r. r ++ zeros right) left (λ i. tab left (one i)))) (tab-ext right (λ i h. lower i) ∙ sym (map-tab (λ r. zeros left ++ r) right (λ i. tab right (one i))))
+      ∙ ap₂ _++_ (tab-ext left (λ i h. upper i h) ∙ sym (map-tab (λ r. r ++ zeros right) left (λ i. tab left (one i))))
+      (tab-ext right (λ i h. lower i) ∙ sym (map-tab (λ r. zeros left ++ r) right (λ i. tab right (one i))))
     where
       one : ℕ → ℕ → ℚ
       one i k = cond (eqb i k) (int (pos 1)) (int (pos 0))
@@ -127,7 +131,10 @@ module _ (left right : ℕ) where
       upper i h = tab-add left right (one i) ∙ ap (λ x. tab left (one i) ++ x) (tab-ext right (λ k l. cond-false (int (pos 1)) (int (pos 0)) (ne-eqb i (left + k) (λ e. omega arith))))
 
       lower : (i : ℕ) → tab (left + right) (one (left + i)) ≡ zeros left ++ tab right (one i)
-      lower i = tab-add left right (one (left + i)) ∙ ap₂ _++_ (tab-ext left (λ k l. cond-false (int (pos 1)) (int (pos 0)) (ne-eqb (left + i) k (λ e. omega arith)))) (tab-ext right (λ k l. ap (λ b. cond b (int (pos 1)) (int (pos 0))) (eqb-moved i k)))
+      lower i =
+          tab-add left right (one (left + i))
+          ∙ ap₂ _++_ (tab-ext left (λ k l. cond-false (int (pos 1)) (int (pos 0)) (ne-eqb (left + i) k (λ e. omega arith))))
+          (tab-ext right (λ k l. ap (λ b. cond b (int (pos 1)) (int (pos 0))) (eqb-moved i k)))
 
 -- ---- tables as a kind of state
 

@@ -43,7 +43,9 @@ climbing = record {
   adds = λ x y z w p q. Z.+-mono x y z w p q;
   scales = λ k x y h l. Z.*-mono-left k x y h l;
   limits = λ t a c C p q from to. let b = ordinate-between t a c C p q from to in (b .at-least, b .at-most);
-  mixes = λ d u x y h p q l. let b = blend-between d u h p q {low = x} {high = y} {g = x} {g′ = y} (record { at-least = Z.≤-refl x; at-most = l }) (record { at-least = l; at-most = Z.≤-refl y }) in (b .at-least, b .at-most);
+  mixes =
+      λ d u x y h p q l. let b = blend-between d u h p q {low = x} {high = y} {g = x} {g′ = y} (record { at-least = Z.≤-refl x; at-most = l })
+      (record { at-least = l; at-most = Z.≤-refl y }) in (b .at-least, b .at-most);
 }
 
 pub falling : Direction (λ x y. y ≤ℤ x)
@@ -54,7 +56,9 @@ falling = record {
   adds = λ x y z w p q. Z.+-mono y x w z p q;
   scales = λ k x y h l. Z.*-mono-left k y x h l;
   limits = λ t a c C p q from to. let b = ordinate-between t a c C q p to from in (b .at-most, b .at-least);
-  mixes = λ d u x y h p q l. let b = blend-between d u h p q {low = y} {high = x} {g = x} {g′ = y} (record { at-least = l; at-most = Z.≤-refl x }) (record { at-least = Z.≤-refl y; at-most = l }) in (b .at-most, b .at-least);
+  mixes =
+      λ d u x y h p q l. let b = blend-between d u h p q {low = y} {high = x} {g = x} {g′ = y} (record { at-least = l; at-most = Z.≤-refl x })
+      (record { at-least = Z.≤-refl y; at-most = l }) in (b .at-most, b .at-least);
 }
 
 -- ---- a blend goes with its ends, and with its place between them

@@ -61,7 +61,10 @@ module _ (s : Space) (c : Checked s) (y z : ℤ) (p : InSpan s y) (q : InSpan s 
       go : (segmentAt s y ≤ segmentAt s z) ⊎ (segmentAt s z < segmentAt s y) → segmentAt s y ≤ segmentAt s z
       go (inl l) = l
       go (inr l) =
-          let back : z ≤ℤ y = Z.≤-trans z _ y (not-past z q) (Z.≤-trans _ (fine (break s (segmentAt s y))) y (breaks-ordered (suc (segmentAt s z)) (segmentAt s y) l (omega (arith, located s c y p .below))) (not-before y p)) in
+          let back : z ≤ℤ y =
+          Z.≤-trans z _ y (not-past z q)
+          (Z.≤-trans _ (fine (break s (segmentAt s y))) y (breaks-ordered (suc (segmentAt s z)) (segmentAt s y) l (omega (arith, located s c y p .below)))
+          (not-before y p)) in
           omega (arith, ap (segmentAt s) (Z.≤-antisym y z h back))
 
 -- ---- values in one direction
@@ -103,7 +106,9 @@ module _ (s : Space) (x : Accepted s) (a : ℕ) (A : Starts s a) (low : LowOrder
 
     before-end : before (valueAt s (x .table) wood coefs y) (ord j (degree s j))
     unfolding valueAt blended
-    before-end = subst (before (triangle (fineWidth s j) (offset s j y) (given j) (degree s j) 0)) (ap (given j) (let z : 0 + degree s j ≡ degree s j = omega arith in z) ∙ given-is j (degree s j) (at .below) (omega arith))
+    before-end =
+        subst (before (triangle (fineWidth s j) (offset s j y) (given j) (degree s j) 0))
+        (ap (given j) (let z : 0 + degree s j ≡ degree s j = omega arith in z) ∙ given-is j (degree s j) (at .below) (omega arith))
         (before-last D (fineWidth s j) (at .positive) (given j) (degree s j) (given-follows j (Y .from) (Y .to)) (offset s j y) (at .from) (at .to) (degree s j) 0 (omega arith))
 
   pub values-follow : (y z : ℤ) → InPart s a y → InPart s a z → y ≤ℤ z → before (valueAt s (x .table) wood coefs y) (valueAt s (x .table) wood coefs z)
@@ -121,7 +126,10 @@ module _ (s : Space) (x : Accepted s) (a : ℕ) (A : Starts s a) (low : LowOrder
 
       go : (segmentAt s y ≡ segmentAt s z) ⊎ (segmentAt s y < segmentAt s z) → before (valueAt s (x .table) wood coefs y) (valueAt s (x .table) wood coefs z)
       go (inl e) = subst (λ k. offset s k z ≤ℤ pos (fineWidth s k) → before (read (segmentAt s y) y) (read k z)) e moved (at z W .to)
-      go (inr l) = D .chain _ _ _ (before-end y Y) (D .chain _ _ _ (subst (λ n. before (ord (segmentAt s y) (degree s (segmentAt s y))) (ord n 0)) (let w : segmentAt s y + suc (segmentAt s z - segmentAt s y - 1) ≡ segmentAt s z = omega arith in w)
+      go (inr l) =
+          D .chain _ _ _ (before-end y Y)
+          (D .chain _ _ _ (subst (λ n. before (ord (segmentAt s y) (degree s (segmentAt s y))) (ord n 0))
+          (let w : segmentAt s y + suc (segmentAt s z - segmentAt s y - 1) ≡ segmentAt s z = omega arith in w)
           (segments-follow s x a A low D f follow (segmentAt s y) (segmentAt s z - segmentAt s y - 1) (Y .from) (omega (arith, W .to)))) (after-start z W))
 
 -- ---- the two statements, and of the cells
@@ -134,10 +142,18 @@ climbing-lists-climb s x a A low wood coefs climbs y z Y W h = values-follow s x
 
 pub falling-cells : FallingCells
 falling-cells s coefs positions numLength denLength valuesLength l held wood a A low falls k m O =
-    rw (cell-holds-value s coefs positions numLength denLength valuesLength l held k (O .earlier-listed) wood, cell-holds-value s coefs positions numLength denLength valuesLength l held m (O .later-listed) wood)
+    rw (
+      cell-holds-value s coefs positions numLength denLength valuesLength l held k
+          (O .earlier-listed) wood,
+      cell-holds-value s coefs positions numLength denLength valuesLength l held m (O .later-listed) wood,
+    )
     (falling-lists-fall s (l .accepted) a A low wood coefs falls _ _ (O .earlier) (O .later) (O .ordered))
 
 pub climbing-cells : ClimbingCells
 climbing-cells s coefs positions numLength denLength valuesLength l held wood a A low climbs k m O =
-    rw (cell-holds-value s coefs positions numLength denLength valuesLength l held k (O .earlier-listed) wood, cell-holds-value s coefs positions numLength denLength valuesLength l held m (O .later-listed) wood)
+    rw (
+      cell-holds-value s coefs positions numLength denLength valuesLength l held k
+          (O .earlier-listed) wood,
+      cell-holds-value s coefs positions numLength denLength valuesLength l held m (O .later-listed) wood,
+    )
     (climbing-lists-climb s (l .accepted) a A low wood coefs climbs _ _ (O .earlier) (O .later) (O .ordered))

@@ -90,7 +90,8 @@ climbing-values = (refl, refl)
 beam-climbs : pos 256 ≤ℤ pos 768
 unfolding acceptedBeam last startsAtDiscontinuity startsBy segmentAt
 beam-climbs = subst (λ v. pos 256 ≤ℤ v) (climbing-values .1) (subst (λ v. v ≤ℤ valueAt beam beamTable latewood beamCoefs (pos 128)) (climbing-values .0)
-    (climbing-lists-climb beam acceptedBeam 0 first-starts first-low latewood beamCoefs first-climbs (pos 0) (pos 128) (in-first (pos 0) tt refl) (in-first (pos 128) tt refl) (≤-in (pos 0) (pos 128) (omega arith))))
+    (climbing-lists-climb beam acceptedBeam 0 first-starts first-low latewood beamCoefs first-climbs (pos 0) (pos 128) (in-first (pos 0) tt refl)
+    (in-first (pos 128) tt refl) (≤-in (pos 0) (pos 128) (omega arith))))
 
 -- on the discontinuity the latewood is 1280, less than the 2300 behind it: positions of two parts are not compared
 beam-jumps : (valueAt beam beamTable latewood beamCoefs (pos 256) ≡ pos 1280) × (valueAt beam beamTable latewood beamCoefs (pos 257) ≡ pos 2300)

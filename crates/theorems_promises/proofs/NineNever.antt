@@ -39,7 +39,9 @@ recovery-never-gives-nine s ordinates num den coefNum coefDen place e =
     rest (first-refuses p) = true-not-false refl (checked-codes s p)
     rest (second-refuses l p r) = let c = checked-inverts s p in entries l (eqb (length ordinates) (columnCount l)) (sym (c .0)) (c .1) r
 
-    long : (a b c d : Bool) → cond a (refuse 1 0) (cond b (refuse 1 1) (cond c (refuse 1 3) (cond d (refuse 1 4) (checked s then λ legal. legalOrdinates legal ordinates (recovered legal ordinates))))) ≡ refusal 9 place → ⊥
+    long : (a b c d : Bool) → cond a (refuse 1 0)
+        (cond b (refuse 1 1) (cond c (refuse 1 3) (cond d (refuse 1 4) (checked s then λ legal. legalOrdinates legal ordinates (recovered legal ordinates)))))
+        ≡ refusal 9 place → ⊥
     long true b c d r = true-not-false refl (keeping-refusal 1 0 refl r)
     long false true c d r = true-not-false refl (keeping-refusal 1 1 refl r)
     long false false true d r = true-not-false refl (keeping-refusal 1 3 refl r)

@@ -64,7 +64,9 @@ pub one-part-ends : OnePartEnds
 one-part-ends = ends-last
 
 pub one-part-is-the-space : OnePartIsTheSpace
-one-part-is-the-space s e none = ap (section s 0) (let z : partEnd s 0 - 0 ≡ partEnd s 0 = omega arith in z) ∙ whole-front s (lengths-fit-inverts s (checked-inverts s e .1 .lengths)) 0 (ends-last s none)
+one-part-is-the-space s e none =
+    ap (section s 0) (let z : partEnd s 0 - 0 ≡ partEnd s 0 = omega arith in z)
+    ∙ whole-front s (lengths-fit-inverts s (checked-inverts s e .1 .lengths)) 0 (ends-last s none)
 
 pub one-part-is-the-last : OnePartIsTheLast
 one-part-is-the-last s none = (last-starts-first s none, whole-last s none)

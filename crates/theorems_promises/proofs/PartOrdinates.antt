@@ -134,7 +134,8 @@ module _ (s : Space) (x : Accepted s) (a : ℕ) (A : Starts s a) (low : LowOrder
 
   rows-meet : (j k : ℕ) → a ≤ j → j < partEnd s a → k < degree s j → lastOf j k ≤ firstOf j (suc k)
   rows-meet j k h l m = let q = left-few j h l in let r = right-few j h l in
-      rows-follow (degree s) (met s (segments s - 1) 0) j k (leftConditions s j) (rightConditions s j) m (left-is s j (omega (arith, within))) (right-is s j (omega (arith, within))) (q .0) (r .0) (q .1) (r .1)
+      rows-follow (degree s) (met s (segments s - 1) 0) j k (leftConditions s j) (rightConditions s j) m (left-is s j (omega (arith, within)))
+      (right-is s j (omega (arith, within))) (q .0) (r .0) (q .1) (r .1)
 
   -- a row with weight on a column of the part is one of the part's rows
   own-row : (j u i : ℕ) → a ≤ j → j < partEnd s a → u ≤ degree s j → cell t i (firstColumn s j + u) ≢ int (pos 0) → (rowsBefore s a ≤ i) × (i < rowsBefore s a + rowCount (partAt s a))
@@ -172,7 +173,8 @@ module _ (s : Space) (x : Accepted s) (a : ℕ) (A : Starts s a) (low : LowOrder
     ordered : (i k : ℕ) → rowsBefore s a ≤ i → i ≤ k → k < rowsBefore s a + rowCount (partAt s a) → before (f i) (f k)
     ordered i k h l m =
         subst (λ n. before (f n) (f k)) (let z : rowsBefore s a + (i - rowsBefore s a) ≡ i = omega arith in z)
-        (subst (λ n. before (f (rowsBefore s a + (i - rowsBefore s a))) (f n)) (let z : rowsBefore s a + (i - rowsBefore s a + (k - i)) ≡ k = omega arith in z) (rows-ordered (i - rowsBefore s a) (k - i) (omega arith)))
+        (subst (λ n. before (f (rowsBefore s a + (i - rowsBefore s a))) (f n)) (let z : rowsBefore s a + (i - rowsBefore s a + (k - i)) ≡ k = omega arith in z)
+        (rows-ordered (i - rowsBefore s a) (k - i) (omega arith)))
 
     abbrev pub ord : ℕ → ℕ → ℤ
     ord j u = ordinate t f (firstColumn s j + u)
@@ -214,7 +216,8 @@ module _ (s : Space) (x : Accepted s) (a : ℕ) (A : Starts s a) (low : LowOrder
     pub ordinates-follow : (j k : ℕ) → a ≤ j → j < partEnd s a → k < degree s j → before (ord j k) (ord j (suc k))
     ordinates-follow j k h l m = D .chain _ _ _ (limited j k h l (omega arith) .1)
         (D .chain _ _ _
-        (D .scales (pos fineness) _ _ (Z.≤-in (pos 0) (pos fineness) (omega arith)) (ordered (lastOf j k) (firstOf j (suc k)) (last-own j k h l (omega arith) .0) (rows-meet j k h l m) (first-own j (suc k) h l m .1)))
+        (D .scales (pos fineness) _ _ (Z.≤-in (pos 0) (pos fineness) (omega arith))
+        (ordered (lastOf j k) (firstOf j (suc k)) (last-own j k h l (omega arith) .0) (rows-meet j k h l m) (first-own j (suc k) h l m .1)))
         (limited j (suc k) h l m .0))
 
     -- over a whole segment
@@ -224,11 +227,16 @@ module _ (s : Space) (x : Accepted s) (a : ℕ) (A : Starts s a) (low : LowOrder
 
     -- at a join inside the part
     join-same : (j : ℕ) → a ≤ j → suc j < partEnd s a → ord j (degree s j) ≡ ord (suc j) 0
-    join-same j h l = ordinate-same t f _ _ (λ i. join-ordinates-agree s x j (omega (arith, within)) (inner-joined j h l) i ∙ ap (cell t i) (let z : firstColumn s (suc j) ≡ firstColumn s (suc j) + 0 = omega arith in z))
+    join-same j h l =
+        ordinate-same t f _ _ (λ i. join-ordinates-agree s x j (omega (arith, within)) (inner-joined j h l) i
+        ∙ ap (cell t i) (let z : firstColumn s (suc j) ≡ firstColumn s (suc j) + 0 = omega arith in z))
 
     -- from the end of a segment to the start of a later one
     pub segments-follow : (j n : ℕ) → a ≤ j → j + suc n < partEnd s a → before (ord j (degree s j)) (ord (j + suc n) 0)
-    segments-follow j zero h l = subst (λ i. before (ord j (degree s j)) (ord i 0)) (let z : suc j ≡ j + 1 = omega arith in z) (subst (before (ord j (degree s j))) (join-same j h (omega arith)) (D .same _))
+    segments-follow j zero h l =
+        subst (λ i. before (ord j (degree s j)) (ord i 0)) (let z : suc j ≡ j + 1 = omega arith in z)
+        (subst (before (ord j (degree s j))) (join-same j h (omega arith)) (D .same _))
     segments-follow j (suc n) h l = D .chain _ _ _ (segments-follow j n h (omega arith))
         (D .chain _ _ _ (segment-follows (j + suc n) (degree s (j + suc n)) (omega arith) (omega arith) (omega arith))
-        (subst (λ i. before (ord (j + suc n) (degree s (j + suc n))) (ord i 0)) (let z : suc (j + suc n) ≡ j + suc (suc n) = omega arith in z) (subst (before (ord (j + suc n) (degree s (j + suc n)))) (join-same (j + suc n) (omega arith) (omega arith)) (D .same _))))
+        (subst (λ i. before (ord (j + suc n) (degree s (j + suc n))) (ord i 0)) (let z : suc (j + suc n) ≡ j + suc (suc n) = omega arith in z)
+        (subst (before (ord (j + suc n) (degree s (j + suc n)))) (join-same (j + suc n) (omega arith) (omega arith)) (D .same _))))

@@ -88,7 +88,8 @@ module _ (s : Space) (x : Accepted s) where
   -- its columns in the whole table sum to one
   column-sums : (k : ℕ) → k < lastColumns s → sum rowCells (λ i. lastPartCell s (x .table) i k) ≡ int (pos 1)
   column-sums k h =
-      sum-past (rowCount (partAt s a)) rowCells (λ i. lastPartCell s (x .table) i k) (omega (arith, fit)) (λ i l m. part .zero-above-and-below (rowsBefore s a + i) k (omega (arith, last-columns)) (inr (omega arith)))
+      sum-past (rowCount (partAt s a)) rowCells (λ i. lastPartCell s (x .table) i k) (omega (arith, fit))
+      (λ i l m. part .zero-above-and-below (rowsBefore s a + i) k (omega (arith, last-columns)) (inr (omega arith)))
       ∙ sum-ext (rowCount (partAt s a)) (λ i l. part .same i k l (omega (arith, last-columns)))
       ∙ column-sums-one (partAt s a) (part .accepted) k (omega (arith, last-columns))
 
@@ -113,7 +114,9 @@ module _ (s : Space) (x : Accepted s) where
 
     laid-sums : SumsToOne s nums′ dens′
     laid-sums = record {
-      not-negative = λ k h. subst (λ j. (pos 0 ≤ℤ getD nums′ j (pos 0)) × (pos 0 <ℤ getD dens′ j (pos 0))) (let z : rowCells * (k / rowCells) + k % rowCells ≡ k = omega arith in z) (cell-signs (k / rowCells) (k % rowCells) (omega arith) (omega arith));
+      not-negative =
+          λ k h. subst (λ j. (pos 0 ≤ℤ getD nums′ j (pos 0)) × (pos 0 <ℤ getD dens′ j (pos 0))) (let z : rowCells * (k / rowCells) + k % rowCells ≡ k = omega arith in z)
+          (cell-signs (k / rowCells) (k % rowCells) (omega arith) (omega arith));
       columns-fit = omega (arith, last-columns, fit);
       sums = λ k h. sum-ext rowCells (λ i l. held i k l (omega (arith, last-columns, fit))) ∙ column-sums k h;
     }
@@ -137,4 +140,5 @@ built-cells-sum-to-one s nums dens n e =
 
 pub curve-cells-sum-to-one : CurveCellsSumToOne
 curve-cells-sum-to-one s coefs positions num den values l =
-    ended-sums s (l .accepted) num den (heldBy s (curveOutcome s coefs positions (length num) (length den) (length values))) (ap (heldBy s) (legal-calls-answer s coefs positions (length num) (length den) (length values) l))
+    ended-sums s (l .accepted) num den (heldBy s (curveOutcome s coefs positions (length num) (length den) (length values)))
+    (ap (heldBy s) (legal-calls-answer s coefs positions (length num) (length den) (length values) l))

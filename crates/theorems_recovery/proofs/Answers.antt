@@ -80,7 +80,9 @@ module _ (P : ℕ → ℕ → Type 0) (j : ℕ) (too-large : P 20 (capped j)) wh
     row-refused-as : (n : ℕ) (ds : List ℚ) → RefusedAs P (undoneRow j ws cs f n ds)
     unfolding undoneCoefficient
     row-refused-as zero ds = answer-refused P (entry cs f)
-    row-refused-as (suc n) ds = then-refused P (fitted j share) (λ x. fitted j (c -ᵠ x) then quotient) (sized-refused-as share) (λ x h. then-refused P (fitted j (c -ᵠ x)) quotient (sized-refused-as (c -ᵠ x)) (λ d k. sized-refused-as (d /ᵠ w)))
+    row-refused-as (suc n) ds =
+        then-refused P (fitted j share) (λ x. fitted j (c -ᵠ x) then quotient) (sized-refused-as share)
+        (λ x h. then-refused P (fitted j (c -ᵠ x)) quotient (sized-refused-as (c -ᵠ x)) (λ d k. sized-refused-as (d /ᵠ w)))
       where
         w : ℚ
         w = entry ws (suc n)
@@ -194,13 +196,16 @@ module _ (j : ℕ) (ws cs : List ℚ) (f : ℕ) where
       later : (i : ℕ) → (suc (suc i) ≡ suc n) ⊎ (suc (suc i) < suc n)
           → entry (ds ++ (d ∷ [])) (suc i) ≡ (entry cs (f + suc i) -ᵠ (int (pos 1) -ᵠ entry ws (suc i)) *ᵠ entry (ds ++ (d ∷ [])) i) /ᵠ entry ws (suc i)
       later i (inl z) = here (suc i) (omega arith) ∙ new i (omega arith) ∙ ap (λ t. (entry cs (f + suc i) -ᵠ (int (pos 1) -ᵠ entry ws (suc i)) *ᵠ t) /ᵠ entry ws (suc i)) (sym (before i (omega arith)))
-      later i (inr h) = before (suc i) (omega arith) ∙ U .next i (omega arith) ∙ ap (λ t. (entry cs (f + suc i) -ᵠ (int (pos 1) -ᵠ entry ws (suc i)) *ᵠ t) /ᵠ entry ws (suc i)) (sym (before i (omega arith)))
+      later i (inr h) =
+          before (suc i) (omega arith) ∙ U .next i (omega arith)
+          ∙ ap (λ t. (entry cs (f + suc i) -ᵠ (int (pos 1) -ᵠ entry ws (suc i)) *ᵠ t) /ᵠ entry ws (suc i)) (sym (before i (omega arith)))
 
   pub rows-undone : (n : ℕ) {ds : List ℚ} → undoneRows j ws cs f n ≡ answer ds → Undone n ds
   unfolding undoneRows
   rows-undone zero {ds} e = rw (answer-unique {a = ds} {b = []} e refl) (record { size = refl; at-first = λ h. absurd (omega arith); next = λ i h. absurd (omega arith) })
   rows-undone (suc n) {ds} e = go (then-inverts (undoneRows j ws cs f n) (λ xs. undoneRow j ws cs f n xs then λ d. answer (xs ++ (d ∷ []))) e) (λ p. rows-undone n p)
     where
-      go : (c : Chained (undoneRows j ws cs f n) (λ xs. undoneRow j ws cs f n xs then λ d. answer (xs ++ (d ∷ []))) ds) → (undoneRows j ws cs f n ≡ answer (c .middle) → Undone n (c .middle)) → Undone (suc n) ds
+      go : (c : Chained (undoneRows j ws cs f n) (λ xs. undoneRow j ws cs f n xs then λ d. answer (xs ++ (d ∷ []))) ds)
+          → (undoneRows j ws cs f n ≡ answer (c .middle) → Undone n (c .middle)) → Undone (suc n) ds
       go c ih = let d = then-inverts (undoneRow j ws cs f n (c .middle)) (λ d. answer (c .middle ++ (d ∷ []))) (c .after) in
           subst (Undone (suc n)) (answer-unique refl (d .after)) (one-more n (c .middle) (d .middle) (ih (c .before)) (d .before))

@@ -13,7 +13,22 @@ use Rattle.theorems_recovery.specs.Cases.{shown, cases, EveryCallEnds, S
 
 pub every-call-ends : EveryCallEnds
 unfolding recovering checking badOrdinate recoveryOutcome shown cases
-every-call-ends = (refl, (refl, (refl, (refl, (refl, (refl, (refl, (refl, (refl, (refl, (refl, (refl, (refl, (refl, (refl, (refl, (refl, (refl, (refl, (refl, (refl, (refl, (refl, tt)))))))))))))))))))))))
+every-call-ends = (
+  refl,
+  (
+    refl,
+    (
+      refl,
+      (
+        refl,
+        (
+          refl,
+          (refl, (refl, (refl, (refl, (refl, (refl, (refl, (refl, (refl, (refl, (refl, (refl, (refl, (refl, (refl, (refl, (refl, (refl, tt)))))))))))))))))),
+        ),
+      ),
+    ),
+  ),
+)
 
 pub short-buffers : ShortBuffers
 unfolding checking fractions fits collect repeat last firstColumn conditionsBefore identity recoverOrders recoverJoins recovered badOrdinate recoveryOutcome

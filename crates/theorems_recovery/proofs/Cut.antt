@@ -88,7 +88,8 @@ module _ (ordinates : List ℤ) where
 
   pub begun-beside : (c m n : ℕ) → begun c (m + n) ≡ sideBySide m n (begun c m) (begun (c + m) n)
   begun-beside c m n = ap₂ (λ (t : Table) (ns : List ℚ). record { table = t; coefficients = ns }) (identity-beside m n)
-      (ap (map int) (take-add m n (drop c ordinates) ∙ ap (λ xs. take m (drop c ordinates) ++ take n xs) (drop-drop m c ordinates)) ∙ map-append int (take m (drop c ordinates)) (take n (drop (c + m) ordinates)))
+      (ap (map int) (take-add m n (drop c ordinates) ∙ ap (λ xs. take m (drop c ordinates) ++ take n xs) (drop-drop m c ordinates))
+      ∙ map-append int (take m (drop c ordinates)) (take n (drop (c + m) ordinates)))
 
   abbrev pub with-coefficients : Kind Combination
   with-coefficients = record {
@@ -110,7 +111,8 @@ unfolding recovered recoverJoins recoverOrders
 cut-recovered s e a n A whole ordinates size =
     ap (recovered s) (sym (take-all (columnCount s) ordinates (omega (arith, size))))
     ∙ cut-run (with-coefficients ordinates) s F a n (sym whole) (A .starts) (omega (arith, A .below)) 0 (omega (arith, size))
-    ∙ ap (λ xs. joined a (together before behind) (recovered before (take L ordinates)) (recovered behind xs)) (ap (λ c. take R (drop c ordinates)) (nothing-add L) ∙ take-all R (drop L ordinates) rest)
+    ∙ ap (λ xs. joined a (together before behind) (recovered before (take L ordinates)) (recovered behind xs))
+    (ap (λ c. take R (drop c ordinates)) (nothing-add L) ∙ take-all R (drop L ordinates) rest)
   where
     F : OrdersFit s
     F = orders-fit s (checked-inverts s e .1)

@@ -58,7 +58,8 @@ module _ (s : Space) (F : OrdersFit s) (a : ℕ) (A : Starts s a) (ordinates : L
       ∙ front-run (with-coefficients ordinates) s F a A (omega (arith, size, firstColumn-mono s b (segments s) within))
       ∙ ap (λ o. joined a joinedHere o (recovered part own)) (sym (front-of a (omega (arith, A .below))))
 
-  pub front-answers : {r q : Combination} → recovered (section s 0 a) before ≡ answer r → recovered part own ≡ answer q → recovered (section s 0 b) (take (firstColumn s b) ordinates) ≡ answer (joinedHere r q)
+  pub front-answers : {r q : Combination} → recovered (section s 0 a) before ≡ answer r → recovered part own ≡ answer q
+      → recovered (section s 0 b) (take (firstColumn s b) ordinates) ≡ answer (joinedHere r q)
   front-answers e h = front-recovered ∙ joined-answers a joinedHere e h
 
   pub front-refuses : {r : Combination} {code place : ℕ} → recovered (section s 0 a) before ≡ answer r → recovered part own ≡ refusal code place

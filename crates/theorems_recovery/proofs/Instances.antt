@@ -32,7 +32,8 @@ use Rattle.theorems_recovery.specs.Beams.{together}
 use Rattle.theorems_beams.specs.Sections.{section, later}
 use Rattle.theorems_beams.specs.Parts.{Starts}
 use Rattle.theorems_recovery.specs.RecoveredCells.{HeldCoefficients, NoCoefficients}
-use Rattle.theorems_recovery.proofs.Reproduction.{answers-have-the-weights, answers-reproduce, no-others-reproduce, nineteen-misses-a-condition, exact-curve-has-the-ordinates, curves-are-recovered}
+use Rattle.theorems_recovery.proofs.Reproduction.{answers-have-the-weights, answers-reproduce, no-others-reproduce, nineteen-misses-a-condition}
+use Rattle.theorems_recovery.proofs.Reproduction.{exact-curve-has-the-ordinates, curves-are-recovered}
 use Rattle.theorems_recovery.proofs.Refusals.{eight-and-nine-are-the-builds}
 use Rattle.theorems_recovery.proofs.Cut.{cut-recovered}
 use Rattle.theorems_recovery.proofs.RecoveredCells.{cells-reproduce, nineteen-means-none}

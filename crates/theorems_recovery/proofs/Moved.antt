@@ -20,7 +20,8 @@ use Rattle.spec_spline.proofs.Shape.{Wide}
 use Rattle.spec_spline.proofs.Splice.{spliced-within}
 use Rattle.spec_spline.proofs.Answers.{jumps-length, span-inverts}
 use Rattle.theorems_beams.proofs.Carried.{carried, carried-then}
-use Rattle.theorems_beams.proofs.Embedded.{padded, padded-at, padded-length, jumps-before, jumps-inside, jumps-behind, movedSpan, span-carried, factors-carried, Around, embedded, jumps-carried, embedded-step}
+use Rattle.theorems_beams.proofs.Embedded.{padded, padded-at, padded-length, jumps-before, jumps-inside, jumps-behind, movedSpan, span-carried, factors-carried}
+use Rattle.theorems_beams.proofs.Embedded.{Around, embedded, jumps-carried, embedded-step}
 use Rattle.theorems_recovery.specs.Recovery.{Combination, fitted, jumpSum, balanced, undoneCoefficient, undoneRow, undoneRows, undone, recoverStep}
 use Rattle.theorems_recovery.proofs.Answers.{added}
 
@@ -82,7 +83,8 @@ module _ (ρ : ℕ → ℕ) (j j′ : ℕ) (place : ρ (capped j) ≡ capped j�
     balanced-carried : balanced j′ jumped all ≡ carried ρ (λ u. u) (balanced j js cs)
     unfolding balanced
     balanced-carried = carried-then ρ (λ y. y) (λ u. u) (jumpSum j js cs (length js)) _ _
-        (ap (jumpSum j′ jumped all) (padded-length (length xs) q js ∙ ap (λ m. length xs + m + q) size) ∙ sum-behind q ∙ sum-inside (length cs) (omega arith) ∙ ap (λ m. carried ρ (λ y. y) (jumpSum j js cs m)) (sym size))
+        (ap (jumpSum j′ jumped all) (padded-length (length xs) q js ∙ ap (λ m. length xs + m + q) size) ∙ sum-behind q ∙ sum-inside (length cs) (omega arith)
+        ∙ ap (λ m. carried ρ (λ y. y) (jumpSum j js cs m)) (sym size))
         (λ s e. tested (isZero s))
       where
         tested : (b : Bool) → _≡_ {A = Outcome (Unit {0})} (cond b (answer tt) (refuse 19 j′)) (carried ρ (λ u. u) (cond b (answer tt) (refuse 19 j)))
@@ -99,7 +101,8 @@ module _ (ρ : ℕ → ℕ) (j j′ : ℕ) (place : ρ (capped j) ≡ capped j�
     row-carried : (f n : ℕ) → f + n < length cs → (ds : List ℚ) → undoneRow j′ ws (xs ++ cs ++ ys) (length xs + f) n ds ≡ carried ρ (λ y. y) (undoneRow j ws cs f n ds)
     row-carried f zero h ds = ap answer (coefficient-inside xs cs ys f (omega arith))
     row-carried f (suc n) h ds =
-        ap (λ c. undoneCoefficient j′ (entry ws (suc n)) c (entry ds n)) (ap (entry (xs ++ cs ++ ys)) (let e : length xs + f + suc n ≡ length xs + (f + suc n) = omega arith in e) ∙ coefficient-inside xs cs ys (f + suc n) h)
+        ap (λ c. undoneCoefficient j′ (entry ws (suc n)) c (entry ds n))
+        (ap (entry (xs ++ cs ++ ys)) (let e : length xs + f + suc n ≡ length xs + (f + suc n) = omega arith in e) ∙ coefficient-inside xs cs ys (f + suc n) h)
         ∙ coefficient-carried (entry ws (suc n)) (entry cs (f + suc n)) (entry ds n)
 
     rows-carried : (f n : ℕ) → f + n ≤ length cs → undoneRows j′ ws (xs ++ cs ++ ys) (length xs + f) n ≡ carried ρ (λ ds. ds) (undoneRows j ws cs f n)

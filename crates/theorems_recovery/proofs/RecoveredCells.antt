@@ -42,7 +42,12 @@ module _ (ordinates : List ℤ) where
     answer-after : {r : Combination} → entriesThenSteps s ≡ answer r → Reached s ordinates (answer r)
     answer-after e =
         let p = fitting-inverts (eqb (length ordinates) (columnCount s)) 18 largestPlace _ e in
-        record { legal = legal; size = eqb-true (length ordinates) (columnCount s) (p .0); ends = refuseFirst-inverts 18 (first (length ordinates) (badOrdinate ordinates)) (recovered s ordinates) (p .1) .1 }
+        record {
+          legal = legal;
+          size = eqb-true (length ordinates) (columnCount s) (p .0);
+          ends = refuseFirst-inverts 18
+              (first (length ordinates) (badOrdinate ordinates)) (recovered s ordinates) (p .1) .1;
+        }
 
     nineteen-after : {place : ℕ} → entriesThenSteps s ≡ refusal 19 place → Reached s ordinates (refusal 19 place)
     nineteen-after {place} e = counted (eqb (length ordinates) (columnCount s)) refl e
@@ -51,7 +56,9 @@ module _ (ordinates : List ℤ) where
         searched size none e = record { legal = legal; size = size; ends = e }
         searched size (some i) e = absurd (other-coefficient 18 i refl e)
 
-        counted : (b : Bool) → eqb (length ordinates) (columnCount s) ≡ b → cond b (refuseFirst 18 (first (length ordinates) (badOrdinate ordinates)) (recovered s ordinates)) (refuse 18 largestPlace) ≡ refusal 19 place → Reached s ordinates (refusal 19 place)
+        counted : (b : Bool) → eqb (length ordinates) (columnCount s) ≡ b
+            → cond b (refuseFirst 18 (first (length ordinates) (badOrdinate ordinates)) (recovered s ordinates)) (refuse 18 largestPlace) ≡ refusal 19 place
+            → Reached s ordinates (refusal 19 place)
         counted true z e = searched (eqb-true (length ordinates) (columnCount s) z) (first (length ordinates) (badOrdinate ordinates)) e
         counted false z e = absurd (other-coefficient 18 largestPlace refl e)
 
@@ -97,7 +104,8 @@ has-weights s legal w = then-answers weights legal ∙ w
 pub cells-reproduce : CellsReproduce
 cells-reproduce s ordinates num den coefNum coefDen n e = go (with-inverts (λ _. rowCount s) (recoveryOutcome s ordinates (length num) (length den) (length coefNum) (length coefDen)) e)
   where
-    go : Changed (λ _. rowCount s) (recoveryOutcome s ordinates (length num) (length den) (length coefNum) (length coefDen)) n → HeldCoefficients s ordinates coefNum coefDen n (recoveryEnd s ordinates num den coefNum coefDen)
+    go : Changed (λ _. rowCount s) (recoveryOutcome s ordinates (length num) (length den) (length coefNum) (length coefDen)) n
+        → HeldCoefficients s ordinates coefNum coefDen n (recoveryEnd s ordinates num den coefNum coefDen)
     go c =
         let r = c .before in
         let h = call-answered s ordinates (length num) (length den) (length coefNum) (length coefDen) (c .answers) in
@@ -114,5 +122,11 @@ cells-reproduce s ordinates num den coefNum coefDen n e = go (with-inverts (λ _
 
 pub nineteen-means-none : NineteenMeansNone
 nineteen-means-none s ordinates num den coefNum coefDen place e =
-    let h = call-nineteen s ordinates (length num) (length den) (length coefNum) (length coefDen) (with-refuses (λ _. rowCount s) (recoveryOutcome s ordinates (length num) (length den) (length coefNum) (length coefDen)) e) in
-    record { missed = nineteen-misses-a-condition s (h .legal) ordinates (h .size) place (h .ends); none = λ a coefficients q. nineteen-has-no-coefficients s a ordinates (h .size) place (h .ends) coefficients q }
+    let h =
+    call-nineteen s ordinates (length num) (length den) (length coefNum) (length coefDen)
+    (with-refuses (λ _. rowCount s) (recoveryOutcome s ordinates (length num) (length den) (length coefNum) (length coefDen)) e) in
+    record {
+      missed = nineteen-misses-a-condition s (h .legal) ordinates (h .size) place (h .ends);
+      none = λ a coefficients q. nineteen-has-no-coefficients s a ordinates
+          (h .size) place (h .ends) coefficients q;
+    }

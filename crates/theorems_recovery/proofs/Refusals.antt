@@ -71,7 +71,9 @@ orders-stop s j n r = repeat-refused (Stops j) n (λ k. recoverStep j (condition
 -- after every refusal of the steps all is cleared
 pub recovered-clears : (s : Space) (ordinates : List ℤ) → RefusedAs (λ code place. clearsAll code ≡ true) (recovered s ordinates)
 unfolding recovered recoverJoins
-recovered-clears s ordinates = repeat-refused (λ code place. clearsAll code ≡ true) (segments s - 1) (λ j. recoverOrders s j (conditionCount s j)) (record { table = identity (columnCount s); coefficients = map int ordinates })
+recovered-clears s ordinates =
+    repeat-refused (λ code place. clearsAll code ≡ true) (segments s - 1) (λ j. recoverOrders s j (conditionCount s j))
+    (record { table = identity (columnCount s); coefficients = map int ordinates })
     (λ j r h e code place f. orders-stop s j (conditionCount s j) r code place f .0)
 
 -- ---- the build's own codes
@@ -98,7 +100,9 @@ orders-table s j n r {r′} e = repeat-keeps (λ k b. repeat k (λ k. step j (co
 
 joins-table : (s : Space) (ordinates : List ℤ) (n : ℕ) {r : Combination} → recoverJoins s ordinates n ≡ answer r → joinSteps s n ≡ answer (r .table)
 unfolding recoverJoins joinSteps repeat
-joins-table s ordinates n {r} e = repeat-keeps (λ j b. repeat j (λ j. orderSteps s j (conditionCount s j)) (identity (columnCount s)) ≡ answer (b .table)) n (λ j. recoverOrders s j (conditionCount s j))
+joins-table s ordinates n {r} e =
+    repeat-keeps (λ j b. repeat j (λ j. orderSteps s j (conditionCount s j)) (identity (columnCount s)) ≡ answer (b .table)) n
+    (λ j. recoverOrders s j (conditionCount s j))
     (record { table = identity (columnCount s); coefficients = map int ordinates }) refl
     (λ j b c m Q q. repeat-more j (λ j. orderSteps s j (conditionCount s j)) (identity (columnCount s)) Q ∙ orders-table s j (conditionCount s j) b q) r e
 
@@ -108,12 +112,17 @@ unfolding recoverOrders orderSteps
 orders-first s j n r {code} {place} told e = go (repeat-refuses n (λ k. recoverStep j (conditions s j k)) r e)
   where
     go : Halted n (λ k. recoverStep j (conditions s j k)) r code place → repeat n (λ k. step j (conditions s j k)) (r .table) ≡ refusal code place
-    go H = repeat-stops n (H .index) (λ k. step j (conditions s j k)) (r .table) (H .below) (orders-table s j (H .index) r (H .before)) (step-first j (conditions s j (H .index)) (H .reached) told (H .refuses))
+    go H =
+        repeat-stops n (H .index) (λ k. step j (conditions s j k)) (r .table) (H .below) (orders-table s j (H .index) r (H .before))
+        (step-first j (conditions s j (H .index)) (H .reached) told (H .refuses))
 
 pub eight-and-nine-are-the-builds : EightAndNineAreTheBuilds
 unfolding recovered recoverJoins weights joinSteps
 eight-and-nine-are-the-builds s ordinates code place told e =
     go (repeat-refuses (segments s - 1) (λ j. recoverOrders s j (conditionCount s j)) (record { table = identity (columnCount s); coefficients = map int ordinates }) e)
   where
-    go : Halted (segments s - 1) (λ j. recoverOrders s j (conditionCount s j)) (record { table = identity (columnCount s); coefficients = map int ordinates }) code place → weights s ≡ refusal code place
-    go H = repeat-stops (segments s - 1) (H .index) (λ j. orderSteps s j (conditionCount s j)) (identity (columnCount s)) (H .below) (joins-table s ordinates (H .index) (H .before)) (orders-first s (H .index) (conditionCount s (H .index)) (H .reached) told (H .refuses))
+    go : Halted (segments s - 1) (λ j. recoverOrders s j (conditionCount s j)) (record { table = identity (columnCount s); coefficients = map int ordinates }) code place
+        → weights s ≡ refusal code place
+    go H =
+        repeat-stops (segments s - 1) (H .index) (λ j. orderSteps s j (conditionCount s j)) (identity (columnCount s)) (H .below)
+        (joins-table s ordinates (H .index) (H .before)) (orders-first s (H .index) (conditionCount s (H .index)) (H .reached) told (H .refuses))

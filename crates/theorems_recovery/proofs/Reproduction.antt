@@ -34,7 +34,9 @@ use Rattle.theorems_weights.proofs.Identity.{identity-basis, column-picks}
 use Rattle.theorems_weights.proofs.Built.{Done, nothing-done, order-stepped, order-kept, join-kept, Built, built, row-count}
 use Rattle.theorems_weights.proofs.PublishedBasis.{pairing-applied, combined-past, combination-at, combination-length, combinations-meet-conditions}
 use Rattle.theorems_recovery.specs.Recovery.{Combination, recoverStep, recoverOrders, recoverJoins, recovered}
-use Rattle.theorems_recovery.specs.Reproduction.{AnswersHaveTheWeights, AnswersReproduce, NoOthersReproduce, MissedCondition, NineteenMissesACondition, NineteenHasNoCoefficients, ExactCurveHasTheOrdinates, RecoveredOrTooLarge, recovers, too-large, CurvesAreRecovered}
+use Rattle.theorems_recovery.specs.Reproduction.{AnswersHaveTheWeights, AnswersReproduce, NoOthersReproduce, MissedCondition, NineteenMissesACondition}
+use Rattle.theorems_recovery.specs.Reproduction.{NineteenHasNoCoefficients, ExactCurveHasTheOrdinates, RecoveredOrTooLarge, recovers, too-large}
+use Rattle.theorems_recovery.specs.Reproduction.{CurvesAreRecovered}
 use Rattle.theorems_recovery.proofs.Refusals.{recovered-clears, eight-and-nine-are-the-builds}
 use Rattle.theorems_recovery.proofs.Steps.{Parts, parts-of, unbalanced, sum-of-jumps, coefficients-count, combination-kept}
 
@@ -46,7 +48,8 @@ module _ (s : Space) (L : Legal s) (ordinates : List ℤ) (columns : length ordi
     pub gives : (c : ℕ) → combined (entry (r .coefficients)) (r .table) c ≡ entry (map int ordinates) c
 
   -- one step
-  step-kept : (j k : ℕ) → j < segments s - 1 → k < conditionCount s j → (r r′ : Combination) → Kept j k r → recoverStep j (conditions s j k) r ≡ answer r′ → Kept j (suc k) r′ × (step j (conditions s j k) (r .table) ≡ answer (r′ .table))
+  step-kept : (j k : ℕ) → j < segments s - 1 → k < conditionCount s j → (r r′ : Combination) → Kept j k r → recoverStep j (conditions s j k) r ≡ answer r′
+      → Kept j (suc k) r′ × (step j (conditions s j k) (r .table) ≡ answer (r′ .table))
   step-kept j k h l r r′ K e = go (parts-of j (conditions s j k) r r′ e)
     where
       go : Parts j (conditions s j k) r r′ → Kept j (suc k) r′ × (step j (conditions s j k) (r .table) ≡ answer (r′ .table))
@@ -63,13 +66,15 @@ module _ (s : Space) (L : Legal s) (ordinates : List ℤ) (columns : length ordi
           )
 
   -- the first orders at a join
-  orders-kept : (j n : ℕ) → j < segments s - 1 → n ≤ conditionCount s j → (r r′ : Combination) → Kept j 0 r → recoverOrders s j n r ≡ answer r′ → Kept j n r′ × (orderSteps s j n (r .table) ≡ answer (r′ .table))
+  orders-kept : (j n : ℕ) → j < segments s - 1 → n ≤ conditionCount s j → (r r′ : Combination) → Kept j 0 r → recoverOrders s j n r ≡ answer r′
+      → Kept j n r′ × (orderSteps s j n (r .table) ≡ answer (r′ .table))
   unfolding recoverOrders orderSteps repeat
   orders-kept j n h l r r′ K e = repeat-keeps (λ k b. Kept j k b × (repeat k (λ k. step j (conditions s j k)) (r .table) ≡ answer (b .table))) n (λ k. recoverStep j (conditions s j k)) r (K, refl)
       (λ k b c m Q q. let z = step-kept j k h (omega arith) b c (Q .0) q in (z .0, repeat-more k (λ k. step j (conditions s j k)) (r .table) (Q .1) ∙ z .1)) r′ e
 
   -- all of a join
-  join-undone : (j : ℕ) → j < segments s - 1 → (r r′ : Combination) → Kept j 0 r → recoverOrders s j (conditionCount s j) r ≡ answer r′ → Kept (suc j) 0 r′ × (orderSteps s j (conditionCount s j) (r .table) ≡ answer (r′ .table))
+  join-undone : (j : ℕ) → j < segments s - 1 → (r r′ : Combination) → Kept j 0 r → recoverOrders s j (conditionCount s j) r ≡ answer r′
+      → Kept (suc j) 0 r′ × (orderSteps s j (conditionCount s j) (r .table) ≡ answer (r′ .table))
   join-undone j h r r′ K e = let z = orders-kept j (conditionCount s j) h (omega arith) r r′ K e in
       (record { basis = join-kept s L j h (r .table) (r′ .table) (K .basis) (z .1) .0; count = z .0 .count; gives = z .0 .gives }, z .1)
 
@@ -93,7 +98,9 @@ module _ (s : Space) (L : Legal s) (ordinates : List ℤ) (columns : length ordi
   -- the first joins
   joins-kept : (n : ℕ) → n ≤ segments s - 1 → (r : Combination) → recoverJoins s ordinates n ≡ answer r → Kept n 0 r × (joinSteps s n ≡ answer (r .table))
   unfolding recoverJoins joinSteps repeat start
-  joins-kept n l r e = repeat-keeps (λ j b. Kept j 0 b × (repeat j (λ j. orderSteps s j (conditionCount s j)) (identity (columnCount s)) ≡ answer (b .table))) n (λ j. recoverOrders s j (conditionCount s j)) start (start-kept, refl)
+  joins-kept n l r e =
+      repeat-keeps (λ j b. Kept j 0 b × (repeat j (λ j. orderSteps s j (conditionCount s j)) (identity (columnCount s)) ≡ answer (b .table))) n
+      (λ j. recoverOrders s j (conditionCount s j)) start (start-kept, refl)
       (λ j b c m Q q. let z = join-undone j (omega arith) b c (Q .0) q in (z .0, repeat-more j (λ j. orderSteps s j (conditionCount s j)) (identity (columnCount s)) (Q .1) ∙ z .1)) r e
 
   -- ---- an answer
@@ -174,7 +181,8 @@ pub exact-curve-has-the-ordinates : ExactCurveHasTheOrdinates
 unfolding exactOn exactTerm
 exact-curve-has-the-ordinates s e ordinates n r h part coefs same j below x =
     sum-swap (length (r .table)) (suc (degree s j)) (λ i t. int (fine (coefficient part coefs i)) *ᵠ cell (r .table) i (firstColumn s j + t) *ᵠ bernstein t)
-    ∙ sum-ext (suc (degree s j)) (λ t k. sum-mul-right (length (r .table)) (bernstein t) (λ i. int (fine (coefficient part coefs i)) *ᵠ cell (r .table) i (firstColumn s j + t)) ∙ ap (λ q. q *ᵠ bernstein t) (column t))
+    ∙ sum-ext (suc (degree s j)) (λ t k. sum-mul-right (length (r .table)) (bernstein t)
+    (λ i. int (fine (coefficient part coefs i)) *ᵠ cell (r .table) i (firstColumn s j + t)) ∙ ap (λ q. q *ᵠ bernstein t) (column t))
   where
     K : (weights s ≡ answer (r .table)) × (length (r .coefficients) ≡ rowCount s)
     K = answers-have-the-weights s e ordinates n r h

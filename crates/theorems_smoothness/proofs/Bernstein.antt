@@ -18,7 +18,10 @@ use Rattle.theorems_weights.proofs.Pascal.{binomialSum-suc}
 use Rattle.theorems_values.proofs.Bernstein.{bernstein, bernsteinSum, exactTriangle, triangle-is-sum}
 use Rattle.theorems_smoothness.specs.Polynomial.{coefficient, value, _+ᵖ_, _·ᵖ_, _*ᵖ_, power, derivative, iterated}
 use Rattle.theorems_smoothness.specs.Bernstein.{passed, ahead, bernsteinPolynomial, bernsteinForm}
-use Rattle.theorems_smoothness.proofs.Polynomial.{coefficient-multiple, coefficient-total, shift, shift-map, shift-mul, linear, linear-ext, times-linear-left, times-linear-right, value-multiple, value-times, value-power, value-total, differential, differential-ext, differential-add, differential-linear, coefficient-derivative, derivative-ext}
+use Rattle.theorems_smoothness.proofs.Polynomial.{coefficient-multiple, coefficient-total, shift, shift-map, shift-mul, linear, linear-ext}
+use Rattle.theorems_smoothness.proofs.Polynomial.{times-linear-left, times-linear-right, value-multiple, value-times, value-power, value-total}
+use Rattle.theorems_smoothness.proofs.Polynomial.{differential, differential-ext, differential-add, differential-linear, coefficient-derivative}
+use Rattle.theorems_smoothness.proofs.Polynomial.{derivative-ext}
 
 -- ---- linear factors and sums
 
@@ -38,7 +41,9 @@ linear-sub a b c f g i = ap (λ u. a *ᵠ (c *ᵠ (f i -ᵠ g i)) +ᵠ b *ᵠ u)
 
 linear-none : (a b : ℚ) {f : ℕ → ℚ} → ((i : ℕ) → f i ≡ int (pos 0)) → (i : ℕ) → linear a b f i ≡ int (pos 0)
 unfolding linear
-linear-none a b h i = linear-ext a b h i ∙ ap (λ u. a *ᵠ int (pos 0) +ᵠ b *ᵠ u) (shift-map (λ x y. int (pos 0)) refl (λ i. a) (λ i. a) i) ∙ ring ℚ-ring (a ∷ b ∷ []) (search readsℚ) (search readsℚ) refl
+linear-none a b h i =
+    linear-ext a b h i ∙ ap (λ u. a *ᵠ int (pos 0) +ᵠ b *ᵠ u) (shift-map (λ x y. int (pos 0)) refl (λ i. a) (λ i. a) i)
+    ∙ ring ℚ-ring (a ∷ b ∷ []) (search readsℚ) (search readsℚ) refl
 
 linear-sum : (a b : ℚ) (n : ℕ) (o : ℕ → ℚ) (F : ℕ → ℕ → ℚ) (i : ℕ) → linear a b (λ i. sum n (λ t. o t *ᵠ F t i)) i ≡ sum n (λ t. o t *ᵠ linear a b (F t) i)
 unfolding sum
@@ -55,7 +60,9 @@ triangle-first o (suc n) k = ap₂ _+ᵠ_ (ap (λ u. int (pos 1) *ᵠ u) (triang
 triangle-last : (o : ℕ → ℚ) (n k : ℕ) → exactTriangle (int (pos 0)) (int (pos 1)) o n k ≡ o (n + k)
 unfolding exactTriangle
 triangle-last o zero k = ap o (let e : k ≡ 0 + k = omega arith in e)
-triangle-last o (suc n) k = ap₂ _+ᵠ_ (zero-mul _) (ap (λ u. int (pos 1) *ᵠ u) (triangle-last o n (suc k)) ∙ one-mul (o (n + suc k))) ∙ zero-add _ ∙ ap o (let e : n + suc k ≡ suc n + k = omega arith in e)
+triangle-last o (suc n) k =
+    ap₂ _+ᵠ_ (zero-mul _) (ap (λ u. int (pos 1) *ᵠ u) (triangle-last o n (suc k)) ∙ one-mul (o (n + suc k))) ∙ zero-add _
+    ∙ ap o (let e : n + suc k ≡ suc n + k = omega arith in e)
 
 module _ (h : ℕ) where
   -- the factors x / h and 1 - x / h
@@ -99,7 +106,8 @@ module _ (h : ℕ) where
   form-is : (n : ℕ) (o : ℕ → ℚ) (i : ℕ) → coefficient (bernsteinForm h n o) i ≡ form n o i
   unfolding bernsteinForm bernsteinPolynomial form basis monomial
   form-is n o i = coefficient-total (suc n) (λ t. o t ·ᵖ bernsteinPolynomial h n t) i
-      ∙ sum-ext (suc n) (λ t l. coefficient-multiple (o t) (bernsteinPolynomial h n t) i ∙ ap (λ u. o t *ᵠ u) (coefficient-multiple (int (pos (binomial n t))) (power (passed h) t *ᵖ power (ahead h) (n - t)) i))
+      ∙ sum-ext (suc n) (λ t l. coefficient-multiple (o t) (bernsteinPolynomial h n t) i
+      ∙ ap (λ u. o t *ᵠ u) (coefficient-multiple (int (pos (binomial n t))) (power (passed h) t *ᵖ power (ahead h) (n - t)) i))
 
   -- the linear factors on a sum
   sunk : (n : ℕ) (o : ℕ → ℚ) (i : ℕ) → sum (suc n) (λ t. o t *ᵠ sink (basis n t) i) ≡ sink (form n o) i

@@ -40,12 +40,15 @@ ordinate-is s a wood coefs c = combination-at (columnCount s) (a .table) (built 
 -- u / D, with D = 256 h
 right-factor : (h : ℕ) (u : ℤ) → 0 < fineness * h → rightFactor (fineness * h) u ≡ int u /ᵠ int (pos fineness) /ᵠ int (pos h)
 right-factor zero u l = absurd (omega arith)
-right-factor (suc h) u l = ap (λ d. int u *ᵠ inv d) (int-mul (pos fineness) (pos (suc h))) ∙ ap (λ d. int u *ᵠ d) (inv-mul (int (pos fineness)) (int (pos (suc h))) (int-nonzero 255) (int-nonzero h)) ∙ sym (mul-assoc _ _ _)
+right-factor (suc h) u l =
+    ap (λ d. int u *ᵠ inv d) (int-mul (pos fineness) (pos (suc h)))
+    ∙ ap (λ d. int u *ᵠ d) (inv-mul (int (pos fineness)) (int (pos (suc h))) (int-nonzero 255) (int-nonzero h)) ∙ sym (mul-assoc _ _ _)
 
 left-factor : (d : ℕ) (u : ℤ) → 0 < d → leftFactor d u ≡ int (pos 1) -ᵠ rightFactor d u
 left-factor zero u l = absurd (omega arith)
 left-factor (suc d) u l = ap (λ t. t *ᵠ inv (int (pos (suc d)))) (int-sub (pos (suc d)) u)
-    ∙ by-eq ℚ-ring (int (pos 1)) (mul-inv (int (pos (suc d))) (int-nonzero d)) (ring ℚ-ring (int (pos (suc d)) ∷ int u ∷ inv (int (pos (suc d))) ∷ []) (search readsℚ depth 20) (search readsℚ depth 20) refl)
+    ∙ by-eq ℚ-ring (int (pos 1)) (mul-inv (int (pos (suc d))) (int-nonzero d))
+    (ring ℚ-ring (int (pos (suc d)) ∷ int u ∷ inv (int (pos (suc d))) ∷ []) (search readsℚ depth 20) (search readsℚ depth 20) refl)
 
 pub exact-curve-is-polynomial : ExactCurveIsPolynomial
 unfolding exactCurve piece
@@ -80,7 +83,8 @@ pub exact-curve-at-discontinuity : ExactCurveAtDiscontinuity
 unfolding iterated
 exact-curve-at-discontinuity s a wood coefs j h o =
     let c = accepted-checked s a in
-    curve-after s a wood coefs (fine (break s (suc j))) (pos (width s j)) (breakpoint-in-span s (c .1) (suc j) (omega arith)) j (discontinuities-belong-before s (c .0) j h o) (sym (fineWidth-is s (c .1) j (omega arith)))
+    curve-after s a wood coefs (fine (break s (suc j))) (pos (width s j)) (breakpoint-in-span s (c .1) (suc j) (omega arith)) j
+    (discontinuities-belong-before s (c .0) j h o) (sym (fineWidth-is s (c .1) j (omega arith)))
 
 pub exact-curve-at-other-join : ExactCurveAtOtherJoin
 unfolding iterated

@@ -120,7 +120,8 @@ abbrev coefs5 : List ℤ
 coefs5 = sideBySide (pair (pos 7) (pos 0) ∷ pair (pos 7) (pos 4) ∷ pair (pos 7) (pos 2) ∷ pair (pos 7) (pos 8) ∷ pair (pos 7) (pos 1) ∷ [])
 
 -- after half a ring the polynomial, times 256, is 256 (12/2 - 15/4 + 7/8) = 800
-half5 : value (piece space5 (curveOrdinates space5 table5 latewood coefs5) (segmentAt space5 (pos 128))) (int (offset space5 (segmentAt space5 (pos 128)) (pos 128)) /ᵠ int (pos fineness)) ≡ int (pos 800)
+half5 : value (piece space5 (curveOrdinates space5 table5 latewood coefs5) (segmentAt space5 (pos 128)))
+    (int (offset space5 (segmentAt space5 (pos 128)) (pos 128)) /ᵠ int (pos fineness)) ≡ int (pos 800)
 unfolding polynomials sideBySide last combination startsAtDiscontinuity startsBy segmentAt
 half5 = refl
 

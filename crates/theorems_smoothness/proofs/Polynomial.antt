@@ -227,7 +227,8 @@ value-derivative c p x = value-ext (derivative (c ∷ p)) (p +ᵖ (int (pos 0) �
 
     same : (i : ℕ) → coefficient (derivative (c ∷ p)) i ≡ coefficient (p +ᵖ (int (pos 0) ∷ derivative p)) i
     same i = coefficient-derivative (c ∷ p) i ∙ ap (λ n. n *ᵠ coefficient p i) (int-suc i) ∙ together (int (pos i)) (coefficient p i)
-        ∙ sym (coefficient-add p (int (pos 0) ∷ derivative p) i ∙ ap (λ u. coefficient p i +ᵠ u) (raised (derivative p) i ∙ shift-ext (coefficient-derivative p) i ∙ shift-differential (coefficient p) i))
+        ∙ sym (coefficient-add p (int (pos 0) ∷ derivative p) i
+        ∙ ap (λ u. coefficient p i +ᵠ u) (raised (derivative p) i ∙ shift-ext (coefficient-derivative p) i ∙ shift-differential (coefficient p) i))
 
 pub derivative-is-slope : DerivativeIsSlope
 unfolding value derivative tab

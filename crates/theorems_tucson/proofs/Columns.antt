@@ -58,7 +58,9 @@ blanks-lack (suc k) = blanks-lack k
 
 pub columns-lack : (n : ℕ) (z : ℤ) → lacks (byte newline) (columns n z) ≡ true
 unfolding columns
-columns-lack n z = lacks-append (byte newline) (replicate (n - length (decimal z)) blank) (decimal z) (blanks-lack (n - length (decimal z))) (decimal-lacks (byte newline) (byte-outside newline refl refl) z)
+columns-lack n z =
+    lacks-append (byte newline) (replicate (n - length (decimal z)) blank) (decimal z) (blanks-lack (n - length (decimal z)))
+    (decimal-lacks (byte newline) (byte-outside newline refl refl) z)
 
 -- ---- the digits of years and fields
 

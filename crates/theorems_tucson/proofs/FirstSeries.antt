@@ -115,7 +115,9 @@ module _ {t : Text} {ts : List Text} {ss : List Series} (f : FirstSeries t ts no
   room-is = omega (arith, f .roomy)
 
   sizes-are : sizes (f .lines) ≡ sizes (cutOf series)
-  sizes-are = same-sizes (f .cut) (subst (λ (r : ℕ). InDecades thousandths r (cutOf series) (f .vs)) (sym room-is) (cut-in-decades series measured)) (sym (widths-length (f .unit) (f .ws) (f .vs) (f .scaled)))
+  sizes-are =
+      same-sizes (f .cut) (subst (λ (r : ℕ). InDecades thousandths r (cutOf series) (f .vs)) (sym room-is) (cut-in-decades series measured))
+      (sym (widths-length (f .unit) (f .ws) (f .vs) (f .scaled)))
 
   dated-again : yearsFit (seriesLines series) ≡ true
   unfolding seriesLines
@@ -137,7 +139,8 @@ module _ {t : Text} {ts : List Text} {ss : List Series} (f : FirstSeries t ts no
   all-bytes =
       ap (λ (us : List Series). length (written us)) (f .first)
       ∙ length-append (linesText (seriesLines series)) (written (f .later))
-      ∙ ap (λ (n : ℕ). n + length (written (f .later))) (lines-length (f .name) (f .named) (f .year) (omega (arith, year-below (f .year))) (cut-in-decades series measured) dated-again ∙ ap bytesOf (sym sizes-are))
+      ∙ ap (λ (n : ℕ). n + length (written (f .later)))
+      (lines-length (f .name) (f .named) (f .year) (omega (arith, year-below (f .year))) (cut-in-decades series measured) dated-again ∙ ap bytesOf (sym sizes-are))
       ∙ sym (f .bytes)
 
 -- ---- the lines after a series
@@ -154,7 +157,8 @@ none-later name later place e =
     record { writable = λ p. ap (firstUnwritable p name) (sym empty); bytes = ap (λ (ss : List Series). length (written ss)) (sym empty) }
 
 -- a series that the next lines do not go on with has another name than theirs
-other-name : (name other t next : Text) (ts : List Text) → isName name ≡ true → isName other ≡ true → take nameColumns t ≡ name → take nameColumns next ≡ other → goesOn t (next ∷ ts) ≡ false → beginsWith other name ≡ false
+other-name : (name other t next : Text) (ts : List Text) → isName name ≡ true → isName other ≡ true → take nameColumns t ≡ name → take nameColumns next ≡ other
+    → goesOn t (next ∷ ts) ≡ false → beginsWith other name ≡ false
 unfolding goesOn
 other-name name other t next ts n m h k e = go (beginsWith other name) refl
   where
@@ -164,7 +168,8 @@ other-name name other t next ts n m h k e = go (beginsWith other name) refl
         let same : name ≡ other = sym (take-all (length other) name (omega (arith, name-parts name n .0, name-parts other m .0))) ∙ begins-front other name w in
         absurd (true-not-false (begins-taken nameColumns next) (ap (λ (x : Text). beginsWith x next) (k ∙ sym same ∙ sym h) ∙ e))
 
-some-later : (name t next : Text) (ts : List Text) (later : List Series) → isName name ≡ true → take nameColumns t ≡ name → goesOn t (next ∷ ts) ≡ false → FirstSeries next ts none later → Later name (next ∷ ts) later
+some-later : (name t next : Text) (ts : List Text) (later : List Series) → isName name ≡ true → take nameColumns t ≡ name → goesOn t (next ∷ ts) ≡ false
+    → FirstSeries next ts none later → Later name (next ∷ ts) later
 some-later name t next ts later n h e f = record {
   writable = all-writable f name (other-name name (f .name) t next ts n (f .named) h (f .titled) e);
   bytes = all-bytes f;
@@ -210,7 +215,8 @@ module _ (t : Text) (ts : List Text) (place : ℕ) (b : Option Begun) (ss : List
       }
 
   -- the last line of a series
-  last-line : atEndOnly t ≡ true → (readLine place b false t then after rest) ≡ answer ss → ((name : Text) (later : List Series) → isName name ≡ true → take nameColumns t ≡ name → rest none ≡ answer later → Later name ts later) → FirstSeries t ts b ss
+  last-line : atEndOnly t ≡ true → (readLine place b false t then after rest) ≡ answer ss
+      → ((name : Text) (later : List Series) → isName name ≡ true → take nameColumns t ≡ name → rest none ≡ answer later → Later name ts later) → FirstSeries t ts b ss
   last-line once e known = go (then-inverts (readLine place b false t) (after rest) e)
     where
       closes : (l : Line) → Good true t l → yearFollows b l ≡ true → (step : Step) → Closes (begunBy b l) l step → after rest step ≡ answer ss → FirstSeries t ts b ss
@@ -272,7 +278,9 @@ module _ (t next : Text) (ts : List Text) (b : Option Begun) (ss : List Series) 
         named = f .named;
         titled = next-titled (l .name) (f .name) (g .named) (g .titled) (f .titled) more;
         roomy = omega (arith, year-below (l .year));
-        cut = goes {room = decade - 1 - yearInDecade (l .year)} {fs = fs} {more = f .lines} {ws = f .ws} full (all-widths fs (g .allowed)) (subst (λ (r : ℕ). InDecades (f .unit) r (f .lines) (f .ws)) rest (f .cut));
+        cut =
+            goes {room = decade - 1 - yearInDecade (l .year)} {fs = fs} {more = f .lines} {ws = f .ws} full (all-widths fs (g .allowed))
+            (subst (λ (r : ℕ). InDecades (f .unit) r (f .lines) (f .ws)) rest (f .cut));
         dated = ap₂ (λ (x y : Bool). x && y) (fits-year (l .year) (g .dated)) (ap (λ (y : ℤ). yearsFit (linesFrom (f .name) y (f .lines))) (sym years) ∙ f .dated);
         due = due;
         scaled =

@@ -15,7 +15,8 @@ use Rattle.base_exact.proofs.Decide.{and-true, true-not-false, clash}
 use Rattle.base_text.specs.Bytes.{Text, newline, Cut, cut, onFirst}
 use Rattle.base_text.proofs.Cutting.{joined, cut-joins}
 use Rattle.spec_tucson.specs.Columns.{inColumns}
-use Rattle.spec_tucson.specs.Line.{Line, nameColumns, yearColumns, fieldColumns, decade, linesOf, isName, fieldNumerals, fieldCount, columnsFit, withNumerals, lineInColumns, ofCut, lineOf, yearInDecade, withinDecade, same, fieldsAllowed, ifAllowed, goodLine}
+use Rattle.spec_tucson.specs.Line.{Line, nameColumns, yearColumns, fieldColumns, decade, linesOf, isName, fieldNumerals, fieldCount, columnsFit, withNumerals}
+use Rattle.spec_tucson.specs.Line.{lineInColumns, ofCut, lineOf, yearInDecade, withinDecade, same, fieldsAllowed, ifAllowed, goodLine}
 use Rattle.spec_tucson.specs.TextReading.{lastField}
 use Rattle.spec_tucson.proofs.Lines.{fields-count}
 use Rattle.theorems_tucson.proofs.Columns.{FitsColumns, columns-fit}
@@ -99,7 +100,8 @@ unfolding lineInColumns columnsFit
 body-inverted body l e = go (columnsFit body && isName (take nameColumns body)) refl e
   where
     go : (b : Bool) → (columnsFit body && isName (take nameColumns body)) ≡ b
-        → cond b (withNumerals (take nameColumns body) (inColumns (take yearColumns (drop nameColumns body))) (fieldNumerals (fieldCount body) (drop (nameColumns + yearColumns) body))) none ≡ some l → InBody body l
+        → cond b (withNumerals (take nameColumns body) (inColumns (take yearColumns (drop nameColumns body)))
+        (fieldNumerals (fieldCount body) (drop (nameColumns + yearColumns) body))) none ≡ some l → InBody body l
     go false w e = clash cc
     go true w e =
         let both = and-true (columnsFit body) (isName (take nameColumns body)) w in
@@ -140,7 +142,8 @@ allowed-inverted last (some m) l e = go (withinDecade m && fieldsAllowed last (m
         let same = Option·some-injective m l e in
         (e, ap withinDecade (sym same) ∙ both .0, ap (λ (n : Line). fieldsAllowed last (n .fields)) (sym same) ∙ both .1)
 
-body-good : (last : Bool) (t : Text) (c : Cut) (l : Line) → atEndOnly t ≡ true → t ≡ joined newline c → InBody (c .before) l → withinDecade l ≡ true → fieldsAllowed last (l .fields) ≡ true → Good last t l
+body-good : (last : Bool) (t : Text) (c : Cut) (l : Line) → atEndOnly t ≡ true → t ≡ joined newline c → InBody (c .before) l → withinDecade l ≡ true
+    → fieldsAllowed last (l .fields) ≡ true → Good last t l
 unfolding withinDecade
 body-good last t c l once e i within allowed =
     let end : c .after ≡ [] = nothing-after (c .before) (c .after) (ap atEndOnly (sym e) ∙ once) in

@@ -14,7 +14,8 @@ use Rattle.base_exact.proofs.Decide.{and-true, cond-true}
 use Rattle.base_text.specs.Bytes.{Text, newline, cut, onFirst}
 use Rattle.base_text.proofs.Lacking.{lacks, byte, lacks-append, lacks-first, cut-first}
 use Rattle.spec_tucson.specs.Columns.{blank, inColumns, columns}
-use Rattle.spec_tucson.specs.Line.{Line, nameColumns, yearColumns, fieldColumns, decade, lastPrintable, linesOf, allPrintable, allBlank, isName, withField, fieldNumerals, fieldCount, columnsFit, withNumerals, lineInColumns, ofCut, lineOf}
+use Rattle.spec_tucson.specs.Line.{Line, nameColumns, yearColumns, fieldColumns, decade, lastPrintable, linesOf, allPrintable, allBlank, isName, withField}
+use Rattle.spec_tucson.specs.Line.{fieldNumerals, fieldCount, columnsFit, withNumerals, lineInColumns, ofCut, lineOf}
 use Rattle.spec_tucson.specs.Writing.{fieldsText, lineText}
 use Rattle.theorems_tucson.proofs.Columns.{FitsColumns, fits-length, fits-small, columns-read, columns-length, columns-lack}
 

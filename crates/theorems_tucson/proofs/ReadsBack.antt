@@ -19,7 +19,8 @@ use Rattle.base_text.specs.Bytes.{Text, beginsWith}
 use Rattle.base_text.proofs.Beginning.{begins-self, begins-other}
 use Rattle.spec_tucson.specs.Line.{Line, decade, thousandths, widthLimit, linesOf, isName, yearInDecade, withinDecade, same, isWidth, fieldsAllowed, ifAllowed, goodLine}
 use Rattle.spec_tucson.specs.Series.{Series, closedBy}
-use Rattle.spec_tucson.specs.TextReading.{goesOn, Begun, begunBy, nextYear, yearFollows, Step, opened, closed, extended, lastField, wholeSeries, closing, lineStep, ifGood, readLine, after, readLines, readText}
+use Rattle.spec_tucson.specs.TextReading.{goesOn, Begun, begunBy, nextYear, yearFollows, Step, opened, closed, extended, lastField, wholeSeries, closing}
+use Rattle.spec_tucson.specs.TextReading.{lineStep, ifGood, readLine, after, readLines, readText}
 use Rattle.spec_tucson.specs.Writing.{inLines, linesFrom, seriesLines, lineText, linesText, written, yearsFit, allWidths, isWritable, firstUnwritable, leastYear, greatestYear}
 use Rattle.spec_tucson.proofs.Lines.{year-below}
 use Rattle.theorems_tucson.specs.RoundTrip.{WrittenReadsBack}
@@ -73,11 +74,13 @@ thousandths-close ws = refl
 -- ---- one line
 
 -- a line of widths fits its columns
-pub full-fit : (name : Text) → isName name ≡ true → (year : ℤ) (fs : List ℤ) → 1 ≤ length fs → length fs ≤ decade → between leastYear greatestYear year ≡ true → allWidths fs ≡ true → LineHeld (record { name = name; year = year; fields = fs })
+pub full-fit : (name : Text) → isName name ≡ true → (year : ℤ) (fs : List ℤ) → 1 ≤ length fs → length fs ≤ decade → between leastYear greatestYear year ≡ true
+    → allWidths fs ≡ true → LineHeld (record { name = name; year = year; fields = fs })
 full-fit name named year fs h k e w = record { named = named; dated = year-fits year e; any = h; few = k; small = widths-fit fs w }
 
 -- and one of widths and the closing
-pub closing-fit : (name : Text) → isName name ≡ true → (year : ℤ) (ws : List ℤ) → length ws < decade → between leastYear greatestYear year ≡ true → allWidths ws ≡ true → LineHeld (record { name = name; year = year; fields = ws ++ (thousandths ∷ []) })
+pub closing-fit : (name : Text) → isName name ≡ true → (year : ℤ) (ws : List ℤ) → length ws < decade → between leastYear greatestYear year ≡ true → allWidths ws ≡ true
+    → LineHeld (record { name = name; year = year; fields = ws ++ (thousandths ∷ []) })
 closing-fit name named year ws h e w =
     let size : length (ws ++ (thousandths ∷ [])) ≡ length ws + 1 = length-append ws (thousandths ∷ []) in
     record { named = named; dated = year-fits year e; any = omega arith; few = omega arith; small = closed-fit ws w }
@@ -113,7 +116,8 @@ module _ (l : Line) (f : LineHeld l) (fills : yearInDecade (l .year) + length (l
         ap (ifGood place b false) (good-line true h)
         ∙ cond-true _ (refuse 12 place) follows
         ∙ ap (λ (c : Begun). closing place c l) (start-is b l)
-        ∙ ap₂ (λ (c : ℤ) (us : List ℤ). wholeSeries place (l .name) (start b (l .year) .firstYear) (closedBy c (start b (l .year) .widths ++ us))) (ap lastField e ∙ last-closing thousandths ws) (ap dropLast e ∙ front-widths thousandths ws)
+        ∙ ap₂ (λ (c : ℤ) (us : List ℤ). wholeSeries place (l .name) (start b (l .year) .firstYear) (closedBy c (start b (l .year) .widths ++ us)))
+        (ap lastField e ∙ last-closing thousandths ws) (ap dropLast e ∙ front-widths thousandths ws)
         ∙ ap (wholeSeries place (l .name) (start b (l .year) .firstYear)) (thousandths-close (start b (l .year) .widths ++ ws))
 
 -- ---- the year that is due
@@ -150,12 +154,14 @@ module _ (name : Text) (named : isName name ≡ true) where
   lineAt year fs = record { name = name; year = year; fields = fs }
 
   -- a line goes on where more lines of its series come
-  followed : {c : ℤ} {room : ℕ} {lines : List (List ℤ)} {ws : List ℤ} (l : Line) (f : LineHeld l) → l .name ≡ name → (year : ℤ) (rest : List Text) → InDecades c room lines ws → goesOn (lineText l) (texts year lines ++ rest) ≡ true
+  followed : {c : ℤ} {room : ℕ} {lines : List (List ℤ)} {ws : List ℤ} (l : Line) (f : LineHeld l) → l .name ≡ name → (year : ℤ) (rest : List Text) → InDecades c room lines ws
+      → goesOn (lineText l) (texts year lines ++ rest) ≡ true
   unfolding goesOn linesFrom
   followed {c} l f e year rest (ends {ws = ws} h k) = ap (λ (t : Text). beginsWith t (lineText (lineAt year (ws ++ (c ∷ []))))) (line-named l f ∙ e) ∙ begins-line (lineAt year (ws ++ (c ∷ [])))
   followed l f e year rest (goes {fs = fs} h k d) = ap (λ (t : Text). beginsWith t (lineText (lineAt year fs))) (line-named l f ∙ e) ∙ begins-line (lineAt year fs)
 
-  module _ (rest : List Text) (later : List Series) (apart : (l : Line) → LineHeld l → l .name ≡ name → goesOn (lineText l) rest ≡ false) (reads : (place : ℕ) → readLines place none rest ≡ answer later) where
+  module _ (rest : List Text) (later : List Series) (apart : (l : Line) → LineHeld l → l .name ≡ name → goesOn (lineText l) rest ≡ false)
+      (reads : (place : ℕ) → readLines place none rest ≡ answer later) where
     -- the first year of what is begun, and all widths
     abbrev whole : Option Begun → ℤ → List ℤ → Series
     whole b year ws = record { name = name; firstYear = start b year .firstYear; widths = start b year .widths ++ ws }
@@ -189,7 +195,9 @@ module _ (name : Text) (named : isName name ≡ true) where
 
 -- the lines of a series, cut from the text
 module _ (name : Text) (named : isName name ≡ true) where
-  lines-cut : (year : ℤ) {room : ℕ} {lines : List (List ℤ)} {ws : List ℤ} → room ≤ decade - 1 → InDecades thousandths room lines ws → yearsFit (linesFrom name year lines) ≡ true → (rest : Text) → linesOf (linesText (linesFrom name year lines) ++ rest) ≡ map lineText (linesFrom name year lines) ++ linesOf rest
+  lines-cut : (year : ℤ) {room : ℕ} {lines : List (List ℤ)} {ws : List ℤ} → room ≤ decade - 1 → InDecades thousandths room lines ws
+      → yearsFit (linesFrom name year lines) ≡ true → (rest : Text)
+      → linesOf (linesText (linesFrom name year lines) ++ rest) ≡ map lineText (linesFrom name year lines) ++ linesOf rest
   unfolding linesFrom linesText yearsFit
   lines-cut year r (ends {ws = ws} h k) years rest =
       let l : Line = record { name = name; year = year; fields = ws ++ (thousandths ∷ []) } in
@@ -205,7 +213,8 @@ module _ (name : Text) (named : isName name ≡ true) where
       ∙ ap (λ (ts : List Text). lineText l ∷ ts) (lines-cut (year +ℤ pos (length fs)) (omega arith) d (both .1) rest)
 
 -- a line does not go on where those of another name come
-parted : (name other : Text) → isName name ≡ true → isName other ≡ true → beginsWith other name ≡ false → (year : ℤ) {c : ℤ} {room : ℕ} {lines : List (List ℤ)} {ws : List ℤ} (rest : List Text) → InDecades c room lines ws
+parted : (name other : Text) → isName name ≡ true → isName other ≡ true → beginsWith other name ≡ false
+    → (year : ℤ) {c : ℤ} {room : ℕ} {lines : List (List ℤ)} {ws : List ℤ} (rest : List Text) → InDecades c room lines ws
     → (l : Line) → LineHeld l → l .name ≡ name → goesOn (lineText l) (map lineText (linesFrom other year lines) ++ rest) ≡ false
 unfolding goesOn linesFrom lineText
 parted name other n m h year {c} rest (ends {ws = ws} a b) l f e =
@@ -254,7 +263,8 @@ unfolding seriesLines
 series-cut before s w rest = lines-cut (s .name) (w .named) (s .firstYear) (omega (arith, year-below (s .firstYear))) (cut-in-decades s (w .measured)) (w .dated) rest
 
 -- the last line of a series does not go on in those of the next
-apart-from-next : (before : Text) (s : Series) (ss : List Series) (place : ℕ) → CanBeWritten before s → firstUnwritable place (s .name) ss ≡ none → (l : Line) → LineHeld l → l .name ≡ s .name → goesOn (lineText l) (linesOf (written ss)) ≡ false
+apart-from-next : (before : Text) (s : Series) (ss : List Series) (place : ℕ) → CanBeWritten before s → firstUnwritable place (s .name) ss ≡ none → (l : Line) → LineHeld l
+    → l .name ≡ s .name → goesOn (lineText l) (linesOf (written ss)) ≡ false
 unfolding written linesOf goesOn seriesLines
 apart-from-next before s [] place w e l f n = refl
 apart-from-next before s (next ∷ ss) place w e l f n =

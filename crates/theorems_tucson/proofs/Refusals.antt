@@ -83,11 +83,13 @@ lines-refuse (t ∷ ts) from b code place e = go (then-breaks (readLine from b (
     later : OfLines (suc from) (length ts) code place → OfLines from (suc (length ts)) code place
     later r = record { line = r .line; refuses = r .refuses; reached = omega (arith, r .reached); before-end = omega (arith, r .before-end) }
 
-    leaves : (step : Step) → after (λ b′. readLines (suc from) b′ ts) step ≡ refusal code place → ((c : Option Begun) → readLines (suc from) c ts ≡ refusal code place → OfLines (suc from) (length ts) code place) → OfLines from (suc (length ts)) code place
+    leaves : (step : Step) → after (λ b′. readLines (suc from) b′ ts) step ≡ refusal code place
+        → ((c : Option Begun) → readLines (suc from) c ts ≡ refusal code place → OfLines (suc from) (length ts) code place) → OfLines from (suc (length ts)) code place
     leaves (opened c) e ih = later (ih (some c) e)
     leaves (closed s) e ih = later (ih none (with-refuses (λ ss. s ∷ ss) (readLines (suc from) none ts) e))
 
-    go : Broken (readLine from b (goesOn t ts) t) (after (λ b′. readLines (suc from) b′ ts)) code place → ((c : Option Begun) → readLines (suc from) c ts ≡ refusal code place → OfLines (suc from) (length ts) code place) → OfLines from (suc (length ts)) code place
+    go : Broken (readLine from b (goesOn t ts) t) (after (λ b′. readLines (suc from) b′ ts)) code place
+        → ((c : Option Begun) → readLines (suc from) c ts ≡ refusal code place → OfLines (suc from) (length ts) code place) → OfLines from (suc (length ts)) code place
     go (first-refuses e) ih = record { line = from; refuses = line-refuses from b (goesOn t ts) code place t e; reached = omega arith; before-end = omega arith }
     go (second-refuses step p q) ih = leaves step q ih
 
@@ -162,7 +164,9 @@ module _ (names : Text) (years : List ℤ) (counts : List ℕ) (widths : List �
       short true e = absurd (answer-not-refusal refl e)
       short false e = refused-as 1 0 e shortBuffer
 
-      allowed : (o : Option ℕ) → unwritable listed ≡ o → refuseFirst 11 o (cond (leb (length (written listed)) (length text)) (answer (written listed)) (refuse 1 0)) ≡ refusal code place → WriteRefusal years code place
+      allowed : (o : Option ℕ) → unwritable listed ≡ o
+          → refuseFirst 11 o (cond (leb (length (written listed)) (length text)) (answer (written listed)) (refuse 1 0)) ≡ refusal code place
+          → WriteRefusal years code place
       allowed none w e = short (leb (length (written listed)) (length text)) e
       allowed (some i) w e = refused-as 11 (capped i) e (atSeries i (omega (arith, first-below listed 0 [] i w, series-at-most years names counts widths)))
 

@@ -65,7 +65,8 @@ decades-widths (ends h k) = k
 decades-widths (goes {fs = fs} {ws = ws} h k d) = widths-append fs ws k (decades-widths d)
 
 -- the bytes of lines that are written
-pub lines-length : (name : Text) → isName name ≡ true → (year : ℤ) {room : ℕ} {lines : List (List ℤ)} {ws : List ℤ} → room < decade → InDecades thousandths room lines ws → yearsFit (linesFrom name year lines) ≡ true → length (linesText (linesFrom name year lines)) ≡ bytesOf (sizes lines)
+pub lines-length : (name : Text) → isName name ≡ true → (year : ℤ) {room : ℕ} {lines : List (List ℤ)} {ws : List ℤ} → room < decade → InDecades thousandths room lines ws
+    → yearsFit (linesFrom name year lines) ≡ true → length (linesText (linesFrom name year lines)) ≡ bytesOf (sizes lines)
 unfolding linesText linesFrom yearsFit
 lines-length name named year r (ends {ws = ws} h k) years =
     let l : Line = record { name = name; year = year; fields = ws ++ (thousandths ∷ []) } in
@@ -75,4 +76,9 @@ lines-length name named year r (goes {fs = fs} {more = more} h k d) years =
     let l : Line = record { name = name; year = year; fields = fs } in
     let both = and-true (between leastYear greatestYear year) (yearsFit (linesFrom name (year +ℤ pos (length fs)) more)) years in
     length-append (lineText l) (linesText (linesFrom name (year +ℤ pos (length fs)) more))
-    ∙ omega (arith, line-length l (full-fit name named year fs (omega arith) (omega arith) (both .0) k), lines-length name named (year +ℤ pos (length fs)) {room = decade - 1} (omega arith) d (both .1))
+    ∙ omega (
+      arith,
+      line-length l (full-fit name named year fs (omega arith) (omega arith) (both .0) k),
+      lines-length name named (year +ℤ pos
+          (length fs)) {room = decade - 1} (omega arith) d (both .1),
+    )

@@ -106,7 +106,8 @@ series-back : (ss : List Series) → AllNamed ss → seriesOf (namesOf ss) (year
 unfolding seriesOf namesOf yearsOf countsOf widthsOf
 series-back [] h = refl
 series-back (s ∷ ss) h =
-    ap₂ (λ (n : Text) (ws : List ℤ). record { name = n; firstYear = s .firstYear; widths = ws } ∷ seriesOf (drop nameColumns (s .name ++ namesOf ss)) (yearsOf ss) (countsOf ss) (drop (length (s .widths)) (s .widths ++ widthsOf ss)))
+    ap₂ (λ (n : Text) (ws : List ℤ). record { name = n; firstYear = s .firstYear; widths = ws } ∷ seriesOf (drop nameColumns (s .name ++ namesOf ss)) (yearsOf ss)
+    (countsOf ss) (drop (length (s .widths)) (s .widths ++ widthsOf ss)))
     (take-at (s .name) (namesOf ss) nameColumns (h .0)) (take-at (s .widths) (widthsOf ss) (length (s .widths)) refl)
     ∙ ap₂ (λ (n : Text) (ws : List ℤ). s ∷ seriesOf n (yearsOf ss) (countsOf ss) ws) (drop-at (s .name) (namesOf ss) nameColumns (h .0)) (drop-at (s .widths) (widthsOf ss) (length (s .widths)) refl)
     ∙ ap (λ (us : List Series). s ∷ us) (series-back ss (h .1))
@@ -127,7 +128,13 @@ counts-count ss = length-map ss (λ s. length (s .widths))
 
 -- the end of a call whose text reads to these series, with room for them
 abbrev endWith : List Series → Text → List ℤ → List ℕ → List ℤ → ReadEnd
-endWith ss names years counts widths = record { answers = answer (length ss); names = overwritten (namesOf ss) names; years = overwritten (yearsOf ss) years; counts = overwritten (countsOf ss) counts; widths = overwritten (widthsOf ss) widths }
+endWith ss names years counts widths = record {
+  answers = answer (length ss);
+  names = overwritten (namesOf ss) names;
+  years = overwritten (yearsOf ss) years;
+  counts = overwritten (countsOf ss) counts;
+  widths = overwritten (widthsOf ss) widths;
+}
 
 module _ (t names : Text) (years : List ℤ) (counts : List ℕ) (widths : List ℤ) where
   abbrev outcome : Outcome (List Series)
@@ -157,7 +164,8 @@ module _ (t names : Text) (years : List ℤ) (counts : List ℕ) (widths : List 
   unfolding readOutcome
   has-read n e = go (with-inverts length outcome e)
     where
-      room : (ss : List Series) → readText t ≡ answer ss → (b : Bool) → roomFor ss (length names) (length years) (length counts) (length widths) ≡ b → (us : List Series) → cond b (answer ss) (refuse 1 0) ≡ answer us → length us ≡ n → HasRead n
+      room : (ss : List Series) → readText t ≡ answer ss → (b : Bool) → roomFor ss (length names) (length years) (length counts) (length widths) ≡ b → (us : List Series)
+          → cond b (answer ss) (refuse 1 0) ≡ answer us → length us ≡ n → HasRead n
       room ss r true w us e c = record { series = ss; reads = r; roomy = w; count = ap length (answer-unique refl e) ∙ c }
       room ss r false w us e c = absurd (answer-not-refusal e refl)
 
@@ -208,15 +216,19 @@ module _ (names : Text) (years : List ℤ) (counts : List ℕ) (widths : List �
   unfolding writeOutcome seriesOutcome
   has-written n e = go (with-inverts length textOutcome e)
     where
-      short : ListsFit names years counts widths → Writable listed → (b : Bool) (t : Text) → cond b (answer (written listed)) (refuse 1 0) ≡ answer t → textOutcome ≡ answer t → length t ≡ n → HasWritten n
+      short : ListsFit names years counts widths → Writable listed → (b : Bool) (t : Text) → cond b (answer (written listed)) (refuse 1 0) ≡ answer t
+          → textOutcome ≡ answer t → length t ≡ n → HasWritten n
       short f w true t e a c = let same : written listed ≡ t = answer-unique refl e in record { fitting = f; writable = w; answers = a ∙ ap answer (sym same); count = ap length same ∙ c }
       short f w false t e a c = absurd (answer-not-refusal e refl)
 
-      allowed : ListsFit names years counts widths → (o : Option ℕ) → unwritable listed ≡ o → (t : Text) → refuseFirst 11 o (cond (leb (length (written listed)) (length text)) (answer (written listed)) (refuse 1 0)) ≡ answer t → textOutcome ≡ answer t → length t ≡ n → HasWritten n
+      allowed : ListsFit names years counts widths → (o : Option ℕ) → unwritable listed ≡ o → (t : Text)
+          → refuseFirst 11 o (cond (leb (length (written listed)) (length text)) (answer (written listed)) (refuse 1 0)) ≡ answer t → textOutcome ≡ answer t → length t ≡ n
+          → HasWritten n
       allowed f none w t e a c = short f w (leb (length (written listed)) (length text)) t e a c
       allowed f (some i) w t e a c = absurd (answer-not-refusal e refl)
 
-      fits : (b : Bool) → listsFit names years counts widths ≡ b → (t : Text) → cond b (seriesOutcome listed (length text)) (refuse 2 0) ≡ answer t → textOutcome ≡ answer t → length t ≡ n → HasWritten n
+      fits : (b : Bool) → listsFit names years counts widths ≡ b → (t : Text) → cond b (seriesOutcome listed (length text)) (refuse 2 0) ≡ answer t
+          → textOutcome ≡ answer t → length t ≡ n → HasWritten n
       fits true w t e a c = allowed (fits-parts names years counts widths w) (unwritable listed) refl t e a c
       fits false w t e a c = absurd (answer-not-refusal e refl)
 
@@ -230,10 +242,13 @@ written-cells-read-back names years counts widths text n e nb yb cb wb hn hy hc 
     let w = has-written names years counts widths text n e in
     let ss = seriesOf names years counts widths in
     let l = lists-back years names counts widths (w .fitting) in
-    let room = room-yes ss (length nb) (length yb) (length cb) (length wb) (omega (arith, ap length (l .names-are))) (omega (arith, ap length (l .years-are))) (omega (arith, ap length (l .counts-are))) (omega (arith, ap length (l .widths-are))) in
+    let room =
+    room-yes ss (length nb) (length yb) (length cb) (length wb) (omega (arith, ap length (l .names-are))) (omega (arith, ap length (l .years-are)))
+    (omega (arith, ap length (l .counts-are))) (omega (arith, ap length (l .widths-are))) in
     ap (λ (t : Text). readEnd t nb yb cb wb) (end-text names years counts widths text (written ss) n (w .answers) (w .count))
     ∙ answered-end (written ss) nb yb cb wb ss (roomy-reads (written ss) nb yb cb wb ss (written-reads-back ss (w .writable)) room)
-    ∙ ends (length ss) (length years) (namesOf ss) names (yearsOf ss) years (countsOf ss) counts (widthsOf ss) widths (sym (years-count ss) ∙ ap length (l .years-are)) (l .names-are) (l .years-are) (l .counts-are) (l .widths-are)
+    ∙ ends (length ss) (length years) (namesOf ss) names (yearsOf ss) years (countsOf ss) counts (widthsOf ss) widths (sym (years-count ss) ∙ ap length (l .years-are))
+    (l .names-are) (l .years-are) (l .counts-are) (l .widths-are)
   where
     ends : (k m : ℕ) (a a′ : Text) (b b′ : List ℤ) (c c′ : List ℕ) (d d′ : List ℤ) → k ≡ m → a ≡ a′ → b ≡ b′ → c ≡ c′ → d ≡ d′ →
         _≡_ {A = ReadEnd} (record { answers = answer k; names = overwritten a nb; years = overwritten b yb; counts = overwritten c cb; widths = overwritten d wb })
@@ -270,12 +285,14 @@ module _ (t names : Text) (years : List ℤ) (counts : List ℕ) (widths : List 
   rewrites : (text : Text) → rewriteEnd (readEnd t names years counts widths) n text ≡ writeEnd (namesOf ss) (yearsOf ss) (countsOf ss) (widthsOf ss) text
   rewrites text =
       ap (λ (e : ReadEnd). rewriteEnd e n text) read-end
-      ∙ lists (take (n * nameColumns) (overwritten (namesOf ss) names)) (take n (overwritten (yearsOf ss) years)) (take n (overwritten (countsOf ss) counts)) (take (total (take n (overwritten (countsOf ss) counts))) (overwritten (widthsOf ss) widths))
+      ∙ lists (take (n * nameColumns) (overwritten (namesOf ss) names)) (take n (overwritten (yearsOf ss) years)) (take n (overwritten (countsOf ss) counts))
+      (take (total (take n (overwritten (countsOf ss) counts))) (overwritten (widthsOf ss) widths))
       (take-at (namesOf ss) (drop (length (namesOf ss)) names) (n * nameColumns) names-total)
       (take-at (yearsOf ss) (drop (length (yearsOf ss)) years) n (years-count ss ∙ r .count))
       counts-taken widths-taken
     where
-      lists : (a : Text) (b : List ℤ) (c : List ℕ) (d : List ℤ) → a ≡ namesOf ss → b ≡ yearsOf ss → c ≡ countsOf ss → d ≡ widthsOf ss → writeEnd a b c d text ≡ writeEnd (namesOf ss) (yearsOf ss) (countsOf ss) (widthsOf ss) text
+      lists : (a : Text) (b : List ℤ) (c : List ℕ) (d : List ℤ) → a ≡ namesOf ss → b ≡ yearsOf ss → c ≡ countsOf ss → d ≡ widthsOf ss
+          → writeEnd a b c d text ≡ writeEnd (namesOf ss) (yearsOf ss) (countsOf ss) (widthsOf ss) text
       lists a b c d p q u v = rw (p, q, u, v)
 
   module _ (text : Text) (long : length t ≤ length text) where

@@ -33,7 +33,8 @@ use Rattle.theorems_values.proofs.ValueLimits.{exact-at-most-value-and-
 -- ---- the cells
 
 -- the pair of position k
-pub pair-of-position : (s : Space) (t : Table) (coefs positions : List ℤ) (k : ℕ) (e : Pair) → k < length positions → getD (values s t coefs positions) k e ≡ pairAt s t coefs (getD positions k (pos 0))
+pub pair-of-position : (s : Space) (t : Table) (coefs positions : List ℤ) (k : ℕ) (e : Pair) → k < length positions
+    → getD (values s t coefs positions) k e ≡ pairAt s t coefs (getD positions k (pos 0))
 unfolding values
 pair-of-position s t coefs positions k e h =
     ap (λ xs. getD (map (pairAt s t coefs) xs) k e) (sym (tab-self positions (pos 0)))
@@ -53,7 +54,8 @@ module _ (s : Space) (coefs positions : List ℤ) (numLength denLength valuesLen
   values-after = ap (λ o. valuesAfter o before) (legal-calls-answer s coefs positions numLength denLength valuesLength l)
 
   pub cell-holds-value : (k : ℕ) → k < length positions → (wood : Wood)
-      → getD (valuesAfter (curveOutcome s coefs positions numLength denLength valuesLength) before) (2 * k + woodIndex wood) (pos 0) ≡ valueAt s (l .accepted .table) wood coefs (getD positions k (pos 0))
+      → getD (valuesAfter (curveOutcome s coefs positions numLength denLength valuesLength) before) (2 * k + woodIndex wood) (pos 0)
+      ≡ valueAt s (l .accepted .table) wood coefs (getD positions k (pos 0))
   cell-holds-value k h wood = let e = pairAt s (l .accepted .table) coefs (pos 0) in
       ap (λ cells. getD cells (2 * k + woodIndex wood) (pos 0)) values-after
       ∙ getD-pairs pairs (drop (2 * length pairs) before) wood k (pos 0) e (rw (values-length s (l .accepted .table) coefs positions) h)
@@ -82,7 +84,8 @@ position-inside s positions i h = twice-not (between (fine (break s 0)) (fine (b
 
 -- ---- the size of a value
 
-module _ (s : Space) (a : Accepted s) (wood : Wood) (coefs : List ℤ) (count : length coefs ≡ 2 * rowCount s) (legal : (i : ℕ) → i < length coefs → T (not (badCoefficient coefs i))) (x : ℤ) (inside : InSpan s x) where
+module _ (s : Space) (a : Accepted s) (wood : Wood) (coefs : List ℤ) (count : length coefs ≡ 2 * rowCount s)
+    (legal : (i : ℕ) → i < length coefs → T (not (badCoefficient coefs i))) (x : ℤ) (inside : InSpan s x) where
   size-of-row : (i : ℕ) → i < length (a .table) → (negℤ (pos coefficientLimit) ≤ℤ coefficient wood coefs i) × (coefficient wood coefs i ≤ℤ pos coefficientLimit)
   size-of-row i h = number-size coefs (2 * i + woodIndex wood) (legal (2 * i + woodIndex wood) (omega (arith, part-below wood h, row-count s (a .table) (built s (a .table) (a .is)))))
 
@@ -92,12 +95,16 @@ module _ (s : Space) (a : Accepted s) (wood : Wood) (coefs : List ℤ) (count : 
       let low = leastOn-is s (a .table) (segmentAt s x) wood coefs (w .row) (w .below) (w .weighs) in
       let high = greatestOn-is s (a .table) (segmentAt s x) wood coefs (w .row) (w .below) (w .weighs) in
       Z.abs-le-in (valueAt s (a .table) wood coefs x) valueLimit
-      (Z.≤-trans _ _ _ (fine-mono (negℤ (pos coefficientLimit)) (leastOn s (a .table) wood coefs (segmentAt s x)) (subst (λ z. negℤ (pos coefficientLimit) ≤ℤ z) (low .is) (size-of-row (low .index) (low .below) .0))) (value-at-least-least s a wood coefs x inside))
-      (Z.≤-trans _ _ _ (value-at-most-greatest s a wood coefs x inside) (fine-mono (greatestOn s (a .table) wood coefs (segmentAt s x)) (pos coefficientLimit) (subst (λ z. z ≤ℤ pos coefficientLimit) (high .is) (size-of-row (high .index) (high .below) .1))))
+      (Z.≤-trans _ _ _ (fine-mono (negℤ (pos coefficientLimit)) (leastOn s (a .table) wood coefs (segmentAt s x))
+      (subst (λ z. negℤ (pos coefficientLimit) ≤ℤ z) (low .is) (size-of-row (low .index) (low .below) .0))) (value-at-least-least s a wood coefs x inside))
+      (Z.≤-trans _ _ _ (value-at-most-greatest s a wood coefs x inside)
+      (fine-mono (greatestOn s (a .table) wood coefs (segmentAt s x)) (pos coefficientLimit)
+      (subst (λ z. z ≤ℤ pos coefficientLimit) (high .is) (size-of-row (high .index) (high .below) .1))))
 
 -- ---- all of it, of a cell
 
-pub value-close : (s : Space) (coefs positions : List ℤ) (numLength denLength valuesLength : ℕ) (l : Legal s coefs positions numLength denLength valuesLength) (k : ℕ) → k < length positions → (wood : Wood)
+pub value-close : (s : Space) (coefs positions : List ℤ) (numLength denLength valuesLength : ℕ) (l : Legal s coefs positions numLength denLength valuesLength) (k : ℕ)
+    → k < length positions → (wood : Wood)
     → Close s (l .accepted .table) wood coefs (getD positions k (pos 0)) (valueAt s (l .accepted .table) wood coefs (getD positions k (pos 0)))
 value-close s coefs positions numLength denLength valuesLength l k h wood = let inside = position-inside s positions k (l .inSpan k h) in record {
   exact-at-most = exact-at-most-value-and-closeness s (l .accepted) wood coefs (getD positions k (pos 0)) inside;
@@ -113,4 +120,5 @@ cells-are-close s coefs positions numLength denLength valuesLength l before k h 
     (value-close s coefs positions numLength denLength valuesLength l k h wood)
 
 pub cells-past-are-kept : CellsPastAreKept
-cells-past-are-kept s coefs positions numLength denLength valuesLength l before e = (cells-length s coefs positions numLength denLength valuesLength l before e, cells-past-kept s coefs positions numLength denLength valuesLength l before)
+cells-past-are-kept s coefs positions numLength denLength valuesLength l before e =
+    (cells-length s coefs positions numLength denLength valuesLength l before e, cells-past-kept s coefs positions numLength denLength valuesLength l before)

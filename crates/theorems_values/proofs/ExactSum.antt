@@ -53,7 +53,9 @@ module _ (s : Space) (w : Table) (wood : Wood) (coefs : List ℤ) (j : ℕ) (x :
   unfolding exactTerm exactOrdinate
   ordinate-term t = sum-mul-right (length w) (bernsteinAt (degree s j) (fineWidth s j) (offset s j x) t) (λ i. int (fine (coefficient wood coefs i)) *ᵠ cell w i (firstColumn s j + t))
 
-  pub exactOn-is-triangle : 0 < fineWidth s j → exactOn s w wood coefs j x ≡ exactTriangle (leftFactor (fineWidth s j) (offset s j x)) (rightFactor (fineWidth s j) (offset s j x)) (exactOrdinates s w wood coefs j) (degree s j) 0
+  pub exactOn-is-triangle : 0 < fineWidth s j
+      → exactOn s w wood coefs j x ≡ exactTriangle (leftFactor (fineWidth s j) (offset s j x)) (rightFactor (fineWidth s j) (offset s j x)) (exactOrdinates s w wood coefs j)
+      (degree s j) 0
   unfolding exactOn
   exactOn-is-triangle h = sum-swap (length w) (suc (degree s j)) (λ i t. exactTerm s w wood coefs j x i t)
       ∙ sum-ext (suc (degree s j)) (λ t h. ordinate-term t)

@@ -34,7 +34,8 @@ use Rattle.theorems_weights.proofs.Published.{weights-are-published}
 use Rattle.theorems_weights.proofs.Instances.{q0, q1, lent, lent-length, beam, beamTable, acceptedBeam}
 use Rattle.theorems_values.specs.ValueLimits.{closeness, Close}
 use Rattle.theorems_values.proofs.Weights.{weight-num-le-den}
-use Rattle.theorems_values.proofs.Positions.{positions-between-belong-between, discontinuities-belong-before, other-joins-belong-after, first-breakpoint-belongs-first, last-breakpoint-belongs-last}
+use Rattle.theorems_values.proofs.Positions.{positions-between-belong-between, discontinuities-belong-before, other-joins-belong-after}
+use Rattle.theorems_values.proofs.Positions.{first-breakpoint-belongs-first, last-breakpoint-belongs-last}
 use Rattle.theorems_values.proofs.LegalCall.{legal-calls-answer, legal-calls-return-count, answered-calls-are-legal}
 use Rattle.theorems_values.proofs.ValueLimits.{exact-at-most-value-and-closeness, value-at-most-exact-and-closeness, value-at-least-least, value-at-most-greatest}
 use Rattle.theorems_values.proofs.Cells.{cells-are-close, cells-past-are-kept}
@@ -154,20 +155,30 @@ cells1 = ap (λ o. valuesAfter o before1) answers1
 
 close1 : (wood : Wood) → Close space1 table1 wood coefs1 (pos 512) (getD (pos 17067 ∷ negsuc 17066 ∷ pos 4267 ∷ negsuc 4265 ∷ pos 9 ∷ []) (2 * 1 + woodIndex wood) (pos 0))
 unfolding legal1 accepted1
-close1 wood = subst (λ cells. Close space1 table1 wood coefs1 (pos 512) (getD cells (2 * 1 + woodIndex wood) (pos 0))) cells1 (cells-are-close space1 coefs1 positions1 5184 5184 5 legal1 before1 1 (omega arith) wood)
+close1 wood =
+    subst (λ cells. Close space1 table1 wood coefs1 (pos 512) (getD cells (2 * 1 + woodIndex wood) (pos 0))) cells1
+    (cells-are-close space1 coefs1 positions1 5184 5184 5 legal1 before1 1 (omega arith) wood)
 
 early-exact-at-most1 : pos 12800 // 2 ≤ᵠ int (pos 4267) +ᵠ int (pos 2)
-early-exact-at-most1 = subst (λ e. e ≤ᵠ int (pos 4267) +ᵠ int (pos 2)) early-exact1 (subst (λ b. exactCurve space1 table1 earlywood coefs1 (pos 512) ≤ᵠ int (pos 4267) +ᵠ b) closeness1 (close1 earlywood .exact-at-most))
+early-exact-at-most1 =
+    subst (λ e. e ≤ᵠ int (pos 4267) +ᵠ int (pos 2)) early-exact1
+    (subst (λ b. exactCurve space1 table1 earlywood coefs1 (pos 512) ≤ᵠ int (pos 4267) +ᵠ b) closeness1 (close1 earlywood .exact-at-most))
 
 early-at-most-exact1 : int (pos 4267) ≤ᵠ pos 12800 // 2 +ᵠ int (pos 2)
-early-at-most-exact1 = subst (λ e. int (pos 4267) ≤ᵠ e +ᵠ int (pos 2)) early-exact1 (subst (λ b. int (pos 4267) ≤ᵠ exactCurve space1 table1 earlywood coefs1 (pos 512) +ᵠ b) closeness1 (close1 earlywood .at-most-exact))
+early-at-most-exact1 =
+    subst (λ e. int (pos 4267) ≤ᵠ e +ᵠ int (pos 2)) early-exact1
+    (subst (λ b. int (pos 4267) ≤ᵠ exactCurve space1 table1 earlywood coefs1 (pos 512) +ᵠ b) closeness1 (close1 earlywood .at-most-exact))
 
 -- below zero halves went up, so the value is above the exact -12800/3
 late-exact-at-most1 : negsuc 12799 // 2 ≤ᵠ int (negsuc 4265) +ᵠ int (pos 2)
-late-exact-at-most1 = subst (λ e. e ≤ᵠ int (negsuc 4265) +ᵠ int (pos 2)) late-exact1 (subst (λ b. exactCurve space1 table1 latewood coefs1 (pos 512) ≤ᵠ int (negsuc 4265) +ᵠ b) closeness1 (close1 latewood .exact-at-most))
+late-exact-at-most1 =
+    subst (λ e. e ≤ᵠ int (negsuc 4265) +ᵠ int (pos 2)) late-exact1
+    (subst (λ b. exactCurve space1 table1 latewood coefs1 (pos 512) ≤ᵠ int (negsuc 4265) +ᵠ b) closeness1 (close1 latewood .exact-at-most))
 
 late-at-most-exact1 : int (negsuc 4265) ≤ᵠ negsuc 12799 // 2 +ᵠ int (pos 2)
-late-at-most-exact1 = subst (λ e. int (negsuc 4265) ≤ᵠ e +ᵠ int (pos 2)) late-exact1 (subst (λ b. int (negsuc 4265) ≤ᵠ exactCurve space1 table1 latewood coefs1 (pos 512) +ᵠ b) closeness1 (close1 latewood .at-most-exact))
+late-at-most-exact1 =
+    subst (λ e. int (negsuc 4265) ≤ᵠ e +ᵠ int (pos 2)) late-exact1
+    (subst (λ b. int (negsuc 4265) ≤ᵠ exactCurve space1 table1 latewood coefs1 (pos 512) +ᵠ b) closeness1 (close1 latewood .at-most-exact))
 
 early-between1 : (pos 0 ≤ℤ pos 4267) × (pos 4267 ≤ℤ pos 25600)
 unfolding startsAtDiscontinuity startsBy segmentAt last
@@ -244,7 +255,8 @@ lower-limits = (refl, refl)
 lower-value : valueAt lowerLimitSpace lowerTable earlywood lowerCoefs (pos 256) ≡ pos 256
 unfolding lower-accepted startsAtDiscontinuity startsBy segmentAt last
 lower-value = Z.≤-antisym (valueAt lowerLimitSpace lowerTable earlywood lowerCoefs (pos 256)) (pos 256)
-    (subst (λ z. valueAt lowerLimitSpace lowerTable earlywood lowerCoefs (pos 256) ≤ℤ fine z) (lower-limits .1) (value-at-most-greatest lowerLimitSpace lower-accepted earlywood lowerCoefs (pos 256) tt))
+    (subst (λ z. valueAt lowerLimitSpace lowerTable earlywood lowerCoefs (pos 256) ≤ℤ fine z) (lower-limits .1)
+    (value-at-most-greatest lowerLimitSpace lower-accepted earlywood lowerCoefs (pos 256) tt))
     (subst (λ z. fine z ≤ℤ valueAt lowerLimitSpace lowerTable earlywood lowerCoefs (pos 256)) (lower-limits .0) (value-at-least-least lowerLimitSpace lower-accepted earlywood lowerCoefs (pos 256) tt))
 
 -- ---- no bound lower by a half: breaks 0,2,5, degrees 2,2, order 1, where s = p = 2, differ by more than 3/2 on either side
@@ -286,7 +298,8 @@ high-apart = record { lt = tt }
 high-within : int (pos 56) ≤ᵠ pos 17399 // 319 +ᵠ int (pos 2)
 unfolding far-accepted
 high-within = subst (λ v. int v ≤ᵠ pos 17399 // 319 +ᵠ int (pos 2)) high-value (subst (λ e. int (valueAt farSpace farTable earlywood farCoefs (pos 508)) ≤ᵠ e +ᵠ int (pos 2)) high-exact
-    (subst (λ b. int (valueAt farSpace farTable earlywood farCoefs (pos 508)) ≤ᵠ exactCurve farSpace farTable earlywood farCoefs (pos 508) +ᵠ b) far-closeness (value-at-most-exact-and-closeness farSpace far-accepted earlywood farCoefs (pos 508) tt)))
+    (subst (λ b. int (valueAt farSpace farTable earlywood farCoefs (pos 508)) ≤ᵠ exactCurve farSpace farTable earlywood farCoefs (pos 508) +ᵠ b) far-closeness
+    (value-at-most-exact-and-closeness farSpace far-accepted earlywood farCoefs (pos 508) tt)))
 
 low-value : valueAt farSpace farTable latewood farCoefs (pos 508) ≡ negsuc 55
 unfolding reading
@@ -303,7 +316,8 @@ low-apart = record { lt = tt }
 low-within : negsuc 17398 // 319 ≤ᵠ int (negsuc 55) +ᵠ int (pos 2)
 unfolding far-accepted
 low-within = subst (λ v. negsuc 17398 // 319 ≤ᵠ int v +ᵠ int (pos 2)) low-value (subst (λ e. e ≤ᵠ int (valueAt farSpace farTable latewood farCoefs (pos 508)) +ᵠ int (pos 2)) low-exact
-    (subst (λ b. exactCurve farSpace farTable latewood farCoefs (pos 508) ≤ᵠ int (valueAt farSpace farTable latewood farCoefs (pos 508)) +ᵠ b) far-closeness (exact-at-most-value-and-closeness farSpace far-accepted latewood farCoefs (pos 508) tt)))
+    (subst (λ b. exactCurve farSpace farTable latewood farCoefs (pos 508) ≤ᵠ int (valueAt farSpace farTable latewood farCoefs (pos 508)) +ᵠ b) far-closeness
+    (exact-at-most-value-and-closeness farSpace far-accepted latewood farCoefs (pos 508) tt)))
 
 -- ---- W9: the position on the discontinuity is read from the segment that ends there, the one beside it from the next
 
@@ -326,7 +340,13 @@ unfolding checking gcd gcdF mk int tab collect repeat firstColumn conditionsBefo
 accepted9 = record { table = table9; is = refl }
 
 segments9 : (segmentAt space9 (pos 0) ≡ 0) × ((segmentAt space9 (pos 256) ≡ 0) × ((segmentAt space9 (pos 257) ≡ 1) × (suc (segmentAt space9 (pos 512)) ≡ 2)))
-segments9 = (first-breakpoint-belongs-first space9 checked9, (discontinuities-belong-before space9 checked9 0 (omega arith) refl, (positions-between-belong-between space9 checked9 1 (omega arith) (pos 257) (ltZ-yes tt) (ltZ-yes tt), last-breakpoint-belongs-last space9 checked9)))
+segments9 = (
+  first-breakpoint-belongs-first space9 checked9,
+  (
+    discontinuities-belong-before space9 checked9 0 (omega arith) refl,
+    (positions-between-belong-between space9 checked9 1 (omega arith) (pos 257) (ltZ-yes tt) (ltZ-yes tt), last-breakpoint-belongs-last space9 checked9),
+  ),
+)
 
 -- the exact curve is at that segment's end, 256 times 10, and the value is no more
 pub exact9 : exactCurve space9 table9 earlywood coefs9 (pos 256) ≡ int (pos 2560)
@@ -339,7 +359,9 @@ greatest9 = refl
 
 at-most9 : valueAt space9 table9 earlywood coefs9 (pos 256) ≤ℤ pos 2560
 unfolding accepted9
-at-most9 = subst (λ z. valueAt space9 table9 earlywood coefs9 (pos 256) ≤ℤ fine z) (ap (greatestOn space9 table9 earlywood coefs9) (segments9 .1 .0) ∙ greatest9) (value-at-most-greatest space9 accepted9 earlywood coefs9 (pos 256) tt)
+at-most9 =
+    subst (λ z. valueAt space9 table9 earlywood coefs9 (pos 256) ≤ℤ fine z) (ap (greatestOn space9 table9 earlywood coefs9) (segments9 .1 .0) ∙ greatest9)
+    (value-at-most-greatest space9 accepted9 earlywood coefs9 (pos 256) tt)
 
 -- ---- W1: the join of order 1 belongs to the segment that starts there
 
@@ -364,10 +386,14 @@ unfolding calling
 beam-answers = refl
 
 beam-legal : Legal beam beamCoefs beamPositions (length lent) (length lent) (length lent)
-beam-legal = subst (λ n. Legal beam beamCoefs beamPositions n n n) (sym lent-length) (answered-calls-are-legal beam beamCoefs beamPositions 6000 6000 6000 (record { table = beamTable; values = forBoth (pos 2560 ∷ pos 1792 ∷ []) }) beam-answers)
+beam-legal =
+    subst (λ n. Legal beam beamCoefs beamPositions n n n) (sym lent-length)
+    (answered-calls-are-legal beam beamCoefs beamPositions 6000 6000 6000 (record { table = beamTable; values = forBoth (pos 2560 ∷ pos 1792 ∷ []) }) beam-answers)
 
 -- cell 74 holds 4/7
 beam-held : HoldsFraction (pos 4 // 6) (curveEnd beam beamCoefs beamPositions lent lent lent .numerators) (curveEnd beam beamCoefs beamPositions lent lent lent .denominators) 74
 unfolding last startsPart lastPartStart firstColumn conditionsBefore acceptedBeam
-beam-held = subst (λ t. HoldsFraction (lastPartCell beam t 1 2) (curveEnd beam beamCoefs beamPositions lent lent lent .numerators) (curveEnd beam beamCoefs beamPositions lent lent lent .denominators) 74) (sym (weights-are-published beam acceptedBeam))
+beam-held =
+    subst (λ t. HoldsFraction (lastPartCell beam t 1 2) (curveEnd beam beamCoefs beamPositions lent lent lent .numerators)
+    (curveEnd beam beamCoefs beamPositions lent lent lent .denominators) 74) (sym (weights-are-published beam acceptedBeam))
     (curve-cells-hold-published-weights beam beamCoefs beamPositions lent lent lent beam-legal 1 2 (omega arith) (omega arith))

@@ -39,7 +39,8 @@ module _ {s : Space} {coefs positions : List ℤ} {numLength denLength valuesLen
   entries-pass : legalEntries s coefs positions (answer s) ≡ answer s
   entries-pass =
       cond-true _ (refuse 6 largestPlace) (holds-true (eqb (length coefs) (2 * rowCount s)) (subst (λ n. T (eqb (length coefs) n)) (l .coefficientCount) (eqb-refl (length coefs))))
-      ∙ ap (λ o. refuseFirst 6 o (refuseFirst 7 (first (length positions) (badPosition s positions)) (answer s))) (first-none (badCoefficient coefs) (length coefs) (λ k h. fails-false _ (l .coefficients k h)))
+      ∙ ap (λ o. refuseFirst 6 o (refuseFirst 7 (first (length positions) (badPosition s positions)) (answer s)))
+      (first-none (badCoefficient coefs) (length coefs) (λ k h. fails-false _ (l .coefficients k h)))
       ∙ ap (λ o. refuseFirst 7 o (answer s)) (first-none (badPosition s positions) (length positions) (λ k h. fails-false _ (l .inSpan k h)))
 
   checks-pass : curveChecked s coefs positions ≡ answer s
@@ -112,8 +113,12 @@ pub curve-checks : (s : Space) (coefs positions : List ℤ) {code place : ℕ} �
 unfolding curveChecked checked
 curve-checks s coefs positions {code} {place} e = fit (lengthsFit s) refl e
   where
-    entries : (legal : Space) (b : Bool) → cond b (refuseFirst 6 (first (length coefs) (badCoefficient coefs)) (refuseFirst 7 (first (length positions) (badPosition legal positions)) (answer legal))) (refuse 6 largestPlace) ≡ refusal code place → clears code ≡ false
-    entries legal true r = keeping-first 6 (first (length coefs) (badCoefficient coefs)) _ refl (keeping-first 7 (first (length positions) (badPosition legal positions)) (answer legal) refl (λ r. absurd (answer-not-refusal refl r))) r
+    entries : (legal : Space) (b : Bool)
+        → cond b (refuseFirst 6 (first (length coefs) (badCoefficient coefs)) (refuseFirst 7 (first (length positions) (badPosition legal positions)) (answer legal)))
+        (refuse 6 largestPlace) ≡ refusal code place → clears code ≡ false
+    entries legal true r =
+        keeping-first 6 (first (length coefs) (badCoefficient coefs)) _ refl
+        (keeping-first 7 (first (length positions) (badPosition legal positions)) (answer legal) refl (λ r. absurd (answer-not-refusal refl r))) r
     entries legal false r = keeping-refusal 6 largestPlace refl r
 
     listed : lengthsFit s ≡ true → Broken (checkedEntries s) (λ legal. legalEntries legal coefs positions (answer legal)) code place → clears code ≡ false
@@ -124,7 +129,9 @@ curve-checks s coefs positions {code} {place} e = fit (lengthsFit s) refl e
     few f true r = keeping-refusal 2 1 refl r
     few f false r = listed f (then-breaks (checkedEntries s) (λ legal. legalEntries legal coefs positions (answer legal)) r)
 
-    fit : (b : Bool) → lengthsFit s ≡ b → cond b (cond (ltb positionLimit (length positions)) (refuse 2 1) (checkedEntries s then λ legal. legalEntries legal coefs positions (answer legal))) (refuse 2 0) ≡ refusal code place → clears code ≡ false
+    fit : (b : Bool) → lengthsFit s ≡ b
+        → cond b (cond (ltb positionLimit (length positions)) (refuse 2 1) (checkedEntries s then λ legal. legalEntries legal coefs positions (answer legal))) (refuse 2 0)
+        ≡ refusal code place → clears code ≡ false
     fit true f r = few f (ltb positionLimit (length positions)) r
     fit false f r = keeping-refusal 2 0 refl r
 
@@ -143,7 +150,8 @@ answered-calls-are-legal s coefs positions numLength denLength valuesLength r e 
     with-table (answer t) p = ap (λ q. answer (q .table)) (answer-unique {a = record { table = t; values = values s t coefs positions }} refl p)
     with-table (refusal code place) p = absurd (answer-not-refusal p refl)
 
-    go : ltb numLength tableCells ≡ false → ltb denLength tableCells ≡ false → ltb (valuesLength / 2) (length positions) ≡ false → Chained (curveChecked s coefs positions) (curveRead coefs positions) r
+    go : ltb numLength tableCells ≡ false → ltb denLength tableCells ≡ false → ltb (valuesLength / 2) (length positions) ≡ false
+        → Chained (curveChecked s coefs positions) (curveRead coefs positions) r
         → Legal s coefs positions numLength denLength valuesLength
     go n d v c = finish (checks-passed s coefs positions (c .before))
       where

@@ -122,7 +122,8 @@ module _ (t : Table) (a : ℕ → ℤ) (c : ℕ) where
         (raise (termSum t a c (length t)) (fine (low .value)))) (lower _ (fine (high .value))))
 
     -- and the ordinate is between 256 times any bounds of the coefficients with weight
-    pub ordinate-between : (l u : ℤ) → ((i : ℕ) → i < length t → hasWeight t c i ≡ true → l ≤ℤ a i) → ((i : ℕ) → i < length t → hasWeight t c i ≡ true → a i ≤ℤ u) → Between (fine l) (fine u) (ordinate t a c)
+    pub ordinate-between : (l u : ℤ) → ((i : ℕ) → i < length t → hasWeight t c i ≡ true → l ≤ℤ a i) → ((i : ℕ) → i < length t → hasWeight t c i ≡ true → a i ≤ℤ u)
+        → Between (fine l) (fine u) (ordinate t a c)
     unfolding sum-of-terms
     ordinate-between l u from to = subst (Between (fine l) (fine u)) ordinate-is
         (limited-between (raise (termSum t a c (length t)) (fine (low .value))) (lower _ (fine (high .value)))

@@ -58,7 +58,10 @@ first-breakpoint-belongs-first s e =
     segment-is s c 0 x (legal s c .lengths .some-segment) (starts-by-first s x ∙ le-test (Z.≤-refl x)) (λ l. before-start s x 1 rise) (Z.<-≤ _ _ rise)
 
 pub last-breakpoint-belongs-last : LastBreakpointBelongsLast
-last-breakpoint-belongs-last s e = ap suc (segment-is s c i x (omega (arith, some)) (after-start s x i (subst (λ k. fine (break s i) <ℤ fine (break s k)) last (fine-rises s c i (omega (arith, some))))) (λ l. absurd (omega (arith, some))) (subst (λ k. x ≤ℤ fine (break s k)) (sym last) (Z.≤-refl x))) ∙ last
+last-breakpoint-belongs-last s e =
+    ap suc (segment-is s c i x (omega (arith, some))
+    (after-start s x i (subst (λ k. fine (break s i) <ℤ fine (break s k)) last (fine-rises s c i (omega (arith, some))))) (λ l. absurd (omega (arith, some)))
+    (subst (λ k. x ≤ℤ fine (break s k)) (sym last) (Z.≤-refl x))) ∙ last
   where
     c : Checked s
     c = checked-inverts s e .1

@@ -36,8 +36,12 @@ twice-error z q d = int-mul (pos 2) (z -ℤ q *ℤ pos d) ∙ ap (λ t. int (pos
 pub rounded-within : (z : ℤ) (d : ℕ) → 0 < d → Within (halves 1) (quotient z d) (rounded z d)
 unfolding rounded
 rounded-within z d h = record {
-  not-above = le-by (nn-mul (subst Nn (ap₂ _-ᵠ_ (twice-error z q d) (int-neg (pos d))) (le-nn (int-mono (error .0)))) scale) (above (int z) (int q) (int (pos d)) (inv (int (pos d))) (inv (int (pos 2))) cancelled half);
-  not-below = le-by (nn-mul (subst Nn (ap (λ t. int (pos d) -ᵠ t) (twice-error z q d)) (le-nn (int-mono (Z.<-≤ _ _ (error .1))))) scale) (below (int z) (int q) (int (pos d)) (inv (int (pos d))) (inv (int (pos 2))) cancelled half);
+  not-above =
+      le-by (nn-mul (subst Nn (ap₂ _-ᵠ_ (twice-error z q d) (int-neg (pos d))) (le-nn (int-mono (error .0)))) scale)
+      (above (int z) (int q) (int (pos d)) (inv (int (pos d))) (inv (int (pos 2))) cancelled half);
+  not-below =
+      le-by (nn-mul (subst Nn (ap (λ t. int (pos d) -ᵠ t) (twice-error z q d)) (le-nn (int-mono (Z.<-≤ _ _ (error .1))))) scale)
+      (below (int z) (int q) (int (pos d)) (inv (int (pos d))) (inv (int (pos 2))) cancelled half);
 }
   where
     q : ℤ

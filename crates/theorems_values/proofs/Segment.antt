@@ -37,7 +37,9 @@ breaks-rise s c i h = good-break-rises s i (c .breaks (suc i) (omega arith))
 
 -- D is the distance of the fine breakpoints
 pub fineWidth-is : (s : Space) → Checked s → (i : ℕ) → i < segments s → pos (fineWidth s i) ≡ fine (break s (suc i)) -ℤ fine (break s i)
-fineWidth-is s c i h = ap (λ z. pos fineness *ℤ z) (pos-natAbs (break s (suc i) -ℤ break s i) (Z.le-sub (break s i) (break s (suc i)) (Z.<-≤ _ _ (breaks-rise s c i h)))) ∙ fine-sub (break s (suc i)) (break s i)
+fineWidth-is s c i h =
+    ap (λ z. pos fineness *ℤ z) (pos-natAbs (break s (suc i) -ℤ break s i) (Z.le-sub (break s i) (break s (suc i)) (Z.<-≤ _ _ (breaks-rise s c i h))))
+    ∙ fine-sub (break s (suc i)) (break s i)
 
 -- ---- the position's segment
 

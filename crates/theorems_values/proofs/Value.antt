@@ -45,10 +45,15 @@ module _ (s : Space) (a : Accepted s) (wood : Wood) (coefs : List ℤ) (x : ℤ)
   -- the value is within (s + p)/2 of the exact curve
   pub blended-within : Within (halves (mostWeights s (a .table) j + degree s j)) (exactOn s (a .table) wood coefs j x) (blended s (ordinates s (a .table) (coefficient wood coefs)) j x)
   unfolding blended
-  blended-within = subst (λ e. Within (halves (mostWeights s (a .table) j + degree s j)) e (triangle (fineWidth s j) (offset s j x) given (degree s j) 0)) (sym (exactOn-is-triangle s (a .table) wood coefs j x (at .positive)))
-      (triangle-within (fineWidth s j) (offset s j x) (at .positive) (at .from) (at .to) (degree s j) (mostWeights s (a .table) j) (exactOrdinates s (a .table) wood coefs j) given given-within (degree s j) 0 (omega arith))
+  blended-within =
+      subst (λ e. Within (halves (mostWeights s (a .table) j + degree s j)) e (triangle (fineWidth s j) (offset s j x) given (degree s j) 0))
+      (sym (exactOn-is-triangle s (a .table) wood coefs j x (at .positive)))
+      (triangle-within (fineWidth s j) (offset s j x) (at .positive) (at .from) (at .to) (degree s j) (mostWeights s (a .table) j)
+      (exactOrdinates s (a .table) wood coefs j) given given-within (degree s j) 0 (omega arith))
 
   -- and between 256 times the coefficients with weight on the segment
   pub blended-between : Between (fine (leastOn s (a .table) wood coefs j)) (fine (greatestOn s (a .table) wood coefs j)) (blended s (ordinates s (a .table) (coefficient wood coefs)) j x)
   unfolding blended
-  blended-between = triangle-between (fineWidth s j) (offset s j x) (at .positive) (at .from) (at .to) (degree s j) (fine (leastOn s (a .table) wood coefs j)) (fine (greatestOn s (a .table) wood coefs j)) given given-between (degree s j) 0 (omega arith)
+  blended-between =
+      triangle-between (fineWidth s j) (offset s j x) (at .positive) (at .from) (at .to) (degree s j) (fine (leastOn s (a .table) wood coefs j))
+      (fine (greatestOn s (a .table) wood coefs j)) given given-between (degree s j) 0 (omega arith)

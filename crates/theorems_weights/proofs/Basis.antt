@@ -46,7 +46,8 @@ unfolding applied
 applied-agree width none h = refl
 applied-agree width (more {e = e} k I) h = ap₂ (λ s t. s *ᵠ int (e .condition) +ᵠ t) (h (e .column) k) (applied-agree width I h)
 
-jumps-sum-zero : (width : ℕ) (κ : List Entry) (t : Table) → Inside width κ → applied κ (λ c. int (pos 1)) ≡ int (pos 0) → ((c : ℕ) → c < width → sum (length t) (λ i. cell t i c) ≡ int (pos 1)) → sum (length t) (values κ t) ≡ int (pos 0)
+jumps-sum-zero : (width : ℕ) (κ : List Entry) (t : Table) → Inside width κ → applied κ (λ c. int (pos 1)) ≡ int (pos 0)
+    → ((c : ℕ) → c < width → sum (length t) (λ i. cell t i c) ≡ int (pos 1)) → sum (length t) (values κ t) ≡ int (pos 0)
 jumps-sum-zero width κ t I z h =
     sum-ext (length t) (λ i k. sym (one-mul (values κ t i))) ∙ sym (applied-sum κ (length t) (λ i. int (pos 1)) (cell t))
     ∙ applied-agree width I (λ c k. sum-ext (length t) (λ i m. one-mul (cell t i c)) ∙ h c k) ∙ z

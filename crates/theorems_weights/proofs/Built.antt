@@ -87,19 +87,24 @@ module _ (s : Space) (L : Legal s) where
   pub join-kept : (j : ℕ) → j < segments s - 1 → (t t′ : Table) → Basis (Done s j 0) (columnCount s) t → orderSteps s j (conditionCount s j) t ≡ answer t′
       → Basis (Done s (suc j) 0) (columnCount s) t′ × (length t′ + conditionCount s j ≡ length t)
   unfolding orderSteps
-  join-kept j h t t′ B e = finish (repeat-keeps (λ k b. Basis (Done s j k) (columnCount s) b × (length b + k ≡ length t)) (conditionCount s j) (λ k. step j (conditions s j k)) t (B, omega arith) one t′ e)
+  join-kept j h t t′ B e =
+      finish (repeat-keeps (λ k b. Basis (Done s j k) (columnCount s) b × (length b + k ≡ length t)) (conditionCount s j) (λ k. step j (conditions s j k)) t
+      (B, omega arith) one t′ e)
     where
       one : (k : ℕ) (b c : Table) → k < conditionCount s j → Basis (Done s j k) (columnCount s) b × (length b + k ≡ length t) → step j (conditions s j k) b ≡ answer c
           → Basis (Done s j (suc k)) (columnCount s) c × (length c + suc k ≡ length t)
       one k b c l P r = let S = order-stepped j k h l b c (P .0) r in (order-kept j k b c (P .0) S, omega (arith, S .rows, P .1))
 
-      finish : Basis (Done s j (conditionCount s j)) (columnCount s) t′ × (length t′ + conditionCount s j ≡ length t) → Basis (Done s (suc j) 0) (columnCount s) t′ × (length t′ + conditionCount s j ≡ length t)
+      finish : Basis (Done s j (conditionCount s j)) (columnCount s) t′ × (length t′ + conditionCount s j ≡ length t)
+          → Basis (Done s (suc j) 0) (columnCount s) t′ × (length t′ + conditionCount s j ≡ length t)
       finish P = (join-done s j (P .0), P .1)
 
   -- all joins
   all-kept : (t : Table) → weights s ≡ answer t → Basis (Done s (segments s - 1) 0) (columnCount s) t × (length t + conditionsBefore s (segments s - 1) ≡ columnCount s)
   unfolding weights joinSteps conditionsBefore
-  all-kept t e = repeat-keeps (λ j b. Basis (Done s j 0) (columnCount s) b × (length b + conditionsBefore s j ≡ columnCount s)) (segments s - 1) (λ j. orderSteps s j (conditionCount s j)) (identity (columnCount s))
+  all-kept t e =
+      repeat-keeps (λ j b. Basis (Done s j 0) (columnCount s) b × (length b + conditionsBefore s j ≡ columnCount s)) (segments s - 1)
+      (λ j. orderSteps s j (conditionCount s j)) (identity (columnCount s))
       (identity-basis (columnCount s) (Done s 0 0) (nothing-done s), omega (arith, identity-rows (columnCount s))) one t e
     where
       one : (j : ℕ) (b c : Table) → j < segments s - 1 → Basis (Done s j 0) (columnCount s) b × (length b + conditionsBefore s j ≡ columnCount s) → orderSteps s j (conditionCount s j) b ≡ answer c

@@ -26,7 +26,9 @@ use Rattle.theorems_weights.proofs.Difference.{signedBinomial, differen
 applied-append : (xs ys : List Entry) (z : ℕ → ℚ) → applied (xs ++ ys) z ≡ applied xs z +ᵠ applied ys z
 unfolding applied
 applied-append [] ys z = ring ℚ-ring (applied ys z ∷ []) (search readsℚ) (search readsℚ) refl
-applied-append (e ∷ xs) ys z = ap (λ t. z (e .column) *ᵠ int (e .condition) +ᵠ t) (applied-append xs ys z) ∙ ring ℚ-ring (z (e .column) *ᵠ int (e .condition) ∷ applied xs z ∷ applied ys z ∷ []) (search reads) (search reads) refl
+applied-append (e ∷ xs) ys z =
+    ap (λ t. z (e .column) *ᵠ int (e .condition) +ᵠ t) (applied-append xs ys z)
+    ∙ ring ℚ-ring (z (e .column) *ᵠ int (e .condition) ∷ applied xs z ∷ applied ys z ∷ []) (search reads) (search reads) refl
 
 applied-tab : (n : ℕ) (f : ℕ → Entry) (z : ℕ → ℚ) → applied (tab n f) z ≡ sum n (λ t. z (f t .column) *ᵠ int (f t .condition))
 unfolding applied tab sum

@@ -26,7 +26,11 @@ use Rattle.spec_spline.specs.Piecewise.{pairing}
 use Rattle.base_outcome.proofs.Outcome.{then-answers, then-breaks, Broken, first-refuses, second-refuses, answer-not-refusal}
 use Rattle.spec_spline.proofs.Legal.{checked-inverts, checked-codes}
 use Rattle.base_outcome.proofs.Search.{first-some-inverts, last-none-inverts}
-use Rattle.theorems_weights.specs.Counted.{Test, counted, shaped, passes, codeOf, joinOf, joined, jumpTests, exactJumps, firstJump, lastJump, shapeTest, quotient, factorTests, innerRows, innerRow, exactFactors, entryTests, rowTests, exactRow, stepTests, exactStep, exactOrders, exactJoins, buildTests, exactWeights, allPass, FirstFailure, RefusedByFirstFailure, FirstFailureRefuses, PassingIsAccepted, FirstTooLarge, EightIsFirstTooLarge, FirstMisshapen, NineIsFirstMisshapen}
+use Rattle.theorems_weights.specs.Counted.{Test, counted, shaped, passes, codeOf, joinOf, joined, jumpTests, exactJumps, firstJump, lastJump, shapeTest}
+use Rattle.theorems_weights.specs.Counted.{quotient, factorTests, innerRows, innerRow, exactFactors, entryTests, rowTests, exactRow, stepTests, exactStep}
+use Rattle.theorems_weights.specs.Counted.{exactOrders, exactJoins, buildTests, exactWeights, allPass, FirstFailure, RefusedByFirstFailure}
+use Rattle.theorems_weights.specs.Counted.{FirstFailureRefuses, PassingIsAccepted, FirstTooLarge, EightIsFirstTooLarge, FirstMisshapen}
+use Rattle.theorems_weights.specs.Counted.{NineIsFirstMisshapen}
 
 -- An outcome behind tests: the first that fails refuses.
 judged : {A : Type 0} → List Test → Outcome A → Outcome A
@@ -85,7 +89,9 @@ unfolding addProducts jumpTests pairing judged
 addProducts-judged j r s [] = record { is = ap answer (sym (add-zero s)) }
 addProducts-judged j r s (e ∷ es) =
     let p = entry r (e .column) *ᵠ int (e .condition) in
-    renamed (add-assoc s p (pairing r es)) (chained (λ p. count j (s +ᵠ p) then λ t. addProducts j r t es) (count-judged j p) (chained (λ t. addProducts j r t es) (count-judged j (s +ᵠ p)) (addProducts-judged j r (s +ᵠ p) es)))
+    renamed (add-assoc s p (pairing r es))
+    (chained (λ p. count j (s +ᵠ p) then λ t. addProducts j r t es) (count-judged j p)
+    (chained (λ t. addProducts j r t es) (count-judged j (s +ᵠ p)) (addProducts-judged j r (s +ᵠ p) es)))
 
 jumps-judged : (j : ℕ) (κ : List Entry) (t : Table) → Judged (jumps j κ t) (joined (length t) (λ i. jumpTests j (row t i) (int (pos 0)) κ)) (exactJumps κ t)
 unfolding exactJumps
@@ -117,15 +123,22 @@ newEntry-judged : (j : ℕ) (w v x y : ℚ) → Judged (newEntry j w v x y) (ent
 unfolding newEntry entryTests
 newEntry-judged j w v x y = chained _ (count-judged j (w *ᵠ x)) (chained _ (count-judged j ((int (pos 1) -ᵠ v) *ᵠ y)) (count-judged j (w *ᵠ x +ᵠ (int (pos 1) -ᵠ v) *ᵠ y)))
 
-newRows-judged : (j : ℕ) (js ws : List ℚ) (t : Table) → Judged (newRows j (record { f = firstJump js; l = lastJump js }) ws t) (joined (lastJump js - firstJump js) (rowTests j js ws t)) (tab (lastJump js - firstJump js) (exactRow js ws t))
+newRows-judged : (j : ℕ) (js ws : List ℚ) (t : Table)
+    → Judged (newRows j (record { f = firstJump js; l = lastJump js }) ws t) (joined (lastJump js - firstJump js) (rowTests j js ws t))
+    (tab (lastJump js - firstJump js) (exactRow js ws t))
 unfolding newRows rowTests exactRow
-newRows-judged j js ws t = collect-judged (lastJump js - firstJump js) (λ d. collect-judged (length (row t (firstJump js + d))) (λ c. newEntry-judged j (entry ws d) (entry ws (suc d)) (cell t (firstJump js + d) c) (cell t (firstJump js + suc d) c)))
+newRows-judged j js ws t =
+    collect-judged (lastJump js - firstJump js)
+    (λ d. collect-judged (length (row t (firstJump js + d)))
+    (λ c. newEntry-judged j (entry ws d) (entry ws (suc d)) (cell t (firstJump js + d) c) (cell t (firstJump js + suc d) c)))
 
 step-judged : (j : ℕ) (κ : List Entry) (t : Table) → Judged (step j κ t) (stepTests j κ t) (exactStep κ t)
 unfolding step stepTests exactStep
 step-judged j κ t =
     let js = exactJumps κ t in
-    chained _ (jumps-judged j κ t) (chained _ (span-judged j js) (chained _ (factors-judged j js) (finished (λ rs. take (firstJump js) t ++ (rs ++ drop (suc (lastJump js)) t)) (newRows-judged j js (exactFactors js) t))))
+    chained _ (jumps-judged j κ t)
+    (chained _ (span-judged j js)
+    (chained _ (factors-judged j js) (finished (λ rs. take (firstJump js) t ++ (rs ++ drop (suc (lastJump js)) t)) (newRows-judged j js (exactFactors js) t))))
 
 -- ---- the build
 

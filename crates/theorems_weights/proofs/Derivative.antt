@@ -36,7 +36,9 @@ pub derivative-difference : (p h : ℕ) (f : ℕ → ℚ) (k j : ℕ) → deriva
 unfolding derivativeCoefficient rate
 derivative-difference p h f zero j = sym (ap (λ u. int (pos 1) *ᵠ u) (difference-zero (λ t. f (j + t)) ∙ ap f (let e : j + 0 ≡ j = omega arith in e)) ∙ one-mul (f j))
 derivative-difference p h f (suc k) j =
-    ap₂ (λ a b. int (pos (p - k)) /ᵠ int (pos h) *ᵠ (a -ᵠ b)) (derivative-difference p h f k (suc j) ∙ ap (λ u. rate p h k *ᵠ u) (difference-ext k (λ t l. ap f (let e : suc j + t ≡ j + suc t = omega arith in e)))) (derivative-difference p h f k j)
+    ap₂ (λ a b. int (pos (p - k)) /ᵠ int (pos h) *ᵠ (a -ᵠ b))
+    (derivative-difference p h f k (suc j) ∙ ap (λ u. rate p h k *ᵠ u) (difference-ext k (λ t l. ap f (let e : suc j + t ≡ j + suc t = omega arith in e))))
+    (derivative-difference p h f k j)
     ∙ factor-out (int (pos (p - k)) /ᵠ int (pos h)) (rate p h k) (difference k (λ t. f (j + suc t))) (difference k (λ t. f (j + t)))
     ∙ ap (λ u. int (pos (p - k)) /ᵠ int (pos h) *ᵠ rate p h k *ᵠ u) (sym (difference-suc k (λ t. f (j + t))))
   where
@@ -78,7 +80,9 @@ leftConstraint-is : (s : Space) (i k t : ℕ) → leftConstraint s i k t ≡ rat
 unfolding leftConstraint
 leftConstraint-is s i k t = go (le-or-lt (degree s i - k) t)
   where
-    go : (degree s i - k ≤ t) ⊎ (t < degree s i - k) → cond (leb (degree s i - k) t) (derivativeAtRight (degree s i) (width s i) k t) (int (pos 0)) ≡ rate (degree s i) (width s i) k *ᵠ difference k (λ u. bernstein t (degree s i - k + u))
+    go : (degree s i - k ≤ t) ⊎ (t < degree s i - k)
+        → cond (leb (degree s i - k) t) (derivativeAtRight (degree s i) (width s i) k t) (int (pos 0))
+        ≡ rate (degree s i) (width s i) k *ᵠ difference k (λ u. bernstein t (degree s i - k + u))
     go (inl h) = cond-true _ _ (holds-true (leb (degree s i - k) t) (le→leb (degree s i - k) t h)) ∙ derivative-difference (degree s i) (width s i) (bernstein t) k (degree s i - k)
     go (inr h) = cond-false _ _ (fails-false (leb (degree s i - k) t) (lt→nleb (degree s i - k) t h))
         ∙ sym (ap (λ u. rate (degree s i) (width s i) k *ᵠ u) (difference-none k (λ u l. bernstein-other t (degree s i - k + u) (λ e. omega arith))) ∙ mul-zero _)
@@ -150,14 +154,21 @@ module _ (s : Space) (i k : ℕ) where
 
     right-sum : sum (degree s (suc i) + 1) (λ t. F (firstColumn s (suc i) + t)) ≡ -ᵠ rate (degree s (suc i)) (width s (suc i)) k *ᵠ difference k (λ u. z (firstColumn s (suc i) + u))
     unfolding F
-    right-sum = sum-ext (degree s (suc i) + 1) (λ t h. ap (λ u. z (firstColumn s (suc i) + t) *ᵠ u) (constraint-right t h ∙ rightConstraint-is s i k t ∙ ap (λ u. -ᵠ rate (degree s (suc i)) (width s (suc i)) k *ᵠ u) (difference-ext k (λ u l. ap (bernstein t) (sym (zero-add u))))))
+    right-sum =
+        sum-ext (degree s (suc i) + 1)
+        (λ t h. ap (λ u. z (firstColumn s (suc i) + t) *ᵠ u)
+        (constraint-right t h ∙ rightConstraint-is s i k t
+        ∙ ap (λ u. -ᵠ rate (degree s (suc i)) (width s (suc i)) k *ᵠ u) (difference-ext k (λ u l. ap (bernstein t) (sym (zero-add u))))))
         ∙ side-sum (degree s (suc i) + 1) k 0 (-ᵠ rate (degree s (suc i)) (width s (suc i)) k) (λ t. z (firstColumn s (suc i) + t)) (omega arith)
         ∙ ap (λ u. -ᵠ rate (degree s (suc i)) (width s (suc i)) k *ᵠ u) (difference-ext k (λ u l. ap (λ n. z (firstColumn s (suc i) + n)) (zero-add u)))
 
     pub constraint-sum : sum (columnCount s) (λ c. z c *ᵠ constraint s i c k)
-        ≡ rate (degree s i) (width s i) k *ᵠ difference k (λ u. z (firstColumn s i + (degree s i - k + u))) -ᵠ rate (degree s (suc i)) (width s (suc i)) k *ᵠ difference k (λ u. z (firstColumn s (suc i) + u))
+        ≡ rate (degree s i) (width s i) k *ᵠ difference k (λ u. z (firstColumn s i + (degree s i - k + u))) -ᵠ rate (degree s (suc i))
+        (width s (suc i)) k *ᵠ difference k (λ u. z (firstColumn s (suc i) + u))
     unfolding F firstColumn
-    constraint-sum = sum-past (firstColumn s (suc (suc i))) (columnCount s) F (firstColumn-mono s (suc (suc i)) (segments s) inner) (λ c h l. ap (λ u. z c *ᵠ u) (constraint-after c h) ∙ mul-zero (z c))
+    constraint-sum =
+        sum-past (firstColumn s (suc (suc i))) (columnCount s) F (firstColumn-mono s (suc (suc i)) (segments s) inner)
+        (λ c h l. ap (λ u. z c *ᵠ u) (constraint-after c h) ∙ mul-zero (z c))
         ∙ sum-split (firstColumn s (suc i)) (degree s (suc i) + 1) F ∙ ap₂ _+ᵠ_ left-sum right-sum ∙ neg-out _ _ _
 
 -- The constraints are the conditions times a number that is not zero.
@@ -167,7 +178,9 @@ ratio s i k = int (pos (divisor s i k)) /ᵠ int (pos (width s i ^ k * width s (
 pub constraints-are-conditions : (s : Space) (i k : ℕ) (z : ℕ → ℚ) → suc i < segments s → k ≤ degree s i → k ≤ degree s (suc i) → 0 < width s i → 0 < width s (suc i)
     → sum (columnCount s) (λ c. z c *ᵠ constraint s i c k) ≡ ratio s i k *ᵠ applied (conditions s i k) z
 unfolding ratio leftScale rightScale
-constraints-are-conditions s i k z inner left right a b = positive (width s i ^ k * width s (suc i) ^ k) (int (pos (divisor s i k))) (applied (conditions s i k) z) (sum (columnCount s) (λ c. z c *ᵠ constraint s i c k)) (mul-pos (one-le-pow k (width s i) a) (one-le-pow k (width s (suc i)) b))
+constraints-are-conditions s i k z inner left right a b =
+    positive (width s i ^ k * width s (suc i) ^ k) (int (pos (divisor s i k))) (applied (conditions s i k) z) (sum (columnCount s) (λ c. z c *ᵠ constraint s i c k))
+    (mul-pos (one-le-pow k (width s i) a) (one-le-pow k (width s (suc i)) b))
     (ap₂ (λ u v. u *ᵠ v) (constraint-sum s i k z inner left right) (int-mul (pos (width s i ^ k)) (pos (width s (suc i) ^ k)))
     ∙ cleared (rate (degree s i) (width s i) k) (rate (degree s (suc i)) (width s (suc i)) k) _ _ (int (pos (width s i ^ k))) (int (pos (width s (suc i) ^ k)))
     ∙ scales (difference k (λ u. z (firstColumn s i + (degree s i - k + u)))) (difference k (λ u. z (firstColumn s (suc i) + u))) ∙ sym (applied-conditions s i k z))
@@ -175,7 +188,8 @@ constraints-are-conditions s i k z inner left right a b = positive (width s i ^ 
     cleared : (r q d e a b : ℚ) → (r *ᵠ d -ᵠ q *ᵠ e) *ᵠ (a *ᵠ b) ≡ r *ᵠ a *ᵠ b *ᵠ d -ᵠ q *ᵠ b *ᵠ a *ᵠ e
     cleared r q d e a b = ring ℚ-ring (r ∷ q ∷ d ∷ e ∷ a ∷ b ∷ []) (search readsℚ depth 20) (search readsℚ depth 20) refl
 
-    scales : (d e : ℚ) → rate (degree s i) (width s i) k *ᵠ int (pos (width s i ^ k)) *ᵠ int (pos (width s (suc i) ^ k)) *ᵠ d -ᵠ rate (degree s (suc i)) (width s (suc i)) k *ᵠ int (pos (width s (suc i) ^ k)) *ᵠ int (pos (width s i ^ k)) *ᵠ e
+    scales : (d e : ℚ) → rate (degree s i) (width s i) k *ᵠ int (pos (width s i ^ k)) *ᵠ int (pos (width s (suc i) ^ k)) *ᵠ d -ᵠ rate (degree s (suc i))
+        (width s (suc i)) k *ᵠ int (pos (width s (suc i) ^ k)) *ᵠ int (pos (width s i ^ k)) *ᵠ e
         ≡ int (pos (leftScale s i k)) *ᵠ d -ᵠ int (pos (rightScale s i k)) *ᵠ e
     scales d e = ap₂ (λ u v. u *ᵠ d -ᵠ v *ᵠ e)
         (ap (λ u. u *ᵠ int (pos (width s (suc i) ^ k))) (rate-cleared (degree s i) (width s i) k a) ∙ sym (int-mul (pos (falling (degree s i) k)) (pos (width s (suc i) ^ k))))

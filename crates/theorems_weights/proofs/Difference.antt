@@ -42,7 +42,8 @@ difference-suc k x =
     difference-is (suc k) x
     ∙ binomialSum-suc k (λ t m. int (alternating m) *ᵠ x t)
     ∙ ap₂ _+ᵠ_
-    (sum-ext (suc k) (λ t h. ap (λ u. int (pos (binomial k t)) *ᵠ (u *ᵠ x t)) (alternating-suc (k - t)) ∙ negated (int (pos (binomial k t))) (int (alternating (k - t))) (x t)) ∙ sum-neg (suc k) (λ t. signedBinomial k t *ᵠ x t))
+    (sum-ext (suc k) (λ t h. ap (λ u. int (pos (binomial k t)) *ᵠ (u *ᵠ x t)) (alternating-suc (k - t))
+    ∙ negated (int (pos (binomial k t))) (int (alternating (k - t))) (x t)) ∙ sum-neg (suc k) (λ t. signedBinomial k t *ᵠ x t))
     (sym (difference-is k (λ t. x (suc t))))
     ∙ add-comm (-ᵠ difference k x) (difference k (λ t. x (suc t)))
   where

@@ -82,7 +82,9 @@ module _ (js ws : List ℚ) (f l n : ℕ) (J : ℕ → ℚ) (same : (i : ℕ) �
   spread = go (eq-or-lt-of-le (S .ordered))
     where
       go : (f ≡ l) ⊎ (f < l) → f < l
-      go (inl e) = absurd (J-inside l (S .ordered) (omega arith) (sym (ap (λ t. t +ᵠ J l) (sum-zero l (λ i h. J-before i (omega arith))) ∙ ring ℚ-ring (J l ∷ []) (search readsℚ) (search readsℚ) refl) ∙ whole))
+      go (inl e) =
+          absurd (J-inside l (S .ordered) (omega arith)
+          (sym (ap (λ t. t +ᵠ J l) (sum-zero l (λ i h. J-before i (omega arith))) ∙ ring ℚ-ring (J l ∷ []) (search readsℚ) (search readsℚ) refl) ∙ whole))
       go (inr h) = h
 
   abbrev pub w : ℕ → ℚ

@@ -53,7 +53,8 @@ applied-sum κ (suc n) a x =
 pub addProducts-inverts : (j : ℕ) (r : Row) (s : ℚ) (κ : List Entry) {q : ℚ} → addProducts j r s κ ≡ answer q → q ≡ s +ᵠ applied κ (entry r)
 unfolding addProducts applied
 addProducts-inverts j r s [] e = answer-unique e refl ∙ sym (add-zero s)
-addProducts-inverts j r s (e ∷ es) {q} h = go (then-inverts (count j (entry r (e .column) *ᵠ int (e .condition))) (λ p. count j (s +ᵠ p) then λ t. addProducts j r t es) h) (λ t. addProducts-inverts j r t es)
+addProducts-inverts j r s (e ∷ es) {q} h =
+    go (then-inverts (count j (entry r (e .column) *ᵠ int (e .condition))) (λ p. count j (s +ᵠ p) then λ t. addProducts j r t es) h) (λ t. addProducts-inverts j r t es)
   where
     go : Chained (count j (entry r (e .column) *ᵠ int (e .condition))) (λ p. count j (s +ᵠ p) then λ t. addProducts j r t es) q
         → ((t : ℚ) → addProducts j r t es ≡ answer q → q ≡ t +ᵠ applied es (entry r)) → q ≡ s +ᵠ (entry r (e .column) *ᵠ int (e .condition) +ᵠ applied es (entry r))

@@ -29,7 +29,9 @@ use Rattle.spec_spline.specs.Piecewise.{Accepted, MeetsAll, Meets, pairing, com
 use Rattle.spec_spline.proofs.Computing.{building, checking, conditioning}
 use Rattle.base_outcome.proofs.Outcome.{answer-not-refusal}
 use Rattle.theorems_weights.specs.Cells.{HoldsFraction, lastPartCell}
-use Rattle.theorems_weights.specs.Counted.{Test, counted, shaped, codeOf, passes, joined, jumpTests, exactJumps, firstJump, lastJump, shapeTest, quotient, factorTests, innerRows, innerRow, exactFactors, entryTests, rowTests, exactRow, stepTests, exactStep, exactOrders, exactJoins, buildTests, exactWeights, allPass, FirstTooLarge, FirstFailure}
+use Rattle.theorems_weights.specs.Counted.{Test, counted, shaped, codeOf, passes, joined, jumpTests, exactJumps, firstJump, lastJump, shapeTest}
+use Rattle.theorems_weights.specs.Counted.{quotient, factorTests, innerRows, innerRow, exactFactors, entryTests, rowTests, exactRow, stepTests, exactStep}
+use Rattle.theorems_weights.specs.Counted.{exactOrders, exactJoins, buildTests, exactWeights, allPass, FirstTooLarge, FirstFailure}
 use Rattle.theorems_weights.proofs.PublishedBasis.{rows-and-columns, combinations-meet-conditions, conditions-give-one-combination}
 use Rattle.theorems_weights.proofs.PartitionOfUnity.{no-weight-negative, column-sums-one}
 use Rattle.theorems_weights.proofs.Published.{weights-are-published}
@@ -281,7 +283,9 @@ failure8 = record {
   before = take 194 (buildTests space8);
   failing = counted 0 (negsuc 2150017199 // 1290);
   after = drop 195 (buildTests space8);
-  parts = split-at (buildTests space8) 194 (counted 0 q0) (omega (arith, length-take 195 (buildTests space8), size8)) ∙ ap (λ t. take 194 (buildTests space8) ++ (t ∷ drop 195 (buildTests space8))) fraction8;
+  parts =
+      split-at (buildTests space8) 194 (counted 0 q0) (omega (arith, length-take 195 (buildTests space8), size8))
+      ∙ ap (λ t. take 194 (buildTests space8) ++ (t ∷ drop 195 (buildTests space8))) fraction8;
   passed = passed8;
   fails = too-large-fraction8;
   code-is = refl;

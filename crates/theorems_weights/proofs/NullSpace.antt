@@ -47,7 +47,8 @@ module _ (w c x : ℕ → ℚ) where
   unfolding sum mixed lifted
   reindex-ends zero = ring ℚ-ring (x 0 ∷ w 0 ∷ c 0 ∷ c 1 ∷ []) (search readsℚ depth 30) (search readsℚ depth 30) refl
   reindex-ends (suc m) = ap (λ t. t +ᵠ c (suc m) *ᵠ (w m *ᵠ x m +ᵠ (int (pos 1) -ᵠ w (suc m)) *ᵠ x (suc m))) (reindex-ends m)
-      ∙ ring ℚ-ring (sum m (λ i. lifted w c i *ᵠ x i) ∷ x m ∷ x 0 ∷ w 0 ∷ w m ∷ w (suc m) ∷ x (suc m) ∷ c 0 ∷ c m ∷ c (suc m) ∷ c (suc (suc m)) ∷ []) (search readsℚ depth 40) (search readsℚ depth 40) refl
+      ∙ ring ℚ-ring (sum m (λ i. lifted w c i *ᵠ x i) ∷ x m ∷ x 0 ∷ w 0 ∷ w m ∷ w (suc m) ∷ x (suc m) ∷ c 0 ∷ c m ∷ c (suc m) ∷ c (suc (suc m)) ∷ [])
+      (search readsℚ depth 40) (search readsℚ depth 40) refl
 
   pub reindex : (m : ℕ) → w 0 ≡ int (pos 1) → w m ≡ int (pos 0) → sum m (λ i. c (suc i) *ᵠ mixed w x i) ≡ sum (suc m) (λ i. lifted w c i *ᵠ x i)
   reindex m h k = reindex-ends m

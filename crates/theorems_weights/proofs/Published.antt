@@ -73,7 +73,9 @@ constraints-length s i = tab-length (columnCount s) _
 
 constraints-cell : (s : Space) (i c k : ℕ) → c < columnCount s → k < conditionCount s i → cell (constraints s i) c k ≡ constraint s i c k
 unfolding constraints
-constraints-cell s i c k h l = ap (λ q. entry q k) (tab-getD (columnCount s) (λ c. tab (conditionCount s i) (λ k. constraint s i c k)) c [] h) ∙ tab-getD (conditionCount s i) (λ k. constraint s i c k) k (int (pos 0)) l
+constraints-cell s i c k h l =
+    ap (λ q. entry q k) (tab-getD (columnCount s) (λ c. tab (conditionCount s i) (λ k. constraint s i c k)) c [] h)
+    ∙ tab-getD (conditionCount s i) (λ k. constraint s i c k) k (int (pos 0)) l
 
 -- ---- one step
 
@@ -105,7 +107,8 @@ module _ (s : Space) (L : Legal s) (j k : ℕ) (h : j < segments s - 1) (l : k <
       go (inl p) = cell-past (constrained t) _ k (rw (product-length (conditionCount s j) t (constraints s j)) p)
           ∙ sym (ap (λ u. ratio s j k *ᵠ u) (values-past (conditions s j k) t i p) ∙ mul-zero (ratio s j k))
       go (inr p) = constrained-cell t i k p l
-          ∙ constraints-are-conditions s j k (cell t i) (omega arith) (let a = L .below-left-degree j h in omega arith) (let a = L .below-right-degree j h in omega arith) (L .positive-width j (omega arith)) (L .positive-width (suc j) (omega arith))
+          ∙ constraints-are-conditions s j k (cell t i) (omega arith) (let a = L .below-left-degree j h in omega arith)
+          (let a = L .below-right-degree j h in omega arith) (L .positive-width j (omega arith)) (L .positive-width (suc j) (omega arith))
 
   v-nonzero : ratio s j k ≢ int (pos 0)
   v-nonzero = ratio-nonzero s j k (let a = L .below-left-degree j h in omega arith) (L .positive-width j (omega arith)) (L .positive-width (suc j) (omega arith))
@@ -161,13 +164,17 @@ module _ (s : Space) (L : Legal s) (j k : ℕ) (h : j < segments s - 1) (l : k <
     rows-agree = omega (arith, null-rows (S .f) (S .l) (S .w) (S .null), S .rows)
 
     next-H : product (columnCount s) (nullspace v) t ≡ t′
-    next-H = table-ext (columnCount s) (product (columnCount s) (nullspace v) t) t′ (product-wide (columnCount s) (nullspace v) t) (S .wide) (product-length (columnCount s) (nullspace v) t ∙ rows-agree)
+    next-H =
+        table-ext (columnCount s) (product (columnCount s) (nullspace v) t) t′ (product-wide (columnCount s) (nullspace v) t) (S .wide)
+        (product-length (columnCount s) (nullspace v) t ∙ rows-agree)
         (λ r c p q. let p′ : r < length (nullspace v) = rw (product-length (columnCount s) (nullspace v) t) at p in
         product-cell (columnCount s) (nullspace v) t r c p′ q ∙ null-mixes (S .f) (S .l) (S .w) (S .null) (λ i. cell t i c) r p′ ∙ sym (S .cells r c))
 
     next-L : product (conditionCount s j) (nullspace v) (constrained t) ≡ constrained t′
     unfolding mixed
-    next-L = table-ext (conditionCount s j) (product (conditionCount s j) (nullspace v) (constrained t)) (constrained t′) (product-wide (conditionCount s j) (nullspace v) (constrained t)) (product-wide (conditionCount s j) t′ (constraints s j))
+    next-L =
+        table-ext (conditionCount s j) (product (conditionCount s j) (nullspace v) (constrained t)) (constrained t′)
+        (product-wide (conditionCount s j) (nullspace v) (constrained t)) (product-wide (conditionCount s j) t′ (constraints s j))
         (product-length (conditionCount s j) (nullspace v) (constrained t) ∙ rows-agree ∙ sym (product-length (conditionCount s j) t′ (constraints s j)))
         (λ r m p q. let p′ : r < length (nullspace v) = rw (product-length (conditionCount s j) (nullspace v) (constrained t)) at p in at r m p′ (rw rows-agree at p′) q)
       where
@@ -177,9 +184,11 @@ module _ (s : Space) (L : Legal s) (j k : ℕ) (h : j < segments s - 1) (l : k <
             ∙ ap (λ n. sum n (λ i. cell (nullspace v) r i *ᵠ cell (constrained t) i m)) (product-length (conditionCount s j) t (constraints s j))
             ∙ null-mixes (S .f) (S .l) (S .w) (S .null) (λ i. cell (constrained t) i m) r p
             ∙ ap₂ (λ a b. S .w r *ᵠ a +ᵠ (int (pos 1) -ᵠ S .w (suc r)) *ᵠ b) (constrained-cell t r m (omega arith) q) (constrained-cell t (suc r) m (omega arith) q)
-            ∙ ap₂ _+ᵠ_ (sym (sum-mul (columnCount s) (S .w r) (λ c. cell t r c *ᵠ constraint s j c m))) (sym (sum-mul (columnCount s) (int (pos 1) -ᵠ S .w (suc r)) (λ c. cell t (suc r) c *ᵠ constraint s j c m)))
+            ∙ ap₂ _+ᵠ_ (sym (sum-mul (columnCount s) (S .w r) (λ c. cell t r c *ᵠ constraint s j c m)))
+            (sym (sum-mul (columnCount s) (int (pos 1) -ᵠ S .w (suc r)) (λ c. cell t (suc r) c *ᵠ constraint s j c m)))
             ∙ sym (sum-add (columnCount s) (λ c. S .w r *ᵠ (cell t r c *ᵠ constraint s j c m)) (λ c. (int (pos 1) -ᵠ S .w (suc r)) *ᵠ (cell t (suc r) c *ᵠ constraint s j c m)))
-            ∙ sum-ext (columnCount s) (λ c o. collect (S .w r) (int (pos 1) -ᵠ S .w (suc r)) (cell t r c) (cell t (suc r) c) (constraint s j c m) ∙ ap (λ u. u *ᵠ constraint s j c m) (sym (S .cells r c)))
+            ∙ sum-ext (columnCount s) (λ c o. collect (S .w r) (int (pos 1) -ᵠ S .w (suc r)) (cell t r c) (cell t (suc r) c) (constraint s j c m)
+            ∙ ap (λ u. u *ᵠ constraint s j c m) (sym (S .cells r c)))
             ∙ sym (constrained-cell t′ r m p′ q)
           where
             collect : (a b x y z : ℚ) → a *ᵠ (x *ᵠ z) +ᵠ b *ᵠ (y *ᵠ z) ≡ (a *ᵠ x +ᵠ b *ᵠ y) *ᵠ z
@@ -195,7 +204,9 @@ module _ (s : Space) (L : Legal s) where
   -- the orders of a join
   smooth-is : (j : ℕ) → j < segments s - 1 → (t t′ : Table) → Basis (Done s j 0) (columnCount s) t → orderSteps s j (conditionCount s j) t ≡ answer t′ → smooth s j t ≡ t′
   unfolding orderSteps smooth for
-  smooth-is j h t t′ B e = ap (λ m. m .H) (repeat-keeps (λ k b. Basis (Done s j k) (columnCount s) b × (for k (constrain s j) (started s j t) ≡ started s j b)) (conditionCount s j) (λ k. step j (conditions s j k)) t (B, refl) one t′ e .1)
+  smooth-is j h t t′ B e =
+      ap (λ m. m .H) (repeat-keeps (λ k b. Basis (Done s j k) (columnCount s) b × (for k (constrain s j) (started s j t) ≡ started s j b)) (conditionCount s j)
+      (λ k. step j (conditions s j k)) t (B, refl) one t′ e .1)
     where
       one : (k : ℕ) (b c : Table) → k < conditionCount s j → Basis (Done s j k) (columnCount s) b × (for k (constrain s j) (started s j t) ≡ started s j b) → step j (conditions s j k) b ≡ answer c
           → Basis (Done s j (suc k)) (columnCount s) c × (for (suc k) (constrain s j) (started s j t) ≡ started s j c)
@@ -205,7 +216,9 @@ module _ (s : Space) (L : Legal s) where
   -- the joins
   extraction-is : (t : Table) → weights s ≡ answer t → extraction s ≡ t
   unfolding weights joinSteps extraction for
-  extraction-is t e = repeat-keeps (λ j b. Basis (Done s j 0) (columnCount s) b × (for j (smooth s) (identity (columnCount s)) ≡ b)) (segments s - 1) (λ j. orderSteps s j (conditionCount s j)) (identity (columnCount s))
+  extraction-is t e =
+      repeat-keeps (λ j b. Basis (Done s j 0) (columnCount s) b × (for j (smooth s) (identity (columnCount s)) ≡ b)) (segments s - 1)
+      (λ j. orderSteps s j (conditionCount s j)) (identity (columnCount s))
       (identity-basis (columnCount s) (Done s 0 0) (nothing-done s), refl) one t e .1
     where
       one : (j : ℕ) (b c : Table) → j < segments s - 1 → Basis (Done s j 0) (columnCount s) b × (for j (smooth s) (identity (columnCount s)) ≡ b) → orderSteps s j (conditionCount s j) b ≡ answer c

@@ -53,7 +53,9 @@ module _ (columns : ℕ) (t : Table) (wide : Wide columns t) where
   combination-at multipliers c = go (le-or-lt columns c)
     where
       go : (columns ≤ c) ⊎ (c < columns) → entry (combination columns multipliers t) c ≡ combined (entry multipliers) t c
-      go (inl h) = entry-past (combination columns multipliers t) c (rw (tab-length columns (λ c. sum (length t) (λ i. entry multipliers i *ᵠ cell t i c))) h) ∙ sym (combined-past (entry multipliers) c h)
+      go (inl h) =
+          entry-past (combination columns multipliers t) c (rw (tab-length columns (λ c. sum (length t) (λ i. entry multipliers i *ᵠ cell t i c))) h)
+          ∙ sym (combined-past (entry multipliers) c h)
       go (inr h) = tab-getD columns (λ c. sum (length t) (λ i. entry multipliers i *ᵠ cell t i c)) c (int (pos 0)) h
 
 pub combination-length : (columns : ℕ) (multipliers : List ℚ) (t : Table) → length (combination columns multipliers t) ≡ columns
@@ -85,7 +87,8 @@ module _ (s : Space) (t : Table) (B : Basis (Done s (segments s - 1) 0) (columnC
         gives = ext-getD (int (pos 0)) (combination (columnCount s) multipliers t) o (combination-length (columnCount s) multipliers t ∙ sym (M .columns))
             (λ c h. combination-at (columnCount s) t (B .wide) multipliers c ∙ same c ∙ f .1 c);
         only = λ others h e. ext-getD (int (pos 0)) others multipliers (h ∙ sym (tab-length (rowCount s) (f .0)))
-            (λ i l. B .unique (entry others) (entry multipliers) (λ c. sym (combination-at (columnCount s) t (B .wide) others c) ∙ ap (λ r. entry r c) e ∙ sym (f .1 c) ∙ sym (same c)) i (rw n (rw h at l)));
+            (λ i l. B .unique (entry others) (entry multipliers)
+            (λ c. sym (combination-at (columnCount s) t (B .wide) others c) ∙ ap (λ r. entry r c) e ∙ sym (f .1 c) ∙ sym (same c)) i (rw n (rw h at l)));
       }
         where
           multipliers : List ℚ

@@ -87,7 +87,8 @@ module _ (width : ℕ) {j : ℕ} {κ : List Entry} {t t′ : Table} (wide : Wide
       go : Source p i → cell t′ i c ≡ w i *ᵠ a +ᵠ (int (pos 1) -ᵠ w (suc i)) *ᵠ b
       go (kept k e) = ap (λ r. entry r c) e ∙ first-of a b ∙ both (one-up-to G i (omega arith)) (one-up-to G (suc i) k)
       go (new h k e) =
-          newRow-inverts j (entry (p .ws) (i - f)) (entry (p .ws) (suc (i - f))) (row t i) (row t (suc i)) (wide .each (suc i) (omega (arith, span-below p)) ∙ sym (wide .each i (omega (arith, span-below p)))) e .at c
+          newRow-inverts j (entry (p .ws) (i - f)) (entry (p .ws) (suc (i - f))) (row t i) (row t (suc i))
+          (wide .each (suc i) (omega (arith, span-below p)) ∙ sym (wide .each i (omega (arith, span-below p)))) e .at c
           ∙ both (extended-from (p .ws) f i h) (extended-from (p .ws) f (suc i) (omega arith) ∙ ap (entry (p .ws)) (let z : suc i - f ≡ suc (i - f) = omega arith in z))
       go (later k e) = ap (λ r. entry r c) e ∙ second-of a b ∙ both (last-factor G i k) (last-factor G (suc i) (omega arith))
 
