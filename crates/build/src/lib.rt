@@ -32,7 +32,7 @@ pub fn build(
     if den.len() < build_cells::TABLE_CELLS {
         return Built::Refused(1, 1);
     }
-    let legality = build_space::check(breaks, degrees, orders);
+    let legality = build_limits::check(breaks, degrees, orders);
     match legality {
         base_outcome::Legality::Legal => parts::build_parts(breaks, degrees, orders, num, den),
         base_outcome::Legality::Refused(code, place) => Built::Refused(code, place),

@@ -3,5 +3,4 @@ pub mod Tests
 pub mod Entries
 pub mod Bounds
 pub mod Partial
-pub mod Checks
 pub mod Legal

@@ -1,39 +1,13 @@
--- What the codes 3 to 5 and 15 leave of legal lists, entry by entry and part by part, and the checks of each list by itself.
+-- What the codes 3 to 5 and 15 leave of legal lists, entry by entry and part by part.
 use mathlib.Core.Bool.{true}
-use mathlib.Core.List.{List, []}
+use mathlib.Core.List.{List}
 use mathlib.Core.Path.{_≡_}
 use Prim.Native.Nat.{ℕ, suc, _+_, _-_, _<_, _≤_}
 use lib.IntN.{ℤ, pos, negsuc, natAbs, _-ℤ_}
 use lib.ListN.{length, getD}
 use lib.Signed.{_<ℤ_, _≤ℤ_}
-use Rattle.base_outcome.specs.Outcome.{Outcome, answer}
-use Rattle.base_outcome.specs.Search.{first}
 use Rattle.spec_spline.specs.Space.{segmentLimit, partSegmentLimit, breakLimit, spanLimit, degreeLimit, break, startsPart, partEnd}
-use Rattle.spec_spline.specs.Space.{badBreak, spanTooLong, badDegree, badOrder, tooManySegments, partEndAt}
-use Rattle.base_outcome.specs.Tests.{refuseFirst}
 use Rattle.build_space.specs.Machine.{space}
-
--- Code 3 of the parts: the first whose span is too long, at its last breakpoint.
-unfoldable pub spansChecked : List ℤ → List ℤ → List ℤ → Outcome (Unit {0})
-spansChecked breaks degrees orders = let s = space breaks degrees orders in
-    refuseFirst 3 (partEndAt s (first (length degrees) (spanTooLong s))) (answer tt)
-
--- Code 3: the first bad breakpoint, then the parts.
-unfoldable pub breaksChecked : List ℤ → List ℤ → List ℤ → Outcome (Unit {0})
-breaksChecked breaks degrees orders = refuseFirst 3 (first (length breaks) (badBreak (space breaks [] [])))
-    (spansChecked breaks degrees orders)
-
--- Code 4.
-unfoldable pub degreesChecked : List ℤ → Outcome (Unit {0})
-degreesChecked degrees = refuseFirst 4 (first (length degrees) (badDegree (space [] degrees []))) (answer tt)
-
--- Code 15: the first part of too many segments.
-unfoldable pub partsChecked : List ℤ → List ℤ → Outcome (Unit {0})
-partsChecked degrees orders = refuseFirst 15 (first (length degrees) (tooManySegments (space [] degrees orders))) (answer tt)
-
--- Code 5, then 15.
-unfoldable pub ordersChecked : List ℤ → List ℤ → Outcome (Unit {0})
-ordersChecked degrees orders = refuseFirst 5 (first (length orders) (badOrder (space [] degrees orders))) (partsChecked degrees orders)
 
 -- Breakpoints that rise within their range.
 pub record BreaksLegal (breaks : List ℤ) : Type 0 where

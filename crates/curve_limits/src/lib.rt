@@ -103,13 +103,13 @@ pub fn check(
     ensures { λ r. ⌜ r ≡ legality (curveChecked (space (now (breaks .entry)) (now (degrees .entry)) (now (orders .entry)))
         (now (coefs .entry)) (now (positions .entry))) ⌝ }
 {
-    if !build_space::lengths_fit(breaks, degrees, orders) {
+    if !build_limits::lengths_fit(breaks, degrees, orders) {
         return Legality::Refused(2, 0);
     }
     if positions.len() > MAX_POSITIONS {
         return Legality::Refused(2, 1);
     }
-    let lists = build_space::check(breaks, degrees, orders);
+    let lists = build_limits::check(breaks, degrees, orders);
     match lists {
         Legality::Refused(code, at) => Legality::Refused(code, at),
         Legality::Legal => check_entries(breaks, degrees, orders, coefs, positions),

@@ -81,7 +81,7 @@ pub fn coefficients(
     if coef_den.len() < ordinates.len() {
         return Built::Refused(1, 4);
     }
-    let lists = build_space::check(breaks, degrees, orders);
+    let lists = build_limits::check(breaks, degrees, orders);
     match lists {
         Legality::Refused(code, place) => Built::Refused(code, place),
         Legality::Legal => {

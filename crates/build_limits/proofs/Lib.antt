@@ -1,0 +1,2 @@
+-- The laws of the chain of refusals.
+pub mod Checks

@@ -1,0 +1,1 @@
+-- Each proof stands in its function's folder; the tests of an entry are laws of build_space.

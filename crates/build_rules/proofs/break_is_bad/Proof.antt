@@ -1,0 +1,67 @@
+-- `build_rules::break_is_bad` meets its contract: each return is picked by the tests that led there. Assumes nothing.
+use borrow.Author.Needs.{needs}
+use Prim.Native.Nat.{_-_}
+use lib.IntN.{pos}
+use lib.ListN.{getD}
+use mir.Syntax.{w32}
+use mir.Val.{SFits}
+use mir.ValLaws.{toZ-ofZ}
+use Rattle.build_space.proofs.Tests.{bad-break-low, bad-break-high, good-break-first, break-rises}
+use Rattle.build_rules.proofs.break_is_bad.Statement.{statement}
+use Rattle.build_rules.proofs.break_is_bad.Tie as tie
+
+x-fits : (c : tie.After-x) → SFits w32 (getD (c .before .args .breaks .now) (c .before .args .i) (pos 0))
+x-fits c = record { sfits = c .x .given }
+
+before-fits : (c : tie.After-before2) → SFits w32 (getD (c .before .before .before .before .before .args .breaks .now) (c .before .before .before .before .before .args .i - 1) (pos 0))
+before-fits c = record { sfits = c .before2 .given }
+
+mul-x : tie.Need-mul-x
+mul-x c = search needs
+
+shared-slice-copy-out-x : tie.Need-shared-slice-copy-out-x
+shared-slice-copy-out-x c = search needs
+
+sub-if1 : tie.Need-sub-if1
+sub-if1 c = search needs
+
+returns : tie.Need-returns
+returns c = let f = x-fits (c .before) in bad-break-low _ _ (simp toZ-ofZ at (c .if1 .taken))
+
+returns-2 : tie.Need-returns-2
+returns-2 c = let f = x-fits (c .before .before) in bad-break-high _ _ (simp toZ-ofZ at (c .if2 .taken))
+
+returns-3 : tie.Need-returns-3
+returns-3 c =
+    let f = x-fits (c .before .before .before) in
+    good-break-first _ _ (c .if3 .taken) (simp toZ-ofZ at (c .before .before .if1 .left)) (simp toZ-ofZ at (c .before .if2 .left))
+
+sub-before : tie.Need-sub-before
+sub-before c = search needs
+
+mul-before : tie.Need-mul-before
+mul-before c = search needs
+
+shared-slice-copy-out-before : tie.Need-shared-slice-copy-out-before
+shared-slice-copy-out-before c = search needs
+
+returns-4 : tie.Need-returns-4
+returns-4 c =
+    let f = x-fits (c .before .before .before .before) in
+    let g = before-fits c in
+    simp toZ-ofZ (break-rises _ _ (c .before .if3 .left) (simp toZ-ofZ at (c .before .before .before .if1 .left)) (simp toZ-ofZ at (c .before .before .if2 .left)))
+
+pub break-is-bad-spec : {M : Type 1} → statement M
+break-is-bad-spec =
+    tie.close
+    (tie.spec
+    mul-x
+    shared-slice-copy-out-x
+    sub-if1
+    returns
+    returns-2
+    returns-3
+    sub-before
+    mul-before
+    shared-slice-copy-out-before
+    returns-4)
