@@ -16,8 +16,9 @@ use Rattle.spec_spline.proofs.Pairs.{sideBySide-length}
 use Rattle.spec_spline.proofs.Legal.{cond-refuse-inverts}
 use Rattle.base_text.specs.Bytes.{Text, newline, Cut, cut, stripped, Range}
 use Rattle.base_text.specs.Numeral.{numeral}
-use Rattle.sheet_read.specs.SheetReading.{pair, Lists, Line, listOf, lineOf, bodyOf, cutLine, line, readLine, breaksKey, degreesKey, ordersKey, coefsKey, atKey, ended, fiveLines, listLimit, textLimit, read}
-use Rattle.sheet_read.specs.Machine.{ListAt, numeralsOf, numerals, overwritten, Lengths, lengths, reply, counted, after}
+use Rattle.spec_sheet.specs.SheetReading.{pair, Lists, Line, listOf, lineOf, bodyOf, cutLine, line, readLine, breaksKey, degreesKey, ordersKey, coefsKey, atKey, ended, fiveLines, listLimit, textLimit, read}
+use Rattle.sheet_lines.specs.Machine.{ListAt}
+use Rattle.sheet_read.specs.Machine.{numeralsOf, numerals, overwritten, Lengths, lengths, reply, counted, after}
 use Rattle.sheet_read.specs.declared.Lists.{Lists as Answer}
 use Rattle.sheet_read.specs.declared.Lists.the-variants.{Read, Refused}
 use Rattle.sheet_read.proofs.Numerals.{list-few, plain-numerals, pair-numerals}

@@ -10,7 +10,7 @@ use lib.ListN.{length, getD, take, drop, set, length-drop}
 use lib.Seq.{slice, slice-empty, drop-cons, take-suc, set-at, length-take-le, length-front, take-length}
 use Rattle.base_text.specs.Bytes.{Text, fieldsBetween}
 use Rattle.base_text.specs.Numeral.{numeral}
-use Rattle.sheet_read.specs.SheetReading.{prepended, entries}
+use Rattle.spec_sheet.specs.SheetReading.{prepended, entries}
 use Rattle.sheet_read.specs.Machine.{isSeparator, numeralsOf, overwritten}
 
 -- The buffer holds the first n numbers of a list in front of what it held before, and the text that is left is the list of

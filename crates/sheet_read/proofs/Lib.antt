@@ -1,11 +1,5 @@
--- Laws of lists, lines and the sheet that the proofs of sheet_lists share; Answers is also for a caller, RoundTrip and
--- Examples are of the definitions alone.
-pub mod Entries
-pub mod Ranges
+-- Laws of the numbers of a list and of the whole answer; Answers is also for a caller.
+pub mod Separators
 pub mod Filling
 pub mod Numerals
-pub mod Lines
-pub mod Sheets
 pub mod Answers
-pub mod RoundTrip
-pub mod Examples

@@ -13,7 +13,7 @@ use Rattle.spec_spline.specs.Reading.{Pair, sideBySide}
 use Rattle.base_text.specs.Bytes.{Text, comma, colon, Cut, withByte, cut, onFirst, fieldsBetween, fields}
 use Rattle.base_text.specs.Numeral.{numeral}
 use Rattle.base_text.proofs.Lacking.{Outside, byte, byte-outside, either-outside, numeral-lacks, fields-only, fields-first}
-use Rattle.sheet_read.specs.SheetReading.{bothOf, sidesOf, pair, prepended, entries, limitedList, listOf, listLimit}
+use Rattle.spec_sheet.specs.SheetReading.{bothOf, sidesOf, pair, prepended, entries, limitedList, listOf, listLimit}
 use Rattle.sheet_read.specs.Machine.{isSeparator, numeralsOf}
 use Rattle.sheet_read.proofs.Filling.{prepended-some}
 

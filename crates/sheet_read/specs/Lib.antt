@@ -1,4 +1,2 @@
--- What the contracts of sheet_read cite beside the definitions of crates spec_spline and base_text.
-pub mod SheetReading
-pub mod SheetText
+-- What the contracts of sheet_read cite beside the definitions of crates spec_sheet and base_text.
 pub mod Machine

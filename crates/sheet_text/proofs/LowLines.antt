@@ -26,8 +26,8 @@ use Rattle.theorems_values.proofs.LegalCall.{answered-calls-are-legal, legal-ca
 use Rattle.theorems_values.proofs.Cells.{position-inside}
 use Rattle.theorems_promises.specs.PositiveValues.{PositiveCoefficients, leastPositive}
 use Rattle.theorems_promises.proofs.PositiveValues.{positive-values}
-use Rattle.sheet_read.specs.SheetReading as entry
-use Rattle.sheet_read.specs.SheetReading.{entries, listOf, line, readLine, Lists, fiveLines, read}
+use Rattle.spec_sheet.specs.SheetReading as entry
+use Rattle.spec_sheet.specs.SheetReading.{entries, listOf, line, readLine, Lists, fiveLines, read}
 use Rattle.sheet_print.specs.Printout.{joined, countLine, weightLines, valueLines, isLow, lowPositions, lowLines, answerText}
 use Rattle.sheet_text.specs.Sheet.{Arguments, argumentsOf, spaceOf, valueCells, called, outcomeText, readText, printout}
 use Rattle.sheet_text.specs.LowLines.{AllPositive, WithoutLowLines, refused, answered, PositiveSheetsHaveNoLowLines}

@@ -5,7 +5,7 @@ use Prim.Native.Nat.{ℕ}
 use Rattle.base_outcome.specs.Outcome.{answer}
 use Rattle.spec_spline.specs.Reading.{sideBySide}
 use Rattle.base_text.specs.Bytes.{Text}
-use Rattle.sheet_read.specs.SheetReading.{Lists, read}
+use Rattle.spec_sheet.specs.SheetReading.{Lists, read}
 use Rattle.sheet_read.specs.Machine.{reply, counted}
 use Rattle.sheet_read.specs.declared.Lists.{Lists as Answer}
 use Rattle.sheet_read.specs.declared.Lists.the-variants.{Refused}

@@ -14,7 +14,7 @@ use Rattle.spec_spline.specs.Piecewise.{Accepted}
 use Rattle.spec_spline.specs.Reading.{sideBySide}
 use Rattle.spec_spline.specs.CurveCall.{CurveResult, curveOutcome, positionLimit}
 use Rattle.base_text.specs.Bytes.{Text}
-use Rattle.sheet_read.specs.SheetReading.{Lists, read}
+use Rattle.spec_sheet.specs.SheetReading.{Lists, read}
 use Rattle.sheet_print.specs.Printout.{weightLines, answerText}
 use Rattle.base_print.specs.Refusal.{refusalLine}
 use Rattle.sheet_print.specs.Printed.{countLineLimit, weightLineLimit, valueLineLimit, lowLineLimit}

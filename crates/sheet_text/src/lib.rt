@@ -187,11 +187,11 @@ pub fn sheet(input: &[u8], out: &mut [u8]) -> usize
     ensures { λ r. ⌜ now (out .exit) ≡ written 0 (printout (now (input .entry))) (now (out .entry)) ⌝ }
     ensures { λ r. ⌜ r ≤ printoutLimit ⌝ }
 {
-    let mut breaks = [0; sheet_read::LIST_LIMIT];
-    let mut degrees = [0; sheet_read::LIST_LIMIT];
-    let mut orders = [0; sheet_read::LIST_LIMIT];
+    let mut breaks = [0; sheet_lines::LIST_LIMIT];
+    let mut degrees = [0; sheet_lines::LIST_LIMIT];
+    let mut orders = [0; sheet_lines::LIST_LIMIT];
     let mut coefs = [0; sheet_read::COEFFICIENT_NUMBERS];
-    let mut positions = [0; sheet_read::LIST_LIMIT];
+    let mut positions = [0; sheet_lines::LIST_LIMIT];
     let lists = sheet_read::read(
         input,
         &mut breaks,

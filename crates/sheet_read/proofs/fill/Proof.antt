@@ -15,7 +15,7 @@ use Rattle.base_text.specs.Bytes.{Text, Range, fieldsBetween}
 use Rattle.sheet_read.specs.Machine.{isSeparator, numeralsOf, numerals, overwritten}
 use Rattle.base_text.specs.declared.numeral.Field.the-variants as field-cases
 use Rattle.base_text.proofs.Numerals.{field-none, field-some}
-use Rattle.sheet_read.proofs.Entries.{stop-part, stop-within, field-last, field-more, field-first}
+use Rattle.sheet_lines.proofs.Entries.{stop-part, stop-within, field-last, field-more, field-first}
 use Rattle.sheet_read.proofs.Filling.{Filled, Stored, filled-start, filled-length, filled-next, filled-last, numerals-empty, field-good, stored}
 use Rattle.sheet_read.proofs.fill.Statement.{statement}
 use Rattle.sheet_read.proofs.fill.Tie as tie

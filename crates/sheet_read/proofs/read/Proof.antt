@@ -4,9 +4,9 @@ use mathlib.Core.Path.{_≡_}
 use Rattle.base_outcome.specs.Outcome.{answer}
 use Rattle.spec_spline.specs.Reading.{sideBySide}
 use Rattle.base_text.specs.Bytes.{Text}
-use Rattle.sheet_read.specs.SheetReading.{Lists, read}
-use Rattle.sheet_read.specs.Machine.{ListsAt}
-use Rattle.sheet_read.proofs.Sheets.{scanned-refusal, scanned-lists}
+use Rattle.spec_sheet.specs.SheetReading.{Lists, read}
+use Rattle.sheet_scan.specs.Machine.{ListsAt}
+use Rattle.sheet_scan.proofs.Sheets.{scanned-refusal, scanned-lists}
 use Rattle.sheet_read.proofs.Answers.{refused, answered, replied, numerals-at, pairs-at, fill-ready, fill-count, fill-written}
 use Rattle.sheet_read.proofs.read.Statement.{statement}
 use Rattle.sheet_read.proofs.read.Tie as tie

@@ -4,8 +4,8 @@ use mathlib.Core.Path.{_∙_, ap}
 use Prim.Native.Nat.{ℕ, _+_}
 use Rattle.base_text.specs.Bytes.{comma}
 use Rattle.base_text.proofs.Lacking.{byte}
-use Rattle.sheet_read.proofs.Entries.{stop-part}
-use Rattle.sheet_read.proofs.Ranges.{separator-is}
+use Rattle.sheet_lines.proofs.Entries.{stop-part}
+use Rattle.sheet_read.proofs.Separators.{separator-is}
 use Rattle.sheet_read.proofs.separator.Statement.{statement}
 use Rattle.sheet_read.proofs.separator.Tie as tie
 

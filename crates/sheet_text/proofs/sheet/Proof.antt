@@ -7,7 +7,7 @@ use lib.ListN.{length}
 use lib.Seq.{length-take-le}
 use Rattle.spec_spline.specs.Reading.{sideBySide}
 use Rattle.base_text.specs.Bytes.{Text}
-use Rattle.sheet_read.specs.SheetReading.{read}
+use Rattle.spec_sheet.specs.SheetReading.{read}
 use Rattle.sheet_read.specs.Machine.{Lengths}
 use Rattle.sheet_read.proofs.Answers.{Listed, reply-read, positions-few, part-fits, part-is}
 use Rattle.base_print.proofs.Buffer.{written-as}

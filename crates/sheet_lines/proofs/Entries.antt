@@ -13,10 +13,11 @@ use lib.ListN.{length}
 use lib.Seq.{slice, slice-empty, length-slice}
 use Rattle.base_exact.proofs.Decide.{le-or-lt}
 use Rattle.base_text.specs.Bytes.{Text, Range, fields, fieldsBetween, indexWhere}
-use Rattle.sheet_read.specs.SheetReading.{prepended, entries, limitedList, listOf, listLimit}
-use Rattle.sheet_read.specs.Machine.{isSome, count}
-use Rattle.sheet_read.specs.declared.Count.{Count}
-use Rattle.sheet_read.specs.declared.Count.the-variants.{Entries, Bad}
+use Rattle.spec_sheet.specs.SheetReading.{prepended, entries, limitedList, listOf, listLimit}
+use Rattle.sheet_lines.specs.Machine.{isSome, count}
+use Rattle.sheet_lines.specs.declared.Count.{Count}
+use Rattle.sheet_lines.specs.declared.Count.the-variants.{Entries, Bad}
+use Rattle.spec_sheet.proofs.FiveLines.{list-fields}
 use Rattle.base_text.proofs.Slice.{take-slice, drop-slice}
 use Rattle.base_text.proofs.Cutting.{index-within, fields-one, fields-more}
 
@@ -56,11 +57,6 @@ module _ {A : Type 0} (entry : Text → Option A) where
   pub list-empty : (text : Text) (to : ℕ) → listOf entry (slice to to text) ≡ some []
   unfolding listOf
   list-empty text to = ap (listOf entry) (slice-empty to text)
-
-  pub list-fields : (t : Text) → 0 < length t → listOf entry t ≡ limitedList (entries entry (fields t))
-  unfolding listOf
-  list-fields [] h = absurd (omega arith)
-  list-fields (c ∷ cs) h = refl
 
 -- ---- counting, with n entries before
 abbrev pub tally : {A : Type 0} → ℕ → Option (List A) → Count

@@ -6,10 +6,11 @@ use lib.ListN.{length}
 use Rattle.base_outcome.specs.Outcome.{capped}
 use Rattle.base_text.specs.Bytes.{Text}
 use Rattle.base_text.specs.Numeral.{numeral}
-use Rattle.sheet_read.specs.SheetReading.{textLimit, pair, degreesKey, ordersKey, coefsKey, atKey, Lists}
-use Rattle.sheet_read.proofs.Sheets.{NumeralLine, PairLine, Reached, read-long, first-line, first-bad, next-line, next-bad, last-line, last-more, after-one, after-two, after-three, after-four, after-five, lists, scan-refused, scan-lists}
-use Rattle.sheet_read.proofs.scan.Statement.{statement}
-use Rattle.sheet_read.proofs.scan.Tie as tie
+use Rattle.spec_sheet.specs.SheetReading.{textLimit, pair, degreesKey, ordersKey, coefsKey, atKey, Lists}
+use Rattle.spec_sheet.proofs.FiveLines.{NumeralLine, PairLine, read-long, after-one, after-two, after-three, after-four, after-five, lists}
+use Rattle.sheet_scan.proofs.Sheets.{Reached, first-line, first-bad, next-line, next-bad, last-line, last-more, scan-refused, scan-lists}
+use Rattle.sheet_scan.proofs.scan.Statement.{statement}
+use Rattle.sheet_scan.proofs.scan.Tie as tie
 
 returns : tie.Need-returns
 unfolding capped

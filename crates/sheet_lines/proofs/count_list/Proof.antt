@@ -8,14 +8,14 @@ use native.Mathlib.Omega.{arith}
 use lib.Seq.{slice, length-slice}
 use Rattle.base_text.specs.Bytes.{Text, comma, Range, fields}
 use Rattle.base_text.proofs.Lacking.{byte}
-use Rattle.sheet_read.specs.SheetReading.{listOf, entries, listLimit}
-use Rattle.sheet_read.specs.Machine.{Value, entryOf, isSome, count}
-use Rattle.sheet_read.proofs.Entries.{stop-part, stop-within, field-last, field-more, field-first, tally, tally-bad, tally-next, tally-full, tally-end, list-empty, list-count}
-use Rattle.sheet_read.specs.declared.Entry.{Entry}
-use Rattle.sheet_read.specs.declared.Count.{Count}
-use Rattle.sheet_read.specs.declared.Count.the-variants.{Entries, Bad}
-use Rattle.sheet_read.proofs.count_list.Statement.{statement}
-use Rattle.sheet_read.proofs.count_list.Tie as tie
+use Rattle.spec_sheet.specs.SheetReading.{listOf, entries, listLimit}
+use Rattle.sheet_lines.specs.Machine.{Value, entryOf, isSome, count}
+use Rattle.sheet_lines.proofs.Entries.{stop-part, stop-within, field-last, field-more, field-first, tally, tally-bad, tally-next, tally-full, tally-end, list-empty, list-count}
+use Rattle.sheet_lines.specs.declared.Entry.{Entry}
+use Rattle.sheet_lines.specs.declared.Count.{Count}
+use Rattle.sheet_lines.specs.declared.Count.the-variants.{Entries, Bad}
+use Rattle.sheet_lines.proofs.count_list.Statement.{statement}
+use Rattle.sheet_lines.proofs.count_list.Tie as tie
 
 abbrev Inv-loop : tie.InvT-loop
 Inv-loop text from to kind n₀ start₀ n start = (start ≤ to) × (n ≤ listLimit) × (count (listOf (entryOf kind) (slice from to text)) ≡ tally n (entries (entryOf kind) (fields (slice start to text))))

@@ -16,10 +16,9 @@ use Rattle.base_text.specs.Bytes.{Text, newline, comma, minus, colon, cut, fiel
 use Rattle.base_text.specs.Numeral.{isDigit, numeral, decimal, numeralLimit}
 use Rattle.base_text.proofs.RoundTrip.{numeral-reads-back, decimal-any}
 use Rattle.base_text.proofs.Lacking.{lacks, byte, byte-outside, lacks-append, decimal-lacks, cut-first, fields-only, fields-first, stripped-key}
-use Rattle.sheet_read.specs.SheetReading.{bothOf, sidesOf, pair, prepended, entries, limitedList, listOf, listLimit, Line, lineOf, bodyOf, cutLine, line, readLine, breaksKey, degreesKey, ordersKey, coefsKey, atKey, Lists, fiveLines}
-use Rattle.sheet_read.specs.SheetText.{pairText, commaJoined, listText, lineText, sheetText, WritableNumerals, WritablePairs, SheetReadsBack}
-use Rattle.sheet_read.proofs.Entries.{list-fields}
-use Rattle.sheet_read.proofs.Sheets.{NumeralLine, PairLine, read-short, line-answers, lists, after-one, after-two, after-three, after-four, after-five}
+use Rattle.spec_sheet.specs.SheetReading.{bothOf, sidesOf, pair, prepended, entries, limitedList, listOf, listLimit, Line, lineOf, bodyOf, cutLine, line, readLine, breaksKey, degreesKey, ordersKey, coefsKey, atKey, Lists, fiveLines}
+use Rattle.spec_sheet.specs.SheetText.{pairText, commaJoined, listText, lineText, sheetText, WritableNumerals, WritablePairs, SheetReadsBack}
+use Rattle.spec_sheet.proofs.FiveLines.{list-fields, NumeralLine, PairLine, read-short, line-answers, lists, after-one, after-two, after-three, after-four, after-five}
 
 -- ---- entries
 

@@ -8,12 +8,12 @@ use lib.Seq.{slice}
 use Rattle.base_text.specs.Bytes.{Text, colon, Range}
 use Rattle.base_text.specs.Numeral.{numeral}
 use Rattle.base_text.proofs.Lacking.{byte}
-use Rattle.sheet_read.specs.SheetReading.{pair, bothOf}
-use Rattle.sheet_read.specs.Machine.{isSome}
-use Rattle.sheet_read.proofs.Entries.{stop-part, stop-within}
-use Rattle.sheet_read.proofs.Ranges.{one-bad, one-good, pair-uncut, pair-cut}
-use Rattle.sheet_read.proofs.is_pair.Statement.{statement}
-use Rattle.sheet_read.proofs.is_pair.Tie as tie
+use Rattle.spec_sheet.specs.SheetReading.{pair, bothOf}
+use Rattle.sheet_lines.specs.Machine.{isSome}
+use Rattle.sheet_lines.proofs.Entries.{stop-part, stop-within}
+use Rattle.sheet_lines.proofs.Ranges.{one-bad, one-good, pair-uncut, pair-cut}
+use Rattle.sheet_lines.proofs.is_pair.Statement.{statement}
+use Rattle.sheet_lines.proofs.is_pair.Tie as tie
 
 find-requires : tie.Need-find-requires
 find-requires c κs = search needs

@@ -12,12 +12,14 @@ use Rattle.base_outcome.specs.Outcome.{Outcome, answer, refusal, refuse, _then_
 use Rattle.spec_spline.specs.Reading.{Pair}
 use Rattle.base_text.specs.Bytes.{Text}
 use Rattle.base_text.specs.Numeral.{numeral}
-use Rattle.sheet_read.specs.SheetReading.{textLimit, pair, Line, line, readLine, breaksKey, degreesKey, ordersKey, coefsKey, atKey, Lists, ended, fiveLines, read}
-use Rattle.sheet_read.specs.Machine.{Spans, LineAt, ListsAt, Scanned}
-use Rattle.sheet_read.specs.declared.LineSpan.{LineSpan}
-use Rattle.sheet_read.specs.declared.LineSpan.the-variants as span-cases
-use Rattle.sheet_read.specs.declared.Places.{Places}
-use Rattle.sheet_read.specs.declared.Places.the-variants as places-cases
+use Rattle.spec_sheet.specs.SheetReading.{textLimit, pair, Line, line, readLine, breaksKey, degreesKey, ordersKey, coefsKey, atKey, Lists, ended, fiveLines, read}
+use Rattle.spec_sheet.proofs.FiveLines.{NumeralLine, PairLine, read-short, line-answers, line-refuses, lists, after-one, after-five}
+use Rattle.sheet_lines.specs.Machine.{Spans, LineAt}
+use Rattle.sheet_scan.specs.Machine.{ListsAt, Scanned}
+use Rattle.sheet_lines.specs.declared.LineSpan.{LineSpan}
+use Rattle.sheet_lines.specs.declared.LineSpan.the-variants as span-cases
+use Rattle.sheet_scan.specs.declared.Places.{Places}
+use Rattle.sheet_scan.specs.declared.Places.the-variants as places-cases
 
 -- ---- what the answer for a line says of it
 module _ {A : Type 0} (entry : Text → Option A) (text : Text) where
@@ -34,25 +36,6 @@ module _ {A : Type 0} (entry : Text → Option A) (text : Text) where
       let same-start : s ≡ start = cc in
       let same-end : t ≡ end = cc in
       (l, refl, rw (same-start, same-end) at h)
-
--- ---- the length of the text
-pub read-long : (text : Text) → textLimit < length text → read text ≡ refuse 10 0
-unfolding read
-read-long text h = rw (lt-ltb textLimit (length text) h)
-
-pub read-short : (text : Text) → length text ≤ textLimit → read text ≡ fiveLines text
-unfolding read
-read-short text h = rw (le-ltb textLimit (length text) h)
-
--- ---- the lines
-module _ {A : Type 0} (entry : Text → Option A) (place : ℕ) (key t : Text) where
-  pub line-answers : {l : Line A} → line entry key t ≡ some l → readLine place entry key t ≡ answer l
-  unfolding readLine
-  line-answers e = rw (e, readLine)
-
-  line-refuses : line entry key t ≡ none → readLine place entry key t ≡ refuse 10 place
-  unfolding readLine
-  line-refuses e = rw (e, readLine)
 
 -- A line is good, and reading goes on with it.
 pub record Reached {A : Type 0} (entry : Text → Option A) (text : Text) (next : Line A → Outcome Lists) (start end : ℕ) : Type 0 where
@@ -76,34 +59,7 @@ module _ {A : Type 0} (entry : Text → Option A) (text : Text) (place : ℕ) (k
       let bad = line-none entry text (line entry key (drop at text)) r found e in
       so-far ∙ ap (λ (o : Outcome (Line A)). o then next) (line-refuses entry place key left (ap (line entry key) same ∙ bad))
 
--- ---- what is left to read after the lines that are known
--- A line of numbers, and one of pairs.
-abbrev pub NumeralLine : Type 0
-NumeralLine = Line ℤ
-
-abbrev pub PairLine : Type 0
-PairLine = Line Pair
-
--- The five lists, from their lines.
-abbrev pub lists : NumeralLine → NumeralLine → NumeralLine → PairLine → NumeralLine → Lists
-lists b d o c p = record { breaks = b .list; degrees = d .list; orders = o .list; coefs = c .list; positions = p .list }
-
--- What is left after each line, given how the lists are made of it and of the lines to come.
-abbrev pub after-five : (NumeralLine → Lists) → NumeralLine → Outcome Lists
-after-five make p = ended (p .rest) (make p)
-
-abbrev pub after-four : (PairLine → NumeralLine → Lists) → PairLine → Outcome Lists
-after-four make c = readLine 5 numeral atKey (c .rest) then after-five (make c)
-
-abbrev pub after-three : (NumeralLine → PairLine → NumeralLine → Lists) → NumeralLine → Outcome Lists
-after-three make o = readLine 4 pair coefsKey (o .rest) then after-four (make o)
-
-abbrev pub after-two : (NumeralLine → NumeralLine → PairLine → NumeralLine → Lists) → NumeralLine → Outcome Lists
-after-two make d = readLine 3 numeral ordersKey (d .rest) then after-three (make d)
-
-abbrev pub after-one : (NumeralLine → NumeralLine → NumeralLine → PairLine → NumeralLine → Lists) → NumeralLine → Outcome Lists
-after-one make b = readLine 2 numeral degreesKey (b .rest) then after-two (make b)
-
+-- ---- the first line
 module _ (text : Text) (short : length text ≤ textLimit) (r : LineSpan) (found : LineAt numeral text (line numeral breaksKey text) r) where
   so-far-none : read text ≡ (readLine 1 numeral breaksKey text then after-one lists)
   unfolding fiveLines

@@ -11,9 +11,9 @@ use Rattle.base_outcome.specs.Outcome.{answer, refusal, capped}
 use Rattle.spec_spline.specs.Reading.{Pair, sideBySide}
 use Rattle.base_text.specs.Bytes.{Text, newline, bytes, lines, cut, fieldsBetween, stripped}
 use Rattle.base_text.specs.Numeral.{allDigits, digitsValue, isNatural, numeral, digitsUpTo, digits, decimal, numeralLimit}
-use Rattle.sheet_read.specs.SheetReading.{pair, entries, listOf, line, readLine, fiveLines, read, Lists, textLimit}
-use Rattle.sheet_read.specs.SheetText.{pairText, commaJoined, listText, lineText, sheetText, WritableNumerals, WritablePairs}
-use Rattle.sheet_read.proofs.RoundTrip.{sheet-reads-back}
+use Rattle.spec_sheet.specs.SheetReading.{pair, entries, listOf, line, readLine, fiveLines, read, Lists, textLimit}
+use Rattle.spec_sheet.specs.SheetText.{pairText, commaJoined, listText, lineText, sheetText, WritableNumerals, WritablePairs}
+use Rattle.spec_sheet.proofs.RoundTrip.{sheet-reads-back}
 
 -- ---- "commas between, an empty list allowed"
 abbrev IsList : String → List ℤ → Type 0

@@ -2,9 +2,9 @@
 use borrow.Author.Needs.{needs}
 use mathlib.Core.Path.{sym, _∙_, ap}
 use Rattle.base_text.proofs.Numerals.{field-none, field-some}
-use Rattle.sheet_read.specs.Machine.{isSome}
-use Rattle.sheet_read.proofs.is_numeral.Statement.{statement}
-use Rattle.sheet_read.proofs.is_numeral.Tie as tie
+use Rattle.sheet_lines.specs.Machine.{isSome}
+use Rattle.sheet_lines.proofs.is_numeral.Statement.{statement}
+use Rattle.sheet_lines.proofs.is_numeral.Tie as tie
 
 numeral-requires : tie.Need-numeral-requires
 numeral-requires c κs = search needs

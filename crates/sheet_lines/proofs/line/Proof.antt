@@ -7,10 +7,10 @@ use mathlib.Core.Path.{_≡_, sym, _∙_}
 use Prim.Native.Nat.{ℕ}
 use lib.Seq.{slice}
 use Rattle.base_text.specs.Bytes.{Text, beginsWith}
-use Rattle.sheet_read.specs.Machine.{Value, entryOf}
-use Rattle.sheet_read.proofs.Lines.{count-none, count-some, end-part, line-unended, line-unkeyed, list-part, line-bad-list, line-good, line-bad}
-use Rattle.sheet_read.proofs.line.Statement.{statement}
-use Rattle.sheet_read.proofs.line.Tie as tie
+use Rattle.sheet_lines.specs.Machine.{Value, entryOf}
+use Rattle.sheet_lines.proofs.Lines.{count-none, count-some, end-part, line-unended, line-unkeyed, list-part, line-bad-list, line-good, line-bad}
+use Rattle.sheet_lines.proofs.line.Statement.{statement}
+use Rattle.sheet_lines.proofs.line.Tie as tie
 
 -- the place where the end of the line is known
 module _ (c : tie.After-find) where

@@ -9,10 +9,10 @@ use native.Mathlib.Omega.{arith}
 use lib.ListN.{length, drop, length-drop}
 use lib.Seq.{slice, drop-drop, length-slice}
 use Rattle.base_text.specs.Bytes.{Text, newline, Range, stripped, indexOf, beginsWith}
-use Rattle.sheet_read.specs.SheetReading.{listOf, Line, lineOf, bodyOf, cutLine, line}
-use Rattle.sheet_read.specs.Machine.{count, LineAt}
-use Rattle.sheet_read.specs.declared.Count.the-variants as count-cases
-use Rattle.sheet_read.specs.declared.LineSpan.the-variants as span-cases
+use Rattle.spec_sheet.specs.SheetReading.{listOf, Line, lineOf, bodyOf, cutLine, line}
+use Rattle.sheet_lines.specs.Machine.{count, LineAt}
+use Rattle.sheet_lines.specs.declared.Count.the-variants as count-cases
+use Rattle.sheet_lines.specs.declared.LineSpan.the-variants as span-cases
 use Rattle.base_text.proofs.Slice.{slice-take, slice-all, drop-slice}
 use Rattle.base_text.proofs.Lacking.{byte}
 use Rattle.base_text.proofs.Cutting.{index-within, cut-none, cut-some, stripped-none, stripped-some}

@@ -2,10 +2,10 @@
 use borrow.Author.Needs.{needs}
 use mathlib.Core.Path.{sym, _∙_, ap}
 use lib.Seq.{slice}
-use Rattle.sheet_read.specs.Machine.{entryOf, isSome}
-use Rattle.sheet_read.specs.declared.Entry.{Entry}
-use Rattle.sheet_read.proofs.is_entry.Statement.{statement}
-use Rattle.sheet_read.proofs.is_entry.Tie as tie
+use Rattle.sheet_lines.specs.Machine.{entryOf, isSome}
+use Rattle.sheet_lines.specs.declared.Entry.{Entry}
+use Rattle.sheet_lines.proofs.is_entry.Statement.{statement}
+use Rattle.sheet_lines.proofs.is_entry.Tie as tie
 
 enum-told : tie.Need-enum-told
 enum-told c = search needs

@@ -9,7 +9,7 @@ use Rattle.base_outcome.specs.Outcome.{answer}
 use Rattle.spec_spline.specs.Reading.{Pair, sideBySide}
 use Rattle.base_text.specs.Bytes.{Text, newline, comma, colon}
 use Rattle.base_text.specs.Numeral.{decimal, numeralLimit}
-use Rattle.sheet_read.specs.SheetReading.{listLimit, textLimit, breaksKey, degreesKey, ordersKey, coefsKey, atKey, Lists, read}
+use Rattle.spec_sheet.specs.SheetReading.{listLimit, textLimit, breaksKey, degreesKey, ordersKey, coefsKey, atKey, Lists, read}
 
 -- A pair as earlywood:latewood.
 unfoldable pub pairText : Pair → Text

@@ -1,5 +1,4 @@
--- What a part of a text stands for: a pair, by where its first colon stands and whether its sides are numerals; and where
--- its first comma or colon stands.
+-- What a part of a text stands for: a pair, by where its first colon stands and whether its sides are numerals.
 use mathlib.Core.Path.{_≡_, refl, sym, _∙_, ap, ap₂}
 use mathlib.Core.Bool.{Bool, true, false, cond, _||_}
 use mathlib.Core.List.{[], _∷_}
@@ -15,9 +14,9 @@ use Rattle.base_text.specs.Numeral.{numeral}
 use Rattle.base_text.proofs.Slice.{take-slice, drop-slice}
 use Rattle.base_text.proofs.Cutting.{cut-none, cut-some}
 use Rattle.base_text.proofs.Lacking.{byte}
-use Rattle.sheet_read.specs.SheetReading.{bothOf, sidesOf, pair}
-use Rattle.sheet_read.specs.Machine.{isSome, isSeparator}
-use Rattle.sheet_read.proofs.Entries.{stop-within}
+use Rattle.spec_sheet.specs.SheetReading.{bothOf, sidesOf, pair}
+use Rattle.sheet_lines.specs.Machine.{isSome}
+use Rattle.sheet_lines.proofs.Entries.{stop-within}
 
 -- ---- pairs
 
@@ -46,25 +45,3 @@ module _ (text : Text) (from to stop : ℕ) (range : Range text from to) (is : s
       ∙ ap₂ (λ (f g : Text). bothOf (numeral f) (numeral g))
       (take-slice k from to text (omega arith) ∙ ap (λ (n : ℕ). slice from n text) (sym is))
       (drop-slice (suc k) from to text ∙ ap (λ (n : ℕ). slice n to text) after)
-
--- ---- separators
-
--- the first colon before the first comma, or that comma
-colon-first : (t : Text) → indexOf colon (take (indexOf comma t) t) ≡ indexWhere isSeparator t
-unfolding indexWhere
-colon-first [] = refl
-colon-first (c ∷ cs) = go (eqb c comma) (eqb c colon) refl (colon-first cs)
-  where
-    go : (b d : Bool) → eqb c colon ≡ d → indexOf colon (take (indexOf comma cs) cs) ≡ indexWhere isSeparator cs →
-        indexOf colon (take (cond b 0 (suc (indexOf comma cs))) (c ∷ cs)) ≡ cond (b || d) 0 (suc (indexWhere isSeparator cs))
-    go true d e ih = refl
-    go false true e ih = rw e
-    go false false e ih = rw e (ap suc ih)
-
-pub separator-is : (text : Text) (from to stop : ℕ) → Range text from to → stop ≡ from + indexOf comma (slice from to text) →
-    indexOf colon (slice from stop text) ≡ indexWhere isSeparator (slice from to text)
-separator-is text from to stop range is =
-    let k = indexOf comma (slice from to text) in
-    let within : from + k ≤ to = omega (arith, stop-within (byte comma) text from to stop range is) in
-    ap (indexOf colon) (ap (λ (n : ℕ). slice from n text) is ∙ sym (take-slice k from to text within))
-    ∙ colon-first (slice from to text)

@@ -1,0 +1,1 @@
+// The sheet's text as definitions, in specs/. This crate has no code.
