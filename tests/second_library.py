@@ -44,7 +44,19 @@ class Uses(NamedTuple):
 
 
 ALLOWED = {
-    "indices": Uses(frozenset({"curve::curve"}), (*DEFINITIONS_AND_LAWS, r"curve\.specs")),
+    "indices_positions": Uses(frozenset(), DEFINITIONS_AND_LAWS),
+    "indices_rings": Uses(frozenset(), DEFINITIONS_AND_LAWS),
+    "indices": Uses(
+        frozenset(
+            {
+                "curve::curve",
+                "indices_positions::fill_positions",
+                "indices_rings::first_bad_ring",
+                "indices_rings::write_indices",
+            }
+        ),
+        (*DEFINITIONS_AND_LAWS, r"curve\.specs", r"indices_positions\.(specs|proofs)", r"indices_rings\.specs"),
+    ),
     "walzhik_indices": Uses(
         frozenset({"indices::indices", "walzhik_reply::answered", "walzhik_reply::refused"}),
         (*DEFINITIONS_AND_LAWS, r"indices\.specs", r"walzhik_reply\.specs", r"walzhik_reply\.proofs\.Replied"),

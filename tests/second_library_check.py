@@ -40,7 +40,7 @@ WRONG = [
         "the module curve_triangle.specs.Value",
     ),
     Wrong(
-        "crates/indices/src/lib.rt",
+        "crates/indices_rings/src/lib.rt",
         "    let width = widths[i];\n",
         "    let z = base_fraction::floor_div(1, 1);\n",
         "the call base_fraction::floor_div",

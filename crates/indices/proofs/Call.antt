@@ -26,11 +26,15 @@ use Rattle.theorems_values.proofs.LegalCall.{answered-calls-are-legal, legal-ca
 use Rattle.curve.specs.Machine as curves
 use Rattle.curve.specs.declared.Answer.{Answer}
 use Rattle.curve.specs.declared.Answer.the-variants as answered
-use Rattle.indices.specs.Indices.{ringPositions, ringWidth, ofWood, noPair, ringValue, isRefused, badRing, indexOf, ringIndices, ringsRead, ringsIndexed, indicesReturned, indicesAfter}
-use Rattle.indices.specs.Machine.{reply, wordPositions, ringsTaken, badCell, cellIndex, cellsIndexed}
+use Rattle.theorems_indices.specs.Indices.{ringPositions, ringWidth, ringValue, isRefused, badRing, indexOf, ringIndices, ringsRead, ringsIndexed, indicesReturned, indicesAfter}
+use Rattle.theorems_indices.proofs.Cells.{value-cell}
+use Rattle.indices.specs.Machine.{reply, cellsIndexed}
+use Rattle.indices_positions.specs.Words.{wordPositions, ringsTaken}
+use Rattle.indices_rings.specs.Cells.{badCell, cellIndex}
 use Rattle.indices.specs.declared.Answer as ours
 use Rattle.indices.specs.declared.Answer.the-variants.{Refused}
-use Rattle.indices.proofs.Positions.{exact-length, words-length, outcome-same}
+use Rattle.theorems_indices.proofs.Cells.{exact-length}
+use Rattle.indices_positions.proofs.Positions.{words-length, outcome-same}
 
 -- ---- code 14 and the indices by the cells
 
@@ -46,23 +50,15 @@ module _ (widths cells : List ℤ) (offset : ℕ) where
   cells-answered e = ap (λ (o : Option ℕ). refuseFirst 14 o (answer (tab (length widths) (cellIndex widths cells offset)))) e
 
 -- by the values, where the cells hold them
-part-same : (wood : Wood) (p : Pair) → ofTheWood wood p ≡ ofWood wood p
-part-same earlywood p = refl
-part-same latewood p = refl
-
 module _ (wood : Wood) (widths : List ℤ) (r : CurveResult) (before : List ℤ) (count : length (r .values) ≡ length widths) where
   abbrev cellsAfter : List ℤ
   cellsAfter = valuesAfter (answer r) before
 
-  pub value-cell : (i : ℕ) → i < length widths → getD cellsAfter (2 * i + woodIndex wood) (pos 0) ≡ ringValue wood (r .values) i
-  unfolding valuesAfter
-  value-cell i h = getD-pairs (r .values) (drop (2 * length (r .values)) before) wood i (pos 0) noPair (rw count h) ∙ part-same wood (getD (r .values) i noPair)
-
   pub indexed-by-cells : cellsIndexed widths cellsAfter (woodIndex wood) ≡ ringsIndexed wood widths r
   unfolding cellsIndexed ringsIndexed badCell badRing cellIndex ringIndices
   indexed-by-cells = ap₂ (λ (o : Option ℕ) (zs : List ℤ). refuseFirst 14 o (answer zs))
-      (first-ext (length widths) (λ i h. ap (isRefused (ringWidth widths i)) (value-cell i h)))
-      (tab-ext (length widths) (λ i h. ap (indexOf (ringWidth widths i)) (value-cell i h)))
+      (first-ext (length widths) (λ i h. ap (isRefused (ringWidth widths i)) (value-cell wood widths r before count i h)))
+      (tab-ext (length widths) (λ i h. ap (indexOf (ringWidth widths i)) (value-cell wood widths r before count i h)))
 
 -- ---- what a call answers and leaves, by its outcome
 

@@ -1,7 +1,2 @@
--- Laws of ring indices.
-pub mod Ring
-pub mod Positions
+-- The laws of the call.
 pub mod Call
-pub mod Rings
-pub mod Positive
-pub mod Instances

@@ -1,4 +1,2 @@
--- Ring indices (§ 9): what the call ends with, the machine's form of it, and what is proved of it.
-pub mod Indices
+-- What the contracts of indices cite beside the definitions of crates theorems_indices and spec_spline.
 pub mod Machine
-pub mod Rings

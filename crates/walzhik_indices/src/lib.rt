@@ -2,7 +2,7 @@
 ghost use mathlib.Core.Path.{_≡_};
 ghost use Rattle.build_space.specs.Machine.{space};
 ghost use Rattle.spec_spline.specs.Reading.{earlywood, latewood};
-ghost use Rattle.indices.specs.Indices.{indicesEnd};
+ghost use Rattle.theorems_indices.specs.Indices.{indicesEnd};
 ghost use Rattle.indices.specs.Machine.{reply};
 ghost use Rattle.walzhik_reply.specs.Machine.{replied};
 

@@ -14,9 +14,10 @@ use Rattle.base_outcome.specs.Search.{first}
 use Rattle.spec_spline.specs.Reading.{woodIndex}
 use Rattle.base_outcome.proofs.Search.{first-some-inverts, first-none-inverts}
 use Rattle.spec_spline.proofs.Pairs.{woodIndex-below}
-use Rattle.indices.specs.Indices.{indicesReturned, indicesAfter}
+use Rattle.theorems_indices.specs.Indices.{indicesReturned, indicesAfter}
 use Rattle.curve_ordinates.specs.Wood.{woodOf}
-use Rattle.indices.specs.Machine.{reply, badCell, cellIndex, cellsIndexed}
+use Rattle.indices.specs.Machine.{reply, cellsIndexed}
+use Rattle.indices_rings.specs.Cells.{badCell, cellIndex}
 use Rattle.base_outcome.proofs.Machine.{found-some-inverts, found-none-inverts}
 use Rattle.indices.proofs.Call.{cells-refused, cells-answered}
 use Rattle.indices.proofs.index_rings.Statement.{statement}

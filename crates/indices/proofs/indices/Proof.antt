@@ -18,9 +18,9 @@ use Rattle.spec_spline.specs.Table.{tableCells}
 use Rattle.spec_spline.specs.CurveCall.{CurveResult, positionLimit, curveOutcome, returned, curveNumerators, curveDenominators, valuesAfter}
 use Rattle.curve.specs.Machine as curves
 use Rattle.spec_spline.proofs.Pairs.{half-le}
-use Rattle.indices.specs.Indices.{ringsRead}
+use Rattle.theorems_indices.specs.Indices.{ringsRead}
 use Rattle.curve_ordinates.specs.Wood.{woodOf}
-use Rattle.indices.specs.Machine.{wordPositions, ringsTaken}
+use Rattle.indices_positions.specs.Words.{wordPositions, ringsTaken}
 use Rattle.indices.proofs.Call.{Ends, ends-refused, ends-unchanged, ends-indexed, first-short, second-short, third-short, fourth-short, handed-on, rings-answered, values-kept, refused-inverts, HasResult, values-inverts}
 use Rattle.indices.proofs.indices.Statement.{statement}
 use Rattle.indices.proofs.indices.Tie as tie

@@ -7,7 +7,7 @@ use mir.Val.{ofZ, toZ}
 use mir.ValLaws.{toZ-ofZ}
 use Rattle.build_space.specs.Machine.{space}
 use Rattle.spec_spline.specs.Reading.{earlywood}
-use Rattle.indices.specs.Indices.{IndicesEnd, indicesEnd}
+use Rattle.theorems_indices.specs.Indices.{IndicesEnd, indicesEnd}
 use Rattle.walzhik_reply.specs.Machine.{replied}
 use Rattle.walzhik_indices.proofs.walzhik_earlywood_indices.Statement.{statement}
 use Rattle.walzhik_indices.proofs.walzhik_earlywood_indices.Tie as tie

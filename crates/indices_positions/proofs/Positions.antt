@@ -30,9 +30,10 @@ use Rattle.spec_spline.proofs.Build.{long-enough}
 use Rattle.spec_spline.proofs.Legal.{Checked, checked-inverts, lengths-fit-inverts}
 use Rattle.spec_spline.specs.Table.{tableCells}
 use Rattle.theorems_values.proofs.LegalCall.{checks-passed}
-use Rattle.indices.specs.Indices.{ringPositions}
-use Rattle.indices.specs.Machine.{leastWord, greatestWord, nearestWord, wordPosition, wordPositions, ringsTaken}
-use Rattle.indices.proofs.Ring.{nearest-below, nearest-above, nearest-inside}
+use Rattle.theorems_indices.specs.Indices.{ringPositions}
+use Rattle.theorems_indices.proofs.Cells.{exact-length, exact-at}
+use Rattle.indices_positions.specs.Words.{leastWord, greatestWord, nearestWord, wordPosition, wordPositions, ringsTaken}
+use Rattle.indices_positions.proofs.Words.{nearest-below, nearest-above, nearest-inside}
 
 -- ---- a number and the nearest of 32 bits, against bounds well inside
 
@@ -102,16 +103,8 @@ module _ (firstRing : ℤ) (n : ℕ) where
   abbrev words : List ℤ
   words = wordPositions firstRing n
 
-  pub exact-length : length exact ≡ n
-  unfolding ringPositions
-  exact-length = tab-length n (λ i. fine (firstRing +ℤ pos i))
-
   pub words-length : length words ≡ n
   words-length = tab-length n (wordPosition firstRing)
-
-  pub exact-at : (i : ℕ) → i < n → getD exact i (pos 0) ≡ fine (firstRing +ℤ pos i)
-  unfolding ringPositions
-  exact-at i h = tab-getD n (λ k. fine (firstRing +ℤ pos k)) i (pos 0) h
 
   words-at : (i : ℕ) → i < n → getD words i (pos 0) ≡ nearestWord (fine (firstRing +ℤ pos i))
   unfolding wordPosition
@@ -123,19 +116,19 @@ module _ (firstRing : ℤ) (n : ℕ) where
     same-test i h =
         ap (λ (z : ℤ). not (between (fine (break s 0)) (fine (break s (segments s))) z)) (words-at i h)
         ∙ ap not (between-nearest (fine (break s 0)) (fine (break s (segments s))) (fine (firstRing +ℤ pos i)) (span-low s c) (span-high s c))
-        ∙ sym (ap (λ (z : ℤ). not (between (fine (break s 0)) (fine (break s (segments s))) z)) (exact-at i h))
+        ∙ sym (ap (λ (z : ℤ). not (between (fine (break s 0)) (fine (break s (segments s))) z)) (exact-at firstRing n i h))
 
     same-first : first (length words) (badPosition s words) ≡ first (length exact) (badPosition s exact)
-    same-first = ap (λ k. first k (badPosition s words)) words-length ∙ first-ext n same-test ∙ sym (ap (λ k. first k (badPosition s exact)) exact-length)
+    same-first = ap (λ k. first k (badPosition s words)) words-length ∙ first-ext n same-test ∙ sym (ap (λ k. first k (badPosition s exact)) (exact-length firstRing n))
 
     -- positions in the span are handed on as they are
     same-inside : first (length exact) (badPosition s exact) ≡ none → words ≡ exact
     unfolding ringPositions wordPosition badPosition
     same-inside e = tab-ext n (λ i h.
         sym (nearest-between (fine (break s 0)) (fine (break s (segments s))) (fine (firstRing +ℤ pos i)) (span-low s c) (span-high s c)
-        (subst (λ (z : ℤ). (fine (break s 0) ≤ℤ z) × (z ≤ℤ fine (break s (segments s)))) (exact-at i h)
+        (subst (λ (z : ℤ). (fine (break s 0) ≤ℤ z) × (z ≤ℤ fine (break s (segments s)))) (exact-at firstRing n i h)
         (between-inverts (fine (break s 0)) (fine (break s (segments s))) (getD exact i (pos 0))
-        (first-none-inverts (badPosition s exact) (length exact) e i (rw exact-length h))))))
+        (first-none-inverts (badPosition s exact) (length exact) e i (rw (exact-length firstRing n) h))))))
 
   module _ (s : Space) (coefs : List ℤ) where
     entries-same : Checked s → legalEntries s coefs words (answer s) ≡ legalEntries s coefs exact (answer s)
@@ -145,7 +138,7 @@ module _ (firstRing : ℤ) (n : ℕ) where
     rest p o = cond (ltb positionLimit (length p)) (refuse 2 1) (o then λ legal. legalEntries legal coefs p (answer legal))
 
     rest-same : (o : Outcome Space) → (o then λ legal. legalEntries legal coefs words (answer legal)) ≡ (o then λ legal. legalEntries legal coefs exact (answer legal)) → rest words o ≡ rest exact o
-    rest-same o e = ap₂ (λ (k : ℕ) (r : Outcome Space). cond (ltb positionLimit k) (refuse 2 1) r) (words-length ∙ sym exact-length) e
+    rest-same o e = ap₂ (λ (k : ℕ) (r : Outcome Space). cond (ltb positionLimit k) (refuse 2 1) r) (words-length ∙ sym (exact-length firstRing n)) e
 
     checks-same : curveChecked s coefs words ≡ curveChecked s coefs exact
     unfolding curveChecked checked

@@ -40,11 +40,11 @@ use Rattle.theorems_values.specs.ValueLimits.{Close}
 use Rattle.theorems_values.proofs.LegalCall.{answered-calls-are-legal, legal-calls-answer, values-length}
 use Rattle.theorems_values.proofs.Cells.{cells-are-close}
 use Rattle.theorems_acceptance.proofs.Curves.{curves-never-give-nine}
-use Rattle.indices.specs.Indices.{ringPositions, ringWidth, ringValue, isRefused, badRing, indexScale, indexOf, ringIndices, ringsRead, ringsIndexed, indicesReturned, indicesAfter}
-use Rattle.indices.specs.Rings.{RingsCall, endOf, ringCount, positionOf, valueCell, indexCell, CurveIsLegal, LegalRingsEnd, LegalRingsLeaveTheCurve, AnsweredRingsAreLegal, RingsNeverGiveNine, RefusalsKeepTheIndices, IndicesPastAreKept, PresentRingsAreDivided, AbsentRingsHaveMinusOne, ValuesUnderRingsAreClose, exactUnder, errorUnder, scaledWidth, IndexIsAbove, IndexIsAtMost}
-use Rattle.indices.proofs.Ring.{passes-width, passes-value, index-absent, index-present}
-use Rattle.indices.proofs.Positions.{exact-length, exact-at}
-use Rattle.indices.proofs.Call.{value-cell}
+use Rattle.theorems_indices.specs.Indices.{ringPositions, ringWidth, ringValue, isRefused, badRing, indexScale, indexOf, ringIndices, ringsRead, ringsIndexed, indicesReturned, indicesAfter}
+use Rattle.theorems_indices.specs.Rings.{RingsCall, endOf, ringCount, positionOf, valueCell, indexCell, CurveIsLegal, LegalRingsEnd, LegalRingsLeaveTheCurve, AnsweredRingsAreLegal, RingsNeverGiveNine, RefusalsKeepTheIndices, IndicesPastAreKept, PresentRingsAreDivided, AbsentRingsHaveMinusOne, ValuesUnderRingsAreClose, exactUnder, errorUnder, scaledWidth, IndexIsAbove, IndexIsAtMost}
+use Rattle.theorems_indices.proofs.Ring.{passes-width, passes-value, index-absent, index-present}
+use Rattle.theorems_indices.proofs.Cells.{exact-length, exact-at}
+use Rattle.theorems_indices.proofs.Cells.{value-cell}
 
 -- ---- the parts of a call
 

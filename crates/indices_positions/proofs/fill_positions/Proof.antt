@@ -1,4 +1,4 @@
--- `indices::fill_positions` meets its contract: below i stand the positions of the first i rings. A ring's position passes 32 bits
+-- `indices_positions::fill_positions` meets its contract: below i stand the positions of the first i rings. A ring's position passes 32 bits
 -- and is far from passing 64. Assumes nothing.
 use native.Mathlib.Omega.{arith}
 use mathlib.Core.List.{List, _++_, append-nil}
@@ -14,9 +14,9 @@ use Rattle.base_exact.specs.Tabulate.{tab}
 use Rattle.base_exact.proofs.Tabulate.{tab-none, tab-more, tab-ext}
 use Rattle.base_exact.proofs.Word.{sfits-widen, sfits-abs, sfits-nat, abs-sfits, abs-add, abs-mul}
 use Rattle.spec_spline.specs.Reading.{fine}
-use Rattle.indices.specs.Machine.{nearestWord, wordPosition}
-use Rattle.indices.proofs.fill_positions.Statement.{statement}
-use Rattle.indices.proofs.fill_positions.Tie as tie
+use Rattle.indices_positions.specs.Words.{nearestWord, wordPosition}
+use Rattle.indices_positions.proofs.fill_positions.Statement.{statement}
+use Rattle.indices_positions.proofs.fill_positions.Tie as tie
 
 abbrev Inv-loop : tie.InvT-loop
 Inv-loop first positions₀ i₀ positions i =

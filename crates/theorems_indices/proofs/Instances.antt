@@ -28,10 +28,10 @@ use Rattle.spec_spline.specs.ExactCurve.{exactCurve, largest, mostWeights}
 use Rattle.theorems_values.specs.ValueLimits.{closeness}
 use Rattle.theorems_promises.specs.PositiveValues.{PositiveCoefficients}
 use Rattle.theorems_values.proofs.Instances.{table1, coefs1, accepted1, coefficients1, inside1 as positions-inside1, pairs1, values1 as read-values1, exact1}
-use Rattle.indices.specs.Indices.{ringPositions, ringWidth, widthLimit, isRefused, badRing, indexOf, ringIndices, ringsIndexed, indicesReturned, indicesAfter}
-use Rattle.indices.specs.Rings.{RingsCall, endOf, CurveIsLegal}
-use Rattle.indices.proofs.Rings.{read, read-answers, index-is-above, index-is-at-most}
-use Rattle.indices.proofs.Positive.{positive-coefficients-are-enough}
+use Rattle.theorems_indices.specs.Indices.{ringPositions, ringWidth, widthLimit, isRefused, badRing, indexOf, ringIndices, ringsIndexed, indicesReturned, indicesAfter}
+use Rattle.theorems_indices.specs.Rings.{RingsCall, endOf, CurveIsLegal}
+use Rattle.theorems_indices.proofs.Rings.{read, read-answers, index-is-above, index-is-at-most}
+use Rattle.theorems_indices.proofs.Positive.{positive-coefficients-are-enough}
 
 -- rings 1 and 2 are read at W1's positions
 inside1 : (i : ℕ) → i < length (ringPositions (pos 1) 2) → T (not (badPosition space1 (ringPositions (pos 1) 2) i))

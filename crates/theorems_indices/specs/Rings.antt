@@ -22,7 +22,7 @@ use Rattle.spec_spline.specs.CurveCall.{curveEnd}
 use Rattle.spec_spline.specs.ExactCurve.{exactCurve, Legal}
 use Rattle.theorems_values.specs.ValueLimits.{closeness, Close}
 use Rattle.theorems_promises.specs.PositiveValues.{PositiveCoefficients}
-use Rattle.indices.specs.Indices.{ringPositions, ringWidth, widthLimit, isRefused, indexScale, IndicesEnd, indicesEnd}
+use Rattle.theorems_indices.specs.Indices.{ringPositions, ringWidth, widthLimit, isRefused, indexScale, IndicesEnd, indicesEnd}
 
 -- What a call is given.
 pub record RingsCall : Type 0 where

@@ -1,13 +1,13 @@
--- `indices::first_bad_ring` meets its contract. The loop's invariant: no ring passed is bad. Assumes nothing.
+-- `indices_rings::first_bad_ring` meets its contract. The loop's invariant: no ring passed is bad. Assumes nothing.
 use native.Mathlib.Omega.{arith}
 use mathlib.Core.Bool.{false}
 use mathlib.Core.Path.{_≡_, sym, _∙_}
 use Prim.Native.Nat.{ℕ, _≤_, _<_, _-_}
 use borrow.Author.Count.{below-none, below-more}
-use Rattle.indices.specs.Machine.{badCell}
+use Rattle.indices_rings.specs.Cells.{badCell}
 use Rattle.base_outcome.proofs.Machine.{found-at, found-none}
-use Rattle.indices.proofs.first_bad_ring.Statement.{statement}
-use Rattle.indices.proofs.first_bad_ring.Tie as tie
+use Rattle.indices_rings.proofs.first_bad_ring.Statement.{statement}
+use Rattle.indices_rings.proofs.first_bad_ring.Tie as tie
 
 abbrev Inv-loop : tie.InvT-loop
 Inv-loop widths values offset n i₀ i = (i ≤ n) × ((k : ℕ) → k < i → badCell widths values offset k ≡ false)

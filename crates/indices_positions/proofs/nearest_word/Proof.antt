@@ -1,11 +1,11 @@
--- `indices::nearest_word` meets its contract. Assumes nothing.
+-- `indices_positions::nearest_word` meets its contract. Assumes nothing.
 use borrow.Author.Needs.{needs}
 use mir.Syntax.{w32}
 use mir.Val.{SFits}
 use mir.ValLaws.{toZ-ofZ}
-use Rattle.indices.proofs.Ring.{nearest-below, nearest-above, nearest-inside, word-fits}
-use Rattle.indices.proofs.nearest_word.Statement.{statement}
-use Rattle.indices.proofs.nearest_word.Tie as tie
+use Rattle.indices_positions.proofs.Words.{nearest-below, nearest-above, nearest-inside, word-fits}
+use Rattle.indices_positions.proofs.nearest_word.Statement.{statement}
+use Rattle.indices_positions.proofs.nearest_word.Tie as tie
 
 cast-result : tie.Need-cast-result
 cast-result c = search needs

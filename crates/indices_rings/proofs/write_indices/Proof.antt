@@ -1,4 +1,4 @@
--- `indices::write_indices` meets its contract: below i stand the indices of the first i rings, from there on what the cells
+-- `indices_rings::write_indices` meets its contract: below i stand the indices of the first i rings, from there on what the cells
 -- held. Assumes nothing.
 use native.Mathlib.Omega.{arith}
 use mathlib.Core.List.{List, _++_}
@@ -11,9 +11,9 @@ use mir.Val.{ofZ, toZ}
 use mir.ValLaws.{toZ-ofZ}
 use Rattle.base_exact.specs.Tabulate.{tab}
 use Rattle.base_exact.proofs.Tabulate.{tab-none, tab-more}
-use Rattle.indices.specs.Machine.{cellIndex}
-use Rattle.indices.proofs.write_indices.Statement.{statement}
-use Rattle.indices.proofs.write_indices.Tie as tie
+use Rattle.indices_rings.specs.Cells.{cellIndex}
+use Rattle.indices_rings.proofs.write_indices.Statement.{statement}
+use Rattle.indices_rings.proofs.write_indices.Tie as tie
 
 abbrev Inv-loop : tie.InvT-loop
 Inv-loop widths values offset indices₀ i₀ indices i =

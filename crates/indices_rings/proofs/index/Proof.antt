@@ -1,4 +1,4 @@
--- `indices::index` meets its contract: a ring that passed code 14 has a width of few digits and, where it is present, a value
+-- `indices_rings::index` meets its contract: a ring that passed code 14 has a width of few digits and, where it is present, a value
 -- above zero. Assumes nothing.
 use borrow.Author.Needs.{needs}
 use native.Mathlib.Omega.{arith}
@@ -13,11 +13,11 @@ use mir.Val.{SFits, ofZ, toZ}
 use mir.ValLaws.{toZ-ofZ, sfits-le}
 use Rattle.base_exact.proofs.Integer.{abs-mul, ≤-in, *-pos}
 use Rattle.base_exact.proofs.Word.{ofZ-inj, ofZ-pos, sfits-nat, sfits-widen, sfits-abs, quot-mag, quot-floor}
-use Rattle.indices.specs.Indices.{indexScale}
-use Rattle.indices.specs.Machine.{badCell, cellIndex}
-use Rattle.indices.proofs.Ring.{passes-width, passes-small, passes-value, index-absent, index-present}
-use Rattle.indices.proofs.index.Statement.{statement}
-use Rattle.indices.proofs.index.Tie as tie
+use Rattle.theorems_indices.specs.Indices.{indexScale}
+use Rattle.indices_rings.specs.Cells.{badCell, cellIndex}
+use Rattle.theorems_indices.proofs.Ring.{passes-width, passes-small, passes-value, index-absent, index-present}
+use Rattle.indices_rings.proofs.index.Statement.{statement}
+use Rattle.indices_rings.proofs.index.Tie as tie
 
 width-fits : (c : tie.After-width) → SFits w32 (getD (c .before .args .widths .now) (c .before .args .i) (pos 0))
 width-fits c = record { sfits = c .width .given }

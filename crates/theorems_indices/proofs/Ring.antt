@@ -1,24 +1,21 @@
 -- One ring: when code 14 refuses it, as the machine tests it one bound after the other, what a ring that passes has, and its
--- index; and a position brought into 32 bits.
+-- index.
 use mathlib.Core.Path.{_≡_, refl, sym, _∙_, ap, ap₂}
 use mathlib.Core.Logic.{_≢_}
 use mathlib.Core.Bool.{Bool, true, false, cond, not, _&&_, _||_}
-use Prim.Native.Nat.{ℕ, _<_, _≤_, _^_}
+use Prim.Native.Nat.{_≤_}
 use native.Mathlib.Omega.{arith}
 use borrow.Author.Tests.{ne-eqb, eq-eqb}
 use lib.Dec.{eqb}
 use lib.IntN.{ℤ, pos, negsuc, natAbs, _*ℤ_}
 use lib.Signed.{leZ, ltZ, _<ℤ_, _≤ℤ_}
-use mir.Syntax.{w32}
-use mir.Val.{SFits}
 use Rattle.base_exact.specs.Floor.{floorDiv}
 use Rattle.base_exact.proofs.Decide.{cond-true, cond-false, or-false, and-true, true-not-false}
 use Rattle.base_exact.proofs.Integer.{abs-zero, ≤-out, abs-le-in, ≤-in}
 use Rattle.base_exact.proofs.Word.{ltZ-true, ltZ-false, leZ-false, le-test, not-le-test}
 use Rattle.base_outcome.specs.Tests.{between}
 use Rattle.spec_spline.proofs.Space.{between-inverts}
-use Rattle.indices.specs.Indices.{widthLimit, isAbsent, isRefused, indexScale, indexOf}
-use Rattle.indices.specs.Machine.{leastWord, greatestWord, nearestWord}
+use Rattle.theorems_indices.specs.Indices.{widthLimit, isAbsent, isRefused, indexScale, indexOf}
 
 -- ---- code 14
 
@@ -79,22 +76,3 @@ module _ (width value : ℤ) where
   pub index-present : width ≢ pos 0 → floorDiv (indexScale *ℤ width) (natAbs value) ≡ indexOf width value
   unfolding indexOf
   index-present n = sym (cond-false _ _ (present n))
-
--- ---- 32 bits
-
-module _ (z : ℤ) where
-  pub nearest-below : ltZ z leastWord ≡ true → leastWord ≡ nearestWord z
-  unfolding nearestWord
-  nearest-below e = sym (cond-true _ _ e)
-
-  pub nearest-above : ltZ z leastWord ≡ false → ltZ greatestWord z ≡ true → greatestWord ≡ nearestWord z
-  unfolding nearestWord
-  nearest-above e k = sym (cond-false _ _ e ∙ cond-true _ _ k)
-
-  pub nearest-inside : ltZ z leastWord ≡ false → ltZ greatestWord z ≡ false → z ≡ nearestWord z
-  unfolding nearestWord
-  nearest-inside e k = sym (cond-false _ _ e ∙ cond-false _ _ k)
-
-pub word-fits : (z : ℤ) → ltZ z leastWord ≡ false → ltZ greatestWord z ≡ false → SFits w32 z
-word-fits (pos n) e k = record { sfits = omega (arith, ≤-out (pos n) greatestWord (ltZ-false greatestWord (pos n) k)) }
-word-fits (negsuc n) e k = record { sfits = omega (arith, ≤-out leastWord (negsuc n) (ltZ-false (negsuc n) leastWord e)) }

@@ -1,4 +1,4 @@
--- `indices::ring_is_bad` meets its contract. Assumes nothing.
+-- `indices_rings::ring_is_bad` meets its contract. Assumes nothing.
 use borrow.Author.Needs.{needs}
 use mathlib.Core.Path.{ap}
 use lib.IntN.{pos}
@@ -9,10 +9,10 @@ use mir.ValLaws.{toZ-ofZ}
 use Prim.Native.Nat.{_+_, _*_}
 use native.Mathlib.Omega.{arith}
 use Rattle.base_exact.proofs.Word.{ofZ-inj, sfits-nat}
-use Rattle.indices.specs.Machine.{badCell}
-use Rattle.indices.proofs.Ring.{refused-below, refused-above, absent-passes, present-by-value}
-use Rattle.indices.proofs.ring_is_bad.Statement.{statement}
-use Rattle.indices.proofs.ring_is_bad.Tie as tie
+use Rattle.indices_rings.specs.Cells.{badCell}
+use Rattle.theorems_indices.proofs.Ring.{refused-below, refused-above, absent-passes, present-by-value}
+use Rattle.indices_rings.proofs.ring_is_bad.Statement.{statement}
+use Rattle.indices_rings.proofs.ring_is_bad.Tie as tie
 
 width-fits : (c : tie.After-width) → SFits w32 (getD (c .before .args .widths .now) (c .before .args .i) (pos 0))
 width-fits c = record { sfits = c .width .given }

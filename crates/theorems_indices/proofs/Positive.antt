@@ -16,10 +16,10 @@ use Rattle.spec_spline.specs.Reading.{woodIndex}
 use Rattle.base_outcome.proofs.Search.{first-none}
 use Rattle.theorems_promises.specs.PositiveValues.{PositiveCoefficients, leastPositive}
 use Rattle.theorems_promises.proofs.PositiveValues.{positive-cells}
-use Rattle.indices.specs.Indices.{ringWidth, widthLimit, isAbsent, isRefused}
-use Rattle.indices.specs.Rings.{RingsCall, ringCount, valueCell, CurveIsLegal, PositiveCoefficientsAreEnough}
-use Rattle.indices.proofs.Positions.{exact-length}
-use Rattle.indices.proofs.Rings.{positions, legal-rings-end, legal-rings-leave-the-curve}
+use Rattle.theorems_indices.specs.Indices.{ringWidth, widthLimit, isAbsent, isRefused}
+use Rattle.theorems_indices.specs.Rings.{RingsCall, ringCount, valueCell, CurveIsLegal, PositiveCoefficientsAreEnough}
+use Rattle.theorems_indices.proofs.Cells.{exact-length}
+use Rattle.theorems_indices.proofs.Rings.{positions, legal-rings-end, legal-rings-leave-the-curve}
 
 and-false : (b : Bool) → (b && false) ≡ false
 and-false true = refl

@@ -1,0 +1,1 @@
+-- Each proof stands in its function's folder; the laws of one ring are those of theorems_indices.
