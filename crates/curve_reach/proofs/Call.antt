@@ -16,10 +16,12 @@ use Rattle.base_outcome.proofs.Outcome.{then-answers, then-refuses, capped-smal
 use Rattle.base_outcome.proofs.Search.{first-ext}
 use Rattle.curve.proofs.Pairs.{fronted, blended-fronted}
 use Rattle.curve_start.specs.CurveAlone.{curveAlone}
-use Rattle.curve_reach.specs.Reach.{positionCount, position, reaches, reachedAt, reachOutcome}
-use Rattle.curve_reach.specs.Machine.{reply, heldValue, reachesHeld, found}
+use Rattle.curve_search.specs.Positions.{positionCount, position}
+use Rattle.curve_reach.specs.Reach.{reaches, reachedAt, reachOutcome}
+use Rattle.curve_reach.specs.Machine.{reply}
+use Rattle.curve_search.specs.Machine.{heldValue, reachesHeld, found}
 use Rattle.curve_reach.specs.declared.Answer.the-variants.{Refused}
-use Rattle.curve_reach.specs.declared.search.Found.the-variants.{At, Nowhere}
+use Rattle.curve_search.specs.declared.Found.the-variants.{At, Nowhere}
 
 -- ---- what is found
 

@@ -24,9 +24,10 @@ use Rattle.theorems_values.proofs.Segment.{accepted-checked}
 use Rattle.theorems_acceptance.proofs.Curves.{curves-never-give-nine}
 use Rattle.curve_start.specs.CurveAlone.{curveAlone}
 use Rattle.curve_start.proofs.Accepted.{accepted-by}
-use Rattle.curve_reach.specs.Reach.{positionCount, position, reaches, reachedAt, reachOutcome}
+use Rattle.curve_search.specs.Positions.{positionCount, position}
+use Rattle.curve_reach.specs.Reach.{reaches, reachedAt, reachOutcome}
 use Rattle.curve_reach.specs.FirstReach.{FirstAt, AnswersAreFirst, NeverReached, SixteenIsNever, ReachNeverGivesNine}
-use Rattle.curve_reach.proofs.Positions.{position-after-start, position-before-end, indexOf, position-of-index, index-below, index-in-span}
+use Rattle.curve_search.proofs.Positions.{position-after-start, position-before-end, indexOf, position-of-index, index-below, index-in-span}
 use Rattle.curve_reach.proofs.Codes.{curve-codes}
 
 module _ (s : Space) (wood : Wood) (coefs : List ℤ) (width : ℤ) (a : Accepted s) where

@@ -2,25 +2,18 @@
 use mathlib.Core.Bool.{Bool}
 use mathlib.Core.List.{List}
 use mathlib.Core.Option.{Option, some, none}
-use Prim.Native.Nat.{ℕ, suc}
-use lib.IntN.{ℤ, pos, _+ℤ_, _-ℤ_, natAbs}
+use Prim.Native.Nat.{ℕ}
+use lib.IntN.{ℤ}
 use lib.ListN.{length}
 use lib.Signed.{leZ}
 use Rattle.base_outcome.specs.Outcome.{Outcome, answer, refuse, _then_}
 use Rattle.base_outcome.specs.Search.{first}
-use Rattle.spec_spline.specs.Space.{Space, segments, break}
+use Rattle.spec_spline.specs.Space.{Space}
 use Rattle.spec_spline.specs.Table.{Table}
 use Rattle.spec_spline.specs.Reading.{Wood, fine, valueAt}
 use Rattle.spec_spline.specs.CurveCall.{curveNumerators, curveDenominators}
 use Rattle.curve_start.specs.CurveAlone.{curveAlone}
-
--- "All positions of the span count, ends included": how many there are.
-abbrev pub positionCount : Space → ℕ
-positionCount s = suc (natAbs (fine (break s (segments s)) -ℤ fine (break s 0)))
-
--- Position i of the span, from its first one on.
-abbrev pub position : Space → ℕ → ℤ
-position s i = fine (break s 0) +ℤ pos i
+use Rattle.curve_search.specs.Positions.{positionCount, position}
 
 -- Its "value is 256 times that width or more".
 abbrev pub reaches : Space → Table → Wood → List ℤ → ℤ → ℕ → Bool

@@ -9,13 +9,12 @@ ghost use Rattle.build_space.specs.Legal.{ListsLegal};
 ghost use Rattle.curve_ordinates.specs.Ordinates.{Bounded};
 ghost use Rattle.curve_ordinates.specs.Wood.{woodOf};
 ghost use Rattle.curve_triangle.specs.Offsets.{columnLimit};
-ghost use Rattle.curve_reach.specs.Reach.{positionCount, reachedAt, reachEnd};
-ghost use Rattle.curve_reach.specs.Machine.{reply, chosen, reachesHeld};
-
-mod search;
-
-use crate::search::Found;
+ghost use Rattle.curve_search.specs.Positions.{positionCount};
+ghost use Rattle.curve_search.specs.Machine.{reachesHeld};
+ghost use Rattle.curve_reach.specs.Reach.{reachedAt, reachEnd};
+ghost use Rattle.curve_reach.specs.Machine.{reply, chosen};
 use curve_ordinates::Wood;
+use curve_search::Found;
 
 // What the call answers: the position, or a refusal's code and place.
 pub enum Answer {
@@ -36,7 +35,7 @@ fn first_reach(
         reply r ≡ reachedAt s (Search.first (positionCount s) (reachesHeld s (now (ordinates .entry)) (fine width)))) ⌝ }
 {
     let target = 256 * width as i64;
-    let found = crate::search::search(breaks, degrees, orders, ordinates, target);
+    let found = curve_search::search(breaks, degrees, orders, ordinates, target);
     match found {
         Found::At(x) => Answer::Reached(x),
         Found::Nowhere => Answer::Refused(16, 0),

@@ -1,0 +1,203 @@
+-- `reach::search::search` meets its contract. The loop's invariant: no position before segment i reaches the target. Assumes
+-- nothing.
+use mathlib.Core.Path.{_≡_, sym, ap, _∙_, subst}
+use Prim.Native.Nat.{ℕ, suc, _+_, _-_, _<_, _≤_}
+use native.Mathlib.Omega.{arith}
+use lib.Dec.{T}
+use lib.IntN.{ℤ, pos, natAbs, _+ℤ_}
+use lib.ListN.{length}
+use lib.Signed.{nonNeg}
+use mir.Syntax.{w32, w64}
+use mir.Val.{Fits, ofZ, toZ}
+use mir.ValLaws.{toZ-ofZ}
+use Rattle.base_outcome.specs.Search.{first}
+use Rattle.spec_spline.specs.Space.{Space, break, degree}
+use Rattle.spec_spline.specs.Reading.{fine, fineWidth}
+use Rattle.spec_spline.proofs.Legal.{Checked, checked-inverts}
+use Rattle.build_space.specs.Machine.{space}
+use Rattle.build_space.specs.Legal.{ListsLegal}
+use Rattle.build_space.proofs.Bounds.{degree-low as lowest-degree}
+use Rattle.build_space.proofs.Legal.{legal-checked, legal-width-low, legal-width-high, legal-degree-high, legal-columns-within, legal-column-count-high}
+use Rattle.curve_search.specs.Positions.{positionCount}
+use Rattle.curve_search.specs.Machine.{startOffset, found, reachesHeld}
+use Rattle.curve_search.specs.declared.Found.the-variants.{At}
+use Rattle.curve_search.proofs.Offsets.{start-at-most-one}
+use Rattle.curve_search.proofs.Searching.{Before, before-first, before-next, found-in, found-past, start-partial}
+use Rattle.curve_search.proofs.search.Statement.{statement}
+use Rattle.curve_search.proofs.search.Tie as tie
+
+abbrev Inv-loop : tie.InvT-loop
+Inv-loop breaks degrees orders ordinates target column₀ start₀ i₀ column start i = Before (space breaks degrees orders) ordinates (toZ w64 target) column start i
+
+abbrev μ-loop : tie.MeasureT-loop
+μ-loop breaks degrees orders ordinates target column₀ start₀ i₀ column start i = length degrees - i
+
+-- the beam, which passes the checks
+module _ (s : tie.Start Inv-loop μ-loop) where
+  abbrev beam : Space
+  beam = space (s .args .breaks .now) (s .args .degrees .now) (s .args .orders .now)
+
+  abbrev legal : ListsLegal (s .args .breaks .now) (s .args .degrees .now) (s .args .orders .now)
+  legal = s .pre .0
+
+  checks : Checked beam
+  checks = checked-inverts beam (legal-checked _ _ _ legal) .1
+
+loop-holds : tie.Need-loop-holds Inv-loop μ-loop
+loop-holds c = before-first (beam c) (c .args .ordinates .now) _ (checks c)
+
+degree-at-requires : tie.Need-degree-at-requires Inv-loop μ-loop
+degree-at-requires c κs = (omega arith, c .before .before .pre .0 .degrees-legal)
+
+fine-width-requires : tie.Need-fine-width-requires Inv-loop μ-loop
+fine-width-requires c κs = let s = c .before .before .before in (omega (arith, legal s .break-count), legal s .breaks-legal)
+
+module _ (c : tie.After-fine-width Inv-loop μ-loop) where
+  abbrev start : tie.Start Inv-loop μ-loop
+  start = c .before .before .before .before
+
+  abbrev i : ℕ
+  i = c .before .before .before .loop .i
+
+  below : i < length (start .args .degrees .now)
+  below = omega arith
+
+  abbrev width : ℕ
+  width = fineWidth (beam start) i
+
+  width-word : toZ w64 (ofZ w64 (c .fine-width .result)) ≡ pos width
+  width-word = toZ-ofZ w64 _ (record { sfits = c .fine-width .ok }) ∙ c .fine-width .ensures
+
+  width-low : 0 < width
+  width-low = omega (arith, legal-width-low _ _ _ (legal start) i below)
+
+  width-high : width ≤ 512000
+  width-high = omega (arith, legal-width-high _ _ _ (legal start) i below)
+
+  degree-low : 1 ≤ c .before .degree-at .result
+  degree-low = rw (c .before .degree-at .ensures) (lowest-degree (beam start) (legal start .degrees-legal) i below)
+
+  degree-high : c .before .degree-at .result ≤ 5
+  degree-high = rw (c .before .degree-at .ensures) (legal-degree-high _ _ _ (legal start) i below)
+
+  degree-is : c .before .degree-at .result ≡ degree (beam start) i
+  degree-is = c .before .degree-at .ensures
+
+cast-d : tie.Need-cast-d Inv-loop μ-loop
+cast-d c = subst (λ z. T (nonNeg z) × Fits w64 (natAbs z)) (sym (width-word c)) (tt, omega (arith, width-high c))
+
+add-start-offset : tie.Need-add-start-offset Inv-loop μ-loop
+add-start-offset c = omega (arith, below c, legal (start c) .few)
+
+start-offset-requires : tie.Need-start-offset-requires Inv-loop μ-loop
+start-offset-requires c κs = (legal (start c) .order-count, omega (arith, below c))
+
+module _ (c : tie.After-start-offset Inv-loop μ-loop) where
+  abbrev at : tie.After-fine-width Inv-loop μ-loop
+  at = c .before
+
+  abbrev d : ℕ
+  d = natAbs (toZ w64 (ofZ w64 (c .before .fine-width .result)))
+
+  d-is : d ≡ width at
+  d-is = ap natAbs (width-word at)
+
+  next-is : c .start-offset .result ≡ startOffset (beam (start at)) (suc (i at))
+  next-is = c .start-offset .ensures ∙ start-partial _ _ _ (i at + 1) ∙ ap (startOffset (beam (start at))) (let z : i at + 1 ≡ suc (i at) = omega arith in z)
+
+  next-low : c .start-offset .result ≤ 1
+  next-low = subst (λ n. n ≤ 1) (sym next-is) (start-at-most-one (beam (start at)) (suc (i at)))
+
+  abbrev inv : Before (beam (start at)) (start at .args .ordinates .now) (toZ w64 (ofZ w64 (start at .args .target))) (at .before .before .before .loop .column) (at .before .before .before .loop .start) (i at)
+  inv = at .before .before .before .loop .inv
+
+  start-low : at .before .before .before .loop .start ≤ 1
+  start-low = subst (λ n. n ≤ 1) (sym (inv .start-is)) (start-at-most-one (beam (start at)) (i at))
+
+  column-within : at .before .before .before .loop .column + at .before .degree-at .result < 288
+  column-within = omega (arith, inv .column-is, degree-is at, legal-columns-within _ _ _ (legal (start at)) (i at) (below at), legal-column-count-high _ _ _ (legal (start at)))
+
+add-first-offset : tie.Need-add-first-offset Inv-loop μ-loop
+add-first-offset c = omega (arith, d-is c, width-high (at c), next-low c)
+
+first-offset-requires : tie.Need-first-offset-requires Inv-loop μ-loop
+first-offset-requires c κs =
+    let s = start (at c) in (
+      ((degree-low (at c), (degree-high (at c), column-within c)), s .pre .1),
+      ((omega (arith, d-is c, width-low (at c)), omega (arith, d-is c, width-high (at c))), (omega (arith, next-low c), omega (arith, d-is c, width-low (at c), start-low c))),
+    )
+
+-- what is found in the segment
+module _ (c : tie.After-first-offset Inv-loop μ-loop) where
+  abbrev here : tie.After-start-offset Inv-loop μ-loop
+  here = c .before
+
+  abbrev word : ℤ
+  word = toZ w64 (ofZ w64 (start (at here) .args .target))
+
+  next-segment : d here + here .start-offset .result ≤ c .first-offset .result → Before (beam (start (at here))) (start (at here) .args .ordinates .now) word (at here .before .before .before .loop .column + (at here .before .degree-at .result + 1)) (here .start-offset .result) (i (at here) + 1)
+  next-segment h = before-next (beam (start (at here))) (start (at here) .args .ordinates .now) word (checks (start (at here))) (inv here) (below (at here)) (degree-is (at here)) (d-is here) (next-is here) (c .first-offset .ensures) h
+
+  found-here : c .first-offset .result < d here + here .start-offset .result → At (fine (break (beam (start (at here))) (i (at here))) +ℤ pos (c .first-offset .result)) ≡ found (beam (start (at here))) (first (positionCount (beam (start (at here)))) (reachesHeld (beam (start (at here))) (start (at here) .args .ordinates .now) word))
+  found-here h = found-in (beam (start (at here))) (start (at here) .args .ordinates .now) word (checks (start (at here))) (inv here) (below (at here)) (degree-is (at here)) (d-is here) (next-is here) (c .first-offset .ensures) h
+
+add-if1 : tie.Need-add-if1 Inv-loop μ-loop
+add-if1 c = let b = c .before in omega (arith, d-is b, width-high (at b), next-low b)
+
+position-at-requires : tie.Need-position-at-requires Inv-loop μ-loop
+position-at-requires c κs =
+    let b = here (c .before) in
+    ((omega (arith, below (at b), legal (start (at b)) .break-count), legal (start (at b)) .breaks-legal), omega (arith, d-is b, width-high (at b), next-low b))
+
+returns : tie.Need-returns Inv-loop μ-loop
+returns c =
+    let b = c .before .before in
+    let s = start (at (here b)) in
+    ap At (toZ-ofZ w32 _ (record { sfits = c .position-at .ok }) ∙ c .position-at .ensures)
+    ∙ found-here b (omega arith)
+    ∙ ap (λ t. found (beam s) (first (positionCount (beam s)) (reachesHeld (beam s) (s .args .ordinates .now) t))) (toZ-ofZ w64 _ (s .fits .target))
+
+add-column : tie.Need-add-column Inv-loop μ-loop
+add-column c = let b = here (c .before) in omega (arith, degree-high (at b))
+
+add-column-2 : tie.Need-add-column-2 Inv-loop μ-loop
+add-column-2 c = let b = here (c .before) in omega (arith, column-within b)
+
+add-i : tie.Need-add-i Inv-loop μ-loop
+add-i c = let b = here (c .before) in omega (arith, below (at b), legal (start (at b)) .few)
+
+loop-less : tie.Need-loop-less Inv-loop μ-loop
+loop-less c = omega arith
+
+loop-again : tie.Need-loop-again Inv-loop μ-loop
+loop-again c = next-segment (c .before) (omega arith)
+
+returns-2 : tie.Need-returns-2 Inv-loop μ-loop
+returns-2 c =
+    let s = c .before .before in
+    found-past (beam s) (s .args .ordinates .now) (toZ w64 (ofZ w64 (s .args .target))) (checks s) (c .before .loop .inv) (omega arith)
+    ∙ ap (λ t. found (beam s) (first (positionCount (beam s)) (reachesHeld (beam s) (s .args .ordinates .now) t))) (toZ-ofZ w64 _ (s .fits .target))
+
+pub search-spec : {M : Type 1} → statement M
+search-spec =
+    tie.close
+    (tie.spec
+    Inv-loop
+    μ-loop
+    loop-holds
+    degree-at-requires
+    fine-width-requires
+    cast-d
+    add-start-offset
+    start-offset-requires
+    add-first-offset
+    first-offset-requires
+    add-if1
+    position-at-requires
+    returns
+    add-column
+    add-column-2
+    add-i
+    loop-less
+    loop-again
+    returns-2)

@@ -1,0 +1,83 @@
+// The first position of the span at which a curve with given ordinates reaches a target: segment by segment.
+ghost use mathlib.Core.Path.{_≡_};
+ghost use mathlib.Core.List.{[]};
+ghost use Prim.Native.Nat.{_+_, _*_, _<_, _≤_};
+ghost use lib.IntN.{pos, _+ℤ_};
+ghost use lib.ListN.{length};
+ghost use Rattle.base_outcome.specs.Search.{first};
+ghost use Rattle.spec_spline.specs.Space.{spanLimit, break};
+ghost use Rattle.spec_spline.specs.Reading.{fineness, fine};
+ghost use Rattle.build_space.specs.Machine.{space};
+ghost use Rattle.build_space.specs.Legal.{BreaksLegal, ListsLegal};
+ghost use Rattle.curve_ordinates.specs.Ordinates.{Bounded};
+ghost use Rattle.curve_triangle.specs.Offsets.{columnLimit};
+ghost use Rattle.curve_search.specs.Positions.{positionCount};
+ghost use Rattle.curve_search.specs.Machine;
+
+// The end of the span is the last segment's: the first offset past its own.
+const PAST_THE_END: usize = 1;
+
+// A discontinuity is the segment's before it: the first offset of the one after it.
+const PAST_A_DISCONTINUITY: usize = 1;
+
+// The first position that reaches the target, if any does.
+pub enum Found {
+    At(i32),
+    Nowhere,
+}
+
+// The first offset that belongs to segment i, or to the end of the last one.
+fn start_offset(degrees: &[i32], orders: &[i32], i: usize) -> usize
+    requires { ⌜ (length (now orders) + 1 ≡ length (now degrees)) × (i ≤ length (now degrees)) ⌝ }
+    ensures { λ r. ⌜ r ≡ Machine.startOffset (space [] (now (degrees .entry)) (now (orders .entry))) i ⌝ }
+{
+    if i == degrees.len() {
+        return PAST_THE_END;
+    }
+    if i == 0 {
+        return 0;
+    }
+    if build_space::is_discontinuity(orders, i - 1) {
+        return PAST_A_DISCONTINUITY;
+    }
+    0
+}
+
+// The position at offset u of segment i.
+fn position_at(breaks: &[i32], i: usize, u: usize) -> i32
+    requires { ⌜ ((i < length (now breaks)) × BreaksLegal (now breaks)) × (u ≤ fineness * spanLimit) ⌝ }
+    ensures { λ r. ⌜ r ≡ fine (break (space (now (breaks .entry)) [] []) i) +ℤ pos u ⌝ }
+{
+    let start = breaks[i];
+    256 * start + u as i32
+}
+
+// The first position of the span that reaches the target.
+pub fn search(
+    breaks: &[i32],
+    degrees: &[i32],
+    orders: &[i32],
+    ordinates: &[i32],
+    target: i64,
+) -> Found
+    requires { ⌜ ListsLegal (now breaks) (now degrees) (now orders) × ((length (now ordinates) ≡ columnLimit) × Bounded (now ordinates)) ⌝ }
+    ensures { λ r. ⌜ (let s = space (now (breaks .entry)) (now (degrees .entry)) (now (orders .entry)) in
+        r ≡ Machine.found s (first (positionCount s) (Machine.reachesHeld s (now (ordinates .entry)) target))) ⌝ }
+{
+    let mut column = 0;
+    let mut start = 0;
+    let mut i = 0;
+    while i < degrees.len() {
+        let p = build_space::degree_at(degrees, i);
+        let d = curve_triangle::fine_width(breaks, i) as usize;
+        let next = start_offset(degrees, orders, i + 1);
+        let u = curve_steps::first_offset(ordinates, column, p, d, start, d + next, target);
+        if u < d + next {
+            return Found::At(position_at(breaks, i, u));
+        }
+        column += p + 1;
+        start = next;
+        i += 1;
+    }
+    Found::Nowhere
+}

@@ -1,0 +1,119 @@
+-- `reach::search::steepest` meets its contract. The loop's invariant: no rise passed is steeper. Assumes nothing.
+use mathlib.Core.Path.{_≡_, subst}
+use Prim.Native.Nat.{ℕ, _+_, _≤_, _-_}
+use native.Mathlib.Omega.{arith}
+use lib.IntN.{ℤ, pos}
+use lib.ListN.{getD}
+use mir.Syntax.{w32}
+use mir.Val.{SFits}
+use mir.ValLaws.{toZ-ofZ}
+use Rattle.base_exact.proofs.Word.{sfits-widen}
+use Rattle.curve_steps.specs.Machine.{Steepest}
+use Rattle.curve_steps.proofs.Rises.{steepest-none, steepest-more}
+use Rattle.curve_steps.proofs.steepest.Statement.{statement}
+use Rattle.curve_steps.proofs.steepest.Tie as tie
+
+abbrev Inv-loop : tie.InvT-loop
+Inv-loop ordinates c p rise₀ k₀ rise k = (k ≤ p) × Steepest ordinates c k rise
+
+abbrev μ-loop : tie.MeasureT-loop
+μ-loop ordinates c p rise₀ k₀ rise k = p - k
+
+loop-holds : tie.Need-loop-holds Inv-loop μ-loop
+loop-holds c = (omega arith, steepest-none _ _)
+
+add-low : tie.Need-add-low Inv-loop μ-loop
+add-low c = omega arith
+
+mul-low : tie.Need-mul-low Inv-loop μ-loop
+mul-low c = omega arith
+
+shared-slice-copy-out-low : tie.Need-shared-slice-copy-out-low Inv-loop μ-loop
+shared-slice-copy-out-low c = omega arith
+
+add-high : tie.Need-add-high Inv-loop μ-loop
+add-high c = omega arith
+
+add-high-2 : tie.Need-add-high-2 Inv-loop μ-loop
+add-high-2 c = omega arith
+
+mul-high : tie.Need-mul-high Inv-loop μ-loop
+mul-high c = omega arith
+
+shared-slice-copy-out-high : tie.Need-shared-slice-copy-out-high Inv-loop μ-loop
+shared-slice-copy-out-high c = omega arith
+
+-- the two ordinates fit their words
+module _ (c : tie.After-high Inv-loop μ-loop) where
+  abbrev start : tie.Start Inv-loop μ-loop
+  start = c .before .before .before .before
+
+  abbrev k : ℕ
+  k = c .before .before .before .loop .k
+
+  abbrev low : ℤ
+  low = getD (start .args .ordinates .now) (start .args .c + k) (pos 0)
+
+  abbrev high : ℤ
+  high = getD (start .args .ordinates .now) (start .args .c + k + 1) (pos 0)
+
+  low-fits : SFits w32 low
+  low-fits = record { sfits = c .before .low .given }
+
+  high-fits : SFits w32 high
+  high-fits = record { sfits = c .high .given }
+
+cast-steeper : tie.Need-cast-steeper Inv-loop μ-loop
+cast-steeper c = let f = low-fits c in simp toZ-ofZ (sfits-widen f)
+
+cast-steeper-2 : tie.Need-cast-steeper-2 Inv-loop μ-loop
+cast-steeper-2 c = let f = high-fits c in simp toZ-ofZ (sfits-widen f)
+
+steeper-requires : tie.Need-steeper-requires Inv-loop μ-loop
+steeper-requires c κs =
+    let f = low-fits c in
+    let g = high-fits c in
+    let f′ = sfits-widen f in
+    let g′ = sfits-widen g in
+    (c .before .before .before .loop .inv .1 .small, simp toZ-ofZ (start c .pre .1 .1 (start c .args .c + k c), start c .pre .1 .1 (start c .args .c + k c + 1)))
+
+add-k : tie.Need-add-k Inv-loop μ-loop
+add-k c = omega arith
+
+loop-less : tie.Need-loop-less Inv-loop μ-loop
+loop-less c = omega arith
+
+loop-again : tie.Need-loop-again Inv-loop μ-loop
+loop-again c =
+    let b = c .before in
+    let f = low-fits b in
+    let g = high-fits b in
+    let f′ = sfits-widen f in
+    let g′ = sfits-widen g in
+    let left = simp toZ-ofZ at (c .steeper .ensures) in
+    (omega arith, steepest-more _ (start b .args .c) (k b) _ (c .steeper .result) (b .before .before .before .loop .inv .1) (left .0) (left .1 .0) (left .1 .1))
+
+returns : tie.Need-returns Inv-loop μ-loop
+returns c = let s = c .before .before in subst (λ k. Steepest (s .args .ordinates .now) (s .args .c) k (c .before .loop .rise)) (let e : c .before .loop .k ≡ s .args .p = omega arith in e) (c .before .loop .inv .1)
+
+pub steepest-spec : {M : Type 1} → statement M
+steepest-spec =
+    tie.close
+    (tie.spec
+    Inv-loop
+    μ-loop
+    loop-holds
+    add-low
+    mul-low
+    shared-slice-copy-out-low
+    add-high
+    add-high-2
+    mul-high
+    shared-slice-copy-out-high
+    cast-steeper
+    cast-steeper-2
+    steeper-requires
+    add-k
+    loop-less
+    loop-again
+    returns)

@@ -1,0 +1,75 @@
+-- `reach::search::value_on` meets its contract: the triangle at that place. Assumes nothing.
+use borrow.Author.Needs.{needs}
+use native.Mathlib.Omega.{arith}
+use mathlib.Core.Path.{_≡_, sym, _∙_, subst}
+use Prim.Native.Nat.{_≤_}
+use lib.IntN.{ℤ, pos, natAbs}
+use mir.Syntax.{w32, w64}
+use mir.Val.{SFits, toZ}
+use mir.ValLaws.{toZ-ofZ, toZ-pos}
+use Rattle.base_exact.proofs.Integer as Z
+use Rattle.base_exact.proofs.Word.{sfits-widen}
+use Rattle.curve_ordinates.specs.Ordinates.{ordinateLimit}
+use Rattle.curve_triangle.specs.Place.{Sound, valueOf}
+use Rattle.curve_steps.specs.Machine.{valueOn}
+use Rattle.curve_steps.proofs.Passing.{value-small}
+use Rattle.curve_steps.proofs.value_on.Statement.{statement}
+use Rattle.curve_steps.proofs.value_on.Tie as tie
+
+cast-t7 : tie.Need-cast-t7
+cast-t7 c = search needs
+
+cast-t8 : tie.Need-cast-t8
+cast-t8 c = search needs
+
+-- the place of offset u
+module _ (s : tie.Start) where
+  value-is : (o w : ℤ) → o ≡ pos (s .args .u) → w ≡ pos (s .args .d) → valueOf (s .args .ordinates .now) (record { column = s .args .c; degree = s .args .p; offset = o; width = w }) ≡ valueOn (s .args .ordinates .now) (s .args .c) (s .args .p) (s .args .d) (s .args .u)
+  unfolding valueOf valueOn
+  value-is o w e f = cc
+
+  offset-word : toZ w64 (s .args .u) ≡ pos (s .args .u)
+  offset-word = toZ-pos w64 (s .args .u) (omega (arith, s .pre .1 .0 .1, s .pre .1 .1))
+
+  width-word : toZ w64 (s .args .d) ≡ pos (s .args .d)
+  width-word = toZ-pos w64 (s .args .d) (omega (arith, s .pre .1 .0 .1))
+
+  sound : (o w : ℤ) → o ≡ pos (s .args .u) → w ≡ pos (s .args .d) → Sound (record { column = s .args .c; degree = s .args .p; offset = o; width = w })
+  sound o w e f = record {
+    low = s .pre .0 .0 .0;
+    within = s .pre .0 .0 .1;
+    inside = rw (e, f) (record {
+      above = Z.≤-in (pos 0) (pos (s .args .u)) (omega arith);
+      below = Z.≤-in (pos (s .args .u)) (pos (s .args .d)) (omega (arith, s .pre .1 .1));
+      long = Z.<-in (pos 0) (pos (s .args .d)) (omega (arith, s .pre .1 .0 .0));
+      short = Z.≤-in (pos (s .args .d)) (pos 512000) (omega (arith, s .pre .1 .0 .1));
+    });
+  }
+
+value-at-requires : tie.Need-value-at-requires
+value-at-requires c κs = (sound c _ _ (offset-word c) (width-word c), (c .pre .0 .1 .0, c .pre .0 .1 .1))
+
+module _ (c : tie.After-value-at) where
+  abbrev start : tie.Start
+  start = c .before
+
+  abbrev value : ℤ
+  value = valueOn (start .args .ordinates .now) (start .args .c) (start .args .p) (start .args .d) (start .args .u)
+
+  result-fits : SFits w32 (c .value-at .result)
+  result-fits = record { sfits = c .value-at .ok }
+
+  result-is : c .value-at .result ≡ value
+  result-is = c .value-at .ensures ∙ value-is start _ _ (offset-word start) (width-word start)
+
+  small : natAbs value ≤ ordinateLimit
+  small = value-small (start .args .ordinates .now) (start .args .c) (start .args .p) (start .args .d) (start .args .u) (start .pre .1 .0 .0) (start .pre .1 .1) (start .pre .0 .1 .1)
+
+cast-result : tie.Need-cast-result
+cast-result c = let f = result-fits c in simp toZ-ofZ (sfits-widen f)
+
+returns : tie.Need-returns
+returns c = let f = result-fits c in let g = sfits-widen f in simp toZ-ofZ (result-is c, subst (λ z. natAbs z ≤ ordinateLimit) (sym (result-is c)) (small c))
+
+pub value-on-spec : {M : Type 1} → statement M
+value-on-spec = tie.close (tie.spec cast-t7 cast-t8 value-at-requires cast-result returns)
