@@ -36,10 +36,10 @@ use Rattle.theorems_beams.proofs.Parts.{accepted-checked, weights-by-parts}
 use Rattle.build_cells.proofs.Buffer.{kept-numerators, kept-denominators}
 use Rattle.base_print.specs.Buffer.{Puts}
 use Rattle.base_sorting.specs.Sorted.{sorted}
-use Rattle.sheet_print.specs.Printout.{countLine, weightLines, valueLines, lowPositions, lowLines, answerText}
-use Rattle.sheet_print.specs.Printed.{weightLineLimit, storedWeights}
+use Rattle.spec_sheet.specs.Printout.{countLine, weightLines, valueLines, lowPositions, lowLines, answerText}
+use Rattle.sheet_weights.specs.Printed.{weightLineLimit, storedWeights}
 use Rattle.base_print.proofs.Buffer.{puts-none, puts-then, puts-within, puts-as}
-use Rattle.sheet_print.proofs.Stored.{Holds, firstRows, rows-none, rows-all, rows-more}
+use Rattle.sheet_weights.proofs.Stored.{Holds, firstRows, rows-none, rows-all, rows-more}
 use Rattle.sheet_text.specs.Sheet.{tableOf, weightsText, Filled}
 
 -- ---- an accepted beam

@@ -14,7 +14,7 @@ use Rattle.base_sorting.specs.Sorted.{inserted, sorted}
 use Rattle.base_text.specs.Bytes.{bytes, lines, cut, fieldsBetween, stripped}
 use Rattle.base_text.specs.Numeral.{allDigits, digitsValue, isNatural, numeral, digitsUpTo, digits, decimal}
 use Rattle.spec_sheet.specs.SheetReading.{pair, entries, listOf, line, readLine, Lists, fiveLines, read}
-use Rattle.sheet_print.specs.Printout.{joined, countLine, weightLine, weightLines, valueLine, valueLines, isLow, lowPositions, lowLine, lowLines, answerText}
+use Rattle.spec_sheet.specs.Printout.{joined, countLine, weightLine, weightLines, valueLine, valueLines, isLow, lowPositions, lowLine, lowLines, answerText}
 use Rattle.sheet_text.specs.Sheet.{argumentsOf, called, outcomeText, readText, printout}
 use Rattle.sheet_text.specs.Cases.{w1Text, w1Printout, w9Text, w9Printout, SheetCasesHold}
 

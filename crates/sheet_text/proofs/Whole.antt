@@ -23,10 +23,10 @@ use Rattle.build_cells.proofs.Buffer.{numerators-again, denominators-again, kep
 use Rattle.curve.specs.Machine as curve
 use Rattle.curve.specs.declared.Answer.{Answer}
 use Rattle.curve.specs.declared.Answer.the-variants.{Values, Refused}
-use Rattle.sheet_print.specs.Printout.{answerText}
+use Rattle.spec_sheet.specs.Printout.{answerText}
 use Rattle.base_print.specs.Refusal.{refusalLine}
-use Rattle.sheet_print.specs.Printed.{paired}
-use Rattle.sheet_print.proofs.Pairs.{paired-sideBySide}
+use Rattle.spec_sheet.specs.Pairs.{paired}
+use Rattle.spec_sheet.proofs.Pairs.{paired-sideBySide}
 use Rattle.sheet_text.specs.Sheet.{Arguments, spaceOf, valueCells, tableOf, Filled, called, outcomeText, calledText}
 use Rattle.sheet_text.proofs.Beam.{table-is}
 

@@ -11,7 +11,7 @@ use Rattle.spec_spline.specs.Listing.{tableWeights}
 use Rattle.spec_spline.specs.Reading.{Pair, sideBySide}
 use Rattle.base_text.specs.Bytes.{Text}
 use Rattle.spec_sheet.specs.SheetReading.{Lists, read}
-use Rattle.sheet_print.specs.Printout.{countLine, weightLines, valueLines}
+use Rattle.spec_sheet.specs.Printout.{countLine, weightLines, valueLines}
 use Rattle.base_print.specs.Refusal.{refusalLine}
 use Rattle.sheet_text.specs.Sheet.{printout}
 

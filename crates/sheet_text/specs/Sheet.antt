@@ -15,9 +15,11 @@ use Rattle.spec_spline.specs.Reading.{sideBySide}
 use Rattle.spec_spline.specs.CurveCall.{CurveResult, curveOutcome, positionLimit}
 use Rattle.base_text.specs.Bytes.{Text}
 use Rattle.spec_sheet.specs.SheetReading.{Lists, read}
-use Rattle.sheet_print.specs.Printout.{weightLines, answerText}
+use Rattle.spec_sheet.specs.Printout.{weightLines, answerText}
 use Rattle.base_print.specs.Refusal.{refusalLine}
-use Rattle.sheet_print.specs.Printed.{countLineLimit, weightLineLimit, valueLineLimit, lowLineLimit}
+use Rattle.sheet_values.specs.Printed.{countLineLimit, valueLineLimit}
+use Rattle.sheet_weights.specs.Printed.{weightLineLimit}
+use Rattle.sheet_lows.specs.Printed.{lowLineLimit}
 
 -- The most rows of a beam, 288: no more than its columns, which are at most six a segment.
 abbrev pub rowLimit : ℕ

@@ -12,8 +12,9 @@ ghost use Rattle.theorems_beams.specs.Sections.{partAt};
 ghost use Rattle.theorems_beams.specs.Parts.{Starts};
 ghost use Rattle.build_space.specs.Machine.{space};
 ghost use Rattle.base_print.specs.Buffer.{written, Puts};
-ghost use Rattle.sheet_print.specs.Printout.{answerText};
-ghost use Rattle.sheet_print.specs.Printed.{weightLineLimit, paired};
+ghost use Rattle.spec_sheet.specs.Printout.{answerText};
+ghost use Rattle.sheet_weights.specs.Printed.{weightLineLimit};
+ghost use Rattle.spec_sheet.specs.Pairs.{paired};
 ghost use Rattle.sheet_text.specs.Sheet.{rowLimit, tableOf, weightsText, Filled, calledText, printout, printoutLimit};
 
 // The cells of the values' buffer, two for each of the most positions of a call.
@@ -67,7 +68,7 @@ fn put_parts(
         let b = build_space::part_end(degrees, orders, a);
         let column = build_space::first_column(degrees, a);
         let n = build_rows(breaks, degrees, orders, a, b, num, den);
-        next = sheet_print::put_weights(out, next, row, column, n, num, den);
+        next = sheet_weights::put_weights(out, next, row, column, n, num, den);
         row += n;
         a = b;
     }
@@ -92,7 +93,7 @@ fn put_beam(
 {
     let end = build_space::part_end(degrees, orders, 0);
     if end == degrees.len() {
-        return sheet_print::put_weights(out, at, 0, 0, n, num, den);
+        return sheet_weights::put_weights(out, at, 0, 0, n, num, den);
     }
     put_parts(breaks, degrees, orders, num, den, out, at)
 }
@@ -116,10 +117,10 @@ fn put_answer(
         (space (now (breaks .entry)) (now (degrees .entry)) (now (orders .entry))))) (now (positions .entry))
         (paired (now (values .entry)))) (now (out .entry)) (now (out .exit)) r ⌝ }
 {
-    let a = sheet_print::put_count(out, 0, n);
+    let a = sheet_values::put_count(out, 0, n);
     let b = put_beam(breaks, degrees, orders, n, num, den, out, a);
-    let c = sheet_print::put_values(out, b, positions, values);
-    sheet_print::put_lows(out, c, positions, values)
+    let c = sheet_values::put_values(out, b, positions, values);
+    sheet_lows::put_lows(out, c, positions, values)
 }
 
 // The curve call on the five lists, the coefficients as the numbers of their pairs side by side, and its printout.
@@ -181,7 +182,7 @@ fn run(
 }
 
 // The whole program: the printout of a sheet's text, written into the lent buffer as far as it fits. The answer is the
-// sheet_print's length, which no sheet takes past the limit.
+// printout's length, which no sheet takes past the limit.
 pub fn sheet(input: &[u8], out: &mut [u8]) -> usize
     ensures { λ r. ⌜ r ≡ length (printout (now (input .entry))) ⌝ }
     ensures { λ r. ⌜ now (out .exit) ≡ written 0 (printout (now (input .entry))) (now (out .entry)) ⌝ }

@@ -1,1 +1,1 @@
-// The sheet's text as definitions, in specs/. This crate has no code.
+// The sheet's text and its printout as definitions, in specs/. This crate has no code.

@@ -1,0 +1,79 @@
+-- `put_value` meets its contract: seven texts, one behind the other, the numbers widened to 64 bits.
+use borrow.Author.Needs.{needs}
+use native.Mathlib.Omega.{arith}
+use Rattle.base_exact.proofs.Word.{toZ-ofZ, sfits-widen}
+use Rattle.spec_sheet.specs.Printout.{valueLine}
+use Rattle.base_print.proofs.Buffer.{puts-then, puts-within}
+use Rattle.sheet_values.proofs.put_value.Statement.{statement}
+use Rattle.sheet_values.proofs.put_value.Tie as tie
+
+slice-aggregate-put-text : tie.Need-slice-aggregate-put-text
+slice-aggregate-put-text c = search needs
+
+put-text-requires : tie.Need-put-text-requires
+put-text-requires c κs = search needs
+
+cast-put-decimal : tie.Need-cast-put-decimal
+cast-put-decimal c =
+    let f = c .before .before .before .before .before .before .before .fits .x in
+    simp toZ-ofZ (sfits-widen f)
+
+put-decimal-requires : tie.Need-put-decimal-requires
+put-decimal-requires c κs = search needs
+
+put-requires : tie.Need-put-requires
+put-requires c κs = search needs
+
+cast-put-decimal-2 : tie.Need-cast-put-decimal-2
+cast-put-decimal-2 c =
+    let f = c .before .before .before .before .before .before .before .before .before .before .before .before .before .before .before .fits .early in
+    simp toZ-ofZ (sfits-widen f)
+
+put-decimal-requires-2 : tie.Need-put-decimal-requires-2
+put-decimal-requires-2 c κs = search needs
+
+put-requires-2 : tie.Need-put-requires-2
+put-requires-2 c κs = search needs
+
+cast-put-decimal-3 : tie.Need-cast-put-decimal-3
+cast-put-decimal-3 c =
+    let f = c .before .before .before .before .before .before .before .before .before .before .before .before .before .before .before .before .before .before .before .before .before .before .before .fits .late in
+    simp toZ-ofZ (sfits-widen f)
+
+put-decimal-requires-3 : tie.Need-put-decimal-requires-3
+put-decimal-requires-3 c κs = search needs
+
+put-requires-3 : tie.Need-put-requires-3
+put-requires-3 c κs = search needs
+
+same-length : tie.Need-same-length
+same-length c = search needs
+
+returns : tie.Need-returns
+unfolding valueLine
+returns c =
+    let last = c .before .before in
+    let late = last .before .before .before .before in
+    let colon = late .before .before .before .before in
+    let early = colon .before .before .before .before in
+    let comma = early .before .before .before .before in
+    let position = comma .before .before .before .before in
+    let key = position .before .before .before .before in
+    let s = key .before .before .before .before in
+    let fx = s .fits .x in
+    let wx = sfits-widen fx in
+    let fe = s .fits .early in
+    let we = sfits-widen fe in
+    let fl = s .fits .late in
+    let wl = sfits-widen fl in
+    puts-within (omega arith)
+    (puts-then (key .put-text .ensures)
+    (puts-then (simp toZ-ofZ at (position .put-decimal .ensures))
+    (puts-then (comma .put .ensures)
+    (puts-then (simp toZ-ofZ at (early .put-decimal2 .ensures))
+    (puts-then (colon .put2 .ensures)
+    (puts-then (simp toZ-ofZ at (late .put-decimal3 .ensures))
+    (last .put3 .ensures)))))))
+
+pub put-value-spec : {M : Type 1} → statement M
+put-value-spec = tie.close (tie.spec slice-aggregate-put-text put-text-requires cast-put-decimal put-decimal-requires put-requires cast-put-decimal-2 put-decimal-requires-2 put-requires-2 cast-put-decimal-3 put-decimal-requires-3 put-requires-3 same-length returns)

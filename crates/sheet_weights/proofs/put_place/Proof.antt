@@ -1,0 +1,44 @@
+-- `put_place` meets its contract: five texts, one behind the other.
+use borrow.Author.Needs.{needs}
+use native.Mathlib.Omega.{arith}
+use Rattle.base_print.proofs.Buffer.{puts-then, puts-within}
+use Rattle.sheet_weights.proofs.put_place.Statement.{statement}
+use Rattle.sheet_weights.proofs.put_place.Tie as tie
+
+slice-aggregate-put-text : tie.Need-slice-aggregate-put-text
+slice-aggregate-put-text c = search needs
+
+put-text-requires : tie.Need-put-text-requires
+put-text-requires c κs = search needs
+
+put-digits-requires : tie.Need-put-digits-requires
+put-digits-requires c κs = search needs
+
+put-requires : tie.Need-put-requires
+put-requires c κs = search needs
+
+put-digits-requires-2 : tie.Need-put-digits-requires-2
+put-digits-requires-2 c κs = search needs
+
+put-requires-2 : tie.Need-put-requires-2
+put-requires-2 c κs = search needs
+
+same-length : tie.Need-same-length
+same-length c = search needs
+
+returns : tie.Need-returns
+returns c =
+    let e = c .before .before in
+    let d = e .before .before .before .before in
+    let b = d .before .before .before .before in
+    let a = b .before .before .before .before in
+    let k = a .before .before .before .before in
+    puts-within (omega arith)
+    (puts-then (k .put-text .ensures)
+    (puts-then (a .put-digits .ensures)
+    (puts-then (b .put .ensures)
+    (puts-then (d .put-digits2 .ensures)
+    (e .put2 .ensures)))))
+
+pub put-place-spec : {M : Type 1} → statement M
+put-place-spec = tie.close (tie.spec slice-aggregate-put-text put-text-requires put-digits-requires put-requires put-digits-requires-2 put-requires-2 same-length returns)
