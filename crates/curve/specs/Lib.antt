@@ -1,4 +1,3 @@
 -- What the contracts of curve cite beside the definitions of crate spec_spline.
 pub mod Machine
 pub mod Pairs
-pub mod Parts

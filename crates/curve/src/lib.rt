@@ -1,11 +1,10 @@
-// The curves of earlywood and latewood over one multi-degree spline space at given positions: the weights part by part, the
-// ordinates of all columns once for each wood part, and then two de Casteljau triangles for each position.
+// The curves of earlywood and latewood over one multi-degree spline space at given positions: the weights and the ordinates of all
+// columns, and then two de Casteljau triangles for each position.
 ghost use mathlib.Core.Path.{_≡_};
 ghost use Rattle.build_space.specs.Machine.{space};
 ghost use Rattle.spec_spline.specs.CurveCall.{curveEnd};
 ghost use Rattle.curve.specs.Machine.{reply};
 
-pub mod parts;
 mod reading;
 
 // What the curve call answers: the number of positions, each of which has two values, or a refusal's code and place.
@@ -31,46 +30,25 @@ pub fn curve(
         (reply r ≡ e .answers) × ((now (num .exit) ≡ e .numerators)
         × ((now (den .exit) ≡ e .denominators) × (now (values .exit) ≡ e .values)))) ⌝ }
 {
-    if num.len() < build_cells::TABLE_CELLS {
-        return Answer::Refused(1, 0);
-    }
-    if den.len() < build_cells::TABLE_CELLS {
-        return Answer::Refused(1, 1);
-    }
-    if values.len() / 2 < positions.len() {
-        return Answer::Refused(1, 2);
-    }
-    let checked = curve_limits::check(breaks, degrees, orders, coefs, positions);
-    match checked {
-        base_outcome::Legality::Refused(code, place) => Answer::Refused(code, place),
-        base_outcome::Legality::Legal => {
-            let mut early = [0; curve_triangle::MAX_COLUMNS];
-            let mut late = [0; curve_triangle::MAX_COLUMNS];
-            let built = parts::build_parts(
-                breaks,
-                degrees,
-                orders,
-                coefs,
-                num,
-                den,
-                &mut early,
-                &mut late,
-            );
-            match built {
-                build::Built::Refused(code, place) => Answer::Refused(code, place),
-                build::Built::Rows(_) => {
-                    reading::write_values(
-                        breaks,
-                        degrees,
-                        orders,
-                        &early,
-                        &late,
-                        positions,
-                        values,
-                    );
-                    Answer::Values(positions.len())
-                }
-            }
+    let mut early = [0; curve_triangle::MAX_COLUMNS];
+    let mut late = [0; curve_triangle::MAX_COLUMNS];
+    let built = curve_start::build_curves(
+        breaks,
+        degrees,
+        orders,
+        coefs,
+        positions,
+        values.len(),
+        num,
+        den,
+        &mut early,
+        &mut late,
+    );
+    match built {
+        build::Built::Refused(code, place) => Answer::Refused(code, place),
+        build::Built::Rows(_) => {
+            reading::write_values(breaks, degrees, orders, &early, &late, positions, values);
+            Answer::Values(positions.len())
         }
     }
 }

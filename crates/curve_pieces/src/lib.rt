@@ -146,6 +146,8 @@ pub fn piece(
         degrees,
         orders,
         coefs,
+        &coefs[0..0],
+        0,
         num,
         den,
         &mut early,

@@ -14,8 +14,8 @@ use Rattle.spec_spline.specs.Reading.{Wood, coefficient, fine, segmentAt, value
 use Rattle.spec_spline.specs.CurveCall.{CurveResult}
 use Rattle.base_outcome.proofs.Outcome.{then-answers, then-refuses, capped-small}
 use Rattle.base_outcome.proofs.Search.{first-ext}
-use Rattle.curve.proofs.Pairs.{fronted, blended-fronted}
 use Rattle.curve_start.specs.CurveAlone.{curveAlone}
+use Rattle.curve_start.proofs.Fronted.{fronted, blended-fronted}
 use Rattle.curve_search.specs.Positions.{positionCount, position}
 use Rattle.curve_reach.specs.Reach.{reaches, reachedAt, reachOutcome}
 use Rattle.curve_reach.specs.Machine.{reply}

@@ -87,6 +87,8 @@ pub fn reach(
         degrees,
         orders,
         coefs,
+        &coefs[0..0],
+        0,
         num,
         den,
         &mut early,

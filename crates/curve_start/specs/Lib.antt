@@ -1,3 +1,5 @@
--- The curve call without positions: its outcome in CurveAlone, what the code leaves in Machine.
+-- Where a curve call starts: without positions in CurveAlone, what building the parts asks and leaves in Parts, what the whole
+-- start leaves in Machine.
 pub mod CurveAlone
+pub mod Parts
 pub mod Machine

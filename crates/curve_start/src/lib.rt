@@ -1,27 +1,32 @@
-// The curves of both wood parts by their ordinates: the tests and the weights of a curve call without positions, and the
-// ordinates of all columns. The calls that read a curve otherwise than at given positions start from it.
-ghost use mathlib.Core.Path.{_≡_};
-ghost use lib.ListN.{length};
-ghost use Rattle.curve_triangle.specs.Offsets.{columnLimit};
-ghost use Rattle.curve_start.specs.Machine.{CurvesLeave};
+// Where every curve call starts: the tests, the weights, and the ordinates of all columns for both wood parts. The calls then read
+// them at given positions, for the first reach, or as a piece.
+ghost use Rattle.build_space.specs.Machine.{space};
+ghost use Rattle.curve_start.specs.Parts.{lent};
+ghost use Rattle.curve_start.specs.Machine.{ColumnRoom, call, CurvesLeave};
+
+mod parts;
+
 use build::Built;
 
-// Builds the weights, and writes the ordinates of all columns for each wood part. The count of rows, or a refusal's code and
-// place.
+// Makes the tests of a curve call at these positions with `room` cells for values, builds the weights, and writes the ordinates of
+// all columns for each wood part. The count of rows, or a refusal's code and place.
 pub fn build_curves(
     breaks: &[i32],
     degrees: &[i32],
     orders: &[i32],
     coefs: &[i32],
+    positions: &[i32],
+    room: usize,
     num: &mut [i64],
     den: &mut [i64],
     early: &mut [i32],
     late: &mut [i32],
 ) -> Built
-    requires { ⌜ (length (now early) ≡ columnLimit) × (length (now late) ≡ columnLimit) ⌝ }
-    ensures { λ r. ⌜ CurvesLeave (now (breaks .entry)) (now (degrees .entry)) (now (orders .entry)) (now (coefs .entry)) r
-        (now (num .entry)) (now (den .entry)) (now (early .entry)) (now (late .entry)) (now (num .exit)) (now (den .exit))
-        (now (early .exit)) (now (late .exit)) ⌝ }
+    requires { ⌜ ColumnRoom (lent (now num) (now den) (now early) (now late)) ⌝ }
+    ensures { λ r. ⌜ CurvesLeave (call (space (now (breaks .entry)) (now (degrees .entry)) (now (orders .entry))) (now (coefs .entry))
+        (now (positions .entry)) room) r
+        (lent (now (num .entry)) (now (den .entry)) (now (early .entry)) (now (late .entry)))
+        (lent (now (num .exit)) (now (den .exit)) (now (early .exit)) (now (late .exit))) ⌝ }
 {
     if num.len() < build_cells::TABLE_CELLS {
         return Built::Refused(1, 0);
@@ -29,10 +34,13 @@ pub fn build_curves(
     if den.len() < build_cells::TABLE_CELLS {
         return Built::Refused(1, 1);
     }
-    let checked = curve_limits::check(breaks, degrees, orders, coefs, &coefs[0..0]);
+    if room / 2 < positions.len() {
+        return Built::Refused(1, 2);
+    }
+    let checked = curve_limits::check(breaks, degrees, orders, coefs, positions);
     match checked {
         base_outcome::Legality::Refused(code, place) => Built::Refused(code, place),
-        base_outcome::Legality::Legal => curve::parts::build_parts(
+        base_outcome::Legality::Legal => crate::parts::build_parts(
             breaks,
             degrees,
             orders,

@@ -1,23 +1,34 @@
 -- The curves without positions, and then the piece from the named part's ordinates. Assumes nothing.
 use borrow.Author.Needs.{needs}
-use mathlib.Core.List.{List}
+use mathlib.Core.List.{[]}
 use mathlib.Core.Path.{_≡_, sym, _∙_, ap, subst}
-use lib.IntN.{ℤ, pos}
+use lib.IntN.{pos}
 use lib.ListN.{length, replicate}
+use Rattle.base_outcome.specs.Outcome.{Outcome}
 use Rattle.spec_spline.specs.Space.{Space}
-use Rattle.spec_spline.specs.Reading.{earlywood, latewood}
+use Rattle.spec_spline.specs.Reading.{Wood, earlywood, latewood}
 use Rattle.build_space.specs.Machine.{space}
 use Rattle.build.specs.declared.Built.{Built}
 use Rattle.build.specs.declared.Built.the-variants.{Rows}
 use Rattle.curve_ordinates.specs.Wood.{woodOf}
 use Rattle.curve_triangle.specs.Offsets.{columnLimit}
-use Rattle.curve_start.specs.Machine.{CurvesTold}
+use Rattle.curve_start.specs.Parts.{Lent, lent}
+use Rattle.curve_start.specs.Machine.{call, CurvesTold}
 use Rattle.curve_start.proofs.Leaves.{refused-numerators}
-use Rattle.curve_pieces.specs.Pieces.{pieceOutcome}
+use Rattle.curve_pieces.specs.Pieces.{Piece, pieceOutcome}
 use Rattle.curve_pieces.specs.Machine.{Replies}
 use Rattle.curve_pieces.proofs.Held.{piece-refused, piece-drawn}
 use Rattle.curve_pieces.proofs.piece.Statement.{statement}
 use Rattle.curve_pieces.proofs.piece.Tie as tie
+
+sub-build-curves : tie.Need-sub-build-curves
+sub-build-curves c = search needs
+
+part-build-curves-start : tie.Need-part-build-curves-start
+part-build-curves-start c = search needs
+
+part-build-curves-end : tie.Need-part-build-curves-end
+part-build-curves-end c = search needs
 
 slice-aggregate-build-curves : tie.Need-slice-aggregate-build-curves
 slice-aggregate-build-curves c = search needs
@@ -40,23 +51,28 @@ enum-told-2 c = search needs
 slice-aggregate-draw : tie.Need-slice-aggregate-draw
 slice-aggregate-draw c = search needs
 
--- what the curves leave
+-- the call without positions, the lists that it lends, and what is left in them
 module _ (d : tie.After-build-curves) where
   abbrev start : tie.Start
-  start = d .before .before .before .before .before
+  start = d .before .before .before .before .before .before
 
   abbrev lists : Space
   lists = space (start .args .breaks .now) (start .args .degrees .now) (start .args .orders .now)
 
-  -- the ordinates of earlywood and of latewood
-  abbrev early : List ℤ
-  early = d .build-curves .last .1 .1 .1 .1 .1 .1 .0
+  abbrev lent₀ : Lent
+  lent₀ = lent (start .args .num .now) (start .args .den .now) (replicate columnLimit (pos 0)) (replicate columnLimit (pos 0))
 
-  abbrev late : List ℤ
-  late = d .build-curves .last .1 .1 .1 .1 .1 .1 .1 .0
+  abbrev left : Lent
+  left = let l = d .build-curves .last .1 .1 .1 .1 .1 .1 in lent (l .0) (l .1 .0) (l .1 .1 .0) (l .1 .1 .1 .0)
 
   abbrev Told : Built → Type 0
-  Told r = CurvesTold (start .args .breaks .now) (start .args .degrees .now) (start .args .orders .now) (start .args .coefs .now) (start .args .num .now) (start .args .den .now) (replicate columnLimit (pos 0)) (replicate columnLimit (pos 0)) early late r
+  Told = CurvesTold (call lists (start .args .coefs .now) [] 0) lent₀ left
+
+  -- what the call ends with for a wood part
+  abbrev outcome : Wood → Outcome Piece
+  outcome wood =
+      let a = start .args in
+      pieceOutcome lists wood (a .coefs .now) (a .segment) (length (a .num .now)) (length (a .den .now))
 
 -- after an answer
 module _ (t : tie.After-enum-told) where
@@ -90,7 +106,7 @@ returns c =
     let a = start d .args in
     let l = d .build-curves .ensures in
     let r = subst (Told d) (c .before .built .given .1) (l .told) in (
-      piece-refused (lists d) (woodOf (a .wood)) (a .coefs .now) (a .segment) (length (a .num .now)) (length (a .den .now)) r,
+      piece-refused (lists d) (woodOf (a .wood)) _ _ _ _ r,
       (l .numerators-are ∙ refused-numerators (lists d) _ _ (a .num .now) r, l .denominators-are),
     )
 
@@ -107,8 +123,8 @@ returns-2 c =
     let a = start d .args in
     let l = d .build-curves .ensures in
     let p : woodOf (a .wood) ≡ earlywood = ap woodOf (c .before .before .enum-told2 .given .1) in (
-      subst (λ w. Replies (c .draw .result) (pieceOutcome (lists d) w (a .coefs .now) (a .segment) (length (a .num .now)) (length (a .den .now)))) (sym p)
-          (piece-drawn (lists d) earlywood (a .coefs .now) (a .segment) (length (a .num .now)) (length (a .den .now)) _ (held t .result) (held t .is) (held t .early-is) (c .draw .ensures)),
+      subst (λ w. Replies (c .draw .result) (outcome d w)) (sym p)
+          (piece-drawn (lists d) earlywood _ _ _ _ _ _ (held t .is) (held t .early-is) (c .draw .ensures)),
       (l .numerators-are, l .denominators-are),
     )
 
@@ -125,8 +141,8 @@ returns-3 c =
     let a = start d .args in
     let l = d .build-curves .ensures in
     let p : woodOf (a .wood) ≡ latewood = ap woodOf (c .before .before .enum-told3 .given .1) in (
-      subst (λ w. Replies (c .draw2 .result) (pieceOutcome (lists d) w (a .coefs .now) (a .segment) (length (a .num .now)) (length (a .den .now)))) (sym p)
-          (piece-drawn (lists d) latewood (a .coefs .now) (a .segment) (length (a .num .now)) (length (a .den .now)) _ (held t .result) (held t .is) (held t .late-is) (c .draw2 .ensures)),
+      subst (λ w. Replies (c .draw2 .result) (outcome d w)) (sym p)
+          (piece-drawn (lists d) latewood _ _ _ _ _ _ (held t .is) (held t .late-is) (c .draw2 .ensures)),
       (l .numerators-are, l .denominators-are),
     )
 
@@ -134,6 +150,9 @@ pub piece-spec : {M : Type 1} → statement M
 piece-spec =
     tie.close
     (tie.spec
+    sub-build-curves
+    part-build-curves-start
+    part-build-curves-end
     slice-aggregate-build-curves
     slice-aggregate-build-curves-2
     build-curves-requires

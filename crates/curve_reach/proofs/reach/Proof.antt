@@ -1,8 +1,7 @@
 -- `reach::reach` meets its contract: the curves without positions, and the search with the ordinates of both parts. Assumes nothing.
 use borrow.Author.Needs.{needs}
-use mathlib.Core.List.{List}
+use mathlib.Core.List.{List, []}
 use mathlib.Core.Path.{_≡_, _∙_, subst}
-use Prim.Native.Nat.{_+_, _*_}
 use lib.IntN.{ℤ, pos}
 use lib.ListN.{length, replicate}
 use mir.ValLaws.{toZ-ofZ}
@@ -11,16 +10,25 @@ use Rattle.spec_spline.specs.Reading.{Wood, earlywood, latewood, coefficient}
 use Rattle.build_space.specs.Machine.{space}
 use Rattle.build.specs.declared.Built.{Built}
 use Rattle.build.specs.declared.Built.the-variants.{Rows}
-use Rattle.curve_ordinates.specs.Ordinates.{Bounded}
 use Rattle.curve_ordinates.specs.Wood.{woodOf}
 use Rattle.curve_triangle.specs.Offsets.{columnLimit}
-use Rattle.curve.proofs.Pairs.{fronted, fronted-bounded}
-use Rattle.curve_start.specs.Machine.{CurvesTold}
+use Rattle.curve_start.specs.Parts.{Lent, lent}
+use Rattle.curve_start.specs.Machine.{call, CurvesTold}
+use Rattle.curve_start.proofs.Fronted.{fronted, early-bounded, late-bounded}
 use Rattle.curve_start.proofs.Leaves.{refused-numerators}
 use Rattle.curve_reach.specs.Machine.{chosen}
 use Rattle.curve_reach.proofs.Call.{reach-refused, reach-searched}
 use Rattle.curve_reach.proofs.reach.Statement.{statement}
 use Rattle.curve_reach.proofs.reach.Tie as tie
+
+sub-build-curves : tie.Need-sub-build-curves
+sub-build-curves c = search needs
+
+part-build-curves-start : tie.Need-part-build-curves-start
+part-build-curves-start c = search needs
+
+part-build-curves-end : tie.Need-part-build-curves-end
+part-build-curves-end c = search needs
 
 slice-aggregate-build-curves : tie.Need-slice-aggregate-build-curves
 slice-aggregate-build-curves c = search needs
@@ -43,51 +51,46 @@ slice-aggregate-part-reach c = search needs
 slice-aggregate-part-reach-2 : tie.Need-slice-aggregate-part-reach-2
 slice-aggregate-part-reach-2 c = search needs
 
--- what the curves leave
+-- the call without positions, the lists that it lends, and what is left in them
 module _ (d : tie.After-build-curves) where
   abbrev start : tie.Start
-  start = d .before .before .before .before .before
+  start = d .before .before .before .before .before .before
 
   abbrev beam : Space
   beam = space (start .args .breaks .now) (start .args .degrees .now) (start .args .orders .now)
 
+  abbrev coefs : List ℤ
+  coefs = start .args .coefs .now
+
   abbrev wood : Wood
   wood = woodOf (start .args .wood)
 
-  -- the ordinates of earlywood and of latewood
-  abbrev early : List ℤ
-  early = d .build-curves .last .1 .1 .1 .1 .1 .1 .0
+  abbrev lent₀ : Lent
+  lent₀ = lent (start .args .num .now) (start .args .den .now) (replicate columnLimit (pos 0)) (replicate columnLimit (pos 0))
 
-  abbrev late : List ℤ
-  late = d .build-curves .last .1 .1 .1 .1 .1 .1 .1 .0
+  abbrev left : Lent
+  left = let l = d .build-curves .last .1 .1 .1 .1 .1 .1 in lent (l .0) (l .1 .0) (l .1 .1 .0) (l .1 .1 .1 .0)
 
   abbrev Told : Built → Type 0
-  Told r = CurvesTold (start .args .breaks .now) (start .args .degrees .now) (start .args .orders .now) (start .args .coefs .now) (start .args .num .now) (start .args .den .now) (replicate columnLimit (pos 0)) (replicate columnLimit (pos 0)) early late r
+  Told = CurvesTold (call beam coefs [] 0) lent₀ left
 
 -- after an answer
 module _ (t : tie.After-enum-told) where
   abbrev done : tie.After-build-curves
   done = t .before .before .before .before .before .before
 
-  abbrev coefs : List ℤ
-  coefs = start done .args .coefs .now
-
   held : Told done (Rows (t .enum-told .given .0 .0))
   held = subst (Told done) (t .enum-told .given .1) (done .build-curves .ensures .told)
 
   -- the part's own ordinates
-  chosen-is : (wood : Wood) → chosen wood (early done) (late done) ≡ fronted (beam done) (held .result .table) columnLimit (coefficient wood coefs)
+  chosen-is : (wood : Wood)
+      → chosen wood (left done .early) (left done .late) ≡ fronted (beam done) (held .table) columnLimit (coefficient wood (coefs done))
   chosen-is earlywood = held .early-is
   chosen-is latewood = held .late-is
 
-  early-bounded : Bounded (early done)
-  early-bounded = rw (held .early-is) (fronted-bounded (beam done) (held .result .table) columnLimit (coefficient earlywood coefs) (λ i. held .coefficients .small (2 * i + 0)))
-
-  late-bounded : Bounded (late done)
-  late-bounded = rw (held .late-is) (fronted-bounded (beam done) (held .result .table) columnLimit (coefficient latewood coefs) (λ i. held .coefficients .small (2 * i + 1)))
-
 part-reach-requires : tie.Need-part-reach-requires
-part-reach-requires c κs = let t = c .before .before in (held t .legal, ((search needs, early-bounded t), (search needs, late-bounded t)))
+part-reach-requires c κs = let h = held (c .before .before) in
+    (h .legal, ((search needs, early-bounded columnLimit h), (search needs, late-bounded columnLimit h)))
 
 same-length : tie.Need-same-length
 same-length c = search needs
@@ -101,7 +104,7 @@ returns c =
     let a = start d .args in
     let l = d .build-curves .ensures in
     let r = subst (Told d) (c .before .built .given .1) (l .told) in (
-      reach-refused (beam d) (wood d) (a .coefs .now) (a .width) (length (a .num .now)) (length (a .den .now)) r,
+      reach-refused (beam d) (wood d) (coefs d) (a .width) (length (a .num .now)) (length (a .den .now)) r,
       (l .numerators-are ∙ refused-numerators (beam d) _ _ (a .num .now) r, l .denominators-are),
     )
 
@@ -118,12 +121,17 @@ returns-2 c =
     let a = start d .args in
     let l = d .build-curves .ensures in
     let f = start d .fits .width in
-    (reach-searched (beam d) (wood d) (a .coefs .now) (a .width) (length (a .num .now)) (length (a .den .now)) columnLimit (held t .result) (held t .is) (chosen-is t (wood d)) (simp toZ-ofZ at (c .part-reach .ensures)), (l .numerators-are, l .denominators-are))
+    let answers = reach-searched (beam d) (wood d) (coefs d) (a .width) (length (a .num .now)) (length (a .den .now)) columnLimit _ (held t .is)
+    (chosen-is t (wood d)) (simp toZ-ofZ at (c .part-reach .ensures)) in
+    (answers, (l .numerators-are, l .denominators-are))
 
 pub reach-spec : {M : Type 1} → statement M
 reach-spec =
     tie.close
     (tie.spec
+    sub-build-curves
+    part-build-curves-start
+    part-build-curves-end
     slice-aggregate-build-curves
     slice-aggregate-build-curves-2
     build-curves-requires

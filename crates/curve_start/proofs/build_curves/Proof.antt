@@ -1,43 +1,52 @@
 -- The tests in their order, then the parts of the beam. Assumes nothing.
 use borrow.Author.Needs.{needs}
 use native.Mathlib.Omega.{arith}
-use mathlib.Core.List.{[]}
 use mathlib.Core.Path.{_≡_, refl, sym, _∙_}
-use Prim.Native.Nat.{_≤_}
+use Prim.Native.Nat.{_/_, _≤_}
 use lib.ListN.{length}
-use Rattle.spec_spline.specs.Space.{Space}
-use Rattle.spec_spline.specs.Table.{tableCells}
-use Rattle.spec_spline.specs.CurveCall.{curveChecked}
-use Rattle.build_space.specs.Machine.{space}
 use Rattle.base_outcome.specs.Machine.{legality}
 use Rattle.base_outcome.specs.declared.Legality.the-variants.{Legal}
 use Rattle.base_outcome.proofs.Machine.{refused-refuses}
-use Rattle.build_space.proofs.Legal.{legal-column-count-high}
 use Rattle.theorems_values.proofs.LegalCall.{curve-checks}
-use Rattle.curve.proofs.Call.{first-short, second-short, call-refused, lists-legal, coefficients-good}
+use Rattle.build_space.specs.Machine.{space}
+use Rattle.build_space.proofs.Legal.{legal-column-count-high}
+use Rattle.curve_start.specs.Parts.{Lent, lent, TableRoom}
+use Rattle.curve_start.specs.Machine.{Call, call}
+use Rattle.curve_start.proofs.Call.{checkedOf, first-short, second-short, third-short, call-refused, lists-legal, coefficients-good}
 use Rattle.curve_start.proofs.Leaves.{leaves-unchanged, leaves-built}
 use Rattle.curve_start.proofs.build_curves.Statement.{statement}
 use Rattle.curve_start.proofs.build_curves.Tie as tie
 
-abbrev lists : tie.Start → Space
-lists s = space (s .args .breaks .now) (s .args .degrees .now) (s .args .orders .now)
+-- the call, and the lists lent to it
+module _ (s : tie.Start) where
+  abbrev asked : Call
+  asked = call (space (s .args .breaks .now) (s .args .degrees .now) (s .args .orders .now)) (s .args .coefs .now)
+      (s .args .positions .now) (s .args .room)
+
+  abbrev before : Lent
+  before = lent (s .args .num .now) (s .args .den .now) (s .args .early .now) (s .args .late .now)
 
 returns : tie.Need-returns
-returns c = let s = c .before in let a = s .args in
-    leaves-unchanged (a .breaks .now) (a .degrees .now) (a .orders .now) (a .coefs .now) (a .num .now) (a .den .now) (a .early .now) (a .late .now) (first-short (lists s) _ _ _ _ _ (c .if1 .taken)) refl
+returns c = let s = c .before in leaves-unchanged (asked s) (before s) (first-short (asked s) (before s) (c .if1 .taken)) refl
 
 returns-2 : tie.Need-returns-2
-returns-2 c = let s = c .before .before in let a = s .args in
-    leaves-unchanged (a .breaks .now) (a .degrees .now) (a .orders .now) (a .coefs .now) (a .num .now) (a .den .now) (a .early .now) (a .late .now) (second-short (lists s) _ _ _ _ _ (c .before .if1 .left) (c .if2 .taken)) refl
+returns-2 c =
+    let s = c .before .before in
+    leaves-unchanged (asked s) (before s) (second-short (asked s) (before s) (c .before .if1 .left) (c .if2 .taken)) refl
 
-sub-check : tie.Need-sub-check
-sub-check c = search needs
+-- both weight buffers are long enough
+module _ (c : tie.Else2) where
+  abbrev start : tie.Start
+  start = c .before .before
 
-part-check-start : tie.Need-part-check-start
-part-check-start c = search needs
+  table-room : TableRoom (before start)
+  table-room = record { num-long = c .before .if1 .left; den-long = c .if2 .left }
 
-part-check-end : tie.Need-part-check-end
-part-check-end c = search needs
+returns-3 : tie.Need-returns-3
+returns-3 c =
+    let e = c .before in
+    let s = start e in
+    leaves-unchanged (asked s) (before s) (third-short (asked s) (before s) (table-room e) (c .if3 .taken)) refl
 
 check-requires : tie.Need-check-requires
 check-requires c κs = search needs
@@ -50,35 +59,37 @@ enum-told c = search needs
 
 -- the lists and the entries pass
 module _ (c : tie.After-enum-told) where
-  abbrev start : tie.Start
-  start = c .before .before .before .before .before .before
+  abbrev long : tie.Else3
+  long = c .before .before .before
 
-  passes : legality (curveChecked (lists start) (start .args .coefs .now) []) ≡ Legal
+  abbrev entry : tie.Start
+  entry = start (long .before)
+
+  passes : legality (checkedOf (asked entry)) ≡ Legal
   passes = sym (c .before .before .check .ensures) ∙ c .enum-told .given .1
-
-  first-long : tableCells ≤ length (start .args .num .now)
-  first-long = c .before .before .before .before .before .if1 .left
-
-  second-long : tableCells ≤ length (start .args .den .now)
-  second-long = c .before .before .before .before .if2 .left
 
 build-parts-requires : tie.Need-build-parts-requires
 build-parts-requires c κs =
     let t = c .before .before .before .before in
-    let s = start t in
-    let a = s .args in
-    let l = lists-legal (a .breaks .now) (a .degrees .now) (a .orders .now) (a .coefs .now) [] (passes t) in
-    let few = legal-column-count-high (a .breaks .now) (a .degrees .now) (a .orders .now) l in
-    ((l, coefficients-good (a .breaks .now) (a .degrees .now) (a .orders .now) (a .coefs .now) [] (passes t)), ((first-long t, second-long t), (omega (arith, few, s .pre), omega (arith, few, s .pre))))
+    let s = entry t in
+    let legal = lists-legal (asked s) (passes t) in
+    let few = legal-column-count-high _ _ _ legal in
+    record {
+      legal = legal;
+      coefficients = coefficients-good (asked s) (passes t);
+      room = table-room (long t .before);
+      early-long = omega (arith, few, s .pre .early-long);
+      late-long = omega (arith, few, s .pre .late-long);
+    }
 
-returns-3 : tie.Need-returns-3
-returns-3 c =
+returns-4 : tie.Need-returns-4
+returns-4 c =
     let k = c .before .before .before in
-    let s = k .before .before .before .before in
-    let a = s .args in
-    let r = refused-refuses (curveChecked (lists s) (a .coefs .now) []) (sym (k .check .ensures) ∙ c .before .checked .given .1) in
-    leaves-unchanged (a .breaks .now) (a .degrees .now) (a .orders .now) (a .coefs .now) (a .num .now) (a .den .now) (a .early .now) (a .late .now)
-    (call-refused (lists s) (a .coefs .now) [] _ _ 0 (k .before .before .before .if1 .left) (k .before .before .if2 .left) (omega arith) r) (curve-checks (lists s) _ _ r)
+    let e = k .before in
+    let s = start (e .before) in
+    let r = refused-refuses (checkedOf (asked s)) (sym (k .check .ensures) ∙ c .before .checked .given .1) in
+    leaves-unchanged (asked s) (before s) (call-refused (asked s) (before s) (table-room (e .before)) (e .if3 .left) r)
+    (curve-checks (asked s .lists) _ _ r)
 
 same-length : tie.Need-same-length
 same-length c = search needs
@@ -92,12 +103,13 @@ same-length-3 c = search needs
 same-length-4 : tie.Need-same-length-4
 same-length-4 c = search needs
 
-returns-4 : tie.Need-returns-4
-returns-4 c =
+returns-5 : tie.Need-returns-5
+returns-5 c =
     let p = c .before .before .before .before in
     let t = p .before .before .before .before .before in
-    let a = start t .args in
-    leaves-built (a .breaks .now) (a .degrees .now) (a .orders .now) (a .coefs .now) (a .num .now) (a .den .now) (a .early .now) (a .late .now) (first-long t) (second-long t) (passes t) (p .build-parts .result) (p .build-parts .ensures)
+    let s = entry t in
+    leaves-built (asked s) (before s) (table-room (long t .before)) (long t .if3 .left) (passes t) (p .build-parts .result)
+    (p .build-parts .ensures)
 
 pub build-curves-spec : {M : Type 1} → statement M
 build-curves-spec =
@@ -105,16 +117,14 @@ build-curves-spec =
     (tie.spec
     returns
     returns-2
-    sub-check
-    part-check-start
-    part-check-end
+    returns-3
     check-requires
     enum-known-checked
     enum-told
     build-parts-requires
-    returns-3
+    returns-4
     same-length
     same-length-2
     same-length-3
     same-length-4
-    returns-4)
+    returns-5)

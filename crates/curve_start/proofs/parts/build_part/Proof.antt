@@ -1,18 +1,18 @@
--- `curve::parts::build_part` meets its contract: the three slices are the lists of the part, which is legal; after an answer the
+-- `curve_start::parts::build_part` meets its contract: the three slices are the lists of the part, which is legal; after an answer the
 -- buffers hold its weights, and the slice of the coefficients those of its rows. Assumes nothing.
 use borrow.Author.Needs.{needs}
 use native.Mathlib.Omega.{arith}
 use mathlib.Core.Path.{_≡_}
 use Prim.Native.Nat.{ℕ, _+_, _-_, _*_, _<_, _≤_}
-use lib.ListN.{length, take, drop}
+use lib.ListN.{length}
 use Rattle.spec_spline.specs.Space.{Space, columnCount, rowCount}
 use Rattle.spec_spline.specs.Table.{rowCells}
 use Rattle.theorems_beams.specs.Sections.{partAt}
 use Rattle.build_space.specs.Machine.{space}
 use Rattle.curve_ordinates.specs.Ordinates.{Weighs, Coefficients}
-use Rattle.curve.proofs.Part.{middle-coefficients, part-after, part-within, beam-rows-few, part-columns-few, rows-told, weighs-rows, leaves-rows, leaves-refused}
-use Rattle.curve.proofs.parts.build_part.Statement.{statement}
-use Rattle.curve.proofs.parts.build_part.Tie as tie
+use Rattle.curve_start.proofs.Part.{rowsFrom, middle-coefficients, part-after, part-within, beam-rows-few, part-columns-few, rows-told, weighs-rows, leaves-rows, leaves-refused}
+use Rattle.curve_start.proofs.parts.build_part.Statement.{statement}
+use Rattle.curve_start.proofs.parts.build_part.Tie as tie
 
 -- where the part lies in the lists
 record Lies (breaks degrees orders a b : ℕ) : Type 0 where
@@ -27,9 +27,9 @@ module _ (c : tie.Start) where
   lists = space (c .args .breaks .now) (c .args .degrees .now) (c .args .orders .now)
 
   lies : Lies (length (c .args .breaks .now)) (length (c .args .degrees .now)) (length (c .args .orders .now)) (c .args .a) (c .args .b)
-  lies = let l = c .pre .0 .0 in record {
-    some = part-after _ _ _ l _ _ (c .pre .0 .1 .0) (c .pre .0 .1 .1);
-    within = part-within _ _ _ l _ _ (c .pre .0 .1 .0) (c .pre .0 .1 .1);
+  lies = let l = c .pre .part .legal in record {
+    some = part-after lists _ _ (c .pre .part);
+    within = part-within lists _ _ (c .pre .part);
     break-count = l .break-count;
     order-count = l .order-count;
     few = l .few;
@@ -95,38 +95,44 @@ module _ (c : tie.After-build) where
   part = partAt (lists start) (start .args .a)
 
   columns-fit : {n : ℕ} → n ≡ columnCount part → n ≤ rowCells
-  columns-fit e = omega (arith, part-columns-few _ _ _ (start .pre .0 .0) _ _ (start .pre .0 .1 .0) (start .pre .0 .1 .1))
+  columns-fit e = omega (arith, part-columns-few (lists start) _ _ (start .pre .part))
 
 module _ (c : tie.After-built2) where
   abbrev done : tie.After-build
   done = c .before .before .before .before
 
+  abbrev entry : tie.Start
+  entry = start done
+
+  abbrev row : ℕ
+  row = entry .args .row
+
   abbrev rows : ℕ
   rows = c .built2 .given .0 .0
 
   rows-are : rows ≡ rowCount (part done)
-  rows-are = let s = start done in rows-told _ _ _ (s .pre .0 .0) _ _ (s .pre .0 .1 .0) (s .pre .0 .1 .1) (s .args .num .now) (s .args .den .now) (s .pre .1 .0 .0) (s .pre .1 .0 .1) _ (done .build .ensures) (c .built2 .given .1)
+  rows-are = rows-told (lists entry) _ _ (entry .pre .part) _ _ _ _ (entry .pre .room) _ (done .build .ensures) (c .built2 .given .1)
 
-  rows-within : start done .args .row + rows ≤ rowCount (lists (start done))
-  rows-within = omega (arith, rows-are, start done .pre .1 .1 .0 .1)
+  rows-within : row + rows ≤ rowCount (lists entry)
+  rows-within = omega (arith, rows-are, entry .pre .rows-within)
 
-  rows-few : start done .args .row + rows ≤ 288
-  rows-few = let s = start done in omega (arith, rows-within, beam-rows-few _ _ _ (s .pre .0 .0) _ _ (s .pre .0 .1 .0) (s .pre .0 .1 .1))
+  rows-few : row + rows ≤ 288
+  rows-few = omega (arith, rows-within, beam-rows-few (lists entry) _ _ (entry .pre .part))
 
   weighed : Weighs (done .build .last .1 .1 .1 .0) (done .build .last .1 .1 .1 .1 .0) rows
-  weighed = let s = start done in weighs-rows _ _ _ (s .pre .0 .0) _ _ (s .pre .0 .1 .0) (s .pre .0 .1 .1) (s .args .num .now) (s .args .den .now) (s .pre .1 .0 .0) (s .pre .1 .0 .1) _ (done .build .ensures) (c .built2 .given .1)
+  weighed = weighs-rows (lists entry) _ _ (entry .pre .part) _ _ _ _ (entry .pre .room) _ (done .build .ensures) (c .built2 .given .1)
 
-  own-coefficients : Coefficients (take (2 * (start done .args .row + rows) - 2 * start done .args .row) (drop (2 * start done .args .row) (start done .args .coefs .now))) rows
-  own-coefficients = middle-coefficients (start done .args .coefs .now) (rowCount (lists (start done))) (start done .args .row) rows (start done .pre .1 .1 .0 .0) rows-within
+  own-coefficients : Coefficients (rowsFrom row rows (entry .args .coefs .now)) rows
+  own-coefficients = middle-coefficients (entry .args .coefs .now) (rowCount (lists entry)) row rows (entry .pre .coefficients) rows-within
 
 mul-own : tie.Need-mul-own
 mul-own c = search needs
 
 add-own : tie.Need-add-own
-add-own c = let k = c .before in omega (arith, rows-within k, rows-few k, start (done k) .pre .1 .1 .0 .0 .count)
+add-own c = let k = c .before in omega (arith, rows-within k, rows-few k, entry k .pre .coefficients .count)
 
 mul-own-2 : tie.Need-mul-own-2
-mul-own-2 c = let k = c .before in omega (arith, rows-within k, rows-few k, start (done k) .pre .1 .1 .0 .0 .count)
+mul-own-2 c = let k = c .before in omega (arith, rows-within k, rows-few k, entry k .pre .coefficients .count)
 
 mul-own-3 : tie.Need-mul-own-3
 mul-own-3 c = search needs
@@ -138,13 +144,15 @@ part-own-start : tie.Need-part-own-start
 part-own-start c = search needs
 
 part-own-end : tie.Need-part-own-end
-part-own-end c = let k = c .before in omega (arith, rows-within k, rows-few k, start (done k) .pre .1 .1 .0 .0 .count)
+part-own-end c = let k = c .before in omega (arith, rows-within k, rows-few k, entry k .pre .coefficients .count)
 
 ordinates-requires : tie.Need-ordinates-requires
-ordinates-requires c κs = let k = c .before .before .before .before .before in (columns-fit (done k) (start (done k) .pre .1 .1 .1 .0), (weighed k, own-coefficients k))
+ordinates-requires c κs = let k = c .before .before .before .before .before in
+    (columns-fit (done k) (entry k .pre .early-long), (weighed k, own-coefficients k))
 
 ordinates-requires-2 : tie.Need-ordinates-requires-2
-ordinates-requires-2 c κs = let k = c .before .before .before .before .before .before .before .before .before .before in (columns-fit (done k) (start (done k) .pre .1 .1 .1 .1), (weighed k, own-coefficients k))
+ordinates-requires-2 c κs = let k = c .before .before .before .before .before .before .before .before .before .before in
+    (columns-fit (done k) (entry k .pre .late-long), (weighed k, own-coefficients k))
 
 same-length : tie.Need-same-length
 same-length c = search needs
@@ -156,7 +164,7 @@ returns : tie.Need-returns
 returns c =
     let d = c .before .before .before .before .before in
     let s = start d in
-    leaves-refused _ _ _ (s .pre .0 .0) _ _ (s .pre .0 .1 .0) (s .pre .0 .1 .1) (s .args .num .now) (s .args .den .now) (s .pre .1 .0 .0) (s .pre .1 .0 .1) _ (d .build .ensures) _ _ _ _ _ (c .before .built .given .1)
+    leaves-refused (lists s) _ _ (s .pre .part) _ _ _ _ (s .pre .room) _ (d .build .ensures) _ (c .before .built .given .1)
 
 same-length-3 : tie.Need-same-length-3
 same-length-3 c = search needs
@@ -173,9 +181,10 @@ same-length-6 c = search needs
 returns-2 : tie.Need-returns-2
 returns-2 c =
     let k = c .before .before .before .before .before .before .before .before .before .before .before .before in
-    let d = done k in
-    let s = start d in
-    leaves-rows _ _ _ (s .pre .0 .0) _ _ (s .pre .0 .1 .0) (s .pre .0 .1 .1) (s .args .num .now) (s .args .den .now) (s .pre .1 .0 .0) (s .pre .1 .0 .1) _ (d .build .ensures) (k .built2 .given .1) (s .args .coefs .now) (s .args .row) (s .args .early .now) (s .args .late .now) (s .pre .1 .1 .1 .0) (s .pre .1 .1 .1 .1) (c .before .before .before .before .before .before .ordinates .ensures) (c .before .ordinates2 .ensures)
+    let s = entry k in
+    leaves-rows (lists s) _ _ (s .pre .part) _ _ _ _ (s .pre .room) _ (done k .build .ensures) (k .built2 .given .1)
+    (s .args .coefs .now) (s .args .row) (s .pre .early-long) (s .pre .late-long)
+    (c .before .before .before .before .before .before .ordinates .ensures) (c .before .ordinates2 .ensures)
 
 pub build-part-spec : {M : Type 1} → statement M
 build-part-spec =

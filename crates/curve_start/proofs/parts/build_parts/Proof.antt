@@ -1,4 +1,4 @@
--- `curve::parts::build_parts` meets its contract: before the turn at a the parts before segment a are built, the buffers hold the
+-- `curve_start::parts::build_parts` meets its contract: before the turn at a the parts before segment a are built, the buffers hold the
 -- last of them, and the ordinates of their columns are at the front of the two lists. Assumes nothing.
 use borrow.Author.Needs.{needs}
 use native.Mathlib.Omega.{arith}
@@ -18,34 +18,50 @@ use Rattle.build_space.proofs.Legal.{legal-column-count-high}
 use Rattle.build_space.proofs.Partial.{part-end-partial, first-column-partial}
 use Rattle.build.specs.declared.Built.the-variants.{Rows}
 use Rattle.build.proofs.Beam.{starts, rows-high}
-use Rattle.curve.proofs.Fronts.{Front, front-first, rows-within, columns-more, front-more, front-refused, front-whole}
-use Rattle.curve.proofs.parts.build_parts.Statement.{statement}
-use Rattle.curve.proofs.parts.build_parts.Tie as tie
+use Rattle.curve_start.specs.Parts.{Lent, lent}
+use Rattle.curve_start.proofs.Fronts.{Front, front-first, rows-within, columns-more, front-more, front-refused, front-whole}
+use Rattle.curve_start.proofs.parts.build_parts.Statement.{statement}
+use Rattle.curve_start.proofs.parts.build_parts.Tie as tie
 
-record Inv (s : Space) (coefs num₀ den₀ early₀ late₀ num den early late : List ℤ) (row column a : ℕ) : Type 0 where
-  num-long : length num ≡ length num₀
-  den-long : length den ≡ length den₀
-  early-long : length early ≡ length early₀
-  late-long : length late ≡ length late₀
-  front : Front s coefs num₀ den₀ early₀ late₀ row column a num den early late
+record Inv (s : Space) (coefs : List ℤ) (l₀ l : Lent) (row column a : ℕ) : Type 0 where
+  num-long : length (l .num) ≡ length (l₀ .num)
+  den-long : length (l .den) ≡ length (l₀ .den)
+  early-long : length (l .early) ≡ length (l₀ .early)
+  late-long : length (l .late) ≡ length (l₀ .late)
+  front : Front s coefs l₀ row column a l
 
 abbrev Inv-loop : tie.InvT-loop
-Inv-loop breaks degrees orders coefs num₀ den₀ early₀ late₀ row₀ column₀ a₀ num den early late row column a = Inv (space breaks degrees orders) coefs num₀ den₀ early₀ late₀ num den early late row column a
+Inv-loop breaks degrees orders coefs num₀ den₀ early₀ late₀ row₀ column₀ a₀ num den early late row column a =
+    Inv (space breaks degrees orders) coefs (lent num₀ den₀ early₀ late₀) (lent num den early late) row column a
 
 abbrev μ-loop : tie.MeasureT-loop
 μ-loop breaks degrees orders coefs num₀ den₀ early₀ late₀ row₀ column₀ a₀ num den early late row column a = length degrees - a
 
-abbrev lists : tie.Start Inv-loop μ-loop → Space
-lists c = space (c .args .breaks .now) (c .args .degrees .now) (c .args .orders .now)
+-- the beam, its coefficients, and the lists as they are lent
+module _ (c : tie.Start Inv-loop μ-loop) where
+  abbrev lists : Space
+  lists = space (c .args .breaks .now) (c .args .degrees .now) (c .args .orders .now)
+
+  abbrev coefs : List ℤ
+  coefs = c .args .coefs .now
+
+  abbrev lent₀ : Lent
+  lent₀ = lent (c .args .num .now) (c .args .den .now) (c .args .early .now) (c .args .late .now)
 
 loop-holds : tie.Need-loop-holds Inv-loop μ-loop
-loop-holds c = record { num-long = refl; den-long = refl; early-long = refl; late-long = refl; front = front-first (lists c) (c .args .coefs .now) (c .args .num .now) (c .args .den .now) (c .args .early .now) (c .args .late .now) }
+loop-holds c = record {
+  num-long = refl;
+  den-long = refl;
+  early-long = refl;
+  late-long = refl;
+  front = front-first (lists c) (coefs c) (lent₀ c);
+}
 
 taken : (c : tie.In-loop Inv-loop μ-loop) → c .before .loop .a < length (c .before .before .args .degrees .now)
 taken c = omega arith
 
 part-end-requires : tie.Need-part-end-requires Inv-loop μ-loop
-part-end-requires c κs = (taken c, sym (c .before .before .pre .0 .0 .order-count))
+part-end-requires c κs = (taken c, sym (c .before .before .pre .legal .order-count))
 
 -- the part's end
 module _ (c : tie.After-part-end Inv-loop μ-loop) where
@@ -65,34 +81,46 @@ module _ (c : tie.After-part-end Inv-loop μ-loop) where
   end-within = omega (arith, end-is, part-ends (lists start) first (taken (c .before)) .boundary .within)
 
 first-column-requires : tie.Need-first-column-requires Inv-loop μ-loop
-first-column-requires c κs = (end-within c, (start c .pre .0 .0 .few, start c .pre .0 .0 .degrees-legal))
+first-column-requires c κs = let legal = start c .pre .legal in (end-within c, (legal .few, legal .degrees-legal))
 
 -- the part's columns
 module _ (c : tie.After-first-column Inv-loop μ-loop) where
   abbrev ended : tie.After-part-end Inv-loop μ-loop
   ended = c .before
 
-  abbrev front : Front (lists (start ended)) (start ended .args .coefs .now) (start ended .args .num .now) (start ended .args .den .now) (start ended .args .early .now) (start ended .args .late .now) (ended .before .before .loop .row) (ended .before .before .loop .column) (first ended) (ended .before .before .loop .num) (ended .before .before .loop .den) (ended .before .before .loop .early) (ended .before .before .loop .late)
-  front = ended .before .before .loop .inv .front
+  abbrev turn : tie.At-loop Inv-loop μ-loop
+  turn = ended .before .before
 
-  columns-end : c .first-column .result ≡ firstColumn (lists (start ended)) (partEnd (lists (start ended)) (first ended))
-  columns-end = c .first-column .ensures ∙ first-column-partial _ _ _ (ended .part-end .result) ∙ ap (firstColumn (lists (start ended))) (end-is ended)
+  abbrev entry : tie.Start Inv-loop μ-loop
+  entry = start ended
+
+  abbrev held : Lent
+  held = lent (turn .loop .num) (turn .loop .den) (turn .loop .early) (turn .loop .late)
+
+  abbrev front : Front (lists entry) (coefs entry) (lent₀ entry) (turn .loop .row) (turn .loop .column) (first ended) held
+  front = turn .loop .inv .front
+
+  columns-end : c .first-column .result ≡ firstColumn (lists entry) (partEnd (lists entry) (first ended))
+  columns-end =
+      c .first-column .ensures
+      ∙ first-column-partial _ _ _ (ended .part-end .result)
+      ∙ ap (firstColumn (lists entry)) (end-is ended)
 
   -- as many as the part has
-  size : ended .before .before .loop .column + columnCount (part ended) ≡ c .first-column .result
-  size = columns-more _ _ _ (start ended .pre .0 .0) _ _ _ _ _ front (taken (ended .before)) ∙ sym columns-end
+  size : turn .loop .column + columnCount (part ended) ≡ c .first-column .result
+  size = columns-more (lists entry) (entry .pre .legal) _ _ front (taken (ended .before)) ∙ sym columns-end
 
-  columns-within : c .first-column .result ≤ columnCount (lists (start ended))
-  columns-within = omega (arith, columns-end, firstColumn-mono (lists (start ended)) (partEnd (lists (start ended)) (first ended)) (length (start ended .args .degrees .now)) (omega (arith, end-is ended, end-within ended)))
+  columns-within : c .first-column .result ≤ columnCount (lists entry)
+  columns-within = omega (arith, columns-end, firstColumn-mono (lists entry) (partEnd (lists entry) (first ended)) (length (entry .args .degrees .now)) (omega (arith, end-is ended, end-within ended)))
 
   columns-few : c .first-column .result ≤ 288
-  columns-few = omega (arith, columns-within, legal-column-count-high _ _ _ (start ended .pre .0 .0))
+  columns-few = omega (arith, columns-within, legal-column-count-high _ _ _ (entry .pre .legal))
 
-  early-room : c .first-column .result ≤ length (ended .before .before .loop .early)
-  early-room = omega (arith, columns-within, ended .before .before .loop .inv .early-long, start ended .pre .1 .1 .0)
+  early-room : c .first-column .result ≤ length (held .early)
+  early-room = omega (arith, columns-within, turn .loop .inv .early-long, entry .pre .early-long)
 
-  late-room : c .first-column .result ≤ length (ended .before .before .loop .late)
-  late-room = omega (arith, columns-within, ended .before .before .loop .inv .late-long, start ended .pre .1 .1 .1)
+  late-room : c .first-column .result ≤ length (held .late)
+  late-room = omega (arith, columns-within, turn .loop .inv .late-long, entry .pre .late-long)
 
 mul-build-part : tie.Need-mul-build-part Inv-loop μ-loop
 mul-build-part c = let f = c .before .before in omega (arith, size f, columns-few f, early-room f)
@@ -125,18 +153,20 @@ middle-length xs a e h k = length-take-le (e - a) (drop a xs) (rw (length-drop a
 build-part-requires : tie.Need-build-part-requires Inv-loop μ-loop
 build-part-requires c κs =
     let f = c .before .before .before .before in
-    let d = ended f in
-    let s = start d in
-    let i = d .before .before .loop .inv in (
-      (s .pre .0 .0, (starts _ _ _ (s .pre .0 .0) (i .front .state) (taken (d .before)), end-is d)),
-      (
-        (omega (arith, s .pre .1 .0 .0, i .num-long), omega (arith, s .pre .1 .0 .1, i .den-long)),
-        (
-          (s .pre .0 .1, rows-within _ _ _ (s .pre .0 .0) _ _ _ _ _ (front f) (taken (d .before))),
-          (middle-length _ _ _ (early-room f) (size f), middle-length _ _ _ (late-room f) (size f)),
-        ),
-      ),
-    )
+    let s = entry f in
+    let i = turn f .loop .inv in
+    let t = taken (ended f .before) in
+    record {
+      part = record { legal = s .pre .legal; starts = starts _ _ _ (s .pre .legal) (i .front .state) t; ends = end-is (ended f) };
+      coefficients = s .pre .coefficients;
+      rows-within = rows-within (lists s) (s .pre .legal) _ _ (front f) t;
+      room = record {
+        num-long = omega (arith, s .pre .room .num-long, i .num-long);
+        den-long = omega (arith, s .pre .room .den-long, i .den-long);
+      };
+      early-long = middle-length _ _ _ (early-room f) (size f);
+      late-long = middle-length _ _ _ (late-room f) (size f);
+    }
 
 enum-known-built : tie.Need-enum-known-built Inv-loop μ-loop
 enum-known-built c = search needs
@@ -152,27 +182,52 @@ module _ (c : tie.After-build-part Inv-loop μ-loop) where
   abbrev begun : tie.Start Inv-loop μ-loop
   begun = start at
 
+  -- where the part's columns stand
+  abbrev column : ℕ
+  column = turn placed .loop .column
+
+  abbrev end : ℕ
+  end = placed .first-column .result
+
+  -- the two buffers, and the cells lent for the part
+  abbrev left : Lent
+  left =
+      let l = c .build-part .last .1 .1 .1 .1 .1 .1 .1 in
+      lent (l .0) (l .1 .0) (l .1 .1 .0) (l .1 .1 .1 .0)
+
+  abbrev after : Lent
+  after = lent (left .num) (left .den)
+      (putMid column (end - column) (held placed .early) (left .early)) (putMid column (end - column) (held placed .late) (left .late))
+
   -- one part more
   more : {n : ℕ} → c .build-part .result ≡ Rows n
-      → Front (lists begun) (begun .args .coefs .now) (begun .args .num .now) (begun .args .den .now) (begun .args .early .now) (begun .args .late .now) (at .before .before .loop .row + n) (placed .first-column .result) (at .part-end .result)
-      (c .build-part .last .1 .1 .1 .1 .1 .1 .1 .0) (c .build-part .last .1 .1 .1 .1 .1 .1 .1 .1 .0)
-      (putMid (at .before .before .loop .column) (placed .first-column .result - at .before .before .loop .column) (at .before .before .loop .early) (c .build-part .last .1 .1 .1 .1 .1 .1 .1 .1 .1 .0)) (putMid (at .before .before .loop .column) (placed .first-column .result - at .before .before .loop .column) (at .before .before .loop .late) (c .build-part .last .1 .1 .1 .1 .1 .1 .1 .1 .1 .1 .0))
-  more e = front-more _ _ _ (begun .pre .0 .0) _ _ _ _ _ (front placed) (taken (at .before)) (placed .first-column .result) (columns-end placed) (c .build-part .result) (c .build-part .ensures) (at .part-end .result) (end-is at) e
+      → Front (lists begun) (coefs begun) (lent₀ begun) (turn placed .loop .row + n) end (at .part-end .result) after
+  more e = front-more (lists begun) (begun .pre .legal) _ _ (front placed) (taken (at .before)) end (columns-end placed)
+      (c .build-part .result) {l′ = left} (c .build-part .ensures) (at .part-end .result) (end-is at) e
 
-  num-kept : length (c .build-part .last .1 .1 .1 .1 .1 .1 .1 .0) ≡ length (begun .args .num .now)
-  num-kept = c .build-part .kept .1 .1 .1 .1 .1 .1 .1 .0 ∙ at .before .before .loop .inv .num-long
+  abbrev Kept : (Lent → List ℤ) → Type 0
+  Kept f = length (f after) ≡ length (f (lent₀ begun))
 
-  den-kept : length (c .build-part .last .1 .1 .1 .1 .1 .1 .1 .1 .0) ≡ length (begun .args .den .now)
-  den-kept = c .build-part .kept .1 .1 .1 .1 .1 .1 .1 .1 .0 ∙ at .before .before .loop .inv .den-long
+  num-kept : Kept (λ l. l .num)
+  num-kept = c .build-part .kept .1 .1 .1 .1 .1 .1 .1 .0 ∙ turn placed .loop .inv .num-long
 
-  early-kept : length (putMid (at .before .before .loop .column) (placed .first-column .result - at .before .before .loop .column) (at .before .before .loop .early) (c .build-part .last .1 .1 .1 .1 .1 .1 .1 .1 .1 .0)) ≡ length (begun .args .early .now)
-  early-kept = same-len-mid (at .before .before .loop .column) (placed .first-column .result - at .before .before .loop .column) (at .before .before .loop .early) (c .build-part .last .1 .1 .1 .1 .1 .1 .1 .1 .1 .0) (c .build-part .kept .1 .1 .1 .1 .1 .1 .1 .1 .1 .0) ∙ at .before .before .loop .inv .early-long
+  den-kept : Kept (λ l. l .den)
+  den-kept = c .build-part .kept .1 .1 .1 .1 .1 .1 .1 .1 .0 ∙ turn placed .loop .inv .den-long
 
-  late-kept : length (putMid (at .before .before .loop .column) (placed .first-column .result - at .before .before .loop .column) (at .before .before .loop .late) (c .build-part .last .1 .1 .1 .1 .1 .1 .1 .1 .1 .1 .0)) ≡ length (begun .args .late .now)
-  late-kept = same-len-mid (at .before .before .loop .column) (placed .first-column .result - at .before .before .loop .column) (at .before .before .loop .late) (c .build-part .last .1 .1 .1 .1 .1 .1 .1 .1 .1 .1 .0) (c .build-part .kept .1 .1 .1 .1 .1 .1 .1 .1 .1 .1 .0) ∙ at .before .before .loop .inv .late-long
+  early-kept : Kept (λ l. l .early)
+  early-kept =
+      same-len-mid column (end - column) (held placed .early) (left .early) (c .build-part .kept .1 .1 .1 .1 .1 .1 .1 .1 .1 .0)
+      ∙ turn placed .loop .inv .early-long
+
+  late-kept : Kept (λ l. l .late)
+  late-kept =
+      same-len-mid column (end - column) (held placed .late) (left .late) (c .build-part .kept .1 .1 .1 .1 .1 .1 .1 .1 .1 .1 .0)
+      ∙ turn placed .loop .inv .late-long
 
 add-row : tie.Need-add-row Inv-loop μ-loop
-add-row c = let m = c .before .before .before .before .before .before .before in omega (arith, rows-high _ _ _ (begun m .pre .0 .0) (more m (c .before .built .given .1) .state))
+add-row c =
+    let m = c .before .before .before .before .before .before .before in
+    omega (arith, rows-high _ _ _ (begun m .pre .legal) (more m (c .before .built .given .1) .state))
 
 enum-known-built-2 : tie.Need-enum-known-built-2 Inv-loop μ-loop
 enum-known-built-2 c = search needs
@@ -181,7 +236,9 @@ cast-place : tie.Need-cast-place Inv-loop μ-loop
 cast-place c = omega arith
 
 add-place : tie.Need-add-place Inv-loop μ-loop
-add-place c = let m = c .before .before .before .before .before .before .before in omega (arith, taken (at m .before), begun m .pre .0 .0 .few)
+add-place c =
+    let m = c .before .before .before .before .before .before .before in
+    omega (arith, taken (at m .before), begun m .pre .legal .few)
 
 place-requires : tie.Need-place-requires Inv-loop μ-loop
 place-requires c κs = tt
@@ -201,7 +258,8 @@ same-length-4 c = late-kept (c .before .before .before .before .before .before .
 returns : tie.Need-returns Inv-loop μ-loop
 returns c =
     let m = c .before .before .before .before .before .before .before .before in
-    front-refused _ _ _ (begun m .pre .0 .0) _ _ _ _ _ (front (placed m)) (taken (at m .before)) (placed m .first-column .result) (columns-end (placed m)) (m .build-part .result) (m .build-part .ensures) _ _ (c .before .before .built2 .given .1) (c .place .ensures)
+    front-refused (lists (begun m)) (begun m .pre .legal) _ _ (front (placed m)) (taken (at m .before)) (end m) (columns-end (placed m))
+    (m .build-part .result) {l′ = left m} (m .build-part .ensures) (c .before .before .built2 .given .1) (c .place .ensures)
 
 loop-less : tie.Need-loop-less Inv-loop μ-loop
 loop-less c =
@@ -211,7 +269,13 @@ loop-less c =
 loop-again : tie.Need-loop-again Inv-loop μ-loop
 loop-again c =
     let m = c .before .before .before .before .before .before .before in
-    record { num-long = num-kept m; den-long = den-kept m; early-long = early-kept m; late-long = late-kept m; front = more m (c .before .built .given .1) }
+    record {
+      num-long = num-kept m;
+      den-long = den-kept m;
+      early-long = early-kept m;
+      late-long = late-kept m;
+      front = more m (c .before .built .given .1);
+    }
 
 same-length-5 : tie.Need-same-length-5 Inv-loop μ-loop
 same-length-5 c = c .before .loop .inv .num-long
@@ -226,7 +290,7 @@ same-length-8 : tie.Need-same-length-8 Inv-loop μ-loop
 same-length-8 c = c .before .loop .inv .late-long
 
 returns-2 : tie.Need-returns-2 Inv-loop μ-loop
-returns-2 c = let s = c .before .before in front-whole _ _ _ (s .pre .0 .0) _ _ _ _ _ (c .before .loop .inv .front) (omega arith)
+returns-2 c = let s = c .before .before in front-whole (lists s) (s .pre .legal) _ _ (c .before .loop .inv .front) (omega arith)
 
 pub build-parts-spec : {M : Type 1} → statement M
 build-parts-spec =

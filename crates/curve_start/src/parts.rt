@@ -1,16 +1,9 @@
 // The parts of a beam from the left: each is built by itself, and its ordinates are put behind those of the parts before it.
-ghost use mathlib.Core.Path.{_≡_};
-ghost use Prim.Native.Nat.{_+_, _≤_};
-ghost use lib.ListN.{length};
-ghost use Rattle.spec_spline.specs.Space.{partEnd, columnCount, rowCount};
-ghost use Rattle.spec_spline.specs.Table.{tableCells};
-ghost use Rattle.spec_spline.specs.Reading;
+ghost use Prim.Native.Nat.{_+_};
+ghost use Rattle.spec_spline.specs.Reading.{coefficient};
 ghost use Rattle.theorems_beams.specs.Sections.{partAt};
-ghost use Rattle.theorems_beams.specs.Parts.{Starts};
 ghost use Rattle.build_space.specs.Machine.{space};
-ghost use Rattle.build_space.specs.Legal.{ListsLegal};
-ghost use Rattle.curve_ordinates.specs.Ordinates.{Coefficients};
-ghost use Rattle.curve.specs.Parts.{PartsLeave};
+ghost use Rattle.curve_start.specs.Parts.{lent, PartAsks, PartsAsk, PartsLeave};
 use build::Built;
 use curve_ordinates::Wood;
 
@@ -29,17 +22,12 @@ fn build_part(
     early: &mut [i32],
     late: &mut [i32],
 ) -> Built
-    requires { ⌜ ListsLegal (now breaks) (now degrees) (now orders)
-        × (Starts (space (now breaks) (now degrees) (now orders)) a × (b ≡ partEnd (space (now breaks) (now degrees) (now orders)) a)) ⌝ }
-    requires { ⌜ (tableCells ≤ length (now num)) × (tableCells ≤ length (now den)) ⌝ }
-    requires { ⌜ Coefficients (now coefs) (rowCount (space (now breaks) (now degrees) (now orders)))
-        × (row + rowCount (partAt (space (now breaks) (now degrees) (now orders)) a) ≤ rowCount
-        (space (now breaks) (now degrees) (now orders))) ⌝ }
-    requires { ⌜ (length (now early) ≡ columnCount (partAt (space (now breaks) (now degrees) (now orders)) a))
-        × (length (now late) ≡ columnCount (partAt (space (now breaks) (now degrees) (now orders)) a)) ⌝ }
+    requires { ⌜ PartAsks (space (now breaks) (now degrees) (now orders)) a b (now coefs) row
+        (lent (now num) (now den) (now early) (now late)) ⌝ }
     ensures { λ r. ⌜ PartsLeave (partAt (space (now (breaks .entry)) (now (degrees .entry)) (now (orders .entry))) a)
-        (λ wood i. Reading.coefficient wood (now (coefs .entry)) (row + i)) r (now (num .entry)) (now (den .entry)) (now (early .entry))
-        (now (late .entry)) (now (num .exit)) (now (den .exit)) (now (early .exit)) (now (late .exit)) ⌝ }
+        (λ wood i. coefficient wood (now (coefs .entry)) (row + i)) r
+        (lent (now (num .entry)) (now (den .entry)) (now (early .entry)) (now (late .entry)))
+        (lent (now (num .exit)) (now (den .exit)) (now (early .exit)) (now (late .exit))) ⌝ }
 {
     let built = build::build(
         &breaks[a..b + 1],
@@ -70,14 +58,12 @@ pub fn build_parts(
     early: &mut [i32],
     late: &mut [i32],
 ) -> Built
-    requires { ⌜ ListsLegal (now breaks) (now degrees) (now orders)
-        × Coefficients (now coefs) (rowCount (space (now breaks) (now degrees) (now orders))) ⌝ }
-    requires { ⌜ (tableCells ≤ length (now num)) × (tableCells ≤ length (now den)) ⌝ }
-    requires { ⌜ (columnCount (space (now breaks) (now degrees) (now orders)) ≤ length (now early))
-        × (columnCount (space (now breaks) (now degrees) (now orders)) ≤ length (now late)) ⌝ }
+    requires { ⌜ PartsAsk (space (now breaks) (now degrees) (now orders)) (now coefs)
+        (lent (now num) (now den) (now early) (now late)) ⌝ }
     ensures { λ r. ⌜ PartsLeave (space (now (breaks .entry)) (now (degrees .entry)) (now (orders .entry)))
-        (λ wood. Reading.coefficient wood (now (coefs .entry))) r (now (num .entry)) (now (den .entry)) (now (early .entry))
-        (now (late .entry)) (now (num .exit)) (now (den .exit)) (now (early .exit)) (now (late .exit)) ⌝ }
+        (λ wood. coefficient wood (now (coefs .entry))) r
+        (lent (now (num .entry)) (now (den .entry)) (now (early .entry)) (now (late .entry)))
+        (lent (now (num .exit)) (now (den .exit)) (now (early .exit)) (now (late .exit))) ⌝ }
 {
     let mut row = 0;
     let mut column = 0;
