@@ -13,14 +13,11 @@ use Rattle.base_exact.proofs.Decide.{cond-true, cond-false, and-false}
 use Rattle.base_exact.proofs.Rational.{one-mul}
 use Rattle.spec_spline.specs.Space.{Space, segments, degree, conditionCount, firstColumn}
 use Rattle.spec_spline.specs.Table.{Table, cell}
-use Rattle.spec_spline.proofs.Legal.{Legal}
 use Rattle.theorems_acceptance.specs.WeightCount.{leftConditions}
 use Rattle.theorems_acceptance.specs.ClosedForms.{share, upperFactor, lowerFactor, takenBefore, cubic, fullCount}
 use Rattle.theorems_acceptance.proofs.Rows.{firstRow, leftCount, highest, Stage}
 use Rattle.theorems_acceptance.proofs.RowMoves.{firstSpanned, before-join}
-use Rattle.theorems_acceptance.proofs.Limits.{Limits}
-use Rattle.theorems_acceptance.proofs.Stages.{met, met-here, met-before}
-use Rattle.theorems_acceptance.proofs.JumpSums.{stage, room, room′, few}
+use Rattle.theorems_acceptance.proofs.Stages.{met, met-here, met-before, At, room, room′, few, stage}
 use Rattle.theorems_acceptance.proofs.Reached.{Reached, Advance}
 use Rattle.theorems_acceptance.proofs.StepFactors.{last-at-two, first-at-two}
 
@@ -40,7 +37,7 @@ pub record Closed (s : Space) (e : ℕ → ℕ) (t : Table) : Type 0 where
   pub near : (i : ℕ) → suc i < segments s → e i ≡ fullCount → cell t (top s e i - 1) (firstColumn s i + (degree s i - 1)) ≡ lowerFactor s i
   pub beyond : (i : ℕ) → suc i < segments s → e i ≡ fullCount → cell t (top s e i) (firstColumn s (suc i) + 1) ≡ over s e i *ᵠ upperFactor s i
 
-module _ (s : Space) (L : Legal s) (M : Limits s) (join k : ℕ) (h : join < segments s - 1) (m : k < conditionCount s join) (t : Table) (R : Reached s join k t) (t′ : Table) (N : Advance s L M join k h m t R t′)
+module _ {s : Space} {join k : ℕ} {t t′ : Table} (A : At s join k) (R : Reached s join k t) (N : Advance s join k t t′)
     (Q : Closed s (met s join k) t) where
   abbrev pub p : ℕ → ℕ
   p = degree s
@@ -58,16 +55,16 @@ module _ (s : Space) (L : Legal s) (M : Limits s) (join k : ℕ) (h : join < seg
   w = N .stepped .w
 
   S : Stage p e join k
-  S = stage s M join k h m
+  S = stage A
 
   room-left : k < p join
-  room-left = room s M join k h m
+  room-left = room A
 
   room-right : k < p (suc join)
-  room-right = room′ s M join k h m
+  room-right = room′ A
 
   few-orders : k ≤ 2
-  few-orders = few s M join k h m
+  few-orders = few A
 
   pub past : (j u r : ℕ) → j < segments s → u ≤ p j → highest p e j u ≡ r → cell t (suc r) (firstColumn s j + u) ≡ int (pos 0)
   past j u r a b z = R .shape .supported j u a b .above (suc r) (omega arith)
@@ -96,18 +93,18 @@ module _ (s : Space) (L : Legal s) (M : Limits s) (join k : ℕ) (h : join < seg
       -- the join before
       after-join : (i : ℕ) → suc i ≡ join → e i ≡ conditionCount s i → Dec (p join ≡ cubic) → Dec (conditionCount s i ≡ fullCount) → cell t (suc f) (firstColumn s join + (p join - k + 0)) ≡ takenBefore s join
       after-join i y c (yes d) (yes q) =
-          ap₂ (λ r u. cell t r u) (let x = before-join p e join k S room-left room-right few-orders i y in let v : suc f ≡ top s e i = omega arith in v) (ap₂ (λ j u. firstColumn s j + u) (sym y) (let v : p join - k + 0 ≡ 1 = omega arith in v))
+          ap₂ (λ r u. cell t r u) (let x = before-join S room-left room-right few-orders i y in let v : suc f ≡ top s e i = omega arith in v) (ap₂ (λ j u. firstColumn s j + u) (sym y) (let v : p join - k + 0 ≡ 1 = omega arith in v))
           ∙ Q .beyond i (omega arith) (c ∙ q) ∙ ap (λ x. x *ᵠ upperFactor s i) (over-none i y) ∙ one-mul (upperFactor s i) ∙ ap (upperFactor s) (let v : i ≡ join - 1 = omega arith in v)
           ∙ sym (cond-true _ _ (ap₂ _&&_ (eq-eqb (p join) cubic d) (eq-eqb (leftConditions s join) fullCount (ap (leftConditions s) (sym y) ∙ q))))
-      after-join i y c (no d) q = none-taken z (ap (λ b. b && eqb (leftConditions s join) fullCount) (ne-eqb (p join) cubic d)) (omega (arith, room-left, c, ap (leftCount e) (sym y), M .few-conditions i (omega arith)))
-      after-join i y c (yes d) (no q) = none-taken z (ap₂ _&&_ (eq-eqb (p join) cubic d) (ne-eqb (leftConditions s join) fullCount (λ v. q (ap (leftConditions s) y ∙ v)))) (omega (arith, c, ap (leftCount e) (sym y), M .few-conditions i (omega arith)))
+      after-join i y c (no d) q = none-taken z (ap (λ b. b && eqb (leftConditions s join) fullCount) (ne-eqb (p join) cubic d)) (omega (arith, room-left, c, ap (leftCount e) (sym y), A .limits .few-conditions i (omega arith)))
+      after-join i y c (yes d) (no q) = none-taken z (ap₂ _&&_ (eq-eqb (p join) cubic d) (ne-eqb (leftConditions s join) fullCount (λ v. q (ap (leftConditions s) y ∙ v)))) (omega (arith, c, ap (leftCount e) (sym y), A .limits .few-conditions i (omega arith)))
 
       go : (n : ℕ) → join ≡ n → cell t (suc f) (firstColumn s join + (p join - k + 0)) ≡ takenBefore s join
       go zero y = none-taken z (ap (λ b. eqb (p join) cubic && b) (ne-eqb (leftConditions s join) fullCount (λ v. omega (arith, ap (leftConditions s) y))) ∙ and-false (eqb (p join) cubic)) (omega (arith, ap (leftCount e) y))
       go (suc i) y = after-join i (sym y) (met-before s join k i (omega arith)) (ℕ-discrete (p join) cubic) (ℕ-discrete (conditionCount s i) fullCount)
 
   pub lower-is : k ≡ 2 → w (suc f) ≡ lowerFactor s join
-  lower-is z = first-at-two s L M join k h m t R t′ N z (join-weight z) (begin-weight z)
+  lower-is z = first-at-two A R N z (join-weight z) (begin-weight z)
 
   pub upper-is : k ≡ 2 → w (suc (suc f)) ≡ upperFactor s join
-  upper-is z = last-at-two s L M join k h m t R t′ N z (join-weight z)
+  upper-is z = last-at-two A R N z (join-weight z)

@@ -16,7 +16,7 @@ use Rattle.spec_spline.specs.Build.{orderSteps, joinSteps, weights}
 use Rattle.spec_spline.specs.Piecewise.{Accepted}
 use Rattle.base_outcome.proofs.Outcome.{repeat-keeps}
 use Rattle.spec_spline.proofs.Table.{cell-past}
-use Rattle.spec_spline.proofs.Legal.{Legal, legal}
+use Rattle.spec_spline.proofs.Legal.{legal}
 use Rattle.spec_spline.proofs.Space.{segment-column}
 use Rattle.theorems_weights.proofs.Built.{built}
 use Rattle.theorems_values.proofs.Segment.{accepted-checked}
@@ -24,7 +24,7 @@ use Rattle.theorems_acceptance.specs.ClosedForms.{lowerFactor, upperFact
 use Rattle.theorems_acceptance.proofs.Rows.{firstRow, leftCount, lowest, highest, top-highest, below-top-highest, next-highest}
 use Rattle.theorems_acceptance.proofs.Support.{Support, support-ends}
 use Rattle.theorems_acceptance.proofs.Limits.{Limits, limits}
-use Rattle.theorems_acceptance.proofs.Stages.{met, met-before, met-here, met-after, join-met, none-met, Compared, before, same, after, compared}
+use Rattle.theorems_acceptance.proofs.Stages.{met, met-before, met-here, met-after, join-met, none-met, Compared, before, same, after, compared, At}
 use Rattle.theorems_acceptance.proofs.Invariant.{column}
 use Rattle.theorems_acceptance.proofs.Cumulative.{first-of-two, middle-of-three}
 use Rattle.theorems_acceptance.proofs.Reached.{Reached, start-reached, step-reached, join-reached, advance}
@@ -38,24 +38,24 @@ record Formed (s : Space) (join k : ℕ) (t : Table) : Type 0 where
   reached : Reached s join k t
   closed : Closed s (met s join k) t
 
-module _ (s : Space) (L : Legal s) (M : Limits s) where
+module _ (s : Space) (M : Limits s) where
   start-formed : Formed s 0 0 (identity (columnCount s))
   start-formed = record {
-    reached = start-reached s L M;
+    reached = start-reached s M;
     closed = record { once = λ i a z. none i 2 z (omega arith); first = λ i a z. none i fullCount z (omega arith); last = λ i a z. none i fullCount z (omega arith); near = λ i a z. none i fullCount z (omega arith); beyond = λ i a z. none i fullCount z (omega arith) };
   }
     where
       none : {P : Type 0} (i n : ℕ) → met s 0 0 i ≡ n → 0 < n → P
       none i n z p = absurd (omega (arith, none-met s i))
 
-  step-formed : (join k : ℕ) → join < segments s - 1 → k < conditionCount s join → (t t′ : Table) → Formed s join k t → step join (conditions s join k) t ≡ answer t′ → Formed s join (suc k) t′
-  step-formed join k h m t t′ F e = record { reached = step-reached s L M join k h m t (F .reached) t′ e; closed = step-closed s L M join k h m t (F .reached) t′ (advance s L M join k h m t (F .reached) t′ e) (F .closed) }
+  step-formed : {join k : ℕ} {t t′ : Table} → At s join k → Formed s join k t → step join (conditions s join k) t ≡ answer t′ → Formed s join (suc k) t′
+  step-formed A F e = record { reached = step-reached A (F .reached) e; closed = step-closed A (F .reached) (advance A (F .reached) e) (F .closed) }
 
   join-formed : (join : ℕ) → join < segments s - 1 → (t t′ : Table) → Formed s join 0 t → orderSteps s join (conditionCount s join) t ≡ answer t′ → Formed s (suc join) 0 t′
   unfolding orderSteps
   join-formed join h t t′ F e = record {
-    reached = join-reached s L M join h t t′ (F .reached) e;
-    closed = subst (λ c. Closed s c t′) (join-met s join) (repeat-keeps (λ k b. Formed s join k b) (conditionCount s join) (λ k. step join (conditions s join k)) t F (λ k b c l P r. step-formed join k h l b c P r) t′ e .closed);
+    reached = join-reached s M join h t t′ (F .reached) e;
+    closed = subst (λ c. Closed s c t′) (join-met s join) (repeat-keeps (λ k b. Formed s join k b) (conditionCount s join) (λ k. step join (conditions s join k)) t F (λ k b c l P r. step-formed (record { limits = M; join-below = h; order-below = l }) P r) t′ e .closed);
   }
 
   joins-formed : (t : Table) → joinSteps s (segments s - 1) ≡ answer t → Formed s (segments s - 1) 0 t
@@ -73,7 +73,7 @@ module _ (s : Space) (a : Accepted s) where
 
   formed : Formed s (segments s - 1) 0 (a .table)
   unfolding weights
-  formed = joins-formed s (legal s (accepted-checked s a .1)) M (a .table) (built s (a .table) (a .is) .weights-are)
+  formed = joins-formed s M (a .table) (built s (a .table) (a .is) .weights-are)
 
   count-is : (j n : ℕ) → suc j < segments s → conditionCount s j ≡ n → e j ≡ n
   count-is j n h z = met-before s (segments s - 1) 0 j (omega arith) ∙ z
@@ -81,7 +81,7 @@ module _ (s : Space) (a : Accepted s) where
   first-row-is : (j : ℕ) → j < segments s → firstRow (degree s) e j + conditionsBefore s j ≡ firstColumn s j
   unfolding firstRow conditionsBefore firstColumn
   first-row-is zero h = refl
-  first-row-is (suc j) h = omega (arith, first-row-is j (omega arith), count-is j (conditionCount s j) h refl, M .within-left j (omega arith))
+  first-row-is (suc j) h = omega (arith, first-row-is j (omega arith), count-is j (conditionCount s j) h refl, M .legal .below-left-degree j (omega arith))
 
   own-row-is : (j u : ℕ) → j < segments s → firstRow (degree s) e j + u ≡ ownRow s j u
   unfolding ownRow
@@ -124,7 +124,7 @@ module _ (s : Space) (a : Accepted s) where
   right-within i = go (compared i (segments s - 1))
     where
       go : Compared i (segments s - 1) → e s a i ≤ degree s (suc i)
-      go (before b) = rw (met-before s (segments s - 1) 0 i b) (M s a .within-right i b)
+      go (before b) = rw (met-before s (segments s - 1) 0 i b) (M s a .legal .below-right-degree i b)
       go (same z) = subst (λ n. e s a n ≤ degree s (suc n)) (sym z) (rw (met-here s (segments s - 1) 0) (omega arith))
       go (after b) = rw (met-after s (segments s - 1) 0 i b) (omega arith)
 
@@ -132,7 +132,7 @@ module _ (s : Space) (a : Accepted s) where
   left-within i h = go (compared i (segments s - 1))
     where
       go : Compared i (segments s - 1) → e s a i ≤ degree s i
-      go (before b) = rw (met-before s (segments s - 1) 0 i b) (M s a .within-left i b)
+      go (before b) = rw (met-before s (segments s - 1) 0 i b) (M s a .legal .below-left-degree i b)
       go (same z) = subst (λ n. e s a n ≤ degree s n) (sym z) (rw (met-here s (segments s - 1) 0) (omega arith))
       go (after b) = absurd (omega arith)
 

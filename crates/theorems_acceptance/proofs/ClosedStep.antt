@@ -17,22 +17,20 @@ use Rattle.base_exact.proofs.Decide.{cond-true, cond-false, and-false}
 use Rattle.base_exact.proofs.Ring.{ring}
 use Rattle.base_exact.proofs.Rational.{ℚ-ring, readsℚ, one-mul, mul-one, zero-add}
 use Rattle.base_exact.proofs.Sum.{sum-last, sum-zero}
-use Rattle.spec_spline.specs.Space.{Space, segments, degree, conditionCount, firstColumn}
+use Rattle.spec_spline.specs.Space.{Space, segments, degree, firstColumn}
 use Rattle.spec_spline.specs.Table.{Table, cell}
-use Rattle.spec_spline.proofs.Legal.{Legal}
 use Rattle.theorems_weights.proofs.NullSpace.{mixed}
 use Rattle.theorems_acceptance.specs.ClosedForms.{share, upperFactor, lowerFactor, cubic, fullCount}
 use Rattle.theorems_acceptance.proofs.Rows.{firstRow, lowest, highest, Stage, top-highest, below-top-highest, next-highest}
 use Rattle.theorems_acceptance.proofs.RowMoves.{firstSpanned, first-kept, before-join, far-top, right-low, right-high}
-use Rattle.theorems_acceptance.proofs.Limits.{Limits}
-use Rattle.theorems_acceptance.proofs.Stages.{met, met-here, met-after, next-met, Compared, before, same, after, compared}
-use Rattle.theorems_acceptance.proofs.JumpSums.{summed, onLeft, stage, room, room′, few}
+use Rattle.theorems_acceptance.proofs.Stages.{met, met-here, met-after, next-met, Compared, before, same, after, compared, At, room, room′, few, stage}
+use Rattle.theorems_acceptance.proofs.JumpSums.{summed, onLeft}
 use Rattle.theorems_acceptance.proofs.Reached.{Reached, Advance}
 use Rattle.theorems_acceptance.proofs.LowJumps.{unit}
 use Rattle.theorems_acceptance.proofs.StepFactors.{b-is, factor-at-one}
 use Rattle.theorems_acceptance.proofs.Closed.{top, over, Closed, past, join-weight, over-none, lower-is, upper-is}
 
-module _ (s : Space) (L : Legal s) (M : Limits s) (join k : ℕ) (h : join < segments s - 1) (m : k < conditionCount s join) (t : Table) (R : Reached s join k t) (t′ : Table) (N : Advance s L M join k h m t R t′)
+module _ {s : Space} {join k : ℕ} {t t′ : Table} (A : At s join k) (R : Reached s join k t) (N : Advance s join k t t′)
     (Q : Closed s (met s join k) t) where
   abbrev p : ℕ → ℕ
   p = degree s
@@ -50,16 +48,16 @@ module _ (s : Space) (L : Legal s) (M : Limits s) (join k : ℕ) (h : join < seg
   w = N .stepped .w
 
   S : Stage p e join k
-  S = stage s M join k h m
+  S = stage A
 
   room-left : k < p join
-  room-left = room s M join k h m
+  room-left = room A
 
   room-right : k < p (suc join)
-  room-right = room′ s M join k h m
+  room-right = room′ A
 
   few-orders : k ≤ 2
-  few-orders = few s M join k h m
+  few-orders = few A
 
   -- ---- a new entry
 
@@ -89,7 +87,7 @@ module _ (s : Space) (L : Legal s) (M : Limits s) (join k : ℕ) (h : join < seg
 
   -- where the last row of an earlier join stands, after n conditions there
   near-top : (i : ℕ) → suc i ≡ join → firstRow p e join + e i ≡ suc (top s e i)
-  near-top i z = before-join p e join k S room-left room-right few-orders i z .0
+  near-top i z = before-join S room-left room-right few-orders i z .0
 
   low-top : (i n : ℕ) → i < join → e i ≡ n → n ≤ 2 → top s e i ≤ f
   unfolding firstSpanned
@@ -97,7 +95,7 @@ module _ (s : Space) (L : Legal s) (M : Limits s) (join k : ℕ) (h : join < seg
     where
       go : (suc i ≡ join) ⊎ (suc i < join) → top s e i ≤ f
       go (inl z) = omega (arith, near-top i z, room-left)
-      go (inr z) = far-top p e join k S room-left room-right few-orders i z
+      go (inr z) = far-top S room-left room-right few-orders i z
 
   below-top : (i : ℕ) → i < join → e i ≡ fullCount → (suc (top s e i - 2) ≤ f) × (top s e i - 1 ≤ f)
   unfolding firstSpanned
@@ -105,7 +103,7 @@ module _ (s : Space) (L : Legal s) (M : Limits s) (join k : ℕ) (h : join < seg
     where
       go : (suc i ≡ join) ⊎ (suc i < join) → (suc (top s e i - 2) ≤ f) × (top s e i - 1 ≤ f)
       go (inl z) = let x = near-top i z in (omega (arith, room-left), omega (arith, room-left))
-      go (inr z) = let x = far-top p e join k S room-left room-right few-orders i z in let y = S .left i in (omega arith, omega arith)
+      go (inr z) = let x = far-top S room-left room-right few-orders i z in let y = S .left i in (omega arith, omega arith)
 
   -- what is left of a last weight
   over-same : (i : ℕ) → suc i ≢ join → over s e′ i ≡ over s e i
@@ -127,17 +125,17 @@ module _ (s : Space) (L : Legal s) (M : Limits s) (join k : ℕ) (h : join < seg
   last-moves i j u q b c x y v old = go (eq-or-lt-of-le b)
     where
       still : top s e i ≤ f → over s e i ≡ over s e′ i → cell t′ (top s e i) (firstColumn s j + u) ≡ over s e′ i *ᵠ q
-      still d o = kept-last (top s e i) (firstColumn s j + u) d (past s L M join k h m t R t′ N Q j u (top s e i) x y v) ∙ old ∙ ap (λ z. z *ᵠ q) o
+      still d o = kept-last (top s e i) (firstColumn s j + u) d (past A R N Q j u (top s e i) x y v) ∙ old ∙ ap (λ z. z *ᵠ q) o
 
       near : suc i ≡ join → Dec (p join ≡ cubic) → Dec (k ≡ 2) → cell t′ (top s e i) (firstColumn s j + u) ≡ over s e′ i *ᵠ q
-      near z (yes d) (yes a) = taken-by (top s e i) (firstColumn s j + u) (past s L M join k h m t R t′ N Q j u (top s e i) x y v)
-          ∙ ap₂ _*ᵠ_ (ap w (let o = near-top i z in let g : top s e i ≡ suc f = omega arith in g) ∙ lower-is s L M join k h m t R t′ N Q a) (old ∙ ap (λ o. o *ᵠ q) (over-none s L M join k h m t R t′ N Q i z) ∙ one-mul q) ∙ ap (λ o. o *ᵠ q) (sym (over-new i z d a))
-      near z (no d) a = still (let o = near-top i z in let r = before-join p e join k S room-left room-right few-orders i z .1 in omega (arith, few-orders)) (over-none s L M join k h m t R t′ N Q i z ∙ sym (over-still i z (inl d)))
-      near z (yes d) (no a) = still (let o = near-top i z in let r = before-join p e join k S room-left room-right few-orders i z .1 in omega (arith, few-orders)) (over-none s L M join k h m t R t′ N Q i z ∙ sym (over-still i z (inr a)))
+      near z (yes d) (yes a) = taken-by (top s e i) (firstColumn s j + u) (past A R N Q j u (top s e i) x y v)
+          ∙ ap₂ _*ᵠ_ (ap w (let o = near-top i z in let g : top s e i ≡ suc f = omega arith in g) ∙ lower-is A R N Q a) (old ∙ ap (λ o. o *ᵠ q) (over-none A R N Q i z) ∙ one-mul q) ∙ ap (λ o. o *ᵠ q) (sym (over-new i z d a))
+      near z (no d) a = still (let o = near-top i z in let r = before-join S room-left room-right few-orders i z .1 in omega (arith, few-orders)) (over-none A R N Q i z ∙ sym (over-still i z (inl d)))
+      near z (yes d) (no a) = still (let o = near-top i z in let r = before-join S room-left room-right few-orders i z .1 in omega (arith, few-orders)) (over-none A R N Q i z ∙ sym (over-still i z (inr a)))
 
       go : (suc i ≡ join) ⊎ (suc i < join) → cell t′ (top s e i) (firstColumn s j + u) ≡ over s e′ i *ᵠ q
       go (inl z) = near z (ℕ-discrete (p join) cubic) (ℕ-discrete k 2)
-      go (inr z) = still (far-top p e join k S room-left room-right few-orders i z) (sym (over-same i (λ g. omega arith)))
+      go (inr z) = still (far-top S room-left room-right few-orders i z) (sym (over-same i (λ g. omega arith)))
 
   -- ---- this join
 
@@ -152,19 +150,19 @@ module _ (s : Space) (L : Legal s) (M : Limits s) (join k : ℕ) (h : join < seg
   -- the last ordinate before the join, alone at order 1
   own-unit : k ≡ 1 → cell t (suc f) (firstColumn s join + p join) ≡ int (pos 1)
   unfolding lowest firstSpanned
-  own-unit z = unit s M join k h m t R join (p join) (omega arith) (omega arith) (suc f) (omega (arith, S .here, room-left)) (top-highest p e (S .right) join ∙ omega (arith, room-left)) .one
+  own-unit z = unit A R join (p join) (omega arith) (omega arith) (suc f) (omega (arith, S .here, room-left)) (top-highest p e (S .right) join ∙ omega (arith, room-left)) .one
 
   own-once : k ≡ 1 → cell t′ (f + k) (firstColumn s join + p join) ≡ share s join
   unfolding firstSpanned
   own-once z = ap (λ r. cell t′ r (firstColumn s join + p join)) (let y : f + k ≡ suc f = omega arith in y)
-      ∙ taken-by (suc f) _ (past s L M join k h m t R t′ N Q join (p join) (suc f) (omega arith) (omega arith) (top-highest p e (S .right) join ∙ omega (arith, room-left)))
-      ∙ ap₂ _*ᵠ_ (factor-at-one s L M join k h m t R t′ N z) (own-unit z) ∙ mul-one (share s join)
+      ∙ taken-by (suc f) _ (past A R N Q join (p join) (suc f) (omega arith) (omega arith) (top-highest p e (S .right) join ∙ omega (arith, room-left)))
+      ∙ ap₂ _*ᵠ_ (factor-at-one A R N z) (own-unit z) ∙ mul-one (share s join)
 
   -- at order 2: the first row of the join's ordinate
   second-weight : k ≡ 2 → cell t (suc f) (firstColumn s join + p join) ≡ int (pos 1) -ᵠ share s join
   unfolding onLeft summed lowest firstSpanned
   second-weight z = sym (zero-add _) ∙ ap (λ q. q +ᵠ cell t (suc f) (firstColumn s join + p join)) (sym none) ∙ sym (sum-last (suc f) (λ i. cell t i (firstColumn s join + p join)))
-      ∙ ap (λ u. sum (suc (suc f)) (λ i. cell t i (firstColumn s join + u))) (let y : p join ≡ p join - k + 2 = omega (arith, room-left) in y) ∙ b-is s L M join k h m t R t′ N z (join-weight s L M join k h m t R t′ N Q z)
+      ∙ ap (λ u. sum (suc (suc f)) (λ i. cell t i (firstColumn s join + u))) (let y : p join ≡ p join - k + 2 = omega (arith, room-left) in y) ∙ b-is A R N z (join-weight A R N Q z)
     where
       none : sum (suc f) (λ i. cell t i (firstColumn s join + p join)) ≡ int (pos 0)
       none = sum-zero (suc f) (λ i b. R .shape .supported join (p join) (omega arith) (omega arith) .below i (omega (arith, S .here, room-left)))
@@ -172,30 +170,30 @@ module _ (s : Space) (L : Legal s) (M : Limits s) (join k : ℕ) (h : join < seg
   own-first : k ≡ 2 → cell t′ f (firstColumn s join + p join) ≡ (int (pos 1) -ᵠ lowerFactor s join) *ᵠ (int (pos 1) -ᵠ share s join)
   unfolding mixed lowest firstSpanned
   own-first z = N .stepped .cells f _ ∙ ap₂ (λ x y. w f *ᵠ x +ᵠ (int (pos 1) -ᵠ w (suc f)) *ᵠ y) (R .shape .supported join (p join) (omega arith) (omega arith) .below f (omega (arith, S .here, room-left))) (second-weight z)
-      ∙ ap (λ x. w f *ᵠ int (pos 0) +ᵠ (int (pos 1) -ᵠ x) *ᵠ (int (pos 1) -ᵠ share s join)) (lower-is s L M join k h m t R t′ N Q z)
+      ∙ ap (λ x. w f *ᵠ int (pos 0) +ᵠ (int (pos 1) -ᵠ x) *ᵠ (int (pos 1) -ᵠ share s join)) (lower-is A R N Q z)
       ∙ ring ℚ-ring (w f ∷ lowerFactor s join ∷ share s join ∷ []) (search readsℚ depth 30) (search readsℚ depth 30) refl
 
   own-last : k ≡ 2 → cell t′ (f + k) (firstColumn s join + p join) ≡ upperFactor s join *ᵠ share s join
   unfolding firstSpanned
   own-last z = ap (λ r. cell t′ r (firstColumn s join + p join)) (let y : f + k ≡ suc (suc f) = omega arith in y)
-      ∙ taken-by (suc (suc f)) _ (past s L M join k h m t R t′ N Q join (p join) (suc (suc f)) (omega arith) (omega arith) (top-highest p e (S .right) join ∙ omega (arith, room-left)))
-      ∙ ap₂ _*ᵠ_ (upper-is s L M join k h m t R t′ N Q z) (ap (λ u. cell t (suc (suc f)) (firstColumn s join + u)) (let y : p join ≡ p join - k + 2 = omega (arith, room-left) in y) ∙ join-weight s L M join k h m t R t′ N Q z)
+      ∙ taken-by (suc (suc f)) _ (past A R N Q join (p join) (suc (suc f)) (omega arith) (omega arith) (top-highest p e (S .right) join ∙ omega (arith, room-left)))
+      ∙ ap₂ _*ᵠ_ (upper-is A R N Q z) (ap (λ u. cell t (suc (suc f)) (firstColumn s join + u)) (let y : p join ≡ p join - k + 2 = omega (arith, room-left) in y) ∙ join-weight A R N Q z)
 
   own-near : k ≡ 2 → cell t′ (suc f) (firstColumn s join + (p join - 1)) ≡ lowerFactor s join
   unfolding lowest firstSpanned
-  own-near z = taken-by (suc f) _ (past s L M join k h m t R t′ N Q join (p join - 1) (suc f) (omega arith) (omega arith) ends)
-      ∙ ap₂ _*ᵠ_ (lower-is s L M join k h m t R t′ N Q z) (unit s M join k h m t R join (p join - 1) (omega arith) (omega arith) (suc f) (omega (arith, S .here, room-left)) ends .one) ∙ mul-one (lowerFactor s join)
+  own-near z = taken-by (suc f) _ (past A R N Q join (p join - 1) (suc f) (omega arith) (omega arith) ends)
+      ∙ ap₂ _*ᵠ_ (lower-is A R N Q z) (unit A R join (p join - 1) (omega arith) (omega arith) (suc f) (omega (arith, S .here, room-left)) ends .one) ∙ mul-one (lowerFactor s join)
     where
       ends : highest p e join (p join - 1) ≡ suc f
       ends = below-top-highest p e (S .right) join (omega (arith, room-left)) ∙ omega (arith, room-left)
 
   own-beyond : k ≡ 2 → cell t′ (f + k) (firstColumn s (suc join) + 1) ≡ upperFactor s join
   own-beyond z = ap (λ r. cell t′ r (firstColumn s (suc join) + 1)) (let y : f + k ≡ suc (suc f) = omega arith in y)
-      ∙ taken-by (suc (suc f)) _ (past s L M join k h m t R t′ N Q (suc join) 1 (suc (suc f)) (omega arith) (omega (arith, room-right)) ends)
-      ∙ ap₂ _*ᵠ_ (upper-is s L M join k h m t R t′ N Q z) (unit s M join k h m t R (suc join) 1 (omega arith) (omega (arith, room-right)) (suc (suc f)) (right-low p e join k S room-left room-right few-orders 1 (omega arith) ∙ omega arith) ends .one) ∙ mul-one (upperFactor s join)
+      ∙ taken-by (suc (suc f)) _ (past A R N Q (suc join) 1 (suc (suc f)) (omega arith) (omega (arith, room-right)) ends)
+      ∙ ap₂ _*ᵠ_ (upper-is A R N Q z) (unit A R (suc join) 1 (omega arith) (omega (arith, room-right)) (suc (suc f)) (right-low S room-left room-right few-orders 1 (omega arith) ∙ omega arith) ends .one) ∙ mul-one (upperFactor s join)
     where
       ends : highest p e (suc join) 1 ≡ suc (suc f)
-      ends = right-high p e join k S room-left room-right few-orders 1 (omega arith) ∙ omega arith
+      ends = right-high S room-left room-right few-orders 1 (omega arith) ∙ omega arith
 
   -- ---- all joins
 
@@ -212,7 +210,7 @@ module _ (s : Space) (L : Legal s) (M : Limits s) (join k : ℕ) (h : join < seg
   new-once i a z = go (compared i join)
     where
       go : Compared i join → cell t′ (top s e′ i) (firstColumn s i + p i) ≡ share s i
-      go (before b) = ap (λ r. cell t′ r (firstColumn s i + p i)) (same-top i (omega arith)) ∙ kept-last (top s e i) _ (low-top i 2 b (old-count i 2 b z) (omega arith)) (past s L M join k h m t R t′ N Q i (p i) (top s e i) (omega arith) (omega arith) (top-highest p e (S .right) i)) ∙ Q .once i a (old-count i 2 b z)
+      go (before b) = ap (λ r. cell t′ r (firstColumn s i + p i)) (same-top i (omega arith)) ∙ kept-last (top s e i) _ (low-top i 2 b (old-count i 2 b z) (omega arith)) (past A R N Q i (p i) (top s e i) (omega arith) (omega arith) (top-highest p e (S .right) i)) ∙ Q .once i a (old-count i 2 b z)
       go (same y) = subst (λ j. cell t′ (top s e′ j) (firstColumn s j + p j) ≡ share s j) (sym y) (ap (λ r. cell t′ r (firstColumn s join + p join)) own-top ∙ own-once (count-here i 1 y z))
       go (after b) = absurd (gone i 2 b z (omega arith))
 
@@ -239,7 +237,7 @@ module _ (s : Space) (L : Legal s) (M : Limits s) (join k : ℕ) (h : join < seg
     where
       go : Compared i join → cell t′ (top s e′ i - 1) (firstColumn s i + (p i - 1)) ≡ lowerFactor s i
       go (before b) = ap (λ r. cell t′ (r - 1) (firstColumn s i + (p i - 1))) (same-top i (omega arith))
-          ∙ kept-last (top s e i - 1) _ (below-top i b (old-count i fullCount b z) .1) (past s L M join k h m t R t′ N Q i (p i - 1) (top s e i - 1) (omega arith) (omega arith) (below-top-highest p e (S .right) i (omega (arith, S .left i, old-count i fullCount b z)))) ∙ Q .near i a (old-count i fullCount b z)
+          ∙ kept-last (top s e i - 1) _ (below-top i b (old-count i fullCount b z) .1) (past A R N Q i (p i - 1) (top s e i - 1) (omega arith) (omega arith) (below-top-highest p e (S .right) i (omega (arith, S .left i, old-count i fullCount b z)))) ∙ Q .near i a (old-count i fullCount b z)
       go (same y) = subst (λ j. cell t′ (top s e′ j - 1) (firstColumn s j + (p j - 1)) ≡ lowerFactor s j) (sym y)
           (ap (λ r. cell t′ r (firstColumn s join + (p join - 1))) (let v = count-here i 2 y z in let o = own-top in let g : top s e′ join - 1 ≡ suc f = omega arith in g) ∙ own-near (count-here i 2 y z))
       go (after b) = absurd (gone i fullCount b z (omega arith))

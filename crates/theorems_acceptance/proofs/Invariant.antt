@@ -4,7 +4,7 @@
 use mathlib.Core.Path.{_≡_, refl, sym, _∙_, ap₂, subst}
 use mathlib.Core.Logic.{_⊎_, inl, inr}
 use mathlib.Core.List.{List}
-use Prim.Native.Nat.{ℕ, zero, suc, _+_, _-_, _<_, _≤_}
+use Prim.Native.Nat.{ℕ, zero, suc, _+_, _<_, _≤_}
 use native.Mathlib.Omega.{arith}
 use native.Mathlib.Decide.{ℕ-discrete}
 use lib.IntN.{pos}
@@ -14,7 +14,7 @@ use Rattle.base_exact.specs.Order.{_<ᵠ_}
 use Rattle.base_exact.specs.Sum.{sum}
 use Rattle.base_exact.proofs.Decide.{le-or-lt}
 use Rattle.base_exact.proofs.Order.{zero<one}
-use Rattle.spec_spline.specs.Space.{Space, segments, degree, conditionCount, firstColumn, columnCount}
+use Rattle.spec_spline.specs.Space.{Space, segments, degree, firstColumn, columnCount}
 use Rattle.spec_spline.specs.Conditions.{Entry}
 use Rattle.spec_spline.specs.Table.{Table, cell, identity}
 use Rattle.spec_spline.proofs.Space.{segment-column}
@@ -24,8 +24,7 @@ use Rattle.theorems_weights.proofs.Stepped.{Stepped}
 use Rattle.theorems_acceptance.proofs.Rows.{firstRow, leftCount, lowest, highest, lowest-at-most-highest, Stage, Moves, Single, met-once}
 use Rattle.theorems_acceptance.proofs.RowMoves.{firstSpanned, lastSpanned, step-moves}
 use Rattle.theorems_acceptance.proofs.Support.{Support, Mixing, support-mixed, support-same, support-ends, support-one}
-use Rattle.theorems_acceptance.proofs.Limits.{Limits}
-use Rattle.theorems_acceptance.proofs.Stages.{met, met-here, met-stage, next-met, none-met, Compared, before, same, after, compared}
+use Rattle.theorems_acceptance.proofs.Stages.{met, met-here, At, left-segment, right-segment, room, room′, few, stage, stage′, next-met, none-met, Compared, before, same, after, compared}
 
 -- The weights of all rows on ordinate u of segment j.
 abbrev pub column : Space → Table → ℕ → ℕ → ℕ → ℚ
@@ -83,28 +82,36 @@ single-same t c d {r} p q C D i = go (compared i r)
     go (same z) = subst (λ n. cell t n c ≡ cell t n d) (sym z) (p ∙ sym q)
     go (after h) = C .above i h ∙ sym (D .above i h)
 
+-- A table at which a condition is due: of that form, with columns that sum to one.
+pub record Due (s : Space) (join k : ℕ) (t : Table) : Type 0 where
+  pub at : At s join k
+  pub shape : Shaped s (met s join k) t
+  pub sums : (c : ℕ) → c < columnCount s → sum (length t) (λ i. cell t i c) ≡ int (pos 1)
+
 -- ---- one step
 
-module _ (s : Space) (L : Limits s) (join k : ℕ) (h : join < segments s - 1) (m : k < conditionCount s join) (κ : List Entry) (t t′ : Table)
-    (C : Shaped s (met s join k) t) (T : Stepped κ (columnCount s) t t′) (M : Mixing (firstSpanned (degree s) (met s join k) join k) (lastSpanned (degree s) (met s join k) join) (T .w))
+module _ {s : Space} {join k : ℕ} (A : At s join k) {κ : List Entry} {t t′ : Table}
+    (C : Shaped s (met s join k) t) (T : Stepped κ (columnCount s) t t′)
+    (M : Mixing (firstSpanned (degree s) (met s join k) join k) (lastSpanned (degree s) (met s join k) join) (T .w))
     (sums : (c : ℕ) → c < columnCount s → sum (length t′) (λ i. cell t′ i c) ≡ int (pos 1)) where
-  stage : Stage (degree s) (met s join k) join k
-  stage = met-stage s L join k (omega arith) (omega (arith, L .within-left join h)) (omega (arith, L .within-right join h))
+  -- the counts of the conditions met, before and after the step
+  abbrev e : ℕ → ℕ
+  e = met s join k
 
-  stage′ : Stage (degree s) (met s join (suc k)) join (suc k)
-  stage′ = met-stage s L join (suc k) (omega arith) (omega (arith, L .within-left join h)) (omega (arith, L .within-right join h))
+  abbrev e′ : ℕ → ℕ
+  e′ = met s join (suc k)
 
-  moves : (j u : ℕ) → u ≤ degree s j → Moves (firstSpanned (degree s) (met s join k) join k) (lastSpanned (degree s) (met s join k) join)
-      (lowest (degree s) (met s join k) j u) (highest (degree s) (met s join k) j u) (lowest (degree s) (met s join (suc k)) j u) (highest (degree s) (met s join (suc k)) j u)
-  moves j u b = step-moves (degree s) (met s join k) join k stage (omega (arith, L .within-left join h)) (omega (arith, L .within-right join h)) (omega (arith, L .few-conditions join h)) (met s join (suc k)) (next-met s join k) j u b
+  moves : (j u : ℕ) → u ≤ degree s j
+      → Moves (firstSpanned (degree s) e join k) (lastSpanned (degree s) e join) (lowest (degree s) e j u) (highest (degree s) e j u) (lowest (degree s) e′ j u) (highest (degree s) e′ j u)
+  moves j u b = step-moves (stage A) (room A) (room′ A) (few A) e′ (next-met s join k) j u b
 
-  spread : firstSpanned (degree s) (met s join k) join k < lastSpanned (degree s) (met s join k) join
+  spread : firstSpanned (degree s) e join k < lastSpanned (degree s) e join
   unfolding firstSpanned lastSpanned
   spread = omega arith
 
-  pub new-supported : (j u : ℕ) → j < segments s → u ≤ degree s j → Support (column s t′ j u) (lowest (degree s) (met s join (suc k)) j u) (highest (degree s) (met s join (suc k)) j u)
+  pub new-supported : (j u : ℕ) → j < segments s → u ≤ degree s j → Support (column s t′ j u) (lowest (degree s) e′ j u) (highest (degree s) e′ j u)
   new-supported j u a b = support-same (λ i. sym (T .cells i (firstColumn s j + u)))
-      (support-mixed _ _ (T .w) (column s t j u) _ _ _ _ M (C .supported j u a b) (lowest-at-most-highest (degree s) (met s join k) j u) spread (moves j u b))
+      (support-mixed _ _ (T .w) (column s t j u) _ _ _ _ M (C .supported j u a b) (lowest-at-most-highest (degree s) e j u) spread (moves j u b))
 
   -- equal columns stay equal
   kept-joined : (c d : ℕ) → ((i : ℕ) → cell t i c ≡ cell t i d) → (i : ℕ) → cell t′ i c ≡ cell t′ i d
@@ -113,27 +120,27 @@ module _ (s : Space) (L : Limits s) (join k : ℕ) (h : join < segments s - 1) (
 
   -- the first condition at this join makes two columns equal
   new-single : k ≡ 0 → (i : ℕ) → column s t′ join (degree s join) i ≡ column s t′ (suc join) 0 i
-  new-single z i = single-same t′ _ _ (single-one t′ _ (sums _ (segment-column s join (degree s join) (omega arith) (omega arith))) left) (single-one t′ _ (sums _ (segment-column s (suc join) 0 (omega arith) (omega arith))) right) left right i
+  new-single z i = single-same t′ _ _ (single-one t′ _ (sums _ (segment-column s join (degree s join) (left-segment A) (omega arith))) left) (single-one t′ _ (sums _ (segment-column s (suc join) 0 (right-segment A) (omega arith))) right) left right i
     where
-      rows : Single (degree s) (met s join (suc k)) join (firstRow (degree s) (met s join (suc k)) join + degree s join)
-      rows = met-once (degree s) (met s join (suc k)) join (subst (λ n. Stage (degree s) (met s join (suc k)) join (suc n)) z stage′)
+      rows : Single (degree s) e′ join (firstRow (degree s) e′ join + degree s join)
+      rows = met-once (degree s) e′ join (subst (λ n. Stage (degree s) e′ join (suc n)) z (stage′ A))
 
-      left : Support (column s t′ join (degree s join)) (firstRow (degree s) (met s join (suc k)) join + degree s join) (firstRow (degree s) (met s join (suc k)) join + degree s join)
-      left = support-ends (rows .low) (rows .high) (new-supported join (degree s join) (omega arith) (omega arith))
+      left : Support (column s t′ join (degree s join)) (firstRow (degree s) e′ join + degree s join) (firstRow (degree s) e′ join + degree s join)
+      left = support-ends (rows .low) (rows .high) (new-supported join (degree s join) (left-segment A) (omega arith))
 
-      right : Support (column s t′ (suc join) 0) (firstRow (degree s) (met s join (suc k)) join + degree s join) (firstRow (degree s) (met s join (suc k)) join + degree s join)
-      right = support-ends (rows .low′) (rows .high′) (new-supported (suc join) 0 (omega arith) (omega arith))
+      right : Support (column s t′ (suc join) 0) (firstRow (degree s) e′ join + degree s join) (firstRow (degree s) e′ join + degree s join)
+      right = support-ends (rows .low′) (rows .high′) (new-supported (suc join) 0 (right-segment A) (omega arith))
 
-  new-joined : (j : ℕ) → suc j < segments s → 0 < met s join (suc k) j → (i : ℕ) → column s t′ j (degree s j) i ≡ column s t′ (suc j) 0 i
+  new-joined : (j : ℕ) → suc j < segments s → 0 < e′ j → (i : ℕ) → column s t′ j (degree s j) i ≡ column s t′ (suc j) 0 i
   new-joined j a b i = go (ℕ-discrete j join) (le-or-lt k 0)
     where
-      old : 0 < met s join k j → column s t′ j (degree s j) i ≡ column s t′ (suc j) 0 i
+      old : 0 < e j → column s t′ j (degree s j) i ≡ column s t′ (suc j) 0 i
       old c = kept-joined (firstColumn s j + degree s j) (firstColumn s (suc j) + 0) (C .joined j a c) i
 
       go : Dec (j ≡ join) → (k ≤ 0) ⊎ (0 < k) → column s t′ j (degree s j) i ≡ column s t′ (suc j) 0 i
       go (no n) d = old (rw (next-met s join k .same j n) at b)
       go (yes z) (inl d) = subst (λ n. column s t′ n (degree s n) i ≡ column s t′ (suc n) 0 i) (sym z) (new-single (omega arith) i)
-      go (yes z) (inr d) = old (subst (λ n. 0 < met s join k n) (sym z) (rw (met-here s join k) d))
+      go (yes z) (inr d) = old (subst (λ n. 0 < e n) (sym z) (rw (met-here s join k) d))
 
   pub step-shaped : Shaped s (met s join (suc k)) t′
   step-shaped = record { supported = new-supported; joined = new-joined }

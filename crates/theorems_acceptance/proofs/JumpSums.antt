@@ -13,21 +13,21 @@ use Rattle.base_exact.proofs.Ring.{ring}
 use Rattle.base_exact.proofs.Rational.{ℚ-ring, readsℚ, one-mul, mul-zero}
 use Rattle.base_exact.proofs.Order.{pos-of-nat}
 use Rattle.base_exact.proofs.Sum.{sum-ext}
-use Rattle.spec_spline.specs.Space.{Space, segments, degree, width, conditionCount, firstColumn, columnCount}
+use Rattle.spec_spline.specs.Space.{Space, segments, degree, width, firstColumn}
 use Rattle.spec_spline.specs.Conditions.{conditions}
 use Rattle.spec_spline.specs.Table.{Table, cell}
 use Rattle.spec_spline.proofs.Table.{cell-past}
 use Rattle.spec_spline.proofs.Conditions.{scale-pos}
 use Rattle.spec_spline.proofs.Space.{segment-column}
+use Rattle.spec_spline.proofs.Legal.{Legal}
 use Rattle.theorems_weights.proofs.Functional.{applied-ext, applied-sum}
 use Rattle.theorems_weights.proofs.Stepped.{values}
 use Rattle.theorems_weights.proofs.Difference.{difference, difference-ext, difference-none}
 use Rattle.theorems_weights.proofs.Condition.{divisor, divisor-pos, leftScale, rightScale, applied-conditions, conditions-constant}
-use Rattle.theorems_acceptance.proofs.Rows.{lowest, highest, lowest-at-most-highest, Stage}
+use Rattle.theorems_acceptance.proofs.Rows.{lowest, highest, lowest-at-most-highest}
 use Rattle.theorems_acceptance.proofs.RowMoves.{firstSpanned, lastSpanned, left-within, right-within}
-use Rattle.theorems_acceptance.proofs.Limits.{Limits}
-use Rattle.theorems_acceptance.proofs.Stages.{met, met-stage}
-use Rattle.theorems_acceptance.proofs.Invariant.{Shaped, column}
+use Rattle.theorems_acceptance.proofs.Stages.{met, At, left-segment, right-segment, room, room′, few, stage}
+use Rattle.theorems_acceptance.proofs.Invariant.{column, Due}
 use Rattle.theorems_acceptance.proofs.Cumulative.{sum-none, sum-all, sum-some, sum-rest}
 
 -- The first n weights of a column, summed.
@@ -52,64 +52,57 @@ partial-is s join k t n = ap (λ v. int (pos (divisor s join k)) *ᵠ v)
     ∙ applied-conditions s join k (λ c. sum n (λ i. cell t i c))
 
 -- The two sides of a condition, and its divisor, are positive.
-module _ (s : Space) (L : Limits s) (join k : ℕ) (h : join < segments s - 1) (m : k < conditionCount s join) where
+module _ {s : Space} {join k : ℕ} (A : At s join k) where
+  abbrev L : Legal s
+  L = A .limits .legal
+
   pub divisor-positive : int (pos 0) <ᵠ int (pos (divisor s join k))
-  divisor-positive = pos-of-nat _ (divisor-pos s join k (omega (arith, L .within-left join h)) (L .positive-width (suc join) (omega arith)))
+  divisor-positive = pos-of-nat _ (divisor-pos s join k (omega (arith, room A)) (L .positive-width (suc join) (right-segment A)))
 
   pub left-positive : int (pos 0) <ᵠ int (pos (leftScale s join k))
   unfolding leftScale
-  left-positive = pos-of-nat _ (scale-pos (degree s join) k (width s (suc join)) (omega (arith, L .within-left join h)) (L .positive-width (suc join) (omega arith)))
+  left-positive = pos-of-nat _ (scale-pos (degree s join) k (width s (suc join)) (omega (arith, room A)) (L .positive-width (suc join) (right-segment A)))
 
   pub right-positive : int (pos 0) <ᵠ int (pos (rightScale s join k))
   unfolding rightScale
-  right-positive = pos-of-nat _ (scale-pos (degree s (suc join)) k (width s join) (omega (arith, L .within-right join h)) (L .positive-width join (omega arith)))
+  right-positive = pos-of-nat _ (scale-pos (degree s (suc join)) k (width s join) (omega (arith, room′ A)) (L .positive-width join (left-segment A)))
 
-  -- the stage that it starts from
-  pub stage : Stage (degree s) (met s join k) join k
-  stage = met-stage s L join k (omega arith) (omega (arith, L .within-left join h)) (omega (arith, L .within-right join h))
+-- A table at which the condition is due.
+module _ {s : Space} {join k : ℕ} {t : Table} (D : Due s join k t) where
+  -- the counts of the conditions met
+  abbrev e : ℕ → ℕ
+  e = met s join k
 
-  pub room : k < degree s join
-  room = omega (arith, L .within-left join h)
-
-  pub room′ : k < degree s (suc join)
-  room′ = omega (arith, L .within-right join h)
-
-  pub few : k ≤ 2
-  few = omega (arith, L .few-conditions join h)
-
--- A table at this stage, whose columns sum to one.
-module _ (s : Space) (L : Limits s) (join k : ℕ) (h : join < segments s - 1) (m : k < conditionCount s join) (t : Table) (C : Shaped s (met s join k) t)
-    (sums : (c : ℕ) → c < columnCount s → sum (length t) (λ i. cell t i c) ≡ int (pos 1)) where
   -- the sums of a column that has rows from low to high
   module _ (j u : ℕ) (a : j < segments s) (b : u ≤ degree s j) (n : ℕ) where
-    pub none-yet : n ≤ lowest (degree s) (met s join k) j u → summed t n (firstColumn s j + u) ≡ int (pos 0)
+    pub none-yet : n ≤ lowest (degree s) e j u → summed t n (firstColumn s j + u) ≡ int (pos 0)
     unfolding summed
-    none-yet c = sum-none (length t) (column s t j u) _ _ (C .supported j u a b) (sums _ (segment-column s j u a b)) (λ i d. cell-past t i _ d) n c
+    none-yet c = sum-none (length t) (column s t j u) _ _ (D .shape .supported j u a b) (D .sums _ (segment-column s j u a b)) (λ i d. cell-past t i _ d) n c
 
-    pub all-done : highest (degree s) (met s join k) j u < n → summed t n (firstColumn s j + u) ≡ int (pos 1)
+    pub all-done : highest (degree s) e j u < n → summed t n (firstColumn s j + u) ≡ int (pos 1)
     unfolding summed
-    all-done c = sum-all (length t) (column s t j u) _ _ (C .supported j u a b) (sums _ (segment-column s j u a b)) (λ i d. cell-past t i _ d) n c
+    all-done c = sum-all (length t) (column s t j u) _ _ (D .shape .supported j u a b) (D .sums _ (segment-column s j u a b)) (λ i d. cell-past t i _ d) n c
 
-    pub some-done : lowest (degree s) (met s join k) j u < n → int (pos 0) <ᵠ summed t n (firstColumn s j + u)
+    pub some-done : lowest (degree s) e j u < n → int (pos 0) <ᵠ summed t n (firstColumn s j + u)
     unfolding summed
-    some-done c = sum-some (length t) (column s t j u) _ _ (C .supported j u a b) (sums _ (segment-column s j u a b)) (λ i d. cell-past t i _ d) n (lowest-at-most-highest (degree s) (met s join k) j u) c
+    some-done c = sum-some (length t) (column s t j u) _ _ (D .shape .supported j u a b) (D .sums _ (segment-column s j u a b)) (λ i d. cell-past t i _ d) n (lowest-at-most-highest (degree s) e j u) c
 
-    pub some-left : n ≤ highest (degree s) (met s join k) j u → int (pos 0) <ᵠ int (pos 1) -ᵠ summed t n (firstColumn s j + u)
+    pub some-left : n ≤ highest (degree s) e j u → int (pos 0) <ᵠ int (pos 1) -ᵠ summed t n (firstColumn s j + u)
     unfolding summed
-    some-left c = sum-rest (length t) (column s t j u) _ _ (C .supported j u a b) (sums _ (segment-column s j u a b)) (λ i d. cell-past t i _ d) n (lowest-at-most-highest (degree s) (met s join k) j u) c
+    some-left c = sum-rest (length t) (column s t j u) _ _ (D .shape .supported j u a b) (D .sums _ (segment-column s j u a b)) (λ i d. cell-past t i _ d) n (lowest-at-most-highest (degree s) e j u) c
 
-  pub sums-before : (n : ℕ) → n ≤ firstSpanned (degree s) (met s join k) join k → jumpSum s join k t n ≡ int (pos 0)
+  pub sums-before : (n : ℕ) → n ≤ firstSpanned (degree s) e join k → jumpSum s join k t n ≡ int (pos 0)
   unfolding jumpSum onLeft onRight
   sums-before n b = ap₂ (λ x y. int (pos (leftScale s join k)) *ᵠ x -ᵠ int (pos (rightScale s join k)) *ᵠ y)
-      (difference-none k (λ u a. none-yet join (degree s join - k + u) (omega arith) (omega (arith, room s L join k h m)) n (omega (arith, left-within (degree s) (met s join k) join k (stage s L join k h m) (room s L join k h m) (room′ s L join k h m) (few s L join k h m) u a))))
-      (difference-none k (λ u a. none-yet (suc join) u (omega arith) (omega (arith, room′ s L join k h m)) n (omega (arith, right-within (degree s) (met s join k) join k (stage s L join k h m) (room s L join k h m) (room′ s L join k h m) (few s L join k h m) u a))))
+      (difference-none k (λ u a. none-yet join (degree s join - k + u) (left-segment (D .at)) (omega (arith, room (D .at))) n (omega (arith, left-within (stage (D .at)) (room (D .at)) (room′ (D .at)) (few (D .at)) u a))))
+      (difference-none k (λ u a. none-yet (suc join) u (right-segment (D .at)) (omega (arith, room′ (D .at))) n (omega (arith, right-within (stage (D .at)) (room (D .at)) (room′ (D .at)) (few (D .at)) u a))))
       ∙ ring ℚ-ring (int (pos (leftScale s join k)) ∷ int (pos (rightScale s join k)) ∷ []) (search readsℚ depth 20) (search readsℚ depth 20) refl
 
-  pub sums-after : (n : ℕ) → lastSpanned (degree s) (met s join k) join < n → jumpSum s join k t n ≡ int (pos 0)
+  pub sums-after : (n : ℕ) → lastSpanned (degree s) e join < n → jumpSum s join k t n ≡ int (pos 0)
   unfolding jumpSum onLeft onRight
   sums-after n b = ap₂ (λ x y. int (pos (leftScale s join k)) *ᵠ x -ᵠ int (pos (rightScale s join k)) *ᵠ y)
-      (difference-ext k (λ u a. all-done join (degree s join - k + u) (omega arith) (omega (arith, room s L join k h m)) n (omega (arith, left-within (degree s) (met s join k) join k (stage s L join k h m) (room s L join k h m) (room′ s L join k h m) (few s L join k h m) u a))))
-      (difference-ext k (λ u a. all-done (suc join) u (omega arith) (omega (arith, room′ s L join k h m)) n (omega (arith, right-within (degree s) (met s join k) join k (stage s L join k h m) (room s L join k h m) (room′ s L join k h m) (few s L join k h m) u a))))
+      (difference-ext k (λ u a. all-done join (degree s join - k + u) (left-segment (D .at)) (omega (arith, room (D .at))) n (omega (arith, left-within (stage (D .at)) (room (D .at)) (room′ (D .at)) (few (D .at)) u a))))
+      (difference-ext k (λ u a. all-done (suc join) u (right-segment (D .at)) (omega (arith, room′ (D .at))) n (omega (arith, right-within (stage (D .at)) (room (D .at)) (room′ (D .at)) (few (D .at)) u a))))
       ∙ sym (applied-conditions s join k (λ c. int (pos 1)))
-      ∙ ap (λ v. int (pos (divisor s join k)) *ᵠ v) (conditions-constant s join k (omega (arith, room s L join k h m)) (L .positive-width (suc join) (omega arith)))
+      ∙ ap (λ v. int (pos (divisor s join k)) *ᵠ v) (conditions-constant s join k (omega (arith, room (D .at))) (D .at .limits .legal .positive-width (suc join) (right-segment (D .at))))
       ∙ mul-zero _

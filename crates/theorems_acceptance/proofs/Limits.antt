@@ -16,15 +16,13 @@ use Rattle.spec_spline.specs.Space.{Space, segments, break, degreeEntry, order,
 use Rattle.base_outcome.specs.Tests.{between}
 use Rattle.spec_spline.proofs.Space.{between-inverts}
 use Rattle.spec_spline.proofs.Parts.{Ends, part-ends, InPart, segment-in-part}
-use Rattle.spec_spline.proofs.Legal.{Checked, legal, good-break-rises}
+use Rattle.spec_spline.proofs.Legal.{Checked, Legal, legal as legal-numbers, good-break-rises}
 use Rattle.theorems_acceptance.specs.Acceptance.{safeOrder}
 use Rattle.theorems_acceptance.specs.ClosedForms.{fullCount}
 
 -- What is used of a legal space.
 pub record Limits (s : Space) : Type 0 where
-  pub positive-width : (i : ℕ) → i < segments s → 0 < width s i
-  pub within-left : (j : ℕ) → j < segments s - 1 → conditionCount s j ≤ degree s j
-  pub within-right : (j : ℕ) → j < segments s - 1 → conditionCount s j ≤ degree s (suc j)
+  pub legal : Legal s
   pub few-conditions : (j : ℕ) → j < segments s - 1 → conditionCount s j ≤ fullCount
   pub low-degree : (i : ℕ) → i < segments s → degree s i ≤ degreeLimit
   pub count-is-order : (j : ℕ) → j < segments s - 1 → order s j +ℤ pos 1 ≡ pos (conditionCount s j)
@@ -99,10 +97,8 @@ module _ (s : Space) (c : Checked s) where
 
   pub limits : Limits s
   unfolding badDegree badOrder
-  limits = let L = legal s c in record {
-    positive-width = L .positive-width;
-    within-left = L .below-left-degree;
-    within-right = L .below-right-degree;
+  limits = record {
+    legal = legal-numbers s c;
     few-conditions = λ j h. count-size (order s j) (test j h);
     low-degree = λ i h. degree-size (degreeEntry s i) (c .degrees i h);
     count-is-order = λ j h. order-counts (order s j) (test j h);

@@ -12,7 +12,7 @@ use lib.ListN.{length}
 use Rattle.base_exact.specs.Rational.{int}
 use Rattle.base_exact.specs.Sum.{sum}
 use Rattle.base_exact.proofs.Decide.{le-or-lt}
-use Rattle.spec_spline.specs.Space.{Space, segments, degree, width, conditionCount, firstColumn}
+use Rattle.spec_spline.specs.Space.{Space, segments, degree, width, firstColumn}
 use Rattle.spec_spline.specs.Conditions.{Entry, leftEntry, rightEntry, undivided, divided, commonDivisor, conditions}
 use Rattle.spec_spline.specs.Table.{Row, Table, row, cell}
 use Rattle.spec_spline.proofs.Space.{segment-column}
@@ -20,10 +20,8 @@ use Rattle.theorems_acceptance.specs.Acceptance.{countedLimit}
 use Rattle.theorems_acceptance.proofs.Rows.{lowest, highest}
 use Rattle.theorems_acceptance.proofs.RowMoves.{firstSpanned, start-low, start-high-low, left-low, left-high, right-low, right-high, right-last}
 use Rattle.theorems_acceptance.proofs.Support.{Support, support-ends}
-use Rattle.theorems_acceptance.proofs.Limits.{Limits}
-use Rattle.theorems_acceptance.proofs.Stages.{met}
+use Rattle.theorems_acceptance.proofs.Stages.{met, At, left-segment, right-segment, room, room′, few, stage}
 use Rattle.theorems_acceptance.proofs.Invariant.{single-one}
-use Rattle.theorems_acceptance.proofs.JumpSums.{stage, room, room′}
 use Rattle.theorems_acceptance.proofs.Reached.{Reached}
 use Rattle.theorems_acceptance.proofs.Loads.{Load, empty, skip, take, conditions-zero, conditions-one, left-zero, right-zero, left-one, right-one}
 
@@ -45,7 +43,7 @@ pub record RowLoad (r : Row) (κ : List Entry) : Type 0 where
   pub load : Load r κ size
   pub within : size ≤ countedLimit
 
-module _ (s : Space) (M : Limits s) (join k : ℕ) (h : join < segments s - 1) (m : k < conditionCount s join) (t : Table) (R : Reached s join k t) where
+module _ {s : Space} {join k : ℕ} {t : Table} (A : At s join k) (R : Reached s join k t) where
   f : ℕ
   f = firstSpanned (degree s) (met s join k) join k
 
@@ -53,91 +51,89 @@ module _ (s : Space) (M : Limits s) (join k : ℕ) (h : join < segments s - 1) (
   unit j u a b r p q = unit-of t (firstColumn s j + u) r (support-ends p q (R .shape .supported j u a b))
       (R .basis .column-sums _ (segment-column s j u a b))
 
-  room-left : k < degree s join
-  room-left = room s M join k h m
-
-  room-right : k < degree s (suc join)
-  room-right = room′ s M join k h m
-
   left-start : k ≤ 1 → Unit t (firstColumn s join + (degree s join - k + 0)) f
   unfolding f
-  left-start w = unit join (degree s join - k + 0) (omega arith) (omega (arith, room-left)) f
-      (start-low (degree s) (met s join k) join k (stage s M join k h m) room-left room-right (omega arith))
-      (start-high-low (degree s) (met s join k) join k (stage s M join k h m) room-left room-right (omega arith) w)
+  left-start w = unit join (degree s join - k + 0) (left-segment A) (omega (arith, room A)) f
+      (start-low (stage A) (room A) (room′ A) (few A))
+      (start-high-low (stage A) (room A) (room′ A) (few A) w)
 
   left-end : k ≡ 1 → Unit t (firstColumn s join + (degree s join - k + 1)) (suc f)
   unfolding f
-  left-end e = unit join (degree s join - k + 1) (omega arith) (omega (arith, room-left)) (suc f)
-      (left-low (degree s) (met s join k) join k (stage s M join k h m) room-left room-right (omega arith) 1 (omega arith) (omega arith))
-      (left-high (degree s) (met s join k) join k (stage s M join k h m) room-left room-right (omega arith) 1 (omega arith) (omega arith) ∙ omega arith)
+  left-end e = unit join (degree s join - k + 1) (left-segment A) (omega (arith, room A)) (suc f)
+      (left-low (stage A) (room A) (room′ A) (few A) 1 (omega arith) (omega arith))
+      (left-high (stage A) (room A) (room′ A) (few A) 1 (omega arith) (omega arith) ∙ omega arith)
 
   right-start : k ≡ 1 → Unit t (firstColumn s (suc join) + 0) (suc f)
   unfolding f
-  right-start e = unit (suc join) 0 (omega arith) (omega arith) (suc f)
-      (right-low (degree s) (met s join k) join k (stage s M join k h m) room-left room-right (omega arith) 0 (omega arith) ∙ omega arith)
-      (right-high (degree s) (met s join k) join k (stage s M join k h m) room-left room-right (omega arith) 0 (omega arith) ∙ omega arith)
+  right-start e = unit (suc join) 0 (right-segment A) (omega arith) (suc f)
+      (right-low (stage A) (room A) (room′ A) (few A) 0 (omega arith) ∙ omega arith)
+      (right-high (stage A) (room A) (room′ A) (few A) 0 (omega arith) ∙ omega arith)
 
   right-end : k ≤ 1 → Unit t (firstColumn s (suc join) + k) (suc (f + k))
   unfolding f
-  right-end w = unit (suc join) k (omega arith) (omega (arith, room-right)) (suc (f + k))
-      (right-low (degree s) (met s join k) join k (stage s M join k h m) room-left room-right (omega arith) k (omega arith) ∙ omega arith)
-      (right-last (degree s) (met s join k) join k (stage s M join k h m) room-left room-right (omega arith))
+  right-end w = unit (suc join) k (right-segment A) (omega (arith, room′ A)) (suc (f + k))
+      (right-low (stage A) (room A) (room′ A) (few A) k (omega arith) ∙ omega arith)
+      (right-last (stage A) (room A) (room′ A) (few A))
 
 -- The two sides' conditions of order 1 together.
-sides : (s : Space) (M : Limits s) (join : ℕ) → join < segments s - 1 → 0 < conditionCount s join → degree s join * width s (suc join) + degree s (suc join) * width s join ≤ countedLimit
-sides s M join h c = omega (arith, mul-le-mul-right (width s (suc join)) (M .low-degree join (omega arith)), mul-le-mul-right (width s join) (M .low-degree (suc join) (omega arith)), M .neighbours join h c)
+sides : {s : Space} {join k : ℕ} → At s join k → degree s join * width s (suc join) + degree s (suc join) * width s join ≤ countedLimit
+sides {s} {join} A = let M = A .limits in
+    omega (arith, mul-le-mul-right (width s (suc join)) (M .low-degree join (left-segment A)), mul-le-mul-right (width s join) (M .low-degree (suc join) (right-segment A)), M .neighbours join (A .join-below) (omega (arith, A .order-below)))
 
-load-zero : (s : Space) (M : Limits s) (join : ℕ) (h : join < segments s - 1) (m : 0 < conditionCount s join) (t : Table) → Reached s join 0 t → (i : ℕ) → RowLoad (row t i) (conditions s join 0)
-load-zero s M join h m t R i = subst (RowLoad (row t i)) (sym (conditions-zero s join)) (go (ℕ-discrete i r) (ℕ-discrete i (suc (r + 0))))
+load-zero : {s : Space} {join : ℕ} {t : Table} → At s join 0 → Reached s join 0 t → (i : ℕ) → RowLoad (row t i) (conditions s join 0)
+load-zero {s} {join} {t} A R i = subst (RowLoad (row t i)) (sym (conditions-zero s join)) (go (ℕ-discrete i r) (ℕ-discrete i (suc (r + 0))))
   where
     g : ℕ
     g = commonDivisor (undivided s join 0)
 
     r : ℕ
-    r = f s M join 0 h m t R
+    r = f A R
 
     X : Unit t (firstColumn s join + (degree s join - 0 + 0)) r
-    X = left-start s M join 0 h m t R (omega arith)
+    X = left-start A R (omega arith)
 
     Y : Unit t (firstColumn s (suc join) + 0) (suc (r + 0))
-    Y = right-end s M join 0 h m t R (omega arith)
+    Y = right-end A R (omega arith)
 
     go : Dec (i ≡ r) → Dec (i ≡ suc (r + 0)) → RowLoad (row t i) (divided g (leftEntry s join 0 0) ∷ divided g (rightEntry s join 0 0) ∷ [])
     go (yes a) b = record { size = _; load = take (subst (λ n. cell t n (firstColumn s join + (degree s join - 0 + 0)) ≡ int (pos 1)) (sym a) (X .one)) (skip (Y .none i (λ z. omega arith)) empty); within = omega (arith, left-zero g s join) }
     go (no a) (yes b) = record { size = _; load = skip (X .none i a) (take (subst (λ n. cell t n (firstColumn s (suc join) + 0) ≡ int (pos 1)) (sym b) (Y .one)) empty); within = omega (arith, right-zero g s join) }
     go (no a) (no b) = record { size = _; load = skip (X .none i a) (skip (Y .none i b) empty); within = omega arith }
 
-load-one : (s : Space) (M : Limits s) (join : ℕ) (h : join < segments s - 1) (m : 1 < conditionCount s join) (t : Table) → Reached s join 1 t → (i : ℕ) → RowLoad (row t i) (conditions s join 1)
-load-one s M join h m t R i = subst (RowLoad (row t i)) (sym (conditions-one s join)) (go (ℕ-discrete i r) (ℕ-discrete i (suc r)) (ℕ-discrete i (suc (r + 1))))
+load-one : {s : Space} {join : ℕ} {t : Table} → At s join 1 → Reached s join 1 t → (i : ℕ) → RowLoad (row t i) (conditions s join 1)
+load-one {s} {join} {t} A R i = subst (RowLoad (row t i)) (sym (conditions-one s join)) (go (ℕ-discrete i r) (ℕ-discrete i (suc r)) (ℕ-discrete i (suc (r + 1))))
   where
     g : ℕ
     g = commonDivisor (undivided s join 1)
 
     r : ℕ
-    r = f s M join 1 h m t R
+    r = f A R
 
     X : Unit t (firstColumn s join + (degree s join - 1 + 0)) r
-    X = left-start s M join 1 h m t R (omega arith)
+    X = left-start A R (omega arith)
 
     X′ : Unit t (firstColumn s join + (degree s join - 1 + 1)) (suc r)
-    X′ = left-end s M join 1 h m t R refl
+    X′ = left-end A R refl
 
     Y : Unit t (firstColumn s (suc join) + 0) (suc r)
-    Y = right-start s M join 1 h m t R refl
+    Y = right-start A R refl
 
     Y′ : Unit t (firstColumn s (suc join) + 1) (suc (r + 1))
-    Y′ = right-end s M join 1 h m t R (omega arith)
+    Y′ = right-end A R (omega arith)
 
     at : {c n : ℕ} → i ≡ n → Unit t c n → cell t i c ≡ int (pos 1)
     at {c} {n} e U = subst (λ x. cell t x c ≡ int (pos 1)) (sym e) (U .one)
 
     go : Dec (i ≡ r) → Dec (i ≡ suc r) → Dec (i ≡ suc (r + 1)) → RowLoad (row t i) (divided g (leftEntry s join 1 0) ∷ divided g (leftEntry s join 1 1) ∷ divided g (rightEntry s join 1 0) ∷ divided g (rightEntry s join 1 1) ∷ [])
-    go (yes a) b c = record { size = _; load = take (at a X) (skip (X′ .none i (λ z. omega arith)) (skip (Y .none i (λ z. omega arith)) (skip (Y′ .none i (λ z. omega arith)) empty))); within = omega (arith, left-one g s join 0 (omega arith), sides s M join h (omega arith)) }
-    go (no a) (yes b) c = record { size = _; load = skip (X .none i a) (take (at b X′) (take (at b Y) (skip (Y′ .none i (λ z. omega arith)) empty))); within = omega (arith, left-one g s join 1 (omega arith), right-one g s join 0 (omega arith), sides s M join h (omega arith)) }
-    go (no a) (no b) (yes c) = record { size = _; load = skip (X .none i a) (skip (X′ .none i b) (skip (Y .none i b) (take (at c Y′) empty))); within = omega (arith, right-one g s join 1 (omega arith), sides s M join h (omega arith)) }
+    go (yes a) b c = record { size = _; load = take (at a X) (skip (X′ .none i (λ z. omega arith)) (skip (Y .none i (λ z. omega arith)) (skip (Y′ .none i (λ z. omega arith)) empty))); within = omega (arith, left-one g s join 0 (omega arith), sides A) }
+    go (no a) (yes b) c = record { size = _; load = skip (X .none i a) (take (at b X′) (take (at b Y) (skip (Y′ .none i (λ z. omega arith)) empty))); within = omega (arith, left-one g s join 1 (omega arith), right-one g s join 0 (omega arith), sides A) }
+    go (no a) (no b) (yes c) = record { size = _; load = skip (X .none i a) (skip (X′ .none i b) (skip (Y .none i b) (take (at c Y′) empty))); within = omega (arith, right-one g s join 1 (omega arith), sides A) }
     go (no a) (no b) (no c) = record { size = _; load = skip (X .none i a) (skip (X′ .none i b) (skip (Y .none i b) (skip (Y′ .none i c) empty))); within = omega arith }
 
-pub row-load : (s : Space) (M : Limits s) (join k : ℕ) → join < segments s - 1 → k < conditionCount s join → (t : Table) → Reached s join k t → k ≤ 1 → (i : ℕ) → RowLoad (row t i) (conditions s join k)
-row-load s M join zero h m t R w i = load-zero s M join h m t R i
-row-load s M join (suc zero) h m t R w i = load-one s M join h m t R i
-row-load s M join (suc (suc k)) h m t R w i = absurd (omega arith)
+pub row-load : {s : Space} {join k : ℕ} {t : Table} → At s join k → Reached s join k t → k ≤ 1 → (i : ℕ) → RowLoad (row t i) (conditions s join k)
+row-load {s} {join} {k} {t} = go k
+  where
+    go : (k : ℕ) → At s join k → Reached s join k t → k ≤ 1 → (i : ℕ) → RowLoad (row t i) (conditions s join k)
+    go zero A R w i = load-zero A R i
+    go (suc zero) A R w i = load-one A R i
+    go (suc (suc k)) A R w i = absurd (omega arith)

@@ -18,7 +18,7 @@ use Rattle.spec_spline.specs.Build.{orderSteps, joinSteps, weights, spaceWeight
 use Rattle.spec_spline.specs.Published.{for}
 use Rattle.base_outcome.proofs.Outcome.{then-answers, then-breaks, Broken, first-refuses, second-refuses}
 use Rattle.spec_spline.proofs.Table.{identity-on, identity-off, identity-low}
-use Rattle.spec_spline.proofs.Legal.{Checked, Legal, legal, checked-inverts, checked-codes}
+use Rattle.spec_spline.proofs.Legal.{Checked, checked-inverts, checked-codes}
 use Rattle.spec_spline.proofs.Refusals.{step-refuses}
 use Rattle.theorems_weights.specs.Counted.{counted, stepTests, exactStep, exactOrders, exactJoins, exactWeights, buildTests}
 use Rattle.theorems_weights.proofs.Counted.{step-passes, passing-is-accepted}
@@ -31,6 +31,7 @@ use Rattle.theorems_acceptance.proofs.Entries.{TableHas}
 use Rattle.theorems_acceptance.proofs.Reached.{Reached, start-reached, step-reached, join-reached, RefusedAt, weights-refused}
 use Rattle.theorems_acceptance.proofs.Small.{Small, small-int, small-zero, small-fits, fits-small}
 use Rattle.theorems_acceptance.proofs.LowSteps.{low-step-good, low-step-cells}
+use Rattle.theorems_acceptance.proofs.Stages.{At}
 
 -- A table that the build reaches, with small entries.
 record LowReached (s : Space) (join k : ℕ) (t : Table) : Type 0 where
@@ -49,42 +50,43 @@ identity-small n i c = go (ℕ-discrete i c) (decLt i n)
     go (yes h) (yes k) = subst (λ j. Small countedLimit (cell (identity n) i j)) h (subst (Small countedLimit) (sym (identity-on n i k)) (small-int (pos 1) (omega arith) (omega arith)))
 
 module _ (s : Space) (c : Checked s) (low : (j : ℕ) → j < segments s - 1 → conditionCount s j ≤ 2) where
-  L : Legal s
-  L = legal s c
-
   M : Limits s
   M = limits s c
 
+  at : (join k : ℕ) → join < segments s - 1 → k < conditionCount s join → At s join k
+  at join k h m = record { limits = M; join-below = h; order-below = m }
+
   -- one step
-  tests-good : (join k : ℕ) → join < segments s - 1 → k < conditionCount s join → (t : Table) → LowReached s join k t → Every (Good (Small countedLimit)) (stepTests join (conditions s join k) t)
-  tests-good join k h m t R = low-step-good s L M join k h m t (R .reached) (omega (arith, low join h)) countedLimit (omega arith) (R .cells)
+  module _ {join k : ℕ} {t : Table} (A : At s join k) (R : LowReached s join k t) where
+    first-orders : k ≤ 1
+    first-orders = omega (arith, A .order-below, low join (A .join-below))
 
-  step-answers : (join k : ℕ) → join < segments s - 1 → k < conditionCount s join → (t : Table) → LowReached s join k t → step join (conditions s join k) t ≡ answer (exactStep (conditions s join k) t)
-  step-answers join k h m t R = step-passes join (conditions s join k) t (every-passes (Small countedLimit) (λ q z. small-fits countedLimit q (omega arith) z) (tests-good join k h m t R))
+    tests-good : Every (Good (Small countedLimit)) (stepTests join (conditions s join k) t)
+    tests-good = low-step-good A (R .reached) first-orders countedLimit (omega arith) (R .cells)
 
-  step-low : (join k : ℕ) → join < segments s - 1 → k < conditionCount s join → (t : Table) → LowReached s join k t → LowReached s join (suc k) (exactStep (conditions s join k) t)
-  step-low join k h m t R = record {
-    reached = step-reached s L M join k h m t (R .reached) (exactStep (conditions s join k) t) (step-answers join k h m t R);
-    cells = low-step-cells s L M join k h m t (R .reached) (omega (arith, low join h)) countedLimit (omega arith) (R .cells);
-  }
+    step-answers : step join (conditions s join k) t ≡ answer (exactStep (conditions s join k) t)
+    step-answers = step-passes join (conditions s join k) t (every-passes (Small countedLimit) (λ q z. small-fits countedLimit q (omega arith) z) tests-good)
+
+    step-low : LowReached s join (suc k) (exactStep (conditions s join k) t)
+    step-low = record { reached = step-reached A (R .reached) step-answers; cells = low-step-cells A (R .reached) first-orders countedLimit (omega arith) (R .cells) }
 
   -- the conditions of a join
   orders-low : (join n : ℕ) → join < segments s - 1 → n ≤ conditionCount s join → (t : Table) → LowReached s join 0 t → LowReached s join n (exactOrders s join n t) × (orderSteps s join n t ≡ answer (exactOrders s join n t))
   unfolding exactOrders for orderSteps repeat
   orders-low join zero h m t R = (R, refl)
   orders-low join (suc n) h m t R = let P = orders-low join n h (omega arith) t R in
-      (step-low join n h m (exactOrders s join n t) (P .0), then-answers (step join (conditions s join n)) (P .1) ∙ step-answers join n h m (exactOrders s join n t) (P .0))
+      (step-low (at join n h m) (P .0), then-answers (step join (conditions s join n)) (P .1) ∙ step-answers (at join n h m) (P .0))
 
   -- all joins
   joins-low : (n : ℕ) → n ≤ segments s - 1 → LowReached s n 0 (exactJoins s n)
   unfolding exactJoins for
-  joins-low zero h = record { reached = start-reached s L M; cells = identity-small (columnCount s) }
+  joins-low zero h = record { reached = start-reached s M; cells = identity-small (columnCount s) }
   joins-low (suc n) h = let R = joins-low n (omega arith) in let P = orders-low n (conditionCount s n) (omega arith) (omega arith) (exactJoins s n) R in
-      record { reached = join-reached s L M n (omega arith) (exactJoins s n) (exactOrders s n (conditionCount s n) (exactJoins s n)) (R .reached) (P .1); cells = P .0 .cells }
+      record { reached = join-reached s M n (omega arith) (exactJoins s n) (exactOrders s n (conditionCount s n) (exactJoins s n)) (R .reached) (P .1); cells = P .0 .cells }
 
   pub build-good : Every (Good (Small countedLimit)) (buildTests s)
   unfolding buildTests
-  build-good = every-joined (segments s - 1) _ (λ j h. every-joined (conditionCount s j) _ (λ k m. tests-good j k h m (exactOrders s j k (exactJoins s j)) (orders-low j k h (omega arith) (exactJoins s j) (joins-low j (omega arith)) .0)))
+  build-good = every-joined (segments s - 1) _ (λ j h. every-joined (conditionCount s j) _ (λ k m. tests-good (at j k h m) (orders-low j k h (omega arith) (exactJoins s j) (joins-low j (omega arith)) .0)))
 
 -- ---- the statements
 
@@ -121,7 +123,7 @@ eight-comes-at-order-two s place e = go (then-breaks (checked s) weights e)
 
         order-is : (A .order ≤ 1) ⊎ (1 < A .order) → EightAtOrderTwo s place
         order-is (inl low) = absurd (no-refusal (Small mostCounted) (A .join) (conditions s (A .join) (A .order)) (A .table)
-            (low-step-good s (legal s c) M (A .join) (A .order) (A .join-below) (A .order-below) (A .table) (A .reached) low mostCounted (omega arith) (λ i j. fits-small mostCounted _ refl (A .reached .fitting i j)))
+            (low-step-good (record { limits = M; join-below = A .join-below; order-below = A .order-below }) (A .reached) low mostCounted (omega arith) (λ i j. fits-small mostCounted _ refl (A .reached .fitting i j)))
             (λ q z. small-fits mostCounted q (omega arith) z) (A .refuses))
         order-is (inr high) = let two : A .order ≡ 2 = omega (arith, A .order-below, M .few-conditions (A .join) (A .join-below)) in record {
           join = A .join;

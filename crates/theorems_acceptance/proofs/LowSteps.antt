@@ -18,11 +18,10 @@ use Rattle.base_exact.proofs.Ring.{ring, by-eq}
 use Rattle.base_exact.proofs.Rational.{ℚ-ring, readsℚ, int-neg}
 use Rattle.base_exact.proofs.Sum.{sum-last}
 use Rattle.base_exact.proofs.Tabulate.{tab-length, tab-getD, getD-tab}
-use Rattle.spec_spline.specs.Space.{Space, segments, degree, conditionCount, firstColumn, columnCount}
+use Rattle.spec_spline.specs.Space.{Space, segments, degree, firstColumn, columnCount}
 use Rattle.spec_spline.specs.Conditions.{conditions}
 use Rattle.spec_spline.specs.Table.{Table, entry, row, cell}
 use Rattle.spec_spline.proofs.Table.{entry-past, row-past}
-use Rattle.spec_spline.proofs.Legal.{Legal}
 use Rattle.spec_spline.proofs.Space.{segment-column}
 use Rattle.theorems_weights.specs.Counted.{exactJumps, firstJump, lastJump, quotient, innerRows, innerRow, exactFactors, jumpTests, entryTests, stepTests, exactRow, exactStep}
 use Rattle.theorems_weights.proofs.Stepped.{values}
@@ -31,11 +30,9 @@ use Rattle.theorems_acceptance.specs.Acceptance.{countedLimit}
 use Rattle.theorems_acceptance.proofs.Rows.{lowest, highest, lowest-at-most-highest}
 use Rattle.theorems_acceptance.proofs.RowMoves.{firstSpanned, lastSpanned, Stands, under, inside, over, stands, last-is}
 use Rattle.theorems_acceptance.proofs.Support.{Support, support-ends}
-use Rattle.theorems_acceptance.proofs.Limits.{Limits}
-use Rattle.theorems_acceptance.proofs.Stages.{met}
+use Rattle.theorems_acceptance.proofs.Stages.{met, At, room, room′, few, stage}
 use Rattle.theorems_acceptance.proofs.Invariant.{column}
 use Rattle.theorems_acceptance.proofs.Alternating.{Alternates, jump-inside, quotient-above, quotient-below}
-use Rattle.theorems_acceptance.proofs.JumpSums.{stage, room, room′}
 use Rattle.theorems_acceptance.proofs.Tests.{Good, Every, first-is, last-is as last-jump-is, quotient-is, step-good}
 use Rattle.theorems_acceptance.proofs.Entries.{TableHas, spliced-has}
 use Rattle.theorems_acceptance.proofs.Reached.{Reached, alternate}
@@ -65,7 +62,7 @@ data Entries (t : Table) (c f l : ℕ) : Type 0 where
   middle : suc f < l → Unit t c (suc f) → Entries t c f l
   high : ((i : ℕ) → i < l → cell t i c ≡ int (pos 0)) → Entries t c f l
 
-module _ (s : Space) (L : Legal s) (M : Limits s) (join k : ℕ) (h : join < segments s - 1) (m : k < conditionCount s join) (t : Table) (R : Reached s join k t) (low-order : k ≤ 1) where
+module _ {s : Space} {join k : ℕ} {t : Table} (at : At s join k) (R : Reached s join k t) (low-order : k ≤ 1) where
   f : ℕ
   f = firstSpanned (degree s) (met s join k) join k
 
@@ -74,14 +71,14 @@ module _ (s : Space) (L : Legal s) (M : Limits s) (join k : ℕ) (h : join < seg
 
   end : l ≡ suc (f + k)
   unfolding f l
-  end = last-is (degree s) (met s join k) join k (stage s M join k h m) (room s M join k h m) (room′ s M join k h m) (omega arith)
+  end = last-is (stage at) (room at) (room′ at) (few at)
 
   entries-of : (c : ℕ) → Entries t c f l
   unfolding f l
   entries-of c = go (le-or-lt (columnCount s) c)
     where
       placed : (j u : ℕ) → j < segments s → u ≤ degree s j → Entries t (firstColumn s j + u) f l
-      placed j u a b = stand (stands (degree s) (met s join k) join k (stage s M join k h m) (room s M join k h m) (room′ s M join k h m) (omega arith) low-order j u b)
+      placed j u a b = stand (stands (stage at) (room at) (room′ at) (few at) low-order j u b)
         where
           S : Support (column s t j u) (lowest (degree s) (met s join k) j u) (highest (degree s) (met s join k) j u)
           S = R .shape .supported j u a b
@@ -106,14 +103,14 @@ module _ (s : Space) (L : Legal s) (M : Limits s) (join k : ℕ) (h : join < seg
 
   A : Alternates f l (λ i. sum i J)
   unfolding f l J
-  A = alternate s L M join k h m t R
+  A = alternate at R
 
   f<l : f < l
   f<l = omega (arith, end)
 
   whole : (i : ℕ) → Whole (J i) countedLimit
   unfolding J
-  whole i = let r = row-load s M join k h m t R low-order i in let w = load-jump (r .load) in record { number = w .number; is = w .is; size = omega (arith, w .size, r .within) }
+  whole i = let r = row-load at R low-order i in let w = load-jump (r .load) in record { number = w .number; is = w .is; size = omega (arith, w .size, r .within) }
 
   -- the one sum that is tested is the last jump, its sign changed
   sum-is-last : (i : ℕ) → suc i ≡ l → sum (suc i) J ≡ int (negℤ (whole l .number))
@@ -137,7 +134,7 @@ module _ (s : Space) (L : Legal s) (M : Limits s) (join k : ℕ) (h : join < seg
     )
 
     products-small : (i : ℕ) → Every (Good (Small n)) (jumpTests join (row t i) (int (pos 0)) (conditions s join k))
-    products-small i = let r = row-load s M join k h m t R low-order i in load-tests n join (pos 0) (r .load) (omega (arith, r .within)) (omega arith) (int (pos 0)) refl
+    products-small i = let r = row-load at R low-order i in load-tests n join (pos 0) (r .load) (omega (arith, r .within)) (omega arith) (int (pos 0)) refl
 
     -- ---- new entries
 
@@ -160,13 +157,13 @@ module _ (s : Space) (L : Legal s) (M : Limits s) (join k : ℕ) (h : join < seg
           (subst (λ q. int (pos 0) <ᵠ q) (sym (inner-is e)) (quotient-above f l J A (suc f) (omega arith) (omega (arith, end))))
           (subst (λ q. q <ᵠ int (pos 1)) (sym (inner-is e)) (quotient-below f l J A (suc f) (omega arith) (omega (arith, end))))
 
-      at : (c i r : ℕ) → i ≡ r → Unit t c r → cell t i c ≡ int (pos 1)
-      at c i r e U = subst (λ x. cell t x c ≡ int (pos 1)) (sym e) (U .one)
+      holds : (c i r : ℕ) → i ≡ r → Unit t c r → cell t i c ≡ int (pos 1)
+      holds c i r e U = subst (λ x. cell t x c ≡ int (pos 1)) (sym e) (U .one)
 
       -- new row f
       first-row : (c : ℕ) → Entries t c f l → Every (Good (Small n)) (entryTests join (entry (exactFactors js) 0) (entry (exactFactors js) 1) (cell t (f + 0) c) (cell t (f + 1) c))
       first-row c (low z) = only-first (omega arith) join _ _ _ _ (first-factor js) (z (f + 1) (omega arith)) (cells (f + 0) c)
-      first-row c (middle p U) = second-one (omega arith) join _ _ _ _ (U .none (f + 0) (λ z. omega arith)) (at c (f + 1) (suc f) (omega arith) U) (rest-small (omega (arith, end)))
+      first-row c (middle p U) = second-one (omega arith) join _ _ _ _ (U .none (f + 0) (λ z. omega arith)) (holds c (f + 1) (suc f) (omega arith) U) (rest-small (omega (arith, end)))
       first-row c (high z) = go (le-or-lt k 0)
         where
           go : (k ≤ 0) ⊎ (0 < k) → Every (Good (Small n)) (entryTests join (entry (exactFactors js) 0) (entry (exactFactors js) 1) (cell t (f + 0) c) (cell t (f + 1) c))
@@ -176,7 +173,7 @@ module _ (s : Space) (L : Legal s) (M : Limits s) (join k : ℕ) (h : join < seg
       -- new row f + 1, at order 1
       second-row : k ≡ 1 → (c : ℕ) → Entries t c f l → Every (Good (Small n)) (entryTests join (entry (exactFactors js) 1) (entry (exactFactors js) 2) (cell t (f + 1) c) (cell t (f + 2) c))
       second-row e c (low z) = only-second (omega arith) join _ _ _ _ (last-factor js 1 (inner-count ∙ e)) (z (f + 1) (omega arith)) (cells (f + 2) c)
-      second-row e c (middle p U) = first-one (omega arith) join _ _ _ _ (at c (f + 1) (suc f) (omega arith) U) (U .none (f + 2) (λ z. omega arith)) (factor-small e)
+      second-row e c (middle p U) = first-one (omega arith) join _ _ _ _ (holds c (f + 1) (suc f) (omega arith) U) (U .none (f + 2) (λ z. omega arith)) (factor-small e)
       second-row e c (high z) = only-second (omega arith) join _ _ _ _ (last-factor js 1 (inner-count ∙ e)) (z (f + 1) (omega (arith, end))) (cells (f + 2) c)
 
       entries-small : (d c : ℕ) → d < l - f → Every (Good (Small n)) (entryTests join (entry (exactFactors js) d) (entry (exactFactors js) (suc d)) (cell t (f + d) c) (cell t (f + suc d) c))

@@ -2,25 +2,27 @@
 use mathlib.Core.Path.{_≡_, refl, _∙_, ap}
 use mathlib.Core.Bool.{Bool, true, false, cond}
 use mathlib.Core.List.{List, [], _∷_}
-use Prim.Native.Nat.{ℕ, _-_, _<_}
+use Prim.Native.Nat.{ℕ}
 use native.Mathlib.Omega.{arith}
 use lib.Dec.{T, ltb}
 use Rattle.base_exact.specs.Rational.{ℚ}
 use Rattle.base_exact.proofs.Decide.{true-not-false}
 use Rattle.base_outcome.specs.Outcome.{refusal, refuse}
-use Rattle.spec_spline.specs.Space.{Space, segments, conditionCount, checked}
+use Rattle.spec_spline.specs.Space.{Space, checked, degree}
 use Rattle.spec_spline.specs.Conditions.{Entry, conditions}
 use Rattle.spec_spline.specs.Table.{Row, Table, tableCells}
 use Rattle.spec_spline.specs.Step.{step}
 use Rattle.spec_spline.specs.Build.{weights, spaceWeights, built}
 use Rattle.base_outcome.proofs.Outcome.{then-breaks, Broken, first-refuses, second-refuses}
-use Rattle.spec_spline.proofs.Legal.{Checked, Legal, legal, checked-inverts, checked-codes}
+use Rattle.spec_spline.proofs.Legal.{Checked, checked-inverts, checked-codes}
 use Rattle.theorems_weights.specs.Counted.{jumpTests, entryTests}
 use Rattle.theorems_acceptance.specs.Acceptance.{NineNeverComes, BuildingNeverGivesNine}
-use Rattle.theorems_acceptance.proofs.Limits.{Limits, limits}
+use Rattle.theorems_acceptance.proofs.Limits.{limits}
 use Rattle.theorems_acceptance.proofs.Tests.{Good, Every, nothing, more, step-good}
 use Rattle.theorems_acceptance.proofs.Refusals.{refused-code, no-nine}
-use Rattle.theorems_acceptance.proofs.Reached.{Reached, alternate, spread, weights-refused}
+use Rattle.theorems_acceptance.proofs.Reached.{Reached, alternate, weights-refused}
+use Rattle.theorems_acceptance.proofs.Stages.{met, At}
+use Rattle.theorems_acceptance.proofs.Signs.{span-spread}
 
 -- nothing is asked of the counted fractions
 abbrev Any : ℚ → Type 0
@@ -36,13 +38,12 @@ unfolding entryTests
 entries-any join w v x y = more tt (more tt (more tt nothing))
 
 -- a step at a table that the build reaches
-pub step-not-nine : (s : Space) → Legal s → Limits s → (join k : ℕ) → join < segments s - 1 → k < conditionCount s join → (t : Table) → Reached s join k t
-    → {place : ℕ} → step join (conditions s join k) t ≡ refusal 9 place → ⊥
-step-not-nine s L M join k h m t R e = no-nine Any join (conditions s join k) t
-    (step-good (conditions s join k) t _ _ (alternate s L M join k h m t R) (spread s L M join k h m t R) Any join (λ i l. jumps-any join _ _ _) (λ i a b. (tt, tt)) (λ d c l. entries-any join _ _ _ _)) e
+pub step-not-nine : {s : Space} {join k : ℕ} {t : Table} → At s join k → Reached s join k t → {place : ℕ} → step join (conditions s join k) t ≡ refusal 9 place → ⊥
+step-not-nine {s} {join} {k} {t} A R e = no-nine Any join (conditions s join k) t
+    (step-good (conditions s join k) t _ _ (alternate A R) (span-spread (degree s) (met s join k) join k) Any join (λ i l. jumps-any join _ _ _) (λ i a b. (tt, tt)) (λ d c l. entries-any join _ _ _ _)) e
 
 pub weights-not-nine : (s : Space) → Checked s → {place : ℕ} → weights s ≡ refusal 9 place → ⊥
-weights-not-nine s c e = let R = weights-refused s c e in step-not-nine s (legal s c) (limits s c) (R .join) (R .order) (R .join-below) (R .order-below) (R .table) (R .reached) (R .refuses)
+weights-not-nine s c e = let R = weights-refused s c e in step-not-nine (record { limits = limits s c; join-below = R .join-below; order-below = R .order-below }) (R .reached) (R .refuses)
 
 pub nine-never-comes : NineNeverComes
 unfolding spaceWeights

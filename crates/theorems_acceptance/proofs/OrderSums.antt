@@ -6,23 +6,20 @@ use mathlib.Core.List.{[], _∷_}
 use Prim.Native.Nat.{ℕ, suc, _+_, _-_, _<_, _≤_}
 use native.Mathlib.Omega.{arith}
 use lib.IntN.{pos}
-use lib.ListN.{length}
 use Rattle.base_exact.specs.Rational.{ℚ, _+ᵠ_, _*ᵠ_, -ᵠ_, _-ᵠ_, int}
 use Rattle.base_exact.specs.Order.{_<ᵠ_}
-use Rattle.base_exact.specs.Sum.{sum}
 use Rattle.base_exact.proofs.Ring.{ring}
 use Rattle.base_exact.proofs.Rational.{ℚ-ring, readsℚ}
 use Rattle.base_exact.proofs.Sum.{sum-ext}
-use Rattle.spec_spline.specs.Space.{Space, segments, degree, conditionCount, firstColumn, columnCount}
+use Rattle.spec_spline.specs.Space.{Space, degree, firstColumn}
 use Rattle.spec_spline.specs.Table.{Table, cell}
 use Rattle.theorems_weights.proofs.Difference.{difference, difference-suc, difference-zero}
 use Rattle.theorems_weights.proofs.Condition.{leftScale, rightScale}
 use Rattle.theorems_acceptance.proofs.Rows.{lowest, highest}
 use Rattle.theorems_acceptance.proofs.RowMoves.{firstSpanned, start-low, start-high, start-high-low, left-low, left-high, right-low, right-high}
-use Rattle.theorems_acceptance.proofs.Limits.{Limits}
-use Rattle.theorems_acceptance.proofs.Stages.{met, met-here}
-use Rattle.theorems_acceptance.proofs.Invariant.{Shaped}
-use Rattle.theorems_acceptance.proofs.JumpSums.{summed, onLeft, onRight, jumpSum, left-positive, right-positive, stage, room, room′, few, none-yet, all-done, some-done, some-left}
+use Rattle.theorems_acceptance.proofs.Stages.{met, met-here, stage, room, room′, few, left-segment, right-segment}
+use Rattle.theorems_acceptance.proofs.Invariant.{Due}
+use Rattle.theorems_acceptance.proofs.JumpSums.{summed, onLeft, onRight, jumpSum, left-positive, right-positive, none-yet, all-done, some-done, some-left}
 
 -- ---- differences of two and three numbers
 
@@ -32,8 +29,7 @@ difference-one x = difference-suc 0 x ∙ ap₂ _-ᵠ_ (difference-zero (λ u. x
 difference-two : (x : ℕ → ℚ) → difference 2 x ≡ x 2 -ᵠ x 1 -ᵠ (x 1 -ᵠ x 0)
 difference-two x = difference-suc 1 x ∙ ap₂ _-ᵠ_ (difference-one (λ u. x (suc u))) (difference-one x)
 
-module _ (s : Space) (L : Limits s) (join k : ℕ) (h : join < segments s - 1) (m : k < conditionCount s join) (t : Table) (C : Shaped s (met s join k) t)
-    (sums : (c : ℕ) → c < columnCount s → sum (length t) (λ i. cell t i c) ≡ int (pos 1)) where
+module _ {s : Space} {join k : ℕ} {t : Table} (D : Due s join k t) where
   abbrev pub f : ℕ
   f = firstSpanned (degree s) (met s join k) join k
 
@@ -53,49 +49,49 @@ module _ (s : Space) (L : Limits s) (join k : ℕ) (h : join < segments s - 1) (
   Y n u = onRight s join t n u
 
   pub A-pos : int (pos 0) <ᵠ A
-  A-pos = left-positive s L join k h m
+  A-pos = left-positive (D .at)
 
   pub B-pos : int (pos 0) <ᵠ B
-  B-pos = right-positive s L join k h m
+  B-pos = right-positive (D .at)
 
   -- ---- the column sums
   x-none : (n u : ℕ) → u ≤ k → n ≤ lowest (degree s) (met s join k) join (degree s join - k + u) → X n u ≡ int (pos 0)
   unfolding onLeft
-  x-none n u a b = none-yet s L join k h m t C sums join (degree s join - k + u) (omega arith) (omega (arith, room s L join k h m)) n b
+  x-none n u a b = none-yet D join (degree s join - k + u) (left-segment (D .at)) (omega (arith, room (D .at))) n b
 
   pub x-all : (n u : ℕ) → u ≤ k → highest (degree s) (met s join k) join (degree s join - k + u) < n → X n u ≡ int (pos 1)
   unfolding onLeft
-  x-all n u a b = all-done s L join k h m t C sums join (degree s join - k + u) (omega arith) (omega (arith, room s L join k h m)) n b
+  x-all n u a b = all-done D join (degree s join - k + u) (left-segment (D .at)) (omega (arith, room (D .at))) n b
 
   y-none : (n u : ℕ) → u ≤ k → n ≤ lowest (degree s) (met s join k) (suc join) u → Y n u ≡ int (pos 0)
   unfolding onRight
-  y-none n u a b = none-yet s L join k h m t C sums (suc join) u (omega arith) (omega (arith, room′ s L join k h m)) n b
+  y-none n u a b = none-yet D (suc join) u (right-segment (D .at)) (omega (arith, room′ (D .at))) n b
 
   y-all : (n u : ℕ) → u ≤ k → highest (degree s) (met s join k) (suc join) u < n → Y n u ≡ int (pos 1)
   unfolding onRight
-  y-all n u a b = all-done s L join k h m t C sums (suc join) u (omega arith) (omega (arith, room′ s L join k h m)) n b
+  y-all n u a b = all-done D (suc join) u (right-segment (D .at)) (omega (arith, room′ (D .at))) n b
 
   -- ---- the rows of the condition's columns
   x0-low : lowest (degree s) (met s join k) join (degree s join - k + 0) ≡ f
-  x0-low = start-low (degree s) (met s join k) join k (stage s L join k h m) (room s L join k h m) (room′ s L join k h m) (few s L join k h m)
+  x0-low = start-low (stage (D .at)) (room (D .at)) (room′ (D .at)) (few (D .at))
 
   pub x0-high : highest (degree s) (met s join k) join (degree s join - k + 0) ≤ suc f
-  x0-high = start-high (degree s) (met s join k) join k (stage s L join k h m) (room s L join k h m) (room′ s L join k h m) (few s L join k h m)
+  x0-high = start-high (stage (D .at)) (room (D .at)) (room′ (D .at)) (few (D .at))
 
   x0-high-low : k ≤ 1 → highest (degree s) (met s join k) join (degree s join - k + 0) ≡ f
-  x0-high-low = start-high-low (degree s) (met s join k) join k (stage s L join k h m) (room s L join k h m) (room′ s L join k h m) (few s L join k h m)
+  x0-high-low = start-high-low (stage (D .at)) (room (D .at)) (room′ (D .at)) (few (D .at))
 
   x-low : (u : ℕ) → 0 < u → u ≤ k → lowest (degree s) (met s join k) join (degree s join - k + u) ≡ suc f
-  x-low = left-low (degree s) (met s join k) join k (stage s L join k h m) (room s L join k h m) (room′ s L join k h m) (few s L join k h m)
+  x-low = left-low (stage (D .at)) (room (D .at)) (room′ (D .at)) (few (D .at))
 
   pub x-high : (u : ℕ) → 0 < u → u ≤ k → highest (degree s) (met s join k) join (degree s join - k + u) ≡ f + u
-  x-high = left-high (degree s) (met s join k) join k (stage s L join k h m) (room s L join k h m) (room′ s L join k h m) (few s L join k h m)
+  x-high = left-high (stage (D .at)) (room (D .at)) (room′ (D .at)) (few (D .at))
 
   y-low : (u : ℕ) → u ≤ k → lowest (degree s) (met s join k) (suc join) u ≡ suc f + u
-  y-low = right-low (degree s) (met s join k) join k (stage s L join k h m) (room s L join k h m) (room′ s L join k h m) (few s L join k h m)
+  y-low = right-low (stage (D .at)) (room (D .at)) (room′ (D .at)) (few (D .at))
 
   y-high : (u : ℕ) → u < k → highest (degree s) (met s join k) (suc join) u ≡ f + k
-  y-high = right-high (degree s) (met s join k) join k (stage s L join k h m) (room s L join k h m) (room′ s L join k h m) (few s L join k h m)
+  y-high = right-high (stage (D .at)) (room (D .at)) (room′ (D .at)) (few (D .at))
 
   -- ---- the partial sums, by order
   H-zero : k ≡ 0 → (n : ℕ) → H n ≡ A *ᵠ X n 0 -ᵠ B *ᵠ Y n 0
@@ -148,7 +144,7 @@ module _ (s : Space) (L : Limits s) (join k : ℕ) (h : join < segments s - 1) (
 
   same-at-join : k ≡ 2 → (n : ℕ) → Y n 0 ≡ X n 2
   unfolding onLeft onRight summed
-  same-at-join e n = sum-ext n (λ i l. sym (C .joined join (omega arith) (rw (met-here s join k) (omega arith)) i) ∙ ap (λ u. cell t i (firstColumn s join + u)) (let r = room s L join k h m in let z : degree s join ≡ degree s join - k + 2 = omega arith in z))
+  same-at-join e n = sum-ext n (λ i l. sym (D .shape .joined join (right-segment (D .at)) (rw (met-here s join k) (omega arith)) i) ∙ ap (λ u. cell t i (firstColumn s join + u)) (let r = room (D .at) in let z : degree s join ≡ degree s join - k + 2 = omega arith in z))
 
   pub two-second : k ≡ 2 → H (suc (suc f)) ≡ -ᵠ (A *ᵠ (int (pos 1) -ᵠ b) +ᵠ B *ᵠ b)
   two-second e = H-two e (suc (suc f))
@@ -169,12 +165,12 @@ module _ (s : Space) (L : Limits s) (join k : ℕ) (h : join < segments s - 1) (
 
   pub a-pos : k ≡ 2 → int (pos 0) <ᵠ a
   unfolding onLeft
-  a-pos e = some-done s L join k h m t C sums join (degree s join - k + 0) (omega arith) (omega (arith, room s L join k h m)) (suc f) (omega (arith, x0-low))
+  a-pos e = some-done D join (degree s join - k + 0) (left-segment (D .at)) (omega (arith, room (D .at))) (suc f) (omega (arith, x0-low))
 
   pub b-pos : k ≡ 2 → int (pos 0) <ᵠ b
   unfolding onLeft
-  b-pos e = some-done s L join k h m t C sums join (degree s join - k + 2) (omega arith) (omega (arith, room s L join k h m)) (suc (suc f)) (omega (arith, x-low 2 (omega arith) (omega arith)))
+  b-pos e = some-done D join (degree s join - k + 2) (left-segment (D .at)) (omega (arith, room (D .at))) (suc (suc f)) (omega (arith, x-low 2 (omega arith) (omega arith)))
 
   pub b-rest : k ≡ 2 → int (pos 0) <ᵠ int (pos 1) -ᵠ b
   unfolding onLeft
-  b-rest e = some-left s L join k h m t C sums join (degree s join - k + 2) (omega arith) (omega (arith, room s L join k h m)) (suc (suc f)) (omega (arith, x-high 2 (omega arith) (omega arith)))
+  b-rest e = some-left D join (degree s join - k + 2) (left-segment (D .at)) (omega (arith, room (D .at))) (suc (suc f)) (omega (arith, x-high 2 (omega arith) (omega arith)))

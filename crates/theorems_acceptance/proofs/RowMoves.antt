@@ -42,7 +42,7 @@ pub data Stands (f l low high : ℕ) : Type 0 where
   inside : f < low → high < l → Stands f l low high
   over : l ≤ low → Stands f l low high
 
-module _ (p e : ℕ → ℕ) (join k : ℕ) (S : Stage p e join k) (room : k < p join) (room′ : k < p (suc join)) (few : k ≤ 2) where
+module _ {p e : ℕ → ℕ} {join k : ℕ} (S : Stage p e join k) (room : k < p join) (room′ : k < p (suc join)) (few : k ≤ 2) where
   -- the row below the first of the join's left segment
   pub before-join : (i : ℕ) → suc i ≡ join → (firstRow p e join + e i ≡ suc (firstRow p e i + p i)) × (e i ≤ p join)
   unfolding firstRow

@@ -73,12 +73,12 @@ pub met-stage : (s : Space) → Limits s → (join k : ℕ) → join ≤ segment
 met-stage s L join k h p q = record { left = λ i. left i (compared i join); right = λ i. right i (compared i join); here = met-here s join k; rest = met-after s join k }
   where
     left : (i : ℕ) → Compared i join → met s join k i ≤ degree s i
-    left i (before a) = rw (met-before s join k i a) (L .within-left i (omega arith))
+    left i (before a) = rw (met-before s join k i a) (L .legal .below-left-degree i (omega arith))
     left i (same z) = subst (λ m. met s join k m ≤ degree s m) (sym z) (rw (met-here s join k) p)
     left i (after a) = rw (met-after s join k i a) (omega arith)
 
     right : (i : ℕ) → Compared i join → met s join k i ≤ degree s (suc i)
-    right i (before a) = rw (met-before s join k i a) (L .within-right i (omega arith))
+    right i (before a) = rw (met-before s join k i a) (L .legal .below-right-degree i (omega arith))
     right i (same z) = subst (λ m. met s join k m ≤ degree s (suc m)) (sym z) (rw (met-here s join k) q)
     right i (after a) = rw (met-after s join k i a) (omega arith)
 
@@ -89,3 +89,32 @@ none-met s i = go (compared i 0)
     go (before h) = absurd (omega arith)
     go (same z) = ap (met s 0 0) z ∙ met-here s 0 0
     go (after h) = met-after s 0 0 i h
+
+-- ---- the condition of order k at a join, in a space within the limits
+pub record At (s : Space) (join k : ℕ) : Type 0 where
+  pub limits : Limits s
+  pub join-below : join < segments s - 1
+  pub order-below : k < conditionCount s join
+
+module _ {s : Space} {join k : ℕ} (A : At s join k) where
+  pub left-segment : join < segments s
+  left-segment = omega (arith, A .join-below)
+
+  pub right-segment : suc join < segments s
+  right-segment = omega (arith, A .join-below)
+
+  pub room : k < degree s join
+  room = omega (arith, A .order-below, A .limits .legal .below-left-degree join (A .join-below))
+
+  pub room′ : k < degree s (suc join)
+  room′ = omega (arith, A .order-below, A .limits .legal .below-right-degree join (A .join-below))
+
+  pub few : k ≤ 2
+  few = omega (arith, A .order-below, A .limits .few-conditions join (A .join-below))
+
+  -- the stages before and after it
+  pub stage : Stage (degree s) (met s join k) join k
+  stage = met-stage s (A .limits) join k (omega (arith, A .join-below)) (omega (arith, room)) (omega (arith, room′))
+
+  pub stage′ : Stage (degree s) (met s join (suc k)) join (suc k)
+  stage′ = met-stage s (A .limits) join (suc k) (omega (arith, A .join-below)) room room′

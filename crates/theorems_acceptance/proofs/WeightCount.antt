@@ -58,7 +58,7 @@ support-count t c low high S o = counted-whole (hasWeight t c) low high (λ i a 
 
 pub last-reached : (s : Space) (a : Accepted s) → Reached s (segments s - 1) 0 (a .table)
 unfolding weights
-last-reached s a = let c = accepted-checked s a .1 in joins-reached s (legal s c) (limits s c) (segments s - 1) (omega arith) (a .table) (built s (a .table) (a .is) .weights-are)
+last-reached s a = let c = accepted-checked s a .1 in joins-reached s (limits s c) (segments s - 1) (omega arith) (a .table) (built s (a .table) (a .is) .weights-are)
 
 pub left-is : (s : Space) (j : ℕ) → j < segments s → leftCount (met s (segments s - 1) 0) j ≡ leftConditions s j
 left-is s zero h = refl
@@ -100,11 +100,11 @@ module _ (s : Space) (L : Limits s) (most : ℕ) (few : (j : ℕ) → j < segmen
     where
       go : (segments s ≤ suc j) ⊎ (suc j < segments s) → (cond (ltb (suc j) (segments s)) (conditionCount s j) 0 ≤ degree s j) × (cond (ltb (suc j) (segments s)) (conditionCount s j) 0 ≤ most)
       go (inl a) = let e = cond-false (conditionCount s j) 0 (le-ltb (suc j) (segments s) a) in omega arith
-      go (inr a) = let e = cond-true (conditionCount s j) 0 (lt-ltb (suc j) (segments s) a) in omega (arith, L .within-left j (omega arith), few j (omega arith))
+      go (inr a) = let e = cond-true (conditionCount s j) 0 (lt-ltb (suc j) (segments s) a) in omega (arith, L .legal .below-left-degree j (omega arith), few j (omega arith))
 
   left-within : (j : ℕ) → j < segments s → (leftConditions s j ≤ degree s j) × (leftConditions s j ≤ most)
   left-within zero h = omega arith
-  left-within (suc j) h = omega (arith, L .within-right j (omega arith), few j (omega arith))
+  left-within (suc j) h = omega (arith, L .legal .below-right-degree j (omega arith), few j (omega arith))
 
 pub weights-are-counted : WeightsAreCounted
 weights-are-counted s a j u h k = let c = accepted-checked s a .1 in

@@ -13,7 +13,7 @@ use Rattle.spec_spline.specs.Space.{Space, segments, degree, checked, columnCou
 use Rattle.spec_spline.specs.Conditions.{conditions}
 use Rattle.spec_spline.specs.Table.{Table, identity}
 use Rattle.spec_spline.specs.Published.{Matrices, constrain, for, smooth, extraction}
-use Rattle.spec_spline.proofs.Legal.{Legal, legal, checked-inverts}
+use Rattle.spec_spline.proofs.Legal.{legal, checked-inverts}
 use Rattle.spec_spline.proofs.Table.{identity-rows}
 use Rattle.theorems_weights.proofs.Basis.{Basis}
 use Rattle.theorems_weights.proofs.Identity.{identity-basis}
@@ -24,7 +24,7 @@ use Rattle.theorems_weights.proofs.Published.{started, constrain-stepped, const
 use Rattle.theorems_acceptance.proofs.RowMoves.{firstSpanned, lastSpanned}
 use Rattle.theorems_acceptance.proofs.Limits.{Limits, limits}
 use Rattle.theorems_acceptance.proofs.Stages.{met, join-met}
-use Rattle.theorems_acceptance.proofs.Invariant.{Shaped, identity-shaped, step-shaped}
+use Rattle.theorems_acceptance.proofs.Invariant.{Shaped, identity-shaped, Due, step-shaped}
 use Rattle.theorems_acceptance.proofs.Alternating.{Alternates, jump-inside}
 use Rattle.theorems_acceptance.proofs.Signs.{jumps-alternate, span-spread}
 use Rattle.theorems_acceptance.proofs.Reached.{step-mixing}
@@ -36,8 +36,11 @@ pub record Stage (s : Space) (join k : ℕ) (t : Table) : Type 0 where
   pub shape : Shaped s (met s join k) t
   pub rows : length t + (conditionsBefore s join + k) ≡ columnCount s
 
-module _ (s : Space) (L : Legal s) (M : Limits s) where
+module _ (s : Space) (M : Limits s) where
   module _ (join k : ℕ) (h : join < segments s - 1) (m : k < conditionCount s join) (t : Table) (R : Stage s join k t) where
+    due : Due s join k t
+    due = record { at = record { limits = M; join-below = h; order-below = m }; shape = R .shape; sums = R .basis .column-sums }
+
     abbrev f : ℕ
     f = firstSpanned (degree s) (met s join k) join k
 
@@ -45,7 +48,7 @@ module _ (s : Space) (L : Legal s) (M : Limits s) where
     l = lastSpanned (degree s) (met s join k) join
 
     alternate : Alternates f l (λ n. sum n (values (conditions s join k) t))
-    alternate = jumps-alternate s M join k h m t (R .shape) (R .basis .column-sums)
+    alternate = jumps-alternate due
 
     spread : f < l
     spread = span-spread (degree s) (met s join k) join k
@@ -66,20 +69,20 @@ module _ (s : Space) (L : Legal s) (M : Limits s) where
     next = constrain s join k (started s join t) .H
 
     stepped : Stepped (conditions s join k) (columnCount s) t next
-    stepped = constrain-stepped s L join k h m t f l (factor f l (values (conditions s join k) t)) null (R .basis .wide)
+    stepped = constrain-stepped s (M .legal) join k h m t f l (factor f l (values (conditions s join k) t)) null (R .basis .wide)
         (factor-not-negative f l (values (conditions s join k) t) alternate spread) (factor-at-most-one f l (values (conditions s join k) t) alternate spread)
 
     next-stage : Stage s join (suc k) next
     next-stage = record { basis = B; shape = shape; rows = omega (arith, R .rows, stepped .rows) }
       where
         B : Basis (Done s join (suc k)) (columnCount s) next
-        B = order-kept s L join k t next (R .basis) stepped
+        B = order-kept s (M .legal) join k t next (R .basis) stepped
 
         shape : Shaped s (met s join (suc k)) next
-        shape = step-shaped s M join k h m (conditions s join k) t next (R .shape) stepped (step-mixing s M join k h m t (R .shape) (R .basis .column-sums) stepped) (B .column-sums)
+        shape = step-shaped (due .at) (R .shape) stepped (step-mixing due stepped) (B .column-sums)
 
     next-started : constrain s join k (started s join t) ≡ started s join next
-    next-started = constrain-is s L join k h m t next stepped
+    next-started = constrain-is s (M .legal) join k h m t next stepped
 
   -- the first n orders at a join
   orders-stage : (join : ℕ) → join < segments s - 1 → (t : Table) → Stage s join 0 t → (n : ℕ) → n ≤ conditionCount s join
@@ -109,7 +112,7 @@ module _ (s : Space) (L : Legal s) (M : Limits s) where
 -- All joins: the construction's result.
 pub last-stage : (s : Space) → checked s ≡ answer s → Stage s (segments s - 1) 0 (extraction s)
 unfolding extraction
-last-stage s e = let c = checked-inverts s e .1 in joins-stage s (legal s c) (limits s c) (segments s - 1) (omega arith)
+last-stage s e = let c = checked-inverts s e .1 in joins-stage s (limits s c) (segments s - 1) (omega arith)
 
 pub extraction-rows : (s : Space) → checked s ≡ answer s → length (extraction s) ≡ rowCount s
 extraction-rows s e = omega (arith, last-stage s e .rows)

@@ -108,7 +108,7 @@ module _ (s : Space) (x : Accepted s) (a : ℕ) (A : Starts s a) (low : LowOrder
     where
       go : (a ≡ suc j) ⊎ (a < suc j) → (conditionCount s j ≤ 2) × (conditionCount s j ≤ degree s (suc j))
       go (inl z) = omega (arith, cut-none j (subst (λ i. startsPart s i ≡ true) z (A .starts)))
-      go (inr b) = omega (arith, inner-few j (omega arith) l, L .within-right j (omega (arith, within)))
+      go (inr b) = omega (arith, inner-few j (omega arith) l, L .legal .below-right-degree j (omega (arith, within)))
 
   right-few : (j : ℕ) → a ≤ j → j < partEnd s a → (rightConditions s j ≤ 2) × (rightConditions s j ≤ degree s j)
   unfolding rightConditions
@@ -119,7 +119,7 @@ module _ (s : Space) (x : Accepted s) (a : ℕ) (A : Starts s a) (low : LowOrder
       go (inl m) z = let e = cond-false (conditionCount s j) 0 (le-ltb (suc j) (segments s) m) in omega arith
       go (inr m) (inl z) = let e = cond-true (conditionCount s j) 0 (lt-ltb (suc j) (segments s) m) in
           omega (arith, cut-none j (subst (λ i. startsPart s i ≡ true) (sym z) (ends .boundary .starts (omega arith))))
-      go (inr m) (inr z) = let e = cond-true (conditionCount s j) 0 (lt-ltb (suc j) (segments s) m) in omega (arith, inner-few j h z, L .within-left j (omega arith))
+      go (inr m) (inr z) = let e = cond-true (conditionCount s j) 0 (lt-ltb (suc j) (segments s) m) in omega (arith, inner-few j h z, L .legal .below-left-degree j (omega arith))
 
   -- ---- an ordinate's rows
 
