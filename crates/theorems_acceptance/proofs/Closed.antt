@@ -17,7 +17,7 @@ use Rattle.theorems_acceptance.specs.WeightCount.{leftConditions}
 use Rattle.theorems_acceptance.specs.ClosedForms.{share, upperFactor, lowerFactor, takenBefore, cubic, fullCount}
 use Rattle.theorems_acceptance.proofs.Rows.{firstRow, leftCount, highest, Stage}
 use Rattle.theorems_acceptance.proofs.RowMoves.{firstSpanned, before-join}
-use Rattle.theorems_acceptance.proofs.Stages.{met, met-here, met-before, At, room, room′, few, stage}
+use Rattle.theorems_acceptance.proofs.Stages.{met, met-here, met-before, At, room, room′, few, spanning}
 use Rattle.theorems_acceptance.proofs.Reached.{Reached, Advance}
 use Rattle.theorems_acceptance.proofs.StepFactors.{last-at-two, first-at-two}
 
@@ -55,7 +55,7 @@ module _ {s : Space} {join k : ℕ} {t t′ : Table} (A : At s join k) (R : Reac
   w = N .stepped .w
 
   S : Stage p e join k
-  S = stage A
+  S = spanning A .stage
 
   room-left : k < p join
   room-left = room A
@@ -93,7 +93,7 @@ module _ {s : Space} {join k : ℕ} {t t′ : Table} (A : At s join k) (R : Reac
       -- the join before
       after-join : (i : ℕ) → suc i ≡ join → e i ≡ conditionCount s i → Dec (p join ≡ cubic) → Dec (conditionCount s i ≡ fullCount) → cell t (suc f) (firstColumn s join + (p join - k + 0)) ≡ takenBefore s join
       after-join i y c (yes d) (yes q) =
-          ap₂ (λ r u. cell t r u) (let x = before-join S room-left room-right few-orders i y in let v : suc f ≡ top s e i = omega arith in v) (ap₂ (λ j u. firstColumn s j + u) (sym y) (let v : p join - k + 0 ≡ 1 = omega arith in v))
+          ap₂ (λ r u. cell t r u) (let x = before-join (spanning A) i y in let v : suc f ≡ top s e i = omega arith in v) (ap₂ (λ j u. firstColumn s j + u) (sym y) (let v : p join - k + 0 ≡ 1 = omega arith in v))
           ∙ Q .beyond i (omega arith) (c ∙ q) ∙ ap (λ x. x *ᵠ upperFactor s i) (over-none i y) ∙ one-mul (upperFactor s i) ∙ ap (upperFactor s) (let v : i ≡ join - 1 = omega arith in v)
           ∙ sym (cond-true _ _ (ap₂ _&&_ (eq-eqb (p join) cubic d) (eq-eqb (leftConditions s join) fullCount (ap (leftConditions s) (sym y) ∙ q))))
       after-join i y c (no d) q = none-taken z (ap (λ b. b && eqb (leftConditions s join) fullCount) (ne-eqb (p join) cubic d)) (omega (arith, room-left, c, ap (leftCount e) (sym y), A .limits .few-conditions i (omega arith)))

@@ -14,10 +14,10 @@ use Rattle.spec_spline.specs.Table.{Table, cell, identity}
 use Rattle.spec_spline.specs.Step.{step}
 use Rattle.spec_spline.specs.Build.{orderSteps, joinSteps, weights}
 use Rattle.spec_spline.specs.Piecewise.{Accepted}
-use Rattle.base_outcome.proofs.Outcome.{repeat-keeps}
 use Rattle.spec_spline.proofs.Table.{cell-past}
 use Rattle.spec_spline.proofs.Legal.{legal}
 use Rattle.spec_spline.proofs.Space.{segment-column}
+use Rattle.spec_spline.proofs.Induction.{joins-hold}
 use Rattle.theorems_weights.proofs.Built.{built}
 use Rattle.theorems_values.proofs.Segment.{accepted-checked}
 use Rattle.theorems_acceptance.specs.ClosedForms.{lowerFactor, upperFactor, share, cubic, fullCount, leftOver, ownRow, joinRow, joinColumn, firstWeight, lastWeight, JoinWeightsAtOrderOne, JoinWeightsAtOrderTwo, WeightsBeforeJoin, WeightsAfterJoin, JoinOrdinatesAgree, OwnOrdinatesAreRows}
@@ -27,7 +27,7 @@ use Rattle.theorems_acceptance.proofs.Limits.{Limits, limits}
 use Rattle.theorems_acceptance.proofs.Stages.{met, met-before, met-here, met-after, join-met, none-met, Compared, before, same, after, compared, At}
 use Rattle.theorems_acceptance.proofs.Invariant.{column}
 use Rattle.theorems_acceptance.proofs.Cumulative.{first-of-two, middle-of-three}
-use Rattle.theorems_acceptance.proofs.Reached.{Reached, start-reached, step-reached, join-reached, advance}
+use Rattle.theorems_acceptance.proofs.Reached.{Reached, next-reached, start-reached, step-reached, advance}
 use Rattle.theorems_acceptance.proofs.WeightCount.{left-is, right-is}
 use Rattle.theorems_acceptance.proofs.LowJumps.{unit-of}
 use Rattle.theorems_acceptance.proofs.Closed.{top, over, Closed}
@@ -38,29 +38,27 @@ record Formed (s : Space) (join k : ℕ) (t : Table) : Type 0 where
   reached : Reached s join k t
   closed : Closed s (met s join k) t
 
-module _ (s : Space) (M : Limits s) where
-  start-formed : Formed s 0 0 (identity (columnCount s))
-  start-formed = record {
-    reached = start-reached s M;
-    closed = record { once = λ i a z. none i 2 z (omega arith); first = λ i a z. none i fullCount z (omega arith); last = λ i a z. none i fullCount z (omega arith); near = λ i a z. none i fullCount z (omega arith); beyond = λ i a z. none i fullCount z (omega arith) };
-  }
-    where
-      none : {P : Type 0} (i n : ℕ) → met s 0 0 i ≡ n → 0 < n → P
-      none i n z p = absurd (omega (arith, none-met s i))
+start-formed : (s : Space) → Formed s 0 0 (identity (columnCount s))
+start-formed s = record {
+  reached = start-reached s;
+  closed = record { once = λ i a z. none i 2 z (omega arith); first = λ i a. full i; last = λ i a. full i; near = λ i a. full i; beyond = λ i a. full i };
+}
+  where
+    none : {P : Type 0} (i n : ℕ) → met s 0 0 i ≡ n → 0 < n → P
+    none i n z p = absurd (omega (arith, none-met s i))
 
-  step-formed : {join k : ℕ} {t t′ : Table} → At s join k → Formed s join k t → step join (conditions s join k) t ≡ answer t′ → Formed s join (suc k) t′
-  step-formed A F e = record { reached = step-reached A (F .reached) e; closed = step-closed A (F .reached) (advance A (F .reached) e) (F .closed) }
+    full : {P : Type 0} (i : ℕ) → met s 0 0 i ≡ fullCount → P
+    full i z = none i fullCount z (omega arith)
 
-  join-formed : (join : ℕ) → join < segments s - 1 → (t t′ : Table) → Formed s join 0 t → orderSteps s join (conditionCount s join) t ≡ answer t′ → Formed s (suc join) 0 t′
-  unfolding orderSteps
-  join-formed join h t t′ F e = record {
-    reached = join-reached s M join h t t′ (F .reached) e;
-    closed = subst (λ c. Closed s c t′) (join-met s join) (repeat-keeps (λ k b. Formed s join k b) (conditionCount s join) (λ k. step join (conditions s join k)) t F (λ k b c l P r. step-formed (record { limits = M; join-below = h; order-below = l }) P r) t′ e .closed);
-  }
+step-formed : {s : Space} {join k : ℕ} {t t′ : Table} → At s join k → Formed s join k t → step join (conditions s join k) t ≡ answer t′ → Formed s join (suc k) t′
+step-formed A F e = record { reached = step-reached A (F .reached) e; closed = step-closed A (F .reached) (advance A (F .reached) e) (F .closed) }
 
-  joins-formed : (t : Table) → joinSteps s (segments s - 1) ≡ answer t → Formed s (segments s - 1) 0 t
-  unfolding joinSteps
-  joins-formed t e = repeat-keeps (λ j b. Formed s j 0 b) (segments s - 1) (λ j. orderSteps s j (conditionCount s j)) (identity (columnCount s)) start-formed (λ j b c l P r. join-formed j l b c P r) t e
+joins-formed : (s : Space) → Limits s → (t : Table) → joinSteps s (segments s - 1) ≡ answer t → Formed s (segments s - 1) 0 t
+unfolding joinSteps orderSteps
+joins-formed s M t e = joins-hold s (λ j k. step j (conditions s j k)) (Formed s)
+    (λ j k t t′ h m F r. step-formed (record { limits = M; join-below = h; order-below = m }) F r)
+    (λ j t h F. record { reached = next-reached (F .reached); closed = subst (λ c. Closed s c t) (join-met s j) (F .closed) })
+    (segments s - 1) (omega arith) (start-formed s) e
 
 -- ---- the last stage in the space's own words
 

@@ -23,7 +23,7 @@ use Rattle.theorems_weights.proofs.NullSpace.{mixed}
 use Rattle.theorems_acceptance.specs.ClosedForms.{share, upperFactor, lowerFactor, cubic, fullCount}
 use Rattle.theorems_acceptance.proofs.Rows.{firstRow, lowest, highest, Stage, top-highest, below-top-highest, next-highest}
 use Rattle.theorems_acceptance.proofs.RowMoves.{firstSpanned, first-kept, before-join, far-top, right-low, right-high}
-use Rattle.theorems_acceptance.proofs.Stages.{met, met-here, met-after, next-met, Compared, before, same, after, compared, At, room, room′, few, stage}
+use Rattle.theorems_acceptance.proofs.Stages.{met, met-here, met-after, next-met, Compared, before, same, after, compared, At, room, room′, few, spanning}
 use Rattle.theorems_acceptance.proofs.JumpSums.{summed, onLeft}
 use Rattle.theorems_acceptance.proofs.Reached.{Reached, Advance}
 use Rattle.theorems_acceptance.proofs.LowJumps.{unit}
@@ -48,7 +48,7 @@ module _ {s : Space} {join k : ℕ} {t t′ : Table} (A : At s join k) (R : Reac
   w = N .stepped .w
 
   S : Stage p e join k
-  S = stage A
+  S = spanning A .stage
 
   room-left : k < p join
   room-left = room A
@@ -83,11 +83,11 @@ module _ {s : Space} {join k : ℕ} {t t′ : Table} (A : At s join k) (R : Reac
   same-count i n = next-met s join k .same i n
 
   same-top : (i : ℕ) → i ≤ join → top s e′ i ≡ top s e i
-  same-top i b = ap (λ n. n + p i) (first-kept p e e′ join (next-met s join k) i b)
+  same-top i b = ap (λ n. n + p i) (first-kept p (next-met s join k) i b)
 
   -- where the last row of an earlier join stands, after n conditions there
   near-top : (i : ℕ) → suc i ≡ join → firstRow p e join + e i ≡ suc (top s e i)
-  near-top i z = before-join S room-left room-right few-orders i z .0
+  near-top i z = before-join (spanning A) i z .0
 
   low-top : (i n : ℕ) → i < join → e i ≡ n → n ≤ 2 → top s e i ≤ f
   unfolding firstSpanned
@@ -95,7 +95,7 @@ module _ {s : Space} {join k : ℕ} {t t′ : Table} (A : At s join k) (R : Reac
     where
       go : (suc i ≡ join) ⊎ (suc i < join) → top s e i ≤ f
       go (inl z) = omega (arith, near-top i z, room-left)
-      go (inr z) = far-top S room-left room-right few-orders i z
+      go (inr z) = far-top (spanning A) i z
 
   below-top : (i : ℕ) → i < join → e i ≡ fullCount → (suc (top s e i - 2) ≤ f) × (top s e i - 1 ≤ f)
   unfolding firstSpanned
@@ -103,7 +103,7 @@ module _ {s : Space} {join k : ℕ} {t t′ : Table} (A : At s join k) (R : Reac
     where
       go : (suc i ≡ join) ⊎ (suc i < join) → (suc (top s e i - 2) ≤ f) × (top s e i - 1 ≤ f)
       go (inl z) = let x = near-top i z in (omega (arith, room-left), omega (arith, room-left))
-      go (inr z) = let x = far-top S room-left room-right few-orders i z in let y = S .left i in (omega arith, omega arith)
+      go (inr z) = let x = far-top (spanning A) i z in let y = S .left i in (omega arith, omega arith)
 
   -- what is left of a last weight
   over-same : (i : ℕ) → suc i ≢ join → over s e′ i ≡ over s e i
@@ -130,12 +130,12 @@ module _ {s : Space} {join k : ℕ} {t t′ : Table} (A : At s join k) (R : Reac
       near : suc i ≡ join → Dec (p join ≡ cubic) → Dec (k ≡ 2) → cell t′ (top s e i) (firstColumn s j + u) ≡ over s e′ i *ᵠ q
       near z (yes d) (yes a) = taken-by (top s e i) (firstColumn s j + u) (past A R N Q j u (top s e i) x y v)
           ∙ ap₂ _*ᵠ_ (ap w (let o = near-top i z in let g : top s e i ≡ suc f = omega arith in g) ∙ lower-is A R N Q a) (old ∙ ap (λ o. o *ᵠ q) (over-none A R N Q i z) ∙ one-mul q) ∙ ap (λ o. o *ᵠ q) (sym (over-new i z d a))
-      near z (no d) a = still (let o = near-top i z in let r = before-join S room-left room-right few-orders i z .1 in omega (arith, few-orders)) (over-none A R N Q i z ∙ sym (over-still i z (inl d)))
-      near z (yes d) (no a) = still (let o = near-top i z in let r = before-join S room-left room-right few-orders i z .1 in omega (arith, few-orders)) (over-none A R N Q i z ∙ sym (over-still i z (inr a)))
+      near z (no d) a = still (let o = near-top i z in let r = before-join (spanning A) i z .1 in omega (arith, few-orders)) (over-none A R N Q i z ∙ sym (over-still i z (inl d)))
+      near z (yes d) (no a) = still (let o = near-top i z in let r = before-join (spanning A) i z .1 in omega (arith, few-orders)) (over-none A R N Q i z ∙ sym (over-still i z (inr a)))
 
       go : (suc i ≡ join) ⊎ (suc i < join) → cell t′ (top s e i) (firstColumn s j + u) ≡ over s e′ i *ᵠ q
       go (inl z) = near z (ℕ-discrete (p join) cubic) (ℕ-discrete k 2)
-      go (inr z) = still (far-top S room-left room-right few-orders i z) (sym (over-same i (λ g. omega arith)))
+      go (inr z) = still (far-top (spanning A) i z) (sym (over-same i (λ g. omega arith)))
 
   -- ---- this join
 
@@ -190,10 +190,10 @@ module _ {s : Space} {join k : ℕ} {t t′ : Table} (A : At s join k) (R : Reac
   own-beyond : k ≡ 2 → cell t′ (f + k) (firstColumn s (suc join) + 1) ≡ upperFactor s join
   own-beyond z = ap (λ r. cell t′ r (firstColumn s (suc join) + 1)) (let y : f + k ≡ suc (suc f) = omega arith in y)
       ∙ taken-by (suc (suc f)) _ (past A R N Q (suc join) 1 (suc (suc f)) (omega arith) (omega (arith, room-right)) ends)
-      ∙ ap₂ _*ᵠ_ (upper-is A R N Q z) (unit A R (suc join) 1 (omega arith) (omega (arith, room-right)) (suc (suc f)) (right-low S room-left room-right few-orders 1 (omega arith) ∙ omega arith) ends .one) ∙ mul-one (upperFactor s join)
+      ∙ ap₂ _*ᵠ_ (upper-is A R N Q z) (unit A R (suc join) 1 (omega arith) (omega (arith, room-right)) (suc (suc f)) (right-low (spanning A) 1 (omega arith) ∙ omega arith) ends .one) ∙ mul-one (upperFactor s join)
     where
       ends : highest p e (suc join) 1 ≡ suc (suc f)
-      ends = right-high S room-left room-right few-orders 1 (omega arith) ∙ omega arith
+      ends = right-high (spanning A) 1 (omega arith) ∙ omega arith
 
   -- ---- all joins
 

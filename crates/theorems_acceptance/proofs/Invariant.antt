@@ -24,7 +24,7 @@ use Rattle.theorems_weights.proofs.Stepped.{Stepped}
 use Rattle.theorems_acceptance.proofs.Rows.{firstRow, leftCount, lowest, highest, lowest-at-most-highest, Stage, Moves, Single, met-once}
 use Rattle.theorems_acceptance.proofs.RowMoves.{firstSpanned, lastSpanned, step-moves}
 use Rattle.theorems_acceptance.proofs.Support.{Support, Mixing, support-mixed, support-same, support-ends, support-one}
-use Rattle.theorems_acceptance.proofs.Stages.{met, met-here, At, left-segment, right-segment, room, room′, few, stage, stage′, next-met, none-met, Compared, before, same, after, compared}
+use Rattle.theorems_acceptance.proofs.Stages.{met, met-here, At, left-segment, right-segment, stage′, next-met, none-met, Compared, before, same, after, compared, spanning}
 
 -- The weights of all rows on ordinate u of segment j.
 abbrev pub column : Space → Table → ℕ → ℕ → ℕ → ℚ
@@ -103,7 +103,7 @@ module _ {s : Space} {join k : ℕ} (A : At s join k) {κ : List Entry} {t t′ 
 
   moves : (j u : ℕ) → u ≤ degree s j
       → Moves (firstSpanned (degree s) e join k) (lastSpanned (degree s) e join) (lowest (degree s) e j u) (highest (degree s) e j u) (lowest (degree s) e′ j u) (highest (degree s) e′ j u)
-  moves j u b = step-moves (stage A) (room A) (room′ A) (few A) e′ (next-met s join k) j u b
+  moves j u b = step-moves (spanning A) e′ (next-met s join k) j u b
 
   spread : firstSpanned (degree s) e join k < lastSpanned (degree s) e join
   unfolding firstSpanned lastSpanned

@@ -26,7 +26,7 @@ use Rattle.theorems_weights.proofs.Difference.{difference, difference-ext, diff
 use Rattle.theorems_weights.proofs.Condition.{divisor, divisor-pos, leftScale, rightScale, applied-conditions, conditions-constant}
 use Rattle.theorems_acceptance.proofs.Rows.{lowest, highest, lowest-at-most-highest}
 use Rattle.theorems_acceptance.proofs.RowMoves.{firstSpanned, lastSpanned, left-within, right-within}
-use Rattle.theorems_acceptance.proofs.Stages.{met, At, left-segment, right-segment, room, room′, few, stage}
+use Rattle.theorems_acceptance.proofs.Stages.{met, At, left-segment, right-segment, room, room′, spanning}
 use Rattle.theorems_acceptance.proofs.Invariant.{column, Due}
 use Rattle.theorems_acceptance.proofs.Cumulative.{sum-none, sum-all, sum-some, sum-rest}
 
@@ -94,15 +94,15 @@ module _ {s : Space} {join k : ℕ} {t : Table} (D : Due s join k t) where
   pub sums-before : (n : ℕ) → n ≤ firstSpanned (degree s) e join k → jumpSum s join k t n ≡ int (pos 0)
   unfolding jumpSum onLeft onRight
   sums-before n b = ap₂ (λ x y. int (pos (leftScale s join k)) *ᵠ x -ᵠ int (pos (rightScale s join k)) *ᵠ y)
-      (difference-none k (λ u a. none-yet join (degree s join - k + u) (left-segment (D .at)) (omega (arith, room (D .at))) n (omega (arith, left-within (stage (D .at)) (room (D .at)) (room′ (D .at)) (few (D .at)) u a))))
-      (difference-none k (λ u a. none-yet (suc join) u (right-segment (D .at)) (omega (arith, room′ (D .at))) n (omega (arith, right-within (stage (D .at)) (room (D .at)) (room′ (D .at)) (few (D .at)) u a))))
+      (difference-none k (λ u a. none-yet join (degree s join - k + u) (left-segment (D .at)) (omega (arith, room (D .at))) n (omega (arith, left-within (spanning (D .at)) u a))))
+      (difference-none k (λ u a. none-yet (suc join) u (right-segment (D .at)) (omega (arith, room′ (D .at))) n (omega (arith, right-within (spanning (D .at)) u a))))
       ∙ ring ℚ-ring (int (pos (leftScale s join k)) ∷ int (pos (rightScale s join k)) ∷ []) (search readsℚ depth 20) (search readsℚ depth 20) refl
 
   pub sums-after : (n : ℕ) → lastSpanned (degree s) e join < n → jumpSum s join k t n ≡ int (pos 0)
   unfolding jumpSum onLeft onRight
   sums-after n b = ap₂ (λ x y. int (pos (leftScale s join k)) *ᵠ x -ᵠ int (pos (rightScale s join k)) *ᵠ y)
-      (difference-ext k (λ u a. all-done join (degree s join - k + u) (left-segment (D .at)) (omega (arith, room (D .at))) n (omega (arith, left-within (stage (D .at)) (room (D .at)) (room′ (D .at)) (few (D .at)) u a))))
-      (difference-ext k (λ u a. all-done (suc join) u (right-segment (D .at)) (omega (arith, room′ (D .at))) n (omega (arith, right-within (stage (D .at)) (room (D .at)) (room′ (D .at)) (few (D .at)) u a))))
+      (difference-ext k (λ u a. all-done join (degree s join - k + u) (left-segment (D .at)) (omega (arith, room (D .at))) n (omega (arith, left-within (spanning (D .at)) u a))))
+      (difference-ext k (λ u a. all-done (suc join) u (right-segment (D .at)) (omega (arith, room′ (D .at))) n (omega (arith, right-within (spanning (D .at)) u a))))
       ∙ sym (applied-conditions s join k (λ c. int (pos 1)))
       ∙ ap (λ v. int (pos (divisor s join k)) *ᵠ v) (conditions-constant s join k (omega (arith, room (D .at))) (D .at .limits .legal .positive-width (suc join) (right-segment (D .at))))
       ∙ mul-zero _

@@ -20,7 +20,7 @@ use Rattle.theorems_acceptance.specs.Acceptance.{countedLimit}
 use Rattle.theorems_acceptance.proofs.Rows.{lowest, highest}
 use Rattle.theorems_acceptance.proofs.RowMoves.{firstSpanned, start-low, start-high-low, left-low, left-high, right-low, right-high, right-last}
 use Rattle.theorems_acceptance.proofs.Support.{Support, support-ends}
-use Rattle.theorems_acceptance.proofs.Stages.{met, At, left-segment, right-segment, room, room′, few, stage}
+use Rattle.theorems_acceptance.proofs.Stages.{met, At, left-segment, right-segment, room, room′, spanning}
 use Rattle.theorems_acceptance.proofs.Invariant.{single-one}
 use Rattle.theorems_acceptance.proofs.Reached.{Reached}
 use Rattle.theorems_acceptance.proofs.Loads.{Load, empty, skip, take, conditions-zero, conditions-one, left-zero, right-zero, left-one, right-one}
@@ -54,26 +54,26 @@ module _ {s : Space} {join k : ℕ} {t : Table} (A : At s join k) (R : Reached s
   left-start : k ≤ 1 → Unit t (firstColumn s join + (degree s join - k + 0)) f
   unfolding f
   left-start w = unit join (degree s join - k + 0) (left-segment A) (omega (arith, room A)) f
-      (start-low (stage A) (room A) (room′ A) (few A))
-      (start-high-low (stage A) (room A) (room′ A) (few A) w)
+      (start-low (spanning A))
+      (start-high-low (spanning A) w)
 
   left-end : k ≡ 1 → Unit t (firstColumn s join + (degree s join - k + 1)) (suc f)
   unfolding f
   left-end e = unit join (degree s join - k + 1) (left-segment A) (omega (arith, room A)) (suc f)
-      (left-low (stage A) (room A) (room′ A) (few A) 1 (omega arith) (omega arith))
-      (left-high (stage A) (room A) (room′ A) (few A) 1 (omega arith) (omega arith) ∙ omega arith)
+      (left-low (spanning A) 1 (omega arith) (omega arith))
+      (left-high (spanning A) 1 (omega arith) (omega arith) ∙ omega arith)
 
   right-start : k ≡ 1 → Unit t (firstColumn s (suc join) + 0) (suc f)
   unfolding f
   right-start e = unit (suc join) 0 (right-segment A) (omega arith) (suc f)
-      (right-low (stage A) (room A) (room′ A) (few A) 0 (omega arith) ∙ omega arith)
-      (right-high (stage A) (room A) (room′ A) (few A) 0 (omega arith) ∙ omega arith)
+      (right-low (spanning A) 0 (omega arith) ∙ omega arith)
+      (right-high (spanning A) 0 (omega arith) ∙ omega arith)
 
   right-end : k ≤ 1 → Unit t (firstColumn s (suc join) + k) (suc (f + k))
   unfolding f
   right-end w = unit (suc join) k (right-segment A) (omega (arith, room′ A)) (suc (f + k))
-      (right-low (stage A) (room A) (room′ A) (few A) k (omega arith) ∙ omega arith)
-      (right-last (stage A) (room A) (room′ A) (few A))
+      (right-low (spanning A) k (omega arith) ∙ omega arith)
+      (right-last (spanning A))
 
 -- The two sides' conditions of order 1 together.
 sides : {s : Space} {join k : ℕ} → At s join k → degree s join * width s (suc join) + degree s (suc join) * width s join ≤ countedLimit

@@ -80,9 +80,9 @@ module _ (s : Space) (c : Checked s) (low : (j : ℕ) → j < segments s - 1 →
   -- all joins
   joins-low : (n : ℕ) → n ≤ segments s - 1 → LowReached s n 0 (exactJoins s n)
   unfolding exactJoins for
-  joins-low zero h = record { reached = start-reached s M; cells = identity-small (columnCount s) }
+  joins-low zero h = record { reached = start-reached s; cells = identity-small (columnCount s) }
   joins-low (suc n) h = let R = joins-low n (omega arith) in let P = orders-low n (conditionCount s n) (omega arith) (omega arith) (exactJoins s n) R in
-      record { reached = join-reached s M n (omega arith) (exactJoins s n) (exactOrders s n (conditionCount s n) (exactJoins s n)) (R .reached) (P .1); cells = P .0 .cells }
+      record { reached = join-reached s M n (omega arith) (R .reached) (P .1); cells = P .0 .cells }
 
   pub build-good : Every (Good (Small countedLimit)) (buildTests s)
   unfolding buildTests

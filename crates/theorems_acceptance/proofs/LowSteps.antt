@@ -30,7 +30,7 @@ use Rattle.theorems_acceptance.specs.Acceptance.{countedLimit}
 use Rattle.theorems_acceptance.proofs.Rows.{lowest, highest, lowest-at-most-highest}
 use Rattle.theorems_acceptance.proofs.RowMoves.{firstSpanned, lastSpanned, Stands, under, inside, over, stands, last-is}
 use Rattle.theorems_acceptance.proofs.Support.{Support, support-ends}
-use Rattle.theorems_acceptance.proofs.Stages.{met, At, room, room′, few, stage}
+use Rattle.theorems_acceptance.proofs.Stages.{met, At, spanning}
 use Rattle.theorems_acceptance.proofs.Invariant.{column}
 use Rattle.theorems_acceptance.proofs.Alternating.{Alternates, jump-inside, quotient-above, quotient-below}
 use Rattle.theorems_acceptance.proofs.Tests.{Good, Every, first-is, last-is as last-jump-is, quotient-is, step-good}
@@ -71,14 +71,14 @@ module _ {s : Space} {join k : ℕ} {t : Table} (at : At s join k) (R : Reached 
 
   end : l ≡ suc (f + k)
   unfolding f l
-  end = last-is (stage at) (room at) (room′ at) (few at)
+  end = last-is (spanning at)
 
   entries-of : (c : ℕ) → Entries t c f l
   unfolding f l
   entries-of c = go (le-or-lt (columnCount s) c)
     where
       placed : (j u : ℕ) → j < segments s → u ≤ degree s j → Entries t (firstColumn s j + u) f l
-      placed j u a b = stand (stands (stage at) (room at) (room′ at) (few at) low-order j u b)
+      placed j u a b = stand (stands (spanning at) low-order j u b)
         where
           S : Support (column s t j u) (lowest (degree s) (met s join k) j u) (highest (degree s) (met s join k) j u)
           S = R .shape .supported j u a b

@@ -17,7 +17,7 @@ use Rattle.theorems_weights.proofs.Difference.{difference, difference-suc, diff
 use Rattle.theorems_weights.proofs.Condition.{leftScale, rightScale}
 use Rattle.theorems_acceptance.proofs.Rows.{lowest, highest}
 use Rattle.theorems_acceptance.proofs.RowMoves.{firstSpanned, start-low, start-high, start-high-low, left-low, left-high, right-low, right-high}
-use Rattle.theorems_acceptance.proofs.Stages.{met, met-here, stage, room, room′, few, left-segment, right-segment}
+use Rattle.theorems_acceptance.proofs.Stages.{met, met-here, room, room′, left-segment, right-segment, spanning}
 use Rattle.theorems_acceptance.proofs.Invariant.{Due}
 use Rattle.theorems_acceptance.proofs.JumpSums.{summed, onLeft, onRight, jumpSum, left-positive, right-positive, none-yet, all-done, some-done, some-left}
 
@@ -73,25 +73,25 @@ module _ {s : Space} {join k : ℕ} {t : Table} (D : Due s join k t) where
 
   -- ---- the rows of the condition's columns
   x0-low : lowest (degree s) (met s join k) join (degree s join - k + 0) ≡ f
-  x0-low = start-low (stage (D .at)) (room (D .at)) (room′ (D .at)) (few (D .at))
+  x0-low = start-low (spanning (D .at))
 
   pub x0-high : highest (degree s) (met s join k) join (degree s join - k + 0) ≤ suc f
-  x0-high = start-high (stage (D .at)) (room (D .at)) (room′ (D .at)) (few (D .at))
+  x0-high = start-high (spanning (D .at))
 
   x0-high-low : k ≤ 1 → highest (degree s) (met s join k) join (degree s join - k + 0) ≡ f
-  x0-high-low = start-high-low (stage (D .at)) (room (D .at)) (room′ (D .at)) (few (D .at))
+  x0-high-low = start-high-low (spanning (D .at))
 
   x-low : (u : ℕ) → 0 < u → u ≤ k → lowest (degree s) (met s join k) join (degree s join - k + u) ≡ suc f
-  x-low = left-low (stage (D .at)) (room (D .at)) (room′ (D .at)) (few (D .at))
+  x-low = left-low (spanning (D .at))
 
   pub x-high : (u : ℕ) → 0 < u → u ≤ k → highest (degree s) (met s join k) join (degree s join - k + u) ≡ f + u
-  x-high = left-high (stage (D .at)) (room (D .at)) (room′ (D .at)) (few (D .at))
+  x-high = left-high (spanning (D .at))
 
   y-low : (u : ℕ) → u ≤ k → lowest (degree s) (met s join k) (suc join) u ≡ suc f + u
-  y-low = right-low (stage (D .at)) (room (D .at)) (room′ (D .at)) (few (D .at))
+  y-low = right-low (spanning (D .at))
 
   y-high : (u : ℕ) → u < k → highest (degree s) (met s join k) (suc join) u ≡ f + k
-  y-high = right-high (stage (D .at)) (room (D .at)) (room′ (D .at)) (few (D .at))
+  y-high = right-high (spanning (D .at))
 
   -- ---- the partial sums, by order
   H-zero : k ≡ 0 → (n : ℕ) → H n ≡ A *ᵠ X n 0 -ᵠ B *ᵠ Y n 0

@@ -5,19 +5,20 @@ use Prim.Native.Nat.{ℕ, suc, _-_, _<_, _≤_}
 use native.Mathlib.Omega.{arith}
 use lib.Dec.{T}
 use Rattle.base_exact.specs.Sum.{sum}
-use Rattle.base_outcome.specs.Outcome.{answer, refusal, _then_}
+use Rattle.base_outcome.specs.Outcome.{answer, refusal, _then_, Outcome}
 use Rattle.spec_spline.specs.Space.{Space, segments, degree, conditionCount, columnCount}
 use Rattle.spec_spline.specs.Conditions.{conditions}
 use Rattle.spec_spline.specs.Table.{Table, identity}
 use Rattle.spec_spline.specs.Step.{step}
 use Rattle.spec_spline.specs.Build.{orderSteps, joinSteps, weights}
-use Rattle.base_outcome.proofs.Outcome.{repeat-keeps, Halted, repeat-refuses, then-answers}
+use Rattle.base_outcome.proofs.Outcome.{Halted, repeat-refuses, then-answers}
 use Rattle.spec_spline.proofs.Legal.{Checked, legal}
 use Rattle.spec_spline.proofs.TableFits.{TableFits, identity-fits, step-fits}
+use Rattle.spec_spline.proofs.Induction.{orders-hold, join-holds, joins-hold}
 use Rattle.theorems_weights.proofs.Basis.{Basis}
 use Rattle.theorems_weights.proofs.Identity.{identity-basis}
 use Rattle.theorems_weights.proofs.Stepped.{Stepped, values}
-use Rattle.theorems_weights.proofs.Built.{Done, nothing-done, order-stepped, order-kept, join-kept}
+use Rattle.theorems_weights.proofs.Built.{Done, nothing-done, order-stepped, order-kept, join-done}
 use Rattle.theorems_acceptance.proofs.RowMoves.{firstSpanned, lastSpanned}
 use Rattle.theorems_acceptance.proofs.Support.{Mixing}
 use Rattle.theorems_acceptance.proofs.Factors.{factors-mix, first-is, last-is}
@@ -79,24 +80,32 @@ module _ {s : Space} {join k : ℕ} {t : Table} (A : At s join k) (R : Reached s
     fitting = step-fits join (conditions s join k) t (R .fitting) e;
   }
 
+-- all conditions of a join: none yet at the next
+pub next-reached : {s : Space} {join : ℕ} {t : Table} → Reached s join (conditionCount s join) t → Reached s (suc join) 0 t
+next-reached {s} {join} {t} R = record { basis = join-done s join (R .basis); shape = subst (λ c. Shaped s c t) (join-met s join) (R .shape); fitting = R .fitting }
+
+pub start-reached : (s : Space) → Reached s 0 0 (identity (columnCount s))
+start-reached s = record { basis = identity-basis (columnCount s) (Done s 0 0) (nothing-done s); shape = identity-shaped s; fitting = identity-fits (columnCount s) }
+
 module _ (s : Space) (M : Limits s) where
-  pub start-reached : Reached s 0 0 (identity (columnCount s))
-  start-reached = record { basis = identity-basis (columnCount s) (Done s 0 0) (nothing-done s); shape = identity-shaped s; fitting = identity-fits (columnCount s) }
+  abbrev act : ℕ → ℕ → Table → Outcome Table
+  act j k = step j (conditions s j k)
 
-  -- the first n conditions of a join
-  pub orders-reached : (join n : ℕ) → join < segments s - 1 → n ≤ conditionCount s join → (t t′ : Table) → Reached s join 0 t → orderSteps s join n t ≡ answer t′ → Reached s join n t′
+  steps : (j k : ℕ) (t t′ : Table) → j < segments s - 1 → k < conditionCount s j → Reached s j k t → act j k t ≡ answer t′ → Reached s j (suc k) t′
+  steps j k t t′ h m R e = step-reached (record { limits = M; join-below = h; order-below = m }) R e
+
+  -- the first n conditions of a join, all of them, and the first n joins
+  pub orders-reached : (join n : ℕ) → join < segments s - 1 → n ≤ conditionCount s join → {t t′ : Table} → Reached s join 0 t → orderSteps s join n t ≡ answer t′ → Reached s join n t′
   unfolding orderSteps
-  orders-reached join n h m t t′ R e = repeat-keeps (λ k b. Reached s join k b) n (λ k. step join (conditions s join k)) t R (λ k b c l P r. step-reached (record { limits = M; join-below = h; order-below = omega arith }) P r) t′ e
+  orders-reached = orders-hold s act (Reached s) steps
 
-  -- all of them
-  pub join-reached : (join : ℕ) → join < segments s - 1 → (t t′ : Table) → Reached s join 0 t → orderSteps s join (conditionCount s join) t ≡ answer t′ → Reached s (suc join) 0 t′
-  join-reached join h t t′ R e = let P = orders-reached join (conditionCount s join) h (omega arith) t t′ R e in
-      record { basis = join-kept s (M .legal) join h t t′ (R .basis) e .0; shape = subst (λ c. Shaped s c t′) (join-met s join) (P .shape); fitting = P .fitting }
+  pub join-reached : (join : ℕ) → join < segments s - 1 → {t t′ : Table} → Reached s join 0 t → orderSteps s join (conditionCount s join) t ≡ answer t′ → Reached s (suc join) 0 t′
+  unfolding orderSteps
+  join-reached = join-holds s act (Reached s) steps (λ j t h R. next-reached R)
 
-  -- the first n joins
-  pub joins-reached : (n : ℕ) → n ≤ segments s - 1 → (t : Table) → joinSteps s n ≡ answer t → Reached s n 0 t
-  unfolding joinSteps
-  joins-reached n h t e = repeat-keeps (λ j b. Reached s j 0 b) n (λ j. orderSteps s j (conditionCount s j)) (identity (columnCount s)) start-reached (λ j b c l P r. join-reached j (omega arith) b c P r) t e
+  pub joins-reached : (n : ℕ) → n ≤ segments s - 1 → {t : Table} → joinSteps s n ≡ answer t → Reached s n 0 t
+  unfolding joinSteps orderSteps
+  joins-reached n h e = joins-hold s act (Reached s) steps (λ j t h R. next-reached R) n h (start-reached s) e
 
 -- A build that is refused: the step that refuses it, and the table before that step.
 pub record RefusedAt (s : Space) (code place : ℕ) : Type 0 where
@@ -127,7 +136,6 @@ weights-refused s c {code} {place} e = at-join (repeat-refuses (segments s - 1) 
           order-below = K .below;
           table = K .reached;
           before = then-answers (orderSteps s (H .index) (K .index)) (H .before) ∙ K .before;
-          reached = orders-reached s M (H .index) (K .index) (H .below) (let b = K .below in omega arith) (H .reached) (K .reached)
-              (joins-reached s M (H .index) (let b = H .below in omega arith) (H .reached) (H .before)) (K .before);
+          reached = orders-reached s M (H .index) (K .index) (H .below) (omega (arith, K .below)) (joins-reached s M (H .index) (omega (arith, H .below)) (H .before)) (K .before);
           refuses = K .refuses;
         }

@@ -17,7 +17,7 @@ use Rattle.spec_spline.specs.Table.{Table}
 use Rattle.theorems_weights.proofs.Stepped.{values}
 use Rattle.theorems_weights.proofs.Condition.{divisor}
 use Rattle.theorems_acceptance.proofs.RowMoves.{firstSpanned, lastSpanned, last-is}
-use Rattle.theorems_acceptance.proofs.Stages.{met, stage, room, room′, few}
+use Rattle.theorems_acceptance.proofs.Stages.{met, few, spanning}
 use Rattle.theorems_acceptance.proofs.Invariant.{Due}
 use Rattle.theorems_acceptance.proofs.Alternating.{Alternates, alternates-scaled, signs-alternate}
 use Rattle.theorems_acceptance.proofs.JumpSums.{jumpSum, partial-is, divisor-positive, sums-before, sums-after}
@@ -74,7 +74,7 @@ module _ {s : Space} {join k : ℕ} {t : Table} (D : Due s join k t) where
       (subst (λ l. Alternates f l H) (sym end) (signs-alternate f k H (few (D .at)) (sums-before D) (λ n x. sums-after D n (rw end x)) last-positive second-negative first-positive))
     where
       end : lastSpanned (degree s) (met s join k) join ≡ suc (f + k)
-      end = last-is (stage (D .at)) (room (D .at)) (room′ (D .at)) (few (D .at))
+      end = last-is (spanning (D .at))
 
 pub span-spread : (p e : ℕ → ℕ) (join k : ℕ) → firstSpanned p e join k < lastSpanned p e join
 unfolding firstSpanned lastSpanned

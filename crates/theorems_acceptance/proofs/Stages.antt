@@ -12,6 +12,7 @@ use Rattle.base_exact.proofs.Decide.{le-or-lt, holds-true, fails-false, cond-tr
 use Rattle.spec_spline.specs.Space.{Space, segments, degree, conditionCount}
 use Rattle.theorems_acceptance.proofs.Rows.{Stage, Next}
 use Rattle.theorems_acceptance.proofs.Limits.{Limits}
+use Rattle.theorems_acceptance.proofs.RowMoves.{Spanning}
 
 -- The conditions met at join i after all of the joins before this one and the first k at it.
 pub met : Space → ℕ → ℕ → ℕ → ℕ
@@ -113,8 +114,11 @@ module _ {s : Space} {join k : ℕ} (A : At s join k) where
   few = omega (arith, A .order-below, A .limits .few-conditions join (A .join-below))
 
   -- the stages before and after it
-  pub stage : Stage (degree s) (met s join k) join k
+  stage : Stage (degree s) (met s join k) join k
   stage = met-stage s (A .limits) join k (omega (arith, A .join-below)) (omega (arith, room)) (omega (arith, room′))
 
   pub stage′ : Stage (degree s) (met s join (suc k)) join (suc k)
   stage′ = met-stage s (A .limits) join (suc k) (omega (arith, A .join-below)) room room′
+
+  pub spanning : Spanning (degree s) (met s join k) join k
+  spanning = record { stage = stage; room = room; room′ = room′; few = few }

@@ -22,7 +22,7 @@ use Rattle.theorems_weights.proofs.Stepped.{values, values-past}
 use Rattle.theorems_weights.proofs.Condition.{divisor, leftScale, rightScale}
 use Rattle.theorems_acceptance.specs.ClosedForms.{leftSize, rightSize, share, balance, upperFactor, takenBefore, lowerFactor}
 use Rattle.theorems_acceptance.proofs.RowMoves.{firstSpanned, lastSpanned, last-is}
-use Rattle.theorems_acceptance.proofs.Stages.{met, At, room, room′, few, stage}
+use Rattle.theorems_acceptance.proofs.Stages.{met, At, spanning}
 use Rattle.theorems_acceptance.proofs.Alternating.{jump-inside}
 use Rattle.theorems_acceptance.proofs.JumpSums.{summed, onLeft, jumpSum, partial-is, divisor-positive}
 use Rattle.theorems_acceptance.proofs.OrderSums.{x-all, x-high, x0-high, one-first, one-last, two-first, two-second, two-last}
@@ -68,7 +68,7 @@ module _ {s : Space} {join k : ℕ} {t t′ : Table} (A : At s join k) (R : Reac
       moved x y z = ring ℚ-ring (x ∷ y ∷ z ∷ []) (search readsℚ depth 20) (search readsℚ depth 20) refl
 
   end : l ≡ suc (f + k)
-  end = last-is (stage A) (room A) (room′ A) (few A)
+  end = last-is (spanning A)
 
   left-is : (n : ℕ) → k ≡ n → int (pos (leftScale s join k)) ≡ leftSize s join n
   unfolding leftScale leftSize

@@ -58,7 +58,7 @@ support-count t c low high S o = counted-whole (hasWeight t c) low high (λ i a 
 
 pub last-reached : (s : Space) (a : Accepted s) → Reached s (segments s - 1) 0 (a .table)
 unfolding weights
-last-reached s a = let c = accepted-checked s a .1 in joins-reached s (limits s c) (segments s - 1) (omega arith) (a .table) (built s (a .table) (a .is) .weights-are)
+last-reached s a = let c = accepted-checked s a .1 in joins-reached s (limits s c) (segments s - 1) (omega arith) (built s (a .table) (a .is) .weights-are)
 
 pub left-is : (s : Space) (j : ℕ) → j < segments s → leftCount (met s (segments s - 1) 0) j ≡ leftConditions s j
 left-is s zero h = refl

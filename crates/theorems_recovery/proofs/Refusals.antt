@@ -98,7 +98,7 @@ unfolding recoverOrders orderSteps repeat
 orders-table s j n r {r′} e = repeat-keeps (λ k b. repeat k (λ k. step j (conditions s j k)) (r .table) ≡ answer (b .table)) n (λ k. recoverStep j (conditions s j k)) r refl
     (λ k b c m Q q. repeat-more k (λ k. step j (conditions s j k)) (r .table) Q ∙ parts-of j (conditions s j k) b c q .has-step) r′ e
 
-joins-table : (s : Space) (ordinates : List ℤ) (n : ℕ) {r : Combination} → recoverJoins s ordinates n ≡ answer r → joinSteps s n ≡ answer (r .table)
+pub joins-table : (s : Space) (ordinates : List ℤ) (n : ℕ) {r : Combination} → recoverJoins s ordinates n ≡ answer r → joinSteps s n ≡ answer (r .table)
 unfolding recoverJoins joinSteps repeat
 joins-table s ordinates n {r} e =
     repeat-keeps (λ j b. repeat j (λ j. orderSteps s j (conditionCount s j)) (identity (columnCount s)) ≡ answer (b .table)) n

@@ -15,29 +15,29 @@ use Rattle.base_exact.specs.Rational.{ℚ, int, _*ᵠ_}
 use Rattle.base_exact.specs.Sum.{sum}
 use Rattle.base_exact.proofs.Decide.{le-or-lt, clash}
 use Rattle.base_exact.proofs.Sum.{sum-ext, sum-swap, sum-mul-right}
-use Rattle.base_outcome.specs.Outcome.{Outcome, answer, refusal, repeat}
+use Rattle.base_outcome.specs.Outcome.{Outcome, answer, refusal}
 use Rattle.spec_spline.specs.Space.{Space, segments, checked, degree, conditionCount, firstColumn, columnCount, rowCount}
 use Rattle.spec_spline.specs.Conditions.{conditions}
 use Rattle.spec_spline.specs.Table.{Table, entry, cell, identity}
-use Rattle.spec_spline.specs.Step.{step}
-use Rattle.spec_spline.specs.Build.{orderSteps, joinSteps, weights, spaceWeights, clears}
+use Rattle.spec_spline.specs.Build.{weights, spaceWeights, clears}
 use Rattle.spec_spline.specs.Piecewise.{Meets, MeetsAll, pairing, combination}
 use Rattle.spec_spline.specs.Reading.{fine, coefficient, fineWidth, offset}
 use Rattle.spec_spline.specs.ExactCurve.{bernsteinAt, exactTerm, exactOn}
-use Rattle.base_outcome.proofs.Outcome.{answer-not-refusal, then-answers, then-inverts, repeat-keeps, repeat-more, Halted, repeat-refuses}
+use Rattle.base_outcome.proofs.Outcome.{answer-not-refusal, then-answers, then-inverts, Halted, repeat-refuses}
 use Rattle.spec_spline.proofs.Legal.{Legal, legal, checked-inverts}
 use Rattle.spec_spline.proofs.Table.{entry-past, identity-rows}
+use Rattle.spec_spline.proofs.Induction.{orders-hold, joins-hold}
 use Rattle.theorems_weights.proofs.Functional.{applied-ext, applied-sum}
 use Rattle.theorems_weights.proofs.Stepped.{Stepped}
 use Rattle.theorems_weights.proofs.Basis.{Basis, combined}
 use Rattle.theorems_weights.proofs.Identity.{identity-basis, column-picks}
-use Rattle.theorems_weights.proofs.Built.{Done, nothing-done, order-stepped, order-kept, join-kept, Built, built, row-count}
+use Rattle.theorems_weights.proofs.Built.{Done, nothing-done, order-stepped, order-kept, join-done, Built, built, row-count}
 use Rattle.theorems_weights.proofs.PublishedBasis.{pairing-applied, combined-past, combination-at, combination-length, combinations-meet-conditions}
 use Rattle.theorems_recovery.specs.Recovery.{Combination, recoverStep, recoverOrders, recoverJoins, recovered}
 use Rattle.theorems_recovery.specs.Reproduction.{AnswersHaveTheWeights, AnswersReproduce, NoOthersReproduce, MissedCondition, NineteenMissesACondition}
 use Rattle.theorems_recovery.specs.Reproduction.{NineteenHasNoCoefficients, ExactCurveHasTheOrdinates, RecoveredOrTooLarge, recovers, too-large}
 use Rattle.theorems_recovery.specs.Reproduction.{CurvesAreRecovered}
-use Rattle.theorems_recovery.proofs.Refusals.{recovered-clears, eight-and-nine-are-the-builds}
+use Rattle.theorems_recovery.proofs.Refusals.{joins-table, recovered-clears, eight-and-nine-are-the-builds}
 use Rattle.theorems_recovery.proofs.Steps.{Parts, parts-of, unbalanced, sum-of-jumps, coefficients-count, combination-kept}
 
 module _ (s : Space) (L : Legal s) (ordinates : List ℤ) (columns : length ordinates ≡ columnCount s) where
@@ -47,36 +47,25 @@ module _ (s : Space) (L : Legal s) (ordinates : List ℤ) (columns : length ordi
     pub count : length (r .coefficients) ≡ length (r .table)
     pub gives : (c : ℕ) → combined (entry (r .coefficients)) (r .table) c ≡ entry (map int ordinates) c
 
-  -- one step
-  step-kept : (j k : ℕ) → j < segments s - 1 → k < conditionCount s j → (r r′ : Combination) → Kept j k r → recoverStep j (conditions s j k) r ≡ answer r′
-      → Kept j (suc k) r′ × (step j (conditions s j k) (r .table) ≡ answer (r′ .table))
-  step-kept j k h l r r′ K e = go (parts-of j (conditions s j k) r r′ e)
+  -- one step, and from join to join
+  step-kept : (j k : ℕ) (r r′ : Combination) → j < segments s - 1 → k < conditionCount s j → Kept j k r → recoverStep j (conditions s j k) r ≡ answer r′ → Kept j (suc k) r′
+  step-kept j k r r′ h l K e = record {
+    basis = order-kept s L j k (r .table) (r′ .table) (K .basis) S;
+    count = coefficients-count (columnCount s) j (conditions s j k) r r′ (K .count) S P;
+    gives = λ c. combination-kept (columnCount s) j (conditions s j k) r r′ (K .count) S P c ∙ K .gives c;
+  }
     where
-      go : Parts j (conditions s j k) r r′ → Kept j (suc k) r′ × (step j (conditions s j k) (r .table) ≡ answer (r′ .table))
-      go P = with-step (order-stepped s L j k h l (r .table) (r′ .table) (K .basis) (P .has-step))
-        where
-          with-step : Stepped (conditions s j k) (columnCount s) (r .table) (r′ .table) → Kept j (suc k) r′ × (step j (conditions s j k) (r .table) ≡ answer (r′ .table))
-          with-step S = (
-            record {
-              basis = order-kept s L j k (r .table) (r′ .table) (K .basis) S;
-              count = coefficients-count (columnCount s) j (conditions s j k) r r′ (K .count) S P;
-              gives = λ c. combination-kept (columnCount s) j (conditions s j k) r r′ (K .count) S P c ∙ K .gives c;
-            },
-            P .has-step,
-          )
+      P : Parts j (conditions s j k) r r′
+      P = parts-of j (conditions s j k) r r′ e
 
-  -- the first orders at a join
-  orders-kept : (j n : ℕ) → j < segments s - 1 → n ≤ conditionCount s j → (r r′ : Combination) → Kept j 0 r → recoverOrders s j n r ≡ answer r′
-      → Kept j n r′ × (orderSteps s j n (r .table) ≡ answer (r′ .table))
-  unfolding recoverOrders orderSteps repeat
-  orders-kept j n h l r r′ K e = repeat-keeps (λ k b. Kept j k b × (repeat k (λ k. step j (conditions s j k)) (r .table) ≡ answer (b .table))) n (λ k. recoverStep j (conditions s j k)) r (K, refl)
-      (λ k b c m Q q. let z = step-kept j k h (omega arith) b c (Q .0) q in (z .0, repeat-more k (λ k. step j (conditions s j k)) (r .table) (Q .1) ∙ z .1)) r′ e
+      S : Stepped (conditions s j k) (columnCount s) (r .table) (r′ .table)
+      S = order-stepped s L j k h l (r .table) (r′ .table) (K .basis) (P .has-step)
 
-  -- all of a join
-  join-undone : (j : ℕ) → j < segments s - 1 → (r r′ : Combination) → Kept j 0 r → recoverOrders s j (conditionCount s j) r ≡ answer r′
-      → Kept (suc j) 0 r′ × (orderSteps s j (conditionCount s j) (r .table) ≡ answer (r′ .table))
-  join-undone j h r r′ K e = let z = orders-kept j (conditionCount s j) h (omega arith) r r′ K e in
-      (record { basis = join-kept s L j h (r .table) (r′ .table) (K .basis) (z .1) .0; count = z .0 .count; gives = z .0 .gives }, z .1)
+  next-kept : (j : ℕ) (r : Combination) → j < segments s - 1 → Kept j (conditionCount s j) r → Kept (suc j) 0 r
+  next-kept j r h K = record { basis = join-done s j (K .basis); count = K .count; gives = K .gives }
+
+  abbrev act : ℕ → ℕ → Combination → Outcome Combination
+  act j k = recoverStep j (conditions s j k)
 
   start : Combination
   start = record { table = identity (columnCount s); coefficients = map int ordinates }
@@ -96,19 +85,16 @@ module _ (s : Space) (L : Legal s) (ordinates : List ℤ) (columns : length ordi
       go c (inr h) = column-picks (columnCount s) (entry (map int ordinates)) c h
 
   -- the first joins
-  joins-kept : (n : ℕ) → n ≤ segments s - 1 → (r : Combination) → recoverJoins s ordinates n ≡ answer r → Kept n 0 r × (joinSteps s n ≡ answer (r .table))
-  unfolding recoverJoins joinSteps repeat start
-  joins-kept n l r e =
-      repeat-keeps (λ j b. Kept j 0 b × (repeat j (λ j. orderSteps s j (conditionCount s j)) (identity (columnCount s)) ≡ answer (b .table))) n
-      (λ j. recoverOrders s j (conditionCount s j)) start (start-kept, refl)
-      (λ j b c m Q q. let z = join-undone j (omega arith) b c (Q .0) q in (z .0, repeat-more j (λ j. orderSteps s j (conditionCount s j)) (identity (columnCount s)) (Q .1) ∙ z .1)) r e
+  joins-kept : (n : ℕ) → n ≤ segments s - 1 → (r : Combination) → recoverJoins s ordinates n ≡ answer r → Kept n 0 r
+  unfolding recoverJoins recoverOrders start
+  joins-kept n l r e = joins-hold s act Kept step-kept next-kept n l start-kept e
 
   -- ---- an answer
 
   module _ (r : Combination) (e : recovered s ordinates ≡ answer r) where
     all-kept : Kept (segments s - 1) 0 r × (weights s ≡ answer (r .table))
     unfolding recovered weights
-    all-kept = joins-kept (segments s - 1) (omega arith) r e
+    all-kept = (joins-kept (segments s - 1) (omega arith) r e, joins-table s ordinates (segments s - 1) e)
 
     reproduced : combination (columnCount s) (r .coefficients) (r .table) ≡ map int ordinates
     reproduced = ext-getD (int (pos 0)) (combination (columnCount s) (r .coefficients) (r .table)) (map int ordinates) (combination-length (columnCount s) (r .coefficients) (r .table) ∙ sym size)
@@ -139,11 +125,11 @@ module _ (s : Space) (L : Legal s) (ordinates : List ℤ) (columns : length ordi
         order = H .index;
         join-below = h;
         order-below = H .below;
-        missed = step-missed j (H .index) (H .reached) place (orders-kept j (H .index) h (omega (arith, H .below)) r (H .reached) K (H .before) .0) (H .refuses);
+        missed = step-missed j (H .index) (H .reached) place (orders-hold s act Kept step-kept j (H .index) h (omega (arith, H .below)) K (H .before)) (H .refuses);
       }
 
       at-join : Halted (segments s - 1) (λ j. recoverOrders s j (conditionCount s j)) start 19 place → MissedCondition s ordinates
-      at-join H = at-order (H .index) (H .below) (H .reached) (joins-kept (H .index) (omega (arith, H .below)) (H .reached) (H .before) .0)
+      at-join H = at-order (H .index) (H .below) (H .reached) (joins-kept (H .index) (omega (arith, H .below)) (H .reached) (H .before))
           (repeat-refuses (conditionCount s (H .index)) (λ k. recoverStep (H .index) (conditions s (H .index) k)) (H .reached) (H .refuses))
 
 -- ---- the statements

@@ -10,13 +10,14 @@ use lib.ListN.{length}
 use Rattle.base_outcome.specs.Outcome.{answer}
 use Rattle.spec_spline.specs.Space.{Space, segments, columnCount, conditionCount, conditionsBefore, rowCount, checked}
 use Rattle.spec_spline.specs.Conditions.{Entry, conditions}
-use Rattle.spec_spline.specs.Table.{Table, identity}
+use Rattle.spec_spline.specs.Table.{Table}
 use Rattle.spec_spline.specs.Step.{step}
 use Rattle.spec_spline.specs.Build.{orderSteps, joinSteps, weights, spaceWeights}
-use Rattle.base_outcome.proofs.Outcome.{then-inverts, repeat-keeps}
+use Rattle.base_outcome.proofs.Outcome.{then-inverts}
 use Rattle.spec_spline.proofs.Legal.{checked-inverts, Legal, legal}
 use Rattle.spec_spline.proofs.Conditions.{conditions-inside}
 use Rattle.spec_spline.proofs.Table.{identity-rows}
+use Rattle.spec_spline.proofs.Induction.{joins-hold}
 use Rattle.theorems_weights.proofs.Stepped.{Stepped}
 use Rattle.theorems_weights.proofs.Basis.{Basis, basis-stepped, step-keeps}
 use Rattle.theorems_weights.proofs.Identity.{identity-basis}
@@ -83,33 +84,22 @@ module _ (s : Space) (L : Legal s) where
       kept κ (earlier i m a b c) = earlier i m a b c
       kept κ (here m a c) = here m (omega arith) c
 
-  -- all steps of a join
-  pub join-kept : (j : ℕ) → j < segments s - 1 → (t t′ : Table) → Basis (Done s j 0) (columnCount s) t → orderSteps s j (conditionCount s j) t ≡ answer t′
-      → Basis (Done s (suc j) 0) (columnCount s) t′ × (length t′ + conditionCount s j ≡ length t)
-  unfolding orderSteps
-  join-kept j h t t′ B e =
-      finish (repeat-keeps (λ k b. Basis (Done s j k) (columnCount s) b × (length b + k ≡ length t)) (conditionCount s j) (λ k. step j (conditions s j k)) t
-      (B, omega arith) one t′ e)
-    where
-      one : (k : ℕ) (b c : Table) → k < conditionCount s j → Basis (Done s j k) (columnCount s) b × (length b + k ≡ length t) → step j (conditions s j k) b ≡ answer c
-          → Basis (Done s j (suc k)) (columnCount s) c × (length c + suc k ≡ length t)
-      one k b c l P r = let S = order-stepped j k h l b c (P .0) r in (order-kept j k b c (P .0) S, omega (arith, S .rows, P .1))
+  -- a table after the joins before this one and the first k orders at it: a basis, with one row less for each condition
+  record Staged (j k : ℕ) (t : Table) : Type 0 where
+    basis : Basis (Done s j k) (columnCount s) t
+    rows : length t + (conditionsBefore s j + k) ≡ columnCount s
 
-      finish : Basis (Done s j (conditionCount s j)) (columnCount s) t′ × (length t′ + conditionCount s j ≡ length t)
-          → Basis (Done s (suc j) 0) (columnCount s) t′ × (length t′ + conditionCount s j ≡ length t)
-      finish P = (join-done s j (P .0), P .1)
+  step-staged : (j k : ℕ) (t t′ : Table) → j < segments s - 1 → k < conditionCount s j → Staged j k t → step j (conditions s j k) t ≡ answer t′ → Staged j (suc k) t′
+  step-staged j k t t′ h l B e = let S = order-stepped j k h l t t′ (B .basis) e in record { basis = order-kept j k t t′ (B .basis) S; rows = omega (arith, S .rows, B .rows) }
 
-  -- all joins
-  all-kept : (t : Table) → weights s ≡ answer t → Basis (Done s (segments s - 1) 0) (columnCount s) t × (length t + conditionsBefore s (segments s - 1) ≡ columnCount s)
-  unfolding weights joinSteps conditionsBefore
-  all-kept t e =
-      repeat-keeps (λ j b. Basis (Done s j 0) (columnCount s) b × (length b + conditionsBefore s j ≡ columnCount s)) (segments s - 1)
-      (λ j. orderSteps s j (conditionCount s j)) (identity (columnCount s))
-      (identity-basis (columnCount s) (Done s 0 0) (nothing-done s), omega (arith, identity-rows (columnCount s))) one t e
-    where
-      one : (j : ℕ) (b c : Table) → j < segments s - 1 → Basis (Done s j 0) (columnCount s) b × (length b + conditionsBefore s j ≡ columnCount s) → orderSteps s j (conditionCount s j) b ≡ answer c
-          → Basis (Done s (suc j) 0) (columnCount s) c × (length c + conditionsBefore s (suc j) ≡ columnCount s)
-      one j b c h P r = let Q = join-kept j h b c (P .0) r in (Q .0, omega (arith, Q .1, P .1))
+  next-staged : (j : ℕ) (t : Table) → j < segments s - 1 → Staged j (conditionCount s j) t → Staged (suc j) 0 t
+  unfolding conditionsBefore
+  next-staged j t h B = record { basis = join-done s j (B .basis); rows = omega (arith, B .rows) }
+
+  all-staged : (t : Table) → weights s ≡ answer t → Staged (segments s - 1) 0 t
+  unfolding weights joinSteps orderSteps conditionsBefore
+  all-staged t e = joins-hold s (λ j k. step j (conditions s j k)) Staged step-staged next-staged (segments s - 1) (omega arith)
+      (record { basis = identity-basis (columnCount s) (Done s 0 0) (nothing-done s); rows = omega (arith, identity-rows (columnCount s)) }) e
 
 -- What the build answers.
 pub record Built (s : Space) (t : Table) : Type 0 where
@@ -123,8 +113,8 @@ unfolding spaceWeights
 built s t e = go (then-inverts (checked s) weights e .middle) (then-inverts (checked s) weights e .before) (then-inverts (checked s) weights e .after)
   where
     go : (s′ : Space) → checked s ≡ answer s′ → weights s′ ≡ answer t → Built s t
-    go s′ p q = let c = checked-inverts s p in let L = legal s (c .1) in let w = ap weights (c .0) ∙ q in let all = all-kept s L t w in
-        record { legal-space = L; weights-are = w; basis = all .0; rows = all .1 }
+    go s′ p q = let c = checked-inverts s p in let L = legal s (c .1) in let w = ap weights (c .0) ∙ q in let all = all-staged s L t w in
+        record { legal-space = L; weights-are = w; basis = all .basis; rows = omega (arith, all .rows) }
 
 pub row-count : (s : Space) (t : Table) → Built s t → length t ≡ rowCount s
 row-count s t b = omega (arith, b .rows)

@@ -24,16 +24,16 @@ use Rattle.spec_spline.specs.Table.{Row, Table, entry, row, cell, identity}
 use Rattle.spec_spline.specs.Step.{step}
 use Rattle.spec_spline.specs.Build.{orderSteps, joinSteps, weights}
 use Rattle.spec_spline.specs.Published.{constraint, constraints, nullspace, product, column, Matrices, constrain, for, smooth, extraction}
-use Rattle.base_outcome.proofs.Outcome.{repeat-keeps}
 use Rattle.spec_spline.proofs.Legal.{Legal}
 use Rattle.spec_spline.proofs.Table.{entry-past, cell-past}
 use Rattle.theorems_weights.specs.PublishedBasis.{WeightsArePublished}
 use Rattle.theorems_weights.proofs.NullSpace.{Jumps, mixed, last-factor}
 use Rattle.spec_spline.proofs.Shape.{Wide}
+use Rattle.spec_spline.proofs.Induction.{joins-hold}
 use Rattle.theorems_weights.proofs.Stepped.{values, values-past, Stepped}
 use Rattle.theorems_weights.proofs.Basis.{Basis}
 use Rattle.theorems_weights.proofs.Identity.{identity-basis}
-use Rattle.theorems_weights.proofs.Built.{Done, order-stepped, order-kept, join-kept, nothing-done, built}
+use Rattle.theorems_weights.proofs.Built.{Done, order-stepped, order-kept, join-done, nothing-done, built}
 use Rattle.theorems_weights.proofs.Derivative.{ratio, ratio-nonzero, constraints-are-conditions}
 use Rattle.theorems_weights.proofs.Bidiagonal.{nullspace-rows, nullspace-mixes}
 use Rattle.theorems_weights.proofs.PublishedBasis.{cell-beside}
@@ -201,29 +201,28 @@ module _ (s : Space) (L : Legal s) (j k : ℕ) (h : j < segments s - 1) (l : k <
 -- ---- the loops
 
 module _ (s : Space) (L : Legal s) where
-  -- the orders of a join
-  smooth-is : (j : ℕ) → j < segments s - 1 → (t t′ : Table) → Basis (Done s j 0) (columnCount s) t → orderSteps s j (conditionCount s j) t ≡ answer t′ → smooth s j t ≡ t′
-  unfolding orderSteps smooth for
-  smooth-is j h t t′ B e =
-      ap (λ m. m .H) (repeat-keeps (λ k b. Basis (Done s j k) (columnCount s) b × (for k (constrain s j) (started s j t) ≡ started s j b)) (conditionCount s j)
-      (λ k. step j (conditions s j k)) t (B, refl) one t′ e .1)
-    where
-      one : (k : ℕ) (b c : Table) → k < conditionCount s j → Basis (Done s j k) (columnCount s) b × (for k (constrain s j) (started s j t) ≡ started s j b) → step j (conditions s j k) b ≡ answer c
-          → Basis (Done s j (suc k)) (columnCount s) c × (for (suc k) (constrain s j) (started s j t) ≡ started s j c)
-      one k b c l P r = let S = order-stepped s L j k h l b c (P .0) r in
-          (order-kept s L j k b c (P .0) S, ap (constrain s j k) (P .1) ∙ constrain-is s L j k h l b c S)
+  -- the construction's table after the first j joins
+  abbrev smoothed : ℕ → Table
+  smoothed j = for j (smooth s) (identity (columnCount s))
 
-  -- the joins
+  -- after the joins before this one and the first k orders at it, the construction has the build's table
+  record Same (j k : ℕ) (t : Table) : Type 0 where
+    basis : Basis (Done s j k) (columnCount s) t
+    same : for k (constrain s j) (started s j (smoothed j)) ≡ started s j t
+
+  step-same : (j k : ℕ) (t t′ : Table) → j < segments s - 1 → k < conditionCount s j → Same j k t → step j (conditions s j k) t ≡ answer t′ → Same j (suc k) t′
+  unfolding for
+  step-same j k t t′ h l P e = let S = order-stepped s L j k h l t t′ (P .basis) e in
+      record { basis = order-kept s L j k t t′ (P .basis) S; same = ap (constrain s j k) (P .same) ∙ constrain-is s L j k h l t t′ S }
+
+  next-same : (j : ℕ) (t : Table) → j < segments s - 1 → Same j (conditionCount s j) t → Same (suc j) 0 t
+  unfolding smooth for
+  next-same j t h P = record { basis = join-done s j (P .basis); same = ap (λ m. started s (suc j) (m .H)) (P .same) }
+
   extraction-is : (t : Table) → weights s ≡ answer t → extraction s ≡ t
-  unfolding weights joinSteps extraction for
-  extraction-is t e =
-      repeat-keeps (λ j b. Basis (Done s j 0) (columnCount s) b × (for j (smooth s) (identity (columnCount s)) ≡ b)) (segments s - 1)
-      (λ j. orderSteps s j (conditionCount s j)) (identity (columnCount s))
-      (identity-basis (columnCount s) (Done s 0 0) (nothing-done s), refl) one t e .1
-    where
-      one : (j : ℕ) (b c : Table) → j < segments s - 1 → Basis (Done s j 0) (columnCount s) b × (for j (smooth s) (identity (columnCount s)) ≡ b) → orderSteps s j (conditionCount s j) b ≡ answer c
-          → Basis (Done s (suc j) 0) (columnCount s) c × (for (suc j) (smooth s) (identity (columnCount s)) ≡ c)
-      one j b c h P r = (join-kept s L j h b c (P .0) r .0, ap (smooth s j) (P .1) ∙ smooth-is j h b c (P .0) r)
+  unfolding weights joinSteps orderSteps extraction for
+  extraction-is t e = ap (λ m. m .H) (joins-hold s (λ j k. step j (conditions s j k)) Same step-same next-same (segments s - 1) (omega arith)
+      (record { basis = identity-basis (columnCount s) (Done s 0 0) (nothing-done s); same = refl }) e .same)
 
 pub weights-are-published : WeightsArePublished
 weights-are-published s a = let b = built s (a .table) (a .is) in sym (extraction-is s (b .legal-space) (a .table) (b .weights-are))
