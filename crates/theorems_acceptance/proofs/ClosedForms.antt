@@ -26,7 +26,7 @@ use Rattle.theorems_acceptance.proofs.Support.{Support, support-ends}
 use Rattle.theorems_acceptance.proofs.Limits.{Limits, limits}
 use Rattle.theorems_acceptance.proofs.Stages.{met, met-before, met-here, met-after, join-met, none-met, Compared, before, same, after, compared, At}
 use Rattle.theorems_acceptance.proofs.Invariant.{column}
-use Rattle.theorems_acceptance.proofs.Cumulative.{first-of-two, middle-of-three}
+use Rattle.theorems_acceptance.proofs.Cumulative.{Weighed, first-of-two, middle-of-three}
 use Rattle.theorems_acceptance.proofs.Reached.{Reached, next-reached, start-reached, step-reached, advance}
 use Rattle.theorems_acceptance.proofs.WeightCount.{left-is, right-is}
 use Rattle.theorems_acceptance.proofs.LowJumps.{unit-of}
@@ -135,12 +135,19 @@ module _ (s : Space) (a : Accepted s) where
       go (after b) = absurd (omega arith)
 
   -- two weights, and three, on an ordinate
+  weighed : (j u r q : ℕ) → j < segments s → u ≤ degree s j → lowest (degree s) (e s a) j u ≡ r → highest (degree s) (e s a) j u ≡ q → Weighed (length t) (column s t j u) r q
+  weighed j u r q h k x y = record {
+    support = support-ends x y (F .reached .shape .supported j u h k);
+    one = F .reached .basis .column-sums _ (segment-column s j u h k);
+    past = λ i b. cell-past t i _ b;
+  }
+
   two : (j u r : ℕ) → j < segments s → u ≤ degree s j → lowest (degree s) (e s a) j u ≡ r → highest (degree s) (e s a) j u ≡ suc r → cell t r (firstColumn s j + u) ≡ int (pos 1) -ᵠ cell t (suc r) (firstColumn s j + u)
-  two j u r h k p q = first-of-two (length t) (column s t j u) r (suc r) (support-ends p q (F .reached .shape .supported j u h k)) (F .reached .basis .column-sums _ (segment-column s j u h k)) (λ i b. cell-past t i _ b) refl
+  two j u r h k p q = first-of-two (weighed j u r (suc r) h k p q) refl
 
   three : (j u r : ℕ) → j < segments s → u ≤ degree s j → lowest (degree s) (e s a) j u ≡ r → highest (degree s) (e s a) j u ≡ suc (suc r)
       → cell t (suc r) (firstColumn s j + u) ≡ int (pos 1) -ᵠ cell t r (firstColumn s j + u) -ᵠ cell t (suc (suc r)) (firstColumn s j + u)
-  three j u r h k p q = middle-of-three (length t) (column s t j u) r (suc (suc r)) (support-ends p q (F .reached .shape .supported j u h k)) (F .reached .basis .column-sums _ (segment-column s j u h k)) (λ i b. cell-past t i _ b) refl
+  three j u r h k p q = middle-of-three (weighed j u r (suc (suc r)) h k p q) refl
 
   -- ---- a join of order 1, and one of order 2
   module _ (j : ℕ) (h : suc j < segments s) where

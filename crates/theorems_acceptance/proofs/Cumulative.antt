@@ -16,7 +16,16 @@ use Rattle.base_exact.proofs.Order.{<-≤-trans}
 use Rattle.base_exact.proofs.Sum.{sum-zero, sum-last, sum-past, sum-split, sum-place-le}
 use Rattle.theorems_acceptance.proofs.Support.{Support, support-nn}
 
-module _ (rows : ℕ) (v : ℕ → ℚ) (low high : ℕ) (S : Support v low high) (one : sum rows v ≡ int (pos 1)) (past : (i : ℕ) → rows ≤ i → v i ≡ int (pos 0)) where
+-- The weights of a column, from row low to row high, that sum to one.
+pub record Weighed (rows : ℕ) (v : ℕ → ℚ) (low high : ℕ) : Type 0 where
+  pub support : Support v low high
+  pub one : sum rows v ≡ int (pos 1)
+  pub past : (i : ℕ) → rows ≤ i → v i ≡ int (pos 0)
+
+module _ {rows : ℕ} {v : ℕ → ℚ} {low high : ℕ} (W : Weighed rows v low high) where
+  abbrev S : Support v low high
+  S = W .support
+
   pub sum-none : (n : ℕ) → n ≤ low → sum n v ≡ int (pos 0)
   sum-none n h = sum-zero n (λ i k. S .below i (omega arith))
 
@@ -25,8 +34,8 @@ module _ (rows : ℕ) (v : ℕ → ℚ) (low high : ℕ) (S : Support v low high
   sum-all n h = go (le-or-lt n rows)
     where
       go : (n ≤ rows) ⊎ (rows < n) → sum n v ≡ int (pos 1)
-      go (inl k) = sym (sum-past n rows v k (λ i a b. S .above i (omega arith))) ∙ one
-      go (inr k) = sum-past rows n v (omega arith) (λ i a b. past i a) ∙ one
+      go (inl k) = sym (sum-past n rows v k (λ i a b. S .above i (omega arith))) ∙ W .one
+      go (inr k) = sum-past rows n v (omega arith) (λ i a b. W .past i a) ∙ W .one
 
   pub sum-some : (n : ℕ) → low ≤ high → low < n → int (pos 0) <ᵠ sum n v
   sum-some n o h = <-≤-trans (S .positive low (omega arith) o) (sum-place-le n low {f = v} h (λ i k. support-nn S i))
@@ -40,14 +49,20 @@ module _ (rows : ℕ) (v : ℕ → ℚ) (low high : ℕ) (S : Support v low high
           ∙ ap (λ t. t -ᵠ sum n v) (sym (sum-split n (suc (high - n)) v) ∙ sum-all (n + suc (high - n)) (omega arith))
 
   -- two rows with weight, and three
+  first-two : int (pos 0) +ᵠ v low +ᵠ v (suc low) ≡ sum (suc (suc low)) v
+  first-two = ap (λ q. q +ᵠ v low +ᵠ v (suc low)) (sym (sum-none low (omega arith))) ∙ ap (λ q. q +ᵠ v (suc low)) (sym (sum-last low v)) ∙ sym (sum-last (suc low) v)
+
   pub first-of-two : high ≡ suc low → v low ≡ int (pos 1) -ᵠ v (suc low)
   first-of-two e = by-eq ℚ-ring (int (pos 1)) total (ring ℚ-ring (v low ∷ v (suc low) ∷ []) (search readsℚ depth 20) (search readsℚ depth 20) refl)
     where
       total : int (pos 0) +ᵠ v low +ᵠ v (suc low) ≡ int (pos 1)
-      total = ap (λ q. q +ᵠ v low +ᵠ v (suc low)) (sym (sum-none low (omega arith))) ∙ ap (λ q. q +ᵠ v (suc low)) (sym (sum-last low v)) ∙ sym (sum-last (suc low) v) ∙ sum-all (suc (suc low)) (omega arith)
+      total = first-two ∙ sum-all (suc (suc low)) (omega arith)
 
   pub middle-of-three : high ≡ suc (suc low) → v (suc low) ≡ int (pos 1) -ᵠ v low -ᵠ v (suc (suc low))
   middle-of-three e = by-eq ℚ-ring (int (pos 1)) total (ring ℚ-ring (v low ∷ v (suc low) ∷ v (suc (suc low)) ∷ []) (search readsℚ depth 20) (search readsℚ depth 20) refl)
     where
       total : int (pos 0) +ᵠ v low +ᵠ v (suc low) +ᵠ v (suc (suc low)) ≡ int (pos 1)
-      total = ap (λ q. q +ᵠ v low +ᵠ v (suc low) +ᵠ v (suc (suc low))) (sym (sum-none low (omega arith))) ∙ ap (λ q. q +ᵠ v (suc low) +ᵠ v (suc (suc low))) (sym (sum-last low v)) ∙ ap (λ q. q +ᵠ v (suc (suc low))) (sym (sum-last (suc low) v)) ∙ sym (sum-last (suc (suc low)) v) ∙ sum-all (suc (suc (suc low))) (omega arith)
+      total =
+          ap (λ q. q +ᵠ v (suc (suc low))) first-two
+          ∙ sym (sum-last (suc (suc low)) v)
+          ∙ sum-all (suc (suc (suc low))) (omega arith)

@@ -1,7 +1,7 @@
 -- The partial sums of a step's jumps, times the conditions' common divisor: the difference of two finite differences of the
 -- column sums so far. They are zero up to the first row with a jump and past the last one.
 use mathlib.Core.Path.{_≡_, refl, sym, _∙_, ap, ap₂}
-use mathlib.Core.List.{[], _∷_}
+use mathlib.Core.List.{[], _∷_, List}
 use Prim.Native.Nat.{ℕ, suc, _+_, _-_, _<_, _≤_}
 use native.Mathlib.Omega.{arith}
 use lib.IntN.{pos}
@@ -14,7 +14,7 @@ use Rattle.base_exact.proofs.Rational.{ℚ-ring, readsℚ, one-mul, mul-zero}
 use Rattle.base_exact.proofs.Order.{pos-of-nat}
 use Rattle.base_exact.proofs.Sum.{sum-ext}
 use Rattle.spec_spline.specs.Space.{Space, segments, degree, width, firstColumn}
-use Rattle.spec_spline.specs.Conditions.{conditions}
+use Rattle.spec_spline.specs.Conditions.{conditions, Entry}
 use Rattle.spec_spline.specs.Table.{Table, cell}
 use Rattle.spec_spline.proofs.Table.{cell-past}
 use Rattle.spec_spline.proofs.Conditions.{scale-pos}
@@ -28,7 +28,7 @@ use Rattle.theorems_acceptance.proofs.Rows.{lowest, highest, lowest-at-
 use Rattle.theorems_acceptance.proofs.RowMoves.{firstSpanned, lastSpanned, left-within, right-within}
 use Rattle.theorems_acceptance.proofs.Stages.{met, At, left-segment, right-segment, room, room′, spanning}
 use Rattle.theorems_acceptance.proofs.Invariant.{column, Due}
-use Rattle.theorems_acceptance.proofs.Cumulative.{sum-none, sum-all, sum-some, sum-rest}
+use Rattle.theorems_acceptance.proofs.Cumulative.{Weighed, sum-none, sum-all, sum-some, sum-rest}
 
 -- The first n weights of a column, summed.
 unfoldable pub summed : Table → ℕ → ℕ → ℚ
@@ -48,8 +48,11 @@ jumpSum s join k t n = int (pos (leftScale s join k)) *ᵠ difference k (onLeft 
 pub partial-is : (s : Space) (join k : ℕ) (t : Table) (n : ℕ) → int (pos (divisor s join k)) *ᵠ sum n (values (conditions s join k) t) ≡ jumpSum s join k t n
 unfolding jumpSum onLeft onRight summed
 partial-is s join k t n = ap (λ v. int (pos (divisor s join k)) *ᵠ v)
-    (sum-ext n (λ i h. sym (one-mul (values (conditions s join k) t i))) ∙ sym (applied-sum (conditions s join k) n (λ i. int (pos 1)) (cell t)) ∙ applied-ext (conditions s join k) (λ c. sum-ext n (λ i h. one-mul (cell t i c))))
+    (sum-ext n (λ i h. sym (one-mul (values κ t i))) ∙ sym (applied-sum κ n (λ i. int (pos 1)) (cell t)) ∙ applied-ext κ (λ c. sum-ext n (λ i h. one-mul (cell t i c))))
     ∙ applied-conditions s join k (λ c. sum n (λ i. cell t i c))
+  where
+    κ : List Entry
+    κ = conditions s join k
 
 -- The two sides of a condition, and its divisor, are positive.
 module _ {s : Space} {join k : ℕ} (A : At s join k) where
@@ -75,21 +78,27 @@ module _ {s : Space} {join k : ℕ} {t : Table} (D : Due s join k t) where
 
   -- the sums of a column that has rows from low to high
   module _ (j u : ℕ) (a : j < segments s) (b : u ≤ degree s j) (n : ℕ) where
+    weighed : Weighed (length t) (column s t j u) (lowest (degree s) e j u) (highest (degree s) e j u)
+    weighed = record { support = D .shape .supported j u a b; one = D .sums _ (segment-column s j u a b); past = λ i d. cell-past t i _ d }
+
+    some : lowest (degree s) e j u ≤ highest (degree s) e j u
+    some = lowest-at-most-highest (degree s) e j u
+
     pub none-yet : n ≤ lowest (degree s) e j u → summed t n (firstColumn s j + u) ≡ int (pos 0)
     unfolding summed
-    none-yet c = sum-none (length t) (column s t j u) _ _ (D .shape .supported j u a b) (D .sums _ (segment-column s j u a b)) (λ i d. cell-past t i _ d) n c
+    none-yet c = sum-none weighed n c
 
     pub all-done : highest (degree s) e j u < n → summed t n (firstColumn s j + u) ≡ int (pos 1)
     unfolding summed
-    all-done c = sum-all (length t) (column s t j u) _ _ (D .shape .supported j u a b) (D .sums _ (segment-column s j u a b)) (λ i d. cell-past t i _ d) n c
+    all-done c = sum-all weighed n c
 
     pub some-done : lowest (degree s) e j u < n → int (pos 0) <ᵠ summed t n (firstColumn s j + u)
     unfolding summed
-    some-done c = sum-some (length t) (column s t j u) _ _ (D .shape .supported j u a b) (D .sums _ (segment-column s j u a b)) (λ i d. cell-past t i _ d) n (lowest-at-most-highest (degree s) e j u) c
+    some-done c = sum-some weighed n some c
 
     pub some-left : n ≤ highest (degree s) e j u → int (pos 0) <ᵠ int (pos 1) -ᵠ summed t n (firstColumn s j + u)
     unfolding summed
-    some-left c = sum-rest (length t) (column s t j u) _ _ (D .shape .supported j u a b) (D .sums _ (segment-column s j u a b)) (λ i d. cell-past t i _ d) n (lowest-at-most-highest (degree s) e j u) c
+    some-left c = sum-rest weighed n some c
 
   pub sums-before : (n : ℕ) → n ≤ firstSpanned (degree s) e join k → jumpSum s join k t n ≡ int (pos 0)
   unfolding jumpSum onLeft onRight

@@ -80,6 +80,10 @@ sides : {s : Space} {join k : ℕ} → At s join k → degree s join * width s (
 sides {s} {join} A = let M = A .limits in
     omega (arith, mul-le-mul-right (width s (suc join)) (M .low-degree join (left-segment A)), mul-le-mul-right (width s join) (M .low-degree (suc join) (right-segment A)), M .neighbours join (A .join-below) (omega (arith, A .order-below)))
 
+-- an entry of a column that has one row alone
+unit-at : {t : Table} {i c n : ℕ} → i ≡ n → Unit t c n → cell t i c ≡ int (pos 1)
+unit-at {t} {c = c} e U = subst (λ x. cell t x c ≡ int (pos 1)) (sym e) (U .one)
+
 load-zero : {s : Space} {join : ℕ} {t : Table} → At s join 0 → Reached s join 0 t → (i : ℕ) → RowLoad (row t i) (conditions s join 0)
 load-zero {s} {join} {t} A R i = subst (RowLoad (row t i)) (sym (conditions-zero s join)) (go (ℕ-discrete i r) (ℕ-discrete i (suc (r + 0))))
   where
@@ -96,8 +100,8 @@ load-zero {s} {join} {t} A R i = subst (RowLoad (row t i)) (sym (conditions-zero
     Y = right-end A R (omega arith)
 
     go : Dec (i ≡ r) → Dec (i ≡ suc (r + 0)) → RowLoad (row t i) (divided g (leftEntry s join 0 0) ∷ divided g (rightEntry s join 0 0) ∷ [])
-    go (yes a) b = record { size = _; load = take (subst (λ n. cell t n (firstColumn s join + (degree s join - 0 + 0)) ≡ int (pos 1)) (sym a) (X .one)) (skip (Y .none i (λ z. omega arith)) empty); within = omega (arith, left-zero g s join) }
-    go (no a) (yes b) = record { size = _; load = skip (X .none i a) (take (subst (λ n. cell t n (firstColumn s (suc join) + 0) ≡ int (pos 1)) (sym b) (Y .one)) empty); within = omega (arith, right-zero g s join) }
+    go (yes a) b = record { size = _; load = take (unit-at a X) (skip (Y .none i (λ z. omega arith)) empty); within = omega (arith, left-zero g s join) }
+    go (no a) (yes b) = record { size = _; load = skip (X .none i a) (take (unit-at b Y) empty); within = omega (arith, right-zero g s join) }
     go (no a) (no b) = record { size = _; load = skip (X .none i a) (skip (Y .none i b) empty); within = omega arith }
 
 load-one : {s : Space} {join : ℕ} {t : Table} → At s join 1 → Reached s join 1 t → (i : ℕ) → RowLoad (row t i) (conditions s join 1)
@@ -121,13 +125,10 @@ load-one {s} {join} {t} A R i = subst (RowLoad (row t i)) (sym (conditions-one s
     Y′ : Unit t (firstColumn s (suc join) + 1) (suc (r + 1))
     Y′ = right-end A R (omega arith)
 
-    at : {c n : ℕ} → i ≡ n → Unit t c n → cell t i c ≡ int (pos 1)
-    at {c} {n} e U = subst (λ x. cell t x c ≡ int (pos 1)) (sym e) (U .one)
-
     go : Dec (i ≡ r) → Dec (i ≡ suc r) → Dec (i ≡ suc (r + 1)) → RowLoad (row t i) (divided g (leftEntry s join 1 0) ∷ divided g (leftEntry s join 1 1) ∷ divided g (rightEntry s join 1 0) ∷ divided g (rightEntry s join 1 1) ∷ [])
-    go (yes a) b c = record { size = _; load = take (at a X) (skip (X′ .none i (λ z. omega arith)) (skip (Y .none i (λ z. omega arith)) (skip (Y′ .none i (λ z. omega arith)) empty))); within = omega (arith, left-one g s join 0 (omega arith), sides A) }
-    go (no a) (yes b) c = record { size = _; load = skip (X .none i a) (take (at b X′) (take (at b Y) (skip (Y′ .none i (λ z. omega arith)) empty))); within = omega (arith, left-one g s join 1 (omega arith), right-one g s join 0 (omega arith), sides A) }
-    go (no a) (no b) (yes c) = record { size = _; load = skip (X .none i a) (skip (X′ .none i b) (skip (Y .none i b) (take (at c Y′) empty))); within = omega (arith, right-one g s join 1 (omega arith), sides A) }
+    go (yes a) b c = record { size = _; load = take (unit-at a X) (skip (X′ .none i (λ z. omega arith)) (skip (Y .none i (λ z. omega arith)) (skip (Y′ .none i (λ z. omega arith)) empty))); within = omega (arith, left-one g s join 0 (omega arith), sides A) }
+    go (no a) (yes b) c = record { size = _; load = skip (X .none i a) (take (unit-at b X′) (take (unit-at b Y) (skip (Y′ .none i (λ z. omega arith)) empty))); within = omega (arith, left-one g s join 1 (omega arith), right-one g s join 0 (omega arith), sides A) }
+    go (no a) (no b) (yes c) = record { size = _; load = skip (X .none i a) (skip (X′ .none i b) (skip (Y .none i b) (take (unit-at c Y′) empty))); within = omega (arith, right-one g s join 1 (omega arith), sides A) }
     go (no a) (no b) (no c) = record { size = _; load = skip (X .none i a) (skip (X′ .none i b) (skip (Y .none i b) (skip (Y′ .none i c) empty))); within = omega arith }
 
 pub row-load : {s : Space} {join k : ℕ} {t : Table} → At s join k → Reached s join k t → k ≤ 1 → (i : ℕ) → RowLoad (row t i) (conditions s join k)

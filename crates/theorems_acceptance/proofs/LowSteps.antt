@@ -195,14 +195,21 @@ module _ {s : Space} {join k : ℕ} {t : Table} (at : At s join k) (R : Reached 
       unfolding js J
       last-row-is = last-jump-is (conditions s join k) t f l A f<l
 
-      mixed-small : (d c : ℕ) → d < lastJump js - firstJump js → Small n (entry (exactFactors js) d *ᵠ cell t (firstJump js + d) c +ᵠ (int (pos 1) -ᵠ entry (exactFactors js) (suc d)) *ᵠ cell t (firstJump js + suc d) c)
+      -- how many rows are new, and the new rows
+      abbrev count : ℕ
+      count = lastJump js - firstJump js
+
+      abbrev made : Table
+      made = tab count (exactRow js (exactFactors js) t)
+
+      mixed-small : (d c : ℕ) → d < count → Small n (entry (exactFactors js) d *ᵠ cell t (firstJump js + d) c +ᵠ (int (pos 1) -ᵠ entry (exactFactors js) (suc d)) *ᵠ cell t (firstJump js + suc d) c)
       mixed-small d c b = subst (λ r. Small n (entry (exactFactors js) d *ᵠ cell t (r + d) c +ᵠ (int (pos 1) -ᵠ entry (exactFactors js) (suc d)) *ᵠ cell t (r + suc d) c)) (sym first-row-is)
           (last-entry join _ _ _ _ (entries-small d c (omega (arith, first-row-is, last-row-is))))
 
-      new-rows : (d c : ℕ) → (lastJump js - firstJump js ≤ d) ⊎ (d < lastJump js - firstJump js) → Small n (entry (row (tab (lastJump js - firstJump js) (exactRow js (exactFactors js) t)) d) c)
+      new-rows : (d c : ℕ) → (count ≤ d) ⊎ (d < count) → Small n (entry (row made d) c)
       unfolding exactRow
-      new-rows d c (inl a) = subst (Small n) (sym (ap (λ r. entry r c) (row-past (tab (lastJump js - firstJump js) (exactRow js (exactFactors js) t)) d (rw (tab-length (lastJump js - firstJump js) (exactRow js (exactFactors js) t)) a)))) (small-zero (omega arith))
-      new-rows d c (inr a) = subst (λ r. Small n (entry r c)) (sym (tab-getD (lastJump js - firstJump js) (exactRow js (exactFactors js) t) d [] a)) (in-row (le-or-lt (length (row t (firstJump js + d))) c))
+      new-rows d c (inl a) = subst (Small n) (sym (ap (λ r. entry r c) (row-past made d (rw (tab-length count (exactRow js (exactFactors js) t)) a)))) (small-zero (omega arith))
+      new-rows d c (inr a) = subst (λ r. Small n (entry r c)) (sym (tab-getD count (exactRow js (exactFactors js) t) d [] a)) (in-row (le-or-lt (length (row t (firstJump js + d))) c))
         where
           in-row : (length (row t (firstJump js + d)) ≤ c) ⊎ (c < length (row t (firstJump js + d))) → Small n (entry (exactRow js (exactFactors js) t d) c)
           in-row (inl b) = subst (Small n) (sym (entry-past (exactRow js (exactFactors js) t d) c (rw (tab-length (length (row t (firstJump js + d))) _) b))) (small-zero (omega arith))
@@ -211,4 +218,4 @@ module _ {s : Space} {join k : ℕ} {t : Table} (at : At s join k) (R : Reached 
       -- its entries are small too
       pub low-step-cells : TableHas (Small n) (exactStep (conditions s join k) t)
       unfolding exactStep js
-      low-step-cells = spliced-has (Small n) (small-zero (omega arith)) t (tab (lastJump js - firstJump js) (exactRow js (exactFactors js) t)) (firstJump js) (lastJump js) cells (λ d c. new-rows d c (le-or-lt (lastJump js - firstJump js) d))
+      low-step-cells = spliced-has (Small n) (small-zero (omega arith)) t made (firstJump js) (lastJump js) cells (λ d c. new-rows d c (le-or-lt (count) d))
