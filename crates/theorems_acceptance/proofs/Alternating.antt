@@ -75,7 +75,9 @@ module _ (f k : ℕ) (H : ℕ → ℚ) (few : k ≤ 2) (zero-before : (n : ℕ) 
     where
       out : (p q : ℚ) → -ᵠ p *ᵠ q ≡ -ᵠ (p *ᵠ q)
       out p q = ring ℚ-ring (p ∷ q ∷ []) (search readsℚ depth 20) (search readsℚ depth 20) refl
-  changes n y (at-first p z) = subst (λ q. int (pos 0) <ᵠ q) (ap₂ (λ i j. H i *ᵠ (-ᵠ H j)) (sym z) (let w : f + k ≡ suc n = omega arith in w) ∙ out (H n) (H (suc n))) (pos-mul (first p) (second (omega arith)))
+  changes n y (at-first p z) =
+      subst (λ q. int (pos 0) <ᵠ q) (ap₂ (λ i j. H i *ᵠ (-ᵠ H j)) (sym z) (let w : f + k ≡ suc n = omega arith in w) ∙ out (H n) (H (suc n)))
+      (pos-mul (first p) (second (omega arith)))
     where
       out : (p q : ℚ) → p *ᵠ (-ᵠ q) ≡ -ᵠ (p *ᵠ q)
       out p q = ring ℚ-ring (p ∷ q ∷ []) (search readsℚ depth 20) (search readsℚ depth 20) refl
@@ -119,10 +121,14 @@ module _ (f l : ℕ) (J : ℕ → ℚ) (A : Alternates f l (λ n. sum n J)) wher
 
   pub quotient-above : (i : ℕ) → f < i → i < l → int (pos 0) <ᵠ sum (suc i) J /ᵠ J i
   quotient-above i h k = *-cancel-< (square-nn (J i)) (subst (λ t. t <ᵠ sum (suc i) J /ᵠ J i *ᵠ (J i *ᵠ J i)) (sym (zero-mul (J i *ᵠ J i)))
-      (subst (λ t. int (pos 0) <ᵠ t) (ap (λ t. t *ᵠ J i) (sym (div-mul (sum (suc i) J) (J i) (jump-inside (omega arith) i (omega arith) (omega arith)))) ∙ mul-assoc _ (J i) (J i)) (own-positive i h k)))
+      (subst (λ t. int (pos 0) <ᵠ t)
+      (ap (λ t. t *ᵠ J i) (sym (div-mul (sum (suc i) J) (J i) (jump-inside (omega arith) i (omega arith) (omega arith)))) ∙ mul-assoc _ (J i) (J i))
+      (own-positive i h k)))
 
   pub quotient-below : (i : ℕ) → f < i → i < l → sum (suc i) J /ᵠ J i <ᵠ int (pos 1)
-  quotient-below i h k = *-cancel-< (square-nn (J i)) (lt-by (rest-positive i h k) (alg (sum (suc i) J) (J i) (sum (suc i) J /ᵠ J i) (div-mul (sum (suc i) J) (J i) (jump-inside (omega arith) i (omega arith) (omega arith)))))
+  quotient-below i h k =
+      *-cancel-< (square-nn (J i)) (lt-by (rest-positive i h k)
+      (alg (sum (suc i) J) (J i) (sum (suc i) J /ᵠ J i) (div-mul (sum (suc i) J) (J i) (jump-inside (omega arith) i (omega arith) (omega arith)))))
     where
       alg : (S j w : ℚ) → w *ᵠ j ≡ S → (j -ᵠ S) *ᵠ j ≡ int (pos 1) *ᵠ (j *ᵠ j) -ᵠ w *ᵠ (j *ᵠ j)
       alg S j w e = by-eq ℚ-ring j e (ring ℚ-ring (S ∷ j ∷ w ∷ []) (search readsℚ depth 20) (search readsℚ depth 20) refl)

@@ -82,7 +82,8 @@ module _ {s : Space} {join k : ℕ} {t t′ : Table} (A : At s join k) (R : Reac
   over-none i z = cond-false _ _ (ap (λ b. eqb (p (suc i)) cubic && b) (ne-eqb (e (suc i)) fullCount (λ y. omega (arith, ap e z, met-here s join k, few-orders))) ∙ and-false (eqb (p (suc i)) cubic))
 
   -- nothing is taken where the ordinate's rows end at f
-  none-taken : k ≡ 2 → (eqb (p join) cubic && eqb (leftConditions s join) fullCount) ≡ false → leftCount e join ≤ p join - 1 → cell t (suc f) (firstColumn s join + (p join - k + 0)) ≡ takenBefore s join
+  none-taken : k ≡ 2 → (eqb (p join) cubic && eqb (leftConditions s join) fullCount) ≡ false → leftCount e join ≤ p join - 1
+      → cell t (suc f) (firstColumn s join + (p join - k + 0)) ≡ takenBefore s join
   unfolding takenBefore firstSpanned highest
   none-taken z test b = past join (p join - k + 0) f (omega arith) (omega (arith, room-left)) (omega (arith, room-left)) ∙ sym (cond-false _ _ test)
 
@@ -91,16 +92,24 @@ module _ {s : Space} {join k : ℕ} {t t′ : Table} (A : At s join k) (R : Reac
   begin-weight z = go join refl
     where
       -- the join before
-      after-join : (i : ℕ) → suc i ≡ join → e i ≡ conditionCount s i → Dec (p join ≡ cubic) → Dec (conditionCount s i ≡ fullCount) → cell t (suc f) (firstColumn s join + (p join - k + 0)) ≡ takenBefore s join
+      after-join : (i : ℕ) → suc i ≡ join → e i ≡ conditionCount s i → Dec (p join ≡ cubic) → Dec (conditionCount s i ≡ fullCount)
+          → cell t (suc f) (firstColumn s join + (p join - k + 0)) ≡ takenBefore s join
       after-join i y c (yes d) (yes q) =
-          ap₂ (λ r u. cell t r u) (let x = before-join (spanning A) i y in let v : suc f ≡ top s e i = omega arith in v) (ap₂ (λ j u. firstColumn s j + u) (sym y) (let v : p join - k + 0 ≡ 1 = omega arith in v))
+          ap₂ (λ r u. cell t r u) (let x = before-join (spanning A) i y in let v : suc f ≡ top s e i = omega arith in v)
+          (ap₂ (λ j u. firstColumn s j + u) (sym y) (let v : p join - k + 0 ≡ 1 = omega arith in v))
           ∙ Q .beyond i (omega arith) (c ∙ q) ∙ ap (λ x. x *ᵠ upperFactor s i) (over-none i y) ∙ one-mul (upperFactor s i) ∙ ap (upperFactor s) (let v : i ≡ join - 1 = omega arith in v)
           ∙ sym (cond-true _ _ (ap₂ _&&_ (eq-eqb (p join) cubic d) (eq-eqb (leftConditions s join) fullCount (ap (leftConditions s) (sym y) ∙ q))))
-      after-join i y c (no d) q = none-taken z (ap (λ b. b && eqb (leftConditions s join) fullCount) (ne-eqb (p join) cubic d)) (omega (arith, room-left, c, ap (leftCount e) (sym y), A .limits .few-conditions i (omega arith)))
-      after-join i y c (yes d) (no q) = none-taken z (ap₂ _&&_ (eq-eqb (p join) cubic d) (ne-eqb (leftConditions s join) fullCount (λ v. q (ap (leftConditions s) y ∙ v)))) (omega (arith, c, ap (leftCount e) (sym y), A .limits .few-conditions i (omega arith)))
+      after-join i y c (no d) q =
+          none-taken z (ap (λ b. b && eqb (leftConditions s join) fullCount) (ne-eqb (p join) cubic d))
+          (omega (arith, room-left, c, ap (leftCount e) (sym y), A .limits .few-conditions i (omega arith)))
+      after-join i y c (yes d) (no q) =
+          none-taken z (ap₂ _&&_ (eq-eqb (p join) cubic d) (ne-eqb (leftConditions s join) fullCount (λ v. q (ap (leftConditions s) y ∙ v))))
+          (omega (arith, c, ap (leftCount e) (sym y), A .limits .few-conditions i (omega arith)))
 
       go : (n : ℕ) → join ≡ n → cell t (suc f) (firstColumn s join + (p join - k + 0)) ≡ takenBefore s join
-      go zero y = none-taken z (ap (λ b. eqb (p join) cubic && b) (ne-eqb (leftConditions s join) fullCount (λ v. omega (arith, ap (leftConditions s) y))) ∙ and-false (eqb (p join) cubic)) (omega (arith, ap (leftCount e) y))
+      go zero y =
+          none-taken z (ap (λ b. eqb (p join) cubic && b) (ne-eqb (leftConditions s join) fullCount (λ v. omega (arith, ap (leftConditions s) y)))
+          ∙ and-false (eqb (p join) cubic)) (omega (arith, ap (leftCount e) y))
       go (suc i) y = after-join i (sym y) (met-before s join k i (omega arith)) (ℕ-discrete (p join) cubic) (ℕ-discrete (conditionCount s i) fullCount)
 
   pub lower-is : k ≡ 2 → w (suc f) ≡ lowerFactor s join

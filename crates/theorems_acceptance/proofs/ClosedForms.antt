@@ -20,7 +20,9 @@ use Rattle.spec_spline.proofs.Space.{segment-column}
 use Rattle.spec_spline.proofs.Induction.{joins-hold}
 use Rattle.theorems_weights.proofs.Built.{built}
 use Rattle.theorems_values.proofs.Segment.{accepted-checked}
-use Rattle.theorems_acceptance.specs.ClosedForms.{lowerFactor, upperFactor, share, cubic, fullCount, leftOver, ownRow, joinRow, joinColumn, firstWeight, lastWeight, JoinWeightsAtOrderOne, JoinWeightsAtOrderTwo, WeightsBeforeJoin, WeightsAfterJoin, JoinOrdinatesAgree, OwnOrdinatesAreRows}
+use Rattle.theorems_acceptance.specs.ClosedForms.{lowerFactor, upperFactor, share, cubic, fullCount, leftOver, ownRow, joinRow, joinColumn, firstWeight}
+use Rattle.theorems_acceptance.specs.ClosedForms.{lastWeight, JoinWeightsAtOrderOne, JoinWeightsAtOrderTwo, WeightsBeforeJoin, WeightsAfterJoin}
+use Rattle.theorems_acceptance.specs.ClosedForms.{JoinOrdinatesAgree, OwnOrdinatesAreRows}
 use Rattle.theorems_acceptance.proofs.Rows.{firstRow, leftCount, lowest, highest, top-highest, below-top-highest, next-highest}
 use Rattle.theorems_acceptance.proofs.Support.{Support, support-ends}
 use Rattle.theorems_acceptance.proofs.Limits.{Limits, limits}
@@ -102,7 +104,8 @@ join-ends : (p e : ℕ → ℕ) → ((i : ℕ) → e i ≤ p (suc i)) → (j n :
 unfolding lowest
 join-ends p e right j n h z = (omega arith, top-highest p e right j)
 
-before-ends : (p e : ℕ → ℕ) → ((i : ℕ) → e i ≤ p (suc i)) → (j : ℕ) → e j ≤ p j → e j ≡ fullCount → (lowest p e j (p j - 1) ≡ firstRow p e j + p j - 2) × (highest p e j (p j - 1) ≡ firstRow p e j + p j - 1)
+before-ends : (p e : ℕ → ℕ) → ((i : ℕ) → e i ≤ p (suc i)) → (j : ℕ) → e j ≤ p j → e j ≡ fullCount
+    → (lowest p e j (p j - 1) ≡ firstRow p e j + p j - 2) × (highest p e j (p j - 1) ≡ firstRow p e j + p j - 1)
 unfolding lowest
 before-ends p e right j h z = (omega arith, below-top-highest p e right j (omega arith))
 
@@ -142,7 +145,8 @@ module _ (s : Space) (a : Accepted s) where
     past = λ i b. cell-past t i _ b;
   }
 
-  two : (j u r : ℕ) → j < segments s → u ≤ degree s j → lowest (degree s) (e s a) j u ≡ r → highest (degree s) (e s a) j u ≡ suc r → cell t r (firstColumn s j + u) ≡ int (pos 1) -ᵠ cell t (suc r) (firstColumn s j + u)
+  two : (j u r : ℕ) → j < segments s → u ≤ degree s j → lowest (degree s) (e s a) j u ≡ r → highest (degree s) (e s a) j u ≡ suc r
+      → cell t r (firstColumn s j + u) ≡ int (pos 1) -ᵠ cell t (suc r) (firstColumn s j + u)
   two j u r h k p q = first-of-two (weighed j u r (suc r) h k p q) refl
 
   three : (j u r : ℕ) → j < segments s → u ≤ degree s j → lowest (degree s) (e s a) j u ≡ r → highest (degree s) (e s a) j u ≡ suc (suc r)
@@ -189,7 +193,8 @@ module _ (s : Space) (a : Accepted s) where
 
       first-before : cell t (joinRow s j - 2) (joinColumn s j - 1) ≡ int (pos 1) -ᵠ lowerFactor s j
       first-before = let x = before-ends (degree s) (e s a) right-within j (left-within j (omega arith)) z in
-          ap (cell t _) column-before ∙ two j (degree s j - 1) (joinRow s j - 2) (omega arith) (omega arith) (x .0 ∙ ap (λ n. n - 2) row-is) (x .1 ∙ ap (λ n. n - 1) row-is ∙ omega (arith, row-is, within))
+          ap (cell t _) column-before ∙ two j (degree s j - 1) (joinRow s j - 2) (omega arith) (omega arith) (x .0 ∙ ap (λ n. n - 2) row-is)
+          (x .1 ∙ ap (λ n. n - 1) row-is ∙ omega (arith, row-is, within))
           ∙ ap (λ q. int (pos 1) -ᵠ q) (ap₂ (cell t) (let v : suc (joinRow s j - 2) ≡ joinRow s j - 1 = omega (arith, row-is, within) in v) (sym column-before) ∙ last-before)
 
       -- the ordinate after it
@@ -216,7 +221,9 @@ pub weights-after-join : WeightsAfterJoin
 weights-after-join s a j h z = let c = count-is s a j fullCount h (count-of s j 2 z) in (first-after s a j h c, last-after s a j h c)
 
 pub join-ordinates-agree : JoinOrdinatesAgree
-join-ordinates-agree s a j h z i = formed s a .reached .shape .joined j h (rw (count-is s a j (conditionCount s j) h refl) z) i ∙ ap (cell (a .table) i) (let y : firstColumn s (suc j) + 0 ≡ firstColumn s (suc j) = omega arith in y)
+join-ordinates-agree s a j h z i =
+    formed s a .reached .shape .joined j h (rw (count-is s a j (conditionCount s j) h refl) z) i
+    ∙ ap (cell (a .table) i) (let y : firstColumn s (suc j) + 0 ≡ firstColumn s (suc j) = omega arith in y)
 
 -- both ends of an ordinate's rows where no join reaches it
 own-ends : (p e : ℕ → ℕ) (j u : ℕ) → u ≤ p j → leftCount e j ≤ u + 1 → e j ≤ p j - u + 1 → (lowest p e j u ≡ firstRow p e j + u) × (highest p e j u ≡ firstRow p e j + u)

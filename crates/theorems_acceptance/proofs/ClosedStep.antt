@@ -117,10 +117,13 @@ module _ {s : Space} {join k : ℕ} {t t′ : Table} (A : At s join k) (R : Reac
   over-still : (i : ℕ) → suc i ≡ join → (p join ≢ cubic) ⊎ (k ≢ 2) → over s e′ i ≡ int (pos 1)
   unfolding over
   over-still i z (inl d) = cond-false _ _ (ap (λ b. b && eqb (e′ (suc i)) fullCount) (ne-eqb (p (suc i)) cubic (λ y. d (ap p (sym z) ∙ y))))
-  over-still i z (inr c) = cond-false _ _ (ap (λ b. eqb (p (suc i)) cubic && b) (ne-eqb (e′ (suc i)) fullCount (λ y. c (let v = ap e′ z in let x = met-here s join (suc k) in omega arith))) ∙ and-false (eqb (p (suc i)) cubic))
+  over-still i z (inr c) =
+      cond-false _ _ (ap (λ b. eqb (p (suc i)) cubic && b) (ne-eqb (e′ (suc i)) fullCount (λ y. c (let v = ap e′ z in let x = met-here s join (suc k) in omega arith)))
+      ∙ and-false (eqb (p (suc i)) cubic))
 
   -- the last weight on a column that ends in the last row of an earlier join
-  last-moves : (i j u : ℕ) (q : ℚ) → i < join → e i ≡ fullCount → j < segments s → u ≤ p j → highest p e j u ≡ top s e i → cell t (top s e i) (firstColumn s j + u) ≡ over s e i *ᵠ q → cell t′ (top s e i) (firstColumn s j + u) ≡ over s e′ i *ᵠ q
+  last-moves : (i j u : ℕ) (q : ℚ) → i < join → e i ≡ fullCount → j < segments s → u ≤ p j → highest p e j u ≡ top s e i
+      → cell t (top s e i) (firstColumn s j + u) ≡ over s e i *ᵠ q → cell t′ (top s e i) (firstColumn s j + u) ≡ over s e′ i *ᵠ q
   unfolding firstSpanned
   last-moves i j u q b c x y v old = go (eq-or-lt-of-le b)
     where
@@ -129,7 +132,8 @@ module _ {s : Space} {join k : ℕ} {t t′ : Table} (A : At s join k) (R : Reac
 
       near : suc i ≡ join → Dec (p join ≡ cubic) → Dec (k ≡ 2) → cell t′ (top s e i) (firstColumn s j + u) ≡ over s e′ i *ᵠ q
       near z (yes d) (yes a) = taken-by (top s e i) (firstColumn s j + u) (past A R N Q j u (top s e i) x y v)
-          ∙ ap₂ _*ᵠ_ (ap w (let o = near-top i z in let g : top s e i ≡ suc f = omega arith in g) ∙ lower-is A R N Q a) (old ∙ ap (λ o. o *ᵠ q) (over-none A R N Q i z) ∙ one-mul q) ∙ ap (λ o. o *ᵠ q) (sym (over-new i z d a))
+          ∙ ap₂ _*ᵠ_ (ap w (let o = near-top i z in let g : top s e i ≡ suc f = omega arith in g) ∙ lower-is A R N Q a)
+          (old ∙ ap (λ o. o *ᵠ q) (over-none A R N Q i z) ∙ one-mul q) ∙ ap (λ o. o *ᵠ q) (sym (over-new i z d a))
       near z (no d) a = still (let o = near-top i z in let r = before-join (spanning A) i z .1 in omega (arith, few-orders)) (over-none A R N Q i z ∙ sym (over-still i z (inl d)))
       near z (yes d) (no a) = still (let o = near-top i z in let r = before-join (spanning A) i z .1 in omega (arith, few-orders)) (over-none A R N Q i z ∙ sym (over-still i z (inr a)))
 
@@ -145,7 +149,9 @@ module _ {s : Space} {join k : ℕ} {t t′ : Table} (A : At s join k) (R : Reac
 
   fresh : over s e′ join ≡ int (pos 1)
   unfolding over
-  fresh = cond-false _ _ (ap (λ b. eqb (p (suc join)) cubic && b) (ne-eqb (e′ (suc join)) fullCount (λ y. omega (arith, met-after s join (suc k) (suc join) (omega arith)))) ∙ and-false (eqb (p (suc join)) cubic))
+  fresh =
+      cond-false _ _ (ap (λ b. eqb (p (suc join)) cubic && b) (ne-eqb (e′ (suc join)) fullCount (λ y. omega (arith, met-after s join (suc k) (suc join) (omega arith))))
+      ∙ and-false (eqb (p (suc join)) cubic))
 
   -- the last ordinate before the join, alone at order 1
   own-unit : k ≡ 1 → cell t (suc f) (firstColumn s join + p join) ≡ int (pos 1)
@@ -169,7 +175,9 @@ module _ {s : Space} {join k : ℕ} {t t′ : Table} (A : At s join k) (R : Reac
 
   own-first : k ≡ 2 → cell t′ f (firstColumn s join + p join) ≡ (int (pos 1) -ᵠ lowerFactor s join) *ᵠ (int (pos 1) -ᵠ share s join)
   unfolding mixed lowest firstSpanned
-  own-first z = N .stepped .cells f _ ∙ ap₂ (λ x y. w f *ᵠ x +ᵠ (int (pos 1) -ᵠ w (suc f)) *ᵠ y) (R .shape .supported join (p join) (omega arith) (omega arith) .below f (omega (arith, S .here, room-left))) (second-weight z)
+  own-first z =
+      N .stepped .cells f _ ∙ ap₂ (λ x y. w f *ᵠ x +ᵠ (int (pos 1) -ᵠ w (suc f)) *ᵠ y)
+      (R .shape .supported join (p join) (omega arith) (omega arith) .below f (omega (arith, S .here, room-left))) (second-weight z)
       ∙ ap (λ x. w f *ᵠ int (pos 0) +ᵠ (int (pos 1) -ᵠ x) *ᵠ (int (pos 1) -ᵠ share s join)) (lower-is A R N Q z)
       ∙ ring ℚ-ring (w f ∷ lowerFactor s join ∷ share s join ∷ []) (search readsℚ depth 30) (search readsℚ depth 30) refl
 
@@ -190,7 +198,9 @@ module _ {s : Space} {join k : ℕ} {t t′ : Table} (A : At s join k) (R : Reac
   own-beyond : k ≡ 2 → cell t′ (f + k) (firstColumn s (suc join) + 1) ≡ upperFactor s join
   own-beyond z = ap (λ r. cell t′ r (firstColumn s (suc join) + 1)) (let y : f + k ≡ suc (suc f) = omega arith in y)
       ∙ taken-by (suc (suc f)) _ (past A R N Q (suc join) 1 (suc (suc f)) (omega arith) (omega (arith, room-right)) ends)
-      ∙ ap₂ _*ᵠ_ (upper-is A R N Q z) (unit A R (suc join) 1 (omega arith) (omega (arith, room-right)) (suc (suc f)) (right-low (spanning A) 1 (omega arith) ∙ omega arith) ends .one) ∙ mul-one (upperFactor s join)
+      ∙ ap₂ _*ᵠ_ (upper-is A R N Q z)
+      (unit A R (suc join) 1 (omega arith) (omega (arith, room-right)) (suc (suc f)) (right-low (spanning A) 1 (omega arith) ∙ omega arith) ends .one)
+      ∙ mul-one (upperFactor s join)
     where
       ends : highest p e (suc join) 1 ≡ suc (suc f)
       ends = right-high (spanning A) 1 (omega arith) ∙ omega arith
@@ -210,7 +220,10 @@ module _ {s : Space} {join k : ℕ} {t t′ : Table} (A : At s join k) (R : Reac
   new-once i a z = go (compared i join)
     where
       go : Compared i join → cell t′ (top s e′ i) (firstColumn s i + p i) ≡ share s i
-      go (before b) = ap (λ r. cell t′ r (firstColumn s i + p i)) (same-top i (omega arith)) ∙ kept-last (top s e i) _ (low-top i 2 b (old-count i 2 b z) (omega arith)) (past A R N Q i (p i) (top s e i) (omega arith) (omega arith) (top-highest p e (S .right) i)) ∙ Q .once i a (old-count i 2 b z)
+      go (before b) =
+          ap (λ r. cell t′ r (firstColumn s i + p i)) (same-top i (omega arith))
+          ∙ kept-last (top s e i) _ (low-top i 2 b (old-count i 2 b z) (omega arith))
+          (past A R N Q i (p i) (top s e i) (omega arith) (omega arith) (top-highest p e (S .right) i)) ∙ Q .once i a (old-count i 2 b z)
       go (same y) = subst (λ j. cell t′ (top s e′ j) (firstColumn s j + p j) ≡ share s j) (sym y) (ap (λ r. cell t′ r (firstColumn s join + p join)) own-top ∙ own-once (count-here i 1 y z))
       go (after b) = absurd (gone i 2 b z (omega arith))
 
@@ -218,7 +231,9 @@ module _ {s : Space} {join k : ℕ} {t t′ : Table} (A : At s join k) (R : Reac
   new-first i a z = go (compared i join)
     where
       go : Compared i join → cell t′ (top s e′ i - 2) (firstColumn s i + p i) ≡ (int (pos 1) -ᵠ lowerFactor s i) *ᵠ (int (pos 1) -ᵠ share s i)
-      go (before b) = ap (λ r. cell t′ (r - 2) (firstColumn s i + p i)) (same-top i (omega arith)) ∙ kept (top s e i - 2) _ (below-top i b (old-count i fullCount b z) .0) ∙ Q .first i a (old-count i fullCount b z)
+      go (before b) =
+          ap (λ r. cell t′ (r - 2) (firstColumn s i + p i)) (same-top i (omega arith)) ∙ kept (top s e i - 2) _ (below-top i b (old-count i fullCount b z) .0)
+          ∙ Q .first i a (old-count i fullCount b z)
       go (same y) = subst (λ j. cell t′ (top s e′ j - 2) (firstColumn s j + p j) ≡ (int (pos 1) -ᵠ lowerFactor s j) *ᵠ (int (pos 1) -ᵠ share s j)) (sym y)
           (ap (λ r. cell t′ r (firstColumn s join + p join)) (let v = count-here i 2 y z in let o = own-top in let g : top s e′ join - 2 ≡ f = omega arith in g) ∙ own-first (count-here i 2 y z))
       go (after b) = absurd (gone i fullCount b z (omega arith))
@@ -227,7 +242,10 @@ module _ {s : Space} {join k : ℕ} {t t′ : Table} (A : At s join k) (R : Reac
   new-last i a z = go (compared i join)
     where
       go : Compared i join → cell t′ (top s e′ i) (firstColumn s i + p i) ≡ over s e′ i *ᵠ (upperFactor s i *ᵠ share s i)
-      go (before b) = ap (λ r. cell t′ r (firstColumn s i + p i)) (same-top i (omega arith)) ∙ last-moves i i (p i) (upperFactor s i *ᵠ share s i) b (old-count i fullCount b z) (omega arith) (omega arith) (top-highest p e (S .right) i) (Q .last i a (old-count i fullCount b z))
+      go (before b) =
+          ap (λ r. cell t′ r (firstColumn s i + p i)) (same-top i (omega arith))
+          ∙ last-moves i i (p i) (upperFactor s i *ᵠ share s i) b (old-count i fullCount b z) (omega arith) (omega arith) (top-highest p e (S .right) i)
+          (Q .last i a (old-count i fullCount b z))
       go (same y) = subst (λ j. cell t′ (top s e′ j) (firstColumn s j + p j) ≡ over s e′ j *ᵠ (upperFactor s j *ᵠ share s j)) (sym y)
           (ap (λ r. cell t′ r (firstColumn s join + p join)) own-top ∙ own-last (count-here i 2 y z) ∙ sym (ap (λ o. o *ᵠ (upperFactor s join *ᵠ share s join)) fresh ∙ one-mul _))
       go (after b) = absurd (gone i fullCount b z (omega arith))
@@ -237,16 +255,22 @@ module _ {s : Space} {join k : ℕ} {t t′ : Table} (A : At s join k) (R : Reac
     where
       go : Compared i join → cell t′ (top s e′ i - 1) (firstColumn s i + (p i - 1)) ≡ lowerFactor s i
       go (before b) = ap (λ r. cell t′ (r - 1) (firstColumn s i + (p i - 1))) (same-top i (omega arith))
-          ∙ kept-last (top s e i - 1) _ (below-top i b (old-count i fullCount b z) .1) (past A R N Q i (p i - 1) (top s e i - 1) (omega arith) (omega arith) (below-top-highest p e (S .right) i (omega (arith, S .left i, old-count i fullCount b z)))) ∙ Q .near i a (old-count i fullCount b z)
+          ∙ kept-last (top s e i - 1) _ (below-top i b (old-count i fullCount b z) .1)
+          (past A R N Q i (p i - 1) (top s e i - 1) (omega arith) (omega arith)
+          (below-top-highest p e (S .right) i (omega (arith, S .left i, old-count i fullCount b z)))) ∙ Q .near i a (old-count i fullCount b z)
       go (same y) = subst (λ j. cell t′ (top s e′ j - 1) (firstColumn s j + (p j - 1)) ≡ lowerFactor s j) (sym y)
-          (ap (λ r. cell t′ r (firstColumn s join + (p join - 1))) (let v = count-here i 2 y z in let o = own-top in let g : top s e′ join - 1 ≡ suc f = omega arith in g) ∙ own-near (count-here i 2 y z))
+          (ap (λ r. cell t′ r (firstColumn s join + (p join - 1)))
+          (let v = count-here i 2 y z in let o = own-top in let g : top s e′ join - 1 ≡ suc f = omega arith in g) ∙ own-near (count-here i 2 y z))
       go (after b) = absurd (gone i fullCount b z (omega arith))
 
   new-beyond : (i : ℕ) → suc i < segments s → e′ i ≡ fullCount → cell t′ (top s e′ i) (firstColumn s (suc i) + 1) ≡ over s e′ i *ᵠ upperFactor s i
   new-beyond i a z = go (compared i join)
     where
       go : Compared i join → cell t′ (top s e′ i) (firstColumn s (suc i) + 1) ≡ over s e′ i *ᵠ upperFactor s i
-      go (before b) = let c = old-count i fullCount b z in ap (λ r. cell t′ r (firstColumn s (suc i) + 1)) (same-top i (omega arith)) ∙ last-moves i (suc i) 1 (upperFactor s i) b c a (omega (arith, S .right i)) (next-highest p e i (S .left i) c) (Q .beyond i a c)
+      go (before b) =
+          let c = old-count i fullCount b z in
+          ap (λ r. cell t′ r (firstColumn s (suc i) + 1)) (same-top i (omega arith))
+          ∙ last-moves i (suc i) 1 (upperFactor s i) b c a (omega (arith, S .right i)) (next-highest p e i (S .left i) c) (Q .beyond i a c)
       go (same y) = subst (λ j. cell t′ (top s e′ j) (firstColumn s (suc j) + 1) ≡ over s e′ j *ᵠ upperFactor s j) (sym y)
           (ap (λ r. cell t′ r (firstColumn s (suc join) + 1)) own-top ∙ own-beyond (count-here i 2 y z) ∙ sym (ap (λ o. o *ᵠ upperFactor s join) fresh ∙ one-mul _))
       go (after b) = absurd (gone i fullCount b z (omega arith))

@@ -24,7 +24,8 @@ module _ {n f l : ℕ} {J w : ℕ → ℚ} (G : Jumps n f l J w) where
       go : (l ≤ i) ⊎ (i < l) → ⊥
       go (inl k) = int-nonzero 0 (by-eq ℚ-ring (int (pos 1)) e (by-eq ℚ-ring (int (pos 1)) (last-factor G i k) (ring ℚ-ring (w i ∷ []) (search readsℚ depth 20) (search readsℚ depth 20) refl)))
       go (inr k) = let b = G .below in G .part i h (omega arith)
-          (by-eq ℚ-ring (-ᵠ J i) e (by-eq ℚ-ring (int (negsuc 0)) (G .weight i (omega arith) ∙ sum-last i J) (ring ℚ-ring (w i ∷ J i ∷ sum i J ∷ []) (search readsℚ depth 20) (search readsℚ depth 20) refl)))
+          (by-eq ℚ-ring (-ᵠ J i) e (by-eq ℚ-ring (int (negsuc 0)) (G .weight i (omega arith) ∙ sum-last i J)
+          (ring ℚ-ring (w i ∷ J i ∷ sum i J ∷ []) (search readsℚ depth 20) (search readsℚ depth 20) refl)))
 
   pub factors-mix : ((i : ℕ) → Nn (w i)) → ((i : ℕ) → Nn (int (pos 1) -ᵠ w i)) → Mixing f l w
   factors-mix nn rest = record {

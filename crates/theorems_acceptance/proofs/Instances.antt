@@ -195,7 +195,16 @@ positions1 = pos 256 ∷ pos 512 ∷ []
 
 within1 : WithinLimits space1 coefs1 positions1 5184 5184 4
 unfolding checking firstColumn conditionsBefore badCoefficient badPosition
-within1 = record { lists = refl; coefficientCount = refl; coefficients = coefficients; positionCount = omega arith; inSpan = inside; numerators = omega arith; denominators = omega arith; values = omega arith }
+within1 = record {
+  lists = refl;
+  coefficientCount = refl;
+  coefficients = coefficients;
+  positionCount = omega arith;
+  inSpan = inside;
+  numerators = omega arith;
+  denominators = omega arith;
+  values = omega arith;
+}
   where
     coefficients : (i : ℕ) → i < length coefs1 → T (not (badCoefficient coefs1 i))
     coefficients zero h = tt

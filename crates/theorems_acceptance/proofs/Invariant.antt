@@ -120,7 +120,9 @@ module _ {s : Space} {join k : ℕ} (A : At s join k) {κ : List Entry} {t t′ 
 
   -- the first condition at this join makes two columns equal
   new-single : k ≡ 0 → (i : ℕ) → column s t′ join (degree s join) i ≡ column s t′ (suc join) 0 i
-  new-single z i = single-same t′ _ _ (single-one t′ _ (sums _ (segment-column s join (degree s join) (left-segment A) (omega arith))) left) (single-one t′ _ (sums _ (segment-column s (suc join) 0 (right-segment A) (omega arith))) right) left right i
+  new-single z i =
+      single-same t′ _ _ (single-one t′ _ (sums _ (segment-column s join (degree s join) (left-segment A) (omega arith))) left)
+      (single-one t′ _ (sums _ (segment-column s (suc join) 0 (right-segment A) (omega arith))) right) left right i
     where
       rows : Single (degree s) e′ join (firstRow (degree s) e′ join + degree s join)
       rows = met-once (degree s) e′ join (subst (λ n. Stage (degree s) e′ join (suc n)) z (stage′ A))

@@ -106,7 +106,10 @@ module _ (s : Space) (c : Checked s) where
   }
     where
       test : (j : ℕ) → j < segments s - 1 → not (between (negℤ (pos 1)) (pos 2) (order s j)) ≡ false
-      test j h = or-false (not (between (negℤ (pos 1)) (pos 2) (order s j))) (leZ (degreeEntry s j) (order s j)) (or-false (not (between (negℤ (pos 1)) (pos 2) (order s j)) || leZ (degreeEntry s j) (order s j)) (leZ (degreeEntry s (suc j)) (order s j)) (c .orders j h) .0) .0
+      test j h =
+          or-false (not (between (negℤ (pos 1)) (pos 2) (order s j))) (leZ (degreeEntry s j) (order s j))
+          (or-false (not (between (negℤ (pos 1)) (pos 2) (order s j)) || leZ (degreeEntry s j) (order s j)) (leZ (degreeEntry s (suc j)) (order s j))
+          (c .orders j h) .0) .0
 
 -- ---- orders and counts of conditions
 

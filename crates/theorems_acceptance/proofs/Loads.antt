@@ -56,7 +56,13 @@ pub record Whole (q : ℚ) (b : ℕ) : Type 0 where
 pub load-jump : {r : Row} {κ : List Entry} {b : ℕ} → Load r κ b → Whole (applied κ (entry r)) b
 unfolding applied
 load-jump empty = record { number = pos 0; is = refl; size = omega arith }
-load-jump (skip {e = x} z l) = let w = load-jump l in record { number = w .number; is = ap₂ (λ p q. p *ᵠ int (x .condition) +ᵠ q) z (w .is) ∙ ap (λ t. t +ᵠ int (w .number)) (zero-mul (int (x .condition))) ∙ zero-add _; size = w .size }
+load-jump (skip {e = x} z l) =
+    let w = load-jump l in record {
+      number = w .number;
+      is = ap₂ (λ p q. p *ᵠ int (x .condition) +ᵠ q) z (w .is)
+          ∙ ap (λ t. t +ᵠ int (w .number)) (zero-mul (int (x .condition))) ∙ zero-add _;
+      size = w .size;
+    }
 load-jump (take {e = x} z l) = let w = load-jump l in record {
   number = x .condition +ℤ w .number;
   is = ap₂ (λ p q. p *ᵠ int (x .condition) +ᵠ q) z (w .is) ∙ ap (λ t. t +ᵠ int (w .number)) (one-mul (int (x .condition))) ∙ sym (int-add (x .condition) (w .number));
@@ -69,10 +75,15 @@ divided-size : (g : ℕ) (e : Entry) → natAbs (divided g e .condition) ≤ nat
 divided-size g e = omega (arith, signed-abs (e .condition) (natAbs (e .condition) / g), div-le-self (natAbs (e .condition)) g)
 
 left-size : (s : Space) (j k t : ℕ) → natAbs (leftEntry s j k t .condition) ≡ scale (degree s j) k (width s (suc j)) * binomial k t
-left-size s j k t = abs-mul (pos (scale (degree s j) k (width s (suc j)) * binomial k t)) (alternating (k - t)) ∙ ap (λ n. scale (degree s j) k (width s (suc j)) * binomial k t * n) (alternating-abs (k - t)) ∙ omega arith
+left-size s j k t =
+    abs-mul (pos (scale (degree s j) k (width s (suc j)) * binomial k t)) (alternating (k - t))
+    ∙ ap (λ n. scale (degree s j) k (width s (suc j)) * binomial k t * n) (alternating-abs (k - t)) ∙ omega arith
 
 right-size : (s : Space) (j k t : ℕ) → natAbs (rightEntry s j k t .condition) ≡ scale (degree s (suc j)) k (width s j) * binomial k t
-right-size s j k t = abs-neg (pos (scale (degree s (suc j)) k (width s j) * binomial k t) *ℤ alternating (k - t)) ∙ abs-mul (pos (scale (degree s (suc j)) k (width s j) * binomial k t)) (alternating (k - t)) ∙ ap (λ n. scale (degree s (suc j)) k (width s j) * binomial k t * n) (alternating-abs (k - t)) ∙ omega arith
+right-size s j k t =
+    abs-neg (pos (scale (degree s (suc j)) k (width s j) * binomial k t) *ℤ alternating (k - t))
+    ∙ abs-mul (pos (scale (degree s (suc j)) k (width s j) * binomial k t)) (alternating (k - t))
+    ∙ ap (λ n. scale (degree s (suc j)) k (width s j) * binomial k t * n) (alternating-abs (k - t)) ∙ omega arith
 
 scale-zero : (p w : ℕ) → scale p 0 w ≡ 1
 unfolding falling

@@ -78,7 +78,13 @@ module _ {s : Space} {join k : ℕ} {t : Table} (A : At s join k) (R : Reached s
 -- The two sides' conditions of order 1 together.
 sides : {s : Space} {join k : ℕ} → At s join k → degree s join * width s (suc join) + degree s (suc join) * width s join ≤ countedLimit
 sides {s} {join} A = let M = A .limits in
-    omega (arith, mul-le-mul-right (width s (suc join)) (M .low-degree join (left-segment A)), mul-le-mul-right (width s join) (M .low-degree (suc join) (right-segment A)), M .neighbours join (A .join-below) (omega (arith, A .order-below)))
+    omega (
+      arith,
+      mul-le-mul-right (width s (suc join)) (M .low-degree join (left-segment A)),
+      mul-le-mul-right (width s join)
+          (M .low-degree (suc join) (right-segment A)),
+      M .neighbours join (A .join-below) (omega (arith, A .order-below)),
+    )
 
 -- an entry of a column that has one row alone
 unit-at : {t : Table} {i c n : ℕ} → i ≡ n → Unit t c n → cell t i c ≡ int (pos 1)
@@ -125,10 +131,23 @@ load-one {s} {join} {t} A R i = subst (RowLoad (row t i)) (sym (conditions-one s
     Y′ : Unit t (firstColumn s (suc join) + 1) (suc (r + 1))
     Y′ = right-end A R (omega arith)
 
-    go : Dec (i ≡ r) → Dec (i ≡ suc r) → Dec (i ≡ suc (r + 1)) → RowLoad (row t i) (divided g (leftEntry s join 1 0) ∷ divided g (leftEntry s join 1 1) ∷ divided g (rightEntry s join 1 0) ∷ divided g (rightEntry s join 1 1) ∷ [])
-    go (yes a) b c = record { size = _; load = take (unit-at a X) (skip (X′ .none i (λ z. omega arith)) (skip (Y .none i (λ z. omega arith)) (skip (Y′ .none i (λ z. omega arith)) empty))); within = omega (arith, left-one g s join 0 (omega arith), sides A) }
-    go (no a) (yes b) c = record { size = _; load = skip (X .none i a) (take (unit-at b X′) (take (unit-at b Y) (skip (Y′ .none i (λ z. omega arith)) empty))); within = omega (arith, left-one g s join 1 (omega arith), right-one g s join 0 (omega arith), sides A) }
-    go (no a) (no b) (yes c) = record { size = _; load = skip (X .none i a) (skip (X′ .none i b) (skip (Y .none i b) (take (unit-at c Y′) empty))); within = omega (arith, right-one g s join 1 (omega arith), sides A) }
+    go : Dec (i ≡ r) → Dec (i ≡ suc r) → Dec (i ≡ suc (r + 1))
+        → RowLoad (row t i) (divided g (leftEntry s join 1 0) ∷ divided g (leftEntry s join 1 1) ∷ divided g (rightEntry s join 1 0) ∷ divided g (rightEntry s join 1 1) ∷ [])
+    go (yes a) b c = record {
+      size = _;
+      load = take (unit-at a X) (skip (X′ .none i (λ z. omega arith)) (skip (Y .none i (λ z. omega arith)) (skip (Y′ .none i (λ z. omega arith)) empty)));
+      within = omega (arith, left-one g s join 0 (omega arith), sides A);
+    }
+    go (no a) (yes b) c = record {
+      size = _;
+      load = skip (X .none i a) (take (unit-at b X′) (take (unit-at b Y) (skip (Y′ .none i (λ z. omega arith)) empty)));
+      within = omega (arith, left-one g s join 1 (omega arith), right-one g s join 0 (omega arith), sides A);
+    }
+    go (no a) (no b) (yes c) = record {
+      size = _;
+      load = skip (X .none i a) (skip (X′ .none i b) (skip (Y .none i b) (take (unit-at c Y′) empty)));
+      within = omega (arith, right-one g s join 1 (omega arith), sides A);
+    }
     go (no a) (no b) (no c) = record { size = _; load = skip (X .none i a) (skip (X′ .none i b) (skip (Y .none i b) (skip (Y′ .none i c) empty))); within = omega arith }
 
 pub row-load : {s : Space} {join k : ℕ} {t : Table} → At s join k → Reached s join k t → k ≤ 1 → (i : ℕ) → RowLoad (row t i) (conditions s join k)

@@ -71,7 +71,8 @@ module _ (s : Space) (c : Checked s) (low : (j : ℕ) → j < segments s - 1 →
     step-low = record { reached = step-reached A (R .reached) step-answers; cells = low-step-cells A (R .reached) first-orders countedLimit (omega arith) (R .cells) }
 
   -- the conditions of a join
-  orders-low : (join n : ℕ) → join < segments s - 1 → n ≤ conditionCount s join → (t : Table) → LowReached s join 0 t → LowReached s join n (exactOrders s join n t) × (orderSteps s join n t ≡ answer (exactOrders s join n t))
+  orders-low : (join n : ℕ) → join < segments s - 1 → n ≤ conditionCount s join → (t : Table) → LowReached s join 0 t
+      → LowReached s join n (exactOrders s join n t) × (orderSteps s join n t ≡ answer (exactOrders s join n t))
   unfolding exactOrders for orderSteps repeat
   orders-low join zero h m t R = (R, refl)
   orders-low join (suc n) h m t R = let P = orders-low join n h (omega arith) t R in
@@ -86,7 +87,9 @@ module _ (s : Space) (c : Checked s) (low : (j : ℕ) → j < segments s - 1 →
 
   pub build-good : Every (Good (Small countedLimit)) (buildTests s)
   unfolding buildTests
-  build-good = every-joined (segments s - 1) _ (λ j h. every-joined (conditionCount s j) _ (λ k m. tests-good (at j k h m) (orders-low j k h (omega arith) (exactJoins s j) (joins-low j (omega arith)) .0)))
+  build-good =
+      every-joined (segments s - 1) _
+      (λ j h. every-joined (conditionCount s j) _ (λ k m. tests-good (at j k h m) (orders-low j k h (omega arith) (exactJoins s j) (joins-low j (omega arith)) .0)))
 
 -- ---- the statements
 
@@ -97,13 +100,17 @@ low-good : (s : Space) → checked s ≡ answer s → OrdersAtMostOne s → Ever
 low-good s e low = let c = checked-inverts s e .1 in build-good s c (low-counts s (limits s c) low)
 
 pub low-orders-are-accepted : LowOrdersAreAccepted
-low-orders-are-accepted s e low = record { table = exactWeights s; is = passing-is-accepted s e (every-passes (Small countedLimit) (λ q z. small-fits countedLimit q (omega arith) z) (low-good s e low)) }
+low-orders-are-accepted s e low = record {
+  table = exactWeights s;
+  is = passing-is-accepted s e (every-passes (Small countedLimit) (λ q z. small-fits countedLimit q (omega arith) z) (low-good s e low));
+}
 
 pub low-orders-are-built : LowOrdersAreBuilt
 low-orders-are-built s e low numLength denLength a b = let A = low-orders-are-accepted s e low in (A .table, accepted-spaces-are-built s A numLength denLength a b)
 
 pub counted-fractions-are-small : CountedFractionsAreSmall
-counted-fractions-are-small s e low before after join q parts = let z = every-one before after (counted join q) (subst (Every (Good (Small countedLimit))) parts (low-good s e low)) in (z .numerator, z .denominator)
+counted-fractions-are-small s e low before after join q parts =
+    let z = every-one before after (counted join q) (subst (Every (Good (Small countedLimit))) parts (low-good s e low)) in (z .numerator, z .denominator)
 
 -- ---- code 8
 
@@ -123,7 +130,8 @@ eight-comes-at-order-two s place e = go (then-breaks (checked s) weights e)
 
         order-is : (A .order ≤ 1) ⊎ (1 < A .order) → EightAtOrderTwo s place
         order-is (inl low) = absurd (no-refusal (Small mostCounted) (A .join) (conditions s (A .join) (A .order)) (A .table)
-            (low-step-good (record { limits = M; join-below = A .join-below; order-below = A .order-below }) (A .reached) low mostCounted (omega arith) (λ i j. fits-small mostCounted _ refl (A .reached .fitting i j)))
+            (low-step-good (record { limits = M; join-below = A .join-below; order-below = A .order-below }) (A .reached) low mostCounted (omega arith)
+            (λ i j. fits-small mostCounted _ refl (A .reached .fitting i j)))
             (λ q z. small-fits mostCounted q (omega arith) z) (A .refuses))
         order-is (inr high) = let two : A .order ≡ 2 = omega (arith, A .order-below, M .few-conditions (A .join) (A .join-below)) in record {
           join = A .join;

@@ -86,7 +86,9 @@ module _ {s : Space} {join k : ℕ} {t : Table} (at : At s join k) (R : Reached 
           stand : Stands f l (lowest (degree s) (met s join k) j u) (highest (degree s) (met s join k) j u) → Entries t (firstColumn s j + u) f l
           stand (under x) = low (λ i y. S .above i (omega arith))
           stand (inside x y) = let o = lowest-at-most-highest (degree s) (met s join k) j u in let e = end in middle (omega arith)
-              (unit-of t (firstColumn s j + u) (suc f) (support-ends (let z : lowest (degree s) (met s join k) j u ≡ suc f = omega arith in z) (let z : highest (degree s) (met s join k) j u ≡ suc f = omega arith in z) S) (R .basis .column-sums _ (segment-column s j u a b)))
+              (unit-of t (firstColumn s j + u) (suc f)
+              (support-ends (let z : lowest (degree s) (met s join k) j u ≡ suc f = omega arith in z)
+              (let z : highest (degree s) (met s join k) j u ≡ suc f = omega arith in z) S) (R .basis .column-sums _ (segment-column s j u a b)))
           stand (over x) = high (λ i y. S .below i (omega arith))
 
       go : (columnCount s ≤ c) ⊎ (c < columnCount s) → Entries t c f l
@@ -130,7 +132,9 @@ module _ {s : Space} {join k : ℕ} {t : Table} (at : At s join k) (R : Reached 
     sums-small : (i : ℕ) → f < i → i < l → Small n (sum (suc i) J) × Small n (sum (suc i) J /ᵠ J i)
     sums-small i a b = let e : suc i ≡ l = omega (arith, end) in (
       subst (Small n) (sym (sum-is-last i e)) (small-int (negℤ (whole l .number)) (omega (arith, abs-neg (whole l .number), whole l .size)) (omega arith)),
-      subst (Small n) (sym (ap₂ _/ᵠ_ (sum-is-last i e) (whole i .is))) (small-quotient (negℤ (whole l .number)) (whole i .number) (omega (arith, abs-neg (whole l .number), whole l .size)) (omega (arith, whole i .size)) (number-positive i a b)),
+      subst (Small n) (sym (ap₂ _/ᵠ_ (sum-is-last i e) (whole i .is)))
+          (small-quotient (negℤ (whole l .number)) (whole i .number) (omega (arith, abs-neg (whole l .number), whole l .size)) (omega (arith, whole i .size))
+          (number-positive i a b)),
     )
 
     products-small : (i : ℕ) → Every (Good (Small n)) (jumpTests join (row t i) (int (pos 0)) (conditions s join k))

@@ -40,7 +40,8 @@ entries-any join w v x y = more tt (more tt (more tt nothing))
 -- a step at a table that the build reaches
 pub step-not-nine : {s : Space} {join k : ℕ} {t : Table} → At s join k → Reached s join k t → {place : ℕ} → step join (conditions s join k) t ≡ refusal 9 place → ⊥
 step-not-nine {s} {join} {k} {t} A R e = no-nine Any join (conditions s join k) t
-    (step-good (conditions s join k) t _ _ (alternate A R) (span-spread (degree s) (met s join k) join k) Any join (λ i l. jumps-any join _ _ _) (λ i a b. (tt, tt)) (λ d c l. entries-any join _ _ _ _)) e
+    (step-good (conditions s join k) t _ _ (alternate A R) (span-spread (degree s) (met s join k) join k) Any join (λ i l. jumps-any join _ _ _) (λ i a b. (tt, tt))
+    (λ d c l. entries-any join _ _ _ _)) e
 
 pub weights-not-nine : (s : Space) → Checked s → {place : ℕ} → weights s ≡ refusal 9 place → ⊥
 weights-not-nine s c e = let R = weights-refused s c e in step-not-nine (record { limits = limits s c; join-below = R .join-below; order-below = R .order-below }) (R .reached) (R .refuses)

@@ -137,27 +137,32 @@ module _ {s : Space} {join k : ℕ} {t : Table} (D : Due s join k t) where
   pub two-first : k ≡ 2 → H (suc f) ≡ A *ᵠ a
   two-first e = H-two e (suc f)
       ∙ ap₂ (λ x y. A *ᵠ x -ᵠ B *ᵠ y)
-      (ap₂ (λ x y. x -ᵠ y -ᵠ (y -ᵠ a)) (x-none (suc f) 2 (omega arith) (omega (arith, x-low 2 (omega arith) (omega arith)))) (x-none (suc f) 1 (omega arith) (omega (arith, x-low 1 (omega arith) (omega arith)))))
+      (ap₂ (λ x y. x -ᵠ y -ᵠ (y -ᵠ a)) (x-none (suc f) 2 (omega arith) (omega (arith, x-low 2 (omega arith) (omega arith))))
+      (x-none (suc f) 1 (omega arith) (omega (arith, x-low 1 (omega arith) (omega arith)))))
       (ap₂ (λ x y. x -ᵠ y -ᵠ (y -ᵠ Y (suc f) 0)) (y-none (suc f) 2 (omega arith) (omega (arith, y-low 2 (omega arith)))) (y-none (suc f) 1 (omega arith) (omega (arith, y-low 1 (omega arith))))
       ∙ ap (λ z. int (pos 0) -ᵠ int (pos 0) -ᵠ (int (pos 0) -ᵠ z)) (y-none (suc f) 0 (omega arith) (omega (arith, y-low 0 (omega arith)))))
       ∙ ring ℚ-ring (A ∷ B ∷ a ∷ []) (search readsℚ depth 30) (search readsℚ depth 30) refl
 
   same-at-join : k ≡ 2 → (n : ℕ) → Y n 0 ≡ X n 2
   unfolding onLeft onRight summed
-  same-at-join e n = sum-ext n (λ i l. sym (D .shape .joined join (right-segment (D .at)) (rw (met-here s join k) (omega arith)) i) ∙ ap (λ u. cell t i (firstColumn s join + u)) (let r = room (D .at) in let z : degree s join ≡ degree s join - k + 2 = omega arith in z))
+  same-at-join e n =
+      sum-ext n (λ i l. sym (D .shape .joined join (right-segment (D .at)) (rw (met-here s join k) (omega arith)) i)
+      ∙ ap (λ u. cell t i (firstColumn s join + u)) (let r = room (D .at) in let z : degree s join ≡ degree s join - k + 2 = omega arith in z))
 
   pub two-second : k ≡ 2 → H (suc (suc f)) ≡ -ᵠ (A *ᵠ (int (pos 1) -ᵠ b) +ᵠ B *ᵠ b)
   two-second e = H-two e (suc (suc f))
       ∙ ap₂ (λ x y. A *ᵠ x -ᵠ B *ᵠ y)
       (ap₂ (λ x y. b -ᵠ x -ᵠ (x -ᵠ y)) (x-all (suc (suc f)) 1 (omega arith) (omega (arith, x-high 1 (omega arith) (omega arith)))) (x-all (suc (suc f)) 0 (omega arith) (omega (arith, x0-high))))
-      (ap₂ (λ x y. x -ᵠ y -ᵠ (y -ᵠ Y (suc (suc f)) 0)) (y-none (suc (suc f)) 2 (omega arith) (omega (arith, y-low 2 (omega arith)))) (y-none (suc (suc f)) 1 (omega arith) (omega (arith, y-low 1 (omega arith))))
+      (ap₂ (λ x y. x -ᵠ y -ᵠ (y -ᵠ Y (suc (suc f)) 0)) (y-none (suc (suc f)) 2 (omega arith) (omega (arith, y-low 2 (omega arith))))
+      (y-none (suc (suc f)) 1 (omega arith) (omega (arith, y-low 1 (omega arith))))
       ∙ ap (λ z. int (pos 0) -ᵠ int (pos 0) -ᵠ (int (pos 0) -ᵠ z)) (same-at-join e (suc (suc f))))
       ∙ ring ℚ-ring (A ∷ B ∷ b ∷ []) (search readsℚ depth 30) (search readsℚ depth 30) refl
 
   pub two-last : k ≡ 2 → H (suc (suc (suc f))) ≡ B
   two-last e = let n = suc (suc (suc f)) in H-two e n
       ∙ ap₂ (λ x y. A *ᵠ x -ᵠ B *ᵠ y)
-      (ap₂ (λ x y. x -ᵠ y -ᵠ (y -ᵠ X n 0)) (x-all n 2 (omega arith) (omega (arith, x-high 2 (omega arith) (omega arith)))) (x-all n 1 (omega arith) (omega (arith, x-high 1 (omega arith) (omega arith))))
+      (ap₂ (λ x y. x -ᵠ y -ᵠ (y -ᵠ X n 0)) (x-all n 2 (omega arith) (omega (arith, x-high 2 (omega arith) (omega arith))))
+      (x-all n 1 (omega arith) (omega (arith, x-high 1 (omega arith) (omega arith))))
       ∙ ap (λ z. int (pos 1) -ᵠ int (pos 1) -ᵠ (int (pos 1) -ᵠ z)) (x-all n 0 (omega arith) (omega (arith, x0-high))))
       (ap₂ (λ x y. x -ᵠ y -ᵠ (y -ᵠ Y n 0)) (y-none n 2 (omega arith) (omega (arith, y-low 2 (omega arith)))) (y-all n 1 (omega arith) (omega (arith, y-high 1 (omega arith))))
       ∙ ap (λ z. int (pos 0) -ᵠ int (pos 1) -ᵠ (int (pos 1) -ᵠ z)) (y-all n 0 (omega arith) (omega (arith, y-high 0 (omega arith)))))

@@ -104,7 +104,13 @@ module _ {p e : ℕ → ℕ} {join k : ℕ} (G : Spanning p e join k) where
     moves-before : (j t : ℕ) → t ≤ p j → j < join → Moved j t
     unfolding lowest highest lastSpanned
     moves-before j t h b = let s = below-span j t h b in let d = first-kept p N j (omega arith) in let x = N .same j (λ z. omega arith) in let y = left-kept N j (λ z. omega arith) in
-        record { low-kept = λ l. ap₂ (λ a b. a + t - (b + t - (p j + 1))) d x; low-moved = λ l. absurd (omega (arith, s .0)); high-kept = λ l. ap₂ (λ a b. a + max t (b - 1)) d y; high-moved = λ l. absurd (omega (arith, s .1)) }
+        record {
+          low-kept = λ l. ap₂ (λ a b. a + t - (b + t - (p j + 1))) d x;
+          low-moved = λ l. absurd (omega (arith, s .0));
+          high-kept = λ l. ap₂
+              (λ a b. a + max t (b - 1)) d y;
+          high-moved = λ l. absurd (omega (arith, s .1));
+        }
 
     moves-at : (t : ℕ) → t ≤ p join → Moved join t
     unfolding lowest highest firstSpanned lastSpanned
@@ -113,12 +119,16 @@ module _ {p e : ℕ → ℕ} {join k : ℕ} (G : Spanning p e join k) where
 
     moves-next : (t : ℕ) → t ≤ p (suc join) → Moved (suc join) t
     unfolding lowest highest firstSpanned lastSpanned
-    moves-next t h = let c = after-join in let d = first-moved p N (omega arith) (suc join) (omega arith) in let r = S .rest (suc join) (omega arith) in let r′ = N .same (suc join) (λ z. omega arith) in
+    moves-next t h =
+        let c = after-join in let d = first-moved p N (omega arith) (suc join) (omega arith) in let r = S .rest (suc join) (omega arith) in
+        let r′ = N .same (suc join) (λ z. omega arith) in
         record { low-kept = λ l. absurd (omega arith); low-moved = λ l. omega arith; high-kept = λ l. omega arith; high-moved = λ l. omega arith }
 
     moves-after : (j t : ℕ) → t ≤ p j → suc join < j → Moved j t
     unfolding lowest highest firstSpanned lastSpanned
-    moves-after j t h b = let c = beyond-span j b in let d = first-moved p N (omega arith) j (omega arith) in let r = S .rest j (omega arith) in let r′ = N .same j (λ z. omega arith) in let y = left-kept N j (λ z. omega arith) in
+    moves-after j t h b =
+        let c = beyond-span j b in let d = first-moved p N (omega arith) j (omega arith) in let r = S .rest j (omega arith) in let r′ = N .same j (λ z. omega arith) in
+        let y = left-kept N j (λ z. omega arith) in
         record { low-kept = λ l. absurd (omega arith); low-moved = λ l. omega arith; high-kept = λ l. absurd (omega arith); high-moved = λ l. omega arith }
 
     -- The step moves the ends of every ordinate's rows as `Moves` says.

@@ -74,7 +74,9 @@ module _ {n : ℕ} (one : 1 ≤ n) (join : ℕ) where
 
   -- only the second has one, and its factor is 1
   pub only-second : (w v x y : ℚ) → v ≡ int (pos 0) → x ≡ int (pos 0) → Small n y → Every (Good (Small n)) (entryTests join w v x y)
-  only-second w v x y p q s = three w v x y (ap (λ t. w *ᵠ t) q ∙ mul-zero w) (ap (λ t. (int (pos 1) -ᵠ t) *ᵠ y) p ∙ ring ℚ-ring (y ∷ []) (search readsℚ depth 20) (search readsℚ depth 20) refl) (zero-add y) (small-zero one) s s
+  only-second w v x y p q s =
+      three w v x y (ap (λ t. w *ᵠ t) q ∙ mul-zero w) (ap (λ t. (int (pos 1) -ᵠ t) *ᵠ y) p ∙ ring ℚ-ring (y ∷ []) (search readsℚ depth 20) (search readsℚ depth 20) refl)
+      (zero-add y) (small-zero one) s s
 
   -- the first or the second has the entry 1
   pub first-one : (w v x y : ℚ) → x ≡ int (pos 1) → y ≡ int (pos 0) → Small n w → Every (Good (Small n)) (entryTests join w v x y)

@@ -62,7 +62,8 @@ module _ {s : Space} {join k : ℕ} {t t′ : Table} (A : At s join k) (R : Reac
 
   factor-is : (i : ℕ) → f ≤ i → i ≤ l → w i ≡ H (suc i) /ᵠ (H (suc i) -ᵠ H i)
   factor-is i x y = div-unique (λ z. mul-nonzero (pos-nonzero (divisor-positive A)) (jump-not-zero i x y) (sym (sums-differ i) ∙ z))
-      (ap (λ q. w i *ᵠ q) (sums-differ i) ∙ moved (w i) (int (pos (divisor s join k))) (J i) ∙ ap (λ q. int (pos (divisor s join k)) *ᵠ q) (N .stepped .null .weight i (row-below i x y)) ∙ partial-is s join k t (suc i))
+      (ap (λ q. w i *ᵠ q) (sums-differ i) ∙ moved (w i) (int (pos (divisor s join k))) (J i)
+      ∙ ap (λ q. int (pos (divisor s join k)) *ᵠ q) (N .stepped .null .weight i (row-below i x y)) ∙ partial-is s join k t (suc i))
     where
       moved : (x y z : ℚ) → x *ᵠ (y *ᵠ z) ≡ y *ᵠ (x *ᵠ z)
       moved x y z = ring ℚ-ring (x ∷ y ∷ z ∷ []) (search readsℚ depth 20) (search readsℚ depth 20) refl
@@ -90,7 +91,9 @@ module _ {s : Space} {join k : ℕ} {t t′ : Table} (A : At s join k) (R : Reac
   -- a column's sum short of its last row
   short-of-last : (n c : ℕ) → summed t (suc n) c ≡ int (pos 1) → summed t n c ≡ int (pos 1) -ᵠ cell t n c
   unfolding summed
-  short-of-last n c e = by-eq ℚ-ring (int (pos 1)) (sym (sum-last n (λ i. cell t i c)) ∙ e) (ring ℚ-ring (sum n (λ i. cell t i c) ∷ cell t n c ∷ []) (search readsℚ depth 20) (search readsℚ depth 20) refl)
+  short-of-last n c e =
+      by-eq ℚ-ring (int (pos 1)) (sym (sum-last n (λ i. cell t i c)) ∙ e)
+      (ring ℚ-ring (sum n (λ i. cell t i c) ∷ cell t n c ∷ []) (search readsℚ depth 20) (search readsℚ depth 20) refl)
 
   -- the weight of the join's ordinate in its last row
   module _ (e : k ≡ 2) (last-weight : cell t (suc (suc f)) (firstColumn s join + (degree s join - k + 2)) ≡ share s join) where
@@ -121,7 +124,9 @@ module _ {s : Space} {join k : ℕ} {t t′ : Table} (A : At s join k) (R : Reac
 
       pub first-at-two : w (suc f) ≡ lowerFactor s join
       unfolding lowerFactor
-      first-at-two = factor-is (suc f) (omega arith) (omega (arith, end)) ∙ ap₂ (λ x y. x /ᵠ (x -ᵠ y)) second-sum first-sum ∙ turned (balance s join) (leftSize s join 2 *ᵠ (int (pos 1) -ᵠ takenBefore s join))
+      first-at-two =
+          factor-is (suc f) (omega arith) (omega (arith, end)) ∙ ap₂ (λ x y. x /ᵠ (x -ᵠ y)) second-sum first-sum
+          ∙ turned (balance s join) (leftSize s join 2 *ᵠ (int (pos 1) -ᵠ takenBefore s join))
           (λ z. mul-nonzero (pos-nonzero (divisor-positive A)) (jump-not-zero (suc f) (omega arith) (omega (arith, end))) (sym (sums-differ (suc f)) ∙ ap₂ _-ᵠ_ second-sum first-sum ∙ z))
         where
           -- both signs changed

@@ -115,7 +115,11 @@ module _ (f l : ℕ) (w v : ℕ → ℚ) (low high low′ high′ : ℕ) (M : Mi
 
   pub support-mixed : Support (mixed w v) low′ high′
   unfolding mixed
-  support-mixed = record { positive = λ i a b. positive i (fed i a b); below = λ i a. ap₂ _+ᵠ_ (own-zero i (inr (low-own i a))) (next-zero (suc i) (low-next i a)) ∙ add-zero _; above = λ i a. ap₂ _+ᵠ_ (own-zero i (high-own i a)) (next-zero (suc i) (inr (high-next i a))) ∙ add-zero _ }
+  support-mixed = record {
+    positive = λ i a b. positive i (fed i a b);
+    below = λ i a. ap₂ _+ᵠ_ (own-zero i (inr (low-own i a))) (next-zero (suc i) (low-next i a)) ∙ add-zero _;
+    above = λ i a. ap₂ _+ᵠ_ (own-zero i (high-own i a)) (next-zero (suc i) (inr (high-next i a))) ∙ add-zero _;
+  }
     where
       positive : (i : ℕ) → Fed i → int (pos 0) <ᵠ w i *ᵠ v i +ᵠ (int (pos 1) -ᵠ w (suc i)) *ᵠ v (suc i)
       positive i (own a b c) = pos-add (pos-mul (M .some i a) (S .positive i b c)) (nn-mul (rest-nn (suc i)) (support-nn S (suc i)))

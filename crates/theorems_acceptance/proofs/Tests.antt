@@ -23,7 +23,8 @@ use Rattle.spec_spline.specs.Step.{jumpsAt, zeroBetween, partialSum}
 use Rattle.spec_spline.specs.Piecewise.{pairing}
 use Rattle.base_outcome.proofs.Search.{first-at, first-none, last-at}
 use Rattle.spec_spline.proofs.Table.{entry-past}
-use Rattle.theorems_weights.specs.Counted.{Test, counted, shaped, joined, jumpTests, exactJumps, firstJump, lastJump, shapeTest, quotient, factorTests, innerRows, innerRow, exactFactors, entryTests, rowTests, stepTests}
+use Rattle.theorems_weights.specs.Counted.{Test, counted, shaped, joined, jumpTests, exactJumps, firstJump, lastJump, shapeTest, quotient, factorTests}
+use Rattle.theorems_weights.specs.Counted.{innerRows, innerRow, exactFactors, entryTests, rowTests, stepTests}
 use Rattle.theorems_weights.proofs.Stepped.{values, values-past}
 use Rattle.theorems_weights.proofs.PublishedBasis.{pairing-applied}
 use Rattle.theorems_acceptance.proofs.Alternating.{Alternates, jump-before, jump-after, jump-inside, quotient-above, quotient-below}
@@ -100,12 +101,15 @@ module _ (κ : List Entry) (t : Table) (f l : ℕ) (A : Alternates f l (λ n. su
 
   no-gap : zeroBetween js f l ≡ false
   unfolding js
-  no-gap = ap found (first-none (λ d. isZero (entry js (f + d))) (l - f) (λ d h. nonzero-test (λ z. jump-inside f l (values κ t) A spread (f + d) (omega arith) (omega arith) (sym (jump-at (f + d)) ∙ z))))
+  no-gap =
+      ap found (first-none (λ d. isZero (entry js (f + d))) (l - f)
+      (λ d h. nonzero-test (λ z. jump-inside f l (values κ t) A spread (f + d) (omega arith) (omega arith) (sym (jump-at (f + d)) ∙ z))))
 
   pub sum-is : (i : ℕ) → f ≤ i → partialSum (exactJumps κ t) (firstJump (exactJumps κ t)) i ≡ sum (suc i) (values κ t)
   unfolding partialSum
   sum-is i h = ap (λ r. sum (suc i - r) (λ d. entry (exactJumps κ t) (r + d))) first-is
-      ∙ sum-ext (suc i - f) (λ d k. jump-at (f + d)) ∙ sym (sum-skip f (suc i - f) (values κ t) (jump-before f l (values κ t) A)) ∙ ap (λ n. sum n (values κ t)) (let z : f + (suc i - f) ≡ suc i = omega arith in z)
+      ∙ sum-ext (suc i - f) (λ d k. jump-at (f + d)) ∙ sym (sum-skip f (suc i - f) (values κ t) (jump-before f l (values κ t) A))
+      ∙ ap (λ n. sum n (values κ t)) (let z : f + (suc i - f) ≡ suc i = omega arith in z)
 
   pub quotient-is : (i : ℕ) → f ≤ i → quotient (exactJumps κ t) i ≡ sum (suc i) (values κ t) /ᵠ values κ t i
   unfolding quotient
@@ -116,7 +120,9 @@ module _ (κ : List Entry) (t : Table) (f l : ℕ) (A : Alternates f l (λ n. su
   module _ (Q : ℚ → Type 0) (join : ℕ)
       (products : (i : ℕ) → i < length t → Every (Good Q) (jumpTests join (row t i) (int (pos 0)) κ))
       (sums : (i : ℕ) → f < i → i < l → Q (sum (suc i) (values κ t)) × Q (sum (suc i) (values κ t) /ᵠ values κ t i))
-      (entries : (d c : ℕ) → d < l - f → Every (Good Q) (entryTests join (entry (exactFactors (exactJumps κ t)) d) (entry (exactFactors (exactJumps κ t)) (suc d)) (cell t (f + d) c) (cell t (f + suc d) c))) where
+      (entries : (d c : ℕ) → d < l - f
+      → Every (Good Q) (entryTests join (entry (exactFactors (exactJumps κ t)) d) (entry (exactFactors (exactJumps κ t)) (suc d)) (cell t (f + d) c)
+      (cell t (f + suc d) c))) where
     shape-good : Every (Good Q) (shapeTest join js ∷ [])
     unfolding shapeTest js
     shape-good = more (ap₂ (λ o b. found o && not b) first-found (ap₂ (zeroBetween js) first-is last-is ∙ no-gap)) nothing
@@ -132,4 +138,5 @@ module _ (κ : List Entry) (t : Table) (f l : ℕ) (A : Alternates f l (λ n. su
     step-good = every-append (every-joined (length t) _ products) (every-append shape-good (every-append
         (every-joined (innerRows js) _ (λ d h. factor-good (innerRow js d) (omega (arith, first-is)) (omega (arith, first-is, last-is))))
         (every-joined (lastJump js - firstJump js) _ (λ d h. every-joined (length (row t (firstJump js + d))) _ (λ c k.
-        subst (λ r. Every (Good Q) (entryTests join (entry (exactFactors js) d) (entry (exactFactors js) (suc d)) (cell t (r + d) c) (cell t (r + suc d) c))) (sym first-is) (entries d c (omega (arith, first-is, last-is))))))))
+        subst (λ r. Every (Good Q) (entryTests join (entry (exactFactors js) d) (entry (exactFactors js) (suc d)) (cell t (r + d) c) (cell t (r + suc d) c)))
+        (sym first-is) (entries d c (omega (arith, first-is, last-is))))))))

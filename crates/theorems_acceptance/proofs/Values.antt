@@ -30,11 +30,15 @@ largest-at-most (suc n) b f h = omega (arith, largest-at-most n b f (λ i l. h i
 -- s of a segment
 pub most-weights-three : (s : Space) (a : Accepted s) (j : ℕ) → j < segments s → mostWeights s (a .table) j ≤ weightLimit
 unfolding mostWeights
-most-weights-three s a j h = largest-at-most (suc (degree s j)) weightLimit (λ u. weightCount (a .table) (firstColumn s j + u)) (λ u l. at-most-three-weights s a (firstColumn s j + u) (segment-column s j u h (omega arith)))
+most-weights-three s a j h =
+    largest-at-most (suc (degree s j)) weightLimit (λ u. weightCount (a .table) (firstColumn s j + u))
+    (λ u l. at-most-three-weights s a (firstColumn s j + u) (segment-column s j u h (omega arith)))
 
 -- half of a number that is at most twice another
 half-at-most : (n m : ℕ) → n ≤ m * 2 → int (pos n) /ᵠ int (pos 2) ≤ᵠ int (pos m)
-half-at-most n m h = *-cancel (pos-int 1) (subst (λ q. q ≤ᵠ int (pos m) *ᵠ int (pos 2)) (sym (div-mul (int (pos n)) (int (pos 2)) (int-nonzero 1))) (subst (λ q. int (pos n) ≤ᵠ q) (int-mul (pos m) (pos 2)) (int-mono (≤-in _ _ (omega arith)))))
+half-at-most n m h =
+    *-cancel (pos-int 1) (subst (λ q. q ≤ᵠ int (pos m) *ᵠ int (pos 2)) (sym (div-mul (int (pos n)) (int (pos 2)) (int-nonzero 1)))
+    (subst (λ q. int (pos n) ≤ᵠ q) (int-mul (pos m) (pos 2)) (int-mono (≤-in _ _ (omega arith)))))
 
 -- (s + p)/2 of the position's segment
 pub closeness-at-most-four : (s : Space) (a : Accepted s) (x : ℤ) → InSpan s x → closeness s (a .table) x ≤ᵠ int (pos unitLimit)

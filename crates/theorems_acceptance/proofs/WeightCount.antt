@@ -35,7 +35,8 @@ module _ (test : ℕ → Bool) (low high : ℕ) (yes : (i : ℕ) → low ≤ i �
   counted-below zero = omega arith
   counted-below (suc n) = go (counted-below n) (le-or-lt low n) (le-or-lt n high)
     where
-      with : howMany n test ≡ min n (suc high) - low → (b : Bool) (k : ℕ) → test n ≡ b → cond b 1 0 ≡ k → min n (suc high) - low + k ≡ min (suc n) (suc high) - low → howMany n test + cond (test n) 1 0 ≡ min (suc n) (suc high) - low
+      with : howMany n test ≡ min n (suc high) - low → (b : Bool) (k : ℕ) → test n ≡ b → cond b 1 0 ≡ k → min n (suc high) - low + k ≡ min (suc n) (suc high) - low
+          → howMany n test + cond (test n) 1 0 ≡ min (suc n) (suc high) - low
       with ih b k e f g = ap₂ _+_ ih (ap (λ c. cond c 1 0) e ∙ f) ∙ g
 
       go : howMany n test ≡ min n (suc high) - low → (low ≤ n) ⊎ (n < low) → (n ≤ high) ⊎ (high < n) → howMany n test + cond (test n) 1 0 ≡ min (suc n) (suc high) - low
@@ -47,7 +48,9 @@ module _ (test : ℕ → Bool) (low high : ℕ) (yes : (i : ℕ) → low ≤ i �
   counted-whole n h o = counted-below n ∙ omega arith
 
 support-count : (t : Table) (c low high : ℕ) → Support (λ i. cell t i c) low high → low ≤ high → weightCount t c ≡ suc high - low
-support-count t c low high S o = counted-whole (hasWeight t c) low high (λ i a b. ap not (nonzero-test (pos-nonzero (S .positive i a b)))) (λ i a. ap not (zero-test (S .below i a))) (λ i a. ap not (zero-test (S .above i a)))
+support-count t c low high S o =
+    counted-whole (hasWeight t c) low high (λ i a b. ap not (nonzero-test (pos-nonzero (S .positive i a b)))) (λ i a. ap not (zero-test (S .below i a)))
+    (λ i a. ap not (zero-test (S .above i a)))
     (length t) (inside (le-or-lt (length t) high)) o
   where
     inside : (length t ≤ high) ⊎ (high < length t) → high < length t
@@ -111,7 +114,8 @@ weights-are-counted s a j u h k = let c = accepted-checked s a .1 in
     omega (
       arith,
       support-count (a .table) (firstColumn s j + u) _ _ (last-reached s a .shape .supported j u h k) (lowest-at-most-highest (degree s) (met s (segments s - 1) 0) j u),
-      rows-counted (degree s) (met s (segments s - 1) 0) j u (leftConditions s j) (rightConditions s j) k (left-is s j h) (right-is s j h) (right-within s (limits s c) fullCount (limits s c .few-conditions) j h .0),
+      rows-counted (degree s) (met s (segments s - 1) 0) j u (leftConditions s j) (rightConditions s j) k (left-is s j h) (right-is s j h)
+          (right-within s (limits s c) fullCount (limits s c .few-conditions) j h .0),
     )
 
 -- the segment of a column
