@@ -24,7 +24,7 @@ use Rattle.spec_spline.specs.Piecewise.{pairing, MeetsAll, combination}
 use Rattle.spec_spline.specs.Cases.{space, space1}
 use Rattle.spec_spline.proofs.Computing.{building, checking, conditioning, publishing}
 use Rattle.base_outcome.proofs.Search.{first-none-inverts}
-use Rattle.theorems_weights.proofs.Instances.{q0, q1}
+use Rattle.theorems_weights.proofs.Instances.{q0, q1, checked1}
 use Rattle.theorems_recovery.specs.Recovery.{Combination, recovered}
 use Rattle.theorems_recovery.specs.RecoveryCall.{badOrdinate, recoveryOutcome, recoveryEnd}
 use Rattle.theorems_recovery.proofs.Computing.{recovering}
@@ -163,14 +163,10 @@ given = record {
   coefficients = int (pos 3) ∷ int (pos 3) ∷ int (pos 3) ∷ int (pos 3) ∷ [];
 }
 
-legal1 : checked space1 ≡ answer space1
-unfolding checking
-legal1 = refl
-
 answered1 : recovered space1 threes ≡ answer given
 unfolding recovering
 answered1 = refl
 
 published1 : given .table ≡ extraction space1
 unfolding firstColumn
-published1 = answers-are-of-published-rows space1 legal1 threes refl given answered1 .0
+published1 = answers-are-of-published-rows space1 checked1 threes refl given answered1 .0

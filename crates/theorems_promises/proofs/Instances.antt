@@ -11,12 +11,11 @@ use Rattle.base_exact.specs.Sum.{sum}
 use Rattle.base_exact.proofs.Integer.{up}
 use Rattle.base_outcome.specs.Outcome.{answer, with-answer}
 use Rattle.base_outcome.specs.Search.{last}
-use Rattle.spec_spline.specs.Space.{startsPart, partEnd, lastPartStart, checked, firstColumn, conditionsBefore, rowCount}
+use Rattle.spec_spline.specs.Space.{startsPart, partEnd, lastPartStart, firstColumn, conditionsBefore, rowCount}
 use Rattle.spec_spline.specs.Table.{rowCells}
 use Rattle.spec_spline.specs.Build.{lastPart, buildEnd}
 use Rattle.spec_spline.specs.Cases.{space1, space9}
-use Rattle.spec_spline.proofs.Computing.{checking}
-use Rattle.theorems_weights.proofs.Instances.{lent, lent-length, beam, acceptedBeam}
+use Rattle.theorems_weights.proofs.Instances.{lent, lent-length, beam, acceptedBeam, checked1}
 use Rattle.theorems_weights.proofs.Cells.{accepted-spaces-are-built}
 use Rattle.theorems_beams.specs.Sections.{partAt}
 use Rattle.theorems_values.proofs.Instances.{table1}
@@ -26,10 +25,6 @@ use Rattle.theorems_promises.proofs.OnePart.{one-part-ends, one-part-is
 use Rattle.theorems_promises.proofs.WeightColumns.{built-cells-sum-to-one}
 
 -- ---- one part
-
-checked1 : checked space1 ≡ answer space1
-unfolding checking
-checked1 = refl
 
 none1 : NoDiscontinuity space1
 none1 zero h e = let z : _≡_ {A = ℕ} 1 0 = ap up e in absurd (omega arith)

@@ -24,6 +24,7 @@ use Rattle.spec_spline.specs.Cases.{space1, upperLimitSpace}
 use Rattle.spec_spline.proofs.Computing.{checking, fractions}
 use Rattle.base_outcome.proofs.Outcome.{then-answers}
 use Rattle.theorems_weights.proofs.PublishedBasis.{combinations-meet-conditions}
+use Rattle.theorems_weights.proofs.Instances.{checked1}
 use Rattle.theorems_recovery.specs.Recovery.{Combination, recovered}
 use Rattle.theorems_recovery.specs.RecoveryCall.{badOrdinate, recoveryOutcome, answersAfter, numeratorOf, recoveryEnd}
 use Rattle.theorems_recovery.specs.Reproduction.{MissedCondition, RecoveredOrTooLarge}
@@ -113,17 +114,13 @@ rounded-join = refl
 abbrev others : List ℤ
 others = pos 0 ∷ pos 300 ∷ pos 201 ∷ pos 201 ∷ pos 0 ∷ pos 0 ∷ []
 
-legal1 : checked space1 ≡ answer space1
-unfolding checking
-legal1 = refl
-
 refused : recovered space1 others ≡ refusal 19 0
 unfolding recovering
 refused = refl
 
 missed : MissedCondition space1 others
 unfolding firstColumn
-missed = nineteen-misses-a-condition space1 legal1 others refl 0 refused
+missed = nineteen-misses-a-condition space1 checked1 others refl 0 refused
 
 -- ---- a curve that meets all conditions, and the build's own code 8
 

@@ -31,7 +31,7 @@ use Rattle.spec_spline.specs.ExactCurve.{exactCurve, largest, mostWeights, weig
 use Rattle.spec_spline.proofs.Computing.{building, calling, checking, exactReading, reading}
 use Rattle.theorems_weights.specs.Cells.{HoldsFraction, lastPartCell}
 use Rattle.theorems_weights.proofs.Published.{weights-are-published}
-use Rattle.theorems_weights.proofs.Instances.{q0, q1, lent, lent-length, beam, beamTable, acceptedBeam}
+use Rattle.theorems_weights.proofs.Instances.{q0, q1, lent, lent-length, beam, beamTable, acceptedBeam, checked1}
 use Rattle.theorems_values.specs.ValueLimits.{closeness, Close}
 use Rattle.theorems_values.proofs.Weights.{weight-num-le-den}
 use Rattle.theorems_values.proofs.Positions.{positions-between-belong-between, discontinuities-belong-before, other-joins-belong-after}
@@ -364,10 +364,6 @@ at-most9 =
     (value-at-most-greatest space9 accepted9 earlywood coefs9 (pos 256) tt)
 
 -- ---- W1: the join of order 1 belongs to the segment that starts there
-
-checked1 : checked space1 ≡ answer space1
-unfolding checking
-checked1 = refl
 
 join1 : segmentAt space1 (pos 256) ≡ 1
 join1 = other-joins-belong-after space1 checked1 0 (omega arith) (λ e. let z : _≡_ {A = ℕ} 1 0 = ap up e in absurd (omega arith))

@@ -24,7 +24,7 @@ use Rattle.spec_spline.specs.Table.{Row, Table, row, cell, identity, rowCells}
 use Rattle.spec_spline.specs.Step.{partialSum}
 use Rattle.spec_spline.specs.Build.{spaceWeights, built, buildEnd}
 use Rattle.spec_spline.specs.Published.{for, extraction}
-use Rattle.spec_spline.specs.Cases.{space4, space5, lineSpace}
+use Rattle.spec_spline.specs.Cases.{space4, space5, lineSpace, space1}
 use Rattle.spec_spline.specs.Piecewise.{Accepted, MeetsAll, Meets, pairing, combination}
 use Rattle.spec_spline.proofs.Computing.{building, checking, conditioning}
 use Rattle.base_outcome.proofs.Outcome.{answer-not-refusal}
@@ -291,6 +291,10 @@ failure8 = record {
   code-is = refl;
   place-is = refl;
 }
+
+pub checked1 : checked space1 ≡ answer space1
+unfolding checking
+checked1 = refl
 
 checked8 : checked space8 ≡ answer space8
 unfolding checking
