@@ -1,6 +1,3 @@
--- Laws that the proofs of sheet_text share, what positive coefficients give, and the sheets of Cases, which are of the definitions alone.
-pub mod Beam
+-- Laws that the proofs of sheet_text share.
 pub mod Whole
 pub mod Parts
-pub mod LowLines
-pub mod Cases

@@ -11,7 +11,7 @@ use Rattle.sheet_read.specs.declared.Lists.{Lists as Answer}
 use Rattle.sheet_read.specs.declared.Lists.the-variants.{Refused}
 use Rattle.sheet_read.proofs.Answers.{reply-malformed}
 use Rattle.base_print.specs.Refusal.{refusalLine}
-use Rattle.sheet_text.specs.Sheet.{Arguments, argumentsOf, calledText, readText, printout}
+use Rattle.theorems_sheet.specs.Sheet.{Arguments, argumentsOf, calledText, readText, printout}
 
 same-arguments : (a b : Arguments) → a .breaks ≡ b .breaks → a .degrees ≡ b .degrees → a .orders ≡ b .orders → a .coefs ≡ b .coefs → a .positions ≡ b .positions → a ≡ b
 same-arguments a b hb hd ho hc hp i = record { breaks = hb i; degrees = hd i; orders = ho i; coefs = hc i; positions = hp i }

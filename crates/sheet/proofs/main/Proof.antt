@@ -5,7 +5,7 @@ use Prim.Native.Nat.{ℕ, _+_, _≤_}
 use lib.ListN.{length, replicate, length-replicate}
 use lib.Seq.{length-take-le}
 use Rattle.spec_sheet.specs.SheetReading.{textLimit}
-use Rattle.sheet_text.specs.Sheet.{printoutLimit}
+use Rattle.sheet_text.specs.Limit.{printoutLimit}
 use Rattle.sheet.proofs.main.Statement.{statement}
 use Rattle.sheet.proofs.main.Tie as tie
 

@@ -2,7 +2,7 @@
 use borrow.Author.Needs.{needs}
 use native.Mathlib.Omega.{arith}
 use Rattle.base_print.proofs.Buffer.{puts-then, puts-within, puts-as}
-use Rattle.sheet_text.proofs.Beam.{answer-joined}
+use Rattle.sheet_beam.proofs.Beam.{answer-joined}
 use Rattle.sheet_text.proofs.put_answer.Statement.{statement}
 use Rattle.sheet_text.proofs.put_answer.Tie as tie
 

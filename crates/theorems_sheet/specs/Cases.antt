@@ -4,7 +4,7 @@
 use mathlib.Core.List.{[], _∷_}
 use mathlib.Core.Path.{_≡_}
 use Rattle.base_text.specs.Bytes.{Text, lines}
-use Rattle.sheet_text.specs.Sheet.{printout}
+use Rattle.theorems_sheet.specs.Sheet.{printout}
 
 -- The sheet of W1.
 unfoldable pub w1Text : Text

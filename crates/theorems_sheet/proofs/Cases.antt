@@ -15,8 +15,8 @@ use Rattle.base_text.specs.Bytes.{bytes, lines, cut, fieldsBetween, stripped}
 use Rattle.base_text.specs.Numeral.{allDigits, digitsValue, isNatural, numeral, digitsUpTo, digits, decimal}
 use Rattle.spec_sheet.specs.SheetReading.{pair, entries, listOf, line, readLine, Lists, fiveLines, read}
 use Rattle.spec_sheet.specs.Printout.{joined, countLine, weightLine, weightLines, valueLine, valueLines, isLow, lowPositions, lowLine, lowLines, answerText}
-use Rattle.sheet_text.specs.Sheet.{argumentsOf, called, outcomeText, readText, printout}
-use Rattle.sheet_text.specs.Cases.{w1Text, w1Printout, w9Text, w9Printout, SheetCasesHold}
+use Rattle.theorems_sheet.specs.Sheet.{argumentsOf, called, outcomeText, readText, printout}
+use Rattle.theorems_sheet.specs.Cases.{w1Text, w1Printout, w9Text, w9Printout, SheetCasesHold}
 
 -- what a call shows is what is printed
 module _ (xs : List ℤ) (n : ℕ) (ws : List Weight) (vs : List ℤ) where

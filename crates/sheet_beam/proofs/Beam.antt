@@ -40,7 +40,7 @@ use Rattle.spec_sheet.specs.Printout.{countLine, weightLines, valueLines, lowPo
 use Rattle.sheet_weights.specs.Printed.{weightLineLimit, storedWeights}
 use Rattle.base_print.proofs.Buffer.{puts-none, puts-then, puts-within, puts-as}
 use Rattle.sheet_weights.proofs.Stored.{Holds, firstRows, rows-none, rows-all, rows-more}
-use Rattle.sheet_text.specs.Sheet.{tableOf, weightsText, Filled}
+use Rattle.sheet_beam.specs.Beam.{tableOf, weightsText, Filled}
 
 -- ---- an accepted beam
 module _ (s : Space) (x : Accepted s) where

@@ -7,9 +7,9 @@ use Rattle.spec_spline.specs.Space.{Space, segments, partEnd}
 use Rattle.build_space.specs.Machine.{space}
 use Rattle.build_space.proofs.Partial.{part-end-partial}
 use Rattle.base_print.proofs.Buffer.{puts-within, puts-as}
-use Rattle.sheet_text.proofs.Beam.{beam-lengths, one-rows-fit, one-lines}
-use Rattle.sheet_text.proofs.put_beam.Statement.{statement}
-use Rattle.sheet_text.proofs.put_beam.Tie as tie
+use Rattle.sheet_beam.proofs.Beam.{beam-lengths, one-rows-fit, one-lines}
+use Rattle.sheet_beam.proofs.put_beam.Statement.{statement}
+use Rattle.sheet_beam.proofs.put_beam.Tie as tie
 
 part-end-requires : tie.Need-part-end-requires
 part-end-requires c κs = let l = beam-lengths _ (c .before .pre .0 .accepted) in omega (arith, l .some-segment, l .order-count)

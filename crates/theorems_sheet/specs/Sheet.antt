@@ -1,51 +1,17 @@
 -- The whole program as one function on texts (§ 13; § 4, § 8): five lines in,
 -- the printout out.
-use mathlib.Core.List.{List, []}
-use mathlib.Core.Path.{_≡_}
-use Prim.Native.Nat.{ℕ, _+_, _*_, _≤_}
+use mathlib.Core.List.{List}
+use Prim.Native.Nat.{ℕ, _*_}
 use lib.IntN.{ℤ}
-use lib.ListN.{length}
 use Rattle.base_outcome.specs.Outcome.{Outcome, answer, refusal}
-use Rattle.spec_spline.specs.Space.{Space, segmentLimit, degreeLimit, rowCount}
-use Rattle.spec_spline.specs.Table.{Table, rowCells, tableCells, numerators, denominators}
-use Rattle.spec_spline.specs.Build.{spaceWeights, lastPart}
-use Rattle.spec_spline.specs.Listing.{tableWeights}
-use Rattle.spec_spline.specs.Piecewise.{Accepted}
+use Rattle.spec_spline.specs.Space.{Space}
+use Rattle.spec_spline.specs.Table.{tableCells}
 use Rattle.spec_spline.specs.Reading.{sideBySide}
 use Rattle.spec_spline.specs.CurveCall.{CurveResult, curveOutcome, positionLimit}
 use Rattle.base_text.specs.Bytes.{Text}
-use Rattle.spec_sheet.specs.SheetReading.{Lists, read}
-use Rattle.spec_sheet.specs.Printout.{weightLines, answerText}
 use Rattle.base_print.specs.Refusal.{refusalLine}
-use Rattle.sheet_values.specs.Printed.{countLineLimit, valueLineLimit}
-use Rattle.sheet_weights.specs.Printed.{weightLineLimit}
-use Rattle.sheet_lows.specs.Printed.{lowLineLimit}
-
--- The most rows of a beam, 288: no more than its columns, which are at most six a segment.
-abbrev pub rowLimit : ℕ
-rowLimit = segmentLimit * (degreeLimit + 1)
-
--- The most bytes that a printout has, 2,189,079: a row has weights on the columns of one part, at most 72.
-abbrev pub printoutLimit : ℕ
-printoutLimit = countLineLimit + weightLineLimit * (rowCells * rowLimit) + valueLineLimit * positionLimit + lowLineLimit * positionLimit
-
--- The table of an outcome; no rows where it is refused.
-unfoldable pub tableOf : Outcome Table → Table
-tableOf (answer t) = t
-tableOf (refusal code place) = []
-
--- The w lines of a beam, "of all parts": those of its whole table.
-unfoldable pub weightsText : Space → Text
-weightsText s = weightLines (tableWeights 0 (tableOf (spaceWeights s)))
-
--- The beam is accepted and has n rows, and the two buffers hold its last part.
-pub record Filled (s : Space) (n : ℕ) (num den : List ℤ) : Type 0 where
-  pub accepted : Accepted s
-  pub rows : n ≡ rowCount s
-  pub num-long : tableCells ≤ length num
-  pub den-long : tableCells ≤ length den
-  pub num-is : num ≡ numerators (lastPart s (accepted .table)) num
-  pub den-is : den ≡ denominators (lastPart s (accepted .table)) den
+use Rattle.spec_sheet.specs.SheetReading.{Lists, read}
+use Rattle.spec_sheet.specs.Printout.{answerText}
 
 -- What the curve call is handed: five lists of numbers.
 pub record Arguments : Type 0 where

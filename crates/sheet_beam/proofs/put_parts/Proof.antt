@@ -10,9 +10,9 @@ use Rattle.build_space.specs.Machine.{space}
 use Rattle.build_space.proofs.Partial.{part-end-partial, first-column-partial}
 use Rattle.build_space.proofs.Legal.{legal-first-column-high}
 use Rattle.base_print.proofs.Buffer.{puts-length}
-use Rattle.sheet_text.proofs.Beam.{beam-lengths, beam-legal, part-rows-fit, numerators-long, denominators-long, Before, before-first, rows-few, next-near, starts, before-next, before-end}
-use Rattle.sheet_text.proofs.put_parts.Statement.{statement}
-use Rattle.sheet_text.proofs.put_parts.Tie as tie
+use Rattle.sheet_beam.proofs.Beam.{beam-lengths, beam-legal, part-rows-fit, numerators-long, denominators-long, Before, before-first, rows-few, next-near, starts, before-next, before-end}
+use Rattle.sheet_beam.proofs.put_parts.Statement.{statement}
+use Rattle.sheet_beam.proofs.put_parts.Tie as tie
 
 abbrev Inv-loop : tie.InvT-loop
 Inv-loop breaks degrees orders num₀ den₀ out₀ at next₀ row₀ a₀ num den out next row a = Before (space breaks degrees orders) num₀ den₀ out₀ at num den out next row a

@@ -11,9 +11,9 @@ use Rattle.theorems_beams.specs.Sections.{section, partAt}
 use Rattle.build_space.specs.Machine.{space}
 use Rattle.build.specs.Machine.{reply}
 use Rattle.build.specs.declared.Built.{Built}
-use Rattle.sheet_text.proofs.Beam.{beam-legal, rows-told, never-refused}
-use Rattle.sheet_text.proofs.build_rows.Statement.{statement}
-use Rattle.sheet_text.proofs.build_rows.Tie as tie
+use Rattle.sheet_beam.proofs.Beam.{beam-legal, rows-told, never-refused}
+use Rattle.sheet_beam.proofs.build_rows.Statement.{statement}
+use Rattle.sheet_beam.proofs.build_rows.Tie as tie
 
 -- what the build of a part leaves
 record Leaves (p : Space) (r : Built) (num den num′ den′ : List ℤ) : Type 0 where

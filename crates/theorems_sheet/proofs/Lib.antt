@@ -1,0 +1,3 @@
+-- What positive coefficients give, and the sheets of Cases.
+pub mod LowLines
+pub mod Cases
