@@ -11,8 +11,8 @@ use Rattle.spec_tucson.specs.Series.{Series}
 use Rattle.spec_tucson.specs.Writing.{firstUnwritable, seriesLines, linesText, written}
 use Rattle.spec_tucson.specs.ReadCall.{widthsOf}
 use Rattle.theorems_tucson.proofs.ReadsBack.{CanBeWritten, first-parts}
-use Rattle.tucson_write.specs.Sizes.{seriesBytes}
-use Rattle.tucson_write.proofs.Sizes.{series-years, series-length}
+use Rattle.tucson_series.specs.Sizes.{seriesBytes}
+use Rattle.tucson_series.proofs.Sizes.{series-years, series-length}
 
 -- The sizes of the filter's buffers: series, the bytes of their names, and widths.
 abbrev pub seriesCells : ℕ

@@ -17,9 +17,9 @@ use Rattle.spec_tucson.specs.Series.{Series}
 use Rattle.spec_tucson.specs.Writing.{written, unwritable}
 use Rattle.spec_tucson.specs.WriteCall.{listsFit, seriesOf, seriesOutcome, writeOutcome, textAfter, writeEnd}
 use Rattle.tucson_write.specs.declared.Answer.the-variants.{Bytes, Refused}
-use Rattle.tucson_write.specs.Putting.{Wrote}
+use Rattle.tucson_putting.specs.Putting.{Wrote}
 use Rattle.tucson_write.specs.Machine.{reply}
-use Rattle.tucson_write.proofs.Wrote.{written-whole}
+use Rattle.tucson_putting.proofs.Wrote.{written-whole}
 
 module _ (names : Text) (years : List ℤ) (counts : List ℕ) (widths : List ℤ) (text : Text) where
   abbrev outcome : Outcome Text

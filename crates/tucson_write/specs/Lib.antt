@@ -1,4 +1,2 @@
--- What the contracts of tucson_write cite: the sizes of series, what the writing functions ask and leave, and the answer.
-pub mod Sizes
-pub mod Putting
+-- What the contract of tucson_write cites beside the definitions of crate spec_tucson: the answer.
 pub mod Machine

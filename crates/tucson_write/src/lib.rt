@@ -4,11 +4,6 @@ ghost use mathlib.Core.Path.{_≡_};
 ghost use Rattle.spec_tucson.specs.WriteCall.{writeEnd};
 ghost use Rattle.tucson_write.specs.Machine.{reply};
 
-mod lists;
-mod putting;
-mod room;
-mod writable;
-
 // What the write call answers: the number of bytes written, or a refusal's code and place.
 pub enum Answer {
     Bytes(usize),
@@ -23,17 +18,17 @@ pub fn write(names: &[u8], years: &[i32], counts: &[u32], widths: &[i32], text: 
         (now (text .entry)) in
         (reply r ≡ e .answers) × (now (text .exit) ≡ e .text)) ⌝ }
 {
-    if !lists::lists_fit(names, years, counts, widths) {
+    if !tucson_series::lists::lists_fit(names, years, counts, widths) {
         return Answer::Refused(2, 0);
     }
-    let found = writable::first_unwritable(names, years, counts, widths);
+    let found = tucson_series::writable::first_unwritable(names, years, counts, widths);
     match found {
         base_outcome::Found::At(k) => Answer::Refused(11, base_outcome::place(k)),
         base_outcome::Found::Nothing => {
-            if !room::text_fits(years, counts, text.len()) {
+            if !tucson_series::room::text_fits(years, counts, text.len()) {
                 return Answer::Refused(1, 0);
             }
-            let count = putting::put_all(names, years, counts, widths, text);
+            let count = tucson_putting::put_all(names, years, counts, widths, text);
             Answer::Bytes(count)
         }
     }

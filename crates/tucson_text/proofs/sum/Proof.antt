@@ -4,7 +4,7 @@ use mathlib.Core.Path.{_≡_}
 use Prim.Native.Nat.{_+_, _-_, _≤_}
 use lib.ListN.{length, drop}
 use Rattle.spec_tucson.specs.WriteCall.{total}
-use Rattle.tucson_write.proofs.Tests.{total-step, total-end}
+use Rattle.tucson_series.proofs.Tests.{total-step, total-end}
 use Rattle.tucson_text.proofs.sum.Statement.{statement}
 use Rattle.tucson_text.proofs.sum.Tie as tie
 

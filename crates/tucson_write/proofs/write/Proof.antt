@@ -14,8 +14,8 @@ use Rattle.spec_tucson.specs.WriteCall.{listsFit, seriesOf}
 use Rattle.theorems_tucson.proofs.TucsonCells.{fits-parts}
 use Rattle.tucson_write.specs.declared.Answer.the-variants.{Refused}
 use Rattle.tucson_write.specs.Machine.{reply}
-use Rattle.tucson_write.proofs.Bytes.{Counted, all-counted}
-use Rattle.tucson_write.proofs.Wrote.{wrote-length}
+use Rattle.tucson_series.proofs.Bytes.{Counted, all-counted}
+use Rattle.tucson_putting.proofs.Wrote.{wrote-length}
 use Rattle.tucson_write.proofs.Call.{lists-misfit, series-unwritable, text-short, text-answers, ends-refused, ends-written}
 use Rattle.tucson_write.proofs.write.Statement.{statement}
 use Rattle.tucson_write.proofs.write.Tie as tie

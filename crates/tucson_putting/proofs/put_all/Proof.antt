@@ -1,0 +1,189 @@
+-- `put_all` meets its contract: what is written and the text of the series to come are the whole text.
+use native.Mathlib.Omega.{arith}
+use mathlib.Core.Path.{_≡_, refl, sym, _∙_, ap}
+use mathlib.Core.List.{List, [], _++_, append-assoc, append-nil}
+use mathlib.Core.Option.{none}
+use Prim.Native.Nat.{ℕ, _+_, _-_}
+use lib.IntN.{ℤ, pos}
+use lib.ListN.{length, getD, length-append}
+use mir.Syntax.{w32}
+use mir.Val.{SFits}
+use Rattle.base_exact.proofs.Word.{toZ-ofZ}
+use Rattle.base_text.specs.Bytes.{Text}
+use Rattle.spec_tucson.specs.Line.{nameColumns}
+use Rattle.spec_tucson.specs.Series.{Series}
+use Rattle.spec_tucson.specs.Writing.{firstUnwritable, seriesLines, linesText, written}
+use Rattle.spec_tucson.specs.WriteCall.{seriesOf}
+use Rattle.theorems_tucson.proofs.TucsonCells.{fits-parts}
+use Rattle.tucson_putting.specs.Putting.{Wrote}
+use Rattle.tucson_series.proofs.Tests.{part-is}
+use Rattle.tucson_series.proofs.Sizes.{series-years}
+use Rattle.tucson_series.proofs.Walk.{Walked, seriesFrom, seriesAt, walk-begins, walk-more, name-within, widths-within, series-step, series-end}
+use Rattle.tucson_series.proofs.Unwritable.{writable-next, written-step, written-none}
+use Rattle.tucson_putting.proofs.Wrote.{wrote-none, wrote-then, wrote-as, wrote-length}
+use Rattle.tucson_putting.proofs.put_all.Statement.{statement}
+use Rattle.tucson_putting.proofs.put_all.Tie as tie
+
+record Inv (names : Text) (years : List ℤ) (counts : List ℕ) (widths : List ℤ) (text₀ text : List ℕ) (next at from k : ℕ) : Type 0 where
+  walked : Walked names years counts widths at from k
+  before : Text
+  allowed : firstUnwritable k before (seriesFrom names years counts widths at from k) ≡ none
+  soFar : Text
+  whole : soFar ++ written (seriesFrom names years counts widths at from k) ≡ written (seriesOf names years counts widths)
+  wrote : Wrote 0 soFar text₀ text next
+
+abbrev Inv-loop : tie.InvT-loop
+Inv-loop names years counts widths text₀ next₀ at₀ from₀ k₀ text next at from k = Inv names years counts widths text₀ text next at from k
+
+abbrev μ-loop : tie.MeasureT-loop
+μ-loop names years counts widths text₀ next₀ at₀ from₀ k₀ text next at from k = length years - k
+
+loop-holds : tie.Need-loop-holds Inv-loop μ-loop
+loop-holds c =
+    let a = c .before .before .before .args in
+    record {
+      walked = walk-begins _ _ _ _ (fits-parts (a .names .now) (a .years .now) (a .counts .now) (a .widths .now) (c .before .before .before .pre .0));
+      before = [];
+      allowed = c .before .before .before .pre .1 .0;
+      soFar = [];
+      whole = refl;
+      wrote = wrote-none _ _;
+    }
+
+add-end : tie.Need-add-end Inv-loop μ-loop
+add-end c =
+    let a = c .before .before .before .before .before .args in
+    let l = c .before .loop in
+    let i = l .inv in
+    omega (arith, name-within (a .names .now) (a .years .now) (a .counts .now) (a .widths .now) (i .walked) (omega arith), widths-within (a .names .now) (a .years .now) (a .counts .now) (a .widths .now) (i .walked) (omega arith))
+
+mul-to : tie.Need-mul-to Inv-loop μ-loop
+mul-to c = omega (arith, c .before .loop .inv .walked .counted)
+
+shared-slice-read-to : tie.Need-shared-slice-read-to Inv-loop μ-loop
+shared-slice-read-to c = omega (arith, c .before .before .loop .inv .walked .counted)
+
+cast-to : tie.Need-cast-to Inv-loop μ-loop
+cast-to c = omega (arith, c .shared-slice-known3 .given (c .before .before .loop .k))
+
+add-to : tie.Need-add-to Inv-loop μ-loop
+add-to c =
+    let a = c .before .before .before .before .before .before .args in
+    let l = c .before .before .loop in
+    let i = l .inv in
+    omega (arith, name-within (a .names .now) (a .years .now) (a .counts .now) (a .widths .now) (i .walked) (omega arith), widths-within (a .names .now) (a .years .now) (a .counts .now) (a .widths .now) (i .walked) (omega arith))
+
+sub-put-series : tie.Need-sub-put-series Inv-loop μ-loop
+sub-put-series c = omega arith
+
+part-put-series-start : tie.Need-part-put-series-start Inv-loop μ-loop
+part-put-series-start c = omega arith
+
+part-put-series-end : tie.Need-part-put-series-end Inv-loop μ-loop
+part-put-series-end c =
+    let a = c .before .before .before .before .before .before .before .args in
+    let l = c .before .before .before .loop in
+    let i = l .inv in
+    omega (arith, name-within (a .names .now) (a .years .now) (a .counts .now) (a .widths .now) (i .walked) (omega arith), widths-within (a .names .now) (a .years .now) (a .counts .now) (a .widths .now) (i .walked) (omega arith))
+
+mul-put-series : tie.Need-mul-put-series Inv-loop μ-loop
+mul-put-series c = omega arith
+
+shared-slice-copy-out-put-series : tie.Need-shared-slice-copy-out-put-series Inv-loop μ-loop
+shared-slice-copy-out-put-series c = omega arith
+
+mul-put-series-2 : tie.Need-mul-put-series-2 Inv-loop μ-loop
+mul-put-series-2 c =
+    let a = c .before .before .before .before .before .before .before .before .before .args in
+    let l = c .before .before .before .before .before .loop in
+    let i = l .inv in
+    omega (arith, name-within (a .names .now) (a .years .now) (a .counts .now) (a .widths .now) (i .walked) (omega arith), widths-within (a .names .now) (a .years .now) (a .counts .now) (a .widths .now) (i .walked) (omega arith))
+
+sub-put-series-2 : tie.Need-sub-put-series-2 Inv-loop μ-loop
+sub-put-series-2 c = omega arith
+
+part-put-series-start-2 : tie.Need-part-put-series-start-2 Inv-loop μ-loop
+part-put-series-start-2 c = omega arith
+
+part-put-series-end-2 : tie.Need-part-put-series-end-2 Inv-loop μ-loop
+part-put-series-end-2 c =
+    let a = c .before .before .before .before .before .before .before .before .before .args in
+    let l = c .before .before .before .before .before .loop in
+    let i = l .inv in
+    omega (arith, name-within (a .names .now) (a .years .now) (a .counts .now) (a .widths .now) (i .walked) (omega arith), widths-within (a .names .now) (a .years .now) (a .counts .now) (a .widths .now) (i .walked) (omega arith))
+
+put-series-requires : tie.Need-put-series-requires Inv-loop μ-loop
+put-series-requires c κs =
+    let a = c .before .before .before .before .before .before .before .before .before .before .args in
+    let l = c .before .before .before .before .before .before .loop in
+    let i = l .inv in
+    let f : SFits w32 (getD (a .years .now) (l .k) (pos 0)) = record { sfits = c .before .put-series-arg3 .given } in
+    let w = writable-next (l .k) (i .before) (seriesAt (a .names .now) (a .years .now) (a .counts .now) (a .widths .now) (l .at) (l .from) (l .k)) (seriesFrom (a .names .now) (a .years .now) (a .counts .now) (a .widths .now) (l .at + nameColumns) (l .from + getD (a .counts .now) (l .k) 0) (l .k + 1)) (ap (firstUnwritable (l .k) (i .before)) (sym (series-step (a .names .now) (a .years .now) (a .counts .now) (a .widths .now) (i .walked) (omega arith))) ∙ i .allowed) .0 in
+    simp toZ-ofZ (rw (part-is (l .at) (l .at + nameColumns) (a .names .now) (omega arith), part-is (l .from) (l .from + getD (a .counts .now) (l .k) 0) (a .widths .now) (omega arith)) (record {
+      named = w .named;
+      dated = sym (series-years _ _ _ (w .measured)) ∙ w .dated;
+      allowed = w .measured;
+      fits = omega (arith, c .before .before .before .before .before .before .before .before .before .before .pre .1 .1, i .wrote .behind, wrote-length (i .wrote), ap length (i .whole), length-append (i .soFar) (written (seriesFrom (a .names .now) (a .years .now) (a .counts .now) (a .widths .now) (l .at) (l .from) (l .k))), ap (λ (ss : List Series). length (written ss)) (series-step (a .names .now) (a .years .now) (a .counts .now) (a .widths .now) (i .walked) (omega arith)), ap length (written-step (seriesAt (a .names .now) (a .years .now) (a .counts .now) (a .widths .now) (l .at) (l .from) (l .k)) (seriesFrom (a .names .now) (a .years .now) (a .counts .now) (a .widths .now) (l .at + nameColumns) (l .from + getD (a .counts .now) (l .k) 0) (l .k + 1))), length-append (linesText (seriesLines (seriesAt (a .names .now) (a .years .now) (a .counts .now) (a .widths .now) (l .at) (l .from) (l .k)))) (written (seriesFrom (a .names .now) (a .years .now) (a .counts .now) (a .widths .now) (l .at + nameColumns) (l .from + getD (a .counts .now) (l .k) 0) (l .k + 1))));
+    }))
+
+add-k : tie.Need-add-k Inv-loop μ-loop
+add-k c = omega arith
+
+loop-less : tie.Need-loop-less Inv-loop μ-loop
+loop-less c = omega arith
+
+loop-again : tie.Need-loop-again Inv-loop μ-loop
+loop-again c =
+    let a = c .before .before .before .before .before .before .before .before .before .before .before .before .before .args in
+    let l = c .before .before .before .before .before .before .before .before .before .loop in
+    let i = l .inv in
+    let f : SFits w32 (getD (a .years .now) (l .k) (pos 0)) = record { sfits = c .before .before .before .before .put-series-arg3 .given } in
+    record {
+      walked = walk-more (a .names .now) (a .years .now) (a .counts .now) (a .widths .now) (i .walked) (omega arith);
+      before = (seriesAt (a .names .now) (a .years .now) (a .counts .now) (a .widths .now) (l .at) (l .from) (l .k)) .name;
+      allowed = writable-next (l .k) (i .before) (seriesAt (a .names .now) (a .years .now) (a .counts .now) (a .widths .now) (l .at) (l .from) (l .k)) (seriesFrom (a .names .now) (a .years .now) (a .counts .now) (a .widths .now) (l .at + nameColumns) (l .from + getD (a .counts .now) (l .k) 0) (l .k + 1)) (ap (firstUnwritable (l .k) (i .before)) (sym (series-step (a .names .now) (a .years .now) (a .counts .now) (a .widths .now) (i .walked) (omega arith))) ∙ i .allowed) .1;
+      soFar = i .soFar ++ linesText (seriesLines (seriesAt (a .names .now) (a .years .now) (a .counts .now) (a .widths .now) (l .at) (l .from) (l .k)));
+      whole =
+          append-assoc (i .soFar) (linesText (seriesLines (seriesAt (a .names .now) (a .years .now) (a .counts .now) (a .widths .now) (l .at) (l .from) (l .k)))) (written (seriesFrom (a .names .now) (a .years .now) (a .counts .now) (a .widths .now) (l .at + nameColumns) (l .from + getD (a .counts .now) (l .k) 0) (l .k + 1)))
+          ∙ ap (λ (t : Text). i .soFar ++ t) (sym (ap written (series-step (a .names .now) (a .years .now) (a .counts .now) (a .widths .now) (i .walked) (omega arith)) ∙ written-step (seriesAt (a .names .now) (a .years .now) (a .counts .now) (a .widths .now) (l .at) (l .from) (l .k)) (seriesFrom (a .names .now) (a .years .now) (a .counts .now) (a .widths .now) (l .at + nameColumns) (l .from + getD (a .counts .now) (l .k) 0) (l .k + 1))))
+          ∙ i .whole;
+      wrote = wrote-then (i .wrote) (rw (part-is (l .at) (l .at + nameColumns) (a .names .now) (omega arith), part-is (l .from) (l .from + getD (a .counts .now) (l .k) 0) (a .widths .now) (omega arith)) at (simp toZ-ofZ at (c .before .before .put-series .ensures)));
+    }
+
+same-length : tie.Need-same-length Inv-loop μ-loop
+same-length c = wrote-length (c .before .loop .inv .wrote)
+
+returns : tie.Need-returns Inv-loop μ-loop
+returns c =
+    let a = c .before .before .before .before .before .args in
+    let l = c .before .loop in
+    let i = l .inv in
+    wrote-as (sym (append-nil (i .soFar)) ∙ ap (λ (t : Text). i .soFar ++ t) (sym (ap written (series-end (a .names .now) (a .years .now) (a .counts .now) (a .widths .now) (i .walked) (c .loop-test .left)) ∙ written-none)) ∙ i .whole) (i .wrote)
+
+pub put-all-spec : {M : Type 1} → statement M
+put-all-spec =
+    tie.close
+    (tie.spec
+    Inv-loop
+    μ-loop
+    loop-holds
+    add-end
+    mul-to
+    shared-slice-read-to
+    cast-to
+    add-to
+    sub-put-series
+    part-put-series-start
+    part-put-series-end
+    mul-put-series
+    shared-slice-copy-out-put-series
+    mul-put-series-2
+    sub-put-series-2
+    part-put-series-start-2
+    part-put-series-end-2
+    put-series-requires
+    add-k
+    loop-less
+    loop-again
+    same-length
+    returns)

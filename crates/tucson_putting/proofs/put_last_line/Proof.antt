@@ -1,0 +1,45 @@
+-- `put_last_line` meets its contract: what is begun, the closing and byte 10 behind it.
+use native.Mathlib.Omega.{arith}
+use borrow.Author.Needs.{needs}
+use mir.Syntax.{w32}
+use mir.Val.{SFits}
+use Rattle.base_exact.proofs.Word.{toZ-ofZ}
+use Rattle.spec_tucson.specs.Line.{thousandths}
+use Rattle.theorems_tucson.proofs.Columns.{columns-length}
+use Rattle.tucson_putting.proofs.Lines.{begun-length, closing-length, line-closes}
+use Rattle.tucson_putting.proofs.Wrote.{wrote-then, wrote-as, wrote-length, puts-wrote}
+use Rattle.tucson_putting.proofs.put_last_line.Statement.{statement}
+use Rattle.tucson_putting.proofs.put_last_line.Tie as tie
+
+put-begun-requires : tie.Need-put-begun-requires
+put-begun-requires c κs =
+    let s = c .before .before .before in
+    let f : SFits w32 (s .args .year) = s .fits .year in
+    simp toZ-ofZ (record { named = s .pre .named; dated = s .pre .dated; allowed = s .pre .allowed; fits = omega (arith, s .pre .fits) })
+
+put-columns-requires : tie.Need-put-columns-requires
+put-columns-requires c κs =
+    let s = c .before .before .before .before .before .before .before in
+    let f : SFits w32 (s .args .year) = s .fits .year in
+    let b = simp toZ-ofZ at (c .before .before .before .put-begun .ensures) in
+    (closing-length, omega (arith, s .pre .fits, b .behind, wrote-length b, begun-length (s .args .name .now) (s .args .year) (s .args .widths .now) (s .pre .named) (s .pre .dated) (s .pre .allowed)))
+
+put-requires : tie.Need-put-requires
+put-requires c κs =
+    let s = c .before .before .before .before .before .before .before .before .before .before .before in
+    let f : SFits w32 (s .args .year) = s .fits .year in
+    let b = simp toZ-ofZ at (c .before .before .before .before .before .before .before .put-begun .ensures) in
+    omega (arith, s .pre .fits, b .behind, c .before .before .before .put-columns .ensures .behind, columns-length 6 thousandths closing-length, begun-length (s .args .name .now) (s .args .year) (s .args .widths .now) (s .pre .named) (s .pre .dated) (s .pre .allowed))
+
+same-length : tie.Need-same-length
+same-length c = search needs
+
+returns : tie.Need-returns
+returns c =
+    let s = c .before .before .before .before .before .before .before .before .before .before .before .before .before .before in
+    let f : SFits w32 (s .args .year) = s .fits .year in
+    wrote-as (line-closes (s .args .name .now) (s .args .year) (s .args .widths .now)) (wrote-then (simp toZ-ofZ at (c .before .before .before .before .before .before .before .before .before .before .put-begun .ensures)) (wrote-then (c .before .before .before .before .before .before .put-columns .ensures) (puts-wrote (c .before .before .put .ensures))))
+
+pub put-last-line-spec : {M : Type 1} → statement M
+put-last-line-spec =
+    tie.close (tie.spec put-begun-requires put-columns-requires put-requires same-length returns)

@@ -1,0 +1,2 @@
+-- What the writing functions ask and leave.
+pub mod Putting

@@ -1,0 +1,167 @@
+// The text of series that can be written and have room, from an index on. Each function answers the index after its text.
+ghost use mathlib.Core.Path.{_≡_};
+ghost use mathlib.Core.Bool.{true};
+ghost use mathlib.Core.List.{[], _∷_, _++_};
+ghost use mathlib.Core.Option.{none};
+ghost use Prim.Native.Nat.{_+_, _*_, _≤_};
+ghost use lib.ListN.{length, replicate};
+ghost use Rattle.base_text.specs.Numeral.{decimal};
+ghost use Rattle.spec_tucson.specs.Columns.{blank, columns};
+ghost use Rattle.spec_tucson.specs.Line.{fieldColumns, thousandths};
+ghost use Rattle.spec_tucson.specs.Writing.{allWidths, fieldsText, lineText, linesText, seriesLines, written, unwritable};
+ghost use Rattle.spec_tucson.specs.WriteCall.{listsFit, seriesOf};
+ghost use Rattle.tucson_series.specs.Sizes.{series, headBytes, lineBytes, mostLeft, yearAt};
+ghost use Rattle.tucson_putting.specs.Putting.{Wrote, LineFits, SeriesFits, line, begun};
+use tucson_series::lists::NAME_COLUMNS;
+use tucson_series::room::DECADE;
+use tucson_series::room::FIELD_COLUMNS;
+use tucson_series::writable::BLANK;
+use tucson_series::writable::GREATEST_YEAR;
+
+// The bytes of a year.
+const YEAR_COLUMNS: usize = 4;
+
+// The field that closes a series of thousandths.
+const THOUSANDTHS: i32 = -9999;
+
+// The byte that ends a line.
+const NEWLINE: u8 = 10;
+
+// So many blanks.
+fn put_blanks(text: &mut [u8], at: usize, count: usize) -> usize
+    requires { ⌜ at + count ≤ length (now text) ⌝ }
+    ensures { λ r. ⌜ Wrote at (replicate count blank) (now (text .entry)) (now (text .exit)) r ⌝ }
+{
+    let mut next = at;
+    let mut i = 0;
+    while i < count {
+        next = base_print::put(text, next, BLANK);
+        i += 1;
+    }
+    next
+}
+
+// How many bytes a number has.
+fn decimal_length(z: i64) -> usize
+    ensures { λ r. ⌜ r ≡ length (decimal z) ⌝ }
+{
+    let size = base_fraction::magnitude(z);
+    let count = base_print::digit_count(size);
+    if z < 0 {
+        return count + 1;
+    }
+    count
+}
+
+// A number at the end of so many columns.
+fn put_columns(text: &mut [u8], at: usize, size: usize, z: i32) -> usize
+    requires { ⌜ (length (decimal z) ≤ size) × (at + size ≤ length (now text)) ⌝ }
+    ensures { λ r. ⌜ Wrote at (columns size z) (now (text .entry)) (now (text .exit)) r ⌝ }
+{
+    let code = z as i64;
+    let length = decimal_length(code);
+    let next = put_blanks(text, at, size - length);
+    base_print::put_decimal(text, next, code)
+}
+
+// Widths in six columns each.
+fn put_fields(text: &mut [u8], at: usize, widths: &[i32]) -> usize
+    requires { ⌜ (allWidths (now widths) ≡ true) × (at + length (now widths) * fieldColumns ≤ length (now text)) ⌝ }
+    ensures { λ r. ⌜ Wrote at (fieldsText (now (widths .entry))) (now (text .entry)) (now (text .exit)) r ⌝ }
+{
+    let mut next = at;
+    let mut i = 0;
+    while i < widths.len() {
+        next = put_columns(text, next, FIELD_COLUMNS, widths[i]);
+        i += 1;
+    }
+    next
+}
+
+// Name, year and widths of a line.
+fn put_begun(text: &mut [u8], at: usize, name: &[u8], year: i32, widths: &[i32]) -> usize
+    requires { ⌜ LineFits (now name) year (now widths) headBytes at (length (now text)) ⌝ }
+    ensures { λ r. ⌜ Wrote at (begun (now (name .entry)) year (now (widths .entry))) (now (text .entry)) (now (text .exit)) r ⌝ }
+{
+    let a = base_print::put_text(text, at, name);
+    let b = put_columns(text, a, YEAR_COLUMNS, year);
+    put_fields(text, b, widths)
+}
+
+// A line of widths.
+fn put_line(text: &mut [u8], at: usize, name: &[u8], year: i32, widths: &[i32]) -> usize
+    requires { ⌜ LineFits (now name) year (now widths) lineBytes at (length (now text)) ⌝ }
+    ensures { λ r. ⌜ Wrote at (lineText (line (now (name .entry)) year (now (widths .entry)))) (now (text .entry)) (now (text .exit)) r ⌝ }
+{
+    let a = put_begun(text, at, name, year, widths);
+    base_print::put(text, a, NEWLINE)
+}
+
+// A series' last line: widths and the closing.
+fn put_last_line(text: &mut [u8], at: usize, name: &[u8], year: i32, widths: &[i32]) -> usize
+    requires { ⌜ LineFits (now name) year (now widths) (lineBytes + fieldColumns) at (length (now text)) ⌝ }
+    ensures { λ r. ⌜ Wrote at (lineText (line (now (name .entry)) year (now (widths .entry) ++ (thousandths ∷ [])))) (now (text .entry))
+        (now (text .exit)) r ⌝ }
+{
+    let a = put_begun(text, at, name, year, widths);
+    let b = put_columns(text, a, FIELD_COLUMNS, THOUSANDTHS);
+    base_print::put(text, b, NEWLINE)
+}
+
+// The year after which so many can be written.
+fn year_at(left: usize) -> i32
+    requires { ⌜ left ≤ mostLeft ⌝ }
+    ensures { λ r. ⌜ r ≡ yearAt left ⌝ }
+{
+    GREATEST_YEAR - left as i32
+}
+
+// The lines of a series: up to the end of the first decade, then full decades, and the closing where the next width would
+// stand. A line's year is counted by the years that are left after it.
+fn put_series(text: &mut [u8], at: usize, name: &[u8], first: i32, widths: &[i32]) -> usize
+    requires { ⌜ SeriesFits (now name) first (now widths) at (length (now text)) ⌝ }
+    ensures { λ r. ⌜ Wrote at (linesText (seriesLines (series (now (name .entry)) first (now (widths .entry))))) (now (text .entry))
+        (now (text .exit)) r ⌝ }
+{
+    let mut next = at;
+    let mut left = tucson_series::writable::years_left(first);
+    let mut from = 0;
+    while widths.len() - from > left % DECADE {
+        let to = from + left % DECADE + 1;
+        let year = year_at(left);
+        next = put_line(text, next, name, year, &widths[from..to]);
+        left -= to - from;
+        from = to;
+    }
+    let year = year_at(left);
+    put_last_line(text, next, name, year, &widths[from..])
+}
+
+// All series, from the text's beginning on.
+pub fn put_all(
+    names: &[u8],
+    years: &[i32],
+    counts: &[u32],
+    widths: &[i32],
+    text: &mut [u8],
+) -> usize
+    requires { ⌜ listsFit (now names) (now years) (now counts) (now widths) ≡ true ⌝ }
+    requires { ⌜ unwritable (seriesOf (now names) (now years) (now counts) (now widths)) ≡ none ⌝ }
+    requires { ⌜ length (written (seriesOf (now names) (now years) (now counts) (now widths))) ≤ length (now text) ⌝ }
+    ensures { λ r. ⌜ Wrote 0 (written (seriesOf (now (names .entry)) (now (years .entry)) (now (counts .entry)) (now (widths .entry))))
+        (now (text .entry)) (now (text .exit)) r ⌝ }
+{
+    let mut next = 0;
+    let mut at = 0;
+    let mut from = 0;
+    let mut k = 0;
+    while k < years.len() {
+        let end = at + NAME_COLUMNS;
+        let to = from + counts[k] as usize;
+        next = put_series(text, next, &names[at..end], years[k], &widths[from..to]);
+        at = end;
+        from = to;
+        k += 1;
+    }
+    next
+}

@@ -1,0 +1,65 @@
+-- `series_bytes` meets its contract: there are at most 10,998 widths.
+use native.Mathlib.Omega.{arith}
+use borrow.Author.Needs.{needs}
+use mathlib.Core.Path.{_≡_}
+use Prim.Native.Nat.{_≤_}
+use mir.Syntax.{w32}
+use mir.Val.{SFits}
+use Rattle.base_exact.proofs.Word.{toZ-ofZ}
+use Rattle.tucson_series.specs.Sizes.{yearsLeft, mostLeft, seriesBytes}
+use Rattle.tucson_series.proofs.Years.{closing-parts}
+use Rattle.tucson_series.proofs.room.series_bytes.Statement.{statement}
+use Rattle.tucson_series.proofs.room.series_bytes.Tie as tie
+
+few : (c : tie.After-years-left) → c .before .args .count ≤ mostLeft
+few c = closing-parts (c .before .args .year) (c .before .args .count) (c .before .pre) .few
+
+years-left-requires : tie.Need-years-left-requires
+years-left-requires c κs = let f : SFits w32 (c .args .year) = c .fits .year in simp toZ-ofZ (closing-parts (c .args .year) (c .args .count) (c .pre) .dated)
+
+sub-lines : tie.Need-sub-lines
+sub-lines c = search needs
+
+sub-lines-2 : tie.Need-sub-lines-2
+sub-lines-2 c = search needs
+
+add-lines : tie.Need-add-lines
+add-lines c = omega (arith, few c)
+
+add-lines-2 : tie.Need-add-lines-2
+add-lines-2 c = omega (arith, few c)
+
+add-result : tie.Need-add-result
+add-result c = omega (arith, few c)
+
+mul-result : tie.Need-mul-result
+mul-result c = omega (arith, few c)
+
+mul-result-2 : tie.Need-mul-result-2
+mul-result-2 c = omega (arith, few c)
+
+add-result-2 : tie.Need-add-result-2
+add-result-2 c = omega (arith, few c)
+
+returns : tie.Need-returns
+unfolding seriesBytes
+returns c =
+    let s = c .before in
+    let f : SFits w32 (s .args .year) = s .fits .year in
+    let e : c .years-left .result ≡ yearsLeft (s .args .year) = simp toZ-ofZ at (c .years-left .ensures) in
+    rw e
+
+pub series-bytes-spec : {M : Type 1} → statement M
+series-bytes-spec =
+    tie.close
+    (tie.spec
+    years-left-requires
+    sub-lines
+    sub-lines-2
+    add-lines
+    add-lines-2
+    add-result
+    mul-result
+    mul-result-2
+    add-result-2
+    returns)
