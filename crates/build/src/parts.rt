@@ -4,17 +4,18 @@ ghost use Prim.Native.Nat.{_-_, _≤_};
 ghost use lib.ListN.{length};
 ghost use Rattle.base_outcome.specs.Outcome.{with-answer};
 ghost use Rattle.spec_spline.specs.Space.{partEnd, rowCount};
-ghost use Rattle.spec_spline.specs.Table.{tableCells};
+ghost use Rattle.spec_spline.specs.Table.{rowCells, tableCells};
 ghost use Rattle.spec_spline.specs.Build;
 ghost use Rattle.theorems_beams.specs.Sections.{section};
 ghost use Rattle.theorems_beams.specs.Parts.{Starts};
 ghost use Rattle.build_space.specs.Machine.{space};
 ghost use Rattle.build_space.specs.Legal.{ListsLegal};
+ghost use Rattle.build_cells.specs.Held.{ClearFrom};
 ghost use Rattle.build.specs.Machine.{reply};
 use crate::Built;
 use crate::step;
 
-// The build of the part from segment a up to segment b.
+// The build of the part from segment a up to segment b, in buffers that are clear from row `used` on.
 pub fn build_part(
     breaks: &[i32],
     degrees: &[i32],
@@ -23,11 +24,13 @@ pub fn build_part(
     b: usize,
     num: &mut [i64],
     den: &mut [i64],
+    used: usize,
 ) -> Built
     requires { ⌜ ListsLegal (now breaks) (now degrees) (now orders)
         × ((tableCells ≤ length (now num)) × (tableCells ≤ length (now den))) ⌝ }
     requires { ⌜ Starts (space (now breaks) (now degrees) (now orders)) a
         × (b ≡ partEnd (space (now breaks) (now degrees) (now orders)) a) ⌝ }
+    requires { ⌜ (used ≤ rowCells) × ClearFrom (now num) (now den) used ⌝ }
     ensures { λ r. ⌜ (let part = section (space (now (breaks .entry)) (now (degrees .entry)) (now (orders .entry))) a (b - a) in
         (reply r ≡ with-answer (λ _. rowCount part) (Build.weights part))
         × ((now (num .exit) ≡ Build.numeratorsAfter (Build.weights part) (now (num .entry)))
@@ -39,10 +42,12 @@ pub fn build_part(
         &orders[a..b - 1],
         num,
         den,
+        used,
     )
 }
 
-// The build of a beam whose lists are legal, in buffers that are long enough. Rows and places count over the beam.
+// The build of a beam whose lists are legal, in buffers that are long enough. Rows and places count over the beam. The first part
+// clears the whole table, a later one only the rows of the part before it.
 pub fn build_parts(
     breaks: &[i32],
     degrees: &[i32],
@@ -59,13 +64,15 @@ pub fn build_parts(
         × (now (den .exit) ≡ Build.denominatorsAfter held (now (den .entry))))) ⌝ }
 {
     let mut rows = 0;
+    let mut used = build_cells::ROW_CELLS;
     let mut a = 0;
     while a < degrees.len() {
         let b = build_space::part_end(degrees, orders, a);
-        let built = build_part(breaks, degrees, orders, a, b, num, den);
+        let built = build_part(breaks, degrees, orders, a, b, num, den, used);
         match built {
             Built::Rows(n) => {
                 rows += n;
+                used = n;
             }
             Built::Refused(code, place) => {
                 return Built::Refused(code, base_outcome::place(a + place as usize));

@@ -13,7 +13,7 @@ ghost use Rattle.spec_spline.specs.Step;
 ghost use Rattle.spec_spline.specs.Build;
 ghost use Rattle.build_space.specs.Machine.{space};
 ghost use Rattle.build_space.specs.Legal.{ListsLegal, PartLegal};
-ghost use Rattle.build_cells.specs.Held.{Holds, Shaped, Held};
+ghost use Rattle.build_cells.specs.Held.{Holds, Shaped, Held, ClearFrom};
 ghost use Rattle.build_conditions.specs.Sides.{SideIs, JoinIs, JoinFits};
 ghost use Rattle.build_jumps.specs.Machine.{fractions};
 ghost use Rattle.build_factors.specs.Jumps.{Spanned};
@@ -206,15 +206,17 @@ fn join_steps(
     Built::Rows(rows)
 }
 
-// The build of one part whose lists are legal, in buffers that are long enough.
+// The build of one part whose lists are legal, in buffers that are long enough and clear from row `used` on.
 pub fn build_legal(
     breaks: &[i32],
     degrees: &[i32],
     orders: &[i32],
     num: &mut [i64],
     den: &mut [i64],
+    used: usize,
 ) -> Built
     requires { ⌜ PartLegal (now breaks) (now degrees) (now orders) × ((tableCells ≤ length (now num)) × (tableCells ≤ length (now den))) ⌝ }
+    requires { ⌜ (used ≤ rowCells) × ClearFrom (now num) (now den) used ⌝ }
     ensures { λ r. ⌜ reply r ≡ with-answer (λ _. rowCount (space (now (breaks .entry)) (now (degrees .entry)) (now (orders .entry))))
         (Build.weights (space (now (breaks .entry)) (now (degrees .entry)) (now (orders .entry)))) ⌝ }
     ensures { λ r. ⌜ now (num .exit) ≡ Build.numeratorsAfter (Build.weights
@@ -223,7 +225,7 @@ pub fn build_legal(
         (space (now (breaks .entry)) (now (degrees .entry)) (now (orders .entry)))) (now (den .entry)) ⌝ }
 {
     let columns = build_space::first_column(degrees, degrees.len());
-    build_cells::identity(num, den, build_space::degree_at(degrees, 0) + 1);
+    build_cells::identity_over(num, den, build_space::degree_at(degrees, 0) + 1, used);
     let built = join_steps(breaks, degrees, orders, num, den, columns);
     match built {
         Built::Rows(n) => Built::Rows(n),

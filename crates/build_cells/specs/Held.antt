@@ -3,9 +3,9 @@
 use mathlib.Core.Bool.{true}
 use mathlib.Core.List.{List}
 use mathlib.Core.Path.{_≡_}
-use Prim.Native.Nat.{ℕ, _<_, _≤_}
-use lib.IntN.{ℤ}
-use lib.ListN.{length, drop}
+use Prim.Native.Nat.{ℕ, _*_, _<_, _≤_}
+use lib.IntN.{ℤ, pos}
+use lib.ListN.{length, getD, drop}
 use Rattle.base_fraction.specs.Size.{fits}
 use Rattle.spec_spline.specs.Table.{Table, row, cell, rowCells, tableCells, numerators, denominators}
 
@@ -34,3 +34,8 @@ pub record Held (num den : List ℤ) (rows columns : ℕ) : Type 0 where
 pub record Kept (before after : List ℤ) : Type 0 where
   pub long : length after ≡ length before
   pub rest : drop tableCells after ≡ drop tableCells before
+
+-- The buffers are clear from this row on: 0/1 in the rest of the table's cells.
+pub record ClearFrom (num den : List ℤ) (rows : ℕ) : Type 0 where
+  pub zeros : (k : ℕ) → rowCells * rows ≤ k → k < tableCells → getD num k (pos 0) ≡ pos 0
+  pub ones : (k : ℕ) → rowCells * rows ≤ k → k < tableCells → getD den k (pos 0) ≡ pos 1

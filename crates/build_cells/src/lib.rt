@@ -5,7 +5,7 @@ ghost use Prim.Native.Nat.{ℕ, suc, _+_, _*_, _<_, _≤_};
 ghost use lib.IntN.{pos};
 ghost use lib.ListN.{length, getD, take, drop};
 ghost use Rattle.spec_spline.specs.Table;
-ghost use Rattle.build_cells.specs.Held.{Holds};
+ghost use Rattle.build_cells.specs.Held.{Holds, ClearFrom};
 ghost use Rattle.build_cells.specs.Region.{filled, moved, marked, diagonalStep};
 use base_fraction::Fraction;
 
@@ -71,14 +71,24 @@ fn move_up(num: &mut [i64], den: &mut [i64], from: usize, to: usize)
     }
 }
 
-// The identity with n rows and columns.
+// The identity with n rows and columns, in buffers that are clear from row `used` on: only the rows before it are cleared.
+pub fn identity_over(num: &mut [i64], den: &mut [i64], n: usize, used: usize)
+    requires { ⌜ (n ≤ Table.rowCells) × ((Table.tableCells ≤ length (now num)) × (Table.tableCells ≤ length (now den))) ⌝ }
+    requires { ⌜ (used ≤ Table.rowCells) × ClearFrom (now num) (now den) used ⌝ }
+    ensures { λ _. ⌜ now (num .exit) ≡ Table.numerators (Table.identity n) (now (num .entry)) ⌝ }
+    ensures { λ _. ⌜ now (den .exit) ≡ Table.denominators (Table.identity n) (now (den .entry)) ⌝ }
+{
+    clear(num, den, 0, ROW_CELLS * used);
+    mark_diagonal(num, n);
+}
+
+// The identity with n rows and columns, in buffers that hold anything.
 pub fn identity(num: &mut [i64], den: &mut [i64], n: usize)
     requires { ⌜ (n ≤ Table.rowCells) × ((Table.tableCells ≤ length (now num)) × (Table.tableCells ≤ length (now den))) ⌝ }
     ensures { λ _. ⌜ now (num .exit) ≡ Table.numerators (Table.identity n) (now (num .entry)) ⌝ }
     ensures { λ _. ⌜ now (den .exit) ≡ Table.denominators (Table.identity n) (now (den .entry)) ⌝ }
 {
-    clear(num, den, 0, TABLE_CELLS);
-    mark_diagonal(num, n);
+    identity_over(num, den, n, ROW_CELLS);
 }
 
 // After the rows that the table has come those of the identity for n columns from the given one on.

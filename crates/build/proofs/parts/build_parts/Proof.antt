@@ -3,40 +3,53 @@
 use borrow.Author.Needs.{needs}
 use mathlib.Core.List.{List}
 use mathlib.Core.Path.{_≡_, refl, sym, _∙_, ap, subst}
-use Prim.Native.Nat.{ℕ, _+_, _-_, _<_}
+use Prim.Native.Nat.{ℕ, _+_, _-_, _<_, _≤_}
 use native.Mathlib.Omega.{arith}
 use lib.IntN.{ℤ}
 use lib.ListN.{length}
 use Rattle.base_outcome.specs.Outcome.{with-answer}
 use Rattle.spec_spline.specs.Space.{Space, partEnd, rowCount}
 use Rattle.spec_spline.specs.Build.{weights, numeratorsAfter, denominatorsAfter}
+use Rattle.spec_spline.specs.Table.{rowCells}
 use Rattle.spec_spline.proofs.Parts.{part-ends}
+use Rattle.spec_spline.proofs.Shape.{weights-shaped}
 use Rattle.theorems_beams.specs.Sections.{section, partAt}
 use Rattle.build_space.specs.Machine.{space}
 use Rattle.build_space.proofs.Partial.{part-end-partial}
+use Rattle.build_space.proofs.Legal.{part-column-count-high}
+use Rattle.build_cells.specs.Held.{ClearFrom}
+use Rattle.build_cells.proofs.Buffer.{clear-past}
 use Rattle.build.specs.Machine.{reply}
 use Rattle.build.specs.declared.Built.{Built}
 use Rattle.build.specs.declared.Built.the-variants.{Rows, Refused}
-use Rattle.build.proofs.Beam.{Before, before-first, starts, rows-high, part-more, part-refused, parts-done, told-rows, told-refused}
+use Rattle.build.proofs.Beam.{Before, before-first, starts, rows-high, part-legal, part-more, part-refused, parts-done, told-rows, told-refused}
 use Rattle.build.proofs.parts.build_parts.Statement.{statement}
 use Rattle.build.proofs.parts.build_parts.Tie as tie
 
-record Inv (s : Space) (num₀ den₀ num den : List ℤ) (rows a : ℕ) : Type 0 where
+record Inv (s : Space) (num₀ den₀ num den : List ℤ) (rows used a : ℕ) : Type 0 where
   num-long : length num ≡ length num₀
   den-long : length den ≡ length den₀
   state : Before s num₀ den₀ num den rows a
+  few : used ≤ rowCells
+  clear : ClearFrom num den used
 
 abbrev Inv-loop : tie.InvT-loop
-Inv-loop breaks degrees orders num₀ den₀ rows₀ a₀ num den rows a = Inv (space breaks degrees orders) num₀ den₀ num den rows a
+Inv-loop breaks degrees orders num₀ den₀ rows₀ used₀ a₀ num den rows used a = Inv (space breaks degrees orders) num₀ den₀ num den rows used a
 
 abbrev μ-loop : tie.MeasureT-loop
-μ-loop breaks degrees orders num₀ den₀ rows₀ a₀ num den rows a = length degrees - a
+μ-loop breaks degrees orders num₀ den₀ rows₀ used₀ a₀ num den rows used a = length degrees - a
 
 abbrev lists : tie.Start Inv-loop μ-loop → Space
 lists c = space (c .args .breaks .now) (c .args .degrees .now) (c .args .orders .now)
 
 loop-holds : tie.Need-loop-holds Inv-loop μ-loop
-loop-holds c = record { num-long = refl; den-long = refl; state = before-first (lists c) (c .args .num .now) (c .args .den .now) }
+loop-holds c = record {
+  num-long = refl;
+  den-long = refl;
+  state = before-first (lists c) (c .args .num .now) (c .args .den .now);
+  few = omega arith;
+  clear = record { zeros = λ k h l. absurd (omega arith); ones = λ k h l. absurd (omega arith) };
+}
 
 taken : (c : tie.In-loop Inv-loop μ-loop) → c .before .loop .a < length (c .before .before .args .degrees .now)
 taken c = omega arith
@@ -61,7 +74,7 @@ build-part-requires c κs =
     let l = e .before .before .loop in
     let p = e .before .before .before .pre in (
       (p .0, (omega (arith, p .1 .0, l .inv .num-long), omega (arith, p .1 .1, l .inv .den-long))),
-      (starts _ _ _ (p .0) (l .inv .state) (taken (e .before)), end-is e),
+      ((starts _ _ _ (p .0) (l .inv .state) (taken (e .before)), end-is e), (l .inv .few, l .inv .clear)),
     )
 
 enum-known-built : tie.Need-enum-known-built Inv-loop μ-loop
@@ -89,6 +102,22 @@ module _ (c : tie.After-build-part Inv-loop μ-loop) where
       let t = told-rows (weights part) (x .0) in
       subst (Before (beam ended) _ _ _ _ (ended .before .before .loop .rows + n)) (sym (end-is ended))
       (part-more _ _ _ (ended .before .before .before .pre .0) (ended .before .before .loop .inv .state) (taken (ended .before)) (t .is) (t .count) (x .1 .0) (x .1 .1))
+
+  -- it has at most 72 rows, and the rest of the table is clear
+  rows-few : {n : ℕ} → c .build-part .result ≡ Rows n → n ≤ rowCells
+  rows-few {n} e =
+      let legal = ended .before .before .before .pre .0 in
+      let own = part-legal _ _ _ legal (first ended) (starts _ _ _ legal (ended .before .before .loop .inv .state) (taken (ended .before))) in
+      omega (arith, told-rows (weights part) (leaves e .0) .count, part-column-count-high _ _ _ own)
+
+  rest-clear : {n : ℕ} → c .build-part .result ≡ Rows n → ClearFrom (c .build-part .last .1 .1 .1 .1 .1 .0) (c .build-part .last .1 .1 .1 .1 .1 .1 .0) n
+  unfolding numeratorsAfter denominatorsAfter
+  rest-clear {n} e =
+      let x = leaves e in
+      let t = told-rows (weights part) (x .0) in
+      clear-past (t .table) (ended .before .before .loop .num) (ended .before .before .loop .den) _ _ n (omega (arith, t .count, weights-shaped part (t .is) .rows))
+      (x .1 .0 ∙ ap (λ o. numeratorsAfter o (ended .before .before .loop .num)) (t .is))
+      (x .1 .1 ∙ ap (λ o. denominatorsAfter o (ended .before .before .loop .den)) (t .is))
 
   num-kept : length (c .build-part .last .1 .1 .1 .1 .1 .0) ≡ length (ended .before .before .before .args .num .now)
   num-kept = c .build-part .kept .1 .1 .1 .1 .1 .0 ∙ ended .before .before .loop .inv .num-long
@@ -134,7 +163,8 @@ loop-less c =
 loop-again : tie.Need-loop-again Inv-loop μ-loop
 loop-again c =
     let m = c .before .before .before .before .before in
-    record { num-long = num-kept m; den-long = den-kept m; state = more m (c .before .built .given .1) }
+    let told = c .before .built .given .1 in
+    record { num-long = num-kept m; den-long = den-kept m; state = more m told; few = rows-few m told; clear = rest-clear m told }
 
 same-length-3 : tie.Need-same-length-3 Inv-loop μ-loop
 same-length-3 c = c .before .loop .inv .num-long
