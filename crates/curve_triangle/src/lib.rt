@@ -78,22 +78,21 @@ pub fn first_positions(
     firsts
 }
 
-// The last of m segments whose first position is at or before position x.
+// The last of m segments whose first position is at or before position x. All are looked at: a loop that ends early is mostly
+// guessed wrong by the processor, which costs more than the comparisons that it saves.
 fn segment_at(firsts: &[i32], m: usize, x: i32) -> usize
     requires { ⌜ m ≤ length (now firsts) ⌝ }
     ensures { λ r. ⌜ r ≡ Option·getD (Search.last m (λ k. leZ (getD (now (firsts .entry)) k (pos 0)) x)) 0 ⌝ }
 {
-    let mut i = m;
-    let at = loop {
-        if i == 0 {
-            break 0;
-        }
-        i -= 1;
+    let mut at = 0;
+    let mut i = 0;
+    while i < m {
         let first = firsts[i];
         if first <= x {
-            break i;
+            at = i;
         }
-    };
+        i += 1;
+    }
     at
 }
 

@@ -3,6 +3,7 @@ use borrow.Author.Needs.{needs}
 use mathlib.Core.Path.{_≡_, subst}
 use mathlib.Core.List.{List}
 use Prim.Native.Nat.{ℕ, _-_}
+use native.Mathlib.Omega.{arith}
 use lib.IntN.{ℤ}
 use Rattle.base_outcome.specs.Outcome.{with-answer}
 use Rattle.spec_spline.specs.Space.{Space, rowCount}
@@ -36,7 +37,9 @@ module _ (k : tie.After-build-part) where
       (start .pre .1 .1) (record { answers = e .0; numerators = e .1 .0; denominators = e .1 .1 })
 
 build-part-requires : tie.Need-build-part-requires
-build-part-requires c κs = let p = c .before .before .pre in ((beam-legal _ (p .0 .0), p .0 .1), p .1)
+build-part-requires c κs = 
+    let p = c .before .before .pre in
+    ((beam-legal _ (p .0 .0), p .0 .1), (p .1, (omega arith, record { zeros = λ k h l. absurd (omega arith); ones = λ k h l. absurd (omega arith) })))
 
 enum-known-built : tie.Need-enum-known-built
 enum-known-built c = search needs
