@@ -12,6 +12,8 @@ ghost use Rattle.base_exact.specs.Order.{ltᵠ};
 ghost use Rattle.base_fraction.specs.Size.{count};
 ghost use Rattle.base_fraction.specs.Machine.{fraction, ratio, value, answer, FractionFits};
 
+pub mod arrays;
+
 pub struct Fraction {
     pub num: i64,
     pub den: i64,

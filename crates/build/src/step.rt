@@ -15,15 +15,15 @@ ghost use Rattle.build_space.specs.Machine.{space};
 ghost use Rattle.build_space.specs.Legal.{ListsLegal, PartLegal};
 ghost use Rattle.build_cells.specs.Held.{Holds, Shaped, Held, ClearFrom};
 ghost use Rattle.build_conditions.specs.Sides.{SideIs, JoinIs, JoinFits};
-ghost use Rattle.build_jumps.specs.Machine.{fractions};
+ghost use Rattle.base_fraction.specs.Fractions.{fractions};
 ghost use Rattle.build_factors.specs.Jumps.{Spanned};
 ghost use Rattle.build.specs.Machine.{reply};
 ghost use Rattle.build.specs.Leaves.{Leaves, JoinsLeave, Start, grown};
 use crate::Built;
+use base_fraction::arrays::Fractions;
 use build_conditions::Join;
 use build_conditions::Side;
 use build_factors::Refusal;
-use build_jumps::Fractions;
 use build_jumps::JumpSpan;
 
 // The rest of a step whose jumps span the rows f to l: the factors, the new rows and one row less.

@@ -10,7 +10,7 @@ ghost use Rattle.build_cells.specs.Region.{filled, moved, marked, diagon
 use base_fraction::Fraction;
 
 // Cells of a row.
-pub const ROW_CELLS: usize = 72;
+pub const ROW_CELLS: usize = base_fraction::arrays::CAPACITY;
 
 // Cells of a table.
 pub const TABLE_CELLS: usize = 5184;

@@ -14,8 +14,8 @@ use Rattle.base_outcome.specs.Outcome.{Outcome, answer, refusal}
 use Rattle.spec_spline.specs.Step.{span}
 use Rattle.spec_spline.specs.Table.{rowCells}
 use Rattle.spec_spline.proofs.Answers.{span-inverts}
-use Rattle.build_jumps.specs.Machine.{fractions}
-use Rattle.build_jumps.specs.declared.Fractions.{Fractions}
+use Rattle.base_fraction.specs.Fractions.{fractions}
+use Rattle.base_fraction.specs.declared.arrays.Fractions.{Fractions}
 use Rattle.build_jumps.proofs.Answers.{InArrays}
 use Rattle.build_factors.specs.Machine.{refusalOf, rowFactors}
 use Rattle.build_factors.specs.Jumps.{AllFit, Spanned}

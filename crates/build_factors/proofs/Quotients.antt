@@ -15,9 +15,9 @@ use Rattle.base_fraction.proofs.Value.{fraction-int}
 use Rattle.base_outcome.specs.Outcome.{Outcome, answer, refusal, collect}
 use Rattle.spec_spline.specs.Step.{factor, factors}
 use Rattle.base_outcome.proofs.Outcome.{then-answers, then-refuses}
-use Rattle.build_jumps.specs.Machine.{fractions}
-use Rattle.build_jumps.specs.declared.Fractions.{Fractions}
-use Rattle.build_jumps.proofs.Arrays.{fractions-zero}
+use Rattle.base_fraction.specs.Fractions.{fractions}
+use Rattle.base_fraction.specs.declared.arrays.Fractions.{Fractions}
+use Rattle.base_fraction.proofs.Fractions.{fractions-zero}
 use Rattle.build_factors.specs.Machine.{nextFactor, refusalOf, rowFactors}
 use Rattle.build_factors.specs.declared.RowFactors.{RowFactors}
 use Rattle.build_factors.specs.declared.Refusal.{Refusal}

@@ -8,8 +8,8 @@ use Rattle.base_exact.specs.Rational.{ℚ, int}
 use Rattle.base_exact.specs.Order.{isZero, ltᵠ}
 use Rattle.base_fraction.specs.Size.{fits}
 use Rattle.spec_spline.specs.Table.{entry, rowCells}
-use Rattle.build_jumps.specs.Machine.{fractions}
-use Rattle.build_jumps.specs.declared.Fractions.{Fractions}
+use Rattle.base_fraction.specs.Fractions.{fractions}
+use Rattle.base_fraction.specs.declared.arrays.Fractions.{Fractions}
 
 -- Strictly between 0 and 1.
 abbrev pub between : ℚ → Bool

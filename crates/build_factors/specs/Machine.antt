@@ -7,7 +7,7 @@ use lib.IntN.{pos}
 use Rattle.base_exact.specs.Rational.{ℚ, int}
 use Rattle.base_fraction.specs.Machine.{fraction}
 use Rattle.base_outcome.specs.Outcome.{Outcome, answer, refusal}
-use Rattle.build_jumps.specs.Machine.{fractions}
+use Rattle.base_fraction.specs.Fractions.{fractions}
 use Rattle.build_factors.specs.declared.Refusal.{Refusal}
 use Rattle.build_factors.specs.declared.Refusal.the-variants as refusals
 use Rattle.build_factors.specs.declared.NextFactor.{NextFactor}

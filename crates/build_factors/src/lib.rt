@@ -8,12 +8,13 @@ ghost use lib.Signed.{_<ℤ_};
 ghost use Rattle.base_exact.specs.Rational.{ℚ, _+ᵠ_};
 ghost use Rattle.base_fraction.specs.Machine.{FractionFits, value};
 ghost use Rattle.spec_spline.specs.Step;
-ghost use Rattle.build_jumps.specs.Machine.{fractions};
+ghost use Rattle.base_fraction.specs.Fractions.{fractions};
 ghost use Rattle.build_factors.specs.Machine.{nextFactor, rowFactors};
 ghost use Rattle.build_factors.specs.Jumps.{between, Spanned};
 use base_fraction::Counted;
 use base_fraction::Fraction;
-use build_jumps::Fractions;
+use base_fraction::arrays;
+use base_fraction::arrays::Fractions;
 
 // Why a step was not done, if it was not: code 8 or code 9.
 pub enum Refusal {
@@ -89,12 +90,12 @@ pub fn factors(js: Fractions, f: usize, l: usize) -> RowFactors
     requires { ⌜ Spanned js f l ⌝ }
     ensures { λ r. ⌜ ((qs : List ℚ) (j : ℕ) → js ≡ fractions qs → r ≡ rowFactors (Step.factors j qs (record { f = f; l = l }))) ⌝ }
 {
-    let mut ws = build_jumps::no_fractions();
+    let mut ws = arrays::no_fractions();
     ws.num[0] = 1;
-    let mut sum = build_jumps::fraction_at(js, f);
+    let mut sum = arrays::fraction_at(js, f);
     let mut i = f + 1;
     while i < l {
-        let jump = build_jumps::fraction_at(js, i);
+        let jump = arrays::fraction_at(js, i);
         let next = factor(sum, jump);
         let refusal = next.refusal;
         match refusal {
@@ -110,13 +111,13 @@ pub fn factors(js: Fractions, f: usize, l: usize) -> RowFactors
             Refusal::TooLarge => {
                 return RowFactors {
                     refusal: Refusal::TooLarge,
-                    of: build_jumps::no_fractions(),
+                    of: arrays::no_fractions(),
                 };
             }
             Refusal::Shape => {
                 return RowFactors {
                     refusal: Refusal::Shape,
-                    of: build_jumps::no_fractions(),
+                    of: arrays::no_fractions(),
                 };
             }
         }

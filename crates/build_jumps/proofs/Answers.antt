@@ -7,8 +7,9 @@ use native.Mathlib.Omega.{arith}
 use Rattle.base_exact.specs.Rational.{ℚ}
 use Rattle.base_outcome.specs.Outcome.{Outcome, answer, refusal}
 use Rattle.spec_spline.specs.Step.{Span}
-use Rattle.build_jumps.specs.Machine.{fractions, rowJumps, jumpSpan}
-use Rattle.build_jumps.specs.declared.Fractions.{Fractions}
+use Rattle.base_fraction.specs.Fractions.{fractions}
+use Rattle.build_jumps.specs.Machine.{rowJumps, jumpSpan}
+use Rattle.base_fraction.specs.declared.arrays.Fractions.{Fractions}
 use Rattle.build_jumps.specs.declared.RowJumps.{RowJumps}
 use Rattle.build_jumps.specs.declared.JumpSpan.the-variants as spans
 use Rattle.build_jumps.proofs.Counted.{Refused}

@@ -1,4 +1,3 @@
 -- The crate's hand-written modules.
 pub mod Counted
-pub mod Arrays
 pub mod Answers

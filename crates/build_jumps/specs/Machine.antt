@@ -1,16 +1,13 @@
 -- The machine's form of the counted fractions, jumps and spans that the definitions of crate spec_spline give.
 use mathlib.Core.Bool.{true, false}
 use mathlib.Core.List.{List, []}
-use lib.IntN.{pos}
-use Rattle.base_exact.specs.Rational.{ℚ, den}
-use Rattle.base_exact.specs.Tabulate.{tab}
+use Rattle.base_exact.specs.Rational.{ℚ}
 use Rattle.base_fraction.specs.Machine.{fraction}
+use Rattle.base_fraction.specs.Fractions.{fractions}
 use Rattle.base_fraction.specs.declared.Counted.{Counted}
 use Rattle.base_fraction.specs.declared.Counted.the-variants.{Fits, TooLarge}
 use Rattle.base_outcome.specs.Outcome.{Outcome, answer, refusal}
 use Rattle.spec_spline.specs.Step.{Span}
-use Rattle.spec_spline.specs.Table.{entry, rowCells}
-use Rattle.build_jumps.specs.declared.Fractions.{Fractions}
 use Rattle.build_jumps.specs.declared.RowJumps.{RowJumps}
 use Rattle.build_jumps.specs.declared.JumpSpan.{JumpSpan}
 use Rattle.build_jumps.specs.declared.JumpSpan.the-variants as spans
@@ -19,10 +16,6 @@ use Rattle.build_jumps.specs.declared.JumpSpan.the-variants as spans
 unfoldable pub counted : Outcome ℚ → Counted
 counted (answer q) = Fits (fraction q)
 counted (refusal code place) = TooLarge
-
--- Fractions in the two arrays of 72, 0/1 past their number.
-unfoldable pub fractions : List ℚ → Fractions
-fractions qs = record { num = tab rowCells (λ i. (entry qs i) .num); den = tab rowCells (λ i. pos (den (entry qs i))) }
 
 -- The jumps of a step.
 unfoldable pub rowJumps : Outcome (List ℚ) → RowJumps

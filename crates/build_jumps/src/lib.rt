@@ -17,17 +17,14 @@ ghost use Rattle.base_outcome.specs.declared.Found.the-variants.{At};
 ghost use Rattle.build_cells.specs.Held.{Holds};
 ghost use Rattle.build_conditions.specs.Sides.{JoinIs, JoinFits};
 ghost use Rattle.build_conditions.specs.Terms.{entriesOf};
-ghost use Rattle.build_jumps.specs.Machine.{counted, fractions, rowJumps, jumpSpan};
+ghost use Rattle.base_fraction.specs.Fractions.{fractions};
+ghost use Rattle.build_jumps.specs.Machine.{counted, rowJumps, jumpSpan};
 use base_fraction::Counted;
 use base_fraction::Fraction;
+use base_fraction::arrays;
+use base_fraction::arrays::Fractions;
 use base_outcome::Found;
 use build_conditions::Join;
-
-// One fraction for each row of the table; unused ones are 0/1.
-pub struct Fractions {
-    pub num: [i64; build_cells::ROW_CELLS],
-    pub den: [i64; build_cells::ROW_CELLS],
-}
 
 // The jumps, if no counted fraction was too large.
 pub struct RowJumps {
@@ -97,25 +94,6 @@ fn jump(num: &[i64], den: &[i64], at: usize, join: Join, k: usize, entries: [i64
     Counted::Fits(sum)
 }
 
-pub fn no_fractions() -> Fractions
-    ensures { λ r. ⌜ r ≡ fractions [] ⌝ }
-{
-    Fractions {
-        num: [0; build_cells::ROW_CELLS],
-        den: [1; build_cells::ROW_CELLS],
-    }
-}
-
-// The fraction at index i.
-pub fn fraction_at(qs: Fractions, i: usize) -> Fraction
-    requires { ⌜ i < rowCells ⌝ }
-    ensures { λ r. ⌜ ((of : List ℚ) → qs ≡ fractions of → r ≡ fraction (entry of i)) ⌝ }
-{
-    let n = qs.num[i];
-    let d = qs.den[i];
-    Fraction { num: n, den: d }
-}
-
 // The jumps of the first `rows` rows, rows rising.
 pub fn jumps(num: &[i64], den: &[i64], rows: usize, join: Join, k: usize) -> RowJumps
     requires { ⌜ (rows ≤ rowCells) × JoinFits join k ⌝ }
@@ -124,7 +102,7 @@ pub fn jumps(num: &[i64], den: &[i64], rows: usize, join: Join, k: usize) -> Row
         → r ≡ rowJumps (Step.jumps j (Conditions.conditions s j k) t)) ⌝ }
 {
     let entries = build_conditions::entries(join, k);
-    let mut js = no_fractions();
+    let mut js = arrays::no_fractions();
     let mut i = 0;
     while i < rows {
         let j = jump(num, den, i, join, k, entries);
@@ -138,7 +116,7 @@ pub fn jumps(num: &[i64], den: &[i64], rows: usize, join: Join, k: usize) -> Row
             Counted::TooLarge => {
                 return RowJumps {
                     fit: false,
-                    of: no_fractions(),
+                    of: arrays::no_fractions(),
                 };
             }
         }
@@ -148,7 +126,7 @@ pub fn jumps(num: &[i64], den: &[i64], rows: usize, join: Join, k: usize) -> Row
 }
 
 // The first row below `rows` with a jump other than zero, by the numerators.
-fn first_jump(js: &[i64; build_cells::ROW_CELLS], rows: usize) -> Found
+fn first_jump(js: &[i64; base_fraction::arrays::CAPACITY], rows: usize) -> Found
     requires { ⌜ rows ≤ rowCells ⌝ }
     ensures { λ r. ⌜ ((qs : List ℚ) → now (js .entry) ≡ fractions qs .num → r ≡ found (Search.first rows (Step.jumpsAt qs))) ⌝ }
 {
@@ -166,7 +144,7 @@ fn first_jump(js: &[i64; build_cells::ROW_CELLS], rows: usize) -> Found
 }
 
 // The last row below `rows` with a jump other than zero.
-fn last_jump(js: &[i64; build_cells::ROW_CELLS], rows: usize) -> Found
+fn last_jump(js: &[i64; base_fraction::arrays::CAPACITY], rows: usize) -> Found
     requires { ⌜ rows ≤ rowCells ⌝ }
     ensures { λ r. ⌜ ((qs : List ℚ) → now (js .entry) ≡ fractions qs .num → r ≡ found (Search.last rows (Step.jumpsAt qs))) ⌝ }
     ensures { λ r. ⌜ ((i : ℕ) → r ≡ At i → i < rows) ⌝ }
@@ -185,7 +163,7 @@ fn last_jump(js: &[i64; build_cells::ROW_CELLS], rows: usize) -> Found
 }
 
 // Whether a jump from row f up to row l is zero.
-fn zero_between(js: &[i64; build_cells::ROW_CELLS], f: usize, l: usize) -> bool
+fn zero_between(js: &[i64; base_fraction::arrays::CAPACITY], f: usize, l: usize) -> bool
     requires { ⌜ l ≤ rowCells ⌝ }
     ensures { λ r. ⌜ ((qs : List ℚ) → now (js .entry) ≡ fractions qs .num → r ≡ Step.zeroBetween qs f l) ⌝ }
 {

@@ -12,8 +12,8 @@ use Rattle.base_fraction.specs.declared.Fraction.{Fraction}
 use Rattle.base_outcome.specs.Outcome.{Outcome, answer, refusal}
 use Rattle.spec_spline.specs.Table.{Table, entry, numerators, denominators}
 use Rattle.build_cells.specs.Held.{Kept}
-use Rattle.build_jumps.specs.Machine.{fractions}
-use Rattle.build_jumps.specs.declared.Fractions.{Fractions}
+use Rattle.base_fraction.specs.Fractions.{fractions}
+use Rattle.base_fraction.specs.declared.arrays.Fractions.{Fractions}
 
 -- A machine fraction in lowest terms that fits, from 0 to 1.
 pub record UnitFactor (w : Fraction) : Type 0 where

@@ -10,11 +10,13 @@ ghost use Rattle.base_outcome.specs.Outcome.{with-answer};
 ghost use Rattle.spec_spline.specs.Table.{Table, row, rowCells};
 ghost use Rattle.spec_spline.specs.Step;
 ghost use Rattle.build_cells.specs.Held.{Holds, Shaped, Held};
-ghost use Rattle.build_jumps.specs.Machine.{counted, fractions};
+ghost use Rattle.base_fraction.specs.Fractions.{fractions};
+ghost use Rattle.build_jumps.specs.Machine.{counted};
 ghost use Rattle.build_rows.specs.Rows.{UnitFactor, UnitFactors, LeavesIf};
 use base_fraction::Counted;
 use base_fraction::Fraction;
-use build_jumps::Fractions;
+use base_fraction::arrays;
+use base_fraction::arrays::Fractions;
 
 // w x + u y, with both products and the sum counted. A product with a zero is zero, and the sum with it is the other product, which
 // was counted before.
@@ -114,8 +116,8 @@ pub fn mix_rows(
     let mut i = f;
     while i < l {
         let d = i - f;
-        let w = build_jumps::fraction_at(ws, d);
-        let v = build_jumps::fraction_at(ws, d + 1);
+        let w = arrays::fraction_at(ws, d);
+        let v = arrays::fraction_at(ws, d + 1);
         let u = complement(v);
         let done = mix_row(num, den, i, w, u, columns);
         if !done {

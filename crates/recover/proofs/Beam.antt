@@ -30,7 +30,7 @@ use Rattle.theorems_beams.proofs.Fronts as built
 use Rattle.build_space.specs.Machine.{space}
 use Rattle.build_space.specs.Legal.{ListsLegal}
 use Rattle.build_space.proofs.Legal.{legal-checked, part-column-count-high}
-use Rattle.build_jumps.specs.Machine.{fractions}
+use Rattle.base_fraction.specs.Fractions.{fractions}
 use Rattle.build.specs.Machine.{reply}
 use Rattle.build.specs.declared.Built.{Built}
 use Rattle.build.specs.declared.Built.the-variants.{Rows, Refused}

@@ -20,7 +20,7 @@ use Rattle.spec_spline.proofs.Answers.{jumps-length, span-inverts}
 use Rattle.spec_spline.proofs.Splice.{spliced-length, spliced-before, spliced-inside, spliced-after}
 use Rattle.build_cells.specs.Held.{Kept}
 use Rattle.build_factors.specs.Jumps.{AllFit}
-use Rattle.build_jumps.specs.Machine.{fractions}
+use Rattle.base_fraction.specs.Fractions.{fractions}
 use Rattle.recover_step.proofs.FractionFits.{undone-fits}
 use Rattle.recover_step.proofs.Rows.{more-fit}
 use Rattle.build.proofs.Stepped.{Proper, step-one-less}

@@ -12,7 +12,8 @@ use Rattle.spec_spline.specs.Step.{Span, jumps, span, factors, newRows, mixed, 
 use Rattle.base_outcome.proofs.Outcome.{then-answers, then-refuses, then-inverts, then-assoc}
 use Rattle.build_cells.specs.Held.{Kept}
 use Rattle.build_cells.proofs.Buffer.{kept-numerators, kept-denominators}
-use Rattle.build_jumps.specs.Machine.{fractions, rowJumps}
+use Rattle.base_fraction.specs.Fractions.{fractions}
+use Rattle.build_jumps.specs.Machine.{rowJumps}
 use Rattle.build_jumps.specs.declared.RowJumps.{RowJumps}
 use Rattle.theorems_recovery.specs.Recovery.{Combination, balanced, undone, recoverStep}
 use Rattle.recover.specs.Leaves.{Done, coefficientsOf, Leaves}

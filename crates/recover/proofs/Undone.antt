@@ -17,11 +17,10 @@ use Rattle.spec_spline.specs.Table.{entry}
 use Rattle.spec_spline.specs.Step.{Span, factors}
 use Rattle.spec_spline.proofs.Answers.{factors-inverts}
 use Rattle.spec_spline.proofs.Splice.{spliced-before, spliced-inside, spliced-after}
-use Rattle.build_jumps.specs.Machine.{fractions}
-use Rattle.build_jumps.specs.declared.Fractions.{Fractions}
-use Rattle.build_jumps.proofs.Arrays.{fraction-at}
+use Rattle.base_fraction.specs.Fractions.{fractions}
+use Rattle.base_fraction.specs.declared.arrays.Fractions.{Fractions}
 use Rattle.recover_step.specs.Machine.{NonZero}
-use Rattle.recover_step.proofs.Arrays.{fractions-ext}
+use Rattle.base_fraction.proofs.Fractions.{entries-same, fractions-ext}
 use Rattle.recover_step.proofs.Rows.{renewed, renewed-length, renewed-old, without, without-before, without-from}
 use Rattle.recover.specs.Leaves.{coefficientsOf}
 use Rattle.recover.specs.declared.RowCoefficients.{RowCoefficients}
@@ -35,14 +34,6 @@ coefficients-answer e h = ap (λ (a : Fractions). record { refused = 0; of = a }
 pub coefficients-refusal : {o : Outcome (List ℚ)} {code place : ℕ} {r : RowCoefficients} → o ≡ refusal code place → r ≡ record { refused = code; of = fractions [] } → r ≡ coefficientsOf o
 unfolding coefficientsOf
 coefficients-refusal e h = h ∙ sym (ap coefficientsOf e)
-
--- ---- arrays that are equal hold the same fractions
-
-pub entries-same : (us vs : List ℚ) → fractions us ≡ fractions vs → (d : ℕ) → d < 72 → entry us d ≡ entry vs d
-entries-same us vs e d h =
-    sym (value-fraction (entry us d))
-    ∙ ap value (sym (fraction-at us d h) ∙ ap (λ (x : Fractions). record { num = getD (x .num) d (pos 0); den = getD (x .den) d (pos 0) }) e ∙ fraction-at vs d h)
-    ∙ value-fraction (entry vs d)
 
 -- ---- the factors of a step, but for the last, are not zero
 

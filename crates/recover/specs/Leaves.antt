@@ -11,8 +11,8 @@ use Rattle.spec_spline.specs.Space.{Space, columnCount, rowCount}
 use Rattle.spec_spline.specs.Table.{rowCells, identity, numerators, denominators}
 use Rattle.build_cells.specs.Held.{Holds, Kept}
 use Rattle.build_factors.specs.Jumps.{AllFit, Spanned}
-use Rattle.build_jumps.specs.Machine.{fractions}
-use Rattle.build_jumps.specs.declared.Fractions.{Fractions}
+use Rattle.base_fraction.specs.Fractions.{fractions}
+use Rattle.base_fraction.specs.declared.arrays.Fractions.{Fractions}
 use Rattle.build.specs.Machine.{reply}
 use Rattle.build.specs.declared.Built.{Built}
 use Rattle.theorems_recovery.specs.Recovery.{Combination}

@@ -10,10 +10,10 @@ ghost use Rattle.build_space.specs.Legal.{DegreesLegal};
 ghost use Rattle.build.specs.Machine.{reply};
 ghost use Rattle.theorems_recovery.specs.RecoveryCall.{recoveryEnd};
 ghost use Rattle.recover.specs.Leaves.{ordinatesChecked};
+use base_fraction::arrays::Fractions;
 use base_outcome::Found;
 use base_outcome::Legality;
 use build::Built;
-use build_jumps::Fractions;
 
 mod parts;
 mod step;

@@ -11,15 +11,16 @@ ghost use Rattle.theorems_beams.specs.Sections.{section};
 ghost use Rattle.theorems_beams.specs.Parts.{Starts};
 ghost use Rattle.build_space.specs.Machine.{space};
 ghost use Rattle.build_space.specs.Legal.{ListsLegal};
-ghost use Rattle.build_jumps.specs.Machine.{fractions};
+ghost use Rattle.base_fraction.specs.Fractions.{fractions};
 ghost use Rattle.build_factors.specs.Jumps.{AllFit};
 ghost use Rattle.theorems_recovery.specs.Recovery;
 ghost use Rattle.theorems_recovery.specs.RecoveryCall.{listed, numeratorOf, denominatorOf};
 ghost use Rattle.recover.specs.Leaves.{JoinsLeave, BeamEnds};
 use crate::Joined;
 use crate::step;
+use base_fraction::arrays;
+use base_fraction::arrays::Fractions;
 use build::Built;
-use build_jumps::Fractions;
 
 // The first n coefficients in the cells from `from` on.
 fn write(coef_num: &mut [i64], coef_den: &mut [i64], from: usize, cs: Fractions, n: usize)
@@ -32,7 +33,7 @@ fn write(coef_num: &mut [i64], coef_den: &mut [i64], from: usize, cs: Fractions,
 {
     let mut i = 0;
     while i < n {
-        let q = build_jumps::fraction_at(cs, i);
+        let q = arrays::fraction_at(cs, i);
         let p = q.num;
         let d = q.den;
         let k = from + i;

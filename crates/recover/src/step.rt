@@ -14,16 +14,17 @@ ghost use Rattle.build_space.specs.Machine.{space};
 ghost use Rattle.build_space.specs.Legal.{PartLegal};
 ghost use Rattle.build_cells.specs.Held.{Holds, Shaped, Held};
 ghost use Rattle.build_conditions.specs.Sides.{JoinIs, JoinFits};
-ghost use Rattle.build_jumps.specs.Machine.{fractions};
+ghost use Rattle.base_fraction.specs.Fractions.{fractions};
 ghost use Rattle.build_factors.specs.Jumps.{AllFit};
 ghost use Rattle.recover_step.specs.Machine.{FractionsFit};
 ghost use Rattle.theorems_recovery.specs.Recovery;
 ghost use Rattle.recover.specs.Leaves.{Worked, Done, Jumped, Present, Given, coefficientsOf, Leaves, JoinsLeave, Started};
 use crate::Joined;
 use crate::RowCoefficients;
+use base_fraction::arrays;
+use base_fraction::arrays::Fractions;
 use build_conditions::Join;
 use build_factors::Refusal;
-use build_jumps::Fractions;
 use build_jumps::JumpSpan;
 use recover_step::Balance;
 
@@ -32,7 +33,7 @@ fn refuse(code: u8) -> RowCoefficients
 {
     RowCoefficients {
         refused: code,
-        of: build_jumps::no_fractions(),
+        of: arrays::no_fractions(),
     }
 }
 

@@ -1,4 +1,3 @@
 -- The crate's hand-written modules.
 pub mod FractionFits
-pub mod Arrays
 pub mod Rows

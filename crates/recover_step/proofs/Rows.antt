@@ -20,7 +20,7 @@ use Rattle.spec_spline.specs.Step.{jumpsAt}
 use Rattle.base_outcome.proofs.Outcome.{then-answers, then-refuses}
 use Rattle.spec_spline.proofs.Splice.{spliced-length, spliced-before, spliced-inside, spliced-after}
 use Rattle.build_factors.specs.Jumps.{AllFit}
-use Rattle.build_jumps.proofs.Arrays.{entry-new, entry-kept}
+use Rattle.base_fraction.proofs.Fractions.{entry-new, entry-kept}
 use Rattle.theorems_recovery.specs.Recovery.{fitted, jumpSum, balanced, undoneCoefficient, undoneRow, undoneRows}
 use Rattle.theorems_recovery.proofs.Answers.{sum-refused}
 use Rattle.recover_step.specs.Machine.{balanceOf}

@@ -11,8 +11,8 @@ use Rattle.base_exact.specs.Rational.{ℚ, int}
 use Rattle.base_outcome.specs.Outcome.{Outcome, answer, refusal}
 use Rattle.spec_spline.specs.Table.{entry}
 use Rattle.build_factors.specs.Jumps.{AllFit}
-use Rattle.build_jumps.specs.Machine.{fractions}
-use Rattle.build_jumps.specs.declared.Fractions.{Fractions}
+use Rattle.base_fraction.specs.Fractions.{fractions}
+use Rattle.base_fraction.specs.declared.arrays.Fractions.{Fractions}
 use Rattle.recover_step.specs.declared.Balance.{Balance}
 use Rattle.recover_step.specs.declared.Balance.the-variants as balances
 

@@ -13,13 +13,15 @@ ghost use Rattle.base_fraction.specs.declared.Fraction.{Fraction};
 ghost use Rattle.base_fraction.specs.declared.Counted.the-variants.{Fits};
 ghost use Rattle.base_outcome.specs.Outcome.{answer, _then_, with-answer};
 ghost use Rattle.spec_spline.specs.Table.{rowCells};
-ghost use Rattle.build_jumps.specs.Machine.{counted, fractions, rowJumps};
+ghost use Rattle.base_fraction.specs.Fractions.{fractions};
+ghost use Rattle.build_jumps.specs.Machine.{counted, rowJumps};
 ghost use Rattle.build_rows.specs.Rows.{UnitFactor, UnitFactors};
 ghost use Rattle.theorems_recovery.specs.Recovery;
 ghost use Rattle.recover_step.specs.Machine.{balanceOf, FractionsFit, NonZero};
 use base_fraction::Counted;
 use base_fraction::Fraction;
-use build_jumps::Fractions;
+use base_fraction::arrays;
+use base_fraction::arrays::Fractions;
 use build_jumps::RowJumps;
 
 // The sum of coefficients times jumps.
@@ -55,8 +57,8 @@ pub fn balanced(js: Fractions, cs: Fractions, rows: usize) -> Balance
     let mut sum = Fraction { num: 0, den: 1 };
     let mut i = 0;
     while i < rows {
-        let coefficient = build_jumps::fraction_at(cs, i);
-        let jump = build_jumps::fraction_at(js, i);
+        let coefficient = arrays::fraction_at(cs, i);
+        let jump = arrays::fraction_at(js, i);
         let next = add_term(sum, coefficient, jump);
         match next {
             Counted::Fits(s) => {
@@ -102,12 +104,12 @@ fn undo_row(cs: Fractions, ws: Fractions, f: usize, i: usize) -> Counted
     ensures { λ r. ⌜ ((j : ℕ) (us ps : List ℚ) → ws ≡ fractions us → cs ≡ fractions ps
         → r ≡ counted (Recovery.undoneRow j us ps f (i - f) (drop f ps))) ⌝ }
 {
-    let coefficient = build_jumps::fraction_at(cs, i);
+    let coefficient = arrays::fraction_at(cs, i);
     if i == f {
         return Counted::Fits(coefficient);
     }
-    let w = build_jumps::fraction_at(ws, i - f);
-    let before = build_jumps::fraction_at(cs, i - 1);
+    let w = arrays::fraction_at(ws, i - f);
+    let before = arrays::fraction_at(cs, i - 1);
     undo_coefficient(w, coefficient, before)
 }
 
@@ -131,7 +133,7 @@ pub fn undo_rows(cs: Fractions, ws: Fractions, f: usize, l: usize) -> RowJumps
             Counted::TooLarge => {
                 return RowJumps {
                     fit: false,
-                    of: build_jumps::no_fractions(),
+                    of: arrays::no_fractions(),
                 };
             }
         }
@@ -156,11 +158,11 @@ pub fn drop_coefficient(cs: Fractions, l: usize, rows: usize) -> Fractions
     requires { ⌜ (l < rows) × (rows ≤ rowCells) ⌝ }
     ensures { λ r. ⌜ ((ps : List ℚ) → cs ≡ fractions ps → length ps ≡ rows → r ≡ fractions (take l ps ++ drop (suc l) ps)) ⌝ }
 {
-    let mut left = build_jumps::no_fractions();
+    let mut left = arrays::no_fractions();
     let mut i = 0;
     while i < rows - 1 {
         let from = kept_row(i, l);
-        let q = build_jumps::fraction_at(cs, from);
+        let q = arrays::fraction_at(cs, from);
         let n = q.num;
         let d = q.den;
         left.num[i] = n;
@@ -175,7 +177,7 @@ pub fn coefficients(ordinates: &[i32]) -> Fractions
     requires { ⌜ length (now ordinates) ≤ rowCells ⌝ }
     ensures { λ r. ⌜ r ≡ fractions (map int (now (ordinates .entry))) ⌝ }
 {
-    let mut all = build_jumps::no_fractions();
+    let mut all = arrays::no_fractions();
     let mut i = 0;
     while i < ordinates.len() {
         let n = ordinates[i] as i64;

@@ -22,9 +22,9 @@ use Rattle.spec_spline.specs.Table.{entry}
 use Rattle.base_outcome.proofs.Outcome.{collect-none, collect-more, collect-ends, collect-stays, collect-inverts}
 use Rattle.spec_spline.proofs.Step.{partial-first, partial-more}
 use Rattle.spec_spline.proofs.Answers.{factor-answers}
-use Rattle.build_jumps.specs.Machine.{fractions}
-use Rattle.build_jumps.specs.declared.Fractions.{Fractions}
-use Rattle.build_jumps.proofs.Arrays.{fractions-more, one-fraction}
+use Rattle.base_fraction.specs.Fractions.{fractions}
+use Rattle.base_fraction.specs.declared.arrays.Fractions.{Fractions}
+use Rattle.base_fraction.proofs.Fractions.{fractions-more, one-fraction}
 use Rattle.build_factors.specs.Machine.{nextFactor}
 use Rattle.build_factors.specs.declared.Refusal.{Refusal}
 use Rattle.build_factors.specs.declared.Refusal.the-variants as refusals

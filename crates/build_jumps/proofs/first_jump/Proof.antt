@@ -13,7 +13,7 @@ use Rattle.base_exact.proofs.Word.{ofZ-inj}
 use Rattle.spec_spline.specs.Step.{jumpsAt}
 use Rattle.base_outcome.proofs.Search.{first-at, first-none}
 use Rattle.base_outcome.specs.Machine.{found}
-use Rattle.build_jumps.proofs.Arrays.{zero-read, nonzero-read}
+use Rattle.base_fraction.proofs.Fractions.{zero-read, nonzero-read}
 use Rattle.build_jumps.proofs.first_jump.Statement.{statement}
 use Rattle.build_jumps.proofs.first_jump.Tie as tie
 

@@ -22,10 +22,11 @@ use Rattle.base_outcome.proofs.Outcome.{collect-none, collect-more, collect-end
 use Rattle.build_cells.specs.Held.{Holds}
 use Rattle.build_conditions.specs.Sides.{JoinIs}
 use Rattle.build_conditions.specs.declared.Join.{Join}
-use Rattle.build_jumps.specs.Machine.{fractions, rowJumps}
-use Rattle.build_jumps.specs.declared.Fractions.{Fractions}
+use Rattle.base_fraction.specs.Fractions.{fractions}
+use Rattle.build_jumps.specs.Machine.{rowJumps}
+use Rattle.base_fraction.specs.declared.arrays.Fractions.{Fractions}
 use Rattle.build_jumps.proofs.Counted.{fits-answered, large-refused}
-use Rattle.build_jumps.proofs.Arrays.{fractions-more}
+use Rattle.base_fraction.proofs.Fractions.{fractions-more}
 use Rattle.build_jumps.proofs.jumps.Statement.{statement}
 use Rattle.build_jumps.proofs.jumps.Tie as tie
 

@@ -10,7 +10,8 @@ use Rattle.base_outcome.specs.Search.{first, last}
 use Rattle.spec_spline.specs.Step.{jumpsAt}
 use Rattle.spec_spline.proofs.Step.{span-nowhere, span-endless, span-broken, span-whole}
 use Rattle.base_outcome.proofs.Machine.{found-none-inverts, found-some-inverts}
-use Rattle.build_jumps.specs.Machine.{fractions, jumpSpan}
+use Rattle.base_fraction.specs.Fractions.{fractions}
+use Rattle.build_jumps.specs.Machine.{jumpSpan}
 use Rattle.build_jumps.proofs.span.Statement.{statement}
 use Rattle.build_jumps.proofs.span.Tie as tie
 

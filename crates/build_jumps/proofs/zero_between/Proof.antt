@@ -17,7 +17,7 @@ use Rattle.base_exact.proofs.Word.{ofZ-inj}
 use Rattle.base_outcome.specs.Search.{found}
 use Rattle.spec_spline.specs.Table.{entry}
 use Rattle.base_outcome.proofs.Search.{first-at, first-none}
-use Rattle.build_jumps.proofs.Arrays.{zero-read, nonzero-read}
+use Rattle.base_fraction.proofs.Fractions.{zero-read, nonzero-read}
 use Rattle.build_jumps.proofs.zero_between.Statement.{statement}
 use Rattle.build_jumps.proofs.zero_between.Tie as tie
 

@@ -21,8 +21,8 @@ use Rattle.base_outcome.proofs.Outcome.{collect-inverts, collect-more, collect-
 use Rattle.build_cells.specs.Held.{Holds, Shaped, Kept}
 use Rattle.build_cells.proofs.Tables.{renewed, renewed-none, renewed-length, renewed-old, renewed-more}
 use Rattle.build_cells.proofs.Buffer.{numerators-again, denominators-again, holds-left, kept-numerators, kept-denominators, kept-then}
-use Rattle.build_jumps.specs.Machine.{fractions}
-use Rattle.build_jumps.specs.declared.Fractions.{Fractions}
+use Rattle.base_fraction.specs.Fractions.{fractions}
+use Rattle.base_fraction.specs.declared.arrays.Fractions.{Fractions}
 use Rattle.build_rows.specs.Rows.{LeavesIf}
 use Rattle.build_rows.proofs.Mixing.{newRow-fits, set-fits}
 use Rattle.build_rows.proofs.mix_rows.Statement.{statement}

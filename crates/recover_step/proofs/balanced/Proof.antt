@@ -21,8 +21,9 @@ use Rattle.base_fraction.proofs.Answer.{fits-sized}
 use Rattle.base_fraction.proofs.Bounds.{num-fits}
 use Rattle.base_outcome.specs.Outcome.{answer}
 use Rattle.spec_spline.specs.Table.{entry}
-use Rattle.build_jumps.specs.Machine.{counted, fractions}
-use Rattle.build_jumps.specs.declared.Fractions.{Fractions}
+use Rattle.base_fraction.specs.Fractions.{fractions}
+use Rattle.build_jumps.specs.Machine.{counted}
+use Rattle.base_fraction.specs.declared.arrays.Fractions.{Fractions}
 use Rattle.build_jumps.proofs.Counted.{fits-answered, large-refused}
 use Rattle.theorems_recovery.specs.Recovery.{jumpSum}
 use Rattle.recover_step.proofs.Rows.{sum-none, added, sum-more, sum-stays, balance-large, balance-zero, balance-not}

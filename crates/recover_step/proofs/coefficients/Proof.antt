@@ -15,9 +15,9 @@ use Rattle.base_exact.proofs.Word.{sfits-widen}
 use Rattle.base_exact.specs.Tabulate.{tab}
 use Rattle.base_exact.proofs.Tabulate.{tab-snoc, tab-length, tab-self, map-tab}
 use Rattle.base_fraction.proofs.Value.{fraction-int}
-use Rattle.build_jumps.specs.Machine.{fractions}
-use Rattle.build_jumps.specs.declared.Fractions.{Fractions}
-use Rattle.build_jumps.proofs.Arrays.{fractions-more}
+use Rattle.base_fraction.specs.Fractions.{fractions}
+use Rattle.base_fraction.specs.declared.arrays.Fractions.{Fractions}
+use Rattle.base_fraction.proofs.Fractions.{fractions-more}
 use Rattle.recover_step.proofs.coefficients.Statement.{statement}
 use Rattle.recover_step.proofs.coefficients.Tie as tie
 

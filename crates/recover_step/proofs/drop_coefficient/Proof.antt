@@ -16,9 +16,9 @@ use Rattle.base_exact.specs.Tabulate.{tab}
 use Rattle.base_exact.proofs.Tabulate.{tab-snoc, tab-length, tab-self}
 use Rattle.base_fraction.specs.Machine.{fraction}
 use Rattle.spec_spline.specs.Table.{entry}
-use Rattle.build_jumps.specs.Machine.{fractions}
-use Rattle.build_jumps.specs.declared.Fractions.{Fractions}
-use Rattle.build_jumps.proofs.Arrays.{fractions-more}
+use Rattle.base_fraction.specs.Fractions.{fractions}
+use Rattle.base_fraction.specs.declared.arrays.Fractions.{Fractions}
+use Rattle.base_fraction.proofs.Fractions.{fractions-more}
 use Rattle.recover_step.proofs.Rows.{without, without-length, without-before, without-from}
 use Rattle.recover_step.proofs.drop_coefficient.Statement.{statement}
 use Rattle.recover_step.proofs.drop_coefficient.Tie as tie

@@ -16,14 +16,15 @@ use Rattle.base_fraction.specs.Machine.{value}
 use Rattle.base_fraction.proofs.Size.{int-fits}
 use Rattle.base_outcome.specs.Outcome.{Outcome, answer, with-answer}
 use Rattle.build_factors.specs.Jumps.{AllFit}
-use Rattle.build_jumps.specs.Machine.{counted, fractions, rowJumps}
-use Rattle.build_jumps.specs.declared.Fractions.{Fractions}
+use Rattle.base_fraction.specs.Fractions.{fractions}
+use Rattle.build_jumps.specs.Machine.{counted, rowJumps}
+use Rattle.base_fraction.specs.declared.arrays.Fractions.{Fractions}
 use Rattle.build_jumps.proofs.Counted.{fits-answered, large-refused}
 use Rattle.theorems_recovery.specs.Recovery.{undoneRow, undoneRows}
 use Rattle.theorems_recovery.proofs.Answers.{rows-undone}
 use Rattle.recover_step.specs.Machine.{FractionsFit}
 use Rattle.recover_step.proofs.FractionFits.{undone-fits}
-use Rattle.recover_step.proofs.Arrays.{fractions-store}
+use Rattle.base_fraction.proofs.Fractions.{fractions-store}
 use Rattle.recover_step.proofs.Rows.{renewed, renewed-length, row-same, more-here, more-other, renewed-fit, more-fit, rows-none, rows-more, rows-end, rows-stay}
 use Rattle.recover_step.proofs.undo_rows.Statement.{statement}
 use Rattle.recover_step.proofs.undo_rows.Tie as tie

@@ -8,7 +8,7 @@ use Prim.Native.Nat.{ℕ}
 use native.Mathlib.Omega.{arith}
 use Rattle.base_exact.specs.Rational.{ℚ}
 use Rattle.spec_spline.specs.Step.{factors}
-use Rattle.build_jumps.specs.Machine.{fractions}
+use Rattle.base_fraction.specs.Fractions.{fractions}
 use Rattle.build_jumps.proofs.Answers.{InArrays}
 use Rattle.build_factors.specs.declared.Refusal.the-variants as refusals
 use Rattle.build_factors.proofs.Answers.{factors-in-arrays, factors-ended}

@@ -14,8 +14,8 @@ use Rattle.base_exact.proofs.Tabulate.{tab-ext, tab-more}
 use Rattle.base_fraction.specs.Machine.{fraction}
 use Rattle.base_fraction.specs.declared.Fraction.{Fraction}
 use Rattle.spec_spline.specs.Table.{entry}
-use Rattle.build_jumps.specs.Machine.{fractions}
-use Rattle.build_jumps.specs.declared.Fractions.{Fractions}
+use Rattle.base_fraction.specs.Fractions.{fractions}
+use Rattle.base_fraction.specs.declared.arrays.Fractions.{Fractions}
 use Rattle.theorems_recovery.specs.RecoveryCall.{listed, numeratorOf, denominatorOf}
 use Rattle.recover.proofs.parts.write.Statement.{statement}
 use Rattle.recover.proofs.parts.write.Tie as tie

@@ -20,8 +20,8 @@ use Rattle.build_cells.specs.Held.{Holds, Kept}
 use Rattle.build_cells.proofs.Buffer.{holds-left, kept-then, kept-numerators, kept-denominators, numerators-again, denominators-again}
 use Rattle.build_conditions.specs.Sides.{JoinIs, JoinFits}
 use Rattle.build_factors.specs.Jumps.{AllFit}
-use Rattle.build_jumps.specs.Machine.{fractions}
-use Rattle.build_jumps.specs.declared.Fractions.{Fractions}
+use Rattle.base_fraction.specs.Fractions.{fractions}
+use Rattle.base_fraction.specs.declared.arrays.Fractions.{Fractions}
 use Rattle.build.proofs.Stepped.{identity-shaped}
 use Rattle.spec_spline.proofs.Space.{firstColumn-mono}
 use Rattle.build.proofs.Joins.{join-whole, join-fits, conditions-left}

@@ -17,8 +17,8 @@ use Rattle.build_cells.proofs.Buffer.{holds-left, numerators-again, denominator
 use Rattle.build_conditions.specs.Sides.{JoinIs}
 use Rattle.build_conditions.specs.declared.Join.{Join}
 use Rattle.build_factors.specs.Jumps.{AllFit}
-use Rattle.build_jumps.specs.Machine.{fractions}
-use Rattle.build_jumps.specs.declared.Fractions.{Fractions}
+use Rattle.base_fraction.specs.Fractions.{fractions}
+use Rattle.base_fraction.specs.declared.arrays.Fractions.{Fractions}
 use Rattle.theorems_recovery.specs.Recovery.{Combination, recoverStep, recoverOrders}
 use Rattle.theorems_recovery.proofs.Refusals.{recover-stops}
 use Rattle.recover.specs.Leaves.{Leaves}

@@ -16,7 +16,7 @@ use Rattle.build_cells.specs.Held.{Holds, Shaped}
 use Rattle.build_conditions.specs.Sides.{JoinIs}
 use Rattle.build_factors.specs.declared.Refusal.{Refusal}
 use Rattle.build_factors.specs.declared.Refusal.the-variants as refusals
-use Rattle.build_jumps.specs.Machine.{fractions}
+use Rattle.base_fraction.specs.Fractions.{fractions}
 use Rattle.build.specs.Leaves as build
 use Rattle.build.proofs.Leaving.{leaves-none, leaves-some, Done, Halted}
 use Rattle.build.proofs.Joins.{named-eight, named-nine}

@@ -1,7 +1,7 @@
 -- The number, and no fraction. Assumes nothing.
 use borrow.Author.Needs.{needs}
 use mathlib.Core.Path.{ap}
-use Rattle.build_jumps.specs.declared.Fractions.{Fractions}
+use Rattle.base_fraction.specs.declared.arrays.Fractions.{Fractions}
 use Rattle.recover.proofs.step.refuse.Statement.{statement}
 use Rattle.recover.proofs.step.refuse.Tie as tie
 

@@ -12,8 +12,9 @@ use Rattle.base_exact.specs.Rational.{ℚ}
 use Rattle.base_outcome.specs.Outcome.{Outcome, answer, refusal, _then_, with-answer}
 use Rattle.spec_spline.specs.Step.{factors}
 use Rattle.base_outcome.proofs.Outcome.{then-answers, then-refuses, with-inverts, with-refuses}
-use Rattle.build_jumps.specs.Machine.{fractions, rowJumps}
-use Rattle.build_jumps.specs.declared.Fractions.{Fractions}
+use Rattle.base_fraction.specs.Fractions.{fractions}
+use Rattle.build_jumps.specs.Machine.{rowJumps}
+use Rattle.base_fraction.specs.declared.arrays.Fractions.{Fractions}
 use Rattle.build_jumps.proofs.Answers.{jumps-in-arrays, jumps-refused}
 use Rattle.build_factors.specs.Machine.{rowFactors}
 use Rattle.build_factors.specs.declared.RowFactors.{RowFactors}

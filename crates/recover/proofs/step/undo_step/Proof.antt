@@ -10,7 +10,7 @@ use Rattle.base_outcome.specs.Outcome.{answer, _then_}
 use Rattle.spec_spline.specs.Step.{Span, span, factors}
 use Rattle.base_outcome.proofs.Outcome.{answer-unique, answer-not-refusal}
 use Rattle.spec_spline.proofs.Answers.{span-inverts}
-use Rattle.build_jumps.specs.Machine.{fractions}
+use Rattle.base_fraction.specs.Fractions.{fractions}
 use Rattle.build_jumps.proofs.Answers.{span-rows, span-refused}
 use Rattle.build_factors.proofs.Answers.{spanned}
 use Rattle.theorems_recovery.specs.Recovery.{balanced, undone}

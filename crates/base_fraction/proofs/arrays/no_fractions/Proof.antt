@@ -1,7 +1,7 @@
 -- 0/1 at every index is the array of no fraction.
-use Rattle.build_jumps.proofs.Arrays.{none-num, none-den}
-use Rattle.build_jumps.proofs.no_fractions.Statement.{statement}
-use Rattle.build_jumps.proofs.no_fractions.Tie as tie
+use Rattle.base_fraction.proofs.Fractions.{none-num, none-den}
+use Rattle.base_fraction.proofs.arrays.no_fractions.Statement.{statement}
+use Rattle.base_fraction.proofs.arrays.no_fractions.Tie as tie
 
 returns : tie.Need-returns
 returns c = λ i. record { num = none-num i; den = none-den i }

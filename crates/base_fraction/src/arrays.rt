@@ -1,0 +1,35 @@
+// Fractions in two arrays: one for each row of a table. An array by value costs no lent buffer, and its unused places are 0/1.
+ghost use mathlib.Core.Path.{_≡_};
+ghost use mathlib.Core.List.{List, []};
+ghost use Prim.Native.Nat.{_<_};
+ghost use Rattle.base_exact.specs.Rational.{ℚ};
+ghost use Rattle.base_fraction.specs.Machine.{fraction};
+ghost use Rattle.base_fraction.specs.Fractions.{capacity, fractionAt, fractions};
+use crate::Fraction;
+
+// How many fractions an array holds: `capacity` of specs/Fractions.
+pub const CAPACITY: usize = 72;
+
+pub struct Fractions {
+    pub num: [i64; CAPACITY],
+    pub den: [i64; CAPACITY],
+}
+
+pub fn no_fractions() -> Fractions
+    ensures { λ r. ⌜ r ≡ fractions [] ⌝ }
+{
+    Fractions {
+        num: [0; CAPACITY],
+        den: [1; CAPACITY],
+    }
+}
+
+// The fraction at index i.
+pub fn fraction_at(qs: Fractions, i: usize) -> Fraction
+    requires { ⌜ i < capacity ⌝ }
+    ensures { λ r. ⌜ ((of : List ℚ) → qs ≡ fractions of → r ≡ fraction (fractionAt of i)) ⌝ }
+{
+    let n = qs.num[i];
+    let d = qs.den[i];
+    Fraction { num: n, den: d }
+}
