@@ -12,8 +12,9 @@ use Rattle.base_exact.specs.Rational.{den}
 use Rattle.base_exact.proofs.Tabulate.{tab-ext}
 use Rattle.spec_spline.specs.Table.{Table, row, entry, cell, identity, rowCells, tableCells, numerators, denominators}
 use Rattle.spec_spline.proofs.Table.{cell-past, identity-rows, identity-wide, identity-on, identity-off, identity-low}
-use Rattle.build_cells.specs.Held.{Shaped}
-use Rattle.build_cells.proofs.Added.{units-length, unit-row}
+use Rattle.build_cells.specs.Held.{Holds, Shaped}
+use Rattle.build_cells.proofs.Added.{units-length, unit-row, denominators-kept}
+use Rattle.build_cells.proofs.Buffer.{holds-left}
 use Rattle.build.proofs.Stepped.{Proper, TableFits, append-fits, take-fits, drop-fits, identity-fits}
 
 module _ (t : Table) (rows column n columns : ℕ) (proper : Proper t rows columns) (wide : column + n ≤ columns) (low : rows + n ≤ rowCells) where
@@ -36,6 +37,14 @@ module _ (t : Table) (rows column n columns : ℕ) (proper : Proper t rows colum
     shaped = record { row-count = size; wide = λ i h. row-wide i h (decLt i rows); rows-fit = low; columns-fit = proper .shaped .columns-fit };
     fit = append-fits t units (proper .fit) (take-fits n (drop column (identity columns)) (drop-fits column (identity columns) (identity-fits columns)));
   }
+
+  -- in the buffers, to whose numerators the rows were added
+  module _ {num den num′ : List ℤ} (h : Holds num den t) (added : num′ ≡ numerators (t ++ units) num) where
+    pub grown-denominators : den ≡ denominators (t ++ units) den
+    grown-denominators = h .den-is ∙ sym (denominators-kept t column n columns wide den)
+
+    pub grown-holds : Holds num′ den (t ++ units)
+    grown-holds = holds-left num den (t ++ units) (h .num-long) (h .den-long) added grown-denominators (grown-proper .fit)
 
 -- what is still to come
 pub grown-later : (t : Table) (column n columns : ℕ) → t ++ drop column (identity columns) ≡ (t ++ take n (drop column (identity columns))) ++ drop (column + n) (identity columns)

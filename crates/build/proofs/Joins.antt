@@ -1,35 +1,38 @@
 -- The joins of a legal space: that the machine's sides are those of join j and fit what a step asks, which refusals the
 -- orders at a join can give, and what the joins leave, from an answer or a refusal.
-use mathlib.Core.Path.{_≡_, sym, _∙_, subst}
+use mathlib.Core.Path.{_≡_, sym, _∙_, ap, subst}
 use mathlib.Core.Logic.{_⊎_, inl, inr}
 use mathlib.Core.List.{List, [], _++_}
-use Prim.Native.Nat.{ℕ, suc, _+_, _<_, _≤_}
+use Prim.Native.Nat.{ℕ, suc, _+_, _-_, _<_, _≤_}
 use native.Mathlib.Omega.{arith}
-use lib.IntN.{ℤ}
-use lib.ListN.{length, drop}
-use Rattle.base_outcome.specs.Outcome.{Outcome, answer, refusal, with-answer}
-use Rattle.spec_spline.specs.Space.{Space, conditionCount, conditionsBefore, firstColumn}
+use native.Mathlib.Numerals.{add-one}
+use lib.IntN.{ℤ, pos}
+use lib.ListN.{length, take, drop}
+use Rattle.base_exact.specs.Rational.{int}
+use Rattle.base_outcome.specs.Outcome.{answer, with-answer}
+use Rattle.spec_spline.specs.Space.{Space, segments, segmentLimit, degree, columnCount, conditionCount, conditionsBefore, firstColumn}
 use Rattle.spec_spline.specs.Conditions.{conditions}
-use Rattle.spec_spline.specs.Table.{Table, identity, numerators, denominators}
-use Rattle.spec_spline.specs.Step.{step}
+use Rattle.spec_spline.specs.Table.{Table, row, rowCells, tableCells, identity, numerators, denominators}
+use Rattle.spec_spline.specs.Step.{jump, step}
 use Rattle.spec_spline.specs.Build.{orderSteps}
 use Rattle.base_outcome.proofs.Outcome.{RefusedAs, repeat-refused}
 use Rattle.spec_spline.proofs.Refusals.{EightOrNine, step-refuses}
 use Rattle.build_space.specs.Machine.{space}
 use Rattle.build_space.specs.Legal.{PartLegal}
-use Rattle.build_space.proofs.Bounds.{first-column-next, conditions-before-next}
+use Rattle.build_space.proofs.Bounds.{first-column-zero, first-column-next, conditions-before-next}
 use Rattle.build_space.proofs.Legal.{legal-width-low, legal-width-high, legal-degree-high, legal-conditions-high, legal-conditions-left, legal-conditions-right, legal-columns-within, legal-conditions-before, part-column-count-high}
 use Rattle.build_space.proofs.Partial.{first-column-partial}
-use Rattle.build_cells.specs.Held.{Kept}
+use Rattle.spec_spline.proofs.Space.{firstColumn-mono}
+use Rattle.build_cells.specs.Held.{Holds}
+use Rattle.build_cells.proofs.Buffer.{holds-left}
 use Rattle.build_conditions.specs.Sides.{SideIs, JoinIs, JoinFits}
 use Rattle.build_conditions.specs.declared.Side.{Side}
 use Rattle.build_conditions.specs.declared.Join.{Join}
 use Rattle.build_factors.specs.Machine.{refusalOf}
 use Rattle.build_factors.specs.declared.Refusal.the-variants as refusals
 use Rattle.build_factors.proofs.Answers.{eight-named, nine-named}
-use Rattle.build.specs.Leaves.{JoinsLeave}
-use Rattle.build.specs.declared.Built.{Built}
-use Rattle.build.specs.declared.Built.the-variants.{Rows, Refused}
+use Rattle.build.specs.Leaves.{Start}
+use Rattle.build.proofs.Grown.{first-proper, first-numerators, first-denominators}
 use Rattle.build.proofs.Later.{orders-all, row-idle}
 
 -- ---- a join of a legal part
@@ -46,11 +49,13 @@ pub join-whole : (b d o : List ℤ) {join : Join} {j : ℕ} → JoinIs join (spa
 join-whole b d o h = record { left-is = side-whole b d o (h .left-is); right-is = side-whole b d o (h .right-is) }
 
 module _ (b d o : List ℤ) (part : PartLegal b d o) (j : ℕ) (within : j < length o) where
-  -- the rows of later segments stay as they are
+  -- no condition touches the rows of later segments, so that they stay as they are
+  pub join-idle : (columns k : ℕ) → k < conditionCount (space b d o) j → (i : ℕ) → jump j (conditions (space b d o) j k) (row (drop (firstColumn (space b d o) (suc (suc j))) (identity columns)) i) ≡ answer (int (pos 0))
+  join-idle columns k h i = row-idle (space b d o) j k columns i (omega (arith, legal-conditions-left b d o (part .lists) j within)) (omega (arith, legal-conditions-right b d o (part .lists) j within))
+
   pub join-later : (columns : ℕ) (t : Table) → orderSteps (space b d o) j (conditionCount (space b d o) j) (t ++ drop (firstColumn (space b d o) (suc (suc j))) (identity columns))
       ≡ with-answer (λ u. u ++ drop (firstColumn (space b d o) (suc (suc j))) (identity columns)) (orderSteps (space b d o) j (conditionCount (space b d o) j) t)
-  join-later columns t = orders-all (space b d o) j (conditionCount (space b d o) j) t (drop (firstColumn (space b d o) (suc (suc j))) (identity columns))
-      (λ k h i l. row-idle (space b d o) j k columns i (omega (arith, legal-conditions-left b d o (part .lists) j within)) (omega (arith, legal-conditions-right b d o (part .lists) j within)))
+  join-later columns t = orders-all (space b d o) j (conditionCount (space b d o) j) t (drop (firstColumn (space b d o) (suc (suc j))) (identity columns)) (λ k h i l. join-idle columns k h i)
 
   pub join-fits : {join : Join} → JoinIs join (space b d o) j → (k : ℕ) → k < conditionCount (space b d o) j → JoinFits join k
   join-fits is k h = record {
@@ -74,6 +79,69 @@ module _ (b d o : List ℤ) (part : PartLegal b d o) (j : ℕ) (within : j < len
   pub conditions-left : conditionsBefore (space b d o) j + conditionCount (space b d o) j ≤ firstColumn (space b d o) (suc j)
   conditions-left = omega (arith, conditions-before-next (space b d o) j, legal-conditions-before b d o (part .lists) (suc j) (omega (arith, part .lists .order-count)))
 
+-- what the joins start from: the columns of the space, and the rows of its first segment
+pub record Beginning (s : Space) (columns rows : ℕ) : Type 0 where
+  pub columns-are : columns ≡ columnCount s
+  pub columns-fit : columns ≤ rowCells
+  pub rows-are : rows ≡ firstColumn s 1
+  pub rows-few : rows ≤ columns
+
+pub beginning : (b d o : List ℤ) → PartLegal b d o → (columns p : ℕ) → columns ≡ columnCount (space b d o) → p ≡ degree (space b d o) 0 → Beginning (space b d o) columns (p + 1)
+beginning b d o part columns p columns-are is = record {
+  columns-are = columns-are;
+  columns-fit = omega (arith, columns-are, part-column-count-high b d o part);
+  rows-are = rows-are;
+  rows-few = omega (arith, rows-are, columns-are, firstColumn-mono (space b d o) 1 (length d) (omega (arith, part .lists .order-count)));
+}
+  where
+    rows-are : p + 1 ≡ firstColumn (space b d o) 1
+    rows-are = omega (arith, is, first-column-zero (space b d o), first-column-next (space b d o) 0)
+
+pub begins : {s : Space} {columns rows : ℕ} (num den : List ℤ) {num′ den′ : List ℤ} → Beginning s columns rows → tableCells ≤ length num → tableCells ≤ length den
+    → num′ ≡ numerators (identity rows) num → den′ ≡ denominators (identity rows) den → Start s num′ den′ columns
+begins {columns = columns} {rows = rows} num den {num′ = num′} {den′ = den′} b long long′ p q = record {
+  count = b .columns-are;
+  room = b .columns-fit;
+  holds = subst (λ (k : ℕ). Holds num′ den′ (take k (identity columns))) (b .rows-are) (holds-left num den (take rows (identity columns)) long long′
+      (p ∙ first-numerators rows columns num (b .rows-few)) (q ∙ first-denominators rows columns den (b .rows-few)) (first-proper rows columns (b .rows-few) (b .columns-fit) .fit));
+}
+
+-- what a turn at join j asks and counts, where the rows so far are those of the segments up to it
+pub record AtJoin (s : Space) (columns rows n : ℕ) (join : Join) (j : ℕ) : Type 0 where
+  pub is : JoinIs join s j
+  pub fitting : (k : ℕ) → k < n → JoinFits join k
+  pub enough : n ≤ rows
+  pub low : rows + (join .right .degree + 1) ≤ rowCells
+  pub wide : join .right .column + (join .right .degree + 1) ≤ columns
+  pub next : rows + (join .right .degree + 1) - n + conditionsBefore s (j + 1) ≡ firstColumn s (suc (j + 1))
+  pub before-last : j < segments s - 1
+  pub small : j < segmentLimit
+
+pub at-join : (b d o : List ℤ) → PartLegal b d o → (j : ℕ) → j < length o → (columns rows n : ℕ) (join : Join) → JoinIs join (space b d []) j → n ≡ conditionCount (space b d o) j
+    → columns ≡ columnCount (space b d o) → columns ≤ rowCells → rows + conditionsBefore (space b d o) j ≡ firstColumn (space b d o) (suc j) → AtJoin (space b d o) columns rows n join j
+at-join b d o part j within columns rows n join part-is count columns-are columns-fit rows-are = record {
+  is = is;
+  fitting = λ k h. join-fits b d o part j within is k (subst (λ m. k < m) count h);
+  enough = enough;
+  low = omega (arith, last-column, is .right-is .degree-is, first-column-next s (suc j), rows-are, columns-fit);
+  wide = omega (arith, last-column, is .right-is .column-is, is .right-is .degree-is, first-column-next s (suc j));
+  next = omega (arith, enough, rows-are, conditions-before-next s j, count, is .right-is .degree-is, first-column-next s (suc j), ap (conditionsBefore s) (add-one j), ap (λ k. firstColumn s (suc k)) (add-one j));
+  before-last = omega (arith, part .lists .order-count);
+  small = omega (arith, part .lists .order-count, part .few);
+}
+  where
+    s : Space
+    s = space b d o
+
+    is : JoinIs join s j
+    is = join-whole b d o part-is
+
+    last-column : firstColumn s (suc (suc j)) ≤ columns
+    last-column = omega (arith, firstColumn-mono s (suc (suc j)) (length d) (omega (arith, part .lists .order-count)), columns-are)
+
+    enough : n ≤ rows
+    enough = omega (arith, conditions-left b d o part j within, rows-are, count)
+
 -- ---- the refusals of the orders at a join
 
 pub orders-refuse : (s : Space) (j n : ℕ) (t : Table) → RefusedAs (EightOrNine j) (orderSteps s j n t)
@@ -88,12 +156,3 @@ named-eight (inr e) h = absurd (let n = nine-named e in let z : _≡_ {A = ℕ} 
 pub named-nine : {code : ℕ} → (code ≡ 8) ⊎ (code ≡ 9) → refusalOf code ≡ refusals.Shape → code ≡ 9
 named-nine (inl e) h = absurd (let n = eight-named e in let z : _≡_ {A = ℕ} 0 1 = cc in omega arith)
 named-nine (inr e) h = e
-
--- ---- what the joins leave
-
-module _ (n : ℕ) (num den num′ den′ : List ℤ) where
-  pub joins-answer : {o : Outcome Table} {t : Table} {r : Built} → o ≡ answer t → r ≡ Rows n → num′ ≡ numerators t num → den′ ≡ denominators t den → JoinsLeave o n r num den num′ den′
-  joins-answer {r = r} e h p q = subst (λ (o : Outcome Table). JoinsLeave o n r num den num′ den′) (sym e) (h, p, q)
-
-  pub joins-refusal : {o : Outcome Table} {code place : ℕ} {r : Built} → o ≡ refusal code place → r ≡ Refused code place → Kept num num′ → Kept den den′ → JoinsLeave o n r num den num′ den′
-  joins-refusal {r = r} e h p q = subst (λ (o : Outcome Table). JoinsLeave o n r num den num′ den′) (sym e) (h, p, q)

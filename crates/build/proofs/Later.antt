@@ -24,14 +24,16 @@ use Rattle.base_outcome.specs.Search.{first, last, found}
 use Rattle.spec_spline.specs.Space.{Space, degree, firstColumn}
 use Rattle.spec_spline.specs.Conditions.{Entry, conditions}
 use Rattle.spec_spline.specs.Table.{Row, Table, entry, row, identity}
-use Rattle.spec_spline.specs.Step.{Span, count, addProducts, jump, jumps, jumpsAt, zeroBetween, spanOf, span, partialSum, factor, quotientFactor, factors, newRow, newRows, mixed, step}
-use Rattle.base_outcome.proofs.Outcome.{then-answers, then-refuses, collect-answers, collect-stops, Collected, collect-inverts, Stopped, collect-refuses}
+use Rattle.spec_spline.specs.Step.{Span, count, addProducts, jump, jumps, jumpsAt, zeroBetween, spanOf, span, partialSum, factor, quotientFactor, factors, newRow, newRows, step}
+use Rattle.base_outcome.proofs.Outcome.{then-answers, then-refuses, collect-answers, collect-stops, Collected, collect-inverts, Stopped, collect-refuses, repeat-keeps}
 use Rattle.base_outcome.proofs.Search.{First, Searched, search-first, first-none, first-at, first-ext, Last, SearchedBack, search-last, last-none, last-at}
 use Rattle.spec_spline.proofs.Step.{count-fits, products-none, products-more}
 use Rattle.spec_spline.specs.Build.{orderSteps}
 use Rattle.spec_spline.proofs.Table.{entry-past, identity-off}
-use Rattle.spec_spline.proofs.Answers.{jumps-length, span-inverts}
+use Rattle.spec_spline.proofs.Answers.{jumps-length}
 use Rattle.build_space.proofs.Bounds.{first-column-next}
+use Rattle.build.specs.Plan.{Planned, planned, renewed}
+use Rattle.build.proofs.Plan.{step-planned, Works, plan-works}
 use Rattle.build_conditions.specs.Terms.{columnOf}
 use Rattle.build_conditions.proofs.Terms.{conditions-length, column-left, column-right}
 
@@ -51,6 +53,26 @@ drop-within : {A : Type 0} (n : ℕ) (xs ys : List A) → n ≤ length xs → dr
 drop-within zero xs ys h = refl
 drop-within (suc n) [] ys h = absurd (omega arith)
 drop-within (suc n) (x ∷ xs) ys h = drop-within n xs ys (omega arith)
+
+-- elements made new among those at the front
+pub spliced-within : {A : Type 0} (f l : ℕ) (xs ys rs : List A) → f ≤ l → l < length xs → take f (xs ++ ys) ++ (rs ++ drop (suc l) (xs ++ ys)) ≡ (take f xs ++ (rs ++ drop (suc l) xs)) ++ ys
+spliced-within f l xs ys rs a h =
+    ap₂ (λ us vs. us ++ (rs ++ vs)) (take-within f xs ys (omega arith)) (drop-within (suc l) xs ys h)
+    ∙ ap (λ vs. take f xs ++ vs) (sym (append-assoc rs (drop (suc l) xs) ys))
+    ∙ sym (append-assoc (take f xs) (rs ++ drop (suc l) xs) ys)
+
+-- ---- turns that pass through a change of the state
+pub repeat-through : {A : Type 0} (P : ℕ → A → Type 0) (n : ℕ) (f : ℕ → A → Outcome A) (h : A → A) (a : A) → P 0 a → ((k : ℕ) (b c : A) → k < n → P k b → f k b ≡ answer c → P (suc k) c)
+    → ((k : ℕ) (b : A) → k < n → P k b → f k (h b) ≡ with-answer h (f k b)) → repeat n f (h a) ≡ with-answer h (repeat n f a)
+unfolding repeat
+repeat-through P zero f h a p keeps through = refl
+repeat-through {A} P (suc n) f h a p keeps through =
+    ap (λ (o : Outcome A). o then f n) (repeat-through P n f h a p (λ k b c l. keeps k b c (omega arith)) (λ k b l. through k b (omega arith)))
+    ∙ go (repeat n f a) refl
+  where
+    go : (o : Outcome A) → repeat n f a ≡ o → (with-answer h o then f n) ≡ with-answer h (o then f n)
+    go (answer b) e = through n b (omega arith) (repeat-keeps P n f a p (λ k b c l. keeps k b c (omega arith)) b e)
+    go (refusal code place) e = refl
 
 -- ---- searches past the last place that can meet the test
 module _ (test other : ℕ → Bool) (same : (k : ℕ) → other k ≡ test k) (n m : ℕ) (within : n ≤ m) (none-after : (k : ℕ) → n ≤ k → test k ≡ false) where
@@ -125,7 +147,7 @@ module _ (j : ℕ) (κ : List Entry) (t later : Table) (idle : (i : ℕ) → i <
       ∙ ap answer (sym (entry-past js i (omega (arith, jumps-length j κ t e))))
   jump-at {js} e i h (inr a) = ap (jump j κ) (row-before i a) ∙ collect-inverts (length t) (λ i. jump j κ (row t i)) e .at i a (int (pos 0))
 
-  abbrev longer : List ℚ → List ℚ
+  abbrev pub longer : List ℚ → List ℚ
   longer js = tab (length all) (entry js)
 
   jumps-all : {js : List ℚ} → jumps j κ t ≡ answer js → jumps j κ all ≡ answer (longer js)
@@ -139,7 +161,7 @@ module _ (j : ℕ) (κ : List Entry) (t later : Table) (idle : (i : ℕ) → i <
       (λ k h. ap (jump j κ) (row-before k (omega (arith, s .below))) ∙ c .at k h (int (pos 0)))
       (ap (jump j κ) (row-before (s .index) (s .below)) ∙ s .refuses)
 
-  same-entries : (js : List ℚ) → length js ≡ length t → (i : ℕ) → entry (longer js) i ≡ entry js i
+  pub same-entries : (js : List ℚ) → length js ≡ length t → (i : ℕ) → entry (longer js) i ≡ entry js i
   same-entries js n i = go (le-or-lt (length all) i)
     where
       go : (length all ≤ i) ⊎ (i < length all) → entry (longer js) i ≡ entry js i
@@ -151,42 +173,59 @@ module _ (j : ℕ) (κ : List Entry) (t later : Table) (idle : (i : ℕ) → i <
   unfolding newRows
   new-rows g ws h = collect-ext (g .l - g .f) (λ d k. ap₂ (newRow j (entry ws d) (entry ws (suc d))) (row-before (g .f + d) (omega arith)) (row-before (g .f + suc d) (omega arith)))
 
-  spliced : (f l : ℕ) (rs : Table) → f ≤ l → l < length t → take f all ++ (rs ++ drop (suc l) all) ≡ (take f t ++ (rs ++ drop (suc l) t)) ++ later
-  spliced f l rs a h =
-      ap₂ (λ xs ys. xs ++ (rs ++ ys)) (take-within f t later (omega arith)) (drop-within (suc l) t later h)
-      ∙ ap (λ ys. take f t ++ ys) (sym (append-assoc rs (drop (suc l) t) later))
-      ∙ sym (append-assoc (take f t) (rs ++ drop (suc l) t) later)
-
-  mixed-all : (js : List ℚ) (g : Span) → length js ≡ length t → g .f ≤ g .l → g .l < length t → mixed j all (longer js) g ≡ with-answer (λ u. u ++ later) (mixed j t js g)
-  mixed-all js g n order below =
-      ap (λ (o : Outcome (List ℚ)). o then λ ws. newRows j g ws all then λ rs. answer (take (g .f) all ++ (rs ++ drop (suc (g .l)) all))) (factors-longer j js (longer js) (omega (arith, tab-length (length all) (entry js), size)) (same-entries js n) g)
-      ∙ with-factors (factors j js g)
+  pub renewed-all : (g : Span) (ws : List ℚ) → g .f ≤ g .l → g .l < length t → renewed j g ws all ≡ with-answer (λ u. u ++ later) (renewed j g ws t)
+  unfolding renewed
+  renewed-all g ws order below = ap (λ (o : Outcome Table). o then λ rs. answer (take (g .f) all ++ (rs ++ drop (suc (g .l)) all))) (new-rows g ws below) ∙ with-rows (newRows j g ws t)
     where
       with-rows : (o : Outcome Table) → (o then λ rs. answer (take (g .f) all ++ (rs ++ drop (suc (g .l)) all))) ≡ with-answer (λ u. u ++ later) (o then λ rs. answer (take (g .f) t ++ (rs ++ drop (suc (g .l)) t)))
-      with-rows (answer rs) = ap answer (spliced (g .f) (g .l) rs order below)
+      with-rows (answer rs) = ap answer (spliced-within (g .f) (g .l) t later rs order below)
       with-rows (refusal code place) = refl
 
-      with-factors : (o : Outcome (List ℚ)) → (o then λ ws. newRows j g ws all then λ rs. answer (take (g .f) all ++ (rs ++ drop (suc (g .l)) all))) ≡ with-answer (λ u. u ++ later) (o then λ ws. newRows j g ws t then λ rs. answer (take (g .f) t ++ (rs ++ drop (suc (g .l)) t)))
-      with-factors (answer ws) = ap (λ (o : Outcome Table). o then λ rs. answer (take (g .f) all ++ (rs ++ drop (suc (g .l)) all))) (new-rows g ws below) ∙ with-rows (newRows j g ws t)
-      with-factors (refusal code place) = refl
+  -- the first half of the step, with zeros as their jumps
+  abbrev pub with-zeros : Planned → Planned
+  with-zeros p = record { jumps = longer (p .jumps); span = p .span; factors = p .factors }
 
-  pub step-all : step j κ all ≡ with-answer (λ u. u ++ later) (step j κ t)
-  unfolding step
-  step-all = go (jumps j κ t) refl
+  pub planned-all : planned j κ all ≡ with-answer with-zeros (planned j κ t)
+  unfolding planned
+  planned-all = go (jumps j κ t) refl
     where
-      go : (o : Outcome (List ℚ)) → jumps j κ t ≡ o → (jumps j κ all then λ js. span j js then λ g. mixed j all js g) ≡ with-answer (λ u. u ++ later) (o then λ js. span j js then λ g. mixed j t js g)
-      go (refusal code place) e = then-refuses (λ js. span j js then λ g. mixed j all js g) (jumps-refused e)
+      rest : List ℚ → Span → Outcome Planned
+      rest js g = factors j js g then λ ws. answer (record { jumps = js; span = g; factors = ws })
+
+      go : (o : Outcome (List ℚ)) → jumps j κ t ≡ o → (jumps j κ all then λ js. span j js then rest js) ≡ with-answer with-zeros (o then λ js. span j js then rest js)
+      go (refusal code place) e = then-refuses (λ js. span j js then rest js) (jumps-refused e)
       go (answer js) e =
-          then-answers (λ js. span j js then λ g. mixed j all js g) (jumps-all e)
-          ∙ ap (λ (o : Outcome Span). o then λ g. mixed j all (longer js) g) (span-longer j js (longer js) (omega (arith, tab-length (length all) (entry js), size, n)) (same-entries js n))
-          ∙ spanned (span j js) refl
+          then-answers (λ js. span j js then rest js) (jumps-all e)
+          ∙ ap (λ (o : Outcome Span). o then rest (longer js)) (span-longer j js (longer js) (omega (arith, tab-length (length all) (entry js), size, n)) (same-entries js n))
+          ∙ spanned (span j js)
         where
           n : length js ≡ length t
           n = jumps-length j κ t e
 
-          spanned : (o : Outcome Span) → span j js ≡ o → (o then λ g. mixed j all (longer js) g) ≡ with-answer (λ u. u ++ later) (o then λ g. mixed j t js g)
-          spanned (refusal code place) z = refl
-          spanned (answer g) z = let s = span-inverts j js z in mixed-all js g n (s .ordered) (omega (arith, s .below, n))
+          factored : (g : Span) (o : Outcome (List ℚ)) → (o then λ ws. answer (record { jumps = longer js; span = g; factors = ws })) ≡ with-answer with-zeros (o then λ ws. answer (record { jumps = js; span = g; factors = ws }))
+          factored g (answer ws) = refl
+          factored g (refusal code place) = refl
+
+          spanned : (o : Outcome Span) → (o then rest (longer js)) ≡ with-answer with-zeros (o then rest js)
+          spanned (refusal code place) = refl
+          spanned (answer g) =
+              ap (λ (o : Outcome (List ℚ)). o then λ ws. answer (record { jumps = longer js; span = g; factors = ws })) (factors-longer j js (longer js) (omega (arith, tab-length (length all) (entry js), size, n)) (same-entries js n) g)
+              ∙ factored g (factors j js g)
+
+  -- what follows the first half
+  pub then-all : {B C : Type 0} (rest : Planned → Outcome C) (rest′ : Planned → Outcome B) (h : B → C) → ((p : Planned) → Works j κ t p → rest (with-zeros p) ≡ with-answer h (rest′ p))
+      → (planned j κ all then rest) ≡ with-answer h (planned j κ t then rest′)
+  then-all {B} {C} rest rest′ h same = ap (λ (o : Outcome Planned). o then rest) planned-all ∙ go (planned j κ t) refl
+    where
+      go : (o : Outcome Planned) → planned j κ t ≡ o → (with-answer with-zeros o then rest) ≡ with-answer h (o then rest′)
+      go (answer p) e = same p (plan-works j κ t e)
+      go (refusal code place) e = refl
+
+  pub step-all : step j κ all ≡ with-answer (λ u. u ++ later) (step j κ t)
+  step-all =
+      step-planned j κ all
+      ∙ then-all (λ p. renewed j (p .span) (p .factors) all) (λ p. renewed j (p .span) (p .factors) t) (λ u. u ++ later) (λ p w. renewed-all (p .span) (p .factors) (w .spans .ordered) (omega (arith, w .spans .below, w .count)))
+      ∙ ap (with-answer (λ u. u ++ later)) (sym (step-planned j κ t))
 
 -- ---- a row whose entries under the conditions are zero
 pub jump-idle : (j : ℕ) (κ : List Entry) (r : Row) → ((i : ℕ) → i < length κ → entry r (columnOf κ i) ≡ int (pos 0)) → jump j κ r ≡ answer (int (pos 0))
@@ -205,13 +244,8 @@ jump-idle j (e ∷ es) r h = products-more j r (int (pos 0)) e es nothing ∙ ju
 -- ---- all orders of a join
 pub orders-all : (s : Space) (j n : ℕ) (t later : Table) → ((k : ℕ) → k < n → (i : ℕ) → i < length later → jump j (conditions s j k) (row later i) ≡ answer (int (pos 0)))
     → orderSteps s j n (t ++ later) ≡ with-answer (λ u. u ++ later) (orderSteps s j n t)
-unfolding orderSteps repeat
-orders-all s j zero t later h = refl
-orders-all s j (suc n) t later h = ap (λ (o : Outcome Table). o then step j (conditions s j n)) (orders-all s j n t later (λ k l. h k (omega arith))) ∙ go (repeat n (λ k. step j (conditions s j k)) t)
-  where
-    go : (o : Outcome Table) → (with-answer (λ u. u ++ later) o then step j (conditions s j n)) ≡ with-answer (λ u. u ++ later) (o then step j (conditions s j n))
-    go (answer u) = step-all j (conditions s j n) u later (h n (omega arith))
-    go (refusal code place) = refl
+unfolding orderSteps
+orders-all s j n t later h = repeat-through (λ k u. Unit {0}) n (λ k. step j (conditions s j k)) (λ u. u ++ later) t tt (λ k u v l p e. tt) (λ k u l p. step-all j (conditions s j k) u later (h k l))
 
 -- ---- the rows of the identity past both segments of a join
 

@@ -1,3 +1,4 @@
 -- What the contracts of build cite beside the definitions of crate spec_spline.
 pub mod Machine
+pub mod Plan
 pub mod Leaves

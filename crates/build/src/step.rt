@@ -16,51 +16,98 @@ ghost use Rattle.build_space.specs.Legal.{ListsLegal, PartLegal};
 ghost use Rattle.build_cells.specs.Held.{Holds, Shaped, Held, ClearFrom};
 ghost use Rattle.build_conditions.specs.Sides.{SideIs, JoinIs, JoinFits};
 ghost use Rattle.base_fraction.specs.Fractions.{fractions};
-ghost use Rattle.build_factors.specs.Jumps.{Spanned};
+ghost use Rattle.build_rows.specs.Rows.{UnitFactors, LeavesIf};
 ghost use Rattle.build.specs.Machine.{reply};
+ghost use Rattle.build.specs.Plan.{planned, renewed, Plans};
 ghost use Rattle.build.specs.Leaves.{Leaves, JoinsLeave, Start, grown};
 use crate::Built;
+use base_fraction::arrays;
 use base_fraction::arrays::Fractions;
 use build_conditions::Join;
 use build_conditions::Side;
 use build_factors::Refusal;
 use build_jumps::JumpSpan;
 
-// The rest of a step whose jumps span the rows f to l: the factors, the new rows and one row less.
-fn mix(
-    num: &mut [i64],
-    den: &mut [i64],
-    js: Fractions,
-    f: usize,
-    l: usize,
-    rows: usize,
-    columns: usize,
-) -> Refusal
-    requires { ⌜ Spanned js f l × ((l < rows) × Held (now num) (now den) rows columns) ⌝ }
-    ensures { λ r. ⌜ ((t : Table) (j : ℕ) (qs : List ℚ) → Holds (now (num .entry)) (now (den .entry)) t → Shaped t rows columns
-        → js ≡ fractions qs
-        → Leaves (Step.mixed j t qs (record { f = f; l = l })) r (now (num .entry)) (now (den .entry)) (now (num .exit))
-        (now (den .exit))) ⌝ }
+// What a step works out before it makes rows new: its jumps, the rows f to l that they span and the factors of these rows, from
+// index 0 on. After a refusal only the refusal counts.
+pub struct Plan {
+    pub refusal: Refusal,
+    pub jumps: Fractions,
+    pub f: usize,
+    pub l: usize,
+    pub factors: Fractions,
+}
+
+fn no_plan(refusal: Refusal) -> Plan
+    ensures { λ r. ⌜ r .refusal ≡ refusal ⌝ }
 {
-    let ws = build_factors::factors(js, f, l);
-    let refusal = ws.refusal;
-    match refusal {
-        Refusal::TooLarge => Refusal::TooLarge,
-        Refusal::Shape => Refusal::Shape,
-        Refusal::None => {
-            let of = ws.of;
-            let done = build_rows::mix_rows(num, den, of, f, l, rows, columns);
-            if !done {
-                return Refusal::TooLarge;
+    Plan {
+        refusal: refusal,
+        jumps: arrays::no_fractions(),
+        f: 0,
+        l: 0,
+        factors: arrays::no_fractions(),
+    }
+}
+
+// The first half of a step.
+pub fn plan_step(num: &[i64], den: &[i64], join: Join, k: usize, rows: usize) -> Plan
+    requires { ⌜ (rows ≤ rowCells) × JoinFits join k ⌝ }
+    requires { ⌜ ((t : Table) × (Holds (now num) (now den) t × (length t ≡ rows))) ⌝ }
+    ensures { λ r. ⌜ ((s : Space) (j : ℕ) (t : Table) → JoinIs join s j → Holds (now (num .entry)) (now (den .entry)) t → length t ≡ rows
+        → Plans (planned j (Conditions.conditions s j k) t) r) ⌝ }
+{
+    let js = build_jumps::jumps(num, den, rows, join, k);
+    if !js.fit {
+        return no_plan(Refusal::TooLarge);
+    }
+    let jumps = js.of;
+    let span = build_jumps::span(jumps, rows);
+    match span {
+        JumpSpan::Nothing => no_plan(Refusal::Shape),
+        JumpSpan::Rows(f, l) => {
+            let ws = build_factors::factors(jumps, f, l);
+            let refusal = ws.refusal;
+            let factors = ws.of;
+            Plan {
+                refusal: refusal,
+                jumps: jumps,
+                f: f,
+                l: l,
+                factors: factors,
             }
-            build_cells::drop_row(num, den, l, rows);
-            Refusal::None
         }
     }
 }
 
+// The second half of a step with these factors of the rows f to l: the new rows and one row less; false where a counted fraction is
+// too large.
+pub fn renew_rows(
+    num: &mut [i64],
+    den: &mut [i64],
+    factors: Fractions,
+    f: usize,
+    l: usize,
+    rows: usize,
+    columns: usize,
+) -> bool
+    requires { ⌜ (f ≤ l) × ((l < rows) × Held (now num) (now den) rows columns) ⌝ }
+    requires { ⌜ UnitFactors factors ⌝ }
+    ensures { λ r. ⌜ ((t : Table) (j : ℕ) (ws : List ℚ) → Holds (now (num .entry)) (now (den .entry)) t → Shaped t rows columns
+        → factors ≡ fractions ws
+        → LeavesIf (renewed j (record { f = f; l = l }) ws t) r (now (num .entry)) (now (den .entry)) (now (num .exit))
+        (now (den .exit))) ⌝ }
+{
+    let done = build_rows::mix_rows(num, den, factors, f, l, rows, columns);
+    if !done {
+        return false;
+    }
+    build_cells::drop_row(num, den, l, rows);
+    true
+}
+
 // One step: the new rows and one row less, or why it is refused.
-pub fn step(
+fn step(
     num: &mut [i64],
     den: &mut [i64],
     join: Join,
@@ -74,15 +121,21 @@ pub fn step(
         → Leaves (Step.step j (Conditions.conditions s j k) t) r (now (num .entry)) (now (den .entry)) (now (num .exit))
         (now (den .exit))) ⌝ }
 {
-    let js = build_jumps::jumps(num, den, rows, join, k);
-    if !js.fit {
-        return Refusal::TooLarge;
-    }
-    let of = js.of;
-    let span = build_jumps::span(of, rows);
-    match span {
-        JumpSpan::Nothing => Refusal::Shape,
-        JumpSpan::Rows(f, l) => mix(num, den, of, f, l, rows, columns),
+    let worked = plan_step(num, den, join, k, rows);
+    let refusal = worked.refusal;
+    match refusal {
+        Refusal::TooLarge => Refusal::TooLarge,
+        Refusal::Shape => Refusal::Shape,
+        Refusal::None => {
+            let factors = worked.factors;
+            let f = worked.f;
+            let l = worked.l;
+            let done = renew_rows(num, den, factors, f, l, rows, columns);
+            if !done {
+                return Refusal::TooLarge;
+            }
+            Refusal::None
+        }
     }
 }
 
@@ -131,7 +184,7 @@ fn join_step(
     requires { ⌜ (rows + (join .right .degree + 1) ≤ rowCells) × (join .right .column + (join .right .degree + 1) ≤ columns) ⌝ }
     ensures { λ r. ⌜ ((s : Space) (j : ℕ) (t : Table) → JoinIs join s j → Holds (now (num .entry)) (now (den .entry)) t
         → Shaped t rows columns
-        → Leaves (Build.orderSteps s j n (grown join columns t)) r (now (num .entry)) (now (den .entry)) (now (num .exit))
+        → Leaves (Build.orderSteps s j n (grown s j columns t)) r (now (num .entry)) (now (den .entry)) (now (num .exit))
         (now (den .exit))) ⌝ }
 {
     let right = join.right;

@@ -1,2 +1,3 @@
 -- What the contracts of build_rows cite beside the definitions of crate spec_spline.
+pub mod Left
 pub mod Rows

@@ -10,8 +10,8 @@ use Rattle.base_fraction.specs.Size.{fits}
 use Rattle.base_fraction.specs.Machine.{fraction}
 use Rattle.base_fraction.specs.declared.Fraction.{Fraction}
 use Rattle.base_outcome.specs.Outcome.{Outcome, answer, refusal}
-use Rattle.spec_spline.specs.Table.{Table, entry, numerators, denominators}
-use Rattle.build_cells.specs.Held.{Kept}
+use Rattle.spec_spline.specs.Table.{Table, entry}
+use Rattle.build_rows.specs.Left.{Left}
 use Rattle.base_fraction.specs.Fractions.{fractions}
 use Rattle.base_fraction.specs.declared.arrays.Fractions.{Fractions}
 
@@ -31,8 +31,11 @@ pub record UnitFactors (ws : Fractions) : Type 0 where
   pub low : (i : ℕ) → leᵠ (int (pos 0)) (entry of i) ≡ true
   pub high : (i : ℕ) → leᵠ (entry of i) (int (pos 1)) ≡ true
 
--- A computation in place that only code 8 can refuse, where b tells whether it was done: the table it answers is in the
--- buffers, or it is refused and they hold whatever they hold.
+-- Whether it was done.
+abbrev pub toldDone : Outcome Table → Bool
+toldDone (answer t) = true
+toldDone (refusal code place) = false
+
+-- A computation in place that only code 8 can refuse, where b tells whether it was done.
 abbrev pub LeavesIf : Outcome Table → Bool → List ℤ → List ℤ → List ℤ → List ℤ → Type 0
-LeavesIf (answer t) b num den num′ den′ = (b ≡ true) × (num′ ≡ numerators t num) × (den′ ≡ denominators t den)
-LeavesIf (refusal code place) b num den num′ den′ = (b ≡ false) × Kept num num′ × Kept den den′
+LeavesIf o b num den num′ den′ = Left (λ t. t) toldDone o b num den num′ den′

@@ -14,7 +14,6 @@ use Rattle.base_outcome.specs.Outcome.{Outcome, answer, refusal, capped, with-a
 use Rattle.spec_spline.specs.Space.{Space, checked, partEnd, firstColumn, columnCount, conditionsBefore, rowCount}
 use Rattle.spec_spline.specs.Table.{Table, entry, tableCells, numerators, denominators}
 use Rattle.spec_spline.specs.Build.{weights, lastPart}
-use Rattle.base_outcome.proofs.Outcome.{RefusedAs}
 use Rattle.spec_spline.proofs.Parts.{Boundary, first-starts, part-ends}
 use Rattle.spec_spline.proofs.Legal.{Checked, checked-inverts, lengths-fit-inverts}
 use Rattle.spec_spline.proofs.Space.{firstColumn-mono}
@@ -30,7 +29,6 @@ use Rattle.theorems_beams.proofs.Fronts as built
 use Rattle.build_space.specs.Machine.{space}
 use Rattle.build_space.specs.Legal.{ListsLegal}
 use Rattle.build_space.proofs.Legal.{legal-checked, part-column-count-high}
-use Rattle.base_fraction.specs.Fractions.{fractions}
 use Rattle.build.specs.Machine.{reply}
 use Rattle.build.specs.declared.Built.{Built}
 use Rattle.build.specs.declared.Built.the-variants.{Rows, Refused}
@@ -40,7 +38,8 @@ use Rattle.theorems_recovery.specs.RecoveryCall.{clearsAll, weightsAfter, liste
 use Rattle.theorems_recovery.proofs.Reproduction.{answers-have-the-weights}
 use Rattle.theorems_recovery.proofs.Refusals.{recovered-clears}
 use Rattle.theorems_recovery.proofs.Fronts.{no-front, front-answers, front-refuses, refused-front}
-use Rattle.recover.specs.Leaves.{JoinsLeave, BeamEnds}
+use Rattle.build_rows.proofs.Left.{Done, left-done, Halted, left-halted}
+use Rattle.recover.specs.Leaves.{toldJoins, JoinsLeave, BeamEnds}
 use Rattle.recover.specs.declared.Joined.{Joined}
 use Rattle.recover.proofs.Listed.{rest-cleared, all-cleared, zero-numerator, zero-denominator}
 
@@ -73,30 +72,33 @@ module _ (s : Space) (n : ℕ) (o : Outcome Combination) (num den coefNum coefDe
 
 -- ---- what the machine's answer of a part says of its outcome
 
-pub record PartDone (o : Outcome Combination) (n : ℕ) (r : Joined) (num den num′ den′ : List ℤ) : Type 0 where
-  pub reached : Combination
-  pub answers : o ≡ answer reached
-  pub rows-are : r .rows ≡ n
-  pub of-is : r .of ≡ fractions (reached .coefficients)
-  pub num-is : num′ ≡ numerators (reached .table) num
-  pub den-is : den′ ≡ denominators (reached .table) den
-
-pub record PartRefused (o : Outcome Combination) (r : Joined) (num den num′ den′ : List ℤ) : Type 0 where
-  pub refuses : o ≡ refusal (r .refused) (r .place)
-  pub num-kept : Kept num num′
-  pub den-kept : Kept den den′
-
-module _ (n : ℕ) (r : Joined) (num den num′ den′ : List ℤ) where
-  pub told-done : (s : Space) (ordinates : List ℤ) → JoinsLeave (recovered s ordinates) n r num den num′ den′ → r .refused ≡ 0 → PartDone (recovered s ordinates) n r num den num′ den′
-  told-done s ordinates left z = go (recovered s ordinates) (recovered-clears s ordinates) left
+module _ (n : ℕ) {num den num′ den′ : List ℤ} (o : Outcome Combination) {r : Joined} (left : JoinsLeave o n r num den num′ den′) where
+  pub part-done : {m : ℕ} → r .built ≡ Rows m → Done (λ q. q .table) (toldJoins n) num den num′ den′ o r
+  part-done {m} e = left-done (λ q. q .table) (toldJoins n) num den num′ den′ o r (λ code place z h. rows-refused (sym (ap (λ (x : Joined). x .built) h) ∙ e)) left
     where
-      go : (o : Outcome Combination) → RefusedAs (λ code place. clearsAll code ≡ true) o → JoinsLeave o n r num den num′ den′ → PartDone o n r num den num′ den′
-      go (answer t) H left = record { reached = t; answers = refl; rows-are = ap (λ (x : Joined). x .rows) (left .0); of-is = ap (λ (x : Joined). x .of) (left .0); num-is = left .1; den-is = left .2 }
-      go (refusal code place) H left = absurd (let e : code ≡ 0 = sym (ap (λ (x : Joined). x .refused) (left .0)) ∙ z in let q : _≡_ {A = ℕ} 0 1 = let w : clearsAll 0 ≡ true = ap clearsAll (sym e) ∙ H code place refl in cc in omega arith)
+      rows-refused : {code place : ℕ} → Refused code place ≡ Rows m → ⊥
+      rows-refused z = let x : _≡_ {A = ℕ} 0 1 = cc in omega arith
 
-  pub told-refused : (o : Outcome Combination) → JoinsLeave o n r num den num′ den′ → (r .refused ≡ 0 → ⊥) → PartRefused o r num den num′ den′
-  told-refused (answer t) left z = absurd (z (ap (λ (x : Joined). x .refused) (left .0)))
-  told-refused (refusal code place) left z = record { refuses = sym (ap₂ refusal (ap (λ (x : Joined). x .refused) (left .0)) (ap (λ (x : Joined). x .place) (left .0))); num-kept = left .1; den-kept = left .2 }
+  pub rows-told : {m : ℕ} → Done (λ q. q .table) (toldJoins n) num den num′ den′ o r → r .built ≡ Rows m → m ≡ n
+  rows-told d e = let z = sym e ∙ ap (λ (x : Joined). x .built) (d .told-is) in cc
+
+  pub part-halted : {code place : ℕ} → r .built ≡ Refused code place → Halted (λ q. q .table) (toldJoins n) num den num′ den′ o r
+  part-halted {code} {place} e = left-halted (λ q. q .table) (toldJoins n) num den num′ den′ o r (λ t z h. rows-refused (sym (ap (λ (x : Joined). x .built) h) ∙ e)) left
+    where
+      rows-refused : Rows n ≡ Refused code place → ⊥
+      rows-refused z = let x : _≡_ {A = ℕ} 0 1 = cc in omega arith
+
+  pub refusal-told : {code place : ℕ} → Halted (λ q. q .table) (toldJoins n) num den num′ den′ o r → r .built ≡ Refused code place → o ≡ refusal code place
+  refusal-told {code} {place} h e = h .refuses ∙ ap₂ refusal same-number same-place
+    where
+      z : Refused (h .code) (h .place) ≡ Refused code place
+      z = sym (ap (λ (x : Joined). x .built) (h .told-is)) ∙ e
+
+      same-number : h .code ≡ code
+      same-number = cc z
+
+      same-place : h .place ≡ place
+      same-place = cc z
 
 -- ---- the parts of a beam
 

@@ -3,6 +3,8 @@ pub mod Refusals
 pub mod Undone
 pub mod Stepped
 pub mod Orders
+pub mod Later
+pub mod Turns
 pub mod Listed
 pub mod Beam
 pub mod Calls

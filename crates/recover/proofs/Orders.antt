@@ -11,53 +11,43 @@ use lib.ListN.{length, take, drop}
 use Rattle.base_exact.specs.Rational.{ℚ, int}
 use Rattle.base_fraction.specs.Size.{fits}
 use Rattle.base_fraction.proofs.Size.{int-fits}
-use Rattle.base_outcome.specs.Outcome.{Outcome, answer, refusal, _then_}
+use Rattle.base_outcome.specs.Outcome.{Outcome, answer, _then_}
 use Rattle.spec_spline.specs.Conditions.{Entry, conditions}
 use Rattle.spec_spline.specs.Space.{Space}
-use Rattle.spec_spline.specs.Table.{entry, numerators, denominators}
-use Rattle.base_outcome.proofs.Outcome.{answer-unique, Chained, then-inverts, RefusedAs, repeat-keeps}
+use Rattle.spec_spline.specs.Table.{entry}
+use Rattle.base_outcome.proofs.Outcome.{answer-unique, Chained, then-inverts, repeat-keeps}
 use Rattle.spec_spline.proofs.Answers.{jumps-length, span-inverts}
 use Rattle.spec_spline.proofs.Splice.{spliced-length, spliced-before, spliced-inside, spliced-after}
-use Rattle.build_cells.specs.Held.{Kept}
 use Rattle.build_factors.specs.Jumps.{AllFit}
-use Rattle.base_fraction.specs.Fractions.{fractions}
+use Rattle.build_rows.proofs.Left.{Done, left-done, Halted, left-halted}
 use Rattle.recover_step.proofs.FractionFits.{undone-fits}
 use Rattle.recover_step.proofs.Rows.{more-fit}
 use Rattle.build.proofs.Stepped.{Proper, step-one-less}
 use Rattle.theorems_recovery.specs.Recovery.{Combination, undoneRow, undoneRows, recoverStep, recoverOrders}
-use Rattle.theorems_recovery.specs.RecoveryCall.{clearsAll}
 use Rattle.theorems_recovery.proofs.Answers.{rows-undone}
 use Rattle.theorems_recovery.proofs.Steps.{parts-of}
-use Rattle.theorems_recovery.proofs.Refusals.{Stops}
-use Rattle.recover.specs.Leaves.{Leaves}
+use Rattle.recover.specs.Leaves.{toldNumbers, Leaves}
 use Rattle.recover.specs.declared.RowCoefficients.{RowCoefficients}
+use Rattle.recover.specs.declared.Refusal.the-variants as refusals
 
 -- ---- what the machine's answer tells
 
-module _ (num den num′ den′ : List ℤ) where
-  pub record Done (o : Outcome Combination) (r : RowCoefficients) : Type 0 where
-    pub reached : Combination
-    pub answers : o ≡ answer reached
-    pub of-is : r .of ≡ fractions (reached .coefficients)
-    pub num-is : num′ ≡ numerators (reached .table) num
-    pub den-is : den′ ≡ denominators (reached .table) den
+module _ {num den num′ den′ : List ℤ} (o : Outcome Combination) {r : RowCoefficients} (left : Leaves o r num den num′ den′) where
+  pub leaves-none : r .refusal ≡ refusals.None → Done (λ q. q .table) toldNumbers num den num′ den′ o r
+  leaves-none e = left-done (λ q. q .table) toldNumbers num den num′ den′ o r (λ code place z h. none-refused (sym (ap (λ (x : RowCoefficients). x .refusal) h) ∙ e)) left
+    where
+      none-refused : {code : ℕ} → refusals.Refused code ≡ refusals.None → ⊥
+      none-refused z = let x : _≡_ {A = ℕ} 0 1 = cc in omega arith
 
-  pub record Stopped (o : Outcome Combination) (r : RowCoefficients) : Type 0 where
-    pub code : ℕ
-    pub place : ℕ
-    pub refuses : o ≡ refusal code place
-    pub told : r ≡ record { refused = code; of = fractions [] }
-    pub num-kept : Kept num num′
-    pub den-kept : Kept den den′
+  pub leaves-some : {code : ℕ} → r .refusal ≡ refusals.Refused code → Halted (λ q. q .table) toldNumbers num den num′ den′ o r
+  leaves-some {code} e = left-halted (λ q. q .table) toldNumbers num den num′ den′ o r (λ t z h. none-refused (sym (ap (λ (x : RowCoefficients). x .refusal) h) ∙ e)) left
+    where
+      none-refused : refusals.None ≡ refusals.Refused code → ⊥
+      none-refused z = let x : _≡_ {A = ℕ} 0 1 = cc in omega arith
 
-  pub told-done : (j : ℕ) (o : Outcome Combination) (r : RowCoefficients) → RefusedAs (Stops j) o → Leaves o r num den num′ den′ → r .refused ≡ 0 → Done o r
-  told-done j (answer t) r H left e = record { reached = t; answers = refl; of-is = ap (λ (x : RowCoefficients). x .of) (left .0); num-is = left .1; den-is = left .2 }
-  told-done j (refusal code place) r H left e =
-      absurd (let z : code ≡ 0 = sym (ap (λ (x : RowCoefficients). x .refused) (left .0)) ∙ e in let q : _≡_ {A = ℕ} 0 1 = let w : clearsAll 0 ≡ true = ap clearsAll (sym z) ∙ H code place refl .0 in cc in omega arith)
-
-  pub told-stopped : (o : Outcome Combination) (r : RowCoefficients) → Leaves o r num den num′ den′ → (r .refused ≡ 0 → ⊥) → Stopped o r
-  told-stopped (answer t) r left e = absurd (e (ap (λ (x : RowCoefficients). x .refused) (left .0)))
-  told-stopped (refusal code place) r left e = record { code = code; place = place; refuses = refl; told = left .0; num-kept = left .1; den-kept = left .2 }
+  -- the number that is told
+  pub number-told : {code : ℕ} → (h : Halted (λ q. q .table) toldNumbers num den num′ den′ o r) → r .refusal ≡ refusals.Refused code → code ≡ h .code
+  number-told h e = let z = sym e ∙ ap (λ (x : RowCoefficients). x .refusal) (h .told-is) in cc
 
 -- ---- a step that is answered: one number less, and all fit
 

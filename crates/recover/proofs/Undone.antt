@@ -1,5 +1,6 @@
 -- The coefficients after a step, as the machine holds them: the new ones without row l, and factors that divide.
-use mathlib.Core.Path.{_≡_, sym, _∙_, ap}
+use mathlib.Core.Path.{_≡_, refl, sym, _∙_, ap}
+use mathlib.Core.Bool.{true, false, false≢true}
 use mathlib.Core.Logic.{_≢_}
 use mathlib.Core.List.{List, [], _++_}
 use Prim.Native.Nat.{ℕ, zero, suc, _+_, _-_, _<_, _≤_}
@@ -19,21 +20,24 @@ use Rattle.spec_spline.proofs.Answers.{factors-inverts}
 use Rattle.spec_spline.proofs.Splice.{spliced-before, spliced-inside, spliced-after}
 use Rattle.base_fraction.specs.Fractions.{fractions}
 use Rattle.base_fraction.specs.declared.arrays.Fractions.{Fractions}
-use Rattle.recover_step.specs.Machine.{NonZero}
+use Rattle.build_jumps.proofs.Counted.{Refused}
+use Rattle.build_jumps.proofs.Answers.{InArrays}
+use Rattle.recover_step.specs.Machine.{undoneOf, NonZero}
+use Rattle.recover_step.specs.declared.Undone.{Undone}
 use Rattle.base_fraction.proofs.Fractions.{entries-same, fractions-ext}
 use Rattle.recover_step.proofs.Rows.{renewed, renewed-length, renewed-old, without, without-before, without-from}
-use Rattle.recover.specs.Leaves.{coefficientsOf}
-use Rattle.recover.specs.declared.RowCoefficients.{RowCoefficients}
 
 -- ---- what is told
 
-pub coefficients-answer : {o : Outcome (List ℚ)} {cs : List ℚ} {of : Fractions} → o ≡ answer cs → of ≡ fractions cs → record { refused = 0; of = of } ≡ coefficientsOf o
-unfolding coefficientsOf
-coefficients-answer e h = ap (λ (a : Fractions). record { refused = 0; of = a }) h ∙ sym (ap coefficientsOf e)
+pub undone-in-arrays : (o : Outcome (List ℚ)) (r : Undone) → r ≡ undoneOf o → r .fit ≡ true → InArrays o (r .coefficients)
+unfolding undoneOf
+undone-in-arrays (answer cs) r e h = record { of = cs; answers = refl; is = ap (λ (x : Undone). x .coefficients) e }
+undone-in-arrays (refusal code place) r e h = absurd (false≢true (sym (ap (λ (x : Undone). x .fit) e) ∙ h))
 
-pub coefficients-refusal : {o : Outcome (List ℚ)} {code place : ℕ} {r : RowCoefficients} → o ≡ refusal code place → r ≡ record { refused = code; of = fractions [] } → r ≡ coefficientsOf o
-unfolding coefficientsOf
-coefficients-refusal e h = h ∙ sym (ap coefficientsOf e)
+pub undone-refused : (o : Outcome (List ℚ)) (r : Undone) → r ≡ undoneOf o → r .fit ≡ false → Refused o
+unfolding undoneOf
+undone-refused (answer cs) r e h = absurd (false≢true (sym h ∙ ap (λ (x : Undone). x .fit) e))
+undone-refused (refusal code place) r e h = record { code = code; place = place; refuses = refl }
 
 -- ---- the factors of a step, but for the last, are not zero
 

@@ -1,65 +1,36 @@
 -- The machine's form of the coefficients of the rows, and what the steps ask and leave.
-use mathlib.Core.List.{List, [], map}
+use mathlib.Core.List.{List, [], _++_, map}
 use mathlib.Core.Path.{_≡_}
-use Prim.Native.Nat.{ℕ, _<_, _≤_}
+use Prim.Native.Nat.{ℕ, suc, _+_, _≤_}
 use lib.IntN.{ℤ}
-use lib.ListN.{length}
+use lib.ListN.{length, take, drop}
 use Rattle.base_exact.specs.Rational.{ℚ, int}
-use Rattle.base_outcome.specs.Outcome.{Outcome, answer, refusal, with-answer}
-use Rattle.spec_spline.specs.Step.{Span, span, factors}
-use Rattle.spec_spline.specs.Space.{Space, columnCount, rowCount}
-use Rattle.spec_spline.specs.Table.{rowCells, identity, numerators, denominators}
-use Rattle.build_cells.specs.Held.{Holds, Kept}
-use Rattle.build_factors.specs.Jumps.{AllFit, Spanned}
 use Rattle.base_fraction.specs.Fractions.{fractions}
 use Rattle.base_fraction.specs.declared.arrays.Fractions.{Fractions}
+use Rattle.base_outcome.specs.Outcome.{Outcome, answer, refusal, _then_, with-answer}
+use Rattle.spec_spline.specs.Space.{Space, degree, firstColumn, rowCount}
+use Rattle.spec_spline.specs.Table.{numerators, denominators}
+use Rattle.build_factors.specs.Jumps.{AllFit}
+use Rattle.build_rows.specs.Left.{Left}
 use Rattle.build.specs.Machine.{reply}
+use Rattle.build.specs.Plan.{Planned}
+use Rattle.build.specs.Leaves.{grown}
 use Rattle.build.specs.declared.Built.{Built}
-use Rattle.theorems_recovery.specs.Recovery.{Combination}
+use Rattle.build.specs.declared.Built.the-variants.{Rows, Refused}
+use Rattle.theorems_recovery.specs.Recovery.{Combination, balanced, undone}
 use Rattle.theorems_recovery.specs.RecoveryCall.{legalOrdinates, weightsAfter, answersAfter, numeratorOf, denominatorOf}
 use Rattle.recover.specs.declared.Joined.{Joined}
 use Rattle.recover.specs.declared.RowCoefficients.{RowCoefficients}
+use Rattle.recover.specs.declared.Refusal.the-variants as refusals
 
 -- The coefficients, or the refusal's code.
-unfoldable pub coefficientsOf : Outcome (List ℚ) → RowCoefficients
-coefficientsOf (answer cs) = record { refused = 0; of = fractions cs }
-coefficientsOf (refusal code place) = record { refused = code; of = fractions [] }
+abbrev pub coefficientsOf : Outcome (List ℚ) → RowCoefficients
+coefficientsOf (answer cs) = record { refusal = refusals.None; of = fractions cs }
+coefficientsOf (refusal code place) = record { refusal = refusals.Refused code; of = fractions [] }
 
--- Jumps of a step that the build has done: their span is f to l, and they have factors.
-pub record Worked (js : Fractions) (f l rows : ℕ) : Type 0 where
-  pub spanned : Spanned js f l
-  pub few : rows ≤ rowCells
-  pub below : l < rows
-  pub join : ℕ
-  pub of : List ℚ
-  pub is : js ≡ fractions of
-  pub count : length of ≡ rows
-  pub has-span : span join of ≡ answer (record { f = f; l = l })
-  pub ws : List ℚ
-  pub has-factors : factors join of (record { f = f; l = l }) ≡ answer ws
-
--- The buffers hold the identity of the space's columns, from which the joins start.
-pub record Started (s : Space) (num den : List ℤ) (columns : ℕ) : Type 0 where
-  pub count : columns ≡ columnCount s
-  pub room : columns ≤ rowCells
-  pub holds : Holds num den (identity columns)
-
--- What the build has found for the jumps: a span, and its factors.
-pub record Done (j : ℕ) (qs : List ℚ) : Type 0 where
-  pub span-is : Span
-  pub has-span : span j qs ≡ answer span-is
-  pub ws : List ℚ
-  pub has-factors : factors j qs span-is ≡ answer ws
-
--- The arrays hold the jumps of a step that the build has done, one for each row.
-pub record Jumped (js : Fractions) (rows : ℕ) : Type 0 where
-  pub few : rows ≤ rowCells
-  pub join : ℕ
-  pub of : List ℚ
-  pub is : js ≡ fractions of
-  pub count : length of ≡ rows
-  pub fit : AllFit of
-  pub done : Done join of
+-- The zero test and then the undoing, with what a step has worked out.
+abbrev pub undoing : ℕ → Planned → List ℚ → Outcome (List ℚ)
+undoing j p cs = balanced j (p .jumps) cs then λ _. undone j (p .span) (p .factors) cs
 
 -- The arrays hold a coefficient for each row, and all of them fit.
 pub record Present (cs : Fractions) (rows : ℕ) : Type 0 where
@@ -68,26 +39,28 @@ pub record Present (cs : Fractions) (rows : ℕ) : Type 0 where
   pub fit : AllFit of
   pub count : length of ≡ rows
 
--- The arrays hold an ordinate for each column, and all of them fit.
-pub record Given (cs : Fractions) (columns : ℕ) : Type 0 where
-  pub ordinates : List ℤ
-  pub is : cs ≡ fractions (map int ordinates)
-  pub fit : AllFit (map int ordinates)
-  pub count : length ordinates ≡ columns
+-- The table with the identity's rows for the segment on the right of join j, and that segment's ordinates as the coefficients of these
+-- rows.
+abbrev pub grownNumbered : Space → ℕ → ℕ → List ℤ → Combination → Combination
+grownNumbered s j columns ordinates r = record {
+  table = grown s j columns (r .table);
+  coefficients = r .coefficients ++ map int (take (degree s (suc j) + 1) (drop (firstColumn s (suc j)) ordinates));
+}
 
--- A computation in place: the table it answers is in the buffers and its coefficients are told, or it is refused and they hold whatever
--- they hold.
+-- What a step leaves, and what all steps at a join leave: the coefficients are told.
+abbrev pub toldNumbers : Outcome Combination → RowCoefficients
+toldNumbers o = coefficientsOf (with-answer (λ r. r .coefficients) o)
+
 abbrev pub Leaves : Outcome Combination → RowCoefficients → List ℤ → List ℤ → List ℤ → List ℤ → Type 0
-Leaves (answer t) r num den num′ den′ = (r ≡ record { refused = 0; of = fractions (t .coefficients) }) × (num′ ≡ numerators (t .table) num)
-    × (den′ ≡ denominators (t .table) den)
-Leaves (refusal code place) r num den num′ den′ = (r ≡ record { refused = code; of = fractions [] }) × Kept num num′ × Kept den den′
+Leaves o r num den num′ den′ = Left (λ q. q .table) toldNumbers o r num den num′ den′
 
--- What the joins leave: the table and the coefficients of its n rows, or the refusal.
+-- What the joins leave: the n rows are counted and their coefficients told.
+abbrev pub toldJoins : ℕ → Outcome Combination → Joined
+toldJoins n (answer r) = record { built = Rows n; of = fractions (r .coefficients) }
+toldJoins n (refusal code place) = record { built = Refused code place; of = fractions [] }
+
 abbrev pub JoinsLeave : Outcome Combination → ℕ → Joined → List ℤ → List ℤ → List ℤ → List ℤ → Type 0
-JoinsLeave (answer t) n r num den num′ den′ = (r ≡ record { refused = 0; place = 0; rows = n; of = fractions (t .coefficients) })
-    × (num′ ≡ numerators (t .table) num) × (den′ ≡ denominators (t .table) den)
-JoinsLeave (refusal code place) n r num den num′ den′ = (r ≡ record { refused = code; place = place; rows = 0; of = fractions [] })
-    × Kept num num′ × Kept den den′
+JoinsLeave o n r num den num′ den′ = Left (λ q. q .table) (toldJoins n) o r num den num′ den′
 
 -- Code 18 of a legal space, by itself.
 unfoldable pub ordinatesChecked : Space → List ℤ → Outcome (Unit {0})

@@ -18,17 +18,21 @@ use build::Built;
 mod parts;
 mod step;
 
-// The coefficients of the rows, or the code of the refusal; it is 0 where there is none.
+// The code of a refusal, if there is one.
+pub enum Refusal {
+    None,
+    Refused(u8),
+}
+
+// The coefficients of the rows, if no step was refused.
 pub struct RowCoefficients {
-    pub refused: u8,
+    pub refusal: Refusal,
     pub of: Fractions,
 }
 
-// The coefficients of a part's rows with their count, or the refusal's code, which is 0 where there is none, and its place.
+// The count of a part's rows, or the refusal with its place; and the coefficients of the rows.
 pub struct Joined {
-    pub refused: u8,
-    pub place: u32,
-    pub rows: usize,
+    pub built: Built,
     pub of: Fractions,
 }
 

@@ -103,17 +103,19 @@ pub fn recover_parts(
     while a < degrees.len() {
         let b = build_space::part_end(degrees, orders, a);
         let joined = recover_at(breaks, degrees, orders, ordinates, a, b, num, den);
-        let code = joined.refused;
-        let place = joined.place;
-        let n = joined.rows;
-        let of = joined.of;
-        if code != 0 {
-            build_cells::clear(num, den, 0, build_cells::TABLE_CELLS);
-            build_cells::clear(coef_num, coef_den, 0, ordinates.len());
-            return Built::Refused(code, base_outcome::place(a + place as usize));
+        let built = joined.built;
+        match built {
+            Built::Refused(code, place) => {
+                build_cells::clear(num, den, 0, build_cells::TABLE_CELLS);
+                build_cells::clear(coef_num, coef_den, 0, ordinates.len());
+                return Built::Refused(code, base_outcome::place(a + place as usize));
+            }
+            Built::Rows(n) => {
+                let of = joined.of;
+                write(coef_num, coef_den, rows, of, n);
+                rows += n;
+            }
         }
-        write(coef_num, coef_den, rows, of, n);
-        rows += n;
         a = b;
     }
     build_cells::clear(coef_num, coef_den, rows, ordinates.len());

@@ -3,7 +3,7 @@ ghost use mathlib.Core.Path.{_≡_};
 ghost use mathlib.Core.Bool.{cond, not};
 ghost use mathlib.Core.List.{List, _++_, map};
 ghost use mathlib.Core.Logic.{_≢_};
-ghost use Prim.Native.Nat.{ℕ, suc, _-_, _<_, _≤_};
+ghost use Prim.Native.Nat.{ℕ, suc, _+_, _-_, _<_, _≤_};
 ghost use lib.IntN.{pos};
 ghost use lib.ListN.{length, take, drop};
 ghost use Rattle.base_exact.specs.Rational.{ℚ, int, _+ᵠ_, _*ᵠ_};
@@ -14,21 +14,26 @@ ghost use Rattle.base_fraction.specs.declared.Counted.the-variants.{Fits};
 ghost use Rattle.base_outcome.specs.Outcome.{answer, _then_, with-answer};
 ghost use Rattle.spec_spline.specs.Table.{rowCells};
 ghost use Rattle.base_fraction.specs.Fractions.{fractions};
-ghost use Rattle.build_jumps.specs.Machine.{counted, rowJumps};
+ghost use Rattle.build_jumps.specs.Machine.{counted};
 ghost use Rattle.build_rows.specs.Rows.{UnitFactor, UnitFactors};
 ghost use Rattle.theorems_recovery.specs.Recovery;
-ghost use Rattle.recover_step.specs.Machine.{balanceOf, FractionsFit, NonZero};
+ghost use Rattle.recover_step.specs.Machine.{balanceOf, undoneOf, FractionsFit, NonZero};
 use base_fraction::Counted;
 use base_fraction::Fraction;
 use base_fraction::arrays;
 use base_fraction::arrays::Fractions;
-use build_jumps::RowJumps;
 
 // The sum of coefficients times jumps.
 pub enum Balance {
     Zero,
     NotZero,
     TooLarge,
+}
+
+// The new coefficients, if no fraction was too large.
+pub struct Undone {
+    pub fit: bool,
+    pub coefficients: Fractions,
 }
 
 // The sum with one more product, number times jump; a zero jump is passed over.
@@ -114,10 +119,10 @@ fn undo_row(cs: Fractions, ws: Fractions, f: usize, i: usize) -> Counted
 }
 
 // The new coefficients of the rows f to l - 1, rows rising; the others as they were.
-pub fn undo_rows(cs: Fractions, ws: Fractions, f: usize, l: usize) -> RowJumps
+pub fn undo_rows(cs: Fractions, ws: Fractions, f: usize, l: usize) -> Undone
     requires { ⌜ (f ≤ l) × ((l < rowCells) × (FractionsFit cs l × (UnitFactors ws × NonZero ws (l - f)))) ⌝ }
     ensures { λ r. ⌜ ((j : ℕ) (us ps : List ℚ) → ws ≡ fractions us → cs ≡ fractions ps → l ≤ length ps
-        → r ≡ rowJumps (with-answer (λ ds. take f ps ++ (ds ++ drop l ps)) (Recovery.undoneRows j us ps f (l - f)))) ⌝ }
+        → r ≡ undoneOf (with-answer (λ ds. take f ps ++ (ds ++ drop l ps)) (Recovery.undoneRows j us ps f (l - f)))) ⌝ }
 {
     let mut now = cs;
     let mut i = f;
@@ -131,15 +136,18 @@ pub fn undo_rows(cs: Fractions, ws: Fractions, f: usize, l: usize) -> RowJumps
                 now.den[i] = d;
             }
             Counted::TooLarge => {
-                return RowJumps {
+                return Undone {
                     fit: false,
-                    of: arrays::no_fractions(),
+                    coefficients: arrays::no_fractions(),
                 };
             }
         }
         i += 1;
     }
-    RowJumps { fit: true, of: now }
+    Undone {
+        fit: true,
+        coefficients: now,
+    }
 }
 
 // The row that comes at index i once row l is dropped.
@@ -172,17 +180,20 @@ pub fn drop_coefficient(cs: Fractions, l: usize, rows: usize) -> Fractions
     left
 }
 
-// The ordinates as the first coefficients.
-pub fn coefficients(ordinates: &[i32]) -> Fractions
-    requires { ⌜ length (now ordinates) ≤ rowCells ⌝ }
-    ensures { λ r. ⌜ r ≡ fractions (map int (now (ordinates .entry))) ⌝ }
+// The coefficients of the first `rows` rows, and behind them the ordinates of n columns from the given one on.
+pub fn append(cs: Fractions, rows: usize, ordinates: &[i32], column: usize, n: usize) -> Fractions
+    requires { ⌜ (rows + n ≤ rowCells) × (column + n ≤ length (now ordinates)) ⌝ }
+    ensures { λ r. ⌜ ((ps : List ℚ) → cs ≡ fractions ps → length ps ≡ rows
+        → r ≡ fractions (ps ++ map int (take n (drop column (now (ordinates .entry)))))) ⌝ }
 {
-    let mut all = arrays::no_fractions();
+    let mut all = cs;
     let mut i = 0;
-    while i < ordinates.len() {
-        let n = ordinates[i] as i64;
-        all.num[i] = n;
-        all.den[i] = 1;
+    while i < n {
+        let at = rows + i;
+        let from = column + i;
+        let o = ordinates[from] as i64;
+        all.num[at] = o;
+        all.den[at] = 1;
         i += 1;
     }
     all

@@ -17,12 +17,12 @@ use Rattle.base_fraction.proofs.Size.{int-fits}
 use Rattle.base_outcome.specs.Outcome.{Outcome, answer, with-answer}
 use Rattle.build_factors.specs.Jumps.{AllFit}
 use Rattle.base_fraction.specs.Fractions.{fractions}
-use Rattle.build_jumps.specs.Machine.{counted, rowJumps}
+use Rattle.build_jumps.specs.Machine.{counted}
 use Rattle.base_fraction.specs.declared.arrays.Fractions.{Fractions}
 use Rattle.build_jumps.proofs.Counted.{fits-answered, large-refused}
 use Rattle.theorems_recovery.specs.Recovery.{undoneRow, undoneRows}
 use Rattle.theorems_recovery.proofs.Answers.{rows-undone}
-use Rattle.recover_step.specs.Machine.{FractionsFit}
+use Rattle.recover_step.specs.Machine.{undoneOf, FractionsFit}
 use Rattle.recover_step.proofs.FractionFits.{undone-fits}
 use Rattle.base_fraction.proofs.Fractions.{fractions-store}
 use Rattle.recover_step.proofs.Rows.{renewed, renewed-length, row-same, more-here, more-other, renewed-fit, more-fit, rows-none, rows-more, rows-end, rows-stay}
@@ -124,15 +124,15 @@ no-fractions-requires : tie.Need-no-fractions-requires Inv-loop μ-loop
 no-fractions-requires c κs = search needs
 
 returns : tie.Need-returns Inv-loop μ-loop
-unfolding rowJumps
+unfolding undoneOf
 returns c j us ps e h long =
     let r = c .before .before .before in
     let a = r .before .before in
     let s = a .before .args in
     let y = st a (r .before .loop-test .taken) j us ps e h long in
     let x = large-refused (undoneRow j us ps (s .f) (a .loop .i - s .f) (y .new)) (ap counted (sym (same a (r .before .loop-test .taken) j us ps e h long)) ∙ sym (r .undo-row .ensures j us _ e (y .is)) ∙ c .before .enum-told .given .1) in
-    ap (λ (none : Fractions). record { fit = false; of = none }) (c .no-fractions .ensures)
-    ∙ sym (ap (λ (o : Outcome (List ℚ)). rowJumps (with-answer (λ ds. take (s .f) ps ++ (ds ++ drop (s .l) ps)) o)) (rows-stay j us ps (s .f) (suc (a .loop .i - s .f)) (s .l - s .f) (omega arith) (rows-end j us ps (s .f) (a .loop .i - s .f) (y .answers) (x .refuses))))
+    ap (λ (none : Fractions). record { fit = false; coefficients = none }) (c .no-fractions .ensures)
+    ∙ sym (ap (λ (o : Outcome (List ℚ)). undoneOf (with-answer (λ ds. take (s .f) ps ++ (ds ++ drop (s .l) ps)) o)) (rows-stay j us ps (s .f) (suc (a .loop .i - s .f)) (s .l - s .f) (omega arith) (rows-end j us ps (s .f) (a .loop .i - s .f) (y .answers) (x .refuses))))
 
 add-i : tie.Need-add-i Inv-loop μ-loop
 add-i c = omega arith
@@ -170,13 +170,13 @@ loop-again c =
     }
 
 returns-2 : tie.Need-returns-2 Inv-loop μ-loop
-unfolding rowJumps
+unfolding undoneOf
 returns-2 c j us ps e h long =
     let l = c .before .loop in
     let s = c .before .before .args in
     let y = l .inv .state j us ps e h long in
-    ap (λ (now : Fractions). record { fit = true; of = now }) (y .is ∙ ap (λ m. fractions (renewed (s .f) ps (y .new) m)) (let z : l .i ≡ s .l = omega arith in z))
-    ∙ sym (ap (λ (o : Outcome (List ℚ)). rowJumps (with-answer (λ ds. take (s .f) ps ++ (ds ++ drop (s .l) ps)) o)) (ap (λ m. undoneRows j us ps (s .f) (m - s .f)) (let z : s .l ≡ l .i = omega arith in z) ∙ y .answers))
+    ap (λ (now : Fractions). record { fit = true; coefficients = now }) (y .is ∙ ap (λ m. fractions (renewed (s .f) ps (y .new) m)) (let z : l .i ≡ s .l = omega arith in z))
+    ∙ sym (ap (λ (o : Outcome (List ℚ)). undoneOf (with-answer (λ ds. take (s .f) ps ++ (ds ++ drop (s .l) ps)) o)) (ap (λ m. undoneRows j us ps (s .f) (m - s .f)) (let z : s .l ≡ l .i = omega arith in z) ∙ y .answers))
 
 pub undo-rows-spec : {M : Type 1} → statement M
 undo-rows-spec =

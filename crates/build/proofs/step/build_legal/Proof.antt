@@ -1,22 +1,15 @@
 -- The first segment's rows of the identity, then the joins' steps; after a refusal the buffers are cleared. Assumes nothing.
 use borrow.Author.Needs.{needs}
 use mathlib.Core.Path.{_≡_, _∙_, subst}
-use lib.ListN.{take}
-use Prim.Native.Nat.{ℕ, _+_, _≤_}
+use Prim.Native.Nat.{_+_}
 use native.Mathlib.Omega.{arith}
-use Rattle.spec_spline.specs.Space.{Space, segments, firstColumn, columnCount, rowCount}
-use Rattle.spec_spline.specs.Table.{identity}
+use Rattle.spec_spline.specs.Space.{Space, rowCount}
 use Rattle.spec_spline.specs.Build.{weights}
 use Rattle.build_space.specs.Machine.{space}
-use Rattle.spec_spline.proofs.Space.{firstColumn-mono}
-use Rattle.build_space.proofs.Bounds.{first-column-zero, first-column-next}
 use Rattle.build_space.proofs.Partial.{column-count-partial}
-use Rattle.build_space.proofs.Legal.{part-column-count-high}
-use Rattle.build_cells.specs.Held.{Holds}
-use Rattle.build_cells.proofs.Buffer.{holds-left}
-use Rattle.build.specs.Leaves.{Start, JoinsLeave}
+use Rattle.build.specs.Leaves.{JoinsLeave}
 use Rattle.build.specs.declared.Built.{Built}
-use Rattle.build.proofs.Grown.{first-proper, first-numerators, first-denominators}
+use Rattle.build.proofs.Joins.{Beginning, beginning, begins}
 use Rattle.build.proofs.Building.{ends-rows, ends-cleared}
 use Rattle.build.proofs.step.build_legal.Statement.{statement}
 use Rattle.build.proofs.step.build_legal.Tie as tie
@@ -24,54 +17,27 @@ use Rattle.build.proofs.step.build_legal.Tie as tie
 abbrev lists : tie.Start → Space
 lists c = space (c .args .breaks .now) (c .args .degrees .now) (c .args .orders .now)
 
--- the columns
-module _ (c : tie.After-first-column) where
-  columns-are : c .first-column .result ≡ columnCount (lists (c .before))
-  columns-are = c .first-column .ensures ∙ column-count-partial _ (c .before .args .degrees .now) _
-
-  columns-fit : c .first-column .result ≤ 72
-  columns-fit = omega (arith, columns-are, part-column-count-high _ _ _ (c .before .pre .0 .0))
-
 first-column-requires : tie.Need-first-column-requires
 first-column-requires c κs = search needs
 
 degree-at-requires : tie.Need-degree-at-requires
 degree-at-requires c κs = search needs
 
--- the first segment's rows
-module _ (c : tie.After-degree-at) where
-  abbrev counted : tie.After-first-column
-  counted = c .before .before .before
+-- the columns and the first segment's rows
+abbrev start : tie.After-degree-at → tie.Start
+start c = c .before .before .before .before
 
-  rows-are : c .degree-at .result + 1 ≡ firstColumn (lists (counted .before)) 1
-  rows-are = omega (arith, c .degree-at .ensures, first-column-zero (lists (counted .before)), first-column-next (lists (counted .before)) 0)
-
-  rows-few : c .degree-at .result + 1 ≤ counted .first-column .result
-  rows-few = omega (arith, rows-are, columns-are counted, firstColumn-mono (lists (counted .before)) 1 (segments (lists (counted .before))) (omega (arith, counted .before .pre .0 .0 .lists .order-count)))
+begun : (c : tie.After-degree-at) → Beginning (lists (start c)) (c .before .before .before .first-column .result) (c .degree-at .result + 1)
+begun c = beginning _ _ _ (start c .pre .0 .0) _ _ (c .before .before .before .first-column .ensures ∙ column-count-partial _ (start c .args .degrees .now) _) (c .degree-at .ensures)
 
 add-identity-over : tie.Need-add-identity-over
-add-identity-over c = omega (arith, rows-few c, columns-fit (counted c))
+add-identity-over c = omega (arith, begun c .rows-few, begun c .columns-fit)
 
 identity-over-requires : tie.Need-identity-over-requires
-identity-over-requires c κs = let f = counted c in ((omega (arith, rows-few c, columns-fit f), f .before .pre .0 .1), f .before .pre .1)
-
--- they are in the buffers
-starts : (c : tie.After-identity-over) → Start (lists (counted (c .before) .before)) (c .identity-over .last .0) (c .identity-over .last .1 .0) (counted (c .before) .first-column .result)
-starts c =
-    let d = c .before in
-    let f = counted d in
-    let p = f .before .pre .0 in
-    let n = f .first-column .result in
-    let m = d .degree-at .result + 1 in
-    record {
-      count = columns-are f;
-      room = columns-fit f;
-      holds = subst (λ (k : ℕ). Holds (c .identity-over .last .0) (c .identity-over .last .1 .0) (take k (identity n))) (rows-are d)
-          (holds-left _ _ (take m (identity n)) (p .1 .0) (p .1 .1) (c .identity-over .ensures .0 ∙ first-numerators m n _ (rows-few d)) (c .identity-over .ensures .1 ∙ first-denominators m n _ (rows-few d)) (first-proper m n (rows-few d) (columns-fit f) .fit));
-    }
+identity-over-requires c κs = ((omega (arith, begun c .rows-few, begun c .columns-fit), start c .pre .0 .1), start c .pre .1)
 
 join-steps-requires : tie.Need-join-steps-requires
-join-steps-requires c κs = let i = c .before .before .before .before in (i .before .before .before .before .before .pre .0 .0, starts i)
+join-steps-requires c κs = let i = c .before .before .before .before in let s = start (i .before) in (s .pre .0 .0, begins (s .args .num .now) (s .args .den .now) (begun (i .before)) (s .pre .0 .1 .0) (s .pre .0 .1 .1) (i .identity-over .ensures .0) (i .identity-over .ensures .1))
 
 enum-known-built : tie.Need-enum-known-built
 enum-known-built c = search needs
@@ -94,7 +60,7 @@ module _ (c : tie.After-join-steps) where
   before-joins = c .before .before .before .before .before
 
   abbrev whole : Space
-  whole = lists (counted (before-joins .before) .before)
+  whole = lists (start (before-joins .before))
 
   left : (r : Built) → c .join-steps .result ≡ r → JoinsLeave (weights whole) (rowCount whole) r (before-joins .identity-over .last .0) (before-joins .identity-over .last .1 .0) (c .join-steps .last .1 .1 .1 .0) (c .join-steps .last .1 .1 .1 .1 .0)
   left r e = subst (λ (x : Built). JoinsLeave (weights whole) (rowCount whole) x (before-joins .identity-over .last .0) (before-joins .identity-over .last .1 .0) (c .join-steps .last .1 .1 .1 .0) (c .join-steps .last .1 .1 .1 .1 .0)) e (c .join-steps .ensures)
@@ -118,7 +84,7 @@ returns-2 c =
     let b = d .before .before .before .before in
     let j = b .before .before .before .before in
     let i = before-joins j in
-    let p = counted (i .before) .before .pre .0 .1 in
+    let p = start (i .before) .pre .0 .1 in
     let e = ends-cleared (rowCount (whole j)) _ _ _ _ _ _ _ (i .identity-over .ensures .0) (i .identity-over .ensures .1) (whole j) (p .0) (p .1) (left j _ (b .built2 .given .1)) (d .clear .ensures .0) (d .clear .ensures .1) in
     (e .answers, (e .numerators-are, e .denominators-are))
 

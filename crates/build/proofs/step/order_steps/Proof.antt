@@ -4,78 +4,39 @@ use mathlib.Core.Path.{_≡_, refl, sym, _∙_, ap, subst}
 use mathlib.Core.List.{List}
 use Prim.Native.Nat.{ℕ, _+_, _-_, _<_, _≤_}
 use native.Mathlib.Omega.{arith}
-use native.Mathlib.Numerals.{add-one}
 use borrow.Author.Needs.{needs}
 use lib.IntN.{ℤ}
 use lib.ListN.{length}
 use Rattle.base_outcome.specs.Outcome.{answer, repeat}
 use Rattle.spec_spline.specs.Space.{Space}
 use Rattle.spec_spline.specs.Conditions.{conditions}
-use Rattle.spec_spline.specs.Table.{Table, numerators, denominators}
+use Rattle.spec_spline.specs.Table.{Table}
 use Rattle.spec_spline.specs.Step.{step}
 use Rattle.spec_spline.specs.Build.{orderSteps}
-use Rattle.base_outcome.proofs.Outcome.{repeat-more, repeat-stops}
-use Rattle.build_cells.specs.Held.{Holds, Shaped, Kept}
-use Rattle.build_cells.proofs.Buffer.{holds-left, kept-then, kept-numerators, kept-denominators, numerators-again, denominators-again}
+use Rattle.build_cells.specs.Held.{Holds, Shaped}
 use Rattle.build_conditions.specs.Sides.{JoinIs}
 use Rattle.build_conditions.specs.declared.Join.{Join}
 use Rattle.build_factors.specs.declared.Refusal.{Refusal}
 use Rattle.build_factors.specs.declared.Refusal.the-variants as refusals
-use Rattle.build.specs.Leaves.{Leaves}
-use Rattle.build.proofs.Stepped.{Proper, step-one-less}
-use Rattle.build.proofs.Leaving.{Done, Halted, leaves-none, leaves-some, leaves-answer, leaves-refusal}
+use Rattle.build.specs.Leaves.{Leaves, toldStep}
+use Rattle.build.proofs.Stepped.{Proper}
+use Rattle.build.proofs.Leaving.{leaves-none, leaves-some}
+use Rattle.build.proofs.Repeated.{State, holds, goes-on, ends, all-done}
+use Rattle.build.proofs.Turns.{order-turns}
 use Rattle.build.proofs.step.order_steps.Statement.{statement}
 use Rattle.build.proofs.step.order_steps.Tie as tie
-
--- the first k orders are answered, and the buffers hold their table
-record State (num₀ den₀ num dens : List ℤ) (rows columns k : ℕ) (s : Space) (j : ℕ) (t : Table) : Type 0 where
-  reached : Table
-  answers : orderSteps s j k t ≡ answer reached
-  proper : Proper reached (rows - k) columns
-  num-is : num ≡ numerators reached num₀
-  den-is : dens ≡ denominators reached den₀
 
 record Inv (num₀ den₀ : List ℤ) (join : Join) (n rows columns : ℕ) (num dens : List ℤ) (k : ℕ) : Type 0 where
   within : k ≤ n
   num-long : length num ≡ length num₀
   den-long : length dens ≡ length den₀
-  state : (s : Space) (j : ℕ) (t : Table) → JoinIs join s j → Holds num₀ den₀ t → Shaped t rows columns → State num₀ den₀ num dens rows columns k s j t
+  state : (s : Space) (j : ℕ) (t : Table) → JoinIs join s j → Holds num₀ den₀ t → Shaped t rows columns → State (order-turns s j n rows columns t) num₀ den₀ num dens k
 
 abbrev Inv-loop : tie.InvT-loop
 Inv-loop num₀ den₀ join n rows columns k₀ num den k = Inv num₀ den₀ join n rows columns num den k
 
 abbrev μ-loop : tie.MeasureT-loop
 μ-loop num₀ den₀ join n rows columns k₀ num den k = n - k
-
--- ---- one turn, in the definitions' terms
-
-orders-none : (s : Space) (j : ℕ) (t : Table) → orderSteps s j 0 t ≡ answer t
-unfolding orderSteps repeat
-orders-none s j t = refl
-
-module _ {num₀ den₀ num dens : List ℤ} {rows columns k : ℕ} {s : Space} {j : ℕ} {t : Table} (h : Holds num₀ den₀ t) (st : State num₀ den₀ num dens rows columns k s j t) where
-  holds : Holds num dens (st .reached)
-  holds = holds-left num₀ den₀ (st .reached) (h .num-long) (h .den-long) (st .num-is) (st .den-is) (st .proper .fit)
-
-  -- it is done: one order more
-  goes-on : (num′ dens′ : List ℤ) → Done num dens num′ dens′ (step j (conditions s j k) (st .reached)) → State num₀ den₀ num′ dens′ rows columns (k + 1) s j t
-  unfolding orderSteps
-  goes-on num′ dens′ d =
-      record {
-        reached = d .table;
-        answers = ap (λ n. orderSteps s j n t) (add-one k) ∙ repeat-more k (λ k. step j (conditions s j k)) t (st .answers) ∙ d .answers;
-        proper = subst (λ (m : ℕ). Proper (d .table) m columns) (let z : rows - k - 1 ≡ rows - (k + 1) = omega arith in z) (step-one-less j (conditions s j k) (st .reached) (d .answers) (st .proper));
-        num-is = d .num-is ∙ ap (numerators (d .table)) (st .num-is) ∙ numerators-again (d .table) (st .reached) num₀;
-        den-is = d .den-is ∙ ap (denominators (d .table)) (st .den-is) ∙ denominators-again (d .table) (st .reached) den₀;
-      }
-
-  -- it is refused: so are all
-  ends : (n : ℕ) → k < n → (num′ dens′ : List ℤ) {reason : Refusal} → Halted num dens num′ dens′ (step j (conditions s j k) (st .reached)) reason → Leaves (orderSteps s j n t) reason num₀ den₀ num′ dens′
-  unfolding orderSteps
-  ends n l num′ dens′ d =
-      leaves-refusal num₀ den₀ num′ dens′ (repeat-stops n k (λ k. step j (conditions s j k)) t l (st .answers) (d .ended .refuses)) (d .ended .named)
-      (kept-then (subst (Kept num₀) (sym (st .num-is)) (kept-numerators (st .reached) num₀ (h .num-long))) (d .num-kept))
-      (kept-then (subst (Kept den₀) (sym (st .den-is)) (kept-denominators (st .reached) den₀ (h .den-long))) (d .den-kept))
 
 -- ---- the turn that the code takes
 
@@ -87,22 +48,33 @@ start c = at-loop c .before
 
 module _ (c : tie.After-den Inv-loop μ-loop) (s : Space) (j : ℕ) (t : Table) (is : JoinIs (start c .args .join) s j) (h : Holds (start c .args .num .now) (start c .args .den .now) t)
     (shaped : Shaped t (start c .args .rows) (start c .args .columns)) where
-  st : State (start c .args .num .now) (start c .args .den .now) (at-loop c .loop .num) (at-loop c .loop .den) (start c .args .rows) (start c .args .columns) (at-loop c .loop .k) s j t
+  st : State (order-turns s j (start c .args .n) (start c .args .rows) (start c .args .columns) t) (start c .args .num .now) (start c .args .den .now) (at-loop c .loop .num) (at-loop c .loop .den) (at-loop c .loop .k)
   st = at-loop c .loop .inv .state s j t is h shaped
 
   left : Leaves (step j (conditions s j (at-loop c .loop .k)) (st .reached)) (c .before .before .step .result) (at-loop c .loop .num) (at-loop c .loop .den) (c .before .before .step .last .0) (c .before .before .step .last .1 .0)
-  left = c .before .before .step .ensures s j (st .reached) is (holds h st) (st .proper .shaped)
+  left = c .before .before .step .ensures s j (st .reached) is (holds _ _ _ (h .num-long) (h .den-long) st) (st .sound .shaped)
+
+  taken : at-loop c .loop .k < start c .args .n
+  taken = c .before .before .before .before .before .loop-test .taken
 
   refused : (reason : Refusal) → c .before .before .step .result ≡ reason → (reason ≡ refusals.None → ⊥)
       → Leaves (orderSteps s j (start c .args .n) t) reason (start c .args .num .now) (start c .args .den .now) (c .before .before .step .last .0) (c .before .before .step .last .1 .0)
-  refused reason e n = ends h st (start c .args .n) (c .before .before .before .before .before .loop-test .taken) _ _ (leaves-some _ _ _ _ (step j (conditions s j (at-loop c .loop .k)) (st .reached)) _ reason left e n)
+  unfolding orderSteps
+  refused reason e n = let x = leaves-some _ left e n in ends _ _ _ (h .num-long) (h .den-long) st taken toldStep x (sym e ∙ x .told-is)
 
 loop-holds : tie.Need-loop-holds Inv-loop μ-loop
+unfolding repeat
 loop-holds c = record {
   within = omega arith;
   num-long = refl;
   den-long = refl;
-  state = λ s j t is h shaped. record { reached = t; answers = orders-none s j t; proper = subst (λ (m : ℕ). Proper t m (c .args .columns)) (let z : c .args .rows ≡ c .args .rows - 0 = omega arith in z) (record { shaped = shaped; fit = h .fit }); num-is = h .num-is; den-is = h .den-is };
+  state = λ s j t is h shaped. record {
+    reached = t;
+    answers = refl;
+    sound = subst (λ (m : ℕ). Proper t m (c .args .columns)) (let z : c .args .rows ≡ c .args .rows - 0 = omega arith in z) (record { shaped = shaped; fit = h .fit });
+    num-is = h .num-is;
+    den-is = h .den-is;
+  };
 }
 
 sub-step : tie.Need-sub-step Inv-loop μ-loop
@@ -115,7 +87,7 @@ step-requires c κs =
     let f = s .pre .1 .0 (l .loop .k) (c .before .before .loop-test .taken) in
     let k = s .pre .1 .1 in
     let x = l .loop .inv .state (f .space) (f .index) (k .table) (f .is) (k .holds) (k .shaped) in
-    (f, record { table = x .reached; holds = holds (k .holds) x; shaped = x .proper .shaped })
+    (f, record { table = x .reached; holds = holds _ _ _ (k .holds .num-long) (k .holds .den-long) x; shaped = x .sound .shaped })
 
 enum-told : tie.Need-enum-told Inv-loop μ-loop
 enum-told c = search needs
@@ -134,7 +106,7 @@ loop-again c =
       within = omega arith;
       num-long = d .before .before .step .kept .0 ∙ v .num-long;
       den-long = d .before .before .step .kept .1 .0 ∙ v .den-long;
-      state = λ s j t is h shaped. goes-on h (st d s j t is h shaped) _ _ (leaves-none _ _ _ _ (step j (conditions s j (at-loop d .loop .k)) (st d s j t is h shaped .reached)) _ (left d s j t is h shaped) (c .enum-told .given .1));
+      state = λ s j t is h shaped. goes-on _ _ _ (h .num-long) (h .den-long) (st d s j t is h shaped) (taken d s j t is h shaped) (leaves-none _ (left d s j t is h shaped) (c .enum-told .given .1));
     }
 
 enum-told-2 : tie.Need-enum-told-2 Inv-loop μ-loop
@@ -168,10 +140,10 @@ same-length-6 : tie.Need-same-length-6 Inv-loop μ-loop
 same-length-6 c = c .before .loop .inv .den-long
 
 returns-3 : tie.Need-returns-3 Inv-loop μ-loop
+unfolding orderSteps
 returns-3 c s j t is h shaped =
     let l = c .before .loop in
-    let x = l .inv .state s j t is h shaped in
-    leaves-answer _ _ _ _ (ap (λ n. orderSteps s j n t) (let z : c .before .before .args .n ≡ l .k = omega arith in z) ∙ x .answers) refl (x .num-is) (x .den-is)
+    all-done _ _ _ toldStep (l .inv .state s j t is h shaped) (let z : l .k ≡ c .before .before .args .n = omega arith in z) refl refl
 
 pub order-steps-spec : {M : Type 1} → statement M
 order-steps-spec =

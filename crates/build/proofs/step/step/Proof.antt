@@ -1,49 +1,85 @@
--- The jumps, their span and the rest of a step, each as the definition has it; the first that is refused ends the step.
--- Assumes nothing.
+-- The first half of a step and, where it is answered, the second. Assumes nothing.
 use borrow.Author.Needs.{needs}
 use borrow.Author.Tests.{not-true, not-false}
-use mathlib.Core.Path.{_≡_, sym, _∙_}
+use mathlib.Core.Path.{_≡_, sym, _∙_, ap, subst}
+use mathlib.Core.Bool.{Bool}
 use Prim.Native.Nat.{ℕ}
 use native.Mathlib.Omega.{arith}
 use lib.ListN.{length}
-use Rattle.base_outcome.specs.Outcome.{answer}
 use Rattle.spec_spline.specs.Space.{Space}
 use Rattle.spec_spline.specs.Conditions.{conditions}
 use Rattle.spec_spline.specs.Table.{Table}
-use Rattle.spec_spline.specs.Step.{jumps, span}
-use Rattle.spec_spline.proofs.Answers.{jumps-length, jumps-fit, span-inverts}
+use Rattle.spec_spline.specs.Step.{Span, step}
 use Rattle.build_cells.specs.Held.{Holds, Shaped}
 use Rattle.build_conditions.specs.Sides.{JoinIs}
-use Rattle.build_jumps.proofs.Answers.{InArrays, jumps-in-arrays, jumps-refused, span-rows, span-refused}
-use Rattle.build_factors.proofs.Answers.{spanned}
-use Rattle.build.proofs.Leaving.{step-large, step-shapeless, step-mixed}
+use Rattle.build_factors.specs.declared.Refusal.{Refusal}
+use Rattle.build_factors.specs.declared.Refusal.the-variants as refusals
+use Rattle.build_rows.specs.Rows.{UnitFactors, LeavesIf}
+use Rattle.build.specs.Plan.{Plans, planned, renewed}
+use Rattle.build.specs.Leaves.{Leaves}
+use Rattle.build.proofs.Plan.{Ready, plan-ready, plan-ended}
+use Rattle.build.proofs.Leaving.{step-ended, step-large, step-done}
 use Rattle.build.proofs.step.step.Statement.{statement}
 use Rattle.build.proofs.step.step.Tie as tie
 
-abbrev start : tie.Else1 → tie.Start
-start c = c .before .before .before .before .before
+abbrev start : tie.After-plan-step → tie.Start
+start c = c .before .before .before
 
--- the jumps are answered and in the arrays, one for each row
-module _ (c : tie.Else1) (s : Space) (j : ℕ) (t : Table) (is : JoinIs (start c .args .join) s j) (h : Holds (start c .args .num .now) (start c .args .den .now) t)
+-- what the first half answers
+module _ (c : tie.After-plan-step) (s : Space) (j : ℕ) (t : Table) (is : JoinIs (start c .args .join) s j) (h : Holds (start c .args .num .now) (start c .args .den .now) t)
     (shaped : Shaped t (start c .args .rows) (start c .args .columns)) where
-  jumped : InArrays (jumps j (conditions s j (start c .args .k)) t) (c .before .before .jumps .result .of)
-  jumped = jumps-in-arrays _ _ (c .before .before .jumps .ensures s j t is h (shaped .row-count)) (not-false _ (c .if1 .left))
+  plans : Plans (planned j (conditions s j (start c .args .k)) t) (c .plan-step .result)
+  plans = c .plan-step .ensures s j t is h (shaped .row-count)
 
-  size : length (jumped .of) ≡ start c .args .rows
-  size = jumps-length j (conditions s j (start c .args .k)) t (jumped .answers) ∙ shaped .row-count
+  ended : (reason : Refusal) → c .plan-step .result .refusal ≡ reason → (reason ≡ refusals.None → ⊥)
+      → Leaves (step j (conditions s j (start c .args .k)) t) reason (start c .args .num .now) (start c .args .den .now) (start c .args .num .now) (start c .args .den .now)
+  ended reason e n = step-ended j _ t _ _ (plan-ended j _ t _ reason plans e n)
 
--- and their span
-module _ (c : tie.After-span2) (s : Space) (j : ℕ) (t : Table) (is : JoinIs (start (c .before .before .before .before) .args .join) s j)
-    (h : Holds (start (c .before .before .before .before) .args .num .now) (start (c .before .before .before .before) .args .den .now) t)
-    (shaped : Shaped t (start (c .before .before .before .before) .args .rows) (start (c .before .before .before .before) .args .columns)) where
-  abbrev over : tie.Else1
-  over = c .before .before .before .before
+  ready : c .plan-step .result .refusal ≡ refusals.None → Ready j (conditions s j (start c .args .k)) t (c .plan-step .result)
+  ready e = plan-ready j _ t _ plans e
 
-  span-is : span j (jumped over s j t is h shaped .of) ≡ answer (record { f = c .span2 .given .0 .0; l = c .span2 .given .0 .1 .0 })
-  span-is = span-rows _ _ _ (sym (c .before .before .span .ensures (jumped over s j t is h shaped .of) j (jumped over s j t is h shaped .is) (size over s j t is h shaped)) ∙ c .span2 .given .1)
+-- what the second half leaves
+module _ (c : tie.After-renew-rows) where
+  abbrev first-half : tie.After-plan-step
+  first-half = c .before .before .before .before .before .before
 
-jumps-requires : tie.Need-jumps-requires
-jumps-requires c κs = search needs
+  module _ (s : Space) (j : ℕ) (t : Table) (is : JoinIs (start first-half .args .join) s j) (h : Holds (start first-half .args .num .now) (start first-half .args .den .now) t)
+      (shaped : Shaped t (start first-half .args .rows) (start first-half .args .columns)) where
+    works : Ready j (conditions s j (start first-half .args .k)) t (first-half .plan-step .result)
+    works = ready first-half s j t is h shaped (c .before .before .before .before .enum-told3 .given .1)
+
+    left : LeavesIf (renewed j (works .of .span) (works .of .factors) t) (c .renew-rows .result) (start first-half .args .num .now) (start first-half .args .den .now) (c .renew-rows .last .0) (c .renew-rows .last .1 .0)
+    left =
+        subst (λ (g : Span). LeavesIf (renewed j g (works .of .factors) t) (c .renew-rows .result) (start first-half .args .num .now) (start first-half .args .den .now) (c .renew-rows .last .0) (c .renew-rows .last .1 .0)) (works .span-is)
+        (c .renew-rows .ensures t j (works .of .factors) h shaped (works .factors-are))
+
+    told : {b : Bool} → c .renew-rows .result ≡ b → LeavesIf (renewed j (works .of .span) (works .of .factors) t) b (start first-half .args .num .now) (start first-half .args .den .now) (c .renew-rows .last .0) (c .renew-rows .last .1 .0)
+    told e = subst (λ (b : Bool). LeavesIf (renewed j (works .of .span) (works .of .factors) t) b (start first-half .args .num .now) (start first-half .args .den .now) (c .renew-rows .last .0) (c .renew-rows .last .1 .0)) e left
+
+plan-step-requires : tie.Need-plan-step-requires
+plan-step-requires c κs = let p = c .before .before .pre in let k = p .1 in ((k .shaped .rows-fit, p .0), (k .table, (k .holds, k .shaped .row-count)))
+
+enum-told : tie.Need-enum-told
+enum-told c = search needs
+
+enum-told-2 : tie.Need-enum-told-2
+enum-told-2 c = search needs
+
+enum-told-3 : tie.Need-enum-told-3
+enum-told-3 c = search needs
+
+renew-rows-requires : tie.Need-renew-rows-requires
+renew-rows-requires c κs =
+    let a = c .before .before .before in
+    let d = a .before .before in
+    let p = start d .pre in
+    let k = p .1 in
+    let r = ready d (p .0 .space) (p .0 .index) (k .table) (p .0 .is) (k .holds) (k .shaped) (a .enum-told3 .given .1) in
+    let first = ap (λ (g : Span). g .f) (r .span-is) in
+    let last = ap (λ (g : Span). g .l) (r .span-is) in (
+      (omega (arith, first, last, r .works .spans .ordered), (omega (arith, last, r .works .spans .below, r .works .count, k .shaped .row-count), k)),
+      subst UnitFactors (sym (r .factors-are)) (r .works .unit),
+    )
 
 same-length : tie.Need-same-length
 same-length c = search needs
@@ -52,29 +88,7 @@ same-length-2 : tie.Need-same-length-2
 same-length-2 c = search needs
 
 returns : tie.Need-returns
-returns c s j t is h shaped = step-large j _ t _ _ (jumps-refused _ _ (c .before .before .jumps .ensures s j t is h (shaped .row-count)) (not-true _ (c .if1 .taken)))
-
-span-requires : tie.Need-span-requires
-span-requires c κs = search needs
-
-enum-told : tie.Need-enum-told
-enum-told c = search needs
-
-enum-known-span : tie.Need-enum-known-span
-enum-known-span c = search needs
-
-mix-requires : tie.Need-mix-requires
-mix-requires c κs =
-    let b = c .before .before .before in
-    let e = b .before .before .before .before in
-    let p = start e .pre in
-    let k = p .1 in
-    let u = jumped e (p .0 .space) (p .0 .index) (k .table) (p .0 .is) (k .holds) (k .shaped) in
-    let n = size e (p .0 .space) (p .0 .index) (k .table) (p .0 .is) (k .holds) (k .shaped) in
-    let g = span-is b (p .0 .space) (p .0 .index) (k .table) (p .0 .is) (k .holds) (k .shaped) in (
-      spanned (p .0 .index) (u .of) (u .is) (jumps-fit (p .0 .index) _ (k .table) (u .answers)) (omega (arith, n, k .shaped .rows-fit)) g,
-      (omega (arith, span-inverts (p .0 .index) (u .of) g .below, n), k),
-    )
+returns c s j t is h shaped = let m = c .before .before .before in step-large j _ t (works m s j t is h shaped .answers) _ _ _ _ (told m s j t is h shaped (not-true _ (c .if1 .taken)))
 
 same-length-3 : tie.Need-same-length-3
 same-length-3 c = search needs
@@ -83,10 +97,7 @@ same-length-4 : tie.Need-same-length-4
 same-length-4 c = search needs
 
 returns-2 : tie.Need-returns-2
-returns-2 c s j t is h shaped =
-    let e = c .before .before .before .before in
-    let u = jumped e s j t is h shaped in
-    step-shapeless j _ t _ _ (u .answers) (span-refused _ (sym (c .before .before .span .ensures (u .of) j (u .is) (size e s j t is h shaped)) ∙ c .enum-told .given .1))
+returns-2 c s j t is h shaped = ended (c .before .before) s j t is h shaped refusals.TooLarge (c .enum-told .given .1) (λ z. let x : _≡_ {A = ℕ} 0 1 = cc in omega arith)
 
 same-length-5 : tie.Need-same-length-5
 same-length-5 c = search needs
@@ -95,27 +106,35 @@ same-length-6 : tie.Need-same-length-6
 same-length-6 c = search needs
 
 returns-3 : tie.Need-returns-3
-returns-3 c s j t is h shaped =
-    let m = c .before .before in
-    let b = m .before .before .before .before in
-    let u = jumped (b .before .before .before .before) s j t is h shaped in
-    step-mixed j _ t _ _ (m .mix .result) _ _ (u .answers) (span-is b s j t is h shaped) (m .mix .ensures t j (u .of) h shaped (u .is))
+returns-3 c s j t is h shaped = ended (c .before .before) s j t is h shaped refusals.Shape (c .enum-told2 .given .1) (λ z. let x : _≡_ {A = ℕ} 0 1 = cc in omega arith)
+
+same-length-7 : tie.Need-same-length-7
+same-length-7 c = search needs
+
+same-length-8 : tie.Need-same-length-8
+same-length-8 c = search needs
+
+returns-4 : tie.Need-returns-4
+returns-4 c s j t is h shaped = let m = c .before .before .before in step-done j _ t (works m s j t is h shaped .answers) _ _ _ _ (told m s j t is h shaped (not-false _ (c .if1 .left)))
 
 pub step-spec : {M : Type 1} → statement M
 step-spec =
     tie.close
     (tie.spec
-    jumps-requires
+    plan-step-requires
+    enum-told
+    enum-told-2
+    enum-told-3
+    renew-rows-requires
     same-length
     same-length-2
     returns
-    span-requires
-    enum-told
-    enum-known-span
-    mix-requires
     same-length-3
     same-length-4
     returns-2
     same-length-5
     same-length-6
-    returns-3)
+    returns-3
+    same-length-7
+    same-length-8
+    returns-4)

@@ -1,5 +1,6 @@
 -- Before the turn at a the parts before segment a are recovered: the weight buffers hold the last of them, the answer buffers the
 -- coefficients of all; one part more, or its refusal, and after the last part the beam. Assumes nothing.
+use borrow.Author.Needs.{needs}
 use mathlib.Core.List.{List, _++_}
 use mathlib.Core.Path.{_≡_, refl, sym, _∙_, ap, subst}
 use Prim.Native.Nat.{ℕ, _+_, _-_, _<_, _≤_}
@@ -12,11 +13,13 @@ use Rattle.theorems_beams.specs.Sections.{section, partAt}
 use Rattle.build_space.specs.Machine.{space}
 use Rattle.build_space.proofs.Legal.{legal-column-count-high}
 use Rattle.build_space.proofs.Partial.{part-end-partial}
-use Rattle.build.specs.declared.Built.the-variants.{Refused}
+use Rattle.build.specs.declared.Built.the-variants.{Rows, Refused}
 use Rattle.theorems_recovery.specs.Recovery.{recovered}
 use Rattle.theorems_recovery.specs.RecoveryCall.{listed, numeratorOf, denominatorOf}
-use Rattle.recover.specs.Leaves.{JoinsLeave, BeamEnds}
-use Rattle.recover.proofs.Beam.{PartDone, told-done, told-refused, Before, before-first, starts, rows-within, more-within, part-rows, part-count, part-more, part-refused, parts-done}
+use Rattle.build_rows.proofs.Left.{Done}
+use Rattle.recover.specs.Leaves.{toldJoins, JoinsLeave, BeamEnds}
+use Rattle.recover.specs.declared.Joined.{Joined}
+use Rattle.recover.proofs.Beam.{part-done, rows-told, part-halted, refusal-told, Before, before-first, starts, rows-within, more-within, part-rows, part-count, part-more, part-refused, parts-done}
 use Rattle.recover.proofs.parts.recover_parts.Statement.{statement}
 use Rattle.recover.proofs.parts.recover_parts.Tie as tie
 
@@ -119,28 +122,34 @@ module _ (c : tie.After-recover-at Inv-loop μ-loop) where
   state = at .loop .inv .state
 
   -- no refusal
-  module _ (ok : c .recover-at .result .refused ≡ 0) where
-    done : PartDone (recovered part own) (rowCount part) (c .recover-at .result) (at .loop .num) (at .loop .den) num-after den-after
-    done = told-done _ _ _ _ _ _ part own left ok
+  module _ {n : ℕ} (told : c .recover-at .result .built ≡ Rows n) where
+    done : Done (λ q. q .table) (toldJoins (rowCount part)) (at .loop .num) (at .loop .den) num-after den-after (recovered part own) (c .recover-at .result)
+    done = part-done (rowCount part) (recovered part own) left told
 
-    rows-told : at .loop .rows + c .recover-at .result .rows ≡ at .loop .rows + rowCount part
-    rows-told = ap (λ (n : ℕ). at .loop .rows + n) (done .rows-are)
+    rows-are : n ≡ rowCount part
+    rows-are = rows-told (rowCount part) (recovered part own) left done told
 
-    more-inside : at .loop .rows + c .recover-at .result .rows ≤ length given
-    more-inside = omega (arith, rows-told, more-within _ _ _ (start .pre .0 .0) given (start .pre .1 .0 .0) state turn)
+    more-inside : at .loop .rows + n ≤ length given
+    more-inside = omega (arith, rows-are, more-within _ _ _ (start .pre .0 .0) given (start .pre .1 .0 .0) state turn)
 
-    own-few : c .recover-at .result .rows ≤ 72
-    own-few = omega (arith, done .rows-are, part-rows _ _ _ (start .pre .0 .0) given (start .pre .1 .0 .0) state turn)
+    own-few : n ≤ 72
+    own-few = omega (arith, rows-are, part-rows _ _ _ (start .pre .0 .0) given (start .pre .1 .0 .0) state turn)
+
+enum-known-built : tie.Need-enum-known-built Inv-loop μ-loop
+enum-known-built c = search needs
+
+enum-known-built-2 : tie.Need-enum-known-built-2 Inv-loop μ-loop
+enum-known-built-2 c = search needs
 
 clear-requires : tie.Need-clear-requires Inv-loop μ-loop
 clear-requires c κs =
-    let m = c .before .before .before .before .before .before in
+    let m = c .before .before .before .before .before .before .before in
     let p = start m .pre .0 .1 in
     (omega arith, (omega (arith, num-same m, p .0), omega (arith, den-same m, p .1)))
 
 clear-requires-2 : tie.Need-clear-requires-2 Inv-loop μ-loop
 clear-requires-2 c κs =
-    let m = c .before .before .before .before .before .before .before .before .before .before .before in
+    let m = c .before .before .before .before .before .before .before .before .before .before .before .before in
     let p = start m .pre .1 .1 in
     let v = at m .loop .inv in
     (omega arith, (omega (arith, p .0, v .coef-num-long), omega (arith, p .1, v .coef-den-long)))
@@ -150,8 +159,9 @@ cast-place c = omega arith
 
 add-place : tie.Need-add-place Inv-loop μ-loop
 add-place c =
-    let m = c .before .before .before .before .before .before .before .before .before .before .before .before .before .before in
-    omega (arith, turn m, start m .pre .0 .0 .few)
+    let m = c .before .before .before .before .before .before .before .before .before .before .before .before .before .before .before in
+    let g = c .before .before .before .before .before .before .before .before .before .before .known-told .given in
+    omega (arith, turn m, start m .pre .0 .0 .few, g .1)
 
 place-requires : tie.Need-place-requires Inv-loop μ-loop
 place-requires c κs = tt
@@ -159,7 +169,7 @@ place-requires c κs = tt
 -- ---- the part is refused
 module _ (c : tie.After-place Inv-loop μ-loop) where
   abbrev refused-at : tie.After-recover-at Inv-loop μ-loop
-  refused-at = c .before .before .before .before .before .before .before .before .before .before .before .before .before .before .before
+  refused-at = c .before .before .before .before .before .before .before .before .before .before .before .before .before .before .before .before
 
 same-length : tie.Need-same-length Inv-loop μ-loop
 same-length c = c .before .before .before .before .before .before .before .before .clear .kept .0 ∙ num-same (refused-at c)
@@ -177,35 +187,39 @@ returns : tie.Need-returns Inv-loop μ-loop
 returns c =
     let m = refused-at c in
     let g = start m in
-    let r = told-refused _ _ _ _ _ _ (recovered (part m) (own m)) (left m) (c .before .before .before .before .before .before .before .before .before .before .before .if1 .taken) in
-    let k = c .before .before .before .before .before .before .before .before .clear .ensures in
-    let k2 = c .before .before .before .clear2 .ensures in
+    let b = c .before .before .before .before .before .before .before .before .before .before .before .before .built .given in
+    let r = part-halted (rowCount (part m)) (recovered (part m) (own m)) (left m) (b .1) in
+    let k = c .before .before .before .before .before .before .before .before .clear in
+    let k2 = c .before .before .before .clear2 in
     let v = at m .loop .inv in
-    subst (λ (place : ℕ). BeamEnds (s m) (length (given m)) (recovered (s m) (given m)) (Refused (m .recover-at .result .refused) place) (g .args .num .now) (g .args .den .now) (g .args .coef-num .now) (g .args .coef-den .now)
-    (c .before .before .before .before .before .before .before .before .clear .last .0) (c .before .before .before .before .before .before .before .before .clear .last .1 .0) (c .before .before .before .clear2 .last .0) (c .before .before .before .clear2 .last .1 .0))
+    subst (λ (place : ℕ). BeamEnds (s m) (length (given m)) (recovered (s m) (given m)) (Refused (b .0 .0) place) (g .args .num .now) (g .args .den .now) (g .args .coef-num .now) (g .args .coef-den .now) (k .last .0) (k .last .1 .0) (k2 .last .0)
+    (k2 .last .1 .0))
     (sym (c .place .ensures))
-    (part-refused _ _ _ (g .pre .0 .0) (given m) (g .pre .1 .0 .0) (state m) (turn m) (r .refuses) (omega (arith, g .pre .0 .1 .0, v .num-long)) (omega (arith, g .pre .0 .1 .1, v .den-long)) (g .pre .1 .1 .0) (g .pre .1 .1 .1)
-    (r .num-kept) (r .den-kept) (k .0) (k .1) (k2 .0) (k2 .1))
+    (part-refused _ _ _ (g .pre .0 .0) (given m) (g .pre .1 .0 .0) (state m) (turn m) (refusal-told (rowCount (part m)) (recovered (part m) (own m)) (left m) r (b .1)) (omega (arith, g .pre .0 .1 .0, v .num-long)) (omega (arith, g .pre .0 .1 .1, v .den-long))
+    (g .pre .1 .1 .0) (g .pre .1 .1 .1) (r .num-kept) (r .den-kept) (k .ensures .0) (k .ensures .1) (k2 .ensures .0) (k2 .ensures .1))
 
 -- ---- the part is answered
 write-requires : tie.Need-write-requires Inv-loop μ-loop
 write-requires c κs =
-    let m = c .before .before .before .before .before .before in
+    let m = c .before .before .before .before .before .before .before .before in
     let p = start m .pre .1 .1 in
     let v = at m .loop .inv in
-    let z : m .recover-at .result .refused ≡ 0 = omega (arith, c .before .before .if1 .left) in
+    let z = c .before .before .before .before .built2 .given .1 in
     (own-few m z, (omega (arith, more-inside m z, p .0, v .coef-num-long), omega (arith, more-inside m z, p .1, v .coef-den-long)))
 
 -- after its coefficients are written
 module _ (c : tie.After-coef-den2 Inv-loop μ-loop) where
   abbrev answered-at : tie.After-recover-at Inv-loop μ-loop
-  answered-at = c .before .before .before .before .before .before .before .before .before
+  answered-at = c .before .before .before .before .before .before .before .before .before .before .before
 
-  ok : answered-at .recover-at .result .refused ≡ 0
-  ok = omega (arith, c .before .before .before .before .before .if1 .left)
+  abbrev rows-of : ℕ
+  rows-of = c .before .before .before .before .before .before .before .built2 .given .0 .0
+
+  told : answered-at .recover-at .result .built ≡ Rows rows-of
+  told = c .before .before .before .before .before .before .before .built2 .given .1
 
 add-rows : tie.Need-add-rows Inv-loop μ-loop
-add-rows c = let m = answered-at c in omega (arith, more-inside m (ok c), legal-column-count-high _ _ _ (start m .pre .0 .0), start m .pre .1 .0 .0)
+add-rows c = let m = answered-at c in omega (arith, more-inside m (told c), legal-column-count-high _ _ _ (start m .pre .0 .0), start m .pre .1 .0 .0)
 
 loop-less : tie.Need-loop-less Inv-loop μ-loop
 loop-less c =
@@ -218,19 +232,19 @@ loop-again c =
     let m = answered-at c in
     let g = start m in
     let w = c .before .before in
-    let q = done m (ok c) in
-    let n = q .rows-are in
+    let q = done m (told c) in
+    let n = rows-are m (told c) in
     let v = at m .loop .inv in
     let b = state m in
     let count = part-count _ _ _ (g .pre .0 .0) (given m) (g .pre .1 .0 .0) b (turn m) (q .answers) in
-    let inside = more-inside m (ok c) in
-    let z = w .write .ensures (b .reached .coefficients) (q .reached .coefficients) (g .args .coef-num .now) (g .args .coef-den .now) (q .of-is) (b .count) (count ∙ sym n) (b .coef-num-is) (b .coef-den-is) (omega (arith, inside, g .pre .1 .1 .0)) (omega (arith, inside, g .pre .1 .1 .1)) in
+    let inside = more-inside m (told c) in
+    let z = w .write .ensures (b .reached .coefficients) (q .reached .coefficients) (g .args .coef-num .now) (g .args .coef-den .now) (ap (λ (x : Joined). x .of) (q .told-is)) (b .count) (count ∙ sym n) (b .coef-num-is) (b .coef-den-is) (omega (arith, inside, g .pre .1 .1 .0)) (omega (arith, inside, g .pre .1 .1 .1)) in
     record {
       num-long = num-same m;
       den-long = den-same m;
       coef-num-long = w .write .kept .0 ∙ v .coef-num-long;
       coef-den-long = w .write .kept .1 .0 ∙ v .coef-den-long;
-      state = subst (λ (e : ℕ). Before (s m) (given m) (g .args .num .now) (g .args .den .now) (g .args .coef-num .now) (g .args .coef-den .now) (num-after m) (den-after m) (w .write .last .0) (w .write .last .1 .0) (at m .loop .rows + m .recover-at .result .rows) e) (sym (end-is (ended m)))
+      state = subst (λ (e : ℕ). Before (s m) (given m) (g .args .num .now) (g .args .den .now) (g .args .coef-num .now) (g .args .coef-den .now) (num-after m) (den-after m) (w .write .last .0) (w .write .last .1 .0) (at m .loop .rows + rows-of c) e) (sym (end-is (ended m)))
           (subst (λ (k : ℕ). Before (s m) (given m) (g .args .num .now) (g .args .den .now) (g .args .coef-num .now) (g .args .coef-den .now) (num-after m) (den-after m) (w .write .last .0) (w .write .last .1 .0) (at m .loop .rows + k) (partEnd (s m) (first (ended m)))) (sym n)
           (part-more _ _ _ (g .pre .0 .0) (given m) (g .pre .1 .0 .0) b (turn m) (q .answers) (q .num-is) (q .den-is)
           (z .0 ∙ ap (λ (k : ℕ). listed numeratorOf (at m .loop .rows + k) (b .reached .coefficients ++ q .reached .coefficients) (g .args .coef-num .now)) n)
@@ -277,6 +291,7 @@ recover-parts-spec =
     loop-holds
     part-end-requires
     recover-at-requires
+    enum-known-built
     clear-requires
     clear-requires-2
     cast-place
@@ -287,6 +302,7 @@ recover-parts-spec =
     same-length-3
     same-length-4
     returns
+    enum-known-built-2
     write-requires
     add-rows
     loop-less

@@ -1,104 +1,132 @@
--- Before the turn at j the buffers and arrays hold what the joins before j gave, with a row less for each of their conditions; the
--- orders at join j are then the next steps. Assumes nothing.
+-- Before the turn at j the buffers and arrays hold what the joins before j gave, but for the rows and coefficients of the segments after
+-- segment j. The turn brings the next segment's in and takes the orders at join j. Assumes nothing.
 use borrow.Author.Needs.{needs}
 use mathlib.Core.Path.{_≡_, refl, sym, _∙_, ap, ap₂, subst}
-use mathlib.Core.List.{List, map}
+use mathlib.Core.List.{List, [], _++_, map, append-nil}
 use Prim.Native.Nat.{ℕ, suc, _+_, _-_, _<_, _≤_}
 use native.Mathlib.Omega.{arith}
 use native.Mathlib.Numerals.{add-one}
 use lib.IntN.{ℤ}
-use lib.ListN.{length, length-map}
-use Rattle.base_exact.specs.Rational.{int}
-use Rattle.base_outcome.specs.Outcome.{Outcome, answer, capped, repeat}
-use Rattle.spec_spline.specs.Space.{Space, segments, columnCount, conditionCount, conditionsBefore, rowCount}
-use Rattle.spec_spline.specs.Table.{identity, numerators, denominators}
-use Rattle.base_outcome.proofs.Outcome.{repeat-more, repeat-stops}
-use Rattle.build_space.specs.Machine.{space}
-use Rattle.build_space.proofs.Bounds.{conditions-before-zero, conditions-before-next}
-use Rattle.build_space.proofs.Legal.{legal-row-count-sum}
-use Rattle.build_cells.specs.Held.{Holds, Kept}
-use Rattle.build_cells.proofs.Buffer.{holds-left, kept-then, kept-numerators, kept-denominators, numerators-again, denominators-again}
-use Rattle.build_conditions.specs.Sides.{JoinIs, JoinFits}
-use Rattle.build_factors.specs.Jumps.{AllFit}
+use lib.ListN.{length, take, drop, take-append-drop, drop-of-length-le}
+use Rattle.base_exact.specs.Rational.{ℚ, int}
 use Rattle.base_fraction.specs.Fractions.{fractions}
 use Rattle.base_fraction.specs.declared.arrays.Fractions.{Fractions}
-use Rattle.build.proofs.Stepped.{identity-shaped}
+use Rattle.base_outcome.specs.Outcome.{answer, capped, repeat}
+use Rattle.spec_spline.specs.Space.{Space, segments, degree, firstColumn, conditionCount, conditionsBefore, rowCount}
+use Rattle.spec_spline.specs.Table.{Table, identity}
 use Rattle.spec_spline.proofs.Space.{firstColumn-mono}
-use Rattle.build.proofs.Joins.{join-whole, join-fits, conditions-left}
+use Rattle.build_space.specs.Machine.{space}
+use Rattle.build_space.specs.Legal.{PartLegal}
+use Rattle.build_space.proofs.Bounds.{first-column-zero, first-column-next, conditions-before-zero}
+use Rattle.build_space.proofs.Legal.{legal-degree-high, legal-row-count-sum}
+use Rattle.build_factors.specs.Jumps.{AllFit}
+use Rattle.build.specs.Leaves.{Start}
+use Rattle.build.specs.declared.Built.the-variants.{Rows, Refused}
+use Rattle.build.proofs.Grown.{first-proper}
+use Rattle.build.proofs.Joins.{AtJoin, at-join}
+use Rattle.build.proofs.Repeated.{State, holds, goes-on, ends, all-done}
+use Rattle.build.proofs.Turns.{later, later-none}
 use Rattle.theorems_recovery.specs.Recovery.{Combination, recoverOrders, recoverJoins, recovered}
 use Rattle.theorems_recovery.proofs.Refusals.{orders-stop}
-use Rattle.recover.specs.Leaves.{Leaves, JoinsLeave, Started}
+use Rattle.recover.specs.Leaves.{toldNumbers, toldJoins, Leaves, JoinsLeave, grownNumbered}
+use Rattle.recover.specs.declared.Joined.{Joined}
 use Rattle.recover.specs.declared.RowCoefficients.{RowCoefficients}
-use Rattle.recover.proofs.Orders.{Done, told-done, Stopped, told-stopped, Sound, orders-sound}
+use Rattle.recover.specs.declared.Refusal.the-variants as refusals
+use Rattle.recover.proofs.Orders.{leaves-none, leaves-some, number-told, Sound}
+use Rattle.recover.proofs.Turns.{later-numbers, map-append, columns-fit, columns-count, join-turns}
 use Rattle.recover.proofs.step.recover_joins.Statement.{statement}
 use Rattle.recover.proofs.step.recover_joins.Tie as tie
 
--- the first j joins are answered
-record State (s : Space) (os : List ℤ) (num₀ den₀ : List ℤ) (columns : ℕ) (num dens : List ℤ) (present : Fractions) (rows j : ℕ) : Type 0 where
-  reached : Combination
-  answers : recoverJoins s os j ≡ answer reached
-  sound : Sound reached rows columns
-  present-is : present ≡ fractions (reached .coefficients)
-  num-is : num ≡ numerators (reached .table) num₀
-  den-is : dens ≡ denominators (reached .table) den₀
-
-record Inv (s : Space) (joins : ℕ) (num₀ den₀ : List ℤ) (columns : ℕ) (cs : Fractions) (num dens : List ℤ) (present : Fractions) (rows j : ℕ) : Type 0 where
-  within : j ≤ joins
-  rows-are : rows + conditionsBefore s j ≡ columnCount s
+record Inv (b d o os : List ℤ) (num₀ den₀ : List ℤ) (columns : ℕ) (num dens : List ℤ) (rows : ℕ) (present : Fractions) (j : ℕ) : Type 0 where
+  within : j ≤ length o
+  rows-are : rows + conditionsBefore (space b d o) j ≡ firstColumn (space b d o) (suc j)
   num-long : length num ≡ length num₀
   den-long : length dens ≡ length den₀
-  state : (os : List ℤ) → cs ≡ fractions (map int os) → length os ≡ columns → AllFit (map int os) → State s os num₀ den₀ columns num dens present rows j
+  part : PartLegal b d o
+  begun : Start (space b d o) num₀ den₀ columns
+  given : length os ≡ columns
+  fit : AllFit (map int os)
+  state : State (join-turns b d o part columns (begun .count) (begun .room) os given fit) num₀ den₀ num dens j
+  is : present ≡ fractions (state .reached .coefficients)
 
 abbrev Inv-loop : tie.InvT-loop
-Inv-loop breaks degrees orders num₀ den₀ columns present₀ rows₀ j₀ num den present rows j = Inv (space breaks degrees orders) (length orders) num₀ den₀ columns present₀ num den present rows j
+Inv-loop breaks degrees orders ordinates num₀ den₀ columns rows₀ present₀ j₀ num den rows present j = Inv breaks degrees orders ordinates num₀ den₀ columns num den rows present j
 
 abbrev μ-loop : tie.MeasureT-loop
-μ-loop breaks degrees orders num₀ den₀ columns present₀ rows₀ j₀ num den present rows j = length orders - j
+μ-loop breaks degrees orders ordinates num₀ den₀ columns rows₀ present₀ j₀ num den rows present j = length orders - j
 
--- ---- one turn, in the definitions' terms
+abbrev lists : tie.Start Inv-loop μ-loop → Space
+lists c = space (c .args .breaks .now) (c .args .degrees .now) (c .args .orders .now)
 
-joins-none : (s : Space) (os : List ℤ) → recoverJoins s os 0 ≡ answer (record { table = identity (columnCount s); coefficients = map int os })
-unfolding recoverJoins repeat
-joins-none s os = refl
+-- ---- before the first join
 
-module _ {s : Space} {os : List ℤ} {num₀ den₀ : List ℤ} {columns : ℕ} {num dens : List ℤ} {present : Fractions} {rows j : ℕ} (start : Started s num₀ den₀ columns) (st : State s os num₀ den₀ columns num dens present rows j) where
-  holds : Holds num dens (st .reached .table)
-  holds = holds-left num₀ den₀ (st .reached .table) (start .holds .num-long) (start .holds .den-long) (st .num-is) (st .den-is) (st .sound .proper .fit)
+degree-at-requires : tie.Need-degree-at-requires Inv-loop μ-loop
+degree-at-requires c κs = (omega (arith, c .pre .0 .0 .lists .order-count), c .pre .0 .0 .lists .degrees-legal)
 
-  -- all orders are done: one join more
-  goes-on : {n : ℕ} → n ≡ conditionCount s j → (num′ dens′ : List ℤ) (told : RowCoefficients) → Done num dens num′ dens′ (recoverOrders s j (conditionCount s j) (st .reached)) told → State s os num₀ den₀ columns num′ dens′ (told .of) (rows - n) (j + 1)
-  unfolding recoverJoins
-  goes-on count num′ dens′ told d = record {
-    reached = d .reached;
-    answers = ap (recoverJoins s os) (add-one j) ∙ repeat-more j (λ j. recoverOrders s j (conditionCount s j)) (record { table = identity (columnCount s); coefficients = map int os }) (st .answers) ∙ d .answers;
-    sound = subst (λ n. Sound (d .reached) (rows - n) columns) (sym count) (orders-sound s j (conditionCount s j) (st .reached) (d .answers) (st .sound));
-    present-is = d .of-is;
-    num-is = d .num-is ∙ ap (numerators (d .reached .table)) (st .num-is) ∙ numerators-again (d .reached .table) (st .reached .table) num₀;
-    den-is = d .den-is ∙ ap (denominators (d .reached .table)) (st .den-is) ∙ denominators-again (d .reached .table) (st .reached .table) den₀;
-  }
+add-rows : tie.Need-add-rows Inv-loop μ-loop
+add-rows c = omega (arith, c .degree-at .ensures, legal-degree-high _ _ _ (c .before .pre .0 .0 .lists) 0 (omega (arith, c .before .pre .0 .0 .lists .order-count)))
 
-  -- one is refused: so is the part
-  ends : j < segments s - 1 → (num′ dens′ : List ℤ) (told : RowCoefficients) → Stopped num dens num′ dens′ (recoverOrders s j (conditionCount s j) (st .reached)) told
-      → {place : ℕ} → place ≡ capped j → JoinsLeave (recovered s os) (rowCount s) (record { refused = told .refused; place = place; rows = 0; of = told .of }) num₀ den₀ num′ dens′
-  unfolding recoverJoins recovered
-  ends l num′ dens′ told d {place} placed =
-      subst (λ (o : Outcome Combination). JoinsLeave o (rowCount s) (record { refused = told .refused; place = place; rows = 0; of = told .of }) num₀ den₀ num′ dens′)
-      (sym (repeat-stops (segments s - 1) j (λ j. recoverOrders s j (conditionCount s j)) (record { table = identity (columnCount s); coefficients = map int os }) l (st .answers) (d .refuses))) (
-        ap₂ (λ (r : RowCoefficients) (p : ℕ). record { refused = r .refused; place = p; rows = 0; of = r .of }) (d .told) (placed ∙ sym (orders-stop s j (conditionCount s j) (st .reached) (d .code) (d .place) (d .refuses) .1)),
-        kept-then (subst (Kept num₀) (sym (st .num-is)) (kept-numerators (st .reached .table) num₀ (start .holds .num-long))) (d .num-kept),
-        kept-then (subst (Kept den₀) (sym (st .den-is)) (kept-denominators (st .reached .table) den₀ (start .holds .den-long))) (d .den-kept),
-      )
+no-fractions-requires : tie.Need-no-fractions-requires Inv-loop μ-loop
+no-fractions-requires c κs = search needs
+
+-- the first segment's rows
+module _ (c : tie.After-degree-at Inv-loop μ-loop) where
+  first-rows : c .degree-at .result + 1 ≡ firstColumn (lists (c .before)) 1
+  first-rows = omega (arith, c .degree-at .ensures, first-column-zero (lists (c .before)), first-column-next (lists (c .before)) 0)
+
+  first-few : firstColumn (lists (c .before)) 1 ≤ c .before .args .columns
+  first-few = omega (arith, firstColumn-mono (lists (c .before)) 1 (segments (lists (c .before))) (omega (arith, c .before .pre .0 .0 .lists .order-count)), c .before .pre .0 .1 .count)
+
+append-requires : tie.Need-append-requires Inv-loop μ-loop
+append-requires c κs =
+    let p = c .before .before .pre in
+    (omega (arith, first-rows (c .before), first-few (c .before), p .0 .1 .room), omega (arith, first-rows (c .before), first-few (c .before), p .1 .0))
+
+loop-holds : tie.Need-loop-holds Inv-loop μ-loop
+unfolding repeat
+loop-holds c =
+    let f = c .before .before in
+    let g = f .before in
+    let b = g .pre .0 .1 in
+    let s = lists g in
+    let n = g .args .columns in
+    let os = g .args .ordinates .now in
+    let m = firstColumn s 1 in
+    record {
+      within = omega arith;
+      rows-are = omega (arith, conditions-before-zero s, first-rows f);
+      num-long = refl;
+      den-long = refl;
+      part = g .pre .0 .0;
+      begun = b;
+      given = g .pre .1 .0;
+      fit = g .pre .1 .1;
+      state = record {
+        reached = record { table = take m (identity n); coefficients = map int (take m os) };
+        answers =
+            ap (λ n. answer (record { table = identity n; coefficients = map int os })) (sym (b .count))
+            ∙ ap₂ (λ (t : Table) (ps : List ℚ). answer (record { table = t; coefficients = ps })) (sym (take-append-drop m (identity n))) (ap (map int) (sym (take-append-drop m os)) ∙ map-append (take m os) (drop m os));
+        sound = subst (λ (k : ℕ). Sound (record { table = take m (identity n); coefficients = map int (take m os) }) k n) (let z : m ≡ m - conditionsBefore s 0 = omega (arith, conditions-before-zero s) in z) (record {
+          proper = first-proper m n (first-few f) (b .room);
+          count = columns-count os 0 m (omega (arith, first-few f, g .pre .1 .0));
+          fit = columns-fit os 0 m (g .pre .1 .1);
+        });
+        num-is = b .holds .num-is;
+        den-is = b .holds .den-is;
+      };
+      is = c .append .ensures [] (c .before .no-fractions .ensures) refl ∙ ap (λ k. fractions (map int (take k os))) (first-rows f);
+    }
 
 -- ---- the turn that the code takes
 
 abbrev at-loop : tie.After-join-at Inv-loop μ-loop → tie.At-loop Inv-loop μ-loop
-at-loop c = c .before .before .before
+at-loop c = c .before .before .before .before
 
 abbrev start : tie.After-join-at Inv-loop μ-loop → tie.Start Inv-loop μ-loop
-start c = at-loop c .before
+start c = at-loop c .before .before .before .before
 
-abbrev lists : tie.Start Inv-loop μ-loop → Space
-lists c = space (c .args .breaks .now) (c .args .degrees .now) (c .args .orders .now)
+taken : (c : tie.In-loop Inv-loop μ-loop) → c .before .loop .j < length (c .before .before .before .before .before .args .orders .now)
+taken c = omega arith
 
 -- the bounds of a turn
 record Turn (orders degrees j : ℕ) : Type 0 where
@@ -106,8 +134,8 @@ record Turn (orders degrees j : ℕ) : Type 0 where
   count : orders + 1 ≡ degrees
   few : degrees ≤ 12
 
-turn : (c : tie.In-loop Inv-loop μ-loop) → Turn (length (c .before .before .args .orders .now)) (length (c .before .before .args .degrees .now)) (c .before .loop .j)
-turn c = record { taken = omega arith; count = c .before .before .pre .0 .lists .order-count; few = c .before .before .pre .0 .few }
+turn : (c : tie.In-loop Inv-loop μ-loop) → Turn (length (c .before .before .before .before .before .args .orders .now)) (length (c .before .before .before .before .before .args .degrees .now)) (c .before .loop .j)
+turn c = let p = c .before .before .before .before .before .pre .0 .0 in record { taken = omega arith; count = p .lists .order-count; few = p .few }
 
 module _ (c : tie.After-join-at Inv-loop μ-loop) where
   abbrev s : Space
@@ -116,106 +144,130 @@ module _ (c : tie.After-join-at Inv-loop μ-loop) where
   abbrev j : ℕ
   j = at-loop c .loop .j
 
-  is : JoinIs (c .join-at .result) s j
-  is = join-whole _ _ (start c .args .orders .now) (c .join-at .ensures)
+  abbrev inv : Inv (start c .args .breaks .now) (start c .args .degrees .now) (start c .args .orders .now) (start c .args .ordinates .now) (start c .args .num .now) (start c .args .den .now) (start c .args .columns) (at-loop c .loop .num)
+      (at-loop c .loop .den) (at-loop c .loop .rows) (at-loop c .loop .present) j
+  inv = at-loop c .loop .inv
 
-  fitting : (k : ℕ) → k < c .before .condition-count .result → JoinFits (c .join-at .result) k
-  fitting k h = join-fits _ _ _ (start c .pre .0) j (turn (c .before .before) .taken) is k (subst (λ n. k < n) (c .before .condition-count .ensures) h)
+  here : AtJoin s (start c .args .columns) (at-loop c .loop .rows) (c .before .before .condition-count .result) (c .join-at .result) j
+  here = at-join _ _ _ (inv .part) j (turn (c .before .before .before) .taken) _ _ _ _ (c .join-at .ensures) (c .before .before .condition-count .ensures) (inv .begun .count) (inv .begun .room) (inv .rows-are)
 
-  room : c .before .condition-count .result ≤ at-loop c .loop .rows
-  room = omega (arith, conditions-left _ _ _ (start c .pre .0) j (turn (c .before .before) .taken), firstColumn-mono s (suc j) (segments s) (omega (arith, turn (c .before .before) .taken, turn (c .before .before) .count)), at-loop c .loop .inv .rows-are, c .before .condition-count .ensures)
+  -- the rows that come in
+  more-is : c .before .degree-at2 .result + 1 ≡ c .join-at .result .right .degree + 1
+  more-is = ap (λ n. n + 1) (c .before .degree-at2 .ensures ∙ ap (degree s) (add-one j) ∙ sym (here .is .right-is .degree-is))
 
-module _ (c : tie.After-recover-orders Inv-loop μ-loop) where
+  sound : Sound (inv .state .reached) (at-loop c .loop .rows) (start c .args .columns)
+  sound = subst (λ (n : ℕ). Sound (inv .state .reached) n (start c .args .columns)) (omega (arith, inv .rows-are)) (inv .state .sound)
+
+condition-count-requires : tie.Need-condition-count-requires Inv-loop μ-loop
+condition-count-requires c κs = (turn c .taken, c .before .before .before .before .before .pre .0 .0 .lists .orders-legal)
+
+add-degree-at : tie.Need-add-degree-at Inv-loop μ-loop
+add-degree-at c = let t = turn (c .before) in omega (arith, t .taken, t .count, t .few)
+
+degree-at-requires-2 : tie.Need-degree-at-requires-2 Inv-loop μ-loop
+degree-at-requires-2 c κs = let t = turn (c .before) in (omega (arith, t .taken, t .count), c .before .before .before .before .before .before .pre .0 .0 .lists .degrees-legal)
+
+add-more : tie.Need-add-more Inv-loop μ-loop
+add-more c =
+    let t = turn (c .before .before) in
+    omega (arith, c .degree-at2 .ensures, legal-degree-high _ _ _ (c .before .before .before .before .before .before .before .pre .0 .0 .lists) (c .before .before .before .loop .j + 1) (omega (arith, t .taken, t .count)))
+
+join-at-requires : tie.Need-join-at-requires Inv-loop μ-loop
+join-at-requires c κs = let t = turn (c .before .before) in let p = c .before .before .before .before .before .before .before .pre .0 .0 .lists in ((_, p), omega (arith, t .taken, t .count))
+
+recover-join-requires : tie.Need-recover-join-requires Inv-loop μ-loop
+recover-join-requires c κs =
+    let d = c .before .before in
+    let v = inv d in
+    let h = v .begun .holds in
+    let p = sound d in (
+      (here d .enough, (here d .fitting, (record { table = v .state .reached .table; holds = holds _ _ _ (h .num-long) (h .den-long) (v .state); shaped = p .proper .shaped }, record { of = v .state .reached .coefficients; is = v .is; fit = p .fit; count = p .count }))),
+      ((here d .low, here d .wide), (v .given, v .fit)),
+    )
+
+-- what it leaves
+module _ (c : tie.After-recover-join Inv-loop μ-loop) where
   abbrev sides : tie.After-join-at Inv-loop μ-loop
   sides = c .before .before .before
 
-  num-same : length (c .recover-orders .last .0) ≡ length (start sides .args .num .now)
-  num-same = c .recover-orders .kept .0 ∙ at-loop sides .loop .inv .num-long
+  left : Leaves (recoverOrders (s sides) (j sides) (conditionCount (s sides) (j sides)) (grownNumbered (s sides) (j sides) (start sides .args .columns) (start sides .args .ordinates .now) (inv sides .state .reached))) (c .recover-join .result)
+      (at-loop sides .loop .num) (at-loop sides .loop .den) (c .recover-join .last .1 .0) (c .recover-join .last .1 .1 .0)
+  left =
+      subst (λ n. Leaves (recoverOrders (s sides) (j sides) n (grownNumbered (s sides) (j sides) (start sides .args .columns) (start sides .args .ordinates .now) (inv sides .state .reached))) (c .recover-join .result)
+      (at-loop sides .loop .num) (at-loop sides .loop .den) (c .recover-join .last .1 .0) (c .recover-join .last .1 .1 .0)) (sides .before .before .condition-count .ensures)
+      (c .recover-join .ensures (s sides) (j sides) (inv sides .state .reached .table) (inv sides .state .reached .coefficients) (here sides .is)
+      (holds _ _ _ (inv sides .begun .holds .num-long) (inv sides .begun .holds .den-long) (inv sides .state)) (sound sides .proper .shaped) (inv sides .is) (sound sides .count) (sound sides .fit))
 
-  den-same : length (c .recover-orders .last .1 .0) ≡ length (start sides .args .den .now)
-  den-same = c .recover-orders .kept .1 .0 ∙ at-loop sides .loop .inv .den-long
+  num-same : length (c .recover-join .last .1 .0) ≡ length (start sides .args .num .now)
+  num-same = c .recover-join .kept .1 .0 ∙ inv sides .num-long
 
-  module _ (os : List ℤ) (e : start sides .args .cs ≡ fractions (map int os)) (size : length os ≡ start sides .args .columns) (f : AllFit (map int os)) where
-    st : State (s sides) os (start sides .args .num .now) (start sides .args .den .now) (start sides .args .columns) (at-loop sides .loop .num) (at-loop sides .loop .den) (at-loop sides .loop .present) (at-loop sides .loop .rows) (j sides)
-    st = at-loop sides .loop .inv .state os e size f
+  den-same : length (c .recover-join .last .1 .1 .0) ≡ length (start sides .args .den .now)
+  den-same = c .recover-join .kept .1 .1 .0 ∙ inv sides .den-long
 
-    left : Leaves (recoverOrders (s sides) (j sides) (conditionCount (s sides) (j sides)) (st .reached)) (c .recover-orders .result) (at-loop sides .loop .num) (at-loop sides .loop .den) (c .recover-orders .last .0) (c .recover-orders .last .1 .0)
-    left =
-        subst (λ n. Leaves (recoverOrders (s sides) (j sides) n (st .reached)) (c .recover-orders .result) (at-loop sides .loop .num) (at-loop sides .loop .den) (c .recover-orders .last .0) (c .recover-orders .last .1 .0))
-        (sides .before .condition-count .ensures)
-        (c .recover-orders .ensures (s sides) (j sides) (st .reached .table) (st .reached .coefficients) (is sides) (holds (start sides .pre .1 .0) st) (st .sound .proper .shaped) (st .present-is) (st .sound .count) (st .sound .fit))
-
-  before-last : j sides < segments (s sides) - 1
-  before-last = let t = turn (sides .before .before) in omega (arith, t .taken, t .count)
-
-loop-holds : tie.Need-loop-holds Inv-loop μ-loop
-loop-holds c =
-    let b = c .pre .1 .0 in
-    record {
-      within = omega arith;
-      rows-are = omega (arith, conditions-before-zero (lists c), b .count);
-      num-long = refl;
-      den-long = refl;
-      state = λ os e size f. record {
-        reached = record { table = identity (c .args .columns); coefficients = map int os };
-        answers = joins-none (lists c) os ∙ ap (λ n. answer (record { table = identity n; coefficients = map int os })) (sym (b .count));
-        sound = record { proper = record { shaped = identity-shaped (c .args .columns) (b .room); fit = b .holds .fit }; count = length-map os int ∙ size; fit = f };
-        present-is = e;
-        num-is = b .holds .num-is;
-        den-is = b .holds .den-is;
-      };
-    }
-
-condition-count-requires : tie.Need-condition-count-requires Inv-loop μ-loop
-condition-count-requires c κs = (turn c .taken, c .before .before .pre .0 .lists .orders-legal)
-
-join-at-requires : tie.Need-join-at-requires Inv-loop μ-loop
-join-at-requires c κs = let t = turn (c .before) in let p = c .before .before .before .pre .0 .lists in ((_, p), omega (arith, t .taken, t .count))
-
-recover-orders-requires : tie.Need-recover-orders-requires Inv-loop μ-loop
-recover-orders-requires c κs =
-    let d = c .before .before in
-    let g = start d .pre .1 .1 in
-    let x = at-loop d .loop .inv .state (g .ordinates) (g .is) (g .count) (g .fit) in
-    (room d, (fitting d, (record { table = x .reached .table; holds = holds (start d .pre .1 .0) x; shaped = x .sound .proper .shaped }, record { of = x .reached .coefficients; is = x .present-is; fit = x .sound .fit; count = x .sound .count })))
+  -- refused
+  refused : {code place : ℕ} {none : Fractions} → c .recover-join .result .refusal ≡ refusals.Refused code → place ≡ capped (j sides) → none ≡ fractions []
+      → JoinsLeave (recovered (s sides) (start sides .args .ordinates .now)) (rowCount (s sides)) (record { built = Refused code place; of = none }) (start sides .args .num .now) (start sides .args .den .now) (c .recover-join .last .1 .0) (c .recover-join .last .1 .1 .0)
+  unfolding recovered recoverJoins
+  refused {code} {place} {none} e placed empty =
+      let x = leaves-some _ left e in
+      let p = orders-stop (s sides) (j sides) (conditionCount (s sides) (j sides)) _ (x .code) (x .place) (x .refuses) in
+      ends _ _ _ (inv sides .begun .holds .num-long) (inv sides .begun .holds .den-long) (inv sides .state) (here sides .before-last) (toldJoins (rowCount (s sides))) x
+      (ap (λ (a : Fractions). record { built = Refused code place; of = a }) empty ∙ ap₂ (λ q r. record { built = Refused q r; of = fractions [] }) (number-told _ left x e) (placed ∙ sym (p .1)))
 
 place-requires : tie.Need-place-requires Inv-loop μ-loop
 place-requires c κs = search needs
 
-same-length : tie.Need-same-length Inv-loop μ-loop
-same-length c = num-same (c .before .before .before .before .before)
+enum-told : tie.Need-enum-told Inv-loop μ-loop
+enum-told c = search needs
 
-same-length-2 : tie.Need-same-length-2 Inv-loop μ-loop
-same-length-2 c = den-same (c .before .before .before .before .before)
+-- the call before a turn's end
+abbrev called : tie.After-present Inv-loop μ-loop → tie.After-recover-join Inv-loop μ-loop
+called c = c .before .before .before .before .before .before
 
-returns : tie.Need-returns Inv-loop μ-loop
-returns c os e size f =
-    let m = c .before .before .before .before .before in
-    ends (start (sides m) .pre .1 .0) (st m os e size f) (before-last m) _ _ (m .recover-orders .result) (told-stopped _ _ _ _ _ _ (left m os e size f) (c .if1 .taken)) (c .before .before .place .ensures)
+add-rows-2 : tie.Need-add-rows-2 Inv-loop μ-loop
+add-rows-2 c = let x = sides (called c) in omega (arith, more-is x, here x .low)
 
 sub-rows : tie.Need-sub-rows Inv-loop μ-loop
-sub-rows c = room (sides (c .before .before .before .before .before))
+sub-rows c = let x = sides (called c) in omega (arith, here x .enough)
+
+enum-known-refusal : tie.Need-enum-known-refusal Inv-loop μ-loop
+enum-known-refusal c = search needs
+
+no-fractions-requires-2 : tie.Need-no-fractions-requires-2 Inv-loop μ-loop
+no-fractions-requires-2 c κs = search needs
+
+same-length : tie.Need-same-length Inv-loop μ-loop
+same-length c = num-same (c .before .before .before .before .before .before .before)
+
+same-length-2 : tie.Need-same-length-2 Inv-loop μ-loop
+same-length-2 c = den-same (c .before .before .before .before .before .before .before)
+
+returns : tie.Need-returns Inv-loop μ-loop
+returns c = let r = c .before .before in let p = r .before .before in refused (p .before .before .before) (r .refusal .given .1) (p .place .ensures) (c .no-fractions2 .ensures)
 
 add-j : tie.Need-add-j Inv-loop μ-loop
-add-j c = let t = turn (sides (c .before .before .before .before .before) .before .before) in omega (arith, t .taken, t .count, t .few)
+add-j c = omega (arith, here (sides (called c)) .small)
 
 loop-less : tie.Need-loop-less Inv-loop μ-loop
-loop-less c = let t = turn (sides (c .before .before .before .before .before) .before .before) in omega (arith, t .taken)
+loop-less c = let t = turn (sides (called c) .before .before .before) in omega (arith, t .taken)
 
 loop-again : tie.Need-loop-again Inv-loop μ-loop
 loop-again c =
-    let m = c .before .before .before .before .before in
+    let m = called c in
     let x = sides m in
-    let t = turn (x .before .before) in
-    let n = x .before .condition-count .ensures in
+    let v = inv x in
+    let d = leaves-none _ (left m) (c .before .enum-told .given .1) in
     record {
-      within = omega (arith, t .taken);
-      rows-are = omega (arith, room x, at-loop x .loop .inv .rows-are, conditions-before-next (s x) (j x), n, ap (conditionsBefore (s x)) (add-one (j x)));
+      within = omega (arith, turn (x .before .before .before) .taken);
+      rows-are = omega (arith, here x .next, more-is x);
       num-long = num-same m;
       den-long = den-same m;
-      state = λ os e size f.
-          let y = st m os e size f in
-          goes-on (start x .pre .1 .0) y n _ _ (m .recover-orders .result) (told-done _ _ _ _ (j x) _ _ (orders-stop (s x) (j x) (conditionCount (s x) (j x)) (y .reached)) (left m os e size f) (omega (arith, c .if1 .left)));
+      part = v .part;
+      begun = v .begun;
+      given = v .given;
+      fit = v .fit;
+      state = goes-on _ _ _ (v .begun .holds .num-long) (v .begun .holds .den-long) (v .state) (here x .before-last) d;
+      is = ap (λ (y : RowCoefficients). y .of) (d .told-is);
     }
 
 same-length-3 : tie.Need-same-length-3 Inv-loop μ-loop
@@ -224,17 +276,23 @@ same-length-3 c = c .before .loop .inv .num-long
 same-length-4 : tie.Need-same-length-4 Inv-loop μ-loop
 same-length-4 c = c .before .loop .inv .den-long
 
+-- every join: the rows are counted, and all coefficients have come in
 returns-2 : tie.Need-returns-2 Inv-loop μ-loop
-unfolding recovered
-returns-2 c os e size f =
-    let b = c .before .before in
+unfolding recovered recoverJoins
+returns-2 c =
+    let g = c .before .before .before .before .before in
     let l = c .before .loop in
-    let p = b .pre .0 .lists in
-    let x = l .inv .state os e size f in
-    let z : l .j ≡ segments (lists b) - 1 = omega (arith, p .order-count) in
-    subst (λ (o : Outcome Combination). JoinsLeave o (rowCount (lists b)) (record { refused = 0; place = 0; rows = l .rows; of = l .present }) (b .args .num .now) (b .args .den .now) (l .num) (l .den))
-    (sym (ap (recoverJoins (lists b) os) (sym z) ∙ x .answers))
-    (ap₂ (λ (n : ℕ) (a : Fractions). record { refused = 0; place = 0; rows = n; of = a }) (omega (arith, l .inv .rows-are, legal-row-count-sum _ _ _ p, ap (conditionsBefore (lists b)) z)) (x .present-is), x .num-is, x .den-is)
+    let p = g .pre .0 .0 .lists in
+    let s = lists g in
+    let x = l .inv .state in
+    let os = g .args .ordinates .now in
+    let e : l .j ≡ segments s - 1 = omega (arith, p .order-count) in
+    let last : suc (l .j) ≡ segments s = omega (arith, p .order-count) in
+    let none : drop (firstColumn s (suc (l .j))) os ≡ [] = drop-of-length-le os {i = firstColumn s (suc (l .j))} (omega (arith, g .pre .1 .0, l .inv .begun .count, ap (firstColumn s) last)) in
+    all-done _ _ _ (toldJoins (rowCount s)) x e
+    (ap₂ (λ (t : Table) (ps : List ℚ). record { table = x .reached .table ++ t; coefficients = x .reached .coefficients ++ ps }) (later-none s (g .args .columns) (l .j) (l .inv .begun .count) last) (ap (map int) none)
+    ∙ ap₂ (λ (t : Table) (ps : List ℚ). record { table = t; coefficients = ps }) (append-nil (x .reached .table)) (append-nil (x .reached .coefficients)))
+    (ap₂ (λ (n : ℕ) (a : Fractions). record { built = Rows n; of = a }) (omega (arith, l .inv .rows-are, legal-row-count-sum _ _ _ p, ap (conditionsBefore s) e, ap (firstColumn s) last)) (l .inv .is))
 
 pub recover-joins-spec : {M : Type 1} → statement M
 recover-joins-spec =
@@ -242,15 +300,26 @@ recover-joins-spec =
     (tie.spec
     Inv-loop
     μ-loop
+    degree-at-requires
+    add-rows
+    no-fractions-requires
+    append-requires
     loop-holds
     condition-count-requires
+    add-degree-at
+    degree-at-requires-2
+    add-more
     join-at-requires
-    recover-orders-requires
+    recover-join-requires
     place-requires
+    enum-told
+    add-rows-2
+    sub-rows
+    enum-known-refusal
+    no-fractions-requires-2
     same-length
     same-length-2
     returns
-    sub-rows
     add-j
     loop-less
     loop-again

@@ -1,48 +1,44 @@
--- Before the turn at k the orders below k are done and the buffers and arrays hold what they gave. Assumes nothing.
+-- Before the turn at k the buffers and arrays hold what the orders below k gave, with k rows less; the order k is then the next step.
+-- Assumes nothing.
+use borrow.Author.Needs.{needs}
 use mathlib.Core.Path.{_≡_, refl, sym, _∙_, ap, subst}
-use mathlib.Core.List.{List}
+use mathlib.Core.List.{List, []}
 use Prim.Native.Nat.{ℕ, _+_, _-_, _<_, _≤_}
 use native.Mathlib.Omega.{arith}
-use native.Mathlib.Numerals.{add-one}
 use lib.IntN.{ℤ}
 use lib.ListN.{length}
 use Rattle.base_exact.specs.Rational.{ℚ}
-use Rattle.base_outcome.specs.Outcome.{Outcome, answer, repeat}
+use Rattle.base_fraction.specs.Fractions.{fractions}
+use Rattle.base_fraction.specs.declared.arrays.Fractions.{Fractions}
+use Rattle.base_outcome.specs.Outcome.{repeat}
 use Rattle.spec_spline.specs.Space.{Space}
 use Rattle.spec_spline.specs.Conditions.{conditions}
-use Rattle.spec_spline.specs.Table.{Table, numerators, denominators}
-use Rattle.base_outcome.proofs.Outcome.{repeat-more, repeat-stops}
-use Rattle.build_cells.specs.Held.{Holds, Shaped, Kept}
-use Rattle.build_cells.proofs.Buffer.{holds-left, numerators-again, denominators-again, kept-numerators, kept-denominators, kept-then}
+use Rattle.spec_spline.specs.Table.{Table}
+use Rattle.build_cells.specs.Held.{Holds, Shaped}
 use Rattle.build_conditions.specs.Sides.{JoinIs}
 use Rattle.build_conditions.specs.declared.Join.{Join}
 use Rattle.build_factors.specs.Jumps.{AllFit}
-use Rattle.base_fraction.specs.Fractions.{fractions}
-use Rattle.base_fraction.specs.declared.arrays.Fractions.{Fractions}
+use Rattle.build.proofs.Repeated.{State, holds, goes-on, ends, all-done}
 use Rattle.theorems_recovery.specs.Recovery.{Combination, recoverStep, recoverOrders}
-use Rattle.theorems_recovery.proofs.Refusals.{recover-stops}
-use Rattle.recover.specs.Leaves.{Leaves}
+use Rattle.recover.specs.Leaves.{toldNumbers, Leaves}
 use Rattle.recover.specs.declared.RowCoefficients.{RowCoefficients}
-use Rattle.recover.proofs.Stepped.{leaves-answer, leaves-refusal}
-use Rattle.recover.proofs.Orders.{Done, told-done, Stopped, told-stopped, Sound, recover-one-less}
+use Rattle.recover.specs.declared.Refusal.the-variants as refusals
+use Rattle.recover.proofs.Orders.{leaves-none, leaves-some, number-told, Sound}
+use Rattle.recover.proofs.Turns.{order-turns}
 use Rattle.recover.proofs.step.recover_orders.Statement.{statement}
 use Rattle.recover.proofs.step.recover_orders.Tie as tie
 
--- the orders below k are answered
-record State (num₀ den₀ num dens : List ℤ) (present : Fractions) (rows columns k : ℕ) (s : Space) (j : ℕ) (r : Combination) : Type 0 where
-  reached : Combination
-  answers : recoverOrders s j k r ≡ answer reached
-  sound : Sound reached (rows - k) columns
-  present-is : present ≡ fractions (reached .coefficients)
-  num-is : num ≡ numerators (reached .table) num₀
-  den-is : dens ≡ denominators (reached .table) den₀
+-- the coefficients of the state are in the arrays
+record Reached (s : Space) (j n rows columns : ℕ) (r : Combination) (num₀ den₀ num dens : List ℤ) (present : Fractions) (k : ℕ) : Type 0 where
+  state : State (order-turns s j n rows columns r) num₀ den₀ num dens k
+  is : present ≡ fractions (state .reached .coefficients)
 
 record Inv (num₀ den₀ : List ℤ) (join : Join) (n rows columns : ℕ) (cs : Fractions) (num dens : List ℤ) (present : Fractions) (k : ℕ) : Type 0 where
   within : k ≤ n
   num-long : length num ≡ length num₀
   den-long : length dens ≡ length den₀
-  state : (s : Space) (j : ℕ) (t : Table) (ps : List ℚ) → JoinIs join s j → Holds num₀ den₀ t → Shaped t rows columns → cs ≡ fractions ps → length ps ≡ rows → AllFit ps
-      → State num₀ den₀ num dens present rows columns k s j (record { table = t; coefficients = ps })
+  at : (s : Space) (j : ℕ) (t : Table) (ps : List ℚ) → JoinIs join s j → Holds num₀ den₀ t → Shaped t rows columns → cs ≡ fractions ps → length ps ≡ rows → AllFit ps
+      → Reached s j n rows columns (record { table = t; coefficients = ps }) num₀ den₀ num dens present k
 
 abbrev Inv-loop : tie.InvT-loop
 Inv-loop num₀ den₀ join n rows columns present₀ k₀ num den present k = Inv num₀ den₀ join n rows columns present₀ num den present k
@@ -50,49 +46,21 @@ Inv-loop num₀ den₀ join n rows columns present₀ k₀ num den present k = I
 abbrev μ-loop : tie.MeasureT-loop
 μ-loop num₀ den₀ join n rows columns present₀ k₀ num den present k = n - k
 
--- ---- one turn, in the definitions' terms
-
-orders-none : (s : Space) (j : ℕ) (r : Combination) → recoverOrders s j 0 r ≡ answer r
-unfolding recoverOrders repeat
-orders-none s j r = refl
-
-module _ {num₀ den₀ num dens : List ℤ} {present : Fractions} {rows columns k : ℕ} {s : Space} {j : ℕ} {r : Combination} (h : Holds num₀ den₀ (r .table)) (st : State num₀ den₀ num dens present rows columns k s j r) where
-  holds : Holds num dens (st .reached .table)
-  holds = holds-left num₀ den₀ (st .reached .table) (h .num-long) (h .den-long) (st .num-is) (st .den-is) (st .sound .proper .fit)
-
-  -- it is done: one order more
-  goes-on : (num′ dens′ : List ℤ) (told : RowCoefficients) → Done num dens num′ dens′ (recoverStep j (conditions s j k) (st .reached)) told → State num₀ den₀ num′ dens′ (told .of) rows columns (k + 1) s j r
-  unfolding recoverOrders
-  goes-on num′ dens′ told d =
-      record {
-        reached = d .reached;
-        answers = ap (λ n. recoverOrders s j n r) (add-one k) ∙ repeat-more k (λ k. recoverStep j (conditions s j k)) r (st .answers) ∙ d .answers;
-        sound = subst (λ (m : ℕ). Sound (d .reached) m columns) (let z : rows - k - 1 ≡ rows - (k + 1) = omega arith in z) (recover-one-less j (conditions s j k) (st .reached) (d .answers) (st .sound));
-        present-is = d .of-is;
-        num-is = d .num-is ∙ ap (numerators (d .reached .table)) (st .num-is) ∙ numerators-again (d .reached .table) (st .reached .table) num₀;
-        den-is = d .den-is ∙ ap (denominators (d .reached .table)) (st .den-is) ∙ denominators-again (d .reached .table) (st .reached .table) den₀;
-      }
-
-  -- it is refused: so are all
-  ends : (n : ℕ) → k < n → (num′ dens′ : List ℤ) (told : RowCoefficients) → Stopped num dens num′ dens′ (recoverStep j (conditions s j k) (st .reached)) told → Leaves (recoverOrders s j n r) told num₀ den₀ num′ dens′
-  unfolding recoverOrders
-  ends n l num′ dens′ told d =
-      leaves-refusal num₀ den₀ num′ dens′ (repeat-stops n k (λ k. recoverStep j (conditions s j k)) r l (st .answers) (d .refuses)) (d .told)
-      (kept-then (subst (Kept num₀) (sym (st .num-is)) (kept-numerators (st .reached .table) num₀ (h .num-long))) (d .num-kept))
-      (kept-then (subst (Kept den₀) (sym (st .den-is)) (kept-denominators (st .reached .table) den₀ (h .den-long))) (d .den-kept))
-
 loop-holds : tie.Need-loop-holds Inv-loop μ-loop
+unfolding repeat
 loop-holds c = record {
   within = omega arith;
   num-long = refl;
   den-long = refl;
-  state = λ s j t ps is h shaped e m f. record {
-    reached = record { table = t; coefficients = ps };
-    answers = orders-none s j (record { table = t; coefficients = ps });
-    sound = subst (λ (m : ℕ). Sound (record { table = t; coefficients = ps }) m (c .args .columns)) (let z : c .args .rows ≡ c .args .rows - 0 = omega arith in z) (record { proper = record { shaped = shaped; fit = h .fit }; count = m; fit = f });
-    present-is = e;
-    num-is = h .num-is;
-    den-is = h .den-is;
+  at = λ s j t ps is h shaped e m f. record {
+    state = record {
+      reached = record { table = t; coefficients = ps };
+      answers = refl;
+      sound = subst (λ (m : ℕ). Sound (record { table = t; coefficients = ps }) m (c .args .columns)) (let z : c .args .rows ≡ c .args .rows - 0 = omega arith in z) (record { proper = record { shaped = shaped; fit = h .fit }; count = m; fit = f });
+      num-is = h .num-is;
+      den-is = h .den-is;
+    };
+    is = e;
   };
 }
 
@@ -106,9 +74,10 @@ recover-step-requires c κs =
     let f = p .1 .0 (l .loop .k) (c .before .before .loop-test .taken) in
     let k = p .1 .1 .0 in
     let n = p .1 .1 .1 in
-    let x = l .loop .inv .state (f .space) (f .index) (k .table) (n .of) (f .is) (k .holds) (k .shaped) (n .is) (n .count) (n .fit) in (
+    let x = l .loop .inv .at (f .space) (f .index) (k .table) (n .of) (f .is) (k .holds) (k .shaped) (n .is) (n .count) (n .fit) in
+    let y = x .state .sound in (
       f,
-      (record { table = x .reached .table; holds = holds (k .holds) x; shaped = x .sound .proper .shaped }, record { of = x .reached .coefficients; is = x .present-is; fit = x .sound .fit; long = omega (arith, x .sound .count) }),
+      (record { table = x .state .reached .table; holds = holds _ _ _ (k .holds .num-long) (k .holds .den-long) (x .state); shaped = y .proper .shaped }, record { of = x .state .reached .coefficients; is = x .is; fit = y .fit; long = omega (arith, y .count) }),
     )
 
 -- what the turn leaves, in the definitions' terms
@@ -119,6 +88,9 @@ module _ (m : tie.After-recover-step Inv-loop μ-loop) where
   abbrev start : tie.Start Inv-loop μ-loop
   start = at-loop .before
 
+  taken : at-loop .loop .k < start .args .n
+  taken = m .before .before .before .loop-test .taken
+
   num-kept : length (m .recover-step .last .0) ≡ length (start .args .num .now)
   num-kept = m .recover-step .kept .0 ∙ at-loop .loop .inv .num-long
 
@@ -127,22 +99,26 @@ module _ (m : tie.After-recover-step Inv-loop μ-loop) where
 
   module _ (s : Space) (j : ℕ) (t : Table) (ps : List ℚ) (is : JoinIs (start .args .join) s j) (h : Holds (start .args .num .now) (start .args .den .now) t)
       (shaped : Shaped t (start .args .rows) (start .args .columns)) (e : start .args .cs ≡ fractions ps) (size : length ps ≡ start .args .rows) (f : AllFit ps) where
-    st : State (start .args .num .now) (start .args .den .now) (at-loop .loop .num) (at-loop .loop .den) (at-loop .loop .present) (start .args .rows) (start .args .columns) (at-loop .loop .k) s j (record { table = t; coefficients = ps })
-    st = at-loop .loop .inv .state s j t ps is h shaped e size f
+    before : Reached s j (start .args .n) (start .args .rows) (start .args .columns) (record { table = t; coefficients = ps }) (start .args .num .now) (start .args .den .now) (at-loop .loop .num) (at-loop .loop .den) (at-loop .loop .present) (at-loop .loop .k)
+    before = at-loop .loop .inv .at s j t ps is h shaped e size f
 
-    left : Leaves (recoverStep j (conditions s j (at-loop .loop .k)) (st .reached)) (m .recover-step .result) (at-loop .loop .num) (at-loop .loop .den) (m .recover-step .last .0) (m .recover-step .last .1 .0)
-    left = m .recover-step .ensures s j (st .reached .table) (st .reached .coefficients) is (holds h st) (st .sound .proper .shaped) (st .present-is) (st .sound .count)
+    left : Leaves (recoverStep j (conditions s j (at-loop .loop .k)) (before .state .reached)) (m .recover-step .result) (at-loop .loop .num) (at-loop .loop .den) (m .recover-step .last .0) (m .recover-step .last .1 .0)
+    left = m .recover-step .ensures s j (before .state .reached .table) (before .state .reached .coefficients) is (holds _ _ _ (h .num-long) (h .den-long) (before .state)) (before .state .sound .proper .shaped) (before .is) (before .state .sound .count)
 
-same-length : tie.Need-same-length Inv-loop μ-loop
-same-length c = num-kept (c .before .before .before .before)
+    -- it is done
+    after : m .recover-step .result .refusal ≡ refusals.None
+        → Reached s j (start .args .n) (start .args .rows) (start .args .columns) (record { table = t; coefficients = ps }) (start .args .num .now) (start .args .den .now) (m .recover-step .last .0) (m .recover-step .last .1 .0) (m .recover-step .result .of) (at-loop .loop .k + 1)
+    after z = let d = leaves-none _ left z in record { state = goes-on _ _ _ (h .num-long) (h .den-long) (before .state) taken d; is = ap (λ (x : RowCoefficients). x .of) (d .told-is) }
 
-same-length-2 : tie.Need-same-length-2 Inv-loop μ-loop
-same-length-2 c = den-kept (c .before .before .before .before)
+    -- it is refused
+    refused : {code : ℕ} {r : RowCoefficients} → m .recover-step .result .refusal ≡ refusals.Refused code → r ≡ record { refusal = refusals.Refused code; of = fractions [] }
+        → Leaves (recoverOrders s j (start .args .n) (record { table = t; coefficients = ps })) r (start .args .num .now) (start .args .den .now) (m .recover-step .last .0) (m .recover-step .last .1 .0)
+    unfolding recoverOrders
+    refused z told = let x = leaves-some _ left z in
+        ends _ _ _ (h .num-long) (h .den-long) (before .state) taken toldNumbers x (told ∙ ap (λ q. record { refusal = refusals.Refused q; of = fractions [] }) (number-told _ left x z))
 
-returns : tie.Need-returns Inv-loop μ-loop
-returns c s j t ps is h shaped e size f =
-    let m = c .before .before .before .before in
-    ends h (st m s j t ps is h shaped e size f) (start m .args .n) (m .before .before .before .loop-test .taken) _ _ _ (told-stopped _ _ _ _ _ _ (left m s j t ps is h shaped e size f) (c .if1 .taken))
+enum-told : tie.Need-enum-told Inv-loop μ-loop
+enum-told c = search needs
 
 add-k : tie.Need-add-k Inv-loop μ-loop
 add-k c = omega arith
@@ -153,15 +129,27 @@ loop-less c = omega arith
 loop-again : tie.Need-loop-again Inv-loop μ-loop
 loop-again c =
     let m = c .before .before .before .before .before in
-    let v = at-loop m .loop .inv in
     record {
       within = omega arith;
       num-long = num-kept m;
       den-long = den-kept m;
-      state = λ s j t ps is h shaped e size f.
-          let x = st m s j t ps is h shaped e size f in
-          goes-on h x _ _ _ (told-done _ _ _ _ j _ _ (recover-stops j (conditions s j (at-loop m .loop .k)) (x .reached)) (left m s j t ps is h shaped e size f) (omega (arith, c .before .if1 .left)));
+      at = λ s j t ps is h shaped e size f. after m s j t ps is h shaped e size f (c .before .enum-told .given .1);
     }
+
+enum-known-refusal : tie.Need-enum-known-refusal Inv-loop μ-loop
+enum-known-refusal c = search needs
+
+refuse-requires : tie.Need-refuse-requires Inv-loop μ-loop
+refuse-requires c κs = search needs
+
+same-length : tie.Need-same-length Inv-loop μ-loop
+same-length c = num-kept (c .before .before .before .before .before .before)
+
+same-length-2 : tie.Need-same-length-2 Inv-loop μ-loop
+same-length-2 c = den-kept (c .before .before .before .before .before .before)
+
+returns : tie.Need-returns Inv-loop μ-loop
+returns c s j t ps is h shaped e size f = let r = c .before .before in refused (r .before .before .before .before) s j t ps is h shaped e size f (r .refusal .given .1) (c .refuse .ensures)
 
 same-length-3 : tie.Need-same-length-3 Inv-loop μ-loop
 same-length-3 c = c .before .loop .inv .num-long
@@ -170,10 +158,11 @@ same-length-4 : tie.Need-same-length-4 Inv-loop μ-loop
 same-length-4 c = c .before .loop .inv .den-long
 
 returns-2 : tie.Need-returns-2 Inv-loop μ-loop
-returns-2 c s j t ps is h shaped e m f =
+unfolding recoverOrders
+returns-2 c s j t ps is h shaped e size f =
     let l = c .before .loop in
-    let x = l .inv .state s j t ps is h shaped e m f in
-    leaves-answer _ _ _ _ (ap (λ n. recoverOrders s j n (record { table = t; coefficients = ps })) (let z : c .before .before .args .n ≡ l .k = omega arith in z) ∙ x .answers) (ap (λ (a : Fractions). record { refused = 0; of = a }) (x .present-is)) (x .num-is) (x .den-is)
+    let x = l .inv .at s j t ps is h shaped e size f in
+    all-done _ _ _ toldNumbers (x .state) (let z : l .k ≡ c .before .before .args .n = omega arith in z) refl (ap (λ (a : Fractions). record { refusal = refusals.None; of = a }) (x .is))
 
 pub recover-orders-spec : {M : Type 1} → statement M
 recover-orders-spec =
@@ -184,12 +173,15 @@ recover-orders-spec =
     loop-holds
     sub-recover-step
     recover-step-requires
-    same-length
-    same-length-2
-    returns
+    enum-told
     add-k
     loop-less
     loop-again
+    enum-known-refusal
+    refuse-requires
+    same-length
+    same-length-2
+    returns
     same-length-3
     same-length-4
     returns-2)

@@ -2,6 +2,7 @@
 use borrow.Author.Needs.{needs}
 use mathlib.Core.Path.{ap}
 use Rattle.base_fraction.specs.declared.arrays.Fractions.{Fractions}
+use Rattle.recover.specs.declared.Refusal.the-variants as refusals
 use Rattle.recover.proofs.step.refuse.Statement.{statement}
 use Rattle.recover.proofs.step.refuse.Tie as tie
 
@@ -9,7 +10,7 @@ no-fractions-requires : tie.Need-no-fractions-requires
 no-fractions-requires c κs = search needs
 
 returns : tie.Need-returns
-returns c = ap (λ (none : Fractions). record { refused = c .before .args .code; of = none }) (c .no-fractions .ensures)
+returns c = ap (λ (none : Fractions). record { refusal = refusals.Refused (c .before .args .code); of = none }) (c .no-fractions .ensures)
 
 pub refuse-spec : {M : Type 1} → statement M
 refuse-spec = tie.close (tie.spec no-fractions-requires returns)
