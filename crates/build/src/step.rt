@@ -127,10 +127,7 @@ fn step(
         Refusal::TooLarge => Refusal::TooLarge,
         Refusal::Shape => Refusal::Shape,
         Refusal::None => {
-            let factors = worked.factors;
-            let f = worked.f;
-            let l = worked.l;
-            let done = renew_rows(num, den, factors, f, l, rows, columns);
+            let done = renew_rows(num, den, worked.factors, worked.f, worked.l, rows, columns);
             if !done {
                 return Refusal::TooLarge;
             }

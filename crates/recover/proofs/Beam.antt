@@ -89,13 +89,13 @@ module _ (n : ℕ) {num den num′ den′ : List ℤ} (o : Outcome Combination) 
       rows-refused z = let x : _≡_ {A = ℕ} 0 1 = cc in omega arith
 
   pub refusal-told : {code place : ℕ} → Halted (λ q. q .table) (toldJoins n) num den num′ den′ o r → r .built ≡ Refused code place → o ≡ refusal code place
-  refusal-told {code} {place} h e = h .refuses ∙ ap₂ refusal same-number same-place
+  refusal-told {code} {place} h e = h .refuses ∙ ap₂ refusal same-code same-place
     where
       z : Refused (h .code) (h .place) ≡ Refused code place
       z = sym (ap (λ (x : Joined). x .built) (h .told-is)) ∙ e
 
-      same-number : h .code ≡ code
-      same-number = cc z
+      same-code : h .code ≡ code
+      same-code = cc z
 
       same-place : h .place ≡ place
       same-place = cc z

@@ -26,30 +26,30 @@ use Rattle.build.proofs.Stepped.{Proper, step-one-less}
 use Rattle.theorems_recovery.specs.Recovery.{Combination, undoneRow, undoneRows, recoverStep, recoverOrders}
 use Rattle.theorems_recovery.proofs.Answers.{rows-undone}
 use Rattle.theorems_recovery.proofs.Steps.{parts-of}
-use Rattle.recover.specs.Leaves.{toldNumbers, Leaves}
+use Rattle.recover.specs.Leaves.{toldCoefficients, Leaves}
 use Rattle.recover.specs.declared.RowCoefficients.{RowCoefficients}
 use Rattle.recover.specs.declared.Refusal.the-variants as refusals
 
 -- ---- what the machine's answer tells
 
 module _ {num den num′ den′ : List ℤ} (o : Outcome Combination) {r : RowCoefficients} (left : Leaves o r num den num′ den′) where
-  pub leaves-none : r .refusal ≡ refusals.None → Done (λ q. q .table) toldNumbers num den num′ den′ o r
-  leaves-none e = left-done (λ q. q .table) toldNumbers num den num′ den′ o r (λ code place z h. none-refused (sym (ap (λ (x : RowCoefficients). x .refusal) h) ∙ e)) left
+  pub leaves-none : r .refusal ≡ refusals.None → Done (λ q. q .table) toldCoefficients num den num′ den′ o r
+  leaves-none e = left-done (λ q. q .table) toldCoefficients num den num′ den′ o r (λ code place z h. none-refused (sym (ap (λ (x : RowCoefficients). x .refusal) h) ∙ e)) left
     where
       none-refused : {code : ℕ} → refusals.Refused code ≡ refusals.None → ⊥
       none-refused z = let x : _≡_ {A = ℕ} 0 1 = cc in omega arith
 
-  pub leaves-some : {code : ℕ} → r .refusal ≡ refusals.Refused code → Halted (λ q. q .table) toldNumbers num den num′ den′ o r
-  leaves-some {code} e = left-halted (λ q. q .table) toldNumbers num den num′ den′ o r (λ t z h. none-refused (sym (ap (λ (x : RowCoefficients). x .refusal) h) ∙ e)) left
+  pub leaves-some : {code : ℕ} → r .refusal ≡ refusals.Refused code → Halted (λ q. q .table) toldCoefficients num den num′ den′ o r
+  leaves-some {code} e = left-halted (λ q. q .table) toldCoefficients num den num′ den′ o r (λ t z h. none-refused (sym (ap (λ (x : RowCoefficients). x .refusal) h) ∙ e)) left
     where
       none-refused : refusals.None ≡ refusals.Refused code → ⊥
       none-refused z = let x : _≡_ {A = ℕ} 0 1 = cc in omega arith
 
-  -- the number that is told
-  pub number-told : {code : ℕ} → (h : Halted (λ q. q .table) toldNumbers num den num′ den′ o r) → r .refusal ≡ refusals.Refused code → code ≡ h .code
-  number-told h e = let z = sym e ∙ ap (λ (x : RowCoefficients). x .refusal) (h .told-is) in cc
+  -- the code that is told
+  pub code-told : {code : ℕ} → (h : Halted (λ q. q .table) toldCoefficients num den num′ den′ o r) → r .refusal ≡ refusals.Refused code → code ≡ h .code
+  code-told h e = let z = sym e ∙ ap (λ (x : RowCoefficients). x .refusal) (h .told-is) in cc
 
--- ---- a step that is answered: one number less, and all fit
+-- ---- a step that is answered: one coefficient less, and all fit
 
 rows-fit : (j : ℕ) (us ps : List ℚ) (f n : ℕ) {ds : List ℚ} → AllFit ps → undoneRows j us ps f n ≡ answer ds → AllFit ds
 unfolding undoneRows

@@ -11,7 +11,7 @@ use Rattle.recover_step.specs.Machine.{balanceOf}
 use Rattle.recover_step.specs.declared.Balance.the-variants as balances
 use Rattle.theorems_recovery.proofs.Refusals.{Here}
 
--- refused with this number
+-- refused with this code
 pub record RefusedBy {A : Type 0} (code : ℕ) (o : Outcome A) : Type 0 where
   pub place : ℕ
   pub refuses : o ≡ refusal code place

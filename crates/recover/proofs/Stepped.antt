@@ -20,7 +20,7 @@ use Rattle.build.specs.Plan.{Planned, planned, renewed}
 use Rattle.build.proofs.Plan.{step-planned, Works, plan-works}
 use Rattle.build.proofs.Leaving.{renewed-refuses}
 use Rattle.theorems_recovery.specs.Recovery.{Combination, balanced, undone, recoverStep}
-use Rattle.recover.specs.Leaves.{coefficientsOf, undoing, toldNumbers, Leaves}
+use Rattle.recover.specs.Leaves.{coefficientsOf, undoing, toldCoefficients, Leaves}
 use Rattle.recover.specs.declared.RowCoefficients.{RowCoefficients}
 use Rattle.recover.specs.declared.Refusal.the-variants as refusals
 
@@ -58,7 +58,7 @@ module _ (j : ℕ) (κ : List Entry) (t : Table) (ps : List ℚ) where
     -- the first half is refused, or the second
     pub leaves-unplanned : {code place : ℕ} {r : RowCoefficients} → planned j κ t ≡ refusal code place → r ≡ coefficientsOf (refusal code place) → Kept num num′ → Kept den den′
         → Leaves (recoverStep j κ (record { table = t; coefficients = ps })) r num den num′ den′
-    leaves-unplanned e h p q = left-refusal (λ q. q .table) toldNumbers num den num′ den′ (recover-planned ∙ then-refuses recovering e) h p q
+    leaves-unplanned e h p q = left-refusal (λ q. q .table) toldCoefficients num den num′ den′ (recover-planned ∙ then-refuses recovering e) h p q
 
     module _ {p : Planned} (e : planned j κ t ≡ answer p) where
       planned-is : recoverStep j κ (record { table = t; coefficients = ps }) ≡ recovering p
@@ -69,7 +69,7 @@ module _ (j : ℕ) (κ : List Entry) (t : Table) (ps : List ℚ) where
         where
           go : (o : Outcome Table) → renewed j (p .span) (p .factors) t ≡ o → LeavesIf o false num den num′ den′ → Leaves (recoverStep j κ (record { table = t; coefficients = ps })) r num den num′ den′
           go (answer u) z left = absurd (false≢true (left .0))
-          go (refusal code place) z left = left-refusal (λ q. q .table) toldNumbers num den num′ den′ (planned-is ∙ then-refuses (λ u. undoing j p ps then λ ds. answer (record { table = u; coefficients = ds })) z)
+          go (refusal code place) z left = left-refusal (λ q. q .table) toldCoefficients num den num′ den′ (planned-is ∙ then-refuses (λ u. undoing j p ps then λ ds. answer (record { table = u; coefficients = ds })) z)
               (h ∙ ap (λ m. record { refusal = refusals.Refused m; of = fractions [] }) (sym (renewed-refuses j t (p .factors) (p .span) code place z))) (left .1) (left .2)
 
       -- the table is made: the undoing decides
@@ -79,9 +79,9 @@ module _ (j : ℕ) (κ : List Entry) (t : Table) (ps : List ℚ) where
         where
           undoes : (u : Table) → renewed j (p .span) (p .factors) t ≡ answer u → num′ ≡ numerators u num → den′ ≡ denominators u den → (o : Outcome (List ℚ)) → undoing j p ps ≡ o → r ≡ coefficientsOf o
               → Leaves (recoverStep j κ (record { table = t; coefficients = ps })) r num den num′ den′
-          undoes u z k l (answer ds) e h = left-answer (λ q. q .table) toldNumbers num den num′ den′
+          undoes u z k l (answer ds) e h = left-answer (λ q. q .table) toldCoefficients num den num′ den′
               (planned-is ∙ then-answers (λ u. undoing j p ps then λ ds. answer (record { table = u; coefficients = ds })) z ∙ then-answers (λ ds. answer (record { table = u; coefficients = ds })) e) h k l
-          undoes u z k l (refusal code place) e h = left-refusal (λ q. q .table) toldNumbers num den num′ den′
+          undoes u z k l (refusal code place) e h = left-refusal (λ q. q .table) toldCoefficients num den num′ den′
               (planned-is ∙ then-answers (λ u. undoing j p ps then λ ds. answer (record { table = u; coefficients = ds })) z ∙ then-refuses (λ ds. answer (record { table = u; coefficients = ds })) e) h
               (subst (Kept num) (sym k) (kept-numerators u num long)) (subst (Kept den) (sym l) (kept-denominators u den long′))
 

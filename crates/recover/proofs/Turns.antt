@@ -28,7 +28,7 @@ use Rattle.build.proofs.Repeated.{Turns}
 use Rattle.build.proofs.Joins.{join-idle}
 use Rattle.build.proofs.Turns.{with-all, later, grown-whole, within, rows-in, laid-proper, rows-left}
 use Rattle.theorems_recovery.specs.Recovery.{Combination, recoverStep, recoverOrders}
-use Rattle.recover.specs.Leaves.{grownNumbered}
+use Rattle.recover.specs.Leaves.{grownCombination}
 use Rattle.recover.proofs.Orders.{Sound, recover-one-less, orders-sound}
 use Rattle.recover.proofs.Later.{orders-all}
 
@@ -50,20 +50,20 @@ order-turns s j n rows columns r = record {
 -- ---- the ordinates of the segments to come
 
 -- those of the segments after segment j
-abbrev pub later-numbers : Space → List ℤ → ℕ → List ℚ
-later-numbers s os j = map int (drop (firstColumn s (suc j)) os)
+abbrev pub later-coefficients : Space → List ℤ → ℕ → List ℚ
+later-coefficients s os j = map int (drop (firstColumn s (suc j)) os)
 
 pub map-append : (xs ys : List ℤ) → map int (xs ++ ys) ≡ map int xs ++ map int ys
 map-append [] ys = refl
 map-append (x ∷ xs) ys = ap (λ zs. int x ∷ zs) (map-append xs ys)
 
 -- with those of the segment on the right of join j, those of the segments after it are left
-pub grown-numbers : (s : Space) (os : List ℤ) (j : ℕ) (ps : List ℚ)
-    → ps ++ later-numbers s os j ≡ (ps ++ map int (take (degree s (suc j) + 1) (drop (firstColumn s (suc j)) os))) ++ later-numbers s os (suc j)
-grown-numbers s os j ps =
+pub grown-coefficients : (s : Space) (os : List ℤ) (j : ℕ) (ps : List ℚ)
+    → ps ++ later-coefficients s os j ≡ (ps ++ map int (take (degree s (suc j) + 1) (drop (firstColumn s (suc j)) os))) ++ later-coefficients s os (suc j)
+grown-coefficients s os j ps =
     ap (λ xs. ps ++ map int xs) (sym (take-append-drop n (drop c os)) ∙ ap (λ xs. take n (drop c os) ++ xs) (drop-drop n c os ∙ ap (λ i. drop i os) (let z : c + n ≡ firstColumn s (suc (suc j)) = omega (arith, first-column-next s (suc j)) in z)))
     ∙ ap (λ xs. ps ++ xs) (map-append (take n (drop c os)) (drop (firstColumn s (suc (suc j))) os))
-    ∙ sym (append-assoc ps (map int (take n (drop c os))) (later-numbers s os (suc j)))
+    ∙ sym (append-assoc ps (map int (take n (drop c os))) (later-coefficients s os (suc j)))
   where
     c : ℕ
     c = firstColumn s (suc j)
@@ -100,7 +100,7 @@ columns-count os c n h = length-map (take n (drop c os)) int ∙ length-take-le 
 
 -- with rows and ordinates that came in
 pub grown-sound : (s : Space) (j columns : ℕ) (os : List ℤ) (r : Combination) {rows : ℕ} → length os ≡ columns → AllFit (map int os) → firstColumn s (suc j) + (degree s (suc j) + 1) ≤ columns
-    → Proper (grown s j columns (r .table)) (rows + (degree s (suc j) + 1)) columns → length (r .coefficients) ≡ rows → AllFit (r .coefficients) → Sound (grownNumbered s j columns os r) (rows + (degree s (suc j) + 1)) columns
+    → Proper (grown s j columns (r .table)) (rows + (degree s (suc j) + 1)) columns → length (r .coefficients) ≡ rows → AllFit (r .coefficients) → Sound (grownCombination s j columns os r) (rows + (degree s (suc j) + 1)) columns
 grown-sound s j columns os r {rows} size fit wide proper count present = record {
   proper = proper;
   count = length-append (r .coefficients) (map int (take n (drop c os))) ∙ omega (arith, count, columns-count os c n (omega (arith, size, wide)));
@@ -121,20 +121,20 @@ module _ (b d o : List ℤ) (part : PartLegal b d o) (columns : ℕ) (columns-ar
 
   -- with the rows and the ordinates of the segments after segment j
   abbrev pub with-later : ℕ → Combination → Combination
-  with-later j r = record { table = r .table ++ later s columns j; coefficients = r .coefficients ++ later-numbers s os j }
+  with-later j r = record { table = r .table ++ later s columns j; coefficients = r .coefficients ++ later-coefficients s os j }
 
   wide : {j : ℕ} → j < segments s - 1 → firstColumn s (suc j) + (degree s (suc j) + 1) ≤ columns
   wide {j} l = omega (arith, first-column-next s (suc j), firstColumn-mono s (suc (suc j)) (length d) (omega (arith, l)), columns-are)
 
   pub laid-sound : (j : ℕ) (r : Combination) → j < segments s - 1 → Sound r (rows-in b d o part columns columns-are room j) columns
-      → Sound (grownNumbered s j columns os r) (rows-in b d o part columns columns-are room j + (degree s (suc j) + 1)) columns
+      → Sound (grownCombination s j columns os r) (rows-in b d o part columns columns-are room j + (degree s (suc j) + 1)) columns
   laid-sound j r l p = grown-sound s j columns os r size fit (wide l) (laid-proper b d o part columns columns-are room j (r .table) l (p .proper)) (p .count) (p .fit)
 
   pub turn-at : (j : ℕ) (r : Combination) → j < segments s - 1 → Sound r (rows-in b d o part columns columns-are room j) columns
-      → recoverOrders s j (conditionCount s j) (with-later j r) ≡ with-answer (with-later (suc j)) (recoverOrders s j (conditionCount s j) (grownNumbered s j columns os r))
+      → recoverOrders s j (conditionCount s j) (with-later j r) ≡ with-answer (with-later (suc j)) (recoverOrders s j (conditionCount s j) (grownCombination s j columns os r))
   turn-at j r l p =
-      ap₂ (λ (t : Table) (ps : List ℚ). recoverOrders s j (conditionCount s j) (record { table = t; coefficients = ps })) (grown-whole s columns j (r .table)) (grown-numbers s os j (r .coefficients))
-      ∙ orders-all s j (conditionCount s j) (grownNumbered s j columns os r) (later s columns (suc j)) (later-numbers s os (suc j)) (laid-sound j r l p) (λ k h i i-low. join-idle b d o part j (within b d o part columns columns-are room l) columns k h i)
+      ap₂ (λ (t : Table) (ps : List ℚ). recoverOrders s j (conditionCount s j) (record { table = t; coefficients = ps })) (grown-whole s columns j (r .table)) (grown-coefficients s os j (r .coefficients))
+      ∙ orders-all s j (conditionCount s j) (grownCombination s j columns os r) (later s columns (suc j)) (later-coefficients s os (suc j)) (laid-sound j r l p) (λ k h i i-low. join-idle b d o part j (within b d o part columns columns-are room l) columns k h i)
 
   abbrev pub join-turns : Turns Combination
   join-turns = record {
@@ -142,10 +142,10 @@ module _ (b d o : List ℤ) (part : PartLegal b d o) (columns : ℕ) (columns-ar
     first = record { table = identity (columnCount s); coefficients = map int os };
     count = segments s - 1;
     step = λ j. recoverOrders s j (conditionCount s j);
-    work = λ j r. recoverOrders s j (conditionCount s j) (grownNumbered s j columns os r);
+    work = λ j r. recoverOrders s j (conditionCount s j) (grownCombination s j columns os r);
     whole = with-later;
     Sound = λ j r. Sound r (rows-in b d o part columns columns-are room j) columns;
     fits = λ j r p. p .proper .fit;
     turn = turn-at;
-    keeps = λ j r u l p e. subst (λ m. Sound u m columns) (rows-left b d o part columns columns-are room j l) (orders-sound s j (conditionCount s j) (grownNumbered s j columns os r) e (laid-sound j r l p));
+    keeps = λ j r u l p e. subst (λ m. Sound u m columns) (rows-left b d o part columns columns-are room j l) (orders-sound s j (conditionCount s j) (grownCombination s j columns os r) e (laid-sound j r l p));
   }

@@ -41,18 +41,18 @@ pub record Present (cs : Fractions) (rows : ℕ) : Type 0 where
 
 -- The table with the identity's rows for the segment on the right of join j, and that segment's ordinates as the coefficients of these
 -- rows.
-abbrev pub grownNumbered : Space → ℕ → ℕ → List ℤ → Combination → Combination
-grownNumbered s j columns ordinates r = record {
+abbrev pub grownCombination : Space → ℕ → ℕ → List ℤ → Combination → Combination
+grownCombination s j columns ordinates r = record {
   table = grown s j columns (r .table);
   coefficients = r .coefficients ++ map int (take (degree s (suc j) + 1) (drop (firstColumn s (suc j)) ordinates));
 }
 
 -- What a step leaves, and what all steps at a join leave: the coefficients are told.
-abbrev pub toldNumbers : Outcome Combination → RowCoefficients
-toldNumbers o = coefficientsOf (with-answer (λ r. r .coefficients) o)
+abbrev pub toldCoefficients : Outcome Combination → RowCoefficients
+toldCoefficients o = coefficientsOf (with-answer (λ r. r .coefficients) o)
 
 abbrev pub Leaves : Outcome Combination → RowCoefficients → List ℤ → List ℤ → List ℤ → List ℤ → Type 0
-Leaves o r num den num′ den′ = Left (λ q. q .table) toldNumbers o r num den num′ den′
+Leaves o r num den num′ den′ = Left (λ q. q .table) toldCoefficients o r num den num′ den′
 
 -- What the joins leave: the n rows are counted and their coefficients told.
 abbrev pub toldJoins : ℕ → Outcome Combination → Joined

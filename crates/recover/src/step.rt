@@ -19,7 +19,7 @@ ghost use Rattle.build.specs.Leaves.{Start};
 ghost use Rattle.recover_step.specs.Machine.{FractionsFit, NonZero};
 ghost use Rattle.theorems_recovery.specs.Recovery;
 ghost use Rattle.recover.specs.declared.Refusal.the-variants as refusals;
-ghost use Rattle.recover.specs.Leaves.{undoing, coefficientsOf, Present, grownNumbered, Leaves, JoinsLeave};
+ghost use Rattle.recover.specs.Leaves.{undoing, coefficientsOf, Present, grownCombination, Leaves, JoinsLeave};
 use crate::Joined;
 use crate::Refusal;
 use crate::RowCoefficients;
@@ -93,15 +93,13 @@ fn recover_step(
         build_factors::Refusal::TooLarge => refuse(8),
         build_factors::Refusal::Shape => refuse(9),
         build_factors::Refusal::None => {
-            let js = worked.jumps;
-            let ws = worked.factors;
             let f = worked.f;
             let l = worked.l;
-            let done = build::step::renew_rows(num, den, ws, f, l, rows, columns);
+            let done = build::step::renew_rows(num, den, worked.factors, f, l, rows, columns);
             if !done {
                 return refuse(8);
             }
-            undo(js, ws, f, l, cs, rows)
+            undo(worked.jumps, worked.factors, f, l, cs, rows)
         }
     }
 }
@@ -160,7 +158,7 @@ fn recover_join(
     requires { ⌜ (length (now ordinates) ≡ columns) × AllFit (map int (now ordinates)) ⌝ }
     ensures { λ r. ⌜ ((s : Space) (j : ℕ) (t : Table) (ps : List ℚ) → JoinIs join s j → Holds (now (num .entry)) (now (den .entry)) t
         → Shaped t rows columns → cs ≡ fractions ps → length ps ≡ rows → AllFit ps
-        → Leaves (Recovery.recoverOrders s j n (grownNumbered s j columns (now (ordinates .entry)) (record { table = t; coefficients = ps }))) r
+        → Leaves (Recovery.recoverOrders s j n (grownCombination s j columns (now (ordinates .entry)) (record { table = t; coefficients = ps }))) r
         (now (num .entry)) (now (den .entry)) (now (num .exit)) (now (den .exit))) ⌝ }
 {
     let right = join.right;

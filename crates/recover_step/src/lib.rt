@@ -36,7 +36,7 @@ pub struct Undone {
     pub coefficients: Fractions,
 }
 
-// The sum with one more product, number times jump; a zero jump is passed over.
+// The sum with one more product, coefficient times jump; a zero jump is passed over.
 fn add_term(sum: Fraction, coefficient: Fraction, jump: Fraction) -> Counted
     requires { ⌜ FractionFits sum × (FractionFits coefficient × FractionFits jump) ⌝ }
     ensures { λ r. ⌜ ((j : ℕ) (s c q : ℚ) → sum ≡ fraction s → coefficient ≡ fraction c → jump ≡ fraction q
@@ -62,9 +62,15 @@ pub fn balanced(js: Fractions, cs: Fractions, rows: usize) -> Balance
     let mut sum = Fraction { num: 0, den: 1 };
     let mut i = 0;
     while i < rows {
-        let coefficient = arrays::fraction_at(cs, i);
-        let jump = arrays::fraction_at(js, i);
-        let next = add_term(sum, coefficient, jump);
+        let cn = cs.num[i];
+        let cd = cs.den[i];
+        let jn = js.num[i];
+        let jd = js.den[i];
+        let next = add_term(
+            sum,
+            Fraction { num: cn, den: cd },
+            Fraction { num: jn, den: jd },
+        );
         match next {
             Counted::Fits(s) => {
                 sum = s;
@@ -81,7 +87,7 @@ pub fn balanced(js: Fractions, cs: Fractions, rows: usize) -> Balance
     Balance::NotZero
 }
 
-// (number - (1 - w) before) / w, with the share, the difference and the quotient counted.
+// (coefficient - (1 - w) before) / w, with the share, the difference and the quotient counted.
 fn undo_coefficient(w: Fraction, coefficient: Fraction, before: Fraction) -> Counted
     requires { ⌜ UnitFactor w × ((w .num ≢ pos 0) × (FractionFits coefficient × FractionFits before)) ⌝ }
     ensures { λ r. ⌜ ((j : ℕ) (v c b : ℚ) → w ≡ fraction v → coefficient ≡ fraction c → before ≡ fraction b
@@ -170,9 +176,8 @@ pub fn drop_coefficient(cs: Fractions, l: usize, rows: usize) -> Fractions
     let mut i = 0;
     while i < rows - 1 {
         let from = kept_row(i, l);
-        let q = arrays::fraction_at(cs, from);
-        let n = q.num;
-        let d = q.den;
+        let n = cs.num[from];
+        let d = cs.den[from];
         left.num[i] = n;
         left.den[i] = d;
         i += 1;

@@ -31,7 +31,16 @@ fn build_rows(
         (r ≡ rowCount part) × ((now (num .exit) ≡ Build.numeratorsAfter (Build.weights part) (now (num .entry)))
         × (now (den .exit) ≡ Build.denominatorsAfter (Build.weights part) (now (den .entry))))) ⌝ }
 {
-    let built = build::parts::build_part(breaks, degrees, orders, a, b, num, den, build_cells::ROW_CELLS);
+    let built = build::parts::build_part(
+        breaks,
+        degrees,
+        orders,
+        a,
+        b,
+        num,
+        den,
+        build_cells::ROW_CELLS,
+    );
     match built {
         build::Built::Rows(n) => n,
         build::Built::Refused(_code, _place) => 0,

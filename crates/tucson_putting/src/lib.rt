@@ -58,10 +58,10 @@ fn put_columns(text: &mut [u8], at: usize, size: usize, z: i32) -> usize
     requires { ⌜ (length (decimal z) ≤ size) × (at + size ≤ length (now text)) ⌝ }
     ensures { λ r. ⌜ Wrote at (columns size z) (now (text .entry)) (now (text .exit)) r ⌝ }
 {
-    let code = z as i64;
-    let length = decimal_length(code);
+    let number = z as i64;
+    let length = decimal_length(number);
     let next = put_blanks(text, at, size - length);
-    base_print::put_decimal(text, next, code)
+    base_print::put_decimal(text, next, number)
 }
 
 // Widths in six columns each.

@@ -14,7 +14,7 @@ use Rattle.spec_tucson.specs.Line.{nameColumns}
 use Rattle.spec_tucson.specs.Series.{Series}
 use Rattle.spec_tucson.specs.Writing.{firstUnwritable, seriesLines, linesText, written}
 use Rattle.spec_tucson.specs.WriteCall.{total, seriesOf}
-use Rattle.theorems_tucson.proofs.TucsonCells.{Fitting}
+use Rattle.theorems_tucson.proofs.TucsonCells.{ListsFit}
 use Rattle.theorems_tucson.proofs.ReadsBack.{first-parts}
 use Rattle.tucson_series.specs.Sizes.{series, closingFits, closingsFit, seriesBytes, textBytes}
 use Rattle.tucson_series.proofs.Tests.{drop-step, drop-end}
@@ -52,7 +52,7 @@ more-counted y ys n ns s ss e b c = record {
   bytes = length-append (linesText (seriesLines s)) (written ss) ∙ ap₂ (λ (p q : ℕ). p + q) b (c .bytes);
 }
 
-pub all-counted : (years : List ℤ) (names : Text) (counts : List ℕ) (widths : List ℤ) (k : ℕ) (before : Text) → Fitting names years counts widths → firstUnwritable k before (seriesOf names years counts widths) ≡ none → Counted years counts (seriesOf names years counts widths)
+pub all-counted : (years : List ℤ) (names : Text) (counts : List ℕ) (widths : List ℤ) (k : ℕ) (before : Text) → ListsFit names years counts widths → firstUnwritable k before (seriesOf names years counts widths) ≡ none → Counted years counts (seriesOf names years counts widths)
 unfolding seriesOf total
 all-counted [] names counts widths k before f e = none-counted counts
 all-counted (y ∷ years) names [] widths k before f e = absurd (omega (arith, f .counts-fit))
@@ -63,7 +63,7 @@ all-counted (y ∷ years) names (n ∷ counts) widths k before f e =
     let w = parts .0 in
     let size : length ws ≡ n = length-take-le n widths (omega (arith, f .widths-fit)) in
     let dated : closingFits y (length ws) ≡ true = sym (series-years name y ws (w .measured)) ∙ w .dated in
-    let rest : Fitting (drop nameColumns names) years counts (drop n widths) = record {
+    let rest : ListsFit (drop nameColumns names) years counts (drop n widths) = record {
       names-fit = length-drop nameColumns names ∙ omega (arith, f .names-fit);
       counts-fit = omega (arith, f .counts-fit);
       widths-fit = omega (arith, f .widths-fit, length-drop n widths);

@@ -12,7 +12,7 @@ use Rattle.base_text.proofs.Slice.{slice-take}
 use Rattle.spec_tucson.specs.Line.{nameColumns}
 use Rattle.spec_tucson.specs.Series.{Series}
 use Rattle.spec_tucson.specs.WriteCall.{total, seriesOf}
-use Rattle.theorems_tucson.proofs.TucsonCells.{Fitting}
+use Rattle.theorems_tucson.proofs.TucsonCells.{ListsFit}
 use Rattle.tucson_series.specs.Sizes.{series}
 use Rattle.tucson_series.proofs.Tests.{drop-step, drop-end, total-step}
 
@@ -32,7 +32,7 @@ module _ (names : Text) (years : List ℤ) (counts : List ℕ) (widths : List �
     pub names-left : length names ≡ at + (length years - k) * nameColumns
     pub widths-left : from + total (drop k counts) ≡ length widths
 
-  pub walk-begins : Fitting names years counts widths → Walked 0 0 0
+  pub walk-begins : ListsFit names years counts widths → Walked 0 0 0
   walk-begins f = record { passed = omega arith; counted = f .counts-fit; names-left = omega (arith, f .names-fit); widths-left = omega (arith, f .widths-fit) }
 
   module _ {at from k : ℕ} (w : Walked at from k) (h : k < length years) where

@@ -7,7 +7,7 @@ use native.Mathlib.Omega.{arith}
 use native.Mathlib.Decide.{decLt}
 use native.Mathlib.Numerals.{add-one}
 use lib.IntN.{pos}
-use lib.ListN.{length}
+use lib.ListN.{length, getD}
 use mir.Syntax.{w64}
 use mir.Val.{SFits}
 use mir.ValLaws.{toZ-ofZ}
@@ -18,7 +18,7 @@ use Rattle.base_fraction.specs.Machine.{fraction}
 use Rattle.spec_spline.specs.Table.{entry}
 use Rattle.base_fraction.specs.Fractions.{fractions}
 use Rattle.base_fraction.specs.declared.arrays.Fractions.{Fractions}
-use Rattle.base_fraction.proofs.Fractions.{fractions-more}
+use Rattle.base_fraction.proofs.Fractions.{fraction-at, fractions-more}
 use Rattle.recover_step.proofs.Rows.{without, without-length, without-before, without-from}
 use Rattle.recover_step.proofs.drop_coefficient.Statement.{statement}
 use Rattle.recover_step.proofs.drop_coefficient.Tie as tie
@@ -28,10 +28,10 @@ record Inv (cs : Fractions) (l rows : ℕ) (left : Fractions) (i : ℕ) : Type 0
   state : (ps : List ℚ) → cs ≡ fractions ps → (long : l < length ps) → left ≡ fractions (tab i (entry (without ps l long)))
 
 abbrev Inv-loop : tie.InvT-loop
-Inv-loop cs l rows left₀ i₀ left i = Inv cs l rows left i
+Inv-loop l rows cs left₀ i₀ left i = Inv cs l rows left i
 
 abbrev μ-loop : tie.MeasureT-loop
-μ-loop cs l rows left₀ i₀ left i = rows - 1 - i
+μ-loop l rows cs left₀ i₀ left i = rows - 1 - i
 
 none : (f : ℕ → ℚ) → tab 0 f ≡ []
 unfolding tab
@@ -71,17 +71,26 @@ module _ (k : tie.After-kept-row Inv-loop μ-loop) where
       go (yes h) = omega (arith, k .kept-row .ensures .0 h)
       go (no h) = let e = k .kept-row .ensures .1 (omega arith) in omega (arith, e)
 
-fraction-at-requires : tie.Need-fraction-at-requires Inv-loop μ-loop
-fraction-at-requires c κs = row-low c
-
 mul-n : tie.Need-mul-n Inv-loop μ-loop
-mul-n c = omega arith
+mul-n c = omega (arith, row-low c)
+
+element-copy-out-n : tie.Need-element-copy-out-n Inv-loop μ-loop
+element-copy-out-n c = omega (arith, row-low c)
+
+mul-d : tie.Need-mul-d Inv-loop μ-loop
+mul-d c = omega (arith, row-low (c .before))
+
+element-copy-out-d : tie.Need-element-copy-out-d Inv-loop μ-loop
+element-copy-out-d c = omega (arith, row-low (c .before))
+
+mul-n-2 : tie.Need-mul-n-2 Inv-loop μ-loop
+mul-n-2 c = omega arith
 
 element-set-from-n : tie.Need-element-set-from-n Inv-loop μ-loop
 element-set-from-n c = omega arith
 
-mul-d : tie.Need-mul-d Inv-loop μ-loop
-mul-d c = omega arith
+mul-d-2 : tie.Need-mul-d-2 Inv-loop μ-loop
+mul-d-2 c = omega arith
 
 element-set-from-d : tie.Need-element-set-from-d Inv-loop μ-loop
 element-set-from-d c = omega arith
@@ -94,16 +103,18 @@ loop-less c = omega arith
 
 loop-again : tie.Need-loop-again Inv-loop μ-loop
 loop-again c =
-    let q = c .before .before in
-    let k = q .before in
+    let k = c .before .before in
     let l = at-loop k .loop in
-    let n : SFits w64 (q .fraction-at .result .num) = record { sfits = c .struct-told2 .given .0 .1 } in
-    let d : SFits w64 (q .fraction-at .result .den) = record { sfits = c .struct-told2 .given .1 .0 .1 } in
+    let r = k .kept-row .result in
+    let cs = s k .args .t1 in
+    let n : SFits w64 (getD (cs .num) r (pos 0)) = record { sfits = c .before .n .given } in
+    let d : SFits w64 (getD (cs .den) r (pos 0)) = record { sfits = c .d .given } in
     record {
       within = omega arith;
       state = λ ps e long.
           let w = entry (without ps (s k .args .l) long) in
-          (simp toZ-ofZ (fractions-more (tab (l .i) w) (w (l .i)) (l .i) (l .left) (q .fraction-at .result) (tab-length (l .i) w) (omega arith) (l .inv .state ps e long) (q .fraction-at .ensures ps e ∙ ap fraction (row-is k ps long))))
+          (simp toZ-ofZ (fractions-more (tab (l .i) w) (w (l .i)) (l .i) (l .left) (record { num = getD (cs .num) r (pos 0); den = getD (cs .den) r (pos 0) }) (tab-length (l .i) w) (omega arith) (l .inv .state ps e long)
+          (fraction-at ps cs e r (row-low k) ∙ ap fraction (row-is k ps long))))
           ∙ ap fractions (sym (tab-snoc (l .i) w) ∙ ap (λ m. tab m w) (sym (add-one (l .i))));
     }
 
@@ -125,10 +136,13 @@ drop-coefficient-spec =
     loop-holds
     sub-loop
     kept-row-requires
-    fraction-at-requires
     mul-n
-    element-set-from-n
+    element-copy-out-n
     mul-d
+    element-copy-out-d
+    mul-n-2
+    element-set-from-n
+    mul-d-2
     element-set-from-d
     add-i
     loop-less

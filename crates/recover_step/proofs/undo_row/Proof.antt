@@ -1,4 +1,4 @@
--- Row f keeps its number; the others take the share of the row before. Assumes nothing.
+-- Row f keeps its coefficient; the others take the share of the row before. Assumes nothing.
 use borrow.Author.Needs.{needs}
 use mathlib.Core.Path.{_≡_, sym, _∙_, ap, ap₂}
 use mathlib.Core.List.{List}

@@ -37,7 +37,7 @@ module _ (k : tie.After-build-part) where
       (start .pre .1 .1) (record { answers = e .0; numerators = e .1 .0; denominators = e .1 .1 })
 
 build-part-requires : tie.Need-build-part-requires
-build-part-requires c κs = 
+build-part-requires c κs =
     let p = c .before .before .pre in
     ((beam-legal _ (p .0 .0), p .0 .1), (p .1, (omega arith, record { zeros = λ k h l. absurd (omega arith); ones = λ k h l. absurd (omega arith) })))
 

@@ -41,12 +41,12 @@ module _ (c : tie.After-plan-step) (s : Space) (j : ℕ) (t : Table) (is : JoinI
 -- what the second half leaves
 module _ (c : tie.After-renew-rows) where
   abbrev first-half : tie.After-plan-step
-  first-half = c .before .before .before .before .before .before
+  first-half = c .before .before .before .before .before
 
   module _ (s : Space) (j : ℕ) (t : Table) (is : JoinIs (start first-half .args .join) s j) (h : Holds (start first-half .args .num .now) (start first-half .args .den .now) t)
       (shaped : Shaped t (start first-half .args .rows) (start first-half .args .columns)) where
     works : Ready j (conditions s j (start first-half .args .k)) t (first-half .plan-step .result)
-    works = ready first-half s j t is h shaped (c .before .before .before .before .enum-told3 .given .1)
+    works = ready first-half s j t is h shaped (c .before .before .before .enum-told3 .given .1)
 
     left : LeavesIf (renewed j (works .of .span) (works .of .factors) t) (c .renew-rows .result) (start first-half .args .num .now) (start first-half .args .den .now) (c .renew-rows .last .0) (c .renew-rows .last .1 .0)
     left =
@@ -70,7 +70,7 @@ enum-told-3 c = search needs
 
 renew-rows-requires : tie.Need-renew-rows-requires
 renew-rows-requires c κs =
-    let a = c .before .before .before in
+    let a = c .before .before in
     let d = a .before .before in
     let p = start d .pre in
     let k = p .1 in

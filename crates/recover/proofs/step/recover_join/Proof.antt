@@ -17,7 +17,7 @@ use Rattle.build_rows.proofs.Left.{left-from}
 use Rattle.build.proofs.Stepped.{Proper}
 use Rattle.build.proofs.Grown.{grown-proper, grown-denominators, grown-holds}
 use Rattle.theorems_recovery.specs.Recovery.{Combination, recoverOrders}
-use Rattle.recover.specs.Leaves.{toldNumbers, Leaves, grownNumbered}
+use Rattle.recover.specs.Leaves.{toldCoefficients, Leaves, grownCombination}
 use Rattle.recover.proofs.Turns.{append-fit, columns-fit, columns-count}
 use Rattle.recover.proofs.step.recover_join.Statement.{statement}
 use Rattle.recover.proofs.step.recover_join.Tie as tie
@@ -64,8 +64,8 @@ module _ (c : tie.After-append) (t : Table) (ps : List ℚ) (h : Holds (start c 
   holds : Holds (c .before .before .add-rows .last .0) (start c .args .den .now) more
   holds = grown-holds t (start c .args .rows) column n columns (record { shaped = shaped; fit = h .fit }) (start c .pre .1 .0 .1) (start c .pre .1 .0 .0) h num-is
 
-  numbers-are : c .append .result ≡ fractions coefficients
-  numbers-are = c .append .ensures ps e size
+  coefficients-are : c .append .result ≡ fractions coefficients
+  coefficients-are = c .append .ensures ps e size
 
   count : length coefficients ≡ start c .args .rows + n
   count = length-append ps (map int (take n (drop column (start c .args .ordinates .now)))) ∙ omega (arith, size, columns-count (start c .args .ordinates .now) column n (omega (arith, start c .pre .1 .0 .1, start c .pre .1 .1 .0)))
@@ -84,7 +84,7 @@ recover-orders-requires c κs =
         p .1 .0,
         (
           record { table = more a (k .table) (q .of) (k .holds) (k .shaped) (q .is) (q .count) (q .fit); holds = holds a (k .table) (q .of) (k .holds) (k .shaped) (q .is) (q .count) (q .fit); shaped = proper a (k .table) (q .of) (k .holds) (k .shaped) (q .is) (q .count) (q .fit) .shaped },
-          record { of = coefficients a (k .table) (q .of) (k .holds) (k .shaped) (q .is) (q .count) (q .fit); is = numbers-are a (k .table) (q .of) (k .holds) (k .shaped) (q .is) (q .count) (q .fit); fit = all-fit a (k .table) (q .of) (k .holds) (k .shaped) (q .is) (q .count) (q .fit); count = count a (k .table) (q .of) (k .holds) (k .shaped) (q .is) (q .count) (q .fit) },
+          record { of = coefficients a (k .table) (q .of) (k .holds) (k .shaped) (q .is) (q .count) (q .fit); is = coefficients-are a (k .table) (q .of) (k .holds) (k .shaped) (q .is) (q .count) (q .fit); fit = all-fit a (k .table) (q .of) (k .holds) (k .shaped) (q .is) (q .count) (q .fit); count = count a (k .table) (q .of) (k .holds) (k .shaped) (q .is) (q .count) (q .fit) },
         ),
       ),
     )
@@ -101,13 +101,13 @@ returns c s j t ps is h shaped e size fit =
     let m = c .before .before in
     let a = m .before .before .before in
     let g = start a .args in
-    let it : record { table = more a t ps h shaped e size fit; coefficients = coefficients a t ps h shaped e size fit } ≡ grownNumbered s j (g .columns) (g .ordinates .now) (record { table = t; coefficients = ps })
+    let it : record { table = more a t ps h shaped e size fit; coefficients = coefficients a t ps h shaped e size fit } ≡ grownCombination s j (g .columns) (g .ordinates .now) (record { table = t; coefficients = ps })
     = ap₂ (λ k i. record { table = t ++ take (k + 1) (drop i (identity (g .columns))); coefficients = ps ++ map int (take (k + 1) (drop i (g .ordinates .now))) }) (is .right-is .degree-is) (is .right-is .column-is) in
     subst (λ (r : Combination). Leaves (recoverOrders s j (g .n) r) (m .recover-orders .result) (g .num .now) (g .den .now) (m .recover-orders .last .0) (m .recover-orders .last .1 .0)) it
-    (left-from (λ q. q .table) toldNumbers _ _ _ _ (m .recover-orders .result) (more a t ps h shaped e size fit) (g .num .now) (g .den .now) (h .num-long) (h .den-long) (num-is a t ps h shaped e size fit)
+    (left-from (λ q. q .table) toldCoefficients _ _ _ _ (m .recover-orders .result) (more a t ps h shaped e size fit) (g .num .now) (g .den .now) (h .num-long) (h .den-long) (num-is a t ps h shaped e size fit)
     (grown-denominators t (g .rows) _ _ (g .columns) (record { shaped = shaped; fit = h .fit }) (start a .pre .1 .0 .1) (start a .pre .1 .0 .0) h (num-is a t ps h shaped e size fit))
     (recoverOrders s j (g .n) (record { table = more a t ps h shaped e size fit; coefficients = coefficients a t ps h shaped e size fit }))
-    (m .recover-orders .ensures s j (more a t ps h shaped e size fit) (coefficients a t ps h shaped e size fit) is (holds a t ps h shaped e size fit) (proper a t ps h shaped e size fit .shaped) (numbers-are a t ps h shaped e size fit) (count a t ps h shaped e size fit) (all-fit a t ps h shaped e size fit)))
+    (m .recover-orders .ensures s j (more a t ps h shaped e size fit) (coefficients a t ps h shaped e size fit) is (holds a t ps h shaped e size fit) (proper a t ps h shaped e size fit .shaped) (coefficients-are a t ps h shaped e size fit) (count a t ps h shaped e size fit) (all-fit a t ps h shaped e size fit)))
 
 pub recover-join-spec : {M : Type 1} → statement M
 recover-join-spec =

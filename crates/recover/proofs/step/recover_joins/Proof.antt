@@ -28,12 +28,12 @@ use Rattle.build.proofs.Repeated.{State, holds, goes-on, ends, all-done}
 use Rattle.build.proofs.Turns.{later, later-none}
 use Rattle.theorems_recovery.specs.Recovery.{Combination, recoverOrders, recoverJoins, recovered}
 use Rattle.theorems_recovery.proofs.Refusals.{orders-stop}
-use Rattle.recover.specs.Leaves.{toldNumbers, toldJoins, Leaves, JoinsLeave, grownNumbered}
+use Rattle.recover.specs.Leaves.{toldCoefficients, toldJoins, Leaves, JoinsLeave, grownCombination}
 use Rattle.recover.specs.declared.Joined.{Joined}
 use Rattle.recover.specs.declared.RowCoefficients.{RowCoefficients}
 use Rattle.recover.specs.declared.Refusal.the-variants as refusals
-use Rattle.recover.proofs.Orders.{leaves-none, leaves-some, number-told, Sound}
-use Rattle.recover.proofs.Turns.{later-numbers, map-append, columns-fit, columns-count, join-turns}
+use Rattle.recover.proofs.Orders.{leaves-none, leaves-some, code-told, Sound}
+use Rattle.recover.proofs.Turns.{later-coefficients, map-append, columns-fit, columns-count, join-turns}
 use Rattle.recover.proofs.step.recover_joins.Statement.{statement}
 use Rattle.recover.proofs.step.recover_joins.Tie as tie
 
@@ -190,10 +190,10 @@ module _ (c : tie.After-recover-join Inv-loop μ-loop) where
   abbrev sides : tie.After-join-at Inv-loop μ-loop
   sides = c .before .before .before
 
-  left : Leaves (recoverOrders (s sides) (j sides) (conditionCount (s sides) (j sides)) (grownNumbered (s sides) (j sides) (start sides .args .columns) (start sides .args .ordinates .now) (inv sides .state .reached))) (c .recover-join .result)
+  left : Leaves (recoverOrders (s sides) (j sides) (conditionCount (s sides) (j sides)) (grownCombination (s sides) (j sides) (start sides .args .columns) (start sides .args .ordinates .now) (inv sides .state .reached))) (c .recover-join .result)
       (at-loop sides .loop .num) (at-loop sides .loop .den) (c .recover-join .last .1 .0) (c .recover-join .last .1 .1 .0)
   left =
-      subst (λ n. Leaves (recoverOrders (s sides) (j sides) n (grownNumbered (s sides) (j sides) (start sides .args .columns) (start sides .args .ordinates .now) (inv sides .state .reached))) (c .recover-join .result)
+      subst (λ n. Leaves (recoverOrders (s sides) (j sides) n (grownCombination (s sides) (j sides) (start sides .args .columns) (start sides .args .ordinates .now) (inv sides .state .reached))) (c .recover-join .result)
       (at-loop sides .loop .num) (at-loop sides .loop .den) (c .recover-join .last .1 .0) (c .recover-join .last .1 .1 .0)) (sides .before .before .condition-count .ensures)
       (c .recover-join .ensures (s sides) (j sides) (inv sides .state .reached .table) (inv sides .state .reached .coefficients) (here sides .is)
       (holds _ _ _ (inv sides .begun .holds .num-long) (inv sides .begun .holds .den-long) (inv sides .state)) (sound sides .proper .shaped) (inv sides .is) (sound sides .count) (sound sides .fit))
@@ -212,7 +212,7 @@ module _ (c : tie.After-recover-join Inv-loop μ-loop) where
       let x = leaves-some _ left e in
       let p = orders-stop (s sides) (j sides) (conditionCount (s sides) (j sides)) _ (x .code) (x .place) (x .refuses) in
       ends _ _ _ (inv sides .begun .holds .num-long) (inv sides .begun .holds .den-long) (inv sides .state) (here sides .before-last) (toldJoins (rowCount (s sides))) x
-      (ap (λ (a : Fractions). record { built = Refused code place; of = a }) empty ∙ ap₂ (λ q r. record { built = Refused q r; of = fractions [] }) (number-told _ left x e) (placed ∙ sym (p .1)))
+      (ap (λ (a : Fractions). record { built = Refused code place; of = a }) empty ∙ ap₂ (λ q r. record { built = Refused q r; of = fractions [] }) (code-told _ left x e) (placed ∙ sym (p .1)))
 
 place-requires : tie.Need-place-requires Inv-loop μ-loop
 place-requires c κs = search needs

@@ -20,10 +20,10 @@ use Rattle.build_conditions.specs.declared.Join.{Join}
 use Rattle.build_factors.specs.Jumps.{AllFit}
 use Rattle.build.proofs.Repeated.{State, holds, goes-on, ends, all-done}
 use Rattle.theorems_recovery.specs.Recovery.{Combination, recoverStep, recoverOrders}
-use Rattle.recover.specs.Leaves.{toldNumbers, Leaves}
+use Rattle.recover.specs.Leaves.{toldCoefficients, Leaves}
 use Rattle.recover.specs.declared.RowCoefficients.{RowCoefficients}
 use Rattle.recover.specs.declared.Refusal.the-variants as refusals
-use Rattle.recover.proofs.Orders.{leaves-none, leaves-some, number-told, Sound}
+use Rattle.recover.proofs.Orders.{leaves-none, leaves-some, code-told, Sound}
 use Rattle.recover.proofs.Turns.{order-turns}
 use Rattle.recover.proofs.step.recover_orders.Statement.{statement}
 use Rattle.recover.proofs.step.recover_orders.Tie as tie
@@ -115,7 +115,7 @@ module _ (m : tie.After-recover-step Inv-loop μ-loop) where
         → Leaves (recoverOrders s j (start .args .n) (record { table = t; coefficients = ps })) r (start .args .num .now) (start .args .den .now) (m .recover-step .last .0) (m .recover-step .last .1 .0)
     unfolding recoverOrders
     refused z told = let x = leaves-some _ left z in
-        ends _ _ _ (h .num-long) (h .den-long) (before .state) taken toldNumbers x (told ∙ ap (λ q. record { refusal = refusals.Refused q; of = fractions [] }) (number-told _ left x z))
+        ends _ _ _ (h .num-long) (h .den-long) (before .state) taken toldCoefficients x (told ∙ ap (λ q. record { refusal = refusals.Refused q; of = fractions [] }) (code-told _ left x z))
 
 enum-told : tie.Need-enum-told Inv-loop μ-loop
 enum-told c = search needs
@@ -162,7 +162,7 @@ unfolding recoverOrders
 returns-2 c s j t ps is h shaped e size f =
     let l = c .before .loop in
     let x = l .inv .at s j t ps is h shaped e size f in
-    all-done _ _ _ toldNumbers (x .state) (let z : l .k ≡ c .before .before .args .n = omega arith in z) refl (ap (λ (a : Fractions). record { refusal = refusals.None; of = a }) (x .is))
+    all-done _ _ _ toldCoefficients (x .state) (let z : l .k ≡ c .before .before .args .n = omega arith in z) refl (ap (λ (a : Fractions). record { refusal = refusals.None; of = a }) (x .is))
 
 pub recover-orders-spec : {M : Type 1} → statement M
 recover-orders-spec =

@@ -48,7 +48,7 @@ module _ (c : tie.After-plan-step) (s : Space) (j : ℕ) (t : Table) (is : JoinI
   plans : Plans (planned j (conditions s j (start c .args .k)) t) (c .plan-step .result)
   plans = c .plan-step .ensures s j t is h (shaped .row-count)
 
-  -- a refusal with this name and number
+  -- a refusal with this name and code
   ended : (reason : Refusal) {code : ℕ} (ps : List ℚ) {r : RowCoefficients} → c .plan-step .result .refusal ≡ reason → (reason ≡ build-refusals.None → ⊥) → ((q : ℕ) → (q ≡ 8) ⊎ (q ≡ 9) → refusalOf q ≡ reason → q ≡ code)
       → r ≡ record { refusal = refusals.Refused code; of = fractions [] }
       → Leaves (recoverStep j (conditions s j (start c .args .k)) (record { table = t; coefficients = ps })) r (start c .args .num .now) (start c .args .den .now) (start c .args .num .now) (start c .args .den .now)

@@ -1,4 +1,4 @@
--- The number, and no fraction. Assumes nothing.
+-- The code, and no fraction. Assumes nothing.
 use borrow.Author.Needs.{needs}
 use mathlib.Core.Path.{ap}
 use Rattle.base_fraction.specs.declared.arrays.Fractions.{Fractions}
