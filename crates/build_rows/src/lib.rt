@@ -15,7 +15,6 @@ ghost use Rattle.build_jumps.specs.Machine.{counted};
 ghost use Rattle.build_rows.specs.Rows.{UnitFactor, UnitFactors, LeavesIf};
 use base_fraction::Counted;
 use base_fraction::Fraction;
-use base_fraction::arrays;
 use base_fraction::arrays::Fractions;
 
 // w x + u y, with both products and the sum counted. A product with a zero is zero, and the sum with it is the other product, which
@@ -116,9 +115,12 @@ pub fn mix_rows(
     let mut i = f;
     while i < l {
         let d = i - f;
-        let w = arrays::fraction_at(ws, d);
-        let v = arrays::fraction_at(ws, d + 1);
-        let u = complement(v);
+        let wn = ws.num[d];
+        let wd = ws.den[d];
+        let vn = ws.num[d + 1];
+        let vd = ws.den[d + 1];
+        let w = Fraction { num: wn, den: wd };
+        let u = complement(Fraction { num: vn, den: vd });
         let done = mix_row(num, den, i, w, u, columns);
         if !done {
             return false;

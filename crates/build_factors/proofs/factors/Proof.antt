@@ -6,6 +6,7 @@ use mathlib.Core.List.{List, [], _∷_, _++_}
 use mathlib.Core.Logic.{_≢_}
 use Prim.Native.Nat.{ℕ, suc, _+_, _-_, _<_, _≤_}
 use lib.IntN.{pos}
+use lib.ListN.{getD}
 use mir.Syntax.{w64}
 use mir.Val.{SFits}
 use mir.ValLaws.{toZ-ofZ}
@@ -24,7 +25,7 @@ use Rattle.spec_spline.proofs.Step.{partial-first, partial-more}
 use Rattle.spec_spline.proofs.Answers.{factor-answers}
 use Rattle.base_fraction.specs.Fractions.{fractions}
 use Rattle.base_fraction.specs.declared.arrays.Fractions.{Fractions}
-use Rattle.base_fraction.proofs.Fractions.{fractions-more, one-fraction}
+use Rattle.base_fraction.proofs.Fractions.{fraction-at, fractions-more, one-fraction}
 use Rattle.build_factors.specs.Machine.{nextFactor}
 use Rattle.build_factors.specs.declared.Refusal.{Refusal}
 use Rattle.build_factors.specs.declared.Refusal.the-variants as refusals
@@ -46,10 +47,10 @@ record Inv (js : Fractions) (f l : ℕ) (ws : Fractions) (sum : Fraction) (i : �
   rest : (qs : List ℚ) (j : ℕ) → js ≡ fractions qs → Collected qs j f i ws
 
 abbrev Inv-loop : tie.InvT-loop
-Inv-loop js f l ws₀ sum₀ i₀ ws sum i = Inv js f l ws sum i
+Inv-loop f l js ws₀ sn sd sum₀ i₀ ws sum i = Inv js f l ws sum i
 
 abbrev μ-loop : tie.MeasureT-loop
-μ-loop js f l ws₀ sum₀ i₀ ws sum i = l - i
+μ-loop f l js ws₀ sn sd sum₀ i₀ ws sum i = l - i
 
 no-fractions-requires : tie.Need-no-fractions-requires Inv-loop μ-loop
 no-fractions-requires c κs = search needs
@@ -57,37 +58,78 @@ no-fractions-requires c κs = search needs
 element-set-of-ws : tie.Need-element-set-of-ws Inv-loop μ-loop
 element-set-of-ws c = search needs
 
-fraction-at-requires : tie.Need-fraction-at-requires Inv-loop μ-loop
-fraction-at-requires c κs = omega arith
+mul-sn : tie.Need-mul-sn Inv-loop μ-loop
+mul-sn c = omega arith
+
+element-copy-out-sn : tie.Need-element-copy-out-sn Inv-loop μ-loop
+element-copy-out-sn c = omega arith
+
+mul-sd : tie.Need-mul-sd Inv-loop μ-loop
+mul-sd c = omega arith
+
+element-copy-out-sd : tie.Need-element-copy-out-sd Inv-loop μ-loop
+element-copy-out-sd c = omega arith
 
 add-i : tie.Need-add-i Inv-loop μ-loop
 add-i c = omega arith
 
 loop-holds : tie.Need-loop-holds Inv-loop μ-loop
 loop-holds c =
-    let s = c .before .before in
+    let s = c .before .before .before in
     let f = s .args .f in
+    let n : SFits w64 (getD (s .args .t1 .num) f (pos 0)) = record { sfits = c .before .sn .given } in
+    let d : SFits w64 (getD (s .args .t1 .den) f (pos 0)) = record { sfits = c .sd .given } in
+    let low : f < 72 = omega (arith, s .pre .order, s .pre .within) in
     record {
       after = omega arith;
       within = omega arith;
-      fitted = rw (c .fraction-at .ensures (s .pre .of) (s .pre .is)) (fits-sized (entry (s .pre .of) f) (s .pre .fit f));
-      sum-is = λ qs e. c .fraction-at .ensures qs e ∙ ap fraction (sym (partial-first qs f) ∙ ap (partialSum qs f) (let z : f ≡ f + 1 - 1 = omega arith in z));
+      fitted = simp toZ-ofZ (rw (fraction-at (s .pre .of) _ (s .pre .is) f low) (fits-sized (entry (s .pre .of) f) (s .pre .fit f)));
+      sum-is = λ qs e. (simp toZ-ofZ (fraction-at qs _ e f low)) ∙ ap fraction (sym (partial-first qs f) ∙ ap (partialSum qs f) (let z : f ≡ f + 1 - 1 = omega arith in z));
       rest = λ qs j e. record {
         done = [];
         collects = ap (λ n. collect n (λ d. factor j qs f (f + 1 + d))) (let z : f + 1 - f - 1 ≡ 0 = omega arith in z) ∙ collect-none _;
-        ws-is = one-fraction (c .before .no-fractions .result) (c .before .no-fractions .ensures);
+        ws-is = one-fraction (c .before .before .no-fractions .result) (c .before .before .no-fractions .ensures);
       };
     }
 
-fraction-at-requires-2 : tie.Need-fraction-at-requires-2 Inv-loop μ-loop
-fraction-at-requires-2 c κs = omega arith
+mul-jn : tie.Need-mul-jn Inv-loop μ-loop
+mul-jn c = omega arith
+
+element-copy-out-jn : tie.Need-element-copy-out-jn Inv-loop μ-loop
+element-copy-out-jn c = omega arith
+
+mul-jd : tie.Need-mul-jd Inv-loop μ-loop
+mul-jd c = omega arith
+
+element-copy-out-jd : tie.Need-element-copy-out-jd Inv-loop μ-loop
+element-copy-out-jd c = omega arith
+
+-- the two numbers that are read
+module _ (c : tie.After-jd Inv-loop μ-loop) where
+  abbrev here : tie.At-loop Inv-loop μ-loop
+  here = c .before .before .before
+
+  abbrev start : tie.Start Inv-loop μ-loop
+  start = here .before .before .before .before
+
+  jn-fits : SFits w64 (getD (start .args .t1 .num) (here .loop .i) (pos 0))
+  jn-fits = record { sfits = c .before .jn .given }
+
+  jd-fits : SFits w64 (getD (start .args .t1 .den) (here .loop .i) (pos 0))
+  jd-fits = record { sfits = c .jd .given }
+
+  low : here .loop .i < 72
+  low = omega (arith, c .before .before .loop-test .taken, start .pre .within)
 
 factor-requires : tie.Need-factor-requires Inv-loop μ-loop
 unfolding fraction
 factor-requires c κs =
-    let p = c .before .before .before .before .before .pre in
-    let l = c .before .before .loop in
-    let e = c .fraction-at2 .ensures (p .of) (p .is) in (
+    let p = start c .pre in
+    let l = here c .loop in
+    let n = jn-fits c in
+    let d = jd-fits c in
+    let e = fraction-at (p .of) _ (p .is) (l .i) (low c) in
+    simp toZ-ofZ (
       l .inv .fitted,
       (
         rw e (fits-sized (entry (p .of) (l .i)) (p .fit (l .i))),
@@ -96,15 +138,15 @@ factor-requires c κs =
     )
 
 -- what the call of factor answers, in the definition's terms
-module _ (c : tie.After-factor Inv-loop μ-loop) (qs : List ℚ) (j : ℕ) (e : c .before .before .before .before .before .before .args .js ≡ fractions qs) where
+module _ (c : tie.After-factor Inv-loop μ-loop) (qs : List ℚ) (j : ℕ) (e : start (c .before) .args .t1 ≡ fractions qs) where
   abbrev at-loop : tie.At-loop Inv-loop μ-loop
-  at-loop = c .before .before .before
+  at-loop = here (c .before)
 
   abbrev row : ℕ
   row = at-loop .loop .i
 
   abbrev first : ℕ
-  first = at-loop .before .before .before .args .f
+  first = start (c .before) .args .f
 
   abbrev rows-done : Collected qs j first row (at-loop .loop .ws)
   rows-done = at-loop .loop .inv .rest qs j e
@@ -112,7 +154,7 @@ module _ (c : tie.After-factor Inv-loop μ-loop) (qs : List ℚ) (j : ℕ) (e : 
   next-is : c .factor .result ≡ nextFactor (partialSum qs first row) (factor j qs first row)
   next-is =
       c .factor .ensures j
-      ∙ ap₂ (λ s q. nextFactor (s +ᵠ q) (quotientFactor j (s +ᵠ q) q)) (ap value (at-loop .loop .inv .sum-is qs e) ∙ value-fraction _) (ap value (c .before .fraction-at2 .ensures qs e) ∙ value-fraction _)
+      ∙ ap₂ (λ s q. nextFactor (s +ᵠ q) (quotientFactor j (s +ᵠ q) q)) (ap value (at-loop .loop .inv .sum-is qs e) ∙ value-fraction _) (let n = jn-fits (c .before) in let d = jd-fits (c .before) in simp toZ-ofZ (ap value (fraction-at qs _ e row (low (c .before))) ∙ value-fraction _))
       ∙ ap (λ s. nextFactor s (quotientFactor j s (entry qs row))) (sym (partial-more qs first row (at-loop .loop .inv .after)))
 
   -- the place of the row among those between f and l
@@ -126,8 +168,8 @@ module _ (c : tie.After-factor Inv-loop μ-loop) (qs : List ℚ) (j : ℕ) (e : 
   ended : (reason : Refusal) → c .factor .result .refusal ≡ reason → reason ≢ refusals.None → Ended (factor j qs first row) reason
   ended reason h n = next-ended (partialSum qs first row) (factor j qs first row) (c .factor .result) reason next-is h n
 
-  stopped : {code place : ℕ} → factor j qs first row ≡ refusal code place → collect (at-loop .before .before .before .args .l - first - 1) (λ d. factor j qs first (first + 1 + d)) ≡ refusal code place
-  stopped r = collect-stays (suc (row - first - 1)) _ _ (omega (arith, at-loop .loop .inv .after, c .before .before .loop-test .taken)) (collect-ends (row - first - 1) _ (rows-done .collects) (sym place ∙ r))
+  stopped : {code place : ℕ} → factor j qs first row ≡ refusal code place → collect (start (c .before) .args .l - first - 1) (λ d. factor j qs first (first + 1 + d)) ≡ refusal code place
+  stopped r = collect-stays (suc (row - first - 1)) _ _ (omega (arith, at-loop .loop .inv .after, c .before .before .before .loop-test .taken)) (collect-ends (row - first - 1) _ (rows-done .collects) (sym place ∙ r))
 
 enum-told : tie.Need-enum-told Inv-loop μ-loop
 enum-told c = search needs
@@ -180,8 +222,8 @@ loop-less c = omega arith
 loop-again : tie.Need-loop-again Inv-loop μ-loop
 loop-again c =
     let a = c .before .before .before .before .before .before in
-    let s = a .before .before .before .before .before .before in
-    let l = a .before .before .before .loop in
+    let s = start (a .before) in
+    let l = here (a .before) .loop in
     let told = c .before .before .before .before .enum-told .given .1 in
     let n : SFits w64 (a .factor .result .w .num) = record { sfits = c .struct-told2 .given .0 .1 } in
     let d : SFits w64 (a .factor .result .w .den) = record { sfits = c .struct-told2 .given .1 .0 .1 } in
@@ -205,7 +247,7 @@ loop-again c =
 returns-3 : tie.Need-returns-3 Inv-loop μ-loop
 returns-3 c qs j e =
     let l = c .before .loop in
-    let a = c .before .before .before .before .args in
+    let a = c .before .before .before .before .before .args in
     let y = l .inv .rest qs j e in
     factors-answered j qs _ _ (ap (λ n. collect n (λ d. factor j qs (a .f) (a .f + 1 + d))) (let z : a .l - a .f - 1 ≡ l .i - a .f - 1 = omega arith in z) ∙ y .collects) (y .ws-is)
 
@@ -217,10 +259,16 @@ factors-spec =
     μ-loop
     no-fractions-requires
     element-set-of-ws
-    fraction-at-requires
+    mul-sn
+    element-copy-out-sn
+    mul-sd
+    element-copy-out-sd
     add-i
     loop-holds
-    fraction-at-requires-2
+    mul-jn
+    element-copy-out-jn
+    mul-jd
+    element-copy-out-jd
     factor-requires
     enum-told
     sub-at

@@ -8,7 +8,10 @@ use Prim.Native.Nat.{ℕ, suc, _+_, _-_, _<_, _≤_}
 use native.Mathlib.Omega.{arith}
 use native.Mathlib.Numerals.{add-one}
 use lib.IntN.{ℤ, pos}
-use lib.ListN.{length, set, take, drop}
+use lib.ListN.{length, getD, set, take, drop}
+use mir.Syntax.{w64}
+use mir.Val.{SFits, ofZ, toZ}
+use mir.ValLaws.{toZ-ofZ}
 use Rattle.base_exact.specs.Rational.{ℚ, int, _-ᵠ_}
 use Rattle.base_fraction.specs.Size.{fits}
 use Rattle.base_fraction.specs.Machine.{value, FractionFits}
@@ -23,6 +26,7 @@ use Rattle.build_cells.proofs.Tables.{renewed, renewed-none, renewed-length, re
 use Rattle.build_cells.proofs.Buffer.{numerators-again, denominators-again, holds-left, kept-numerators, kept-denominators, kept-then}
 use Rattle.base_fraction.specs.Fractions.{fractions}
 use Rattle.base_fraction.specs.declared.arrays.Fractions.{Fractions}
+use Rattle.base_fraction.proofs.Fractions.{fraction-at}
 use Rattle.build_rows.specs.Rows.{LeavesIf}
 use Rattle.build_rows.proofs.Mixing.{newRow-fits, set-fits}
 use Rattle.build_rows.proofs.mix_rows.Statement.{statement}
@@ -48,10 +52,10 @@ record Inv (num₀ den₀ : List ℤ) (ws : Fractions) (f l rows columns : ℕ) 
   state : (t : Table) (j : ℕ) (qs : List ℚ) → Holds num₀ den₀ t → Shaped t rows columns → ws ≡ fractions qs → State num₀ den₀ num dens f i t j qs
 
 abbrev Inv-loop : tie.InvT-loop
-Inv-loop num₀ den₀ ws f l rows columns i₀ num den i = Inv num₀ den₀ ws f l rows columns num den i
+Inv-loop num₀ den₀ f l rows columns ws i₀ num den i = Inv num₀ den₀ ws f l rows columns num den i
 
 abbrev μ-loop : tie.MeasureT-loop
-μ-loop num₀ den₀ ws f l rows columns i₀ num den i = l - i
+μ-loop num₀ den₀ f l rows columns ws i₀ num den i = l - i
 
 -- ---- one turn, in the definitions' terms
 
@@ -127,7 +131,7 @@ finished {num₀} {den₀} {num} {dens} {f} {i} {t} {j} {qs} l e st =
 -- ---- the turn that the code takes
 
 abbrev at-loop : tie.After-mix-row Inv-loop μ-loop → tie.At-loop Inv-loop μ-loop
-at-loop m = m .before .before .before .before .before .before .before
+at-loop m = m .before .before .before .before .before .before .before .before .before
 
 abbrev start : tie.After-mix-row Inv-loop μ-loop → tie.Start Inv-loop μ-loop
 start m = at-loop m .before
@@ -143,8 +147,28 @@ record Room (f l rows columns i : ℕ) : Type 0 where
 room : (r : tie.In-loop Inv-loop μ-loop) → Room (r .before .before .args .f) (r .before .before .args .l) (r .before .before .args .rows) (r .before .before .args .columns) (r .before .loop .i)
 room r = record { order = omega arith; taken = omega arith; rows-fit = omega arith; room = omega arith; columns-fit = omega arith }
 
+-- the four numbers that are read
+module _ (c : tie.After-vd Inv-loop μ-loop) where
+  abbrev here : tie.At-loop Inv-loop μ-loop
+  here = c .before .before .before .before .before
+
+  abbrev d : ℕ
+  d = here .loop .i - here .before .args .f
+
+  wn-fits : SFits w64 (getD (here .before .args .t3 .num) d (pos 0))
+  wn-fits = record { sfits = c .before .before .before .wn .given }
+
+  wd-fits : SFits w64 (getD (here .before .args .t3 .den) d (pos 0))
+  wd-fits = record { sfits = c .before .before .wd .given }
+
+  vn-fits : SFits w64 (getD (here .before .args .t3 .num) (d + 1) (pos 0))
+  vn-fits = record { sfits = c .before .vn .given }
+
+  vd-fits : SFits w64 (getD (here .before .args .t3 .den) (d + 1) (pos 0))
+  vd-fits = record { sfits = c .vd .given }
+
 module _ (m : tie.After-mix-row Inv-loop μ-loop) (t : Table) (j : ℕ) (qs : List ℚ) (h : Holds (start m .args .num .now) (start m .args .den .now) t)
-    (shaped : Shaped t (start m .args .rows) (start m .args .columns)) (e : start m .args .ws ≡ fractions qs) where
+    (shaped : Shaped t (start m .args .rows) (start m .args .columns)) (e : start m .args .t3 ≡ fractions qs) where
   st : State (start m .args .num .now) (start m .args .den .now) (at-loop m .loop .num) (at-loop m .loop .den) (start m .args .f) (at-loop m .loop .i) t j qs
   st = at-loop m .loop .inv .state t j qs h shaped e
 
@@ -152,15 +176,22 @@ module _ (m : tie.After-mix-row Inv-loop μ-loop) (t : Table) (j : ℕ) (qs : Li
   order = at-loop m .loop .inv .passed
 
   inside : at-loop m .loop .i + 1 < start m .args .rows
-  inside = let r = room (m .before .before .before .before .before .before) in omega arith
+  inside = let r = room (m .before .before .before .before .before .before .before .before) in omega arith
 
-  w-is : value (m .before .before .before .before .before .fraction-at .result) ≡ entry qs (at-loop m .loop .i - start m .args .f)
-  w-is = ap value (m .before .before .before .before .before .fraction-at .ensures qs e) ∙ value-fraction _
+  -- the two factors that are read
+  w-is : value (record { num = toZ w64 (ofZ w64 (getD (start m .args .t3 .num) (at-loop m .loop .i - start m .args .f) (pos 0))); den = toZ w64 (ofZ w64 (getD (start m .args .t3 .den) (at-loop m .loop .i - start m .args .f) (pos 0))) })
+      ≡ entry qs (at-loop m .loop .i - start m .args .f)
+  w-is =
+      let n = wn-fits (m .before .before .before .before) in
+      let d = wd-fits (m .before .before .before .before) in
+      simp toZ-ofZ (ap value (fraction-at qs _ e (at-loop m .loop .i - start m .args .f) (let r = room (m .before .before .before .before .before .before .before .before) in omega arith)) ∙ value-fraction _)
 
   u-is : value (m .before .before .before .complement .result) ≡ int (pos 1) -ᵠ entry qs (suc (at-loop m .loop .i - start m .args .f))
   u-is =
+      let n = vn-fits (m .before .before .before .before) in
+      let d = vd-fits (m .before .before .before .before) in
       m .before .before .before .complement .ensures .0
-      ∙ ap (λ x. int (pos 1) -ᵠ x) (ap value (m .before .before .before .before .fraction-at2 .ensures qs e) ∙ value-fraction _ ∙ ap (entry qs) (add-one (at-loop m .loop .i - start m .args .f)))
+      ∙ ap (λ x. int (pos 1) -ᵠ x) (simp toZ-ofZ (ap value (fraction-at qs _ e (at-loop m .loop .i - start m .args .f + 1) (let r = room (m .before .before .before .before .before .before .before .before) in omega arith)) ∙ value-fraction _ ∙ ap (entry qs) (add-one (at-loop m .loop .i - start m .args .f))))
 
   leaves : LeavesIf (with-answer (set (current h shaped order inside st) (at-loop m .loop .i)) (made j qs t (start m .args .f) (at-loop m .loop .i - start m .args .f))) (m .mix-row .result) (at-loop m .loop .num) (at-loop m .loop .den) (m .mix-row .last .0) (m .mix-row .last .1 .0)
   leaves =
@@ -187,31 +218,57 @@ loop-holds c = record {
 sub-d : tie.Need-sub-d Inv-loop μ-loop
 sub-d c = omega arith
 
-fraction-at-requires : tie.Need-fraction-at-requires Inv-loop μ-loop
-fraction-at-requires c κs = omega arith
+mul-wn : tie.Need-mul-wn Inv-loop μ-loop
+mul-wn c = omega arith
 
-add-fraction-at : tie.Need-add-fraction-at Inv-loop μ-loop
-add-fraction-at c = omega arith
+element-copy-out-wn : tie.Need-element-copy-out-wn Inv-loop μ-loop
+element-copy-out-wn c = omega arith
 
-fraction-at-requires-2 : tie.Need-fraction-at-requires-2 Inv-loop μ-loop
-fraction-at-requires-2 c κs = omega arith
+mul-wd : tie.Need-mul-wd Inv-loop μ-loop
+mul-wd c = omega arith
+
+element-copy-out-wd : tie.Need-element-copy-out-wd Inv-loop μ-loop
+element-copy-out-wd c = omega arith
+
+add-vn : tie.Need-add-vn Inv-loop μ-loop
+add-vn c = omega arith
+
+mul-vn : tie.Need-mul-vn Inv-loop μ-loop
+mul-vn c = omega arith
+
+element-copy-out-vn : tie.Need-element-copy-out-vn Inv-loop μ-loop
+element-copy-out-vn c = omega arith
+
+add-vd : tie.Need-add-vd Inv-loop μ-loop
+add-vd c = omega arith
+
+mul-vd : tie.Need-mul-vd Inv-loop μ-loop
+mul-vd c = omega arith
+
+element-copy-out-vd : tie.Need-element-copy-out-vd Inv-loop μ-loop
+element-copy-out-vd c = omega arith
 
 complement-requires : tie.Need-complement-requires Inv-loop μ-loop
 complement-requires c κs =
-    let s = c .before .before .before .before in
-    let u = s .pre .1 in
-    record { of = _; is = c .fraction-at2 .ensures (u .of) (u .is); fit = u .fit _; low = u .low _; high = u .high _ }
+    let u = here c .before .pre .1 in
+    let n = vn-fits c in
+    let k = vd-fits c in
+    let r = room (c .before .before .before .before) in
+    simp toZ-ofZ (record { of = _; is = fraction-at (u .of) _ (u .is) (d c + 1) (omega arith); fit = u .fit _; low = u .low _; high = u .high _ })
 
 mix-row-requires : tie.Need-mix-row-requires Inv-loop μ-loop
 mix-row-requires c κs =
-    let f = c .before .before .before .before in
-    let r = f .before in
+    let x = c .before .before .before in
+    let r = x .before .before .before .before in
     let s = r .before .before in
     let v = r .before .loop .inv in
     let u = s .pre .1 in
     let k = s .pre .0 .1 .1 in
-    let b = room r in (
-      (subst FractionFits (sym (f .fraction-at .ensures (u .of) (u .is))) (fits-sized _ (u .fit _)), (c .before .before .complement .ensures .1, (omega arith, b .columns-fit))),
+    let b = room r in
+    let n = wn-fits x in
+    let q = wd-fits x in
+    simp toZ-ofZ (
+      (subst FractionFits (sym (fraction-at (u .of) _ (u .is) (d x) (omega arith))) (fits-sized _ (u .fit _)), (c .before .before .complement .ensures .1, (omega arith, b .columns-fit))),
       (_, holds (k .holds) (k .shaped) (v .passed) (omega arith) (v .state (k .table) 0 (u .of) (k .holds) (k .shaped) (u .is))),
     )
 
@@ -224,7 +281,7 @@ same-length-2 c = let m = c .before .before .before in m .mix-row .kept .1 .0 �
 returns : tie.Need-returns Inv-loop μ-loop
 returns c t j qs h shaped e =
     let m = c .before .before .before in
-    ends h shaped (order m t j qs h shaped e) (inside m t j qs h shaped e) (st m t j qs h shaped e) (start m .args .l) (m .before .before .before .before .before .before .loop-test .taken)
+    ends h shaped (order m t j qs h shaped e) (inside m t j qs h shaped e) (st m t j qs h shaped e) (start m .args .l) (m .before .before .before .before .before .before .before .before .loop-test .taken)
     (m .mix-row .result) (m .mix-row .last .0) (m .mix-row .last .1 .0) _ refl (not-true _ (c .if1 .taken)) (leaves m t j qs h shaped e)
 
 add-i : tie.Need-add-i Inv-loop μ-loop
@@ -236,7 +293,7 @@ loop-less c = omega arith
 loop-again : tie.Need-loop-again Inv-loop μ-loop
 loop-again c =
     let m = c .before .before .before in
-    let b = room (m .before .before .before .before .before .before) in
+    let b = room (m .before .before .before .before .before .before .before .before) in
     let v = at-loop m .loop .inv in
     record {
       passed = omega arith;
@@ -258,4 +315,31 @@ returns-2 : tie.Need-returns-2 Inv-loop μ-loop
 returns-2 c t j qs h shaped e = finished (c .before .before .args .l) (omega arith) (c .before .loop .inv .state t j qs h shaped e)
 
 pub mix-rows-spec : {M : Type 1} → statement M
-mix-rows-spec = tie.close (tie.spec Inv-loop μ-loop loop-holds sub-d fraction-at-requires add-fraction-at fraction-at-requires-2 complement-requires mix-row-requires same-length same-length-2 returns add-i loop-less loop-again same-length-3 same-length-4 returns-2)
+mix-rows-spec =
+    tie.close
+    (tie.spec
+    Inv-loop
+    μ-loop
+    loop-holds
+    sub-d
+    mul-wn
+    element-copy-out-wn
+    mul-wd
+    element-copy-out-wd
+    add-vn
+    mul-vn
+    element-copy-out-vn
+    add-vd
+    mul-vd
+    element-copy-out-vd
+    complement-requires
+    mix-row-requires
+    same-length
+    same-length-2
+    returns
+    add-i
+    loop-less
+    loop-again
+    same-length-3
+    same-length-4
+    returns-2)
