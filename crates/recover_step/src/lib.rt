@@ -115,13 +115,20 @@ fn undo_row(cs: Fractions, ws: Fractions, f: usize, i: usize) -> Counted
     ensures { λ r. ⌜ ((j : ℕ) (us ps : List ℚ) → ws ≡ fractions us → cs ≡ fractions ps
         → r ≡ counted (Recovery.undoneRow j us ps f (i - f) (drop f ps))) ⌝ }
 {
-    let coefficient = arrays::fraction_at(cs, i);
+    let cn = cs.num[i];
+    let cd = cs.den[i];
     if i == f {
-        return Counted::Fits(coefficient);
+        return Counted::Fits(Fraction { num: cn, den: cd });
     }
-    let w = arrays::fraction_at(ws, i - f);
-    let before = arrays::fraction_at(cs, i - 1);
-    undo_coefficient(w, coefficient, before)
+    let wn = ws.num[i - f];
+    let wd = ws.den[i - f];
+    let bn = cs.num[i - 1];
+    let bd = cs.den[i - 1];
+    undo_coefficient(
+        Fraction { num: wn, den: wd },
+        Fraction { num: cn, den: cd },
+        Fraction { num: bn, den: bd },
+    )
 }
 
 // The new coefficients of the rows f to l - 1, rows rising; the others as they were.

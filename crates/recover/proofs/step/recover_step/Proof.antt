@@ -88,7 +88,7 @@ module _ (c : tie.After-enum-told3) where
 -- what the second half leaves
 module _ (c : tie.After-renew-rows) where
   abbrev told-at : tie.After-enum-told3
-  told-at = c .before .before .before .before .before
+  told-at = c .before .before .before
 
   module _ (s : Space) (j : ℕ) (t : Table) (is : JoinIs (start (worked told-at) .args .join) s j) (h : Holds (start (worked told-at) .args .num .now) (start (worked told-at) .args .den .now) t)
       (shaped : Shaped t (start (worked told-at) .args .rows) (start (worked told-at) .args .columns)) where
@@ -119,7 +119,7 @@ enum-told-3 c = search needs
 
 renew-rows-requires : tie.Need-renew-rows-requires
 renew-rows-requires c κs =
-    let a = c .before .before .before .before in
+    let a = c .before .before in
     let p = start (worked a) .pre in
     let k = p .1 .0 in
     let r = works a (p .0 .space) (p .0 .index) (k .table) (p .0 .is) (k .holds) (k .shaped) in
