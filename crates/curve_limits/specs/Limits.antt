@@ -1,7 +1,8 @@
 -- The refusals 6 and 7 of a legal space, each by itself.
 use mathlib.Core.Bool.{Bool, cond, not}
 use mathlib.Core.List.{List}
-use Prim.Native.Nat.{ℕ, _*_}
+use mathlib.Core.Path.{_≡_}
+use Prim.Native.Nat.{ℕ, _+_, _*_}
 use lib.Dec.{eqb}
 use lib.IntN.{ℤ, pos}
 use lib.ListN.{length, getD}
@@ -10,6 +11,7 @@ use Rattle.base_outcome.specs.Search.{first}
 use Rattle.spec_spline.specs.Space.{Space, rowCount}
 use Rattle.base_outcome.specs.Tests.{between, refuseFirst}
 use Rattle.spec_spline.specs.CurveCall.{badCoefficient}
+use Rattle.build_space.specs.Legal.{BreaksLegal}
 
 -- Code 6: the count first, two numbers a row.
 unfoldable pub coefficientsChecked : Space → List ℤ → Outcome (Unit {0})
@@ -23,3 +25,8 @@ outside list low high i = not (between low high (getD list i (pos 0)))
 -- Code 7.
 unfoldable pub positionsChecked : List ℤ → ℤ → ℤ → Outcome (Unit {0})
 positionsChecked positions low high = refuseFirst 7 (first (length positions) (outside positions low high)) (answer tt)
+
+-- Legal breakpoints of m segments.
+pub record SpanAsks (breaks : List ℤ) (m : ℕ) : Type 0 where
+  pub count : length breaks ≡ m + 1
+  pub legal : BreaksLegal breaks

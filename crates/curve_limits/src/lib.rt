@@ -1,17 +1,16 @@
 // The refusals 2 to 7 and 15 of a curve call, in the order of their numbers but for 15, which follows 5.
 ghost use mathlib.Core.Path.{_≡_};
 ghost use mathlib.Core.List.{[]};
-ghost use Prim.Native.Nat.{_+_};
 ghost use lib.IntN.{pos};
 ghost use lib.ListN.{length, getD};
 ghost use Rattle.build_space.specs.Machine.{space};
 ghost use Rattle.base_outcome.specs.Machine.{found, legality};
-ghost use Rattle.build_space.specs.Legal.{BreaksLegal, JoinsLegal, ListsLegal};
+ghost use Rattle.build_space.specs.Legal.{JoinsLegal, ListsLegal};
 ghost use Rattle.base_outcome.specs.Outcome.{answer};
 ghost use Rattle.base_outcome.specs.Search;
 ghost use Rattle.spec_spline.specs.Reading.{fine};
 ghost use Rattle.spec_spline.specs.CurveCall.{legalEntries, curveChecked};
-ghost use Rattle.curve_limits.specs.Limits.{coefficientsChecked, outside, positionsChecked};
+ghost use Rattle.curve_limits.specs.Limits.{coefficientsChecked, outside, positionsChecked, SpanAsks};
 use base_outcome::Found;
 use base_outcome::Legality;
 
@@ -59,7 +58,7 @@ fn check_coefficients(degrees: &[i32], orders: &[i32], coefs: &[i32]) -> Legalit
 
 // Code 7 of a legal space.
 fn check_positions(breaks: &[i32], m: usize, positions: &[i32]) -> Legality
-    requires { ⌜ (length (now breaks) ≡ m + 1) × BreaksLegal (now breaks) ⌝ }
+    requires { ⌜ SpanAsks (now breaks) m ⌝ }
     ensures { λ r. ⌜ r ≡ legality (positionsChecked (now (positions .entry)) (fine (getD (now (breaks .entry)) 0 (pos 0)))
         (fine (getD (now (breaks .entry)) m (pos 0)))) ⌝ }
 {

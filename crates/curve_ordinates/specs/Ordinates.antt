@@ -3,10 +3,10 @@ use mathlib.Core.Bool.{Bool, true, false}
 use mathlib.Core.List.{List}
 use mathlib.Core.Option.{Option, some, none, Option·getD}
 use mathlib.Core.Path.{_≡_}
-use Prim.Native.Nat.{ℕ, _+_, _*_, _≤_}
+use Prim.Native.Nat.{ℕ, _+_, _*_, _^_, _<_, _≤_}
 use lib.IntN.{ℤ, pos, natAbs, _+ℤ_, _*ℤ_}
 use lib.ListN.{length, getD}
-use lib.Signed.{leZ}
+use lib.Signed.{leZ, _<ℤ_}
 use Rattle.base_exact.specs.Rational.{den}
 use Rattle.spec_spline.specs.Table.{Table, cell, rowCells}
 use Rattle.spec_spline.specs.Reading.{fineness, fine, rounded, preferred, least, greatest, hasWeight, termSum}
@@ -69,3 +69,34 @@ pub record Coefficients (coefs : List ℤ) (n : ℕ) : Type 0 where
 -- Every number of the list is within that limit.
 abbrev pub Bounded : List ℤ → Type 0
 Bounded os = (k : ℕ) → natAbs (getD os k (pos 0)) ≤ ordinateLimit
+
+-- ---- what is asked
+
+-- A coefficient a with weight num / den, for a sum so far: sizes with which the next sum is formed.
+pub record TermAsks (sum a num den : ℤ) : Type 0 where
+  pub coefficient-small : natAbs a ≤ coefficientLimit
+  pub den-short : natAbs den < 2 ^ 31
+  pub den-positive : pos 0 <ℤ den
+  pub unit : natAbs num ≤ natAbs den
+  pub sum-short : natAbs sum < 2 ^ 62
+
+-- The least and the greatest coefficient so far are in their range.
+pub record LimitsSmall (terms : Terms) : Type 0 where
+  pub least-small : natAbs (terms .least) ≤ coefficientLimit
+  pub greatest-small : natAbs (terms .greatest) ≤ coefficientLimit
+
+-- n rows of weights, with their coefficients.
+pub record WeighedRows (num den coefs : List ℤ) (n : ℕ) : Type 0 where
+  pub weights : Weighs num den n
+  pub coefficients : Coefficients coefs n
+
+-- A column of them, and one of each row's two coefficients.
+pub record ColumnAsks (num den coefs : List ℤ) (index n c : ℕ) : Type 0 where
+  pub rows : WeighedRows num den coefs n
+  pub column-within : c < rowCells
+  pub index-within : index < 2
+
+-- No more columns than they have.
+pub record OrdinatesAsk (num den coefs : List ℤ) (n : ℕ) (os : List ℤ) : Type 0 where
+  pub rows : WeighedRows num den coefs n
+  pub columns-few : length os ≤ rowCells

@@ -2,16 +2,14 @@
 // limits of the part's coefficients with weight on it.
 ghost use mathlib.Core.Path.{_≡_};
 ghost use mathlib.Core.Bool.{cond};
-ghost use Prim.Native.Nat.{_^_, _<_, _≤_};
-ghost use lib.IntN.{pos, natAbs};
 ghost use lib.ListN.{length};
-ghost use lib.Signed.{leZ, ltZ, _<ℤ_};
+ghost use lib.Signed.{leZ, ltZ};
 ghost use Rattle.base_exact.specs.Tabulate.{tab};
-ghost use Rattle.spec_spline.specs.Table.{Table, rowCells};
+ghost use Rattle.spec_spline.specs.Table.{Table};
 ghost use Rattle.spec_spline.specs.Reading;
-ghost use Rattle.spec_spline.specs.CurveCall.{coefficientLimit};
 ghost use Rattle.build_cells.specs.Held.{Holds};
-ghost use Rattle.curve_ordinates.specs.Ordinates.{given, termsOf, Added, Weighs, entries, Coefficients};
+ghost use Rattle.curve_ordinates.specs.Ordinates.{given, termsOf, Added, entries};
+ghost use Rattle.curve_ordinates.specs.Ordinates.{TermAsks, LimitsSmall, ColumnAsks, OrdinatesAsk};
 ghost use Rattle.curve_ordinates.specs.Wood.{woodOf};
 
 // A wood part.
@@ -54,8 +52,7 @@ fn greater(some: bool, a: i64, b: i64) -> i64
 
 // One more coefficient with weight num / den.
 fn with_term(before: Terms, a: i64, num: i64, den: i64) -> Terms
-    requires { ⌜ (natAbs a ≤ coefficientLimit) × ((natAbs den < 2 ^ 31)
-        × ((pos 0 <ℤ den) × ((natAbs num ≤ natAbs den) × (natAbs (before .sum) < 2 ^ 62)))) ⌝ }
+    requires { ⌜ TermAsks (before .sum) a num den ⌝ }
     ensures { λ r. ⌜ Added before a num den r ⌝ }
 {
     let term = base_fraction::round_div(256 * a * num, den);
@@ -80,7 +77,7 @@ fn at_most(high: i64, x: i64) -> i64
 
 // The sum within 256 times the least and the greatest coefficient.
 fn limited(terms: Terms) -> i64
-    requires { ⌜ (natAbs (terms .least) ≤ coefficientLimit) × (natAbs (terms .greatest) ≤ coefficientLimit) ⌝ }
+    requires { ⌜ LimitsSmall terms ⌝ }
     ensures { λ r. ⌜ r ≡ Reading.atMost (given (terms .some) (terms .greatest))
         (Reading.atLeast (given (terms .some) (terms .least)) (terms .sum)) ⌝ }
 {
@@ -108,7 +105,7 @@ fn wood_index(wood: Wood) -> usize
 
 // The terms of column c over the first n rows, each with the coefficient at this index among its two.
 fn column_terms(num: &[i64], den: &[i64], coefs: &[i32], index: usize, n: usize, c: usize) -> Terms
-    requires { ⌜ ((c < rowCells) × (index < 2)) × (Weighs (now num) (now den) n × Coefficients (now coefs) n) ⌝ }
+    requires { ⌜ ColumnAsks (now num) (now den) (now coefs) index n c ⌝ }
     ensures { λ r. ⌜ ((t : Table) → Holds (now (num .entry)) (now (den .entry)) t
         → r ≡ termsOf t (entries (now (coefs .entry)) index) c n) ⌝ }
 {
@@ -135,7 +132,7 @@ fn column_terms(num: &[i64], den: &[i64], coefs: &[i32], index: usize, n: usize,
 
 // The ordinates of a wood part in the first columns, one for each number of the list.
 pub fn ordinates(num: &[i64], den: &[i64], coefs: &[i32], wood: Wood, n: usize, os: &mut [i32])
-    requires { ⌜ (length (now os) ≤ rowCells) × (Weighs (now num) (now den) n × Coefficients (now coefs) n) ⌝ }
+    requires { ⌜ OrdinatesAsk (now num) (now den) (now coefs) n (now os) ⌝ }
     ensures { λ _. ⌜ ((t : Table) → Holds (now (num .entry)) (now (den .entry)) t → length t ≡ n
         → now (os .exit) ≡ tab (length (now (os .entry))) (Reading.ordinate t (Reading.coefficient (woodOf wood) (now (coefs .entry))))) ⌝ }
 {

@@ -2,17 +2,20 @@
 -- outcome's; and a piece by the ordinates of all columns.
 use mathlib.Core.Bool.{cond, not}
 use mathlib.Core.List.{List, [], _∷_}
-use Prim.Native.Nat.{ℕ, suc, _+_}
+use mathlib.Core.Path.{_≡_}
+use Prim.Native.Nat.{ℕ, suc, _+_, _<_, _≤_}
 use lib.Ieee.{Float}
 use lib.Ieee.Exact.{HasValue}
 use lib.IntN.{ℤ, pos, natAbs}
-use lib.ListN.{getD}
+use lib.ListN.{length, getD}
 use lib.Signed.{nonNeg}
 use Rattle.base_exact.specs.Tabulate.{tab}
 use Rattle.base_outcome.specs.Outcome.{Outcome, answer, refusal, refuse}
 use Rattle.spec_spline.specs.Space.{Space, break, degree, firstColumn}
 use Rattle.spec_spline.specs.Reading.{fineness}
-use Rattle.curve_pieces.specs.Pieces.{Piece, isDrawable}
+use Rattle.build_space.specs.Legal.{ListsLegal}
+use Rattle.curve_triangle.specs.Offsets.{columnLimit}
+use Rattle.curve_pieces.specs.Pieces.{drawableDegree, Piece, isDrawable}
 use Rattle.curve_pieces.specs.declared.Curve.{Curve}
 use Rattle.curve_pieces.specs.declared.Curve.the-variants.{Line, Quadratic, Cubic}
 use Rattle.curve_pieces.specs.declared.Drawing.{Drawing}
@@ -61,3 +64,24 @@ pieceHeld s os k = record {
 -- The same, or 17.
 abbrev pub drawnHeld : Space → List ℤ → ℕ → Outcome Piece
 drawnHeld s os k = cond (isDrawable s k) (answer (pieceHeld s os k)) (refuse 17 k)
+
+-- ---- what the functions of a piece ask
+
+-- Ordinates from a column on, as many as a degree that the screen draws asks.
+pub record CurveAsks (os : List ℤ) (column degree : ℕ) : Type 0 where
+  pub degree-some : 1 ≤ degree
+  pub drawable : degree ≤ drawableDegree
+  pub within : column + degree < length os
+  pub long : length os ≤ columnLimit
+
+-- A segment of legal lists whose degree the screen draws, and the ordinates of all columns.
+pub record PieceAsks (s : Space) (os : List ℤ) (k : ℕ) : Type 0 where
+  pub legal : ListsLegal (s .breaks) (s .degrees) (s .orders)
+  pub segment-within : k < length (s .degrees)
+  pub drawable : degree s k ≤ drawableDegree
+  pub long : length os ≡ columnLimit
+
+-- Legal lists, and the ordinates of all columns.
+pub record DrawAsks (s : Space) (os : List ℤ) : Type 0 where
+  pub legal : ListsLegal (s .breaks) (s .degrees) (s .orders)
+  pub long : length os ≡ columnLimit

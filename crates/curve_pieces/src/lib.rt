@@ -1,18 +1,16 @@
 // One piece of a curve for the screen: the weights and the ordinates of all columns as for a curve call without positions, and
 // then the named segment's ordinates and ends as 64-bit floats.
 ghost use mathlib.Core.Path.{_≡_};
-ghost use Prim.Native.Nat.{_+_, _<_, _≤_};
+ghost use Prim.Native.Nat.{_+_, _<_};
 ghost use lib.IntN.{pos};
 ghost use lib.ListN.{length, getD};
 ghost use Rattle.base_exact.specs.Tabulate.{tab};
-ghost use Rattle.spec_spline.specs.Space;
 ghost use Rattle.spec_spline.specs.Reading.{fineness};
 ghost use Rattle.build_space.specs.Machine.{space};
-ghost use Rattle.build_space.specs.Legal.{ListsLegal};
 ghost use Rattle.curve_ordinates.specs.Wood.{woodOf};
-ghost use Rattle.curve_triangle.specs.Offsets.{columnLimit};
-ghost use Rattle.curve_pieces.specs.Pieces.{drawableDegree, pieceEnd};
+ghost use Rattle.curve_pieces.specs.Pieces.{pieceEnd};
 ghost use Rattle.curve_pieces.specs.Machine.{Is, Each, floats, Shows, pieceHeld, drawnHeld, Replies};
+ghost use Rattle.curve_pieces.specs.Machine.{CurveAsks, PieceAsks, DrawAsks};
 use build::Built;
 use curve_ordinates::Wood;
 
@@ -72,8 +70,7 @@ fn float_at(ordinates: &[i32], i: usize) -> f64
 
 // The ordinates from this column on, as many as the degree asks.
 fn curve_at(ordinates: &[i32], column: usize, degree: usize) -> Curve
-    requires { ⌜ ((1 ≤ degree) × (degree ≤ drawableDegree)) × ((column + degree < length (now ordinates))
-        × (length (now ordinates) ≤ columnLimit)) ⌝ }
+    requires { ⌜ CurveAsks (now ordinates) column degree ⌝ }
     ensures { λ r. ⌜ Each fineness (floats r) (tab (1 + degree) (λ i. getD (now (ordinates .entry)) (column + i) (pos 0))) ⌝ }
 {
     let a = float_at(ordinates, column);
@@ -91,9 +88,7 @@ fn curve_at(ordinates: &[i32], column: usize, degree: usize) -> Curve
 
 // The piece of segment k, whose degree the screen draws.
 fn piece_at(breaks: &[i32], degrees: &[i32], orders: &[i32], ordinates: &[i32], k: usize) -> Drawing
-    requires { ⌜ ListsLegal (now breaks) (now degrees) (now orders)
-        × ((k < length (now degrees)) × (Space.degree (space (now breaks) (now degrees) (now orders)) k ≤ drawableDegree)) ⌝ }
-    requires { ⌜ length (now ordinates) ≡ columnLimit ⌝ }
+    requires { ⌜ PieceAsks (space (now breaks) (now degrees) (now orders)) (now ordinates) k ⌝ }
     ensures { λ r. ⌜ Shows r (pieceHeld (space (now (breaks .entry)) (now (degrees .entry)) (now (orders .entry))) (now (ordinates .entry))
         k) ⌝ }
 {
@@ -108,7 +103,7 @@ fn piece_at(breaks: &[i32], degrees: &[i32], orders: &[i32], ordinates: &[i32], 
 
 // The piece of the named segment, or code 17.
 fn draw(breaks: &[i32], degrees: &[i32], orders: &[i32], ordinates: &[i32], segment: u32) -> Answer
-    requires { ⌜ ListsLegal (now breaks) (now degrees) (now orders) × (length (now ordinates) ≡ columnLimit) ⌝ }
+    requires { ⌜ DrawAsks (space (now breaks) (now degrees) (now orders)) (now ordinates) ⌝ }
     ensures { λ r. ⌜ Replies r (drawnHeld (space (now (breaks .entry)) (now (degrees .entry)) (now (orders .entry)))
         (now (ordinates .entry)) segment) ⌝ }
 {

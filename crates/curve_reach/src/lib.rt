@@ -1,18 +1,16 @@
 // The first position at which the curve of a wood part reaches a width: the weights and the ordinates of all columns as for the
 // curve call without positions, and then a search over the segments.
 ghost use mathlib.Core.Path.{_≡_};
-ghost use lib.ListN.{length};
 ghost use Rattle.base_outcome.specs.Search;
 ghost use Rattle.spec_spline.specs.Reading.{fine};
 ghost use Rattle.build_space.specs.Machine.{space};
-ghost use Rattle.build_space.specs.Legal.{ListsLegal};
-ghost use Rattle.curve_ordinates.specs.Ordinates.{Bounded};
 ghost use Rattle.curve_ordinates.specs.Wood.{woodOf};
-ghost use Rattle.curve_triangle.specs.Offsets.{columnLimit};
 ghost use Rattle.curve_search.specs.Positions.{positionCount};
 ghost use Rattle.curve_search.specs.Machine.{reachesHeld};
+ghost use Rattle.curve_search.specs.Asks.{SearchAsks};
 ghost use Rattle.curve_reach.specs.Reach.{reachedAt, reachEnd};
 ghost use Rattle.curve_reach.specs.Machine.{reply, chosen};
+ghost use Rattle.curve_reach.specs.Asks.{ReachAsks};
 use curve_ordinates::Wood;
 use curve_search::Found;
 
@@ -30,7 +28,7 @@ fn first_reach(
     ordinates: &[i32],
     width: i32,
 ) -> Answer
-    requires { ⌜ ListsLegal (now breaks) (now degrees) (now orders) × ((length (now ordinates) ≡ columnLimit) × Bounded (now ordinates)) ⌝ }
+    requires { ⌜ SearchAsks (space (now breaks) (now degrees) (now orders)) (now ordinates) ⌝ }
     ensures { λ r. ⌜ (let s = space (now (breaks .entry)) (now (degrees .entry)) (now (orders .entry)) in
         reply r ≡ reachedAt s (Search.first (positionCount s) (reachesHeld s (now (ordinates .entry)) (fine width)))) ⌝ }
 {
@@ -52,8 +50,7 @@ fn part_reach(
     late: &[i32],
     width: i32,
 ) -> Answer
-    requires { ⌜ ListsLegal (now breaks) (now degrees) (now orders)
-        × (((length (now early) ≡ columnLimit) × Bounded (now early)) × ((length (now late) ≡ columnLimit) × Bounded (now late))) ⌝ }
+    requires { ⌜ ReachAsks (space (now breaks) (now degrees) (now orders)) (now early) (now late) ⌝ }
     ensures { λ r. ⌜ (let s = space (now (breaks .entry)) (now (degrees .entry)) (now (orders .entry)) in
         reply r ≡ reachedAt s (Search.first (positionCount s) (reachesHeld s (chosen (woodOf wood) (now (early .entry)) (now (late .entry)))
         (fine width)))) ⌝ }

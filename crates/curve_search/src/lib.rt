@@ -1,18 +1,14 @@
 // The first position of the span at which a curve with given ordinates reaches a target: segment by segment.
 ghost use mathlib.Core.Path.{_≡_};
 ghost use mathlib.Core.List.{[]};
-ghost use Prim.Native.Nat.{_+_, _*_, _<_, _≤_};
 ghost use lib.IntN.{pos, _+ℤ_};
-ghost use lib.ListN.{length};
 ghost use Rattle.base_outcome.specs.Search.{first};
-ghost use Rattle.spec_spline.specs.Space.{spanLimit, break};
-ghost use Rattle.spec_spline.specs.Reading.{fineness, fine};
+ghost use Rattle.spec_spline.specs.Space.{break};
+ghost use Rattle.spec_spline.specs.Reading.{fine};
 ghost use Rattle.build_space.specs.Machine.{space};
-ghost use Rattle.build_space.specs.Legal.{BreaksLegal, ListsLegal};
-ghost use Rattle.curve_ordinates.specs.Ordinates.{Bounded};
-ghost use Rattle.curve_triangle.specs.Offsets.{columnLimit};
 ghost use Rattle.curve_search.specs.Positions.{positionCount};
 ghost use Rattle.curve_search.specs.Machine;
+ghost use Rattle.curve_search.specs.Asks.{SearchAsks, BoundaryAsks, PositionAsks};
 
 // The end of the span is the last segment's: the first offset past its own.
 const PAST_THE_END: usize = 1;
@@ -28,7 +24,7 @@ pub enum Found {
 
 // The first offset that belongs to segment i, or to the end of the last one.
 fn start_offset(degrees: &[i32], orders: &[i32], i: usize) -> usize
-    requires { ⌜ (length (now orders) + 1 ≡ length (now degrees)) × (i ≤ length (now degrees)) ⌝ }
+    requires { ⌜ BoundaryAsks (now degrees) (now orders) i ⌝ }
     ensures { λ r. ⌜ r ≡ Machine.startOffset (space [] (now (degrees .entry)) (now (orders .entry))) i ⌝ }
 {
     if i == degrees.len() {
@@ -45,7 +41,7 @@ fn start_offset(degrees: &[i32], orders: &[i32], i: usize) -> usize
 
 // The position at offset u of segment i.
 fn position_at(breaks: &[i32], i: usize, u: usize) -> i32
-    requires { ⌜ ((i < length (now breaks)) × BreaksLegal (now breaks)) × (u ≤ fineness * spanLimit) ⌝ }
+    requires { ⌜ PositionAsks (now breaks) i u ⌝ }
     ensures { λ r. ⌜ r ≡ fine (break (space (now (breaks .entry)) [] []) i) +ℤ pos u ⌝ }
 {
     let start = breaks[i];
@@ -60,7 +56,7 @@ pub fn search(
     ordinates: &[i32],
     target: i64,
 ) -> Found
-    requires { ⌜ ListsLegal (now breaks) (now degrees) (now orders) × ((length (now ordinates) ≡ columnLimit) × Bounded (now ordinates)) ⌝ }
+    requires { ⌜ SearchAsks (space (now breaks) (now degrees) (now orders)) (now ordinates) ⌝ }
     ensures { λ r. ⌜ (let s = space (now (breaks .entry)) (now (degrees .entry)) (now (orders .entry)) in
         r ≡ Machine.found s (first (positionCount s) (Machine.reachesHeld s (now (ordinates .entry)) target))) ⌝ }
 {

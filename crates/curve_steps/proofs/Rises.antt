@@ -10,13 +10,17 @@ use lib.Signed.{_<ℤ_, _≤ℤ_}
 use Rattle.base_exact.proofs.Integer as Z
 use Rattle.base_exact.proofs.Decide.{below-suc}
 use Rattle.curve_ordinates.specs.Ordinates.{ordinateLimit}
-use Rattle.curve_steps.specs.Machine.{Steepest}
+use Rattle.curve_steps.specs.Machine.{RiseIs, Steepest}
 use Rattle.curve_steps.proofs.Distances.{past}
 
 -- a rise that is more than the one before
-pub rise-more : (rise bound : ℕ) (low high : ℤ) → natAbs low ≤ bound → natAbs high ≤ bound → (low +ℤ pos rise) <ℤ high
-    → (rise ≤ natAbs (high -ℤ low)) × ((natAbs (high -ℤ low) ≤ 2 * bound) × (high ≤ℤ (low +ℤ pos (natAbs (high -ℤ low)))))
-rise-more rise bound low high p q h = (omega (arith, least), (omega (arith, Z.abs-sub high low), subst (λ z. high ≤ℤ z) (sym whole) (Z.≤-refl high)))
+pub rise-more : (rise : ℕ) (low high : ℤ) → natAbs low ≤ ordinateLimit → natAbs high ≤ ordinateLimit → (low +ℤ pos rise) <ℤ high
+    → RiseIs rise low high (natAbs (high -ℤ low))
+rise-more rise low high p q h = record {
+  at-least = omega (arith, least);
+  small = omega (arith, p, q, Z.abs-sub high low);
+  covers = subst (λ z. high ≤ℤ z) (sym whole) (Z.≤-refl high);
+}
   where
     above : low ≤ℤ high
     above = Z.≤-in low high (omega (arith, Z.<-out _ _ h, Z.bal-+ low (pos rise)))

@@ -1,2 +1,3 @@
 -- What the contracts of curve_steps cite beside the definitions of crate spec_spline.
 pub mod Machine
+pub mod Asks

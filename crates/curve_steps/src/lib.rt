@@ -1,22 +1,19 @@
 // The first offset of a segment at which the value of its ordinates reaches a target: from position to position, past those that the
 // value before them cannot rise to.
 ghost use mathlib.Core.Path.{_≡_};
-ghost use Prim.Native.Nat.{suc, _+_, _-_, _*_, _<_, _≤_};
-ghost use lib.IntN.{pos, natAbs, _+ℤ_};
-ghost use lib.ListN.{length, getD};
-ghost use lib.Signed.{leZ, _≤ℤ_};
+ghost use Prim.Native.Nat.{suc, _+_, _-_, _*_, _≤_};
+ghost use lib.IntN.{pos};
+ghost use lib.ListN.{getD};
+ghost use lib.Signed.{leZ};
 ghost use Rattle.base_outcome.specs.Search.{first};
 ghost use Rattle.base_outcome.specs.Search;
-ghost use Rattle.spec_spline.specs.Space.{degreeLimit, spanLimit};
-ghost use Rattle.spec_spline.specs.Reading.{fineness};
-ghost use Rattle.curve_ordinates.specs.Ordinates.{Bounded, ordinateLimit};
-ghost use Rattle.curve_triangle.specs.Offsets.{columnLimit};
 ghost use Rattle.curve_steps.specs.Machine;
+ghost use Rattle.curve_steps.specs.Asks.{RiseAsks, ColumnsAsk, AheadAsks, OffsetAsks, StepAsks, OffsetsAsk};
 
 // The greater of `rise` and the rise from `low` to `high`.
 fn steeper(rise: usize, low: i64, high: i64) -> usize
-    requires { ⌜ (rise ≤ 2 * ordinateLimit) × ((natAbs low ≤ ordinateLimit) × (natAbs high ≤ ordinateLimit)) ⌝ }
-    ensures { λ r. ⌜ (rise ≤ r) × ((r ≤ 2 * ordinateLimit) × (high ≤ℤ (low +ℤ pos r))) ⌝ }
+    requires { ⌜ RiseAsks rise low high ⌝ }
+    ensures { λ r. ⌜ Machine.RiseIs rise low high r ⌝ }
 {
     let reached = low + rise as i64;
     if reached < high {
@@ -27,7 +24,7 @@ fn steeper(rise: usize, low: i64, high: i64) -> usize
 
 // The greatest rise from one of the p + 1 ordinates from column c on to the next, 1 where it is less.
 fn steepest(ordinates: &[i32], c: usize, p: usize) -> usize
-    requires { ⌜ (c + p < columnLimit) × ((length (now ordinates) ≡ columnLimit) × Bounded (now ordinates)) ⌝ }
+    requires { ⌜ ColumnsAsk (now ordinates) c p ⌝ }
     ensures { λ r. ⌜ Machine.Steepest (now (ordinates .entry)) c p r ⌝ }
 {
     let mut rise = 1;
@@ -43,7 +40,7 @@ fn steepest(ordinates: &[i32], c: usize, p: usize) -> usize
 
 // Whether one of the p + 1 ordinates from column c on reaches the target. If none does, no value of theirs does.
 fn one_reaches(ordinates: &[i32], c: usize, p: usize, target: i64) -> bool
-    requires { ⌜ (c + p < columnLimit) × (length (now ordinates) ≡ columnLimit) ⌝ }
+    requires { ⌜ ColumnsAsk (now ordinates) c p ⌝ }
     ensures { λ r. ⌜ r ≡ Search.found (first (suc p) (λ k. leZ target (getD (now (ordinates .entry)) (c + k) (pos 0)))) ⌝ }
 {
     let mut k = 0;
@@ -63,7 +60,7 @@ fn one_reaches(ordinates: &[i32], c: usize, p: usize, target: i64) -> bool
 // How many positions after one that lies below the target by `gap` are sure to lie below it too: in a segment of degree p and
 // length d, whose steepest rise times p is `cost`.
 fn ahead(gap: usize, p: usize, d: usize, cost: usize) -> usize
-    requires { ⌜ (gap ≤ 2 * ordinateLimit) × ((d ≤ fineness * spanLimit) × (0 < cost)) ⌝ }
+    requires { ⌜ AheadAsks gap d cost ⌝ }
     ensures { λ r. ⌜ r * cost ≤ (gap - p) * d ⌝ }
 {
     if gap <= p {
@@ -78,9 +75,8 @@ fn ahead(gap: usize, p: usize, d: usize, cost: usize) -> usize
 
 // The value at offset u of a segment of length d, of the p + 1 ordinates from column c on.
 fn value_on(ordinates: &[i32], c: usize, p: usize, d: usize, u: usize) -> i64
-    requires { ⌜ ((p ≤ degreeLimit) × (c + p < columnLimit)) × ((length (now ordinates) ≡ columnLimit) × Bounded (now ordinates)) ⌝ }
-    requires { ⌜ ((0 < d) × (d ≤ fineness * spanLimit)) × (u ≤ d) ⌝ }
-    ensures { λ r. ⌜ (r ≡ Machine.valueOn (now (ordinates .entry)) c p d u) × (natAbs r ≤ ordinateLimit) ⌝ }
+    requires { ⌜ OffsetAsks (now ordinates) c p d u ⌝ }
+    ensures { λ r. ⌜ Machine.ValueOnIs (now (ordinates .entry)) c p d u r ⌝ }
 {
     let place = curve_triangle::Place {
         column: c,
@@ -102,9 +98,7 @@ fn step_through(
     end: usize,
     target: i64,
 ) -> usize
-    requires { ⌜ ((1 ≤ p) × ((p ≤ degreeLimit) × (c + p < columnLimit)))
-        × ((length (now ordinates) ≡ columnLimit) × Bounded (now ordinates)) ⌝ }
-    requires { ⌜ ((0 < d) × (d ≤ fineness * spanLimit)) × ((end ≤ suc d) × (target ≤ℤ pos ordinateLimit)) ⌝ }
+    requires { ⌜ StepAsks (now ordinates) c p d end target ⌝ }
     ensures { λ r. ⌜ Machine.LeastFrom (Machine.valueOn (now (ordinates .entry)) c p d) target start end r ⌝ }
 {
     let cost = p * steepest(ordinates, c, p);
@@ -132,9 +126,7 @@ pub fn first_offset(
     end: usize,
     target: i64,
 ) -> usize
-    requires { ⌜ ((1 ≤ p) × ((p ≤ degreeLimit) × (c + p < columnLimit)))
-        × ((length (now ordinates) ≡ columnLimit) × Bounded (now ordinates)) ⌝ }
-    requires { ⌜ ((0 < d) × (d ≤ fineness * spanLimit)) × ((end ≤ suc d) × (start ≤ end)) ⌝ }
+    requires { ⌜ OffsetsAsk (now ordinates) c p d start end ⌝ }
     ensures { λ r. ⌜ Machine.LeastFrom (Machine.valueOn (now (ordinates .entry)) c p d) target start end r ⌝ }
 {
     if one_reaches(ordinates, c, p, target) {

@@ -4,17 +4,15 @@ ghost use mathlib.Core.Path.{_≡_};
 ghost use mathlib.Core.List.{List, []};
 ghost use mathlib.Core.Option.{Option·getD};
 ghost use Prim.Native.Nat.{_+_, _<_, _≤_};
-ghost use lib.IntN.{ℤ, pos, natAbs};
+ghost use lib.IntN.{ℤ, pos};
 ghost use lib.ListN.{length, getD};
 ghost use lib.Signed.{leZ};
 ghost use Rattle.build_space.specs.Machine.{space};
-ghost use Rattle.build_space.specs.Legal.{BreaksLegal, ListsLegal};
+ghost use Rattle.build_space.specs.Legal.{ListsLegal};
 ghost use Rattle.base_outcome.specs.Search;
 ghost use Rattle.spec_spline.specs.Reading;
-ghost use Rattle.curve_ordinates.specs.Ordinates.{Bounded};
-ghost use Rattle.curve_triangle.specs.Offsets.{columnLimit, columnsOf, firstPosition, firstPositionsOf, localOf, Within};
-ghost use Rattle.curve_triangle.specs.Place.{placeOf, Sound, valueOf};
-ghost use Rattle.curve_triangle.specs.Rate.{Rated};
+ghost use Rattle.curve_triangle.specs.Offsets.{firstPosition, firstPositionsOf, localOf, BreakAt, StartAt};
+ghost use Rattle.curve_triangle.specs.Place.{valueOf, PlaceAsks, PlaceIs, ValueAsks, ValueIs, ValueAtAsks, PairAsks, PairIs};
 
 mod triangle;
 
@@ -49,7 +47,7 @@ fn starts_at_discontinuity(orders: &[i32], i: usize) -> bool
 
 // The first position of segment i.
 fn first_position(breaks: &[i32], orders: &[i32], i: usize) -> i32
-    requires { ⌜ ((i < length (now breaks)) × (i ≤ length (now orders))) × BreaksLegal (now breaks) ⌝ }
+    requires { ⌜ StartAt (now breaks) (now orders) i ⌝ }
     ensures { λ r. ⌜ r ≡ firstPosition (space (now (breaks .entry)) [] (now (orders .entry))) i ⌝ }
 {
     let start = 256 * breaks[i];
@@ -133,7 +131,7 @@ fn local_ordinates(ordinates: &[i32], c: usize, p: usize) -> [i64; 6]
 
 // The length of segment i, in 256ths of a ring.
 pub fn fine_width(breaks: &[i32], i: usize) -> i64
-    requires { ⌜ (i + 1 < length (now breaks)) × BreaksLegal (now breaks) ⌝ }
+    requires { ⌜ BreakAt (now breaks) (i + 1) ⌝ }
     ensures { λ r. ⌜ r ≡ pos (Reading.fineWidth (space (now (breaks .entry)) [] []) i) ⌝ }
 {
     let length = build_space::segment_length(breaks, i);
@@ -142,7 +140,7 @@ pub fn fine_width(breaks: &[i32], i: usize) -> i64
 
 // How far position x lies past the start of segment i.
 fn offset(breaks: &[i32], i: usize, x: i32) -> i64
-    requires { ⌜ (i < length (now breaks)) × BreaksLegal (now breaks) ⌝ }
+    requires { ⌜ BreakAt (now breaks) i ⌝ }
     ensures { λ r. ⌜ r ≡ Reading.offset (space (now (breaks .entry)) [] []) i x ⌝ }
 {
     let start = breaks[i] as i64;
@@ -151,11 +149,8 @@ fn offset(breaks: &[i32], i: usize, x: i32) -> i64
 
 // The place of position x, which lies in segment i.
 pub fn place_at(breaks: &[i32], degrees: &[i32], columns: &[usize], i: usize, x: i32) -> Place
-    requires { ⌜ ((o : List ℤ) × (ListsLegal (now breaks) (now degrees) o
-        × (Within (space (now breaks) (now degrees) o) x × (i ≡ Reading.segmentAt (space (now breaks) (now degrees) o) x)))) ⌝ }
-    requires { ⌜ now columns ≡ columnsOf (space [] (now degrees) []) ⌝ }
-    ensures { λ r. ⌜ ((o : List ℤ) → i ≡ Reading.segmentAt (space (now (breaks .entry)) (now (degrees .entry)) o) x
-        → r ≡ placeOf (space (now (breaks .entry)) (now (degrees .entry)) o) x) × Sound r ⌝ }
+    requires { ⌜ PlaceAsks (now breaks) (now degrees) (now columns) i x ⌝ }
+    ensures { λ r. ⌜ PlaceIs (now (breaks .entry)) (now (degrees .entry)) i x r ⌝ }
 {
     let p = build_space::degree_at(degrees, i);
     let u = offset(breaks, i, x);
@@ -171,10 +166,8 @@ pub fn place_at(breaks: &[i32], degrees: &[i32], columns: &[usize], i: usize, x:
 
 // The value of the p + 1 ordinates from column c on, at the offset with this rate.
 fn value_of(ordinates: &[i32], c: usize, p: usize, high: i64, low: i64) -> i32
-    requires { ⌜ ((p ≤ 5) × (c + p < columnLimit)) × (((u : ℤ) × ((d : ℤ) × Rated high low u d))
-        × ((length (now ordinates) ≡ columnLimit) × Bounded (now ordinates))) ⌝ }
-    ensures { λ r. ⌜ ((u d : ℤ) → Rated high low u d → r ≡ Reading.triangle (natAbs d) u
-        (λ k. getD (now (ordinates .entry)) (c + k) (pos 0)) p 0) ⌝ }
+    requires { ⌜ ValueAsks (now ordinates) c p high low ⌝ }
+    ensures { λ r. ⌜ ValueIs (now (ordinates .entry)) c p high low r ⌝ }
 {
     let o = local_ordinates(ordinates, c, p);
     let v = crate::triangle::triangle(o, p, high, low);
@@ -184,10 +177,8 @@ fn value_of(ordinates: &[i32], c: usize, p: usize, high: i64, low: i64) -> i32
 // The same. Each degree has an arm, in which the count of ordinates and of stages is known, so that the ordinates stay in
 // registers.
 fn value_by(ordinates: &[i32], c: usize, p: usize, high: i64, low: i64) -> i32
-    requires { ⌜ ((p ≤ 5) × (c + p < columnLimit)) × (((u : ℤ) × ((d : ℤ) × Rated high low u d))
-        × ((length (now ordinates) ≡ columnLimit) × Bounded (now ordinates))) ⌝ }
-    ensures { λ r. ⌜ ((u d : ℤ) → Rated high low u d → r ≡ Reading.triangle (natAbs d) u
-        (λ k. getD (now (ordinates .entry)) (c + k) (pos 0)) p 0) ⌝ }
+    requires { ⌜ ValueAsks (now ordinates) c p high low ⌝ }
+    ensures { λ r. ⌜ ValueIs (now (ordinates .entry)) c p high low r ⌝ }
 {
     match p {
         1 => value_of(ordinates, c, 1, high, low),
@@ -201,7 +192,7 @@ fn value_by(ordinates: &[i32], c: usize, p: usize, high: i64, low: i64) -> i32
 
 // The value at a place of the curve with these ordinates.
 pub fn value_at(ordinates: &[i32], place: Place) -> i32
-    requires { ⌜ Sound place × ((length (now ordinates) ≡ columnLimit) × Bounded (now ordinates)) ⌝ }
+    requires { ⌜ ValueAtAsks (now ordinates) place ⌝ }
     ensures { λ r. ⌜ r ≡ valueOf (now (ordinates .entry)) place ⌝ }
 {
     let rate = crate::triangle::rate_of(place.offset, place.width);
@@ -210,9 +201,8 @@ pub fn value_at(ordinates: &[i32], place: Place) -> i32
 
 // The values of both woods at a place, by one rate.
 pub fn pair_at(earlywood: &[i32], latewood: &[i32], place: Place) -> Pair
-    requires { ⌜ Sound place × (((length (now earlywood) ≡ columnLimit) × Bounded (now earlywood))
-        × ((length (now latewood) ≡ columnLimit) × Bounded (now latewood))) ⌝ }
-    ensures { λ r. ⌜ (r .early ≡ valueOf (now (earlywood .entry)) place) × (r .late ≡ valueOf (now (latewood .entry)) place) ⌝ }
+    requires { ⌜ PairAsks (now earlywood) (now latewood) place ⌝ }
+    ensures { λ r. ⌜ PairIs (now (earlywood .entry)) (now (latewood .entry)) place r ⌝ }
 {
     let c = place.column;
     let p = place.degree;

@@ -1,14 +1,10 @@
 // The de Casteljau triangle on at most six ordinates held by value, with one rate for all of its blends.
 ghost use mathlib.Core.Path.{_≡_};
-ghost use Prim.Native.Nat.{ℕ, suc, _^_, _<_, _≤_};
-ghost use lib.IntN.{ℤ, pos, natAbs, _*ℤ_};
-ghost use lib.ListN.{getD};
-ghost use lib.Signed.{_≤ℤ_};
+ghost use Prim.Native.Nat.{_^_};
+ghost use lib.IntN.{ℤ, natAbs, _*ℤ_};
 ghost use Rattle.base_exact.specs.Floor.{floorDiv, nearest};
-ghost use Rattle.spec_spline.specs.Reading;
-ghost use Rattle.curve_ordinates.specs.Ordinates.{Bounded, ordinateLimit};
 ghost use Rattle.curve_triangle.specs.Offsets.{Offset};
-ghost use Rattle.curve_triangle.specs.Rate.{Rated};
+ghost use Rattle.curve_triangle.specs.Rate.{Rated, ScaleAsks, CarryAsks, ShareAsks, BlendAsks, BlendIs, StageAsks, StageIs, TriangleIs};
 
 // The parts of a rate count 2^33ths and 2^50ths: these are 2^33 and 2^17, with their bits.
 const HIGH: i64 = 8589934592;
@@ -30,7 +26,7 @@ pub struct Rate {
 
 // v k / d, rounded down.
 fn scaled(v: i64, k: i64, d: i64) -> i64
-    requires { ⌜ Offset v d × ((pos 0 ≤ℤ k) × (natAbs k ≤ 2 ^ 33)) ⌝ }
+    requires { ⌜ ScaleAsks v k d ⌝ }
     ensures { λ r. ⌜ r ≡ floorDiv (v *ℤ k) (natAbs d) ⌝ }
 {
     v * k / d
@@ -52,7 +48,7 @@ pub fn rate_of(u: i64, d: i64) -> Rate
 
 // What the low part of a rate adds to a rise, in 2^33ths, rounded down.
 fn carried(rise: i64, low: i64) -> i64
-    requires { ⌜ (natAbs rise ≤ 2 ^ 29) × (natAbs low ≤ 2 ^ 17) ⌝ }
+    requires { ⌜ CarryAsks rise low ⌝ }
     ensures { λ r. ⌜ r ≡ floorDiv (rise *ℤ low) (2 ^ 17) ⌝ }
 {
     (rise * low) >> LOW_BITS
@@ -60,7 +56,7 @@ fn carried(rise: i64, low: i64) -> i64
 
 // The nearest number to the rise times u / d, by products and shifts.
 fn share_of(rise: i64, high: i64, low: i64) -> i64
-    requires { ⌜ (natAbs rise ≤ 2 ^ 29) × ((u : ℤ) × ((d : ℤ) × Rated high low u d)) ⌝ }
+    requires { ⌜ ShareAsks rise high low ⌝ }
     ensures { λ r. ⌜ ((u d : ℤ) → Rated high low u d → r ≡ nearest (u *ℤ rise) (natAbs d)) ⌝ }
 {
     let part = carried(rise, low);
@@ -69,17 +65,16 @@ fn share_of(rise: i64, high: i64, low: i64) -> i64
 
 // Neighbours g, h at u of d.
 fn blend(g: i64, h: i64, high: i64, low: i64) -> i64
-    requires { ⌜ (natAbs g ≤ ordinateLimit) × ((natAbs h ≤ ordinateLimit) × ((u : ℤ) × ((d : ℤ) × Rated high low u d))) ⌝ }
-    ensures { λ r. ⌜ ((u d : ℤ) → Rated high low u d → r ≡ Reading.blend (natAbs d) u g h) × (natAbs r ≤ ordinateLimit) ⌝ }
+    requires { ⌜ BlendAsks g h high low ⌝ }
+    ensures { λ r. ⌜ BlendIs g h high low r ⌝ }
 {
     g + share_of(h - g, high, low)
 }
 
 // One stage: the first n numbers are blended with their neighbours.
 fn stage(o: [i64; 6], n: usize, high: i64, low: i64) -> [i64; 6]
-    requires { ⌜ (n ≤ 5) × (Bounded o × ((u : ℤ) × ((d : ℤ) × Rated high low u d))) ⌝ }
-    ensures { λ r. ⌜ ((u d : ℤ) → Rated high low u d → (k : ℕ) → k < n
-        → getD r k (pos 0) ≡ Reading.blend (natAbs d) u (getD o k (pos 0)) (getD o (suc k) (pos 0))) × Bounded r ⌝ }
+    requires { ⌜ StageAsks o n high low ⌝ }
+    ensures { λ r. ⌜ StageIs o n high low r ⌝ }
 {
     let mut r = o;
     let mut k = 0;
@@ -95,9 +90,8 @@ fn stage(o: [i64; 6], n: usize, high: i64, low: i64) -> [i64; 6]
 
 // All p stages: what is left of p + 1 ordinates.
 pub fn triangle(o: [i64; 6], p: usize, high: i64, low: i64) -> i64
-    requires { ⌜ (p ≤ 5) × (Bounded o × ((u : ℤ) × ((d : ℤ) × Rated high low u d))) ⌝ }
-    ensures { λ r. ⌜ ((u d : ℤ) → Rated high low u d → r ≡ Reading.triangle (natAbs d) u (λ k. getD o k (pos 0)) p 0)
-        × (natAbs r ≤ ordinateLimit) ⌝ }
+    requires { ⌜ StageAsks o p high low ⌝ }
+    ensures { λ r. ⌜ TriangleIs o p high low r ⌝ }
 {
     let mut r = o;
     let mut n = p;

@@ -70,7 +70,13 @@ module _ (t : tie.After-enum-told) where
 write-values-requires : tie.Need-write-values-requires
 write-values-requires c κs =
     let h = held (c .before .before .before) in
-    ((h .legal, h .within), (h .room-enough, ((search needs, early-bounded columnLimit h), (search needs, late-bounded columnLimit h))))
+    record {
+      legal = h .legal;
+      within = h .within;
+      room = h .room-enough;
+      early-ordinates = record { long = search needs; bounded = early-bounded columnLimit h };
+      late-ordinates = record { long = search needs; bounded = late-bounded columnLimit h };
+    }
 
 same-length : tie.Need-same-length
 same-length c = search needs

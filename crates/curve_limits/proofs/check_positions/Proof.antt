@@ -25,10 +25,10 @@ module _ (s : tie.Start) where
   break i = getD (s .args .breaks .now) i (pos 0)
 
   break-fits : (i : ℕ) → i < length (s .args .breaks .now) → SFits w32 (break i)
-  break-fits i l = sfits-abs (omega (arith, s .pre .1 .size i l))
+  break-fits i l = sfits-abs (omega (arith, s .pre .legal .size i l))
 
   fine-fits : (i : ℕ) → i < length (s .args .breaks .now) → SFits w32 (fine (break i))
-  fine-fits i l = sfits-abs (omega (arith, abs-mul-le (pos 256) (break i) 256 10000 (omega arith) (s .pre .1 .size i l)))
+  fine-fits i l = sfits-abs (omega (arith, abs-mul-le (pos 256) (break i) 256 10000 (omega arith) (s .pre .legal .size i l)))
 
   -- a bound read back from its word
   bound : (i : ℕ) → i < length (s .args .breaks .now) → toZ w32 (ofZ w32 (pos 256 *ℤ toZ w32 (ofZ w32 (break i)))) ≡ fine (break i)

@@ -16,6 +16,7 @@ use Rattle.base_exact.proofs.Integer.{<-in}
 use Rattle.base_fraction.proofs.Size.{fits-den}
 use Rattle.spec_spline.specs.Table.{cell}
 use Rattle.curve_ordinates.specs.Ordinates.{termsOf, entries}
+use Rattle.curve_ordinates.specs.declared.Terms.{Terms}
 use Rattle.curve_ordinates.proofs.Gathered.{Gathered, gathered-none, gathered-skip, gathered-more, cell-num, cell-den}
 use Rattle.curve_ordinates.proofs.column_terms.Statement.{statement}
 use Rattle.curve_ordinates.proofs.column_terms.Tie as tie
@@ -30,42 +31,52 @@ loop-holds : tie.Need-loop-holds Inv-loop μ-loop
 loop-holds c = (omega arith, gathered-none _ _ _ _)
 
 mul-at : tie.Need-mul-at Inv-loop μ-loop
-mul-at c = omega (arith, c .before .before .pre .1 .0 .few)
+mul-at c = omega (arith, c .before .before .pre .rows .weights .few)
 
 add-at : tie.Need-add-at Inv-loop μ-loop
-add-at c = omega (arith, c .before .before .pre .1 .0 .few)
+add-at c = omega (arith, c .before .before .pre .rows .weights .few)
 
 mul-x : tie.Need-mul-x Inv-loop μ-loop
-mul-x c = omega (arith, c .before .before .pre .1 .0 .few)
+mul-x c = omega (arith, c .before .before .pre .rows .weights .few)
 
 shared-slice-copy-out-x : tie.Need-shared-slice-copy-out-x Inv-loop μ-loop
-shared-slice-copy-out-x c = omega (arith, c .before .before .pre .1 .0 .few, c .before .before .pre .1 .0 .holds .num-long)
+shared-slice-copy-out-x c = let w = c .before .before .pre .rows .weights in omega (arith, w .few, w .holds .num-long)
 
 mul-entry : tie.Need-mul-entry Inv-loop μ-loop
-mul-entry c = omega (arith, c .before .before .before .before .pre .1 .0 .few)
+mul-entry c = omega (arith, c .before .before .before .before .pre .rows .weights .few)
 
 add-entry : tie.Need-add-entry Inv-loop μ-loop
-add-entry c = omega (arith, c .before .before .before .before .pre .1 .0 .few)
+add-entry c = omega (arith, c .before .before .before .before .pre .rows .weights .few)
 
 mul-a : tie.Need-mul-a Inv-loop μ-loop
-mul-a c = omega (arith, c .before .before .before .before .pre .1 .0 .few)
+mul-a c = omega (arith, c .before .before .before .before .pre .rows .weights .few)
 
 shared-slice-copy-out-a : tie.Need-shared-slice-copy-out-a Inv-loop μ-loop
-shared-slice-copy-out-a c = omega (arith, c .before .before .before .before .pre .1 .1 .count)
+shared-slice-copy-out-a c = omega (arith, c .before .before .before .before .pre .rows .coefficients .count)
 
 cast-a : tie.Need-cast-a Inv-loop μ-loop
-cast-a c = let f : SFits w32 (entries (c .before .before .before .before .before .args .coefs .now) (c .before .before .before .before .before .args .index) (c .before .before .before .before .loop .i)) = record { sfits = c .a .given } in simp toZ-ofZ (sfits-widen f)
+cast-a c =
+    let l = c .before .before .before .before in
+    let s = l .before in
+    let f : SFits w32 (entries (s .args .coefs .now) (s .args .index) (l .loop .i)) = record { sfits = c .a .given } in
+    simp toZ-ofZ (sfits-widen f)
 
 mul-d : tie.Need-mul-d Inv-loop μ-loop
-mul-d c = omega (arith, c .before .before .before .before .before .pre .1 .0 .few)
+mul-d c = omega (arith, c .before .before .before .before .before .pre .rows .weights .few)
 
 shared-slice-copy-out-d : tie.Need-shared-slice-copy-out-d Inv-loop μ-loop
-shared-slice-copy-out-d c = omega (arith, c .before .before .before .before .before .pre .1 .0 .few, c .before .before .before .before .before .pre .1 .0 .holds .den-long)
+shared-slice-copy-out-d c =
+    let w = c .before .before .before .before .before .pre .rows .weights in
+    omega (arith, w .few, w .holds .den-long)
 
 -- what the buffers hold for row i
 module _ (c : tie.In-loop Inv-loop μ-loop) where
   abbrev start : tie.Start Inv-loop μ-loop
   start = c .before .before
+
+  -- the terms are those of so many rows
+  abbrev GatheredTo : Terms → ℕ → Type 0
+  GatheredTo = Gathered (start .args .num .now) (start .args .den .now) (entries (start .args .coefs .now) (start .args .index)) (start .args .c)
 
   abbrev row : ℕ
   row = c .before .loop .i
@@ -83,25 +94,25 @@ module _ (c : tie.In-loop Inv-loop μ-loop) where
   a = entries (start .args .coefs .now) (start .args .index) row
 
   row-within : row < 72
-  row-within = omega (arith, start .pre .1 .0 .few)
+  row-within = omega (arith, start .pre .rows .weights .few)
 
-  x-is : x ≡ (cell (start .pre .1 .0 .table) row (start .args .c)) .num
-  x-is = cell-num (start .pre .1 .0 .holds) row (start .args .c) row-within (start .pre .0 .0)
+  x-is : x ≡ (cell (start .pre .rows .weights .table) row (start .args .c)) .num
+  x-is = cell-num (start .pre .rows .weights .holds) row (start .args .c) row-within (start .pre .column-within)
 
-  d-is : d ≡ pos (Rational.den (cell (start .pre .1 .0 .table) row (start .args .c)))
-  d-is = cell-den (start .pre .1 .0 .holds) row (start .args .c) row-within (start .pre .0 .0)
+  d-is : d ≡ pos (Rational.den (cell (start .pre .rows .weights .table) row (start .args .c)))
+  d-is = cell-den (start .pre .rows .weights .holds) row (start .args .c) row-within (start .pre .column-within)
 
   d-small : natAbs d < 2 ^ 31
-  d-small = rw d-is (fits-den _ (start .pre .1 .0 .holds .fit row (start .args .c)))
+  d-small = rw d-is (fits-den _ (start .pre .rows .weights .holds .fit row (start .args .c)))
 
   d-positive : pos 0 <ℤ d
   d-positive = rw d-is (<-in _ _ (omega arith))
 
   x-unit : natAbs x ≤ natAbs d
-  x-unit = rw (x-is, d-is) (start .pre .1 .0 .unit row (start .args .c))
+  x-unit = rw (x-is, d-is) (start .pre .rows .weights .unit row (start .args .c))
 
   a-small : natAbs a ≤ 1000000
-  a-small = start .pre .1 .1 .small (2 * row + start .args .index)
+  a-small = start .pre .rows .coefficients .small (2 * row + start .args .index)
 
   a-fits-32 : SFits w32 a
   a-fits-32 = sfits-abs (omega (arith, a-small))
@@ -122,43 +133,55 @@ with-term-requires c κs =
     let f = a-fits l in
     let g = x-fits (c .before .before .before) in
     let h = d-fits c in
-    simp toZ-ofZ (a-small l, (d-small l, (d-positive l, (x-unit l, omega (arith, l .before .loop .inv .1 .small, start l .pre .1 .0 .few)))))
+    simp toZ-ofZ (record {
+      coefficient-small = a-small l;
+      den-short = d-small l;
+      den-positive = d-positive l;
+      unit = x-unit l;
+      sum-short = omega (arith, l .before .loop .inv .1 .small, start l .pre .rows .weights .few);
+    })
 
 add-i : tie.Need-add-i Inv-loop μ-loop
-add-i c = omega (arith, c .before .before .before .before .pre .1 .0 .few)
+add-i c = omega (arith, c .before .before .before .before .pre .rows .weights .few)
 
 loop-less : tie.Need-loop-less Inv-loop μ-loop
 loop-less c = omega arith
 
 -- a row with weight on the column
-more : (c : tie.After-with-term Inv-loop μ-loop) → let l = c .before .before .before .before .before in Gathered (start l .args .num .now) (start l .args .den .now) (entries (start l .args .coefs .now) (start l .args .index)) (start l .args .c) (c .with-term .result) (row l + 1)
+more : (c : tie.After-with-term Inv-loop μ-loop) → let l = c .before .before .before .before .before in GatheredTo l (c .with-term .result) (row l + 1)
 more c =
     let l = c .before .before .before .before .before in
     let e = a-fits-32 l in
     let f = a-fits l in
     let g = x-fits (c .before .before .before .before) in
     let h = d-fits (c .before) in
-    gathered-more (start l .args .num .now) (start l .args .den .now) (entries (start l .args .coefs .now) (start l .args .index)) (start l .args .c) (row l) (row-within l) (start l .pre .0 .0) (l .before .loop .all) (l .before .loop .inv .1) (c .with-term .result)
+    gathered-more _ _ _ _ (row l) (row-within l) (start l .pre .column-within) (l .before .loop .all) (l .before .loop .inv .1) (c .with-term .result)
     (λ z. c .before .before .before .if1 .taken (ap (ofZ w64) z)) (simp toZ-ofZ at (c .with-term .ensures))
 
 -- a row without
-skip : (c : tie.Else1 Inv-loop μ-loop) → let l = c .before .before in Gathered (start l .args .num .now) (start l .args .den .now) (entries (start l .args .coefs .now) (start l .args .index)) (start l .args .c) (l .before .loop .all) (row l + 1)
+skip : (c : tie.Else1 Inv-loop μ-loop) → let l = c .before .before in GatheredTo l (l .before .loop .all) (row l + 1)
 skip c =
     let l = c .before .before in
-    gathered-skip (start l .args .num .now) (start l .args .den .now) (entries (start l .args .coefs .now) (start l .args .index)) (start l .args .c) (row l) (row-within l) (start l .pre .0 .0) (l .before .loop .all) (l .before .loop .inv .1)
+    gathered-skip _ _ _ _ (row l) (row-within l) (start l .pre .column-within) (l .before .loop .all) (l .before .loop .inv .1)
     (ofZ-inj w64 (x l) (pos 0) (x-fits (c .before)) (sfits-abs (omega arith)) (c .if1 .left))
 
 loop-again : tie.Need-loop-again Inv-loop μ-loop
 loop-again c = (
   omega arith,
   ⊎-elim
-      (λ w. rw (w .4) (more (record { before = record { before = record { before = record { before = c .before; if1 = w .0 }; a = w .1 }; d = w .2 }; with-term = w .3 })))
+      (λ w.
+      let read : tie.After-d Inv-loop μ-loop = record { before = record { before = record { before = c .before; if1 = w .0 }; a = w .1 }; d = w .2 } in
+      rw (w .4) (more (record { before = read; with-term = w .3 })))
       (λ w. rw (w .1) (skip (record { before = c .before; if1 = w .0 })))
       (c .if1 .came),
 )
 
 returns : tie.Need-returns Inv-loop μ-loop
-returns c = λ t h. c .before .loop .inv .1 .is t h ∙ ap (λ (n : ℕ). termsOf t (entries (c .before .before .args .coefs .now) (c .before .before .args .index)) (c .before .before .args .c) n) (let e : c .before .loop .i ≡ c .before .before .args .n = omega arith in e)
+returns c t h =
+    let l = c .before .loop in
+    let a = c .before .before .args in
+    let all : l .i ≡ a .n = omega arith in
+    l .inv .1 .is t h ∙ ap (termsOf t (entries (a .coefs .now) (a .index)) (a .c)) all
 
 pub column-terms-spec : {M : Type 1} → statement M
 column-terms-spec =

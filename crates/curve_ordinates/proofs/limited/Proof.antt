@@ -14,22 +14,25 @@ use Rattle.curve_ordinates.proofs.limited.Tie as tie
 
 module _ (s : tie.Start) where
   least-fits : SFits w64 (s .args .terms .least)
-  least-fits = sfits-abs (omega (arith, s .pre .0))
+  least-fits = sfits-abs (omega (arith, s .pre .least-small))
 
   greatest-fits : SFits w64 (s .args .terms .greatest)
-  greatest-fits = sfits-abs (omega (arith, s .pre .1))
+  greatest-fits = sfits-abs (omega (arith, s .pre .greatest-small))
 
   low-fits : SFits w64 (pos 256 *ℤ s .args .terms .least)
-  low-fits = sfits-abs (omega (arith, abs-mul-le (pos 256) (s .args .terms .least) 256 1000000 (omega arith) (s .pre .0)))
+  low-fits = sfits-abs (omega (arith, abs-mul-le (pos 256) (s .args .terms .least) 256 1000000 (omega arith) (s .pre .least-small)))
 
   high-fits : SFits w64 (pos 256 *ℤ s .args .terms .greatest)
-  high-fits = sfits-abs (omega (arith, abs-mul-le (pos 256) (s .args .terms .greatest) 256 1000000 (omega arith) (s .pre .1)))
+  high-fits = sfits-abs (omega (arith, abs-mul-le (pos 256) (s .args .terms .greatest) 256 1000000 (omega arith) (s .pre .greatest-small)))
 
 sum-fits : (c : tie.After-struct-told) → SFits w64 (c .before .args .terms .sum)
 sum-fits c = record { sfits = c .struct-told .given .1 .0 .1 }
 
 returns : tie.Need-returns
-returns c = let f = sum-fits (c .before .before) in let s = c .before .before .before in simp toZ-ofZ (sym (limits-unknown (s .args .terms .some) (s .args .terms .sum) (s .args .terms .least) (s .args .terms .greatest) (not-true _ (c .if1 .taken))))
+returns c =
+    let f = sum-fits (c .before .before) in
+    let t = c .before .before .before .args .terms in
+    simp toZ-ofZ (sym (limits-unknown (t .some) (t .sum) (t .least) (t .greatest) (not-true _ (c .if1 .taken))))
 
 mul-low : tie.Need-mul-low
 mul-low c = let f = least-fits (c .before .before .before .before .before) in simp toZ-ofZ (low-fits (c .before .before .before .before .before))
@@ -50,7 +53,10 @@ returns-2 c =
     let h = low-fits s in
     let l = high-fits s in
     let r : SFits w64 (c .at-most .result) = record { sfits = c .at-most .ok } in
-    simp toZ-ofZ ((simp toZ-ofZ at (c .at-most .ensures)) ∙ sym (limits-below (s .args .terms .some) (s .args .terms .sum) (s .args .terms .least) (s .args .terms .greatest) (not-false _ (c .before .before .before .before .before .before .if1 .left)) (simp toZ-ofZ at (c .before .if2 .taken))))
+    let t = s .args .terms in
+    let some = not-false _ (c .before .before .before .before .before .before .if1 .left) in
+    let below = limits-below (t .some) (t .sum) (t .least) (t .greatest) some (simp toZ-ofZ at (c .before .if2 .taken)) in
+    simp toZ-ofZ ((simp toZ-ofZ at (c .at-most .ensures)) ∙ sym below)
 
 at-most-requires-2 : tie.Need-at-most-requires-2
 at-most-requires-2 c κs = search needs
@@ -65,7 +71,10 @@ returns-3 c =
     let h = low-fits s in
     let l = high-fits s in
     let r : SFits w64 (c .at-most2 .result) = record { sfits = c .at-most2 .ok } in
-    simp toZ-ofZ ((simp toZ-ofZ at (c .at-most2 .ensures)) ∙ sym (limits-above (s .args .terms .some) (s .args .terms .sum) (s .args .terms .least) (s .args .terms .greatest) (not-false _ (c .before .before .before .before .before .before .if1 .left)) (simp toZ-ofZ at (c .before .if2 .left))))
+    let t = s .args .terms in
+    let some = not-false _ (c .before .before .before .before .before .before .if1 .left) in
+    let above = limits-above (t .some) (t .sum) (t .least) (t .greatest) some (simp toZ-ofZ at (c .before .if2 .left)) in
+    simp toZ-ofZ ((simp toZ-ofZ at (c .at-most2 .ensures)) ∙ sym above)
 
 pub limited-spec : {M : Type 1} → statement M
 limited-spec =

@@ -26,19 +26,22 @@ module _ (s : tie.Start) where
   term = rounded (fine (s .args .a) *ℤ s .args .num) (natAbs (s .args .den))
 
   scaled-abs : natAbs (pos 256 *ℤ s .args .a) ≤ 256000000
-  scaled-abs = abs-mul-le (pos 256) (s .args .a) 256 1000000 (omega arith) (s .pre .0)
+  scaled-abs = abs-mul-le (pos 256) (s .args .a) 256 1000000 (omega arith) (s .pre .coefficient-small)
 
   scaled-fits : SFits w64 (pos 256 *ℤ s .args .a)
   scaled-fits = sfits-abs (omega (arith, scaled-abs))
 
   product-abs : natAbs (pos 256 *ℤ s .args .a *ℤ s .args .num) ≤ 256000000 * 2147483647
-  product-abs = abs-mul-le (pos 256 *ℤ s .args .a) (s .args .num) 256000000 2147483647 scaled-abs (omega (arith, s .pre .1 .0, s .pre .1 .1 .1 .0))
+  product-abs =
+      abs-mul-le (pos 256 *ℤ s .args .a) (s .args .num) 256000000 2147483647 scaled-abs (omega (arith, s .pre .den-short, s .pre .unit))
 
   product-fits : SFits w64 (pos 256 *ℤ s .args .a *ℤ s .args .num)
   product-fits = sfits-abs (omega (arith, product-abs))
 
   term-small : natAbs term ≤ ordinateLimit
-  term-small = term-abs (s .args .a) (s .args .num) (natAbs (s .args .den)) (pos-of (s .args .den) (s .pre .1 .1 .0) .1) (s .pre .0) (s .pre .1 .1 .1 .0)
+  term-small =
+      term-abs (s .args .a) (s .args .num) (natAbs (s .args .den)) (pos-of (s .args .den) (s .pre .den-positive) .1)
+      (s .pre .coefficient-small) (s .pre .unit)
 
 mul-round-div : tie.Need-mul-round-div
 mul-round-div c = let f = c .fits .a in simp toZ-ofZ (scaled-fits c)
@@ -53,7 +56,7 @@ round-div-requires c κs =
     let h = c .fits .den in
     let k = scaled-fits c in
     let l = product-fits c in
-    simp toZ-ofZ (omega (arith, product-abs c), (c .pre .1 .1 .0, omega (arith, c .pre .1 .0)))
+    simp toZ-ofZ (omega (arith, product-abs c), (c .pre .den-positive, omega (arith, c .pre .den-short)))
 
 lesser-requires : tie.Need-lesser-requires
 lesser-requires c κs = search needs
@@ -78,10 +81,12 @@ module _ (c : tie.After-round-div) where
   summed = ap (λ (z : ℤ). c .before .args .before .sum +ℤ z) divided
 
   sum-fits : SFits w64 (c .before .args .before .sum +ℤ c .round-div .result)
-  sum-fits = rw summed (sfits-abs (omega (arith, abs-add (c .before .args .before .sum) (term (c .before)), term-small (c .before), c .before .pre .1 .1 .1 .1)))
+  sum-fits =
+      let s = c .before in
+      rw summed (sfits-abs (omega (arith, abs-add (s .args .before .sum) (term s), term-small s, s .pre .sum-short)))
 
   before-fits : SFits w64 (c .before .args .before .sum)
-  before-fits = sfits-abs (omega (arith, c .before .pre .1 .1 .1 .1))
+  before-fits = sfits-abs (omega (arith, c .before .pre .sum-short))
 
   result-fits : SFits w64 (c .round-div .result)
   result-fits = record { sfits = c .round-div .ok }
@@ -103,14 +108,18 @@ returns c =
     let l = c .before .before .before .before .lesser in
     let g = c .before .before .greater in
     let known = s .args .before .some in
+    let least = least-fits (c .before .before .before .before .before) in
+    let greatest = greatest-fits (c .before .before .before) in
     let e = before-fits d in
     let f = result-fits d in
     let k = sum-fits d in
     record {
       is-some = refl;
       is-sum = simp toZ-ofZ (summed d);
-      is-least = toZ-ofZ w64 (l .result) (record { sfits = l .ok }) ∙ l .ensures ∙ ap₂ (λ (y z : ℤ). preferred leZ (given known y) z) (toZ-ofZ w64 _ (least-fits (c .before .before .before .before .before))) (toZ-ofZ w64 _ (s .fits .a));
-      is-greatest = toZ-ofZ w64 (g .result) (record { sfits = g .ok }) ∙ g .ensures ∙ ap₂ (λ (y z : ℤ). preferred (λ p q. leZ q p) (given known y) z) (toZ-ofZ w64 _ (greatest-fits (c .before .before .before))) (toZ-ofZ w64 _ (s .fits .a));
+      is-least = toZ-ofZ w64 (l .result) (record { sfits = l .ok }) ∙ l .ensures
+          ∙ ap₂ (λ (y z : ℤ). preferred leZ (given known y) z) (toZ-ofZ w64 _ least) (toZ-ofZ w64 _ (s .fits .a));
+      is-greatest = toZ-ofZ w64 (g .result) (record { sfits = g .ok }) ∙ g .ensures
+          ∙ ap₂ (λ (y z : ℤ). preferred (λ p q. leZ q p) (given known y) z) (toZ-ofZ w64 _ greatest) (toZ-ofZ w64 _ (s .fits .a));
       small = term-small s;
     }
 

@@ -15,7 +15,9 @@ float-at-requires-2 : tie.Need-float-at-requires-2
 float-at-requires-2 c κs = search needs
 
 returns : tie.Need-returns
-returns c = let s = c .before .before .before in line-held (s .args .ordinates .now) (s .args .column) (s .args .degree) (c .if1 .taken) (c .before .before .float-at .ensures) (c .before .float-at2 .ensures)
+returns c =
+    let a = c .before .before .before .args in
+    line-held (a .ordinates .now) (a .column) (a .degree) (c .if1 .taken) (c .before .before .float-at .ensures) (c .before .float-at2 .ensures)
 
 add-float-at-2 : tie.Need-add-float-at-2
 add-float-at-2 c = search needs
@@ -24,7 +26,10 @@ float-at-requires-3 : tie.Need-float-at-requires-3
 float-at-requires-3 c κs = search needs
 
 returns-2 : tie.Need-returns-2
-returns-2 c = let b = c .before .before .before in let s = b .before .before in quadratic-held (s .args .ordinates .now) (s .args .column) (s .args .degree) (c .if2 .taken) (b .before .float-at .ensures) (b .float-at2 .ensures) (c .before .float-at3 .ensures)
+returns-2 c =
+    let b = c .before .before .before in
+    let a = b .before .before .args in
+    quadratic-held (a .ordinates .now) (a .column) (a .degree) (c .if2 .taken) (b .before .float-at .ensures) (b .float-at2 .ensures) (c .before .float-at3 .ensures)
 
 add-float-at-3 : tie.Need-add-float-at-3
 add-float-at-3 c = search needs
@@ -33,7 +38,11 @@ float-at-requires-4 : tie.Need-float-at-requires-4
 float-at-requires-4 c κs = search needs
 
 returns-3 : tie.Need-returns-3
-returns-3 c = let b = c .before .before .before .before in let s = b .before .before in cubic-held (s .args .ordinates .now) (s .args .column) (s .args .degree) (omega arith) (b .before .float-at .ensures) (b .float-at2 .ensures) (c .before .before .float-at3 .ensures) (c .float-at4 .ensures)
+returns-3 c =
+    let b = c .before .before .before .before in
+    let a = b .before .before .args in
+    cubic-held (a .ordinates .now) (a .column) (a .degree) (omega arith) (b .before .float-at .ensures) (b .float-at2 .ensures)
+    (c .before .before .float-at3 .ensures) (c .float-at4 .ensures)
 
 pub curve-at-spec : {M : Type 1} → statement M
 curve-at-spec =

@@ -83,7 +83,7 @@ module _ (t : tie.After-enum-told) where
   held = subst (Told done) (t .enum-told .given .1) (done .build-curves .ensures .told)
 
 draw-requires : tie.Need-draw-requires
-draw-requires c κs = (held (c .before .before .before) .legal, search needs)
+draw-requires c κs = record { legal = held (c .before .before .before) .legal; long = search needs }
 
 enum-told-3 : tie.Need-enum-told-3
 enum-told-3 c = search needs
@@ -92,7 +92,7 @@ slice-aggregate-draw-2 : tie.Need-slice-aggregate-draw-2
 slice-aggregate-draw-2 c = search needs
 
 draw-requires-2 : tie.Need-draw-requires-2
-draw-requires-2 c κs = (held (c .before .before .before) .legal, search needs)
+draw-requires-2 c κs = record { legal = held (c .before .before .before) .legal; long = search needs }
 
 same-length : tie.Need-same-length
 same-length c = search needs

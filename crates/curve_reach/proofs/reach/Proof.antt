@@ -90,7 +90,11 @@ module _ (t : tie.After-enum-told) where
 
 part-reach-requires : tie.Need-part-reach-requires
 part-reach-requires c κs = let h = held (c .before .before) in
-    (h .legal, ((search needs, early-bounded columnLimit h), (search needs, late-bounded columnLimit h)))
+    record {
+      legal = h .legal;
+      early-ordinates = record { long = search needs; bounded = early-bounded columnLimit h };
+      late-ordinates = record { long = search needs; bounded = late-bounded columnLimit h };
+    }
 
 same-length : tie.Need-same-length
 same-length c = search needs

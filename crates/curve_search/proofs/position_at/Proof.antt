@@ -17,19 +17,19 @@ module _ (s : tie.Start) where
   break = getD (s .args .breaks .now) (s .args .i) (pos 0)
 
   break-fits : SFits w32 break
-  break-fits = sfits-abs (omega (arith, s .pre .0 .1 .size (s .args .i) (s .pre .0 .0)))
+  break-fits = sfits-abs (omega (arith, s .pre .break .legal .size (s .args .i) (s .pre .break .within)))
 
   start-small : natAbs (pos 256 *ℤ break) ≤ 2560000
-  start-small = abs-mul-le (pos 256) break 256 10000 (omega arith) (s .pre .0 .1 .size (s .args .i) (s .pre .0 .0))
+  start-small = abs-mul-le (pos 256) break 256 10000 (omega arith) (s .pre .break .legal .size (s .args .i) (s .pre .break .within))
 
   start-fits : SFits w32 (pos 256 *ℤ break)
   start-fits = sfits-abs (omega (arith, start-small))
 
   sum-fits : SFits w32 (pos 256 *ℤ break +ℤ pos (s .args .u))
-  sum-fits = sfits-abs (omega (arith, start-small, s .pre .1, abs-add (pos 256 *ℤ break) (pos (s .args .u))))
+  sum-fits = sfits-abs (omega (arith, start-small, s .pre .short, abs-add (pos 256 *ℤ break) (pos (s .args .u))))
 
   offset-small : s .args .u < 2147483648
-  offset-small = omega (arith, s .pre .1)
+  offset-small = omega (arith, s .pre .short)
 
 mul-start : tie.Need-mul-start
 mul-start c = search needs

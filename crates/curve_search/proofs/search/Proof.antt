@@ -1,5 +1,6 @@
 -- `reach::search::search` meets its contract. The loop's invariant: no position before segment i reaches the target. Assumes
 -- nothing.
+use mathlib.Core.List.{List}
 use mathlib.Core.Path.{_≡_, sym, ap, _∙_, subst}
 use Prim.Native.Nat.{ℕ, suc, _+_, _-_, _<_, _≤_}
 use native.Mathlib.Omega.{arith}
@@ -27,7 +28,8 @@ use Rattle.curve_search.proofs.search.Statement.{statement}
 use Rattle.curve_search.proofs.search.Tie as tie
 
 abbrev Inv-loop : tie.InvT-loop
-Inv-loop breaks degrees orders ordinates target column₀ start₀ i₀ column start i = Before (space breaks degrees orders) ordinates (toZ w64 target) column start i
+Inv-loop breaks degrees orders ordinates target column₀ start₀ i₀ column start i =
+    Before (space breaks degrees orders) ordinates (toZ w64 target) column start i
 
 abbrev μ-loop : tie.MeasureT-loop
 μ-loop breaks degrees orders ordinates target column₀ start₀ i₀ column start i = length degrees - i
@@ -38,7 +40,7 @@ module _ (s : tie.Start Inv-loop μ-loop) where
   beam = space (s .args .breaks .now) (s .args .degrees .now) (s .args .orders .now)
 
   abbrev legal : ListsLegal (s .args .breaks .now) (s .args .degrees .now) (s .args .orders .now)
-  legal = s .pre .0
+  legal = s .pre .legal
 
   checks : Checked beam
   checks = checked-inverts beam (legal-checked _ _ _ legal) .1
@@ -47,10 +49,10 @@ loop-holds : tie.Need-loop-holds Inv-loop μ-loop
 loop-holds c = before-first (beam c) (c .args .ordinates .now) _ (checks c)
 
 degree-at-requires : tie.Need-degree-at-requires Inv-loop μ-loop
-degree-at-requires c κs = (omega arith, c .before .before .pre .0 .degrees-legal)
+degree-at-requires c κs = (omega arith, c .before .before .pre .legal .degrees-legal)
 
 fine-width-requires : tie.Need-fine-width-requires Inv-loop μ-loop
-fine-width-requires c κs = let s = c .before .before .before in (omega (arith, legal s .break-count), legal s .breaks-legal)
+fine-width-requires c κs = let s = c .before .before .before in record { within = omega (arith, legal s .break-count); legal = legal s .breaks-legal }
 
 module _ (c : tie.After-fine-width Inv-loop μ-loop) where
   abbrev start : tie.Start Inv-loop μ-loop
@@ -90,7 +92,7 @@ add-start-offset : tie.Need-add-start-offset Inv-loop μ-loop
 add-start-offset c = omega (arith, below c, legal (start c) .few)
 
 start-offset-requires : tie.Need-start-offset-requires Inv-loop μ-loop
-start-offset-requires c κs = (legal (start c) .order-count, omega (arith, below c))
+start-offset-requires c κs = record { order-count = legal (start c) .order-count; within = omega (arith, below c) }
 
 module _ (c : tie.After-start-offset Inv-loop μ-loop) where
   abbrev at : tie.After-fine-width Inv-loop μ-loop
@@ -103,29 +105,44 @@ module _ (c : tie.After-start-offset Inv-loop μ-loop) where
   d-is = ap natAbs (width-word at)
 
   next-is : c .start-offset .result ≡ startOffset (beam (start at)) (suc (i at))
-  next-is = c .start-offset .ensures ∙ start-partial _ _ _ (i at + 1) ∙ ap (startOffset (beam (start at))) (let z : i at + 1 ≡ suc (i at) = omega arith in z)
+  next-is =
+      let next : i at + 1 ≡ suc (i at) = omega arith in
+      c .start-offset .ensures ∙ start-partial _ _ _ (i at + 1) ∙ ap (startOffset (beam (start at))) next
 
   next-low : c .start-offset .result ≤ 1
   next-low = subst (λ n. n ≤ 1) (sym next-is) (start-at-most-one (beam (start at)) (suc (i at)))
 
-  abbrev inv : Before (beam (start at)) (start at .args .ordinates .now) (toZ w64 (ofZ w64 (start at .args .target))) (at .before .before .before .loop .column) (at .before .before .before .loop .start) (i at)
-  inv = at .before .before .before .loop .inv
+  abbrev turn : tie.At-loop Inv-loop μ-loop
+  turn = at .before .before .before
 
-  start-low : at .before .before .before .loop .start ≤ 1
+  abbrev inv : let a = start at .args in
+      Before (beam (start at)) (a .ordinates .now) (toZ w64 (ofZ w64 (a .target))) (turn .loop .column) (turn .loop .start) (i at)
+  inv = turn .loop .inv
+
+  start-low : turn .loop .start ≤ 1
   start-low = subst (λ n. n ≤ 1) (sym (inv .start-is)) (start-at-most-one (beam (start at)) (i at))
 
-  column-within : at .before .before .before .loop .column + at .before .degree-at .result < 288
-  column-within = omega (arith, inv .column-is, degree-is at, legal-columns-within _ _ _ (legal (start at)) (i at) (below at), legal-column-count-high _ _ _ (legal (start at)))
+  column-within : turn .loop .column + at .before .degree-at .result < 288
+  column-within =
+      let l = legal (start at) in
+      omega (arith, inv .column-is, degree-is at, legal-columns-within _ _ _ l (i at) (below at), legal-column-count-high _ _ _ l)
 
 add-first-offset : tie.Need-add-first-offset Inv-loop μ-loop
 add-first-offset c = omega (arith, d-is c, width-high (at c), next-low c)
 
 first-offset-requires : tie.Need-first-offset-requires Inv-loop μ-loop
 first-offset-requires c κs =
-    let s = start (at c) in (
-      ((degree-low (at c), (degree-high (at c), column-within c)), s .pre .1),
-      ((omega (arith, d-is c, width-low (at c)), omega (arith, d-is c, width-high (at c))), (omega (arith, next-low c), omega (arith, d-is c, width-low (at c), start-low c))),
-    )
+    record {
+      segment = record {
+        columns = record { columns-within = column-within c; ordinates = start (at c) .pre .ordinates };
+        degree-some = degree-low (at c);
+        degree-low = degree-high (at c);
+        long = omega (arith, d-is c, width-low (at c));
+        short = omega (arith, d-is c, width-high (at c));
+      };
+      end-within = omega (arith, next-low c);
+      start-within = omega (arith, d-is c, width-low (at c), start-low c);
+    }
 
 -- what is found in the segment
 module _ (c : tie.After-first-offset Inv-loop μ-loop) where
@@ -135,11 +152,25 @@ module _ (c : tie.After-first-offset Inv-loop μ-loop) where
   abbrev word : ℤ
   word = toZ w64 (ofZ w64 (start (at here) .args .target))
 
-  next-segment : d here + here .start-offset .result ≤ c .first-offset .result → Before (beam (start (at here))) (start (at here) .args .ordinates .now) word (at here .before .before .before .loop .column + (at here .before .degree-at .result + 1)) (here .start-offset .result) (i (at here) + 1)
-  next-segment h = before-next (beam (start (at here))) (start (at here) .args .ordinates .now) word (checks (start (at here))) (inv here) (below (at here)) (degree-is (at here)) (d-is here) (next-is here) (c .first-offset .ensures) h
+  abbrev entry : tie.Start Inv-loop μ-loop
+  entry = start (at here)
 
-  found-here : c .first-offset .result < d here + here .start-offset .result → At (fine (break (beam (start (at here))) (i (at here))) +ℤ pos (c .first-offset .result)) ≡ found (beam (start (at here))) (first (positionCount (beam (start (at here)))) (reachesHeld (beam (start (at here))) (start (at here) .args .ordinates .now) word))
-  found-here h = found-in (beam (start (at here))) (start (at here) .args .ordinates .now) word (checks (start (at here))) (inv here) (below (at here)) (degree-is (at here)) (d-is here) (next-is here) (c .first-offset .ensures) h
+  abbrev ordinates : List ℤ
+  ordinates = entry .args .ordinates .now
+
+  next-segment : d here + here .start-offset .result ≤ c .first-offset .result
+      → Before (beam entry) ordinates word (at here .before .before .before .loop .column + (at here .before .degree-at .result + 1))
+      (here .start-offset .result) (i (at here) + 1)
+  next-segment h =
+      before-next (beam entry) ordinates word (checks entry) (inv here) (below (at here)) (degree-is (at here)) (d-is here) (next-is here)
+      (c .first-offset .ensures) h
+
+  found-here : c .first-offset .result < d here + here .start-offset .result
+      → At (fine (break (beam entry) (i (at here))) +ℤ pos (c .first-offset .result))
+      ≡ found (beam entry) (first (positionCount (beam entry)) (reachesHeld (beam entry) ordinates word))
+  found-here h =
+      found-in (beam entry) ordinates word (checks entry) (inv here) (below (at here)) (degree-is (at here)) (d-is here) (next-is here)
+      (c .first-offset .ensures) h
 
 add-if1 : tie.Need-add-if1 Inv-loop μ-loop
 add-if1 c = let b = c .before in omega (arith, d-is b, width-high (at b), next-low b)
@@ -147,7 +178,11 @@ add-if1 c = let b = c .before in omega (arith, d-is b, width-high (at b), next-l
 position-at-requires : tie.Need-position-at-requires Inv-loop μ-loop
 position-at-requires c κs =
     let b = here (c .before) in
-    ((omega (arith, below (at b), legal (start (at b)) .break-count), legal (start (at b)) .breaks-legal), omega (arith, d-is b, width-high (at b), next-low b))
+    let l = legal (start (at b)) in
+    record {
+      break = record { within = omega (arith, below (at b), l .break-count); legal = l .breaks-legal };
+      short = omega (arith, d-is b, width-high (at b), next-low b);
+    }
 
 returns : tie.Need-returns Inv-loop μ-loop
 returns c =

@@ -13,7 +13,9 @@ sub-room : tie.Need-sub-room
 sub-room c = search needs
 
 mul-room : tie.Need-mul-room
-mul-room c = omega (arith, room-small (c .before .args .gap - c .before .args .p) (c .before .args .d) {a = 512000000} (omega (arith, c .before .pre .0)) (c .before .pre .1 .0))
+mul-room c =
+    let s = c .before in
+    omega (arith, room-small (s .args .gap - s .args .p) (s .args .d) {a = 512000000} (omega (arith, s .pre .gap-small)) (s .pre .short))
 
 returns-2 : tie.Need-returns-2
 returns-2 c = search needs

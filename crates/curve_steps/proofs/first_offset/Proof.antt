@@ -20,14 +20,18 @@ module _ (c : tie.After-one-reaches) where
   abbrev start : tie.Start
   start = c .before
 
-  told : {b : Bool} → c .one-reaches .result ≡ b → found (first (suc (start .args .p)) (λ k. leZ (start .args .target) (getD (start .args .ordinates .now) (start .args .c + k) (pos 0)))) ≡ b
+  told : {b : Bool} → c .one-reaches .result ≡ b → let a = start .args in
+      found (first (suc (a .p)) (λ k. leZ (a .target) (getD (a .ordinates .now) (a .c + k) (pos 0)))) ≡ b
   told e = let f = start .fits .target in sym (simp toZ-ofZ at (c .one-reaches .ensures)) ∙ e
 
 step-through-requires : tie.Need-step-through-requires
 step-through-requires c κs =
     let s = start (c .before) in
     let f = s .fits .target in
-    (s .pre .0, (s .pre .1 .0, (s .pre .1 .1 .0, simp toZ-ofZ (one-bounds (s .args .ordinates .now) (s .args .c) (s .args .p) (s .args .target) (s .pre .0 .1 .1) (told (c .before) (c .if1 .taken))))))
+    let a = s .args in
+    let bounded = s .pre .segment .columns .ordinates .bounded in
+    let small = one-bounds (a .ordinates .now) (a .c) (a .p) (a .target) bounded (told (c .before) (c .if1 .taken)) in
+    record { segment = s .pre .segment; end-within = s .pre .end-within; target-small = simp toZ-ofZ small }
 
 returns : tie.Need-returns
 returns c = let f = start (c .before .before) .fits .target in simp toZ-ofZ at (c .step-through .ensures)
@@ -35,9 +39,12 @@ returns c = let f = start (c .before .before) .fits .target in simp toZ-ofZ at (
 returns-2 : tie.Need-returns-2
 returns-2 c =
     let s = start (c .before) in
+    let a = s .args in
+    let bounded = s .pre .segment .columns .ordinates .bounded in
+    let none = none-reaches (a .ordinates .now) (a .c) (a .p) (a .target) (told (c .before) (c .if1 .left)) in
     record {
-      after = s .pre .1 .1 .1;
-      none-before = λ u h k l. all-below (s .args .ordinates .now) (s .args .c) (s .args .p) (s .args .d) u (s .pre .1 .0 .0) (omega (arith, s .pre .1 .1 .0)) (s .pre .0 .1 .1) (s .args .target) (none-reaches (s .args .ordinates .now) (s .args .c) (s .args .p) (s .args .target) (told (c .before) (c .if1 .left)));
+      after = s .pre .start-within;
+      none-before = λ u h k l. all-below (a .ordinates .now) (a .c) (a .p) (a .d) u (s .pre .segment .long) (omega (arith, s .pre .end-within)) bounded (a .target) none;
       there = λ h. absurd (omega arith);
     }
 

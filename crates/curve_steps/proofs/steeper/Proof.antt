@@ -20,16 +20,16 @@ module _ (c : tie.Start) where
   high = c .args .high
 
   sum-fits : SFits w64 (low +ℤ pos (c .args .rise))
-  sum-fits = sfits-abs (omega (arith, abs-add low (pos (c .args .rise)), c .pre .0, c .pre .1 .0))
+  sum-fits = sfits-abs (omega (arith, abs-add low (pos (c .args .rise)), c .pre .rise-small, c .pre .low-small))
 
   difference-fits : SFits w64 (high -ℤ low)
-  difference-fits = sfits-abs (omega (arith, abs-sub high low, c .pre .1 .0, c .pre .1 .1))
+  difference-fits = sfits-abs (omega (arith, abs-sub high low, c .pre .low-small, c .pre .high-small))
 
 cast-reached : tie.Need-cast-reached
 cast-reached c = search needs
 
 add-reached : tie.Need-add-reached
-add-reached c = let f = c .fits .low in simp (toZ-ofZ, toZ-pos w64 (c .args .rise) (omega (arith, c .pre .0))) (sum-fits c)
+add-reached c = let f = c .fits .low in simp (toZ-ofZ, toZ-pos w64 (c .args .rise) (omega (arith, c .pre .rise-small))) (sum-fits c)
 
 sub-result : tie.Need-sub-result
 sub-result c = let f = c .before .fits .low in let g = c .before .fits .high in simp toZ-ofZ (difference-fits (c .before))
@@ -44,7 +44,7 @@ module _ (c : tie.Then1) where
       let f = start .fits .low in
       let g = start .fits .high in
       let h = sum-fits start in
-      ltZ-true _ _ (simp (toZ-ofZ, toZ-pos w64 (start .args .rise) (omega (arith, start .pre .0))) at (c .if1 .taken))
+      ltZ-true _ _ (simp (toZ-ofZ, toZ-pos w64 (start .args .rise) (omega (arith, start .pre .rise-small))) at (c .if1 .taken))
 
   above : pos 0 ≤ℤ (high start -ℤ low start)
   above = Z.nonNeg-le _ (Z.le-sub (low start) (high start) (Z.≤-in _ _ (omega (arith, Z.<-out _ _ more, Z.bal-+ (low start) (pos (start .args .rise))))))
@@ -61,7 +61,8 @@ returns c =
     let f = c .before .fits .low in
     let g = c .before .fits .high in
     let h = difference-fits (c .before) in
-    simp toZ-ofZ (rise-more (c .before .args .rise) _ (low (c .before)) (high (c .before)) (c .before .pre .1 .0) (c .before .pre .1 .1) (more c))
+    let s = c .before in
+    simp toZ-ofZ (rise-more (s .args .rise) (low s) (high s) (s .pre .low-small) (s .pre .high-small) (more c))
 
 returns-2 : tie.Need-returns-2
 returns-2 c =
@@ -69,7 +70,8 @@ returns-2 c =
     let f = s .fits .low in
     let g = s .fits .high in
     let h = sum-fits s in
-    (omega arith, (s .pre .0, ltZ-false _ _ (simp (toZ-ofZ, toZ-pos w64 (s .args .rise) (omega (arith, s .pre .0))) at (c .if1 .left))))
+    let left = simp (toZ-ofZ, toZ-pos w64 (s .args .rise) (omega (arith, s .pre .rise-small))) at (c .if1 .left) in
+    record { at-least = omega arith; small = s .pre .rise-small; covers = ltZ-false _ _ left }
 
 pub steeper-spec : {M : Type 1} → statement M
 steeper-spec =

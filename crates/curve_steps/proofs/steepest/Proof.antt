@@ -75,7 +75,12 @@ steeper-requires c κs =
     let g = high-fits c in
     let f′ = sfits-widen f in
     let g′ = sfits-widen g in
-    (c .before .before .before .loop .inv .1 .small, simp toZ-ofZ (start c .pre .1 .1 (start c .args .c + k c), start c .pre .1 .1 (start c .args .c + k c + 1)))
+    let bounded = start c .pre .ordinates .bounded in
+    simp toZ-ofZ (record {
+      rise-small = c .before .before .before .loop .inv .1 .small;
+      low-small = bounded (start c .args .c + k c);
+      high-small = bounded (start c .args .c + k c + 1);
+    })
 
 add-k : tie.Need-add-k Inv-loop μ-loop
 add-k c = omega arith
@@ -91,10 +96,14 @@ loop-again c =
     let f′ = sfits-widen f in
     let g′ = sfits-widen g in
     let left = simp toZ-ofZ at (c .steeper .ensures) in
-    (omega arith, steepest-more _ (start b .args .c) (k b) _ (c .steeper .result) (b .before .before .before .loop .inv .1) (left .0) (left .1 .0) (left .1 .1))
+    let before = b .before .before .before .loop .inv .1 in
+    (omega arith, steepest-more _ (start b .args .c) (k b) _ (c .steeper .result) before (left .at-least) (left .small) (left .covers))
 
 returns : tie.Need-returns Inv-loop μ-loop
-returns c = let s = c .before .before in subst (λ k. Steepest (s .args .ordinates .now) (s .args .c) k (c .before .loop .rise)) (let e : c .before .loop .k ≡ s .args .p = omega arith in e) (c .before .loop .inv .1)
+returns c =
+    let s = c .before .before in
+    let all : c .before .loop .k ≡ s .args .p = omega arith in
+    subst (λ k. Steepest (s .args .ordinates .now) (s .args .c) k (c .before .loop .rise)) all (c .before .loop .inv .1)
 
 pub steepest-spec : {M : Type 1} → statement M
 steepest-spec =

@@ -21,22 +21,23 @@ use Rattle.curve_steps.proofs.step_through.Statement.{statement}
 use Rattle.curve_steps.proofs.step_through.Tie as tie
 
 abbrev Inv-loop : tie.InvT-loop
-Inv-loop ordinates c p d start end target cost u₀ u = (start ≤ u) × ((w : ℕ) → start ≤ w → w < u → w < end → valueOn ordinates c p d w <ℤ toZ w64 target)
+Inv-loop ordinates c p d start end target cost u₀ u =
+    (start ≤ u) × ((w : ℕ) → start ≤ w → w < u → w < end → valueOn ordinates c p d w <ℤ toZ w64 target)
 
 abbrev μ-loop : tie.MeasureT-loop
 μ-loop ordinates c p d start end target cost u₀ u = end - u
 
 steepest-requires : tie.Need-steepest-requires Inv-loop μ-loop
-steepest-requires c κs = (c .pre .0 .0 .1 .1, c .pre .0 .1)
+steepest-requires c κs = c .pre .segment .columns
 
 mul-cost : tie.Need-mul-cost Inv-loop μ-loop
-mul-cost c = omega (arith, mul-le-mul (c .before .pre .0 .0 .1 .0) (c .steepest .ensures .small))
+mul-cost c = omega (arith, mul-le-mul (c .before .pre .segment .degree-low) (c .steepest .ensures .small))
 
 loop-holds : tie.Need-loop-holds Inv-loop μ-loop
 loop-holds c = (omega arith, λ w h k l. absurd (omega arith))
 
 value-on-requires : tie.Need-value-on-requires Inv-loop μ-loop
-value-on-requires c κs = let s = c .before .before .before in ((s .pre .0 .0 .1, s .pre .0 .1), (s .pre .1 .0, omega (arith, s .pre .1 .1 .0)))
+value-on-requires c κs = let s = c .before .before .before in record { segment = s .pre .segment; within = omega (arith, s .pre .end-within) }
 
 module _ (c : tie.After-value-on Inv-loop μ-loop) where
   abbrev start : tie.Start Inv-loop μ-loop
@@ -55,11 +56,11 @@ module _ (c : tie.After-value-on Inv-loop μ-loop) where
   result-fits = record { sfits = c .value-on .ok }
 
   result-is : c .value-on .result ≡ values u
-  result-is = c .value-on .ensures .0
+  result-is = c .value-on .ensures .is
 
 -- no value before u, with the target read back from its word
-before-is : (c : tie.At-loop Inv-loop μ-loop) (w : ℕ) → c .before .before .args .start ≤ w → w < c .loop .u → w < c .before .before .args .end
-    → valueOn (c .before .before .args .ordinates .now) (c .before .before .args .c) (c .before .before .args .p) (c .before .before .args .d) w <ℤ c .before .before .args .target
+before-is : (c : tie.At-loop Inv-loop μ-loop) (w : ℕ) → let a = c .before .before .args in a .start ≤ w → w < c .loop .u → w < a .end
+    → valueOn (a .ordinates .now) (a .c) (a .p) (a .d) w <ℤ a .target
 before-is c w h k l = let f = c .before .before .fits .target in simp toZ-ofZ at (c .loop .inv .1 w h k l)
 
 -- the value lies below the target
@@ -74,7 +75,9 @@ module _ (c : tie.Else2 Inv-loop μ-loop) where
   gap = target read -ℤ c .before .value-on .result
 
   gap-size : natAbs gap ≤ 2 * ordinateLimit
-  gap-size = gap-small ordinateLimit (c .before .value-on .result) (target read) (c .before .value-on .ensures .1) below-result (start read .pre .1 .1 .1)
+  gap-size =
+      gap-small ordinateLimit (c .before .value-on .result) (target read) (c .before .value-on .ensures .small) below-result
+      (start read .pre .target-small)
 
   gap-fits : SFits w64 gap
   gap-fits = sfits-abs (omega (arith, gap-size))
@@ -94,7 +97,11 @@ ahead-requires c κs =
     let f = s .fits .target in
     let g = result-fits (read c) in
     let h = gap-fits c in
-    simp toZ-ofZ (gap-size c, (s .pre .1 .0 .1, mul-pos (s .pre .0 .0 .0) (read c .before .before .before .steepest .ensures .positive)))
+    simp toZ-ofZ (record {
+      gap-small = gap-size c;
+      short = s .pre .segment .short;
+      cost-some = mul-pos (s .pre .segment .degree-some) (read c .before .before .before .steepest .ensures .positive);
+    })
 
 -- how many are passed
 module _ (c : tie.After-ahead Inv-loop μ-loop) where
@@ -108,32 +115,33 @@ module _ (c : tie.After-ahead Inv-loop μ-loop) where
   cost-is = let f = start at .fits .target in let g = result-fits at in let h = gap-fits (c .before) in simp toZ-ofZ at (c .ahead .ensures)
 
   few : c .ahead .result ≤ 512000000 * 512000
-  few = omega (
-    arith,
-    at-least-once (c .ahead .result) (start at .args .p * rise) (mul-pos (start at .pre .0 .0 .0) (at .before .before .before .steepest .ensures .positive)),
-    cost-is,
-    room-small (natAbs (gap (c .before)) - start at .args .p) (start at .args .d) {a = 512000000} (omega (arith, gap-size (c .before))) (start at .pre .1 .0 .1),
-  )
+  few =
+      let s = start at in
+      let some = mul-pos (s .pre .segment .degree-some) (at .before .before .before .steepest .ensures .positive) in
+      let room = room-small (natAbs (gap (c .before)) - s .args .p) (s .args .d) {a = 512000000} (omega (arith, gap-size (c .before)))
+      (s .pre .segment .short) in
+      omega (arith, at-least-once (c .ahead .result) (s .args .p * rise) some, cost-is, room)
 
   -- none of them reaches the target
   none-passed : (w : ℕ) → u at ≤ w → w ≤ u at + c .ahead .result → w ≤ start at .args .d → values at w <ℤ target at
-  none-passed = passed (start at .args .ordinates .now) (start at .args .c) (start at .args .p) (start at .args .d) rise (u at) (c .ahead .result) (target at)
-      (start at .pre .0 .0 .0) (start at .pre .1 .0 .0) (at .before .before .before .steepest .ensures)
+  none-passed = passed _ _ (start at .args .p) (start at .args .d) rise (u at) (c .ahead .result) (target at)
+      (start at .pre .segment .degree-some) (start at .pre .segment .long) (at .before .before .before .steepest .ensures)
       (subst (λ z. z <ℤ target at) (result-is at) (below-result (c .before)))
-      (subst (λ z. c .ahead .result * (start at .args .p * rise) ≤ (natAbs (target at -ℤ z) - start at .args .p) * start at .args .d) (result-is at) cost-is)
+      (subst (λ z. c .ahead .result * (start at .args .p * rise) ≤ (natAbs (target at -ℤ z) - start at .args .p) * start at .args .d)
+      (result-is at) cost-is)
 
   none-before : (w : ℕ) → start at .args .start ≤ w → w < u at + (1 + c .ahead .result) → w < start at .args .end → values at w <ℤ target at
   none-before w h k l = go (le-or-lt (u at) w)
     where
       go : (u at ≤ w) ⊎ (w < u at) → values at w <ℤ target at
-      go (inl m) = none-passed w m (omega arith) (omega (arith, start at .pre .1 .1 .0))
+      go (inl m) = none-passed w m (omega arith) (omega (arith, start at .pre .end-within))
       go (inr m) = before-is (at .before .before) w h m l
 
 add-u : tie.Need-add-u Inv-loop μ-loop
 add-u c = omega (arith, few c)
 
 add-u-2 : tie.Need-add-u-2 Inv-loop μ-loop
-add-u-2 c = omega (arith, few c, start (at c) .pre .1 .1 .0, start (at c) .pre .1 .0 .1)
+add-u-2 c = let s = start (at c) in omega (arith, few c, s .pre .end-within, s .pre .segment .short)
 
 loop-less : tie.Need-loop-less Inv-loop μ-loop
 loop-less c = omega arith
@@ -149,7 +157,11 @@ returns-2 c =
     let r = c .before in
     let f = start r .fits .target in
     let g = result-fits r in
-    record { after = r .before .before .loop .inv .0; none-before = before-is (r .before .before); there = λ h. subst (λ z. target r ≤ℤ z) (result-is r) (leZ-true _ _ (simp toZ-ofZ at (c .if2 .taken))) }
+    record {
+      after = r .before .before .loop .inv .0;
+      none-before = before-is (r .before .before);
+      there = λ h. subst (λ z. target r ≤ℤ z) (result-is r) (leZ-true _ _ (simp toZ-ofZ at (c .if2 .taken)));
+    }
 
 pub step-through-spec : {M : Type 1} → statement M
 step-through-spec =

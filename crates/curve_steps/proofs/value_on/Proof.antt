@@ -24,30 +24,32 @@ cast-t8 c = search needs
 
 -- the place of offset u
 module _ (s : tie.Start) where
-  value-is : (o w : ℤ) → o ≡ pos (s .args .u) → w ≡ pos (s .args .d) → valueOf (s .args .ordinates .now) (record { column = s .args .c; degree = s .args .p; offset = o; width = w }) ≡ valueOn (s .args .ordinates .now) (s .args .c) (s .args .p) (s .args .d) (s .args .u)
+  value-is : (o w : ℤ) → let a = s .args in o ≡ pos (a .u) → w ≡ pos (a .d)
+      → valueOf (a .ordinates .now) (record { column = a .c; degree = a .p; offset = o; width = w }) ≡ valueOn (a .ordinates .now) (a .c) (a .p) (a .d) (a .u)
   unfolding valueOf valueOn
   value-is o w e f = cc
 
   offset-word : toZ w64 (s .args .u) ≡ pos (s .args .u)
-  offset-word = toZ-pos w64 (s .args .u) (omega (arith, s .pre .1 .0 .1, s .pre .1 .1))
+  offset-word = toZ-pos w64 (s .args .u) (omega (arith, s .pre .segment .short, s .pre .within))
 
   width-word : toZ w64 (s .args .d) ≡ pos (s .args .d)
-  width-word = toZ-pos w64 (s .args .d) (omega (arith, s .pre .1 .0 .1))
+  width-word = toZ-pos w64 (s .args .d) (omega (arith, s .pre .segment .short))
 
-  sound : (o w : ℤ) → o ≡ pos (s .args .u) → w ≡ pos (s .args .d) → Sound (record { column = s .args .c; degree = s .args .p; offset = o; width = w })
+  sound : (o w : ℤ) → o ≡ pos (s .args .u) → w ≡ pos (s .args .d)
+      → Sound (record { column = s .args .c; degree = s .args .p; offset = o; width = w })
   sound o w e f = record {
-    low = s .pre .0 .0 .0;
-    within = s .pre .0 .0 .1;
+    low = s .pre .segment .degree-low;
+    within = s .pre .segment .columns .columns-within;
     inside = rw (e, f) (record {
       above = Z.≤-in (pos 0) (pos (s .args .u)) (omega arith);
-      below = Z.≤-in (pos (s .args .u)) (pos (s .args .d)) (omega (arith, s .pre .1 .1));
-      long = Z.<-in (pos 0) (pos (s .args .d)) (omega (arith, s .pre .1 .0 .0));
-      short = Z.≤-in (pos (s .args .d)) (pos 512000) (omega (arith, s .pre .1 .0 .1));
+      below = Z.≤-in (pos (s .args .u)) (pos (s .args .d)) (omega (arith, s .pre .within));
+      long = Z.<-in (pos 0) (pos (s .args .d)) (omega (arith, s .pre .segment .long));
+      short = Z.≤-in (pos (s .args .d)) (pos 512000) (omega (arith, s .pre .segment .short));
     });
   }
 
 value-at-requires : tie.Need-value-at-requires
-value-at-requires c κs = (sound c _ _ (offset-word c) (width-word c), (c .pre .0 .1 .0, c .pre .0 .1 .1))
+value-at-requires c κs = record { sound = sound c _ _ (offset-word c) (width-word c); ordinates = c .pre .segment .columns .ordinates }
 
 module _ (c : tie.After-value-at) where
   abbrev start : tie.Start
@@ -63,13 +65,19 @@ module _ (c : tie.After-value-at) where
   result-is = c .value-at .ensures ∙ value-is start _ _ (offset-word start) (width-word start)
 
   small : natAbs value ≤ ordinateLimit
-  small = value-small (start .args .ordinates .now) (start .args .c) (start .args .p) (start .args .d) (start .args .u) (start .pre .1 .0 .0) (start .pre .1 .1) (start .pre .0 .1 .1)
+  small =
+      let a = start .args in
+      let s = start .pre .segment in
+      value-small (a .ordinates .now) (a .c) (a .p) (a .d) (a .u) (s .long) (start .pre .within) (s .columns .ordinates .bounded)
 
 cast-result : tie.Need-cast-result
 cast-result c = let f = result-fits c in simp toZ-ofZ (sfits-widen f)
 
 returns : tie.Need-returns
-returns c = let f = result-fits c in let g = sfits-widen f in simp toZ-ofZ (result-is c, subst (λ z. natAbs z ≤ ordinateLimit) (sym (result-is c)) (small c))
+returns c = let f = result-fits c in let g = sfits-widen f in simp toZ-ofZ (record {
+  is = result-is c;
+  small = subst (λ z. natAbs z ≤ ordinateLimit) (sym (result-is c)) (small c);
+})
 
 pub value-on-spec : {M : Type 1} → statement M
 value-on-spec = tie.close (tie.spec cast-t7 cast-t8 value-at-requires cast-result returns)

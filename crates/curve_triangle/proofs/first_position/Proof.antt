@@ -32,7 +32,9 @@ module _ (c : tie.After-start) where
   break-fits = record { sfits = c .start .given }
 
   start-fits : SFits w32 (pos 256 *ℤ break)
-  start-fits = sfits-abs (omega (arith, abs-mul-le (pos 256) break 256 10000 (omega arith) (c .before .pre .1 .size (c .before .args .i) (c .before .pre .0 .0))))
+  start-fits =
+      let at = c .before .pre .break in
+      sfits-abs (omega (arith, abs-mul-le (pos 256) break 256 10000 (omega arith) (at .legal .size (c .before .args .i) (at .within))))
 
 mul-start-2 : tie.Need-mul-start-2
 mul-start-2 c = let f = break-fits c in simp toZ-ofZ (start-fits c)
@@ -51,7 +53,8 @@ module _ (c : tie.After-starts-at-discontinuity) where
 module _ (c : tie.After-start) where
   more-fits : SFits w32 (pos 256 *ℤ break c +ℤ pos 1)
   more-fits =
-      let size = abs-mul-le (pos 256) (break c) 256 10000 (omega arith) (c .before .pre .1 .size (c .before .args .i) (c .before .pre .0 .0)) in
+      let at = c .before .pre .break in
+      let size = abs-mul-le (pos 256) (break c) 256 10000 (omega arith) (at .legal .size (c .before .args .i) (at .within)) in
       sfits-abs (omega (arith, size, abs-add (pos 256 *ℤ break c) (pos 1)))
 
 add-result : tie.Need-add-result

@@ -28,7 +28,10 @@ loop-holds c = (omega arith, tab-none _ _)
 first-position-requires : tie.Need-first-position-requires Inv-loop μ-loop
 first-position-requires c κs =
     let s = c .before .before in
-    ((omega (arith, s .pre .break-count), omega (arith, s .pre .order-count)), s .pre .breaks-legal)
+    record {
+      break = record { within = omega (arith, s .pre .break-count); legal = s .pre .breaks-legal };
+      join-within = omega (arith, s .pre .order-count);
+    }
 
 mul-firsts : tie.Need-mul-firsts Inv-loop μ-loop
 mul-firsts c = let s = c .before .before .before in omega (arith, s .pre .few)

@@ -17,7 +17,7 @@ module _ (s : tie.Start) where
   break = getD (s .args .breaks .now) (s .args .i) (pos 0)
 
   break-fits-32 : SFits w32 break
-  break-fits-32 = sfits-abs (omega (arith, s .pre .1 .size (s .args .i) (s .pre .0)))
+  break-fits-32 = sfits-abs (omega (arith, s .pre .legal .size (s .args .i) (s .pre .within)))
 
   break-fits : SFits w64 break
   break-fits = sfits-widen break-fits-32
@@ -26,7 +26,7 @@ module _ (s : tie.Start) where
   x-fits = sfits-widen (s .fits .x)
 
   start-small : natAbs (pos 256 *ℤ break) ≤ 2560000
-  start-small = abs-mul-le (pos 256) break 256 10000 (omega arith) (s .pre .1 .size (s .args .i) (s .pre .0))
+  start-small = abs-mul-le (pos 256) break 256 10000 (omega arith) (s .pre .legal .size (s .args .i) (s .pre .within))
 
   start-fits : SFits w64 (pos 256 *ℤ break)
   start-fits = sfits-abs (omega (arith, start-small))

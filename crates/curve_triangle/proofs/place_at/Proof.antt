@@ -23,34 +23,38 @@ module _ (c : tie.Start) where
   i = c .args .i
 
   abbrev orders : List ℤ
-  orders = c .pre .0 .0
+  orders = c .pre .orders
 
   legal : ListsLegal (c .args .breaks .now) (c .args .degrees .now) orders
-  legal = c .pre .0 .1 .0
+  legal = c .pre .legal
 
   found : i ≡ segmentAt (space (c .args .breaks .now) (c .args .degrees .now) orders) (c .args .x)
-  found = c .pre .0 .1 .1 .1
+  found = c .pre .found
 
   within : i < length (c .args .degrees .now)
-  within = segment-within (c .args .breaks .now) (c .args .degrees .now) orders legal (c .args .x) (c .pre .0 .1 .1 .0) i found
+  within = segment-within (c .args .breaks .now) (c .args .degrees .now) orders legal (c .args .x) (c .pre .within) i found
 
   offset-is : Offset (offset (space (c .args .breaks .now) [] []) i (c .args .x)) (pos (fineWidth (space (c .args .breaks .now) [] []) i))
-  offset-is = offset-within (c .args .breaks .now) (c .args .degrees .now) orders legal (c .args .x) (c .pre .0 .1 .1 .0) i found
+  offset-is = offset-within (c .args .breaks .now) (c .args .degrees .now) orders legal (c .args .x) (c .pre .within) i found
 
 degree-at-requires : tie.Need-degree-at-requires
 degree-at-requires c κs = let s = c .before in (within s, legal s .degrees-legal)
 
 offset-requires : tie.Need-offset-requires
-offset-requires c κs = let s = c .before .before in (omega (arith, within s, legal s .break-count), legal s .breaks-legal)
+offset-requires c κs =
+    let s = c .before .before in
+    record { within = omega (arith, within s, legal s .break-count); legal = legal s .breaks-legal }
 
 fine-width-requires : tie.Need-fine-width-requires
-fine-width-requires c κs = let s = c .before .before .before in (omega (arith, within s, legal s .break-count), legal s .breaks-legal)
+fine-width-requires c κs =
+    let s = c .before .before .before in
+    record { within = omega (arith, within s, legal s .break-count); legal = legal s .breaks-legal }
 
 mul-c : tie.Need-mul-c
 mul-c c = let s = c .before .before .before .before in omega (arith, within s, legal s .few)
 
 shared-slice-read-c : tie.Need-shared-slice-read-c
-shared-slice-read-c c = let s = c .before .before .before .before .before in omega (arith, within s, legal s .few, ap length (s .pre .1), columns-long (s .args .degrees .now))
+shared-slice-read-c c = let s = c .before .before .before .before .before in omega (arith, within s, legal s .few, ap length (s .pre .columns-are), columns-long (s .args .degrees .now))
 
 module _ (c : tie.After-fine-width) where
   abbrev start : tie.Start
@@ -60,7 +64,7 @@ module _ (c : tie.After-fine-width) where
   column = getD (start .args .columns .now) (i start) 0
 
   column-is : column ≡ firstColumn (space [] (start .args .degrees .now) []) (i start)
-  column-is = ap (λ xs. getD xs (i start) 0) (start .pre .1) ∙ column-at (start .args .breaks .now) _ _ (legal start) (i start) (within start)
+  column-is = ap (λ xs. getD xs (i start) 0) (start .pre .columns-are) ∙ column-at (start .args .breaks .now) _ _ (legal start) (i start) (within start)
 
   p-small : c .before .before .degree-at .result ≤ 5
   p-small = rw (c .before .before .degree-at .ensures) (degree-within (start .args .breaks .now) _ _ (legal start) (i start) (within start))
@@ -77,10 +81,12 @@ module _ (c : tie.After-fine-width) where
 returns : tie.Need-returns
 returns c =
     let e = c .before in
-    let s = start e in (
-      λ o at. place-is (s .args .breaks .now) (s .args .degrees .now) o (s .args .x) (i s) at (column-is e) (e .before .before .degree-at .ensures) (u-is e) (d-is e),
-      record { low = p-small e; within = column-within e; inside = rw (u-is e, d-is e) (offset-is s) },
-    )
+    let s = start e in
+    let a = s .args in
+    record {
+      is = λ o at. place-is (a .breaks .now) (a .degrees .now) o (a .x) (i s) at (column-is e) (e .before .before .degree-at .ensures) (u-is e) (d-is e);
+      sound = record { low = p-small e; within = column-within e; inside = rw (u-is e, d-is e) (offset-is s) };
+    }
 
 pub place-at-spec : {M : Type 1} → statement M
 place-at-spec = tie.close (tie.spec degree-at-requires offset-requires fine-width-requires mul-c shared-slice-read-c returns)

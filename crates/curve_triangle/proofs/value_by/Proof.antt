@@ -1,14 +1,14 @@
 -- `curve_triangle::value_by` meets its contract: in the arm of its degree, the same. Assumes nothing.
 use native.Mathlib.Omega.{arith}
 use mathlib.Core.Path.{_≡_, refl, sym, ap, _∙_}
-use Prim.Native.Nat.{ℕ, _+_, _<_, _≤_}
+use Prim.Native.Nat.{ℕ, _+_}
 use lib.IntN.{ℤ, pos, natAbs}
-use lib.ListN.{length, getD}
+use lib.ListN.{getD}
 use mir.Syntax.{w32, w64}
 use mir.Val.{SFits, ofZ, toZ}
 use mir.ValLaws.{toZ-ofZ}
 use Rattle.spec_spline.specs.Reading.{triangle}
-use Rattle.curve_ordinates.specs.Ordinates.{Bounded}
+use Rattle.curve_triangle.specs.Place.{ValueAsks, ValueIs}
 use Rattle.curve_triangle.specs.Rate.{Rated}
 use Rattle.curve_triangle.proofs.value_by.Statement.{statement}
 use Rattle.curve_triangle.proofs.value_by.Tie as tie
@@ -23,14 +23,22 @@ module _ (s : tie.Start) where
   passed u d rated = let f = s .fits .high in let g = s .fits .low in simp toZ-ofZ rated
 
   -- what an arm asks
-  asked : (p : ℕ) → s .args .p ≡ p → ((p ≤ 5) × (s .args .c + p < 288)) × (((u : ℤ) × ((d : ℤ) × Rated (word (s .args .high)) (word (s .args .low)) u d)) × ((length (s .args .ordinates .now) ≡ 288) × Bounded (s .args .ordinates .now)))
-  asked p e = let r = s .pre .1 .0 in ((omega (arith, s .pre .0 .0, e), omega (arith, s .pre .0 .1, e)), ((r .0, (r .1 .0, passed _ _ (r .1 .1))), s .pre .1 .1))
+  asked : (p : ℕ) → s .args .p ≡ p → ValueAsks (s .args .ordinates .now) (s .args .c) p (word (s .args .high)) (word (s .args .low))
+  asked p e = let r = s .pre .rate in record {
+    degree-low = omega (arith, s .pre .degree-low, e);
+    columns-within = omega (arith, s .pre .columns-within, e);
+    rate = record { offset = r .offset; width = r .width; rated = passed _ _ (r .rated) };
+    ordinates = s .pre .ordinates;
+  }
 
   -- and what it gives
   arm : (p : ℕ) (v : ℤ) → s .args .p ≡ p → SFits w32 v
-      → ((u d : ℤ) → Rated (word (s .args .high)) (word (s .args .low)) u d → v ≡ triangle (natAbs d) u (λ k. getD (s .args .ordinates .now) (s .args .c + k) (pos 0)) p 0)
-      → (u d : ℤ) → Rated (s .args .high) (s .args .low) u d → toZ w32 (ofZ w32 v) ≡ triangle (natAbs d) u (λ k. getD (s .args .ordinates .now) (s .args .c + k) (pos 0)) (s .args .p) 0
-  arm p v e fits is u d rated = toZ-ofZ w32 v fits ∙ is u d (passed u d rated) ∙ ap (λ (n : ℕ). triangle (natAbs d) u (λ k. getD (s .args .ordinates .now) (s .args .c + k) (pos 0)) n 0) (sym e)
+      → ValueIs (s .args .ordinates .now) (s .args .c) p (word (s .args .high)) (word (s .args .low)) v
+      → ValueIs (s .args .ordinates .now) (s .args .c) (s .args .p) (s .args .high) (s .args .low) (toZ w32 (ofZ w32 v))
+  arm p v e fits is u d rated =
+      toZ-ofZ w32 v fits
+      ∙ is u d (passed u d rated)
+      ∙ ap (λ (n : ℕ). triangle (natAbs d) u (λ k. getD (s .args .ordinates .now) (s .args .c + k) (pos 0)) n 0) (sym e)
 
 value-of-requires : tie.Need-value-of-requires
 value-of-requires c κs = asked (c .before) 1 (c .match .keys1)

@@ -31,7 +31,7 @@ array-write-columns : tie.Need-array-write-columns Inv-loop μ-loop
 array-write-columns c = omega arith
 
 degree-at-requires : tie.Need-degree-at-requires Inv-loop μ-loop
-degree-at-requires c κs = (omega arith, c .before .before .pre .1)
+degree-at-requires c κs = (omega arith, c .before .before .pre .legal)
 
 module _ (c : tie.After-degree-at Inv-loop μ-loop) where
   abbrev lists : Space
@@ -41,10 +41,10 @@ module _ (c : tie.After-degree-at Inv-loop μ-loop) where
   i = c .before .before .loop .i
 
   degree-fits : c .degree-at .result ≤ 5
-  degree-fits = omega (arith, c .degree-at .ensures, degree-high lists (c .before .before .before .pre .1) i (omega arith))
+  degree-fits = omega (arith, c .degree-at .ensures, degree-high lists (c .before .before .before .pre .legal) i (omega arith))
 
   column-fits : c .before .before .loop .column ≤ 288
-  column-fits = omega (arith, first-column-high lists (c .before .before .before .pre .1) i (omega arith))
+  column-fits = omega (arith, first-column-high lists (c .before .before .before .pre .legal) i (omega arith))
 
 add-column : tie.Need-add-column Inv-loop μ-loop
 add-column c = omega (arith, degree-fits c)
@@ -60,20 +60,23 @@ loop-less c = omega arith
 
 loop-again : tie.Need-loop-again Inv-loop μ-loop
 loop-again c =
-    let l = c .before .before .loop in (
+    let l = c .before .before .loop in
+    let next : i c + 1 ≡ suc (i c) = omega arith in (
       omega arith,
       (
-        omega (arith, c .degree-at .ensures, first-column-next (lists c) (i c), ap (firstColumn (lists c)) (let e : i c + 1 ≡ suc (i c) = omega arith in e)),
-        ap₂ (λ (cs : List ℕ) (v : ℕ). set cs (i c) v) (l .inv .1 .1) (l .inv .1 .0) ∙ tab-more (firstColumn (lists c)) (i c) (replicate 48 0) (omega arith),
+        omega (arith, c .degree-at .ensures, first-column-next (lists c) (i c), ap (firstColumn (lists c)) next),
+        ap₂ (λ (cs : List ℕ) (v : ℕ). set cs (i c) v) (l .inv .1 .1) (l .inv .1 .0)
+            ∙ tab-more (firstColumn (lists c)) (i c) (replicate 48 0) (omega arith),
       ),
     )
 
 returns : tie.Need-returns Inv-loop μ-loop
 returns c =
     let d = c .before .before .args .degrees .now in
+    let all : c .before .loop .i ≡ length d = omega arith in
     c .before .loop .inv .1 .1
-    ∙ ap (λ (i : ℕ). tab i (firstColumn (space [] d [])) ++ drop i (replicate 48 0)) (let e : c .before .loop .i ≡ length d = omega arith in e)
-    ∙ columns-filled d (c .before .before .pre .0)
+    ∙ ap (λ (i : ℕ). tab i (firstColumn (space [] d [])) ++ drop i (replicate 48 0)) all
+    ∙ columns-filled d (c .before .before .pre .few)
 
 pub first-columns-spec : {M : Type 1} → statement M
 first-columns-spec =

@@ -1,25 +1,278 @@
--- `curve::reading::write_values` meets its contract: the first columns, and then the values. Assumes nothing.
+-- `curve::reading::write_values` meets its contract: below 2 k stand the pairs of the first k positions, from there on what the
+-- cells held. Assumes nothing.
 use borrow.Author.Needs.{needs}
+use native.Mathlib.Omega.{arith}
+use mathlib.Core.List.{List, _++_, map}
+use mathlib.Core.Path.{_≡_, refl, sym, ap, ap₂, _∙_}
+use Prim.Native.Nat.{ℕ, _+_, _*_, _≤_, _<_, _-_}
+use lib.IntN.{ℤ, pos}
+use lib.ListN.{length, getD, set, drop, length-set}
+use mir.Syntax.{w32}
+use mir.Val.{ofZ, toZ}
+use mir.ValLaws.{toZ-ofZ}
+use Rattle.base_exact.specs.Tabulate.{tab}
+use Rattle.base_exact.proofs.Tabulate.{tab-self, map-tab}
+use Rattle.spec_spline.specs.Space.{Space}
+use Rattle.spec_spline.specs.Reading.{Pair, sideBySide, segmentAt, blended}
+use Rattle.spec_spline.proofs.Pairs.{pairs-none, pairs-more}
+use Rattle.build_space.specs.Machine.{space}
+use Rattle.curve_triangle.specs.Offsets.{Within}
+use Rattle.curve_triangle.specs.Place.{placeOf, valueOf}
+use Rattle.curve_triangle.proofs.First.{firsts-long}
+use Rattle.curve_triangle.proofs.Position.{segment-within, value-blended}
+use Rattle.curve.specs.Pairs.{pairOf}
 use Rattle.curve.proofs.reading.write_values.Statement.{statement}
 use Rattle.curve.proofs.reading.write_values.Tie as tie
 
-first-columns-requires : tie.Need-first-columns-requires
-first-columns-requires c κs = search needs
+-- both values at position j of the list
+abbrev pairAtEntry : Space → List ℤ → List ℤ → List ℤ → ℕ → Pair
+pairAtEntry s earlywood latewood positions j = pairOf s earlywood latewood (getD positions j (pos 0))
 
-slice-aggregate-write-all : tie.Need-slice-aggregate-write-all
-slice-aggregate-write-all c = search needs
+record Inv (s : Space) (earlywood latewood positions values₀ values : List ℤ) (at k : ℕ) : Type 0 where
+  some : k ≤ length positions
+  segment : at < length (s .degrees)
+  kept : length values ≡ length values₀
+  written : values ≡ sideBySide (tab k (pairAtEntry s earlywood latewood positions)) ++ drop (2 * k) values₀
 
-write-all-requires : tie.Need-write-all-requires
-write-all-requires c κs =
-    let f = c .before .before in
-    let s = f .before in
-    (s .pre .0, ((f .first-columns .ensures, s .pre .1 .0), s .pre .1 .1))
+abbrev Inv-loop : tie.InvT-loop
+Inv-loop breaks degrees orders earlywood latewood positions values₀ columns firsts at₀ k₀ values at k =
+    Inv (space breaks degrees orders) earlywood latewood positions values₀ values at k
 
-same-length : tie.Need-same-length
-same-length c = search needs
+abbrev μ-loop : tie.MeasureT-loop
+μ-loop breaks degrees orders earlywood latewood positions values₀ columns firsts at₀ k₀ values at k = length positions - k
 
-returns : tie.Need-returns
-returns c = c .before .write-all .ensures
+first-columns-requires : tie.Need-first-columns-requires Inv-loop μ-loop
+first-columns-requires c κs = record { few = c .pre .legal .few; legal = c .pre .legal .degrees-legal }
+
+first-positions-requires : tie.Need-first-positions-requires Inv-loop μ-loop
+first-positions-requires c κs = c .before .pre .legal
+
+loop-holds : tie.Need-loop-holds Inv-loop μ-loop
+loop-holds c = record {
+  some = omega arith;
+  segment = omega (arith, c .before .before .pre .legal .some);
+  kept = refl;
+  written = pairs-none _ _;
+}
+
+mul-x : tie.Need-mul-x Inv-loop μ-loop
+mul-x c = omega arith
+
+shared-slice-copy-out-x : tie.Need-shared-slice-copy-out-x Inv-loop μ-loop
+shared-slice-copy-out-x c = omega arith
+
+slice-aggregate-segment-near : tie.Need-slice-aggregate-segment-near Inv-loop μ-loop
+slice-aggregate-segment-near c = search needs
+
+module _ (c : tie.After-x Inv-loop μ-loop) where
+  abbrev turn : tie.At-loop Inv-loop μ-loop
+  turn = c .before .before
+
+  abbrev placed-first : tie.After-first-positions Inv-loop μ-loop
+  placed-first = turn .before
+
+  abbrev start : tie.Start Inv-loop μ-loop
+  start = placed-first .before .before
+
+  abbrev lists : Space
+  lists = space (start .args .breaks .now) (start .args .degrees .now) (start .args .orders .now)
+
+  abbrev k : ℕ
+  k = turn .loop .k
+
+  abbrev x : ℤ
+  x = getD (start .args .positions .now) k (pos 0)
+
+  x-is : toZ w32 (ofZ w32 x) ≡ x
+  x-is = toZ-ofZ w32 x (record { sfits = c .x .given })
+
+  more : k < length (start .args .positions .now)
+  more = omega arith
+
+  -- a pair more has room
+  room : 2 * k + 1 < length (start .args .values .now)
+  room = omega (arith, more, start .pre .room)
+
+  within : Within lists x
+  within = start .pre .within k more
+
+segment-near-requires : tie.Need-segment-near-requires Inv-loop μ-loop
+segment-near-requires c κs =
+    let r = c .before in
+    let f = placed-first r in
+    (turn r .loop .inv .segment, omega (arith, start r .pre .legal .few, ap length (f .first-positions .ensures), firsts-long (lists r)))
+
+slice-aggregate-place-at : tie.Need-slice-aggregate-place-at Inv-loop μ-loop
+slice-aggregate-place-at c = search needs
+
+module _ (c : tie.After-segment-near Inv-loop μ-loop) where
+  abbrev read : tie.After-x Inv-loop μ-loop
+  read = c .before .before
+
+  -- the segment of the position, as it is passed and as it is
+  found-there : c .segment-near .result ≡ segmentAt (lists read) (toZ w32 (ofZ w32 (x read)))
+  found-there = c .segment-near .ensures _ _ _ (start read .pre .legal) (placed-first read .first-positions .ensures) refl
+
+  found : c .segment-near .result ≡ segmentAt (lists read) (x read)
+  found = found-there ∙ ap (segmentAt (lists read)) (x-is read)
+
+place-at-requires : tie.Need-place-at-requires Inv-loop μ-loop
+place-at-requires c κs =
+    let n = c .before in
+    let r = read n in
+    let s = start r in
+    record {
+      orders = s .args .orders .now;
+      legal = s .pre .legal;
+      within = rw (x-is r) (within r);
+      found = found-there n;
+      columns-are = placed-first r .before .first-columns .ensures;
+    }
+
+pair-at-requires : tie.Need-pair-at-requires Inv-loop μ-loop
+pair-at-requires c κs =
+    let s = start (read (c .before .before)) in
+    record { sound = c .place-at .ensures .sound; early-ordinates = s .pre .early-ordinates; late-ordinates = s .pre .late-ordinates }
+
+-- the place of the position, and where its pair goes
+module _ (c : tie.After-place-at Inv-loop μ-loop) where
+  abbrev near : tie.After-segment-near Inv-loop μ-loop
+  near = c .before .before
+
+  abbrev here : tie.After-x Inv-loop μ-loop
+  here = read near
+
+  -- the value that some ordinates have there
+  value-there : (os : List ℤ) → valueOf os (c .place-at .result) ≡ blended (lists here) os (segmentAt (lists here) (x here)) (x here)
+  value-there os =
+      ap (valueOf os) (c .place-at .ensures .is (start here .args .orders .now) (found-there near))
+      ∙ ap (λ (z : ℤ). valueOf os (placeOf (lists here) z)) (x-is here)
+      ∙ value-blended (lists here) os (x here)
+
+-- the pairs in list order
+pairs : tie.Start Inv-loop μ-loop → ℕ → Pair
+pairs s =
+    let a = s .args in
+    pairAtEntry (space (a .breaks .now) (a .degrees .now) (a .orders .now)) (a .earlywood .now) (a .latewood .now) (a .positions .now)
+
+module _ (c : tie.After-struct-told2 Inv-loop μ-loop) where
+  abbrev placed : tie.After-place-at Inv-loop μ-loop
+  placed = c .before .before .before
+
+  abbrev at : tie.After-x Inv-loop μ-loop
+  at = here placed
+
+  abbrev entry : tie.Start Inv-loop μ-loop
+  entry = start at
+
+  abbrev early : ℤ
+  early = c .before .before .pair-at .result .early
+
+  abbrev late : ℤ
+  late = c .before .before .pair-at .result .late
+
+  stored-early : toZ w32 (ofZ w32 early) ≡ pairs entry (k at) .early
+  unfolding pairs pairOf
+  stored-early =
+      toZ-ofZ w32 early (record { sfits = c .before .struct-told .given .0 .1 })
+      ∙ c .before .before .pair-at .ensures .early-is
+      ∙ value-there placed (entry .args .earlywood .now)
+
+  stored-late : toZ w32 (ofZ w32 late) ≡ pairs entry (k at) .late
+  unfolding pairs pairOf
+  stored-late =
+      toZ-ofZ w32 late (record { sfits = c .struct-told2 .given .1 .0 .1 })
+      ∙ c .before .before .pair-at .ensures .late-is
+      ∙ value-there placed (entry .args .latewood .now)
+
+mul-early : tie.Need-mul-early Inv-loop μ-loop
+mul-early c = omega (arith, room (at c), entry c .good)
+
+mul-early-2 : tie.Need-mul-early-2 Inv-loop μ-loop
+mul-early-2 c = omega (arith, room (at c), entry c .good)
+
+slice-set-from-early : tie.Need-slice-set-from-early Inv-loop μ-loop
+slice-set-from-early c = omega (arith, room (at c), turn (at c) .loop .inv .kept)
+
+mul-late : tie.Need-mul-late Inv-loop μ-loop
+mul-late c = omega (arith, room (at c), entry c .good)
+
+add-late : tie.Need-add-late Inv-loop μ-loop
+add-late c = omega (arith, room (at c), entry c .good)
+
+mul-late-2 : tie.Need-mul-late-2 Inv-loop μ-loop
+mul-late-2 c = omega (arith, room (at c), entry c .good)
+
+slice-set-from-late : tie.Need-slice-set-from-late Inv-loop μ-loop
+slice-set-from-late c = rw length-set (omega (arith, room (at c), turn (at c) .loop .inv .kept))
+
+add-k : tie.Need-add-k Inv-loop μ-loop
+add-k c = omega (arith, room (at c), entry c .good)
+
+loop-less : tie.Need-loop-less Inv-loop μ-loop
+loop-less c = omega arith
+
+loop-again : tie.Need-loop-again Inv-loop μ-loop
+unfolding pairs
+loop-again c =
+    let a = at c in
+    let s = entry c in
+    let n = near (placed c) in
+    let j = k a in
+    let v = toZ w32 (ofZ w32 (early c)) in
+    let w = toZ w32 (ofZ w32 (late c)) in
+    let vs = turn a .loop .values in
+    let before = sideBySide (tab j (pairs s)) ++ drop (2 * j) (s .args .values .now) in
+    record {
+      some = omega (arith, more a);
+      segment = segment-within _ _ _ (s .pre .legal) (x a) (within a) (n .segment-near .result) (found n);
+      kept = length-set (set vs (2 * j) v) (2 * j + 1) w ∙ length-set vs (2 * j) v ∙ turn a .loop .inv .kept;
+      written =
+          ap (λ (l : List ℤ). set (set l (2 * j) v) (2 * j + 1) w) (turn a .loop .inv .written)
+          ∙ ap₂ (λ (y z : ℤ). set (set before (2 * j) y) (2 * j + 1) z) (stored-early c) (stored-late c)
+          ∙ pairs-more (pairs s) j (s .args .values .now) (room a);
+    }
+
+same-length : tie.Need-same-length Inv-loop μ-loop
+same-length c = c .before .loop .inv .kept
+
+returns : tie.Need-returns Inv-loop μ-loop
+returns c =
+    let l = c .before .loop in
+    let a = c .before .before .before .before .args in
+    let ps = a .positions .now in
+    let f = pairOf (space (a .breaks .now) (a .degrees .now) (a .orders .now)) (a .earlywood .now) (a .latewood .now) in
+    let all : l .k ≡ length ps = omega (arith, l .inv .some) in
+    l .inv .written
+    ∙ ap (λ (k : ℕ). sideBySide (tab k (λ j. f (getD ps j (pos 0)))) ++ drop (2 * k) (a .values .now)) all
+    ∙ ap (λ (l : List Pair). sideBySide l ++ drop (2 * length ps) (a .values .now))
+    (sym (map-tab f (length ps) (λ j. getD ps j (pos 0))) ∙ ap (map f) (tab-self ps (pos 0)))
 
 pub write-values-spec : {M : Type 1} → statement M
-write-values-spec = tie.close (tie.spec first-columns-requires slice-aggregate-write-all write-all-requires same-length returns)
+write-values-spec =
+    tie.close
+    (tie.spec
+    Inv-loop
+    μ-loop
+    first-columns-requires
+    first-positions-requires
+    loop-holds
+    mul-x
+    shared-slice-copy-out-x
+    slice-aggregate-segment-near
+    segment-near-requires
+    slice-aggregate-place-at
+    place-at-requires
+    pair-at-requires
+    mul-early
+    mul-early-2
+    slice-set-from-early
+    mul-late
+    add-late
+    mul-late-2
+    slice-set-from-late
+    add-k
+    loop-less
+    loop-again
+    same-length
+    returns)

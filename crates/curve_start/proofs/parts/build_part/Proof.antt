@@ -9,7 +9,7 @@ use Rattle.spec_spline.specs.Space.{Space, columnCount, rowCount}
 use Rattle.spec_spline.specs.Table.{rowCells}
 use Rattle.theorems_beams.specs.Sections.{partAt}
 use Rattle.build_space.specs.Machine.{space}
-use Rattle.curve_ordinates.specs.Ordinates.{Weighs, Coefficients}
+use Rattle.curve_ordinates.specs.Ordinates.{Weighs, Coefficients, WeighedRows}
 use Rattle.curve_start.proofs.Part.{rowsFrom, middle-coefficients, part-after, part-within, beam-rows-few, part-columns-few, rows-told, weighs-rows, leaves-rows, leaves-refused}
 use Rattle.curve_start.proofs.parts.build_part.Statement.{statement}
 use Rattle.curve_start.proofs.parts.build_part.Tie as tie
@@ -125,6 +125,9 @@ module _ (c : tie.After-built2) where
   own-coefficients : Coefficients (rowsFrom row rows (entry .args .coefs .now)) rows
   own-coefficients = middle-coefficients (entry .args .coefs .now) (rowCount (lists entry)) row rows (entry .pre .coefficients) rows-within
 
+  own-rows : WeighedRows (done .build .last .1 .1 .1 .0) (done .build .last .1 .1 .1 .1 .0) (rowsFrom row rows (entry .args .coefs .now)) rows
+  own-rows = record { weights = weighed; coefficients = own-coefficients }
+
 mul-own : tie.Need-mul-own
 mul-own c = search needs
 
@@ -148,11 +151,11 @@ part-own-end c = let k = c .before in omega (arith, rows-within k, rows-few k, e
 
 ordinates-requires : tie.Need-ordinates-requires
 ordinates-requires c κs = let k = c .before .before .before .before .before in
-    (columns-fit (done k) (entry k .pre .early-long), (weighed k, own-coefficients k))
+    record { rows = own-rows k; columns-few = columns-fit (done k) (entry k .pre .early-long) }
 
 ordinates-requires-2 : tie.Need-ordinates-requires-2
 ordinates-requires-2 c κs = let k = c .before .before .before .before .before .before .before .before .before .before in
-    (columns-fit (done k) (entry k .pre .late-long), (weighed k, own-coefficients k))
+    record { rows = own-rows k; columns-few = columns-fit (done k) (entry k .pre .late-long) }
 
 same-length : tie.Need-same-length
 same-length c = search needs

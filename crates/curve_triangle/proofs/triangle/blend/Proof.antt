@@ -16,7 +16,7 @@ use Rattle.curve_triangle.proofs.triangle.blend.Tie as tie
 
 module _ (c : tie.Start) where
   rise-size : natAbs (c .args .h -ℤ c .args .g) ≤ 512000000
-  rise-size = rise-abs _ _ (c .args .g) (c .args .h) (c .pre .1 .1 .1 .1 .inside) (c .pre .0) (c .pre .1 .0)
+  rise-size = rise-abs _ _ (c .args .g) (c .args .h) (c .pre .rate .rated .inside) (c .pre .first-small) (c .pre .second-small)
 
   rise-fits : SFits w64 (c .args .h -ℤ c .args .g)
   rise-fits = sfits-abs (omega (arith, rise-size))
@@ -31,7 +31,7 @@ share-of-requires c κs =
     let k = c .fits .high in
     let l = c .fits .low in
     let m = rise-fits c in
-    simp toZ-ofZ (omega (arith, rise-size c), c .pre .1 .1)
+    simp toZ-ofZ (record { rise-small = omega (arith, rise-size c); rate = c .pre .rate })
 
 module _ (c : tie.After-share-of) where
   abbrev start : tie.Start
@@ -41,7 +41,8 @@ module _ (c : tie.After-share-of) where
   share = record { sfits = c .share-of .ok }
 
   -- the sum is the blend
-  is : (u d : ℤ) → Rated (start .args .high) (start .args .low) u d → start .args .g +ℤ c .share-of .result ≡ blend (natAbs d) u (start .args .g) (start .args .h)
+  is : (u d : ℤ) → Rated (start .args .high) (start .args .low) u d
+      → start .args .g +ℤ c .share-of .result ≡ blend (natAbs d) u (start .args .g) (start .args .h)
   is u d rated =
       let f = start .fits .h in
       let g = start .fits .g in
@@ -49,12 +50,13 @@ module _ (c : tie.After-share-of) where
       let l = start .fits .low in
       let m = rise-fits start in
       ap (λ (z : ℤ). start .args .g +ℤ z) ((simp toZ-ofZ at (c .share-of .ensures)) u d rated)
-      ∙ step-is u d (start .args .g) (start .args .h) (rated .inside) (start .pre .0) (start .pre .1 .0)
+      ∙ step-is u d (start .args .g) (start .args .h) (rated .inside) (start .pre .first-small) (start .pre .second-small)
 
   abs : natAbs (start .args .g +ℤ c .share-of .result) ≤ ordinateLimit
   abs =
-      let rated = start .pre .1 .1 .1 .1 in
-      subst (λ (z : ℤ). natAbs z ≤ ordinateLimit) (sym (is _ _ rated)) (step-abs _ _ (start .args .g) (start .args .h) (rated .inside) (start .pre .0) (start .pre .1 .0))
+      let rated = start .pre .rate .rated in
+      subst (λ (z : ℤ). natAbs z ≤ ordinateLimit) (sym (is _ _ rated))
+      (step-abs _ _ (start .args .g) (start .args .h) (rated .inside) (start .pre .first-small) (start .pre .second-small))
 
   sum-fits : SFits w64 (start .args .g +ℤ c .share-of .result)
   sum-fits = sfits-abs (omega (arith, abs))
@@ -63,7 +65,7 @@ add-result : tie.Need-add-result
 add-result c = let f = c .before .fits .g in let k = share c in simp toZ-ofZ (sum-fits c)
 
 returns : tie.Need-returns
-returns c = let f = c .before .fits .g in let k = share c in let l = sum-fits c in simp toZ-ofZ (is c, abs c)
+returns c = let f = c .before .fits .g in let k = share c in let l = sum-fits c in simp toZ-ofZ (record { is = is c; small = abs c })
 
 pub blend-spec : {M : Type 1} → statement M
 blend-spec = tie.close (tie.spec sub-share-of share-of-requires add-result returns)

@@ -17,7 +17,10 @@ use Rattle.curve_triangle.proofs.triangle.rate_of.Statement.{statement}
 use Rattle.curve_triangle.proofs.triangle.rate_of.Tie as tie
 
 scaled-requires : tie.Need-scaled-requires
-scaled-requires c κs = let f = c .fits .u in let g = c .fits .d in simp toZ-ofZ (c .pre, (≤-in (pos 0) (pos 8589934592) (omega arith), omega arith))
+scaled-requires c κs =
+    let f = c .fits .u in
+    let g = c .fits .d in
+    simp toZ-ofZ (record { inside = c .pre; above = ≤-in (pos 0) (pos 8589934592) (omega arith); small = omega arith })
 
 module _ (c : tie.After-scaled) where
   abbrev u : ℤ
@@ -64,7 +67,7 @@ scaled-requires-2 c κs =
     let k = fine-fits c in
     let l = back-fits c in
     let m = rest-fits c in
-    simp toZ-ofZ (rest-inside c, (≤-in (pos 0) (pos 131072) (omega arith), omega arith))
+    simp toZ-ofZ (record { inside = rest-inside c; above = ≤-in (pos 0) (pos 131072) (omega arith); small = omega arith })
 
 returns : tie.Need-returns
 returns c =

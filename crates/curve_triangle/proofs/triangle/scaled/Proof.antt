@@ -16,13 +16,15 @@ module _ (c : tie.Start) where
   product = c .args .v *ℤ c .args .k
 
   above : pos 0 ≤ℤ product
-  above = *-pos (c .args .v) (c .args .k) (c .pre .0 .above) (c .pre .1 .0)
+  above = *-pos (c .args .v) (c .args .k) (c .pre .inside .above) (c .pre .above)
 
   product-fits : SFits w64 product
-  product-fits = sfits-abs (omega (arith, abs-mul-le (c .args .v) (c .args .k) 512000 8589934592 (offset-abs (c .args .v) (c .args .d) (c .pre .0)) (c .pre .1 .1)))
+  product-fits =
+      let size = offset-abs (c .args .v) (c .args .d) (c .pre .inside) in
+      sfits-abs (omega (arith, abs-mul-le (c .args .v) (c .args .k) 512000 8589934592 size (c .pre .small)))
 
   quotient-fits : SFits w64 (quotZ product (c .args .d))
-  quotient-fits = sfits-le (quot-mag product (c .args .d) above (c .pre .0 .long)) product-fits
+  quotient-fits = sfits-le (quot-mag product (c .args .d) above (c .pre .inside .long)) product-fits
 
 mul-result : tie.Need-mul-result
 mul-result c = let f = c .fits .v in let g = c .fits .k in simp toZ-ofZ (product-fits c)
@@ -33,7 +35,7 @@ div-result c =
     let g = c .fits .k in
     let h = c .fits .d in
     let l = product-fits c in
-    (ofZ-pos w64 _ (c .pre .0 .long), simp toZ-ofZ (quotient-fits c))
+    (ofZ-pos w64 _ (c .pre .inside .long), simp toZ-ofZ (quotient-fits c))
 
 returns : tie.Need-returns
 returns c =
@@ -42,7 +44,7 @@ returns c =
     let h = c .fits .d in
     let l = product-fits c in
     let m = quotient-fits c in
-    simp toZ-ofZ (quot-floor (product c) (c .args .d) (above c) (c .pre .0 .long))
+    simp toZ-ofZ (quot-floor (product c) (c .args .d) (above c) (c .pre .inside .long))
 
 pub scaled-spec : {M : Type 1} → statement M
 scaled-spec = tie.close (tie.spec mul-result div-result returns)

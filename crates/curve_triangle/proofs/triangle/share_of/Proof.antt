@@ -20,7 +20,10 @@ carried-requires : tie.Need-carried-requires
 carried-requires c κs =
     let f = c .fits .rise in
     let g = c .fits .low in
-    simp toZ-ofZ (c .pre .0, low-abs (c .args .high) (c .args .low) _ _ (c .args .rise) (c .pre .1 .1 .1) (c .pre .0))
+    simp toZ-ofZ (record {
+      rise-small = c .pre .rise-small;
+      low-small = low-abs (c .args .high) (c .args .low) _ _ (c .args .rise) (c .pre .rate .rated) (c .pre .rise-small);
+    })
 
 module _ (c : tie.After-carried) where
   abbrev start : tie.Start
@@ -39,10 +42,11 @@ module _ (c : tie.After-carried) where
   part-is = let f = start .fits .rise in let g = start .fits .low in simp toZ-ofZ at (c .carried .ensures)
 
   whole-size : natAbs whole ≤ 536870912 * 8589934592
-  whole-size = whole-abs (start .args .high) (start .args .low) _ _ x (start .pre .1 .1 .1) (start .pre .0)
+  whole-size = whole-abs (start .args .high) (start .args .low) _ _ x (start .pre .rate .rated) (start .pre .rise-small)
 
   part-size : natAbs (c .carried .result) ≤ 536870912 * 131072
-  part-size = subst (λ (z : ℤ). natAbs z ≤ 536870912 * 131072) (sym part-is) (part-abs (start .args .high) (start .args .low) _ _ x (start .pre .1 .1 .1) (start .pre .0))
+  part-size = subst (λ (z : ℤ). natAbs z ≤ 536870912 * 131072) (sym part-is)
+      (part-abs (start .args .high) (start .args .low) _ _ x (start .pre .rate .rated) (start .pre .rise-small))
 
   whole-fits : SFits w64 whole
   whole-fits = sfits-abs (omega (arith, whole-size))
@@ -94,7 +98,7 @@ returns c u d rated =
     simp toZ-ofZ
     (sym (floorDiv-shrZ (whole c +ℤ c .carried .result +ℤ pos 4294971392) 8589934592)
     ∙ ap (λ (p : ℤ). floorDiv (whole c +ℤ p +ℤ pos 4294971392) 8589934592) (part-is c)
-    ∙ share-is (c .before .args .high) (c .before .args .low) u d (x c) rated (c .before .pre .0) 4294971392 (omega arith) (omega arith))
+    ∙ share-is (c .before .args .high) (c .before .args .low) u d (x c) rated (c .before .pre .rise-small) 4294971392 (omega arith) (omega arith))
 
 pub share-of-spec : {M : Type 1} → statement M
 share-of-spec =

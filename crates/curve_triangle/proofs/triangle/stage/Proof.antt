@@ -22,11 +22,16 @@ abbrev μ-loop : tie.MeasureT-loop
 μ-loop n high low r₀ k₀ r k = n - k
 
 loop-holds : tie.Need-loop-holds Inv-loop μ-loop
-loop-holds c = let l : length (c .args .o) ≡ 6 = search needs in (omega arith, λ u d rated. staged-none _ _ _ l (c .pre .1 .0))
+loop-holds c = let l : length (c .args .o) ≡ 6 = search needs in (omega arith, λ u d rated. staged-none _ _ _ l (c .pre .bounded))
 
 -- the offset whose rate is given, and what holds for it
-held : (c : tie.At-loop Inv-loop μ-loop) → Staged (natAbs (c .before .pre .1 .1 .1 .0)) (c .before .pre .1 .1 .0) (c .before .args .o) (c .loop .r) (c .loop .k)
-held c = let f = c .before .fits .high in let g = c .before .fits .low in c .loop .inv .1 (c .before .pre .1 .1 .0) (c .before .pre .1 .1 .1 .0) (simp toZ-ofZ (c .before .pre .1 .1 .1 .1))
+held : (c : tie.At-loop Inv-loop μ-loop) → let s = c .before in let r = s .pre .rate in
+    Staged (natAbs (r .width)) (r .offset) (s .args .o) (c .loop .r) (c .loop .k)
+held c =
+    let s = c .before in
+    let f = s .fits .high in
+    let g = s .fits .low in
+    c .loop .inv .1 (s .pre .rate .offset) (s .pre .rate .width) (simp toZ-ofZ (s .pre .rate .rated))
 
 mul-g : tie.Need-mul-g Inv-loop μ-loop
 mul-g c = omega arith
@@ -58,7 +63,7 @@ blend-requires c κs =
     let h = s .fits .high in
     let k = s .fits .low in
     let bounded = held (c .before .before .before) .bounded in
-    simp toZ-ofZ (bounded _, (bounded _, s .pre .1 .1))
+    simp toZ-ofZ (record { first-small = bounded _; second-small = bounded _; rate = s .pre .rate })
 
 mul-r : tie.Need-mul-r Inv-loop μ-loop
 mul-r c = omega arith
@@ -80,8 +85,9 @@ loop-again : tie.Need-loop-again Inv-loop μ-loop
 loop-again c = (
   omega arith,
   λ u d rated. staged-more _ _ _ _ _ _ (c .before .before .before .before .loop .inv .1 u d rated) (omega arith)
-      (stored c ∙ c .blend .ensures .0 u d rated ∙ ap₂ (blend _ _) (toZ-ofZ w64 _ (first-fits (c .before))) (toZ-ofZ w64 _ (second-fits (c .before))))
-      (rw (stored c) (c .blend .ensures .1)),
+      (stored c ∙ c .blend .ensures .is u d rated
+      ∙ ap₂ (blend _ _) (toZ-ofZ w64 _ (first-fits (c .before))) (toZ-ofZ w64 _ (second-fits (c .before))))
+      (rw (stored c) (c .blend .ensures .small)),
 )
 
 returns : tie.Need-returns Inv-loop μ-loop
@@ -89,7 +95,10 @@ returns c =
     let s = c .before .before in
     let f = s .fits .high in
     let g = s .fits .low in
-    (λ u d rated k h. c .before .loop .inv .1 u d (simp toZ-ofZ rated) .before k (omega arith), held (c .before) .bounded)
+    record {
+      is = λ u d rated k h. c .before .loop .inv .1 u d (simp toZ-ofZ rated) .before k (omega arith);
+      bounded = held (c .before) .bounded;
+    }
 
 pub stage-spec : {M : Type 1} → statement M
 stage-spec =

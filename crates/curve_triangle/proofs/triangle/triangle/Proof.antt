@@ -22,18 +22,24 @@ abbrev μ-loop : tie.MeasureT-loop
 μ-loop p high low r₀ n₀ r n = n
 
 loop-holds : tie.Need-loop-holds Inv-loop μ-loop
-loop-holds c = (omega arith, λ u d rated. rw (let e : c .args .p - c .args .p ≡ 0 = omega arith in e) (triangled-none _ _ _ (c .args .p) (c .pre .1 .0)))
+loop-holds c = (omega arith, λ u d rated. rw (let e : c .args .p - c .args .p ≡ 0 = omega arith in e) (triangled-none _ _ _ (c .args .p) (c .pre .bounded)))
 
 -- the offset whose rate is given, and what holds for it
-held : (c : tie.At-loop Inv-loop μ-loop) → Triangled (natAbs (c .before .pre .1 .1 .1 .0)) (c .before .pre .1 .1 .0) (c .before .args .o) (c .loop .r) (c .before .args .p - c .loop .n) (c .loop .n)
-held c = let f = c .before .fits .high in let g = c .before .fits .low in c .loop .inv .1 (c .before .pre .1 .1 .0) (c .before .pre .1 .1 .1 .0) (simp toZ-ofZ (c .before .pre .1 .1 .1 .1))
+held : (c : tie.At-loop Inv-loop μ-loop) → let s = c .before in let r = s .pre .rate in
+    Triangled (natAbs (r .width)) (r .offset) (s .args .o) (c .loop .r) (s .args .p - c .loop .n) (c .loop .n)
+held c =
+    let s = c .before in
+    let f = s .fits .high in
+    let g = s .fits .low in
+    c .loop .inv .1 (s .pre .rate .offset) (s .pre .rate .width) (simp toZ-ofZ (s .pre .rate .rated))
 
 stage-requires : tie.Need-stage-requires Inv-loop μ-loop
 stage-requires c κs =
     let s = c .before .before in
     let f = s .fits .high in
     let g = s .fits .low in
-    simp toZ-ofZ (let e : c .before .loop .n ≤ 5 = omega arith in e, (held (c .before) .bounded, s .pre .1 .1))
+    let few : c .before .loop .n ≤ 5 = omega (arith, s .pre .few) in
+    simp toZ-ofZ (record { few = few; bounded = held (c .before) .bounded; rate = s .pre .rate })
 
 sub-n : tie.Need-sub-n Inv-loop μ-loop
 sub-n c = omega arith
@@ -46,7 +52,11 @@ loop-again c =
     let l = c .before .before in
     let p = l .before .args .p in
     let n = l .loop .n in
-    (omega arith, λ u d rated. rw (let e : p - (n - 1) ≡ suc (p - n) = omega arith in e) (triangled-more _ _ _ _ _ _ _ (l .loop .inv .1 u d rated) (omega arith) (c .stage .ensures .0 u d rated) (c .stage .ensures .1)))
+    let one-more : p - (n - 1) ≡ suc (p - n) = omega arith in (
+      omega arith,
+      λ u d rated. rw one-more
+          (triangled-more _ _ _ _ _ _ _ (l .loop .inv .1 u d rated) (omega arith) (c .stage .ensures .is u d rated) (c .stage .ensures .bounded)),
+    )
 
 array-copy-out-result : tie.Need-array-copy-out-result Inv-loop μ-loop
 array-copy-out-result c = search needs
@@ -58,16 +68,21 @@ module _ (c : tie.After-result Inv-loop μ-loop) where
   first-fits : SFits w64 (getD (at-end .loop .r) 0 (pos 0))
   first-fits = sfits-abs (omega (arith, held at-end .bounded 0))
 
-  first-is : (u d : ℤ) → Rated (at-end .before .args .high) (at-end .before .args .low) u d → getD (at-end .loop .r) 0 (pos 0) ≡ triangle (natAbs d) u (λ k. getD (at-end .before .args .o) k (pos 0)) (at-end .before .args .p) 0
+  first-is : (u d : ℤ) → let a = at-end .before .args in Rated (a .high) (a .low) u d
+      → getD (at-end .loop .r) 0 (pos 0) ≡ triangle (natAbs d) u (λ k. getD (a .o) k (pos 0)) (a .p) 0
   first-is u d rated =
       let s = at-end .before in
       let f = s .fits .high in
       let g = s .fits .low in
+      let all : s .args .p - at-end .loop .n ≡ s .args .p = omega arith in
       at-end .loop .inv .1 u d (simp toZ-ofZ rated) .numbers 0 (omega arith)
-      ∙ ap (λ (n : ℕ). triangle (natAbs d) u (λ k. getD (s .args .o) k (pos 0)) n 0) (let e : s .args .p - at-end .loop .n ≡ s .args .p = omega arith in e)
+      ∙ ap (λ (n : ℕ). triangle (natAbs d) u (λ k. getD (s .args .o) k (pos 0)) n 0) all
 
 returns : tie.Need-returns Inv-loop μ-loop
-returns c = (λ u d rated. toZ-ofZ w64 _ (first-fits c) ∙ first-is c u d rated, rw (toZ-ofZ w64 _ (first-fits c)) (held (at-end c) .bounded 0))
+returns c = record {
+  is = λ u d rated. toZ-ofZ w64 _ (first-fits c) ∙ first-is c u d rated;
+  small = rw (toZ-ofZ w64 _ (first-fits c)) (held (at-end c) .bounded 0);
+}
 
 pub triangle-spec : {M : Type 1} → statement M
 triangle-spec = tie.close (tie.spec Inv-loop μ-loop loop-holds stage-requires sub-n loop-less loop-again array-copy-out-result returns)
