@@ -1,7 +1,7 @@
 // The engine for C and Rust: the public calls with their answers as a struct by value.
 ghost use mathlib.Core.Path.{_≡_};
 ghost use Rattle.build_space.specs.Machine.{space};
-ghost use Rattle.base_outcome.specs.Outcome.{answer, refusal};
+ghost use Rattle.base_outcome.specs.Outcome.{Outcome, answer, refusal};
 ghost use Rattle.spec_spline.specs.Build.{buildEnd};
 ghost use Rattle.theorems_recovery.specs.RecoveryCall.{recoveryEnd};
 ghost use Rattle.spec_spline.specs.Reading.{earlywood, latewood};
@@ -12,7 +12,7 @@ ghost use Rattle.curve_reach.specs.Reach.{reachEnd};
 ghost use Rattle.build.specs.Machine as weights;
 ghost use Rattle.curve_reach.specs.Machine.{reply};
 ghost use Rattle.curve_pieces.specs.Pieces as pieces;
-ghost use Rattle.curve_pieces.specs.Machine.{Shows};
+ghost use Rattle.curve_pieces.specs.Machine.{Shows, Replies};
 ghost use Rattle.walzhik_reply.specs.Machine.{replied};
 ghost use Rattle.walzhik.specs.Machine.{reached};
 ghost use Rattle.walzhik.specs.Piece.{Sent};
@@ -297,6 +297,16 @@ fn not_sent(code: u8, place: u32) -> Piece
     }
 }
 
+// The struct of what a piece call answers.
+fn piece_of(answer: curve_pieces::Answer) -> Piece
+    ensures { λ r. ⌜ ((o : Outcome pieces.Piece) → Replies answer o → Sent r o) ⌝ }
+{
+    match answer {
+        curve_pieces::Answer::Drawn(drawing) => sent(drawing),
+        curve_pieces::Answer::Refused(code, place) => not_sent(code, place),
+    }
+}
+
 // curve_pieces::piece of the earlywood.
 #[no_mangle]
 pub extern "C" fn walzhik_earlywood_piece(
@@ -322,10 +332,7 @@ pub extern "C" fn walzhik_earlywood_piece(
         num,
         den,
     );
-    match answer {
-        curve_pieces::Answer::Drawn(drawing) => sent(drawing),
-        curve_pieces::Answer::Refused(code, place) => not_sent(code, place),
-    }
+    piece_of(answer)
 }
 
 // curve_pieces::piece of the latewood.
@@ -353,8 +360,5 @@ pub extern "C" fn walzhik_latewood_piece(
         num,
         den,
     );
-    match answer {
-        curve_pieces::Answer::Drawn(drawing) => sent(drawing),
-        curve_pieces::Answer::Refused(code, place) => not_sent(code, place),
-    }
+    piece_of(answer)
 }
