@@ -23,7 +23,8 @@ module _ {o : Outcome CurveResult} where
     refused-values vs = sym (ap (λ x. valuesAfter x vs) e)
 
   -- the pairs of m positions
-  module _ {t : Table} {written : List Pair} {m : ℕ} (e : o ≡ answer (record { table = t; values = written })) (l : length written ≡ m) where
+  module _ {t : Table} {written : List Pair} {m : ℕ} (e : o ≡ answer (record { table = t; values = written }))
+      (l : length written ≡ m) where
     pub written-answers : reply (Values m) ≡ returned o
     unfolding reply
     written-answers = ap answer (sym l) ∙ sym (ap returned e)

@@ -30,13 +30,16 @@ coefficient-outside coefs = refl
 -- ---- entries that break no rule
 
 -- an entry within a limit on both sides has at most its size
-pub inside-size : (list : List ℤ) (limit i : ℕ) → outside list (negℤ (pos limit)) (pos limit) i ≡ false → natAbs (getD list i (pos 0)) ≤ limit
-inside-size list limit i e = let r = between-inverts (negℤ (pos limit)) (pos limit) (getD list i (pos 0)) e in abs-le-in (getD list i (pos 0)) limit (r .0) (r .1)
+pub inside-size : (list : List ℤ) (limit i : ℕ) → outside list (negℤ (pos limit)) (pos limit) i ≡ false
+    → natAbs (getD list i (pos 0)) ≤ limit
+inside-size list limit i e =
+    let r = between-inverts (negℤ (pos limit)) (pos limit) (getD list i (pos 0)) e in abs-le-in (getD list i (pos 0)) limit (r .0) (r .1)
 
 pub good-coefficient : (coefs : List ℤ) (i : ℕ) → badCoefficient coefs i ≡ false → natAbs (getD coefs i (pos 0)) ≤ coefficientLimit
 unfolding badCoefficient
 good-coefficient coefs i e = inside-size coefs coefficientLimit i e
 
-pub good-position : (s : Space) (positions : List ℤ) (i : ℕ) → badPosition s positions i ≡ false → (fine (break s 0) ≤ℤ getD positions i (pos 0)) × (getD positions i (pos 0) ≤ℤ fine (break s (segments s)))
+pub good-position : (s : Space) (positions : List ℤ) (i : ℕ) → badPosition s positions i ≡ false
+    → (fine (break s 0) ≤ℤ getD positions i (pos 0)) × (getD positions i (pos 0) ≤ℤ fine (break s (segments s)))
 unfolding badPosition
 good-position s positions i e = between-inverts (fine (break s 0)) (fine (break s (segments s))) (getD positions i (pos 0)) e

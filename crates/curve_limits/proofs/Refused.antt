@@ -27,7 +27,8 @@ module _ (s : Space) (coefs : List ℤ) where
   coefficients-count h = cond-false _ _ (ne-eqb _ _ h)
 
   module _ (h : length coefs ≡ 2 * rowCount s) where
-    pub coefficients-refused : {i : ℕ} → first (length coefs) (badCoefficient coefs) ≡ some i → coefficientsChecked s coefs ≡ refusal 6 (capped i)
+    pub coefficients-refused : {i : ℕ} → first (length coefs) (badCoefficient coefs) ≡ some i
+        → coefficientsChecked s coefs ≡ refusal 6 (capped i)
     unfolding coefficientsChecked
     coefficients-refused e = cond-true _ _ (eq-eqb _ _ h) ∙ ap (λ o. refuseFirst 6 o (answer tt)) e
 
@@ -38,7 +39,8 @@ module _ (s : Space) (coefs : List ℤ) where
 -- ---- code 7
 
 module _ (positions : List ℤ) (low high : ℤ) where
-  pub positions-refused : {i : ℕ} → first (length positions) (outside positions low high) ≡ some i → positionsChecked positions low high ≡ refusal 7 (capped i)
+  pub positions-refused : {i : ℕ} → first (length positions) (outside positions low high) ≡ some i
+      → positionsChecked positions low high ≡ refusal 7 (capped i)
   unfolding positionsChecked
   positions-refused e = ap (λ o. refuseFirst 7 o (answer tt)) e
 
@@ -51,7 +53,9 @@ module _ (positions : List ℤ) (low high : ℤ) where
 abbrev passed : Outcome (Unit {0})
 passed = answer tt
 
-chain : {A : Type 0} (rest : Outcome A) (b : Bool) (p q : Option ℕ) → cond b (refuseFirst 6 p (refuseFirst 7 q rest)) (refuse 6 largestPlace) ≡ (cond b (refuseFirst 6 p passed) (refuse 6 largestPlace) then λ _. (refuseFirst 7 q passed then λ _. rest))
+chain : {A : Type 0} (rest : Outcome A) (b : Bool) (p q : Option ℕ)
+    → cond b (refuseFirst 6 p (refuseFirst 7 q rest)) (refuse 6 largestPlace)
+    ≡ (cond b (refuseFirst 6 p passed) (refuse 6 largestPlace) then λ _. (refuseFirst 7 q passed then λ _. rest))
 chain rest true none none = refl
 chain rest true none (some i) = refl
 chain rest true (some i) q = refl
@@ -59,14 +63,20 @@ chain rest false p q = refl
 
 module _ (s : Space) (coefs positions : List ℤ) where
   -- the coefficients, then the positions
-  pub entries-chain : {A : Type 0} (rest : Outcome A) → legalEntries s coefs positions rest ≡ (coefficientsChecked s coefs then λ _. (positionsChecked positions (fine (break s 0)) (fine (break s (segments s))) then λ _. rest))
+  pub entries-chain : {A : Type 0} (rest : Outcome A)
+      → legalEntries s coefs positions rest ≡ (coefficientsChecked s coefs then
+      λ _. (positionsChecked positions (fine (break s 0)) (fine (break s (segments s))) then λ _. rest))
   unfolding coefficientsChecked positionsChecked badPosition
-  entries-chain rest = chain rest (eqb (length coefs) (2 * rowCount s)) (first (length coefs) (badCoefficient coefs)) (first (length positions) (badPosition s positions))
+  entries-chain rest =
+      chain rest (eqb (length coefs) (2 * rowCount s)) (first (length coefs) (badCoefficient coefs))
+      (first (length positions) (badPosition s positions))
 
 -- the breakpoints do not matter to the coefficients
 pub coefficients-partial : (b d o coefs : List ℤ) → coefficientsChecked (space [] d o) coefs ≡ coefficientsChecked (space b d o) coefs
 unfolding coefficientsChecked
-coefficients-partial b d o coefs = ap (λ n. cond (eqb (length coefs) (2 * n)) (refuseFirst 6 (first (length coefs) (badCoefficient coefs)) passed) (refuse 6 largestPlace)) (row-count-partial b d o)
+coefficients-partial b d o coefs =
+    ap (λ n. cond (eqb (length coefs) (2 * n)) (refuseFirst 6 (first (length coefs) (badCoefficient coefs)) passed)
+    (refuse 6 largestPlace)) (row-count-partial b d o)
 
 -- ---- all numbers of the check
 
@@ -81,6 +91,9 @@ module _ (s : Space) (coefs positions : List ℤ) where
     curve-positions h = cond-true _ _ fit ∙ cond-true _ _ (lt-ltb _ _ h)
 
     -- the lists, then the entries
-    pub curve-chain : length positions ≤ positionLimit → curveChecked s coefs positions ≡ (checked s then λ legal. legalEntries legal coefs positions (answer legal))
+    pub curve-chain : length positions ≤ positionLimit
+        → curveChecked s coefs positions ≡ (checked s then λ legal. legalEntries legal coefs positions (answer legal))
     unfolding curveChecked checked
-    curve-chain h = cond-true _ _ fit ∙ cond-false _ _ (le-ltb _ _ h) ∙ ap (λ o. o then λ legal. legalEntries legal coefs positions (answer legal)) (sym (cond-true _ _ fit))
+    curve-chain h =
+        cond-true _ _ fit ∙ cond-false _ _ (le-ltb _ _ h)
+        ∙ ap (λ o. o then λ legal. legalEntries legal coefs positions (answer legal)) (sym (cond-true _ _ fit))

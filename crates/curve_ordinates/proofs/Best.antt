@@ -35,12 +35,14 @@ unfolding best
 known-best p q passes a zero = refl
 known-best p q passes a (suc n) = go (passes n) refl (known-best p q passes a n)
   where
-    go : (b : Bool) → passes n ≡ b → known (best p n passes a) ≡ known (best q n passes a) → known (best p (suc n) passes a) ≡ known (best q (suc n) passes a)
+    go : (b : Bool) → passes n ≡ b → known (best p n passes a) ≡ known (best q n passes a)
+        → known (best p (suc n) passes a) ≡ known (best q (suc n) passes a)
     go true e ih = ap known (best-takes p passes a n e) ∙ sym (ap known (best-takes q passes a n e))
     go false e ih = ap known (best-skips p passes a n e) ∙ ih ∙ sym (ap known (best-skips q passes a n e))
 
 -- ---- the best of numbers within a bound is within it, also where there is none
-pub best-small : (prefers : ℤ → ℤ → Bool) (passes : ℕ → Bool) (a : ℕ → ℤ) (k : ℕ) → ((i : ℕ) → natAbs (a i) ≤ k) → (n : ℕ) → natAbs (Option·getD (best prefers n passes a) (pos 0)) ≤ k
+pub best-small : (prefers : ℤ → ℤ → Bool) (passes : ℕ → Bool) (a : ℕ → ℤ) (k : ℕ) → ((i : ℕ) → natAbs (a i) ≤ k) → (n : ℕ)
+    → natAbs (Option·getD (best prefers n passes a) (pos 0)) ≤ k
 unfolding best
 best-small prefers passes a k h zero = omega arith
 best-small prefers passes a k h (suc n) = go (passes n) refl (best-small prefers passes a k h n)
@@ -49,6 +51,7 @@ best-small prefers passes a k h (suc n) = go (passes n) refl (best-small prefers
     chosen none l = h n
     chosen (some y) l = elim (prefers y (a n)) as (λ b. natAbs (cond b y (a n)) ≤ k) [ true ↦ l | false ↦ h n ]
 
-    go : (b : Bool) → passes n ≡ b → natAbs (Option·getD (best prefers n passes a) (pos 0)) ≤ k → natAbs (Option·getD (best prefers (suc n) passes a) (pos 0)) ≤ k
+    go : (b : Bool) → passes n ≡ b → natAbs (Option·getD (best prefers n passes a) (pos 0)) ≤ k
+        → natAbs (Option·getD (best prefers (suc n) passes a) (pos 0)) ≤ k
     go true e ih = rw (best-takes prefers passes a n e) (chosen (best prefers n passes a) ih)
     go false e ih = rw (best-skips prefers passes a n e) ih

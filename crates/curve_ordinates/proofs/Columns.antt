@@ -27,9 +27,12 @@ unfolding termSum
 sum-zero t a c zero e = refl
 sum-zero t a c (suc n) e = go (hasWeight t c n) refl (sum-zero t a c n)
   where
-    go : (b : Bool) → hasWeight t c n ≡ b → (known (least n (hasWeight t c) a) ≡ false → termSum t a c n ≡ pos 0) → termSum t a c (suc n) ≡ pos 0
+    go : (b : Bool) → hasWeight t c n ≡ b → (known (least n (hasWeight t c) a) ≡ false → termSum t a c n ≡ pos 0)
+        → termSum t a c (suc n) ≡ pos 0
     go true w ih = absurd (true-not-false (ap known (best-takes leZ (hasWeight t c) a n w)) e)
-    go false w ih = ap (λ x. termSum t a c n +ℤ x) (cond-false (term (cell t n c) (a n)) (pos 0) w) ∙ +-zero (termSum t a c n) ∙ ih (sym (ap known (best-skips leZ (hasWeight t c) a n w)) ∙ e)
+    go false w ih =
+        ap (λ x. termSum t a c n +ℤ x) (cond-false (term (cell t n c) (a n)) (pos 0) w) ∙ +-zero (termSum t a c n)
+        ∙ ih (sym (ap known (best-skips leZ (hasWeight t c) a n w)) ∙ e)
 
 -- ---- an ordinate from its column's terms
 
@@ -37,11 +40,13 @@ module _ (t : Table) (a : ℕ → ℤ) (c : ℕ) where
   abbrev terms : Terms
   terms = termsOf t a c (length t)
 
-  pub limits-terms : atMost (given (terms .some) (terms .greatest)) (atLeast (given (terms .some) (terms .least)) (terms .sum)) ≡ ordinate t a c
+  pub limits-terms : atMost (given (terms .some) (terms .greatest)) (atLeast (given (terms .some) (terms .least)) (terms .sum))
+      ≡ ordinate t a c
   unfolding termsOf ordinate
   limits-terms =
       ap₂ (λ g l. atMost g (atLeast l (termSum t a c (length t))))
-      (ap (λ k. given k (Option·getD (greatest (length t) (hasWeight t c) a) (pos 0))) (known-best leZ (λ y z. leZ z y) (hasWeight t c) a (length t)) ∙ given-known (greatest (length t) (hasWeight t c) a))
+      (ap (λ k. given k (Option·getD (greatest (length t) (hasWeight t c) a) (pos 0)))
+      (known-best leZ (λ y z. leZ z y) (hasWeight t c) a (length t)) ∙ given-known (greatest (length t) (hasWeight t c) a))
       (given-known (least (length t) (hasWeight t c) a))
 
 module _ (t : Table) (a : ℕ → ℤ) (small : (i : ℕ) → natAbs (a i) ≤ 1000000) (c n : ℕ) where
@@ -54,9 +59,12 @@ module _ (t : Table) (a : ℕ → ℤ) (small : (i : ℕ) → natAbs (a i) ≤ 1
   terms-greatest = best-small (λ y z. leZ z y) (hasWeight t c) a 1000000 small n
 
   -- the terms within their limits
-  pub terms-abs : natAbs (atMost (given (termsOf t a c n .some) (termsOf t a c n .greatest)) (atLeast (given (termsOf t a c n .some) (termsOf t a c n .least)) (termsOf t a c n .sum))) ≤ ordinateLimit
+  pub terms-abs : natAbs (atMost (given (termsOf t a c n .some) (termsOf t a c n .greatest))
+      (atLeast (given (termsOf t a c n .some) (termsOf t a c n .least)) (termsOf t a c n .sum))) ≤ ordinateLimit
   unfolding termsOf
-  terms-abs = limits-abs (termsOf t a c n .some) (termsOf t a c n .sum) (termsOf t a c n .least) (termsOf t a c n .greatest) terms-least terms-greatest (sum-zero t a c n)
+  terms-abs =
+      limits-abs (termsOf t a c n .some) (termsOf t a c n .sum) (termsOf t a c n .least) (termsOf t a c n .greatest) terms-least
+      terms-greatest (sum-zero t a c n)
 
 -- a number within the limit stored among others keeps them within it
 pub bounded-set : (r : List ℤ) (k : ℕ) (v : ℤ) → Bounded r → natAbs v ≤ ordinateLimit → k < length r → Bounded (set r k v)

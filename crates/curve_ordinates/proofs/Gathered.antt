@@ -62,15 +62,21 @@ module _ (t : Table) (a : ℕ → ℤ) (c : ℕ) where
     greatest = ap (λ o. Option·getD o (pos 0)) (sym (best-skips (λ y x. leZ x y) (hasWeight t c) a n e)) z;
   }
 
-  pub terms-more : (n : ℕ) (before after : Terms) → hasWeight t c n ≡ true → before ≡ termsOf t a c n → Added before (a n) ((cell t n c) .num) (pos (Rational.den (cell t n c))) after → after ≡ termsOf t a c (suc n)
+  pub terms-more : (n : ℕ) (before after : Terms) → hasWeight t c n ≡ true → before ≡ termsOf t a c n
+      → Added before (a n) ((cell t n c) .num) (pos (Rational.den (cell t n c))) after → after ≡ termsOf t a c (suc n)
   unfolding termsOf termSum term
   terms-more n before after e b m = λ z. record {
     some = (m .is-some ∙ sym (ap known (best-takes leZ (hasWeight t c) a n e))) z;
-    sum = (m .is-sum ∙ ap (λ x. x .sum +ℤ term (cell t n c) (a n)) b ∙ sym (ap (λ x. termSum t a c n +ℤ x) (cond-true (term (cell t n c) (a n)) (pos 0) e))) z;
-    least = (m .is-least ∙ ap (λ x. preferred leZ (given (x .some) (x .least)) (a n)) b ∙ ap (λ o. preferred leZ o (a n)) (given-known (least n (hasWeight t c) a)) ∙ sym (ap (λ o. Option·getD o (pos 0)) (best-takes leZ (hasWeight t c) a n e))) z;
+    sum = (m .is-sum ∙ ap (λ x. x .sum +ℤ term (cell t n c) (a n)) b
+        ∙ sym (ap (λ x. termSum t a c n +ℤ x) (cond-true (term (cell t n c) (a n)) (pos 0) e))) z;
+    least = (m .is-least ∙ ap (λ x. preferred leZ (given (x .some) (x .least)) (a n)) b
+        ∙ ap (λ o. preferred leZ o (a n)) (given-known (least n (hasWeight t c) a))
+        ∙ sym (ap (λ o. Option·getD o (pos 0)) (best-takes leZ (hasWeight t c) a n e))) z;
     greatest = (m .is-greatest ∙ ap (λ x. preferred (λ y w. leZ w y) (given (x .some) (x .greatest)) (a n)) b
-        ∙ ap (λ k. preferred (λ y w. leZ w y) (given k (Option·getD (greatest n (hasWeight t c) a) (pos 0))) (a n)) (known-best leZ (λ y w. leZ w y) (hasWeight t c) a n)
-        ∙ ap (λ o. preferred (λ y w. leZ w y) o (a n)) (given-known (greatest n (hasWeight t c) a)) ∙ sym (ap (λ o. Option·getD o (pos 0)) (best-takes (λ y x. leZ x y) (hasWeight t c) a n e))) z;
+        ∙ ap (λ k. preferred (λ y w. leZ w y) (given k (Option·getD (greatest n (hasWeight t c) a) (pos 0))) (a n))
+        (known-best leZ (λ y w. leZ w y) (hasWeight t c) a n)
+        ∙ ap (λ o. preferred (λ y w. leZ w y) o (a n)) (given-known (greatest n (hasWeight t c) a))
+        ∙ sym (ap (λ o. Option·getD o (pos 0)) (best-takes (λ y x. leZ x y) (hasWeight t c) a n e))) z;
   }
 
 -- ---- the first rows of the buffers
@@ -92,8 +98,15 @@ module _ (num den : List ℤ) (a : ℕ → ℤ) (c : ℕ) where
     }
 
     -- a cell of another number
-    pub gathered-more : (after : Terms) → getD num (72 * i + c) (pos 0) ≢ pos 0 → Added all (a i) (getD num (72 * i + c) (pos 0)) (getD den (72 * i + c) (pos 0)) after → Gathered after (i + 1)
+    pub gathered-more : (after : Terms) → getD num (72 * i + c) (pos 0) ≢ pos 0
+        → Added all (a i) (getD num (72 * i + c) (pos 0)) (getD den (72 * i + c) (pos 0)) after → Gathered after (i + 1)
     gathered-more after e m = record {
-      is = λ t h. terms-more t a c i all after (weighted t c i (λ z. e (cell-num h i c k l ∙ z))) (g .is t h) (rw (cell-num h i c k l, cell-den h i c k l) at m) ∙ ap (termsOf t a c) (sym (add-one i));
-      small = rw (m .is-sum) (omega (arith, g .small, m .small, abs-add (all .sum) (rounded (fine (a i) *ℤ getD num (72 * i + c) (pos 0)) (natAbs (getD den (72 * i + c) (pos 0))))));
+      is = λ t h. terms-more t a c i all after (weighted t c i (λ z. e (cell-num h i c k l ∙ z))) (g .is t h)
+          (rw (cell-num h i c k l, cell-den h i c k l) at m) ∙ ap (termsOf t a c) (sym (add-one i));
+      small = rw (m .is-sum) (omega (
+        arith,
+        g .small,
+        m .small,
+        abs-add (all .sum) (rounded (fine (a i) *ℤ getD num (72 * i + c) (pos 0)) (natAbs (getD den (72 * i + c) (pos 0)))),
+      ));
     }

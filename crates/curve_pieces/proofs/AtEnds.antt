@@ -38,7 +38,8 @@ module _ (d : ℕ) (positive : 0 < d) where
   all-left : (e : ℕ → ℚ) (n k : ℕ) → exactTriangle (int (pos 1)) (int (pos 0)) e n k ≡ e k
   unfolding exactTriangle
   all-left e zero k = refl
-  all-left e (suc n) k = first (exactTriangle (int (pos 1)) (int (pos 0)) e n k) (exactTriangle (int (pos 1)) (int (pos 0)) e n (suc k)) ∙ all-left e n k
+  all-left e (suc n) k =
+      first (exactTriangle (int (pos 1)) (int (pos 0)) e n k) (exactTriangle (int (pos 1)) (int (pos 0)) e n (suc k)) ∙ all-left e n k
     where
       first : (x y : ℚ) → int (pos 1) *ᵠ x +ᵠ int (pos 0) *ᵠ y ≡ x
       first x y = ring ℚ-ring (x ∷ y ∷ []) (search readsℚ) (search readsℚ) refl
@@ -46,7 +47,9 @@ module _ (d : ℕ) (positive : 0 < d) where
   all-right : (e : ℕ → ℚ) (n k : ℕ) → exactTriangle (int (pos 0)) (int (pos 1)) e n k ≡ e (k + n)
   unfolding exactTriangle
   all-right e zero k = ap e (let z : k ≡ k + 0 = omega arith in z)
-  all-right e (suc n) k = second (exactTriangle (int (pos 0)) (int (pos 1)) e n k) (exactTriangle (int (pos 0)) (int (pos 1)) e n (suc k)) ∙ all-right e n (suc k) ∙ ap e (let z : suc k + n ≡ k + suc n = omega arith in z)
+  all-right e (suc n) k =
+      second (exactTriangle (int (pos 0)) (int (pos 1)) e n k) (exactTriangle (int (pos 0)) (int (pos 1)) e n (suc k))
+      ∙ all-right e n (suc k) ∙ ap e (let z : suc k + n ≡ k + suc n = omega arith in z)
     where
       second : (x y : ℚ) → int (pos 0) *ᵠ x +ᵠ int (pos 1) *ᵠ y ≡ y
       second x y = ring ℚ-ring (x ∷ y ∷ []) (search readsℚ) (search readsℚ) refl
@@ -55,7 +58,8 @@ module _ (d : ℕ) (positive : 0 < d) where
   exactTriangle-start e n = ap₂ (λ α β. exactTriangle α β e n 0) left-at-start right-at-start ∙ all-left e n 0
 
   pub exactTriangle-end : (e : ℕ → ℚ) (n : ℕ) → exactTriangle (leftFactor d (pos d)) (rightFactor d (pos d)) e n 0 ≡ e n
-  exactTriangle-end e n = ap₂ (λ α β. exactTriangle α β e n 0) left-at-end whole ∙ all-right e n 0 ∙ ap e (let z : 0 + n ≡ n = omega arith in z)
+  exactTriangle-end e n =
+      ap₂ (λ α β. exactTriangle α β e n 0) left-at-end whole ∙ all-right e n 0 ∙ ap e (let z : 0 + n ≡ n = omega arith in z)
 
   -- ---- the rounded triangle
 
@@ -81,7 +85,9 @@ module _ (d : ℕ) (positive : 0 < d) where
   pub triangle-end : (g : ℕ → ℤ) (n k : ℕ) → triangle d (pos d) g n k ≡ g (k + n)
   unfolding triangle
   triangle-end g zero k = ap g (let z : k ≡ k + 0 = omega arith in z)
-  triangle-end g (suc n) k = blend-end (triangle d (pos d) g n k) (triangle d (pos d) g n (suc k)) ∙ triangle-end g n (suc k) ∙ ap g (let z : suc k + n ≡ k + suc n = omega arith in z)
+  triangle-end g (suc n) k =
+      blend-end (triangle d (pos d) g n k) (triangle d (pos d) g n (suc k)) ∙ triangle-end g n (suc k)
+      ∙ ap g (let z : suc k + n ≡ k + suc n = omega arith in z)
 
 -- ---- two exact triangles
 

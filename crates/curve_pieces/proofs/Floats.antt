@@ -29,15 +29,25 @@ scale-is = refl
 
 -- n / 256 has a float, so rounding leaves it
 rounds-to-itself : (s : Bool) (n : ℕ) → n < 2 ^ 53 → HasValue (round binary64 s n 256) s n 256
-rounds-to-itself s n h = round-exact binary64 s n 256 n 1066 (lit< tt) h (lt-of-lt-of-le (shl-lt 53 1066 h) (lit≤ tt)) (sym (mul-assoc n (2 ^ 1066) 256))
+rounds-to-itself s n h =
+    round-exact binary64 s n 256 n 1066 (lit< tt) h (lt-of-lt-of-le (shl-lt 53 1066 h) (lit≤ tt)) (sym (mul-assoc n (2 ^ 1066) 256))
 
 -- the product is that quotient, rounded
-product-rounds : (s : Bool) (m n : ℕ) (e : ℤ) → m * up e * 1 ≡ n * down e → round binary64 s (m * up e * (1 * 1)) (down e * 256) ≡ round binary64 s n 256
-product-rounds s m n e h = round-same binary64 s (m * up e * (1 * 1)) (down e * 256) n 256 (mul-pos (down-pos e) (lit< tt)) (lit< tt) (ap (λ (x : ℕ). x * 256) h ∙ mul-assoc n (down e) 256)
+product-rounds : (s : Bool) (m n : ℕ) (e : ℤ) → m * up e * 1 ≡ n * down e
+    → round binary64 s (m * up e * (1 * 1)) (down e * 256) ≡ round binary64 s n 256
+product-rounds s m n e h =
+    round-same binary64 s (m * up e * (1 * 1)) (down e * 256) n 256 (mul-pos (down-pos e) (lit< tt)) (lit< tt)
+    (ap (λ (x : ℕ). x * 256) h ∙ mul-assoc n (down e) 256)
 
 pub scaled-is : (x : Float) (s : Bool) (n : ℕ) → n < 2 ^ 53 → HasValue x s n 1 → HasValue (mul binary64 x (fin false 1 (negsuc 7))) s n 256
 unfolding mul
 scaled-is nan s n h v = v
 scaled-is (inf t) s n h v = v
-scaled-is (fin true m e) s n h v = subst (λ (y : Float). HasValue y s n 256) (sym (ap (λ (t : Bool). round binary64 t (m * up e * (1 * 1)) (down e * 256)) (v .0) ∙ product-rounds s m n e (v .1))) (rounds-to-itself s n h)
-scaled-is (fin false m e) s n h v = subst (λ (y : Float). HasValue y s n 256) (sym (ap (λ (t : Bool). round binary64 t (m * up e * (1 * 1)) (down e * 256)) (v .0) ∙ product-rounds s m n e (v .1))) (rounds-to-itself s n h)
+scaled-is (fin true m e) s n h v =
+    subst (λ (y : Float). HasValue y s n 256)
+    (sym (ap (λ (t : Bool). round binary64 t (m * up e * (1 * 1)) (down e * 256)) (v .0) ∙ product-rounds s m n e (v .1)))
+    (rounds-to-itself s n h)
+scaled-is (fin false m e) s n h v =
+    subst (λ (y : Float). HasValue y s n 256)
+    (sym (ap (λ (t : Bool). round binary64 t (m * up e * (1 * 1)) (down e * 256)) (v .0) ∙ product-rounds s m n e (v .1)))
+    (rounds-to-itself s n h)

@@ -40,15 +40,18 @@ module _ (os : List ℤ) (c d : ℕ) where
   counted : {n : ℕ} {xs : List Float} → d ≡ n → Each fineness xs (tab (suc n) local) → Each fineness xs (tab (1 + d) local)
   counted {n} {xs} e h = subst (λ m. Each fineness xs (tab m local)) (let z : suc n ≡ 1 + d = omega arith in z) h
 
-  pub line-held : {x y : Float} → d ≡ 1 → Is x (getD os c (pos 0)) fineness → Is y (local 1) fineness → Each fineness (x ∷ y ∷ []) (tab (1 + d) local)
+  pub line-held : {x y : Float} → d ≡ 1 → Is x (getD os c (pos 0)) fineness → Is y (local 1) fineness
+      → Each fineness (x ∷ y ∷ []) (tab (1 + d) local)
   unfolding tab
   line-held {x} e p q = counted e (more (here x p) (more q none))
 
-  pub quadratic-held : {x y z : Float} → d ≡ 2 → Is x (getD os c (pos 0)) fineness → Is y (local 1) fineness → Is z (local 2) fineness → Each fineness (x ∷ y ∷ z ∷ []) (tab (1 + d) local)
+  pub quadratic-held : {x y z : Float} → d ≡ 2 → Is x (getD os c (pos 0)) fineness → Is y (local 1) fineness → Is z (local 2) fineness
+      → Each fineness (x ∷ y ∷ z ∷ []) (tab (1 + d) local)
   unfolding tab
   quadratic-held {x} e p q r = counted e (more (here x p) (more q (more r none)))
 
-  pub cubic-held : {x y z w : Float} → d ≡ 3 → Is x (getD os c (pos 0)) fineness → Is y (local 1) fineness → Is z (local 2) fineness → Is w (local 3) fineness → Each fineness (x ∷ y ∷ z ∷ w ∷ []) (tab (1 + d) local)
+  pub cubic-held : {x y z w : Float} → d ≡ 3 → Is x (getD os c (pos 0)) fineness → Is y (local 1) fineness → Is z (local 2) fineness
+      → Is w (local 3) fineness → Each fineness (x ∷ y ∷ z ∷ w ∷ []) (tab (1 + d) local)
   unfolding tab
   cubic-held {x} e p q r t = counted e (more (here x p) (more q (more r (more t none))))
 
@@ -68,7 +71,9 @@ module _ (s : Space) (os : List ℤ) (k : ℕ) where
   too-high h l = rw (lt-ltb k (segments s) h) (lt-leb (degree s k) drawableDegree l)
 
   not-drawn : k ≤ largestPlace → isDrawable s k ≡ false → Replies (Refused 17 k) (drawnHeld s os k)
-  not-drawn h e = subst (Replies (Refused 17 k)) (ap (refusal 17) (sym (capped-small k h)) ∙ sym (cond-false (answer (pieceHeld s os k)) (refuse 17 k) e)) refused
+  not-drawn h e =
+      subst (Replies (Refused 17 k)) (ap (refusal 17) (sym (capped-small k h))
+      ∙ sym (cond-false (answer (pieceHeld s os k)) (refuse 17 k) e)) refused
 
   pub missing-replies : k ≤ largestPlace → segments s ≤ k → Replies (Refused 17 k) (drawnHeld s os k)
   missing-replies h l = not-drawn h (missing l)
@@ -76,7 +81,8 @@ module _ (s : Space) (os : List ℤ) (k : ℕ) where
   pub high-replies : k ≤ largestPlace → k < segments s → drawableDegree < degree s k → Replies (Refused 17 k) (drawnHeld s os k)
   high-replies h l m = not-drawn h (too-high l m)
 
-  pub drawn-replies : {r : Drawing} → k < segments s → degree s k ≤ drawableDegree → Shows r (pieceHeld s os k) → Replies (Drawn r) (drawnHeld s os k)
+  pub drawn-replies : {r : Drawing} → k < segments s → degree s k ≤ drawableDegree → Shows r (pieceHeld s os k)
+      → Replies (Drawn r) (drawnHeld s os k)
   drawn-replies {r} h l p = subst (Replies (Drawn r)) (sym (cond-true (answer (pieceHeld s os k)) (refuse 17 k) (drawable h l))) (drawn p)
 
 -- ---- the piece of the definition
@@ -92,7 +98,8 @@ module _ (s : Space) (t : Table) (wood : Wood) (coefs rest : List ℤ) (k : ℕ)
   unfolding ordinates
   column-held h i l =
       let c = segment-column s k i h (omega arith) in
-      List·getD-append (ordinates s t (coefficient wood coefs)) rest (pos 0) (firstColumn s k + i) (rw (ordinates-length s t (coefficient wood coefs)) c)
+      List·getD-append (ordinates s t (coefficient wood coefs)) rest (pos 0) (firstColumn s k + i)
+      (rw (ordinates-length s t (coefficient wood coefs)) c)
       ∙ tab-getD (columnCount s) own (firstColumn s k + i) (pos 0) c
 
   held-is : k < segments s → pieceHeld s all k ≡ pieceOf s t wood coefs k
@@ -109,12 +116,17 @@ module _ (s : Space) (t : Table) (wood : Wood) (coefs rest : List ℤ) (k : ℕ)
 -- ---- the call's outcome
 
 module _ (s : Space) (wood : Wood) (coefs : List ℤ) (k numLength denLength : ℕ) where
-  pub piece-refused : {code place : ℕ} → curveAlone s coefs numLength denLength ≡ refusal code place → Replies (Refused code place) (pieceOutcome s wood coefs k numLength denLength)
+  pub piece-refused : {code place : ℕ} → curveAlone s coefs numLength denLength ≡ refusal code place
+      → Replies (Refused code place) (pieceOutcome s wood coefs k numLength denLength)
   unfolding pieceOutcome
-  piece-refused {code} {place} e = subst (Replies (Refused code place)) (sym (then-refuses (λ r. cond (isDrawable s k) (answer (pieceOf s (r .table) wood coefs k)) (refuse 17 k)) e)) refused
+  piece-refused {code} {place} e =
+      subst (Replies (Refused code place)) (sym
+      (then-refuses (λ r. cond (isDrawable s k) (answer (pieceOf s (r .table) wood coefs k)) (refuse 17 k)) e)) refused
 
-  pub piece-drawn : {a : Answer} {os : List ℤ} (rest : List ℤ) (c : CurveResult) → curveAlone s coefs numLength denLength ≡ answer c → os ≡ ordinates s (c .table) (coefficient wood coefs) ++ rest
+  pub piece-drawn : {a : Answer} {os : List ℤ} (rest : List ℤ) (c : CurveResult) → curveAlone s coefs numLength denLength ≡ answer c
+      → os ≡ ordinates s (c .table) (coefficient wood coefs) ++ rest
       → Replies a (drawnHeld s os k) → Replies a (pieceOutcome s wood coefs k numLength denLength)
   unfolding pieceOutcome
   piece-drawn {a} rest c e o r = subst (Replies a)
-      (ap (λ os. drawnHeld s os k) o ∙ drawn-is s (c .table) wood coefs rest k ∙ sym (then-answers (λ r. cond (isDrawable s k) (answer (pieceOf s (r .table) wood coefs k)) (refuse 17 k)) e)) r
+      (ap (λ os. drawnHeld s os k) o ∙ drawn-is s (c .table) wood coefs rest k
+      ∙ sym (then-answers (λ r. cond (isDrawable s k) (answer (pieceOf s (r .table) wood coefs k)) (refuse 17 k)) e)) r

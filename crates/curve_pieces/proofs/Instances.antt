@@ -16,13 +16,15 @@ use Rattle.base_exact.specs.Tabulate.{tab}
 use Rattle.base_fraction.specs.Size.{fits}
 use Rattle.base_outcome.specs.Outcome.{answer, refusal, capped, collect, repeat}
 use Rattle.base_outcome.specs.Search.{first, last, howMany}
-use Rattle.spec_spline.specs.Space.{Space, lengthsFit, badBreak, startsPart, partEnd, spanTooLong, tooManySegments, badDegree, badOrder, checkedEntries, checked, firstColumn, conditionsBefore}
+use Rattle.spec_spline.specs.Space.{Space, lengthsFit, badBreak, startsPart, partEnd, spanTooLong, tooManySegments, badDegree, badOrder}
+use Rattle.spec_spline.specs.Space.{checkedEntries, checked, firstColumn, conditionsBefore}
 use Rattle.spec_spline.specs.Conditions.{falling, binomial, alternating, undivided, commonDivisor, conditions}
 use Rattle.spec_spline.specs.Table.{identity}
 use Rattle.spec_spline.specs.Step.{count, addProducts, span, partialSum, quotientFactor, factors, newEntry, newRows, step}
 use Rattle.spec_spline.specs.Build.{orderSteps, joinSteps, weights}
 use Rattle.spec_spline.specs.Piecewise.{Accepted}
-use Rattle.spec_spline.specs.Reading.{startsAtDiscontinuity, startsBy, segmentAt, Wood, earlywood, latewood, sideBySide, rounded, term, termSum, best, ordinate, ordinates, blend, triangle, blended, valueAt, values}
+use Rattle.spec_spline.specs.Reading.{startsAtDiscontinuity, startsBy, segmentAt, Wood, earlywood, latewood, sideBySide, rounded, term}
+use Rattle.spec_spline.specs.Reading.{termSum, best, ordinate, ordinates, blend, triangle, blended, valueAt, values}
 use Rattle.spec_spline.specs.CurveCall.{badCoefficient, badPosition, curveChecked, curveRead, curveOutcome}
 use Rattle.spec_spline.specs.Cases.{pair, forBoth, space1, space9, lowerLimitSpace}
 use Rattle.spec_spline.specs.ExactCurve.{power, bernsteinAt, exactTerm, exactOn, exactCurve, largest, mostWeights}
@@ -34,7 +36,8 @@ use Rattle.curve_pieces.proofs.PieceCurve.{pieces-are-close, pieces-end
 
 -- What the statements say for numbers that were computed with a table of the same space.
 module _ {s : Space} {wood : Wood} {coefs : List ℤ} {p : Piece} {k : ℕ} {x : ℤ} (a : Accepted s) where
-  within-numbers : {f q h : ℚ} → WithinHalfTheWeights s wood coefs p k x → exactCurve s (a .table) wood coefs x ≡ f → polynomialAt s p k x ≡ q → halfTheWeights s (a .table) k ≡ h
+  within-numbers : {f q h : ℚ} → WithinHalfTheWeights s wood coefs p k x → exactCurve s (a .table) wood coefs x ≡ f
+      → polynomialAt s p k x ≡ q → halfTheWeights s (a .table) k ≡ h
       → (f ≤ᵠ q +ᵠ h) × (q ≤ᵠ f +ᵠ h)
   within-numbers {f} {q} w e g b =
       let t = answer-unique (w .accepted .is) (a .is) in
@@ -55,21 +58,33 @@ abbrev first1 : Piece
 first1 = record { ordinates = pos 0 ∷ pos 25600 ∷ pos 17067 ∷ []; start = pos 0; end = pos 1 }
 
 first-drawn1 : pieceOutcome space1 earlywood coefs1 0 5184 5184 ≡ answer first1
-unfolding gcd gcdF mk int inv _+ᵠ_ _*ᵠ_ -ᵠ_ isZero ltᵠ nearest sum tab fits capped collect repeat first last lengthsFit badBreak startsPart partEnd spanTooLong tooManySegments badDegree badOrder checkedEntries checked firstColumn conditionsBefore falling binomial alternating undivided commonDivisor conditions identity count addProducts span partialSum quotientFactor factors newEntry newRows step orderSteps joinSteps weights sideBySide rounded term termSum best ordinate values badCoefficient badPosition curveChecked curveRead curveOutcome isDrawable pieceOf pieceOutcome
+unfolding gcd gcdF mk int inv _+ᵠ_ _*ᵠ_ -ᵠ_ isZero ltᵠ nearest sum tab fits capped collect repeat first last lengthsFit badBreak
+    startsPart partEnd spanTooLong tooManySegments badDegree badOrder checkedEntries checked firstColumn conditionsBefore falling binomial
+    alternating undivided commonDivisor conditions identity count addProducts span partialSum quotientFactor factors newEntry newRows step
+    orderSteps joinSteps weights sideBySide rounded term termSum best ordinate values badCoefficient badPosition curveChecked curveRead
+    curveOutcome isDrawable pieceOf pieceOutcome
 first-drawn1 = refl
 
 abbrev second1 : Piece
 second1 = record { ordinates = pos 17067 ∷ pos 0 ∷ pos 0 ∷ []; start = pos 1; end = pos 3 }
 
 second-drawn1 : pieceOutcome space1 earlywood coefs1 1 5184 5184 ≡ answer second1
-unfolding gcd gcdF mk int inv _+ᵠ_ _*ᵠ_ -ᵠ_ isZero ltᵠ nearest sum tab fits capped collect repeat first last lengthsFit badBreak startsPart partEnd spanTooLong tooManySegments badDegree badOrder checkedEntries checked firstColumn conditionsBefore falling binomial alternating undivided commonDivisor conditions identity count addProducts span partialSum quotientFactor factors newEntry newRows step orderSteps joinSteps weights sideBySide rounded term termSum best ordinate values badCoefficient badPosition curveChecked curveRead curveOutcome isDrawable pieceOf pieceOutcome
+unfolding gcd gcdF mk int inv _+ᵠ_ _*ᵠ_ -ᵠ_ isZero ltᵠ nearest sum tab fits capped collect repeat first last lengthsFit badBreak
+    startsPart partEnd spanTooLong tooManySegments badDegree badOrder checkedEntries checked firstColumn conditionsBefore falling binomial
+    alternating undivided commonDivisor conditions identity count addProducts span partialSum quotientFactor factors newEntry newRows step
+    orderSteps joinSteps weights sideBySide rounded term termSum best ordinate values badCoefficient badPosition curveChecked curveRead
+    curveOutcome isDrawable pieceOf pieceOutcome
 second-drawn1 = refl
 
 abbrev late1 : Piece
 late1 = record { ordinates = pos 342 ∷ pos 512 ∷ pos 0 ∷ []; start = pos 1; end = pos 3 }
 
 late-drawn1 : pieceOutcome space1 latewood coefs1 1 5184 5184 ≡ answer late1
-unfolding gcd gcdF mk int inv _+ᵠ_ _*ᵠ_ -ᵠ_ isZero ltᵠ nearest sum tab fits capped collect repeat first last lengthsFit badBreak startsPart partEnd spanTooLong tooManySegments badDegree badOrder checkedEntries checked firstColumn conditionsBefore falling binomial alternating undivided commonDivisor conditions identity count addProducts span partialSum quotientFactor factors newEntry newRows step orderSteps joinSteps weights sideBySide rounded term termSum best ordinate values badCoefficient badPosition curveChecked curveRead curveOutcome isDrawable pieceOf pieceOutcome
+unfolding gcd gcdF mk int inv _+ᵠ_ _*ᵠ_ -ᵠ_ isZero ltᵠ nearest sum tab fits capped collect repeat first last lengthsFit badBreak
+    startsPart partEnd spanTooLong tooManySegments badDegree badOrder checkedEntries checked firstColumn conditionsBefore falling binomial
+    alternating undivided commonDivisor conditions identity count addProducts span partialSum quotientFactor factors newEntry newRows step
+    orderSteps joinSteps weights sideBySide rounded term termSum best ordinate values badCoefficient badPosition curveChecked curveRead
+    curveOutcome isDrawable pieceOf pieceOutcome
 late-drawn1 = refl
 
 -- s = 2 on both segments
@@ -87,7 +102,8 @@ unfolding gcd gcdF mk int inv _+ᵠ_ _*ᵠ_ _//_ sum binomial power bernsteinAt 
 middle-polynomial1 = refl
 
 middle-exact1 : exactCurve space1 table1 earlywood coefs1 (pos 128) ≡ pos 51200 // 2
-unfolding sideBySide gcd gcdF mk int inv _+ᵠ_ _*ᵠ_ -ᵠ_ _//_ sum firstColumn last startsAtDiscontinuity startsBy segmentAt binomial power bernsteinAt exactTerm exactOn exactCurve
+unfolding sideBySide gcd gcdF mk int inv _+ᵠ_ _*ᵠ_ -ᵠ_ _//_ sum firstColumn last startsAtDiscontinuity startsBy segmentAt binomial power
+    bernsteinAt exactTerm exactOn exactCurve
 middle-exact1 = refl
 
 middle-close1 : (pos 51200 // 2 ≤ᵠ pos 68267 // 3 +ᵠ int (pos 1)) × (pos 68267 // 3 ≤ᵠ pos 51200 // 2 +ᵠ int (pos 1))
@@ -109,7 +125,8 @@ unfolding gcd gcdF mk int inv _+ᵠ_ _*ᵠ_ _//_ sum binomial power bernsteinAt 
 join-polynomial1 = refl
 
 join-exact1 : exactCurve space1 table1 latewood coefs1 (pos 256) ≡ pos 1024 // 2
-unfolding sideBySide gcd gcdF mk int inv _+ᵠ_ _*ᵠ_ -ᵠ_ _//_ sum firstColumn last startsAtDiscontinuity startsBy segmentAt binomial power bernsteinAt exactTerm exactOn exactCurve
+unfolding sideBySide gcd gcdF mk int inv _+ᵠ_ _*ᵠ_ -ᵠ_ _//_ sum firstColumn last startsAtDiscontinuity startsBy segmentAt binomial power
+    bernsteinAt exactTerm exactOn exactCurve
 join-exact1 = refl
 
 join-close1 : (pos 1024 // 2 ≤ᵠ int (pos 342) +ᵠ int (pos 1)) × (int (pos 342) ≤ᵠ pos 1024 // 2 +ᵠ int (pos 1))
@@ -123,7 +140,8 @@ join-apart1 = record { lt = tt }
 
 -- the first quadratic ends at the value, though the join belongs to the second; and there the second starts
 join-value1 : valueAt space1 table1 earlywood coefs1 (pos 256) ≡ pos 17067
-unfolding sideBySide gcd gcdF mk int _//_ isZero nearest tab firstColumn last startsAtDiscontinuity startsBy segmentAt rounded term termSum best ordinate ordinates blend triangle blended valueAt
+unfolding sideBySide gcd gcdF mk int _//_ isZero nearest tab firstColumn last startsAtDiscontinuity startsBy segmentAt rounded term
+    termSum best ordinate ordinates blend triangle blended valueAt
 join-value1 = refl
 
 end1 : IsTheValue space1 earlywood coefs1 first1 0 (pos 256)
@@ -147,14 +165,20 @@ abbrev first9 : Piece
 first9 = record { ordinates = pos 0 ∷ pos 2560 ∷ []; start = pos 0; end = pos 1 }
 
 first-drawn9 : pieceOutcome space9 earlywood coefs9 0 5184 5184 ≡ answer first9
-unfolding gcd gcdF mk int isZero nearest tab capped collect repeat first last lengthsFit badBreak startsPart partEnd spanTooLong tooManySegments badDegree badOrder checkedEntries checked firstColumn conditionsBefore identity orderSteps joinSteps weights sideBySide rounded term termSum best ordinate values badCoefficient badPosition curveChecked curveRead curveOutcome isDrawable pieceOf pieceOutcome
+unfolding gcd gcdF mk int isZero nearest tab capped collect repeat first last lengthsFit badBreak startsPart partEnd spanTooLong
+    tooManySegments badDegree badOrder checkedEntries checked firstColumn conditionsBefore identity orderSteps joinSteps weights
+    sideBySide rounded term termSum best ordinate values badCoefficient badPosition curveChecked curveRead curveOutcome isDrawable pieceOf
+    pieceOutcome
 first-drawn9 = refl
 
 abbrev second9 : Piece
 second9 = record { ordinates = pos 5120 ∷ pos 7680 ∷ []; start = pos 1; end = pos 2 }
 
 second-drawn9 : pieceOutcome space9 earlywood coefs9 1 5184 5184 ≡ answer second9
-unfolding gcd gcdF mk int isZero nearest tab capped collect repeat first last lengthsFit badBreak startsPart partEnd spanTooLong tooManySegments badDegree badOrder checkedEntries checked firstColumn conditionsBefore identity orderSteps joinSteps weights sideBySide rounded term termSum best ordinate values badCoefficient badPosition curveChecked curveRead curveOutcome isDrawable pieceOf pieceOutcome
+unfolding gcd gcdF mk int isZero nearest tab capped collect repeat first last lengthsFit badBreak startsPart partEnd spanTooLong
+    tooManySegments badDegree badOrder checkedEntries checked firstColumn conditionsBefore identity orderSteps joinSteps weights
+    sideBySide rounded term termSum best ordinate values badCoefficient badPosition curveChecked curveRead curveOutcome isDrawable pieceOf
+    pieceOutcome
 second-drawn9 = refl
 
 -- s = 1 on the first segment, to which the discontinuity belongs; nothing is rounded
@@ -175,7 +199,8 @@ unfolding accepted9
 discontinuity-close9 = within-numbers accepted9 discontinuity9 exact9 discontinuity-polynomial9 half9
 
 discontinuity-value9 : valueAt space9 table9 earlywood coefs9 (pos 256) ≡ pos 2560
-unfolding sideBySide gcd gcdF mk int _//_ isZero nearest tab firstColumn last startsAtDiscontinuity startsBy segmentAt rounded term termSum best ordinate ordinates blend triangle blended valueAt
+unfolding sideBySide gcd gcdF mk int _//_ isZero nearest tab firstColumn last startsAtDiscontinuity startsBy segmentAt rounded term
+    termSum best ordinate ordinates blend triangle blended valueAt
 discontinuity-value9 = refl
 
 -- the first line starts and ends at the value
@@ -208,7 +233,11 @@ abbrev cubic : Piece
 cubic = record { ordinates = pos 256 ∷ pos 256 ∷ pos 256 ∷ pos 256 ∷ []; start = pos 0; end = pos 1 }
 
 cubic-drawn : pieceOutcome lowerLimitSpace earlywood lowerCoefs 0 5184 5184 ≡ answer cubic
-unfolding gcd gcdF mk int inv _+ᵠ_ _*ᵠ_ -ᵠ_ isZero ltᵠ nearest sum tab fits capped collect repeat first last lengthsFit badBreak startsPart partEnd spanTooLong tooManySegments badDegree badOrder checkedEntries checked firstColumn conditionsBefore falling binomial alternating undivided commonDivisor conditions identity count addProducts span partialSum quotientFactor factors newEntry newRows step orderSteps joinSteps weights sideBySide rounded term termSum best ordinate values badCoefficient badPosition curveChecked curveRead curveOutcome isDrawable pieceOf pieceOutcome
+unfolding gcd gcdF mk int inv _+ᵠ_ _*ᵠ_ -ᵠ_ isZero ltᵠ nearest sum tab fits capped collect repeat first last lengthsFit badBreak
+    startsPart partEnd spanTooLong tooManySegments badDegree badOrder checkedEntries checked firstColumn conditionsBefore falling binomial
+    alternating undivided commonDivisor conditions identity count addProducts span partialSum quotientFactor factors newEntry newRows step
+    orderSteps joinSteps weights sideBySide rounded term termSum best ordinate values badCoefficient badPosition curveChecked curveRead
+    curveOutcome isDrawable pieceOf pieceOutcome
 cubic-drawn = refl
 
 cubic-end : IsTheValue lowerLimitSpace earlywood lowerCoefs cubic 0 (pos 256)
@@ -218,10 +247,17 @@ cubic-end = pieces-end-at-the-value lowerLimitSpace earlywood lowerCoefs 0 5184 
 
 -- a segment past the end
 past-the-end : pieceOutcome space9 latewood coefs9 2 5184 5184 ≡ refusal 17 2
-unfolding gcd gcdF mk int isZero nearest tab capped collect repeat first last lengthsFit badBreak startsPart partEnd spanTooLong tooManySegments badDegree badOrder checkedEntries checked firstColumn conditionsBefore identity orderSteps joinSteps weights sideBySide rounded term termSum best ordinate values badCoefficient badPosition curveChecked curveRead curveOutcome isDrawable pieceOf pieceOutcome
+unfolding gcd gcdF mk int isZero nearest tab capped collect repeat first last lengthsFit badBreak startsPart partEnd spanTooLong
+    tooManySegments badDegree badOrder checkedEntries checked firstColumn conditionsBefore identity orderSteps joinSteps weights
+    sideBySide rounded term termSum best ordinate values badCoefficient badPosition curveChecked curveRead curveOutcome isDrawable pieceOf
+    pieceOutcome
 past-the-end = refl
 
 -- one of degree 4, behind the cubic
 degree-4 : pieceOutcome lowerLimitSpace earlywood lowerCoefs 1 5184 5184 ≡ refusal 17 1
-unfolding gcd gcdF mk int inv _+ᵠ_ _*ᵠ_ -ᵠ_ isZero ltᵠ nearest sum tab fits capped collect repeat first last lengthsFit badBreak startsPart partEnd spanTooLong tooManySegments badDegree badOrder checkedEntries checked firstColumn conditionsBefore falling binomial alternating undivided commonDivisor conditions identity count addProducts span partialSum quotientFactor factors newEntry newRows step orderSteps joinSteps weights sideBySide rounded term termSum best ordinate values badCoefficient badPosition curveChecked curveRead curveOutcome isDrawable pieceOf pieceOutcome
+unfolding gcd gcdF mk int inv _+ᵠ_ _*ᵠ_ -ᵠ_ isZero ltᵠ nearest sum tab fits capped collect repeat first last lengthsFit badBreak
+    startsPart partEnd spanTooLong tooManySegments badDegree badOrder checkedEntries checked firstColumn conditionsBefore falling binomial
+    alternating undivided commonDivisor conditions identity count addProducts span partialSum quotientFactor factors newEntry newRows step
+    orderSteps joinSteps weights sideBySide rounded term termSum best ordinate values badCoefficient badPosition curveChecked curveRead
+    curveOutcome isDrawable pieceOf pieceOutcome
 degree-4 = refl

@@ -12,4 +12,6 @@ use Rattle.theorems_promises.proofs.PartOrdinates.{ordinate-same}
 
 pub ordinates-meet : (s : Space) (a : Accepted s) (f : ℕ → ℤ) (j : ℕ) → suc j < segments s → 0 < conditionCount s j
     → ordinate (a .table) f (firstColumn s j + degree s j) ≡ ordinate (a .table) f (firstColumn s (suc j) + 0)
-ordinates-meet s a f j h l = ordinate-same (a .table) f _ _ (λ i. join-ordinates-agree s a j h l i ∙ ap (cell (a .table) i) (let z : firstColumn s (suc j) ≡ firstColumn s (suc j) + 0 = omega arith in z))
+ordinates-meet s a f j h l =
+    ordinate-same (a .table) f _ _ (λ i. join-ordinates-agree s a j h l i
+    ∙ ap (cell (a .table) i) (let z : firstColumn s (suc j) ≡ firstColumn s (suc j) + 0 = omega arith in z))

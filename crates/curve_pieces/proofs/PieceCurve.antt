@@ -18,11 +18,14 @@ use Rattle.base_exact.proofs.Integer as Z
 use Rattle.base_exact.proofs.Integer.{up, dn}
 use Rattle.base_exact.proofs.Tabulate.{tab-getD}
 use Rattle.base_outcome.specs.Outcome.{answer, refusal, refuse}
-use Rattle.spec_spline.specs.Space.{Space, segments, break, degree, order, firstColumn, columnCount, conditionCount, isDiscontinuity, checked}
+use Rattle.spec_spline.specs.Space.{Space, segments, break, degree, order, firstColumn, columnCount, conditionCount, isDiscontinuity}
+use Rattle.spec_spline.specs.Space.{checked}
 use Rattle.spec_spline.specs.Piecewise.{Accepted}
-use Rattle.spec_spline.specs.Reading.{fineness, Wood, fine, fineWidth, offset, startsAtDiscontinuity, segmentAt, coefficient, ordinate, ordinates, triangle, blended, valueAt}
+use Rattle.spec_spline.specs.Reading.{fineness, Wood, fine, fineWidth, offset, startsAtDiscontinuity, segmentAt, coefficient, ordinate}
+use Rattle.spec_spline.specs.Reading.{ordinates, triangle, blended, valueAt}
 use Rattle.spec_spline.specs.ExactCurve.{exactOn, exactCurve, mostWeights}
-use Rattle.base_outcome.proofs.Outcome.{answer-unique, answer-not-refusal, Chained, then-inverts, Broken, first-refuses, second-refuses, then-breaks}
+use Rattle.base_outcome.proofs.Outcome.{answer-unique, answer-not-refusal, Chained, then-inverts, Broken, first-refuses, second-refuses}
+use Rattle.base_outcome.proofs.Outcome.{then-breaks}
 use Rattle.spec_spline.proofs.Space.{is-discontinuity}
 use Rattle.spec_spline.proofs.Legal.{fitting-inverts, keeping-refusal}
 use Rattle.theorems_weights.proofs.Built.{built}
@@ -35,12 +38,14 @@ use Rattle.theorems_values.proofs.OnSegment.{column-at-most-s}
 use Rattle.theorems_values.proofs.Segment.{Located, located, accepted-checked, fineWidth-is}
 use Rattle.theorems_values.proofs.ExactSum.{exactOrdinates, exactOn-is-triangle, bernsteinAt-triangle}
 use Rattle.theorems_values.proofs.Value.{segment-column}
-use Rattle.theorems_values.proofs.Positions.{discontinuities-belong-before, other-joins-belong-after, first-breakpoint-belongs-first, last-breakpoint-belongs-last}
+use Rattle.theorems_values.proofs.Positions.{discontinuities-belong-before, other-joins-belong-after, first-breakpoint-belongs-first}
+use Rattle.theorems_values.proofs.Positions.{last-breakpoint-belongs-last}
 use Rattle.theorems_acceptance.proofs.Curves.{curves-never-give-nine}
 use Rattle.curve_start.specs.CurveAlone.{curveAlone}
 use Rattle.curve_start.proofs.Accepted.{accepted-by}
 use Rattle.curve_pieces.specs.Pieces.{isDrawable, drawableDegree, Piece, pieceOf, pieceOutcome}
-use Rattle.curve_pieces.specs.PieceCurve.{polynomialAt, halfTheWeights, WithinHalfTheWeights, PiecesAreClose, IsTheValue, PiecesEndAtTheValue, PiecesStartAtTheValue, PiecesNeverGiveNine}
+use Rattle.curve_pieces.specs.PieceCurve.{polynomialAt, halfTheWeights, WithinHalfTheWeights, PiecesAreClose, IsTheValue}
+use Rattle.curve_pieces.specs.PieceCurve.{PiecesEndAtTheValue, PiecesStartAtTheValue, PiecesNeverGiveNine}
 use Rattle.curve_pieces.proofs.AtEnds.{exactTriangle-start, exactTriangle-end, triangle-start, triangle-end, exactTriangle-within}
 use Rattle.curve_pieces.proofs.Joins.{ordinates-meet}
 
@@ -50,11 +55,15 @@ record Drawn (s : Space) (wood : Wood) (coefs : List ℤ) (k : ℕ) (p : Piece) 
   below : k < segments s
   is : pieceOf s (accepted .table) wood coefs k ≡ p
 
-drawn : (s : Space) (wood : Wood) (coefs : List ℤ) (k numLength denLength : ℕ) (p : Piece) → pieceOutcome s wood coefs k numLength denLength ≡ answer p → Drawn s wood coefs k p
+drawn : (s : Space) (wood : Wood) (coefs : List ℤ) (k numLength denLength : ℕ) (p : Piece)
+    → pieceOutcome s wood coefs k numLength denLength ≡ answer p → Drawn s wood coefs k p
 unfolding pieceOutcome isDrawable
-drawn s wood coefs k numLength denLength p e = go (then-inverts (curveAlone s coefs numLength denLength) (λ r. cond (isDrawable s k) (answer (pieceOf s (r .table) wood coefs k)) (refuse 17 k)) e)
+drawn s wood coefs k numLength denLength p e =
+    go (then-inverts (curveAlone s coefs numLength denLength)
+    (λ r. cond (isDrawable s k) (answer (pieceOf s (r .table) wood coefs k)) (refuse 17 k)) e)
   where
-    go : Chained (curveAlone s coefs numLength denLength) (λ r. cond (isDrawable s k) (answer (pieceOf s (r .table) wood coefs k)) (refuse 17 k)) p → Drawn s wood coefs k p
+    go : Chained (curveAlone s coefs numLength denLength)
+        (λ r. cond (isDrawable s k) (answer (pieceOf s (r .table) wood coefs k)) (refuse 17 k)) p → Drawn s wood coefs k p
     go c =
         let r = c .middle in
         let f = fitting-inverts (isDrawable s k) 17 k (answer (pieceOf s (r .table) wood coefs k)) (c .after) in
@@ -90,25 +99,33 @@ module _ (s : Space) (a : Accepted s) (wood : Wood) (coefs : List ℤ) (k : ℕ)
   unfolding pieceOf
   given-is t h = tab-getD (suc (degree s k)) own t (pos 0) (omega arith)
 
-  polynomial-is-triangle : (x : ℤ) → 0 < fineWidth s k → polynomialAt s piece k x ≡ exactTriangle (leftFactor (fineWidth s k) (offset s k x)) (rightFactor (fineWidth s k) (offset s k x)) (λ t. int (given t)) (degree s k) 0
+  polynomial-is-triangle : (x : ℤ) → 0 < fineWidth s k
+      → polynomialAt s piece k x ≡ exactTriangle (leftFactor (fineWidth s k) (offset s k x)) (rightFactor (fineWidth s k) (offset s k x))
+      (λ t. int (given t)) (degree s k) 0
   unfolding polynomialAt
   polynomial-is-triangle x h = bernsteinAt-triangle (degree s k) (fineWidth s k) (offset s k x) (λ t. int (given t)) h
 
   module _ (h : k < segments s) where
     -- each ordinate is within s/2 of the exact one
-    given-within : (t : ℕ) → t ≤ degree s k → Within (halves (mostWeights s (a .table) k)) (exactOrdinates s (a .table) wood coefs k t) (given t)
-    given-within t l = subst (Within (halves (mostWeights s (a .table) k)) (exactOrdinates s (a .table) wood coefs k t)) (sym (given-is t l))
+    given-within : (t : ℕ) → t ≤ degree s k → Within (halves (mostWeights s (a .table) k)) (exactOrdinates s (a .table) wood coefs k t)
+        (given t)
+    given-within t l =
+        subst (Within (halves (mostWeights s (a .table) k)) (exactOrdinates s (a .table) wood coefs k t)) (sym (given-is t l))
         (within-more (halves-mono _ _ (column-at-most-s s (a .table) k t l))
-        (ordinate-within (a .table) (coefficient wood coefs) (firstColumn s k + t) (accepted-column s a (firstColumn s k + t) (segment-column s k t h l))))
+        (ordinate-within (a .table) (coefficient wood coefs) (firstColumn s k + t)
+        (accepted-column s a (firstColumn s k + t) (segment-column s k t h l))))
 
-    close : (x : ℤ) → Located s x k → (exactOn s (a .table) wood coefs k x ≤ᵠ polynomialAt s piece k x +ᵠ halfTheWeights s (a .table) k) × (polynomialAt s piece k x ≤ᵠ exactOn s (a .table) wood coefs k x +ᵠ halfTheWeights s (a .table) k)
+    close : (x : ℤ) → Located s x k → (exactOn s (a .table) wood coefs k x ≤ᵠ polynomialAt s piece k x +ᵠ halfTheWeights s (a .table) k)
+        × (polynomialAt s piece k x ≤ᵠ exactOn s (a .table) wood coefs k x +ᵠ halfTheWeights s (a .table) k)
     close x at =
         let F = factors (fineWidth s k) (offset s k x) (at .positive) (at .from) (at .to) in
         let b = halves (mostWeights s (a .table) k) in
         let E = sym (exactOn-is-triangle s (a .table) wood coefs k x (at .positive)) in
         let P = sym (polynomial-is-triangle x (at .positive)) in (
-          along E P b (exactTriangle-within F b (exactOrdinates s (a .table) wood coefs k) (λ t. int (given t)) (degree s k) (λ t l. given-within t l .not-below) (degree s k) 0 (omega arith)),
-          along P E b (exactTriangle-within F b (λ t. int (given t)) (exactOrdinates s (a .table) wood coefs k) (degree s k) (λ t l. given-within t l .not-above) (degree s k) 0 (omega arith)),
+          along E P b (exactTriangle-within F b (exactOrdinates s (a .table) wood coefs k) (λ t. int (given t)) (degree s k)
+              (λ t l. given-within t l .not-below) (degree s k) 0 (omega arith)),
+          along P E b (exactTriangle-within F b (λ t. int (given t)) (exactOrdinates s (a .table) wood coefs k) (degree s k)
+              (λ t l. given-within t l .not-above) (degree s k) 0 (omega arith)),
         )
       where
         along : {p q p′ q′ : ℚ} → p ≡ p′ → q ≡ q′ → (b : ℚ) → p ≤ᵠ q +ᵠ b → p′ ≤ᵠ q′ +ᵠ b
@@ -117,25 +134,35 @@ module _ (s : Space) (a : Accepted s) (wood : Wood) (coefs : List ℤ) (k : ℕ)
   -- ---- at an end
 
   -- the ordinate of a column of segment j, out of all
-  listed : (j t : ℕ) → j < segments s → t ≤ degree s j → getD (ordinates s (a .table) (coefficient wood coefs)) (firstColumn s j + t) (pos 0) ≡ ordinate (a .table) (coefficient wood coefs) (firstColumn s j + t)
+  listed : (j t : ℕ) → j < segments s → t ≤ degree s j
+      → getD (ordinates s (a .table) (coefficient wood coefs)) (firstColumn s j + t) (pos 0)
+      ≡ ordinate (a .table) (coefficient wood coefs) (firstColumn s j + t)
   unfolding ordinates
-  listed j t h l = tab-getD (columnCount s) (ordinate (a .table) (coefficient wood coefs)) (firstColumn s j + t) (pos 0) (segment-column s j t h l)
+  listed j t h l =
+      tab-getD (columnCount s) (ordinate (a .table) (coefficient wood coefs)) (firstColumn s j + t) (pos 0) (segment-column s j t h l)
 
   -- the value where the position's segment starts
-  value-at-start : (j : ℕ) (x : ℤ) → j < segments s → 0 < fineWidth s j → segmentAt s x ≡ j → offset s j x ≡ pos 0 → valueAt s (a .table) wood coefs x ≡ ordinate (a .table) (coefficient wood coefs) (firstColumn s j + 0)
+  value-at-start : (j : ℕ) (x : ℤ) → j < segments s → 0 < fineWidth s j → segmentAt s x ≡ j → offset s j x ≡ pos 0
+      → valueAt s (a .table) wood coefs x ≡ ordinate (a .table) (coefficient wood coefs) (firstColumn s j + 0)
   unfolding valueAt blended
   value-at-start j x h w at u = ap (λ i. blended s (ordinates s (a .table) (coefficient wood coefs)) i x) at
-      ∙ ap (λ y. triangle (fineWidth s j) y (λ t. getD (ordinates s (a .table) (coefficient wood coefs)) (firstColumn s j + t) (pos 0)) (degree s j) 0) u
-      ∙ triangle-start (fineWidth s j) w (λ t. getD (ordinates s (a .table) (coefficient wood coefs)) (firstColumn s j + t) (pos 0)) (degree s j) 0
+      ∙ ap (λ y. triangle (fineWidth s j) y (λ t. getD (ordinates s (a .table) (coefficient wood coefs)) (firstColumn s j + t) (pos 0))
+      (degree s j) 0) u
+      ∙ triangle-start (fineWidth s j) w (λ t. getD (ordinates s (a .table) (coefficient wood coefs)) (firstColumn s j + t) (pos 0))
+      (degree s j) 0
       ∙ listed j 0 h (omega arith)
 
   -- and where it ends
-  value-at-end : (j : ℕ) (x : ℤ) → j < segments s → 0 < fineWidth s j → segmentAt s x ≡ j → offset s j x ≡ pos (fineWidth s j) → valueAt s (a .table) wood coefs x ≡ ordinate (a .table) (coefficient wood coefs) (firstColumn s j + degree s j)
+  value-at-end : (j : ℕ) (x : ℤ) → j < segments s → 0 < fineWidth s j → segmentAt s x ≡ j → offset s j x ≡ pos (fineWidth s j)
+      → valueAt s (a .table) wood coefs x ≡ ordinate (a .table) (coefficient wood coefs) (firstColumn s j + degree s j)
   unfolding valueAt blended
   value-at-end j x h w at u = ap (λ i. blended s (ordinates s (a .table) (coefficient wood coefs)) i x) at
-      ∙ ap (λ y. triangle (fineWidth s j) y (λ t. getD (ordinates s (a .table) (coefficient wood coefs)) (firstColumn s j + t) (pos 0)) (degree s j) 0) u
-      ∙ triangle-end (fineWidth s j) w (λ t. getD (ordinates s (a .table) (coefficient wood coefs)) (firstColumn s j + t) (pos 0)) (degree s j) 0
-      ∙ ap (λ t. getD (ordinates s (a .table) (coefficient wood coefs)) (firstColumn s j + t) (pos 0)) (let z : 0 + degree s j ≡ degree s j = omega arith in z)
+      ∙ ap (λ y. triangle (fineWidth s j) y (λ t. getD (ordinates s (a .table) (coefficient wood coefs)) (firstColumn s j + t) (pos 0))
+      (degree s j) 0) u
+      ∙ triangle-end (fineWidth s j) w (λ t. getD (ordinates s (a .table) (coefficient wood coefs)) (firstColumn s j + t) (pos 0))
+      (degree s j) 0
+      ∙ ap (λ t. getD (ordinates s (a .table) (coefficient wood coefs)) (firstColumn s j + t) (pos 0))
+      (let z : 0 + degree s j ≡ degree s j = omega arith in z)
       ∙ listed j (degree s j) h (omega arith)
 
   module _ (h : k < segments s) where
@@ -150,7 +177,8 @@ module _ (s : Space) (a : Accepted s) (wood : Wood) (coefs : List ℤ) (k : ℕ)
 
     polynomial-at-start : polynomialAt s piece k (fine (break s k)) ≡ int (own 0)
     polynomial-at-start = polynomial-is-triangle (fine (break s k)) (wide k h)
-        ∙ ap (λ u. exactTriangle (leftFactor (fineWidth s k) u) (rightFactor (fineWidth s k) u) (λ t. int (given t)) (degree s k) 0) from-start
+        ∙ ap (λ u. exactTriangle (leftFactor (fineWidth s k) u) (rightFactor (fineWidth s k) u) (λ t. int (given t)) (degree s k) 0)
+        from-start
         ∙ exactTriangle-start (fineWidth s k) (wide k h) (λ t. int (given t)) (degree s k) ∙ ap int (given-is 0 (omega arith))
 
     polynomial-at-end : polynomialAt s piece k (fine (break s (suc k))) ≡ int (own (degree s k))
@@ -165,17 +193,23 @@ module _ (s : Space) (a : Accepted s) (wood : Wood) (coefs : List ℤ) (k : ℕ)
         c : checked s ≡ answer s
         c = accepted-checked s a .0
 
-        inner : suc k < segments s → (b : Bool) → isDiscontinuity s k ≡ b → valueAt s (a .table) wood coefs (fine (break s (suc k))) ≡ own (degree s k)
-        inner l true e = value-at-end k (fine (break s (suc k))) h (wide k h) (discontinuities-belong-before s c k l (discontinuity-order s k e)) to-end
-        inner l false e = value-at-start (suc k) (fine (break s (suc k))) l (wide (suc k) l) (other-joins-belong-after s c k l (λ o. true-not-false (is-discontinuity s k o) e)) (Z.+-neg (fine (break s (suc k))))
+        inner : suc k < segments s → (b : Bool) → isDiscontinuity s k ≡ b
+            → valueAt s (a .table) wood coefs (fine (break s (suc k))) ≡ own (degree s k)
+        inner l true e =
+            value-at-end k (fine (break s (suc k))) h (wide k h) (discontinuities-belong-before s c k l (discontinuity-order s k e)) to-end
+        inner l false e =
+            value-at-start (suc k) (fine (break s (suc k))) l (wide (suc k) l)
+            (other-joins-belong-after s c k l (λ o. true-not-false (is-discontinuity s k o) e)) (Z.+-neg (fine (break s (suc k))))
             ∙ sym (ordinates-meet s a (coefficient wood coefs) k l (some-condition s k e))
 
         go : (suc k ≡ segments s) ⊎ (suc k < segments s) → valueAt s (a .table) wood coefs (fine (break s (suc k))) ≡ own (degree s k)
         go (inl z) = value-at-end k (fine (break s (suc k))) h (wide k h)
-            (let y : suc (segmentAt s (fine (break s (suc k)))) ≡ suc k = ap (λ m. suc (segmentAt s (fine (break s m)))) z ∙ last-breakpoint-belongs-last s c ∙ sym z in omega (arith, y)) to-end
+            (let y : suc (segmentAt s (fine (break s (suc k)))) ≡ suc k = ap (λ m. suc (segmentAt s (fine (break s m)))) z
+            ∙ last-breakpoint-belongs-last s c ∙ sym z in omega (arith, y)) to-end
         go (inr l) = inner l (isDiscontinuity s k) refl
 
-start-belongs : (s : Space) → checked s ≡ answer s → (k : ℕ) → k < segments s → startsAtDiscontinuity s k ≡ false → segmentAt s (fine (break s k)) ≡ k
+start-belongs : (s : Space) → checked s ≡ answer s → (k : ℕ) → k < segments s → startsAtDiscontinuity s k ≡ false
+    → segmentAt s (fine (break s k)) ≡ k
 unfolding startsAtDiscontinuity
 start-belongs s c zero h e = first-breakpoint-belongs-first s c
 start-belongs s c (suc k) h e = other-joins-belong-after s c k h (λ o. true-not-false (is-discontinuity s k o) e)
@@ -204,7 +238,8 @@ pieces-end-at-the-value s wood coefs k numLength denLength p e = go (drawn s woo
     go : Drawn s wood coefs k p → IsTheValue s wood coefs p k (fine (break s (suc k)))
     go d = let a = d .accepted in record {
       accepted = a;
-      same = ap (λ q. polynomialAt s q k (fine (break s (suc k)))) (sym (d .is)) ∙ polynomial-at-end s a wood coefs k (d .below) ∙ ap int (sym (end-value s a wood coefs k (d .below)));
+      same = ap (λ q. polynomialAt s q k (fine (break s (suc k)))) (sym (d .is)) ∙ polynomial-at-end s a wood coefs k (d .below)
+          ∙ ap int (sym (end-value s a wood coefs k (d .below)));
     }
 
 pub pieces-start-at-the-value : PiecesStartAtTheValue
@@ -214,18 +249,22 @@ pieces-start-at-the-value s wood coefs k numLength denLength p e here = go (draw
     go d = let a = d .accepted in record {
       accepted = a;
       same = ap (λ q. polynomialAt s q k (fine (break s k))) (sym (d .is)) ∙ polynomial-at-start s a wood coefs k (d .below)
-          ∙ ap int (sym (value-at-start s a wood coefs k k (fine (break s k)) (d .below) (wide s a wood coefs k (d .below) k (d .below)) (start-belongs s (accepted-checked s a .0) k (d .below) here) (from-start s a wood coefs k (d .below))));
+          ∙ ap int (sym (value-at-start s a wood coefs k k (fine (break s k)) (d .below) (wide s a wood coefs k (d .below) k (d .below))
+          (start-belongs s (accepted-checked s a .0) k (d .below) here) (from-start s a wood coefs k (d .below))));
     }
 
 pub pieces-never-give-nine : PiecesNeverGiveNine
 unfolding pieceOutcome
-pieces-never-give-nine s wood coefs k num den place e = go (then-breaks (curveAlone s coefs (length num) (length den)) (λ r. cond (isDrawable s k) (answer (pieceOf s (r .table) wood coefs k)) (refuse 17 k)) e)
+pieces-never-give-nine s wood coefs k num den place e =
+    go (then-breaks (curveAlone s coefs (length num) (length den))
+    (λ r. cond (isDrawable s k) (answer (pieceOf s (r .table) wood coefs k)) (refuse 17 k)) e)
   where
     -- code 17 is not 9
     seventeen : (b : Bool) (p : Piece) → cond b (answer p) (refuse 17 k) ≡ refusal 9 place → ⊥
     seventeen true p r = answer-not-refusal refl r
     seventeen false p r = true-not-false refl (keeping-refusal 17 k refl r)
 
-    go : Broken (curveAlone s coefs (length num) (length den)) (λ r. cond (isDrawable s k) (answer (pieceOf s (r .table) wood coefs k)) (refuse 17 k)) 9 place → ⊥
+    go : Broken (curveAlone s coefs (length num) (length den))
+        (λ r. cond (isDrawable s k) (answer (pieceOf s (r .table) wood coefs k)) (refuse 17 k)) 9 place → ⊥
     go (first-refuses p) = curves-never-give-nine s coefs [] place (length num) (length den) 0 p
     go (second-refuses r p q) = seventeen (isDrawable s k) (pieceOf s (r .table) wood coefs k) q

@@ -37,21 +37,27 @@ nowhere-reached s (some i) e = absurd (let z : _≡_ {A = ℕ} 0 1 = cc in omega
 
 -- by the ordinates at the front of a list, as by the table
 reached-fronted : (s : Space) (t : Table) (n : ℕ) (wood : Wood) (coefs : List ℤ) (width : ℤ)
-    → first (positionCount s) (reachesHeld s (fronted s t n (coefficient wood coefs)) (fine width)) ≡ first (positionCount s) (reaches s t wood coefs width)
+    → first (positionCount s) (reachesHeld s (fronted s t n (coefficient wood coefs)) (fine width))
+    ≡ first (positionCount s) (reaches s t wood coefs width)
 unfolding heldValue valueAt
-reached-fronted s t n wood coefs width = first-ext (positionCount s) (λ i h. ap (leZ (fine width)) (blended-fronted s t n (coefficient wood coefs) (segmentAt s (position s i)) (position s i)))
+reached-fronted s t n wood coefs width =
+    first-ext (positionCount s) (λ i h. ap (leZ (fine width))
+    (blended-fronted s t n (coefficient wood coefs) (segmentAt s (position s i)) (position s i)))
 
 -- ---- the call's outcome
 
 module _ (s : Space) (wood : Wood) (coefs : List ℤ) (width : ℤ) (numLength denLength : ℕ) where
-  pub reach-refused : {code place : ℕ} → curveAlone s coefs numLength denLength ≡ refusal code place → reply (Refused code place) ≡ reachOutcome s wood coefs width numLength denLength
+  pub reach-refused : {code place : ℕ} → curveAlone s coefs numLength denLength ≡ refusal code place
+      → reply (Refused code place) ≡ reachOutcome s wood coefs width numLength denLength
   unfolding reply reachOutcome
   reach-refused e = sym (then-refuses (λ r. reachedAt s (first (positionCount s) (reaches s (r .table) wood coefs width))) e)
 
   -- the position, or 16
-  pub reach-searched : {x : Outcome ℤ} {os : List ℤ} (n : ℕ) (c : CurveResult) → curveAlone s coefs numLength denLength ≡ answer c → os ≡ fronted s (c .table) n (coefficient wood coefs)
+  pub reach-searched : {x : Outcome ℤ} {os : List ℤ} (n : ℕ) (c : CurveResult) → curveAlone s coefs numLength denLength ≡ answer c
+      → os ≡ fronted s (c .table) n (coefficient wood coefs)
       → x ≡ reachedAt s (first (positionCount s) (reachesHeld s os (fine width))) → x ≡ reachOutcome s wood coefs width numLength denLength
   unfolding reachOutcome
   reach-searched n c e o r = r
-      ∙ ap (λ os. reachedAt s (first (positionCount s) (reachesHeld s os (fine width)))) o ∙ ap (reachedAt s) (reached-fronted s (c .table) n wood coefs width)
+      ∙ ap (λ os. reachedAt s (first (positionCount s) (reachesHeld s os (fine width)))) o
+      ∙ ap (reachedAt s) (reached-fronted s (c .table) n wood coefs width)
       ∙ sym (then-answers (λ r. reachedAt s (first (positionCount s) (reaches s (r .table) wood coefs width))) e)

@@ -11,7 +11,8 @@ use lib.IntN.{ℤ}
 use lib.ListN.{length}
 use Rattle.base_outcome.specs.Outcome.{Outcome, answer, refuse, largestPlace, _then_}
 use Rattle.base_outcome.specs.Search.{first}
-use Rattle.spec_spline.specs.Space.{Space, segments, lengthsFit, badBreak, spanTooLong, badDegree, badOrder, tooManySegments, partEndAt, checkedEntries, columnCount, conditionCount, rowCount}
+use Rattle.spec_spline.specs.Space.{Space, segments, lengthsFit, badBreak, spanTooLong, badDegree, badOrder, tooManySegments, partEndAt}
+use Rattle.spec_spline.specs.Space.{checkedEntries, columnCount, conditionCount, rowCount}
 use Rattle.base_outcome.specs.Tests.{refuseFirst}
 use Rattle.spec_spline.specs.Conditions.{conditions}
 use Rattle.spec_spline.specs.Table.{identity, tableCells}
@@ -78,11 +79,13 @@ low-weights s = repeat-refused P (segments s - 1) (λ j. orderSteps s j (conditi
     either (inl e) = omega arith
     either (inr e) = omega arith
 
-pub curve-codes : (s : Space) (coefs positions : List ℤ) (numLength denLength valuesLength : ℕ) → Low (curveOutcome s coefs positions numLength denLength valuesLength)
+pub curve-codes : (s : Space) (coefs positions : List ℤ) (numLength denLength valuesLength : ℕ)
+    → Low (curveOutcome s coefs positions numLength denLength valuesLength)
 unfolding curveOutcome curveRead
 curve-codes s coefs positions numLength denLength valuesLength =
     low-cond (ltb numLength tableCells) _ _ (low-refuse 1 0 (omega arith))
     (low-cond (ltb denLength tableCells) _ _ (low-refuse 1 1 (omega arith))
     (low-cond (ltb (valuesLength / 2) (length positions)) _ _ (low-refuse 1 2 (omega arith))
     (low-then (curveChecked s coefs positions) (curveRead coefs positions) (low-checked s coefs positions)
-    (λ legal code place e. low-weights legal code place (with-refuses (λ t. record { table = t; values = values legal t coefs positions }) (weights legal) e)))))
+    (λ legal code place e. low-weights legal code place
+    (with-refuses (λ t. record { table = t; values = values legal t coefs positions }) (weights legal) e)))))

@@ -27,7 +27,8 @@ use Rattle.curve_start.proofs.Accepted.{accepted-by}
 use Rattle.curve_search.specs.Positions.{positionCount, position}
 use Rattle.curve_reach.specs.Reach.{reaches, reachedAt, reachOutcome}
 use Rattle.curve_reach.specs.FirstReach.{FirstAt, AnswersAreFirst, NeverReached, SixteenIsNever, ReachNeverGivesNine}
-use Rattle.curve_search.proofs.Positions.{position-after-start, position-before-end, indexOf, position-of-index, index-below, index-in-span}
+use Rattle.curve_search.proofs.Positions.{position-after-start, position-before-end, indexOf, position-of-index, index-below}
+use Rattle.curve_search.proofs.Positions.{index-in-span}
 use Rattle.curve_reach.proofs.Codes.{curve-codes}
 
 module _ (s : Space) (wood : Wood) (coefs : List ℤ) (width : ℤ) (a : Accepted s) where
@@ -48,39 +49,49 @@ module _ (s : Space) (wood : Wood) (coefs : List ℤ) (width : ℤ) (a : Accepte
   }
 
   searched : (o : Option ℕ) (x : ℤ) → first (positionCount s) test ≡ o → reachedAt s o ≡ answer x → FirstAt s wood coefs width x
-  searched (some i) x e r = subst (FirstAt s wood coefs width) (answer-unique {a = position s i} refl r) (found i (first-some-inverts test (positionCount s) e))
+  searched (some i) x e r =
+      subst (FirstAt s wood coefs width) (answer-unique {a = position s i} refl r) (found i (first-some-inverts test (positionCount s) e))
   searched none x e r = absurd (answer-not-refusal r refl)
 
-  nowhere : (o : Option ℕ) (code place : ℕ) → first (positionCount s) test ≡ o → reachedAt s o ≡ refusal code place → NeverReached s wood coefs width
+  nowhere : (o : Option ℕ) (code place : ℕ) → first (positionCount s) test ≡ o → reachedAt s o ≡ refusal code place
+      → NeverReached s wood coefs width
   nowhere (some i) code place e r = absurd (answer-not-refusal refl r)
   nowhere none code place e r = record {
     accepted = a;
-    none = λ y h k. below-width y h (first-none-inverts test (positionCount s) e (indexOf s y) (index-in-span s (accepted-checked s a .1) y h k));
+    none = λ y h k. below-width y h (first-none-inverts test (positionCount s) e (indexOf s y)
+        (index-in-span s (accepted-checked s a .1) y h k));
   }
 
 pub answers-are-first : AnswersAreFirst
 unfolding reachOutcome
 answers-are-first s wood coefs width numLength denLength x e =
-    let c = then-inverts (curveAlone s coefs numLength denLength) (λ r. reachedAt s (first (positionCount s) (reaches s (r .table) wood coefs width))) e in
+    let c = then-inverts (curveAlone s coefs numLength denLength)
+    (λ r. reachedAt s (first (positionCount s) (reaches s (r .table) wood coefs width))) e in
     searched s wood coefs width (accepted-by s coefs numLength denLength (c .middle) (c .before)) _ x refl (c .after)
 
 pub sixteen-is-never : SixteenIsNever
 unfolding reachOutcome
-sixteen-is-never s wood coefs width numLength denLength place e = go (then-breaks (curveAlone s coefs numLength denLength) (λ r. reachedAt s (first (positionCount s) (reaches s (r .table) wood coefs width))) e)
+sixteen-is-never s wood coefs width numLength denLength place e =
+    go (then-breaks (curveAlone s coefs numLength denLength)
+    (λ r. reachedAt s (first (positionCount s) (reaches s (r .table) wood coefs width))) e)
   where
-    go : Broken (curveAlone s coefs numLength denLength) (λ r. reachedAt s (first (positionCount s) (reaches s (r .table) wood coefs width))) 16 place → NeverReached s wood coefs width
+    go : Broken (curveAlone s coefs numLength denLength)
+        (λ r. reachedAt s (first (positionCount s) (reaches s (r .table) wood coefs width))) 16 place → NeverReached s wood coefs width
     go (first-refuses p) = absurd (omega (arith, curve-codes s coefs [] numLength denLength 0 16 place p))
     go (second-refuses r p q) = nowhere s wood coefs width (accepted-by s coefs numLength denLength r p) _ 16 place refl q
 
 pub reach-never-gives-nine : ReachNeverGivesNine
 unfolding reachOutcome
-reach-never-gives-nine s wood coefs width num den place e = go (then-breaks (curveAlone s coefs (length num) (length den)) (λ r. reachedAt s (first (positionCount s) (reaches s (r .table) wood coefs width))) e)
+reach-never-gives-nine s wood coefs width num den place e =
+    go (then-breaks (curveAlone s coefs (length num) (length den))
+    (λ r. reachedAt s (first (positionCount s) (reaches s (r .table) wood coefs width))) e)
   where
     -- code 16 is not 9
     sixteen : (o : Option ℕ) → reachedAt s o ≡ refusal 9 place → ⊥
     sixteen (some i) r = answer-not-refusal refl r
     sixteen none r = true-not-false refl (keeping-refusal 16 0 refl r)
 
-    go : Broken (curveAlone s coefs (length num) (length den)) (λ r. reachedAt s (first (positionCount s) (reaches s (r .table) wood coefs width))) 9 place → ⊥
+    go : Broken (curveAlone s coefs (length num) (length den))
+        (λ r. reachedAt s (first (positionCount s) (reaches s (r .table) wood coefs width))) 9 place → ⊥
     go (first-refuses p) = curves-never-give-nine s coefs [] place (length num) (length den) 0 p
     go (second-refuses r p q) = sixteen (first (positionCount s) (reaches s (r .table) wood coefs width)) q

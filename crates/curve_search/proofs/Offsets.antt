@@ -62,28 +62,60 @@ module _ (s : Space) where
   module _ (c : Checked s) (i : ℕ) (below : i < segments s) where
     -- the next breakpoint lies D further
     next-break : at i (fineWidth s i) ≡ fine (break s (suc i))
-    next-break = Z.ext _ _ (omega (arith, Z.bal-+ (fine (break s i)) (pos (fineWidth s i)), Z.bal-+ (fine (break s (suc i))) (negℤ (fine (break s i))), Z.bal-neg (fine (break s i)), ap Z.up (fineWidth-is s c i below), ap Z.dn (fineWidth-is s c i below)))
+    next-break =
+        Z.ext _ _ (omega (
+          arith,
+          Z.bal-+ (fine (break s i)) (pos (fineWidth s i)),
+          Z.bal-+ (fine (break s (suc i))) (negℤ (fine (break s i))),
+          Z.bal-neg (fine (break s i)),
+          ap Z.up (fineWidth-is s c i below),
+          ap Z.dn (fineWidth-is s c i below),
+        ))
 
     -- behind the segment's offsets those of the next begin
     pub next-start : at i (endOffset s i) ≡ at (suc i) (startOffset s (suc i))
-    next-start = Z.ext _ _ (omega (arith, Z.bal-+ (fine (break s i)) (pos (endOffset s i)), Z.bal-+ (fine (break s (suc i))) (pos (startOffset s (suc i))), Z.bal-+ (fine (break s i)) (pos (fineWidth s i)), ap Z.up next-break, ap Z.dn next-break))
+    next-start =
+        Z.ext _ _ (omega (
+          arith,
+          Z.bal-+ (fine (break s i)) (pos (endOffset s i)),
+          Z.bal-+ (fine (break s (suc i))) (pos (startOffset s (suc i))),
+          Z.bal-+ (fine (break s i)) (pos (fineWidth s i)),
+          ap Z.up next-break,
+          ap Z.dn next-break,
+        ))
 
     module _ (u : ℕ) (before : u < endOffset s i) where
       pub not-past : at i u ≤ℤ fine (break s (suc i))
-      not-past = subst (λ z. at i u ≤ℤ z) next-break (Z.≤-in _ _ (omega (arith, start-at-most-one (suc i), Z.bal-+ (fine (break s i)) (pos u), Z.bal-+ (fine (break s i)) (pos (fineWidth s i)))))
+      not-past =
+          subst (λ z. at i u ≤ℤ z) next-break (Z.≤-in _ _
+          (omega (
+            arith,
+            start-at-most-one (suc i),
+            Z.bal-+ (fine (break s i)) (pos u),
+            Z.bal-+ (fine (break s i)) (pos (fineWidth s i)),
+          )))
 
       -- before its last offset the next does not
       not-next : suc i < segments s → startsBy s (at i u) (suc i) ≡ false
       unfolding startsBy
       not-next h = go (startsAtDiscontinuity s (suc i)) (rw (start-of-segment (suc i) h) at before)
         where
-          go : (b : Bool) → u < fineWidth s i + cond b 1 0 → cond b (ltZ (fine (break s (suc i))) (at i u)) (leZ (fine (break s (suc i))) (at i u)) ≡ false
+          go : (b : Bool) → u < fineWidth s i + cond b 1 0
+              → cond b (ltZ (fine (break s (suc i))) (at i u)) (leZ (fine (break s (suc i))) (at i u)) ≡ false
           go true l = not-lt-test not-past
-          go false l = not-le-test (subst (λ z. at i u <ℤ z) next-break (Z.<-in _ _ (omega (arith, Z.bal-+ (fine (break s i)) (pos u), Z.bal-+ (fine (break s i)) (pos (fineWidth s i))))))
+          go false l =
+              not-le-test (subst (λ z. at i u <ℤ z) next-break
+              (Z.<-in _ _ (omega (arith, Z.bal-+ (fine (break s i)) (pos u), Z.bal-+ (fine (break s i)) (pos (fineWidth s i))))))
 
       pub segment-of-offset : startOffset s i ≤ u → segmentAt s (at i u) ≡ i
       segment-of-offset h = segment-is s c i (at i u) below (starts i u below h) not-next not-past
 
     -- the offset of the position
     pub offset-is : (u : ℕ) → offset s i (at i u) ≡ pos u
-    offset-is u = Z.ext _ _ (omega (arith, Z.bal-+ (at i u) (negℤ (fine (break s i))), Z.bal-neg (fine (break s i)), Z.bal-+ (fine (break s i)) (pos u)))
+    offset-is u =
+        Z.ext _ _ (omega (
+          arith,
+          Z.bal-+ (at i u) (negℤ (fine (break s i))),
+          Z.bal-neg (fine (break s i)),
+          Z.bal-+ (fine (break s i)) (pos u),
+        ))

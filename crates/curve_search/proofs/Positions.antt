@@ -35,7 +35,9 @@ module _ (s : Space) where
 
   module _ (c : Checked s) where
     span-rises : fine (break s 0) ≤ℤ fine (break s (segments s))
-    span-rises = leZ-true _ _ (and-true (leZ (fine (break s 0)) (fine (break s (segments s)))) _ (holds-true _ (breakpoint-in-span s c (segments s) (omega arith))) .0)
+    span-rises =
+        leZ-true _ _ (and-true (leZ (fine (break s 0)) (fine (break s (segments s)))) _
+        (holds-true _ (breakpoint-in-span s c (segments s) (omega arith))) .0)
 
     pub position-before-end : (i : ℕ) → i < positionCount s → position s i ≤ℤ fine (break s (segments s))
     position-before-end i h = Z.≤-in _ _ (omega (arith, distance _ _ span-rises, Z.bal-+ (fine (break s 0)) (pos i)))

@@ -41,10 +41,19 @@ module _ (s : Space) (os : List ℤ) (target : ℤ) where
   module _ (c : Checked s) where
     -- a breakpoint lies between the first and the last
     break-within : (i : ℕ) → i ≤ segments s → (fine (break s 0) ≤ℤ fine (break s i)) × (fine (break s i) ≤ℤ fine (break s (segments s)))
-    break-within i h = let e = and-true (leZ (fine (break s 0)) (fine (break s i))) _ (holds-true _ (breakpoint-in-span s c i h)) in (leZ-true _ _ (e .0), leZ-true _ _ (e .1))
+    break-within i h =
+        let e = and-true (leZ (fine (break s 0)) (fine (break s i))) _ (holds-true _ (breakpoint-in-span s c i h)) in
+        (leZ-true _ _ (e .0), leZ-true _ _ (e .1))
 
     pub none-at-first : NoneBefore (at s 0 (startOffset s 0))
-    none-at-first k h = absurd (omega (arith, Z.<-out _ _ h, Z.bal-+ (fine (break s 0)) (pos k), Z.bal-+ (fine (break s 0)) (pos (startOffset s 0)), start-of-first s (legal s c .lengths .some-segment)))
+    none-at-first k h =
+        absurd (omega (
+          arith,
+          Z.<-out _ _ h,
+          Z.bal-+ (fine (break s 0)) (pos k),
+          Z.bal-+ (fine (break s 0)) (pos (startOffset s 0)),
+          start-of-first s (legal s c .lengths .some-segment),
+        ))
 
     module _ (i : ℕ) (below : i < segments s) where
       -- the value at an offset of segment i
@@ -53,37 +62,63 @@ module _ (s : Space) (os : List ℤ) (target : ℤ) where
       held-on u h k = ap (λ j. blended s os j (at s i u)) (segment-of-offset s c i below u k h)
           ∙ ap (λ z. triangle (fineWidth s i) z (λ n. getD os (firstColumn s i + n) (pos 0)) (degree s i) 0) (offset-is s c i below u)
 
-      module _ (before : NoneBefore (at s i (startOffset s i))) (r : ℕ) (least : LeastFrom (valuesOf i) target (startOffset s i) (endOffset s i) r) where
+      module _ (before : NoneBefore (at s i (startOffset s i))) (r : ℕ)
+          (least : LeastFrom (valuesOf i) target (startOffset s i) (endOffset s i) r) where
         -- no position of the segment, nor before it
         passed-over : (e : ℕ) → e ≤ r → e ≤ endOffset s i → NoneBefore (at s i e)
         passed-over e h l k q = go (Z.≤-or-> (at s i (startOffset s i)) (position s k))
           where
-            go : (at s i (startOffset s i) ≤ℤ position s k) ⊎ (position s k <ℤ at s i (startOffset s i)) → heldValue s os (position s k) <ℤ target
+            go : (at s i (startOffset s i) ≤ℤ position s k) ⊎ (position s k <ℤ at s i (startOffset s i))
+                → heldValue s os (position s k) <ℤ target
             go (inr m) = before k m
-            go (inl m) = subst (λ x. heldValue s os x <ℤ target) whole (subst (λ v. v <ℤ target) (sym (held-on u high (omega (arith, low)))) (least .none-before u high (omega (arith, low)) (omega (arith, low))))
+            go (inl m) =
+                subst (λ x. heldValue s os x <ℤ target) whole
+                (subst (λ v. v <ℤ target) (sym (held-on u high (omega (arith, low))))
+                (least .none-before u high (omega (arith, low)) (omega (arith, low))))
               where
                 u : ℕ
                 u = natAbs (position s k -ℤ fine (break s i))
 
                 whole : at s i u ≡ position s k
-                whole = past (fine (break s i)) (position s k) (Z.≤-trans _ _ _ (Z.≤-in (fine (break s i)) (at s i (startOffset s i)) (omega (arith, Z.bal-+ (fine (break s i)) (pos (startOffset s i))))) m)
+                whole =
+                    past (fine (break s i)) (position s k)
+                    (Z.≤-trans _ _ _ (Z.≤-in (fine (break s i)) (at s i (startOffset s i))
+                    (omega (arith, Z.bal-+ (fine (break s i)) (pos (startOffset s i))))) m)
 
                 high : startOffset s i ≤ u
-                high = omega (arith, Z.≤-out _ _ (subst (λ x. at s i (startOffset s i) ≤ℤ x) (sym whole) m), Z.bal-+ (fine (break s i)) (pos (startOffset s i)), Z.bal-+ (fine (break s i)) (pos u))
+                high =
+                    omega (
+                      arith,
+                      Z.≤-out _ _ (subst (λ x. at s i (startOffset s i) ≤ℤ x) (sym whole) m),
+                      Z.bal-+ (fine (break s i)) (pos (startOffset s i)),
+                      Z.bal-+ (fine (break s i)) (pos u),
+                    )
 
                 low : u < e
-                low = omega (arith, Z.<-out _ _ (subst (λ x. x <ℤ at s i e) (sym whole) q), Z.bal-+ (fine (break s i)) (pos e), Z.bal-+ (fine (break s i)) (pos u))
+                low =
+                    omega (
+                      arith,
+                      Z.<-out _ _ (subst (λ x. x <ℤ at s i e) (sym whole) q),
+                      Z.bal-+ (fine (break s i)) (pos e),
+                      Z.bal-+ (fine (break s i)) (pos u),
+                    )
 
         pub none-at-next : endOffset s i ≤ r → NoneBefore (at s (suc i) (startOffset s (suc i)))
         none-at-next h = subst NoneBefore (next-start s c i below) (passed-over (endOffset s i) h (omega arith))
 
         pub found-at : r < endOffset s i → found s (first (positionCount s) (reachesHeld s os target)) ≡ At (at s i r)
         unfolding found
-        found-at h = ap (found s) (first-at (reachesHeld s os target) (positionCount s) (indexOf s (at s i r)) (index-in-span s c (at s i r) low high) there (λ k l. not-le-test (passed-over r (omega arith) (omega arith) k (subst (λ x. position s k <ℤ x) same (position-rises s k _ l)))))
+        found-at h =
+            ap (found s) (first-at (reachesHeld s os target) (positionCount s) (indexOf s (at s i r))
+            (index-in-span s c (at s i r) low high) there
+            (λ k l. not-le-test (passed-over r (omega arith) (omega arith) k
+            (subst (λ x. position s k <ℤ x) same (position-rises s k _ l)))))
             ∙ ap At same
           where
             low : fine (break s 0) ≤ℤ at s i r
-            low = Z.≤-trans _ (fine (break s i)) _ (break-within i (omega arith) .0) (Z.≤-in _ _ (omega (arith, Z.bal-+ (fine (break s i)) (pos r))))
+            low =
+                Z.≤-trans _ (fine (break s i)) _ (break-within i (omega arith) .0)
+                (Z.≤-in _ _ (omega (arith, Z.bal-+ (fine (break s i)) (pos r))))
 
             high : at s i r ≤ℤ fine (break s (segments s))
             high = Z.≤-trans _ (fine (break s (suc i))) _ (not-past s c i below r h) (break-within (suc i) below .1)
@@ -92,14 +127,21 @@ module _ (s : Space) (os : List ℤ) (target : ℤ) where
             same = position-of-index s (at s i r) low
 
             there : reachesHeld s os target (indexOf s (at s i r)) ≡ true
-            there = ap (λ x. leZ target (heldValue s os x)) same ∙ le-test (subst (λ v. target ≤ℤ v) (sym (held-on r (least .after) h)) (least .there h))
+            there =
+                ap (λ x. leZ target (heldValue s os x)) same
+                ∙ le-test (subst (λ v. target ≤ℤ v) (sym (held-on r (least .after) h)) (least .there h))
 
-    pub found-nowhere : (i : ℕ) → i ≡ segments s → NoneBefore (at s i (startOffset s i)) → found s (first (positionCount s) (reachesHeld s os target)) ≡ Nowhere
+    pub found-nowhere : (i : ℕ) → i ≡ segments s → NoneBefore (at s i (startOffset s i))
+        → found s (first (positionCount s) (reachesHeld s os target)) ≡ Nowhere
     unfolding found
-    found-nowhere i e before = ap (found s) (first-none (reachesHeld s os target) (positionCount s) (λ k l. not-le-test (before k (Z.≤-<-trans _ _ _ (position-before-end s c k l) past-end))))
+    found-nowhere i e before =
+        ap (found s) (first-none (reachesHeld s os target) (positionCount s)
+        (λ k l. not-le-test (before k (Z.≤-<-trans _ _ _ (position-before-end s c k l) past-end))))
       where
         past-end : fine (break s (segments s)) <ℤ at s i (startOffset s i)
-        past-end = subst (λ j. fine (break s j) <ℤ at s i (startOffset s i)) e (Z.<-in _ _ (omega (arith, start-at-end s i e, Z.bal-+ (fine (break s i)) (pos (startOffset s i)))))
+        past-end =
+            subst (λ j. fine (break s j) <ℤ at s i (startOffset s i)) e
+            (Z.<-in _ _ (omega (arith, start-at-end s i e, Z.bal-+ (fine (break s i)) (pos (startOffset s i)))))
 
 -- ---- the loop over the segments
 
@@ -113,9 +155,16 @@ pub record Before (s : Space) (os : List ℤ) (target : ℤ) (column start i : �
 module _ (s : Space) (os : List ℤ) (target : ℤ) (c : Checked s) where
   pub before-first : Before s os target 0 0 0
   unfolding firstColumn
-  before-first = record { within = omega arith; column-is = refl; start-is = sym (start-of-first s (legal s c .lengths .some-segment)); none-before = none-at-first s os target c }
+  before-first =
+      record {
+        within = omega arith;
+        column-is = refl;
+        start-is = sym (start-of-first s (legal s c .lengths .some-segment));
+        none-before = none-at-first s os target c;
+      }
 
-  module _ {column start i p d next u : ℕ} (B : Before s os target column start i) (below : i < segments s) (p-is : p ≡ degree s i) (d-is : d ≡ fineWidth s i) (next-is : next ≡ startOffset s (suc i))
+  module _ {column start i p d next u : ℕ} (B : Before s os target column start i) (below : i < segments s) (p-is : p ≡ degree s i)
+      (d-is : d ≡ fineWidth s i) (next-is : next ≡ startOffset s (suc i))
       (least : LeastFrom (valueOn os column p d) target start (d + next) u) where
     least-of-segment : LeastFrom (valuesOf s os target i) target (startOffset s i) (endOffset s i) u
     least-of-segment = rw (B .column-is, p-is, d-is, B .start-is, next-is) at least
@@ -132,10 +181,12 @@ module _ (s : Space) (os : List ℤ) (target : ℤ) (c : Checked s) where
     pub found-in : u < d + next → At (at s i u) ≡ found s (first (positionCount s) (reachesHeld s os target))
     found-in h = sym (found-at s os target c i below (B .none-before) u least-of-segment (omega arith))
 
-  pub found-past : {column start i : ℕ} → Before s os target column start i → segments s ≤ i → Nowhere ≡ found s (first (positionCount s) (reachesHeld s os target))
+  pub found-past : {column start i : ℕ} → Before s os target column start i → segments s ≤ i
+      → Nowhere ≡ found s (first (positionCount s) (reachesHeld s os target))
   found-past {column} {start} {i} B h = sym (found-nowhere s os target c i (omega (arith, B .within)) (B .none-before))
 
 -- the first offset reads no breakpoint
 pub start-partial : (b d o : List ℤ) (i : ℕ) → startOffset (space [] d o) i ≡ startOffset (space b d o) i
 unfolding startOffset
-start-partial b d o i = ap (λ t. cond (eqb i (length d) || t) 1 0) (sym (starts-at-discontinuity-partial [] d o i) ∙ starts-at-discontinuity-partial b d o i)
+start-partial b d o i =
+    ap (λ t. cond (eqb i (length d) || t) 1 0) (sym (starts-at-discontinuity-partial [] d o i) ∙ starts-at-discontinuity-partial b d o i)

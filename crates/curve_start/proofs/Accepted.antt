@@ -11,7 +11,11 @@ use Rattle.base_outcome.proofs.Outcome.{answer-unique}
 use Rattle.theorems_values.proofs.LegalCall.{answered-calls-are-legal, legal-calls-answer}
 use Rattle.curve_start.specs.CurveAlone.{curveAlone}
 
-abbrev pub accepted-by : (s : Space) (coefs : List ℤ) (numLength denLength : ℕ) (r : CurveResult) → curveAlone s coefs numLength denLength ≡ answer r → Accepted s
+abbrev pub accepted-by : (s : Space) (coefs : List ℤ) (numLength denLength : ℕ) (r : CurveResult)
+    → curveAlone s coefs numLength denLength ≡ answer r → Accepted s
 accepted-by s coefs numLength denLength r e =
     let l = answered-calls-are-legal s coefs [] numLength denLength 0 r e in
-    record { table = r .table; is = l .accepted .is ∙ ap (λ q. answer (q .table)) (answer-unique (legal-calls-answer s coefs [] numLength denLength 0 l) e) }
+    record {
+      table = r .table;
+      is = l .accepted .is ∙ ap (λ q. answer (q .table)) (answer-unique (legal-calls-answer s coefs [] numLength denLength 0 l) e);
+    }

@@ -67,7 +67,8 @@ module _ (c : Call) (e : legality (checkedOf c) ≡ Legal) where
 
   pub positions-good : (k : ℕ) → k < length (c .positions) → Within (c .lists) (getD (c .positions) k (pos 0))
   positions-good k h =
-      let none-bad = first-none-inverts (badPosition (c .lists) (c .positions)) (length (c .positions)) (passed .0 .entries .positions-inside) in
+      let none-bad = first-none-inverts (badPosition (c .lists) (c .positions)) (length (c .positions))
+      (passed .0 .entries .positions-inside) in
       let inside = good-position (c .lists) (c .positions) k (none-bad k h) in
       record { low = inside .0; high = inside .1 }
 

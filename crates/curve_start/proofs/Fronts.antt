@@ -91,13 +91,19 @@ module _ (s : Space) (legal : ListsLegal (s .breaks) (s .degrees) (s .orders)) w
       -- the rows of the parts up to this one are among the beam's
       pub rows-within : row + rowCount part ≤ rowCount s
       rows-within =
-          omega (arith, rows-are, front-rows-more s fit a begins, front-rows-within s lengths fit (partEnd s a) (part-ends s a more .boundary))
+          omega (
+            arith,
+            rows-are,
+            front-rows-more s fit a begins,
+            front-rows-within s lengths fit (partEnd s a) (part-ends s a more .boundary),
+          )
 
       -- the ordinates of a wood part, with those of the part put behind them in so many cells of the list
       grown : (wood : Wood) (os₀ : List ℤ) {os mid : List ℤ} (n : ℕ) (u : Table) → n ≡ columnCount part
           → Fronted s a (f .state .table) (coefficient wood coefs) column os₀ os
           → mid ≡ ordinates part u (own wood) ++ drop (columnCount part) (take n (drop column os))
-          → Fronted s (partEnd s a) (beside (firstColumn s a) (columnCount part) (f .state .table) u) (coefficient wood coefs) (column + n) os₀
+          → Fronted s (partEnd s a) (beside (firstColumn s a) (columnCount part) (f .state .table) u) (coefficient wood coefs)
+          (column + n) os₀
           (take column os ++ (mid ++ drop n (drop column os)))
       grown wood os₀ {os} {mid} n u n-is os-is mid-is =
           ap₂ (λ xs ys. xs ++ (mid ++ ys)) before-is after-is
@@ -109,7 +115,8 @@ module _ (s : Space) (legal : ListsLegal (s .breaks) (s .degrees) (s .orders)) w
           before = ordinates (section s 0 a) (f .state .table) (coefficient wood coefs)
 
           size : length before ≡ column
-          size = ordinates-length (section s 0 a) (f .state .table) (coefficient wood coefs) ∙ front-columns s a (f .state .boundary .within)
+          size =
+              ordinates-length (section s 0 a) (f .state .table) (coefficient wood coefs) ∙ front-columns s a (f .state .boundary .within)
               ∙ sym (f .columns)
 
           before-is : take column os ≡ before
@@ -124,7 +131,8 @@ module _ (s : Space) (legal : ListsLegal (s .breaks) (s .degrees) (s .orders)) w
               ∙ append-nil (ordinates part u (own wood))
 
           joined : before ++ ordinates part u (own wood)
-              ≡ ordinates (section s 0 (partEnd s a)) (beside (firstColumn s a) (columnCount part) (f .state .table) u) (coefficient wood coefs)
+              ≡ ordinates (section s 0 (partEnd s a)) (beside (firstColumn s a) (columnCount part) (f .state .table) u)
+              (coefficient wood coefs)
           joined = ap (λ r. before ++ ordinates part u (λ i. coefficient wood coefs (r + i))) rows-are
               ∙ sym (front-ordinates s fit a begins (f .state .table) u (f .state .answers) (coefficient wood coefs))
 
@@ -151,8 +159,10 @@ module _ (s : Space) (legal : ListsLegal (s .breaks) (s .degrees) (s .orders)) w
         answered {m} e = record {
           state = state′;
           columns = end-is;
-          early-is = grown earlywood (l₀ .early) (end - column) (x .table) size (f .early-is) (left .early-is (x .table) (x .is)) ∙ moved earlywood (l₀ .early);
-          late-is = grown latewood (l₀ .late) (end - column) (x .table) size (f .late-is) (left .late-is (x .table) (x .is)) ∙ moved latewood (l₀ .late);
+          early-is = grown earlywood (l₀ .early) (end - column) (x .table) size (f .early-is) (left .early-is (x .table) (x .is))
+              ∙ moved earlywood (l₀ .early);
+          late-is = grown latewood (l₀ .late) (end - column) (x .table) size (f .late-is) (left .late-is (x .table) (x .is))
+              ∙ moved latewood (l₀ .late);
         }
           where
             x : Answered (weights part) m (rowCount part)

@@ -173,7 +173,8 @@ module _ (s : Space) (a e : ℕ) (p : PartOf s a e) where
       WorkedOut wood coefs row os os′ = (t : Table) → Holds num′ den′ t → length t ≡ n
           → os′ ≡ tab (length os) (ordinate t (coefficient wood (rowsFrom row n coefs)))
 
-      pub leaves-rows : (coefs : List ℤ) (row : ℕ) {early′ late′ : List ℤ} → length early ≡ columnCount part → length late ≡ columnCount part
+      pub leaves-rows : (coefs : List ℤ) (row : ℕ) {early′ late′ : List ℤ} → length early ≡ columnCount part
+          → length late ≡ columnCount part
           → WorkedOut earlywood coefs row early early′ → WorkedOut latewood coefs row late late′
           → PartsLeave part (λ wood i. coefficient wood coefs (row + i)) (Rows n) (lent num den early late) (lent num′ den′ early′ late′)
       leaves-rows coefs row l m worked worked′ = record {

@@ -29,11 +29,18 @@ rise-more rise low high p q h = record {
     whole = past low high above
 
     least : rise ≤ natAbs (high -ℤ low)
-    least = omega (arith, Z.<-out _ _ (subst (λ z. (low +ℤ pos rise) <ℤ z) (sym whole) h), Z.bal-+ low (pos rise), Z.bal-+ low (pos (natAbs (high -ℤ low))))
+    least =
+        omega (
+          arith,
+          Z.<-out _ _ (subst (λ z. (low +ℤ pos rise) <ℤ z) (sym whole) h),
+          Z.bal-+ low (pos rise),
+          Z.bal-+ low (pos (natAbs (high -ℤ low))),
+        )
 
 -- the gap of a small number below a target that is no larger
 pub gap-small : (bound : ℕ) (v target : ℤ) → natAbs v ≤ bound → v <ℤ target → target ≤ℤ pos bound → natAbs (target -ℤ v) ≤ 2 * bound
-gap-small bound v target h k l = omega (arith, Z.abs-sub target v, Z.abs-le-in target bound (Z.≤-trans _ v _ (Z.abs-le-out v bound h .0) (Z.<-≤ v target k)) l)
+gap-small bound v target h k l =
+    omega (arith, Z.abs-sub target v, Z.abs-le-in target bound (Z.≤-trans _ v _ (Z.abs-le-out v bound h .0) (Z.<-≤ v target k)) l)
 
 -- the room that a gap leaves is a small number
 pub room-small : (gap d : ℕ) {a b : ℕ} → gap ≤ a → d ≤ b → gap * d ≤ a * b
@@ -51,10 +58,13 @@ passed-cost room cost = omega (arith, div-add-mod' room cost)
 pub steepest-none : (os : List ℤ) (c : ℕ) → Steepest os c 0 1
 steepest-none os c = record { positive = omega arith; small = omega arith; rises = λ j h. absurd (omega arith) }
 
-pub steepest-more : (os : List ℤ) (c k rise r : ℕ) → Steepest os c k rise → rise ≤ r → r ≤ 2 * ordinateLimit → getD os (c + k + 1) (pos 0) ≤ℤ (getD os (c + k) (pos 0) +ℤ pos r) → Steepest os c (k + 1) r
-steepest-more os c k rise r S h small new = record { positive = omega (arith, S .positive); small = small; rises = λ j l. all j (omega arith) }
+pub steepest-more : (os : List ℤ) (c k rise r : ℕ) → Steepest os c k rise → rise ≤ r → r ≤ 2 * ordinateLimit
+    → getD os (c + k + 1) (pos 0) ≤ℤ (getD os (c + k) (pos 0) +ℤ pos r) → Steepest os c (k + 1) r
+steepest-more os c k rise r S h small new =
+    record { positive = omega (arith, S .positive); small = small; rises = λ j l. all j (omega arith) }
   where
     all : (j : ℕ) → j < suc k → getD os (c + suc j) (pos 0) ≤ℤ (getD os (c + j) (pos 0) +ℤ pos r)
     all = below-suc (λ j. getD os (c + suc j) (pos 0) ≤ℤ (getD os (c + j) (pos 0) +ℤ pos r))
-        (λ j l. Z.≤-trans _ _ _ (S .rises j l) (Z.+-mono _ _ _ _ (Z.≤-refl (getD os (c + j) (pos 0))) (Z.≤-in (pos rise) (pos r) (omega arith))))
+        (λ j l. Z.≤-trans _ _ _ (S .rises j l) (Z.+-mono _ _ _ _ (Z.≤-refl (getD os (c + j) (pos 0)))
+        (Z.≤-in (pos rise) (pos r) (omega arith))))
         (subst (λ i. getD os i (pos 0) ≤ℤ (getD os (c + k) (pos 0) +ℤ pos r)) (let z : c + k + 1 ≡ c + suc k = omega arith in z) new)

@@ -43,13 +43,17 @@ module _ (d : ℕ) (positive : 0 < d) where
   module _ (u : ℤ) (from : pos 0 ≤ℤ u) (to : u ≤ℤ pos d) where
     pub blend-mono : (g g′ h h′ : ℤ) → g ≤ℤ g′ → h ≤ℤ h′ → blend d u g h ≤ℤ blend d u g′ h′
     unfolding blend rounded
-    blend-mono g g′ h h′ p q = nearest-mono _ _ d positive (Z.+-mono _ _ _ _ (scaled (pos d -ℤ u) g g′ (Z.nonNeg-le _ (Z.le-sub u (pos d) to)) p) (scaled u h h′ from q))
+    blend-mono g g′ h h′ p q =
+        nearest-mono _ _ d positive (Z.+-mono _ _ _ _ (scaled (pos d -ℤ u) g g′ (Z.nonNeg-le _ (Z.le-sub u (pos d) to)) p)
+        (scaled u h h′ from q))
 
     -- a stage's neighbours rise by at most Δ
-    pub triangle-rise : (p : ℕ) (Δ : ℤ) (g : ℕ → ℤ) → ((j : ℕ) → j < p → g (suc j) ≤ℤ (g j +ℤ Δ)) → (n j : ℕ) → j + n < p → triangle d u g n (suc j) ≤ℤ (triangle d u g n j +ℤ Δ)
+    pub triangle-rise : (p : ℕ) (Δ : ℤ) (g : ℕ → ℤ) → ((j : ℕ) → j < p → g (suc j) ≤ℤ (g j +ℤ Δ)) → (n j : ℕ) → j + n < p
+        → triangle d u g n (suc j) ≤ℤ (triangle d u g n j +ℤ Δ)
     unfolding triangle
     triangle-rise p Δ g rise zero j h = rise j (omega arith)
-    triangle-rise p Δ g rise (suc n) j h = subst (λ z. triangle d u g (suc n) (suc j) ≤ℤ z) (blend-raised u (triangle d u g n j) (triangle d u g n (suc j)) Δ)
+    triangle-rise p Δ g rise (suc n) j h =
+        subst (λ z. triangle d u g (suc n) (suc j) ≤ℤ z) (blend-raised u (triangle d u g n j) (triangle d u g n (suc j)) Δ)
         (blend-mono _ _ _ _ (triangle-rise p Δ g rise n j (omega arith)) (triangle-rise p Δ g rise n (suc j) (omega arith)))
 
   -- ---- from u to u + k
@@ -75,11 +79,18 @@ module _ (d : ℕ) (positive : 0 < d) where
     triangle-moved p c Δ g rise l zero j h = Z.≤-in _ _ (omega (arith, Z.bal-+ (g j) (pos (0 * c))))
     triangle-moved p c Δ g rise l (suc n) j h =
         Z.≤-trans _ (blend d (u +ℤ k) (x +ℤ pos (n * c)) (y +ℤ pos (n * c))) _
-        (blend-mono (u +ℤ k) end-from to _ _ _ _ (triangle-moved p c Δ g rise l n j (omega arith)) (triangle-moved p c Δ g rise l n (suc j) (omega arith)))
+        (blend-mono (u +ℤ k) end-from to _ _ _ _ (triangle-moved p c Δ g rise l n j (omega arith))
+        (triangle-moved p c Δ g rise l n (suc j) (omega arith)))
         (subst (λ z. z ≤ℤ (blend d u x y +ℤ pos (suc n * c))) (sym (blend-raised (u +ℤ k) x y (pos (n * c))))
         (Z.≤-trans _ (blend d u x y +ℤ pos c +ℤ pos (n * c)) _
-        (Z.+-mono _ _ _ _ (blend-moved u k x y (pos c) (Z.≤-trans _ (k *ℤ Δ) _ (scaled k (y -ℤ x) Δ onward rises) l)) (Z.≤-refl (pos (n * c))))
-        (Z.≤-in _ _ (omega (arith, Z.bal-+ (blend d u x y +ℤ pos c) (pos (n * c)), Z.bal-+ (blend d u x y) (pos c), Z.bal-+ (blend d u x y) (pos (suc n * c)))))))
+        (Z.+-mono _ _ _ _ (blend-moved u k x y (pos c) (Z.≤-trans _ (k *ℤ Δ) _ (scaled k (y -ℤ x) Δ onward rises) l))
+        (Z.≤-refl (pos (n * c))))
+        (Z.≤-in _ _ (omega (
+          arith,
+          Z.bal-+ (blend d u x y +ℤ pos c) (pos (n * c)),
+          Z.bal-+ (blend d u x y) (pos c),
+          Z.bal-+ (blend d u x y) (pos (suc n * c)),
+        )))))
       where
         x : ℤ
         x = triangle d u g n j
@@ -88,4 +99,11 @@ module _ (d : ℕ) (positive : 0 < d) where
         y = triangle d u g n (suc j)
 
         rises : (y -ℤ x) ≤ℤ Δ
-        rises = Z.≤-in _ _ (omega (arith, Z.≤-out _ _ (triangle-rise u from start-to p Δ g rise n j (omega arith)), Z.bal-+ x Δ, Z.bal-+ y (negℤ x), Z.bal-neg x))
+        rises =
+            Z.≤-in _ _ (omega (
+              arith,
+              Z.≤-out _ _ (triangle-rise u from start-to p Δ g rise n j (omega arith)),
+              Z.bal-+ x Δ,
+              Z.bal-+ y (negℤ x),
+              Z.bal-neg x,
+            ))

@@ -8,7 +8,8 @@ use lib.IntN.{ℤ, pos, negsuc, negℤ, natAbs, _+ℤ_, _-ℤ_, _*ℤ_}
 use lib.Signed.{_≤ℤ_}
 use Rattle.base_exact.specs.Floor.{floorDiv, nearest}
 use Rattle.base_exact.proofs.Ring.{ring, reads}
-use Rattle.base_exact.proofs.Integer.{ℤ-ring, ≤-in, ≤-out, <-out, <-≤, +-comm, *-comm, *-mono, *-pos, bal-+, bal-*, bal-neg, abs-le, abs-le-in, abs-le-out, abs-mono, abs-sub, abs-mul-le, floorDiv-le, lt-floorDiv, le-floorDiv}
+use Rattle.base_exact.proofs.Integer.{ℤ-ring, ≤-in, ≤-out, <-out, <-≤, +-comm, *-comm, *-mono, *-pos, bal-+, bal-*, bal-neg, abs-le}
+use Rattle.base_exact.proofs.Integer.{abs-le-in, abs-le-out, abs-mono, abs-sub, abs-mul-le, floorDiv-le, lt-floorDiv, le-floorDiv}
 use Rattle.base_exact.proofs.Floor.{floorDiv-mono, floorDiv-exact, nearest-add}
 use Rattle.base_exact.proofs.Rate.{lack, lack-bounds, quotient-nearest}
 use Rattle.base_exact.proofs.Word.{pos-of}
@@ -20,7 +21,8 @@ use Rattle.curve_triangle.specs.Rate.{highOf, lowOf, Rated}
 
 -- sizes keep within a bound
 pub blend-abs : (d : ℕ) (u g h : ℤ) → 0 < d → pos 0 ≤ℤ u → u ≤ℤ pos d → (k : ℕ) → natAbs g ≤ k → natAbs h ≤ k → natAbs (blend d u g h) ≤ k
-blend-abs d u g h positive from to k p q = let b = blend-between d u positive from to (between g k p) (between h k q) in abs-le-in (blend d u g h) k (b .at-least) (b .at-most)
+blend-abs d u g h positive from to k p q =
+    let b = blend-between d u positive from to (between g k p) (between h k q) in abs-le-in (blend d u g h) k (b .at-least) (b .at-most)
   where
     between : (z : ℤ) (k : ℕ) → natAbs z ≤ k → Between (negℤ (pos k)) (pos k) z
     between z k h = record { at-least = abs-le-out z k h .0; at-most = abs-le-out z k h .1 }
@@ -38,8 +40,10 @@ blend-is d u g h positive = sym (ap (λ t. nearest t d) (alg (pos d)) ∙ neares
 -- k times a part of d, over d, is at most k
 share-abs : (v : ℤ) (n k : ℕ) → 0 < n → pos 0 ≤ℤ v → v ≤ℤ pos n → natAbs (floorDiv (v *ℤ pos k) n) ≤ k
 share-abs v n k p above below = abs-mono (floorDiv (v *ℤ pos k) n) (pos k)
-    (le-floorDiv (pos 0) (v *ℤ pos k) n p (≤-in (pos 0 *ℤ pos n) (v *ℤ pos k) (omega (arith, ≤-out _ _ (*-pos v (pos k) above (≤-in (pos 0) (pos k) (omega arith)))))))
-    (rw (floorDiv-exact (pos k) n p) at (floorDiv-mono (v *ℤ pos k) (pos k *ℤ pos n) n p (rw (*-comm (pos k) (pos n)) (*-mono v (pos n) k below))))
+    (le-floorDiv (pos 0) (v *ℤ pos k) n p (≤-in (pos 0 *ℤ pos n) (v *ℤ pos k)
+    (omega (arith, ≤-out _ _ (*-pos v (pos k) above (≤-in (pos 0) (pos k) (omega arith)))))))
+    (rw (floorDiv-exact (pos k) n p) at (floorDiv-mono (v *ℤ pos k) (pos k *ℤ pos n) n p
+    (rw (*-comm (pos k) (pos n)) (*-mono v (pos n) k below))))
 
 -- what a floored quotient leaves
 rest-bounds : (z : ℤ) (n : ℕ) → 0 < n → (pos 0 ≤ℤ (z -ℤ floorDiv z n *ℤ pos n)) × ((z -ℤ floorDiv z n *ℤ pos n) ≤ℤ pos n)
@@ -48,7 +52,16 @@ rest-bounds z n p =
     let parts = bal-+ z (negℤ (q *ℤ pos n)) in
     let turned = bal-neg (q *ℤ pos n) in (
       ≤-in (pos 0) (z -ℤ q *ℤ pos n) (omega (arith, parts, turned, ≤-out _ _ (floorDiv-le z n p))),
-      ≤-in (z -ℤ q *ℤ pos n) (pos n) (omega (arith, parts, turned, <-out _ _ (lt-floorDiv z n p), bal-* q (pos n), bal-+ q (pos 1), bal-* (q +ℤ pos 1) (pos n), ap (λ t. t * n) (bal-+ q (pos 1)))),
+      ≤-in (z -ℤ q *ℤ pos n) (pos n) (omega (
+        arith,
+        parts,
+        turned,
+        <-out _ _ (lt-floorDiv z n p),
+        bal-* q (pos n),
+        bal-+ q (pos 1),
+        bal-* (q +ℤ pos 1) (pos n),
+        ap (λ t. t * n) (bal-+ q (pos 1)),
+      )),
     )
 
 -- no quotient is larger in size than its dividend
@@ -79,7 +92,8 @@ sizes u (negsuc n) o = absurd (o .long .lt)
 sizes u (pos n) o = record {
   fine-abs = abs-mul-le u (pos 8589934592) 512000 8589934592 (offset-abs u (pos n) o) (omega arith);
   high-abs = share-abs u n 8589934592 p (o .above) (o .below);
-  back-abs = abs-mul-le (highOf u (pos n)) (pos n) 8589934592 512000 (share-abs u n 8589934592 p (o .above) (o .below)) (omega (arith, ≤-out _ _ (o .short)));
+  back-abs = abs-mul-le (highOf u (pos n)) (pos n) 8589934592 512000 (share-abs u n 8589934592 p (o .above) (o .below))
+      (omega (arith, ≤-out _ _ (o .short)));
   rest-inside = record { above = left .0; below = left .1; long = o .long; short = o .short };
   low-abs = share-abs (rest u (pos n)) n 131072 p (left .0) (left .1);
   width-abs = omega (arith, ≤-out _ _ (o .short));
@@ -104,7 +118,8 @@ module _ (high low u d x : ℤ) (rated : Rated high low u d) (size : natAbs x �
   pub part-abs : natAbs (floorDiv (x *ℤ low) 131072) ≤ 536870912 * 131072
   part-abs = omega (arith, floorDiv-abs (x *ℤ low) 131072, abs-mul-le x (low) 536870912 131072 size low-abs)
 
-  pub share-is : (half : ℕ) → 4294971392 ≤ half → half ≤ 4294971588 → floorDiv (x *ℤ high +ℤ floorDiv (x *ℤ low) 131072 +ℤ pos half) 8589934592 ≡ nearest (u *ℤ x) (natAbs d)
+  pub share-is : (half : ℕ) → 4294971392 ≤ half → half ≤ 4294971588
+      → floorDiv (x *ℤ high +ℤ floorDiv (x *ℤ low) 131072 +ℤ pos half) 8589934592 ≡ nearest (u *ℤ x) (natAbs d)
   share-is half enough close =
       let s = sizes u d (rated .inside) in
       ap₂ (λ (a b : ℤ). floorDiv (x *ℤ a +ℤ floorDiv (x *ℤ b) 131072 +ℤ pos half) 8589934592) (rated .high-is) (rated .low-is)

@@ -39,7 +39,8 @@ pub starts-first : (s : Space) (x : ℤ) (i : ℕ) → leZ (firstPosition s i) x
 unfolding firstPosition startsBy
 starts-first s x i = go (startsAtDiscontinuity s i)
   where
-    go : (b : Bool) → leZ (cond b (fine (break s i) +ℤ pos 1) (fine (break s i))) x ≡ cond b (ltZ (fine (break s i)) x) (leZ (fine (break s i)) x)
+    go : (b : Bool) → leZ (cond b (fine (break s i) +ℤ pos 1) (fine (break s i))) x
+        ≡ cond b (ltZ (fine (break s i)) x) (leZ (fine (break s i)) x)
     go true = le-more (fine (break s i)) x
     go false = refl
 
@@ -71,36 +72,44 @@ module _ (b d o : List ℤ) (h : ListsLegal b d o) where
 
   first-rise : (i : ℕ) → suc i < length d → firstPosition s i ≤ℤ firstPosition s (suc i)
   first-rise i l =
-      ≤-trans _ _ _ (first-high s i) (≤-trans _ _ _ (fine-rise (break s i) (break s (suc i)) (h .breaks-legal .rise i (omega (arith, h .break-count)))) (first-low s (suc i)))
+      ≤-trans _ _ _ (first-high s i) (≤-trans _ _ _
+      (fine-rise (break s i) (break s (suc i)) (h .breaks-legal .rise i (omega (arith, h .break-count)))) (first-low s (suc i)))
 
   first-mono : (i j : ℕ) → i ≤ j → j < length d → firstPosition s i ≤ℤ firstPosition s j
   first-mono i zero a l = subst (λ k. firstPosition s k ≤ℤ firstPosition s 0) (let e : 0 ≡ i = omega arith in e) (≤-refl _)
   first-mono i (suc j) a l = go (first-mono i j) (eq-or-lt-of-le a)
     where
-      go : (i ≤ j → j < length d → firstPosition s i ≤ℤ firstPosition s j) → (i ≡ suc j) ⊎ (i < suc j) → firstPosition s i ≤ℤ firstPosition s (suc j)
+      go : (i ≤ j → j < length d → firstPosition s i ≤ℤ firstPosition s j) → (i ≡ suc j) ⊎ (i < suc j)
+          → firstPosition s i ≤ℤ firstPosition s (suc j)
       go ih (inl e) = subst (λ k. firstPosition s k ≤ℤ firstPosition s (suc j)) (sym e) (≤-refl _)
       go ih (inr k) = ≤-trans _ _ _ (ih (omega arith) (omega arith)) (first-rise j l)
 
   -- a position from a segment's first one up to the next segment's
-  pub near-is : (x : ℤ) (i : ℕ) → i < length d → leZ (firstPosition s i) x ≡ true → ((suc i ≡ length d) ⊎ (x <ℤ firstPosition s (suc i))) → segmentAt s x ≡ i
+  pub near-is : (x : ℤ) (i : ℕ) → i < length d → leZ (firstPosition s i) x ≡ true → ((suc i ≡ length d) ⊎ (x <ℤ firstPosition s (suc i)))
+      → segmentAt s x ≡ i
   unfolding segmentAt
-  near-is x i l starts ends = ap (λ t. Option·getD t 0) (last-at (startsBy s x) (length d) i l (sym (starts-first s x i) ∙ starts) (λ k a m. after k a m ends))
+  near-is x i l starts ends =
+      ap (λ t. Option·getD t 0) (last-at (startsBy s x) (length d) i l (sym (starts-first s x i) ∙ starts) (λ k a m. after k a m ends))
     where
       after : (k : ℕ) → i < k → k < length d → ((suc i ≡ length d) ⊎ (x <ℤ firstPosition s (suc i))) → startsBy s x k ≡ false
       after k a m (inl e) = absurd (omega arith)
-      after k a m (inr e) = sym (starts-first s x k) ∙ not-le-test (<-≤-trans x (firstPosition s (suc i)) (firstPosition s k) e (first-mono (suc i) k a m))
+      after k a m (inr e) =
+          sym (starts-first s x k) ∙ not-le-test (<-≤-trans x (firstPosition s (suc i)) (firstPosition s k) e (first-mono (suc i) k a m))
 
 -- ---- in an array of 48
 
 pub first-partial : (b d o : List ℤ) (i : ℕ) → firstPosition (space b [] o) i ≡ firstPosition (space b d o) i
 unfolding firstPosition
 first-partial b d o i =
-    ap (λ (t : Bool). cond t (fine (break (space b d o) i) +ℤ pos 1) (fine (break (space b d o) i))) (sym (starts-at-discontinuity-partial b [] o i) ∙ starts-at-discontinuity-partial b d o i)
+    ap (λ (t : Bool). cond t (fine (break (space b d o) i) +ℤ pos 1) (fine (break (space b d o) i)))
+    (sym (starts-at-discontinuity-partial b [] o i) ∙ starts-at-discontinuity-partial b d o i)
 
-pub firsts-filled : (b d o : List ℤ) → length d ≤ 48 → tab (length d) (firstPosition (space b d o)) ++ drop (length d) (replicate 48 (pos 0)) ≡ firstPositionsOf (space b d o)
+pub firsts-filled : (b d o : List ℤ) → length d ≤ 48
+    → tab (length d) (firstPosition (space b d o)) ++ drop (length d) (replicate 48 (pos 0)) ≡ firstPositionsOf (space b d o)
 unfolding firstPositionsOf
 firsts-filled b d o h =
-    tab-rest 48 (length d) h (λ i l. sym (cond-true (firstPosition (space b d o) i) (pos 0) (lt-ltb i (length d) l))) (λ i l. cond-false (firstPosition (space b d o) i) (pos 0) (le-ltb i (length d) l))
+    tab-rest 48 (length d) h (λ i l. sym (cond-true (firstPosition (space b d o) i) (pos 0) (lt-ltb i (length d) l)))
+    (λ i l. cond-false (firstPosition (space b d o) i) (pos 0) (le-ltb i (length d) l))
 
 pub firsts-long : (s : Space) → length (firstPositionsOf s) ≡ 48
 unfolding firstPositionsOf
@@ -117,9 +126,11 @@ module _ (b d o : List ℤ) (h : ListsLegal b d o) where
   last-ext (suc n) f g e = ap₂ (λ t r. cond t (some n) r) (e n (omega arith)) (last-ext n f g (λ k l. e k (omega arith)))
 
   -- the last whose first position is at or before x
-  pub segment-found : (x : ℤ) (firsts : List ℤ) (m : ℕ) → firsts ≡ firstPositionsOf (space b d o) → length d ≡ m → Option·getD (last m (λ k. leZ (getD firsts k (pos 0)) x)) 0 ≡ segmentAt (space b d o) x
+  pub segment-found : (x : ℤ) (firsts : List ℤ) (m : ℕ) → firsts ≡ firstPositionsOf (space b d o) → length d ≡ m
+      → Option·getD (last m (λ k. leZ (getD firsts k (pos 0)) x)) 0 ≡ segmentAt (space b d o) x
   unfolding segmentAt
   segment-found x firsts m is count =
       ap (λ n. Option·getD (last n (λ k. leZ (getD firsts k (pos 0)) x)) 0) (sym count)
       ∙ ap (λ t. Option·getD t 0)
-      (last-ext (length d) _ _ (λ k l. ap (λ fs. leZ (getD fs k (pos 0)) x) is ∙ ap (λ z. leZ z x) (first-at k l) ∙ starts-first (space b d o) x k))
+      (last-ext (length d) _ _ (λ k l. ap (λ fs. leZ (getD fs k (pos 0)) x) is ∙ ap (λ z. leZ z x) (first-at k l)
+      ∙ starts-first (space b d o) x k))

@@ -19,7 +19,9 @@ module _ (os : List ℤ) (c p : ℕ) where
   -- the copy
   pub local-filled : p < 6 → tab (p + 1) (λ k. getD os (c + k) (pos 0)) ++ drop (p + 1) (replicate 6 (pos 0)) ≡ localOf os c p
   unfolding localOf
-  local-filled h = tab-rest 6 (p + 1) (omega arith) (λ k l. sym (cond-true (getD os (c + k) (pos 0)) (pos 0) (le-leb k p (omega arith)))) (λ k l. cond-false (getD os (c + k) (pos 0)) (pos 0) (lt-leb k p (omega arith)))
+  local-filled h =
+      tab-rest 6 (p + 1) (omega arith) (λ k l. sym (cond-true (getD os (c + k) (pos 0)) (pos 0) (le-leb k p (omega arith))))
+      (λ k l. cond-false (getD os (c + k) (pos 0)) (pos 0) (lt-leb k p (omega arith)))
 
   pub local-at : (k : ℕ) → p < 6 → k ≤ p → getD (localOf os c p) k (pos 0) ≡ getD os (c + k) (pos 0)
   unfolding localOf

@@ -56,9 +56,12 @@ module _ (b d o : List ℤ) (h : ListsLegal b d o) (x : ℤ) (w : Within (space 
 -- ---- the columns of a segment
 
 -- the array of first columns
-pub columns-filled : (d : List ℤ) → length d ≤ 48 → tab (length d) (firstColumn (space [] d [])) ++ drop (length d) (replicate 48 0) ≡ columnsOf (space [] d [])
+pub columns-filled : (d : List ℤ) → length d ≤ 48
+    → tab (length d) (firstColumn (space [] d [])) ++ drop (length d) (replicate 48 0) ≡ columnsOf (space [] d [])
 unfolding columnsOf
-columns-filled d h = tab-rest 48 (length d) h (λ i l. sym (cond-true (firstColumn (space [] d []) i) 0 (lt-ltb i (length d) l))) (λ i l. cond-false (firstColumn (space [] d []) i) 0 (le-ltb i (length d) l))
+columns-filled d h =
+    tab-rest 48 (length d) h (λ i l. sym (cond-true (firstColumn (space [] d []) i) 0 (lt-ltb i (length d) l)))
+    (λ i l. cond-false (firstColumn (space [] d []) i) 0 (le-ltb i (length d) l))
 
 pub columns-long : (d : List ℤ) → length (columnsOf (space [] d [])) ≡ 48
 unfolding columnsOf
@@ -78,7 +81,8 @@ module _ (b d o : List ℤ) (h : ListsLegal b d o) (i : ℕ) (l : i < length d) 
 -- ---- the place
 
 module _ (b d o : List ℤ) (x : ℤ) (i : ℕ) (at : i ≡ segmentAt (space b d o) x) where
-  pub place-is : {c p : ℕ} {u e : ℤ} → c ≡ firstColumn (space [] d []) i → p ≡ degree (space [] d []) i → u ≡ offset (space b [] []) i x → e ≡ pos (fineWidth (space b [] []) i)
+  pub place-is : {c p : ℕ} {u e : ℤ} → c ≡ firstColumn (space [] d []) i → p ≡ degree (space [] d []) i → u ≡ offset (space b [] []) i x
+      → e ≡ pos (fineWidth (space b [] []) i)
       → record { column = c; degree = p; offset = u; width = e } ≡ placeOf (space b d o) x
   unfolding placeOf
   place-is c-is p-is u-is e-is = λ z. record {
@@ -91,13 +95,18 @@ module _ (b d o : List ℤ) (x : ℤ) (i : ℕ) (at : i ≡ segmentAt (space b d
 -- ---- the value
 
 -- from the segment's ordinates in an array of six
-pub value-local : (os : List ℤ) (c p : ℕ) (u : ℤ) (d : ℕ) → p < 6 → triangle d u (λ k. getD (localOf os c p) k (pos 0)) p 0 ≡ triangle d u (λ k. getD os (c + k) (pos 0)) p 0
-value-local os c p u d l = triangle-ext d u (λ k. getD (localOf os c p) k (pos 0)) (λ k. getD os (c + k) (pos 0)) p (λ k h. local-at os c p k l h) p 0 (omega arith)
+pub value-local : (os : List ℤ) (c p : ℕ) (u : ℤ) (d : ℕ) → p < 6
+    → triangle d u (λ k. getD (localOf os c p) k (pos 0)) p 0 ≡ triangle d u (λ k. getD os (c + k) (pos 0)) p 0
+value-local os c p u d l =
+    triangle-ext d u (λ k. getD (localOf os c p) k (pos 0)) (λ k. getD os (c + k) (pos 0)) p (λ k h. local-at os c p k l h) p 0
+    (omega arith)
 
 -- in the arm of its degree
-pub value-arm : (os : List ℤ) (place : Place) (p : ℕ) (r : ℤ) → place .degree ≡ p → r ≡ triangle (natAbs (place .width)) (place .offset) (λ k. getD os (place .column + k) (pos 0)) p 0 → r ≡ valueOf os place
+pub value-arm : (os : List ℤ) (place : Place) (p : ℕ) (r : ℤ) → place .degree ≡ p
+    → r ≡ triangle (natAbs (place .width)) (place .offset) (λ k. getD os (place .column + k) (pos 0)) p 0 → r ≡ valueOf os place
 unfolding valueOf
-value-arm os place p r e h = h ∙ ap (λ (n : ℕ). triangle (natAbs (place .width)) (place .offset) (λ k. getD os (place .column + k) (pos 0)) n 0) (sym e)
+value-arm os place p r e h =
+    h ∙ ap (λ (n : ℕ). triangle (natAbs (place .width)) (place .offset) (λ k. getD os (place .column + k) (pos 0)) n 0) (sym e)
 
 -- at a position's place it is the definition's
 pub value-blended : (s : Space) (os : List ℤ) (x : ℤ) → valueOf os (placeOf s x) ≡ blended s os (segmentAt s x) x

@@ -28,7 +28,8 @@ module _ (d : ℕ) (u : ℤ) (o : List ℤ) where
   pub staged-none : length o ≡ 6 → Bounded o → Staged o 0
   staged-none l b = record { long = l; before = λ j h. absurd (omega arith); after = λ j h. refl; bounded = b }
 
-  pub staged-more : (r : List ℤ) (k : ℕ) (v : ℤ) → Staged r k → k < 6 → v ≡ blend d u (at r k) (at r (k + 1)) → natAbs v ≤ ordinateLimit → Staged (set r k v) (k + 1)
+  pub staged-more : (r : List ℤ) (k : ℕ) (v : ℤ) → Staged r k → k < 6 → v ≡ blend d u (at r k) (at r (k + 1)) → natAbs v ≤ ordinateLimit
+      → Staged (set r k v) (k + 1)
   staged-more r k v s h e l = record {
     long = length-set r k v ∙ s .long;
     before = λ j a. place j a (le-or-lt k j);
@@ -53,7 +54,8 @@ module _ (d : ℕ) (u : ℤ) (o : List ℤ) where
   unfolding triangle
   triangled-none left b = record { numbers = λ k h. refl; bounded = b }
 
-  pub triangled-more : (r r′ : List ℤ) (n left : ℕ) → Triangled r n left → 0 < left → ((k : ℕ) → k < left → at r′ k ≡ blend d u (at r k) (at r (suc k))) → Bounded r′ → Triangled r′ (suc n) (left - 1)
+  pub triangled-more : (r r′ : List ℤ) (n left : ℕ) → Triangled r n left → 0 < left
+      → ((k : ℕ) → k < left → at r′ k ≡ blend d u (at r k) (at r (suc k))) → Bounded r′ → Triangled r′ (suc n) (left - 1)
   unfolding triangle
   triangled-more r r′ n left t h s b = record {
     numbers = λ k l. s k (omega arith) ∙ ap₂ (blend d u) (t .numbers k (omega arith)) (t .numbers (suc k) (omega arith));
@@ -61,7 +63,9 @@ module _ (d : ℕ) (u : ℤ) (o : List ℤ) where
   }
 
 -- ---- numbers that agree up to p
-pub triangle-ext : (d : ℕ) (u : ℤ) (f g : ℕ → ℤ) (p : ℕ) → ((k : ℕ) → k ≤ p → f k ≡ g k) → (n k : ℕ) → k + n ≤ p → triangle d u f n k ≡ triangle d u g n k
+pub triangle-ext : (d : ℕ) (u : ℤ) (f g : ℕ → ℤ) (p : ℕ) → ((k : ℕ) → k ≤ p → f k ≡ g k) → (n k : ℕ) → k + n ≤ p
+    → triangle d u f n k ≡ triangle d u g n k
 unfolding triangle
 triangle-ext d u f g p h zero k l = h k (omega arith)
-triangle-ext d u f g p h (suc n) k l = ap₂ (blend d u) (triangle-ext d u f g p h n k (omega arith)) (triangle-ext d u f g p h n (suc k) (omega arith))
+triangle-ext d u f g p h (suc n) k l =
+    ap₂ (blend d u) (triangle-ext d u f g p h n k (omega arith)) (triangle-ext d u f g p h n (suc k) (omega arith))

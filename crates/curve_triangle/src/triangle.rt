@@ -4,7 +4,8 @@ ghost use Prim.Native.Nat.{_^_};
 ghost use lib.IntN.{ℤ, natAbs, _*ℤ_};
 ghost use Rattle.base_exact.specs.Floor.{floorDiv, nearest};
 ghost use Rattle.curve_triangle.specs.Offsets.{Offset};
-ghost use Rattle.curve_triangle.specs.Rate.{Rated, ScaleAsks, CarryAsks, ShareAsks, BlendAsks, BlendIs, StageAsks, StageIs, TriangleIs};
+ghost use Rattle.curve_triangle.specs.Rate.{Rated, ScaleAsks, CarryAsks, ShareAsks, BlendAsks, StageAsks};
+ghost use Rattle.curve_triangle.specs.Rate.{BlendIs, StageIs, TriangleIs};
 
 // The parts of a rate count 2^33ths and 2^50ths: these are 2^33 and 2^17, with their bits.
 const HIGH: i64 = 8589934592;

@@ -24,17 +24,29 @@ lengths-fit-requires : tie.Need-lengths-fit-requires
 lengths-fit-requires c κs = search needs
 
 -- the lists, then the entries
-chained : (c : tie.Else2) → let s = c .before .before .before in curveChecked (whole s) (s .args .coefs .now) (s .args .positions .now) ≡ (checked (whole s) then λ legal. legalEntries legal (s .args .coefs .now) (s .args .positions .now) (answer legal))
-chained c = let s = c .before .before .before in curve-chain (whole s) (s .args .coefs .now) (s .args .positions .now) (sym (c .before .before .lengths-fit .ensures) ∙ not-false _ (c .before .if1 .left)) (omega arith)
+chained : (c : tie.Else2) → let s = c .before .before .before in
+    curveChecked (whole s) (s .args .coefs .now) (s .args .positions .now)
+    ≡ (checked (whole s) then λ legal. legalEntries legal (s .args .coefs .now) (s .args .positions .now) (answer legal))
+chained c =
+    let s = c .before .before .before in
+    curve-chain (whole s) (s .args .coefs .now) (s .args .positions .now)
+    (sym (c .before .before .lengths-fit .ensures) ∙ not-false _ (c .before .if1 .left)) (omega arith)
 
-lists : (c : tie.After-enum-told) → let s = c .before .before .before .before .before .before in ListsLegal (s .args .breaks .now) (s .args .degrees .now) (s .args .orders .now)
+lists : (c : tie.After-enum-told) → let s = c .before .before .before .before .before .before in
+    ListsLegal (s .args .breaks .now) (s .args .degrees .now) (s .args .orders .now)
 lists c = legality-legal _ _ _ (sym (c .before .before .check .ensures) ∙ c .enum-told .given .1)
 
 returns : tie.Need-returns
-returns c = let s = c .before .before in sym (refusal-refused _ (curve-lengths (whole s) (s .args .coefs .now) (s .args .positions .now) (sym (c .before .lengths-fit .ensures) ∙ not-true _ (c .if1 .taken))))
+returns c =
+    let s = c .before .before in
+    sym (refusal-refused _ (curve-lengths (whole s) (s .args .coefs .now) (s .args .positions .now)
+    (sym (c .before .lengths-fit .ensures) ∙ not-true _ (c .if1 .taken))))
 
 returns-2 : tie.Need-returns-2
-returns-2 c = let s = c .before .before .before in sym (refusal-refused _ (curve-positions (whole s) (s .args .coefs .now) (s .args .positions .now) (sym (c .before .before .lengths-fit .ensures) ∙ not-false _ (c .before .if1 .left)) (omega arith)))
+returns-2 c =
+    let s = c .before .before .before in
+    sym (refusal-refused _ (curve-positions (whole s) (s .args .coefs .now) (s .args .positions .now)
+    (sym (c .before .before .lengths-fit .ensures) ∙ not-false _ (c .before .if1 .left)) (omega arith)))
 
 check-requires : tie.Need-check-requires
 check-requires c κs = search needs
@@ -51,12 +63,17 @@ check-entries-requires c κs = lists c
 returns-3 : tie.Need-returns-3
 returns-3 c =
     let s = c .before .before .before .before .before .before .before in
-    sym (refusal-refused _ (chained (c .before .before .before .before) ∙ then-refuses (λ legal. legalEntries legal (s .args .coefs .now) (s .args .positions .now) (answer legal)) (refused-refuses _ (sym (c .before .before .before .check .ensures) ∙ c .before .lists .given .1))))
+    sym (refusal-refused _ (chained (c .before .before .before .before)
+    ∙ then-refuses (λ legal. legalEntries legal (s .args .coefs .now) (s .args .positions .now) (answer legal))
+    (refused-refuses _ (sym (c .before .before .before .check .ensures) ∙ c .before .lists .given .1))))
 
 returns-4 : tie.Need-returns-4
 returns-4 c =
     let s = c .before .before .before .before .before .before .before in
-    c .check-entries .ensures ∙ sym (ap legality (chained (c .before .before .before .before) ∙ then-answers (λ legal. legalEntries legal (s .args .coefs .now) (s .args .positions .now) (answer legal)) (legal-checked _ _ _ (lists (c .before)))))
+    c .check-entries .ensures ∙ sym (ap legality
+    (chained (c .before .before .before .before)
+    ∙ then-answers (λ legal. legalEntries legal (s .args .coefs .now) (s .args .positions .now) (answer legal))
+    (legal-checked _ _ _ (lists (c .before)))))
 
 pub check-spec : {M : Type 1} → statement M
 check-spec =

@@ -25,21 +25,35 @@ joined s = space [] (s .args .degrees .now) (s .args .orders .now)
 counted : (c : tie.Else1) → length (c .before .before .args .coefs .now) ≡ 2 * rowCount (joined (c .before .before))
 counted c = c .if1 .left ∙ ap (λ (n : ℕ). 2 * n) (c .before .row-count .ensures)
 
-found-bad : (c : tie.After-bad) → first (length (c .before .before .before .before .before .args .coefs .now)) (badCoefficient (c .before .before .before .before .before .args .coefs .now)) ≡ some (c .bad .given .0 .0)
-found-bad c = ap (first (length (c .before .before .before .before .before .args .coefs .now))) (coefficient-outside _) ∙ found-some-inverts _ (sym (c .before .before .first-outside .ensures) ∙ c .bad .given .1)
+found-bad : (c : tie.After-bad) → first (length (c .before .before .before .before .before .args .coefs .now))
+    (badCoefficient (c .before .before .before .before .before .args .coefs .now)) ≡ some (c .bad .given .0 .0)
+found-bad c =
+    ap (first (length (c .before .before .before .before .before .args .coefs .now))) (coefficient-outside _)
+    ∙ found-some-inverts _ (sym (c .before .before .first-outside .ensures) ∙ c .bad .given .1)
 
-none-bad : (c : tie.After-enum-told) → first (length (c .before .before .before .before .before .args .coefs .now)) (badCoefficient (c .before .before .before .before .before .args .coefs .now)) ≡ none
-none-bad c = ap (first (length (c .before .before .before .before .before .args .coefs .now))) (coefficient-outside _) ∙ found-none-inverts _ (sym (c .before .before .first-outside .ensures) ∙ c .enum-told .given .1)
+none-bad : (c : tie.After-enum-told) → first (length (c .before .before .before .before .before .args .coefs .now))
+    (badCoefficient (c .before .before .before .before .before .args .coefs .now)) ≡ none
+none-bad c =
+    ap (first (length (c .before .before .before .before .before .args .coefs .now))) (coefficient-outside _)
+    ∙ found-none-inverts _ (sym (c .before .before .first-outside .ensures) ∙ c .enum-told .given .1)
 
 row-count-requires : tie.Need-row-count-requires
 row-count-requires c κs = search needs
 
 -- at most six columns a segment
 mul-if1 : tie.Need-mul-if1
-mul-if1 c = omega (arith, c .row-count .ensures, first-column-high (joined (c .before)) (c .before .pre .degrees-legal) (length (c .before .args .degrees .now)) (omega arith), c .before .pre .few)
+mul-if1 c =
+    omega (
+      arith,
+      c .row-count .ensures,
+      first-column-high (joined (c .before)) (c .before .pre .degrees-legal) (length (c .before .args .degrees .now)) (omega arith),
+      c .before .pre .few,
+    )
 
 returns : tie.Need-returns
-returns c = sym (refusal-refused _ (coefficients-count (joined (c .before .before)) (c .before .before .args .coefs .now) (λ e. c .if1 .taken (e ∙ sym (ap (λ (n : ℕ). 2 * n) (c .before .row-count .ensures))))))
+returns c =
+    sym (refusal-refused _ (coefficients-count (joined (c .before .before)) (c .before .before .args .coefs .now)
+    (λ e. c .if1 .taken (e ∙ sym (ap (λ (n : ℕ). 2 * n) (c .before .row-count .ensures))))))
 
 sub-first-outside : tie.Need-sub-first-outside
 sub-first-outside c = search needs
@@ -59,7 +73,8 @@ enum-told c = search needs
 returns-2 : tie.Need-returns-2
 returns-2 c =
     let s = c .before .before .before .before .before .before .before in
-    sym (refusal-refused _ (coefficients-refused (joined s) (s .args .coefs .now) (counted (c .before .before .before .before .before)) (found-bad (c .before .before)) ∙ ap (refusal 6) (sym (c .place .ensures))))
+    sym (refusal-refused _ (coefficients-refused (joined s) (s .args .coefs .now) (counted (c .before .before .before .before .before))
+    (found-bad (c .before .before)) ∙ ap (refusal 6) (sym (c .place .ensures))))
 
 returns-3 : tie.Need-returns-3
 returns-3 c =

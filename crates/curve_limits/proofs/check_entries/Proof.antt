@@ -36,12 +36,20 @@ check-positions-requires c κs = search needs
 returns : tie.Need-returns
 returns c =
     let s = c .before .before .before .before in
-    sym (refusal-refused _ (entries-chain (whole s) (s .args .coefs .now) (s .args .positions .now) (answer (whole s)) ∙ then-refuses (λ _. after s) (sym (coefficients-partial (s .args .breaks .now) (s .args .degrees .now) (s .args .orders .now) (s .args .coefs .now)) ∙ refused-refuses _ (sym (c .before .before .before .check-coefficients .ensures) ∙ c .before .c .given .1))))
+    sym (refusal-refused _ (entries-chain (whole s) (s .args .coefs .now) (s .args .positions .now) (answer (whole s))
+    ∙ then-refuses (λ _. after s) (sym (coefficients-partial (s .args .breaks .now) (s .args .degrees .now) (s .args .orders .now)
+    (s .args .coefs .now)) ∙ refused-refuses _
+    (sym (c .before .before .before .check-coefficients .ensures) ∙ c .before .c .given .1))))
 
 returns-2 : tie.Need-returns-2
 returns-2 c =
     let s = c .before .before .before .before in
-    c .check-positions .ensures ∙ sym (ap legality (entries-chain (whole s) (s .args .coefs .now) (s .args .positions .now) (answer (whole s)) ∙ then-answers (λ _. after s) (sym (coefficients-partial (s .args .breaks .now) (s .args .degrees .now) (s .args .orders .now) (s .args .coefs .now)) ∙ legal-answers _ (sym (c .before .before .before .check-coefficients .ensures) ∙ c .before .enum-told .given .1) .is)) ∙ legality-then _ (λ _. whole s))
+    c .check-positions .ensures ∙ sym (ap legality
+    (entries-chain (whole s) (s .args .coefs .now) (s .args .positions .now) (answer (whole s))
+    ∙ then-answers (λ _. after s) (sym (coefficients-partial (s .args .breaks .now) (s .args .degrees .now) (s .args .orders .now)
+    (s .args .coefs .now)) ∙ legal-answers _
+    (sym (c .before .before .before .check-coefficients .ensures) ∙ c .before .enum-told .given .1) .is))
+    ∙ legality-then _ (λ _. whole s))
 
 pub check-entries-spec : {M : Type 1} → statement M
 check-entries-spec =

@@ -38,10 +38,15 @@ module _ (s : tie.Start) where
   searched = first (length (s .args .positions .now)) (outside (s .args .positions .now) (fine (break 0)) (fine (break (s .args .m))))
 
   abbrev searched-words : Option ℕ
-  searched-words = first (length (s .args .positions .now)) (outside (s .args .positions .now) (toZ w32 (ofZ w32 (pos 256 *ℤ toZ w32 (ofZ w32 (break 0))))) (toZ w32 (ofZ w32 (pos 256 *ℤ toZ w32 (ofZ w32 (break (s .args .m)))))))
+  searched-words =
+      first (length (s .args .positions .now))
+      (outside (s .args .positions .now) (toZ w32 (ofZ w32 (pos 256 *ℤ toZ w32 (ofZ w32 (break 0)))))
+      (toZ w32 (ofZ w32 (pos 256 *ℤ toZ w32 (ofZ w32 (break (s .args .m)))))))
 
   as-words : searched ≡ searched-words
-  as-words = sym (ap₂ (λ (l h : ℤ). first (length (s .args .positions .now)) (outside (s .args .positions .now) l h)) (bound 0 (omega arith)) (bound (s .args .m) (omega arith)))
+  as-words =
+      sym (ap₂ (λ (l h : ℤ). first (length (s .args .positions .now)) (outside (s .args .positions .now) l h)) (bound 0 (omega arith))
+      (bound (s .args .m) (omega arith)))
 
 shared-slice-copy-out-low : tie.Need-shared-slice-copy-out-low
 shared-slice-copy-out-low c = search needs
@@ -56,7 +61,8 @@ shared-slice-copy-out-high : tie.Need-shared-slice-copy-out-high
 shared-slice-copy-out-high c = search needs
 
 mul-high-2 : tie.Need-mul-high-2
-mul-high-2 c = let s = c .before .before in let f = break-fits s (s .args .m) (omega arith) in simp toZ-ofZ (fine-fits s (s .args .m) (omega arith))
+mul-high-2 c =
+    let s = c .before .before in let f = break-fits s (s .args .m) (omega arith) in simp toZ-ofZ (fine-fits s (s .args .m) (omega arith))
 
 first-outside-requires : tie.Need-first-outside-requires
 first-outside-requires c κs = search needs
@@ -71,15 +77,20 @@ enum-told : tie.Need-enum-told
 enum-told c = search needs
 
 found-bad : (c : tie.After-bad) → searched (c .before .before .before .before .before) ≡ some (c .bad .given .0 .0)
-found-bad c = as-words (c .before .before .before .before .before) ∙ found-some-inverts _ (sym (c .before .before .first-outside .ensures) ∙ c .bad .given .1)
+found-bad c =
+    as-words (c .before .before .before .before .before)
+    ∙ found-some-inverts _ (sym (c .before .before .first-outside .ensures) ∙ c .bad .given .1)
 
 none-bad : (c : tie.After-enum-told) → searched (c .before .before .before .before .before) ≡ none
-none-bad c = as-words (c .before .before .before .before .before) ∙ found-none-inverts _ (sym (c .before .before .first-outside .ensures) ∙ c .enum-told .given .1)
+none-bad c =
+    as-words (c .before .before .before .before .before)
+    ∙ found-none-inverts _ (sym (c .before .before .first-outside .ensures) ∙ c .enum-told .given .1)
 
 returns : tie.Need-returns
 returns c =
     let s = c .before .before .before .before .before .before .before in
-    sym (refusal-refused _ (positions-refused (s .args .positions .now) (fine (break s 0)) (fine (break s (s .args .m))) (found-bad (c .before .before)) ∙ ap (refusal 7) (sym (c .place .ensures))))
+    sym (refusal-refused _ (positions-refused (s .args .positions .now) (fine (break s 0)) (fine (break s (s .args .m)))
+    (found-bad (c .before .before)) ∙ ap (refusal 7) (sym (c .place .ensures))))
 
 returns-2 : tie.Need-returns-2
 returns-2 c =

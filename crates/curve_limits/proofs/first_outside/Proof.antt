@@ -38,14 +38,17 @@ loop-less c = omega arith
 
 -- the bounds read back from their words
 module _ (s : tie.Start Inv-loop μ-loop) where
-  as-passed : (k : ℕ) → outside (s .args .list .now) (toZ w32 (ofZ w32 (s .args .low))) (toZ w32 (ofZ w32 (s .args .high))) k ≡ outside (s .args .list .now) (s .args .low) (s .args .high) k
+  as-passed : (k : ℕ) → outside (s .args .list .now) (toZ w32 (ofZ w32 (s .args .low))) (toZ w32 (ofZ w32 (s .args .high))) k
+      ≡ outside (s .args .list .now) (s .args .low) (s .args .high) k
   as-passed k = ap₂ (λ (l h : ℤ). outside (s .args .list .now) l h k) (toZ-ofZ w32 _ (s .fits .low)) (toZ-ofZ w32 _ (s .fits .high))
 
 -- no entry before i
-good-before : (c : tie.At-loop Inv-loop μ-loop) (k : ℕ) → k < c .loop .i → outside (c .before .args .list .now) (c .before .args .low) (c .before .args .high) k ≡ false
+good-before : (c : tie.At-loop Inv-loop μ-loop) (k : ℕ) → k < c .loop .i
+    → outside (c .before .args .list .now) (c .before .args .low) (c .before .args .high) k ≡ false
 good-before c k l = sym (as-passed (c .before) k) ∙ c .loop .inv .1 k l
 
-x-fits : (c : tie.After-x Inv-loop μ-loop) → SFits w32 (getD (c .before .before .before .args .list .now) (c .before .before .loop .i) (pos 0))
+x-fits : (c : tie.After-x Inv-loop μ-loop)
+    → SFits w32 (getD (c .before .before .before .args .list .now) (c .before .before .loop .i) (pos 0))
 x-fits c = record { sfits = c .x .given }
 
 loop-again : tie.Need-loop-again Inv-loop μ-loop
@@ -53,8 +56,12 @@ loop-again c =
     let s = c .before .before .before .before .before in
     let f = x-fits (c .before .before) in
     let g = s .fits .low in
-    let h = s .fits .high in
-    (omega arith, below-more _ _ (c .before .before .before .before .loop .inv .1) (as-passed s _ ∙ sym (above (s .args .low) (s .args .high) _ (simp toZ-ofZ at (c .before .if2 .left))) ∙ (simp toZ-ofZ at (c .if3 .left))))
+    let h = s .fits .high in (
+      omega arith,
+      below-more _ _ (c .before .before .before .before .loop .inv .1)
+          (as-passed s _ ∙ sym (above (s .args .low) (s .args .high) _ (simp toZ-ofZ at (c .before .if2 .left)))
+          ∙ (simp toZ-ofZ at (c .if3 .left))),
+    )
 
 returns : tie.Need-returns Inv-loop μ-loop
 returns c = found-none _ _ (λ k l. good-before (c .before) k (omega arith))
@@ -64,7 +71,8 @@ returns-2 c =
     let s = c .before .before .before .before in
     let f = x-fits (c .before) in
     let g = s .fits .low in
-    found-at _ _ _ (omega arith) (sym (below (s .args .low) (s .args .high) _ (simp toZ-ofZ at (c .if2 .taken)))) (good-before (c .before .before .before))
+    found-at _ _ _ (omega arith) (sym (below (s .args .low) (s .args .high) _ (simp toZ-ofZ at (c .if2 .taken))))
+    (good-before (c .before .before .before))
 
 returns-3 : tie.Need-returns-3 Inv-loop μ-loop
 returns-3 c =
@@ -72,7 +80,8 @@ returns-3 c =
     let f = x-fits (c .before .before) in
     let g = s .fits .low in
     let h = s .fits .high in
-    found-at _ _ _ (omega arith) (sym (above (s .args .low) (s .args .high) _ (simp toZ-ofZ at (c .before .if2 .left))) ∙ (simp toZ-ofZ at (c .if3 .taken))) (good-before (c .before .before .before .before))
+    found-at _ _ _ (omega arith) (sym (above (s .args .low) (s .args .high) _ (simp toZ-ofZ at (c .before .if2 .left)))
+    ∙ (simp toZ-ofZ at (c .if3 .taken))) (good-before (c .before .before .before .before))
 
 pub first-outside-spec : {M : Type 1} → statement M
 first-outside-spec =

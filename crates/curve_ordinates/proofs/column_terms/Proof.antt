@@ -76,7 +76,8 @@ module _ (c : tie.In-loop Inv-loop μ-loop) where
 
   -- the terms are those of so many rows
   abbrev GatheredTo : Terms → ℕ → Type 0
-  GatheredTo = Gathered (start .args .num .now) (start .args .den .now) (entries (start .args .coefs .now) (start .args .index)) (start .args .c)
+  GatheredTo =
+      Gathered (start .args .num .now) (start .args .den .now) (entries (start .args .coefs .now) (start .args .index)) (start .args .c)
 
   abbrev row : ℕ
   row = c .before .loop .i
@@ -148,14 +149,16 @@ loop-less : tie.Need-loop-less Inv-loop μ-loop
 loop-less c = omega arith
 
 -- a row with weight on the column
-more : (c : tie.After-with-term Inv-loop μ-loop) → let l = c .before .before .before .before .before in GatheredTo l (c .with-term .result) (row l + 1)
+more : (c : tie.After-with-term Inv-loop μ-loop) → let l = c .before .before .before .before .before in
+    GatheredTo l (c .with-term .result) (row l + 1)
 more c =
     let l = c .before .before .before .before .before in
     let e = a-fits-32 l in
     let f = a-fits l in
     let g = x-fits (c .before .before .before .before) in
     let h = d-fits (c .before) in
-    gathered-more _ _ _ _ (row l) (row-within l) (start l .pre .column-within) (l .before .loop .all) (l .before .loop .inv .1) (c .with-term .result)
+    gathered-more _ _ _ _ (row l) (row-within l) (start l .pre .column-within) (l .before .loop .all) (l .before .loop .inv .1)
+    (c .with-term .result)
     (λ z. c .before .before .before .if1 .taken (ap (ofZ w64) z)) (simp toZ-ofZ at (c .with-term .ensures))
 
 -- a row without
@@ -170,7 +173,8 @@ loop-again c = (
   omega arith,
   ⊎-elim
       (λ w.
-      let read : tie.After-d Inv-loop μ-loop = record { before = record { before = record { before = c .before; if1 = w .0 }; a = w .1 }; d = w .2 } in
+      let read : tie.After-d Inv-loop μ-loop =
+      record { before = record { before = record { before = c .before; if1 = w .0 }; a = w .1 }; d = w .2 } in
       rw (w .4) (more (record { before = read; with-term = w .3 })))
       (λ w. rw (w .1) (skip (record { before = c .before; if1 = w .0 })))
       (c .if1 .came),

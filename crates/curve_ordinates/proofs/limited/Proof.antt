@@ -35,7 +35,8 @@ returns c =
     simp toZ-ofZ (sym (limits-unknown (t .some) (t .sum) (t .least) (t .greatest) (not-true _ (c .if1 .taken))))
 
 mul-low : tie.Need-mul-low
-mul-low c = let f = least-fits (c .before .before .before .before .before) in simp toZ-ofZ (low-fits (c .before .before .before .before .before))
+mul-low c =
+    let f = least-fits (c .before .before .before .before .before) in simp toZ-ofZ (low-fits (c .before .before .before .before .before))
 
 mul-high : tie.Need-mul-high
 mul-high c = let s = c .before .before .before .before .before .before .before in let f = greatest-fits s in simp toZ-ofZ (high-fits s)

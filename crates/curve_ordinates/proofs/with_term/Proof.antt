@@ -92,7 +92,8 @@ module _ (c : tie.After-round-div) where
   result-fits = record { sfits = c .round-div .ok }
 
 add-t8 : tie.Need-add-t8
-add-t8 c = let d = c .before .before .before .before .before .before in let f = before-fits d in let g = result-fits d in simp toZ-ofZ (sum-fits d)
+add-t8 c =
+    let d = c .before .before .before .before .before .before in let f = before-fits d in let g = result-fits d in simp toZ-ofZ (sum-fits d)
 
 -- the least and the greatest before, as they were passed on
 least-fits : (c : tie.After-struct-told) → SFits w64 (c .before .before .args .before .least)

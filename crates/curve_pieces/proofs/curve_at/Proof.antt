@@ -17,7 +17,8 @@ float-at-requires-2 c κs = search needs
 returns : tie.Need-returns
 returns c =
     let a = c .before .before .before .args in
-    line-held (a .ordinates .now) (a .column) (a .degree) (c .if1 .taken) (c .before .before .float-at .ensures) (c .before .float-at2 .ensures)
+    line-held (a .ordinates .now) (a .column) (a .degree) (c .if1 .taken) (c .before .before .float-at .ensures)
+    (c .before .float-at2 .ensures)
 
 add-float-at-2 : tie.Need-add-float-at-2
 add-float-at-2 c = search needs
@@ -29,7 +30,8 @@ returns-2 : tie.Need-returns-2
 returns-2 c =
     let b = c .before .before .before in
     let a = b .before .before .args in
-    quadratic-held (a .ordinates .now) (a .column) (a .degree) (c .if2 .taken) (b .before .float-at .ensures) (b .float-at2 .ensures) (c .before .float-at3 .ensures)
+    quadratic-held (a .ordinates .now) (a .column) (a .degree) (c .if2 .taken) (b .before .float-at .ensures) (b .float-at2 .ensures)
+    (c .before .float-at3 .ensures)
 
 add-float-at-3 : tie.Need-add-float-at-3
 add-float-at-3 c = search needs

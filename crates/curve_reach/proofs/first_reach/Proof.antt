@@ -63,7 +63,8 @@ unfolding reply
 returns c =
     let s = c .before .before .before in
     let f : SFits w32 (c .before .found .given .0 .0) = record { sfits = c .known-told .given .0 .1 } in
-    ap answer (toZ-ofZ w32 (c .before .found .given .0 .0) f) ∙ found-reached (beam s) (searched s) (c .before .found .given .0 .0) (sym (c .before .found .given .1) ∙ told s)
+    ap answer (toZ-ofZ w32 (c .before .found .given .0 .0) f)
+    ∙ found-reached (beam s) (searched s) (c .before .found .given .0 .0) (sym (c .before .found .given .1) ∙ told s)
 
 returns-2 : tie.Need-returns-2
 unfolding reply

@@ -42,10 +42,16 @@ first-reach-requires-2 : tie.Need-first-reach-requires-2
 first-reach-requires-2 c κs = search needs
 
 returns : tie.Need-returns
-returns c = let s = c .before .before .before in let f = s .fits .width in (simp toZ-ofZ at (c .first-reach .ensures)) ∙ ap (λ wood. answered s (of s wood)) (sym (c .before .enum-told .given .1))
+returns c =
+    let s = c .before .before .before in
+    let f = s .fits .width in
+    (simp toZ-ofZ at (c .first-reach .ensures)) ∙ ap (λ wood. answered s (of s wood)) (sym (c .before .enum-told .given .1))
 
 returns-2 : tie.Need-returns-2
-returns-2 c = let s = c .before .before .before in let f = s .fits .width in (simp toZ-ofZ at (c .first-reach2 .ensures)) ∙ ap (λ wood. answered s (of s wood)) (sym (c .before .enum-told2 .given .1))
+returns-2 c =
+    let s = c .before .before .before in
+    let f = s .fits .width in
+    (simp toZ-ofZ at (c .first-reach2 .ensures)) ∙ ap (λ wood. answered s (of s wood)) (sym (c .before .enum-told2 .given .1))
 
 pub part-reach-spec : {M : Type 1} → statement M
 part-reach-spec =

@@ -125,7 +125,8 @@ returns-2 c =
     let a = start d .args in
     let l = d .build-curves .ensures in
     let f = start d .fits .width in
-    let answers = reach-searched (beam d) (wood d) (coefs d) (a .width) (length (a .num .now)) (length (a .den .now)) columnLimit _ (held t .is)
+    let answers = reach-searched (beam d) (wood d) (coefs d) (a .width) (length (a .num .now)) (length (a .den .now)) columnLimit _
+    (held t .is)
     (chosen-is t (wood d)) (simp toZ-ofZ at (c .part-reach .ensures)) in
     (answers, (l .numerators-are, l .denominators-are))
 

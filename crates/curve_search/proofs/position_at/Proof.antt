@@ -44,14 +44,17 @@ cast-result : tie.Need-cast-result
 cast-result c = search needs
 
 add-result : tie.Need-add-result
-add-result c = let s = c .before in let f = break-fits s in let g = start-fits s in simp (toZ-ofZ, toZ-pos w32 (s .args .u) (offset-small s)) (sum-fits s)
+add-result c =
+    let s = c .before in
+    let f = break-fits s in let g = start-fits s in simp (toZ-ofZ, toZ-pos w32 (s .args .u) (offset-small s)) (sum-fits s)
 
 returns : tie.Need-returns
 returns c =
     let s = c .before in
     let f = break-fits s in
     let g = start-fits s in
-    let z : toZ w32 (ofZ w32 (pos 256 *ℤ toZ w32 (ofZ w32 (break s)))) +ℤ toZ w32 (s .args .u) ≡ pos 256 *ℤ break s +ℤ pos (s .args .u) = simp (toZ-ofZ, toZ-pos w32 (s .args .u) (offset-small s)) in
+    let z : toZ w32 (ofZ w32 (pos 256 *ℤ toZ w32 (ofZ w32 (break s)))) +ℤ toZ w32 (s .args .u) ≡ pos 256 *ℤ break s +ℤ pos (s .args .u) =
+    simp (toZ-ofZ, toZ-pos w32 (s .args .u) (offset-small s)) in
     ap (λ (z : ℤ). toZ w32 (ofZ w32 z)) z ∙ toZ-ofZ w32 _ (sum-fits s)
 
 pub position-at-spec : {M : Type 1} → statement M

@@ -18,7 +18,8 @@ use Rattle.spec_spline.proofs.Legal.{Checked, checked-inverts}
 use Rattle.build_space.specs.Machine.{space}
 use Rattle.build_space.specs.Legal.{ListsLegal}
 use Rattle.build_space.proofs.Bounds.{degree-low as lowest-degree}
-use Rattle.build_space.proofs.Legal.{legal-checked, legal-width-low, legal-width-high, legal-degree-high, legal-columns-within, legal-column-count-high}
+use Rattle.build_space.proofs.Legal.{legal-checked, legal-width-low, legal-width-high, legal-degree-high, legal-columns-within}
+use Rattle.build_space.proofs.Legal.{legal-column-count-high}
 use Rattle.curve_search.specs.Positions.{positionCount}
 use Rattle.curve_search.specs.Machine.{startOffset, found, reachesHeld}
 use Rattle.curve_search.specs.declared.Found.the-variants.{At}
@@ -52,7 +53,8 @@ degree-at-requires : tie.Need-degree-at-requires Inv-loop μ-loop
 degree-at-requires c κs = (omega arith, c .before .before .pre .legal .degrees-legal)
 
 fine-width-requires : tie.Need-fine-width-requires Inv-loop μ-loop
-fine-width-requires c κs = let s = c .before .before .before in record { within = omega (arith, legal s .break-count); legal = legal s .breaks-legal }
+fine-width-requires c κs =
+    let s = c .before .before .before in record { within = omega (arith, legal s .break-count); legal = legal s .breaks-legal }
 
 module _ (c : tie.After-fine-width Inv-loop μ-loop) where
   abbrev start : tie.Start Inv-loop μ-loop
@@ -190,7 +192,8 @@ returns c =
     let s = start (at (here b)) in
     ap At (toZ-ofZ w32 _ (record { sfits = c .position-at .ok }) ∙ c .position-at .ensures)
     ∙ found-here b (omega arith)
-    ∙ ap (λ t. found (beam s) (first (positionCount (beam s)) (reachesHeld (beam s) (s .args .ordinates .now) t))) (toZ-ofZ w64 _ (s .fits .target))
+    ∙ ap (λ t. found (beam s) (first (positionCount (beam s)) (reachesHeld (beam s) (s .args .ordinates .now) t)))
+    (toZ-ofZ w64 _ (s .fits .target))
 
 add-column : tie.Need-add-column Inv-loop μ-loop
 add-column c = let b = here (c .before) in omega (arith, degree-high (at b))
@@ -211,7 +214,8 @@ returns-2 : tie.Need-returns-2 Inv-loop μ-loop
 returns-2 c =
     let s = c .before .before in
     found-past (beam s) (s .args .ordinates .now) (toZ w64 (ofZ w64 (s .args .target))) (checks s) (c .before .loop .inv) (omega arith)
-    ∙ ap (λ t. found (beam s) (first (positionCount (beam s)) (reachesHeld (beam s) (s .args .ordinates .now) t))) (toZ-ofZ w64 _ (s .fits .target))
+    ∙ ap (λ t. found (beam s) (first (positionCount (beam s)) (reachesHeld (beam s) (s .args .ordinates .now) t)))
+    (toZ-ofZ w64 _ (s .fits .target))
 
 pub search-spec : {M : Type 1} → statement M
 search-spec =

@@ -19,7 +19,9 @@ first : (s : Space) (i : ℕ) → i ≡ 0 → i < segments s → 0 ≡ startOffs
 first s i e h = sym (ap (startOffset s) e ∙ start-of-first s (omega arith))
 
 returns-2 : tie.Need-returns-2
-returns-2 c = let s = c .before .before in first (space [] (s .args .degrees .now) (s .args .orders .now)) (s .args .i) (omega arith) (omega (arith, s .pre .within))
+returns-2 c =
+    let s = c .before .before in
+    first (space [] (s .args .degrees .now) (s .args .orders .now)) (s .args .i) (omega arith) (omega (arith, s .pre .within))
 
 sub-is-discontinuity : tie.Need-sub-is-discontinuity
 sub-is-discontinuity c = search needs
@@ -35,10 +37,12 @@ module _ (c : tie.After-is-discontinuity) where
   abbrev i : ℕ
   i = start .args .i
 
-  after-join : {b : Bool} → c .is-discontinuity .result ≡ b → cond b 1 0 ≡ startOffset (space [] (start .args .degrees .now) (start .args .orders .now)) i
+  after-join : {b : Bool} → c .is-discontinuity .result ≡ b
+      → cond b 1 0 ≡ startOffset (space [] (start .args .degrees .now) (start .args .orders .now)) i
   after-join e =
       let s = space [] (start .args .degrees .now) (start .args .orders .now) in
-      ap (λ t. cond t 1 0) (sym e ∙ c .is-discontinuity .ensures) ∙ sym (ap (startOffset s) (let z : i ≡ suc (i - 1) = omega arith in z) ∙ start-of-later s (i - 1) (omega (arith, start .pre .within)))
+      ap (λ t. cond t 1 0) (sym e ∙ c .is-discontinuity .ensures)
+      ∙ sym (ap (startOffset s) (let z : i ≡ suc (i - 1) = omega arith in z) ∙ start-of-later s (i - 1) (omega (arith, start .pre .within)))
 
 returns-3 : tie.Need-returns-3
 returns-3 c = after-join (c .before) (c .if3 .taken)

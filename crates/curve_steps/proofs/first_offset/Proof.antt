@@ -44,7 +44,8 @@ returns-2 c =
     let none = none-reaches (a .ordinates .now) (a .c) (a .p) (a .target) (told (c .before) (c .if1 .left)) in
     record {
       after = s .pre .start-within;
-      none-before = λ u h k l. all-below (a .ordinates .now) (a .c) (a .p) (a .d) u (s .pre .segment .long) (omega (arith, s .pre .end-within)) bounded (a .target) none;
+      none-before = λ u h k l. all-below (a .ordinates .now) (a .c) (a .p) (a .d) u (s .pre .segment .long)
+          (omega (arith, s .pre .end-within)) bounded (a .target) none;
       there = λ h. absurd (omega arith);
     }
 

@@ -61,20 +61,30 @@ module _ (c : tie.After-o Inv-loop μ-loop) where
   o-fits : SFits w32 ordinate
   o-fits = record { sfits = c .o .given }
 
-  tested : {b : Bool} → leZ (toZ w64 (ofZ w64 (start .args .target))) (toZ w64 (ofZ w64 (toZ w32 (ofZ w32 ordinate)))) ≡ b → test start k ≡ b
+  tested : {b : Bool} → leZ (toZ w64 (ofZ w64 (start .args .target))) (toZ w64 (ofZ w64 (toZ w32 (ofZ w32 ordinate)))) ≡ b
+      → test start k ≡ b
   tested e = let f = o-fits in let g = sfits-widen f in let h = start .fits .target in simp toZ-ofZ at e
 
 cast-o : tie.Need-cast-o Inv-loop μ-loop
 cast-o c = let f = o-fits c in simp toZ-ofZ (sfits-widen f)
 
 loop-again : tie.Need-loop-again Inv-loop μ-loop
-loop-again c = (omega arith, below-more _ _ (c .before .before .before .loop .inv .1) (as-passed (start (c .before)) (k (c .before)) ∙ tested (c .before) (c .if2 .left)))
+loop-again c = (
+  omega arith,
+  below-more _ _ (c .before .before .before .loop .inv .1)
+      (as-passed (start (c .before)) (k (c .before)) ∙ tested (c .before) (c .if2 .left)),
+)
 
 returns : tie.Need-returns Inv-loop μ-loop
-returns c = let s = c .before .before in sym (ap searches.found (first-none (test s) (suc (s .args .p)) (λ j h. sym (as-passed s j) ∙ c .before .loop .inv .1 j (omega arith))))
+returns c =
+    let s = c .before .before in
+    sym (ap searches.found (first-none (test s) (suc (s .args .p)) (λ j h. sym (as-passed s j) ∙ c .before .loop .inv .1 j (omega arith))))
 
 returns-2 : tie.Need-returns-2 Inv-loop μ-loop
-returns-2 c = let s = start (c .before) in sym (ap searches.found (first-at (test s) (suc (s .args .p)) (k (c .before)) (omega arith) (tested (c .before) (c .if2 .taken)) (λ j h. sym (as-passed s j) ∙ c .before .before .before .loop .inv .1 j h)))
+returns-2 c =
+    let s = start (c .before) in
+    sym (ap searches.found (first-at (test s) (suc (s .args .p)) (k (c .before)) (omega arith) (tested (c .before) (c .if2 .taken))
+    (λ j h. sym (as-passed s j) ∙ c .before .before .before .loop .inv .1 j h)))
 
 pub one-reaches-spec : {M : Type 1} → statement M
 one-reaches-spec =

@@ -47,7 +47,9 @@ module _ (c : tie.Then1) where
       ltZ-true _ _ (simp (toZ-ofZ, toZ-pos w64 (start .args .rise) (omega (arith, start .pre .rise-small))) at (c .if1 .taken))
 
   above : pos 0 ≤ℤ (high start -ℤ low start)
-  above = Z.nonNeg-le _ (Z.le-sub (low start) (high start) (Z.≤-in _ _ (omega (arith, Z.<-out _ _ more, Z.bal-+ (low start) (pos (start .args .rise))))))
+  above =
+      Z.nonNeg-le _ (Z.le-sub (low start) (high start)
+      (Z.≤-in _ _ (omega (arith, Z.<-out _ _ more, Z.bal-+ (low start) (pos (start .args .rise))))))
 
 cast-result : tie.Need-cast-result
 cast-result c =

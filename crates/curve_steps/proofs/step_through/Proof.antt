@@ -37,7 +37,8 @@ loop-holds : tie.Need-loop-holds Inv-loop μ-loop
 loop-holds c = (omega arith, λ w h k l. absurd (omega arith))
 
 value-on-requires : tie.Need-value-on-requires Inv-loop μ-loop
-value-on-requires c κs = let s = c .before .before .before in record { segment = s .pre .segment; within = omega (arith, s .pre .end-within) }
+value-on-requires c κs =
+    let s = c .before .before .before in record { segment = s .pre .segment; within = omega (arith, s .pre .end-within) }
 
 module _ (c : tie.After-value-on Inv-loop μ-loop) where
   abbrev start : tie.Start Inv-loop μ-loop
@@ -89,7 +90,9 @@ sub-ahead : tie.Need-sub-ahead Inv-loop μ-loop
 sub-ahead c = let f = start (read c) .fits .target in let g = result-fits (read c) in simp toZ-ofZ (gap-fits c)
 
 cast-ahead : tie.Need-cast-ahead Inv-loop μ-loop
-cast-ahead c = let f = start (read c) .fits .target in let g = result-fits (read c) in let h = gap-fits c in simp toZ-ofZ (fits-unsigned (gap-positive c) h)
+cast-ahead c =
+    let f = start (read c) .fits .target in
+    let g = result-fits (read c) in let h = gap-fits c in simp toZ-ofZ (fits-unsigned (gap-positive c) h)
 
 ahead-requires : tie.Need-ahead-requires Inv-loop μ-loop
 ahead-requires c κs =

@@ -25,7 +25,8 @@ cast-t8 c = search needs
 -- the place of offset u
 module _ (s : tie.Start) where
   value-is : (o w : ℤ) → let a = s .args in o ≡ pos (a .u) → w ≡ pos (a .d)
-      → valueOf (a .ordinates .now) (record { column = a .c; degree = a .p; offset = o; width = w }) ≡ valueOn (a .ordinates .now) (a .c) (a .p) (a .d) (a .u)
+      → valueOf (a .ordinates .now) (record { column = a .c; degree = a .p; offset = o; width = w })
+      ≡ valueOn (a .ordinates .now) (a .c) (a .p) (a .d) (a .u)
   unfolding valueOf valueOn
   value-is o w e f = cc
 

@@ -21,7 +21,9 @@ module _ (s : tie.Start) where
   rings = width (space (s .args .breaks .now) [] []) (s .args .i)
 
   rings-few : rings ≤ 20000
-  rings-few = breaks-apart (getD (s .args .breaks .now) (suc (s .args .i)) (pos 0)) (getD (s .args .breaks .now) (s .args .i) (pos 0)) (s .pre .legal .size (suc (s .args .i)) (omega arith)) (s .pre .legal .size (s .args .i) (omega arith))
+  rings-few =
+      breaks-apart (getD (s .args .breaks .now) (suc (s .args .i)) (pos 0)) (getD (s .args .breaks .now) (s .args .i) (pos 0))
+      (s .pre .legal .size (suc (s .args .i)) (omega arith)) (s .pre .legal .size (s .args .i) (omega arith))
 
 module _ (c : tie.After-segment-length) where
   length-is : toZ w64 (ofZ w64 (c .segment-length .result)) ≡ pos (rings (c .before))

@@ -47,8 +47,12 @@ module _ (c : tie.After-starts-at-discontinuity) where
   at-start = c .before
 
   -- the segment starts at a discontinuity or not
-  told : {b : Bool} → c .starts-at-discontinuity .result ≡ b → startsAtDiscontinuity (space (at-start .before .args .breaks .now) [] (at-start .before .args .orders .now)) (at-start .before .args .i) ≡ b
-  told e = sym (starts-at-discontinuity-partial (at-start .before .args .breaks .now) [] (at-start .before .args .orders .now) (at-start .before .args .i)) ∙ sym (c .starts-at-discontinuity .ensures) ∙ e
+  told : {b : Bool} → c .starts-at-discontinuity .result ≡ b
+      → startsAtDiscontinuity (space (at-start .before .args .breaks .now) [] (at-start .before .args .orders .now))
+      (at-start .before .args .i) ≡ b
+  told e =
+      sym (starts-at-discontinuity-partial (at-start .before .args .breaks .now) [] (at-start .before .args .orders .now)
+      (at-start .before .args .i)) ∙ sym (c .starts-at-discontinuity .ensures) ∙ e
 
 module _ (c : tie.After-start) where
   more-fits : SFits w32 (pos 256 *ℤ break c +ℤ pos 1)
@@ -58,7 +62,9 @@ module _ (c : tie.After-start) where
       sfits-abs (omega (arith, size, abs-add (pos 256 *ℤ break c) (pos 1)))
 
 add-result : tie.Need-add-result
-add-result c = let f = break-fits (at-start (c .before)) in let g = start-fits (at-start (c .before)) in simp toZ-ofZ (more-fits (at-start (c .before)))
+add-result c =
+    let f = break-fits (at-start (c .before)) in
+    let g = start-fits (at-start (c .before)) in simp toZ-ofZ (more-fits (at-start (c .before)))
 
 returns : tie.Need-returns
 unfolding firstPosition
@@ -67,7 +73,8 @@ returns c =
     let f = break-fits a in
     let g = start-fits a in
     let h = more-fits a in
-    let e : toZ w32 (ofZ w32 (toZ w32 (ofZ w32 (pos 256 *ℤ toZ w32 (ofZ w32 (break a)))) +ℤ pos 1)) ≡ fine (break a) +ℤ pos 1 = simp toZ-ofZ in
+    let e : toZ w32 (ofZ w32 (toZ w32 (ofZ w32 (pos 256 *ℤ toZ w32 (ofZ w32 (break a)))) +ℤ pos 1)) ≡ fine (break a) +ℤ pos 1 =
+    simp toZ-ofZ in
     e ∙ sym (cond-true _ _ (told (c .before) (c .if1 .taken)))
 
 returns-2 : tie.Need-returns-2
@@ -80,4 +87,5 @@ returns-2 c =
     e ∙ sym (cond-false _ _ (told (c .before) (c .if1 .left)))
 
 pub first-position-spec : {M : Type 1} → statement M
-first-position-spec = tie.close (tie.spec mul-start shared-slice-copy-out-start mul-start-2 starts-at-discontinuity-requires add-result returns returns-2)
+first-position-spec =
+    tie.close (tie.spec mul-start shared-slice-copy-out-start mul-start-2 starts-at-discontinuity-requires add-result returns returns-2)

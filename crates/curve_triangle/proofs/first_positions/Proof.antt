@@ -17,7 +17,8 @@ use Rattle.curve_triangle.proofs.first_positions.Statement.{statement}
 use Rattle.curve_triangle.proofs.first_positions.Tie as tie
 
 abbrev Inv-loop : tie.InvT-loop
-Inv-loop breaks degrees orders firsts₀ i₀ firsts i = (i ≤ length degrees) × (firsts ≡ tab i (firstPosition (space breaks degrees orders)) ++ drop i (replicate 48 (pos 0)))
+Inv-loop breaks degrees orders firsts₀ i₀ firsts i =
+    (i ≤ length degrees) × (firsts ≡ tab i (firstPosition (space breaks degrees orders)) ++ drop i (replicate 48 (pos 0)))
 
 abbrev μ-loop : tie.MeasureT-loop
 μ-loop breaks degrees orders firsts₀ i₀ firsts i = length degrees - i
@@ -51,17 +52,23 @@ loop-again c =
     let s = c .before .before .before in
     let f = firstPosition (space (s .args .breaks .now) (s .args .degrees .now) (s .args .orders .now)) in
     let is : toZ w32 (ofZ w32 (c .first-position .result)) ≡ f (l .i) =
-    toZ-ofZ w32 _ (record { sfits = c .first-position .ok }) ∙ c .first-position .ensures ∙ first-partial (s .args .breaks .now) (s .args .degrees .now) (s .args .orders .now) (l .i) in
-    (omega arith, ap₂ (λ (fs : List ℤ) (v : ℤ). set fs (l .i) v) (l .inv .1) is ∙ tab-more f (l .i) (replicate 48 (pos 0)) (omega (arith, s .pre .few)))
+    toZ-ofZ w32 _ (record { sfits = c .first-position .ok }) ∙ c .first-position .ensures
+    ∙ first-partial (s .args .breaks .now) (s .args .degrees .now) (s .args .orders .now) (l .i) in (
+      omega arith,
+      ap₂ (λ (fs : List ℤ) (v : ℤ). set fs (l .i) v) (l .inv .1) is
+          ∙ tab-more f (l .i) (replicate 48 (pos 0)) (omega (arith, s .pre .few)),
+    )
 
 returns : tie.Need-returns Inv-loop μ-loop
 returns c =
     let s = c .before .before in
     let d = s .args .degrees .now in
     c .before .loop .inv .1
-    ∙ ap (λ (i : ℕ). tab i (firstPosition (space (s .args .breaks .now) d (s .args .orders .now))) ++ drop i (replicate 48 (pos 0))) (let e : c .before .loop .i ≡ length d = omega arith in e)
+    ∙ ap (λ (i : ℕ). tab i (firstPosition (space (s .args .breaks .now) d (s .args .orders .now))) ++ drop i (replicate 48 (pos 0)))
+    (let e : c .before .loop .i ≡ length d = omega arith in e)
     ∙ firsts-filled (s .args .breaks .now) d (s .args .orders .now) (s .pre .few)
 
 pub first-positions-spec : {M : Type 1} → statement M
 first-positions-spec =
-    tie.close (tie.spec Inv-loop μ-loop loop-holds first-position-requires mul-firsts array-set-from-firsts add-i loop-less loop-again returns)
+    tie.close (tie.spec Inv-loop μ-loop loop-holds first-position-requires mul-firsts array-set-from-firsts add-i loop-less loop-again
+    returns)

@@ -60,14 +60,19 @@ loop-again : tie.Need-loop-again Inv-loop μ-loop
 loop-again c =
     let s = c .before .before .before in
     let k = c .before .before .loop .k in
-    let numbers : ℕ → ℤ = λ j. getD (s .args .ordinates .now) (s .args .c + j) (pos 0) in
-    (omega arith, ap₂ (λ (l : List ℤ) (v : ℤ). set l k v) (c .before .before .loop .inv .1) (ap (λ (z : ℤ). toZ w64 (ofZ w64 z)) (toZ-ofZ w32 (number c) (number-fits c)) ∙ toZ-ofZ w64 (number c) (sfits-widen (number-fits c))) ∙ tab-more numbers k (replicate 6 (pos 0)) (omega arith))
+    let numbers : ℕ → ℤ = λ j. getD (s .args .ordinates .now) (s .args .c + j) (pos 0) in (
+      omega arith,
+      ap₂ (λ (l : List ℤ) (v : ℤ). set l k v) (c .before .before .loop .inv .1)
+          (ap (λ (z : ℤ). toZ w64 (ofZ w64 z)) (toZ-ofZ w32 (number c) (number-fits c))
+          ∙ toZ-ofZ w64 (number c) (sfits-widen (number-fits c))) ∙ tab-more numbers k (replicate 6 (pos 0)) (omega arith),
+    )
 
 returns : tie.Need-returns Inv-loop μ-loop
 returns c =
     let s = c .before .before in
     c .before .loop .inv .1
-    ∙ ap (λ (k : ℕ). tab k (λ j. getD (s .args .ordinates .now) (s .args .c + j) (pos 0)) ++ drop k (replicate 6 (pos 0))) (let e : c .before .loop .k ≡ s .args .p + 1 = omega arith in e)
+    ∙ ap (λ (k : ℕ). tab k (λ j. getD (s .args .ordinates .now) (s .args .c + j) (pos 0)) ++ drop k (replicate 6 (pos 0)))
+    (let e : c .before .loop .k ≡ s .args .p + 1 = omega arith in e)
     ∙ local-filled (s .args .ordinates .now) (s .args .c) (s .args .p) (omega arith)
 
 pub local-ordinates-spec : {M : Type 1} → statement M

@@ -67,7 +67,8 @@ returns c =
     let g = break-fits s in
     let h = x-fits s in
     let k = start-fits s in
-    let z : toZ w64 (ofZ w64 (toZ w32 (ofZ w32 (s .args .x)))) -ℤ toZ w64 (ofZ w64 (pos 256 *ℤ toZ w64 (ofZ w64 (toZ w32 (ofZ w32 (break s)))))) ≡ s .args .x -ℤ pos 256 *ℤ break s = simp toZ-ofZ in
+    let z : toZ w64 (ofZ w64 (toZ w32 (ofZ w32 (s .args .x)))) -ℤ toZ w64
+    (ofZ w64 (pos 256 *ℤ toZ w64 (ofZ w64 (toZ w32 (ofZ w32 (break s)))))) ≡ s .args .x -ℤ pos 256 *ℤ break s = simp toZ-ofZ in
     ap (λ (z : ℤ). toZ w64 (ofZ w64 z)) z ∙ toZ-ofZ w64 _ (offset-fits s)
 
 pub offset-spec : {M : Type 1} → statement M

@@ -14,7 +14,8 @@ use Rattle.spec_spline.specs.Reading.{segmentAt, fineWidth, offset}
 use Rattle.build_space.specs.Machine.{space}
 use Rattle.build_space.specs.Legal.{ListsLegal}
 use Rattle.curve_triangle.specs.Offsets.{Offset}
-use Rattle.curve_triangle.proofs.Position.{segment-within, offset-within, column-at, columns-within, degree-within, columns-long, place-is}
+use Rattle.curve_triangle.proofs.Position.{segment-within, offset-within, column-at, columns-within, degree-within, columns-long}
+use Rattle.curve_triangle.proofs.Position.{place-is}
 use Rattle.curve_triangle.proofs.place_at.Statement.{statement}
 use Rattle.curve_triangle.proofs.place_at.Tie as tie
 
@@ -54,7 +55,9 @@ mul-c : tie.Need-mul-c
 mul-c c = let s = c .before .before .before .before in omega (arith, within s, legal s .few)
 
 shared-slice-read-c : tie.Need-shared-slice-read-c
-shared-slice-read-c c = let s = c .before .before .before .before .before in omega (arith, within s, legal s .few, ap length (s .pre .columns-are), columns-long (s .args .degrees .now))
+shared-slice-read-c c =
+    let s = c .before .before .before .before .before in
+    omega (arith, within s, legal s .few, ap length (s .pre .columns-are), columns-long (s .args .degrees .now))
 
 module _ (c : tie.After-fine-width) where
   abbrev start : tie.Start
@@ -64,19 +67,29 @@ module _ (c : tie.After-fine-width) where
   column = getD (start .args .columns .now) (i start) 0
 
   column-is : column ≡ firstColumn (space [] (start .args .degrees .now) []) (i start)
-  column-is = ap (λ xs. getD xs (i start) 0) (start .pre .columns-are) ∙ column-at (start .args .breaks .now) _ _ (legal start) (i start) (within start)
+  column-is =
+      ap (λ xs. getD xs (i start) 0) (start .pre .columns-are)
+      ∙ column-at (start .args .breaks .now) _ _ (legal start) (i start) (within start)
 
   p-small : c .before .before .degree-at .result ≤ 5
   p-small = rw (c .before .before .degree-at .ensures) (degree-within (start .args .breaks .now) _ _ (legal start) (i start) (within start))
 
   u-is : toZ w64 (ofZ w64 (c .before .offset .result)) ≡ offset (space (start .args .breaks .now) [] []) (i start) (start .args .x)
-  u-is = toZ-ofZ w64 _ (record { sfits = c .before .offset .ok }) ∙ c .before .offset .ensures ∙ ap (λ (z : ℤ). offset (space (start .args .breaks .now) [] []) (i start) z) (toZ-ofZ w32 _ (start .fits .x))
+  u-is =
+      toZ-ofZ w64 _ (record { sfits = c .before .offset .ok }) ∙ c .before .offset .ensures
+      ∙ ap (λ (z : ℤ). offset (space (start .args .breaks .now) [] []) (i start) z) (toZ-ofZ w32 _ (start .fits .x))
 
   d-is : toZ w64 (ofZ w64 (c .fine-width .result)) ≡ pos (fineWidth (space (start .args .breaks .now) [] []) (i start))
   d-is = toZ-ofZ w64 _ (record { sfits = c .fine-width .ok }) ∙ c .fine-width .ensures
 
   column-within : column + c .before .before .degree-at .result < 288
-  column-within = omega (arith, column-is, c .before .before .degree-at .ensures, columns-within (start .args .breaks .now) (start .args .degrees .now) (orders start) (legal start) (i start) (within start))
+  column-within =
+      omega (
+        arith,
+        column-is,
+        c .before .before .degree-at .ensures,
+        columns-within (start .args .breaks .now) (start .args .degrees .now) (orders start) (legal start) (i start) (within start),
+      )
 
 returns : tie.Need-returns
 returns c =
@@ -84,7 +97,8 @@ returns c =
     let s = start e in
     let a = s .args in
     record {
-      is = λ o at. place-is (a .breaks .now) (a .degrees .now) o (a .x) (i s) at (column-is e) (e .before .before .degree-at .ensures) (u-is e) (d-is e);
+      is = λ o at. place-is (a .breaks .now) (a .degrees .now) o (a .x) (i s) at (column-is e) (e .before .before .degree-at .ensures)
+          (u-is e) (d-is e);
       sound = record { low = p-small e; within = column-within e; inside = rw (u-is e, d-is e) (offset-is s) };
     }
 

@@ -1,5 +1,5 @@
--- `curve_triangle::segment_at` meets its contract. The loop's invariant: `at` is the last of the first i segments whose first position is at
--- or before x. Assumes nothing.
+-- `curve_triangle::segment_at` meets its contract. The loop's invariant: `at` is the last of the first i segments whose first position is
+-- at or before x. Assumes nothing.
 use native.Mathlib.Omega.{arith}
 use mathlib.Core.Bool.{Bool}
 use mathlib.Core.Logic.{⊎-elim}

@@ -20,7 +20,8 @@ at-first orders zero e = refl
 at-first orders (suc i) e = absurd (omega arith)
 
 -- a later one
-after-first : (orders : List ℤ) (i j : ℕ) → suc j ≡ i → isDiscontinuity (space [] [] orders) j ≡ startsAtDiscontinuity (space [] [] orders) i
+after-first : (orders : List ℤ) (i j : ℕ) → suc j ≡ i
+    → isDiscontinuity (space [] [] orders) j ≡ startsAtDiscontinuity (space [] [] orders) i
 unfolding startsAtDiscontinuity
 after-first orders i j e = ap (startsAtDiscontinuity (space [] [] orders)) e
 

@@ -59,19 +59,24 @@ value-of-requires-6 : tie.Need-value-of-requires-6
 value-of-requires-6 c κs = asked (c .before) _ refl
 
 returns : tie.Need-returns
-returns c u d rated = arm (c .before .before) 1 _ (c .before .match .keys1) (record { sfits = c .value-of .ok }) (c .value-of .ensures) u d rated
+returns c u d rated =
+    arm (c .before .before) 1 _ (c .before .match .keys1) (record { sfits = c .value-of .ok }) (c .value-of .ensures) u d rated
 
 returns-2 : tie.Need-returns-2
-returns-2 c u d rated = arm (c .before .before) 2 _ (c .before .match .keys2) (record { sfits = c .value-of2 .ok }) (c .value-of2 .ensures) u d rated
+returns-2 c u d rated =
+    arm (c .before .before) 2 _ (c .before .match .keys2) (record { sfits = c .value-of2 .ok }) (c .value-of2 .ensures) u d rated
 
 returns-3 : tie.Need-returns-3
-returns-3 c u d rated = arm (c .before .before) 3 _ (c .before .match .keys3) (record { sfits = c .value-of3 .ok }) (c .value-of3 .ensures) u d rated
+returns-3 c u d rated =
+    arm (c .before .before) 3 _ (c .before .match .keys3) (record { sfits = c .value-of3 .ok }) (c .value-of3 .ensures) u d rated
 
 returns-4 : tie.Need-returns-4
-returns-4 c u d rated = arm (c .before .before) 4 _ (c .before .match .keys4) (record { sfits = c .value-of4 .ok }) (c .value-of4 .ensures) u d rated
+returns-4 c u d rated =
+    arm (c .before .before) 4 _ (c .before .match .keys4) (record { sfits = c .value-of4 .ok }) (c .value-of4 .ensures) u d rated
 
 returns-5 : tie.Need-returns-5
-returns-5 c u d rated = arm (c .before .before) 5 _ (c .before .match .keys5) (record { sfits = c .value-of5 .ok }) (c .value-of5 .ensures) u d rated
+returns-5 c u d rated =
+    arm (c .before .before) 5 _ (c .before .match .keys5) (record { sfits = c .value-of5 .ok }) (c .value-of5 .ensures) u d rated
 
 returns-6 : tie.Need-returns-6
 returns-6 c u d rated = arm (c .before .before) _ _ refl (record { sfits = c .value-of6 .ok }) (c .value-of6 .ensures) u d rated

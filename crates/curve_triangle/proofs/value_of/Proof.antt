@@ -31,7 +31,8 @@ module _ (c : tie.After-triangle) where
   abbrev start : tie.Start
   start = c .before .before
 
-  value-is : ValueIs (start .args .ordinates .now) (start .args .c) (start .args .p) (start .args .high) (start .args .low) (c .triangle .result)
+  value-is : ValueIs (start .args .ordinates .now) (start .args .c) (start .args .p) (start .args .high) (start .args .low)
+      (c .triangle .result)
   value-is u d rated =
       let s = start in
       let f = s .fits .high in

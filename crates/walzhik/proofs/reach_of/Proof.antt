@@ -36,7 +36,9 @@ returns c =
 
 returns-2 : tie.Need-returns-2
 unfolding reply reached
-returns-2 c = let a = c .before .before .answer2 .given in reach-ext (c .reach-struct2 .result) (pos 0) _ _ (c .reach-struct2 .ensures) ∙ ap (λ t. reached (reply t)) (sym (a .1))
+returns-2 c =
+    let a = c .before .before .answer2 .given in
+    reach-ext (c .reach-struct2 .result) (pos 0) _ _ (c .reach-struct2 .ensures) ∙ ap (λ t. reached (reply t)) (sym (a .1))
 
 pub reach-of-spec : {M : Type 1} → statement M
 reach-of-spec =

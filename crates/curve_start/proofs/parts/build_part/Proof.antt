@@ -10,7 +10,8 @@ use Rattle.spec_spline.specs.Table.{rowCells}
 use Rattle.theorems_beams.specs.Sections.{partAt}
 use Rattle.build_space.specs.Machine.{space}
 use Rattle.curve_ordinates.specs.Ordinates.{Weighs, Coefficients, WeighedRows}
-use Rattle.curve_start.proofs.Part.{rowsFrom, middle-coefficients, part-after, part-within, beam-rows-few, part-columns-few, rows-told, weighs-rows, leaves-rows, leaves-refused}
+use Rattle.curve_start.proofs.Part.{rowsFrom, middle-coefficients, part-after, part-within, beam-rows-few, part-columns-few}
+use Rattle.curve_start.proofs.Part.{rows-told, weighs-rows, leaves-rows, leaves-refused}
 use Rattle.curve_start.proofs.parts.build_part.Statement.{statement}
 use Rattle.curve_start.proofs.parts.build_part.Tie as tie
 
@@ -125,7 +126,8 @@ module _ (c : tie.After-built2) where
   own-coefficients : Coefficients (rowsFrom row rows (entry .args .coefs .now)) rows
   own-coefficients = middle-coefficients (entry .args .coefs .now) (rowCount (lists entry)) row rows (entry .pre .coefficients) rows-within
 
-  own-rows : WeighedRows (done .build .last .1 .1 .1 .0) (done .build .last .1 .1 .1 .1 .0) (rowsFrom row rows (entry .args .coefs .now)) rows
+  own-rows : WeighedRows (done .build .last .1 .1 .1 .0) (done .build .last .1 .1 .1 .1 .0) (rowsFrom row rows (entry .args .coefs .now))
+      rows
   own-rows = record { weights = weighed; coefficients = own-coefficients }
 
 mul-own : tie.Need-mul-own

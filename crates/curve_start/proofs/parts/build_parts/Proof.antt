@@ -111,7 +111,13 @@ module _ (c : tie.After-first-column Inv-loop μ-loop) where
   size = columns-more (lists entry) (entry .pre .legal) _ _ front (taken (ended .before)) ∙ sym columns-end
 
   columns-within : c .first-column .result ≤ columnCount (lists entry)
-  columns-within = omega (arith, columns-end, firstColumn-mono (lists entry) (partEnd (lists entry) (first ended)) (length (entry .args .degrees .now)) (omega (arith, end-is ended, end-within ended)))
+  columns-within =
+      omega (
+        arith,
+        columns-end,
+        firstColumn-mono (lists entry) (partEnd (lists entry) (first ended)) (length (entry .args .degrees .now))
+            (omega (arith, end-is ended, end-within ended)),
+      )
 
   columns-few : c .first-column .result ≤ 288
   columns-few = omega (arith, columns-within, legal-column-count-high _ _ _ (entry .pre .legal))

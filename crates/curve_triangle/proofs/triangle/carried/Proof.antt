@@ -14,7 +14,8 @@ use Rattle.curve_triangle.proofs.triangle.carried.Statement.{statement}
 use Rattle.curve_triangle.proofs.triangle.carried.Tie as tie
 
 product-fits : (c : tie.Start) → SFits w64 (c .args .rise *ℤ c .args .low)
-product-fits c = sfits-abs (omega (arith, abs-mul-le (c .args .rise) (c .args .low) 536870912 131072 (c .pre .rise-small) (c .pre .low-small)))
+product-fits c =
+    sfits-abs (omega (arith, abs-mul-le (c .args .rise) (c .args .low) 536870912 131072 (c .pre .rise-small) (c .pre .low-small)))
 
 mul-result : tie.Need-mul-result
 mul-result c = let f = c .fits .rise in let g = c .fits .low in simp toZ-ofZ (product-fits c)

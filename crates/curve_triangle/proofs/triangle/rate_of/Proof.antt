@@ -45,10 +45,14 @@ module _ (c : tie.After-scaled) where
   back-fits = subst (λ (x : ℤ). SFits w64 (x *ℤ c .before .args .d)) (sym high-is) (sfits-abs (omega (arith, bounds .back-abs)))
 
   rest-fits : SFits w64 (u *ℤ pos 8589934592 -ℤ c .scaled .result *ℤ d)
-  rest-fits = subst (λ (x : ℤ). SFits w64 (c .before .args .u *ℤ pos 8589934592 -ℤ x *ℤ c .before .args .d)) (sym high-is) (sfits-abs (omega (arith, offset-abs (rest u d) d (bounds .rest-inside))))
+  rest-fits =
+      subst (λ (x : ℤ). SFits w64 (c .before .args .u *ℤ pos 8589934592 -ℤ x *ℤ c .before .args .d)) (sym high-is)
+      (sfits-abs (omega (arith, offset-abs (rest u d) d (bounds .rest-inside))))
 
   rest-inside : Offset (u *ℤ pos 8589934592 -ℤ c .scaled .result *ℤ d) d
-  rest-inside = subst (λ (x : ℤ). Offset (c .before .args .u *ℤ pos 8589934592 -ℤ x *ℤ c .before .args .d) (c .before .args .d)) (sym high-is) (bounds .rest-inside)
+  rest-inside =
+      subst (λ (x : ℤ). Offset (c .before .args .u *ℤ pos 8589934592 -ℤ x *ℤ c .before .args .d) (c .before .args .d)) (sym high-is)
+      (bounds .rest-inside)
 
 mul-rest : tie.Need-mul-rest
 mul-rest c = let f = c .before .fits .u in simp toZ-ofZ (fine-fits c)
@@ -57,7 +61,9 @@ mul-rest-2 : tie.Need-mul-rest-2
 mul-rest-2 c = let f = c .before .fits .d in let g = high c in simp toZ-ofZ (back-fits c)
 
 sub-rest : tie.Need-sub-rest
-sub-rest c = let f = c .before .fits .u in let g = c .before .fits .d in let h = high c in let k = fine-fits c in let l = back-fits c in simp toZ-ofZ (rest-fits c)
+sub-rest c =
+    let f = c .before .fits .u in
+    let g = c .before .fits .d in let h = high c in let k = fine-fits c in let l = back-fits c in simp toZ-ofZ (rest-fits c)
 
 scaled-requires-2 : tie.Need-scaled-requires-2
 scaled-requires-2 c κs =
@@ -82,7 +88,9 @@ returns c =
     record {
       inside = s .pre;
       high-is = simp toZ-ofZ (high-is (c .before));
-      low-is = simp toZ-ofZ ((simp toZ-ofZ at (c .scaled2 .ensures)) ∙ ap (λ (x : ℤ). floorDiv ((s .args .u *ℤ pos 8589934592 -ℤ x *ℤ s .args .d) *ℤ pos 131072) (natAbs (s .args .d))) (high-is (c .before)));
+      low-is = simp toZ-ofZ ((simp toZ-ofZ at (c .scaled2 .ensures))
+          ∙ ap (λ (x : ℤ). floorDiv ((s .args .u *ℤ pos 8589934592 -ℤ x *ℤ s .args .d) *ℤ pos 131072) (natAbs (s .args .d)))
+          (high-is (c .before)));
     }
 
 pub rate-of-spec : {M : Type 1} → statement M

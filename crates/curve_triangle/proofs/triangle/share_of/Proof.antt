@@ -55,10 +55,12 @@ module _ (c : tie.After-carried) where
   sum-fits = sfits-abs (omega (arith, whole-size, part-size, abs-add whole (c .carried .result)))
 
   half-fits : (half : ℕ) → half ≤ 8589934592 → SFits w64 (whole +ℤ c .carried .result +ℤ pos half)
-  half-fits half h = sfits-abs (omega (arith, whole-size, part-size, abs-add whole (c .carried .result), abs-add (whole +ℤ c .carried .result) (pos half)))
+  half-fits half h =
+      sfits-abs (omega (arith, whole-size, part-size, abs-add whole (c .carried .result), abs-add (whole +ℤ c .carried .result) (pos half)))
 
   shifted-fits : (half : ℕ) → half ≤ 8589934592 → SFits w64 (shrZ (whole +ℤ c .carried .result +ℤ pos half) 8589934592)
-  shifted-fits half h = rw (floorDiv-shrZ (whole +ℤ c .carried .result +ℤ pos half) 8589934592) at (floor-fits 8589934592 (half-fits half h))
+  shifted-fits half h =
+      rw (floorDiv-shrZ (whole +ℤ c .carried .result +ℤ pos half) 8589934592) at (floor-fits 8589934592 (half-fits half h))
 
 mul-result : tie.Need-mul-result
 mul-result c = let f = c .before .fits .rise in let g = c .before .fits .high in simp toZ-ofZ (whole-fits c)
@@ -98,7 +100,8 @@ returns c u d rated =
     simp toZ-ofZ
     (sym (floorDiv-shrZ (whole c +ℤ c .carried .result +ℤ pos 4294971392) 8589934592)
     ∙ ap (λ (p : ℤ). floorDiv (whole c +ℤ p +ℤ pos 4294971392) 8589934592) (part-is c)
-    ∙ share-is (c .before .args .high) (c .before .args .low) u d (x c) rated (c .before .pre .rise-small) 4294971392 (omega arith) (omega arith))
+    ∙ share-is (c .before .args .high) (c .before .args .low) u d (x c) rated (c .before .pre .rise-small) 4294971392 (omega arith)
+    (omega arith))
 
 pub share-of-spec : {M : Type 1} → statement M
 share-of-spec =

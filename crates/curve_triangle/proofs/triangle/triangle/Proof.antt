@@ -22,7 +22,10 @@ abbrev μ-loop : tie.MeasureT-loop
 μ-loop p high low r₀ n₀ r n = n
 
 loop-holds : tie.Need-loop-holds Inv-loop μ-loop
-loop-holds c = (omega arith, λ u d rated. rw (let e : c .args .p - c .args .p ≡ 0 = omega arith in e) (triangled-none _ _ _ (c .args .p) (c .pre .bounded)))
+loop-holds c = (
+  omega arith,
+  λ u d rated. rw (let e : c .args .p - c .args .p ≡ 0 = omega arith in e) (triangled-none _ _ _ (c .args .p) (c .pre .bounded)),
+)
 
 -- the offset whose rate is given, and what holds for it
 held : (c : tie.At-loop Inv-loop μ-loop) → let s = c .before in let r = s .pre .rate in
@@ -55,7 +58,8 @@ loop-again c =
     let one-more : p - (n - 1) ≡ suc (p - n) = omega arith in (
       omega arith,
       λ u d rated. rw one-more
-          (triangled-more _ _ _ _ _ _ _ (l .loop .inv .1 u d rated) (omega arith) (c .stage .ensures .is u d rated) (c .stage .ensures .bounded)),
+          (triangled-more _ _ _ _ _ _ _ (l .loop .inv .1 u d rated) (omega arith) (c .stage .ensures .is u d rated)
+          (c .stage .ensures .bounded)),
     )
 
 array-copy-out-result : tie.Need-array-copy-out-result Inv-loop μ-loop
