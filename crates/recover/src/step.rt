@@ -158,8 +158,8 @@ fn recover_join(
     requires { ⌜ (length (now ordinates) ≡ columns) × AllFit (map int (now ordinates)) ⌝ }
     ensures { λ r. ⌜ ((s : Space) (j : ℕ) (t : Table) (ps : List ℚ) → JoinIs join s j → Holds (now (num .entry)) (now (den .entry)) t
         → Shaped t rows columns → cs ≡ fractions ps → length ps ≡ rows → AllFit ps
-        → Leaves (Recovery.recoverOrders s j n (grownCombination s j columns (now (ordinates .entry)) (record { table = t; coefficients = ps }))) r
-        (now (num .entry)) (now (den .entry)) (now (num .exit)) (now (den .exit))) ⌝ }
+        → Leaves (Recovery.recoverOrders s j n (grownCombination s j columns (now (ordinates .entry))
+        (record { table = t; coefficients = ps }))) r (now (num .entry)) (now (den .entry)) (now (num .exit)) (now (den .exit))) ⌝ }
 {
     let right = join.right;
     let more = right.degree + 1;
