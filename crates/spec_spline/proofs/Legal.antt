@@ -1,6 +1,6 @@
 -- What the checks of a space leave: a space that none of the codes 2 to 5 and 15 refuses has lists of lengths that fit together,
 -- segments of positive length, and at each join no more conditions than either neighbouring degree. And what the checks need.
-use mathlib.Core.Path.{_≡_, refl, _∙_, ap, ap₂, subst}
+use mathlib.Core.Path.{_≡_, refl, _∙_, ap, ap₂, subst, sym}
 use mathlib.Core.Bool.{Bool, true, false, cond, not, _&&_, _||_}
 use mathlib.Core.Option.{Option, some, none}
 use Prim.Native.Nat.{ℕ, zero, suc, _+_, _-_, _<_, _≤_}
@@ -18,8 +18,9 @@ use Rattle.base_outcome.specs.Search.{first}
 use Rattle.spec_spline.specs.Space.{Space, segments, break, degreeEntry, order, segmentLimit, lengthsFit, badBreak, spanTooLong, tooManySegments}
 use Rattle.spec_spline.specs.Space.{badDegree, badOrder, partEndAt, checkedEntries, checked, degree, width, conditionCount}
 use Rattle.base_outcome.specs.Tests.{between, refuseFirst}
-use Rattle.spec_spline.specs.Build.{clears}
-use Rattle.base_outcome.proofs.Outcome.{answer-unique, answer-not-refusal}
+use Rattle.spec_spline.specs.Build.{clears, weights, spaceWeights}
+use Rattle.spec_spline.specs.Table.{Table}
+use Rattle.base_outcome.proofs.Outcome.{answer-unique, answer-not-refusal, then-inverts}
 use Rattle.base_outcome.proofs.Search.{some-not-none, first-none, first-none-inverts}
 use Rattle.spec_spline.proofs.Space.{between-inverts}
 
@@ -152,6 +153,17 @@ lengths-fit-inverts s e =
       break-count = eqb-true (length (s .breaks)) (segments s + 1) (b .1);
       order-count = eqb-true (length (s .orders) + 1) (segments s) (a .1);
     }
+
+-- ---- what an accepted space has passed
+pub record Passed (s : Space) (t : Table) : Type 0 where
+  pub passes : checked s ≡ answer s
+  pub checks : Checked s
+  pub weights-are : weights s ≡ answer t
+
+pub accepted-passed : (s : Space) {t : Table} → spaceWeights s ≡ answer t → Passed s t
+unfolding spaceWeights
+accepted-passed s e = let c = then-inverts (checked s) weights e in let d = checked-inverts s (c .before) in
+    record { passes = c .before ∙ ap answer (sym (d .0)); checks = d .1; weights-are = ap weights (d .0) ∙ c .after }
 
 -- The numbers of a space that passes.
 pub record Legal (s : Space) : Type 0 where

@@ -10,13 +10,13 @@ use lib.ListN.{length}
 use Rattle.base_exact.specs.Rational.{int}
 use Rattle.base_exact.proofs.Decide.{le-or-lt, true-not-false}
 use Rattle.base_outcome.specs.Outcome.{Outcome, answer, refusal, capped}
-use Rattle.spec_spline.specs.Space.{Space, segments, partEnd, firstColumn, columnCount, rowCount, rowsBefore, checked}
+use Rattle.spec_spline.specs.Space.{Space, segments, partEnd, firstColumn, columnCount, rowCount, rowsBefore}
 use Rattle.spec_spline.specs.Table.{Table, cell}
 use Rattle.spec_spline.specs.Build.{weights, spaceWeights}
 use Rattle.spec_spline.specs.Piecewise.{Accepted}
 use Rattle.spec_spline.proofs.Parts.{Boundary, whole-boundary, Ends, part-ends}
-use Rattle.base_outcome.proofs.Outcome.{answer-not-refusal, then-answers, then-inverts}
-use Rattle.spec_spline.proofs.Legal.{Checked, checked-inverts, checked-passes, lengths-fit-inverts}
+use Rattle.base_outcome.proofs.Outcome.{answer-not-refusal, then-answers}
+use Rattle.spec_spline.proofs.Legal.{Checked, checked-inverts, checked-passes, lengths-fit-inverts, accepted-passed}
 use Rattle.spec_spline.proofs.Table.{cell-past}
 use Rattle.spec_spline.proofs.Shape.{Wide, weights-shaped}
 use Rattle.theorems_beams.specs.Sections.{section, partAt, beside}
@@ -35,8 +35,7 @@ cut-weights-holds s e a n A whole = cut-weights s (orders-fit s (checked-inverts
 -- ---- what is accepted has weights
 
 pub accepted-checked : (s : Space) (x : Accepted s) → Checked s × (weights s ≡ answer (x .table))
-unfolding spaceWeights
-accepted-checked s x = let c = then-inverts (checked s) weights (x .is) in let d = checked-inverts s (c .before) in (d .1, ap weights (d .0) ∙ c .after)
+accepted-checked s x = let p = accepted-passed s (x .is) in (p .checks, p .weights-are)
 
 pub checked-weights : (s : Space) → Checked s → spaceWeights s ≡ weights s
 unfolding spaceWeights

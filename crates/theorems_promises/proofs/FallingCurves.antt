@@ -143,17 +143,17 @@ climbing-lists-climb s x a A low wood coefs climbs y z Y W h = values-follow s x
 pub falling-cells : FallingCells
 falling-cells s coefs positions numLength denLength valuesLength l held wood a A low falls k m O =
     rw (
-      cell-holds-value s coefs positions numLength denLength valuesLength l held k
+      cell-holds-value l held k
           (O .earlier-listed) wood,
-      cell-holds-value s coefs positions numLength denLength valuesLength l held m (O .later-listed) wood,
+      cell-holds-value l held m (O .later-listed) wood,
     )
     (falling-lists-fall s (l .accepted) a A low wood coefs falls _ _ (O .earlier) (O .later) (O .ordered))
 
 pub climbing-cells : ClimbingCells
 climbing-cells s coefs positions numLength denLength valuesLength l held wood a A low climbs k m O =
     rw (
-      cell-holds-value s coefs positions numLength denLength valuesLength l held k
+      cell-holds-value l held k
           (O .earlier-listed) wood,
-      cell-holds-value s coefs positions numLength denLength valuesLength l held m (O .later-listed) wood,
+      cell-holds-value l held m (O .later-listed) wood,
     )
     (climbing-lists-climb s (l .accepted) a A low wood coefs climbs _ _ (O .earlier) (O .later) (O .ordered))

@@ -43,5 +43,5 @@ positive-values s a wood coefs positive x inside = value-positive s a wood coefs
 
 pub positive-cells : PositiveCells
 positive-cells s coefs positions numLength denLength valuesLength l before wood positive k h =
-    rw (cell-holds-value s coefs positions numLength denLength valuesLength l before k h wood)
+    rw (cell-holds-value l before k h wood)
     (value-positive s (l .accepted) wood coefs positive (getD positions k (pos 0)) (position-inside s positions k (l .inSpan k h)))

@@ -1,11 +1,9 @@
 -- The columns of the weight buffers sum to one, proved: they hold the last part, which is built by itself, and zeros below it.
 use mathlib.Core.Path.{_≡_, sym, _∙_, ap, ap₂, subst}
 use mathlib.Core.Logic.{inr}
-use mathlib.Core.Bool.{_&&_}
 use mathlib.Core.List.{List}
-use Prim.Native.Nat.{ℕ, zero, suc, _+_, _*_, _-_, _/_, _%_, _<_, _≤_}
+use Prim.Native.Nat.{ℕ, zero, suc, _+_, _*_, _/_, _%_, _<_, _≤_}
 use native.Mathlib.Omega.{arith}
-use borrow.Author.Tests.{ltb-false}
 use lib.Dec.{ltb}
 use lib.IntN.{ℤ, pos}
 use lib.ListN.{length, getD}
@@ -16,7 +14,7 @@ use Rattle.base_exact.proofs.Integer as Z
 use Rattle.base_exact.proofs.Rational.{self, is-mul-int, int-nonzero, div-unique}
 use Rattle.base_exact.proofs.Sum.{sum-ext, sum-past}
 use Rattle.base_outcome.specs.Outcome.{Outcome, answer, with-answer}
-use Rattle.spec_spline.specs.Space.{Space, segments, partEnd, lastPartStart, partSegmentLimit, tooManySegments, firstColumn, columnCount, rowCount, rowsBefore}
+use Rattle.spec_spline.specs.Space.{Space, segments, partEnd, lastPartStart, firstColumn, columnCount, rowCount, rowsBefore}
 use Rattle.spec_spline.specs.Table.{Table, rowCells, tableCells}
 use Rattle.spec_spline.specs.Build.{spaceWeights, built, lastPart, numeratorsAfter, denominatorsAfter}
 use Rattle.spec_spline.specs.Piecewise.{Accepted}
@@ -32,7 +30,7 @@ use Rattle.theorems_beams.specs.Sections.{partAt}
 use Rattle.theorems_beams.specs.Parts.{Starts, PartOf}
 use Rattle.theorems_beams.proofs.Sections.{orders-fit, section-all}
 use Rattle.theorems_beams.proofs.Ends.{Before, part-before, front-lastPartStart}
-use Rattle.theorems_beams.proofs.PartLegal.{part-segments, part-checked}
+use Rattle.theorems_beams.proofs.PartLegal.{part-few, part-checked}
 use Rattle.theorems_beams.proofs.Fronts.{part-columns}
 use Rattle.theorems_beams.proofs.Parts.{weights-by-parts}
 use Rattle.theorems_values.proofs.Segment.{accepted-checked}
@@ -47,11 +45,6 @@ columns-few : (s : Space) → Limits s → (n : ℕ) → n ≤ segments s → fi
 unfolding firstColumn
 columns-few s L zero h = omega arith
 columns-few s L (suc n) h = omega (arith, columns-few s L n (omega arith), L .low-degree n (omega arith))
-
--- the segments of a part
-part-few : (s : Space) → Checked s → (a : ℕ) → Starts s a → partEnd s a - a ≤ partSegmentLimit
-unfolding tooManySegments
-part-few s c a A = ltb-false partSegmentLimit (partEnd s a - a) (ap (λ b. b && ltb partSegmentLimit (partEnd s a - a)) (sym (A .starts)) ∙ c .few a (A .below))
 
 module _ (s : Space) (x : Accepted s) where
   c : Checked s
@@ -83,7 +76,7 @@ module _ (s : Space) (x : Accepted s) where
   last-columns = omega (arith, columns)
 
   fit : columnCount (partAt s a) ≤ rowCells
-  fit = omega (arith, columns-few (partAt s a) (limits (partAt s a) (part-checked s a A c)) (segments (partAt s a)) (omega arith), part-segments s a A, part-few s c a A)
+  fit = omega (arith, columns-few (partAt s a) (limits (partAt s a) (part-checked s a A c)) (segments (partAt s a)) (omega arith), part-few s a A c)
 
   -- its columns in the whole table sum to one
   column-sums : (k : ℕ) → k < lastColumns s → sum rowCells (λ i. lastPartCell s (x .table) i k) ≡ int (pos 1)

@@ -41,7 +41,7 @@ pair-of-position s t coefs positions k e h =
     ∙ ap (λ ps. getD ps k e) (map-tab (pairAt s t coefs) (length positions) (λ i. getD positions i (pos 0)))
     ∙ tab-getD (length positions) (λ i. pairAt s t coefs (getD positions i (pos 0))) k e h
 
-module _ (s : Space) (coefs positions : List ℤ) (numLength denLength valuesLength : ℕ) (l : Legal s coefs positions numLength denLength valuesLength) (before : List ℤ) where
+module _ {s : Space} {coefs positions : List ℤ} {numLength denLength valuesLength : ℕ} (l : Legal s coefs positions numLength denLength valuesLength) (before : List ℤ) where
   abbrev pairs : List Pair
   pairs = values s (l .accepted .table) coefs positions
 
@@ -103,10 +103,10 @@ module _ (s : Space) (a : Accepted s) (wood : Wood) (coefs : List ℤ) (count : 
 
 -- ---- all of it, of a cell
 
-pub value-close : (s : Space) (coefs positions : List ℤ) (numLength denLength valuesLength : ℕ) (l : Legal s coefs positions numLength denLength valuesLength) (k : ℕ)
+pub value-close : {s : Space} {coefs positions : List ℤ} {numLength denLength valuesLength : ℕ} (l : Legal s coefs positions numLength denLength valuesLength) (k : ℕ)
     → k < length positions → (wood : Wood)
     → Close s (l .accepted .table) wood coefs (getD positions k (pos 0)) (valueAt s (l .accepted .table) wood coefs (getD positions k (pos 0)))
-value-close s coefs positions numLength denLength valuesLength l k h wood = let inside = position-inside s positions k (l .inSpan k h) in record {
+value-close {s} {coefs} {positions} l k h wood = let inside = position-inside s positions k (l .inSpan k h) in record {
   exact-at-most = exact-at-most-value-and-closeness s (l .accepted) wood coefs (getD positions k (pos 0)) inside;
   at-most-exact = value-at-most-exact-and-closeness s (l .accepted) wood coefs (getD positions k (pos 0)) inside;
   at-least-least = value-at-least-least s (l .accepted) wood coefs (getD positions k (pos 0)) inside;
@@ -116,9 +116,9 @@ value-close s coefs positions numLength denLength valuesLength l k h wood = let 
 
 pub cells-are-close : CellsAreClose
 cells-are-close s coefs positions numLength denLength valuesLength l before k h wood =
-    subst (Close s (l .accepted .table) wood coefs (getD positions k (pos 0))) (sym (cell-holds-value s coefs positions numLength denLength valuesLength l before k h wood))
-    (value-close s coefs positions numLength denLength valuesLength l k h wood)
+    subst (Close s (l .accepted .table) wood coefs (getD positions k (pos 0))) (sym (cell-holds-value l before k h wood))
+    (value-close l k h wood)
 
 pub cells-past-are-kept : CellsPastAreKept
 cells-past-are-kept s coefs positions numLength denLength valuesLength l before e =
-    (cells-length s coefs positions numLength denLength valuesLength l before e, cells-past-kept s coefs positions numLength denLength valuesLength l before)
+    (cells-length l before e, cells-past-kept l before)

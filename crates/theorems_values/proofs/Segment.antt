@@ -15,12 +15,10 @@ use Rattle.base_exact.proofs.Word.{leZ-true}
 use Rattle.base_outcome.specs.Outcome.{answer}
 use Rattle.base_outcome.specs.Search.{last}
 use Rattle.spec_spline.specs.Space.{Space, segments, break, checked}
-use Rattle.spec_spline.specs.Build.{weights, spaceWeights}
 use Rattle.spec_spline.specs.Piecewise.{Accepted}
 use Rattle.spec_spline.specs.Reading.{fineness, fine, startsBy, segmentAt, fineWidth, offset}
-use Rattle.base_outcome.proofs.Outcome.{then-inverts}
 use Rattle.base_outcome.proofs.Search.{SearchedBack, at, nowhere, search-last}
-use Rattle.spec_spline.proofs.Legal.{Checked, checked-inverts, legal, good-break-rises}
+use Rattle.spec_spline.proofs.Legal.{Checked, legal, good-break-rises, accepted-passed}
 use Rattle.spec_spline.proofs.Reading.{starts-by-le, not-starts-by-le, starts-by-first}
 use Rattle.theorems_values.specs.ValueLimits.{InSpan}
 use Rattle.theorems_values.proofs.Fine.{fine-sub}
@@ -28,8 +26,7 @@ use Rattle.theorems_values.proofs.Fine.{fine-sub}
 -- ---- the checks of an accepted space
 
 pub accepted-checked : (s : Space) → Accepted s → (checked s ≡ answer s) × Checked s
-unfolding spaceWeights
-accepted-checked s a = let c = then-inverts (checked s) weights (a .is) in let i = checked-inverts s (c .before) in (c .before ∙ ap answer (sym (i .0)), i .1)
+accepted-checked s a = let p = accepted-passed s (a .is) in (p .passes, p .checks)
 
 -- breakpoints rise
 pub breaks-rise : (s : Space) → Checked s → (i : ℕ) → i < segments s → break s i <ℤ break s (suc i)

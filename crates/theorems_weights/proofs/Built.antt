@@ -8,13 +8,12 @@ use native.Mathlib.Omega.{arith}
 use native.Mathlib.Nat.{eq-or-lt-of-le}
 use lib.ListN.{length}
 use Rattle.base_outcome.specs.Outcome.{answer}
-use Rattle.spec_spline.specs.Space.{Space, segments, columnCount, conditionCount, conditionsBefore, rowCount, checked}
+use Rattle.spec_spline.specs.Space.{Space, segments, columnCount, conditionCount, conditionsBefore, rowCount}
 use Rattle.spec_spline.specs.Conditions.{Entry, conditions}
 use Rattle.spec_spline.specs.Table.{Table}
 use Rattle.spec_spline.specs.Step.{step}
 use Rattle.spec_spline.specs.Build.{orderSteps, joinSteps, weights, spaceWeights}
-use Rattle.base_outcome.proofs.Outcome.{then-inverts}
-use Rattle.spec_spline.proofs.Legal.{checked-inverts, Legal, legal}
+use Rattle.spec_spline.proofs.Legal.{Legal, legal, accepted-passed}
 use Rattle.spec_spline.proofs.Conditions.{conditions-inside}
 use Rattle.spec_spline.proofs.Table.{identity-rows}
 use Rattle.spec_spline.proofs.Induction.{joins-hold}
@@ -109,12 +108,8 @@ pub record Built (s : Space) (t : Table) : Type 0 where
   pub rows : length t + conditionsBefore s (segments s - 1) ≡ columnCount s
 
 pub built : (s : Space) (t : Table) → spaceWeights s ≡ answer t → Built s t
-unfolding spaceWeights
-built s t e = go (then-inverts (checked s) weights e .middle) (then-inverts (checked s) weights e .before) (then-inverts (checked s) weights e .after)
-  where
-    go : (s′ : Space) → checked s ≡ answer s′ → weights s′ ≡ answer t → Built s t
-    go s′ p q = let c = checked-inverts s p in let L = legal s (c .1) in let w = ap weights (c .0) ∙ q in let all = all-staged s L t w in
-        record { legal-space = L; weights-are = w; basis = all .basis; rows = omega (arith, all .rows) }
+built s t e = let p = accepted-passed s e in let L = legal s (p .checks) in let all = all-staged s L t (p .weights-are) in
+    record { legal-space = L; weights-are = p .weights-are; basis = all .basis; rows = omega (arith, all .rows) }
 
 pub row-count : (s : Space) (t : Table) → Built s t → length t ≡ rowCount s
 row-count s t b = omega (arith, b .rows)
