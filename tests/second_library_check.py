@@ -42,10 +42,10 @@ WRONG = [
     Wrong(
         "crates/indices_rings/src/lib.rt",
         "    let width = widths[i];\n",
-        "    let z = base_fraction::floor_div(1, 1);\n",
-        "the call base_fraction::floor_div",
+        "    let z = base_division::floor_div(1, 1);\n",
+        "the call base_division::floor_div",
     ),
-    Wrong("crates/indices/src/lib.rt", "\n", "use base_fraction::floor_div;\n", "the import base_fraction::floor_div"),
+    Wrong("crates/indices/src/lib.rt", "\n", "use base_division::floor_div;\n", "the import base_division::floor_div"),
     Wrong(
         "crates/walzhik_indices/src/lib.rt",
         "{\n",

@@ -69,7 +69,7 @@ pub fn put_decimal(out: &mut [u8], at: usize, z: i64) -> usize
     requires { ⌜ at < 2 ^ 63 ⌝ }
     ensures { λ r. ⌜ Puts 21 at (decimal z) (now (out .entry)) (now (out .exit)) r ⌝ }
 {
-    let size = base_fraction::magnitude(z);
+    let size = base_division::magnitude(z);
     if z < 0 {
         let next = put(out, at, b'-');
         return put_digits(out, next, size);

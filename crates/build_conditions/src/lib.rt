@@ -85,7 +85,7 @@ fn scales(join: Join, k: usize) -> Scaled
     let r = join.right;
     let left = scale(l.degree, k, r.length);
     let right = scale(r.degree, k, l.length);
-    let divisor = base_fraction::gcd(left as u64, right as u64) as i64;
+    let divisor = base_division::gcd(left as u64, right as u64) as i64;
     Scaled {
         left: left / divisor,
         right: right / divisor,

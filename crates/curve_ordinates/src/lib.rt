@@ -55,7 +55,7 @@ fn with_term(before: Terms, a: i64, num: i64, den: i64) -> Terms
     requires { ⌜ TermAsks (before .sum) a num den ⌝ }
     ensures { λ r. ⌜ Added before a num den r ⌝ }
 {
-    let term = base_fraction::round_div(256 * a * num, den);
+    let term = base_division::round_div(256 * a * num, den);
     let least = lesser(before.some, before.least, a);
     let greatest = greater(before.some, before.greatest, a);
     Terms {

@@ -26,7 +26,7 @@ fn put_fraction(out: &mut [u8], at: usize, num: i64, den: i64) -> usize
     requires { ⌜ at ≤ 2 ^ 43 ⌝ }
     ensures { λ r. ⌜ Puts 43 at (fractionText num (natAbs den)) (now (out .entry)) (now (out .exit)) r ⌝ }
 {
-    let size = base_fraction::magnitude(den);
+    let size = base_division::magnitude(den);
     let a = base_print::put_decimal(out, at, num);
     let b = base_print::put(out, a, b'/');
     let c = base_print::put_digits(out, b, size);

@@ -45,7 +45,7 @@ fn put_blanks(text: &mut [u8], at: usize, count: usize) -> usize
 fn decimal_length(z: i64) -> usize
     ensures { λ r. ⌜ r ≡ length (decimal z) ⌝ }
 {
-    let size = base_fraction::magnitude(z);
+    let size = base_division::magnitude(z);
     let count = base_print::digit_count(size);
     if z < 0 {
         return count + 1;

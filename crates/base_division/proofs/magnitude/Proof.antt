@@ -8,8 +8,8 @@ use mir.Val.{SFits}
 use lib.IntN.{pos, negsuc, _-ℤ_}
 use lib.Signed.{mag, yes-nonNeg, natAbs-le, _<ℤ_, _≤ℤ_}
 use Rattle.base_exact.proofs.Word.{ltZ-true, ltZ-false, flip, abs-neg-mag}
-use Rattle.base_fraction.proofs.magnitude.Statement.{statement}
-use Rattle.base_fraction.proofs.magnitude.Tie as tie
+use Rattle.base_division.proofs.magnitude.Statement.{statement}
+use Rattle.base_division.proofs.magnitude.Tie as tie
 
 below : (c : tie.Then1) → c .before .args .a <ℤ pos 0
 below c = let f = c .before .fits .a in ltZ-true _ _ (simp toZ-ofZ at (c .if1 .taken))

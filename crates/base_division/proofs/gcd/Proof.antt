@@ -4,8 +4,8 @@ use native.Mathlib.Nat.{mod-lt}
 use native.Mathlib.Omega.{arith}
 use Rattle.base_exact.specs.Gcd.{gcd}
 use Rattle.base_exact.proofs.Gcd.{gcd-step, gcd-zero}
-use Rattle.base_fraction.proofs.gcd.Statement.{statement}
-use Rattle.base_fraction.proofs.gcd.Tie as tie
+use Rattle.base_division.proofs.gcd.Statement.{statement}
+use Rattle.base_division.proofs.gcd.Tie as tie
 
 abbrev Inv-loop : tie.InvT-loop
 Inv-loop a b x₀ y₀ x y = gcd x y ≡ gcd a b

@@ -8,8 +8,8 @@ use lib.IntN.{ℤ, pos, negsuc, natAbs, _-ℤ_}
 use lib.Signed.{mag, mag-shr, quotZ, _<ℤ_, _≤ℤ_}
 use Rattle.base_exact.proofs.Word.{ltZ-true, ltZ-false, flip, quot-mag, quot-floor, flip-floor}
 use Rattle.base_exact.proofs.Integer.{≤-in, <-out}
-use Rattle.base_fraction.proofs.floor_div.Statement.{statement}
-use Rattle.base_fraction.proofs.floor_div.Tie as tie
+use Rattle.base_division.proofs.floor_div.Statement.{statement}
+use Rattle.base_division.proofs.floor_div.Tie as tie
 
 divisor : (d : ℤ) → pos 0 <ℤ d → 0 < ofZ w64 d
 divisor (pos d) h = omega (arith, <-out (pos 0) (pos d) h)

@@ -8,8 +8,8 @@ use mir.Val.{SFits}
 use mir.ValLaws.{toZ-ofZ}
 use Rattle.base_exact.proofs.Integer.{+-mono-<, <-≤}
 use Rattle.base_exact.proofs.Word.{sfits-abs, abs-add, floor-nearest}
-use Rattle.base_fraction.proofs.round_div.Statement.{statement}
-use Rattle.base_fraction.proofs.round_div.Tie as tie
+use Rattle.base_division.proofs.round_div.Statement.{statement}
+use Rattle.base_division.proofs.round_div.Tie as tie
 
 module _ (c : tie.Start) where
   abbrev a : ℤ

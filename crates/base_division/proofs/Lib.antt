@@ -1,0 +1,1 @@
+-- Each proof stands in its function's folder; the laws are those of base_exact.
