@@ -1,8 +1,2 @@
--- Laws of the passes through the lines that the proofs of tucson_read share.
-pub mod Passing
-pub mod Counts
-pub mod Sets
-pub mod Filling
-pub mod Inverting
-pub mod Writes
+-- The laws of the call.
 pub mod Answers

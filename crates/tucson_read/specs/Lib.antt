@@ -1,4 +1,2 @@
--- What the contracts of tucson_read cite beside the definitions of crates tucson_form and tucson_lines.
-pub mod Scan
+-- What the contract of tucson_read cites beside the definitions of crate spec_tucson.
 pub mod Machine
-pub mod Write

@@ -3,10 +3,7 @@
 ghost use mathlib.Core.Path.{_≡_};
 ghost use Rattle.spec_tucson.specs.ReadCall.{readEnd};
 ghost use Rattle.tucson_read.specs.Machine.{reply};
-use scanning::Scanned;
-
-mod scanning;
-mod writing;
+use tucson_scan::Scanned;
 
 // What reading answers: how many series there are, or a refusal's code and place.
 pub enum Answer {
@@ -30,7 +27,7 @@ pub fn read(
         (reply r ≡ e .answers) × ((now (names .exit) ≡ e .names)
         × ((now (years .exit) ≡ e .years) × ((now (counts .exit) ≡ e .counts) × (now (widths .exit) ≡ e .widths))))) ⌝ }
 {
-    let scanned = scanning::scan(text);
+    let scanned = tucson_scan::scan(text);
     match scanned {
         Scanned::Refused(code, place) => Answer::Refused(code, place),
         Scanned::Totals(series, total) => {
@@ -46,7 +43,7 @@ pub fn read(
             if widths.len() < total {
                 return Answer::Refused(SHORT_BUFFER, 0);
             }
-            writing::write(text, names, years, counts, widths);
+            tucson_fill::write(text, names, years, counts, widths);
             Answer::Series(series)
         }
     }

@@ -1,0 +1,54 @@
+-- Hundredths are multiplied, thousandths stay.
+use mathlib.Core.Bool.{Bool, true, false, cond}
+use mathlib.Core.List.{List}
+use mathlib.Core.Path.{_≡_, sym, _∙_, ap}
+use Prim.Native.Nat.{ℕ, _+_, _-_}
+use native.Mathlib.Omega.{arith}
+use lib.IntN.{ℤ}
+use lib.Seq.{slice, sets}
+use Rattle.base_exact.proofs.Word.{toZ-ofZ}
+use Rattle.spec_tucson.specs.Line.{same}
+use Rattle.spec_tucson.specs.Series.{hundredths, fromHundredths}
+use Rattle.tucson_fill.specs.Write.{inThousandths}
+use Rattle.tucson_fill.proofs.Sets.{sets-slice}
+use borrow.Author.Needs.{needs}
+use Rattle.tucson_fill.proofs.convert.Statement.{statement}
+use Rattle.tucson_fill.proofs.convert.Tie as tie
+
+-- ---- by the closing
+from-hundredths : (z : ℤ) (ws : List ℤ) → same z hundredths ≡ true → fromHundredths ws ≡ inThousandths z ws
+unfolding inThousandths
+from-hundredths z ws e = sym (ap (λ (b : Bool). cond b (fromHundredths ws) ws) e)
+
+from-thousandths : (z : ℤ) (ws : List ℤ) → same z hundredths ≡ false → ws ≡ inThousandths z ws
+unfolding inThousandths
+from-thousandths z ws e = sym (ap (λ (b : Bool). cond b (fromHundredths ws) ws) e)
+
+closing-test : (c : tie.After-same) → c .same .result ≡ same (c .before .args .closing) hundredths
+closing-test c = let f = c .before .fits .closing in simp toZ-ofZ at (c .same .ensures)
+
+same-requires : tie.Need-same-requires
+same-requires c κs = search needs
+
+scale-requires : tie.Need-scale-requires
+scale-requires c κs = search needs
+
+same-length : tie.Need-same-length
+same-length c = search needs
+
+returns : tie.Need-returns
+returns c =
+    let s = c .before .before .before .before .before in
+    c .before .scale .ensures
+    ∙ ap (sets (s .args .widths .now) (s .args .from)) (from-hundredths (s .args .closing) _ (sym (closing-test (c .before .before .before .before)) ∙ c .before .before .before .if1 .taken))
+
+returns-2 : tie.Need-returns-2
+returns-2 c =
+    let s = c .before .before in
+    let w = s .args .widths .now in
+    let e : s .args .from + (s .args .to - s .args .from) ≡ s .args .to = omega (arith, s .pre .0) in
+    sym (ap (sets w (s .args .from)) (sym (from-thousandths (s .args .closing) (slice (s .args .from) (s .args .to) w) (sym (closing-test (c .before)) ∙ c .if1 .left)) ∙ ap (λ (n : ℕ). slice (s .args .from) n w) (sym e))
+    ∙ sets-slice (s .args .to - s .args .from) (s .args .from) w (omega (arith, s .pre .1 .0)))
+
+pub convert-spec : {M : Type 1} → statement M
+convert-spec = tie.close (tie.spec same-requires scale-requires same-length returns returns-2)

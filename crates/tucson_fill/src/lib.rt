@@ -1,0 +1,161 @@
+// The second pass: the lines of a text that is known to be good are written to buffers that are known to be long enough.
+ghost use mathlib.Core.Bool.{true, cond};
+ghost use mathlib.Core.Path.{_≡_};
+ghost use Prim.Native.Nat.{_+_, _*_, _-_, _<_, _≤_};
+ghost use lib.IntN.{pos};
+ghost use lib.ListN.{length, set};
+ghost use lib.Seq.{slice, sets};
+ghost use Rattle.base_outcome.specs.Outcome.{answer};
+ghost use Rattle.spec_tucson.specs.Line.{fieldNumerals, nameColumns};
+ghost use Rattle.spec_tucson.specs.Series.{fromHundredths};
+ghost use Rattle.spec_tucson.specs.TextReading.{readText};
+ghost use Rattle.spec_tucson.specs.ReadCall.{namesOf, yearsOf, countsOf, widthsOf};
+ghost use Rattle.spec_tucson.specs.Writing.{allWidths};
+ghost use Rattle.tucson_fill.specs.Write.{numbersOf, seriesIn, FieldsAt, inThousandths};
+use base_text::numeral::Field;
+use tucson_lines::LineAnswer;
+
+const TEN: i32 = 10;
+
+// Writes the numbers of n fields from the index on. Each is a number, so the bad case is never met.
+fn fill(text: &[u8], from: usize, to: usize, n: usize, widths: &mut [i32], at: usize)
+    requires { ⌜ FieldsAt (now text) from to n at (length (now widths)) ⌝ }
+    ensures { λ r. ⌜ now (widths .exit) ≡ sets (now (widths .entry)) at (numbersOf (fieldNumerals n (slice from to (now (text .entry))))) ⌝ }
+{
+    let mut i = 0;
+    let mut start = from;
+    while i < n {
+        let field = tucson_lines::code(text, start, start + tucson_lines::FIELD);
+        match field {
+            Field::Bad => {
+                return;
+            }
+            Field::Numeral(z) => {
+                widths[at + i] = z;
+                start += tucson_lines::FIELD;
+                i += 1;
+            }
+        }
+    }
+}
+
+// Writes a name's eight bytes.
+fn copy_name(text: &[u8], from: usize, names: &mut [u8], at: usize)
+    requires { ⌜ (from + nameColumns ≤ length (now text)) × (at + nameColumns ≤ length (now names)) ⌝ }
+    ensures { λ r. ⌜ now (names .exit) ≡ sets (now (names .entry)) at (slice from (from + nameColumns) (now (text .entry))) ⌝ }
+{
+    let mut i = 0;
+    while i < tucson_lines::NAME {
+        names[at + i] = text[from + i];
+        i += 1;
+    }
+}
+
+// Hundredths become thousandths, from the one index up to the other.
+fn scale(widths: &mut [i32], from: usize, to: usize)
+    requires { ⌜ (from ≤ to) × ((to ≤ length (now widths)) × (allWidths (slice from to (now widths)) ≡ true)) ⌝ }
+    ensures { λ r. ⌜ now (widths .exit) ≡ sets (now (widths .entry)) from (fromHundredths (slice from to (now (widths .entry)))) ⌝ }
+{
+    let mut i = from;
+    while i < to {
+        let w = widths[i];
+        widths[i] = w * TEN;
+        i += 1;
+    }
+}
+
+// The widths from the one index up to the other in thousandths, by the closing.
+fn convert(closing: i32, widths: &mut [i32], from: usize, to: usize)
+    requires { ⌜ (from ≤ to) × ((to ≤ length (now widths)) × (allWidths (slice from to (now widths)) ≡ true)) ⌝ }
+    ensures { λ r. ⌜ now (widths .exit) ≡ sets (now (widths .entry)) from (inThousandths closing (slice from to (now (widths .entry)))) ⌝ }
+{
+    if tucson_lines::same(closing, tucson_scan::HUNDREDTHS) {
+        scale(widths, from, to);
+        return;
+    }
+}
+
+// Writes the name, the first year and the count of a series.
+fn enter(
+    text: &[u8],
+    from: usize,
+    first: i32,
+    count: usize,
+    names: &mut [u8],
+    years: &mut [i32],
+    counts: &mut [u32],
+    series: usize,
+)
+    requires { ⌜ (from + nameColumns ≤ length (now text)) × (series * nameColumns + nameColumns ≤ length (now names)) ⌝ }
+    requires { ⌜ (series < length (now years)) × ((series < length (now counts)) × (count < 4294967296)) ⌝ }
+    ensures { λ r. ⌜ now (names .exit) ≡ sets (now (names .entry)) (series * nameColumns)
+        (slice from (from + nameColumns) (now (text .entry))) ⌝ }
+    ensures { λ r. ⌜ now (years .exit) ≡ set (now (years .entry)) series first ⌝ }
+    ensures { λ r. ⌜ now (counts .exit) ≡ set (now (counts .entry)) series count ⌝ }
+{
+    copy_name(text, from, names, series * tucson_lines::NAME);
+    years[series] = first;
+    counts[series] = count as u32;
+}
+
+// The year with which the series began: this line's, if none is begun.
+fn first_year(begun: bool, first: i32, year: i32) -> i32
+    ensures { λ r. ⌜ r ≡ cond begun first year ⌝ }
+{
+    if begun {
+        return first;
+    }
+    year
+}
+
+// Writes the series of the text to the fronts of the buffers. Every line is good, so the bad case is never met.
+pub fn write(
+    text: &[u8],
+    names: &mut [u8],
+    years: &mut [i32],
+    counts: &mut [u32],
+    widths: &mut [i32],
+)
+    requires { ⌜ readText (now text) ≡ answer (seriesIn (readText (now text))) ⌝ }
+    requires { ⌜ (let ss = seriesIn (readText (now text)) in
+        (length (namesOf ss) ≤ length (now names)) × ((length ss ≤ length (now years))
+        × ((length ss ≤ length (now counts)) × (length (widthsOf ss) ≤ length (now widths))))) ⌝ }
+    ensures { λ r. ⌜ now (names .exit) ≡ sets (now (names .entry)) 0 (namesOf (seriesIn (readText (now (text .entry))))) ⌝ }
+    ensures { λ r. ⌜ now (years .exit) ≡ sets (now (years .entry)) 0 (yearsOf (seriesIn (readText (now (text .entry))))) ⌝ }
+    ensures { λ r. ⌜ now (counts .exit) ≡ sets (now (counts .entry)) 0 (countsOf (seriesIn (readText (now (text .entry))))) ⌝ }
+    ensures { λ r. ⌜ now (widths .exit) ≡ sets (now (widths .entry)) 0 (widthsOf (seriesIn (readText (now (text .entry))))) ⌝ }
+{
+    let mut from = 0;
+    let mut series = 0;
+    let mut start = 0;
+    let mut at = 0;
+    let mut begun = false;
+    let mut first = 0;
+    while from < text.len() {
+        let end = base_text::fields::find(text, from, text.len(), b'\n');
+        let line = tucson_lines::line(text, from, end);
+        match line {
+            LineAnswer::Bad => {
+                return;
+            }
+            LineAnswer::Good(year, n, _, last) => {
+                first = first_year(begun, first, year);
+                if tucson_lines::goes_on(text, from, end) {
+                    fill(text, from + tucson_lines::HEAD, end, n, widths, at);
+                    at += n;
+                    begun = true;
+                    from = end + 1;
+                    continue;
+                }
+                fill(text, from + tucson_lines::HEAD, end, n - 1, widths, at);
+                at += n - 1;
+                convert(last, widths, start, at);
+                enter(text, from, first, at - start, names, years, counts, series);
+                series += 1;
+                start = at;
+                begun = false;
+                from = end + 1;
+            }
+        }
+    }
+}

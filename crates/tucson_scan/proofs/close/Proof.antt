@@ -1,0 +1,90 @@
+-- Each return is one of the cases of a series' last line.
+use borrow.Author.Needs.{needs}
+use borrow.Author.Tests.{not-true, not-false}
+use mathlib.Core.Bool.{Bool, true, false, _&&_, _||_, not}
+use native.Mathlib.Omega.{arith}
+use mathlib.Core.Path.{_≡_, refl, sym, _∙_, ap, ap₂}
+use lib.Dec.{eqb}
+use Rattle.base_exact.proofs.Word.{toZ-ofZ}
+use Rattle.spec_tucson.specs.Line.{same, thousandths, yearInDecade}
+use Rattle.spec_tucson.specs.Series.{hundredths}
+use Rattle.tucson_scan.proofs.Passing.{close-not-next, close-thousandths, close-hundredths, close-unclosed}
+use Rattle.tucson_scan.proofs.close.Statement.{statement}
+use Rattle.tucson_scan.proofs.close.Tie as tie
+
+-- the year's test
+module _ (c : tie.After-follows) where
+  abbrev s : tie.Start
+  s = c .before
+
+  year-test : c .follows .result ≡ (not (s .args .begun) || (same (s .args .year) (s .args .next) && eqb (yearInDecade (s .args .year)) 0))
+  year-test =
+      let f = s .fits .year in
+      let g = s .fits .next in
+      simp toZ-ofZ at (c .follows .ensures)
+
+-- the test for the one closing
+module _ (c : tie.After-same) where
+  abbrev f : tie.After-follows
+  f = c .before .before
+
+  follows : (not (s f .args .begun) || (same (s f .args .year) (s f .args .next) && eqb (yearInDecade (s f .args .year)) 0)) ≡ true
+  follows = sym (year-test f) ∙ not-false _ (c .before .if1 .left)
+
+  thousandths-test : c .same .result ≡ same (s f .args .last) thousandths
+  thousandths-test = let g = s f .fits .last in simp toZ-ofZ at (c .same .ensures)
+
+-- and for the other
+module _ (c : tie.After-both2) where
+  abbrev t : tie.After-same
+  t = c .before .before .before .before
+
+  hundredths-test : c .both2 .result ≡ (same (s (f t) .args .last) hundredths && (s (f t) .args .small && s (f t) .args .front))
+  hundredths-test =
+      let g = s (f t) .fits .last in
+      c .both2 .ensures ∙ ap₂ _&&_ (simp toZ-ofZ at (c .before .same2 .ensures)) (c .before .before .both .ensures)
+
+follows-requires : tie.Need-follows-requires
+follows-requires c κs = search needs
+
+returns : tie.Need-returns
+returns c = (λ place b t tracks told. close-not-next place b t _ _ _ tracks _ _ _ _ told (sym (year-test (c .before)) ∙ not-true _ (c .if1 .taken)), tt)
+
+same-requires : tie.Need-same-requires
+same-requires c κs = search needs
+
+sub-t12 : tie.Need-sub-t12
+sub-t12 c = search needs
+
+returns-2 : tie.Need-returns-2
+returns-2 c = (λ place b t tracks told. close-thousandths place b t _ _ _ tracks _ _ _ _ told (follows (c .before)) (sym (thousandths-test (c .before)) ∙ c .if2 .taken), (refl, omega arith))
+
+both-requires : tie.Need-both-requires
+both-requires c κs = search needs
+
+same-requires-2 : tie.Need-same-requires-2
+same-requires-2 c κs = search needs
+
+both-requires-2 : tie.Need-both-requires-2
+both-requires-2 c κs = search needs
+
+sub-t14 : tie.Need-sub-t14
+sub-t14 c = search needs
+
+returns-3 : tie.Need-returns-3
+returns-3 c =
+    let k = t (c .before) in (
+      λ place b x tracks told. close-hundredths place b x _ _ _ tracks _ _ _ _ told (follows k) (sym (thousandths-test k) ∙ c .before .before .before .before .if2 .left) (sym (hundredths-test (c .before)) ∙ c .if3 .taken),
+      (refl, omega arith),
+    )
+
+returns-4 : tie.Need-returns-4
+returns-4 c =
+    let k = t (c .before) in (
+      λ place b x tracks told. close-unclosed place b x _ _ _ tracks _ _ _ _ told (follows k) (sym (thousandths-test k) ∙ c .before .before .before .before .if2 .left) (sym (hundredths-test (c .before)) ∙ c .if3 .left),
+      tt,
+    )
+
+pub close-spec : {M : Type 1} → statement M
+close-spec =
+    tie.close (tie.spec follows-requires returns same-requires sub-t12 returns-2 both-requires same-requires-2 both-requires-2 sub-t14 returns-3 returns-4)
