@@ -7,7 +7,7 @@ use Prim.Native.Nat.{ℕ, _+_, _-_, _*_, _/_, _%_, _<_, _≤_}
 use native.Mathlib.Omega.{arith}
 use native.Mathlib.Decide.{decLt}
 use lib.IntN.{ℤ, pos}
-use lib.ListN.{length, getD, drop, length-drop, List·getD-eq-default}
+use lib.ListN.{length, getD, drop, length-drop}
 use lib.Seq.{ext-getD, getD-drop}
 use Rattle.base_exact.specs.Rational.{ℚ, den, int}
 use Rattle.base_exact.specs.Tabulate.{tab}
@@ -15,8 +15,8 @@ use Rattle.base_exact.proofs.Tabulate.{getD-tab, getD-past-tab, length-tab, dro
 use Rattle.base_exact.proofs.Rational.{int-num, int-den}
 use Rattle.base_fraction.specs.Size.{fits}
 use Rattle.base_fraction.specs.Machine.{fraction}
-use Rattle.spec_spline.specs.Table.{Row, Table, entry, cell, stored, rowCells, tableCells, numerators, denominators}
-use Rattle.spec_spline.proofs.Table.{laid-cell}
+use Rattle.spec_spline.specs.Table.{Table, cell, stored, rowCells, tableCells, numerators, denominators}
+use Rattle.spec_spline.proofs.Table.{laid-cell, cell-past}
 use Rattle.build_cells.specs.Held.{Holds, Kept, ClearFrom}
 use Rattle.build_cells.specs.Region.{filled}
 use Rattle.build_cells.proofs.Region.{Written, filled-length, filled-inside, filled-after}
@@ -149,13 +149,10 @@ holds-left num den {num′} {den′} t n d p q fit = record {
 
 -- ---- the rows past a table are clear
 
-row-past : (t : Table) (i c : ℕ) → length t ≤ i → cell t i c ≡ int (pos 0)
-row-past t i c h = ap (λ (r : Row). entry r c) (List·getD-eq-default t [] h)
-
 laid-clear : (f : ℚ → ℤ) (v : ℤ) → f (int (pos 0)) ≡ v → (t : Table) (b xs : List ℤ) (rows : ℕ) → length t ≤ rows → xs ≡ laid f t b
     → (k : ℕ) → rowCells * rows ≤ k → k < tableCells → getD xs k (pos 0) ≡ v
 laid-clear f v unused t b xs rows h e k l m =
-    ap (λ (ys : List ℤ). getD ys k (pos 0)) e ∙ laid-stored f t b k m ∙ ap f (row-past t (k / rowCells) (k % rowCells) (omega arith)) ∙ unused
+    ap (λ (ys : List ℤ). getD ys k (pos 0)) e ∙ laid-stored f t b k m ∙ ap f (cell-past t (k / rowCells) (k % rowCells) (omega arith)) ∙ unused
 
 pub clear-past : (t : Table) (num den num′ den′ : List ℤ) (rows : ℕ) → length t ≤ rows → num′ ≡ numerators t num → den′ ≡ denominators t den → ClearFrom num′ den′ rows
 clear-past t num den num′ den′ rows h p q = record {

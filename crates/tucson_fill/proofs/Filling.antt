@@ -22,20 +22,20 @@ use Rattle.spec_tucson.specs.Line.{fieldColumns, widthLimit, withField, fieldNu
 use Rattle.spec_tucson.specs.Series.{fromHundredths}
 use Rattle.spec_tucson.specs.Writing.{allWidths}
 use Rattle.tucson_lines.proofs.Fields.{fields-first}
-use Rattle.tucson_fill.specs.Write.{numbersOf}
+use Rattle.tucson_fill.specs.Write.{numeralsOf}
 use Rattle.tucson_fill.proofs.Sets.{slice-set}
 
 -- ---- the numbers of fields
-with-number : (a : Option ℤ) (x : Option (List ℤ)) → withField a x ≡ some (numbersOf (withField a x)) → a ≡ none → ⊥
-with-number none x e h = let z : _≡_ {A = ℕ} 0 1 = cc in omega arith
-with-number (some z) x e h = let z : _≡_ {A = ℕ} 0 1 = cc in omega arith
+with-numeral : (a : Option ℤ) (x : Option (List ℤ)) → withField a x ≡ some (numeralsOf (withField a x)) → a ≡ none → ⊥
+with-numeral none x e h = let z : _≡_ {A = ℕ} 0 1 = cc in omega arith
+with-numeral (some z) x e h = let z : _≡_ {A = ℕ} 0 1 = cc in omega arith
 
-with-rest : (a : Option ℤ) (x : Option (List ℤ)) (z : ℤ) → withField a x ≡ some (numbersOf (withField a x)) → a ≡ some z → (x ≡ some (numbersOf x)) × (numbersOf (withField a x) ≡ z ∷ numbersOf x)
+with-rest : (a : Option ℤ) (x : Option (List ℤ)) (z : ℤ) → withField a x ≡ some (numeralsOf (withField a x)) → a ≡ some z → (x ≡ some (numeralsOf x)) × (numeralsOf (withField a x) ≡ z ∷ numeralsOf x)
 with-rest none x z e h = absurd (let z : _≡_ {A = ℕ} 0 1 = cc in omega arith)
 with-rest (some y) none z e h = absurd (let z : _≡_ {A = ℕ} 0 1 = cc in omega arith)
 with-rest (some y) (some fs) z e h = let same : y ≡ z = cc in (refl, ap (λ (w : ℤ). w ∷ fs) same)
 
-module _ (text : Text) (start to m : ℕ) (some-left : 1 ≤ m) (longer : start + fieldColumns ≤ to) (good : fieldNumerals m (slice start to text) ≡ some (numbersOf (fieldNumerals m (slice start to text)))) where
+module _ (text : Text) (start to m : ℕ) (some-left : 1 ≤ m) (longer : start + fieldColumns ≤ to) (good : fieldNumerals m (slice start to text) ≡ some (numeralsOf (fieldNumerals m (slice start to text)))) where
   abbrev here : Option ℤ
   here = inColumns (slice start (start + fieldColumns) text)
 
@@ -45,16 +45,16 @@ module _ (text : Text) (start to m : ℕ) (some-left : 1 ≤ m) (longer : start 
   first : fieldNumerals m (slice start to text) ≡ withField here others
   first = fields-first m text start to some-left longer
 
-  good-first : withField here others ≡ some (numbersOf (withField here others))
-  good-first = sym first ∙ good ∙ ap (λ (o : Option (List ℤ)). some (numbersOf o)) first
+  good-first : withField here others ≡ some (numeralsOf (withField here others))
+  good-first = sym first ∙ good ∙ ap (λ (o : Option (List ℤ)). some (numeralsOf o)) first
 
-  pub field-number : here ≡ none → ⊥
-  field-number e = with-number here others good-first e
+  pub field-numeral : here ≡ none → ⊥
+  field-numeral e = with-numeral here others good-first e
 
-  pub field-next : (z : ℤ) → here ≡ some z → (others ≡ some (numbersOf others)) × (numbersOf (fieldNumerals m (slice start to text)) ≡ z ∷ numbersOf others)
-  field-next z e = let r = with-rest here others z good-first e in (r .0, ap numbersOf first ∙ r .1)
+  pub field-next : (z : ℤ) → here ≡ some z → (others ≡ some (numeralsOf others)) × (numeralsOf (fieldNumerals m (slice start to text)) ≡ z ∷ numeralsOf others)
+  field-next z e = let r = with-rest here others z good-first e in (r .0, ap numeralsOf first ∙ r .1)
 
-pub fields-none : (t : Text) → numbersOf (fieldNumerals 0 t) ≡ []
+pub fields-none : (t : Text) → numeralsOf (fieldNumerals 0 t) ≡ []
 unfolding fieldNumerals
 fields-none t = refl
 

@@ -27,7 +27,7 @@ use Rattle.tucson_lines.proofs.Lines.{end-within, lines-step}
 use Rattle.tucson_lines.proofs.GoodLines.{GoodLine, good-line, ifWidth, good-more}
 use Rattle.tucson_lines.proofs.LineNumerals.{fields-front}
 use Rattle.tucson_scan.specs.Scan.{soFar}
-use Rattle.tucson_fill.specs.Write.{numbersOf, FieldsAt, inThousandths}
+use Rattle.tucson_fill.specs.Write.{numeralsOf, FieldsAt, inThousandths}
 use Rattle.tucson_scan.proofs.Passing.{Says, says, same-is, begun-widths, front-length, followed-by}
 use Rattle.tucson_fill.proofs.Sets.{sets-append, sets-over, slice-sets, sets-slice}
 use Rattle.tucson_fill.proofs.Inverting.{Stepped, stepped, good-as-last, opens, Closes, closes, closed-widths, thousandths-length, all-widths, front-widths, widths-append, good-allowed, with-inverts}
@@ -262,8 +262,8 @@ module _ (text names-end : List ℕ) (years-end : List ℤ) (counts-end : List �
         count : length (m .line .fields) ≡ n
         count = said (m .line) (m .good) .count-is
 
-        numbers-are : fieldNumerals n fields-text ≡ some (m .line .fields)
-        numbers-are = ap (λ (j : ℕ). fieldNumerals j fields-text) (sym count) ∙ g .numbers
+        numerals-are : fieldNumerals n fields-text ≡ some (m .line .fields)
+        numerals-are = ap (λ (j : ℕ). fieldNumerals j fields-text) (sym count) ∙ g .numerals
 
         room : at + n ≤ start + length (widthsOf (now .rest))
         room =
@@ -274,13 +274,13 @@ module _ (text names-end : List ℕ) (years-end : List ℤ) (counts-end : List �
         more-ready = record {
           within = end-within text from end line-at .1;
           longer = omega (arith, g .size, count);
-          numbers = numbers-are ∙ ap some (sym (ap numbersOf numbers-are));
+          numerals = numerals-are ∙ ap some (sym (ap numeralsOf numerals-are));
           fits = omega (arith, room, now .widths-room);
         }
 
-        module _ (new-widths : List ℤ) (filled : new-widths ≡ sets widths at (numbersOf (fieldNumerals n fields-text))) where
+        module _ (new-widths : List ℤ) (filled : new-widths ≡ sets widths at (numeralsOf (fieldNumerals n fields-text))) where
           is : new-widths ≡ sets widths at (m .line .fields)
-          is = filled ∙ ap (λ o. sets widths at (numbersOf o)) numbers-are
+          is = filled ∙ ap (λ o. sets widths at (numeralsOf o)) numerals-are
 
           kept : length new-widths ≡ length widths
           kept = ap length is ∙ length-sets widths at (m .line .fields)
@@ -330,7 +330,7 @@ module _ (text names-end : List ℕ) (years-end : List ℤ) (counts-end : List �
         last-said = said (z .line) (z .good)
 
         front-are : fieldNumerals (n - 1) fields-text ≡ some (dropLast fs)
-        front-are = fields-front n fields-text fs (omega (arith, last-good .some-field, last-said .count-is)) (ap (λ (j : ℕ). fieldNumerals j fields-text) (sym (last-said .count-is)) ∙ last-good .numbers)
+        front-are = fields-front n fields-text fs (omega (arith, last-good .some-field, last-said .count-is)) (ap (λ (j : ℕ). fieldNumerals j fields-text) (sym (last-said .count-is)) ∙ last-good .numerals)
 
         front-count : length (dropLast fs) ≡ n - 1
         front-count = front-length fs ∙ ap (λ (j : ℕ). j - 1) (last-said .count-is)
@@ -355,13 +355,13 @@ module _ (text names-end : List ℕ) (years-end : List ℤ) (counts-end : List �
         last-ready = record {
           within = end-within text from end line-at .1;
           longer = omega (arith, last-good .size, last-said .count-is);
-          numbers = front-are ∙ ap some (sym (ap numbersOf front-are));
+          numerals = front-are ∙ ap some (sym (ap numeralsOf front-are));
           fits = omega (arith, now .at-is, ws-length, rest-length, now .widths-room);
         }
 
-        module _ (filled-widths : List ℤ) (filled : filled-widths ≡ sets widths at (numbersOf (fieldNumerals (n - 1) fields-text))) where
+        module _ (filled-widths : List ℤ) (filled : filled-widths ≡ sets widths at (numeralsOf (fieldNumerals (n - 1) fields-text))) where
           filled-is : filled-widths ≡ sets widths at (dropLast fs)
-          filled-is = filled ∙ ap (λ o. sets widths at (numbersOf o)) front-are
+          filled-is = filled ∙ ap (λ o. sets widths at (numeralsOf o)) front-are
 
           filled-kept : length filled-widths ≡ length widths
           filled-kept = ap length filled-is ∙ length-sets widths at (dropLast fs)

@@ -13,9 +13,9 @@ use Rattle.spec_tucson.specs.Line.{fieldColumns, fieldNumerals, same}
 use Rattle.spec_tucson.specs.Series.{Series, hundredths, fromHundredths}
 
 -- The numbers of some fields; none if they are no numbers.
-abbrev pub numbersOf : Option (List ℤ) → List ℤ
-numbersOf none = []
-numbersOf (some fs) = fs
+abbrev pub numeralsOf : Option (List ℤ) → List ℤ
+numeralsOf none = []
+numeralsOf (some fs) = fs
 
 -- The series of a text that is good; none if it is refused.
 abbrev pub seriesIn : Outcome (List Series) → List Series
@@ -27,7 +27,7 @@ seriesIn (refusal code place) = []
 pub record FieldsAt (text : Text) (from to n at room : ℕ) : Type 0 where
   pub within : to ≤ length text
   pub longer : from + n * fieldColumns ≤ to
-  pub numbers : fieldNumerals n (slice from to text) ≡ some (numbersOf (fieldNumerals n (slice from to text)))
+  pub numerals : fieldNumerals n (slice from to text) ≡ some (numeralsOf (fieldNumerals n (slice from to text)))
   pub fits : at + n ≤ room
 
 -- The widths in thousandths, by the closing.

@@ -11,7 +11,7 @@ ghost use Rattle.spec_tucson.specs.Series.{fromHundredths};
 ghost use Rattle.spec_tucson.specs.TextReading.{readText};
 ghost use Rattle.spec_tucson.specs.ReadCall.{namesOf, yearsOf, countsOf, widthsOf};
 ghost use Rattle.spec_tucson.specs.Writing.{allWidths};
-ghost use Rattle.tucson_fill.specs.Write.{numbersOf, seriesIn, FieldsAt, inThousandths};
+ghost use Rattle.tucson_fill.specs.Write.{numeralsOf, seriesIn, FieldsAt, inThousandths};
 use base_text::numeral::Field;
 use tucson_lines::LineAnswer;
 
@@ -20,12 +20,13 @@ const TEN: i32 = 10;
 // Writes the numbers of n fields from the index on. Each is a number, so the bad case is never met.
 fn fill(text: &[u8], from: usize, to: usize, n: usize, widths: &mut [i32], at: usize)
     requires { ⌜ FieldsAt (now text) from to n at (length (now widths)) ⌝ }
-    ensures { λ r. ⌜ now (widths .exit) ≡ sets (now (widths .entry)) at (numbersOf (fieldNumerals n (slice from to (now (text .entry))))) ⌝ }
+    ensures { λ r. ⌜ now (widths .exit)
+        ≡ sets (now (widths .entry)) at (numeralsOf (fieldNumerals n (slice from to (now (text .entry))))) ⌝ }
 {
     let mut i = 0;
     let mut start = from;
     while i < n {
-        let field = tucson_lines::code(text, start, start + tucson_lines::FIELD);
+        let field = tucson_lines::numeral(text, start, start + tucson_lines::FIELD);
         match field {
             Field::Bad => {
                 return;

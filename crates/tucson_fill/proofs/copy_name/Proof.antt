@@ -18,7 +18,7 @@ use Rattle.base_text.proofs.Slice.{slice-step}
 use Rattle.spec_tucson.specs.Line.{nameColumns, fieldColumns, fieldNumerals}
 use Rattle.spec_tucson.specs.Series.{fromHundredths}
 use Rattle.spec_tucson.specs.Writing.{allWidths}
-use Rattle.tucson_fill.specs.Write.{numbersOf}
+use Rattle.tucson_fill.specs.Write.{numeralsOf}
 use Rattle.tucson_fill.proofs.Sets.{sets-next}
 use Rattle.tucson_fill.proofs.copy_name.Statement.{statement}
 use Rattle.tucson_fill.proofs.copy_name.Tie as tie

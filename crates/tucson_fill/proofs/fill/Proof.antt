@@ -1,5 +1,5 @@
 -- The numbers written so far and those of the fields from `start` on make up all of them.
-use Rattle.tucson_fill.proofs.Filling.{field-number, field-next, fields-none}
+use Rattle.tucson_fill.proofs.Filling.{field-numeral, field-next, fields-none}
 use borrow.Author.Needs.{needs}
 use mathlib.Core.Bool.{true}
 use mathlib.Core.List.{List, [], _∷_}
@@ -20,13 +20,13 @@ use Rattle.base_text.proofs.Slice.{slice-step}
 use Rattle.spec_tucson.specs.Line.{nameColumns, fieldColumns, fieldNumerals}
 use Rattle.spec_tucson.specs.Series.{fromHundredths}
 use Rattle.spec_tucson.specs.Writing.{allWidths}
-use Rattle.tucson_fill.specs.Write.{numbersOf}
+use Rattle.tucson_fill.specs.Write.{numeralsOf}
 use Rattle.tucson_fill.proofs.Sets.{sets-next}
 use Rattle.tucson_fill.proofs.fill.Statement.{statement}
 use Rattle.tucson_fill.proofs.fill.Tie as tie
 
 abbrev Inv-loop : tie.InvT-loop
-Inv-loop text from to n widths₀ at i₀ start₀ widths i start = (i ≤ n) × ((start ≡ from + i * fieldColumns) × ((length widths ≡ length widths₀) × ((fieldNumerals (n - i) (slice start to text) ≡ some (numbersOf (fieldNumerals (n - i) (slice start to text)))) × (sets widths₀ at (numbersOf (fieldNumerals n (slice from to text))) ≡ sets widths (at + i) (numbersOf (fieldNumerals (n - i) (slice start to text)))))))
+Inv-loop text from to n widths₀ at i₀ start₀ widths i start = (i ≤ n) × ((start ≡ from + i * fieldColumns) × ((length widths ≡ length widths₀) × ((fieldNumerals (n - i) (slice start to text) ≡ some (numeralsOf (fieldNumerals (n - i) (slice start to text)))) × (sets widths₀ at (numeralsOf (fieldNumerals n (slice from to text))) ≡ sets widths (at + i) (numeralsOf (fieldNumerals (n - i) (slice start to text)))))))
 
 abbrev μ-loop : tie.MeasureT-loop
 μ-loop text from to n widths₀ at i₀ start₀ widths i start = n - i
@@ -42,21 +42,21 @@ loop-holds c =
         (
           refl,
           (
-            ap (λ (k : ℕ). fieldNumerals k (slice (a .from) (a .to) (a .text .now))) (sym f) ∙ c .before .pre .numbers ∙ ap (λ (k : ℕ). some (numbersOf (fieldNumerals k (slice (a .from) (a .to) (a .text .now))))) f,
-            ap₂ (λ (i k : ℕ). sets (a .widths .now) i (numbersOf (fieldNumerals k (slice (a .from) (a .to) (a .text .now))))) e f,
+            ap (λ (k : ℕ). fieldNumerals k (slice (a .from) (a .to) (a .text .now))) (sym f) ∙ c .before .pre .numerals ∙ ap (λ (k : ℕ). some (numeralsOf (fieldNumerals k (slice (a .from) (a .to) (a .text .now))))) f,
+            ap₂ (λ (i k : ℕ). sets (a .widths .now) i (numeralsOf (fieldNumerals k (slice (a .from) (a .to) (a .text .now))))) e f,
           ),
         ),
       ),
     )
 
-add-number : tie.Need-add-number Inv-loop μ-loop
-add-number c = omega arith
+add-numeral : tie.Need-add-numeral Inv-loop μ-loop
+add-numeral c = omega arith
 
-number-requires : tie.Need-number-requires Inv-loop μ-loop
-number-requires c κs = omega arith
+numeral-requires : tie.Need-numeral-requires Inv-loop μ-loop
+numeral-requires c κs = omega arith
 
 -- a turn's field
-module _ (c : tie.After-number Inv-loop μ-loop) where
+module _ (c : tie.After-numeral Inv-loop μ-loop) where
   abbrev s : tie.Start Inv-loop μ-loop
   s = c .before .before .before .before
 
@@ -69,10 +69,10 @@ module _ (c : tie.After-number Inv-loop μ-loop) where
   longer : c .before .before .loop .start + fieldColumns ≤ s .args .to
   longer = omega arith
 
-  not-bad : c .code .result ≡ field-cases.Bad → ⊥
+  not-bad : c .numeral .result ≡ field-cases.Bad → ⊥
   not-bad e =
       let l = c .before .before .loop in
-      field-number text (l .start) (s .args .to) (s .args .n - l .i) left longer (l .inv .1 .1 .1 .0) (field-none _ (sym (c .code .ensures) ∙ e))
+      field-numeral text (l .start) (s .args .to) (s .args .n - l .i) left longer (l .inv .1 .1 .1 .0) (field-none _ (sym (c .numeral .ensures) ∙ e))
 
 enum-told : tie.Need-enum-told Inv-loop μ-loop
 enum-told c = search needs
@@ -111,7 +111,7 @@ loop-again c =
     let a = s k .args in
     let z = c .before .field .given .0 .0 in
     let fits : SFits w32 z = record { sfits = c .known-told .given .0 .1 } in
-    let next = field-next (text k) (l .start) (a .to) (a .n - l .i) (left k) (longer k) (l .inv .1 .1 .1 .0) z (field-some _ z (sym (k .code .ensures) ∙ c .before .field .given .1)) in
+    let next = field-next (text k) (l .start) (a .to) (a .n - l .i) (left k) (longer k) (l .inv .1 .1 .1 .0) z (field-some _ z (sym (k .numeral .ensures) ∙ c .before .field .given .1)) in
     let e : a .n - l .i - 1 ≡ a .n - (l .i + 1) = omega arith in
     simp toZ-ofZ (
       omega arith,
@@ -120,9 +120,9 @@ loop-again c =
         (
           length-set (l .widths) (a .at + l .i) _ ∙ l .inv .1 .1 .0,
           (
-            ap (λ (m : ℕ). fieldNumerals m (slice (l .start + fieldColumns) (a .to) (text k))) (sym e) ∙ next .0 ∙ ap (λ (m : ℕ). some (numbersOf (fieldNumerals m (slice (l .start + fieldColumns) (a .to) (text k))))) e,
-            l .inv .1 .1 .1 .1 ∙ ap (sets (l .widths) (a .at + l .i)) (next .1) ∙ sets-next (l .widths) (a .at) (l .i) z (numbersOf (fieldNumerals (a .n - l .i - 1) (slice (l .start + fieldColumns) (a .to) (text k))))
-                ∙ ap (λ (m : ℕ). sets (set (l .widths) (a .at + l .i) z) (a .at + (l .i + 1)) (numbersOf (fieldNumerals m (slice (l .start + fieldColumns) (a .to) (text k))))) e,
+            ap (λ (m : ℕ). fieldNumerals m (slice (l .start + fieldColumns) (a .to) (text k))) (sym e) ∙ next .0 ∙ ap (λ (m : ℕ). some (numeralsOf (fieldNumerals m (slice (l .start + fieldColumns) (a .to) (text k))))) e,
+            l .inv .1 .1 .1 .1 ∙ ap (sets (l .widths) (a .at + l .i)) (next .1) ∙ sets-next (l .widths) (a .at) (l .i) z (numeralsOf (fieldNumerals (a .n - l .i - 1) (slice (l .start + fieldColumns) (a .to) (text k))))
+                ∙ ap (λ (m : ℕ). sets (set (l .widths) (a .at + l .i) z) (a .at + (l .i + 1)) (numeralsOf (fieldNumerals m (slice (l .start + fieldColumns) (a .to) (text k))))) e,
           ),
         ),
       ),
@@ -136,7 +136,7 @@ returns-2 c =
     let l = c .before .loop in
     let a = c .before .before .before .args in
     let e : a .n - l .i ≡ 0 = omega (arith, c .loop-test .left) in
-    sym (l .inv .1 .1 .1 .1 ∙ ap (sets (l .widths) (a .at + l .i)) (ap (λ (m : ℕ). numbersOf (fieldNumerals m (slice (l .start) (a .to) (a .text .now)))) e ∙ fields-none (slice (l .start) (a .to) (a .text .now))))
+    sym (l .inv .1 .1 .1 .1 ∙ ap (sets (l .widths) (a .at + l .i)) (ap (λ (m : ℕ). numeralsOf (fieldNumerals m (slice (l .start) (a .to) (a .text .now)))) e ∙ fields-none (slice (l .start) (a .to) (a .text .now))))
 
 pub fill-spec : {M : Type 1} → statement M
 fill-spec =
@@ -145,8 +145,8 @@ fill-spec =
     Inv-loop
     μ-loop
     loop-holds
-    add-number
-    number-requires
+    add-numeral
+    numeral-requires
     enum-told
     same-length
     returns
