@@ -61,13 +61,13 @@ pub fn plan_step(num: &[i64], den: &[i64], join: Join, k: usize, rows: usize) ->
     if !js.fit {
         return no_plan(Refusal::TooLarge);
     }
-    let jumps = js.of;
-    let span = build_jumps::span(jumps, rows);
+    let span = build_jumps::span(js.of, rows);
     match span {
         JumpSpan::Nothing => no_plan(Refusal::Shape),
         JumpSpan::Rows(f, l) => {
-            let ws = build_factors::factors(jumps, f, l);
+            let ws = build_factors::factors(js.of, f, l);
             let refusal = ws.refusal;
+            let jumps = js.of;
             let factors = ws.of;
             Plan {
                 refusal: refusal,

@@ -32,11 +32,11 @@ module _ (c : tie.Else1) (s : Space) (j : ℕ) (t : Table) (is : JoinIs (start c
   count = jumps-length j (conditions s j (start c .args .k)) t (jumped .answers) ∙ size
 
 -- and their span
-module _ (c : tie.After-span2) (s : Space) (j : ℕ) (t : Table) (is : JoinIs (start (c .before .before .before .before) .args .join) s j)
-    (h : Holds (start (c .before .before .before .before) .args .num .now) (start (c .before .before .before .before) .args .den .now) t)
-    (size : length t ≡ start (c .before .before .before .before) .args .rows) where
+module _ (c : tie.After-span2) (s : Space) (j : ℕ) (t : Table) (is : JoinIs (start (c .before .before .before) .args .join) s j)
+    (h : Holds (start (c .before .before .before) .args .num .now) (start (c .before .before .before) .args .den .now) t)
+    (size : length t ≡ start (c .before .before .before) .args .rows) where
   abbrev over : tie.Else1
-  over = c .before .before .before .before
+  over = c .before .before .before
 
   span-is : span j (jumped over s j t is h size .of) ≡ answer (record { f = c .span2 .given .0 .0; l = c .span2 .given .0 .1 .0 })
   span-is = span-rows _ _ _ (sym (c .before .before .span .ensures (jumped over s j t is h size .of) j (jumped over s j t is h size .is) (count over s j t is h size)) ∙ c .span2 .given .1)
@@ -67,7 +67,7 @@ enum-known-span c = search needs
 factors-requires : tie.Need-factors-requires
 factors-requires c κs =
     let b = c .before in
-    let e = b .before .before .before .before in
+    let e = b .before .before .before in
     let p = start e .pre in
     let f = p .0 .1 in
     let k = p .1 in
@@ -78,15 +78,15 @@ factors-requires c κs =
 returns-2 : tie.Need-returns-2
 returns-2 c s j t is h size =
     let a = c .before .before .before in
-    let e = a .before .before in
+    let e = a .before in
     let u = jumped e s j t is h size in
     plans-shapeless j _ t (u .answers) _ (span-refused _ (sym (a .span .ensures (u .of) j (u .is) (count e s j t is h size)) ∙ c .before .enum-told .given .1)) (c .no-plan2 .ensures)
 
 returns-3 : tie.Need-returns-3
 returns-3 c s j t is h size =
-    let b = c .before .before .before in
+    let b = c .before .before .before .before in
     let u = jumped (over b s j t is h size) s j t is h size in
-    plans-factors j _ t (u .answers) _ (span-is b s j t is h size) (u .is) (c .before .factors .ensures (u .of) j (u .is))
+    plans-factors j _ t (u .answers) _ (span-is b s j t is h size) (u .is) (c .before .before .factors .ensures (u .of) j (u .is))
 
 pub plan-step-spec : {M : Type 1} → statement M
 plan-step-spec =
