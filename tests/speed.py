@@ -6,7 +6,9 @@ BENCHMARK is docs/src/benchmark.rs, linked with the engine. It checks that both
 give the same answers, cells and values, and counts each call with valgrind's
 callgrind. The limits stand beside what was measured, with a tenth of room: of
 the engine's instructions to the plain program's in each row of the table, and
-of how the engine's grow with segments, positions and parts.
+of how the engine's grow with segments, positions and parts; and of a call for
+coefficients, which the plain program has not, to the engine's build of the same
+space.
 """
 
 import re
@@ -18,7 +20,7 @@ STEADY = 0.02             # how far the cost of a position may be from that in t
 FEWEST_SEGMENTS = 2
 PART_SEGMENTS = 12
 BEAM_SEGMENTS = 48
-LINE = re.compile(r"(degree \d order \d|mixed degrees) segments (\d+) parts (\d+) (build|curve)(?: (\d+) (\S+))?: (\d+) (\d+)")
+LINE = re.compile(r"(degree \d order \d|mixed degrees) segments (\d+) parts (\d+) (build|curve|coefficients)(?: (\d+) (\S+))?: (\d+) (\d+)")
 
 # The engine's instructions to the plain program's: of the build, and of the curve calls the largest.
 MEASURED = {
@@ -38,6 +40,16 @@ MEASURED = {
     ("mixed degrees", 12, 4): (0.94, 0.72),
     ("mixed degrees", 48, 4): (0.59, 0.67),
     ("degree 3 order 1", 6, 1): (0.78, 0.72),
+}
+
+# A call for coefficients to the engine's build of the same space.
+MEASURED_COEFFICIENTS = {
+    ("degree 1 order 0", 12, 1): 1.86,
+    ("degree 3 order 1", 12, 1): 1.62,
+    ("degree 3 order 2", 12, 1): 1.51,
+    ("degree 5 order 2", 12, 1): 1.46,
+    ("mixed degrees", 12, 1): 1.57,
+    ("mixed degrees", 48, 4): 1.56,
 }
 
 # A build of 12 segments to one of 2, and a beam of 48 in 48 parts to one in 4.
@@ -71,6 +83,16 @@ def ratio_failures(counts):
                 yield f"{space} {call}: {max(ratios):.3f} of the plain program's instructions, at most {ROOM * limit:.3f}"
 
 
+def coefficient_failures(counts):
+    """The calls for coefficients against the builds of the same spaces."""
+    for space, limit in MEASURED_COEFFICIENTS.items():
+        recovered, built = counts[(*space, "coefficients", 0, None)]
+        ratio = recovered / built
+        print(f"  {space[0]}, {space[1]} segments, {space[2]} parts, coefficients: {ratio:.2f} builds, measured {limit:.2f}")
+        if ratio > ROOM * limit:
+            yield f"{space} coefficients: {ratio:.3f} builds, at most {ROOM * limit:.3f}"
+
+
 def position_failures(counts):
     """Instructions a position, from one call to the next larger one."""
     for kind in MEASURED_GROWTH:
@@ -98,7 +120,8 @@ def growth_failures(counts):
 
 def main():
     counts = counted(sys.argv[1])
-    failures = [failure for test in (ratio_failures, position_failures, growth_failures) for failure in test(counts)]
+    failures = [failure for test in (ratio_failures, coefficient_failures, position_failures, growth_failures)
+                for failure in test(counts)]
     for failure in failures:
         print("failed:", failure)
     print(f"speed: {len(counts)} calls, {len(failures)} failed")

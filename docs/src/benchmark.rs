@@ -1,7 +1,7 @@
 //! The engine against the plain program: the same calls, the same answers, cells and values, and what each costs.
 //!
 //!     benchmark            a table: time and instructions of both, and their ratios
-//!     benchmark counts     instructions alone, a line a call (needs valgrind)
+//!     benchmark counts     instructions alone, a line a call (needs valgrind); the call for coefficients beside the engine's own build
 //!     benchmark threads    sheets a second on one core and on all
 //!     benchmark scipy      the same positions through scipy's BSpline too (from the repository's root; needs python3-scipy)
 //!
@@ -17,11 +17,12 @@ use std::io::Write;
 use std::path::Path;
 use std::process::{exit, Command, Stdio};
 use std::time::{Duration, Instant};
-use walzhik::raw::{walzhik_build, walzhik_curve, Reply};
+use walzhik::raw::{walzhik_build, walzhik_coefficients, walzhik_curve, Reply};
 
 const PART_SEGMENTS: usize = 12;
 const BEAM_SEGMENTS: usize = 48;
 const CORE_SEGMENTS: usize = 6;
+const MOST_COLUMNS: usize = 6 * BEAM_SEGMENTS;
 const MAX_POSITIONS: usize = 4096;
 /// The lengths of the segments of a part, in rings.
 const LENGTHS: [i32; PART_SEGMENTS] = [20, 30, 20, 40, 30, 20, 20, 30, 40, 20, 30, 20];
@@ -36,6 +37,8 @@ const CORE_RINGS: usize = 200;
 /// The segment that holds the positions of the pattern "one segment"; where degrees are mixed its degree is 3.
 const ONE_SEGMENT: usize = 10;
 const ROUNDS: usize = 201;
+/// The slope of the straight line whose coefficients are recovered: a multiple of every degree, so that its ordinates are whole.
+const LINE_SLOPE: i32 = 60;
 
 // ---- the engine
 
@@ -125,6 +128,7 @@ struct Call {
     orders: Vec<i32>,
     coefs: Vec<i32>,
     positions: Vec<i32>,
+    ordinates: Vec<i32>,
 }
 
 impl Call {
@@ -153,8 +157,19 @@ impl Call {
         let rows: i32 = degrees.iter().map(|p| p + 1).sum::<i32>() - orders.iter().map(|r| r + 1).sum::<i32>();
         let coefs = (0..2 * rows).map(|_| mixer.below(4_000) - 1_000).collect();
         let positions = positions(shape, &breaks, &mut mixer);
-        Call { breaks, degrees, orders, coefs, positions }
+        let ordinates = line_ordinates(&breaks, &degrees);
+        Call { breaks, degrees, orders, coefs, positions, ordinates }
     }
+}
+
+/// The local ordinates of a straight line, which every space holds.
+fn line_ordinates(breaks: &[i32], degrees: &[i32]) -> Vec<i32> {
+    let segment = |(i, &degree): (usize, &i32)| {
+        let rise = LINE_SLOPE * (breaks[i + 1] - breaks[i]);
+        let start = LINE_SLOPE * breaks[i];
+        (0..=degree).map(move |k| start + rise / degree * k)
+    };
+    degrees.iter().enumerate().flat_map(segment).collect()
 }
 
 fn positions(shape: &Shape, breaks: &[i32], mixer: &mut Mixer) -> Vec<i32> {
@@ -180,18 +195,27 @@ struct Lent {
     num: Vec<i64>,
     den: Vec<i64>,
     values: Vec<i32>,
+    coef_num: Vec<i64>,
+    coef_den: Vec<i64>,
     answer: Result<usize, Refusal>,
 }
 
 impl Lent {
     fn new() -> Lent {
-        Lent { num: vec![7; CELLS], den: vec![7; CELLS], values: vec![7; 2 * MAX_POSITIONS], answer: Err((0, 0)) }
+        Lent {
+            num: vec![7; CELLS],
+            den: vec![7; CELLS],
+            values: vec![7; 2 * MAX_POSITIONS],
+            coef_num: vec![7; MOST_COLUMNS],
+            coef_den: vec![7; MOST_COLUMNS],
+            answer: Err((0, 0)),
+        }
     }
 }
 
 /// The engine on a call.
 fn on_engine(call: &Call, lent: &mut Lent) {
-    let Call { breaks, degrees, orders, coefs, positions } = call;
+    let Call { breaks, degrees, orders, coefs, positions, .. } = call;
     let Lent { num, den, values, .. } = lent;
     // SAFETY: every pointer comes from a live vector with the length given beside it; the three buffers are vectors of their
     // own, so that none overlaps another or a list, and the calls keep no pointer.
@@ -211,9 +235,23 @@ fn on_engine(call: &Call, lent: &mut Lent) {
     });
 }
 
+/// The engine's call for coefficients on the space of a call. The plain program has none.
+fn on_coefficients(call: &Call, lent: &mut Lent) {
+    let Call { breaks, degrees, orders, ordinates, .. } = call;
+    let Lent { num, den, coef_num, coef_den, .. } = lent;
+    // SAFETY: as for the other calls; the four buffers are vectors of their own.
+    lent.answer = answer(unsafe {
+        walzhik_coefficients(
+            breaks.as_ptr(), breaks.len(), degrees.as_ptr(), degrees.len(), orders.as_ptr(), orders.len(), ordinates.as_ptr(),
+            ordinates.len(), num.as_mut_ptr(), num.len(), den.as_mut_ptr(), den.len(), coef_num.as_mut_ptr(), coef_num.len(),
+            coef_den.as_mut_ptr(), coef_den.len(),
+        )
+    });
+}
+
 /// The plain program on a call.
 fn on_plain(call: &Call, lent: &mut Lent) {
-    let Call { breaks, degrees, orders, coefs, positions } = call;
+    let Call { breaks, degrees, orders, coefs, positions, .. } = call;
     let space = Space { breaks, degrees, orders };
     let Lent { num, den, values, .. } = lent;
     lent.answer = match positions.is_empty() {
@@ -224,6 +262,8 @@ fn on_plain(call: &Call, lent: &mut Lent) {
 
 type Program = fn(&Call, &mut Lent);
 const PROGRAMS: [Program; 2] = [on_engine, on_plain];
+/// The call for coefficients, and the engine's own build of the same space.
+const RECOVERY: [Program; 2] = [on_coefficients, on_engine];
 
 /// Both programs give the same answer, cells and values, and accept the call.
 fn check_same(shape: &Shape) {
@@ -236,6 +276,21 @@ fn check_same(shape: &Shape) {
     if engine != plain || engine.answer.is_err() {
         eprintln!("{}: the engine answers {:?}, the plain program {:?}", shape.name(), engine.answer, plain.answer);
         eprintln!("the cells or the values differ, or the call is refused");
+        exit(1);
+    }
+}
+
+/// The call for coefficients is accepted, and leaves the weights that the build leaves.
+fn check_recovery(shape: &Shape) {
+    let call = Call::new(shape);
+    let [recovered, built] = RECOVERY.map(|program| {
+        let mut lent = Lent::new();
+        program(&call, &mut lent);
+        lent
+    });
+    if recovered.answer.is_err() || recovered.answer != built.answer || recovered.num != built.num || recovered.den != built.den {
+        eprintln!("{}: the call for coefficients ends with {:?}, the build with {:?}", shape.name(), recovered.answer, built.answer);
+        eprintln!("or the weights differ");
         exit(1);
     }
 }
@@ -285,6 +340,19 @@ fn all_shapes() -> Vec<Shape> {
     [table_shapes(), growth_shapes()].concat()
 }
 
+/// The spaces whose coefficients are recovered: 12 segments of one degree and order, of mixed degrees, and a beam of 48 in 4 parts.
+fn recovery_shapes() -> Vec<Shape> {
+    let uniform = [(1, 0), (3, 1), (3, 2), (5, 2)].map(|(degree, order)| full(Kind::Uniform(degree, order)));
+    let mixed = full(Kind::Mixed);
+    [uniform.to_vec(), vec![mixed, Shape { segments: BEAM_SEGMENTS, ..mixed }]].concat()
+}
+
+/// Every call that is counted, on its two programs.
+fn counted_calls() -> Vec<(Shape, [Program; 2])> {
+    let both = all_shapes().into_iter().map(|shape| (shape, PROGRAMS));
+    both.chain(recovery_shapes().into_iter().map(|shape| (shape, RECOVERY))).collect()
+}
+
 // ---- time
 
 /// The least times of both programs in microseconds, taken in turns.
@@ -315,9 +383,9 @@ fn counted_call(program: Program, call: &Call, lent: &mut Lent) {
 /// Runs each call once on each program, for callgrind to count.
 fn run_calls() {
     let mut lent = Lent::new();
-    for shape in all_shapes() {
+    for (shape, programs) in counted_calls() {
         let call = Call::new(&shape);
-        PROGRAMS.iter().for_each(|program| counted_call(black_box(*program), &call, &mut lent));
+        programs.iter().for_each(|program| counted_call(black_box(*program), &call, &mut lent));
     }
 }
 
@@ -342,12 +410,12 @@ fn profiled(folder: &Path, call: usize) -> Option<u64> {
     text.lines().find_map(|line| line.strip_prefix("totals: "))?.parse().ok()
 }
 
-/// The instructions of both programs for each shape; none without valgrind.
+/// The instructions of both programs for each counted call; none without valgrind.
 fn instructions() -> Option<Vec<[u64; 2]>> {
     let folder = std::env::temp_dir().join(format!("walzhik-benchmark-{}", std::process::id()));
     std::fs::create_dir_all(&folder).ok()?;
     let counts = match profile_calls(&folder) {
-        true => (0..all_shapes().len()).map(|k| Some([profiled(&folder, 2 * k + 1)?, profiled(&folder, 2 * k + 2)?])).collect(),
+        true => (0..counted_calls().len()).map(|k| Some([profiled(&folder, 2 * k + 1)?, profiled(&folder, 2 * k + 2)?])).collect(),
         false => None,
     };
     std::fs::remove_dir_all(&folder).ok()?;
@@ -359,8 +427,12 @@ fn print_counts() {
         eprintln!("valgrind's callgrind counted nothing");
         exit(2);
     };
-    for (shape, [engine, plain]) in all_shapes().iter().zip(counts) {
+    let shapes = all_shapes();
+    for (shape, [engine, plain]) in shapes.iter().zip(&counts) {
         println!("{}: {engine} {plain}", shape.name());
+    }
+    for (shape, [recovered, built]) in recovery_shapes().iter().zip(&counts[shapes.len()..]) {
+        println!("{} segments {} parts {} coefficients: {recovered} {built}", shape.kind_name(), shape.segments, shape.parts());
     }
 }
 
@@ -465,6 +537,7 @@ fn main() {
         return run_calls();
     }
     all_shapes().iter().for_each(check_same);
+    recovery_shapes().iter().for_each(check_recovery);
     match mode.as_deref() {
         None => print_table(),
         Some("counts") => print_counts(),
