@@ -5,42 +5,28 @@ use mathlib.Core.Bool.{true}
 use mathlib.Core.List.{List, [], _++_}
 use Prim.Native.Nat.{ℕ, suc, _+_, _-_, _<_, _≤_}
 use native.Mathlib.Omega.{arith}
-use native.Mathlib.Decide.{decLt, ℕ-discrete}
+use native.Mathlib.Decide.{decLt}
 use lib.IntN.{pos}
 use lib.ListN.{length, take, drop, length-take, List·getD-append}
 use lib.Seq.{getD-take, getD-drop, getD-append-add}
 use Rattle.base_exact.specs.Rational.{ℚ, int}
 use Rattle.base_fraction.specs.Size.{fits}
-use Rattle.base_fraction.proofs.Size.{int-fits}
-use Rattle.base_outcome.specs.Outcome.{answer, _then_}
+use Rattle.base_outcome.specs.Outcome.{answer}
 use Rattle.spec_spline.specs.Table.{Row, Table, entry, row, cell, identity, rowCells}
 use Rattle.spec_spline.specs.Space.{Space, segments, columnCount, conditionCount, conditionsBefore, rowCount}
 use Rattle.spec_spline.specs.Conditions.{Entry, conditions}
-use Rattle.spec_spline.specs.Step.{Span, newEntry, newRow, newRows, jumps, span, factors, mixed, step}
+use Rattle.spec_spline.specs.Step.{Span, newEntry, newRow, newRows, step}
 use Rattle.spec_spline.specs.Build.{orderSteps, joinSteps, weights}
-use Rattle.base_outcome.proofs.Outcome.{answer-unique, then-inverts, Collected, collect-inverts, repeat-keeps}
-use Rattle.spec_spline.proofs.Table.{cell-past, identity-rows, identity-on, identity-off, identity-low, identity-wide}
+use Rattle.base_outcome.proofs.Outcome.{Collected, collect-inverts, repeat-keeps}
+use Rattle.spec_spline.proofs.Table.{cell-past, identity-rows, identity-wide}
 use Rattle.spec_spline.proofs.Splice.{spliced-length, spliced-before, spliced-inside, spliced-after}
-use Rattle.spec_spline.proofs.Answers.{jumps-length, span-inverts}
 use Rattle.build_cells.specs.Held.{Shaped}
 use Rattle.build_cells.proofs.Tables.{renewed}
-use Rattle.build_rows.proofs.Mixing.{newRow-fits}
+use Rattle.spec_spline.proofs.Shape as Shape
+use Rattle.spec_spline.proofs.TableFits.{newRow-fits, step-fits}
+pub use Rattle.spec_spline.proofs.TableFits.{TableFits, zero-fits, identity-fits}
 
 -- ---- tables whose entries all fit
-
-abbrev pub TableFits : Table → Type 0
-TableFits t = (i c : ℕ) → fits (cell t i c) ≡ true
-
-zero-fits : fits (int (pos 0)) ≡ true
-zero-fits = int-fits (pos 0) (omega arith)
-
-pub identity-fits : (n : ℕ) → TableFits (identity n)
-identity-fits n i c = go (ℕ-discrete i c) (decLt i n)
-  where
-    go : Dec (i ≡ c) → Dec (i < n) → fits (cell (identity n) i c) ≡ true
-    go (yes e) (yes h) = ap (λ m. fits (cell (identity n) i m)) (sym e) ∙ ap fits (identity-on n i h) ∙ int-fits (pos 1) (omega arith)
-    go (yes e) (no h) = ap fits (identity-low n i c (omega arith)) ∙ zero-fits
-    go (no e) d = ap fits (identity-off n i c e) ∙ zero-fits
 
 pub append-fits : (s t : Table) → TableFits s → TableFits t → TableFits (s ++ t)
 append-fits s t p q i c = go (decLt i (length s))
@@ -120,28 +106,19 @@ pub record Proper (t : Table) (rows columns : ℕ) : Type 0 where
   pub shaped : Shaped t rows columns
   pub fit : TableFits t
 
-mixed-one-less : (j : ℕ) (t : Table) (qs : List ℚ) (g : Span) {next : Table} {rows columns : ℕ} → mixed j t qs g ≡ answer next → Proper t rows columns → g .f ≤ g .l → g .l < rows → Proper next (rows - 1) columns
-mixed-one-less j t qs g {next} {rows} {columns} e proper order below =
-    let d = then-inverts (factors j qs g) (λ ws. newRows j g ws t then λ rs. answer (whole rs)) e in
-    let n = then-inverts (newRows j g (d .middle) t) (λ rs. answer (whole rs)) (d .after) in
-    go (d .middle) (n .middle) (n .before) (answer-unique {a = whole (n .middle)} refl (n .after))
-  where
-    whole : Table → Table
-    whole rs = renewed (g .f) t rs (suc (g .l))
-
-    go : (ws : List ℚ) (rs : Table) → newRows j g ws t ≡ answer rs → whole rs ≡ next → Proper next (rows - 1) columns
-    go ws rs e is = subst (λ (r : Table). Proper r (rows - 1) columns) is (record {
-      shaped = subst (λ (m : ℕ). Shaped (whole rs) m columns) (let z : rows - (suc (g .l) - g .l) ≡ rows - 1 = omega arith in z) (renewed-shaped j g ws t e (suc (g .l)) (proper .shaped) order (omega arith) below);
-      fit = renewed-fits (g .f) t rs (suc (g .l)) (proper .fit) (newRows-fit j g ws t e);
-    })
-
 pub step-one-less : (j : ℕ) (κ : List Entry) (t : Table) {next : Table} {rows columns : ℕ} → step j κ t ≡ answer next → Proper t rows columns → Proper next (rows - 1) columns
-unfolding step
-step-one-less j κ t e proper =
-    let a = then-inverts (jumps j κ t) (λ js. span j js then λ g. mixed j t js g) e in
-    let b = then-inverts (span j (a .middle)) (λ g. mixed j t (a .middle) g) (a .after) in
-    let s = span-inverts j (a .middle) (b .before) in
-    mixed-one-less j t (a .middle) (b .middle) (b .after) proper (s .ordered) (omega (arith, s .below, jumps-length j κ t (a .before), proper .shaped .row-count))
+step-one-less j κ t {next} {rows} {columns} e proper = record {
+  shaped = record {
+    row-count = left .rows;
+    wide = λ i h. left .wide .each i (omega (arith, left .rows));
+    rows-fit = omega (arith, proper .shaped .rows-fit);
+    columns-fit = proper .shaped .columns-fit;
+  };
+  fit = step-fits j κ t (proper .fit) e;
+}
+  where
+    left : Shape.Shaped columns (rows - 1) next
+    left = Shape.step-shaped columns rows j κ t (record { wide = record { each = λ i h. proper .shaped .wide i (omega (arith, proper .shaped .row-count)) }; rows = proper .shaped .row-count }) e
 
 -- the orders below n at a join: n rows less
 pub orders-less : (s : Space) (j n : ℕ) (t : Table) {next : Table} {rows columns : ℕ} → orderSteps s j n t ≡ answer next → Proper t rows columns → Proper next (rows - n) columns

@@ -90,17 +90,6 @@ second-zero j w v x e =
 
 -- ---- one row
 
--- the entries of a new row fit, within the row and past its end
-pub newRow-fits : (j : ℕ) (w v : ℚ) (r r′ : Row) {s : Row} → newRow j w v r r′ ≡ answer s → (c : ℕ) → fits (entry s c) ≡ true
-newRow-fits j w v r r′ {s} e c = go (decLt c (length s))
-  where
-    k : Collected (length r) (λ c. newEntry j w v (entry r c) (entry r′ c)) s
-    k = collect-inverts (length r) (λ c. newEntry j w v (entry r c) (entry r′ c)) e
-
-    go : Dec (c < length s) → fits (entry s c) ≡ true
-    go (yes h) = newEntry-answers j w v (entry r c) (entry r′ c) (k .at c (omega (arith, k .size)) (int (pos 0))) .1
-    go (no h) = ap fits (entry-past s c (omega arith)) ∙ int-fits (pos 0) (omega arith)
-
 -- a table whose entries fit, with a row that fits in the place of another
 pub set-fits : (t : Table) (i : ℕ) (s : Row) → i < length t → ((k c : ℕ) → fits (cell t k c) ≡ true) → ((c : ℕ) → fits (entry s c) ≡ true) → (k c : ℕ) → fits (cell (set t i s) k c) ≡ true
 set-fits t i s h old new k c = go (ℕ-discrete k i)

@@ -15,13 +15,6 @@ use Rattle.base_exact.proofs.Ring.{ring, reads}
 use Rattle.base_exact.proofs.Floor.{nearest-mono, nearest-add}
 use Rattle.spec_spline.specs.Reading.{rounded, blend, triangle}
 
--- a number that is at least zero keeps the order of its multiples
-scaled : (u x y : ℤ) → pos 0 ≤ℤ u → x ≤ℤ y → (u *ℤ x) ≤ℤ (u *ℤ y)
-scaled u x y h k = Z.sub-le _ _ (subst (λ z. T (nonNeg z)) (alg u x y) (yes-nonNeg (Z.*-pos u (y -ℤ x) h (Z.nonNeg-le _ (Z.le-sub x y k)))))
-  where
-    alg : (u x y : ℤ) → u *ℤ (y -ℤ x) ≡ u *ℤ y -ℤ u *ℤ x
-    alg u x y = ring ℤ-ring (u ∷ x ∷ y ∷ []) (search reads) (search reads) refl
-
 module _ (d : ℕ) (positive : 0 < d) where
   -- what is rounded at u + k of d, and at u
   moved : (u k g h : ℤ) → (pos d -ℤ (u +ℤ k)) *ℤ g +ℤ (u +ℤ k) *ℤ h ≡ (pos d -ℤ u) *ℤ g +ℤ u *ℤ h +ℤ k *ℤ (h -ℤ g)
@@ -44,8 +37,8 @@ module _ (d : ℕ) (positive : 0 < d) where
     pub blend-mono : (g g′ h h′ : ℤ) → g ≤ℤ g′ → h ≤ℤ h′ → blend d u g h ≤ℤ blend d u g′ h′
     unfolding blend rounded
     blend-mono g g′ h h′ p q =
-        nearest-mono _ _ d positive (Z.+-mono _ _ _ _ (scaled (pos d -ℤ u) g g′ (Z.nonNeg-le _ (Z.le-sub u (pos d) to)) p)
-        (scaled u h h′ from q))
+        nearest-mono _ _ d positive (Z.+-mono _ _ _ _ (Z.*-mono-left (pos d -ℤ u) g g′ (Z.nonNeg-le _ (Z.le-sub u (pos d) to)) p)
+        (Z.*-mono-left u h h′ from q))
 
     -- a stage's neighbours rise by at most Δ
     pub triangle-rise : (p : ℕ) (Δ : ℤ) (g : ℕ → ℤ) → ((j : ℕ) → j < p → g (suc j) ≤ℤ (g j +ℤ Δ)) → (n j : ℕ) → j + n < p
@@ -83,7 +76,7 @@ module _ (d : ℕ) (positive : 0 < d) where
         (triangle-moved p c Δ g rise l n (suc j) (omega arith)))
         (subst (λ z. z ≤ℤ (blend d u x y +ℤ pos (suc n * c))) (sym (blend-raised (u +ℤ k) x y (pos (n * c))))
         (Z.≤-trans _ (blend d u x y +ℤ pos c +ℤ pos (n * c)) _
-        (Z.+-mono _ _ _ _ (blend-moved u k x y (pos c) (Z.≤-trans _ (k *ℤ Δ) _ (scaled k (y -ℤ x) Δ onward rises) l))
+        (Z.+-mono _ _ _ _ (blend-moved u k x y (pos c) (Z.≤-trans _ (k *ℤ Δ) _ (Z.*-mono-left k (y -ℤ x) Δ onward rises) l))
         (Z.≤-refl (pos (n * c))))
         (Z.≤-in _ _ (omega (
           arith,
