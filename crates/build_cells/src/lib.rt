@@ -41,6 +41,19 @@ pub fn clear(num: &mut [i64], den: &mut [i64], from: usize, to: usize)
     fill(den, 1, from, to);
 }
 
+// 0/1 in the first rows. Of all rows the compiler knows the count of cells, and makes longer runs of wide stores.
+fn clear_rows(num: &mut [i64], den: &mut [i64], rows: usize)
+    requires { ⌜ (rows ≤ Table.rowCells) × ((Table.tableCells ≤ length (now num)) × (Table.tableCells ≤ length (now den))) ⌝ }
+    ensures { λ _. ⌜ now (num .exit) ≡ filled 0 (Table.rowCells * rows) (pos 0) (now (num .entry)) ⌝ }
+    ensures { λ _. ⌜ now (den .exit) ≡ filled 0 (Table.rowCells * rows) (pos 1) (now (den .entry)) ⌝ }
+{
+    if rows == ROW_CELLS {
+        clear(num, den, 0, TABLE_CELLS);
+        return;
+    }
+    clear(num, den, 0, ROW_CELLS * rows);
+}
+
 // 1 at the first n places of the diagonal.
 fn mark_diagonal(num: &mut [i64], n: usize)
     requires { ⌜ (n ≤ Table.rowCells) × (diagonalStep * n ≤ length (now num) + Table.rowCells) ⌝ }
@@ -78,7 +91,7 @@ pub fn identity_over(num: &mut [i64], den: &mut [i64], n: usize, used: usize)
     ensures { λ _. ⌜ now (num .exit) ≡ Table.numerators (Table.identity n) (now (num .entry)) ⌝ }
     ensures { λ _. ⌜ now (den .exit) ≡ Table.denominators (Table.identity n) (now (den .entry)) ⌝ }
 {
-    clear(num, den, 0, ROW_CELLS * used);
+    clear_rows(num, den, used);
     mark_diagonal(num, n);
 }
 

@@ -92,11 +92,8 @@ den-is n used xs few h clear =
     (λ k l. filled-after 0 (72 * used) (pos 1) xs k (omega arith))
     ∙ sym (denominators-laid (identity n) xs)
 
-mul-clear : tie.Need-mul-clear
-mul-clear c = omega arith
-
-clear-requires : tie.Need-clear-requires
-clear-requires c κs = search needs
+clear-rows-requires : tie.Need-clear-rows-requires
+clear-rows-requires c κs = search needs
 
 mark-diagonal-requires : tie.Need-mark-diagonal-requires
 mark-diagonal-requires c κs = search needs
@@ -111,7 +108,7 @@ returns : tie.Need-returns
 unfolding zeros
 returns c =
     let s = c .before .before .before .before .before .before .before .before in
-    let cleared = c .before .before .before .before .before .clear .ensures in
+    let cleared = c .before .before .before .before .before .clear-rows .ensures in
     let a = s .args in
     let clear = s .pre .1 .1 in (
       c .before .mark-diagonal .ensures ∙ ap (marked (a .n)) (cleared .0) ∙ num-is (a .n) (a .used) (a .num .now) (omega arith) (omega arith) (omega arith) (clear .zeros),
@@ -119,4 +116,4 @@ returns c =
     )
 
 pub identity-over-spec : {M : Type 1} → statement M
-identity-over-spec = tie.close (tie.spec mul-clear clear-requires mark-diagonal-requires same-length same-length-2 returns)
+identity-over-spec = tie.close (tie.spec clear-rows-requires mark-diagonal-requires same-length same-length-2 returns)
