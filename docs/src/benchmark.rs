@@ -34,8 +34,8 @@ const FIRST_BREAK: i32 = -100;
 /// 256ths of a ring.
 const FINE: i32 = 256;
 const CORE_RINGS: usize = 200;
-/// The segment that holds the positions of the pattern "one segment"; where degrees are mixed its degree is 3.
-const ONE_SEGMENT: usize = 10;
+/// The segment that holds the positions of the pattern "one segment"; where degrees are mixed its degree is 1.
+const ONE_SEGMENT: usize = 8;
 const ROUNDS: usize = 201;
 /// The slope of the straight line whose coefficients are recovered: a multiple of every degree, so that its ordinates are whole.
 const LINE_SLOPE: i32 = 60;
