@@ -18,10 +18,10 @@ def faults(text: str, edits: set[str]) -> Iterator[str]:
 
     Examples
     --------
-    >>> list(faults("| a sign is another | `sheet_print/plus_for_minus` |", {"sheet_print/plus_for_minus"}))
+    >>> list(faults("| a sign is another | `base_print/plus_for_minus` |", {"base_print/plus_for_minus"}))
     []
-    >>> list(faults("| a sign is another | `sheet_print/plus` |", {"sheet_print/plus_for_minus"}))
-    ['no edit sheet_print/plus']
+    >>> list(faults("| a sign is another | `base_print/plus` |", {"base_print/plus_for_minus"}))
+    ['no edit base_print/plus']
     >>> list(faults("| a sign is another | nothing |", set()))
     ['a row without an edit: | a sign is another | nothing |']
     """

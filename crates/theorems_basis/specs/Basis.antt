@@ -42,7 +42,7 @@ pub data PublishedOrTooLarge (s : Space) (o : Outcome Table) : Type 0 where
   published : o ≡ answer (extraction s) → PublishedOrTooLarge s o
   too-large : (place : ℕ) → o ≡ refusal 8 place → PublishedOrTooLarge s o
 
--- A legal space has the published weights, or is refused with 8: no other number is left.
+-- A legal space has the published weights, or is refused with 8: no other code is left.
 abbrev pub LegalIsPublishedOrTooLarge : Type 0
 LegalIsPublishedOrTooLarge = (s : Space) → LegalLists s → PublishedOrTooLarge s (spaceWeights s)
 

@@ -1,4 +1,4 @@
--- `reach::first_reach` meets its contract: the position found, or code 16. Assumes nothing.
+-- `curve_reach::first_reach` meets its contract: the position found, or code 16. Assumes nothing.
 use borrow.Author.Needs.{needs}
 use native.Mathlib.Omega.{arith}
 use mathlib.Core.Path.{_≡_, sym, ap, _∙_}

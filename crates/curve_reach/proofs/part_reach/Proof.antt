@@ -1,4 +1,4 @@
--- `reach::part_reach` meets its contract: the part's own ordinates. Assumes nothing.
+-- `curve_reach::part_reach` meets its contract: the part's own ordinates. Assumes nothing.
 use borrow.Author.Needs.{needs}
 use mathlib.Core.Path.{sym, ap, _∙_}
 use mathlib.Core.List.{List}

@@ -1,4 +1,4 @@
--- `reach::reach` meets its contract: the curves without positions, and the search with the ordinates of both parts. Assumes nothing.
+-- `curve_reach::reach` meets its contract: the curves without positions, and the search with the ordinates of both parts. Assumes nothing.
 use borrow.Author.Needs.{needs}
 use mathlib.Core.List.{List, []}
 use mathlib.Core.Path.{_≡_, _∙_, subst}

@@ -1,4 +1,4 @@
--- `reach::search::position_at` meets its contract: a position fits 32 bits. Assumes nothing.
+-- `curve_search::position_at` meets its contract: a position fits 32 bits. Assumes nothing.
 use borrow.Author.Needs.{needs}
 use native.Mathlib.Omega.{arith}
 use mathlib.Core.Path.{_≡_, ap, _∙_}

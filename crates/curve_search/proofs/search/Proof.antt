@@ -1,4 +1,4 @@
--- `reach::search::search` meets its contract. The loop's invariant: no position before segment i reaches the target. Assumes
+-- `curve_search::search` meets its contract. The loop's invariant: no position before segment i reaches the target. Assumes
 -- nothing.
 use mathlib.Core.List.{List}
 use mathlib.Core.Path.{_≡_, sym, ap, _∙_, subst}

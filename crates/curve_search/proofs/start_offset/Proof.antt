@@ -1,4 +1,4 @@
--- `reach::search::start_offset` meets its contract: the end, the first segment, and the join before any other. Assumes nothing.
+-- `curve_search::start_offset` meets its contract: the end, the first segment, and the join before any other. Assumes nothing.
 use borrow.Author.Needs.{needs}
 use mathlib.Core.Bool.{Bool, cond}
 use mathlib.Core.List.{[]}

@@ -1,4 +1,4 @@
--- `reach::search::ahead` meets its contract. Assumes nothing.
+-- `curve_steps::ahead` meets its contract. Assumes nothing.
 use borrow.Author.Needs.{needs}
 use Prim.Native.Nat.{_-_}
 use native.Mathlib.Omega.{arith}

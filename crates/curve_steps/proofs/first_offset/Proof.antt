@@ -1,4 +1,4 @@
--- `reach::search::first_offset` meets its contract: one ordinate reaches the target, or no value does. Assumes nothing.
+-- `curve_steps::first_offset` meets its contract: one ordinate reaches the target, or no value does. Assumes nothing.
 use borrow.Author.Needs.{needs}
 use mathlib.Core.Bool.{Bool}
 use mathlib.Core.Path.{_≡_, sym, _∙_}

@@ -1,4 +1,4 @@
--- `reach::search::one_reaches` meets its contract. The loop's invariant: no ordinate passed reaches the target. Assumes nothing.
+-- `curve_steps::one_reaches` meets its contract. The loop's invariant: no ordinate passed reaches the target. Assumes nothing.
 use mathlib.Core.Bool.{Bool, false}
 use mathlib.Core.Path.{_≡_, sym, ap, _∙_}
 use Prim.Native.Nat.{ℕ, suc, _+_, _≤_, _<_, _-_}

@@ -1,4 +1,4 @@
--- `reach::search::steeper` meets its contract. Assumes nothing.
+-- `curve_steps::steeper` meets its contract. Assumes nothing.
 use borrow.Author.Needs.{needs}
 use native.Mathlib.Omega.{arith}
 use lib.IntN.{ℤ, pos, _+ℤ_, _-ℤ_}

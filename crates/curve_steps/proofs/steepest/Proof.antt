@@ -1,4 +1,4 @@
--- `reach::search::steepest` meets its contract. The loop's invariant: no rise passed is steeper. Assumes nothing.
+-- `curve_steps::steepest` meets its contract. The loop's invariant: no rise passed is steeper. Assumes nothing.
 use mathlib.Core.Path.{_≡_, subst}
 use Prim.Native.Nat.{ℕ, _+_, _≤_, _-_}
 use native.Mathlib.Omega.{arith}

@@ -1,4 +1,4 @@
--- `reach::search::step_through` meets its contract. The loop's invariant: no value before offset u reaches the target; a step goes
+-- `curve_steps::step_through` meets its contract. The loop's invariant: no value before offset u reaches the target; a step goes
 -- past those that the steepest rise cannot bring up to it. Assumes nothing.
 use mathlib.Core.Path.{_≡_, subst}
 use mathlib.Core.Logic.{_⊎_, inl, inr}

@@ -1,4 +1,4 @@
--- `reach::search::value_on` meets its contract: the triangle at that place. Assumes nothing.
+-- `curve_steps::value_on` meets its contract: the triangle at that place. Assumes nothing.
 use borrow.Author.Needs.{needs}
 use native.Mathlib.Omega.{arith}
 use mathlib.Core.Path.{_≡_, sym, _∙_, subst}
