@@ -2,3 +2,4 @@
 pub mod Outcome
 pub mod Search
 pub mod Machine
+pub mod Reply

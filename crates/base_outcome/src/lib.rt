@@ -12,6 +12,12 @@ pub enum Legality {
     Refused(u8, u32),
 }
 
+// What a call answers by a count of rows, values, indices, series or bytes, or its refusal.
+pub enum Answer {
+    Count(usize),
+    Refused(u8, u32),
+}
+
 // The first entry that breaks a rule, if any does.
 pub enum Found {
     At(usize),

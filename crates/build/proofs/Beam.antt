@@ -23,22 +23,22 @@ use Rattle.theorems_beams.proofs.Fronts.{no-front, front-answers, front-refuses
 use Rattle.build_space.specs.Machine.{space}
 use Rattle.build_space.specs.Legal.{ListsLegal, PartLegal}
 use Rattle.build_space.proofs.Legal.{checked-legal, legal-checked, legal-first-column-high}
-use Rattle.build.specs.Machine.{reply}
-use Rattle.build.specs.declared.Built.{Built}
-use Rattle.build.specs.declared.Built.the-variants.{Rows, Refused}
+use Rattle.base_outcome.specs.Machine.{reply}
+use Rattle.base_outcome.specs.declared.Answer.{Answer}
+use Rattle.base_outcome.specs.declared.Answer.the-variants.{Count, Refused}
 use Rattle.build.proofs.Building.{weights-cleared}
 
 -- ---- what a call answers and leaves
 
 -- by the outcome of the whole beam, of which the buffers hold the last part
-pub record BeamEnds (s : Space) (o : Outcome Table) (r : Built) (num den num′ den′ : List ℤ) : Type 0 where
+pub record BeamEnds (s : Space) (o : Outcome Table) (r : Answer) (num den num′ den′ : List ℤ) : Type 0 where
   pub answers : reply r ≡ with-answer (λ _. rowCount s) o
   pub numerators-are : num′ ≡ numeratorsAfter (with-answer (lastPart s) o) num
   pub denominators-are : den′ ≡ denominatorsAfter (with-answer (lastPart s) o) den
 
 module _ (s : Space) (o : Outcome Table) (num den : List ℤ) where
   -- an answer
-  pub beam-answers : {t : Table} {r : Built} {num′ den′ : List ℤ} → o ≡ answer t → r ≡ Rows (rowCount s) → num′ ≡ numerators (lastPart s t) num → den′ ≡ denominators (lastPart s t) den → BeamEnds s o r num den num′ den′
+  pub beam-answers : {t : Table} {r : Answer} {num′ den′ : List ℤ} → o ≡ answer t → r ≡ Count (rowCount s) → num′ ≡ numerators (lastPart s t) num → den′ ≡ denominators (lastPart s t) den → BeamEnds s o r num den num′ den′
   unfolding reply numeratorsAfter denominatorsAfter
   beam-answers e h p q = record {
     answers = ap reply h ∙ sym (ap (with-answer (λ _. rowCount s)) e);
@@ -63,23 +63,6 @@ module _ (s : Space) (o : Outcome Table) (num den : List ℤ) where
     numerators-are = sym (ap (λ x. numeratorsAfter (with-answer (lastPart s) x) num) e ∙ ap (λ c. cond c (numerators [] num) num) kept);
     denominators-are = sym (ap (λ x. denominatorsAfter (with-answer (lastPart s) x) den) e ∙ ap (λ c. cond c (denominators [] den) den) kept);
   }
-
--- ---- what the machine's answer of a part says of its outcome
-
-pub record Answered (o : Outcome Table) (m n : ℕ) : Type 0 where
-  pub table : Table
-  pub is : o ≡ answer table
-  pub count : m ≡ n
-
-pub told-rows : (o : Outcome Table) {m n : ℕ} → reply (Rows m) ≡ with-answer (λ _. n) o → Answered o m n
-unfolding reply
-told-rows (answer t) {m} {n} e = record { table = t; is = refl; count = let z : m ≡ n = cc in z }
-told-rows (refusal code place) e = absurd (let z : _≡_ {A = ℕ} 0 1 = cc in omega arith)
-
-pub told-refused : (o : Outcome Table) (n : ℕ) {code place : ℕ} → reply (Refused code place) ≡ with-answer (λ _. n) o → o ≡ refusal code place
-unfolding reply
-told-refused (answer t) n e = absurd (let z : _≡_ {A = ℕ} 0 1 = cc in omega arith)
-told-refused (refusal a b) n {code} {place} e = let z : _≡_ {A = Outcome Table} (refusal a b) (refusal code place) = cc in z
 
 -- ---- the parts of a beam
 
@@ -169,9 +152,9 @@ module _ (b d o : List ℤ) (legal : ListsLegal b d o) where
           (q ∙ ap (λ x. denominatorsAfter x den) e ∙ ap (λ c. cond c (denominators [] den) den) told ∙ st .den-over [])
 
     -- after the last part
-    pub parts-done : length d ≤ a → BeamEnds (space b d o) (weights (space b d o)) (Rows rows) num₀ den₀ num den
+    pub parts-done : length d ≤ a → BeamEnds (space b d o) (weights (space b d o)) (Count rows) num₀ den₀ num den
     parts-done l =
-        beam-answers (space b d o) (weights (space b d o)) num₀ den₀ (ap weights (sym front) ∙ st .answers) (ap Rows (st .rows-are ∙ ap rowCount front))
+        beam-answers (space b d o) (weights (space b d o)) num₀ den₀ (ap weights (sym front) ∙ st .answers) (ap Count (st .rows-are ∙ ap rowCount front))
         (st .num-is some ∙ ap (λ x. numerators (lastPart x (st .table)) num₀) front)
         (st .den-is some ∙ ap (λ x. denominators (lastPart x (st .table)) den₀) front)
       where

@@ -20,14 +20,14 @@ use Rattle.build_cells.specs.Held.{Kept}
 use Rattle.build_cells.specs.Region.{filled}
 use Rattle.build_cells.proofs.Buffer.{numerators-again, denominators-again, numerators-cleared, denominators-cleared, kept-numerators, kept-denominators, kept-then}
 use Rattle.build.specs.Leaves.{JoinsLeave}
-use Rattle.build.specs.Machine.{reply}
-use Rattle.build.specs.declared.Built.{Built}
-use Rattle.build.specs.declared.Built.the-variants.{Rows, Refused}
+use Rattle.base_outcome.specs.Machine.{reply}
+use Rattle.base_outcome.specs.declared.Answer.{Answer}
+use Rattle.base_outcome.specs.declared.Answer.the-variants.{Count, Refused}
 use Rattle.build.proofs.Joins.{orders-refuse}
 
 -- ---- what a call answers and leaves, by the outcome o with n rows
 
-pub record Ends (o : Outcome Table) (n : ℕ) (r : Built) (num den num′ den′ : List ℤ) : Type 0 where
+pub record Ends (o : Outcome Table) (n : ℕ) (r : Answer) (num den num′ den′ : List ℤ) : Type 0 where
   pub answers : reply r ≡ with-answer (λ _. n) o
   pub numerators-are : num′ ≡ numeratorsAfter o num
   pub denominators-are : den′ ≡ denominatorsAfter o den
@@ -78,7 +78,7 @@ weights-cleared s {code} {place} e = clears-either (weights-refuse s code place 
 
 -- what the joins leave of buffers that held a table, where they answer, and where the buffers are then cleared
 module _ (n : ℕ) (i : Table) (num₀ den₀ num den num′ den′ : List ℤ) (num-is : num ≡ numerators i num₀) (den-is : den ≡ denominators i den₀) where
-  pub ends-rows : (o : Outcome Table) {m : ℕ} → JoinsLeave o n (Rows m) num den num′ den′ → Ends o n (Rows m) num₀ den₀ num′ den′
+  pub ends-rows : (o : Outcome Table) {m : ℕ} → JoinsLeave o n (Count m) num den num′ den′ → Ends o n (Count m) num₀ den₀ num′ den′
   unfolding reply numeratorsAfter denominatorsAfter
   ends-rows (answer t) {m} left = record {
     answers = ap answer (let z : m ≡ n = let e = left .0 in cc in z);

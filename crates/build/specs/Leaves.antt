@@ -12,8 +12,8 @@ use Rattle.build_factors.specs.Machine.{refusalOf}
 use Rattle.build_factors.specs.declared.Refusal.{Refusal}
 use Rattle.build_factors.specs.declared.Refusal.the-variants as refusals
 use Rattle.build_rows.specs.Left.{Left}
-use Rattle.build.specs.declared.Built.{Built}
-use Rattle.build.specs.declared.Built.the-variants.{Rows, Refused}
+use Rattle.base_outcome.specs.declared.Answer.{Answer}
+use Rattle.base_outcome.specs.declared.Answer.the-variants.{Count, Refused}
 
 -- No refusal, or the name of its number.
 abbrev pub toldStep : Outcome Table → Refusal
@@ -35,10 +35,10 @@ pub record Start (s : Space) (num den : List ℤ) (columns : ℕ) : Type 0 where
   pub holds : Holds num den (take (firstColumn s 1) (identity columns))
 
 -- The number n of rows, or the refusal.
-abbrev pub toldJoins : ℕ → Outcome Table → Built
-toldJoins n (answer t) = Rows n
+abbrev pub toldJoins : ℕ → Outcome Table → Answer
+toldJoins n (answer t) = Count n
 toldJoins n (refusal code place) = Refused code place
 
 -- What the joins leave: the table with its n rows, or the refusal.
-abbrev pub JoinsLeave : Outcome Table → ℕ → Built → List ℤ → List ℤ → List ℤ → List ℤ → Type 0
+abbrev pub JoinsLeave : Outcome Table → ℕ → Answer → List ℤ → List ℤ → List ℤ → List ℤ → Type 0
 JoinsLeave o n r num den num′ den′ = Left (λ t. t) (toldJoins n) o r num den num′ den′

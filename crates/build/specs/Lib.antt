@@ -1,4 +1,3 @@
 -- What the contracts of build cite beside the definitions of crate spec_spline.
-pub mod Machine
 pub mod Plan
 pub mod Leaves

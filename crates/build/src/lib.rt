@@ -2,16 +2,11 @@
 ghost use mathlib.Core.Path.{_≡_};
 ghost use Rattle.spec_spline.specs.Build.{buildEnd};
 ghost use Rattle.build_space.specs.Machine.{space};
-ghost use Rattle.build.specs.Machine.{reply};
+ghost use Rattle.base_outcome.specs.Machine.{reply};
+use base_outcome::Answer;
 
 pub mod parts;
 pub mod step;
-
-// What building answers: the row count n, or a refusal's code and place.
-pub enum Built {
-    Rows(usize),
-    Refused(u8, u32),
-}
 
 // Builds the weights of the beam with these breakpoints, degrees and orders. Lists and buffers may have any length and
 // content: what the definition refuses is refused, and the buffers are then as it says.
@@ -21,20 +16,20 @@ pub fn build(
     orders: &[i32],
     num: &mut [i64],
     den: &mut [i64],
-) -> Built
+) -> Answer
     ensures { λ r. ⌜ (let e = buildEnd (space (now (breaks .entry)) (now (degrees .entry)) (now (orders .entry))) (now (num .entry))
         (now (den .entry)) in
         (reply r ≡ e .answers) × ((now (num .exit) ≡ e .numerators) × (now (den .exit) ≡ e .denominators))) ⌝ }
 {
     if num.len() < build_cells::TABLE_CELLS {
-        return Built::Refused(1, 0);
+        return Answer::Refused(1, 0);
     }
     if den.len() < build_cells::TABLE_CELLS {
-        return Built::Refused(1, 1);
+        return Answer::Refused(1, 1);
     }
     let legality = build_limits::check(breaks, degrees, orders);
     match legality {
         base_outcome::Legality::Legal => parts::build_parts(breaks, degrees, orders, num, den),
-        base_outcome::Legality::Refused(code, place) => Built::Refused(code, place),
+        base_outcome::Legality::Refused(code, place) => Answer::Refused(code, place),
     }
 }

@@ -11,9 +11,9 @@ ghost use Rattle.theorems_beams.specs.Parts.{Starts};
 ghost use Rattle.build_space.specs.Machine.{space};
 ghost use Rattle.build_space.specs.Legal.{ListsLegal};
 ghost use Rattle.build_cells.specs.Held.{ClearFrom};
-ghost use Rattle.build.specs.Machine.{reply};
-use crate::Built;
+ghost use Rattle.base_outcome.specs.Machine.{reply};
 use crate::step;
+use base_outcome::Answer;
 
 // The build of the part from segment a up to segment b, in buffers that are clear from row `used` on.
 pub fn build_part(
@@ -25,7 +25,7 @@ pub fn build_part(
     num: &mut [i64],
     den: &mut [i64],
     used: usize,
-) -> Built
+) -> Answer
     requires { ⌜ ListsLegal (now breaks) (now degrees) (now orders)
         × ((tableCells ≤ length (now num)) × (tableCells ≤ length (now den))) ⌝ }
     requires { ⌜ Starts (space (now breaks) (now degrees) (now orders)) a
@@ -54,7 +54,7 @@ pub fn build_parts(
     orders: &[i32],
     num: &mut [i64],
     den: &mut [i64],
-) -> Built
+) -> Answer
     requires { ⌜ ListsLegal (now breaks) (now degrees) (now orders)
         × ((tableCells ≤ length (now num)) × (tableCells ≤ length (now den))) ⌝ }
     ensures { λ r. ⌜ (let s = space (now (breaks .entry)) (now (degrees .entry)) (now (orders .entry)) in
@@ -70,15 +70,15 @@ pub fn build_parts(
         let b = build_space::part_end(degrees, orders, a);
         let built = build_part(breaks, degrees, orders, a, b, num, den, used);
         match built {
-            Built::Rows(n) => {
+            Answer::Count(n) => {
                 rows += n;
                 used = n;
             }
-            Built::Refused(code, place) => {
-                return Built::Refused(code, base_outcome::place(a + place as usize));
+            Answer::Refused(code, place) => {
+                return Answer::Refused(code, base_outcome::place(a + place as usize));
             }
         }
         a = b;
     }
-    Built::Rows(rows)
+    Answer::Count(rows)
 }

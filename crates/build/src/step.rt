@@ -17,12 +17,12 @@ ghost use Rattle.build_cells.specs.Held.{Holds, Shaped, Held, ClearFrom};
 ghost use Rattle.build_conditions.specs.Sides.{SideIs, JoinIs, JoinFits};
 ghost use Rattle.base_fraction.specs.Fractions.{fractions};
 ghost use Rattle.build_rows.specs.Rows.{UnitFactors, LeavesIf};
-ghost use Rattle.build.specs.Machine.{reply};
+ghost use Rattle.base_outcome.specs.Machine.{reply};
 ghost use Rattle.build.specs.Plan.{planned, renewed, Plans};
 ghost use Rattle.build.specs.Leaves.{Leaves, JoinsLeave, Start, grown};
-use crate::Built;
 use base_fraction::arrays;
 use base_fraction::arrays::Fractions;
+use base_outcome::Answer;
 use build_conditions::Join;
 use build_conditions::Side;
 use build_factors::Refusal;
@@ -225,7 +225,7 @@ fn join_steps(
     num: &mut [i64],
     den: &mut [i64],
     columns: usize,
-) -> Built
+) -> Answer
     requires { ⌜ PartLegal (now breaks) (now degrees) (now orders)
         × Start (space (now breaks) (now degrees) (now orders)) (now num) (now den) columns ⌝ }
     ensures { λ r. ⌜ JoinsLeave (Build.weights (space (now (breaks .entry)) (now (degrees .entry)) (now (orders .entry))))
@@ -245,15 +245,15 @@ fn join_steps(
                 rows = rows + more - n;
             }
             Refusal::TooLarge => {
-                return Built::Refused(8, place);
+                return Answer::Refused(8, place);
             }
             Refusal::Shape => {
-                return Built::Refused(9, place);
+                return Answer::Refused(9, place);
             }
         }
         j += 1;
     }
-    Built::Rows(rows)
+    Answer::Count(rows)
 }
 
 // The build of one part whose lists are legal, in buffers that are long enough and clear from row `used` on.
@@ -264,7 +264,7 @@ pub fn build_legal(
     num: &mut [i64],
     den: &mut [i64],
     used: usize,
-) -> Built
+) -> Answer
     requires { ⌜ PartLegal (now breaks) (now degrees) (now orders) × ((tableCells ≤ length (now num)) × (tableCells ≤ length (now den))) ⌝ }
     requires { ⌜ (used ≤ rowCells) × ClearFrom (now num) (now den) used ⌝ }
     ensures { λ r. ⌜ reply r ≡ with-answer (λ _. rowCount (space (now (breaks .entry)) (now (degrees .entry)) (now (orders .entry))))
@@ -278,10 +278,10 @@ pub fn build_legal(
     build_cells::identity_over(num, den, build_space::degree_at(degrees, 0) + 1, used);
     let built = join_steps(breaks, degrees, orders, num, den, columns);
     match built {
-        Built::Rows(n) => Built::Rows(n),
-        Built::Refused(code, place) => {
+        Answer::Count(n) => Answer::Count(n),
+        Answer::Refused(code, place) => {
             build_cells::clear(num, den, 0, build_cells::TABLE_CELLS);
-            Built::Refused(code, place)
+            Answer::Refused(code, place)
         }
     }
 }

@@ -8,8 +8,8 @@ use Rattle.base_outcome.specs.Outcome.{Outcome, answer, refusal}
 use Rattle.spec_spline.specs.Table.{Table}
 use Rattle.spec_spline.specs.Reading.{Pair, sideBySide}
 use Rattle.spec_spline.specs.CurveCall.{CurveResult, returned, valuesAfter}
-use Rattle.curve.specs.Machine.{reply}
-use Rattle.curve.specs.declared.Answer.the-variants.{Values, Refused}
+use Rattle.base_outcome.specs.Machine.{reply}
+use Rattle.base_outcome.specs.declared.Answer.the-variants.{Count, Refused}
 
 module _ {o : Outcome CurveResult} where
   -- a refusal leaves the values as they were
@@ -25,7 +25,7 @@ module _ {o : Outcome CurveResult} where
   -- the pairs of m positions
   module _ {t : Table} {written : List Pair} {m : ℕ} (e : o ≡ answer (record { table = t; values = written }))
       (l : length written ≡ m) where
-    pub written-answers : reply (Values m) ≡ returned o
+    pub written-answers : reply (Count m) ≡ returned o
     unfolding reply
     written-answers = ap answer (sym l) ∙ sym (ap returned e)
 

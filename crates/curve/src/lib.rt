@@ -3,15 +3,10 @@
 ghost use mathlib.Core.Path.{_≡_};
 ghost use Rattle.build_space.specs.Machine.{space};
 ghost use Rattle.spec_spline.specs.CurveCall.{curveEnd};
-ghost use Rattle.curve.specs.Machine.{reply};
+ghost use Rattle.base_outcome.specs.Machine.{reply};
+use base_outcome::Answer;
 
 mod reading;
-
-// What the curve call answers: the number of positions, each of which has two values, or a refusal's code and place.
-pub enum Answer {
-    Values(usize),
-    Refused(u8, u32),
-}
 
 // Builds the weights and writes the values at each position, earlywood first, in list order. Lists and buffers may have any
 // length and content: what the definition refuses is refused, and the buffers are then as it says.
@@ -45,10 +40,10 @@ pub fn curve(
         &mut late,
     );
     match built {
-        build::Built::Refused(code, place) => Answer::Refused(code, place),
-        build::Built::Rows(_) => {
+        Answer::Refused(code, place) => Answer::Refused(code, place),
+        Answer::Count(_) => {
             reading::write_values(breaks, degrees, orders, &early, &late, positions, values);
-            Answer::Values(positions.len())
+            Answer::Count(positions.len())
         }
     }
 }

@@ -11,7 +11,6 @@ ghost use Rattle.curve_ordinates.specs.Wood.{woodOf};
 ghost use Rattle.curve_pieces.specs.Pieces.{pieceEnd};
 ghost use Rattle.curve_pieces.specs.Machine.{Is, Each, floats, Shows, pieceHeld, drawnHeld, Replies};
 ghost use Rattle.curve_pieces.specs.Machine.{CurveAsks, PieceAsks, DrawAsks};
-use build::Built;
 use curve_ordinates::Wood;
 
 // A line, a quadratic or a cubic, with its ordinates from the left, in thousandths of a millimetre.
@@ -149,8 +148,8 @@ pub fn piece(
         &mut late,
     );
     match built {
-        Built::Refused(code, place) => Answer::Refused(code, place),
-        Built::Rows(_) => match wood {
+        base_outcome::Answer::Refused(code, place) => Answer::Refused(code, place),
+        base_outcome::Answer::Count(_) => match wood {
             Wood::Earlywood => draw(breaks, degrees, orders, &early, segment),
             Wood::Latewood => draw(breaks, degrees, orders, &late, segment),
         },

@@ -92,7 +92,15 @@ pub fn reach(
         &mut late,
     );
     match built {
-        build::Built::Refused(code, place) => Answer::Refused(code, place),
-        build::Built::Rows(_) => part_reach(wood, breaks, degrees, orders, &early, &late, width),
+        base_outcome::Answer::Refused(code, place) => Answer::Refused(code, place),
+        base_outcome::Answer::Count(_) => part_reach(
+            wood,
+            breaks,
+            degrees,
+            orders,
+            &early,
+            &late,
+            width,
+        ),
     }
 }

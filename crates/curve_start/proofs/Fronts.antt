@@ -25,10 +25,11 @@ use Rattle.theorems_beams.proofs.Fronts.{front-answers, part-columns, front-row
 use Rattle.theorems_beams.proofs.Reading.{front-ordinates}
 use Rattle.build_space.specs.Legal.{ListsLegal}
 use Rattle.build_space.proofs.Legal.{legal-checked}
-use Rattle.build.specs.Machine.{reply}
-use Rattle.build.specs.declared.Built.{Built}
-use Rattle.build.specs.declared.Built.the-variants.{Rows, Refused}
-use Rattle.build.proofs.Beam.{Before, before-first, starts, part-more, part-refused, parts-done, Answered, told-rows, told-refused}
+use Rattle.base_outcome.specs.Machine.{reply}
+use Rattle.base_outcome.specs.declared.Answer.{Answer}
+use Rattle.base_outcome.specs.declared.Answer.the-variants.{Count, Refused}
+use Rattle.build.proofs.Beam.{Before, before-first, starts, part-more, part-refused, parts-done}
+use Rattle.base_outcome.proofs.Reply.{Counted, count-inverts, refused-inverts}
 use Rattle.curve_start.specs.Parts.{Lent, lent, PartsLeave}
 
 pub ordinates-length : (s : Space) (t : Table) (a : ℕ → ℤ) → length (ordinates s t a) ≡ columnCount s
@@ -142,7 +143,7 @@ module _ (s : Space) (legal : ListsLegal (s .breaks) (s .degrees) (s .orders)) w
       one-part (refusal code place) = refl
 
       -- it is built in the columns up to `end`
-      module _ (end : ℕ) (end-is : end ≡ firstColumn s (partEnd s a)) (r : Built) {l′ : Lent}
+      module _ (end : ℕ) (end-is : end ≡ firstColumn s (partEnd s a)) (r : Answer) {l′ : Lent}
           (left : PartsLeave part own r (lent (l .num) (l .den) (cellsOf column end (l .early)) (cellsOf column end (l .late))) l′) where
         -- the lists with the part's ordinates put in
         abbrev pub after : Lent
@@ -155,18 +156,18 @@ module _ (s : Space) (legal : ListsLegal (s .breaks) (s .degrees) (s .orders)) w
         den-is = left .denominators-are ∙ ap (λ x. denominatorsAfter x (l .den)) (one-part (weights part))
 
         -- with an answer
-        answered : {m : ℕ} → r ≡ Rows m → Front s coefs l₀ (row + m) end (partEnd s a) after
+        answered : {m : ℕ} → r ≡ Count m → Front s coefs l₀ (row + m) end (partEnd s a) after
         answered {m} e = record {
           state = state′;
           columns = end-is;
-          early-is = grown earlywood (l₀ .early) (end - column) (x .table) size (f .early-is) (left .early-is (x .table) (x .is))
+          early-is = grown earlywood (l₀ .early) (end - column) (x .result) size (f .early-is) (left .early-is (x .result) (x .is))
               ∙ moved earlywood (l₀ .early);
-          late-is = grown latewood (l₀ .late) (end - column) (x .table) size (f .late-is) (left .late-is (x .table) (x .is))
+          late-is = grown latewood (l₀ .late) (end - column) (x .result) size (f .late-is) (left .late-is (x .result) (x .is))
               ∙ moved latewood (l₀ .late);
         }
           where
-            x : Answered (weights part) m (rowCount part)
-            x = told-rows (weights part) (ap reply (sym e) ∙ left .answers)
+            x : Counted (λ _. rowCount part) (weights part) m
+            x = count-inverts (λ _. rowCount part) (weights part) (ap reply (sym e) ∙ left .answers)
 
             state′ : Before s (l₀ .num) (l₀ .den) (l′ .num) (l′ .den) (row + m) (partEnd s a)
             state′ = part-more _ _ _ legal (f .state) more (x .is) (x .count) num-is den-is
@@ -175,7 +176,7 @@ module _ (s : Space) (legal : ListsLegal (s .breaks) (s .degrees) (s .orders)) w
             size = omega (arith, end-is, columns-more)
 
             both : Table
-            both = beside (firstColumn s a) (columnCount part) (f .state .table) (x .table)
+            both = beside (firstColumn s a) (columnCount part) (f .state .table) (x .result)
 
             same : both ≡ state′ .table
             same = answer-unique (front-answers s fit a begins (f .state .answers) (x .is)) (state′ .answers)
@@ -188,16 +189,16 @@ module _ (s : Space) (legal : ListsLegal (s .breaks) (s .degrees) (s .orders)) w
                 ≡ ordinates (section s 0 (partEnd s a)) (state′ .table) (coefficient wood coefs) ++ drop end os₀
             moved wood os₀ = ap₂ (λ t k. ordinates (section s 0 (partEnd s a)) t (coefficient wood coefs) ++ drop k os₀) same up-to-end
 
-        pub front-more : {m : ℕ} (next : ℕ) → next ≡ partEnd s a → r ≡ Rows m → Front s coefs l₀ (row + m) end next after
+        pub front-more : {m : ℕ} (next : ℕ) → next ≡ partEnd s a → r ≡ Count m → Front s coefs l₀ (row + m) end next after
         front-more {m} next z e = subst (λ k. Front s coefs l₀ (row + m) end k after) (sym z) (answered e)
 
         -- with a refusal
         pub front-refused : {code place counted : ℕ} {early″ late″ : List ℤ} → r ≡ Refused code place → counted ≡ capped (a + place)
             → PartsLeave s (λ wood. coefficient wood coefs) (Refused code counted) l₀ (lent (l′ .num) (l′ .den) early″ late″)
         front-refused {code} {place} e p =
-            let stopped = told-refused (weights part) (rowCount part) (ap reply (sym e) ∙ left .answers) in
+            let stopped = refused-inverts (λ _. rowCount part) (weights part) (ap reply (sym e) ∙ left .answers) in
             let ends = part-refused _ _ _ legal (f .state) more stopped num-is den-is in
-            let refused = told-refused (weights s) (rowCount s) (ends .answers) in
+            let refused = refused-inverts (λ _. rowCount s) (weights s) (ends .answers) in
             record {
               answers = ap (λ (n : ℕ). reply (Refused code n)) p ∙ ends .answers;
               numerators-are = ends .numerators-are;
@@ -207,7 +208,7 @@ module _ (s : Space) (legal : ListsLegal (s .breaks) (s .degrees) (s .orders)) w
             }
 
     -- ---- all parts are built
-    pub front-whole : length (s .degrees) ≤ a → PartsLeave s (λ wood. coefficient wood coefs) (Rows row) l₀ l
+    pub front-whole : length (s .degrees) ≤ a → PartsLeave s (λ wood. coefficient wood coefs) (Count row) l₀ l
     front-whole none-left = let ends = parts-done _ _ _ legal (f .state) none-left in record {
       answers = ends .answers;
       numerators-are = ends .numerators-are;

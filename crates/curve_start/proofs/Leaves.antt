@@ -15,9 +15,9 @@ use Rattle.spec_spline.specs.Build.{weights, lastPart, clears, numeratorsAfter,
 use Rattle.spec_spline.specs.Reading.{coefficient}
 use Rattle.spec_spline.specs.CurveCall.{CurveResult, heldBy, curveNumerators, curveDenominators}
 use Rattle.spec_spline.proofs.Pairs.{half-le}
-use Rattle.build.specs.declared.Built.{Built}
-use Rattle.build.specs.declared.Built.the-variants.{Rows, Refused}
-use Rattle.build.proofs.Beam.{told-rows, told-refused}
+use Rattle.base_outcome.specs.declared.Answer.{Answer}
+use Rattle.base_outcome.specs.declared.Answer.the-variants.{Count, Refused}
+use Rattle.base_outcome.proofs.Reply.{count-inverts, refused-inverts}
 use Rattle.curve_start.specs.Parts.{Lent, TableRoom, PartsLeave}
 use Rattle.curve_start.specs.Machine.{Call, outcomeOf, CurvesLeave}
 use Rattle.curve_start.proofs.Call.{checkedOf, resultOf, call-stopped, call-answers, lists-legal, coefficients-good, positions-good}
@@ -40,7 +40,7 @@ module _ (c : Call) (l : Lent) where
   }
 
   -- the buffers after the parts, where the call holds what the build does
-  module _ {r : Built} {l′ : Lent} (p : PartsLeave (c .lists) (λ wood. coefficient wood (c .coefs)) r l l′) {w : Outcome Table}
+  module _ {r : Answer} {l′ : Lent} (p : PartsLeave (c .lists) (λ wood. coefficient wood (c .coefs)) r l l′) {w : Outcome Table}
       {v : Outcome CurveResult} (e : weights (c .lists) ≡ w) (o : outcomeOf c l ≡ v)
       (same : with-answer (lastPart (c .lists)) w ≡ heldBy (c .lists) v) where
     numerators-left : l′ .num ≡ curveNumerators (c .lists) (outcomeOf c l) (l .num)
@@ -59,27 +59,27 @@ module _ (c : Call) (l : Lent) where
 
   -- the parts
   pub leaves-built : (long : TableRoom l) (h : length (c .positions) ≤ c .room / 2) (passes : legality (checkedOf c) ≡ Legal)
-      (r : Built) {l′ : Lent} → PartsLeave (c .lists) (λ wood. coefficient wood (c .coefs)) r l l′ → CurvesLeave c r l l′
-  leaves-built long h passes (Rows n) p =
-      let t = told-rows (weights (c .lists)) (p .answers) in
+      (r : Answer) {l′ : Lent} → PartsLeave (c .lists) (λ wood. coefficient wood (c .coefs)) r l l′ → CurvesLeave c r l l′
+  leaves-built long h passes (Count n) p =
+      let t = count-inverts (λ _. rowCount (c .lists)) (weights (c .lists)) (p .answers) in
       let e = call-answers c l long h passes (t .is) in
       record {
         told = record {
-          table = t .table;
+          table = t .result;
           is = e;
           legal = lists-legal c passes;
           count = t .count;
           coefficients = coefficients-good c passes;
           within = positions-good c passes;
           room-enough = half-le (length (c .positions)) (c .room) h;
-          early-is = p .early-is (t .table) (t .is);
-          late-is = p .late-is (t .table) (t .is);
+          early-is = p .early-is (t .result) (t .is);
+          late-is = p .late-is (t .result) (t .is);
         };
         numerators-are = numerators-left p (t .is) e refl;
         denominators-are = denominators-left p (t .is) e refl;
       }
   leaves-built long h passes (Refused code place) p =
-      let t = told-refused (weights (c .lists)) (rowCount (c .lists)) (p .answers) in
+      let t = refused-inverts (λ _. rowCount (c .lists)) (weights (c .lists)) (p .answers) in
       let e = call-stopped c l long h passes t in
       record {
         told = e;

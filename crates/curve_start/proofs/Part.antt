@@ -27,12 +27,13 @@ use Rattle.build_space.specs.Legal.{ListsLegal}
 use Rattle.build_space.proofs.Legal.{legal-checked, legal-column-count-high, legal-row-count-sum, part-column-count-high}
 use Rattle.build_cells.specs.Held.{Holds}
 use Rattle.build_cells.proofs.Buffer.{holds-left}
-use Rattle.build.specs.Machine.{reply}
-use Rattle.build.specs.declared.Built.{Built}
-use Rattle.build.specs.declared.Built.the-variants.{Rows, Refused}
+use Rattle.base_outcome.specs.Machine.{reply}
+use Rattle.base_outcome.specs.declared.Answer.{Answer}
+use Rattle.base_outcome.specs.declared.Answer.the-variants.{Count, Refused}
 use Rattle.build.proofs.Building.{built-weights}
 use Rattle.build.proofs.Stepped.{Proper, weights-proper}
-use Rattle.build.proofs.Beam.{sliced, part-legal, Answered, told-rows, told-refused}
+use Rattle.base_outcome.proofs.Reply.{Counted, count-inverts, refused-inverts}
+use Rattle.build.proofs.Beam.{sliced, part-legal}
 use Rattle.curve_ordinates.specs.Ordinates.{Weighs, Coefficients}
 use Rattle.curve_start.specs.Parts.{lent, TableRoom, PartOf, PartsLeave}
 
@@ -76,7 +77,7 @@ middle-ordinates s t wood coefs os row n rows columns =
 -- ---- the part from segment a up to segment e
 
 -- Building a space in two buffers ends with this answer and these contents.
-abbrev BuiltAs : Built → List ℤ → List ℤ → List ℤ → List ℤ → Space → Type 0
+abbrev BuiltAs : Answer → List ℤ → List ℤ → List ℤ → List ℤ → Space → Type 0
 BuiltAs r num den num′ den′ s = let e = buildEnd s num den in
     (reply r ≡ e .answers) × ((num′ ≡ e .numerators) × (den′ ≡ e .denominators))
 
@@ -107,7 +108,7 @@ module _ (s : Space) (a e : ℕ) (p : PartOf s a e) where
   pub part-columns-few : columnCount part ≤ rowCells
   part-columns-few = part-column-count-high (part .breaks) (part .degrees) (part .orders) (part-legal _ _ _ (p .legal) a (p .starts))
 
-  module _ (num den early late : List ℤ) (room : TableRoom (lent num den early late)) (r : Built) {num′ den′ : List ℤ}
+  module _ (num den early late : List ℤ) (room : TableRoom (lent num den early late)) (r : Answer) {num′ den′ : List ℤ}
       (ends : BuiltAs r num den num′ den′ own-lists) where
     -- what building the part leaves, in terms of its weights
     whole : BuiltAs r num den num′ den′ part
@@ -158,9 +159,9 @@ module _ (s : Space) (a e : ℕ) (p : PartOf s a e) where
       }
 
     -- it is built, with n rows
-    module _ {n : ℕ} (told : r ≡ Rows n) where
-      answered : Answered (weights part) n (rowCount part)
-      answered = told-rows (weights part) (ap reply (sym told) ∙ part-answers)
+    module _ {n : ℕ} (told : r ≡ Count n) where
+      answered : Counted (λ _. rowCount part) (weights part) n
+      answered = count-inverts (λ _. rowCount part) (weights part) (ap reply (sym told) ∙ part-answers)
 
       pub rows-told : n ≡ rowCount part
       rows-told = answered .count
@@ -176,7 +177,7 @@ module _ (s : Space) (a e : ℕ) (p : PartOf s a e) where
       pub leaves-rows : (coefs : List ℤ) (row : ℕ) {early′ late′ : List ℤ} → length early ≡ columnCount part
           → length late ≡ columnCount part
           → WorkedOut earlywood coefs row early early′ → WorkedOut latewood coefs row late late′
-          → PartsLeave part (λ wood i. coefficient wood coefs (row + i)) (Rows n) (lent num den early late) (lent num′ den′ early′ late′)
+          → PartsLeave part (λ wood i. coefficient wood coefs (row + i)) (Count n) (lent num den early late) (lent num′ den′ early′ late′)
       leaves-rows coefs row l m worked worked′ = record {
         answers = ap reply (sym told) ∙ part-answers;
         numerators-are = part-numerators;
@@ -203,4 +204,4 @@ module _ (s : Space) (a e : ℕ) (p : PartOf s a e) where
         answers = ap reply (sym told) ∙ part-answers
 
         refused : weights part ≡ refusal code place
-        refused = told-refused (weights part) (rowCount part) answers
+        refused = refused-inverts (λ _. rowCount part) (weights part) answers

@@ -10,8 +10,8 @@ use Rattle.spec_spline.specs.Table.{Table}
 use Rattle.spec_spline.specs.Reading.{earlywood, latewood, coefficient, ordinates, values}
 use Rattle.spec_spline.specs.CurveCall.{CurveResult, curveOutcome, curveNumerators, curveDenominators}
 use Rattle.build_space.specs.Legal.{ListsLegal}
-use Rattle.build.specs.declared.Built.{Built}
-use Rattle.build.specs.declared.Built.the-variants.{Rows, Refused}
+use Rattle.base_outcome.specs.declared.Answer.{Answer}
+use Rattle.base_outcome.specs.declared.Answer.the-variants.{Count, Refused}
 use Rattle.curve_ordinates.specs.Ordinates.{Coefficients}
 use Rattle.curve_triangle.specs.Offsets.{columnLimit, Within}
 use Rattle.curve_start.specs.Parts.{Lent}
@@ -51,12 +51,12 @@ pub record CurvesHeld (c : Call) (n : ℕ) (before after : Lent) : Type 0 where
       ++ drop (columnCount (c .lists)) (before .late)
 
 -- What the machine's answer tells: the curves are held, or the call is refused so.
-abbrev pub CurvesTold : Call → Lent → Lent → Built → Type 0
-CurvesTold c before after (Rows n) = CurvesHeld c n before after
+abbrev pub CurvesTold : Call → Lent → Lent → Answer → Type 0
+CurvesTold c before after (Count n) = CurvesHeld c n before after
 CurvesTold c before after (Refused code place) = outcomeOf c before ≡ refusal code place
 
 -- The answer, and both weight buffers as after a curve call.
-pub record CurvesLeave (c : Call) (r : Built) (before after : Lent) : Type 0 where
+pub record CurvesLeave (c : Call) (r : Answer) (before after : Lent) : Type 0 where
   pub told : CurvesTold c before after r
   pub numerators-are : after .num ≡ curveNumerators (c .lists) (outcomeOf c before) (before .num)
   pub denominators-are : after .den ≡ curveDenominators (c .lists) (outcomeOf c before) (before .den)

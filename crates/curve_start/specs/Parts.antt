@@ -12,8 +12,8 @@ use Rattle.spec_spline.specs.Reading.{Wood, earlywood, latewood, ordinates}
 use Rattle.theorems_beams.specs.Sections.{partAt}
 use Rattle.theorems_beams.specs.Parts.{Starts}
 use Rattle.build_space.specs.Legal.{ListsLegal}
-use Rattle.build.specs.Machine.{reply}
-use Rattle.build.specs.declared.Built.{Built}
+use Rattle.base_outcome.specs.Machine.{reply}
+use Rattle.base_outcome.specs.declared.Answer.{Answer}
 use Rattle.curve_ordinates.specs.Ordinates.{Coefficients}
 
 -- ---- the lent lists
@@ -62,7 +62,7 @@ pub record PartsAsk (s : Space) (coefs : List ℤ) (l : Lent) : Type 0 where
 
 -- The row count or the refusal; the two buffers as after building; and after an answer the ordinates of all columns with these
 -- coefficients, for each wood part at the front of its list.
-pub record PartsLeave (s : Space) (coefs : Wood → ℕ → ℤ) (r : Built) (before after : Lent) : Type 0 where
+pub record PartsLeave (s : Space) (coefs : Wood → ℕ → ℤ) (r : Answer) (before after : Lent) : Type 0 where
   pub answers : reply r ≡ with-answer (λ _. rowCount s) (weights s)
   pub numerators-are : after .num ≡ numeratorsAfter (with-answer (lastPart s) (weights s)) (before .num)
   pub denominators-are : after .den ≡ denominatorsAfter (with-answer (lastPart s) (weights s)) (before .den)

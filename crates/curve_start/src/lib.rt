@@ -6,7 +6,7 @@ ghost use Rattle.curve_start.specs.Machine.{ColumnRoom, call, CurvesLeav
 
 mod parts;
 
-use build::Built;
+use base_outcome::Answer;
 
 // Makes the tests of a curve call at these positions with `room` cells for values, builds the weights, and writes the ordinates of
 // all columns for each wood part. The count of rows, or a refusal's code and place.
@@ -21,7 +21,7 @@ pub fn build_curves(
     den: &mut [i64],
     early: &mut [i32],
     late: &mut [i32],
-) -> Built
+) -> Answer
     requires { ⌜ ColumnRoom (lent (now num) (now den) (now early) (now late)) ⌝ }
     ensures { λ r. ⌜ CurvesLeave (call (space (now (breaks .entry)) (now (degrees .entry)) (now (orders .entry))) (now (coefs .entry))
         (now (positions .entry)) room) r
@@ -29,17 +29,17 @@ pub fn build_curves(
         (lent (now (num .exit)) (now (den .exit)) (now (early .exit)) (now (late .exit))) ⌝ }
 {
     if num.len() < build_cells::TABLE_CELLS {
-        return Built::Refused(1, 0);
+        return Answer::Refused(1, 0);
     }
     if den.len() < build_cells::TABLE_CELLS {
-        return Built::Refused(1, 1);
+        return Answer::Refused(1, 1);
     }
     if room / 2 < positions.len() {
-        return Built::Refused(1, 2);
+        return Answer::Refused(1, 2);
     }
     let checked = curve_limits::check(breaks, degrees, orders, coefs, positions);
     match checked {
-        base_outcome::Legality::Refused(code, place) => Built::Refused(code, place),
+        base_outcome::Legality::Refused(code, place) => Answer::Refused(code, place),
         base_outcome::Legality::Legal => crate::parts::build_parts(
             breaks,
             degrees,

@@ -4,7 +4,7 @@ ghost use Rattle.spec_spline.specs.Reading.{coefficient};
 ghost use Rattle.theorems_beams.specs.Sections.{partAt};
 ghost use Rattle.build_space.specs.Machine.{space};
 ghost use Rattle.curve_start.specs.Parts.{lent, PartAsks, PartsAsk, PartsLeave};
-use build::Built;
+use base_outcome::Answer;
 use curve_ordinates::Wood;
 
 // Builds the part from segment a up to segment b, and writes the ordinates of its columns for each wood part. Its coefficients
@@ -21,7 +21,7 @@ fn build_part(
     den: &mut [i64],
     early: &mut [i32],
     late: &mut [i32],
-) -> Built
+) -> Answer
     requires { ⌜ PartAsks (space (now breaks) (now degrees) (now orders)) a b (now coefs) row
         (lent (now num) (now den) (now early) (now late)) ⌝ }
     ensures { λ r. ⌜ PartsLeave (partAt (space (now (breaks .entry)) (now (degrees .entry)) (now (orders .entry))) a)
@@ -37,12 +37,12 @@ fn build_part(
         den,
     );
     match built {
-        Built::Refused(code, place) => Built::Refused(code, place),
-        Built::Rows(n) => {
+        Answer::Refused(code, place) => Answer::Refused(code, place),
+        Answer::Count(n) => {
             let own = &coefs[2 * row..2 * (row + n)];
             curve_ordinates::ordinates(num, den, own, Wood::Earlywood, n, early);
             curve_ordinates::ordinates(num, den, own, Wood::Latewood, n, late);
-            Built::Rows(n)
+            Answer::Count(n)
         }
     }
 }
@@ -57,7 +57,7 @@ pub fn build_parts(
     den: &mut [i64],
     early: &mut [i32],
     late: &mut [i32],
-) -> Built
+) -> Answer
     requires { ⌜ PartsAsk (space (now breaks) (now degrees) (now orders)) (now coefs)
         (lent (now num) (now den) (now early) (now late)) ⌝ }
     ensures { λ r. ⌜ PartsLeave (space (now (breaks .entry)) (now (degrees .entry)) (now (orders .entry)))
@@ -85,15 +85,15 @@ pub fn build_parts(
             &mut late[column..end],
         );
         match built {
-            Built::Rows(n) => {
+            Answer::Count(n) => {
                 row += n;
             }
-            Built::Refused(code, place) => {
-                return Built::Refused(code, base_outcome::place(a + place as usize));
+            Answer::Refused(code, place) => {
+                return Answer::Refused(code, base_outcome::place(a + place as usize));
             }
         }
         column = end;
         a = b;
     }
-    Built::Rows(row)
+    Answer::Count(row)
 }

@@ -23,16 +23,14 @@ use Rattle.base_outcome.proofs.Search.{first-ext, first-some-inverts}
 use Rattle.spec_spline.proofs.Pairs.{ofTheWood, getD-pairs, length-pairs}
 use Rattle.spec_spline.proofs.Build.{long-enough}
 use Rattle.theorems_values.proofs.LegalCall.{answered-calls-are-legal, legal-calls-answer, values-length}
-use Rattle.curve.specs.Machine as curves
-use Rattle.curve.specs.declared.Answer.{Answer}
-use Rattle.curve.specs.declared.Answer.the-variants as answered
+use Rattle.base_outcome.specs.declared.Answer.{Answer}
 use Rattle.theorems_indices.specs.Indices.{ringPositions, ringWidth, ringValue, isRefused, badRing, indexOf, ringIndices, ringsRead, ringsIndexed, indicesReturned, indicesAfter}
 use Rattle.theorems_indices.proofs.Cells.{value-cell}
-use Rattle.indices.specs.Machine.{reply, cellsIndexed}
+use Rattle.base_outcome.specs.Machine.{reply}
+use Rattle.indices.specs.Machine.{cellsIndexed}
 use Rattle.indices_positions.specs.Words.{wordPositions, ringsTaken}
 use Rattle.indices_rings.specs.Cells.{badCell, cellIndex}
-use Rattle.indices.specs.declared.Answer as ours
-use Rattle.indices.specs.declared.Answer.the-variants.{Refused}
+use Rattle.base_outcome.specs.declared.Answer.the-variants.{Refused}
 use Rattle.theorems_indices.proofs.Cells.{exact-length}
 use Rattle.indices_positions.proofs.Positions.{words-length, outcome-same}
 
@@ -62,7 +60,7 @@ module _ (wood : Wood) (widths : List ℤ) (r : CurveResult) (before : List ℤ)
 
 -- ---- what a call answers and leaves, by its outcome
 
-pub record Ends (s : Space) (wood : Wood) (widths : List ℤ) (o : Outcome CurveResult) (r : ours.Answer) (num den vs is num′ den′ vs′ is′ : List ℤ) : Type 0 where
+pub record Ends (s : Space) (wood : Wood) (widths : List ℤ) (o : Outcome CurveResult) (r : Answer) (num den vs is num′ den′ vs′ is′ : List ℤ) : Type 0 where
   pub answers : reply r ≡ indicesReturned (o then ringsIndexed wood widths)
   pub numerators-are : num′ ≡ curveNumerators s o num
   pub denominators-are : den′ ≡ curveDenominators s o den
@@ -91,7 +89,7 @@ module _ (s : Space) (wood : Wood) (widths : List ℤ) {o : Outcome CurveResult}
       (sym (ap (λ x. valuesAfter x vs) e))
 
   -- an answer of the curve call: code 14 or the indices, by the cells after it
-  pub ends-indexed : {r : CurveResult} {a : ours.Answer} {num′ den′ vs′ is′ : List ℤ} → o ≡ answer r → length (r .values) ≡ length widths → num′ ≡ curveNumerators s o num → den′ ≡ curveDenominators s o den → vs′ ≡ valuesAfter o vs
+  pub ends-indexed : {r : CurveResult} {a : Answer} {num′ den′ vs′ is′ : List ℤ} → o ≡ answer r → length (r .values) ≡ length widths → num′ ≡ curveNumerators s o num → den′ ≡ curveDenominators s o den → vs′ ≡ valuesAfter o vs
       → reply a ≡ indicesReturned (cellsIndexed widths vs′ (woodIndex wood)) → is′ ≡ indicesAfter (cellsIndexed widths vs′ (woodIndex wood)) is
       → Ends s wood widths o a num den vs is num′ den′ vs′ is′
   ends-indexed {r} {vs′ = vs′} e count p q w x y =
@@ -150,19 +148,3 @@ module _ (s : Space) (coefs : List ℤ) (firstRing : ℤ) (widths : List ℤ) (n
 pub values-kept : (r : CurveResult) (before : List ℤ) → 2 * length (r .values) ≤ length before → length (valuesAfter (answer r) before) ≡ length before
 unfolding valuesAfter
 values-kept r before h = length-pairs (r .values) before h
-
--- ---- what the curve call answered
-
-pub refused-inverts : (o : Outcome CurveResult) {code place : ℕ} → curves.reply (answered.Refused code place) ≡ returned o → o ≡ refusal code place
-unfolding curves.reply
-refused-inverts (answer t) e = absurd (let z : _≡_ {A = ℕ} 0 1 = cc in omega arith)
-refused-inverts (refusal a b) e = cc
-
-pub record HasResult (o : Outcome CurveResult) : Type 0 where
-  pub result : CurveResult
-  pub is : o ≡ answer result
-
-pub values-inverts : (o : Outcome CurveResult) (n : ℕ) → curves.reply (answered.Values n) ≡ returned o → HasResult o
-unfolding curves.reply
-values-inverts (answer t) n e = record { result = t; is = refl }
-values-inverts (refusal a b) n e = absurd (let z : _≡_ {A = ℕ} 0 1 = cc in omega arith)

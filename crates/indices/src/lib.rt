@@ -3,23 +3,18 @@
 ghost use mathlib.Core.Path.{_≡_};
 ghost use Prim.Native.Nat.{_+_, _*_, _≤_};
 ghost use lib.ListN.{length};
+ghost use Rattle.base_outcome.specs.Machine.{reply};
 ghost use Rattle.spec_spline.specs.Reading.{woodIndex};
 ghost use Rattle.spec_spline.specs.CurveCall.{positionLimit, curveEnd};
 ghost use Rattle.build_space.specs.Machine.{space};
 ghost use Rattle.curve_ordinates.specs.Wood.{woodOf};
-ghost use Rattle.curve.specs.Machine;
 ghost use Rattle.theorems_indices.specs.Indices.{indicesReturned, indicesAfter, indicesEnd};
 ghost use Rattle.indices_positions.specs.Words.{ringsTaken, wordPositions};
-ghost use Rattle.indices.specs.Machine.{reply, cellsIndexed};
+ghost use Rattle.indices.specs.Machine.{cellsIndexed};
+use base_outcome::Answer;
 
 // One more than the curve call takes: it refuses these as it would refuse more.
 const MOST_RINGS: usize = 4097;
-
-// What the call answers: the rings' count, or a refusal's code and place.
-pub enum Answer {
-    Indices(usize),
-    Refused(u8, u32),
-}
 
 // As many rings as are read.
 fn rings_taken(n: usize) -> usize
@@ -39,11 +34,11 @@ fn read_rings(
     num: &mut [i64],
     den: &mut [i64],
     values: &mut [i32],
-) -> curve::Answer
+) -> Answer
     requires { ⌜ length (now positions) ≤ positionLimit + 1 ⌝ }
     ensures { λ r. ⌜ (let e = curveEnd (space (now (breaks .entry)) (now (degrees .entry)) (now (orders .entry))) (now (coefs .entry))
         (wordPositions first (length (now (positions .entry)))) (now (num .entry)) (now (den .entry)) (now (values .entry)) in
-        (Machine.reply r ≡ e .answers) × ((now (num .exit) ≡ e .numerators)
+        (reply r ≡ e .answers) × ((now (num .exit) ≡ e .numerators)
         × ((now (den .exit) ≡ e .denominators) × (now (values .exit) ≡ e .values)))) ⌝ }
 {
     indices_positions::fill_positions(first, positions);
@@ -78,7 +73,7 @@ fn index_rings(
         base_outcome::Found::At(i) => Answer::Refused(14, i as u32),
         base_outcome::Found::Nothing => {
             indices_rings::write_indices(widths, values, offset, indices);
-            Answer::Indices(widths.len())
+            Answer::Count(widths.len())
         }
     }
 }
@@ -130,7 +125,7 @@ pub fn indices(
         values,
     );
     match read {
-        curve::Answer::Refused(code, place) => Answer::Refused(code, place),
-        curve::Answer::Values(_) => index_rings(wood, widths, values, indices),
+        Answer::Refused(code, place) => Answer::Refused(code, place),
+        Answer::Count(_) => index_rings(wood, widths, values, indices),
     }
 }

@@ -29,9 +29,9 @@ use Rattle.theorems_beams.proofs.Fronts as built
 use Rattle.build_space.specs.Machine.{space}
 use Rattle.build_space.specs.Legal.{ListsLegal}
 use Rattle.build_space.proofs.Legal.{legal-checked, part-column-count-high}
-use Rattle.build.specs.Machine.{reply}
-use Rattle.build.specs.declared.Built.{Built}
-use Rattle.build.specs.declared.Built.the-variants.{Rows, Refused}
+use Rattle.base_outcome.specs.Machine.{reply}
+use Rattle.base_outcome.specs.declared.Answer.{Answer}
+use Rattle.base_outcome.specs.declared.Answer.the-variants.{Count, Refused}
 use Rattle.build.proofs.Beam.{part-legal}
 use Rattle.theorems_recovery.specs.Recovery.{Combination, recovered}
 use Rattle.theorems_recovery.specs.RecoveryCall.{clearsAll, weightsAfter, listed, answersAfter, numeratorOf, denominatorOf}
@@ -48,7 +48,7 @@ use Rattle.recover.proofs.Listed.{rest-cleared, all-cleared, zero-numer
 module _ (s : Space) (n : ℕ) (o : Outcome Combination) (num den coefNum coefDen : List ℤ) where
   -- an answer
   beam-answers : {t : Combination} {m : ℕ} {num′ den′ coefNum′ coefDen′ : List ℤ} → o ≡ answer t → m ≡ rowCount s → num′ ≡ numerators (lastPart s (t .table)) num → den′ ≡ denominators (lastPart s (t .table)) den
-      → coefNum′ ≡ listed numeratorOf n (t .coefficients) coefNum → coefDen′ ≡ listed denominatorOf n (t .coefficients) coefDen → BeamEnds s n o (Rows m) num den coefNum coefDen num′ den′ coefNum′ coefDen′
+      → coefNum′ ≡ listed numeratorOf n (t .coefficients) coefNum → coefDen′ ≡ listed denominatorOf n (t .coefficients) coefDen → BeamEnds s n o (Count m) num den coefNum coefDen num′ den′ coefNum′ coefDen′
   unfolding reply
   beam-answers e h p q u v = record {
     answers = ap answer h ∙ sym (ap (with-answer (λ _. rowCount s)) e);
@@ -73,19 +73,19 @@ module _ (s : Space) (n : ℕ) (o : Outcome Combination) (num den coefNum coefDe
 -- ---- what the machine's answer of a part says of its outcome
 
 module _ (n : ℕ) {num den num′ den′ : List ℤ} (o : Outcome Combination) {r : Joined} (left : JoinsLeave o n r num den num′ den′) where
-  pub part-done : {m : ℕ} → r .built ≡ Rows m → Done (λ q. q .table) (toldJoins n) num den num′ den′ o r
+  pub part-done : {m : ℕ} → r .built ≡ Count m → Done (λ q. q .table) (toldJoins n) num den num′ den′ o r
   part-done {m} e = left-done (λ q. q .table) (toldJoins n) num den num′ den′ o r (λ code place z h. rows-refused (sym (ap (λ (x : Joined). x .built) h) ∙ e)) left
     where
-      rows-refused : {code place : ℕ} → Refused code place ≡ Rows m → ⊥
+      rows-refused : {code place : ℕ} → Refused code place ≡ Count m → ⊥
       rows-refused z = let x : _≡_ {A = ℕ} 0 1 = cc in omega arith
 
-  pub rows-told : {m : ℕ} → Done (λ q. q .table) (toldJoins n) num den num′ den′ o r → r .built ≡ Rows m → m ≡ n
+  pub rows-told : {m : ℕ} → Done (λ q. q .table) (toldJoins n) num den num′ den′ o r → r .built ≡ Count m → m ≡ n
   rows-told d e = let z = sym e ∙ ap (λ (x : Joined). x .built) (d .told-is) in cc
 
   pub part-halted : {code place : ℕ} → r .built ≡ Refused code place → Halted (λ q. q .table) (toldJoins n) num den num′ den′ o r
   part-halted {code} {place} e = left-halted (λ q. q .table) (toldJoins n) num den num′ den′ o r (λ t z h. rows-refused (sym (ap (λ (x : Joined). x .built) h) ∙ e)) left
     where
-      rows-refused : Rows n ≡ Refused code place → ⊥
+      rows-refused : Count n ≡ Refused code place → ⊥
       rows-refused z = let x : _≡_ {A = ℕ} 0 1 = cc in omega arith
 
   pub refusal-told : {code place : ℕ} → Halted (λ q. q .table) (toldJoins n) num den num′ den′ o r → r .built ≡ Refused code place → o ≡ refusal code place
@@ -212,7 +212,7 @@ module _ (b d o : List ℤ) (legal : ListsLegal b d o) (ordinates : List ℤ) (s
 
     -- after the last part
     pub parts-done : length d ≤ a → length ordinates ≤ length coefNum₀ → length ordinates ≤ length coefDen₀ → {coefNum″ coefDen″ : List ℤ} → coefNum″ ≡ filled rows (length ordinates) (pos 0) coefNum → coefDen″ ≡ filled rows (length ordinates) (pos 1) coefDen
-        → BeamEnds (space b d o) (length ordinates) (recovered (space b d o) ordinates) (Rows rows) num₀ den₀ coefNum₀ coefDen₀ num den coefNum″ coefDen″
+        → BeamEnds (space b d o) (length ordinates) (recovered (space b d o) ordinates) (Count rows) num₀ den₀ coefNum₀ coefDen₀ num den coefNum″ coefDen″
     parts-done l room room′ u v =
         beam-answers (space b d o) (length ordinates) (recovered (space b d o) ordinates) num₀ den₀ coefNum₀ coefDen₀
         (ap₂ recovered (sym front) (sym (take-all (firstColumn (space b d o) a) ordinates (omega (arith, size, ap (firstColumn (space b d o)) all)))) ∙ st .answers)

@@ -27,8 +27,8 @@ use Rattle.spec_spline.proofs.Build.{long-enough}
 use Rattle.build_space.specs.Machine.{space}
 use Rattle.build_space.proofs.Partial.{column-count-partial}
 use Rattle.build_factors.specs.Jumps.{AllFit}
-use Rattle.build.specs.Machine.{reply}
-use Rattle.build.specs.declared.Built.the-variants.{Refused}
+use Rattle.base_outcome.specs.Machine.{reply}
+use Rattle.base_outcome.specs.declared.Answer.the-variants.{Refused}
 use Rattle.curve_limits.specs.Limits.{outside}
 use Rattle.curve_limits.proofs.Entries.{inside-size}
 use Rattle.theorems_recovery.specs.Recovery.{Combination, recovered}

@@ -12,11 +12,11 @@ use Rattle.spec_spline.specs.Space.{Space, degree, firstColumn, rowCount}
 use Rattle.spec_spline.specs.Table.{numerators, denominators}
 use Rattle.build_factors.specs.Jumps.{AllFit}
 use Rattle.build_rows.specs.Left.{Left}
-use Rattle.build.specs.Machine.{reply}
+use Rattle.base_outcome.specs.Machine.{reply}
 use Rattle.build.specs.Plan.{Planned}
 use Rattle.build.specs.Leaves.{grown}
-use Rattle.build.specs.declared.Built.{Built}
-use Rattle.build.specs.declared.Built.the-variants.{Rows, Refused}
+use Rattle.base_outcome.specs.declared.Answer.{Answer}
+use Rattle.base_outcome.specs.declared.Answer.the-variants.{Count, Refused}
 use Rattle.theorems_recovery.specs.Recovery.{Combination, balanced, undone}
 use Rattle.theorems_recovery.specs.RecoveryCall.{legalOrdinates, weightsAfter, answersAfter, numeratorOf, denominatorOf}
 use Rattle.recover.specs.declared.Joined.{Joined}
@@ -56,7 +56,7 @@ Leaves o r num den num′ den′ = Left (λ q. q .table) toldCoefficients o r nu
 
 -- What the joins leave: the n rows are counted and their coefficients told.
 abbrev pub toldJoins : ℕ → Outcome Combination → Joined
-toldJoins n (answer r) = record { built = Rows n; of = fractions (r .coefficients) }
+toldJoins n (answer r) = record { built = Count n; of = fractions (r .coefficients) }
 toldJoins n (refusal code place) = record { built = Refused code place; of = fractions [] }
 
 abbrev pub JoinsLeave : Outcome Combination → ℕ → Joined → List ℤ → List ℤ → List ℤ → List ℤ → Type 0
@@ -67,7 +67,7 @@ unfoldable pub ordinatesChecked : Space → List ℤ → Outcome (Unit {0})
 ordinatesChecked s ordinates = legalOrdinates s ordinates (answer tt)
 
 -- What a call with n ordinates answers and leaves, by the outcome of the whole beam, of which the weight buffers hold the last part.
-pub record BeamEnds (s : Space) (n : ℕ) (o : Outcome Combination) (r : Built) (num den coefNum coefDen num′ den′ coefNum′ coefDen′ : List ℤ)
+pub record BeamEnds (s : Space) (n : ℕ) (o : Outcome Combination) (r : Answer) (num den coefNum coefDen num′ den′ coefNum′ coefDen′ : List ℤ)
     : Type 0 where
   pub answers : reply r ≡ with-answer (λ _. rowCount s) o
   pub numerators-are : num′ ≡ weightsAfter numerators s o num

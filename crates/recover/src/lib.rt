@@ -7,13 +7,13 @@ ghost use Rattle.spec_spline.specs.Space.{segmentLimit};
 ghost use Rattle.build_space.specs.Machine.{space};
 ghost use Rattle.base_outcome.specs.Machine.{legality};
 ghost use Rattle.build_space.specs.Legal.{DegreesLegal};
-ghost use Rattle.build.specs.Machine.{reply};
+ghost use Rattle.base_outcome.specs.Machine.{reply};
 ghost use Rattle.theorems_recovery.specs.RecoveryCall.{recoveryEnd};
 ghost use Rattle.recover.specs.Leaves.{ordinatesChecked};
 use base_fraction::arrays::Fractions;
+use base_outcome::Answer;
 use base_outcome::Found;
 use base_outcome::Legality;
-use build::Built;
 
 mod parts;
 mod step;
@@ -32,7 +32,7 @@ pub struct RowCoefficients {
 
 // The count of a part's rows, or the refusal with its place; and the coefficients of the rows.
 pub struct Joined {
-    pub built: Built,
+    pub built: Answer,
     pub of: Fractions,
 }
 
@@ -66,7 +66,7 @@ pub fn coefficients(
     den: &mut [i64],
     coef_num: &mut [i64],
     coef_den: &mut [i64],
-) -> Built
+) -> Answer
     ensures { λ r. ⌜ (let e = recoveryEnd (space (now (breaks .entry)) (now (degrees .entry)) (now (orders .entry)))
         (now (ordinates .entry)) (now (num .entry)) (now (den .entry)) (now («coef_num» .entry)) (now («coef_den» .entry)) in
         (reply r ≡ e .answers) × ((now (num .exit) ≡ e .numerators)
@@ -74,24 +74,24 @@ pub fn coefficients(
         × (now («coef_den» .exit) ≡ e .coefficientDenominators))))) ⌝ }
 {
     if num.len() < build_cells::TABLE_CELLS {
-        return Built::Refused(1, 0);
+        return Answer::Refused(1, 0);
     }
     if den.len() < build_cells::TABLE_CELLS {
-        return Built::Refused(1, 1);
+        return Answer::Refused(1, 1);
     }
     if coef_num.len() < ordinates.len() {
-        return Built::Refused(1, 3);
+        return Answer::Refused(1, 3);
     }
     if coef_den.len() < ordinates.len() {
-        return Built::Refused(1, 4);
+        return Answer::Refused(1, 4);
     }
     let lists = build_limits::check(breaks, degrees, orders);
     match lists {
-        Legality::Refused(code, place) => Built::Refused(code, place),
+        Legality::Refused(code, place) => Answer::Refused(code, place),
         Legality::Legal => {
             let entries = check_ordinates(degrees, ordinates);
             match entries {
-                Legality::Refused(code, place) => Built::Refused(code, place),
+                Legality::Refused(code, place) => Answer::Refused(code, place),
                 Legality::Legal => parts::recover_parts(
                     breaks,
                     degrees,

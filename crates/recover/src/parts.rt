@@ -20,7 +20,7 @@ use crate::Joined;
 use crate::step;
 use base_fraction::arrays;
 use base_fraction::arrays::Fractions;
-use build::Built;
+use base_outcome::Answer;
 
 // The first n coefficients in the cells from `from` on.
 fn write(coef_num: &mut [i64], coef_den: &mut [i64], from: usize, cs: Fractions, n: usize)
@@ -87,7 +87,7 @@ pub fn recover_parts(
     den: &mut [i64],
     coef_num: &mut [i64],
     coef_den: &mut [i64],
-) -> Built
+) -> Answer
     requires { ⌜ ListsLegal (now breaks) (now degrees) (now orders)
         × ((tableCells ≤ length (now num)) × (tableCells ≤ length (now den))) ⌝ }
     requires { ⌜ (length (now ordinates) ≡ columnCount (space (now breaks) (now degrees) (now orders)))
@@ -105,12 +105,12 @@ pub fn recover_parts(
         let joined = recover_at(breaks, degrees, orders, ordinates, a, b, num, den);
         let built = joined.built;
         match built {
-            Built::Refused(code, place) => {
+            Answer::Refused(code, place) => {
                 build_cells::clear(num, den, 0, build_cells::TABLE_CELLS);
                 build_cells::clear(coef_num, coef_den, 0, ordinates.len());
-                return Built::Refused(code, base_outcome::place(a + place as usize));
+                return Answer::Refused(code, base_outcome::place(a + place as usize));
             }
-            Built::Rows(n) => {
+            Answer::Count(n) => {
                 let of = joined.of;
                 write(coef_num, coef_den, rows, of, n);
                 rows += n;
@@ -119,5 +119,5 @@ pub fn recover_parts(
         a = b;
     }
     build_cells::clear(coef_num, coef_den, rows, ordinates.len());
-    Built::Rows(rows)
+    Answer::Count(rows)
 }

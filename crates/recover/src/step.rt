@@ -25,7 +25,7 @@ use crate::Refusal;
 use crate::RowCoefficients;
 use base_fraction::arrays;
 use base_fraction::arrays::Fractions;
-use build::Built;
+use base_outcome::Answer;
 use build_conditions::Join;
 use recover_step::Balance;
 
@@ -203,7 +203,7 @@ fn recover_joins(
             }
             Refusal::Refused(code) => {
                 return Joined {
-                    built: Built::Refused(code, place),
+                    built: Answer::Refused(code, place),
                     of: arrays::no_fractions(),
                 };
             }
@@ -211,7 +211,7 @@ fn recover_joins(
         j += 1;
     }
     Joined {
-        built: Built::Rows(rows),
+        built: Answer::Count(rows),
         of: present,
     }
 }

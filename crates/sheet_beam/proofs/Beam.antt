@@ -22,10 +22,11 @@ use Rattle.spec_spline.proofs.Table.{entry-past}
 use Rattle.theorems_weights.proofs.PublishedBasis.{rows-and-columns}
 use Rattle.build_space.specs.Legal.{ListsLegal, PartLegal}
 use Rattle.build_space.proofs.Legal.{checked-legal, legal-first-column-high, legal-row-count-sum, part-column-count-high}
-use Rattle.build.specs.Machine.{reply}
-use Rattle.build.specs.declared.Built.{Built}
-use Rattle.build.specs.declared.Built.the-variants.{Rows, Refused}
-use Rattle.build.proofs.Beam.{told-rows, told-refused, part-legal}
+use Rattle.base_outcome.specs.Machine.{reply}
+use Rattle.base_outcome.specs.declared.Answer.{Answer}
+use Rattle.base_outcome.specs.declared.Answer.the-variants.{Count, Refused}
+use Rattle.base_outcome.proofs.Reply.{count-inverts, refused-inverts}
+use Rattle.build.proofs.Beam.{part-legal}
 use Rattle.theorems_beams.specs.Sections.{section, partAt}
 use Rattle.theorems_beams.specs.Parts.{Starts, PartOf}
 use Rattle.theorems_beams.proofs.Sections.{section-all, front-columns, OrdersFit, orders-fit}
@@ -119,11 +120,11 @@ module _ (s : Space) (x : Accepted s) where
     part-answers = accepted-checked part part-accepted .1
 
     -- building it answers its row count
-    pub rows-told : (r : Built) (n : ℕ) → reply r ≡ with-answer (λ _. rowCount part) (weights part) → r ≡ Rows n → n ≡ rowCount part
-    rows-told r n e v = told-rows (weights part) (ap reply (sym v) ∙ e) .count
+    pub rows-told : (r : Answer) (n : ℕ) → reply r ≡ with-answer (λ _. rowCount part) (weights part) → r ≡ Count n → n ≡ rowCount part
+    rows-told r n e v = count-inverts (λ _. rowCount part) (weights part) (ap reply (sym v) ∙ e) .count
 
-    pub never-refused : (r : Built) (code place : ℕ) → reply r ≡ with-answer (λ _. rowCount part) (weights part) → r ≡ Refused code place → ⊥
-    never-refused r code place e v = answer-not-refusal part-answers (told-refused (weights part) (rowCount part) (ap reply (sym v) ∙ e))
+    pub never-refused : (r : Answer) (code place : ℕ) → reply r ≡ with-answer (λ _. rowCount part) (weights part) → r ≡ Refused code place → ⊥
+    never-refused r code place e v = answer-not-refusal part-answers (refused-inverts (λ _. rowCount part) (weights part) (ap reply (sym v) ∙ e))
 
     -- and leaves the buffers as long as they were
     pub numerators-long : (num : List ℤ) → tableCells ≤ length num → length (numeratorsAfter (weights part) num) ≡ length num

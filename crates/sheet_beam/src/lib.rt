@@ -42,8 +42,8 @@ fn build_rows(
         build_cells::ROW_CELLS,
     );
     match built {
-        build::Built::Rows(n) => n,
-        build::Built::Refused(_code, _place) => 0,
+        base_outcome::Answer::Count(n) => n,
+        base_outcome::Answer::Refused(_code, _place) => 0,
     }
 }
 

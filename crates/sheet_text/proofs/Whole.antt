@@ -20,9 +20,10 @@ use Rattle.spec_spline.proofs.Pairs.{sideBySide-length}
 use Rattle.theorems_values.specs.ValueLimits.{legalResult}
 use Rattle.theorems_values.proofs.LegalCall.{answered-calls-are-legal, legal-calls-answer, values-length}
 use Rattle.build_cells.proofs.Buffer.{numerators-again, denominators-again, kept-numerators, kept-denominators}
-use Rattle.curve.specs.Machine as curve
-use Rattle.curve.specs.declared.Answer.{Answer}
-use Rattle.curve.specs.declared.Answer.the-variants.{Values, Refused}
+use Rattle.base_outcome.specs.Machine.{reply}
+use Rattle.base_outcome.proofs.Reply.{Counted, count-inverts, refused-inverts}
+use Rattle.base_outcome.specs.declared.Answer.{Answer}
+use Rattle.base_outcome.specs.declared.Answer.the-variants.{Count, Refused}
 use Rattle.spec_sheet.specs.Printout.{answerText}
 use Rattle.base_print.specs.Refusal.{refusalLine}
 use Rattle.spec_sheet.specs.Pairs.{paired}
@@ -59,40 +60,21 @@ module _ (l : Arguments) (r : CurveResult) (e : called l ≡ answer r) where
 
 -- ---- the call, as the machine answers it
 
--- A reply of a count comes from an answer with as many values, one of a refusal from that refusal.
-record Counted (o : Outcome CurveResult) (n : ℕ) : Type 0 where
-  result : CurveResult
-  is : o ≡ answer result
-  count : length (result .values) ≡ n
-
-reply-values : (o : Outcome CurveResult) (a : Answer) (n : ℕ) → curve.reply a ≡ returned o → a ≡ Values n → Counted o n
-unfolding curve.reply
-reply-values (answer r) a n e v = record { result = r; is = refl; count = answer-unique e (ap curve.reply v) }
-reply-values (refusal code place) a n e v = absurd (answer-not-refusal (ap curve.reply v) e)
-
-reply-refused : (o : Outcome CurveResult) (a : Answer) (code place : ℕ) → curve.reply a ≡ returned o → a ≡ Refused code place → o ≡ refusal code place
-unfolding curve.reply
-reply-refused (answer r) a code place e v = absurd (answer-not-refusal e (ap curve.reply v))
-reply-refused (refusal n p) a code place e v = same (sym e ∙ ap curve.reply v)
-  where
-    same : _≡_ {A = Outcome ℕ} (refusal n p) (refusal code place) → _≡_ {A = Outcome CurveResult} (refusal n p) (refusal code place)
-    same z = let x : n ≡ code = cc in let y : p ≡ place = cc in ap₂ refusal x y
-
-module _ (l : Arguments) (m : Answer) (e : curve.reply m ≡ returned (called l)) where
+module _ (l : Arguments) (m : Answer) (e : reply m ≡ returned (called l)) where
   -- a refusal is printed as it is
   pub refused-prints : (code place : ℕ) → m ≡ Refused code place → refusalLine code place ≡ calledText l
   unfolding outcomeText
-  refused-prints code place r = ap (outcomeText (l .positions)) (sym (reply-refused (called l) m code place e r))
+  refused-prints code place r = ap (outcomeText (l .positions)) (sym (refused-inverts (λ q. length (q .values)) (called l) (ap reply (sym r) ∙ e)))
 
-  module _ (n : ℕ) (r : m ≡ Values n) where
-    counted : Counted (called l) n
-    counted = reply-values (called l) m n e r
+  module _ (n : ℕ) (r : m ≡ Count n) where
+    counted : Counted (λ q. length (q .values)) (called l) n
+    counted = count-inverts (λ q. length (q .values)) (called l) (ap reply (sym r) ∙ e)
 
     told : Told l (counted .result)
     told = answered-told l (counted .result) (counted .is)
 
     pub count-positions : n ≡ length (l .positions)
-    count-positions = sym (counted .count) ∙ told .count
+    count-positions = counted .count ∙ told .count
 
     -- the part of the values' buffer up to twice the count
     values-part : (before : List ℤ) → take (2 * n) (valuesAfter (called l) before) ≡ sideBySide (counted .result .values)
@@ -100,7 +82,7 @@ module _ (l : Arguments) (m : Answer) (e : curve.reply m ≡ returned (called l)
     values-part before =
         let us = counted .result .values in
         ap (λ o. take (2 * n) (valuesAfter o before)) (counted .is)
-        ∙ take-at (sideBySide us) (drop (2 * length us) before) (2 * n) (sideBySide-length us ∙ ap (λ k. 2 * k) (counted .count))
+        ∙ take-at (sideBySide us) (drop (2 * length us) before) (2 * n) (sideBySide-length us ∙ ap (λ k. 2 * k) (sym (counted .count)))
 
     pub values-enough : (before : List ℤ) → length (l .positions) ≤ length (take (2 * n) (valuesAfter (called l) before)) / 2
     values-enough before = omega (arith, ap length (values-part before), sideBySide-length (counted .result .values), told .count)

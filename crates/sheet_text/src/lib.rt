@@ -80,8 +80,8 @@ fn run(
         &mut values,
     );
     match answer {
-        curve::Answer::Refused(code, place) => base_print::refusal(code, place, out),
-        curve::Answer::Values(n) => {
+        base_outcome::Answer::Refused(code, place) => base_print::refusal(code, place, out),
+        base_outcome::Answer::Count(n) => {
             let cells = 2 * n;
             put_answer(
                 breaks,

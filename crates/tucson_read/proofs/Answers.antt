@@ -20,9 +20,9 @@ use Rattle.spec_tucson.specs.ReadCall.{namesOf, yearsOf, countsOf, widthsOf, ro
 use Rattle.tucson_lines.proofs.GoodLines.{good-name, name-length}
 use Rattle.tucson_scan.specs.Scan.{scanTold}
 use Rattle.tucson_fill.specs.Write.{seriesIn}
-use Rattle.tucson_read.specs.Machine.{reply}
-use Rattle.tucson_read.specs.declared.Answer.{Answer}
-use Rattle.tucson_read.specs.declared.Answer.the-variants as answer-cases
+use Rattle.base_outcome.specs.Machine.{reply}
+use Rattle.base_outcome.specs.declared.Answer.{Answer}
+use Rattle.base_outcome.specs.declared.Answer.the-variants as answer-cases
 use Rattle.tucson_scan.specs.declared.Scanned.the-variants as scanned-cases
 use Rattle.tucson_fill.proofs.Sets.{sets-front}
 use Rattle.tucson_fill.proofs.Writes.{turn-more, turn-last}
@@ -138,7 +138,7 @@ module _ (text names : List ℕ) (years : List ℤ) (counts : List ℕ) (widths 
 
       pub read-answers : (series : ℕ) → length ss ≡ series → (ns : List ℕ) (ys : List ℤ) (cs : List ℕ) (ws : List ℤ) →
           ns ≡ sets names 0 (namesOf (seriesIn (readText text))) → ys ≡ sets years 0 (yearsOf (seriesIn (readText text))) → cs ≡ sets counts 0 (countsOf (seriesIn (readText text))) → ws ≡ sets widths 0 (widthsOf (seriesIn (readText text))) →
-          Ends (answer-cases.Series series) ns ys cs ws
+          Ends (answer-cases.Count series) ns ys cs ws
       unfolding reply filled
       read-answers series k ns ys cs ws en ey ec ew =
           rw (outcome-is true enough) (

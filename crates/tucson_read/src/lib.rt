@@ -2,14 +2,9 @@
 // then are they written.
 ghost use mathlib.Core.Path.{_≡_};
 ghost use Rattle.spec_tucson.specs.ReadCall.{readEnd};
-ghost use Rattle.tucson_read.specs.Machine.{reply};
+ghost use Rattle.base_outcome.specs.Machine.{reply};
+use base_outcome::Answer;
 use tucson_scan::Scanned;
-
-// What reading answers: how many series there are, or a refusal's code and place.
-pub enum Answer {
-    Series(usize),
-    Refused(u8, u32),
-}
 
 const SHORT_BUFFER: u8 = 1;
 
@@ -44,7 +39,7 @@ pub fn read(
                 return Answer::Refused(SHORT_BUFFER, 0);
             }
             tucson_fill::write(text, names, years, counts, widths);
-            Answer::Series(series)
+            Answer::Count(series)
         }
     }
 }

@@ -50,8 +50,8 @@ fn rewrite(input: &[u8], out: &mut [u8; TEXT_LIMIT]) -> usize
     let mut widths = [0i32; WIDTHS];
     let series = tucson_read::read(input, &mut names, &mut years, &mut counts, &mut widths);
     match series {
-        tucson_read::Answer::Refused(code, place) => base_print::refusal(code, place, out),
-        tucson_read::Answer::Series(n) => {
+        base_outcome::Answer::Refused(code, place) => base_print::refusal(code, place, out),
+        base_outcome::Answer::Count(n) => {
             let bytes = n * tucson_lines::NAME;
             let widths_read = sum(&counts[..n]);
             let text = tucson_write::write(
@@ -62,8 +62,8 @@ fn rewrite(input: &[u8], out: &mut [u8; TEXT_LIMIT]) -> usize
                 out,
             );
             match text {
-                tucson_write::Answer::Refused(code, place) => base_print::refusal(code, place, out),
-                tucson_write::Answer::Bytes(count) => count,
+                base_outcome::Answer::Refused(code, place) => base_print::refusal(code, place, out),
+                base_outcome::Answer::Count(count) => count,
             }
         }
     }

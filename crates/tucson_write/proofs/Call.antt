@@ -16,9 +16,9 @@ use Rattle.base_print.specs.Buffer
 use Rattle.spec_tucson.specs.Series.{Series}
 use Rattle.spec_tucson.specs.Writing.{written, unwritable}
 use Rattle.spec_tucson.specs.WriteCall.{listsFit, seriesOf, seriesOutcome, writeOutcome, textAfter, writeEnd}
-use Rattle.tucson_write.specs.declared.Answer.the-variants.{Bytes, Refused}
+use Rattle.base_outcome.specs.declared.Answer.the-variants.{Count, Refused}
 use Rattle.tucson_putting.specs.Putting.{Wrote}
-use Rattle.tucson_write.specs.Machine.{reply}
+use Rattle.base_outcome.specs.Machine.{reply}
 use Rattle.tucson_putting.proofs.Wrote.{written-whole}
 
 module _ (names : Text) (years : List ℤ) (counts : List ℕ) (widths : List ℤ) (text : Text) where
@@ -61,7 +61,7 @@ module _ (names : Text) (years : List ℤ) (counts : List ℕ) (widths : List �
   unfolding reply textAfter
   ends-refused code place e = (sym (ap (with-answer length) e), sym (ap (λ (o : Outcome Text). textAfter o text) e))
 
-  pub ends-written : (count : ℕ) (after : List ℕ) → outcome ≡ answer (written listed) → length (written listed) ≤ length text → Wrote 0 (written listed) text after count → (reply (Bytes count) ≡ writeEnd names years counts widths text .answers) × (after ≡ writeEnd names years counts widths text .text)
+  pub ends-written : (count : ℕ) (after : List ℕ) → outcome ≡ answer (written listed) → length (written listed) ≤ length text → Wrote 0 (written listed) text after count → (reply (Count count) ≡ writeEnd names years counts widths text .answers) × (after ≡ writeEnd names years counts widths text .text)
   unfolding reply textAfter
   ends-written count after e h w = (
     ap answer (w .behind ∙ omega arith) ∙ sym (ap (with-answer length) e),

@@ -2,13 +2,8 @@
 // tested before the first byte is written.
 ghost use mathlib.Core.Path.{_≡_};
 ghost use Rattle.spec_tucson.specs.WriteCall.{writeEnd};
-ghost use Rattle.tucson_write.specs.Machine.{reply};
-
-// What the write call answers: the number of bytes written, or a refusal's code and place.
-pub enum Answer {
-    Bytes(usize),
-    Refused(u8, u32),
-}
+ghost use Rattle.base_outcome.specs.Machine.{reply};
+use base_outcome::Answer;
 
 // Writes the series with these names, eight bytes each, first years, counts of widths, and widths in thousandths, one series
 // after another. Lists and buffers may have any length and content: what the definition refuses is refused, and nothing is
@@ -29,7 +24,7 @@ pub fn write(names: &[u8], years: &[i32], counts: &[u32], widths: &[i32], text: 
                 return Answer::Refused(1, 0);
             }
             let count = tucson_putting::put_all(names, years, counts, widths, text);
-            Answer::Bytes(count)
+            Answer::Count(count)
         }
     }
 }

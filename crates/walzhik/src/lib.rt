@@ -9,7 +9,6 @@ ghost use Rattle.spec_spline.specs.CurveCall.{curveEnd};
 ghost use Rattle.spec_tucson.specs.ReadCall.{readEnd};
 ghost use Rattle.spec_tucson.specs.WriteCall.{writeEnd};
 ghost use Rattle.curve_reach.specs.Reach.{reachEnd};
-ghost use Rattle.build.specs.Machine as weights;
 ghost use Rattle.curve_reach.specs.Machine.{reply};
 ghost use Rattle.curve_pieces.specs.Pieces as pieces;
 ghost use Rattle.curve_pieces.specs.Machine.{Shows, Replies};
@@ -41,16 +40,6 @@ pub struct Piece {
     pub end: f64,
 }
 
-// The struct of what a call that builds answers with its rows.
-fn rows_of(built: build::Built) -> walzhik_reply::Reply
-    ensures { λ r. ⌜ r ≡ replied (weights.reply built) ⌝ }
-{
-    match built {
-        build::Built::Rows(n) => walzhik_reply::answered(n),
-        build::Built::Refused(code, place) => walzhik_reply::refused(code, place),
-    }
-}
-
 // build::build
 #[no_mangle]
 pub extern "C" fn walzhik_build(
@@ -65,7 +54,7 @@ pub extern "C" fn walzhik_build(
         (r ≡ replied (e .answers)) × ((now (num .exit) ≡ e .numerators) × (now (den .exit) ≡ e .denominators))) ⌝ }
 {
     let built = build::build(breaks, degrees, orders, num, den);
-    rows_of(built)
+    walzhik_reply::reply_of(built)
 }
 
 // recover::coefficients
@@ -96,7 +85,7 @@ pub extern "C" fn walzhik_coefficients(
         coef_num,
         coef_den,
     );
-    rows_of(built)
+    walzhik_reply::reply_of(built)
 }
 
 // curve::curve
@@ -117,10 +106,7 @@ pub extern "C" fn walzhik_curve(
         × ((now (den .exit) ≡ e .denominators) × (now (values .exit) ≡ e .values)))) ⌝ }
 {
     let answer = curve::curve(breaks, degrees, orders, coefs, positions, num, den, values);
-    match answer {
-        curve::Answer::Values(n) => walzhik_reply::answered(n),
-        curve::Answer::Refused(code, place) => walzhik_reply::refused(code, place),
-    }
+    walzhik_reply::reply_of(answer)
 }
 
 // tucson_read::read
@@ -138,10 +124,7 @@ pub extern "C" fn walzhik_tucson_read(
         × ((now (years .exit) ≡ e .years) × ((now (counts .exit) ≡ e .counts) × (now (widths .exit) ≡ e .widths))))) ⌝ }
 {
     let answer = tucson_read::read(text, names, years, counts, widths);
-    match answer {
-        tucson_read::Answer::Series(n) => walzhik_reply::answered(n),
-        tucson_read::Answer::Refused(code, place) => walzhik_reply::refused(code, place),
-    }
+    walzhik_reply::reply_of(answer)
 }
 
 // tucson_write::write
@@ -158,10 +141,7 @@ pub extern "C" fn walzhik_tucson_write(
         (r ≡ replied (e .answers)) × (now (text .exit) ≡ e .text)) ⌝ }
 {
     let answer = tucson_write::write(names, years, counts, widths, text);
-    match answer {
-        tucson_write::Answer::Bytes(n) => walzhik_reply::answered(n),
-        tucson_write::Answer::Refused(code, place) => walzhik_reply::refused(code, place),
-    }
+    walzhik_reply::reply_of(answer)
 }
 
 fn reach_struct(position: i32, code: u32, at: u32) -> Reach

@@ -3,18 +3,8 @@ ghost use mathlib.Core.Path.{_≡_};
 ghost use Rattle.build_space.specs.Machine.{space};
 ghost use Rattle.spec_spline.specs.Reading.{earlywood, latewood};
 ghost use Rattle.theorems_indices.specs.Indices.{indicesEnd};
-ghost use Rattle.indices.specs.Machine.{reply};
 ghost use Rattle.walzhik_reply.specs.Machine.{replied};
-
-// The struct of what an index call answers.
-fn rings_of(answer: indices::Answer) -> walzhik_reply::Reply
-    ensures { λ r. ⌜ r ≡ replied (reply answer) ⌝ }
-{
-    match answer {
-        indices::Answer::Indices(n) => walzhik_reply::answered(n),
-        indices::Answer::Refused(code, place) => walzhik_reply::refused(code, place),
-    }
-}
+use base_outcome::Answer;
 
 // indices::indices by the earlywood.
 #[no_mangle]
@@ -36,7 +26,7 @@ pub extern "C" fn walzhik_earlywood_indices(
         (r ≡ replied (e .answers)) × ((now (num .exit) ≡ e .numerators)
         × ((now (den .exit) ≡ e .denominators) × ((now (values .exit) ≡ e .values) × (now (indices .exit) ≡ e .indices))))) ⌝ }
 {
-    let answer = indices::indices(
+    let answer: Answer = indices::indices(
         curve_ordinates::Wood::Earlywood,
         breaks,
         degrees,
@@ -49,7 +39,7 @@ pub extern "C" fn walzhik_earlywood_indices(
         values,
         indices,
     );
-    rings_of(answer)
+    walzhik_reply::reply_of(answer)
 }
 
 // indices::indices by the latewood.
@@ -72,7 +62,7 @@ pub extern "C" fn walzhik_latewood_indices(
         (r ≡ replied (e .answers)) × ((now (num .exit) ≡ e .numerators)
         × ((now (den .exit) ≡ e .denominators) × ((now (values .exit) ≡ e .values) × (now (indices .exit) ≡ e .indices))))) ⌝ }
 {
-    let answer = indices::indices(
+    let answer: Answer = indices::indices(
         curve_ordinates::Wood::Latewood,
         breaks,
         degrees,
@@ -85,5 +75,5 @@ pub extern "C" fn walzhik_latewood_indices(
         values,
         indices,
     );
-    rings_of(answer)
+    walzhik_reply::reply_of(answer)
 }

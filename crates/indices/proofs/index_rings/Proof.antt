@@ -16,7 +16,8 @@ use Rattle.base_outcome.proofs.Search.{first-some-inverts, first-none-inverts}
 use Rattle.spec_spline.proofs.Pairs.{woodIndex-below}
 use Rattle.theorems_indices.specs.Indices.{indicesReturned, indicesAfter}
 use Rattle.curve_ordinates.specs.Wood.{woodOf}
-use Rattle.indices.specs.Machine.{reply, cellsIndexed}
+use Rattle.base_outcome.specs.Machine.{reply}
+use Rattle.indices.specs.Machine.{cellsIndexed}
 use Rattle.indices_rings.specs.Cells.{badCell, cellIndex}
 use Rattle.base_outcome.proofs.Machine.{found-some-inverts, found-none-inverts}
 use Rattle.indices.proofs.Call.{cells-refused, cells-answered}

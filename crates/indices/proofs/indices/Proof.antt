@@ -16,12 +16,13 @@ use Rattle.base_outcome.specs.Outcome.{Outcome}
 use Rattle.spec_spline.specs.Space.{Space}
 use Rattle.spec_spline.specs.Table.{tableCells}
 use Rattle.spec_spline.specs.CurveCall.{CurveResult, positionLimit, curveOutcome, returned, curveNumerators, curveDenominators, valuesAfter}
-use Rattle.curve.specs.Machine as curves
+use Rattle.base_outcome.specs.Machine.{reply}
+use Rattle.base_outcome.proofs.Reply.{Counted, count-inverts, refused-inverts}
 use Rattle.spec_spline.proofs.Pairs.{half-le}
 use Rattle.theorems_indices.specs.Indices.{ringsRead}
 use Rattle.curve_ordinates.specs.Wood.{woodOf}
 use Rattle.indices_positions.specs.Words.{wordPositions, ringsTaken}
-use Rattle.indices.proofs.Call.{Ends, ends-refused, ends-unchanged, ends-indexed, first-short, second-short, third-short, fourth-short, handed-on, rings-answered, values-kept, refused-inverts, HasResult, values-inverts}
+use Rattle.indices.proofs.Call.{Ends, ends-refused, ends-unchanged, ends-indexed, first-short, second-short, third-short, fourth-short, handed-on, rings-answered, values-kept}
 use Rattle.indices.proofs.indices.Statement.{statement}
 use Rattle.indices.proofs.indices.Tie as tie
 
@@ -105,7 +106,7 @@ module _ (k : tie.After-read-rings) where
   same : at (wordPositions (start .args .first) (ringsTaken (length (start .args .widths .now)))) ≡ outcome start
   same = handed-on (lists start) (start .args .coefs .now) (start .args .first) (start .args .widths .now) (length (start .args .num .now)) (length (start .args .den .now)) (length (start .args .values .now)) (length (start .args .indices .now)) first-long second-long (long .before .if3 .left) (long .if4 .left)
 
-  answers-are : curves.reply (k .read-rings .result) ≡ returned (outcome start)
+  answers-are : reply (k .read-rings .result) ≡ returned (outcome start)
   answers-are = k .read-rings .ensures .0 ∙ ap (λ p. returned (at p)) positions-are ∙ ap returned same
 
   numerators-are : k .read-rings .last .1 .1 .1 .1 .1 .1 .0 ≡ curveNumerators (lists start) (outcome start) (start .args .num .now)
@@ -118,7 +119,10 @@ module _ (k : tie.After-read-rings) where
   values-are = k .read-rings .ensures .1 .1 .1 ∙ ap (λ p. valuesAfter (at p) (start .args .values .now)) positions-are ∙ ap (λ o. valuesAfter o (start .args .values .now)) same
 
 -- it answered
-module _ (k : tie.After-read-rings) (h : HasResult (outcome (start k))) where
+abbrev valueCount : CurveResult → ℕ
+valueCount r = length (r .values)
+
+module _ (k : tie.After-read-rings) {n : ℕ} (h : Counted valueCount (outcome (start k)) n) where
   counted : (length (start k .args .widths .now) ≤ positionLimit) × (length (h .result .values) ≡ length (start k .args .widths .now))
   counted = rings-answered (lists (start k)) (start k .args .coefs .now) (start k .args .first) (start k .args .widths .now) (length (start k .args .num .now)) (length (start k .args .den .now)) (length (start k .args .values .now)) (length (start k .args .indices .now)) (same k ∙ h .is)
 
@@ -128,8 +132,8 @@ module _ (k : tie.After-read-rings) (h : HasResult (outcome (start k))) where
   values-length : length (k .read-rings .last .1 .1 .1 .1 .1 .1 .1 .1 .0) ≡ length (start k .args .values .now)
   values-length = ap length (values-are k ∙ ap (λ o. valuesAfter o (start k .args .values .now)) (h .is)) ∙ values-kept (h .result) (start k .args .values .now) (omega (arith, counted .1, room-for-pairs))
 
-result-of : (t : tie.After-enum-told) → HasResult (outcome (start (t .before .before .before .before .before .before)))
-result-of t = values-inverts _ _ (ap curves.reply (sym (t .enum-told .given .1)) ∙ answers-are (t .before .before .before .before .before .before))
+result-of : (t : tie.After-enum-told) → Counted valueCount (outcome (start (t .before .before .before .before .before .before))) (t .enum-told .given .0 .0)
+result-of t = count-inverts valueCount _ (ap reply (sym (t .enum-told .given .1)) ∙ answers-are (t .before .before .before .before .before .before))
 
 index-rings-requires : tie.Need-index-rings-requires
 index-rings-requires c κs =
@@ -151,7 +155,7 @@ returns-5 : tie.Need-returns-5
 returns-5 c =
     let k = c .before .before .before .before .before .before .before in
     let a = start k .args in
-    let e = ends-refused (lists (start k)) (woodOf (a .wood)) (a .widths .now) (a .num .now) (a .den .now) (a .values .now) (a .indices .now) (refused-inverts (outcome (start k)) (ap curves.reply (sym (c .before .read .given .1)) ∙ answers-are k)) (numerators-are k) (denominators-are k) (values-are k) in
+    let e = ends-refused (lists (start k)) (woodOf (a .wood)) (a .widths .now) (a .num .now) (a .den .now) (a .values .now) (a .indices .now) (refused-inverts valueCount (outcome (start k)) (ap reply (sym (c .before .read .given .1)) ∙ answers-are k)) (numerators-are k) (denominators-are k) (values-are k) in
     (e .answers, (e .numerators-are, (e .denominators-are, (e .values-are, e .indices-are))))
 
 same-length-4 : tie.Need-same-length-4

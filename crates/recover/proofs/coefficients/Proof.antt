@@ -14,8 +14,8 @@ use Rattle.base_outcome.specs.Machine.{legality}
 use Rattle.build_space.specs.Legal.{ListsLegal}
 use Rattle.base_outcome.proofs.Machine.{legal-answers, refused-refuses}
 use Rattle.build_space.proofs.Legal.{legality-legal, legal-checked}
-use Rattle.build.specs.Machine.{reply}
-use Rattle.build.specs.declared.Built.{Built}
+use Rattle.base_outcome.specs.Machine.{reply}
+use Rattle.base_outcome.specs.declared.Answer.{Answer}
 use Rattle.theorems_recovery.specs.Recovery.{Combination}
 use Rattle.theorems_recovery.specs.RecoveryCall.{weightsAfter, answersAfter, numeratorOf, denominatorOf}
 use Rattle.recover.specs.Leaves.{ordinatesChecked, BeamEnds}
@@ -27,7 +27,7 @@ abbrev lists : tie.Start → Space
 lists c = space (c .args .breaks .now) (c .args .degrees .now) (c .args .orders .now)
 
 -- what the contract says, from what the call ends with
-module _ {s : Space} {n : ℕ} {r : Built} {num den coefNum coefDen num′ den′ coefNum′ coefDen′ : List ℤ} where
+module _ {s : Space} {n : ℕ} {r : Answer} {num den coefNum coefDen num′ den′ coefNum′ coefDen′ : List ℤ} where
   told : {o x : Outcome Combination} → o ≡ x → BeamEnds s n x r num den coefNum coefDen num′ den′ coefNum′ coefDen′
       → (reply r ≡ with-answer (λ _. rowCount s) o) × ((num′ ≡ weightsAfter numerators s o num) × ((den′ ≡ weightsAfter denominators s o den) × ((coefNum′ ≡ answersAfter numeratorOf n o coefNum) × (coefDen′ ≡ answersAfter denominatorOf n o coefDen))))
   told e b =

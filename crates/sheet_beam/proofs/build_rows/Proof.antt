@@ -10,14 +10,14 @@ use Rattle.spec_spline.specs.Space.{Space, rowCount}
 use Rattle.spec_spline.specs.Build.{weights, numeratorsAfter, denominatorsAfter}
 use Rattle.theorems_beams.specs.Sections.{section, partAt}
 use Rattle.build_space.specs.Machine.{space}
-use Rattle.build.specs.Machine.{reply}
-use Rattle.build.specs.declared.Built.{Built}
+use Rattle.base_outcome.specs.Machine.{reply}
+use Rattle.base_outcome.specs.declared.Answer.{Answer}
 use Rattle.sheet_beam.proofs.Beam.{beam-legal, rows-told, never-refused}
 use Rattle.sheet_beam.proofs.build_rows.Statement.{statement}
 use Rattle.sheet_beam.proofs.build_rows.Tie as tie
 
 -- what the build of a part leaves
-record Leaves (p : Space) (r : Built) (num den num′ den′ : List ℤ) : Type 0 where
+record Leaves (p : Space) (r : Answer) (num den num′ den′ : List ℤ) : Type 0 where
   answers : reply r ≡ with-answer (λ _. rowCount p) (weights p)
   numerators : num′ ≡ numeratorsAfter (weights p) num
   denominators : den′ ≡ denominatorsAfter (weights p) den

@@ -19,8 +19,7 @@ use Rattle.spec_tucson.specs.Line.{nameColumns}
 use Rattle.spec_tucson.specs.TextReading.{readText}
 use Rattle.spec_tucson.specs.ReadCall.{ReadEnd, readEnd}
 use Rattle.spec_tucson.specs.WriteCall.{total, WriteEnd, writeEnd}
-use Rattle.tucson_read.specs.Machine as reading
-use Rattle.tucson_write.specs.Machine as writing
+use Rattle.base_outcome.specs.Machine.{reply}
 use Rattle.tucson_text.specs.Filter.{textLimit, outcomeText}
 use Rattle.tucson_text.proofs.Room.{seriesCells, nameBytes, widthCells}
 use Rattle.tucson_text.proofs.Rewriting.{refused-text, series-within, widths-within, text-length, writes-whole}
@@ -90,7 +89,7 @@ module _ (k : tie.After-read) where
   short = k .before .before .before .before .before .before .pre
 
   -- a refusal
-  refused : (code place : ℕ) → reading.reply (k .read .result) ≡ refusal code place → refusalLine code place ≡ outcomeText (readText text)
+  refused : (code place : ℕ) → reply (k .read .result) ≡ refusal code place → refusalLine code place ≡ outcomeText (readText text)
   refused code place e =
       refused-text text short names years counts widths names-are years-are counts-are widths-are
       code place (sym (k .read .ensures .0) ∙ e)
@@ -108,8 +107,8 @@ module _ (a : tie.After-series2) where
   n = a .series2 .given .0 .0
 
   answered : end done .answers ≡ answer n
-  unfolding reading.reply
-  answered = sym (done .read .ensures .0) ∙ ap reading.reply (a .series2 .given .1)
+  unfolding reply
+  answered = sym (done .read .ensures .0) ∙ ap reply (a .series2 .given .1)
 
   few : n ≤ seriesCells
   few =
@@ -204,10 +203,10 @@ text-fits : {count bytes size after : ℕ} → count ≡ bytes → bytes ≤ tex
 text-fits c h e l = omega arith
 
 returns : tie.Need-returns
-unfolding reading.reply
+unfolding reply
 returns c =
     let p = c .refusal .ensures in
-    let w = written-as _ (refused (c .before .before .before .before .before .before .before .before .before) _ _ (ap reading.reply (c .before .before .before .series .given .1))) (p .0) (p .1 .0) in
+    let w = written-as _ (refused (c .before .before .before .before .before .before .before .before .before) _ _ (ap reply (c .before .before .before .series .given .1))) (p .0) (p .1 .0) in
     (w .0, (w .1, line-fits (p .1 .1) (ap length (p .1 .0) ∙ written-length 0 _ _) (c .before .refusal-arg .given .0 .1)))
 
 -- the write call's end
@@ -233,17 +232,17 @@ module _ (w : tie.After-write) where
       out (w .before .write-arg .given .0 .1) _ _ _ _ m (r .0) (r .1 .0) (r .1 .1 .0) (r .1 .1 .1) (w .before .before .before .before .before .before .sum .ensures)
 
 returns-2 : tie.Need-returns-2
-unfolding writing.reply
+unfolding reply
 returns-2 c =
     let w = c .before .before .before .before .before in
-    absurd (answer-not-refusal (w .write .ensures .0 ∙ ap (λ (e : WriteEnd). e .answers) (writes w)) (ap writing.reply (c .before .before .before .text .given .1)))
+    absurd (answer-not-refusal (w .write .ensures .0 ∙ ap (λ (e : WriteEnd). e .answers) (writes w)) (ap reply (c .before .before .before .text .given .1)))
 
 returns-3 : tie.Need-returns-3
-unfolding writing.reply
+unfolding reply
 returns-3 c =
     let w = c .before .before .before in
     let k = k w in
-    let count = answer-unique (ap writing.reply (c .before .text2 .given .1)) (w .write .ensures .0 ∙ ap (λ (e : WriteEnd). e .answers) (writes w)) in
+    let count = answer-unique (ap reply (c .before .text2 .given .1)) (w .write .ensures .0 ∙ ap (λ (e : WriteEnd). e .answers) (writes w)) in
     let size = text-length (text k) (short k) names years counts widths names-are years-are counts-are widths-are (n (a w)) (answered (a w)) in
     let contents = w .write .ensures .1 ∙ ap (λ (e : WriteEnd). e .text) (writes w) in
     (count ∙ sym size, (contents, text-fits count (short k) (ap length contents ∙ written-length 0 _ _) (w .before .write-arg .given .0 .1)))

@@ -12,8 +12,8 @@ use Rattle.base_outcome.proofs.Machine.{found-none-inverts, found-some-inverts}
 use Rattle.spec_tucson.specs.Writing.{unwritable}
 use Rattle.spec_tucson.specs.WriteCall.{listsFit, seriesOf}
 use Rattle.theorems_tucson.proofs.TucsonCells.{fits-parts}
-use Rattle.tucson_write.specs.declared.Answer.the-variants.{Refused}
-use Rattle.tucson_write.specs.Machine.{reply}
+use Rattle.base_outcome.specs.declared.Answer.the-variants.{Refused}
+use Rattle.base_outcome.specs.Machine.{reply}
 use Rattle.tucson_series.proofs.Bytes.{Counted, all-counted}
 use Rattle.tucson_putting.proofs.Wrote.{wrote-length}
 use Rattle.tucson_write.proofs.Call.{lists-misfit, series-unwritable, text-short, text-answers, ends-refused, ends-written}

@@ -9,8 +9,8 @@ use Rattle.walzhik_indices.proofs.walzhik_earlywood_indices.Tie as tie
 indices-requires : tie.Need-indices-requires
 indices-requires c κs = search needs
 
-rings-of-requires : tie.Need-rings-of-requires
-rings-of-requires c κs = search needs
+reply-of-requires : tie.Need-reply-of-requires
+reply-of-requires c κs = search needs
 
 same-length : tie.Need-same-length
 same-length c = search needs
@@ -29,9 +29,9 @@ returns c =
     let k = c .before .before .before .before .before in
     let f = k .before .before .before .before .before .fits .first in
     let b = simp toZ-ofZ at (k .indices .ensures) in
-    (c .rings-of .ensures ∙ ap replied (b .0), b .1)
+    (c .reply-of .ensures ∙ ap replied (b .0), b .1)
 
 pub walzhik-earlywood-indices-spec : {M : Type 1} → statement M
 walzhik-earlywood-indices-spec =
     tie.close
-    (tie.spec indices-requires rings-of-requires same-length same-length-2 same-length-3 same-length-4 returns)
+    (tie.spec indices-requires reply-of-requires same-length same-length-2 same-length-3 same-length-4 returns)

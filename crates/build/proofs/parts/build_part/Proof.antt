@@ -11,7 +11,7 @@ use Rattle.spec_spline.proofs.Parts.{part-ends}
 use Rattle.theorems_beams.specs.Sections.{section, partAt}
 use Rattle.build_space.specs.Machine.{space}
 use Rattle.build_space.specs.Legal.{PartLegal}
-use Rattle.build.specs.Machine.{reply}
+use Rattle.base_outcome.specs.Machine.{reply}
 use Rattle.build.proofs.Beam.{sliced, part-legal}
 use Rattle.build.proofs.parts.build_part.Statement.{statement}
 use Rattle.build.proofs.parts.build_part.Tie as tie

@@ -19,10 +19,11 @@ use Rattle.build_space.proofs.Partial.{part-end-partial}
 use Rattle.build_space.proofs.Legal.{part-column-count-high}
 use Rattle.build_cells.specs.Held.{ClearFrom}
 use Rattle.build_cells.proofs.Buffer.{clear-past}
-use Rattle.build.specs.Machine.{reply}
-use Rattle.build.specs.declared.Built.{Built}
-use Rattle.build.specs.declared.Built.the-variants.{Rows, Refused}
-use Rattle.build.proofs.Beam.{Before, before-first, starts, rows-high, part-legal, part-more, part-refused, parts-done, told-rows, told-refused}
+use Rattle.base_outcome.specs.Machine.{reply}
+use Rattle.base_outcome.specs.declared.Answer.{Answer}
+use Rattle.base_outcome.specs.declared.Answer.the-variants.{Count, Refused}
+use Rattle.build.proofs.Beam.{Before, before-first, starts, rows-high, part-legal, part-more, part-refused, parts-done}
+use Rattle.base_outcome.proofs.Reply.{count-inverts, refused-inverts}
 use Rattle.build.proofs.parts.build_parts.Statement.{statement}
 use Rattle.build.proofs.parts.build_parts.Tie as tie
 
@@ -88,34 +89,34 @@ module _ (c : tie.After-build-part Inv-loop μ-loop) where
   abbrev part : Space
   part = partAt (beam ended) (first ended)
 
-  abbrev left : Built → Space → Type 0
+  abbrev left : Answer → Space → Type 0
   left r p =
       (reply r ≡ with-answer (λ _. rowCount p) (weights p)) × ((c .build-part .last .1 .1 .1 .1 .1 .0 ≡ numeratorsAfter (weights p) (ended .before .before .loop .num)) × (c .build-part .last .1 .1 .1 .1 .1 .1 .0 ≡ denominatorsAfter (weights p) (ended .before .before .loop .den)))
 
-  leaves : {r : Built} → c .build-part .result ≡ r → left r part
-  leaves {r} e = subst (λ (x : Built). left x part) e (subst (λ (n : ℕ). left (c .build-part .result) (section (beam ended) (first ended) (n - first ended))) (end-is ended) (c .build-part .ensures))
+  leaves : {r : Answer} → c .build-part .result ≡ r → left r part
+  leaves {r} e = subst (λ (x : Answer). left x part) e (subst (λ (n : ℕ). left (c .build-part .result) (section (beam ended) (first ended) (n - first ended))) (end-is ended) (c .build-part .ensures))
 
   -- one part more
-  more : {n : ℕ} → c .build-part .result ≡ Rows n → Before (beam ended) (ended .before .before .before .args .num .now) (ended .before .before .before .args .den .now) (c .build-part .last .1 .1 .1 .1 .1 .0) (c .build-part .last .1 .1 .1 .1 .1 .1 .0) (ended .before .before .loop .rows + n) (ended .part-end .result)
+  more : {n : ℕ} → c .build-part .result ≡ Count n → Before (beam ended) (ended .before .before .before .args .num .now) (ended .before .before .before .args .den .now) (c .build-part .last .1 .1 .1 .1 .1 .0) (c .build-part .last .1 .1 .1 .1 .1 .1 .0) (ended .before .before .loop .rows + n) (ended .part-end .result)
   more {n} e =
       let x = leaves e in
-      let t = told-rows (weights part) (x .0) in
+      let t = count-inverts (λ _. rowCount part) (weights part) (x .0) in
       subst (Before (beam ended) _ _ _ _ (ended .before .before .loop .rows + n)) (sym (end-is ended))
       (part-more _ _ _ (ended .before .before .before .pre .0) (ended .before .before .loop .inv .state) (taken (ended .before)) (t .is) (t .count) (x .1 .0) (x .1 .1))
 
   -- it has at most 72 rows, and the rest of the table is clear
-  rows-few : {n : ℕ} → c .build-part .result ≡ Rows n → n ≤ rowCells
+  rows-few : {n : ℕ} → c .build-part .result ≡ Count n → n ≤ rowCells
   rows-few {n} e =
       let legal = ended .before .before .before .pre .0 in
       let own = part-legal _ _ _ legal (first ended) (starts _ _ _ legal (ended .before .before .loop .inv .state) (taken (ended .before))) in
-      omega (arith, told-rows (weights part) (leaves e .0) .count, part-column-count-high _ _ _ own)
+      omega (arith, count-inverts (λ _. rowCount part) (weights part) (leaves e .0) .count, part-column-count-high _ _ _ own)
 
-  rest-clear : {n : ℕ} → c .build-part .result ≡ Rows n → ClearFrom (c .build-part .last .1 .1 .1 .1 .1 .0) (c .build-part .last .1 .1 .1 .1 .1 .1 .0) n
+  rest-clear : {n : ℕ} → c .build-part .result ≡ Count n → ClearFrom (c .build-part .last .1 .1 .1 .1 .1 .0) (c .build-part .last .1 .1 .1 .1 .1 .1 .0) n
   unfolding numeratorsAfter denominatorsAfter
   rest-clear {n} e =
       let x = leaves e in
-      let t = told-rows (weights part) (x .0) in
-      clear-past (t .table) (ended .before .before .loop .num) (ended .before .before .loop .den) _ _ n (omega (arith, t .count, weights-shaped part (t .is) .rows))
+      let t = count-inverts (λ _. rowCount part) (weights part) (x .0) in
+      clear-past (t .result) (ended .before .before .loop .num) (ended .before .before .loop .den) _ _ n (omega (arith, t .count, weights-shaped part (t .is) .rows))
       (x .1 .0 ∙ ap (λ o. numeratorsAfter o (ended .before .before .loop .num)) (t .is))
       (x .1 .1 ∙ ap (λ o. denominatorsAfter o (ended .before .before .loop .den)) (t .is))
 
@@ -151,7 +152,7 @@ returns c =
     let m = c .before .before .before .before .before .before in
     let d = ended m in
     let x = leaves m (c .before .before .built2 .given .1) in
-    let e = part-refused _ _ _ (d .before .before .before .pre .0) (d .before .before .loop .inv .state) (taken (d .before)) (told-refused (weights (part m)) (rowCount (part m)) (x .0)) (x .1 .0) (x .1 .1) in
+    let e = part-refused _ _ _ (d .before .before .before .pre .0) (d .before .before .loop .inv .state) (taken (d .before)) (refused-inverts (λ _. rowCount (part m)) (weights (part m)) (x .0)) (x .1 .0) (x .1 .1) in
     (ap (λ (p : ℕ). reply (Refused (c .before .before .built2 .given .0 .0) p)) (c .place .ensures) ∙ e .answers, (e .numerators-are, e .denominators-are))
 
 loop-less : tie.Need-loop-less Inv-loop μ-loop

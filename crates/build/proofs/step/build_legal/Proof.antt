@@ -8,7 +8,7 @@ use Rattle.spec_spline.specs.Build.{weights}
 use Rattle.build_space.specs.Machine.{space}
 use Rattle.build_space.proofs.Partial.{column-count-partial}
 use Rattle.build.specs.Leaves.{JoinsLeave}
-use Rattle.build.specs.declared.Built.{Built}
+use Rattle.base_outcome.specs.declared.Answer.{Answer}
 use Rattle.build.proofs.Joins.{Beginning, beginning, begins}
 use Rattle.build.proofs.Building.{ends-rows, ends-cleared}
 use Rattle.build.proofs.step.build_legal.Statement.{statement}
@@ -62,8 +62,8 @@ module _ (c : tie.After-join-steps) where
   abbrev whole : Space
   whole = lists (start (before-joins .before))
 
-  left : (r : Built) → c .join-steps .result ≡ r → JoinsLeave (weights whole) (rowCount whole) r (before-joins .identity-over .last .0) (before-joins .identity-over .last .1 .0) (c .join-steps .last .1 .1 .1 .0) (c .join-steps .last .1 .1 .1 .1 .0)
-  left r e = subst (λ (x : Built). JoinsLeave (weights whole) (rowCount whole) x (before-joins .identity-over .last .0) (before-joins .identity-over .last .1 .0) (c .join-steps .last .1 .1 .1 .0) (c .join-steps .last .1 .1 .1 .1 .0)) e (c .join-steps .ensures)
+  left : (r : Answer) → c .join-steps .result ≡ r → JoinsLeave (weights whole) (rowCount whole) r (before-joins .identity-over .last .0) (before-joins .identity-over .last .1 .0) (c .join-steps .last .1 .1 .1 .0) (c .join-steps .last .1 .1 .1 .1 .0)
+  left r e = subst (λ (x : Answer). JoinsLeave (weights whole) (rowCount whole) x (before-joins .identity-over .last .0) (before-joins .identity-over .last .1 .0) (c .join-steps .last .1 .1 .1 .0) (c .join-steps .last .1 .1 .1 .1 .0)) e (c .join-steps .ensures)
 
 returns : tie.Need-returns
 returns c =

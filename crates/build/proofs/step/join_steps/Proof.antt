@@ -23,7 +23,7 @@ use Rattle.build_factors.specs.Machine.{refusalOf}
 use Rattle.build_factors.specs.declared.Refusal.{Refusal}
 use Rattle.build_factors.specs.declared.Refusal.the-variants as refusals
 use Rattle.build.specs.Leaves.{Leaves, JoinsLeave, toldStep, toldJoins, Start, grown}
-use Rattle.build.specs.declared.Built.the-variants.{Rows, Refused}
+use Rattle.base_outcome.specs.declared.Answer.the-variants.{Count, Refused}
 use Rattle.build.proofs.Stepped.{Proper}
 use Rattle.build.proofs.Grown.{first-proper}
 use Rattle.build.proofs.Leaving.{leaves-none, leaves-some}
@@ -244,7 +244,7 @@ returns-3 c =
     let e : l .j ≡ segments s - 1 = omega (arith, p .order-count) in
     let last : suc (l .j) ≡ segments s = omega (arith, p .order-count) in
     all-done _ _ _ (toldJoins (rowCount s)) x e (ap (λ r. x .reached ++ r) (later-none s (b .args .columns) (l .j) (b .pre .1 .count) last) ∙ append-nil (x .reached))
-    (ap Rows (omega (arith, l .inv .rows-are, legal-row-count-sum _ _ _ p, ap (conditionsBefore s) e, ap (firstColumn s) last)))
+    (ap Count (omega (arith, l .inv .rows-are, legal-row-count-sum _ _ _ p, ap (conditionsBefore s) e, ap (firstColumn s) last)))
 
 pub join-steps-spec : {M : Type 1} → statement M
 join-steps-spec =

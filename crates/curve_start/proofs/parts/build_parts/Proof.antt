@@ -16,7 +16,7 @@ use Rattle.theorems_beams.specs.Sections.{partAt}
 use Rattle.build_space.specs.Machine.{space}
 use Rattle.build_space.proofs.Legal.{legal-column-count-high}
 use Rattle.build_space.proofs.Partial.{part-end-partial, first-column-partial}
-use Rattle.build.specs.declared.Built.the-variants.{Rows}
+use Rattle.base_outcome.specs.declared.Answer.the-variants.{Count}
 use Rattle.build.proofs.Beam.{starts, rows-high}
 use Rattle.curve_start.specs.Parts.{Lent, lent}
 use Rattle.curve_start.proofs.Fronts.{Front, front-first, rows-within, columns-more, front-more, front-refused, front-whole}
@@ -206,7 +206,7 @@ module _ (c : tie.After-build-part Inv-loop μ-loop) where
       (putMid column (end - column) (held placed .early) (left .early)) (putMid column (end - column) (held placed .late) (left .late))
 
   -- one part more
-  more : {n : ℕ} → c .build-part .result ≡ Rows n
+  more : {n : ℕ} → c .build-part .result ≡ Count n
       → Front (lists begun) (coefs begun) (lent₀ begun) (turn placed .loop .row + n) end (at .part-end .result) after
   more e = front-more (lists begun) (begun .pre .legal) _ _ (front placed) (taken (at .before)) end (columns-end placed)
       (c .build-part .result) {l′ = left} (c .build-part .ensures) (at .part-end .result) (end-is at) e

@@ -13,7 +13,7 @@ use Rattle.theorems_beams.specs.Sections.{section, partAt}
 use Rattle.build_space.specs.Machine.{space}
 use Rattle.build_space.proofs.Legal.{legal-column-count-high}
 use Rattle.build_space.proofs.Partial.{part-end-partial}
-use Rattle.build.specs.declared.Built.the-variants.{Rows, Refused}
+use Rattle.base_outcome.specs.declared.Answer.the-variants.{Count, Refused}
 use Rattle.theorems_recovery.specs.Recovery.{recovered}
 use Rattle.theorems_recovery.specs.RecoveryCall.{listed, numeratorOf, denominatorOf}
 use Rattle.build_rows.proofs.Left.{Done}
@@ -122,7 +122,7 @@ module _ (c : tie.After-recover-at Inv-loop μ-loop) where
   state = at .loop .inv .state
 
   -- no refusal
-  module _ {n : ℕ} (told : c .recover-at .result .built ≡ Rows n) where
+  module _ {n : ℕ} (told : c .recover-at .result .built ≡ Count n) where
     done : Done (λ q. q .table) (toldJoins (rowCount part)) (at .loop .num) (at .loop .den) num-after den-after (recovered part own) (c .recover-at .result)
     done = part-done (rowCount part) (recovered part own) left told
 
@@ -215,7 +215,7 @@ module _ (c : tie.After-coef-den2 Inv-loop μ-loop) where
   abbrev rows-of : ℕ
   rows-of = c .before .before .before .before .before .before .before .built2 .given .0 .0
 
-  told : answered-at .recover-at .result .built ≡ Rows rows-of
+  told : answered-at .recover-at .result .built ≡ Count rows-of
   told = c .before .before .before .before .before .before .before .built2 .given .1
 
 add-rows : tie.Need-add-rows Inv-loop μ-loop

@@ -21,7 +21,7 @@ use Rattle.build_space.proofs.Bounds.{first-column-zero, first-column-next, con
 use Rattle.build_space.proofs.Legal.{legal-degree-high, legal-row-count-sum}
 use Rattle.build_factors.specs.Jumps.{AllFit}
 use Rattle.build.specs.Leaves.{Start}
-use Rattle.build.specs.declared.Built.the-variants.{Rows, Refused}
+use Rattle.base_outcome.specs.declared.Answer.the-variants.{Count, Refused}
 use Rattle.build.proofs.Grown.{first-proper}
 use Rattle.build.proofs.Joins.{AtJoin, at-join}
 use Rattle.build.proofs.Repeated.{State, holds, goes-on, ends, all-done}
@@ -292,7 +292,7 @@ returns-2 c =
     all-done _ _ _ (toldJoins (rowCount s)) x e
     (ap₂ (λ (t : Table) (ps : List ℚ). record { table = x .reached .table ++ t; coefficients = x .reached .coefficients ++ ps }) (later-none s (g .args .columns) (l .j) (l .inv .begun .count) last) (ap (map int) none)
     ∙ ap₂ (λ (t : Table) (ps : List ℚ). record { table = t; coefficients = ps }) (append-nil (x .reached .table)) (append-nil (x .reached .coefficients)))
-    (ap₂ (λ (n : ℕ) (a : Fractions). record { built = Rows n; of = a }) (omega (arith, l .inv .rows-are, legal-row-count-sum _ _ _ p, ap (conditionsBefore s) e, ap (firstColumn s) last)) (l .inv .is))
+    (ap₂ (λ (n : ℕ) (a : Fractions). record { built = Count n; of = a }) (omega (arith, l .inv .rows-are, legal-row-count-sum _ _ _ p, ap (conditionsBefore s) e, ap (firstColumn s) last)) (l .inv .is))
 
 pub recover-joins-spec : {M : Type 1} → statement M
 recover-joins-spec =

@@ -1,10 +1,10 @@
--- `walzhik_indices::rings_of` meets its contract: the count or the refusal, as a struct. Assumes nothing.
+-- `walzhik_reply::reply_of` meets its contract: the count or the refusal, as a struct. Assumes nothing.
 use borrow.Author.Needs.{needs}
 use mathlib.Core.Path.{sym, ap}
-use Rattle.indices.specs.Machine.{reply}
+use Rattle.base_outcome.specs.Machine.{reply}
 use Rattle.walzhik_reply.proofs.Replied.{answer-replied, refusal-replied}
-use Rattle.walzhik_indices.proofs.rings_of.Statement.{statement}
-use Rattle.walzhik_indices.proofs.rings_of.Tie as tie
+use Rattle.walzhik_reply.proofs.reply_of.Statement.{statement}
+use Rattle.walzhik_reply.proofs.reply_of.Tie as tie
 
 enum-known-answer : tie.Need-enum-known-answer
 enum-known-answer c = search needs
@@ -26,8 +26,8 @@ returns-2 : tie.Need-returns-2
 unfolding reply
 returns-2 c = refusal-replied (c .refused .result) _ _ _ (c .refused .ensures) (sym (ap reply (c .before .before .answer2 .given .1)))
 
-pub rings-of-spec : {M : Type 1} → statement M
-rings-of-spec =
+pub reply-of-spec : {M : Type 1} → statement M
+reply-of-spec =
     tie.close
     (tie.spec
     enum-known-answer
