@@ -26,7 +26,7 @@ use base_fraction::arrays::Fractions;
 use build_conditions::Join;
 use build_conditions::Side;
 use build_factors::Refusal;
-use build_jumps::JumpSpan;
+use build_span::JumpSpan;
 
 // What a step works out before it makes rows new: its jumps, the rows f to l that they span and the factors of these rows, from
 // index 0 on. After a refusal only the refusal counts.
@@ -61,7 +61,7 @@ pub fn plan_step(num: &[i64], den: &[i64], join: Join, k: usize, rows: usize) ->
     if !js.fit {
         return no_plan(Refusal::TooLarge);
     }
-    let span = build_jumps::span(js.of, rows);
+    let span = build_span::span(js.of, rows);
     match span {
         JumpSpan::Nothing => no_plan(Refusal::Shape),
         JumpSpan::Rows(f, l) => {

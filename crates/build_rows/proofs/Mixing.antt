@@ -29,8 +29,8 @@ use Rattle.spec_spline.proofs.Answers.{factors-unit}
 use Rattle.build_cells.proofs.Region.{Written}
 use Rattle.build_cells.proofs.Buffer.{laid, laid-by, laid-reads}
 use Rattle.base_fraction.specs.Fractions.{fractions}
-use Rattle.build_jumps.specs.Machine.{counted}
-use Rattle.build_jumps.proofs.Counted.{count-again, zero-before}
+use Rattle.build_counted.specs.Machine.{counted}
+use Rattle.build_counted.proofs.Counted.{count-again, zero-before}
 use Rattle.base_fraction.specs.declared.arrays.Fractions.{Fractions}
 use Rattle.build_rows.specs.Rows.{UnitFactors}
 

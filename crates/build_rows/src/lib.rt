@@ -11,7 +11,7 @@ ghost use Rattle.spec_spline.specs.Table.{Table, row, rowCells};
 ghost use Rattle.spec_spline.specs.Step;
 ghost use Rattle.build_cells.specs.Held.{Holds, Shaped, Held};
 ghost use Rattle.base_fraction.specs.Fractions.{fractions};
-ghost use Rattle.build_jumps.specs.Machine.{counted};
+ghost use Rattle.build_counted.specs.Machine.{counted};
 ghost use Rattle.build_rows.specs.Rows.{UnitFactor, UnitFactors, LeavesIf};
 use base_fraction::Counted;
 use base_fraction::Fraction;

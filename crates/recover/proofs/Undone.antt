@@ -20,7 +20,7 @@ use Rattle.spec_spline.proofs.Answers.{factors-inverts}
 use Rattle.spec_spline.proofs.Splice.{spliced-before, spliced-inside, spliced-after}
 use Rattle.base_fraction.specs.Fractions.{fractions}
 use Rattle.base_fraction.specs.declared.arrays.Fractions.{Fractions}
-use Rattle.build_jumps.proofs.Counted.{Refused}
+use Rattle.build_counted.proofs.Counted.{Refused}
 use Rattle.build_jumps.proofs.Answers.{InArrays}
 use Rattle.recover_step.specs.Machine.{undoneOf, NonZero}
 use Rattle.recover_step.specs.declared.Undone.{Undone}

@@ -19,8 +19,8 @@ use Rattle.base_outcome.specs.Outcome.{Outcome, answer, refuse, _then_}
 use Rattle.spec_spline.specs.Step.{count}
 use Rattle.spec_spline.specs.Table.{entry}
 use Rattle.base_outcome.proofs.Outcome.{answer-unique, answer-not-refusal, then-inverts}
-use Rattle.build_jumps.specs.Machine.{counted}
-use Rattle.build_jumps.proofs.Counted.{machine-counted, count-sized, fits-answered, lowest-sized}
+use Rattle.build_counted.specs.Machine.{counted}
+use Rattle.build_counted.proofs.Counted.{machine-counted, count-sized, fits-answered, lowest-sized}
 use Rattle.theorems_recovery.specs.Recovery.{fitted, undoneCoefficient, undoneRow}
 
 -- which refusal it is does not show in the machine's answer

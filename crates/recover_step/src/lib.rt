@@ -14,7 +14,7 @@ ghost use Rattle.base_fraction.specs.declared.Counted.the-variants.{Fits};
 ghost use Rattle.base_outcome.specs.Outcome.{answer, _then_, with-answer};
 ghost use Rattle.spec_spline.specs.Table.{rowCells};
 ghost use Rattle.base_fraction.specs.Fractions.{fractions};
-ghost use Rattle.build_jumps.specs.Machine.{counted};
+ghost use Rattle.build_counted.specs.Machine.{counted};
 ghost use Rattle.build_rows.specs.Rows.{UnitFactor, UnitFactors};
 ghost use Rattle.theorems_recovery.specs.Recovery;
 ghost use Rattle.recover_step.specs.Machine.{balanceOf, undoneOf, FractionsFit, NonZero};

@@ -25,8 +25,8 @@ use Rattle.base_outcome.proofs.Outcome.{collect-answers, collect-stops}
 use Rattle.build_cells.specs.Held.{Holds}
 use Rattle.build_cells.proofs.Region.{Written, written-none, written-more, written-wider}
 use Rattle.build_cells.proofs.Buffer.{numerator, denominator, numerators-laid, denominators-laid, holds-num, holds-den, holds-cell, written-kept}
-use Rattle.build_jumps.specs.Machine.{counted}
-use Rattle.build_jumps.proofs.Counted.{fits-answered, large-refused}
+use Rattle.build_counted.specs.Machine.{counted}
+use Rattle.build_counted.proofs.Counted.{fits-answered, large-refused}
 use Rattle.build_rows.specs.Rows.{LeavesIf}
 use Rattle.build_rows.proofs.Mixing.{mixture, newEntry-answers, row-laid}
 use Rattle.build_rows.proofs.mix_row.Statement.{statement}

@@ -14,8 +14,8 @@ use Rattle.base_fraction.specs.declared.Fraction.{Fraction}
 use Rattle.base_fraction.proofs.Value.{value-zero}
 use Rattle.base_outcome.specs.Outcome.{Outcome, _then_}
 use Rattle.spec_spline.specs.Step.{count, newEntry}
-use Rattle.build_jumps.specs.Machine.{counted}
-use Rattle.build_jumps.proofs.Counted.{machine-counted, count-sized, fits-then, large-then}
+use Rattle.build_counted.specs.Machine.{counted}
+use Rattle.build_counted.proofs.Counted.{machine-counted, count-sized, fits-then, large-then}
 use Rattle.build_rows.proofs.Mixing.{zero-entry, first-zero, second-zero}
 use Rattle.build_rows.proofs.new_entry.Statement.{statement}
 use Rattle.build_rows.proofs.new_entry.Tie as tie

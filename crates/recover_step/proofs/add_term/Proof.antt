@@ -19,8 +19,8 @@ use Rattle.base_fraction.specs.declared.Counted.the-variants.{Fits}
 use Rattle.base_fraction.proofs.Value.{value-fraction}
 use Rattle.base_fraction.proofs.Bounds.{num-fits}
 use Rattle.base_outcome.specs.Outcome.{answer, _then_}
-use Rattle.build_jumps.specs.Machine.{counted}
-use Rattle.build_jumps.proofs.Counted.{fits-then, large-then}
+use Rattle.build_counted.specs.Machine.{counted}
+use Rattle.build_counted.proofs.Counted.{fits-then, large-then}
 use Rattle.theorems_recovery.specs.Recovery.{fitted}
 use Rattle.recover_step.proofs.FractionFits.{machine-sized, sized-sized, then-sized}
 use Rattle.recover_step.proofs.add_term.Statement.{statement}

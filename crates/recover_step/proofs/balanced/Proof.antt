@@ -24,9 +24,9 @@ use Rattle.base_outcome.specs.Outcome.{answer}
 use Rattle.spec_spline.specs.Table.{entry}
 use Rattle.base_fraction.specs.Fractions.{fractions}
 use Rattle.base_fraction.proofs.Fractions.{fraction-at}
-use Rattle.build_jumps.specs.Machine.{counted}
+use Rattle.build_counted.specs.Machine.{counted}
 use Rattle.base_fraction.specs.declared.arrays.Fractions.{Fractions}
-use Rattle.build_jumps.proofs.Counted.{fits-answered, large-refused}
+use Rattle.build_counted.proofs.Counted.{fits-answered, large-refused}
 use Rattle.theorems_recovery.specs.Recovery.{jumpSum}
 use Rattle.recover_step.proofs.Rows.{sum-none, added, sum-more, sum-stays, balance-large, balance-zero, balance-not}
 use Rattle.recover_step.proofs.balanced.Statement.{statement}

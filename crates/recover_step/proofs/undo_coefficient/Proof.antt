@@ -14,8 +14,8 @@ use Rattle.base_fraction.proofs.Value.{value-fraction}
 use Rattle.base_fraction.proofs.Answer.{fits-sized}
 use Rattle.base_fraction.proofs.Bounds.{num-fits, den-fits, sub-fits}
 use Rattle.base_outcome.specs.Outcome.{Outcome, _then_}
-use Rattle.build_jumps.specs.Machine.{counted}
-use Rattle.build_jumps.proofs.Counted.{fits-then, large-then}
+use Rattle.build_counted.specs.Machine.{counted}
+use Rattle.build_counted.proofs.Counted.{fits-then, large-then}
 use Rattle.build_rows.specs.Rows.{UnitFactor}
 use Rattle.theorems_recovery.specs.Recovery.{fitted, undoneCoefficient}
 use Rattle.recover_step.proofs.FractionFits.{machine-sized, sized-sized, neg-value, neg-sized}

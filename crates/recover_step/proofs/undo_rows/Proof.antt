@@ -17,9 +17,9 @@ use Rattle.base_fraction.proofs.Size.{int-fits}
 use Rattle.base_outcome.specs.Outcome.{Outcome, answer, with-answer}
 use Rattle.build_factors.specs.Jumps.{AllFit}
 use Rattle.base_fraction.specs.Fractions.{fractions}
-use Rattle.build_jumps.specs.Machine.{counted}
+use Rattle.build_counted.specs.Machine.{counted}
 use Rattle.base_fraction.specs.declared.arrays.Fractions.{Fractions}
-use Rattle.build_jumps.proofs.Counted.{fits-answered, large-refused}
+use Rattle.build_counted.proofs.Counted.{fits-answered, large-refused}
 use Rattle.theorems_recovery.specs.Recovery.{undoneRow, undoneRows}
 use Rattle.theorems_recovery.proofs.Answers.{rows-undone}
 use Rattle.recover_step.specs.Machine.{undoneOf, FractionsFit}

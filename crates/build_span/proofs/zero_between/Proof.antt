@@ -18,8 +18,8 @@ use Rattle.base_outcome.specs.Search.{found}
 use Rattle.spec_spline.specs.Table.{entry}
 use Rattle.base_outcome.proofs.Search.{first-at, first-none}
 use Rattle.base_fraction.proofs.Fractions.{zero-read, nonzero-read}
-use Rattle.build_jumps.proofs.zero_between.Statement.{statement}
-use Rattle.build_jumps.proofs.zero_between.Tie as tie
+use Rattle.build_span.proofs.zero_between.Statement.{statement}
+use Rattle.build_span.proofs.zero_between.Tie as tie
 
 abbrev Inv-loop : tie.InvT-loop
 Inv-loop js f l i₀ i = (f ≤ i) × ((k : ℕ) → f ≤ k → k < i → getD js k (pos 0) ≢ pos 0)

@@ -15,8 +15,8 @@ use Rattle.spec_spline.specs.Step.{jumpsAt}
 use Rattle.base_outcome.proofs.Search.{last-at, last-none}
 use Rattle.base_outcome.specs.Machine.{found}
 use Rattle.base_fraction.proofs.Fractions.{zero-read, nonzero-read}
-use Rattle.build_jumps.proofs.last_jump.Statement.{statement}
-use Rattle.build_jumps.proofs.last_jump.Tie as tie
+use Rattle.build_span.proofs.last_jump.Statement.{statement}
+use Rattle.build_span.proofs.last_jump.Tie as tie
 
 abbrev Inv-loop : tie.InvT-loop
 Inv-loop js rows i₀ i = (i ≤ rows) × ((k : ℕ) → i ≤ k → k < rows → getD js k (pos 0) ≡ pos 0)

@@ -30,10 +30,10 @@ use Rattle.build_conditions.specs.Sides.{JoinIs}
 use Rattle.build_conditions.specs.Terms.{noEntry}
 use Rattle.build_conditions.specs.declared.Join.{Join}
 use Rattle.build_conditions.proofs.Terms.{conditions-length, entries-getD, entry-small}
-use Rattle.build_jumps.specs.Machine.{counted}
-use Rattle.build_jumps.proofs.Counted.{fits-answered, large-refused, refused-large, then-count-sized}
-use Rattle.build_jumps.proofs.jump.Statement.{statement}
-use Rattle.build_jumps.proofs.jump.Tie as tie
+use Rattle.build_counted.specs.Machine.{counted}
+use Rattle.build_counted.proofs.Counted.{fits-answered, large-refused, refused-large, then-count-sized}
+use Rattle.build_jump.proofs.jump.Statement.{statement}
+use Rattle.build_jump.proofs.jump.Tie as tie
 
 record Inv (num den : List ℤ) (at : ℕ) (join : Join) (k : ℕ) (sum : Fraction) (e : ℕ) : Type 0 where
   within : e ≤ 2 * k + 2

@@ -20,7 +20,7 @@ use Rattle.base_outcome.specs.Outcome.{Outcome, answer, refusal, _then_}
 use Rattle.spec_spline.specs.Step.{count}
 use Rattle.base_outcome.proofs.Outcome.{then-answers, then-refuses, then-inverts}
 use Rattle.spec_spline.proofs.Step.{count-fits, count-large, count-answers}
-use Rattle.build_jumps.specs.Machine.{counted}
+use Rattle.build_counted.specs.Machine.{counted}
 
 -- ---- what an operation answers is the counted fraction, at any join
 pub machine-counted : (j : ℕ) (q : ℚ) → machine.answer (size.count q) ≡ counted (count j q)

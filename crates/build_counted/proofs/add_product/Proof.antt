@@ -11,10 +11,10 @@ use Rattle.base_exact.proofs.Word.{ofZ-inj, sfits-abs, sfits-nat}
 use Rattle.base_fraction.specs.Machine.{value}
 use Rattle.base_fraction.proofs.Value.{value-int, value-zero}
 use Rattle.spec_spline.specs.Step.{count}
-use Rattle.build_jumps.specs.Machine.{counted}
-use Rattle.build_jumps.proofs.Counted.{machine-counted, count-sized, fits-then, large-then, zero-then, zero-before}
-use Rattle.build_jumps.proofs.add_product.Statement.{statement}
-use Rattle.build_jumps.proofs.add_product.Tie as tie
+use Rattle.build_counted.specs.Machine.{counted}
+use Rattle.build_counted.proofs.Counted.{machine-counted, count-sized, fits-then, large-then, zero-then, zero-before}
+use Rattle.build_counted.proofs.add_product.Statement.{statement}
+use Rattle.build_counted.proofs.add_product.Tie as tie
 
 abbrev start : tie.After-product → tie.Start
 start c = c .before .before .before .before

@@ -11,9 +11,9 @@ use Rattle.spec_spline.specs.Step.{jumpsAt}
 use Rattle.spec_spline.proofs.Step.{span-nowhere, span-endless, span-broken, span-whole}
 use Rattle.base_outcome.proofs.Machine.{found-none-inverts, found-some-inverts}
 use Rattle.base_fraction.specs.Fractions.{fractions}
-use Rattle.build_jumps.specs.Machine.{jumpSpan}
-use Rattle.build_jumps.proofs.span.Statement.{statement}
-use Rattle.build_jumps.proofs.span.Tie as tie
+use Rattle.build_span.specs.Machine.{jumpSpan}
+use Rattle.build_span.proofs.span.Statement.{statement}
+use Rattle.build_span.proofs.span.Tie as tie
 
 first-jump-requires : tie.Need-first-jump-requires
 first-jump-requires c κs = search needs
