@@ -1,6 +1,6 @@
 // The jumps of a step: one for each row.
 ghost use mathlib.Core.Path.{_≡_};
-ghost use Prim.Native.Nat.{ℕ, _<_, _≤_};
+ghost use Prim.Native.Nat.{ℕ, _≤_};
 ghost use lib.ListN.{length};
 ghost use Rattle.spec_spline.specs.Space.{Space};
 ghost use Rattle.spec_spline.specs.Conditions;

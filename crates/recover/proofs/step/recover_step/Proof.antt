@@ -29,7 +29,7 @@ use Rattle.build.specs.Plan.{Plans, planned, renewed}
 use Rattle.build.proofs.Plan.{step-planned, Ready, plan-ready, plan-ended}
 use Rattle.build.proofs.Leaving.{renewed-refuses}
 use Rattle.build.proofs.Joins.{named-eight, named-nine}
-use Rattle.recover_step.specs.Machine.{NonZero}
+use Rattle.recover_rows.specs.Machine.{NonZero}
 use Rattle.theorems_recovery.specs.Recovery.{recoverStep}
 use Rattle.recover.specs.Leaves.{coefficientsOf, undoing, Leaves}
 use Rattle.recover.specs.declared.RowCoefficients.{RowCoefficients}
