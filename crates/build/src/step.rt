@@ -102,7 +102,7 @@ pub fn renew_rows(
     if !done {
         return false;
     }
-    build_cells::drop_row(num, den, l, rows);
+    build_dropping::drop_row(num, den, l, rows);
     true
 }
 
@@ -186,7 +186,7 @@ fn join_step(
 {
     let right = join.right;
     let more = right.degree + 1;
-    build_cells::add_rows(num, rows, right.column, more);
+    build_identity::add_rows(num, rows, right.column, more);
     order_steps(num, den, join, n, rows + more, columns)
 }
 
@@ -275,7 +275,7 @@ pub fn build_legal(
         (space (now (breaks .entry)) (now (degrees .entry)) (now (orders .entry)))) (now (den .entry)) ⌝ }
 {
     let columns = build_space::first_column(degrees, degrees.len());
-    build_cells::identity_over(num, den, build_space::degree_at(degrees, 0) + 1, used);
+    build_identity::identity_over(num, den, build_space::degree_at(degrees, 0) + 1, used);
     let built = join_steps(breaks, degrees, orders, num, den, columns);
     match built {
         Built::Rows(n) => Built::Rows(n),

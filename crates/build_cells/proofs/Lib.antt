@@ -2,4 +2,3 @@
 pub mod Region
 pub mod Tables
 pub mod Buffer
-pub mod Added

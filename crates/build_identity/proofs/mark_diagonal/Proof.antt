@@ -5,10 +5,10 @@ use Prim.Native.Nat.{ℕ, _≤_, _-_, _*_}
 use native.Mathlib.Omega.{arith}
 use lib.IntN.{ℤ, pos}
 use lib.ListN.{length, set, length-set}
 use Rattle.build_cells.specs.Region.{marked}
 use Rattle.build_cells.proofs.Region.{marked-none, marked-more}
-use Rattle.build_cells.proofs.mark_diagonal.Statement.{statement}
-use Rattle.build_cells.proofs.mark_diagonal.Tie as tie
+use Rattle.build_identity.proofs.mark_diagonal.Statement.{statement}
+use Rattle.build_identity.proofs.mark_diagonal.Tie as tie
 
 record Inv (num₀ num : List ℤ) (n i : ℕ) : Type 0 where
   within : i ≤ n

@@ -13,11 +13,11 @@ use Rattle.base_exact.specs.Rational.{den, int}
 use Rattle.base_exact.proofs.Rational.{int-num, int-den}
 use Rattle.spec_spline.specs.Table.{cell, identity, rowCells, tableCells, numerators, denominators}
 use Rattle.spec_spline.proofs.Table.{identity-low, identity-off, identity-on}
 use Rattle.build_cells.specs.Region.{filled, marked}
 use Rattle.build_cells.proofs.Region.{filled-length, filled-inside, filled-after, diagonal, diagonal-yes, diagonal-off, diagonal-after, marked-length, marked-on, marked-off}
 use Rattle.build_cells.proofs.Buffer.{laid-by, numerator, denominator, numerators-laid, denominators-laid}
-use Rattle.build_cells.proofs.identity_over.Statement.{statement}
-use Rattle.build_cells.proofs.identity_over.Tie as tie
+use Rattle.build_identity.proofs.identity_over.Statement.{statement}
+use Rattle.build_identity.proofs.identity_over.Tie as tie
 
 -- an entry of the identity: on the diagonal, or zero
 data Unit-entry (n i c : ℕ) : Type 0 where

@@ -12,12 +12,12 @@ use Rattle.base_exact.specs.Rational.{ℚ, int}
 use Rattle.base_exact.proofs.Rational.{int-num, int-den}
 use Rattle.spec_spline.specs.Table.{Table, entry, cell, rowCells, tableCells}
 use Rattle.spec_spline.proofs.Table.{cell-past}
 use Rattle.build_cells.specs.Region.{filled, moved}
 use Rattle.build_cells.proofs.Region.{filled-length, filled-inside, filled-before, filled-after, moved-length, moved-inside, moved-before, moved-after}
 use Rattle.build_cells.proofs.Tables.{row-without-before, row-without-from}
 use Rattle.build_cells.proofs.Buffer.{laid, laid-by, laid-reads, numerator, denominator, numerators-laid, denominators-laid, holds-num, holds-den}
-use Rattle.build_cells.proofs.drop_row.Statement.{statement}
-use Rattle.build_cells.proofs.drop_row.Tie as tie
+use Rattle.build_dropping.proofs.drop_row.Statement.{statement}
+use Rattle.build_dropping.proofs.drop_row.Tie as tie
 
 -- one buffer: v is what an unused cell holds, and e the start of the last row
 module _ (f : ℚ → ℤ) (v : ℤ) (unused : v ≡ f (int (pos 0))) (t : Table) (l rows : ℕ) (size : length t ≡ rows) (below : l < rows) (few : rows ≤ rowCells)

@@ -9,10 +9,10 @@ use lib.ListN.{length, getD, set, length-set}
 use mir.Syntax.{w64}
 use mir.Val.{SFits}
 use mir.ValLaws.{toZ-ofZ}
 use Rattle.build_cells.specs.Region.{moved}
 use Rattle.build_cells.proofs.Region.{moved-none, moved-more, moved-after}
-use Rattle.build_cells.proofs.move_up.Statement.{statement}
-use Rattle.build_cells.proofs.move_up.Tie as tie
+use Rattle.build_dropping.proofs.move_up.Statement.{statement}
+use Rattle.build_dropping.proofs.move_up.Tie as tie
 
 record Inv (num₀ den₀ num den : List ℤ) (from to k : ℕ) : Type 0 where
   passed : from ≤ k

@@ -4,9 +4,9 @@ use mathlib.Core.Path.{_≡_, _∙_, ap}
 use Prim.Native.Nat.{ℕ, _*_}
 use native.Mathlib.Omega.{arith}
 use lib.IntN.{pos}
 use Rattle.build_cells.specs.Region.{filled}
-use Rattle.build_cells.proofs.clear_rows.Statement.{statement}
-use Rattle.build_cells.proofs.clear_rows.Tie as tie
+use Rattle.build_identity.proofs.clear_rows.Statement.{statement}
+use Rattle.build_identity.proofs.clear_rows.Tie as tie
 
 clear-requires : tie.Need-clear-requires
 clear-requires c κs = search needs

@@ -1,6 +1,6 @@
 -- Rows of the identity after those of a table, in one of the buffers.
 use mathlib.Core.Path.{_≡_, sym, _∙_, ap}
-use mathlib.Core.Bool.{Bool, false}
+use mathlib.Core.Bool.{false}
 use mathlib.Core.Logic.{_≢_}
 use mathlib.Core.List.{List, [], _++_, append-nil}
 use Prim.Native.Nat.{ℕ, _+_, _-_, _*_, _%_, _/_, _<_, _≤_}
@@ -9,14 +9,14 @@ use native.Mathlib.Decide.{decLt, ℕ-discrete}
 use lib.IntN.{ℤ, pos}
 use lib.ListN.{length, getD, take, drop, length-append, length-take, length-drop, take-append-drop, drop-of-length-le, List·getD-append}
 use lib.Seq.{getD-take, getD-drop, getD-append-add}
-use Rattle.base_exact.specs.Rational.{ℚ, den, int}
+use Rattle.base_exact.specs.Rational.{den, int}
 use Rattle.base_exact.proofs.Rational.{int-num, int-den}
 use Rattle.base_exact.proofs.Tabulate.{tab-ext}
 use Rattle.spec_spline.specs.Table.{Table, entry, row, cell, identity, rowCells, tableCells, numerators, denominators}
 use Rattle.spec_spline.proofs.Table.{cell-past, identity-rows, identity-on, identity-off}
 use Rattle.build_cells.specs.Region.{marked}
 use Rattle.build_cells.proofs.Region.{diagonal, diagonal-yes, diagonal-off, diagonal-after, marked-length, marked-on, marked-off}
 use Rattle.build_cells.proofs.Buffer.{laid-by, laid-reads, numerator, numerators-laid}
 
 -- all of a list
 pub take-whole : {A : Type 0} (n : ℕ) (xs : List A) → length xs ≤ n → take n xs ≡ xs

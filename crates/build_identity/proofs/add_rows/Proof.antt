@@ -6,10 +6,10 @@ use Prim.Native.Nat.{_+_, _*_, _-_}
 use native.Mathlib.Omega.{arith}
 use lib.IntN.{ℤ}
 use lib.ListN.{length, take, drop, length-drop, drop-of-length-le}
 use Rattle.build_cells.specs.Region.{marked}
-use Rattle.build_cells.proofs.Added.{take-whole, rows-added}
-use Rattle.build_cells.proofs.add_rows.Statement.{statement}
-use Rattle.build_cells.proofs.add_rows.Tie as tie
+use Rattle.build_identity.proofs.Added.{take-whole, rows-added}
+use Rattle.build_identity.proofs.add_rows.Statement.{statement}
+use Rattle.build_identity.proofs.add_rows.Tie as tie
 
 mul-start : tie.Need-mul-start
 mul-start c = search needs
