@@ -2,3 +2,4 @@
 pub mod Region
 pub mod Tables
 pub mod Buffer
+pub mod Left

@@ -11,7 +11,7 @@ ghost use Rattle.base_fraction.specs.declared.Fraction.{Fraction};
 ghost use Rattle.base_fraction.specs.declared.Counted.the-variants.{Fits};
 ghost use Rattle.base_outcome.specs.Outcome.{answer, _then_};
 ghost use Rattle.build_counted.specs.Machine.{counted};
-ghost use Rattle.build_rows.specs.Rows.{UnitFactor};
+ghost use Rattle.build_entry.specs.Factor.{UnitFactor};
 ghost use Rattle.theorems_recovery.specs.Recovery;
 use base_fraction::Counted;
 use base_fraction::Fraction;
@@ -39,7 +39,7 @@ pub fn undo_coefficient(w: Fraction, coefficient: Fraction, before: Fraction) ->
     ensures { λ r. ⌜ ((j : ℕ) (v c b : ℚ) → w ≡ fraction v → coefficient ≡ fraction c → before ≡ fraction b
         → r ≡ counted (Recovery.undoneCoefficient j v c b)) ⌝ }
 {
-    let rest = build_rows::complement(w);
+    let rest = build_entry::complement(w);
     let share = base_fraction::product(rest, before);
     match share {
         Counted::TooLarge => Counted::TooLarge,

@@ -23,8 +23,9 @@ use Rattle.build_conditions.specs.Sides.{JoinIs}
 use Rattle.build_factors.specs.Machine.{refusalOf}
 use Rattle.build_factors.specs.declared.Refusal.{Refusal}
 use Rattle.build_factors.specs.declared.Refusal.the-variants as build-refusals
-use Rattle.build_rows.specs.Rows.{UnitFactors, LeavesIf}
-use Rattle.build_rows.proofs.Left.{kept-same}
+use Rattle.build_rows.specs.Rows.{UnitFactors}
+use Rattle.build_cells.specs.Left.{LeavesIf}
+use Rattle.build_cells.proofs.Left.{kept-same}
 use Rattle.build.specs.Plan.{Plans, planned, renewed}
 use Rattle.build.proofs.Plan.{step-planned, Ready, plan-ready, plan-ended}
 use Rattle.build.proofs.Leaving.{renewed-refuses}

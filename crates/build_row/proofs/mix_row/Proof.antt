@@ -27,10 +27,11 @@ use Rattle.build_cells.proofs.Region.{Written, written-none, written-more, writ
 use Rattle.build_cells.proofs.Buffer.{numerator, denominator, numerators-laid, denominators-laid, holds-num, holds-den, holds-cell, written-kept}
 use Rattle.build_counted.specs.Machine.{counted}
 use Rattle.build_counted.proofs.Counted.{fits-answered, large-refused}
-use Rattle.build_rows.specs.Rows.{LeavesIf}
-use Rattle.build_rows.proofs.Mixing.{mixture, newEntry-answers, row-laid}
-use Rattle.build_rows.proofs.mix_row.Statement.{statement}
-use Rattle.build_rows.proofs.mix_row.Tie as tie
+use Rattle.build_cells.specs.Left.{LeavesIf}
+use Rattle.build_entry.proofs.Mixing.{mixture, newEntry-answers}
+use Rattle.build_row.proofs.Mixed.{row-laid}
+use Rattle.build_row.proofs.mix_row.Statement.{statement}
+use Rattle.build_row.proofs.mix_row.Tie as tie
 
 -- the new entry of row i and column c
 abbrev mixed : Fraction → ℚ → Table → ℕ → ℕ → ℚ

@@ -7,9 +7,9 @@ use lib.IntN.{ℤ}
 use lib.ListN.{length}
 use Rattle.base_outcome.specs.Outcome.{Outcome, answer, refusal}
 use Rattle.spec_spline.specs.Table.{Table, tableCells, numerators, denominators}
 use Rattle.build_cells.specs.Held.{Kept}
 use Rattle.build_cells.proofs.Buffer.{numerators-again, denominators-again, kept-then, kept-numerators, kept-denominators}
-use Rattle.build_rows.specs.Left.{Left}
+use Rattle.build_cells.specs.Left.{Left}
 
 -- nothing was written
 pub kept-same : (b : List ℤ) → Kept b b

@@ -14,9 +14,9 @@ use Rattle.base_fraction.proofs.Size.{fits-den, complement-le}
 use Rattle.base_fraction.proofs.Value.{ratio-one-minus}
 use Rattle.base_fraction.proofs.Answer.{fits-sized}
 use Rattle.base_fraction.proofs.Bounds.{num-fits, den-fits, sub-fits}
-use Rattle.build_rows.specs.Rows.{UnitFactor}
-use Rattle.build_rows.proofs.complement.Statement.{statement}
-use Rattle.build_rows.proofs.complement.Tie as tie
+use Rattle.build_entry.specs.Factor.{UnitFactor}
+use Rattle.build_entry.proofs.complement.Statement.{statement}
+use Rattle.build_entry.proofs.complement.Tie as tie
 
 fitted : (w : Fraction) → UnitFactor w → FractionFits w
 fitted w h = subst FractionFits (sym (h .is)) (fits-sized (h .of) (h .fit))

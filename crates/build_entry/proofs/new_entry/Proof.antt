@@ -16,9 +16,9 @@ use Rattle.base_outcome.specs.Outcome.{Outcome, _then_}
 use Rattle.spec_spline.specs.Step.{count, newEntry}
 use Rattle.build_counted.specs.Machine.{counted}
 use Rattle.build_counted.proofs.Counted.{machine-counted, count-sized, fits-then, large-then}
-use Rattle.build_rows.proofs.Mixing.{zero-entry, first-zero, second-zero}
-use Rattle.build_rows.proofs.new_entry.Statement.{statement}
-use Rattle.build_rows.proofs.new_entry.Tie as tie
+use Rattle.build_entry.proofs.Mixing.{zero-entry, first-zero, second-zero}
+use Rattle.build_entry.proofs.new_entry.Statement.{statement}
+use Rattle.build_entry.proofs.new_entry.Tie as tie
 
 abbrev origin : tie.After-product3 → tie.Start
 origin c = c .before .before .before .before .before .before .before
