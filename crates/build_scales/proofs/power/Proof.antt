@@ -9,8 +9,8 @@ use mir.Syntax.{w64}
 use mir.Val.{SFits}
 use mir.ValLaws.{toZ-ofZ}
 use Rattle.base_exact.proofs.Word.{is-pos, sfits-abs, abs-mul-le}
-use Rattle.build_conditions.proofs.power.Statement.{statement}
-use Rattle.build_conditions.proofs.power.Tie as tie
+use Rattle.build_scales.proofs.power.Statement.{statement}
+use Rattle.build_scales.proofs.power.Tie as tie
 
 pow-one : (n : ℕ) → n ^ 1 ≡ n
 pow-one n = pow-suc n 0 ∙ ap (λ t. t * n) (pow-zero n) ∙ one-mul n

@@ -10,9 +10,9 @@ use mir.ValLaws.{toZ-ofZ}
 use Rattle.base_exact.proofs.Integer.{*-one, *-comm, neg-is}
 use Rattle.base_exact.proofs.Word.{sfits-abs}
 use Rattle.spec_spline.specs.Conditions.{binomial}
-use Rattle.build_conditions.proofs.Terms.{alternating-even, alternating-odd, signedBinomial, signed-binomial-le}
-use Rattle.build_conditions.proofs.signed_binomial.Statement.{statement}
-use Rattle.build_conditions.proofs.signed_binomial.Tie as tie
+use Rattle.build_scales.proofs.Sizes.{alternating-even, alternating-odd, signedBinomial, signed-binomial-le}
+use Rattle.build_scales.proofs.signed_binomial.Statement.{statement}
+use Rattle.build_scales.proofs.signed_binomial.Tie as tie
 
 binomial-requires : tie.Need-binomial-requires
 binomial-requires c κs = search needs

@@ -8,9 +8,9 @@ use mir.Val.{SFits}
 use mir.ValLaws.{toZ-ofZ}
 use Rattle.base_exact.proofs.Word.{sfits-abs}
 use Rattle.spec_spline.specs.Conditions.{scale}
-use Rattle.build_conditions.proofs.Terms.{scale-le}
-use Rattle.build_conditions.proofs.scale.Statement.{statement}
-use Rattle.build_conditions.proofs.scale.Tie as tie
+use Rattle.build_scales.proofs.Sizes.{scale-le}
+use Rattle.build_scales.proofs.scale.Statement.{statement}
+use Rattle.build_scales.proofs.scale.Tie as tie
 
 falling-requires : tie.Need-falling-requires
 falling-requires c κs = search needs

@@ -7,9 +7,9 @@ use mir.Syntax.{w64}
 use mir.ValLaws.{toZ-ofZ}
 use Rattle.base_exact.specs.Tabulate.{tab}
 use Rattle.base_exact.proofs.Tabulate.{tab-getD-getD}
-use Rattle.spec_spline.specs.Conditions.{binomial}
-use Rattle.build_conditions.proofs.binomial.Statement.{statement}
-use Rattle.build_conditions.proofs.binomial.Tie as tie
+use Rattle.spec_spline.specs.Conditions.{falling}
+use Rattle.build_scales.proofs.falling.Statement.{statement}
+use Rattle.build_scales.proofs.falling.Tie as tie
 
 mul-result : tie.Need-mul-result
 mul-result c = search needs
@@ -24,10 +24,10 @@ index-2-result : tie.Need-index-2-result
 index-2-result c = search needs
 
 returns : tie.Need-returns
-unfolding tab binomial
+unfolding tab falling
 returns c =
     toZ-ofZ w64 _ (record { sfits = c .result .given })
-    ∙ tab-getD-getD 3 3 (λ a b. pos (binomial a b)) (c .before .args .k) (c .before .args .t) (pos 0) (omega arith) (omega arith)
+    ∙ tab-getD-getD 6 3 (λ a b. pos (falling a b)) (c .before .args .p) (c .before .args .k) (pos 0) (omega arith) (omega arith)
 
-pub binomial-spec : {M : Type 1} → statement M
-binomial-spec = tie.close (tie.spec mul-result mul-result-2 index-1-result index-2-result returns)
+pub falling-spec : {M : Type 1} → statement M
+falling-spec = tie.close (tie.spec mul-result mul-result-2 index-1-result index-2-result returns)
