@@ -10,10 +10,10 @@ use mir.Syntax.{w32}
 use mir.Val.{SFits, ofZ, toZ}
 use mir.ValLaws.{toZ-ofZ}
 use Rattle.base_outcome.proofs.Machine.{found-at, found-none}
-use Rattle.curve_limits.specs.Limits.{outside}
-use Rattle.curve_limits.proofs.Entries.{below, above}
-use Rattle.curve_limits.proofs.first_outside.Statement.{statement}
-use Rattle.curve_limits.proofs.first_outside.Tie as tie
+use Rattle.curve_entries.specs.Limits.{outside}
+use Rattle.curve_entries.proofs.Entries.{below, above}
+use Rattle.curve_entries.proofs.first_outside.Statement.{statement}
+use Rattle.curve_entries.proofs.first_outside.Tie as tie
 
 abbrev Inv-loop : tie.InvT-loop
 Inv-loop list low high n i₀ i = (i ≤ n) × ((k : ℕ) → k < i → outside list (toZ w32 low) (toZ w32 high) k ≡ false)

@@ -13,10 +13,10 @@ use Rattle.spec_spline.specs.CurveCall.{badCoefficient}
 use Rattle.build_space.specs.Machine.{space}
 use Rattle.base_outcome.proofs.Machine.{found-some-inverts, found-none-inverts, answer-legal, refusal-refused}
 use Rattle.build_space.proofs.Bounds.{first-column-high}
-use Rattle.curve_limits.proofs.Entries.{coefficient-outside}
-use Rattle.curve_limits.proofs.Refused.{coefficients-count, coefficients-refused, coefficients-pass}
-use Rattle.curve_limits.proofs.check_coefficients.Statement.{statement}
-use Rattle.curve_limits.proofs.check_coefficients.Tie as tie
+use Rattle.curve_entries.proofs.Entries.{coefficient-outside}
+use Rattle.curve_entries.proofs.Refused.{coefficients-count, coefficients-refused, coefficients-pass}
+use Rattle.curve_entries.proofs.check_coefficients.Statement.{statement}
+use Rattle.curve_entries.proofs.check_coefficients.Tie as tie
 
 abbrev joined : tie.Start → Space
 joined s = space [] (s .args .degrees .now) (s .args .orders .now)

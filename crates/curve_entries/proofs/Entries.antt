@@ -13,7 +13,7 @@ use Rattle.spec_spline.specs.Reading.{fine}
 use Rattle.spec_spline.specs.CurveCall.{coefficientLimit, badCoefficient, badPosition}
 use Rattle.spec_spline.proofs.Space.{between-inverts}
 use Rattle.build_space.proofs.Tests as tests
-use Rattle.curve_limits.specs.Limits.{outside}
+use Rattle.curve_entries.specs.Limits.{outside}
 
 module _ (low high z : ℤ) where
   pub below : ltZ z low ≡ true → true ≡ not (between low high z)

@@ -15,10 +15,10 @@ use Rattle.base_outcome.specs.Outcome.{refusal}
 use Rattle.base_outcome.specs.Search.{first}
 use Rattle.spec_spline.specs.Reading.{fine}
 use Rattle.base_outcome.proofs.Machine.{found-some-inverts, found-none-inverts, answer-legal, refusal-refused}
-use Rattle.curve_limits.specs.Limits.{outside}
-use Rattle.curve_limits.proofs.Refused.{positions-refused, positions-pass}
-use Rattle.curve_limits.proofs.check_positions.Statement.{statement}
-use Rattle.curve_limits.proofs.check_positions.Tie as tie
+use Rattle.curve_entries.specs.Limits.{outside}
+use Rattle.curve_entries.proofs.Refused.{positions-refused, positions-pass}
+use Rattle.curve_entries.proofs.check_positions.Statement.{statement}
+use Rattle.curve_entries.proofs.check_positions.Tie as tie
 
 module _ (s : tie.Start) where
   abbrev break : ℕ → ℤ
