@@ -20,7 +20,7 @@ pub fn add_product(sum: Fraction, weight: Fraction, condition: i64) -> Counted
     if weight.num == 0 {
         return Counted::Fits(sum);
     }
-    let term = base_fraction::product(
+    let term = base_arithmetic::product(
         weight,
         Fraction {
             num: condition,
@@ -31,7 +31,7 @@ pub fn add_product(sum: Fraction, weight: Fraction, condition: i64) -> Counted
         return term;
     }
     match term {
-        Counted::Fits(t) => base_fraction::sum(sum, t),
+        Counted::Fits(t) => base_arithmetic::sum(sum, t),
         Counted::TooLarge => Counted::TooLarge,
     }
 }

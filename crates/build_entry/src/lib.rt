@@ -20,19 +20,19 @@ pub fn new_entry(w: Fraction, u: Fraction, x: Fraction, y: Fraction) -> Counted
         if y.num == 0 {
             return Counted::Fits(Fraction { num: 0, den: 1 });
         }
-        return base_fraction::product(u, y);
+        return base_arithmetic::product(u, y);
     }
     if y.num == 0 {
-        return base_fraction::product(w, x);
+        return base_arithmetic::product(w, x);
     }
-    let first = base_fraction::product(w, x);
+    let first = base_arithmetic::product(w, x);
     match first {
         Counted::TooLarge => Counted::TooLarge,
         Counted::Fits(p) => {
-            let second = base_fraction::product(u, y);
+            let second = base_arithmetic::product(u, y);
             match second {
                 Counted::TooLarge => Counted::TooLarge,
-                Counted::Fits(q) => base_fraction::sum(p, q),
+                Counted::Fits(q) => base_arithmetic::sum(p, q),
             }
         }
     }

@@ -26,9 +26,9 @@ pub fn add_term(sum: Fraction, coefficient: Fraction, jump: Fraction) -> Counted
     if jump.num == 0 {
         return Counted::Fits(sum);
     }
-    let term = base_fraction::product(coefficient, jump);
+    let term = base_arithmetic::product(coefficient, jump);
     match term {
-        Counted::Fits(t) => base_fraction::sum(sum, t),
+        Counted::Fits(t) => base_arithmetic::sum(sum, t),
         Counted::TooLarge => Counted::TooLarge,
     }
 }
@@ -40,16 +40,16 @@ pub fn undo_coefficient(w: Fraction, coefficient: Fraction, before: Fraction) ->
         → r ≡ counted (Recovery.undoneCoefficient j v c b)) ⌝ }
 {
     let rest = build_entry::complement(w);
-    let share = base_fraction::product(rest, before);
+    let share = base_arithmetic::product(rest, before);
     match share {
         Counted::TooLarge => Counted::TooLarge,
         Counted::Fits(s) => {
             let n = s.num;
             let d = s.den;
-            let difference = base_fraction::sum(coefficient, Fraction { num: 0 - n, den: d });
+            let difference = base_arithmetic::sum(coefficient, Fraction { num: 0 - n, den: d });
             match difference {
                 Counted::TooLarge => Counted::TooLarge,
-                Counted::Fits(t) => base_fraction::quotient(t, w),
+                Counted::Fits(t) => base_arithmetic::quotient(t, w),
             }
         }
     }

@@ -7,12 +7,12 @@ use mir.Val.{SFits}
 use mir.ValLaws.{toZ-ofZ}
 use Rattle.base_exact.proofs.Integer.{zero-sub-pos, *-nonzero-pos}
 use Rattle.base_exact.proofs.Word.{ltZ-true, ltZ-false}
 use Rattle.base_fraction.specs.Size.{count}
 use Rattle.base_fraction.specs.Machine.{value, answer}
 use Rattle.base_fraction.proofs.Value.{ratio-div-above, ratio-div-below}
 use Rattle.base_fraction.proofs.Bounds.{num-fits, den-fits, mul-fits, zero-sub-mul-fits}
-use Rattle.base_fraction.proofs.quotient.Statement.{statement}
-use Rattle.base_fraction.proofs.quotient.Tie as tie
+use Rattle.base_arithmetic.proofs.quotient.Statement.{statement}
+use Rattle.base_arithmetic.proofs.quotient.Tie as tie
 
 module _ (s : tie.Start) where
   abbrev n : ℤ

@@ -5,12 +5,12 @@ use mir.Syntax.{w64}
 use mir.Val.{SFits}
 use mir.ValLaws.{toZ-ofZ}
 use Rattle.base_exact.proofs.Integer.{*-pos-<}
 use Rattle.base_fraction.specs.Size.{count}
 use Rattle.base_fraction.specs.Machine.{value, answer}
 use Rattle.base_fraction.proofs.Value.{ratio-mul}
 use Rattle.base_fraction.proofs.Bounds.{num-fits, den-fits, mul-fits}
-use Rattle.base_fraction.proofs.product.Statement.{statement}
-use Rattle.base_fraction.proofs.product.Tie as tie
+use Rattle.base_arithmetic.proofs.product.Statement.{statement}
+use Rattle.base_arithmetic.proofs.product.Tie as tie
 
 module _ (s : tie.Start) where
   nums : SFits w64 (s .args .a .num *ℤ s .args .b .num)

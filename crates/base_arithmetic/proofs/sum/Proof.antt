@@ -5,12 +5,12 @@ use mir.Syntax.{w64}
 use mir.Val.{SFits}
 use mir.ValLaws.{toZ-ofZ}
 use Rattle.base_exact.proofs.Integer.{*-pos-<}
 use Rattle.base_fraction.specs.Size.{count}
 use Rattle.base_fraction.specs.Machine.{value, answer}
 use Rattle.base_fraction.proofs.Value.{ratio-add}
 use Rattle.base_fraction.proofs.Bounds.{num-fits, den-fits, mul-fits, mul-add-fits}
-use Rattle.base_fraction.proofs.sum.Statement.{statement}
-use Rattle.base_fraction.proofs.sum.Tie as tie
+use Rattle.base_arithmetic.proofs.sum.Statement.{statement}
+use Rattle.base_arithmetic.proofs.sum.Tie as tie
 
 module _ (s : tie.Start) where
   left : SFits w64 (s .args .a .num *ℤ s .args .b .den)
