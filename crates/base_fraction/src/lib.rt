@@ -1,13 +1,10 @@
-// Machine fractions: a numerator and a positive denominator of 64 bits each, by value.
-// Operands have parts below 2^31 and need not be in lowest terms; every answer is in lowest terms.
+// Machine fractions: a numerator and a positive denominator of 64 bits each, by value. A fraction is brought to lowest terms and its
+// size is tested here; base_arithmetic calculates with fractions.
 ghost use mathlib.Core.Path.{_≡_};
-ghost use mathlib.Core.Logic.{_≢_};
 ghost use lib.IntN.{pos};
 ghost use lib.Signed.{_<ℤ_};
-ghost use Rattle.base_exact.specs.Rational.{int, _+ᵠ_, _*ᵠ_, _/ᵠ_};
-ghost use Rattle.base_exact.specs.Order.{ltᵠ};
 ghost use Rattle.base_fraction.specs.Size.{count};
-ghost use Rattle.base_fraction.specs.Machine.{fraction, ratio, value, answer, FractionFits};
+ghost use Rattle.base_fraction.specs.Machine.{fraction, ratio, answer};
 
 pub mod arrays;
 
@@ -38,7 +35,7 @@ fn lowest(n: i64, d: i64) -> Fraction
 }
 
 // n over d, counted: what every operation ends with.
-fn checked(n: i64, d: i64) -> Counted
+pub fn checked(n: i64, d: i64) -> Counted
     requires { ⌜ pos 0 <ℤ d ⌝ }
     ensures { λ r. ⌜ r ≡ answer (count (ratio n d)) ⌝ }
 {
@@ -50,45 +47,4 @@ fn checked(n: i64, d: i64) -> Counted
         return Counted::TooLarge;
     }
     Counted::Fits(f)
-}
-
-pub fn product(a: Fraction, b: Fraction) -> Counted
-    requires { ⌜ FractionFits a × FractionFits b ⌝ }
-    ensures { λ r. ⌜ r ≡ answer (count (value a *ᵠ value b)) ⌝ }
-{
-    checked(a.num * b.num, a.den * b.den)
-}
-
-pub fn sum(a: Fraction, b: Fraction) -> Counted
-    requires { ⌜ FractionFits a × FractionFits b ⌝ }
-    ensures { λ r. ⌜ r ≡ answer (count (value a +ᵠ value b)) ⌝ }
-{
-    checked(a.num * b.den + b.num * a.den, a.den * b.den)
-}
-
-// Crosswise products; the signs are turned where the new denominator is below zero.
-pub fn quotient(a: Fraction, b: Fraction) -> Counted
-    requires { ⌜ FractionFits a × FractionFits b × (b .num ≢ pos 0) ⌝ }
-    ensures { λ r. ⌜ r ≡ answer (count (value a /ᵠ value b)) ⌝ }
-{
-    let n = a.num * b.den;
-    let d = a.den * b.num;
-    if d < 0 {
-        return checked(0 - n, 0 - d);
-    }
-    checked(n, d)
-}
-
-pub fn is_positive(a: Fraction) -> bool
-    requires { ⌜ pos 0 <ℤ a .den ⌝ }
-    ensures { λ r. ⌜ r ≡ ltᵠ (int (pos 0)) (value a) ⌝ }
-{
-    a.num > 0
-}
-
-pub fn is_below_one(a: Fraction) -> bool
-    requires { ⌜ pos 0 <ℤ a .den ⌝ }
-    ensures { λ r. ⌜ r ≡ ltᵠ (value a) (int (pos 1)) ⌝ }
-{
-    a.num < a.den
 }

@@ -21,8 +21,8 @@ use Rattle.build_factors.specs.declared.Refusal.{Refusal}
 use Rattle.build_factors.specs.declared.Refusal.the-variants as refusals
 use Rattle.build_factors.proofs.Quotients.{refusal-some, Ended}
 use Rattle.build_factors.proofs.Answers.{eight-named}
-use Rattle.build_rows.specs.Rows.{LeavesIf}
-use Rattle.build_rows.proofs.Left.{kept-same, left-answer, left-refusal, Done, left-done, Halted, left-halted}
+use Rattle.build_cells.specs.Left.{LeavesIf}
+use Rattle.build_cells.proofs.Left.{kept-same, left-answer, left-refusal, Done, left-done, Halted, left-halted}
 use Rattle.build.specs.Plan.{Planned, planned, renewed}
 use Rattle.build.specs.Leaves.{Leaves, toldStep}
 use Rattle.build.proofs.Plan.{step-planned}

@@ -14,7 +14,7 @@ use Rattle.spec_spline.specs.Table.{Table}
 use Rattle.spec_spline.specs.Step.{Span, jumps, span, factors, step}
 use Rattle.spec_spline.proofs.Answers.{jumps-length, jumps-fit, Spans, span-inverts}
 use Rattle.spec_spline.proofs.Refusals.{jumps-refuse-8, span-refuses-9}
-use Rattle.build_jumps.proofs.Counted.{Refused}
+use Rattle.build_counted.proofs.Counted.{Refused}
 use Rattle.build_factors.specs.Jumps.{AllFit}
 use Rattle.build_factors.specs.Machine.{rowFactors}
 use Rattle.build_factors.specs.declared.RowFactors.{RowFactors}

@@ -11,8 +11,8 @@ use Rattle.base_outcome.proofs.Outcome.{repeat-more, repeat-stops}
 use Rattle.spec_spline.specs.Table.{Table, tableCells, numerators, denominators}
 use Rattle.build_cells.specs.Held.{Holds, Kept}
 use Rattle.build_cells.proofs.Buffer.{holds-left, kept-then, kept-numerators, kept-denominators, numerators-again, denominators-again}
-use Rattle.build_rows.specs.Left.{Left}
-use Rattle.build_rows.proofs.Left.{Done, Halted, left-answer, left-refusal}
+use Rattle.build_cells.specs.Left.{Left}
+use Rattle.build_cells.proofs.Left.{Done, Halted, left-answer, left-refusal}
 use Rattle.build.proofs.Stepped.{TableFits}
 
 -- The turns of a loop over the definitions' state: `step` is a turn on the whole of it, `work` the same on what has come in.

@@ -11,7 +11,7 @@ use Rattle.build_cells.specs.Held.{Holds}
 use Rattle.build_factors.specs.Machine.{refusalOf}
 use Rattle.build_factors.specs.declared.Refusal.{Refusal}
 use Rattle.build_factors.specs.declared.Refusal.the-variants as refusals
-use Rattle.build_rows.specs.Left.{Left}
+use Rattle.build_cells.specs.Left.{Left}
 use Rattle.base_outcome.specs.declared.Answer.{Answer}
 use Rattle.base_outcome.specs.declared.Answer.the-variants.{Count, Refused}
 

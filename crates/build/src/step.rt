@@ -16,7 +16,8 @@ ghost use Rattle.build_space.specs.Legal.{ListsLegal, PartLegal};
 ghost use Rattle.build_cells.specs.Held.{Holds, Shaped, Held, ClearFrom};
 ghost use Rattle.build_conditions.specs.Sides.{SideIs, JoinIs, JoinFits};
 ghost use Rattle.base_fraction.specs.Fractions.{fractions};
-ghost use Rattle.build_rows.specs.Rows.{UnitFactors, LeavesIf};
+ghost use Rattle.build_rows.specs.Rows.{UnitFactors};
+ghost use Rattle.build_cells.specs.Left.{LeavesIf};
 ghost use Rattle.base_outcome.specs.Machine.{reply};
 ghost use Rattle.build.specs.Plan.{planned, renewed, Plans};
 ghost use Rattle.build.specs.Leaves.{Leaves, JoinsLeave, Start, grown};
@@ -26,7 +27,7 @@ use base_outcome::Answer;
 use build_conditions::Join;
 use build_conditions::Side;
 use build_factors::Refusal;
-use build_jumps::JumpSpan;
+use build_span::JumpSpan;
 
 // What a step works out before it makes rows new: its jumps, the rows f to l that they span and the factors of these rows, from
 // index 0 on. After a refusal only the refusal counts.
@@ -61,7 +62,7 @@ pub fn plan_step(num: &[i64], den: &[i64], join: Join, k: usize, rows: usize) ->
     if !js.fit {
         return no_plan(Refusal::TooLarge);
     }
-    let span = build_jumps::span(js.of, rows);
+    let span = build_span::span(js.of, rows);
     match span {
         JumpSpan::Nothing => no_plan(Refusal::Shape),
         JumpSpan::Rows(f, l) => {
@@ -102,7 +103,7 @@ pub fn renew_rows(
     if !done {
         return false;
     }
-    build_cells::drop_row(num, den, l, rows);
+    build_dropping::drop_row(num, den, l, rows);
     true
 }
 
@@ -186,7 +187,7 @@ fn join_step(
 {
     let right = join.right;
     let more = right.degree + 1;
-    build_cells::add_rows(num, rows, right.column, more);
+    build_identity::add_rows(num, rows, right.column, more);
     order_steps(num, den, join, n, rows + more, columns)
 }
 
@@ -275,7 +276,7 @@ pub fn build_legal(
         (space (now (breaks .entry)) (now (degrees .entry)) (now (orders .entry)))) (now (den .entry)) ⌝ }
 {
     let columns = build_space::first_column(degrees, degrees.len());
-    build_cells::identity_over(num, den, build_space::degree_at(degrees, 0) + 1, used);
+    build_identity::identity_over(num, den, build_space::degree_at(degrees, 0) + 1, used);
     let built = join_steps(breaks, degrees, orders, num, den, columns);
     match built {
         Answer::Count(n) => Answer::Count(n),

@@ -2,4 +2,4 @@
 pub mod Region
 pub mod Tables
 pub mod Buffer
-pub mod Added
+pub mod Left

@@ -2,13 +2,12 @@
 -- so its entries, place by place, are the divided scales times signed binomials. With them come the sizes of the entries,
 -- which the jumps of a step rest on.
 use mathlib.Core.Path.{_≡_, refl, sym, _∙_, ap, ap₂}
-use mathlib.Core.Logic.{_≢_}
 use mathlib.Core.Bool.{cond}
 use mathlib.Core.List.{List, [], _++_, map, map-append, append-nil}
-use Prim.Native.Nat.{ℕ, zero, suc, _+_, _-_, _*_, _^_, _/_, _%_, _<_, _≤_, _∣_}
+use Prim.Native.Nat.{ℕ, zero, suc, _+_, _-_, _*_, _^_, _/_, _<_, _≤_, _∣_}
 use native.Mathlib.Omega.{arith}
 use native.Mathlib.Decide.{decLe}
-use native.Mathlib.Nat.{mul-one, mul-comm, mul-div-assoc, zero-div, div-le-self, mul-le-mul, one-le-pow, pow-le-pow-left, pow-le-pow-right, two-pow-succ, le-trans}
+use native.Mathlib.Nat.{mul-one, mul-comm, mul-div-assoc, zero-div, div-le-self, le-trans}
 use borrow.Author.Tests.{le-leb, lt-leb}
 use lib.IntN.{ℤ, pos, negsuc, _*ℤ_, negℤ, natAbs}
 use lib.ListN.{length, getD, length-append, List·getD-eq-default}
@@ -20,11 +19,12 @@ use Rattle.base_exact.proofs.Gcd.{gcd-zero, gcd-assoc, gcd-multiple, gcd-dvd-le
 use Rattle.base_exact.proofs.Integer.{*-assoc, *-neg, abs-neg, abs-mul, abs-mul-le}
 use Rattle.base_exact.proofs.Tabulate.{tab-length, tab-getD, getD-tab, map-tab, tab-ext}
 use Rattle.spec_spline.specs.Space.{Space, degree, width, firstColumn}
-use Rattle.spec_spline.specs.Conditions.{Entry, falling, binomial, alternating, scale, leftEntry, rightEntry, undivided, commonDivisor, divided, conditions}
+use Rattle.spec_spline.specs.Conditions.{Entry, binomial, alternating, scale, leftEntry, rightEntry, undivided, commonDivisor, divided, conditions}
 use Rattle.spec_spline.proofs.Conditions.{alternating-abs}
 use Rattle.build_conditions.specs.Sides.{JoinFits}
 use Rattle.build_conditions.specs.declared.Join.{Join}
 use Rattle.build_conditions.specs.Terms.{scaleOf, noEntry, columnOf, entriesOf}
+use Rattle.build_scales.proofs.Sizes.{signedBinomial, scaleLimit, scale-le, signed-binomial-le}
 
 -- ---- the two sides' scales
 
@@ -68,17 +68,6 @@ side-divisor a k f es h =
     ap (λ x. gcd x (commonDivisor (tab k (λ i. f (suc i)) ++ es))) (h 0 ∙ mul-one a)
     ∙ multiples-absorbed a k (λ i. f (suc i)) (λ i. binomial k (suc i)) es (λ i. h (suc i))
 
-pub alternating-even : (n : ℕ) → n % 2 ≡ 0 → alternating n ≡ pos 1
-unfolding alternating
-alternating-even zero h = refl
-alternating-even (suc zero) h = absurd (omega arith)
-alternating-even (suc (suc n)) h = ap (λ z. negℤ (negℤ z)) (alternating-even n (omega arith))
-
-pub alternating-odd : (n : ℕ) → n % 2 ≢ 0 → alternating n ≡ negsuc 0
-unfolding alternating
-alternating-odd zero h = absurd (omega arith)
-alternating-odd (suc n) h = ap negℤ (alternating-even n (omega arith))
-
 product-abs : (a b n : ℕ) → natAbs (pos (a * b) *ℤ alternating n) ≡ a * b
 product-abs a b n = abs-mul (pos (a * b)) (alternating n) ∙ ap (λ t. a * b * t) (alternating-abs n) ∙ mul-one (a * b)
 
@@ -96,13 +85,6 @@ common-divisor s j k =
         ∙ gcd-zero (rightScale s j k)
 
 -- ---- the entries, divided
-
--- The binomial with the sign of (-1)^(k - t).
-abbrev pub signedBinomial : ℕ → ℕ → ℤ
-signedBinomial k t = pos (binomial k t) *ℤ alternating (k - t)
-
-pub signed-binomial-abs : (k t : ℕ) → natAbs (signedBinomial k t) ≡ binomial k t
-signed-binomial-abs k t = abs-mul (pos (binomial k t)) (alternating (k - t)) ∙ ap (λ n. binomial k t * n) (alternating-abs (k - t)) ∙ mul-one (binomial k t)
 
 -- Entry t of the left side.
 abbrev pub leftTerm : Space → ℕ → ℕ → ℕ → Entry
@@ -206,33 +188,6 @@ unfolding entriesOf
 entries-getD es e h = tab-getD 6 (λ i. (getD es i noEntry) .condition) e (pos 0) h
 
 -- ---- the sizes
-
--- No scale is above F(5, 2) times the square of the longest span.
-abbrev pub scaleLimit : ℕ
-scaleLimit = 20 * 2000 ^ 2
-
-falling-le : (p k : ℕ) → p ≤ 5 → k ≤ 2 → falling p k ≤ 20
-unfolding falling
-falling-le p zero h l = omega arith
-falling-le p (suc zero) h l = omega arith
-falling-le p (suc (suc zero)) h l = omega (arith, mul-le-mul {n₁ = 1 * (p - 0)} {m₁ = p - 1} {n₂ = 5} {m₂ = 4} (omega arith) (omega arith))
-falling-le p (suc (suc (suc k))) h l = absurd (omega arith)
-
-power-le : (n k : ℕ) → n ≤ 2000 → k ≤ 2 → n ^ k ≤ 2000 ^ 2
-power-le n k h l = le-trans (pow-le-pow-left h k) (pow-le-pow-right {n = 2000} (omega arith) l)
-
-pub scale-le : (p k n : ℕ) → p ≤ 5 → k ≤ 2 → n ≤ 2000 → scale p k n ≤ scaleLimit
-scale-le p k n h l m = mul-le-mul (falling-le p k h l) (power-le n k m l)
-
-pub binomial-le : (k t : ℕ) → binomial k t ≤ 2 ^ k
-unfolding binomial
-binomial-le zero zero = omega arith
-binomial-le (suc k) zero = one-le-pow (suc k) 2 (omega arith)
-binomial-le zero (suc t) = omega arith
-binomial-le (suc k) (suc t) = omega (arith, two-pow-succ k, binomial-le k t, binomial-le k (suc t))
-
-pub signed-binomial-le : (k t : ℕ) → k ≤ 2 → natAbs (signedBinomial k t) ≤ 4
-signed-binomial-le k t h = rw (signed-binomial-abs k t) (le-trans (binomial-le k t) (pow-le-pow-right {n = 2} (omega arith) h))
 
 -- A divided scale times a signed binomial.
 term-small : (a g k t : ℕ) → a ≤ scaleLimit → k ≤ 2 → natAbs (pos (a / g) *ℤ signedBinomial k t) < 2 ^ 31

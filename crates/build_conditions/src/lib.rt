@@ -1,26 +1,12 @@
 // The column of conditions of a join and an order, as its few non-zero entries.
 ghost use mathlib.Core.Path.{_≡_};
-ghost use Prim.Native.Nat.{ℕ, _+_, _*_, _-_, _^_, _<_, _≤_};
-ghost use lib.IntN.{pos, natAbs, _*ℤ_};
-ghost use lib.Signed.{_≤ℤ_};
-ghost use Rattle.spec_spline.specs.Space.{Space, spanLimit, degreeLimit};
+ghost use Prim.Native.Nat.{ℕ, _+_, _*_, _^_, _<_, _≤_};
+ghost use lib.IntN.{natAbs};
+ghost use Rattle.spec_spline.specs.Space.{Space};
 ghost use Rattle.spec_spline.specs.Conditions;
 ghost use Rattle.spec_spline.specs.Table.{rowCells};
 ghost use Rattle.build_conditions.specs.Sides.{JoinIs, JoinFits};
 ghost use Rattle.build_conditions.specs.Terms.{scaleOf, entriesOf, ScaledOf, columnOf};
-
-// FALLING[p][k] is p (p - 1) .. (p - k + 1).
-const FALLING: [[i64; 3]; 6] = [
-    [1, 0, 0],
-    [1, 1, 0],
-    [1, 2, 2],
-    [1, 3, 6],
-    [1, 4, 12],
-    [1, 5, 20],
-];
-
-// BINOMIAL[k][t].
-const BINOMIAL: [[i64; 3]; 3] = [[1, 0, 0], [1, 1, 0], [1, 2, 1]];
 
 // One side of a join: the degree, length and first column of its segment.
 pub struct Side {
@@ -40,65 +26,19 @@ pub struct Scaled {
     pub right: i64,
 }
 
-fn falling(p: usize, k: usize) -> i64
-    requires { ⌜ (p ≤ degreeLimit) × (k ≤ 2) ⌝ }
-    ensures { λ r. ⌜ r ≡ pos (Conditions.falling p k) ⌝ }
-{
-    FALLING[p][k]
-}
-
-fn binomial(k: usize, t: usize) -> i64
-    requires { ⌜ (k ≤ 2) × (t ≤ 2) ⌝ }
-    ensures { λ r. ⌜ r ≡ pos (Conditions.binomial k t) ⌝ }
-{
-    BINOMIAL[k][t]
-}
-
-fn power(x: i64, k: usize) -> i64
-    requires { ⌜ (pos 0 ≤ℤ x) × ((natAbs x ≤ spanLimit) × (k ≤ 2)) ⌝ }
-    ensures { λ r. ⌜ r ≡ pos (natAbs x ^ k) ⌝ }
-{
-    if k == 0 {
-        return 1;
-    }
-    if k == 1 {
-        return x;
-    }
-    x * x
-}
-
-// F(p, k) times the k-th power of the other side's length.
-fn scale(p: usize, k: usize, other: i64) -> i64
-    requires { ⌜ (p ≤ degreeLimit) × ((k ≤ 2) × ((pos 0 ≤ℤ other) × (natAbs other ≤ spanLimit))) ⌝ }
-    ensures { λ r. ⌜ r ≡ pos (Conditions.scale p k (natAbs other)) ⌝ }
-{
-    let f = falling(p, k);
-    let x = power(other, k);
-    f * x
-}
-
 fn scales(join: Join, k: usize) -> Scaled
     requires { ⌜ JoinFits join k ⌝ }
     ensures { λ r. ⌜ ((s : Space) (j : ℕ) → JoinIs join s j → ScaledOf r s j k) ⌝ }
 {
     let l = join.left;
     let r = join.right;
-    let left = scale(l.degree, k, r.length);
-    let right = scale(r.degree, k, l.length);
+    let left = build_scales::scale(l.degree, k, r.length);
+    let right = build_scales::scale(r.degree, k, l.length);
     let divisor = base_division::gcd(left as u64, right as u64) as i64;
     Scaled {
         left: left / divisor,
         right: right / divisor,
     }
-}
-
-// The binomial with the sign of (-1)^(k - t).
-fn signed_binomial(k: usize, t: usize) -> i64
-    requires { ⌜ (t ≤ k) × (k ≤ 2) ⌝ }
-    ensures { λ r. ⌜ r ≡ pos (Conditions.binomial k t) *ℤ Conditions.alternating (k - t) ⌝ }
-{
-    let b = binomial(k, t);
-    if (k - t) % 2 == 0 { b } else { 0 - b }
 }
 
 // Entry e of the column: k + 1 on the left, then k + 1 on the right.
@@ -107,10 +47,10 @@ fn entry(sides: Scaled, k: usize, e: usize) -> i64
     ensures { λ r. ⌜ r ≡ scaleOf (sides .left) (sides .right) k e ⌝ }
 {
     if e <= k {
-        let b = signed_binomial(k, e);
+        let b = build_scales::signed_binomial(k, e);
         return sides.left * b;
     }
-    let c = signed_binomial(k, e - k - 1);
+    let c = build_scales::signed_binomial(k, e - k - 1);
     0 - sides.right * c
 }
 

@@ -51,8 +51,8 @@ fn strictly_between(w: Fraction) -> bool
     requires { ⌜ pos 0 <ℤ w .den ⌝ }
     ensures { λ r. ⌜ r ≡ between (value w) ⌝ }
 {
-    if base_fraction::is_positive(w) {
-        return base_fraction::is_below_one(w);
+    if base_arithmetic::is_positive(w) {
+        return base_arithmetic::is_below_one(w);
     }
     false
 }
@@ -63,11 +63,11 @@ fn factor(before: Fraction, jump: Fraction) -> NextFactor
     ensures { λ r. ⌜ ((j : ℕ) → r ≡ nextFactor (value before +ᵠ value jump)
         (Step.quotientFactor j (value before +ᵠ value jump) (value jump))) ⌝ }
 {
-    let sum = base_fraction::sum(before, jump);
+    let sum = base_arithmetic::sum(before, jump);
     match sum {
         Counted::TooLarge => no_factor(Refusal::TooLarge),
         Counted::Fits(s) => {
-            let quotient = base_fraction::quotient(s, jump);
+            let quotient = base_arithmetic::quotient(s, jump);
             match quotient {
                 Counted::TooLarge => no_factor(Refusal::TooLarge),
                 Counted::Fits(w) => {

@@ -1,4 +1,4 @@
--- What the machine's answers tell of the definitions, for the step that asked: the jumps and their span.
+-- What the machine's answer tells of the definitions, for the step that asked: the jumps.
 use mathlib.Core.Path.{_≡_, refl, ap}
 use mathlib.Core.Bool.{true, false}
 use mathlib.Core.List.{List}
@@ -6,15 +6,11 @@ use Prim.Native.Nat.{ℕ}
 use native.Mathlib.Omega.{arith}
 use Rattle.base_exact.specs.Rational.{ℚ}
 use Rattle.base_outcome.specs.Outcome.{Outcome, answer, refusal}
-use Rattle.spec_spline.specs.Step.{Span}
 use Rattle.base_fraction.specs.Fractions.{fractions}
-use Rattle.build_jumps.specs.Machine.{rowJumps, jumpSpan}
+use Rattle.build_jumps.specs.Machine.{rowJumps}
 use Rattle.base_fraction.specs.declared.arrays.Fractions.{Fractions}
 use Rattle.build_jumps.specs.declared.RowJumps.{RowJumps}
-use Rattle.build_jumps.specs.declared.JumpSpan.the-variants as spans
-use Rattle.build_jumps.proofs.Counted.{Refused}
-
--- ---- the jumps
+use Rattle.build_counted.proofs.Counted.{Refused}
 
 -- The list that was answered is in the arrays.
 pub record InArrays (o : Outcome (List ℚ)) (js : Fractions) : Type 0 where
@@ -31,21 +27,3 @@ pub jumps-refused : (o : Outcome (List ℚ)) (r : RowJumps) → r ≡ rowJumps o
 unfolding rowJumps
 jumps-refused (answer qs) r e h = absurd (let p = ap (λ (x : RowJumps). x .fit) e in let z : _≡_ {A = ℕ} 0 1 = cc (p, h) in omega arith)
 jumps-refused (refusal code place) r e h = record { code = code; place = place; refuses = refl }
-
--- ---- the span
-
-pub span-rows : (o : Outcome Span) (f l : ℕ) → jumpSpan o ≡ spans.Rows f l → o ≡ answer (record { f = f; l = l })
-unfolding jumpSpan
-span-rows (answer g) f l e = ap answer (λ i. record { f = first i; l = last i })
-  where
-    first : g .f ≡ f
-    first = cc
-
-    last : g .l ≡ l
-    last = cc
-span-rows (refusal code place) f l e = absurd (let z : _≡_ {A = ℕ} 0 1 = cc in omega arith)
-
-pub span-refused : (o : Outcome Span) → jumpSpan o ≡ spans.Nothing → Refused o
-unfolding jumpSpan
-span-refused (answer g) e = absurd (let z : _≡_ {A = ℕ} 0 1 = cc in omega arith)
-span-refused (refusal code place) e = record { code = code; place = place; refuses = refl }

@@ -1,3 +1,2 @@
 -- The crate's hand-written modules.
-pub mod Counted
 pub mod Answers

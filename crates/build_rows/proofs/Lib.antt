@@ -1,3 +1,2 @@
 -- The crate's hand-written modules.
-pub mod Left
 pub mod Mixing

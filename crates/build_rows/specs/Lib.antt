@@ -1,3 +1,2 @@
 -- What the contracts of build_rows cite beside the definitions of crate spec_spline.
-pub mod Left
 pub mod Rows

@@ -1,99 +1,18 @@
-// The new rows of a step, made in place: each needs its own old row and the next.
+// The new rows of a step, made in place one after the other.
 ghost use mathlib.Core.Path.{_≡_};
 ghost use mathlib.Core.List.{List, _++_};
-ghost use Prim.Native.Nat.{ℕ, suc, _+_, _<_, _≤_};
-ghost use lib.IntN.{pos};
-ghost use lib.ListN.{length, set, take, drop};
-ghost use Rattle.base_exact.specs.Rational.{ℚ, int, _-ᵠ_};
-ghost use Rattle.base_fraction.specs.Machine.{FractionFits, value};
+ghost use Prim.Native.Nat.{ℕ, _<_, _≤_};
+ghost use lib.ListN.{take, drop};
+ghost use Rattle.base_exact.specs.Rational.{ℚ};
 ghost use Rattle.base_outcome.specs.Outcome.{with-answer};
-ghost use Rattle.spec_spline.specs.Table.{Table, row, rowCells};
+ghost use Rattle.spec_spline.specs.Table.{Table};
 ghost use Rattle.spec_spline.specs.Step;
 ghost use Rattle.build_cells.specs.Held.{Holds, Shaped, Held};
 ghost use Rattle.base_fraction.specs.Fractions.{fractions};
-ghost use Rattle.build_jumps.specs.Machine.{counted};
-ghost use Rattle.build_rows.specs.Rows.{UnitFactor, UnitFactors, LeavesIf};
-use base_fraction::Counted;
+ghost use Rattle.build_rows.specs.Rows.{UnitFactors};
+ghost use Rattle.build_cells.specs.Left.{LeavesIf};
 use base_fraction::Fraction;
 use base_fraction::arrays::Fractions;
-
-// w x + u y, with both products and the sum counted. A product with a zero is zero, and the sum with it is the other product, which
-// was counted before.
-fn new_entry(w: Fraction, u: Fraction, x: Fraction, y: Fraction) -> Counted
-    requires { ⌜ FractionFits w × (FractionFits u × (FractionFits x × FractionFits y)) ⌝ }
-    ensures { λ r. ⌜ ((j : ℕ) (v : ℚ) → value u ≡ int (pos 1) -ᵠ v → r ≡ counted (Step.newEntry j (value w) v (value x) (value y))) ⌝ }
-{
-    if x.num == 0 {
-        if y.num == 0 {
-            return Counted::Fits(Fraction { num: 0, den: 1 });
-        }
-        return base_fraction::product(u, y);
-    }
-    if y.num == 0 {
-        return base_fraction::product(w, x);
-    }
-    let first = base_fraction::product(w, x);
-    match first {
-        Counted::TooLarge => Counted::TooLarge,
-        Counted::Fits(p) => {
-            let second = base_fraction::product(u, y);
-            match second {
-                Counted::TooLarge => Counted::TooLarge,
-                Counted::Fits(q) => base_fraction::sum(p, q),
-            }
-        }
-    }
-}
-
-// Row i becomes w times itself plus u times the next row; false where a counted fraction is too large.
-fn mix_row(
-    num: &mut [i64],
-    den: &mut [i64],
-    i: usize,
-    w: Fraction,
-    u: Fraction,
-    columns: usize,
-) -> bool
-    requires { ⌜ FractionFits w × (FractionFits u × ((i + 1 < rowCells) × (columns ≤ rowCells))) ⌝ }
-    requires { ⌜ ((t : Table) × Holds (now num) (now den) t) ⌝ }
-    ensures { λ r. ⌜ ((t : Table) (j : ℕ) (v : ℚ) → Holds (now (num .entry)) (now (den .entry)) t → value u ≡ int (pos 1) -ᵠ v
-        → i < length t → length (row t i) ≡ columns
-        → LeavesIf (with-answer (set t i) (Step.newRow j (value w) v (row t i) (row t (suc i)))) r (now (num .entry)) (now (den .entry))
-        (now (num .exit)) (now (den .exit))) ⌝ }
-{
-    let mut c = 0;
-    while c < columns {
-        let at = build_cells::ROW_CELLS * i + c;
-        let below = at + build_cells::ROW_CELLS;
-        let x = build_cells::read(num, den, at);
-        let y = build_cells::read(num, den, below);
-        let made = new_entry(w, u, x, y);
-        match made {
-            Counted::Fits(q) => {
-                let n = q.num;
-                let d = q.den;
-                num[at] = n;
-                den[at] = d;
-            }
-            Counted::TooLarge => {
-                return false;
-            }
-        }
-        c += 1;
-    }
-    true
-}
-
-// The complement 1 - w of a factor from 0 to 1, which is never too large.
-pub fn complement(w: Fraction) -> Fraction
-    requires { ⌜ UnitFactor w ⌝ }
-    ensures { λ r. ⌜ (value r ≡ int (pos 1) -ᵠ value w) × FractionFits r ⌝ }
-{
-    Fraction {
-        num: w.den - w.num,
-        den: w.den,
-    }
-}
 
 // The rows f to l - 1 made new, rows rising; false where a counted fraction is too large.
 pub fn mix_rows(
@@ -120,8 +39,8 @@ pub fn mix_rows(
         let vn = ws.num[d + 1];
         let vd = ws.den[d + 1];
         let w = Fraction { num: wn, den: wd };
-        let u = complement(Fraction { num: vn, den: vd });
-        let done = mix_row(num, den, i, w, u, columns);
+        let u = build_entry::complement(Fraction { num: vn, den: vd });
+        let done = build_row::mix_row(num, den, i, w, u, columns);
         if !done {
             return false;
         }

@@ -1,3 +1,2 @@
--- The laws behind the limits of a curve call: the tests of the entries, and the refusals.
-pub mod Entries
+-- The laws behind the limits of a curve call: the refusals.
 pub mod Refused

@@ -23,7 +23,7 @@ use Rattle.spec_spline.proofs.Build.{long-enough}
 use Rattle.theorems_values.proofs.LegalCall.{ChecksPassed, checks-passed}
 use Rattle.build_space.specs.Legal.{ListsLegal}
 use Rattle.build_space.proofs.Legal.{checked-legal}
-use Rattle.curve_limits.proofs.Entries.{good-coefficient, good-position}
+use Rattle.curve_entries.proofs.Entries.{good-coefficient, good-position}
 use Rattle.curve_ordinates.specs.Ordinates.{Coefficients}
 use Rattle.curve_triangle.specs.Offsets.{Within}
 use Rattle.curve_start.specs.Parts.{Lent, TableRoom}

@@ -38,7 +38,7 @@ use Rattle.theorems_recovery.specs.RecoveryCall.{clearsAll, weightsAfter, liste
 use Rattle.theorems_recovery.proofs.Reproduction.{answers-have-the-weights}
 use Rattle.theorems_recovery.proofs.Refusals.{recovered-clears}
 use Rattle.theorems_recovery.proofs.Fronts.{no-front, front-answers, front-refuses, refused-front}
-use Rattle.build_rows.proofs.Left.{Done, left-done, Halted, left-halted}
+use Rattle.build_cells.proofs.Left.{Done, left-done, Halted, left-halted}
 use Rattle.recover.specs.Leaves.{toldJoins, JoinsLeave, BeamEnds}
 use Rattle.recover.specs.declared.Joined.{Joined}
 use Rattle.recover.proofs.Listed.{rest-cleared, all-cleared, zero-numerator, zero-denominator}

@@ -29,8 +29,8 @@ use Rattle.build_space.proofs.Partial.{column-count-partial}
 use Rattle.build_factors.specs.Jumps.{AllFit}
 use Rattle.base_outcome.specs.Machine.{reply}
 use Rattle.base_outcome.specs.declared.Answer.the-variants.{Refused}
-use Rattle.curve_limits.specs.Limits.{outside}
-use Rattle.curve_limits.proofs.Entries.{inside-size}
+use Rattle.curve_entries.specs.Limits.{outside}
+use Rattle.curve_entries.proofs.Entries.{inside-size}
 use Rattle.theorems_recovery.specs.Recovery.{Combination, recovered}
 use Rattle.theorems_recovery.specs.RecoveryCall.{ordinateLimit, badOrdinate, legalOrdinates, recoveryOutcome, clearsAll}
 use Rattle.recover.specs.Leaves.{ordinatesChecked, BeamEnds}

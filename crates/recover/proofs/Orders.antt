@@ -19,9 +19,9 @@ use Rattle.base_outcome.proofs.Outcome.{answer-unique, Chained, then-inverts, r
 use Rattle.spec_spline.proofs.Answers.{jumps-length, span-inverts}
 use Rattle.spec_spline.proofs.Splice.{spliced-length, spliced-before, spliced-inside, spliced-after}
 use Rattle.build_factors.specs.Jumps.{AllFit}
-use Rattle.build_rows.proofs.Left.{Done, left-done, Halted, left-halted}
-use Rattle.recover_step.proofs.FractionFits.{undone-fits}
-use Rattle.recover_step.proofs.Rows.{more-fit}
+use Rattle.build_cells.proofs.Left.{Done, left-done, Halted, left-halted}
+use Rattle.recover_counted.proofs.FractionFits.{undone-fits}
+use Rattle.recover_rows.proofs.Rows.{more-fit}
 use Rattle.build.proofs.Stepped.{Proper, step-one-less}
 use Rattle.theorems_recovery.specs.Recovery.{Combination, undoneRow, undoneRows, recoverStep, recoverOrders}
 use Rattle.theorems_recovery.proofs.Answers.{rows-undone}

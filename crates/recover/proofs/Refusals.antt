@@ -7,8 +7,8 @@ use native.Mathlib.Omega.{arith}
 use lib.Dec.{eqb}
 use Rattle.base_outcome.specs.Outcome.{Outcome, answer, refusal}
 use Rattle.base_outcome.proofs.Outcome.{RefusedAs}
-use Rattle.recover_step.specs.Machine.{balanceOf}
-use Rattle.recover_step.specs.declared.Balance.the-variants as balances
+use Rattle.recover_balance.specs.Machine.{balanceOf}
+use Rattle.recover_balance.specs.declared.Balance.the-variants as balances
 use Rattle.theorems_recovery.proofs.Refusals.{Here}
 
 -- refused with this code

@@ -14,8 +14,8 @@ use Rattle.spec_spline.specs.Table.{Table, tableCells, numerators, denominators
 use Rattle.spec_spline.specs.Step.{jumps, span, factors, step}
 use Rattle.build_cells.specs.Held.{Kept}
 use Rattle.build_cells.proofs.Buffer.{kept-numerators, kept-denominators}
-use Rattle.build_rows.specs.Rows.{LeavesIf}
-use Rattle.build_rows.proofs.Left.{left-answer, left-refusal}
+use Rattle.build_cells.specs.Left.{LeavesIf}
+use Rattle.build_cells.proofs.Left.{left-answer, left-refusal}
 use Rattle.build.specs.Plan.{Planned, planned, renewed}
 use Rattle.build.proofs.Plan.{step-planned, Works, plan-works}
 use Rattle.build.proofs.Leaving.{renewed-refuses}

@@ -20,12 +20,13 @@ use Rattle.spec_spline.proofs.Answers.{factors-inverts}
 use Rattle.spec_spline.proofs.Splice.{spliced-before, spliced-inside, spliced-after}
 use Rattle.base_fraction.specs.Fractions.{fractions}
 use Rattle.base_fraction.specs.declared.arrays.Fractions.{Fractions}
-use Rattle.build_jumps.proofs.Counted.{Refused}
+use Rattle.build_counted.proofs.Counted.{Refused}
 use Rattle.build_jumps.proofs.Answers.{InArrays}
-use Rattle.recover_step.specs.Machine.{undoneOf, NonZero}
-use Rattle.recover_step.specs.declared.Undone.{Undone}
+use Rattle.recover_rows.specs.Machine.{undoneOf, NonZero}
+use Rattle.recover_rows.specs.declared.Undone.{Undone}
 use Rattle.base_fraction.proofs.Fractions.{entries-same, fractions-ext}
-use Rattle.recover_step.proofs.Rows.{renewed, renewed-length, renewed-old, without, without-before, without-from}
+use Rattle.recover_rows.proofs.Rows.{renewed, renewed-length, renewed-old}
+use Rattle.recover_arrays.proofs.Without.{without, without-before, without-from}
 
 -- ---- what is told
 

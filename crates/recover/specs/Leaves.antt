@@ -11,7 +11,7 @@ use Rattle.base_outcome.specs.Outcome.{Outcome, answer, refusal, _then_, with-a
 use Rattle.spec_spline.specs.Space.{Space, degree, firstColumn, rowCount}
 use Rattle.spec_spline.specs.Table.{numerators, denominators}
 use Rattle.build_factors.specs.Jumps.{AllFit}
-use Rattle.build_rows.specs.Left.{Left}
+use Rattle.build_cells.specs.Left.{Left}
 use Rattle.base_outcome.specs.Machine.{reply}
 use Rattle.build.specs.Plan.{Planned}
 use Rattle.build.specs.Leaves.{grown}

@@ -47,7 +47,7 @@ fn check_ordinates(degrees: &[i32], ordinates: &[i32]) -> Legality
     if ordinates.len() != build_space::first_column(degrees, degrees.len()) {
         return Legality::Refused(18, base_outcome::LARGEST_PLACE);
     }
-    let bad = curve_limits::first_outside(ordinates, 0 - ORDINATE_LIMIT, ORDINATE_LIMIT);
+    let bad = curve_entries::first_outside(ordinates, 0 - ORDINATE_LIMIT, ORDINATE_LIMIT);
     match bad {
         Found::At(i) => Legality::Refused(18, base_outcome::place(i)),
         Found::Nothing => Legality::Legal,

@@ -16,7 +16,8 @@ ghost use Rattle.build_conditions.specs.Sides.{JoinIs, JoinFits};
 ghost use Rattle.build_factors.specs.Jumps.{AllFit};
 ghost use Rattle.build_rows.specs.Rows.{UnitFactors};
 ghost use Rattle.build.specs.Leaves.{Start};
-ghost use Rattle.recover_step.specs.Machine.{FractionsFit, NonZero};
+ghost use Rattle.recover_counted.specs.Machine.{FractionsFit};
+ghost use Rattle.recover_rows.specs.Machine.{NonZero};
 ghost use Rattle.theorems_recovery.specs.Recovery;
 ghost use Rattle.recover.specs.declared.Refusal.the-variants as refusals;
 ghost use Rattle.recover.specs.Leaves.{undoing, coefficientsOf, Present, grownCombination, Leaves, JoinsLeave};
@@ -27,7 +28,7 @@ use base_fraction::arrays;
 use base_fraction::arrays::Fractions;
 use base_outcome::Answer;
 use build_conditions::Join;
-use recover_step::Balance;
+use recover_balance::Balance;
 
 fn refuse(code: u8) -> RowCoefficients
     ensures { λ r. ⌜ r ≡ record { refusal = refusals.Refused code; of = fractions [] } ⌝ }
@@ -53,16 +54,16 @@ fn undo(
         → length ps ≡ rows
         → r ≡ coefficientsOf (undoing j (record { jumps = qs; span = record { f = f; l = l }; factors = us }) ps)) ⌝ }
 {
-    let sum = recover_step::balanced(js, cs, rows);
+    let sum = recover_balance::balanced(js, cs, rows);
     match sum {
         Balance::TooLarge => refuse(20),
         Balance::NotZero => refuse(19),
         Balance::Zero => {
-            let undone = recover_step::undo_rows(cs, ws, f, l);
+            let undone = recover_rows::undo_rows(cs, ws, f, l);
             if !undone.fit {
                 return refuse(20);
             }
-            let left = recover_step::drop_coefficient(undone.coefficients, l, rows);
+            let left = recover_arrays::drop_coefficient(undone.coefficients, l, rows);
             RowCoefficients {
                 refusal: Refusal::None,
                 of: left,
@@ -163,8 +164,8 @@ fn recover_join(
 {
     let right = join.right;
     let more = right.degree + 1;
-    build_cells::add_rows(num, rows, right.column, more);
-    let present = recover_step::append(cs, rows, ordinates, right.column, more);
+    build_identity::add_rows(num, rows, right.column, more);
+    let present = recover_arrays::append(cs, rows, ordinates, right.column, more);
     recover_orders(num, den, join, n, rows + more, columns, present)
 }
 
@@ -187,7 +188,7 @@ fn recover_joins(
         (now (den .entry)) (now (num .exit)) (now (den .exit)) ⌝ }
 {
     let mut rows = build_space::degree_at(degrees, 0) + 1;
-    let mut present = recover_step::append(arrays::no_fractions(), 0, ordinates, 0, rows);
+    let mut present = recover_arrays::append(arrays::no_fractions(), 0, ordinates, 0, rows);
     let mut j = 0;
     while j < orders.len() {
         let n = build_space::condition_count(orders, j);
@@ -233,6 +234,6 @@ pub fn recover_part(
         (now (den .entry)) (now (num .exit)) (now (den .exit)) ⌝ }
 {
     let columns = build_space::first_column(degrees, degrees.len());
-    build_cells::identity(num, den, build_space::degree_at(degrees, 0) + 1);
+    build_identity::identity(num, den, build_space::degree_at(degrees, 0) + 1);
     recover_joins(breaks, degrees, orders, ordinates, num, den, columns)
 }

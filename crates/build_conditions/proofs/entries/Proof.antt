@@ -18,7 +18,8 @@ use Rattle.build_conditions.specs.Sides.{JoinFits}
 use Rattle.build_conditions.specs.declared.Join.{Join}
 use Rattle.build_conditions.specs.Terms.{scaleOf, ScaledOf, entriesOf}
 use Rattle.build_conditions.specs.declared.Scaled.{Scaled}
-use Rattle.build_conditions.proofs.Terms.{leftScale, rightScale, divisor, scale-le, entry-is, entry-none}
+use Rattle.build_conditions.proofs.Terms.{leftScale, rightScale, divisor, entry-is, entry-none}
+use Rattle.build_scales.proofs.Sizes.{scale-le}
 use Rattle.build_conditions.proofs.entries.Statement.{statement}
 use Rattle.build_conditions.proofs.entries.Tie as tie
 

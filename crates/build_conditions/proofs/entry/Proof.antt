@@ -9,7 +9,8 @@ use mir.Syntax.{w64}
 use mir.Val.{SFits}
 use mir.ValLaws.{toZ-ofZ}
 use Rattle.base_exact.proofs.Word.{sfits-abs, abs-mul-le, abs-sub}
-use Rattle.build_conditions.proofs.Terms.{signedBinomial, signed-binomial-le, scale-left, scale-right}
+use Rattle.build_scales.proofs.Sizes.{signedBinomial, signed-binomial-le}
+use Rattle.build_conditions.proofs.Terms.{scale-left, scale-right}
 use Rattle.build_conditions.proofs.entry.Statement.{statement}
 use Rattle.build_conditions.proofs.entry.Tie as tie
 

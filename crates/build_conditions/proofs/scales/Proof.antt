@@ -18,7 +18,8 @@ use Rattle.spec_spline.specs.Space.{Space}
 use Rattle.spec_spline.specs.Conditions.{scale}
 use Rattle.spec_spline.proofs.Conditions.{scale-pos}
 use Rattle.build_conditions.specs.Sides.{JoinIs}
-use Rattle.build_conditions.proofs.Terms.{leftScale, rightScale, scaleLimit, scale-le}
+use Rattle.build_conditions.proofs.Terms.{leftScale, rightScale}
+use Rattle.build_scales.proofs.Sizes.{scaleLimit, scale-le}
 use Rattle.build_conditions.proofs.scales.Statement.{statement}
 use Rattle.build_conditions.proofs.scales.Tie as tie
 

@@ -25,7 +25,7 @@ use Rattle.build_conditions.specs.declared.Join.{Join}
 use Rattle.base_fraction.specs.Fractions.{fractions}
 use Rattle.build_jumps.specs.Machine.{rowJumps}
 use Rattle.base_fraction.specs.declared.arrays.Fractions.{Fractions}
-use Rattle.build_jumps.proofs.Counted.{fits-answered, large-refused}
+use Rattle.build_counted.proofs.Counted.{fits-answered, large-refused}
 use Rattle.base_fraction.proofs.Fractions.{fractions-more}
 use Rattle.build_jumps.proofs.jumps.Statement.{statement}
 use Rattle.build_jumps.proofs.jumps.Tie as tie

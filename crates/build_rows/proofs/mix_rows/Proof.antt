@@ -27,7 +27,7 @@ use Rattle.build_cells.proofs.Buffer.{numerators-again, denominators-again, hol
 use Rattle.base_fraction.specs.Fractions.{fractions}
 use Rattle.base_fraction.specs.declared.arrays.Fractions.{Fractions}
 use Rattle.base_fraction.proofs.Fractions.{fraction-at}
-use Rattle.build_rows.specs.Rows.{LeavesIf}
+use Rattle.build_cells.specs.Left.{LeavesIf}
 use Rattle.spec_spline.proofs.TableFits.{newRow-fits}
 use Rattle.build_rows.proofs.Mixing.{set-fits}
 use Rattle.build_rows.proofs.mix_rows.Statement.{statement}

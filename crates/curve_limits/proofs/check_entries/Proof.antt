@@ -8,7 +8,7 @@ use Rattle.base_outcome.proofs.Outcome.{then-answers, then-refuses}
 use Rattle.build_space.specs.Machine.{space}
 use Rattle.base_outcome.specs.Machine.{legality}
 use Rattle.base_outcome.proofs.Machine.{legal-answers, refused-refuses, refusal-refused, legality-then}
-use Rattle.curve_limits.specs.Limits.{positionsChecked}
+use Rattle.curve_entries.specs.Limits.{positionsChecked}
 use Rattle.curve_limits.proofs.Refused.{entries-chain, coefficients-partial}
 use Rattle.curve_limits.proofs.check_entries.Statement.{statement}
 use Rattle.curve_limits.proofs.check_entries.Tie as tie

@@ -11,7 +11,7 @@ use Rattle.build_cells.specs.Held.{Holds, Shaped}
 use Rattle.build.specs.Leaves.{Leaves, toldStep, grown}
 use Rattle.build.proofs.Stepped.{Proper}
 use Rattle.build.proofs.Grown.{grown-proper, grown-denominators, grown-holds}
-use Rattle.build_rows.proofs.Left.{left-from}
+use Rattle.build_cells.proofs.Left.{left-from}
 use Rattle.build.proofs.step.join_step.Statement.{statement}
 use Rattle.build.proofs.step.join_step.Tie as tie
 

@@ -18,7 +18,7 @@ use Rattle.build_space.specs.Legal.{PartLegal}
 use Rattle.spec_spline.proofs.Space.{firstColumn-mono}
 use Rattle.build_space.proofs.Bounds.{first-column-zero, first-column-next, conditions-before-zero}
 use Rattle.build_space.proofs.Legal.{legal-degree-high, legal-row-count-sum}
-use Rattle.build_rows.proofs.Left.{Halted}
+use Rattle.build_cells.proofs.Left.{Halted}
 use Rattle.build_factors.specs.Machine.{refusalOf}
 use Rattle.build_factors.specs.declared.Refusal.{Refusal}
 use Rattle.build_factors.specs.declared.Refusal.the-variants as refusals

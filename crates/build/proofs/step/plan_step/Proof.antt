@@ -13,7 +13,8 @@ use Rattle.spec_spline.specs.Step.{jumps, span}
 use Rattle.spec_spline.proofs.Answers.{jumps-length, jumps-fit}
 use Rattle.build_cells.specs.Held.{Holds}
 use Rattle.build_conditions.specs.Sides.{JoinIs}
-use Rattle.build_jumps.proofs.Answers.{InArrays, jumps-in-arrays, jumps-refused, span-rows, span-refused}
+use Rattle.build_jumps.proofs.Answers.{InArrays, jumps-in-arrays, jumps-refused}
+use Rattle.build_span.proofs.Answers.{span-rows, span-refused}
 use Rattle.build_factors.proofs.Answers.{spanned}
 use Rattle.build.proofs.Plan.{plans-large, plans-shapeless, plans-factors}
 use Rattle.build.proofs.step.plan_step.Statement.{statement}

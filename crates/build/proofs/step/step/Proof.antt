@@ -14,7 +14,8 @@ use Rattle.build_cells.specs.Held.{Holds, Shaped}
 use Rattle.build_conditions.specs.Sides.{JoinIs}
 use Rattle.build_factors.specs.declared.Refusal.{Refusal}
 use Rattle.build_factors.specs.declared.Refusal.the-variants as refusals
-use Rattle.build_rows.specs.Rows.{UnitFactors, LeavesIf}
+use Rattle.build_rows.specs.Rows.{UnitFactors}
+use Rattle.build_cells.specs.Left.{LeavesIf}
 use Rattle.build.specs.Plan.{Plans, planned, renewed}
 use Rattle.build.specs.Leaves.{Leaves}
 use Rattle.build.proofs.Plan.{Ready, plan-ready, plan-ended}

@@ -16,7 +16,7 @@ use Rattle.build_space.proofs.Partial.{part-end-partial}
 use Rattle.base_outcome.specs.declared.Answer.the-variants.{Count, Refused}
 use Rattle.theorems_recovery.specs.Recovery.{recovered}
 use Rattle.theorems_recovery.specs.RecoveryCall.{listed, numeratorOf, denominatorOf}
-use Rattle.build_rows.proofs.Left.{Done}
+use Rattle.build_cells.proofs.Left.{Done}
 use Rattle.recover.specs.Leaves.{toldJoins, JoinsLeave, BeamEnds}
 use Rattle.recover.specs.declared.Joined.{Joined}
 use Rattle.recover.proofs.Beam.{part-done, rows-told, part-halted, refusal-told, Before, before-first, starts, rows-within, more-within, part-rows, part-count, part-more, part-refused, parts-done}

@@ -13,7 +13,7 @@ use Rattle.spec_spline.specs.Table.{Table, identity, numerators}
 use Rattle.build_cells.specs.Held.{Holds, Shaped}
 use Rattle.build_conditions.specs.Sides.{JoinIs}
 use Rattle.build_factors.specs.Jumps.{AllFit}
-use Rattle.build_rows.proofs.Left.{left-from}
+use Rattle.build_cells.proofs.Left.{left-from}
 use Rattle.build.proofs.Stepped.{Proper}
 use Rattle.build.proofs.Grown.{grown-proper, grown-denominators, grown-holds}
 use Rattle.theorems_recovery.specs.Recovery.{Combination, recoverOrders}

@@ -7,7 +7,7 @@ use Rattle.spec_spline.specs.Space.{Space, rowCount}
 use Rattle.spec_spline.specs.Table.{identity}
 use Rattle.build_space.specs.Machine.{space}
 use Rattle.build_space.proofs.Partial.{column-count-partial}
-use Rattle.build_rows.proofs.Left.{left-from}
+use Rattle.build_cells.proofs.Left.{left-from}
 use Rattle.build.proofs.Joins.{Beginning, beginning, begins}
 use Rattle.theorems_recovery.specs.Recovery.{recovered}
 use Rattle.recover.specs.Leaves.{toldJoins}

@@ -23,13 +23,14 @@ use Rattle.build_conditions.specs.Sides.{JoinIs}
 use Rattle.build_factors.specs.Machine.{refusalOf}
 use Rattle.build_factors.specs.declared.Refusal.{Refusal}
 use Rattle.build_factors.specs.declared.Refusal.the-variants as build-refusals
-use Rattle.build_rows.specs.Rows.{UnitFactors, LeavesIf}
-use Rattle.build_rows.proofs.Left.{kept-same}
+use Rattle.build_rows.specs.Rows.{UnitFactors}
+use Rattle.build_cells.specs.Left.{LeavesIf}
+use Rattle.build_cells.proofs.Left.{kept-same}
 use Rattle.build.specs.Plan.{Plans, planned, renewed}
 use Rattle.build.proofs.Plan.{step-planned, Ready, plan-ready, plan-ended}
 use Rattle.build.proofs.Leaving.{renewed-refuses}
 use Rattle.build.proofs.Joins.{named-eight, named-nine}
-use Rattle.recover_step.specs.Machine.{NonZero}
+use Rattle.recover_rows.specs.Machine.{NonZero}
 use Rattle.theorems_recovery.specs.Recovery.{recoverStep}
 use Rattle.recover.specs.Leaves.{coefficientsOf, undoing, Leaves}
 use Rattle.recover.specs.declared.RowCoefficients.{RowCoefficients}

@@ -15,8 +15,8 @@ use Rattle.base_outcome.specs.Outcome.{Outcome, answer, refusal, _then_, with-a
 use Rattle.base_outcome.proofs.Outcome.{then-answers, then-refuses, with-inverts, with-refuses}
 use Rattle.spec_spline.specs.Step.{Span}
 use Rattle.build.specs.Plan.{Planned}
-use Rattle.recover_step.specs.Machine.{undoneOf}
-use Rattle.recover_step.proofs.Rows.{renewed-length}
+use Rattle.recover_rows.specs.Machine.{undoneOf}
+use Rattle.recover_rows.proofs.Rows.{renewed-length}
 use Rattle.theorems_recovery.proofs.Refusals.{balanced-here}
 use Rattle.theorems_recovery.specs.Recovery.{balanced, undoneRows, undone}
 use Rattle.theorems_recovery.proofs.Answers.{rows-undone, undone-refuses-20}

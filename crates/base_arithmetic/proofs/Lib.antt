@@ -1,0 +1,2 @@
+-- The crate's hand-written modules. Tests: order by the parts.
+pub mod Tests

@@ -1,0 +1,43 @@
+-- The product of what the two calls answer is the scale, which is at most 20 times the square of 2,000.
+use borrow.Author.Needs.{needs}
+use native.Mathlib.Omega.{arith}
+use mathlib.Core.Path.{_≡_, ap₂}
+use lib.IntN.{pos, natAbs, _*ℤ_}
+use mir.Syntax.{w64}
+use mir.Val.{SFits}
+use mir.ValLaws.{toZ-ofZ}
+use Rattle.base_exact.proofs.Word.{sfits-abs}
+use Rattle.spec_spline.specs.Conditions.{scale}
+use Rattle.build_scales.proofs.Sizes.{scale-le}
+use Rattle.build_scales.proofs.scale.Statement.{statement}
+use Rattle.build_scales.proofs.scale.Tie as tie
+
+falling-requires : tie.Need-falling-requires
+falling-requires c κs = search needs
+
+power-requires : tie.Need-power-requires
+power-requires c κs = search needs
+
+module _ (c : tie.After-power) where
+  falling-fits : SFits w64 (c .before .falling .result)
+  falling-fits = record { sfits = c .before .falling .ok }
+
+  power-fits : SFits w64 (c .power .result)
+  power-fits = record { sfits = c .power .ok }
+
+  is : c .before .falling .result *ℤ c .power .result ≡ pos (scale (c .before .before .args .p) (c .before .before .args .k) (natAbs (c .before .before .args .other)))
+  is = let f = c .before .before .fits .other in ap₂ _*ℤ_ (c .before .falling .ensures) (simp toZ-ofZ at (c .power .ensures))
+
+  fits : SFits w64 (c .before .falling .result *ℤ c .power .result)
+  fits =
+      let b = c .before .before in
+      rw is (sfits-abs (omega (arith, scale-le (b .args .p) (b .args .k) (natAbs (b .args .other)) (b .pre .0) (b .pre .1 .0) (b .pre .1 .1 .1))))
+
+mul-result : tie.Need-mul-result
+mul-result c = let f = falling-fits c in let g = power-fits c in simp toZ-ofZ (fits c)
+
+returns : tie.Need-returns
+returns c = let f = falling-fits c in let g = power-fits c in let h = fits c in simp toZ-ofZ (is c)
+
+pub scale-spec : {M : Type 1} → statement M
+scale-spec = tie.close (tie.spec falling-requires power-requires mul-result returns)

@@ -1,0 +1,209 @@
+-- Before the turn at i the sum is that of the rows before it. Assumes nothing.
+use borrow.Author.Needs.{needs}
+use mathlib.Core.Path.{_≡_, sym, _∙_, ap}
+use mathlib.Core.List.{List}
+use Prim.Native.Nat.{ℕ, suc, _-_, _<_, _≤_}
+use native.Mathlib.Omega.{arith}
+use native.Mathlib.Numerals.{add-one}
+use lib.IntN.{pos}
+use lib.ListN.{length, getD}
+use mir.Syntax.{w64}
+use mir.Val.{SFits, ofZ}
+use mir.ValLaws.{toZ-ofZ}
+use Rattle.base_exact.specs.Rational.{ℚ, int}
+use Rattle.base_exact.proofs.Word.{ofZ-inj}
+use Rattle.base_exact.proofs.Rational.{zero-is, zero-num}
+use Rattle.base_exact.proofs.Order.{zero-test, nonzero-test}
+use Rattle.base_fraction.specs.Machine.{fraction, value, FractionFits}
+use Rattle.base_fraction.specs.declared.Fraction.{Fraction}
+use Rattle.base_fraction.proofs.Value.{fraction-int, value-int}
+use Rattle.base_fraction.proofs.Size.{int-fits}
+use Rattle.base_fraction.proofs.Answer.{fits-sized}
+use Rattle.base_fraction.proofs.Bounds.{num-fits}
+use Rattle.base_outcome.specs.Outcome.{answer}
+use Rattle.spec_spline.specs.Table.{entry}
+use Rattle.base_fraction.specs.Fractions.{fractions}
+use Rattle.base_fraction.proofs.Fractions.{fraction-at}
+use Rattle.build_counted.specs.Machine.{counted}
+use Rattle.base_fraction.specs.declared.arrays.Fractions.{Fractions}
+use Rattle.build_counted.proofs.Counted.{fits-answered, large-refused}
+use Rattle.theorems_recovery.specs.Recovery.{jumpSum}
+use Rattle.recover_balance.proofs.Sum.{sum-none, added, sum-more, sum-stays, balance-large, balance-zero, balance-not}
+use Rattle.recover_balance.proofs.balanced.Statement.{statement}
+use Rattle.recover_balance.proofs.balanced.Tie as tie
+
+record Inv (js cs : Fractions) (rows : ℕ) (sum : Fraction) (i : ℕ) : Type 0 where
+  within : i ≤ rows
+  fitted : FractionFits sum
+  lowest : sum ≡ fraction (value sum)
+  state : (j : ℕ) (qs ps : List ℚ) → js ≡ fractions qs → cs ≡ fractions ps → jumpSum j qs ps i ≡ answer (value sum)
+
+abbrev Inv-loop : tie.InvT-loop
+Inv-loop rows js cs sum₀ i₀ sum i = Inv js cs rows sum i
+
+abbrev μ-loop : tie.MeasureT-loop
+μ-loop rows js cs sum₀ i₀ sum i = rows - i
+
+loop-holds : tie.Need-loop-holds Inv-loop μ-loop
+loop-holds c = record {
+  within = omega arith;
+  fitted = rw (← fraction-int (pos 0)) (fits-sized (int (pos 0)) (int-fits (pos 0) (omega arith)));
+  lowest = sym (fraction-int (pos 0)) ∙ ap fraction (sym (value-int (pos 0)));
+  state = λ j qs ps e h. sum-none j qs ps ∙ ap answer (sym (value-int (pos 0)));
+}
+
+mul-cn : tie.Need-mul-cn Inv-loop μ-loop
+mul-cn c = omega arith
+
+element-copy-out-cn : tie.Need-element-copy-out-cn Inv-loop μ-loop
+element-copy-out-cn c = omega arith
+
+mul-cd : tie.Need-mul-cd Inv-loop μ-loop
+mul-cd c = omega arith
+
+element-copy-out-cd : tie.Need-element-copy-out-cd Inv-loop μ-loop
+element-copy-out-cd c = omega arith
+
+mul-jn : tie.Need-mul-jn Inv-loop μ-loop
+mul-jn c = omega arith
+
+element-copy-out-jn : tie.Need-element-copy-out-jn Inv-loop μ-loop
+element-copy-out-jn c = omega arith
+
+mul-jd : tie.Need-mul-jd Inv-loop μ-loop
+mul-jd c = omega arith
+
+element-copy-out-jd : tie.Need-element-copy-out-jd Inv-loop μ-loop
+element-copy-out-jd c = omega arith
+
+-- the four coefficients that are read
+module _ (c : tie.After-jd Inv-loop μ-loop) where
+  abbrev at : tie.At-loop Inv-loop μ-loop
+  at = c .before .before .before .before .before
+
+  abbrev i : ℕ
+  i = at .loop .i
+
+  low : i < 72
+  low = omega (arith, c .before .before .before .before .loop-test .taken, at .before .pre .0)
+
+  cn-fits : SFits w64 (getD (at .before .args .t2 .num) i (pos 0))
+  cn-fits = record { sfits = c .before .before .before .cn .given }
+
+  cd-fits : SFits w64 (getD (at .before .args .t2 .den) i (pos 0))
+  cd-fits = record { sfits = c .before .before .cd .given }
+
+  jn-fits : SFits w64 (getD (at .before .args .t1 .num) i (pos 0))
+  jn-fits = record { sfits = c .before .jn .given }
+
+  jd-fits : SFits w64 (getD (at .before .args .t1 .den) i (pos 0))
+  jd-fits = record { sfits = c .jd .given }
+
+add-term-requires : tie.Need-add-term-requires Inv-loop μ-loop
+add-term-requires c κs =
+    let l = at c in
+    let p = l .before .pre .1 in
+    let a = cn-fits c in
+    let b = cd-fits c in
+    let d = jn-fits c in
+    let e = jd-fits c in
+    simp toZ-ofZ (
+      l .loop .inv .fitted,
+      (
+        rw (fraction-at (p .1 .of) _ (p .1 .is) (i c) (low c)) (fits-sized _ (p .1 .fit (i c))),
+        rw (fraction-at (p .0 .of) _ (p .0 .is) (i c) (low c)) (fits-sized _ (p .0 .fit (i c))),
+      ),
+    )
+
+-- what the turn answers, in the definition's terms
+module _ (a : tie.After-add-term Inv-loop μ-loop) (j : ℕ) (qs ps : List ℚ) where
+  abbrev at-loop : tie.At-loop Inv-loop μ-loop
+  at-loop = at (a .before)
+
+  added-is : at-loop .before .args .t1 ≡ fractions qs → at-loop .before .args .t2 ≡ fractions ps → a .add-term .result ≡ counted (added j qs ps (at-loop .loop .i) (value (at-loop .loop .sum)))
+  added-is e h =
+      let c = a .before in
+      let x = cn-fits c in
+      let y = cd-fits c in
+      let u = jn-fits c in
+      let v = jd-fits c in
+      a .add-term .ensures .0 j (value (at-loop .loop .sum)) (entry ps (i c)) (entry qs (i c)) (at-loop .loop .inv .lowest) (simp toZ-ofZ (fraction-at ps _ h (i c) (low c))) (simp toZ-ofZ (fraction-at qs _ e (i c) (low c)))
+
+enum-known-next : tie.Need-enum-known-next Inv-loop μ-loop
+enum-known-next c = search needs
+
+enum-told : tie.Need-enum-told Inv-loop μ-loop
+enum-told c = search needs
+
+returns : tie.Need-returns Inv-loop μ-loop
+returns c j qs ps e h size =
+    let a = c .before .before in
+    let l = at-loop a j qs ps .loop in
+    let r = large-refused (added j qs ps (l .i) (value (l .sum))) (sym (added-is a j qs ps e h) ∙ c .enum-told .given .1) in
+    balance-large j qs ps (sum-stays j qs ps (suc (l .i)) (length qs) (omega (arith, size, a .before .before .before .before .before .loop-test .taken)) (sum-more j qs ps (l .i) (l .inv .state j qs ps e h) ∙ r .refuses))
+
+add-i : tie.Need-add-i Inv-loop μ-loop
+add-i c = omega arith
+
+loop-less : tie.Need-loop-less Inv-loop μ-loop
+loop-less c = omega arith
+
+loop-again : tie.Need-loop-again Inv-loop μ-loop
+loop-again c =
+    let k = c .before .next .given in
+    let a = c .before .before .before in
+    let l = at (a .before) .loop in
+    record {
+      within = omega arith;
+      fitted = a .add-term .ensures .1 (k .0 .0) (k .1);
+      lowest = let p = at (a .before) .before .pre .1 in fits-answered (added 0 (p .0 .of) (p .1 .of) (l .i) (value (l .sum))) (k .0 .0) (sym (added-is a 0 (p .0 .of) (p .1 .of) (p .0 .is) (p .1 .is)) ∙ k .1) .lowest;
+      state = λ j qs ps e h.
+          ap (jumpSum j qs ps) (add-one (l .i))
+          ∙ sum-more j qs ps (l .i) (l .inv .state j qs ps e h)
+          ∙ fits-answered (added j qs ps (l .i) (value (l .sum))) (k .0 .0) (sym (added-is a j qs ps e h) ∙ k .1) .answers;
+    }
+
+-- the sum of all rows
+module _ (c : tie.After-loop Inv-loop μ-loop) (j : ℕ) (qs ps : List ℚ) (e : c .before .before .args .t1 ≡ fractions qs) (h : c .before .before .args .t2 ≡ fractions ps) (size : length qs ≡ c .before .before .args .rows) where
+  whole : jumpSum j qs ps (length qs) ≡ answer (value (c .before .loop .sum))
+  whole = ap (jumpSum j qs ps) (let z : length qs ≡ c .before .loop .i = omega (arith, size, c .before .loop .inv .within, c .loop-test .left) in z) ∙ c .before .loop .inv .state j qs ps e h
+
+returns-2 : tie.Need-returns-2 Inv-loop μ-loop
+unfolding fraction
+returns-2 c j qs ps e h size =
+    let d = c .before in
+    let v = d .before .before .before .loop .inv in
+    let n = num-fits (v .fitted) in
+    balance-zero j qs ps (whole (d .before .before) j qs ps e h size) (zero-test (zero-is _ (sym (ap (λ (x : Fraction). x .num) (v .lowest)) ∙ ofZ-inj w64 _ (pos 0) n (search needs) (c .if1 .taken))))
+
+returns-3 : tie.Need-returns-3 Inv-loop μ-loop
+unfolding fraction
+returns-3 c j qs ps e h size =
+    let d = c .before in
+    let v = d .before .before .before .loop .inv in
+    balance-not j qs ps (whole (d .before .before) j qs ps e h size) (nonzero-test (λ z. c .if1 .left (ap (ofZ w64) (ap (λ (x : Fraction). x .num) (v .lowest) ∙ zero-num z))))
+
+pub balanced-spec : {M : Type 1} → statement M
+balanced-spec =
+    tie.close
+    (tie.spec
+    Inv-loop
+    μ-loop
+    loop-holds
+    mul-cn
+    element-copy-out-cn
+    mul-cd
+    element-copy-out-cd
+    mul-jn
+    element-copy-out-jn
+    mul-jd
+    element-copy-out-jd
+    add-term-requires
+    enum-known-next
+    enum-told
+    returns
+    add-i
+    loop-less
+    loop-again
+    returns-2
+    returns-3)

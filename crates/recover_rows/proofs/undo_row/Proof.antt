@@ -1,0 +1,190 @@
+-- Row f keeps its coefficient; the others take the share of the row before. Assumes nothing.
+use borrow.Author.Needs.{needs}
+use mathlib.Core.Path.{_≡_, sym, _∙_, ap, ap₂}
+use mathlib.Core.List.{List}
+use Prim.Native.Nat.{ℕ, suc, _+_, _-_, _<_}
+use native.Mathlib.Omega.{arith}
+use lib.IntN.{pos}
+use lib.ListN.{getD, drop}
+use lib.Seq.{getD-drop}
+use mir.Syntax.{w64}
+use mir.Val.{SFits}
+use mir.ValLaws.{toZ-ofZ}
+use Rattle.base_exact.specs.Rational.{ℚ, int}
+use Rattle.base_exact.proofs.Rational.{zero-is}
+use Rattle.base_fraction.specs.Machine.{fraction}
+use Rattle.base_fraction.specs.declared.Fraction.{Fraction}
+use Rattle.base_fraction.specs.declared.Counted.the-variants.{Fits}
+use Rattle.base_fraction.proofs.Answer.{fits-sized}
+use Rattle.base_outcome.specs.Outcome.{answer}
+use Rattle.spec_spline.specs.Table.{entry}
+use Rattle.base_fraction.proofs.Fractions.{fraction-at}
+use Rattle.build_counted.specs.Machine.{counted}
+use Rattle.theorems_recovery.specs.Recovery.{undoneCoefficient, undoneRow}
+use Rattle.recover_rows.proofs.undo_row.Statement.{statement}
+use Rattle.recover_rows.proofs.undo_row.Tie as tie
+
+module _ (j : ℕ) (us ps : List ℚ) (f i : ℕ) where
+  first-row : i ≡ f → undoneRow j us ps f (i - f) (drop f ps) ≡ answer (entry ps i)
+  first-row e = ap (λ n. undoneRow j us ps f n (drop f ps)) (let z : i - f ≡ 0 = omega (arith, e) in z) ∙ ap (λ k. answer (entry ps k)) (sym e)
+
+  later-row : f < i → undoneRow j us ps f (i - f) (drop f ps) ≡ undoneCoefficient j (entry us (i - f)) (entry ps i) (entry ps (i - 1))
+  later-row h =
+      ap (λ n. undoneRow j us ps f n (drop f ps)) next
+      ∙ ap₂ (undoneCoefficient j (entry us (suc (i - f - 1)))) (ap (entry ps) (let z : f + suc (i - f - 1) ≡ i = omega (arith, h) in z)) (getD-drop f ps (i - f - 1) (int (pos 0)) ∙ ap (entry ps) (let z : f + (i - f - 1) ≡ i - 1 = omega (arith, h) in z))
+      ∙ ap (λ n. undoneCoefficient j (entry us n) (entry ps i) (entry ps (i - 1))) (sym next)
+    where
+      next : i - f ≡ suc (i - f - 1)
+      next = omega (arith, h)
+
+mul-cn : tie.Need-mul-cn
+mul-cn c = search needs
+
+element-copy-out-cn : tie.Need-element-copy-out-cn
+element-copy-out-cn c = search needs
+
+mul-cd : tie.Need-mul-cd
+mul-cd c = search needs
+
+element-copy-out-cd : tie.Need-element-copy-out-cd
+element-copy-out-cd c = search needs
+
+-- the coefficients that are read: of the row itself
+module _ (c : tie.After-cd) where
+  abbrev start : tie.Start
+  start = c .before .before
+
+  cn-fits : SFits w64 (getD (start .args .t1 .num) (start .args .i) (pos 0))
+  cn-fits = record { sfits = c .before .cn .given }
+
+  cd-fits : SFits w64 (getD (start .args .t1 .den) (start .args .i) (pos 0))
+  cd-fits = record { sfits = c .cd .given }
+
+returns : tie.Need-returns
+unfolding counted
+returns c j us ps e h =
+    let s = start (c .before) in
+    let n = cn-fits (c .before) in
+    let d = cd-fits (c .before) in
+    ap Fits (simp toZ-ofZ (fraction-at ps _ h (s .args .i) (s .pre .1 .0))) ∙ sym (ap counted (first-row j us ps (s .args .f) (s .args .i) (c .if1 .taken)))
+
+sub-wn : tie.Need-sub-wn
+sub-wn c = omega arith
+
+mul-wn : tie.Need-mul-wn
+mul-wn c = omega arith
+
+element-copy-out-wn : tie.Need-element-copy-out-wn
+element-copy-out-wn c = omega arith
+
+sub-wd : tie.Need-sub-wd
+sub-wd c = omega arith
+
+mul-wd : tie.Need-mul-wd
+mul-wd c = omega arith
+
+element-copy-out-wd : tie.Need-element-copy-out-wd
+element-copy-out-wd c = omega arith
+
+sub-bn : tie.Need-sub-bn
+sub-bn c = omega arith
+
+mul-bn : tie.Need-mul-bn
+mul-bn c = omega arith
+
+element-copy-out-bn : tie.Need-element-copy-out-bn
+element-copy-out-bn c = omega arith
+
+sub-bd : tie.Need-sub-bd
+sub-bd c = omega arith
+
+mul-bd : tie.Need-mul-bd
+mul-bd c = omega arith
+
+element-copy-out-bd : tie.Need-element-copy-out-bd
+element-copy-out-bd c = omega arith
+
+-- of its factor and of the row before
+module _ (c : tie.After-bd) where
+  abbrev own : tie.After-cd
+  own = c .before .before .before .before .before
+
+  abbrev d : ℕ
+  d = start own .args .i - start own .args .f
+
+  later : start own .args .f < start own .args .i
+  later = omega (arith, start own .pre .0, c .before .before .before .before .if1 .left)
+
+  wn-fits : SFits w64 (getD (start own .args .t2 .num) d (pos 0))
+  wn-fits = record { sfits = c .before .before .before .wn .given }
+
+  wd-fits : SFits w64 (getD (start own .args .t2 .den) d (pos 0))
+  wd-fits = record { sfits = c .before .before .wd .given }
+
+  bn-fits : SFits w64 (getD (start own .args .t1 .num) (start own .args .i - 1) (pos 0))
+  bn-fits = record { sfits = c .before .bn .given }
+
+  bd-fits : SFits w64 (getD (start own .args .t1 .den) (start own .args .i - 1) (pos 0))
+  bd-fits = record { sfits = c .bd .given }
+
+undo-coefficient-requires : tie.Need-undo-coefficient-requires
+unfolding fraction
+undo-coefficient-requires c κs =
+    let s = start (own c) in
+    let n = s .pre .1 .1 .0 in
+    let u = s .pre .1 .1 .1 .0 in
+    let a1 = cn-fits (own c) in
+    let a2 = cd-fits (own c) in
+    let a3 = wn-fits c in
+    let a4 = wd-fits c in
+    let a5 = bn-fits c in
+    let a6 = bd-fits c in
+    let e = fraction-at (u .of) _ (u .is) (d c) (omega (arith, s .pre .1 .0)) in
+    simp toZ-ofZ (
+      record { of = entry (u .of) (d c); is = e; fit = u .fit (d c); low = u .low (d c); high = u .high (d c) },
+      (
+        (λ z. s .pre .1 .1 .1 .1 (u .of) (u .is) (d c) (omega arith) (zero-is (entry (u .of) (d c)) (sym (ap (λ (x : Fraction). x .num) e) ∙ z))),
+        (
+          rw (fraction-at (n .of) _ (n .is) (s .args .i) (s .pre .1 .0)) (fits-sized _ (n .fit (s .args .i))),
+          rw (fraction-at (n .of) _ (n .is) (s .args .i - 1) (omega (arith, s .pre .1 .0))) (fits-sized _ (n .fit (s .args .i - 1))),
+        ),
+      ),
+    )
+
+returns-2 : tie.Need-returns-2
+returns-2 c j us ps e h =
+    let b = c .before in
+    let s = start (own b) in
+    let a1 = cn-fits (own b) in
+    let a2 = cd-fits (own b) in
+    let a3 = wn-fits b in
+    let a4 = wd-fits b in
+    let a5 = bn-fits b in
+    let a6 = bd-fits b in
+    c .undo-coefficient .ensures j (entry us (d b)) (entry ps (s .args .i)) (entry ps (s .args .i - 1)) (simp toZ-ofZ (fraction-at us _ e (d b) (omega (arith, s .pre .1 .0)))) (simp toZ-ofZ (fraction-at ps _ h (s .args .i) (s .pre .1 .0)))
+    (simp toZ-ofZ (fraction-at ps _ h (s .args .i - 1) (omega (arith, s .pre .1 .0))))
+    ∙ sym (ap counted (later-row j us ps (s .args .f) (s .args .i) (later b)))
+
+pub undo-row-spec : {M : Type 1} → statement M
+undo-row-spec =
+    tie.close
+    (tie.spec
+    mul-cn
+    element-copy-out-cn
+    mul-cd
+    element-copy-out-cd
+    returns
+    sub-wn
+    mul-wn
+    element-copy-out-wn
+    sub-wd
+    mul-wd
+    element-copy-out-wd
+    sub-bn
+    mul-bn
+    element-copy-out-bn
+    sub-bd
+    mul-bd
+    element-copy-out-bd
+    undo-coefficient-requires
+    returns-2)

@@ -1,3 +1,0 @@
--- The crate's hand-written modules.
-pub mod FractionFits
-pub mod Rows

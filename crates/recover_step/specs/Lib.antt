@@ -1,2 +1,0 @@
--- What the contracts of recover_step cite beside the definitions of crate theorems_recovery.
-pub mod Machine
