@@ -57,7 +57,8 @@ floorDiv-exact z d p = sym (floorDiv-unique z (z *ℤ pos d) d p (≤ℤ-refl _)
 -- ---- the nearest integer to a quotient
 
 -- twice the error of q as the quotient z / d, by its parts
-error-parts : (q z : ℤ) (d : ℕ) → Z.up (pos 2 *ℤ (z -ℤ q *ℤ pos d)) + 2 * Z.dn z + 2 * Z.up q * d ≡ Z.dn (pos 2 *ℤ (z -ℤ q *ℤ pos d)) + 2 * Z.up z + 2 * Z.dn q * d
+error-parts : (q z : ℤ) (d : ℕ) → Z.up (pos 2 *ℤ (z -ℤ q *ℤ pos d)) + 2 * Z.dn z + 2 * Z.up q * d ≡ Z.dn (pos 2 *ℤ (z -ℤ q *ℤ pos d)) + 2 * Z.up z
+    + 2 * Z.dn q * d
 error-parts q z d = omega (arith, Z.bal-* (pos 2) (z -ℤ q *ℤ pos d), Z.bal-+ z (negℤ (q *ℤ pos d)), Z.bal-neg (q *ℤ pos d), Z.bal-* q (pos d))
 
 -- 2 z + d by its parts
@@ -68,21 +69,57 @@ shifted-parts z d = omega (arith, Z.bal-+ (pos 2 *ℤ z) (pos d), Z.bal-* (pos 2
 pub nearest-error : (z : ℤ) (d : ℕ) → 0 < d → (negℤ (pos d) ≤ℤ (pos 2 *ℤ (z -ℤ nearest z d *ℤ pos d))) × ((pos 2 *ℤ (z -ℤ nearest z d *ℤ pos d)) <ℤ pos d)
 unfolding nearest
 nearest-error z d p = let q = floorDiv (pos 2 *ℤ z +ℤ pos d) (2 * d) in (
-  Z.≤-in (negℤ (pos d)) (pos 2 *ℤ (z -ℤ q *ℤ pos d)) (omega (arith, Z.≤-out _ _ (floorDiv-le (pos 2 *ℤ z +ℤ pos d) (2 * d) (omega arith)), Z.bal-neg (pos d), error-parts q z d, shifted-parts z d, Z.bal-* q (pos (2 * d)))),
-  Z.<-in (pos 2 *ℤ (z -ℤ q *ℤ pos d)) (pos d) (omega (arith, Z.<-out _ _ (lt-floorDiv (pos 2 *ℤ z +ℤ pos d) (2 * d) (omega arith)), error-parts q z d, shifted-parts z d, Z.bal-* (q +ℤ pos 1) (pos (2 * d)), ap (λ t. t * d) (Z.bal-+ q (pos 1)))),
+  Z.≤-in (negℤ (pos d)) (pos 2 *ℤ (z -ℤ q *ℤ pos d)) (omega (
+    arith,
+    Z.≤-out _ _ (floorDiv-le (pos 2 *ℤ z +ℤ pos d) (2 * d) (omega arith)),
+    Z.bal-neg (pos d),
+    error-parts q z d,
+    shifted-parts z d,
+    Z.bal-* q (pos (2 * d)),
+  )),
+  Z.<-in (pos 2 *ℤ (z -ℤ q *ℤ pos d)) (pos d) (omega (
+    arith,
+    Z.<-out _ _ (lt-floorDiv (pos 2 *ℤ z +ℤ pos d) (2 * d) (omega arith)),
+    error-parts q z d,
+    shifted-parts z d,
+    Z.bal-* (q +ℤ pos 1) (pos (2 * d)),
+    ap (λ t. t * d) (Z.bal-+ q (pos 1)),
+  )),
 )
 
 -- and no other number is
 pub nearest-unique : (q z : ℤ) (d : ℕ) → 0 < d → negℤ (pos d) ≤ℤ (pos 2 *ℤ (z -ℤ q *ℤ pos d)) → (pos 2 *ℤ (z -ℤ q *ℤ pos d)) <ℤ pos d → q ≡ nearest z d
 unfolding nearest
 nearest-unique q z d p h k = floorDiv-unique q (pos 2 *ℤ z +ℤ pos d) (2 * d) (omega arith)
-    (Z.≤-in (q *ℤ pos (2 * d)) (pos 2 *ℤ z +ℤ pos d) (omega (arith, Z.≤-out _ _ h, Z.bal-neg (pos d), error-parts q z d, shifted-parts z d, Z.bal-* q (pos (2 * d)))))
-    (Z.<-in (pos 2 *ℤ z +ℤ pos d) ((q +ℤ pos 1) *ℤ pos (2 * d)) (omega (arith, Z.<-out _ _ k, error-parts q z d, shifted-parts z d, Z.bal-* (q +ℤ pos 1) (pos (2 * d)), ap (λ t. t * d) (Z.bal-+ q (pos 1)))))
+    (Z.≤-in (q *ℤ pos (2 * d)) (pos 2 *ℤ z +ℤ pos d) (omega (
+      arith,
+      Z.≤-out _ _ h,
+      Z.bal-neg (pos d),
+      error-parts q z d,
+      shifted-parts z d,
+      Z.bal-* q (pos (2 * d)),
+    )))
+    (Z.<-in (pos 2 *ℤ z +ℤ pos d) ((q +ℤ pos 1) *ℤ pos (2 * d))
+    (omega (
+      arith,
+      Z.<-out _ _ k,
+      error-parts q z d,
+      shifted-parts z d,
+      Z.bal-* (q +ℤ pos 1) (pos (2 * d)),
+      ap (λ t. t * d) (Z.bal-+ q (pos 1)),
+    )))
 
 pub nearest-mono : (x y : ℤ) (d : ℕ) → 0 < d → x ≤ℤ y → nearest x d ≤ℤ nearest y d
 unfolding nearest
 nearest-mono x y d p h = floorDiv-mono (pos 2 *ℤ x +ℤ pos d) (pos 2 *ℤ y +ℤ pos d) (2 * d) (omega arith)
-    (Z.≤-in (pos 2 *ℤ x +ℤ pos d) (pos 2 *ℤ y +ℤ pos d) (omega (arith, Z.≤-out x y h, Z.bal-+ (pos 2 *ℤ x) (pos d), Z.bal-+ (pos 2 *ℤ y) (pos d), Z.bal-* (pos 2) x, Z.bal-* (pos 2) y)))
+    (Z.≤-in (pos 2 *ℤ x +ℤ pos d) (pos 2 *ℤ y +ℤ pos d) (omega (
+      arith,
+      Z.≤-out x y h,
+      Z.bal-+ (pos 2 *ℤ x) (pos d),
+      Z.bal-+ (pos 2 *ℤ y) (pos d),
+      Z.bal-* (pos 2) x,
+      Z.bal-* (pos 2) y,
+    )))
 
 -- a multiple of the divisor comes out
 pub nearest-add : (x z : ℤ) (d : ℕ) → 0 < d → nearest (x +ℤ z *ℤ pos d) d ≡ nearest x d +ℤ z
@@ -103,7 +140,15 @@ nearest-exact z d p = sym (nearest-unique z (z *ℤ pos d) d p
 -- a number at most k times the divisor in size
 pub nearest-abs : (z : ℤ) (d k : ℕ) → 0 < d → natAbs z ≤ k * d → natAbs (nearest z d) ≤ k
 nearest-abs z d k p h = Z.abs-le-in (nearest z d) k
-    (subst (λ t. t ≤ℤ nearest z d) (nearest-exact (negℤ (pos k)) d p) (nearest-mono (negℤ (pos k) *ℤ pos d) z d p (Z.≤-in (negℤ (pos k) *ℤ pos d) z (omega (arith, Z.bal-* (negℤ (pos k)) (pos d), ap (λ t. t * d) (Z.bal-neg (pos k) .0), ap (λ t. t * d) (Z.bal-neg (pos k) .1), Z.abs-parts z)))))
+    (subst (λ t. t ≤ℤ nearest z d) (nearest-exact (negℤ (pos k)) d p)
+    (nearest-mono (negℤ (pos k) *ℤ pos d) z d p
+    (Z.≤-in (negℤ (pos k) *ℤ pos d) z (omega (
+      arith,
+      Z.bal-* (negℤ (pos k)) (pos d),
+      ap (λ t. t * d) (Z.bal-neg (pos k) .0),
+      ap (λ t. t * d) (Z.bal-neg (pos k) .1),
+      Z.abs-parts z,
+    )))))
     (subst (λ t. nearest z d ≤ℤ t) (nearest-exact (pos k) d p) (nearest-mono z (pos k *ℤ pos d) d p (Z.≤-in _ _ (omega (arith, Z.abs-parts z)))))
 
 -- ---- the floor of a rational number: its two bounds
@@ -123,7 +168,9 @@ lt-floor q = lt-int q (floorDiv (q .num) (den q) +ℤ pos 1) (lt-floorDiv (q .nu
 
 -- rounding down loses less than one
 pub floor-gap : (q : ℚ) → q -ᵠ int (floor q) <ᵠ int (pos 1)
-floor-gap q = lt-by (lt-pos (subst (λ t. q <ᵠ t) (int-add (floor q) (pos 1)) (lt-floor q))) (ring ℚ-ring (q ∷ int (floor q) ∷ []) (search readsℚ) (search readsℚ) refl)
+floor-gap q =
+    lt-by (lt-pos (subst (λ t. q <ᵠ t) (int-add (floor q) (pos 1)) (lt-floor q)))
+    (ring ℚ-ring (q ∷ int (floor q) ∷ []) (search readsℚ) (search readsℚ) refl)
 
 -- ---- the bounds determine it
 pub le-floor : (z : ℤ) (q : ℚ) → int z ≤ᵠ q → z ≤ℤ floor q

@@ -7,7 +7,8 @@ use mathlib.Core.Bool.{Bool, true, false, not, cond}
 use mathlib.Core.List.{List}
 use Prim.Native.Nat.{ℕ, zero, suc, _+_, _*_, _-_, _/_, _<_, _≤_}
 use native.Mathlib.Omega.{arith}
-use native.Mathlib.Nat.{eq-or-lt-of-le, mul-pos, mul-le-mul, mul-le-mul-right, mul-lt-mul-of-pos-right, le-of-mul-le-mul-right, eq-of-mul-eq-mul-right, div-add-mod', mod-lt}
+use native.Mathlib.Nat.{eq-or-lt-of-le, mul-pos, mul-le-mul, mul-le-mul-right, mul-lt-mul-of-pos-right, le-of-mul-le-mul-right}
+use native.Mathlib.Nat.{eq-of-mul-eq-mul-right, div-add-mod', mod-lt}
 use lib.Dec.{T, ltb, ltb→lt, nltb→le, leb→le, le→leb, lt→ltb}
 use lib.IntN.{ℤ, pos, negsuc, subℕ, _+ℤ_, _-ℤ_, _*ℤ_, negℤ, natAbs}
 use lib.Signed.{_≤ℤ_, _<ℤ_, nonNeg, yes-nonNeg}
@@ -63,10 +64,28 @@ ext (negsuc a) (negsuc b) h = ap negsuc (omega arith)
 
 -- ---- the ring
 pub *-assoc : (x y z : ℤ) → x *ℤ y *ℤ z ≡ x *ℤ (y *ℤ z)
-*-assoc x y z = ext _ _ (omega (arith, bal-* (x *ℤ y) z, bal-* x (y *ℤ z), ap (λ t. t * up z) (bal-* x y), ap (λ t. t * dn z) (bal-* x y), ap (λ t. up x * t) (bal-* y z), ap (λ t. dn x * t) (bal-* y z)))
+*-assoc x y z =
+    ext _ _ (omega (
+      arith,
+      bal-* (x *ℤ y) z,
+      bal-* x (y *ℤ z),
+      ap (λ t. t * up z) (bal-* x y),
+      ap (λ t. t * dn z) (bal-* x y),
+      ap (λ t. up x * t) (bal-* y z),
+      ap (λ t. dn x * t) (bal-* y z),
+    ))
 
 pub *-+ : (x y z : ℤ) → x *ℤ (y +ℤ z) ≡ x *ℤ y +ℤ x *ℤ z
-*-+ x y z = ext _ _ (omega (arith, bal-* x (y +ℤ z), bal-+ (x *ℤ y) (x *ℤ z), bal-* x y, bal-* x z, ap (λ t. up x * t) (bal-+ y z), ap (λ t. dn x * t) (bal-+ y z)))
+*-+ x y z =
+    ext _ _ (omega (
+      arith,
+      bal-* x (y +ℤ z),
+      bal-+ (x *ℤ y) (x *ℤ z),
+      bal-* x y,
+      bal-* x z,
+      ap (λ t. up x * t) (bal-+ y z),
+      ap (λ t. dn x * t) (bal-+ y z),
+    ))
 
 pub *-one : (x : ℤ) → x *ℤ pos 1 ≡ x
 *-one x = ext _ _ (omega (arith, bal-* x (pos 1)))
@@ -78,10 +97,30 @@ pub neg-is : (x : ℤ) → negℤ x ≡ negsuc 0 *ℤ x
 neg-is x = ext _ _ (omega (arith, bal-neg x, bal-* (negsuc 0) x))
 
 pub neg-* : (x y : ℤ) → negℤ x *ℤ y ≡ negℤ (x *ℤ y)
-neg-* x y = ext _ _ (omega (arith, bal-* (negℤ x) y, bal-* x y, bal-neg (x *ℤ y), ap (λ t. t * up y) (bal-neg x .0), ap (λ t. t * dn y) (bal-neg x .0), ap (λ t. t * up y) (bal-neg x .1), ap (λ t. t * dn y) (bal-neg x .1)))
+neg-* x y =
+    ext _ _ (omega (
+      arith,
+      bal-* (negℤ x) y,
+      bal-* x y,
+      bal-neg (x *ℤ y),
+      ap (λ t. t * up y) (bal-neg x .0),
+      ap (λ t. t * dn y) (bal-neg x .0),
+      ap (λ t. t * up y) (bal-neg x .1),
+      ap (λ t. t * dn y) (bal-neg x .1),
+    ))
 
 pub *-neg : (x y : ℤ) → x *ℤ negℤ y ≡ negℤ (x *ℤ y)
-*-neg x y = ext _ _ (omega (arith, bal-* x (negℤ y), bal-* x y, bal-neg (x *ℤ y), ap (λ t. up x * t) (bal-neg y .0), ap (λ t. dn x * t) (bal-neg y .0), ap (λ t. up x * t) (bal-neg y .1), ap (λ t. dn x * t) (bal-neg y .1)))
+*-neg x y =
+    ext _ _ (omega (
+      arith,
+      bal-* x (negℤ y),
+      bal-* x y,
+      bal-neg (x *ℤ y),
+      ap (λ t. up x * t) (bal-neg y .0),
+      ap (λ t. dn x * t) (bal-neg y .0),
+      ap (λ t. up x * t) (bal-neg y .1),
+      ap (λ t. dn x * t) (bal-neg y .1),
+    ))
 
 abbrev pub ℤ-ring : CRing ℤ
 ℤ-ring = record {
@@ -214,7 +253,8 @@ pub *-pos : (x y : ℤ) → pos 0 ≤ℤ x → pos 0 ≤ℤ y → pos 0 ≤ℤ (
 *-pos (negsuc a) y h k = absurd (h .le)
 
 pub *-pos-< : (x y : ℤ) → pos 0 <ℤ x → pos 0 <ℤ y → pos 0 <ℤ (x *ℤ y)
-*-pos-< (pos a) (pos b) h k = <-in _ _ (omega (arith, mul-pos {m = a} {n = b} (omega (arith, <-out (pos 0) (pos a) h)) (omega (arith, <-out (pos 0) (pos b) k))))
+*-pos-< (pos a) (pos b) h k =
+    <-in _ _ (omega (arith, mul-pos {m = a} {n = b} (omega (arith, <-out (pos 0) (pos a) h)) (omega (arith, <-out (pos 0) (pos b) k))))
 *-pos-< (pos a) (negsuc b) h k = absurd (k .lt)
 *-pos-< (negsuc a) y h k = absurd (h .lt)
 
@@ -301,7 +341,8 @@ floorDiv-le (negsuc a) d h = ≤-in _ _ (omega (arith, bal-* (negsuc (a / d)) (p
 
 pub lt-floorDiv : (x : ℤ) (d : ℕ) → 0 < d → x <ℤ ((floorDiv x d +ℤ pos 1) *ℤ pos d)
 lt-floorDiv (pos a) d h = <-in _ _ (omega (arith, bal-* (pos (a / d) +ℤ pos 1) (pos d), div-add-mod' a d, mod-lt a h))
-lt-floorDiv (negsuc a) d h = <-in _ _ (omega (arith, bal-* (negsuc (a / d) +ℤ pos 1) (pos d), ap (λ t. t * d) (bal-+ (negsuc (a / d)) (pos 1)), div-add-mod' a d))
+lt-floorDiv (negsuc a) d h =
+    <-in _ _ (omega (arith, bal-* (negsuc (a / d) +ℤ pos 1) (pos d), ap (λ t. t * d) (bal-+ (negsuc (a / d)) (pos 1)), div-add-mod' a d))
 
 pub le-floorDiv : (z x : ℤ) (d : ℕ) → 0 < d → (z *ℤ pos d) ≤ℤ x → z ≤ℤ floorDiv x d
 le-floorDiv z x d p h = <-suc-≤ z (floorDiv x d) (*-cancel-< z (floorDiv x d +ℤ pos 1) d (≤-<-trans _ x _ h (lt-floorDiv x d p)))

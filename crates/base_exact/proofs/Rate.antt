@@ -46,12 +46,41 @@ over-bounds half enough close a b t q low high least most =
     let left = bal-+ (a *ℤ pos 131072 +ℤ b) (negℤ (q *ℤ pos 1125899906842624)) in
     let first = bal-+ a t in
     let second = bal-+ (a +ℤ t) (pos half) in (
-      ≤-in (negsuc 562950515982335) (over a b q) (omega (arith, scaled, added, removed, turned, left, first, second, ≤-out _ _ low, ≤-out _ _ least, bal-* t (pos 131072), bal-* q (pos 8589934592))),
-      ≤-in (over a b q) (pos 562949416550399) (omega (arith, scaled, added, removed, turned, left, first, second, <-out _ _ high, <-out _ _ most, bal-+ t (pos 1), bal-* (t +ℤ pos 1) (pos 131072), bal-+ q (pos 1), bal-* (q +ℤ pos 1) (pos 8589934592))),
+      ≤-in (negsuc 562950515982335) (over a b q) (omega (
+        arith,
+        scaled,
+        added,
+        removed,
+        turned,
+        left,
+        first,
+        second,
+        ≤-out _ _ low,
+        ≤-out _ _ least,
+        bal-* t (pos 131072),
+        bal-* q (pos 8589934592),
+      )),
+      ≤-in (over a b q) (pos 562949416550399) (omega (
+        arith,
+        scaled,
+        added,
+        removed,
+        turned,
+        left,
+        first,
+        second,
+        <-out _ _ high,
+        <-out _ _ most,
+        bal-+ t (pos 1),
+        bal-* (t +ℤ pos 1) (pos 131072),
+        bal-+ q (pos 1),
+        bal-* (q +ℤ pos 1) (pos 8589934592),
+      )),
     )
 
 -- ---- the quotient is the nearest number
-module _ (half : ℕ) (enough : 4294971392 ≤ half) (close : half ≤ 4294971588) (u h l x : ℤ) (d : ℕ) (p : 0 < d) (short : d ≤ 512000) (size : natAbs x ≤ 536870912) (lacks : natAbs (lack u h l (pos d)) ≤ d) where
+module _ (half : ℕ) (enough : 4294971392 ≤ half) (close : half ≤ 4294971588) (u h l x : ℤ) (d : ℕ) (p : 0 < d) (short : d ≤ 512000)
+    (size : natAbs x ≤ 536870912) (lacks : natAbs (lack u h l (pos d)) ≤ d) where
   abbrev quotient : ℤ
   quotient = floorDiv (x *ℤ h +ℤ floorDiv (x *ℤ l) 131072 +ℤ pos half) 8589934592
 
@@ -74,11 +103,37 @@ module _ (half : ℕ) (enough : 4294971392 ≤ half) (close : half ≤ 429497158
       let parts = bal-+ (y *ℤ pos d) z in
       let twice = bal-* (pos 2) e in
       nearest-unique q (u *ℤ x) d p
-      (≤-in (negℤ (pos d)) (pos 2 *ℤ e) (omega (arith, above, below, scaled, parts, twice, abs-parts z, lacking, bal-neg (pos d), ≤-out _ _ (*-mono _ _ d low), bal-* (negsuc 562950515982335) (pos d))))
-      (<-in (pos 2 *ℤ e) (pos d) (omega (arith, above, below, scaled, parts, twice, abs-parts z, lacking, ≤-out _ _ (*-mono _ _ d high), bal-* (pos 562949416550399) (pos d))))
+      (≤-in (negℤ (pos d)) (pos 2 *ℤ e) (omega (
+        arith,
+        above,
+        below,
+        scaled,
+        parts,
+        twice,
+        abs-parts z,
+        lacking,
+        bal-neg (pos d),
+        ≤-out _ _ (*-mono _ _ d low),
+        bal-* (negsuc 562950515982335) (pos d),
+      )))
+      (<-in (pos 2 *ℤ e) (pos d) (omega (
+        arith,
+        above,
+        below,
+        scaled,
+        parts,
+        twice,
+        abs-parts z,
+        lacking,
+        ≤-out _ _ (*-mono _ _ d high),
+        bal-* (pos 562949416550399) (pos d),
+      )))
 
   pub quotient-nearest : quotient ≡ nearest (u *ℤ x) d
   quotient-nearest =
-      let b = over-bounds half enough close (x *ℤ h) (x *ℤ l) (floorDiv (x *ℤ l) 131072) quotient (floorDiv-le (x *ℤ l) 131072 (omega arith)) (lt-floorDiv (x *ℤ l) 131072 (omega arith))
-      (floorDiv-le (x *ℤ h +ℤ floorDiv (x *ℤ l) 131072 +ℤ pos half) 8589934592 (omega arith)) (lt-floorDiv (x *ℤ h +ℤ floorDiv (x *ℤ l) 131072 +ℤ pos half) 8589934592 (omega arith)) in
+      let b =
+      over-bounds half enough close (x *ℤ h) (x *ℤ l) (floorDiv (x *ℤ l) 131072) quotient (floorDiv-le (x *ℤ l) 131072 (omega arith))
+      (lt-floorDiv (x *ℤ l) 131072 (omega arith))
+      (floorDiv-le (x *ℤ h +ℤ floorDiv (x *ℤ l) 131072 +ℤ pos half) 8589934592 (omega arith))
+      (lt-floorDiv (x *ℤ h +ℤ floorDiv (x *ℤ l) 131072 +ℤ pos half) 8589934592 (omega arith)) in
       bounded quotient (b .0) (b .1)

@@ -48,7 +48,14 @@ mk-is n d h =
 
 -- equal cross products
 pub q-ext : (p q : ℚ) → p .num *ℤ pos (den q) ≡ q .num *ℤ pos (den p) → p ≡ q
-q-ext p q e = λ i. record { num = nums i; dm = dms i; low = isProp→PathP (λ j. T (eqb (gcd (natAbs (nums j)) (suc (dms j))) 1)) (λ j. T-prop (eqb (gcd (natAbs (nums j)) (suc (dms j))) 1)) (p .low) (q .low) i }
+q-ext p q e =
+    λ i. record {
+      num = nums i;
+      dm = dms i;
+      low =
+          isProp→PathP (λ j. T (eqb (gcd (natAbs (nums j)) (suc (dms j))) 1)) (λ j. T-prop (eqb (gcd (natAbs (nums j)) (suc (dms j))) 1)) (p .low) (q .low)
+          i;
+    }
   where
     abs-eq : natAbs (p .num) * den q ≡ natAbs (q .num) * den p
     abs-eq = sym (abs-mul (p .num) (pos (den q))) ∙ ap natAbs e ∙ abs-mul (q .num) (pos (den p))
@@ -247,7 +254,10 @@ signed-self (negsuc n) = refl
 
 -- a pair that is in lowest terms is kept
 pub mk-reduced : (n : ℤ) (d : ℕ) (h : 0 < d) → gcd (natAbs n) d ≡ 1 → (mk n d h .num ≡ n) × (den (mk n d h) ≡ d)
-mk-reduced n d h e = (mk-num n d h ∙ ap (λ g. signed n (natAbs n / g)) e ∙ ap (signed n) (div-one (natAbs n)) ∙ signed-self n, mk-den n d h ∙ ap (λ g. d / g) e ∙ div-one d)
+mk-reduced n d h e = (
+  mk-num n d h ∙ ap (λ g. signed n (natAbs n / g)) e ∙ ap (signed n) (div-one (natAbs n)) ∙ signed-self n,
+  mk-den n d h ∙ ap (λ g. d / g) e ∙ div-one d,
+)
 
 pub mk-self : (q : ℚ) (h : 0 < den q) → mk (q .num) (den q) h ≡ q
 mk-self q h = is-unique (mk-is (q .num) (den q) h) (self q) refl

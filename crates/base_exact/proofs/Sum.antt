@@ -96,7 +96,8 @@ sum-only zero k h z = absurd (omega arith)
 sum-only (suc n) k {f} h z = go (λ l. sum-only n k {f = f} l (λ i l. z i (omega arith))) (eq-or-lt-of-le h)
   where
     go : (k < n → sum n f ≡ f k) → (suc k ≡ suc n) ⊎ (suc k < suc n) → sum n f +ᵠ f n ≡ f k
-    go ih (inl e) = ap₂ _+ᵠ_ (sum-zero n {f = f} (λ i l. z i (omega arith) (omega arith))) (ap f (let t : n ≡ k = omega arith in t)) ∙ ring ℚ-ring (f k ∷ []) (search readsℚ) (search readsℚ) refl
+    go ih (inl e) = ap₂ _+ᵠ_ (sum-zero n {f = f} (λ i l. z i (omega arith) (omega arith))) (ap f (let t : n ≡ k = omega arith in t))
+        ∙ ring ℚ-ring (f k ∷ []) (search readsℚ) (search readsℚ) refl
     go ih (inr l) = ap₂ _+ᵠ_ (ih (omega arith)) (z n (omega arith) (omega arith)) ∙ add-zero (f k)
 
 -- ---- order
@@ -117,7 +118,10 @@ sum-mono-at zero k l h s = absurd (omega arith)
 sum-mono-at (suc n) k {f} {g} l h s = go (λ l. sum-mono-at n k {f = f} {g = g} l (λ i l. h i (omega arith)) s) (eq-or-lt-of-le l)
   where
     go : (k < n → sum n f <ᵠ sum n g) → (suc k ≡ suc n) ⊎ (suc k < suc n) → sum n f +ᵠ f n <ᵠ sum n g +ᵠ g n
-    go ih (inl e) = lt-by (pos-add (lt-pos (subst (λ t. f t <ᵠ g t) (let t : k ≡ n = omega arith in t) s)) (le-nn (sum-mono n {f = f} {g = g} (λ i l. h i (omega arith)))))
+    go ih (inl e) =
+        lt-by
+        (pos-add (lt-pos (subst (λ t. f t <ᵠ g t) (let t : k ≡ n = omega arith in t) s))
+        (le-nn (sum-mono n {f = f} {g = g} (λ i l. h i (omega arith)))))
         (ring ℚ-ring (sum n f ∷ f n ∷ sum n g ∷ g n ∷ []) (search reads) (search reads) refl)
     go ih (inr m) = +-mono-< (ih (omega arith)) (h n (omega arith))
 
@@ -131,7 +135,9 @@ sum-place-le zero k l h = absurd (omega arith)
 sum-place-le (suc n) k {f} l h = go (λ m. sum-place-le n k {f = f} m (λ i m. h i (omega arith))) (eq-or-lt-of-le l)
   where
     go : (k < n → f k ≤ᵠ sum n f) → (suc k ≡ suc n) ⊎ (suc k < suc n) → f k ≤ᵠ sum n f +ᵠ f n
-    go ih (inl e) = le-by (sum-nn n {f = f} (λ i m. h i (omega arith))) (ring ℚ-ring (sum n f ∷ f n ∷ []) (search reads) (search reads) refl ∙ ap (λ j. sum n f +ᵠ f n -ᵠ f j) (let z : n ≡ k = omega arith in z))
+    go ih (inl e) =
+        le-by (sum-nn n {f = f} (λ i m. h i (omega arith))) (ring ℚ-ring (sum n f ∷ f n ∷ []) (search reads) (search reads) refl
+        ∙ ap (λ j. sum n f +ᵠ f n -ᵠ f j) (let z : n ≡ k = omega arith in z))
     go ih (inr m) = le-by (nn-add (le-nn (ih (omega arith))) (h n (omega arith))) (ring ℚ-ring (sum n f ∷ f n ∷ f k ∷ []) (search reads) (search reads) refl)
 
 -- the triangle inequality

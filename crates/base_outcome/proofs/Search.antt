@@ -82,7 +82,8 @@ module _ (test : ℕ → Bool) where
 pub first-ext : (n : ℕ) {test other : ℕ → Bool} → ((k : ℕ) → k < n → test k ≡ other k) → first n test ≡ first n other
 unfolding first
 first-ext zero h = refl
-first-ext (suc n) {test} {other} h = ap (λ o. or-else o (cond (test n) (some n) none)) (first-ext n (λ k l. h k (omega arith))) ∙ ap (λ b. or-else (first n other) (cond b (some n) none)) (h n (omega arith))
+first-ext (suc n) {test} {other} h = ap (λ o. or-else o (cond (test n) (some n) none)) (first-ext n (λ k l. h k (omega arith)))
+    ∙ ap (λ b. or-else (first n other) (cond b (some n) none)) (h n (omega arith))
 
 -- ---- the last index
 
@@ -125,7 +126,14 @@ module _ (test : ℕ → Bool) where
     where
       go : SearchedBack n → (b : Bool) → test n ≡ b → SearchedBack (suc n)
       go s true t = at n (record { below = omega arith; meets = t; after = λ k a b. absurd (omega arith) }) (last-new n t)
-      go (at i s e) false t = at i (record { below = omega (arith, s .below); meets = s .meets; after = λ k a l. below-suc (λ k. i < k → test k ≡ false) (λ k l a. s .after k a l) (λ a. t) k l a }) (last-kept n t ∙ e)
+      go (at i s e) false t =
+          at i
+          (record {
+            below = omega (arith, s .below);
+            meets = s .meets;
+            after =
+                λ k a l. below-suc (λ k. i < k → test k ≡ false) (λ k l a. s .after k a l) (λ a. t) k l a;
+          }) (last-kept n t ∙ e)
       go (nowhere h e) false t = nowhere (below-suc (λ k. test k ≡ false) h t) (last-kept n t ∙ e)
 
   pub last-some-inverts : (n : ℕ) {i : ℕ} → last n test ≡ some i → Last n i

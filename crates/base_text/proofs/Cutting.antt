@@ -12,6 +12,7 @@ use borrow.Author.Tests.{eq-eqb, ne-eqb, eqb-true}
 use lib.Dec.{eqb}
 use lib.ListN.{length, getD, take, drop, drop-of-length-le}
 use lib.Seq.{slice, slice-empty, drop-cons}
+use Rattle.base_exact.proofs.Decide.{clash}
 use Rattle.base_text.specs.Bytes.{Text, Cut, withByte, cut, onFirst, fieldsBetween, stripped, indexWhere, indexOf, beginsWith}
 use Rattle.base_text.proofs.Slice.{slice-step}
 
@@ -72,13 +73,13 @@ abbrev pub joined : ℕ → Cut → Text
 joined b c = c .before ++ (b ∷ c .after)
 
 with-byte-joins : (b d : ℕ) (t : Text) (o : Option Cut) (c : Cut) → ((r : Cut) → o ≡ some r → t ≡ joined b r) → withByte d o ≡ some c → d ∷ t ≡ joined b c
-with-byte-joins b d t none c ih e = absurd (let x : _≡_ {A = ℕ} 0 1 = cc in omega arith)
+with-byte-joins b d t none c ih e = clash cc
 with-byte-joins b d t (some r) c ih e = ap (λ (s : Text). d ∷ s) (ih r refl) ∙ ap (joined b) (Option·some-injective (record { before = d ∷ r .before; after = r .after }) c e)
 
 -- a text that is cut is its two parts
 pub cut-joins : (b : ℕ) (t : Text) (c : Cut) → cut b t ≡ some c → t ≡ joined b c
 unfolding cut
-cut-joins b [] c e = absurd (let x : _≡_ {A = ℕ} 0 1 = cc in omega arith)
+cut-joins b [] c e = clash cc
 cut-joins b (d ∷ t) c e = go (eqb d b) refl e (cut-joins b t)
   where
     go : (s : Bool) → eqb d b ≡ s → cond s (some (record { before = []; after = t })) (withByte d (cut b t)) ≡ some c → ((r : Cut) → cut b t ≡ some r → t ≡ joined b r) → d ∷ t ≡ joined b c
@@ -143,7 +144,7 @@ key-end key i t h = ap (λ (k : Text). beginsWith k t) (drop-of-length-le key h)
 
 pub stripped-none : (key t : Text) → beginsWith key t ≡ false → stripped key t ≡ none
 unfolding beginsWith stripped
-stripped-none [] t e = absurd (let z : _≡_ {A = ℕ} 0 1 = cc in omega arith)
+stripped-none [] t e = clash cc
 stripped-none (p ∷ ps) [] e = refl
 stripped-none (p ∷ ps) (c ∷ cs) e = go (eqb c p) e (stripped-none ps cs)
   where
@@ -154,10 +155,10 @@ stripped-none (p ∷ ps) (c ∷ cs) e = go (eqb c p) e (stripped-none ps cs)
 pub stripped-some : (key t : Text) → beginsWith key t ≡ true → (length key ≤ length t) × (stripped key t ≡ some (drop (length key) t))
 unfolding beginsWith stripped
 stripped-some [] t e = (omega arith, refl)
-stripped-some (p ∷ ps) [] e = absurd (let z : _≡_ {A = ℕ} 0 1 = cc in omega arith)
+stripped-some (p ∷ ps) [] e = clash cc
 stripped-some (p ∷ ps) (c ∷ cs) e = go (eqb c p) e (stripped-some ps cs)
   where
     go : (s : Bool) → cond s (beginsWith ps cs) false ≡ true → (beginsWith ps cs ≡ true → (length ps ≤ length cs) × (stripped ps cs ≡ some (drop (length ps) cs))) →
         (suc (length ps) ≤ suc (length cs)) × (cond s (stripped ps cs) none ≡ some (drop (length ps) cs))
     go true e ih = (omega (arith, ih e .0), ih e .1)
-    go false e ih = absurd (let z : _≡_ {A = ℕ} 0 1 = cc in omega arith)
+    go false e ih = clash cc

@@ -15,11 +15,13 @@ IsNumeral s z = numeral (bytes s) ≡ some z
 abbrev NoNumeral : String → Type 0
 NoNumeral s = numeral (bytes s) ≡ none
 
-numerals : IsNumeral "0" (pos 0) × IsNumeral "7" (pos 7) × IsNumeral "-7" (negℤ (pos 7)) × IsNumeral "9999999" (pos 9999999) × IsNumeral "-9999999" (negℤ (pos 9999999))
+numerals : IsNumeral "0" (pos 0) × IsNumeral "7" (pos 7) × IsNumeral "-7" (negℤ (pos 7)) × IsNumeral "9999999" (pos 9999999)
+    × IsNumeral "-9999999" (negℤ (pos 9999999))
 unfolding allDigits digitsValue isNatural numeral bytes
 numerals = (refl, refl, refl, refl, refl)
 
-no-numerals : NoNumeral "" × NoNumeral "-" × NoNumeral "-0" × NoNumeral "00" × NoNumeral "01" × NoNumeral "-01" × NoNumeral "+1" × NoNumeral " 1" × NoNumeral "1 " × NoNumeral "1\r" × NoNumeral "10000000" × NoNumeral "--1" × NoNumeral "1-" × NoNumeral "1.0"
+no-numerals : NoNumeral "" × NoNumeral "-" × NoNumeral "-0" × NoNumeral "00" × NoNumeral "01" × NoNumeral "-01" × NoNumeral "+1" × NoNumeral " 1"
+    × NoNumeral "1 " × NoNumeral "1\r" × NoNumeral "10000000" × NoNumeral "--1" × NoNumeral "1-" × NoNumeral "1.0"
 unfolding allDigits digitsValue isNatural numeral bytes
 no-numerals = (refl, refl, refl, refl, refl, refl, refl, refl, refl, refl, refl, refl, refl, refl)
 

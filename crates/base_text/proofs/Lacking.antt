@@ -9,7 +9,7 @@ use native.Mathlib.Omega.{arith}
 use borrow.Author.Tests.{eq-eqb, ne-eqb, not-true, eqb-true}
 use lib.Dec.{eqb}
 use lib.IntN.{ℤ, pos, negsuc}
-use Rattle.base_exact.proofs.Decide.{and-true}
+use Rattle.base_exact.proofs.Decide.{and-true, clash}
 use Rattle.base_text.specs.Bytes.{Text, minus, withByte, cut, onFirst, fieldsBetween, stripped}
 use Rattle.base_text.specs.Numeral.{isDigit, allDigits, isNatural, digitsValue, negated, numeral, digits, decimal}
 use Rattle.base_text.proofs.Digits.{natural-parts}
@@ -55,26 +55,29 @@ module _ (picks : ℕ → Bool) (o : Outside picks) where
 
   pub numeral-lacks : (t : Text) (z : ℤ) → numeral t ≡ some z → lacks picks t ≡ true
   unfolding numeral
-  numeral-lacks [] z e = absurd (let x : _≡_ {A = ℕ} 0 1 = cc in omega arith)
+  numeral-lacks [] z e = clash cc
   numeral-lacks (c ∷ cs) z e = go (eqb c minus) refl e
     where
       minus-lacks : c ≡ minus → (b : Bool) → isNatural cs ≡ b → negated b (digitsValue 0 cs) ≡ some z → lacks picks (c ∷ cs) ≡ true
       minus-lacks m true n f = ap₂ (λ (x y : Bool). not x && y) (ap picks m ∙ o .sign) (digits-lack cs (natural-parts cs n .2))
-      minus-lacks m false n f = absurd (let x : _≡_ {A = ℕ} 0 1 = cc in omega arith)
+      minus-lacks m false n f = clash cc
 
       plain-lacks : (b : Bool) → isNatural (c ∷ cs) ≡ b → cond b (some (pos (digitsValue 0 (c ∷ cs)))) none ≡ some z → lacks picks (c ∷ cs) ≡ true
       plain-lacks true n f = digits-lack (c ∷ cs) (natural-parts (c ∷ cs) n .2)
-      plain-lacks false n f = absurd (let x : _≡_ {A = ℕ} 0 1 = cc in omega arith)
+      plain-lacks false n f = clash cc
 
-      go : (b : Bool) → eqb c minus ≡ b → cond b (negated (isNatural cs) (digitsValue 0 cs)) (cond (isNatural (c ∷ cs)) (some (pos (digitsValue 0 (c ∷ cs)))) none) ≡ some z → lacks picks (c ∷ cs) ≡ true
+      go : (b : Bool) → eqb c minus ≡ b
+          → cond b (negated (isNatural cs) (digitsValue 0 cs)) (cond (isNatural (c ∷ cs)) (some (pos (digitsValue 0 (c ∷ cs)))) none) ≡ some z
+          → lacks picks (c ∷ cs) ≡ true
       go true m f = minus-lacks (eqb-true c minus m) (isNatural cs) refl f
       go false m f = plain-lacks (isNatural (c ∷ cs)) refl f
 
 pub byte-outside : (b : ℕ) → isDigit b ≡ false → eqb minus b ≡ false → Outside (byte b)
-byte-outside b d m = record { digit = λ c e. ne-eqb c b (λ q. let same = ap isDigit q in let x : _≡_ {A = ℕ} 0 1 = cc in omega arith); sign = m }
+byte-outside b d m = record { digit = λ c e. ne-eqb c b (λ q. let same = ap isDigit q in clash cc); sign = m }
 
 pub either-outside : (p q : ℕ → Bool) → Outside p → Outside q → Outside (λ c. p c || q c)
-either-outside p q o r = record { digit = λ c e. ap₂ (λ (x y : Bool). x || y) (o .digit c e) (r .digit c e); sign = ap₂ (λ (x y : Bool). x || y) (o .sign) (r .sign) }
+either-outside p q o r =
+    record { digit = λ c e. ap₂ (λ (x y : Bool). x || y) (o .digit c e) (r .digit c e); sign = ap₂ (λ (x y : Bool). x || y) (o .sign) (r .sign) }
 
 -- ---- cutting
 pub cut-first : (b : ℕ) (s t : Text) → lacks (byte b) s ≡ true → cut b (s ++ (b ∷ t)) ≡ some (record { before = s; after = t })

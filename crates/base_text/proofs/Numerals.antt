@@ -9,6 +9,7 @@ use borrow.Author.Tests.{eq-eqb, ne-eqb}
 use lib.IntN.{ℤ, pos, _-ℤ_}
 use lib.ListN.{length, getD}
 use lib.Seq.{slice, slice-empty}
+use Rattle.base_exact.proofs.Decide.{clash}
 use Rattle.base_exact.proofs.Word.{zero-sub}
 use Rattle.base_text.specs.Bytes.{Text, minus}
 use Rattle.base_text.specs.Numeral.{isNatural, digitsValue, negated, numeral}
@@ -63,9 +64,9 @@ module _ (text : Text) (from to : ℕ) (before : from < to) (within : to ≤ len
 pub field-none : (o : Option ℤ) → field o ≡ Bad → o ≡ none
 unfolding field
 field-none none e = refl
-field-none (some z) e = absurd (let x : _≡_ {A = ℕ} 0 1 = cc in omega arith)
+field-none (some z) e = clash cc
 
 pub field-some : (o : Option ℤ) (z : ℤ) → field o ≡ Numeral z → o ≡ some z
 unfolding field
-field-some none z e = absurd (let x : _≡_ {A = ℕ} 0 1 = cc in omega arith)
+field-some none z e = clash cc
 field-some (some y) z e = cc

@@ -7,7 +7,8 @@ use Prim.Native.Nat.{ℕ, zero, suc, _+_, _*_, _-_, _/_, _%_, _<_}
 use lib.Dec.{eqb, leb, ltb}
 use lib.IntN.{ℤ, pos, negsuc, natAbs}
 use lib.ListN.{length}
-use Rattle.base_text.specs.Bytes.{Text, minus, digitZero}
+use lib.Seq.{slice}
+use Rattle.base_text.specs.Bytes.{Text, minus, digitZero, Range}
 
 -- ---- reading
 
@@ -71,3 +72,10 @@ numeralLimit = 10000000
 -- A number reads back; proved in proofs/RoundTrip.
 abbrev pub NumeralReadsBack : Type 0
 NumeralReadsBack = (z : ℤ) → natAbs z < numeralLimit → numeral (decimal z) ≡ some z
+
+-- ---- what is asked
+
+-- A part of a text that is 1 to 7 digits without a spare zero.
+pub record DigitsAsks (text : Text) (from to : ℕ) : Type 0 where
+  pub part : Range text from to
+  pub natural : isNatural (slice from to text) ≡ true

@@ -1,9 +1,8 @@
 // Whole numbers in decimal digits.
-ghost use mathlib.Core.Bool.{true};
 ghost use mathlib.Core.Path.{_≡_};
 ghost use lib.Seq.{slice};
 ghost use Rattle.base_text.specs.Bytes.{Range};
-ghost use Rattle.base_text.specs.Numeral.{allDigits, isNatural, digitsValue};
+ghost use Rattle.base_text.specs.Numeral.{allDigits, isNatural, digitsValue, DigitsAsks};
 ghost use Rattle.base_text.specs.Numeral;
 ghost use Rattle.base_text.specs.Machine.{field};
 
@@ -57,8 +56,7 @@ fn is_natural(text: &[u8], from: usize, to: usize) -> bool
 
 // The number of at most seven digits.
 fn digits_value(text: &[u8], from: usize, to: usize) -> u32
-    requires { ⌜ Range (now text) from to ⌝ }
-    requires { ⌜ isNatural (slice from to (now text)) ≡ true ⌝ }
+    requires { ⌜ DigitsAsks (now text) from to ⌝ }
     ensures { λ r. ⌜ r ≡ digitsValue 0 (slice from to (now (text .entry))) ⌝ }
 {
     let mut v = 0;

@@ -11,7 +11,7 @@ use borrow.Author.Tests.{le-leb, lt-leb}
 use lib.Dec.{leb}
 use lib.ListN.{length}
 use lib.Seq.{slice, slice-empty, length-slice}
-use Rattle.base_exact.proofs.Decide.{le-or-lt}
+use Rattle.base_exact.proofs.Decide.{le-or-lt, clash}
 use Rattle.base_text.specs.Bytes.{Text, Range, fields, fieldsBetween, indexWhere}
 use Rattle.spec_sheet.specs.SheetReading.{prepended, entries, limitedList, listOf, listLimit}
 use Rattle.sheet_lines.specs.Machine.{isSome, count}
@@ -65,10 +65,10 @@ tally n (some xs) = cond (leb (n + length xs) listLimit) (Entries (n + length xs
 
 pub some-not : {A : Type 0} (o : Option A) → isSome o ≡ false → o ≡ none
 some-not none e = refl
-some-not (some x) e = absurd (let z : _≡_ {A = ℕ} 0 1 = cc in omega arith)
+some-not (some x) e = clash cc
 
 pub some-is : {A : Type 0} (o : Option A) → isSome o ≡ true → (x : A) × (o ≡ some x)
-some-is none e = absurd (let z : _≡_ {A = ℕ} 0 1 = cc in omega arith)
+some-is none e = clash cc
 some-is (some x) e = (x, refl)
 
 tally-start : {A : Type 0} (o : Option (List A)) → count (limitedList o) ≡ tally 0 o

@@ -8,6 +8,7 @@ use Prim.Native.Nat.{ℕ, suc, _+_, _<_, _≤_}
 use native.Mathlib.Omega.{arith}
 use lib.ListN.{length, drop, length-drop}
 use lib.Seq.{slice, drop-drop, length-slice}
+use Rattle.base_exact.proofs.Decide.{clash}
 use Rattle.base_text.specs.Bytes.{Text, newline, Range, stripped, indexOf, beginsWith}
 use Rattle.spec_sheet.specs.SheetReading.{listOf, Line, lineOf, bodyOf, cutLine, line}
 use Rattle.sheet_lines.specs.Machine.{count, LineAt}
@@ -21,11 +22,11 @@ use Rattle.base_text.proofs.Cutting.{index-within, cut-none, cut-some, stripped
 pub count-none : {A : Type 0} (o : Option (List A)) → count o ≡ count-cases.Bad → o ≡ none
 unfolding count
 count-none none e = refl
-count-none (some xs) e = absurd (let x : _≡_ {A = ℕ} 0 1 = cc in omega arith)
+count-none (some xs) e = clash cc
 
 pub count-some : {A : Type 0} (o : Option (List A)) (n : ℕ) → count o ≡ count-cases.Entries n → (xs : List A) × (o ≡ some xs)
 unfolding count
-count-some none n e = absurd (let x : _≡_ {A = ℕ} 0 1 = cc in omega arith)
+count-some none n e = clash cc
 count-some (some xs) n e = (xs, refl)
 
 -- ---- the line from an index on

@@ -9,6 +9,7 @@ use lib.Dec.{eqb}
 use lib.IntN.{ℤ}
 use lib.ListN.{take}
 use lib.Seq.{slice, length-slice}
+use Rattle.base_exact.proofs.Decide.{clash}
 use Rattle.base_text.specs.Bytes.{Text, comma, colon, Range, indexWhere, indexOf}
 use Rattle.base_text.specs.Numeral.{numeral}
 use Rattle.base_text.proofs.Slice.{take-slice, drop-slice}
@@ -22,10 +23,10 @@ use Rattle.sheet_lines.proofs.Entries.{stop-within}
 
 pub one-bad : (a b : Option ℤ) → isSome a ≡ false → isSome (bothOf a b) ≡ false
 one-bad none b e = refl
-one-bad (some y) b e = absurd (let x : _≡_ {A = ℕ} 0 1 = cc in omega arith)
+one-bad (some y) b e = clash cc
 
 pub one-good : (a b : Option ℤ) → isSome a ≡ true → isSome (bothOf a b) ≡ isSome b
-one-good none b e = absurd (let x : _≡_ {A = ℕ} 0 1 = cc in omega arith)
+one-good none b e = clash cc
 one-good (some y) none e = refl
 one-good (some y) (some z) e = refl
 

@@ -8,6 +8,7 @@ use native.Mathlib.Omega.{arith}
 use lib.IntN.{ℤ}
 use lib.ListN.{length, getD, take, drop, set, length-drop}
 use lib.Seq.{slice, slice-empty, drop-cons, take-suc, set-at, length-take-le, length-front, take-length}
+use Rattle.base_exact.proofs.Decide.{clash}
 use Rattle.base_text.specs.Bytes.{Text, fieldsBetween}
 use Rattle.base_text.specs.Numeral.{numeral}
 use Rattle.spec_sheet.specs.SheetReading.{prepended, entries}
@@ -36,8 +37,8 @@ filled-start t h zs before e room =
     record { up-to = omega arith; room = room; others = sym (numerals-fields t h) ∙ e; written = refl }
 
 pub prepended-some : {A : Type 0} (a : Option A) (o : Option (List A)) (l : List A) → prepended a o ≡ some l → (x : A) × (ys : List A) × (a ≡ some x) × (o ≡ some ys) × (l ≡ x ∷ ys)
-prepended-some none o l e = absurd (let x : _≡_ {A = ℕ} 0 1 = cc in omega arith)
-prepended-some (some x) none l e = absurd (let x : _≡_ {A = ℕ} 0 1 = cc in omega arith)
+prepended-some none o l e = clash cc
+prepended-some (some x) none l e = clash cc
 prepended-some (some x) (some ys) l e = (x, ys, refl, refl, cc)
 
 -- one store behind the first n numbers
@@ -69,7 +70,7 @@ module _ (zs : List ℤ) (left : Text) (before now : List ℤ) (n : ℕ) (filled
   parts = prepended-some (numeral f) (entries numeral fs) (drop n zs) (ap (entries numeral) (sym first) ∙ filled .others)
 
   pub field-good : numeral f ≡ none → ⊥
-  field-good e = let q = parts .2 in let x : _≡_ {A = ℕ} 0 1 = cc in omega arith
+  field-good e = let q = parts .2 in clash cc
 
   pub stored : (z : ℤ) → numeral f ≡ some z → Stored zs fs before now n z
   stored z e =

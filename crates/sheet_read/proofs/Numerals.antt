@@ -9,6 +9,7 @@ use borrow.Author.Tests.{eqb-true, leb-true}
 use lib.Dec.{eqb, leb}
 use lib.IntN.{ℤ}
 use lib.ListN.{length}
+use Rattle.base_exact.proofs.Decide.{clash}
 use Rattle.spec_spline.specs.Reading.{Pair, sideBySide}
 use Rattle.base_text.specs.Bytes.{Text, comma, colon, Cut, withByte, cut, onFirst, fieldsBetween, fields}
 use Rattle.base_text.specs.Numeral.{numeral}
@@ -21,12 +22,12 @@ use Rattle.sheet_read.proofs.Filling.{prepended-some}
 
 -- no list has more entries than the limit
 limited-some : {A : Type 0} (o : Option (List A)) (xs : List A) → limitedList o ≡ some xs → (o ≡ some xs) × (length xs ≤ listLimit)
-limited-some none xs e = absurd (let x : _≡_ {A = ℕ} 0 1 = cc in omega arith)
+limited-some none xs e = clash cc
 limited-some (some ys) xs e = go (leb (length ys) listLimit) refl e
   where
     go : (b : Bool) → leb (length ys) listLimit ≡ b → cond b (some ys) none ≡ some xs → (some ys ≡ some xs) × (length xs ≤ listLimit)
     go true k e = (e, let same : ys ≡ xs = cc in rw same at (leb-true (length ys) listLimit k))
-    go false k e = absurd (let x : _≡_ {A = ℕ} 0 1 = cc in omega arith)
+    go false k e = clash cc
 
 pub list-few : {A : Type 0} (entry : Text → Option A) (t : Text) (xs : List A) → listOf entry t ≡ some xs → length xs ≤ listLimit
 unfolding listOf
@@ -47,15 +48,15 @@ front c (f ∷ fs) gs h = refl
 
 between-any : (picks : ℕ → Bool) (t : Text) → fieldsBetween picks t ≡ [] → ⊥
 unfolding fieldsBetween
-between-any picks [] e = let x : _≡_ {A = ℕ} 0 1 = cc in omega arith
+between-any picks [] e = clash cc
 between-any picks (c ∷ cs) e = go (picks c) e
   where
     onFirst-any : (fs : List Text) → onFirst c fs ≡ [] → ⊥
-    onFirst-any [] f = let x : _≡_ {A = ℕ} 0 1 = cc in omega arith
-    onFirst-any (g ∷ gs) f = let x : _≡_ {A = ℕ} 0 1 = cc in omega arith
+    onFirst-any [] f = clash cc
+    onFirst-any (g ∷ gs) f = clash cc
 
     go : (b : Bool) → cond b ([] ∷ fieldsBetween picks cs) (onFirst c (fieldsBetween picks cs)) ≡ [] → ⊥
-    go true f = let x : _≡_ {A = ℕ} 0 1 = cc in omega arith
+    go true f = clash cc
     go false f = onFirst-any (fieldsBetween picks cs) f
 
 abbrev separated : Text → List Text
@@ -81,11 +82,11 @@ separator-outside = either-outside (byte comma) (byte colon) (byte-outside comma
 -- the two sides of the first colon
 cut-sides : (b : ℕ) (t : Text) (c : Cut) → cut b t ≡ some c → t ≡ c .before ++ (b ∷ c .after)
 unfolding cut
-cut-sides b [] c e = absurd (let x : _≡_ {A = ℕ} 0 1 = cc in omega arith)
+cut-sides b [] c e = clash cc
 cut-sides b (a ∷ t) c e = go (eqb a b) refl e (cut-sides b t)
   where
     later : (o : Option Cut) → withByte a o ≡ some c → ((d : Cut) → o ≡ some d → t ≡ d .before ++ (b ∷ d .after)) → a ∷ t ≡ c .before ++ (b ∷ c .after)
-    later none f ih = absurd (let x : _≡_ {A = ℕ} 0 1 = cc in omega arith)
+    later none f ih = clash cc
     later (some d) f ih =
         let same : record { before = a ∷ d .before; after = d .after } ≡ c = cc in
         ap (λ (l : Text). a ∷ l) (ih d refl) ∙ ap (λ (k : Cut). k .before ++ (b ∷ k .after)) same
@@ -102,14 +103,14 @@ unfolding pair
 pair-sides t p e = go (cut colon t) refl e
   where
     both : (a b : Option ℤ) → bothOf a b ≡ some p → (a ≡ some (p .early)) × (b ≡ some (p .late))
-    both none b f = absurd (let x : _≡_ {A = ℕ} 0 1 = cc in omega arith)
-    both (some y) none f = absurd (let x : _≡_ {A = ℕ} 0 1 = cc in omega arith)
+    both none b f = clash cc
+    both (some y) none f = clash cc
     both (some y) (some z) f =
         let same : record { early = y; late = z } ≡ p = cc in
         (ap (λ (q : Pair). some (q .early)) same, ap (λ (q : Pair). some (q .late)) same)
 
     go : (o : Option Cut) → cut colon t ≡ o → sidesOf o ≡ some p → (c : Cut) × (t ≡ c .before ++ (colon ∷ c .after)) × (numeral (c .before) ≡ some (p .early)) × (numeral (c .after) ≡ some (p .late))
-    go none q f = absurd (let x : _≡_ {A = ℕ} 0 1 = cc in omega arith)
+    go none q f = clash cc
     go (some c) q f = let sides = both (numeral (c .before)) (numeral (c .after)) f in (c, cut-sides colon t c q, sides .0, sides .1)
 
 numeral-only : (f : Text) (z : ℤ) → numeral f ≡ some z → separated f ≡ f ∷ []

@@ -8,6 +8,7 @@ use borrow.Author.Tests.{lt-ltb, le-ltb}
 use lib.IntN.{ℤ}
 use lib.ListN.{length, drop}
 use lib.Seq.{drop-length, drop-cons}
+use Rattle.base_exact.proofs.Decide.{clash}
 use Rattle.base_outcome.specs.Outcome.{Outcome, answer, refusal, refuse, _then_}
 use Rattle.spec_spline.specs.Reading.{Pair}
 use Rattle.base_text.specs.Bytes.{Text}
@@ -26,10 +27,10 @@ module _ {A : Type 0} (entry : Text → Option A) (text : Text) where
   line-none : (o : Option (Line A)) (r : LineSpan) → LineAt entry text o r → r ≡ span-cases.Bad → o ≡ none
   line-none none r h e = refl
   line-none (some l) span-cases.Bad h e = absurd h
-  line-none (some l) (span-cases.List s t) h e = absurd (let x : _≡_ {A = ℕ} 0 1 = cc in omega arith)
+  line-none (some l) (span-cases.List s t) h e = clash cc
 
   line-some : (o : Option (Line A)) (r : LineSpan) (start end : ℕ) → LineAt entry text o r → r ≡ span-cases.List start end → (l : Line A) × (o ≡ some l) × Spans entry text l start end
-  line-some none span-cases.Bad start end h e = absurd (let x : _≡_ {A = ℕ} 0 1 = cc in omega arith)
+  line-some none span-cases.Bad start end h e = clash cc
   line-some none (span-cases.List s t) start end h e = absurd h
   line-some (some l) span-cases.Bad start end h e = absurd h
   line-some (some l) (span-cases.List s t) start end h e =

@@ -44,7 +44,8 @@ paired : IsPairs "" [] × IsPairs "5:6" (both (pos 5) (pos 6) ∷ []) × IsPairs
 unfolding cut fieldsBetween allDigits digitsValue isNatural numeral pair entries listOf bytes
 paired = (refl, refl, refl)
 
-not-paired : NoPairs "5" × NoPairs "5:6,7" × NoPairs "5:" × NoPairs ":6" × NoPairs ":" × NoPairs "5:6:7" × NoPairs "5::6" × NoPairs "5: 6" × NoPairs "5:6," × NoPairs "5:-0" × NoPairs "5,6" × NoPairs "5:10000000"
+not-paired : NoPairs "5" × NoPairs "5:6,7" × NoPairs "5:" × NoPairs ":6" × NoPairs ":" × NoPairs "5:6:7" × NoPairs "5::6" × NoPairs "5: 6"
+    × NoPairs "5:6," × NoPairs "5:-0" × NoPairs "5,6" × NoPairs "5:10000000"
 unfolding cut fieldsBetween allDigits digitsValue isNatural numeral pair entries listOf bytes
 not-paired = (refl, refl, refl, refl, refl, refl, refl, refl, refl, refl, refl, refl)
 
@@ -67,17 +68,20 @@ unfolding capped cut fieldsBetween stripped allDigits digitsValue isNatural nume
 missing = (refl, refl, refl)
 
 -- the keys stand in their order
-misplaced : RefusedAt (lines ("degrees=1" ∷ "breaks=0,1" ∷ "orders=" ∷ "coefs=0:0,1:1" ∷ "at=" ∷ [])) 1 × RefusedAt (lines ("breaks=0,1" ∷ "degrees =1" ∷ "orders=" ∷ "coefs=0:0,1:1" ∷ "at=" ∷ [])) 2
+misplaced : RefusedAt (lines ("degrees=1" ∷ "breaks=0,1" ∷ "orders=" ∷ "coefs=0:0,1:1" ∷ "at=" ∷ [])) 1
+    × RefusedAt (lines ("breaks=0,1" ∷ "degrees =1" ∷ "orders=" ∷ "coefs=0:0,1:1" ∷ "at=" ∷ [])) 2
 unfolding capped cut fieldsBetween stripped allDigits digitsValue isNatural numeral pair entries listOf line readLine fiveLines read bytes lines
 misplaced = (refl, refl)
 
 -- a plain number in coefs, or a pair in another line
-unpaired : RefusedAt (lines ("breaks=0,1" ∷ "degrees=1" ∷ "orders=" ∷ "coefs=0:0,1" ∷ "at=" ∷ [])) 4 × RefusedAt (lines ("breaks=0,1" ∷ "degrees=1" ∷ "orders=" ∷ "coefs=0:0,1:1" ∷ "at=0:0" ∷ [])) 5
+unpaired : RefusedAt (lines ("breaks=0,1" ∷ "degrees=1" ∷ "orders=" ∷ "coefs=0:0,1" ∷ "at=" ∷ [])) 4
+    × RefusedAt (lines ("breaks=0,1" ∷ "degrees=1" ∷ "orders=" ∷ "coefs=0:0,1:1" ∷ "at=0:0" ∷ [])) 5
 unfolding capped cut fieldsBetween stripped allDigits digitsValue isNatural numeral pair entries listOf line readLine fiveLines read bytes lines
 unpaired = (refl, refl)
 
 -- anything after line five, unless a line before it is bad
-trailing : RefusedAt (w1 ++ (newline ∷ [])) 6 × RefusedAt (w1 ++ bytes "x") 6 × RefusedAt (lines ("breaks=0,1" ∷ "degrees=1" ∷ "orders=" ∷ "coefs=0:0,01:1" ∷ "at=" ∷ "" ∷ [])) 4
+trailing : RefusedAt (w1 ++ (newline ∷ [])) 6 × RefusedAt (w1 ++ bytes "x") 6
+    × RefusedAt (lines ("breaks=0,1" ∷ "degrees=1" ∷ "orders=" ∷ "coefs=0:0,01:1" ∷ "at=" ∷ "" ∷ [])) 4
 unfolding capped cut fieldsBetween stripped allDigits digitsValue isNatural numeral pair entries listOf line readLine fiveLines read bytes lines
 trailing = (refl, refl, refl)
 
@@ -111,7 +115,13 @@ unfolding bytes lines
 short1 = omega (arith, ap length text1)
 
 breaks1 : WritableNumerals (lists1 .breaks)
-breaks1 = record { few = omega arith; small = one-more (pos 0) (pos 1 ∷ pos 3 ∷ []) (omega arith) (one-more (pos 1) (pos 3 ∷ []) (omega arith) (one-more (pos 3) [] (omega arith) none-small)) }
+breaks1 =
+    record {
+      few = omega arith;
+      small =
+          one-more (pos 0) (pos 1 ∷ pos 3 ∷ []) (omega arith)
+          (one-more (pos 1) (pos 3 ∷ []) (omega arith) (one-more (pos 3) [] (omega arith) none-small));
+    }
 
 degrees1 : WritableNumerals (lists1 .degrees)
 degrees1 = record { few = omega arith; small = one-more (pos 2) (pos 2 ∷ []) (omega arith) (one-more (pos 2) [] (omega arith) none-small) }

@@ -60,7 +60,8 @@ pub valueLines-none : (vs : List Pair) → valueLines [] vs ≡ []
 unfolding valueLines
 valueLines-none vs = refl
 
-pub valueLines-more : (xs : List ℤ) (vs : List Pair) (k : ℕ) → k < length xs → k < length vs → valueLines (take (suc k) xs) vs ≡ valueLines (take k xs) vs ++ valueLine (getD xs k (pos 0)) (getD vs k zeros)
+pub valueLines-more : (xs : List ℤ) (vs : List Pair) (k : ℕ) → k < length xs → k < length vs
+    → valueLines (take (suc k) xs) vs ≡ valueLines (take k xs) vs ++ valueLine (getD xs k (pos 0)) (getD vs k zeros)
 unfolding valueLines
 valueLines-more [] vs k h l = absurd (omega arith)
 valueLines-more (x ∷ xs) [] k h l = absurd (omega arith)
@@ -82,7 +83,8 @@ pub lowPositions-none : (vs : List Pair) → lowPositions [] vs ≡ []
 unfolding lowPositions
 lowPositions-none vs = refl
 
-pub lowPositions-more : (xs : List ℤ) (vs : List Pair) (k : ℕ) → k < length xs → k < length vs → lowPositions (take (suc k) xs) vs ≡ lowPositions (take k xs) vs ++ lowPositions (getD xs k (pos 0) ∷ []) (getD vs k zeros ∷ [])
+pub lowPositions-more : (xs : List ℤ) (vs : List Pair) (k : ℕ) → k < length xs → k < length vs
+    → lowPositions (take (suc k) xs) vs ≡ lowPositions (take k xs) vs ++ lowPositions (getD xs k (pos 0) ∷ []) (getD vs k zeros ∷ [])
 unfolding lowPositions
 lowPositions-more [] vs k h l = absurd (omega arith)
 lowPositions-more (x ∷ xs) [] k h l = absurd (omega arith)
@@ -107,4 +109,5 @@ lowPositions-few (x ∷ xs) (v ∷ vs) = go (isLow v) (lowPositions-few xs vs)
 
 pub lowLines-more : (xs : List ℤ) (k : ℕ) → k < length xs → lowLines (take (suc k) xs) ≡ lowLines (take k xs) ++ lowLine (getD xs k (pos 0))
 lowLines-more xs k h =
-    ap lowLines (take-suc xs k (pos 0) h) ∙ lowLines-append (take k xs) (getD xs k (pos 0) ∷ []) ∙ ap (λ t. lowLines (take k xs) ++ t) (lowLines-one (getD xs k (pos 0)))
+    ap lowLines (take-suc xs k (pos 0) h) ∙ lowLines-append (take k xs) (getD xs k (pos 0) ∷ [])
+    ∙ ap (λ t. lowLines (take k xs) ++ t) (lowLines-one (getD xs k (pos 0)))

@@ -7,7 +7,8 @@ use Rattle.spec_spline.specs.Cases.{pair, forBoth, weights1}
 use Rattle.base_sorting.specs.Sorted.{inserted, sorted}
 use Rattle.base_text.specs.Bytes.{Text, bytes, lines}
 use Rattle.base_text.specs.Numeral.{digitsUpTo, digits, decimal}
-use Rattle.spec_sheet.specs.Printout.{joined, countLine, weightLine, weightLines, valueLine, valueLines, isLow, lowLine, lowLines, lowPositions, answerText}
+use Rattle.spec_sheet.specs.Printout.{joined, countLine, weightLine, weightLines, valueLine, valueLines, isLow, lowLine, lowLines}
+use Rattle.spec_sheet.specs.Printout.{lowPositions, answerText}
 use Rattle.base_print.specs.Refusal.{refusalLine}
 
 -- The lines as the specification prints them.
@@ -43,7 +44,8 @@ w1-printed = refl
 
 -- The values come in list order, then the low lines by rising position, a repeated one twice: one line where both values are
 -- low, or either one, and none where both are 1 or more.
-pub lows-printed : answerText [] (pos 7 ∷ negsuc 4 ∷ pos 1 ∷ pos 0 ∷ pos 7 ∷ []) (pair (negsuc 1) (negsuc 2) ∷ pair (pos 0) (pos 9) ∷ pair (pos 1) (pos 2) ∷ pair (pos 3) (negsuc 0) ∷ pair (negsuc 1) (negsuc 2) ∷ []) ≡ lines (
+pub lows-printed : answerText [] (pos 7 ∷ negsuc 4 ∷ pos 1 ∷ pos 0 ∷ pos 7 ∷ []) (pair (negsuc 1) (negsuc 2) ∷ pair (pos 0) (pos 9)
+    ∷ pair (pos 1) (pos 2) ∷ pair (pos 3) (negsuc 0) ∷ pair (negsuc 1) (negsuc 2) ∷ []) ≡ lines (
     "n=0" ∷
     "v=7,-2:-3" ∷
     "v=-5,0:9" ∷
@@ -54,7 +56,8 @@ pub lows-printed : answerText [] (pos 7 ∷ negsuc 4 ∷ pos 1 ∷ pos 0 ∷ pos
     "low=0" ∷
     "low=7" ∷
     "low=7" ∷ [])
-unfolding joined digitsUpTo digits decimal countLine weightLine weightLines valueLine valueLines isLow lowLine lowLines lowPositions answerText inserted sorted tableWeights bytes lines
+unfolding joined digitsUpTo digits decimal countLine weightLine weightLines valueLine valueLines isLow lowLine lowLines lowPositions answerText
+    inserted sorted tableWeights bytes lines
 lows-printed = refl
 
 -- no=10,6

@@ -16,9 +16,12 @@ use Rattle.base_text.specs.Bytes.{Text, newline, comma, minus, colon, cut, fiel
 use Rattle.base_text.specs.Numeral.{isDigit, numeral, decimal, numeralLimit}
 use Rattle.base_text.proofs.RoundTrip.{numeral-reads-back, decimal-any}
 use Rattle.base_text.proofs.Lacking.{lacks, byte, byte-outside, lacks-append, decimal-lacks, cut-first, fields-only, fields-first, stripped-key}
-use Rattle.spec_sheet.specs.SheetReading.{bothOf, sidesOf, pair, prepended, entries, limitedList, listOf, listLimit, Line, lineOf, bodyOf, cutLine, line, readLine, breaksKey, degreesKey, ordersKey, coefsKey, atKey, Lists, fiveLines}
+use Rattle.spec_sheet.specs.SheetReading.{bothOf, sidesOf, pair, prepended, entries, limitedList, listOf, listLimit, Line, lineOf}
+use Rattle.spec_sheet.specs.SheetReading.{bodyOf, cutLine, line, readLine, breaksKey, degreesKey, ordersKey, coefsKey, atKey, Lists}
+use Rattle.spec_sheet.specs.SheetReading.{fiveLines}
 use Rattle.spec_sheet.specs.SheetText.{pairText, commaJoined, listText, lineText, sheetText, WritableNumerals, WritablePairs, SheetReadsBack}
-use Rattle.spec_sheet.proofs.FiveLines.{list-fields, NumeralLine, PairLine, read-short, line-answers, lists, after-one, after-two, after-three, after-four, after-five}
+use Rattle.spec_sheet.proofs.FiveLines.{list-fields, NumeralLine, PairLine, read-short, line-answers, lists, after-one, after-two}
+use Rattle.spec_sheet.proofs.FiveLines.{after-three, after-four, after-five}
 
 -- ---- entries
 
@@ -84,7 +87,8 @@ module _ {A : Type 0} (entry : Text → Option A) (text : A → Text) where
   unfolding listText commaJoined
   list-lacks-newline [] h = refl
   list-lacks-newline (x ∷ []) h = h .0 .no-newline
-  list-lacks-newline (x ∷ y ∷ xs) h = lacks-append (byte newline) (text x) (comma ∷ listText text (y ∷ xs)) (h .0 .no-newline) (list-lacks-newline (y ∷ xs) (h .1))
+  list-lacks-newline (x ∷ y ∷ xs) h =
+      lacks-append (byte newline) (text x) (comma ∷ listText text (y ∷ xs)) (h .0 .no-newline) (list-lacks-newline (y ∷ xs) (h .1))
 
   entries-back : (xs : List A) → AllShown entry text xs → entries entry (map text xs) ≡ some xs
   unfolding entries
@@ -106,25 +110,32 @@ module _ {A : Type 0} (entry : Text → Option A) (text : A → Text) where
       ∙ ap (λ (b : Bool). cond b (some (x ∷ xs)) none) (le-leb (length (x ∷ xs)) listLimit few)
 
   -- ---- lines
-  line-reads-back : (key : Text) → lacks (byte newline) key ≡ true → (xs : List A) → length xs ≤ listLimit → AllShown entry text xs → (rest : Text) → line entry key (lineText text key xs ++ rest) ≡ some (record { list = xs; rest = rest })
+  line-reads-back : (key : Text) → lacks (byte newline) key ≡ true → (xs : List A) → length xs ≤ listLimit → AllShown entry text xs → (rest : Text)
+      → line entry key (lineText text key xs ++ rest) ≡ some (record { list = xs; rest = rest })
   unfolding line lineText
   line-reads-back key k xs few h rest =
       let shape : (key ++ (listText text xs ++ (newline ∷ []))) ++ rest ≡ (key ++ listText text xs) ++ (newline ∷ rest) = simp append-assoc in
       ap (λ (t : Text). cutLine entry key (cut newline t)) shape
-      ∙ ap (cutLine entry key) (cut-first newline (key ++ listText text xs) rest (lacks-append (byte newline) key (listText text xs) k (list-lacks-newline xs h)))
+      ∙ ap (cutLine entry key)
+      (cut-first newline (key ++ listText text xs) rest (lacks-append (byte newline) key (listText text xs) k (list-lacks-newline xs h)))
       ∙ ap (λ (o : Option Text). lineOf (bodyOf entry o) rest) (stripped-key key (listText text xs))
       ∙ ap (λ (o : Option (List A)). lineOf o rest) (list-reads-back xs few h)
 
   -- a line at the head of what is left to read
-  module _ (place : ℕ) (key : Text) (k : lacks (byte newline) key ≡ true) (xs : List A) (few : length xs ≤ listLimit) (h : AllShown entry text xs) (next : Line A → Outcome Lists) where
+  module _ (place : ℕ) (key : Text) (k : lacks (byte newline) key ≡ true) (xs : List A) (few : length xs ≤ listLimit) (h : AllShown entry text xs)
+      (next : Line A → Outcome Lists) where
     goes-on : (rest : Text) → (readLine place entry key (lineText text key xs ++ rest) then next) ≡ next (record { list = xs; rest = rest })
-    goes-on rest = ap (λ (o : Outcome (Line A)). o then next) (line-answers entry place key (lineText text key xs ++ rest) (line-reads-back key k xs few h rest))
+    goes-on rest =
+        ap (λ (o : Outcome (Line A)). o then next)
+        (line-answers entry place key (lineText text key xs ++ rest) (line-reads-back key k xs few h rest))
 
-abbrev numerals-go-on : (place : ℕ) (key : Text) → lacks (byte newline) key ≡ true → (zs : List ℤ) → WritableNumerals zs → (next : NumeralLine → Outcome Lists) (rest : Text) →
+abbrev numerals-go-on : (place : ℕ) (key : Text) → lacks (byte newline) key ≡ true → (zs : List ℤ) → WritableNumerals zs
+    → (next : NumeralLine → Outcome Lists) (rest : Text) →
     (readLine place numeral key (lineText decimal key zs ++ rest) then next) ≡ next (record { list = zs; rest = rest })
 numerals-go-on place key k zs w = goes-on numeral decimal place key k zs (w .few) (all-numerals zs (w .small))
 
-abbrev pairs-go-on : (place : ℕ) (key : Text) → lacks (byte newline) key ≡ true → (ps : List Pair) → WritablePairs ps → (next : PairLine → Outcome Lists) (rest : Text) →
+abbrev pairs-go-on : (place : ℕ) (key : Text) → lacks (byte newline) key ≡ true → (ps : List Pair) → WritablePairs ps
+    → (next : PairLine → Outcome Lists) (rest : Text) →
     (readLine place pair key (lineText pairText key ps ++ rest) then next) ≡ next (record { list = ps; rest = rest })
 pairs-go-on place key k ps w = goes-on pair pairText place key k ps (w .few) (all-pairs ps (w .small))
 

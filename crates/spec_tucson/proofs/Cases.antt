@@ -9,11 +9,13 @@ use Rattle.base_outcome.specs.Outcome.{Outcome, answer, refusal, capped}
 use Rattle.base_text.specs.Bytes.{bytes, lines, cut, beginsWith}
 use Rattle.base_text.specs.Numeral.{allDigits, digitsValue, isNatural, numeral, digitsUpTo, digits, decimal}
 use Rattle.spec_tucson.specs.Columns.{inColumns, columns}
-use Rattle.spec_tucson.specs.Line.{linesOf, allPrintable, allBlank, isName, fieldNumerals, columnsFit, lineInColumns, lineOf, yearInDecade, withinDecade, isWidth, fieldsAllowed, goodLine}
+use Rattle.spec_tucson.specs.Line.{linesOf, allPrintable, allBlank, isName, fieldNumerals, columnsFit, lineInColumns, lineOf}
+use Rattle.spec_tucson.specs.Line.{yearInDecade, withinDecade, isWidth, fieldsAllowed, goodLine}
 use Rattle.spec_tucson.specs.Series.{Series, allHundredths, fromHundredths, closedBy}
 use Rattle.spec_tucson.specs.TextReading.{goesOn, yearFollows, lastField, closing, lineStep, readLine, readLines, readText}
 use Rattle.spec_tucson.specs.ReadCall.{namesOf, yearsOf, countsOf, widthsOf, roomFor, readOutcome, filled, readEnd}
-use Rattle.spec_tucson.specs.Writing.{inLines, linesFrom, seriesLines, fieldsText, lineText, linesText, written, yearsFit, allWidths, isWritable, firstUnwritable}
+use Rattle.spec_tucson.specs.Writing.{inLines, linesFrom, seriesLines, fieldsText, lineText, linesText, written, yearsFit, allWidths}
+use Rattle.spec_tucson.specs.Writing.{isWritable, firstUnwritable}
 use Rattle.spec_tucson.specs.WriteCall.{total, listsFit, seriesOf, seriesOutcome, writeOutcome, textAfter, writeEnd}
 
 -- A series by its name, its first year and its widths.
@@ -21,6 +23,13 @@ abbrev series : String → ℤ → List ℤ → Series
 series name year widths = record { name = bytes name; firstYear = year; widths = widths }
 
 -- ---- reading
+
+-- what a text is read with
+unfoldable reading : Unit {0}
+unfolding bytes lines cut beginsWith allDigits digitsValue isNatural numeral inColumns linesOf allPrintable allBlank isName fieldNumerals columnsFit
+    lineInColumns lineOf yearInDecade withinDecade isWidth fieldsAllowed goodLine allHundredths fromHundredths closedBy goesOn yearFollows lastField
+    closing lineStep readLine readLines readText capped
+reading = tt
 
 -- The text of these lines reads so.
 abbrev Reads : List String → Outcome (List Series) → Type 0
@@ -32,13 +41,14 @@ good-texts :
     × Reads ("ABC01   1903  1204     0   999 -9999" ∷ []) (answer (series "ABC01   " (pos 1903) (pos 1204 ∷ pos 0 ∷ pos 999 ∷ []) ∷ []))
     × Reads ("ABC01   1903   120  9999   999" ∷ []) (answer (series "ABC01   " (pos 1903) (pos 1200 ∷ pos 99990 ∷ []) ∷ []))
     × Reads (" A B C    -1 99999" ∷ " A B C     0   999 -9999" ∷ []) (answer (series " A B C  " (negℤ (pos 1)) (pos 99999 ∷ pos 999 ∷ []) ∷ []))
-    × Reads ("ABC01   -999   999" ∷ "ABC02   9999 -9999" ∷ "ABC01      0   999" ∷ []) (answer (series "ABC01   " (negℤ (pos 999)) [] ∷ series "ABC02   " (pos 9999) [] ∷ series "ABC01   " (pos 0) [] ∷ []))
-unfolding bytes lines cut beginsWith allDigits digitsValue isNatural numeral inColumns linesOf allPrintable allBlank isName fieldNumerals columnsFit lineInColumns lineOf yearInDecade withinDecade isWidth fieldsAllowed goodLine allHundredths fromHundredths closedBy goesOn yearFollows lastField closing lineStep readLine readLines readText
+    × Reads ("ABC01   -999   999" ∷ "ABC02   9999 -9999" ∷ "ABC01      0   999" ∷ []) (answer
+    (series "ABC01   " (negℤ (pos 999)) [] ∷ series "ABC02   " (pos 9999) [] ∷ series "ABC01   " (pos 0) [] ∷ []))
+unfolding reading
 good-texts = (refl, refl, refl, refl, refl)
 
 -- a decade's end: the last width on its last year, the closing on the next line
 decade-end : Reads ("ABC01   1908     7     8" ∷ "ABC01   1910   999" ∷ []) (answer (series "ABC01   " (pos 1908) (pos 70 ∷ pos 80 ∷ []) ∷ []))
-unfolding bytes lines cut beginsWith allDigits digitsValue isNatural numeral inColumns linesOf allPrintable allBlank isName fieldNumerals columnsFit lineInColumns lineOf yearInDecade withinDecade isWidth fieldsAllowed goodLine allHundredths fromHundredths closedBy goesOn yearFollows lastField closing lineStep readLine readLines readText capped
+unfolding reading
 decade-end = refl
 
 -- code 11: no field, a column over, a name of blanks, a year that is no number, -9999 before the line's and before the series'
@@ -55,19 +65,19 @@ elevens :
     × Reads ("ABC01   1908   999" ∷ "ABC02   1908     1     2   999" ∷ []) (refusal 11 2)
     × Reads ("ABC01     -1     1   999" ∷ []) (refusal 11 1)
     × Reads ("ABC01   1908   999" ∷ "" ∷ []) (refusal 11 2)
-unfolding bytes lines cut beginsWith allDigits digitsValue isNatural numeral inColumns linesOf allPrintable allBlank isName fieldNumerals columnsFit lineInColumns lineOf yearInDecade withinDecade isWidth fieldsAllowed goodLine allHundredths fromHundredths closedBy goesOn yearFollows lastField closing lineStep readLine readLines readText capped
+unfolding reading
 elevens = (refl, refl, refl, refl, refl, refl, refl, refl, refl, refl, refl)
 
 -- a last line without byte 10
 unended : readText (bytes "ABC01   1903 -9999") ≡ refusal 11 1
-unfolding bytes cut beginsWith allDigits digitsValue isNatural numeral inColumns linesOf allPrintable allBlank isName fieldNumerals columnsFit lineInColumns lineOf yearInDecade withinDecade isWidth fieldsAllowed goodLine goesOn readLine readLines readText capped
+unfolding reading
 unended = refl
 
 -- code 12: not the next year, the next year without a 0 at its end
 twelves :
     Reads ("ABC01   1908     7     8" ∷ "ABC01   1920   999" ∷ []) (refusal 12 2)
     × Reads ("ABC01   1908     7" ∷ "ABC01   1909   999" ∷ []) (refusal 12 2)
-unfolding bytes lines cut beginsWith allDigits digitsValue isNatural numeral inColumns linesOf allPrintable allBlank isName fieldNumerals columnsFit lineInColumns lineOf yearInDecade withinDecade isWidth fieldsAllowed goodLine allHundredths fromHundredths closedBy goesOn yearFollows lastField closing lineStep readLine readLines readText capped
+unfolding reading
 twelves = (refl, refl)
 
 -- code 13: a last line without a closing, 999 after a width over 9,999 on an earlier line, and a series that the next line,
@@ -77,7 +87,7 @@ thirteens :
     × Reads ("ABC01   1909 10000" ∷ "ABC01   1910   999" ∷ []) (refusal 13 2)
     × Reads ("ABC01   1909     7" ∷ "ABC01   " ∷ []) (refusal 11 2)
     × Reads ("ABC01   1909     7" ∷ "ABC01  " ∷ []) (refusal 13 1)
-unfolding bytes lines cut beginsWith allDigits digitsValue isNatural numeral inColumns linesOf allPrintable allBlank isName fieldNumerals columnsFit lineInColumns lineOf yearInDecade withinDecade isWidth fieldsAllowed goodLine allHundredths fromHundredths closedBy goesOn yearFollows lastField closing lineStep readLine readLines readText capped
+unfolding reading
 thirteens = (refl, refl, refl, refl)
 
 -- ---- the read call: an answer with later cells kept, and a buffer too short
@@ -88,10 +98,15 @@ read-calls :
     ≡ record { answers = refusal 1 0; names = bytes "......."; years = pos 1 ∷ []; counts = 5 ∷ []; widths = pos 3 ∷ [] })
     × (readEnd (lines ("ABC01   1908     7   999" ∷ [])) (bytes "........") (pos 1 ∷ []) (5 ∷ []) []
     ≡ record { answers = refusal 1 0; names = bytes "........"; years = pos 1 ∷ []; counts = 5 ∷ []; widths = [] })
-unfolding bytes lines cut beginsWith allDigits digitsValue isNatural numeral inColumns linesOf allPrintable allBlank isName fieldNumerals columnsFit lineInColumns lineOf yearInDecade withinDecade isWidth fieldsAllowed goodLine allHundredths fromHundredths closedBy goesOn yearFollows lastField closing lineStep readLine readLines readText capped namesOf yearsOf countsOf widthsOf roomFor readOutcome filled
+unfolding reading namesOf yearsOf countsOf widthsOf roomFor readOutcome filled
 read-calls = (refl, refl, refl)
 
 -- ---- writing
+
+-- what series are written with
+unfoldable writing : Unit {0}
+unfolding bytes lines digitsUpTo digits decimal columns yearInDecade inLines linesFrom seriesLines fieldsText lineText linesText written
+writing = tt
 
 -- These series have the text of these lines.
 abbrev Writes : List Series → List String → Type 0
@@ -101,19 +116,29 @@ Writes ss ls = written ss ≡ lines ls
 written-texts :
     Writes [] []
     × Writes (series "ABC01   " (pos 1908) [] ∷ []) ("ABC01   1908 -9999" ∷ [])
-    × Writes (series " A B C  " (negℤ (pos 2)) (pos 0 ∷ pos 999 ∷ []) ∷ series "x       " (pos 7) (pos 99999 ∷ []) ∷ []) (" A B C    -2     0   999" ∷ " A B C     0 -9999" ∷ "x          7 99999 -9999" ∷ [])
-    × Writes (series "ABC01   " (pos 1909) (pos 1 ∷ pos 2 ∷ pos 3 ∷ pos 4 ∷ pos 5 ∷ pos 6 ∷ pos 7 ∷ pos 8 ∷ pos 9 ∷ pos 10 ∷ pos 11 ∷ []) ∷ []) ("ABC01   1909     1" ∷ "ABC01   1910     2     3     4     5     6     7     8     9    10    11" ∷ "ABC01   1920 -9999" ∷ [])
-unfolding bytes lines digitsUpTo digits decimal columns yearInDecade inLines linesFrom seriesLines fieldsText lineText linesText written
+    × Writes (series " A B C  " (negℤ (pos 2)) (pos 0 ∷ pos 999 ∷ []) ∷ series "x       " (pos 7) (pos 99999 ∷ []) ∷ []) (" A B C    -2     0   999"
+    ∷ " A B C     0 -9999" ∷ "x          7 99999 -9999" ∷ [])
+    × Writes (series "ABC01   " (pos 1909) (pos 1 ∷ pos 2 ∷ pos 3 ∷ pos 4 ∷ pos 5 ∷ pos 6 ∷ pos 7 ∷ pos 8 ∷ pos 9 ∷ pos 10 ∷ pos 11 ∷ []) ∷ [])
+    ("ABC01   1909     1" ∷ "ABC01   1910     2     3     4     5     6     7     8     9    10    11" ∷ "ABC01   1920 -9999" ∷ [])
+unfolding writing
 written-texts = (refl, refl, refl, refl)
 
 -- ---- the write call, with a buffer of 20 cells
 
 -- The call with a buffer of twenty cells refuses so.
 abbrev Refuses : String → List ℤ → List ℕ → List ℤ → ℕ → ℕ → Type 0
-Refuses names years counts widths code place = writeEnd (bytes names) years counts widths (bytes "....................") ≡ record { answers = refusal code place; text = bytes "...................." }
+Refuses names years counts widths code place =
+    writeEnd (bytes names) years counts widths (bytes "....................") ≡ record {
+      answers = refusal code place;
+      text = bytes "....................";
+    }
 
-write-answers : writeEnd (bytes "ABC01   ") (pos 1908 ∷ []) (0 ∷ []) [] (bytes "....................") ≡ record { answers = answer 19; text = bytes "ABC01   1908 -9999\n." }
-unfolding bytes beginsWith digitsUpTo digits decimal columns allPrintable allBlank isName yearInDecade isWidth inLines linesFrom seriesLines fieldsText lineText linesText written yearsFit allWidths isWritable firstUnwritable total listsFit seriesOf seriesOutcome writeOutcome textAfter
+write-answers : writeEnd (bytes "ABC01   ") (pos 1908 ∷ []) (0 ∷ []) [] (bytes "....................") ≡ record {
+  answers = answer 19;
+  text = bytes "ABC01   1908 -9999\n.";
+}
+unfolding writing beginsWith allPrintable allBlank isName isWidth yearsFit allWidths isWritable firstUnwritable total listsFit seriesOf
+    seriesOutcome writeOutcome textAfter
 write-answers = refl
 
 -- code 2: seven bytes, two years, two counts, a width too many; code 11: a name of blanks, a tab, a first year, the closing's
@@ -131,5 +156,7 @@ write-refuses :
     × Refuses "ABC01   ABC02   " (pos 1908 ∷ pos 1908 ∷ []) (1 ∷ 1 ∷ []) (pos 99999 ∷ pos 100000 ∷ []) 11 1
     × Refuses "ABC01   ABC02   ABC02   " (pos 1908 ∷ pos 1908 ∷ pos 1908 ∷ []) (0 ∷ 0 ∷ 0 ∷ []) [] 11 2
     × Refuses "ABC01   " (pos 1908 ∷ []) (1 ∷ []) (pos 1 ∷ []) 1 0
-unfolding bytes beginsWith digitsUpTo digits decimal columns allPrintable allBlank isName yearInDecade isWidth inLines linesFrom seriesLines fieldsText lineText linesText written yearsFit allWidths isWritable firstUnwritable total listsFit seriesOf seriesOutcome writeOutcome textAfter capped
+unfolding writing beginsWith allPrintable allBlank isName isWidth yearsFit allWidths isWritable firstUnwritable total listsFit seriesOf
+    seriesOutcome writeOutcome textAfter
+    capped
 write-refuses = (refl, refl, refl, refl, refl, refl, refl, refl, refl, refl, refl, refl)

@@ -29,14 +29,17 @@ and-false false = refl
 not-refused : (width value : ℤ) → T (between (pos 0) (pos widthLimit) width) → pos 0 <ℤ value → isRefused width value ≡ false
 unfolding isRefused
 not-refused width value h k =
-    ap₂ (λ b d. not b || (not (isAbsent width) && d)) (holds-true (between (pos 0) (pos widthLimit) width) h) (not-le-test {a = value} {b = pos 0} k) ∙ and-false (not (isAbsent width))
+    ap₂ (λ b d. not b || (not (isAbsent width) && d)) (holds-true (between (pos 0) (pos widthLimit) width) h) (not-le-test {a = value} {b = pos 0} k)
+    ∙ and-false (not (isAbsent width))
 
 module _ (c : RingsCall) (l : CurveIsLegal c) (room : ringCount c ≤ length (c .indices)) (positive : PositiveCoefficients (c .space) (c .wood) (c .coefs)) where
   value-positive : (i : ℕ) → i < ringCount c → pos 0 <ℤ valueCell c i
   value-positive i h = Z.<-≤-trans (pos 0) leastPositive (valueCell c i) (Z.<-in (pos 0) leastPositive (omega arith))
-      (rw (legal-rings-leave-the-curve c l room .1 .1) (positive-cells (c .space) (c .coefs) (positions c) (length (c .num)) (length (c .den)) (length (c .values)) l (c .values) (c .wood) positive i (rw (exact-length (c .firstRing) (ringCount c)) h)))
+      (rw (legal-rings-leave-the-curve c l room .1 .1) (positive-cells (c .space) (c .coefs) (positions c) (length (c .num)) (length (c .den))
+      (length (c .values)) l (c .values) (c .wood) positive i (rw (exact-length (c .firstRing) (ringCount c)) h)))
 
 pub positive-coefficients-are-enough : PositiveCoefficientsAreEnough
 positive-coefficients-are-enough c l room positive widths = legal-rings-end c l room
     ∙ ap (λ o. refuseFirst 14 o (answer (ringCount c)))
-    (first-none (λ i. isRefused (ringWidth (c .widths) i) (valueCell c i)) (ringCount c) (λ i h. not-refused (ringWidth (c .widths) i) (valueCell c i) (widths i h) (value-positive c l room positive i h)))
+    (first-none (λ i. isRefused (ringWidth (c .widths) i) (valueCell c i)) (ringCount c)
+    (λ i h. not-refused (ringWidth (c .widths) i) (valueCell c i) (widths i h) (value-positive c l room positive i h)))

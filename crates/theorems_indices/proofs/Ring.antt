@@ -29,11 +29,15 @@ module _ (width value : ℤ) where
 
   pub refused-above : ltZ width (pos 0) ≡ false → ltZ (pos widthLimit) width ≡ true → true ≡ isRefused width value
   unfolding isRefused
-  refused-above e k = sym (ap₂ (λ a b. not (a && b) || byValue) (le-test {a = pos 0} {b = width} (ltZ-false width (pos 0) e)) (not-le-test {a = width} {b = pos widthLimit} (ltZ-true (pos widthLimit) width k)))
+  refused-above e k =
+      sym (ap₂ (λ a b. not (a && b) || byValue) (le-test {a = pos 0} {b = width} (ltZ-false width (pos 0) e))
+      (not-le-test {a = width} {b = pos widthLimit} (ltZ-true (pos widthLimit) width k)))
 
   pub refused-in-range : ltZ width (pos 0) ≡ false → ltZ (pos widthLimit) width ≡ false → byValue ≡ isRefused width value
   unfolding isRefused
-  refused-in-range e k = sym (ap₂ (λ a b. not (a && b) || byValue) (le-test {a = pos 0} {b = width} (ltZ-false width (pos 0) e)) (le-test {a = width} {b = pos widthLimit} (ltZ-false (pos widthLimit) width k)))
+  refused-in-range e k =
+      sym (ap₂ (λ a b. not (a && b) || byValue) (le-test {a = pos 0} {b = width} (ltZ-false width (pos 0) e))
+      (le-test {a = width} {b = pos widthLimit} (ltZ-false (pos widthLimit) width k)))
 
   pub absent : width ≡ pos 0 → isAbsent width ≡ true
   absent e = eq-eqb (natAbs width) 0 (ap natAbs e)
@@ -62,7 +66,10 @@ module _ (width value : ℤ) where
 
   pub passes-value : isRefused width value ≡ false → width ≢ pos 0 → pos 0 <ℤ value
   unfolding isRefused
-  passes-value e n = leZ-false value (pos 0) (go (leZ value (pos 0)) (ap (λ b. not b && leZ value (pos 0)) (sym (present n)) ∙ or-false (not (between (pos 0) (pos widthLimit) width)) byValue e .1))
+  passes-value e n =
+      leZ-false value (pos 0)
+      (go (leZ value (pos 0)) (ap (λ b. not b && leZ value (pos 0)) (sym (present n))
+      ∙ or-false (not (between (pos 0) (pos widthLimit) width)) byValue e .1))
     where
       go : (b : Bool) → (true && b) ≡ false → b ≡ false
       go true k = absurd (true-not-false refl k)

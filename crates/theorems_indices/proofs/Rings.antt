@@ -40,8 +40,12 @@ use Rattle.theorems_values.specs.ValueLimits.{Close}
 use Rattle.theorems_values.proofs.LegalCall.{answered-calls-are-legal, legal-calls-answer, values-length}
 use Rattle.theorems_values.proofs.Cells.{cells-are-close}
 use Rattle.theorems_acceptance.proofs.Curves.{curves-never-give-nine}
-use Rattle.theorems_indices.specs.Indices.{ringPositions, ringWidth, ringValue, isRefused, badRing, indexScale, indexOf, ringIndices, ringsRead, ringsIndexed, indicesReturned, indicesAfter}
-use Rattle.theorems_indices.specs.Rings.{RingsCall, endOf, ringCount, positionOf, valueCell, indexCell, CurveIsLegal, LegalRingsEnd, LegalRingsLeaveTheCurve, AnsweredRingsAreLegal, RingsNeverGiveNine, RefusalsKeepTheIndices, IndicesPastAreKept, PresentRingsAreDivided, AbsentRingsHaveMinusOne, ValuesUnderRingsAreClose, exactUnder, errorUnder, scaledWidth, IndexIsAbove, IndexIsAtMost}
+use Rattle.theorems_indices.specs.Indices.{ringPositions, ringWidth, ringValue, isRefused, badRing, indexScale, indexOf, ringIndices}
+use Rattle.theorems_indices.specs.Indices.{ringsRead, ringsIndexed, indicesReturned, indicesAfter}
+use Rattle.theorems_indices.specs.Rings.{RingsCall, endOf, ringCount, positionOf, valueCell, indexCell, CurveIsLegal, LegalRingsEnd}
+use Rattle.theorems_indices.specs.Rings.{LegalRingsLeaveTheCurve, AnsweredRingsAreLegal, RingsNeverGiveNine, RefusalsKeepTheIndices}
+use Rattle.theorems_indices.specs.Rings.{IndicesPastAreKept, PresentRingsAreDivided, AbsentRingsHaveMinusOne}
+use Rattle.theorems_indices.specs.Rings.{ValuesUnderRingsAreClose, exactUnder, errorUnder, scaledWidth, IndexIsAbove, IndexIsAtMost}
 use Rattle.theorems_indices.proofs.Ring.{passes-width, passes-value, index-absent, index-present}
 use Rattle.theorems_indices.proofs.Cells.{exact-length, exact-at}
 use Rattle.theorems_indices.proofs.Cells.{value-cell}
@@ -81,22 +85,31 @@ module _ (c : RingsCall) where
     result-count = values-length (c .space) (l .accepted .table) (c .coefs) positions ∙ exact-length (c .firstRing) (ringCount c)
 
     value-under : (i : ℕ) → i < ringCount c → valueCell c i ≡ ringValue (c .wood) (result .values) i
-    value-under i h = ap (λ o. getD (valuesAfter o (c .values)) (2 * i + woodIndex (c .wood)) (pos 0)) read-answers ∙ value-cell (c .wood) (c .widths) result (c .values) result-count i h
+    value-under i h = ap (λ o. getD (valuesAfter o (c .values)) (2 * i + woodIndex (c .wood)) (pos 0)) read-answers
+        ∙ value-cell (c .wood) (c .widths) result (c .values) result-count i h
 
-    tests-same : first (ringCount c) (badRing (c .wood) (c .widths) (result .values)) ≡ first (ringCount c) (λ i. isRefused (ringWidth (c .widths) i) (valueCell c i))
+    tests-same : first (ringCount c) (badRing (c .wood) (c .widths) (result .values))
+        ≡ first (ringCount c) (λ i. isRefused (ringWidth (c .widths) i) (valueCell c i))
     unfolding badRing
     tests-same = first-ext (ringCount c) (λ i h. ap (isRefused (ringWidth (c .widths) i)) (sym (value-under i h)))
 
-    indexed-is : indexed ≡ refuseFirst 14 (first (ringCount c) (λ i. isRefused (ringWidth (c .widths) i) (valueCell c i))) (answer (ringIndices (c .wood) (c .widths) (result .values)))
+    indexed-is : indexed ≡ refuseFirst 14 (first (ringCount c) (λ i. isRefused (ringWidth (c .widths) i) (valueCell c i))) (answer
+        (ringIndices (c .wood) (c .widths) (result .values)))
     unfolding ringsIndexed
-    indexed-is = then-answers (ringsIndexed (c .wood) (c .widths)) read-answers ∙ ap (λ (o : Option ℕ). refuseFirst 14 o (answer (ringIndices (c .wood) (c .widths) (result .values)))) tests-same
+    indexed-is =
+        then-answers (ringsIndexed (c .wood) (c .widths)) read-answers
+        ∙ ap (λ (o : Option ℕ). refuseFirst 14 o (answer (ringIndices (c .wood) (c .widths) (result .values)))) tests-same
 
 pub values-under-rings-are-close : ValuesUnderRingsAreClose
 values-under-rings-are-close c l room i h =
     let p = positions c in
-    subst (λ (v : ℤ). Close (c .space) (l .accepted .table) (c .wood) (c .coefs) (positionOf c i) v) (ap (λ o. getD (valuesAfter o (c .values)) (2 * i + woodIndex (c .wood)) (pos 0)) (sym (read-is c l room)))
-    (subst (λ (x : ℤ). Close (c .space) (l .accepted .table) (c .wood) (c .coefs) x (getD (valuesAfter (curves c) (c .values)) (2 * i + woodIndex (c .wood)) (pos 0))) (exact-at (c .firstRing) (ringCount c) i h)
-    (cells-are-close (c .space) (c .coefs) p (length (c .num)) (length (c .den)) (length (c .values)) l (c .values) i (rw (exact-length (c .firstRing) (ringCount c)) h) (c .wood)))
+    subst (λ (v : ℤ). Close (c .space) (l .accepted .table) (c .wood) (c .coefs) (positionOf c i) v)
+    (ap (λ o. getD (valuesAfter o (c .values)) (2 * i + woodIndex (c .wood)) (pos 0)) (sym (read-is c l room)))
+    (subst
+    (λ (x : ℤ). Close (c .space) (l .accepted .table) (c .wood) (c .coefs) x
+    (getD (valuesAfter (curves c) (c .values)) (2 * i + woodIndex (c .wood)) (pos 0))) (exact-at (c .firstRing) (ringCount c) i h)
+    (cells-are-close (c .space) (c .coefs) p (length (c .num)) (length (c .den)) (length (c .values)) l (c .values) i
+    (rw (exact-length (c .firstRing) (ringCount c)) h) (c .wood)))
 
 pub legal-rings-leave-the-curve : LegalRingsLeaveTheCurve
 legal-rings-leave-the-curve c l room =
@@ -109,7 +122,9 @@ returned-tested (some i) zs e = refl
 
 pub legal-rings-end : LegalRingsEnd
 unfolding ringIndices
-legal-rings-end c l room = ap indicesReturned (indexed-is c l room) ∙ returned-tested (first (ringCount c) (λ i. isRefused (ringWidth (c .widths) i) (valueCell c i))) (ringIndices (c .wood) (c .widths) (result c l room .values)) (tab-length (ringCount c) _)
+legal-rings-end c l room =
+    ap indicesReturned (indexed-is c l room) ∙ returned-tested (first (ringCount c) (λ i. isRefused (ringWidth (c .widths) i) (valueCell c i)))
+    (ringIndices (c .wood) (c .widths) (result c l room .values)) (tab-length (ringCount c) _)
 
 -- ---- an answered call
 
@@ -181,7 +196,9 @@ rings-never-give-nine c place e = returned (indexed c) refl e
     long false false false false r = curves-never-give-nine (c .space) (c .coefs) (positions c) place (length (c .num)) (length (c .den)) (length (c .values)) r
 
     lengths : read c ≡ refusal 9 place → ⊥
-    lengths r = long (ltb (length (c .num)) tableCells) (ltb (length (c .den)) tableCells) (ltb (length (c .values) / 2) (length (positions c))) (ltb (length (c .indices)) (ringCount c)) r
+    lengths r =
+        long (ltb (length (c .num)) tableCells) (ltb (length (c .den)) tableCells) (ltb (length (c .values) / 2) (length (positions c)))
+        (ltb (length (c .indices)) (ringCount c)) r
 
     broken : Broken (read c) (ringsIndexed (c .wood) (c .widths)) 9 place → ⊥
     broken (first-refuses p) = lengths p
@@ -201,7 +218,8 @@ refusals-keep-the-indices c code place e = go (indexed c) e
 
 -- the index cells hold the indices, and behind them what they held
 cells-are : (c : RingsCall) (n : ℕ) (e : endOf c .answers ≡ answer n) → let a = answered c n e in
-    endOf c .indices ≡ tab (ringCount c) (λ i. indexOf (ringWidth (c .widths) i) (ringValue (c .wood) (result c (a .legal) (a .room) .values) i)) ++ drop (ringCount c) (c .indices)
+    endOf c .indices ≡ tab (ringCount c) (λ i. indexOf (ringWidth (c .widths) i) (ringValue (c .wood) (result c (a .legal) (a .room) .values) i))
+    ++ drop (ringCount c) (c .indices)
 unfolding indicesAfter ringIndices
 cells-are c n e =
     let a = answered c n e in
@@ -219,7 +237,8 @@ module _ (c : RingsCall) (n : ℕ) (e : endOf c .answers ≡ answer n) (i : ℕ)
   passes = first-none-inverts _ (ringCount c) (answered c n e .none-refused) i h
 
 pub present-rings-are-divided : PresentRingsAreDivided
-present-rings-are-divided c n e i h p = (passes-value _ _ (passes c n e i h) p, index-is c n e i h ∙ sym (index-present (ringWidth (c .widths) i) (valueCell c i) p))
+present-rings-are-divided c n e i h p =
+    (passes-value _ _ (passes c n e i h) p, index-is c n e i h ∙ sym (index-present (ringWidth (c .widths) i) (valueCell c i) p))
 
 pub absent-rings-have-minus-one : AbsentRingsHaveMinusOne
 absent-rings-have-minus-one c n e i h z = index-is c n e i h ∙ sym (index-absent (ringWidth (c .widths) i) (valueCell c i) z)
@@ -250,7 +269,9 @@ module _ (w v : ℤ) (low : pos 0 ≤ℤ w) (above : pos 0 <ℤ v) where
   lt-quotient = subst (λ (d : ℤ). w <ℤ ((q +ℤ pos 1) *ℤ d)) (sym (pos-of v above .0)) (Z.lt-floorDiv w (natAbs v) (pos-of v above .1))
 
   quotient-nn : pos 0 ≤ℤ q
-  quotient-nn = Z.le-floorDiv (pos 0) w (natAbs v) (pos-of v above .1) (subst (λ (z : ℤ). z ≤ℤ w) (Z.ext (pos 0) (pos 0 *ℤ pos (natAbs v)) (omega (arith, Z.bal-* (pos 0) (pos (natAbs v))))) low)
+  quotient-nn =
+      Z.le-floorDiv (pos 0) w (natAbs v) (pos-of v above .1)
+      (subst (λ (z : ℤ). z ≤ℤ w) (Z.ext (pos 0) (pos 0 *ℤ pos (natAbs v)) (omega (arith, Z.bal-* (pos 0) (pos (natAbs v))))) low)
 
   quotient-at-most : {b : ℚ} → int (pos 0) <ᵠ b → b ≤ᵠ int v → int q ≤ᵠ int w /ᵠ b
   quotient-at-most {b} p h = Q.*-cancel p
@@ -270,12 +291,15 @@ module _ (w v : ℤ) (low : pos 0 ≤ℤ w) (above : pos 0 <ℤ v) where
       product = Q.<-≤-trans (subst (λ (x : ℚ). int w <ᵠ x) (int-mul (q +ℤ pos 1) v) (Q.int-mono-< lt-quotient)) (times (int v) b (int (q +ℤ pos 1)) more h)
 
       below : int w /ᵠ b <ᵠ int q +ᵠ int (pos 1)
-      below = Q.*-cancel-< (Q.pos-nn p) (subst (λ (x : ℚ). x <ᵠ (int q +ᵠ int (pos 1)) *ᵠ b) (sym (div-mul (int w) b (Q.pos-nonzero p))) (subst (λ (x : ℚ). int w <ᵠ x *ᵠ b) (int-add q (pos 1)) product))
+      below =
+          Q.*-cancel-< (Q.pos-nn p) (subst (λ (x : ℚ). x <ᵠ (int q +ᵠ int (pos 1)) *ᵠ b) (sym (div-mul (int w) b (Q.pos-nonzero p)))
+          (subst (λ (x : ℚ). int w <ᵠ x *ᵠ b) (int-add q (pos 1)) product))
 
       regroup : (x : ℚ) → x +ᵠ int (pos 1) +ᵠ -ᵠ int (pos 1) ≡ x
       regroup x = ring ℚ-ring (x ∷ []) (search readsℚ depth 20) (search readsℚ depth 20) refl
 
-module _ (c : RingsCall) (l : CurveIsLegal c) (n : ℕ) (e : endOf c .answers ≡ answer n) (i : ℕ) (h : i < ringCount c) (present : ringWidth (c .widths) i ≢ pos 0) where
+module _ (c : RingsCall) (l : CurveIsLegal c) (n : ℕ) (e : endOf c .answers ≡ answer n) (i : ℕ) (h : i < ringCount c)
+    (present : ringWidth (c .widths) i ≢ pos 0) where
   close : Close (c .space) (l .accepted .table) (c .wood) (c .coefs) (positionOf c i) (valueCell c i)
   close = values-under-rings-are-close c l (answered c n e .room) i h
 
@@ -288,12 +312,14 @@ module _ (c : RingsCall) (l : CurveIsLegal c) (n : ℕ) (e : endOf c .answers �
 pub index-is-above : IndexIsAbove
 index-is-above c l n e i h present =
     subst (λ (z : ℤ). scaledWidth c i /ᵠ (exactUnder c l i +ᵠ errorUnder c l i) -ᵠ int (pos 1) <ᵠ int z) (sym (divided c l n e i h present .1))
-    (lt-quotient-by (indexScale *ℤ ringWidth (c .widths) i) (valueCell c i) (scaled-nn c l n e i h present) (divided c l n e i h present .0) (close c l n e i h present .at-most-exact))
+    (lt-quotient-by (indexScale *ℤ ringWidth (c .widths) i) (valueCell c i) (scaled-nn c l n e i h present) (divided c l n e i h present .0)
+    (close c l n e i h present .at-most-exact))
 
 pub index-is-at-most : IndexIsAtMost
 index-is-at-most c l n e i h present low =
     subst (λ (z : ℤ). int z ≤ᵠ scaledWidth c i /ᵠ (exactUnder c l i -ᵠ errorUnder c l i)) (sym (divided c l n e i h present .1))
-    (quotient-at-most (indexScale *ℤ ringWidth (c .widths) i) (valueCell c i) (scaled-nn c l n e i h present) (divided c l n e i h present .0) (Q.lt-pos low) (less (exactUnder c l i) (errorUnder c l i) (int (valueCell c i)) (close c l n e i h present .exact-at-most)))
+    (quotient-at-most (indexScale *ℤ ringWidth (c .widths) i) (valueCell c i) (scaled-nn c l n e i h present) (divided c l n e i h present .0)
+    (Q.lt-pos low) (less (exactUnder c l i) (errorUnder c l i) (int (valueCell c i)) (close c l n e i h present .exact-at-most)))
   where
     regroup : (x d : ℚ) → x +ᵠ d +ᵠ -ᵠ d ≡ x
     regroup x d = ring ℚ-ring (x ∷ d ∷ []) (search readsℚ depth 20) (search readsℚ depth 20) refl

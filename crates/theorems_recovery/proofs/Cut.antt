@@ -71,7 +71,9 @@ module _ (left right : ℕ) where
       rows = F .count ∙ sym (length-map (r .table) (λ x. x ++ zeros right))
 
       same : (x : Combination) → within around (r .coefficients) [] rows x ≡ sideBySide left right r x
-      same x = ap₂ (λ (u : Table) (ns : List ℚ). record { table = u; coefficients = ns }) (right-embedded left right d j κ (r .table) (x .table) (F .wide) inside) (append-nil (r .coefficients ++ x .coefficients))
+      same x =
+          ap₂ (λ (u : Table) (ns : List ℚ). record { table = u; coefficients = ns })
+          (right-embedded left right d j κ (r .table) (x .table) (F .wide) inside) (append-nil (r .coefficients ++ x .coefficients))
 
 -- ---- tables with coefficients as a kind of state
 

@@ -14,7 +14,8 @@ use Rattle.spec_spline.specs.Conditions.{Entry, conditions}
 use Rattle.spec_spline.specs.Table.{Table, identity}
 use Rattle.spec_spline.specs.Step.{Span, step}
 use Rattle.spec_spline.specs.Build.{orderSteps, joinSteps, weights, clears}
-use Rattle.base_outcome.proofs.Outcome.{RefusedAs, answer-refused, then-refused, repeat-refused, repeat-more, repeat-stops, repeat-keeps, Halted, repeat-refuses}
+use Rattle.base_outcome.proofs.Outcome.{RefusedAs, answer-refused, then-refused, repeat-refused, repeat-more, repeat-stops, repeat-keeps}
+use Rattle.base_outcome.proofs.Outcome.{Halted, repeat-refuses}
 use Rattle.spec_spline.proofs.Refusals.{EightOrNine, step-refuses}
 use Rattle.theorems_recovery.specs.Recovery.{Combination, balanced, undone, recoverStep, recoverOrders, recoverJoins, recovered}
 use Rattle.theorems_recovery.specs.RecoveryCall.{clearsAll}
@@ -38,7 +39,8 @@ undone-here j g ws cs = undone-refused-as (Here j) j (inr refl, refl) g ws cs
 undoing-here : (j : ℕ) (κ : List Entry) (r : Combination) (t : Table) (js : List ℚ) (g : Span) (ws : List ℚ) → RefusedAs (Here j) (undoing j κ r t js g ws)
 undoing-here j κ r t js g ws =
     then-refused (Here j) (balanced j js (r .coefficients)) (λ _. undone j g ws (r .coefficients) then with-coefficients) (balanced-here j js (r .coefficients))
-    (λ _ _. then-refused (Here j) (undone j g ws (r .coefficients)) with-coefficients (undone-here j g ws (r .coefficients)) (λ ds _. answer-refused (Here j) (record { table = t; coefficients = ds })))
+    (λ _ _. then-refused (Here j) (undone j g ws (r .coefficients)) with-coefficients (undone-here j g ws (r .coefficients))
+    (λ ds _. answer-refused (Here j) (record { table = t; coefficients = ds })))
   where
     with-coefficients : List ℚ → Outcome Combination
     with-coefficients ds = answer (record { table = t; coefficients = ds })
@@ -83,7 +85,8 @@ cleared-not : {code : ℕ} → clears code ≡ true → (code ≡ 19) ⊎ (code 
 cleared-not told (inl z) = let w : clears 19 ≡ true = ap clears (sym z) ∙ told in clash cc
 cleared-not told (inr z) = let w : clears 20 ≡ true = ap clears (sym z) ∙ told in clash cc
 
-step-first : (j : ℕ) (κ : List Entry) (r : Combination) {code place : ℕ} → clears code ≡ true → recoverStep j κ r ≡ refusal code place → step j κ (r .table) ≡ refusal code place
+step-first : (j : ℕ) (κ : List Entry) (r : Combination) {code place : ℕ} → clears code ≡ true → recoverStep j κ r ≡ refusal code place
+    → step j κ (r .table) ≡ refusal code place
 step-first j κ r {code} {place} told e = go (refused-in j κ r e)
   where
     go : RefusedIn j κ r code place → step j κ (r .table) ≡ refusal code place
@@ -95,7 +98,8 @@ step-first j κ r {code} {place} told e = go (refused-in j κ r e)
 -- the tables are those of the build
 orders-table : (s : Space) (j n : ℕ) (r : Combination) {r′ : Combination} → recoverOrders s j n r ≡ answer r′ → orderSteps s j n (r .table) ≡ answer (r′ .table)
 unfolding recoverOrders orderSteps repeat
-orders-table s j n r {r′} e = repeat-keeps (λ k b. repeat k (λ k. step j (conditions s j k)) (r .table) ≡ answer (b .table)) n (λ k. recoverStep j (conditions s j k)) r refl
+orders-table s j n r {r′} e =
+    repeat-keeps (λ k b. repeat k (λ k. step j (conditions s j k)) (r .table) ≡ answer (b .table)) n (λ k. recoverStep j (conditions s j k)) r refl
     (λ k b c m Q q. repeat-more k (λ k. step j (conditions s j k)) (r .table) Q ∙ parts-of j (conditions s j k) b c q .has-step) r′ e
 
 pub joins-table : (s : Space) (ordinates : List ℤ) (n : ℕ) {r : Combination} → recoverJoins s ordinates n ≡ answer r → joinSteps s n ≡ answer (r .table)
@@ -107,7 +111,8 @@ joins-table s ordinates n {r} e =
     (λ j b c m Q q. repeat-more j (λ j. orderSteps s j (conditionCount s j)) (identity (columnCount s)) Q ∙ orders-table s j (conditionCount s j) b q) r e
 
 -- and so are its refusals
-orders-first : (s : Space) (j n : ℕ) (r : Combination) {code place : ℕ} → clears code ≡ true → recoverOrders s j n r ≡ refusal code place → orderSteps s j n (r .table) ≡ refusal code place
+orders-first : (s : Space) (j n : ℕ) (r : Combination) {code place : ℕ} → clears code ≡ true → recoverOrders s j n r ≡ refusal code place
+    → orderSteps s j n (r .table) ≡ refusal code place
 unfolding recoverOrders orderSteps
 orders-first s j n r {code} {place} told e = go (repeat-refuses n (λ k. recoverStep j (conditions s j k)) r e)
   where
@@ -119,9 +124,12 @@ orders-first s j n r {code} {place} told e = go (repeat-refuses n (λ k. recover
 pub eight-and-nine-are-the-builds : EightAndNineAreTheBuilds
 unfolding recovered recoverJoins weights joinSteps
 eight-and-nine-are-the-builds s ordinates code place told e =
-    go (repeat-refuses (segments s - 1) (λ j. recoverOrders s j (conditionCount s j)) (record { table = identity (columnCount s); coefficients = map int ordinates }) e)
+    go
+    (repeat-refuses (segments s - 1) (λ j. recoverOrders s j (conditionCount s j))
+    (record { table = identity (columnCount s); coefficients = map int ordinates }) e)
   where
-    go : Halted (segments s - 1) (λ j. recoverOrders s j (conditionCount s j)) (record { table = identity (columnCount s); coefficients = map int ordinates }) code place
+    go : Halted (segments s - 1) (λ j. recoverOrders s j (conditionCount s j))
+        (record { table = identity (columnCount s); coefficients = map int ordinates }) code place
         → weights s ≡ refusal code place
     go H =
         repeat-stops (segments s - 1) (H .index) (λ j. orderSteps s j (conditionCount s j)) (identity (columnCount s)) (H .below)

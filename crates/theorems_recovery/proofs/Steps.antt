@@ -16,7 +16,8 @@ use Rattle.base_outcome.specs.Outcome.{Outcome, answer, refusal, _then_}
 use Rattle.spec_spline.specs.Conditions.{Entry}
 use Rattle.spec_spline.specs.Table.{Table, entry, cell}
 use Rattle.spec_spline.specs.Step.{jumps, Span, span, factors, step}
-use Rattle.base_outcome.proofs.Outcome.{answer-unique, Chained, then-inverts, Broken, first-refuses, second-refuses, then-breaks, then-answers, RefusedAs, answer-refused, then-refused}
+use Rattle.base_outcome.proofs.Outcome.{answer-unique, Chained, then-inverts, Broken, first-refuses, second-refuses, then-breaks}
+use Rattle.base_outcome.proofs.Outcome.{then-answers, RefusedAs, answer-refused, then-refused}
 use Rattle.spec_spline.proofs.Refusals.{EightOrNine, step-refuses}
 use Rattle.spec_spline.proofs.Stepped.{StepParts, step-parts, step-spans, step-factors, span-below}
 use Rattle.spec_spline.proofs.Splice.{spliced-length, spliced-before, spliced-inside, spliced-after}
@@ -140,7 +141,9 @@ module _ (j : ℕ) (κ : List Entry) (r : Combination) where
       rest t g ws _ = undone j g ws (r .coefficients) then λ ds. answer (record { table = t; coefficients = ds })
 
       rest-refused : (t : Table) (g : Span) (ws : List ℚ) (u : Unit {0}) → RefusedAs Twenty (rest t g ws u)
-      rest-refused t g ws u = then-refused Twenty (undone j g ws (r .coefficients)) _ (undone-refuses-20 j g ws (r .coefficients)) (λ ds h. answer-refused Twenty (record { table = t; coefficients = ds }))
+      rest-refused t g ws u =
+          then-refused Twenty (undone j g ws (r .coefficients)) _ (undone-refuses-20 j g ws (r .coefficients))
+          (λ ds h. answer-refused Twenty (record { table = t; coefficients = ds }))
 
       in-test : (t : Table) (p : StepParts j κ (r .table) t) → Broken (balanced j (p .js) (r .coefficients)) (rest t (p .g) (p .ws)) 19 place → Unbalanced
       in-test t p (first-refuses q) = record { js = p .js; has-jumps = p .has-jumps; not-zero = balanced-not j (p .js) (r .coefficients) q }
@@ -159,15 +162,25 @@ sum-of-jumps j κ t coefficients js e = let J = jumps-inverts j κ t e in
     sum-ext (length t) (λ i h. ap (λ q. entry coefficients i *ᵠ q) (sym (J .1 i))) ∙ ap (λ n. sum n (λ i. entry coefficients i *ᵠ entry js i)) (sym (J .0))
 
 -- one number less
-pub numbers-less : {j : ℕ} {κ : List Entry} {r r′ : Combination} → length (r .coefficients) ≡ length (r .table) → Parts j κ r r′ → suc (length (r′ .coefficients)) ≡ length (r .coefficients)
+pub numbers-less : {j : ℕ} {κ : List Entry} {r r′ : Combination} → length (r .coefficients) ≡ length (r .table) → Parts j κ r r′
+    → suc (length (r′ .coefficients)) ≡ length (r .coefficients)
 numbers-less {j} {r = r} count P =
-    ap (λ u. suc (length u)) (sym (P .whole)) ∙ ap suc (spliced-length (r .coefficients) (P .ds) (P .own .g .f) (suc (P .own .g .l)) (omega (arith, s .ordered, span-below (P .own), count)))
-    ∙ omega (arith, s .ordered, span-below (P .own), count, rows-undone j (P .own .ws) (r .coefficients) (P .own .g .f) (P .own .g .l - P .own .g .f) (P .has-rows) .size)
+    ap (λ u. suc (length u)) (sym (P .whole))
+    ∙ ap suc
+    (spliced-length (r .coefficients) (P .ds) (P .own .g .f) (suc (P .own .g .l)) (omega (arith, s .ordered, span-below (P .own), count)))
+    ∙ omega (
+      arith,
+      s .ordered,
+      span-below (P .own),
+      count,
+      rows-undone j (P .own .ws) (r .coefficients) (P .own .g .f) (P .own .g .l - P .own .g .f) (P .has-rows) .size,
+    )
   where
     s : Spans (P .own .js) (P .own .g .f) (P .own .g .l)
     s = step-spans (P .own)
 
-module _ (width j : ℕ) (κ : List Entry) (r r′ : Combination) (count : length (r .coefficients) ≡ length (r .table)) (S : Stepped κ width (r .table) (r′ .table)) (P : Parts j κ r r′) where
+module _ (width j : ℕ) (κ : List Entry) (r r′ : Combination) (count : length (r .coefficients) ≡ length (r .table))
+    (S : Stepped κ width (r .table) (r′ .table)) (P : Parts j κ r r′) where
   abbrev f : ℕ
   f = P .own .g .f
 
@@ -194,7 +207,8 @@ module _ (width j : ℕ) (κ : List Entry) (r r′ : Combination) (count : lengt
   null : Jumps (length (r .table)) f l J w
   unfolding w
   null =
-      null-space (P .own .js) (P .own .ws) f l (length (r .table)) J (jumps-inverts j κ (r .table) (P .own .has-jumps) .1) (span-below (P .own)) (step-spans (P .own))
+      null-space (P .own .js) (P .own .ws) f l (length (r .table)) J (jumps-inverts j κ (r .table) (P .own .has-jumps) .1) (span-below (P .own))
+      (step-spans (P .own))
       (step-factors (P .own)) zero-sum
 
   annihilated : sum (length (r .table)) (λ i. old i *ᵠ J i) ≡ int (pos 0)
@@ -221,13 +235,17 @@ module _ (width j : ℕ) (κ : List Entry) (r r′ : Combination) (count : lengt
   inside i h k = at i (entry (P .ds) (i - f)) (spliced-inside (r .coefficients) (P .ds) f (suc l) within i (int (pos 0)) h (omega (arith, rows .size)))
 
   high : (i : ℕ) → l ≤ i → new i ≡ old (suc i)
-  high i h = let o = null .ordered in at i (old (suc i)) (spliced-after (r .coefficients) (P .ds) f (suc l) within i (suc i) (int (pos 0)) (omega (arith, rows .size)) (omega (arith, rows .size)))
+  high i h =
+      let o = null .ordered in
+      at i (old (suc i)) (spliced-after (r .coefficients) (P .ds) f (suc l) within i (suc i) (int (pos 0)) (omega (arith, rows .size))
+      (omega (arith, rows .size)))
 
   low : (i : ℕ) → i ≤ f → new i ≡ old i
   low i h = let o = null .ordered in go o (eq-or-lt-of-le h)
     where
       go : f < l → (i ≡ f) ⊎ (i < f) → new i ≡ old i
-      go o (inl e) = inside i (omega arith) (omega arith) ∙ ap (entry (P .ds)) (let z : i - f ≡ 0 = omega arith in z) ∙ rows .at-first (omega arith) ∙ ap old (sym e)
+      go o (inl e) = inside i (omega arith) (omega arith) ∙ ap (entry (P .ds)) (let z : i - f ≡ 0 = omega arith in z) ∙ rows .at-first (omega arith)
+          ∙ ap old (sym e)
       go o (inr k) = before i k
 
   next : (i : ℕ) → f ≤ i → suc i < l → w (suc i) *ᵠ new (suc i) ≡ old (suc i) -ᵠ (int (pos 1) -ᵠ w (suc i)) *ᵠ new i
@@ -258,6 +276,7 @@ module _ (width j : ℕ) (κ : List Entry) (r r′ : Combination) (count : lengt
 
   pub combination-kept : (col : ℕ) → combined new (r′ .table) col ≡ combined old (r .table) col
   combination-kept col =
-      sum-ext (length (r′ .table)) (λ i h. ap (λ q. q *ᵠ cell (r′ .table) i col) (sym (undone-is null old annihilated new low next high i (omega (arith, S .rows)))))
+      sum-ext (length (r′ .table))
+      (λ i h. ap (λ q. q *ᵠ cell (r′ .table) i col) (sym (undone-is null old annihilated new low next high i (omega (arith, S .rows)))))
       ∙ combination-lifts width κ (r .table) (r′ .table) S lifting col
       ∙ sum-ext (length (r .table)) (λ i h. ap (λ q. q *ᵠ cell (r .table) i col) (same-lifted i h))

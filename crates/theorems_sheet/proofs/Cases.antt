@@ -5,6 +5,7 @@ use mathlib.Core.Path.{_≡_, refl, ap, _∙_}
 use Prim.Native.Nat.{ℕ}
 use native.Mathlib.Omega.{arith}
 use lib.IntN.{ℤ, pos, negsuc}
+use Rattle.base_exact.proofs.Decide.{clash}
 use Rattle.base_outcome.specs.Outcome.{Outcome, answer, refusal, capped, with-answer}
 use Rattle.spec_spline.specs.Listing.{Weight}
 use Rattle.spec_spline.specs.CurveCall.{CurveResult, curveOutcome}
@@ -26,7 +27,7 @@ module _ (xs : List ℤ) (n : ℕ) (ws : List Weight) (vs : List ℤ) where
   shown-prints (answer r) e =
       let same : shown (r .table) (r .values) ≡ record { rows = n; weights = ws; values = forBoth vs } = cc in
       ap (λ (a : Answered). countLine (a .rows) ++ (weightLines (a .weights) ++ (valueLines xs (a .values) ++ lowLines (sorted (lowPositions xs (a .values)))))) same
-  shown-prints (refusal code place) e = absurd (let x : _≡_ {A = ℕ} 0 1 = cc in omega arith)
+  shown-prints (refusal code place) e = clash cc
 
 -- ---- W1
 

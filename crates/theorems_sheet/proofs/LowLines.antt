@@ -37,7 +37,8 @@ use Rattle.theorems_sheet.specs.LowLines.{AllPositive, WithoutLowLines, 
 none-low : (f : ℤ → Pair) (xs : List ℤ) → ((i : ℕ) → i < length xs → isLow (f (getD xs i (pos 0))) ≡ false) → lowPositions xs (map f xs) ≡ []
 unfolding lowPositions
 none-low f [] h = refl
-none-low f (x ∷ xs) h = cond-false (x ∷ lowPositions xs (map f xs)) (lowPositions xs (map f xs)) (h 0 (omega arith)) ∙ none-low f xs (λ i l. h (suc i) (omega arith))
+none-low f (x ∷ xs) h = cond-false (x ∷ lowPositions xs (map f xs)) (lowPositions xs (map f xs)) (h 0 (omega arith))
+    ∙ none-low f xs (λ i l. h (suc i) (omega arith))
 
 above-zero : (v : ℤ) → leastPositive ≤ℤ v → pos 0 <ℤ v
 above-zero v h = Z.<-≤-trans (pos 0) leastPositive v (Z.<-in (pos 0) leastPositive (omega arith)) h
@@ -49,11 +50,15 @@ module _ (s : Space) (coefs positions : List ℤ) (l : Legal s coefs positions t
   part-positive latewood i h = positive (2 * i + 1) (omega (arith, l .coefficientCount))
 
   value-above : (wood : Wood) (i : ℕ) → i < length positions → pos 0 <ℤ valueAt s (l .accepted .table) wood coefs (getD positions i (pos 0))
-  value-above wood i h = above-zero _ (positive-values s (l .accepted) wood coefs (part-positive wood) (getD positions i (pos 0)) (position-inside s positions i (l .inSpan i h)))
+  value-above wood i h =
+      above-zero _ (positive-values s (l .accepted) wood coefs (part-positive wood) (getD positions i (pos 0))
+      (position-inside s positions i (l .inSpan i h)))
 
   no-low : lowPositions positions (values s (l .accepted .table) coefs positions) ≡ []
   unfolding values pairAt isLow
-  no-low = none-low (pairAt s (l .accepted .table) coefs) positions (λ i h. ap₂ _||_ (not-le-test (value-above earlywood i h)) (not-le-test (value-above latewood i h)))
+  no-low =
+      none-low (pairAt s (l .accepted .table) coefs) positions
+      (λ i h. ap₂ _||_ (not-le-test (value-above earlywood i h)) (not-le-test (value-above latewood i h)))
 
 -- ---- the printout
 
@@ -65,14 +70,18 @@ module _ (l : Lists) (positive : AllPositive l) where
   abbrev a : Arguments
   a = argumentsOf l
 
-  printed : (r : CurveResult) → called a ≡ answer r → answerText (r .table) (a .positions) (r .values) ≡ countLine (length (r .table)) ++ (weightLines (tableWeights 0 (r .table)) ++ valueLines (a .positions) (r .values))
+  printed : (r : CurveResult) → called a ≡ answer r
+      → answerText (r .table) (a .positions) (r .values) ≡ countLine (length (r .table))
+      ++ (weightLines (tableWeights 0 (r .table)) ++ valueLines (a .positions) (r .values))
   unfolding called answerText
   printed r e =
       let L = answered-calls-are-legal (spaceOf a) (a .coefs) (a .positions) tableCells tableCells valueCells r e in
       let same = answer-unique {a = r} e (legal-calls-answer (spaceOf a) (a .coefs) (a .positions) tableCells tableCells valueCells L) in
-      let none : lowPositions (a .positions) (r .values) ≡ [] = ap (λ q. lowPositions (a .positions) (q .values)) same ∙ no-low (spaceOf a) (a .coefs) (a .positions) L positive in
+      let none : lowPositions (a .positions) (r .values) ≡ [] = ap (λ q. lowPositions (a .positions) (q .values)) same
+      ∙ no-low (spaceOf a) (a .coefs) (a .positions) L positive in
       ap (λ t. countLine (length (r .table)) ++ (weightLines (tableWeights 0 (r .table)) ++ t))
-      (ap (λ xs. valueLines (a .positions) (r .values) ++ lowLines (sorted xs)) none ∙ ap (λ t. valueLines (a .positions) (r .values) ++ t) no-low-lines ∙ append-nil (valueLines (a .positions) (r .values)))
+      (ap (λ xs. valueLines (a .positions) (r .values) ++ lowLines (sorted xs)) none
+      ∙ ap (λ t. valueLines (a .positions) (r .values) ++ t) no-low-lines ∙ append-nil (valueLines (a .positions) (r .values)))
 
   outcome-printed : (o : Outcome CurveResult) → called a ≡ o → WithoutLowLines (outcomeText (a .positions) o)
   unfolding outcomeText
@@ -103,7 +112,8 @@ positiveLists = record {
 }
 
 positive-reads : read positiveText ≡ answer positiveLists
-unfolding capped cut fieldsBetween stripped allDigits digitsValue isNatural numeral entry.pair entries listOf line readLine fiveLines read bytes lines positiveText
+unfolding capped cut fieldsBetween stripped allDigits digitsValue isNatural numeral entry.pair entries listOf line readLine fiveLines read bytes
+    lines positiveText
 positive-reads = refl
 
 all-positive : AllPositive positiveLists

@@ -1,9 +1,9 @@
 -- One turn of a loop that writes: the numbers of fields one after another, and widths from hundredths to thousandths.
 use mathlib.Core.Path.{_≡_, refl, sym, _∙_, ap, ap₂}
-use mathlib.Core.Bool.{Bool, true, false, _&&_}
-use mathlib.Core.List.{List, [], _∷_, map}
+use mathlib.Core.Bool.{true, _&&_}
+use mathlib.Core.List.{List, [], _∷_}
 use mathlib.Core.Option.{Option, some, none}
-use Prim.Native.Nat.{ℕ, suc, _+_, _-_, _<_, _≤_}
+use Prim.Native.Nat.{ℕ, _+_, _-_, _<_, _≤_}
 use native.Mathlib.Numerals.{add-one}
 use native.Mathlib.Omega.{arith}
 use lib.IntN.{ℤ, pos, natAbs, _*ℤ_}
@@ -12,7 +12,7 @@ use lib.Seq.{slice, sets, slice-empty}
 use lib.Signed.{leZ}
 use mir.Syntax.{w32}
 use mir.Val.{SFits}
-use Rattle.base_exact.proofs.Decide.{and-true}
+use Rattle.base_exact.proofs.Decide.{and-true, clash}
 use Rattle.base_exact.proofs.Integer.{abs-mono, abs-mul}
 use Rattle.base_exact.proofs.Word.{leZ-true, sfits-abs}
 use Rattle.base_text.specs.Bytes.{Text}
@@ -27,15 +27,17 @@ use Rattle.tucson_fill.proofs.Sets.{slice-set}
 
 -- ---- the numbers of fields
 with-numeral : (a : Option ℤ) (x : Option (List ℤ)) → withField a x ≡ some (numeralsOf (withField a x)) → a ≡ none → ⊥
-with-numeral none x e h = let z : _≡_ {A = ℕ} 0 1 = cc in omega arith
-with-numeral (some z) x e h = let z : _≡_ {A = ℕ} 0 1 = cc in omega arith
+with-numeral none x e h = clash cc
+with-numeral (some z) x e h = clash cc
 
-with-rest : (a : Option ℤ) (x : Option (List ℤ)) (z : ℤ) → withField a x ≡ some (numeralsOf (withField a x)) → a ≡ some z → (x ≡ some (numeralsOf x)) × (numeralsOf (withField a x) ≡ z ∷ numeralsOf x)
-with-rest none x z e h = absurd (let z : _≡_ {A = ℕ} 0 1 = cc in omega arith)
-with-rest (some y) none z e h = absurd (let z : _≡_ {A = ℕ} 0 1 = cc in omega arith)
+with-rest : (a : Option ℤ) (x : Option (List ℤ)) (z : ℤ) → withField a x ≡ some (numeralsOf (withField a x)) → a ≡ some z
+    → (x ≡ some (numeralsOf x)) × (numeralsOf (withField a x) ≡ z ∷ numeralsOf x)
+with-rest none x z e h = clash cc
+with-rest (some y) none z e h = clash cc
 with-rest (some y) (some fs) z e h = let same : y ≡ z = cc in (refl, ap (λ (w : ℤ). w ∷ fs) same)
 
-module _ (text : Text) (start to m : ℕ) (some-left : 1 ≤ m) (longer : start + fieldColumns ≤ to) (good : fieldNumerals m (slice start to text) ≡ some (numeralsOf (fieldNumerals m (slice start to text)))) where
+module _ (text : Text) (start to m : ℕ) (some-left : 1 ≤ m) (longer : start + fieldColumns ≤ to)
+    (good : fieldNumerals m (slice start to text) ≡ some (numeralsOf (fieldNumerals m (slice start to text)))) where
   abbrev here : Option ℤ
   here = inColumns (slice start (start + fieldColumns) text)
 
@@ -61,7 +63,9 @@ fields-none t = refl
 -- ---- hundredths
 pub width-small : (z : ℤ) → isWidth z ≡ true → natAbs z ≤ widthLimit
 unfolding isWidth
-width-small z e = let both = and-true (leZ (pos 0) z) (leZ z (pos widthLimit)) e in abs-mono z (pos widthLimit) (leZ-true (pos 0) z (both .0)) (leZ-true z (pos widthLimit) (both .1))
+width-small z e =
+    let both = and-true (leZ (pos 0) z) (leZ z (pos widthLimit)) e in
+    abs-mono z (pos widthLimit) (leZ-true (pos 0) z (both .0)) (leZ-true z (pos widthLimit) (both .1))
 
 pub tenfold-fits : (z : ℤ) → isWidth z ≡ true → SFits w32 (z *ℤ pos 10)
 tenfold-fits z e = sfits-abs (omega (arith, abs-mul z (pos 10), width-small z e))

@@ -1,32 +1,27 @@
 -- A text that reads well, line by line: what an answer says of the first line, of the series that it opens or closes, and of
 -- the lines behind it.
-use mathlib.Core.Path.{_≡_, refl, sym, _∙_, ap, ap₂, subst}
-use mathlib.Core.Bool.{Bool, true, false, cond, _&&_, _||_, not}
-use mathlib.Core.Bool.{and-true as and-true-right}
-use mathlib.Core.List.{List, [], _∷_, _++_, dropLast}
+use mathlib.Core.Path.{_≡_, refl, sym, _∙_, ap, subst}
+use mathlib.Core.Bool.{Bool, true, false, cond, _&&_, not}
+use mathlib.Core.List.{List, _++_, dropLast}
 use mathlib.Core.Option.{Option, some, none}
-use Prim.Native.Nat.{ℕ, suc, _+_, _-_, _<_, _≤_}
-use native.Mathlib.Omega.{arith}
-use lib.Dec.{eqb}
-use lib.IntN.{ℤ, pos, natAbs, _+ℤ_}
-use lib.ListN.{length, length-append, length-map}
-use lib.Signed.{leZ}
-use Rattle.base_exact.proofs.Decide.{and-true, true-not-false, clash}
-use Rattle.base_exact.proofs.Integer.{bal-+, abs-parts}
-use Rattle.base_outcome.specs.Outcome.{Outcome, answer, refusal, refuse, _then_, with-answer}
-use Rattle.base_outcome.proofs.Outcome.{answer-unique, answer-not-refusal, then-inverts}
+use Prim.Native.Nat.{ℕ}
+use lib.IntN.{ℤ, pos}
+use lib.ListN.{length, length-map}
+use Rattle.base_exact.proofs.Decide.{and-true, clash}
+use Rattle.base_outcome.specs.Outcome.{Outcome, answer, refusal, refuse, with-answer}
+use Rattle.base_outcome.proofs.Outcome.{answer-unique, answer-not-refusal}
 use Rattle.base_text.specs.Bytes.{Text}
-use Rattle.spec_tucson.specs.Line.{Line, thousandths, isWidth, same, yearInDecade, withinDecade, fieldsAllowed, lineOf, ifAllowed, goodLine}
+use Rattle.spec_tucson.specs.Line.{Line, thousandths, isWidth, same, withinDecade, fieldsAllowed, lineOf, ifAllowed, goodLine}
 use Rattle.spec_tucson.specs.Series.{Series, hundredths, allHundredths, fromHundredths, closedBy}
-use Rattle.spec_tucson.specs.TextReading.{Begun, begunBy, goesOn, nextYear, yearFollows, Step, opened, closed, extended, lastField, wholeSeries, closing, lineStep, ifGood, readLine, after, readLines}
-use Rattle.spec_tucson.specs.ReadCall.{namesOf, widthsOf}
+use Rattle.spec_tucson.specs.TextReading.{Begun, begunBy, yearFollows, Step, opened, closed, extended, lastField}
+use Rattle.spec_tucson.specs.TextReading.{wholeSeries, closing, lineStep, ifGood, readLine}
 use Rattle.spec_tucson.specs.Writing.{allWidths}
 use Rattle.spec_tucson.proofs.Lines.{front-widths-of}
 pub use Rattle.spec_tucson.proofs.Lines.{all-widths, widths-append}
 use Rattle.tucson_lines.proofs.GoodLines.{ifWidth, good-more}
 use Rattle.tucson_scan.specs.Scan.{soFar}
 use Rattle.tucson_fill.specs.Write.{inThousandths}
-use Rattle.tucson_scan.proofs.Passing.{same-is, begun-widths, front-length}
+use Rattle.tucson_scan.proofs.Passing.{same-is, begun-widths}
 
 -- ---- one line
 
@@ -42,7 +37,8 @@ unfolding readLine lineStep
 stepped place b more t st e = go (goodLine (not more) t) refl e
   where
     test : (l : Line) → goodLine (not more) t ≡ some l → (f : Bool) → yearFollows b l ≡ f →
-        cond f (cond more (answer (opened (extended (begunBy b l) l))) (closing place (begunBy b l) l)) (refuse 12 place) ≡ answer st → Stepped place b more t st
+        cond f (cond more (answer (opened (extended (begunBy b l) l))) (closing place (begunBy b l) l)) (refuse 12 place) ≡ answer st
+        → Stepped place b more t st
     test l g true k e = record { line = l; good = g; follows = k; leaves = e }
     test l g false k e = absurd (answer-not-refusal e refl)
 
@@ -79,7 +75,8 @@ pub closes : (place : ℕ) (b : Option Begun) (l : Line) (st : Step) → closing
 unfolding closing
 closes place b l st e = go (closedBy (lastField (l .fields)) (begunBy b l .widths ++ dropLast (l .fields))) refl e
   where
-    go : (o : Option (List ℤ)) → closedBy (lastField (l .fields)) (begunBy b l .widths ++ dropLast (l .fields)) ≡ o → wholeSeries place (l .name) (begunBy b l .firstYear) o ≡ answer st → Closes b l st
+    go : (o : Option (List ℤ)) → closedBy (lastField (l .fields)) (begunBy b l .widths ++ dropLast (l .fields)) ≡ o
+        → wholeSeries place (l .name) (begunBy b l .firstYear) o ≡ answer st → Closes b l st
     go none k e = absurd (answer-not-refusal e refl)
     go (some ws) k e = record {
       series = record { name = l .name; firstYear = begunBy b l .firstYear; widths = ws };
@@ -94,7 +91,8 @@ pub closed-widths : (z : ℤ) (ws vs : List ℤ) → closedBy z ws ≡ some vs �
 unfolding closedBy inThousandths
 closed-widths z ws vs e = go (same z thousandths) (same z hundredths) (allHundredths ws) refl refl e
   where
-    go : (t h a : Bool) → same z thousandths ≡ t → same z hundredths ≡ h → cond t (some ws) (cond (h && a) (some (fromHundredths ws)) none) ≡ some vs → vs ≡ cond h (fromHundredths ws) ws
+    go : (t h a : Bool) → same z thousandths ≡ t → same z hundredths ≡ h → cond t (some ws) (cond (h && a) (some (fromHundredths ws)) none) ≡ some vs
+        → vs ≡ cond h (fromHundredths ws) ws
     go true true a k m e = clash (let x : pos 999 ≡ thousandths = sym (same-is z hundredths m) ∙ same-is z thousandths k in cc)
     go true false a k m e = cc
     go false true true k m e = cc
@@ -118,8 +116,11 @@ pub good-allowed : (last : Bool) (t : Text) (l : Line) → goodLine last t ≡ s
 unfolding goodLine
 good-allowed last t l e = go (lineOf t) e
   where
-    test : (m : Line) (b : Bool) → (withinDecade m && fieldsAllowed last (m .fields)) ≡ b → cond b (some m) none ≡ some l → fieldsAllowed last (l .fields) ≡ true
-    test m true k e = let is : m ≡ l = cc in subst (λ x. fieldsAllowed last (x .fields) ≡ true) is (and-true (withinDecade m) (fieldsAllowed last (m .fields)) k .1)
+    test : (m : Line) (b : Bool) → (withinDecade m && fieldsAllowed last (m .fields)) ≡ b → cond b (some m) none ≡ some l
+        → fieldsAllowed last (l .fields) ≡ true
+    test m true k e =
+        let is : m ≡ l = cc in
+        subst (λ x. fieldsAllowed last (x .fields) ≡ true) is (and-true (withinDecade m) (fieldsAllowed last (m .fields)) k .1)
     test m false k e = clash cc
 
     go : (o : Option Line) → ifAllowed last o ≡ some l → fieldsAllowed last (l .fields) ≡ true

@@ -1,14 +1,13 @@
 -- A list stored into a buffer from an index on (`sets`): one list after another, a list over another, a list that is there
 -- already, and what a part of the buffer then is.
 use mathlib.Core.Path.{_≡_, refl, sym, _∙_, ap, ap₂}
-use mathlib.Core.List.{List, [], _∷_, _++_, append-assoc}
-use Prim.Native.Nat.{ℕ, zero, suc, _+_, _-_, _<_, _≤_}
+use mathlib.Core.List.{List, [], _∷_, _++_}
+use Prim.Native.Nat.{ℕ, zero, suc, _+_, _<_, _≤_}
 use native.Mathlib.Nat.{add-zero, add-suc, suc-add, zero-add}
-use native.Mathlib.Numerals.{add-one}
 use native.Mathlib.Omega.{arith}
-use lib.ListN.{length, getD, take, drop, set, length-append, length-set}
-use lib.Seq.{slice, sets, sets-eq, length-sets, take-set-le, take-set-lt, drop-set-lt, take-at, drop-at, drop-append-le, length-take-le, set-getD, slice-cons, slice-empty}
-use Rattle.base_text.proofs.Slice.{slice-step}
+use lib.ListN.{length, getD, take, drop, set, length-append}
+use lib.Seq.{slice, sets, sets-eq, length-sets, take-set-le, take-set-lt, drop-set-lt, take-at, drop-append-le, length-take-le}
+use lib.Seq.{set-getD, slice-cons, slice-empty}
 
 module _ {A : Type 0} where
   pub sets-append : (l : List A) (i : ℕ) (xs ys : List A) → sets l i (xs ++ ys) ≡ sets (sets l i xs) (i + length xs) ys
@@ -26,7 +25,8 @@ module _ {A : Type 0} where
   drop-sets n l i (x ∷ xs) h = drop-sets n (set l i x) (suc i) xs (omega arith) ∙ drop-set-lt n l i x (omega arith)
 
   -- a list over all of another
-  pub sets-over : (l : List A) (i j : ℕ) (xs ys : List A) → i ≤ j → j + length ys ≤ i + length xs → i + length xs ≤ length l → sets (sets l j ys) i xs ≡ sets l i xs
+  pub sets-over : (l : List A) (i j : ℕ) (xs ys : List A) → i ≤ j → j + length ys ≤ i + length xs → i + length xs ≤ length l
+      → sets (sets l j ys) i xs ≡ sets l i xs
   sets-over l i j xs ys h k room =
       sets-eq xs (sets l j ys) i (omega (arith, length-sets l j ys))
       ∙ ap₂ (λ (a b : List A). a ++ xs ++ b) (take-sets i l j ys h) (drop-sets (i + length xs) l j ys k)

@@ -1,17 +1,12 @@
 // The second pass: the lines of a text that is known to be good are written to buffers that are known to be long enough.
-ghost use mathlib.Core.Bool.{true, cond};
+ghost use mathlib.Core.Bool.{cond};
 ghost use mathlib.Core.Path.{_≡_};
-ghost use Prim.Native.Nat.{_+_, _*_, _-_, _<_, _≤_};
-ghost use lib.IntN.{pos};
-ghost use lib.ListN.{length, set};
+ghost use Prim.Native.Nat.{_+_};
+ghost use lib.ListN.{length};
 ghost use lib.Seq.{slice, sets};
-ghost use Rattle.base_outcome.specs.Outcome.{answer};
 ghost use Rattle.spec_tucson.specs.Line.{fieldNumerals, nameColumns};
 ghost use Rattle.spec_tucson.specs.Series.{fromHundredths};
-ghost use Rattle.spec_tucson.specs.TextReading.{readText};
-ghost use Rattle.spec_tucson.specs.ReadCall.{namesOf, yearsOf, countsOf, widthsOf};
-ghost use Rattle.spec_tucson.specs.Writing.{allWidths};
-ghost use Rattle.tucson_fill.specs.Write.{numeralsOf, seriesIn, FieldsAt, inThousandths};
+ghost use Rattle.tucson_fill.specs.Write.{numeralsOf, inThousandths, FieldsAt, NameAt, WidthsAt, EntryAsks, WriteAsks, Entered, Written};
 use base_text::numeral::Field;
 use tucson_lines::LineAnswer;
 
@@ -42,7 +37,7 @@ fn fill(text: &[u8], from: usize, to: usize, n: usize, widths: &mut [i32], at: u
 
 // Writes a name's eight bytes.
 fn copy_name(text: &[u8], from: usize, names: &mut [u8], at: usize)
-    requires { ⌜ (from + nameColumns ≤ length (now text)) × (at + nameColumns ≤ length (now names)) ⌝ }
+    requires { ⌜ NameAt (now text) from (now names) at ⌝ }
     ensures { λ r. ⌜ now (names .exit) ≡ sets (now (names .entry)) at (slice from (from + nameColumns) (now (text .entry))) ⌝ }
 {
     let mut i = 0;
@@ -54,7 +49,7 @@ fn copy_name(text: &[u8], from: usize, names: &mut [u8], at: usize)
 
 // Hundredths become thousandths, from the one index up to the other.
 fn scale(widths: &mut [i32], from: usize, to: usize)
-    requires { ⌜ (from ≤ to) × ((to ≤ length (now widths)) × (allWidths (slice from to (now widths)) ≡ true)) ⌝ }
+    requires { ⌜ WidthsAt (now widths) from to ⌝ }
     ensures { λ r. ⌜ now (widths .exit) ≡ sets (now (widths .entry)) from (fromHundredths (slice from to (now (widths .entry)))) ⌝ }
 {
     let mut i = from;
@@ -67,7 +62,7 @@ fn scale(widths: &mut [i32], from: usize, to: usize)
 
 // The widths from the one index up to the other in thousandths, by the closing.
 fn convert(closing: i32, widths: &mut [i32], from: usize, to: usize)
-    requires { ⌜ (from ≤ to) × ((to ≤ length (now widths)) × (allWidths (slice from to (now widths)) ≡ true)) ⌝ }
+    requires { ⌜ WidthsAt (now widths) from to ⌝ }
     ensures { λ r. ⌜ now (widths .exit) ≡ sets (now (widths .entry)) from (inThousandths closing (slice from to (now (widths .entry)))) ⌝ }
 {
     if tucson_lines::same(closing, tucson_scan::HUNDREDTHS) {
@@ -87,12 +82,9 @@ fn enter(
     counts: &mut [u32],
     series: usize,
 )
-    requires { ⌜ (from + nameColumns ≤ length (now text)) × (series * nameColumns + nameColumns ≤ length (now names)) ⌝ }
-    requires { ⌜ (series < length (now years)) × ((series < length (now counts)) × (count < 4294967296)) ⌝ }
-    ensures { λ r. ⌜ now (names .exit) ≡ sets (now (names .entry)) (series * nameColumns)
-        (slice from (from + nameColumns) (now (text .entry))) ⌝ }
-    ensures { λ r. ⌜ now (years .exit) ≡ set (now (years .entry)) series first ⌝ }
-    ensures { λ r. ⌜ now (counts .exit) ≡ set (now (counts .entry)) series count ⌝ }
+    requires { ⌜ EntryAsks (now text) from count (now names) (now years) (now counts) series ⌝ }
+    ensures { λ r. ⌜ Entered (now (text .entry)) from first count series (now (names .entry)) (now (years .entry)) (now (counts .entry))
+        (now (names .exit)) (now (years .exit)) (now (counts .exit)) ⌝ }
 {
     copy_name(text, from, names, series * tucson_lines::NAME);
     years[series] = first;
@@ -117,14 +109,9 @@ pub fn write(
     counts: &mut [u32],
     widths: &mut [i32],
 )
-    requires { ⌜ readText (now text) ≡ answer (seriesIn (readText (now text))) ⌝ }
-    requires { ⌜ (let ss = seriesIn (readText (now text)) in
-        (length (namesOf ss) ≤ length (now names)) × ((length ss ≤ length (now years))
-        × ((length ss ≤ length (now counts)) × (length (widthsOf ss) ≤ length (now widths))))) ⌝ }
-    ensures { λ r. ⌜ now (names .exit) ≡ sets (now (names .entry)) 0 (namesOf (seriesIn (readText (now (text .entry))))) ⌝ }
-    ensures { λ r. ⌜ now (years .exit) ≡ sets (now (years .entry)) 0 (yearsOf (seriesIn (readText (now (text .entry))))) ⌝ }
-    ensures { λ r. ⌜ now (counts .exit) ≡ sets (now (counts .entry)) 0 (countsOf (seriesIn (readText (now (text .entry))))) ⌝ }
-    ensures { λ r. ⌜ now (widths .exit) ≡ sets (now (widths .entry)) 0 (widthsOf (seriesIn (readText (now (text .entry))))) ⌝ }
+    requires { ⌜ WriteAsks (now text) (now names) (now years) (now counts) (now widths) ⌝ }
+    ensures { λ r. ⌜ Written (now (text .entry)) (now (names .entry)) (now (years .entry)) (now (counts .entry)) (now (widths .entry))
+        (now (names .exit)) (now (years .exit)) (now (counts .exit)) (now (widths .exit)) ⌝ }
 {
     let mut from = 0;
     let mut series = 0;

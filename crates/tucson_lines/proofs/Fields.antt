@@ -2,7 +2,7 @@
 use mathlib.Core.Path.{_≡_, refl, sym, _∙_, ap, ap₂}
 use mathlib.Core.Bool.{Bool, true, false, cond, _&&_, not, and-assoc}
 use mathlib.Core.Bool.{and-true as and-true-right}
-use mathlib.Core.List.{List, [], _∷_}
+use mathlib.Core.List.{List, _∷_}
 use mathlib.Core.Option.{Option, some, none}
 use Prim.Native.Nat.{ℕ, suc, _+_, _-_, _≤_}
 use native.Mathlib.Omega.{arith}
@@ -22,14 +22,16 @@ use Rattle.tucson_lines.specs.declared.WidthsAnswer.the-variants.{Small,
 
 -- ---- a name of the right length
 module _ (text : Text) (from : ℕ) (within : from + nameColumns ≤ length text) where
-  name-is : isName (slice from (from + nameColumns) text) ≡ (allPrintable (slice from (from + nameColumns) text) && not (allBlank (slice from (from + nameColumns) text)))
+  name-is : isName (slice from (from + nameColumns) text)
+      ≡ (allPrintable (slice from (from + nameColumns) text) && not (allBlank (slice from (from + nameColumns) text)))
   unfolding isName
   name-is = rw (eq-eqb (length (slice from (from + nameColumns) text)) nameColumns (length-slice from (from + nameColumns) text within ∙ omega arith))
 
   pub name-unprintable : allPrintable (slice from (from + nameColumns) text) ≡ false → isName (slice from (from + nameColumns) text) ≡ false
   name-unprintable e = name-is ∙ ap (λ (b : Bool). b && not (allBlank (slice from (from + nameColumns) text))) e
 
-  pub name-printable : allPrintable (slice from (from + nameColumns) text) ≡ true → isName (slice from (from + nameColumns) text) ≡ not (allBlank (slice from (from + nameColumns) text))
+  pub name-printable : allPrintable (slice from (from + nameColumns) text) ≡ true
+      → isName (slice from (from + nameColumns) text) ≡ not (allBlank (slice from (from + nameColumns) text))
   name-printable e = name-is ∙ ap (λ (b : Bool). b && not (allBlank (slice from (from + nameColumns) text))) e
 
 -- ---- the first field of a part, and the others
@@ -55,7 +57,8 @@ widths-no-width small o z r e h = ap (λ (x : Option ℤ). widthsTold small (wit
     go none = refl
     go (some ws) = ap (λ (b : Bool). cond (b && allWidths ws) (Small (small && allHundredths (z ∷ ws))) Bad) h
 
-pub widths-next : (small : Bool) (o : Option ℤ) (z : ℤ) (r : Option (List ℤ)) → o ≡ some z → isWidth z ≡ true → widthsTold small (withField o r) ≡ widthsTold (small && leZ z (pos hundredthsLimit)) r
+pub widths-next : (small : Bool) (o : Option ℤ) (z : ℤ) (r : Option (List ℤ)) → o ≡ some z → isWidth z ≡ true
+    → widthsTold small (withField o r) ≡ widthsTold (small && leZ z (pos hundredthsLimit)) r
 unfolding widthsTold allWidths allHundredths
 widths-next small o z r e h = ap (λ (x : Option ℤ). widthsTold small (withField x r)) e ∙ go r
   where

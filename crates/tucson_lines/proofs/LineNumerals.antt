@@ -1,34 +1,33 @@
 -- The year and the fields of a line: what is told of them, from the fields but the last and from the last, and what a line
 -- that passes the tests is.
 use mathlib.Core.Path.{_≡_, refl, sym, _∙_, ap, ap₂}
-use mathlib.Core.Bool.{Bool, true, false, cond, _&&_, _||_, not, and-assoc, and-false}
+use mathlib.Core.Bool.{Bool, true, false, cond, _&&_, _||_, and-assoc, and-false}
 use mathlib.Core.Bool.{and-true as and-true-right}
 use mathlib.Core.List.{List, [], _∷_, _++_, dropLast}
 use mathlib.Core.Option.{Option, some, none}
 use Prim.Native.Nat.{ℕ, zero, suc, _+_, _*_, _-_, _/_, _<_, _≤_}
-use native.Mathlib.Nat.{mod-lt}
 use native.Mathlib.Omega.{arith}
-use borrow.Author.Tests.{eq-eqb, ne-eqb, le-leb, lt-leb, leb-true, eqb-true}
+use borrow.Author.Tests.{eq-eqb, ne-eqb, le-leb, lt-leb}
 use lib.Dec.{eqb, leb}
-use lib.IntN.{ℤ, pos, negsuc, natAbs}
+use lib.IntN.{ℤ}
 use lib.ListN.{length, take, drop, length-append}
 use lib.Seq.{slice, drop-drop, length-slice}
-use Rattle.base_exact.proofs.Decide.{and-true}
+use Rattle.base_exact.proofs.Decide.{clash}
 use Rattle.base_text.specs.Bytes.{Text}
-use Rattle.base_text.specs.Numeral.{numeral, isNatural, digitsValue, negated, numeralLimit}
-use Rattle.base_text.proofs.Digits.{natural-small}
 use Rattle.base_text.proofs.Slice.{take-slice, drop-slice}
 use Rattle.spec_tucson.specs.Columns.{inColumns}
-use Rattle.spec_tucson.specs.Line.{Line, nameColumns, yearColumns, fieldColumns, decade, thousandths, withField, fieldNumerals, fieldCount, columnsFit, isName, isWidth, same, withNumerals, lineInColumns, yearInDecade, withinDecade, fieldsAllowed, ifAllowed, goodLine}
+use Rattle.spec_tucson.specs.Line.{Line, nameColumns, yearColumns, fieldColumns, decade, thousandths, withField, fieldNumerals, fieldCount}
+use Rattle.spec_tucson.specs.Line.{columnsFit, isName, isWidth, same, withNumerals, lineInColumns, yearInDecade, withinDecade}
+use Rattle.spec_tucson.specs.Line.{fieldsAllowed, ifAllowed, goodLine}
 use Rattle.spec_tucson.specs.Series.{allHundredths}
 use Rattle.spec_tucson.specs.TextReading.{lastField}
 use Rattle.spec_tucson.specs.Writing.{allWidths}
 pub use Rattle.spec_tucson.proofs.Lines.{fields-count, year-below}
-use Rattle.tucson_lines.specs.Machine.{widthsTold, lineTold, numeralsTold, LineEnd}
+use Rattle.tucson_lines.specs.Machine.{widthsTold, lineTold, numeralsTold, LineEnd, ColumnsOf}
 use Rattle.tucson_lines.specs.declared.WidthsAnswer.the-variants as widths-cases
 use Rattle.tucson_lines.specs.declared.LineAnswer.{LineAnswer}
 use Rattle.tucson_lines.specs.declared.LineAnswer.the-variants as line-cases
-use Rattle.tucson_lines.proofs.Lines.{end-within, good-unended, good-columns}
+use Rattle.tucson_lines.proofs.Lines.{end-within, good-columns}
 
 -- ---- the last field behind the others
 abbrev behind : Option (List ℤ) → Option ℤ → Option (List ℤ)
@@ -53,7 +52,8 @@ fields-behind (suc n) t =
     let e : fieldColumns + n * fieldColumns ≡ suc n * fieldColumns = omega arith in
     ap (withField (inColumns (take fieldColumns t))) (fields-behind n (drop fieldColumns t))
     ∙ behind-with (inColumns (take fieldColumns t)) (fieldNumerals n (drop fieldColumns t)) _
-    ∙ ap (λ (u : Text). behind (fieldNumerals (suc n) t) (inColumns (take fieldColumns u))) (drop-drop (n * fieldColumns) fieldColumns t ∙ ap (λ (k : ℕ). drop k t) e)
+    ∙ ap (λ (u : Text). behind (fieldNumerals (suc n) t) (inColumns (take fieldColumns u))) (drop-drop (n * fieldColumns) fieldColumns t
+    ∙ ap (λ (k : ℕ). drop k t) e)
 
 -- ---- a list and its last field
 allowed-behind : (ws : List ℤ) (f : ℤ) → fieldsAllowed true (ws ++ (f ∷ [])) ≡ (allWidths ws && (isWidth f || same f thousandths))
@@ -75,8 +75,8 @@ front-behind (w ∷ v ∷ vs) f = ap (λ (l : List ℤ). w ∷ l) (front-behind 
 
 -- the fields but the last
 behind-front : (x : Option (List ℤ)) (o : Option ℤ) (fs : List ℤ) → behind x o ≡ some fs → x ≡ some (dropLast fs)
-behind-front none o fs e = absurd (let z : _≡_ {A = ℕ} 0 1 = cc in omega arith)
-behind-front (some ws) none fs e = absurd (let z : _≡_ {A = ℕ} 0 1 = cc in omega arith)
+behind-front none o fs e = clash cc
+behind-front (some ws) none fs e = clash cc
 behind-front (some ws) (some f) fs e = let is : ws ++ (f ∷ []) ≡ fs = cc in ap some (sym (front-behind ws f) ∙ ap dropLast is)
 
 pub fields-front : (n : ℕ) (t : Text) (fs : List ℤ) → 1 ≤ n → fieldNumerals n t ≡ some fs → fieldNumerals (n - 1) t ≡ some (dropLast fs)
@@ -102,7 +102,8 @@ module _ (name : Text) (y : ℤ) (ws : List ℤ) (f : ℤ) where
   abbrev made : Line
   made = record { name = name; year = y; fields = ws ++ (f ∷ []) }
 
-  tested : (b : Bool) → (withinDecade made && fieldsAllowed true (made .fields)) ≡ b → told name (some y) (some ws) (some f) ≡ lineTold (cond b (some made) none)
+  tested : (b : Bool) → (withinDecade made && fieldsAllowed true (made .fields)) ≡ b
+      → told name (some y) (some ws) (some f) ≡ lineTold (cond b (some made) none)
   tested b e = ap (λ (t : Bool). lineTold (cond t (some made) none)) e
 
   count-made : yearInDecade y + length (ws ++ (f ∷ [])) ≡ yearInDecade y + (length ws + 1)
@@ -110,31 +111,40 @@ module _ (name : Text) (y : ℤ) (ws : List ℤ) (f : ℤ) where
 
   told-late : decade < yearInDecade y + (length ws + 1) → told name (some y) (some ws) (some f) ≡ line-cases.Bad
   unfolding lineTold withinDecade
-  told-late h = tested false (ap (λ (b : Bool). b && fieldsAllowed true (made .fields)) (lt-leb (yearInDecade y + length (made .fields)) decade (rw count-made h)))
+  told-late h =
+      tested false
+      (ap (λ (b : Bool). b && fieldsAllowed true (made .fields)) (lt-leb (yearInDecade y + length (made .fields)) decade (rw count-made h)))
 
   told-no-width : allWidths ws ≡ false → told name (some y) (some ws) (some f) ≡ line-cases.Bad
   unfolding lineTold
-  told-no-width h = tested false (ap (λ (b : Bool). withinDecade made && b) (allowed-behind ws f ∙ ap (λ (b : Bool). b && (isWidth f || same f thousandths)) h) ∙ and-false (withinDecade made))
+  told-no-width h =
+      tested false (ap (λ (b : Bool). withinDecade made && b) (allowed-behind ws f ∙ ap (λ (b : Bool). b && (isWidth f || same f thousandths)) h)
+      ∙ and-false (withinDecade made))
 
   told-no-end : (isWidth f || same f thousandths) ≡ false → told name (some y) (some ws) (some f) ≡ line-cases.Bad
   unfolding lineTold
-  told-no-end h = tested false (ap (λ (b : Bool). withinDecade made && b) (allowed-behind ws f ∙ ap (λ (b : Bool). allWidths ws && b) h ∙ and-false (allWidths ws)) ∙ and-false (withinDecade made))
+  told-no-end h =
+      tested false (ap (λ (b : Bool). withinDecade made && b) (allowed-behind ws f ∙ ap (λ (b : Bool). allWidths ws && b) h
+      ∙ and-false (allWidths ws)) ∙ and-false (withinDecade made))
 
-  told-good : yearInDecade y + (length ws + 1) ≤ decade → allWidths ws ≡ true → (isWidth f || same f thousandths) ≡ true → told name (some y) (some ws) (some f) ≡ line-cases.Good y (length ws + 1) (allHundredths ws) f
+  told-good : yearInDecade y + (length ws + 1) ≤ decade → allWidths ws ≡ true → (isWidth f || same f thousandths) ≡ true
+      → told name (some y) (some ws) (some f) ≡ line-cases.Good y (length ws + 1) (allHundredths ws) f
   unfolding lineTold withinDecade
   told-good h k e =
       tested true (ap₂ _&&_ (le-leb (yearInDecade y + length (made .fields)) decade (rw count-made h)) (allowed-behind ws f ∙ ap₂ _&&_ k e))
       ∙ rw (length-append ws (f ∷ []), front-behind ws f, last-behind ws f)
 
 -- fields that are no widths
-told-bad-widths : (name : Text) (y : ℤ) (front : Option (List ℤ)) (last : Option ℤ) → widthsTold true front ≡ widths-cases.Bad → told name (some y) front last ≡ line-cases.Bad
+told-bad-widths : (name : Text) (y : ℤ) (front : Option (List ℤ)) (last : Option ℤ) → widthsTold true front ≡ widths-cases.Bad
+    → told name (some y) front last ≡ line-cases.Bad
 unfolding widthsTold lineTold
 told-bad-widths name y none last e = refl
 told-bad-widths name y (some ws) none e = refl
 told-bad-widths name y (some ws) (some f) e = go (allWidths ws) refl e
   where
-    go : (b : Bool) → allWidths ws ≡ b → cond b (widths-cases.Small (allHundredths ws)) widths-cases.Bad ≡ widths-cases.Bad → told name (some y) (some ws) (some f) ≡ line-cases.Bad
-    go true k e = absurd (let z : _≡_ {A = ℕ} 0 1 = cc in omega arith)
+    go : (b : Bool) → allWidths ws ≡ b → cond b (widths-cases.Small (allHundredths ws)) widths-cases.Bad ≡ widths-cases.Bad
+        → told name (some y) (some ws) (some f) ≡ line-cases.Bad
+    go true k e = clash cc
     go false k e = told-no-width name y ws f k
 
 -- fields that are widths
@@ -146,15 +156,18 @@ pub record AreWidths (front : Option (List ℤ)) (small : Bool) : Type 0 where
 
 are-widths : (front : Option (List ℤ)) (small : Bool) → widthsTold true front ≡ widths-cases.Small small → AreWidths front small
 unfolding widthsTold
-are-widths none small e = absurd (let z : _≡_ {A = ℕ} 0 1 = cc in omega arith)
+are-widths none small e = clash cc
 are-widths (some ws) small e = go (allWidths ws) refl e
   where
     go : (b : Bool) → allWidths ws ≡ b → cond b (widths-cases.Small (allHundredths ws)) widths-cases.Bad ≡ widths-cases.Small small → AreWidths (some ws) small
     go true k e = record { list = ws; is = refl; all = k; below = cc }
-    go false k e = absurd (let z : _≡_ {A = ℕ} 0 1 = cc in omega arith)
+    go false k e = clash cc
 
 -- ---- the numbers of a line between two indices
-module _ (text : Text) (from end n : ℕ) (some-field : 1 ≤ n) (size : end ≡ from + 12 + n * fieldColumns) where
+module _ {text : Text} {from end n : ℕ} (columns : ColumnsOf text from end n) where
+  abbrev told-here : LineAnswer
+  told-here = numeralsTold (slice from end text) n
+
   abbrev name-text : Text
   name-text = take nameColumns (slice from end text)
 
@@ -187,39 +200,39 @@ module _ (text : Text) (from end n : ℕ) (some-field : 1 ≤ n) (size : end ≡
       ∙ fields-behind (n - 1) (slice (from + 12) end text)
       ∙ ap (λ (t : Text). behind front-numerals (inColumns t)) last-at
 
-  parts : numeralsTold (slice from end text) n ≡ told name-text year-numeral front-numerals last-numeral
+  parts : told-here ≡ told name-text year-numeral front-numerals last-numeral
   parts = ap₂ (λ (y : Option ℤ) (fs : Option (List ℤ)). lineTold (ifAllowed true (withNumerals name-text y fs))) year-at fields-at
 
-  pub numerals-no-year : year-numeral ≡ none → numeralsTold (slice from end text) n ≡ line-cases.Bad
+  pub numerals-no-year : year-numeral ≡ none → told-here ≡ line-cases.Bad
   numerals-no-year e = parts ∙ ap (λ (y : Option ℤ). told name-text y front-numerals last-numeral) e ∙ told-no-year name-text front-numerals last-numeral
 
-  module _ (y : ℤ) (is-year : year-numeral ≡ some y) where
-    with-year : numeralsTold (slice from end text) n ≡ told name-text (some y) front-numerals last-numeral
+  module _ {y : ℤ} (is-year : year-numeral ≡ some y) where
+    with-year : told-here ≡ told name-text (some y) front-numerals last-numeral
     with-year = parts ∙ ap (λ (o : Option ℤ). told name-text o front-numerals last-numeral) is-year
 
-    pub numerals-no-widths : widthsTold true front-numerals ≡ widths-cases.Bad → numeralsTold (slice from end text) n ≡ line-cases.Bad
+    pub numerals-no-widths : widthsTold true front-numerals ≡ widths-cases.Bad → told-here ≡ line-cases.Bad
     numerals-no-widths e = with-year ∙ told-bad-widths name-text y front-numerals last-numeral e
 
-    pub numerals-no-last : last-numeral ≡ none → numeralsTold (slice from end text) n ≡ line-cases.Bad
+    pub numerals-no-last : last-numeral ≡ none → told-here ≡ line-cases.Bad
     numerals-no-last e = with-year ∙ ap (told name-text (some y) front-numerals) e ∙ told-no-last name-text y front-numerals
 
-    module _ (small : Bool) (are : widthsTold true front-numerals ≡ widths-cases.Small small) (f : ℤ) (is-last : last-numeral ≡ some f) where
+    module _ {small : Bool} (are : widthsTold true front-numerals ≡ widths-cases.Small small) {f : ℤ} (is-last : last-numeral ≡ some f) where
       abbrev widths : AreWidths front-numerals small
       widths = are-widths front-numerals small are
 
       front-count : length (widths .list) + 1 ≡ n
       front-count = omega (arith, fields-count (n - 1) (slice (from + 12) end text) (widths .list) (widths .is))
 
-      with-all : numeralsTold (slice from end text) n ≡ told name-text (some y) (some (widths .list)) (some f)
+      with-all : told-here ≡ told name-text (some y) (some (widths .list)) (some f)
       with-all = with-year ∙ ap₂ (told name-text (some y)) (widths .is) is-last
 
-      pub numerals-late : decade < yearInDecade y + n → numeralsTold (slice from end text) n ≡ line-cases.Bad
+      pub numerals-late : decade < yearInDecade y + n → told-here ≡ line-cases.Bad
       numerals-late h = with-all ∙ told-late name-text y (widths .list) f (rw front-count h)
 
-      pub numerals-no-end : (isWidth f || same f thousandths) ≡ false → numeralsTold (slice from end text) n ≡ line-cases.Bad
+      pub numerals-no-end : (isWidth f || same f thousandths) ≡ false → told-here ≡ line-cases.Bad
       numerals-no-end h = with-all ∙ told-no-end name-text y (widths .list) f h
 
-      pub numerals-good : yearInDecade y + n ≤ decade → (isWidth f || same f thousandths) ≡ true → numeralsTold (slice from end text) n ≡ line-cases.Good y n small f
+      pub numerals-good : yearInDecade y + n ≤ decade → (isWidth f || same f thousandths) ≡ true → told-here ≡ line-cases.Good y n small f
       numerals-good h k =
           with-all ∙ told-good name-text y (widths .list) f (rw front-count h) (widths .all) k
           ∙ ap₂ (λ (m : ℕ) (s : Bool). line-cases.Good y m s f) front-count (widths .below)
@@ -236,7 +249,9 @@ module _ (text : Text) (from end : ℕ) (at : LineEnd text from end) (ended : en
   count-is = ap (λ (k : ℕ). (k - 12) / fieldColumns) body-length
 
   abbrev column-line : Option Line
-  column-line = withNumerals (take nameColumns body) (inColumns (take yearColumns (drop nameColumns body))) (fieldNumerals (fieldCount body) (drop (nameColumns + yearColumns) body))
+  column-line =
+      withNumerals (take nameColumns body) (inColumns (take yearColumns (drop nameColumns body)))
+      (fieldNumerals (fieldCount body) (drop (nameColumns + yearColumns) body))
 
   good-is : goodLine true (slice from (end + 1) text) ≡ ifAllowed true (lineInColumns body)
   good-is = good-columns text from end at true ended
@@ -245,7 +260,8 @@ module _ (text : Text) (from end : ℕ) (at : LineEnd text from end) (ended : en
   unfolding lineInColumns
   good-misfits e = good-is ∙ ap (λ (b : Bool). ifAllowed true (cond b column-line none)) e
 
-  pub good-fits : (columnsFit body && isName (take nameColumns body)) ≡ true → lineTold (goodLine true (slice from (end + 1) text)) ≡ numeralsTold body (fieldCount body)
+  pub good-fits : (columnsFit body && isName (take nameColumns body)) ≡ true
+      → lineTold (goodLine true (slice from (end + 1) text)) ≡ numeralsTold body (fieldCount body)
   unfolding lineInColumns
   good-fits e = ap lineTold (good-is ∙ ap (λ (b : Bool). ifAllowed true (cond b column-line none)) e)
 

@@ -2,21 +2,20 @@
 -- name. With `lines-step` a loop goes through the lines of a text.
 use mathlib.Core.Path.{_≡_, refl, sym, _∙_, ap, ap₂}
 use mathlib.Core.Bool.{Bool, true, false, cond, _&&_}
-use mathlib.Core.List.{List, [], _∷_}
-use mathlib.Core.Option.{Option, some, none}
+use mathlib.Core.List.{[], _∷_}
+use mathlib.Core.Option.{some, none}
 use Prim.Native.Nat.{ℕ, suc, _+_, _-_, _<_, _≤_}
 use native.Mathlib.Omega.{arith}
-use native.Mathlib.Numerals.{add-one}
 use borrow.Author.Tests.{leb-true, eqb-true}
 use lib.Dec.{eqb, leb}
 use lib.ListN.{length, take, drop, length-drop}
 use lib.Seq.{slice, take-all, drop-drop, length-slice}
 use Rattle.base_exact.proofs.Decide.{and-true}
-use Rattle.base_text.specs.Bytes.{Text, newline, Cut, cut, withByte, onFirst, indexWhere, indexOf, beginsWith}
+use Rattle.base_text.specs.Bytes.{Text, newline, cut, withByte, onFirst, indexWhere, indexOf, beginsWith}
 use Rattle.base_text.proofs.Slice.{slice-take, slice-all, take-slice}
 use Rattle.base_text.proofs.Cutting.{index-within, cut-none}
 use Rattle.spec_tucson.specs.Columns.{blank}
-use Rattle.spec_tucson.specs.Line.{Line, nameColumns, lastPrintable, linesOf, allPrintable, isName, lineInColumns, ofCut, lineOf, goodLine, ifAllowed}
+use Rattle.spec_tucson.specs.Line.{nameColumns, lastPrintable, linesOf, allPrintable, isName, lineInColumns, ofCut, lineOf, goodLine, ifAllowed}
 use Rattle.spec_tucson.specs.TextReading.{goesOn}
 use Rattle.tucson_lines.specs.Machine.{LineEnd}
 
@@ -40,14 +39,17 @@ line-unended : (t : Text) → indexOf newline t ≡ length t → lineOf (take (s
 unfolding lineOf
 line-unended t e = ap lineOf (take-all (suc (indexOf newline t)) t (omega arith)) ∙ ap ofCut (cut-none newline t e)
 
-cut-line : (t : Text) → indexOf newline t < length t → cut newline (take (suc (indexOf newline t)) t) ≡ some (record { before = take (indexOf newline t) t; after = [] })
+cut-line : (t : Text) → indexOf newline t < length t
+    → cut newline (take (suc (indexOf newline t)) t) ≡ some (record { before = take (indexOf newline t) t; after = [] })
 unfolding indexWhere cut
 cut-line [] h = absurd (omega arith)
 cut-line (c ∷ cs) h = go (eqb c newline) h (cut-line cs)
   where
     go : (b : Bool) → cond b 0 (suc (indexOf newline cs)) < suc (length cs) →
-        (indexOf newline cs < length cs → cut newline (take (suc (indexOf newline cs)) cs) ≡ some (record { before = take (indexOf newline cs) cs; after = [] })) →
-        cond b (some (record { before = []; after = take (cond b 0 (suc (indexOf newline cs))) cs })) (withByte c (cut newline (take (cond b 0 (suc (indexOf newline cs))) cs)))
+        (indexOf newline cs < length cs
+        → cut newline (take (suc (indexOf newline cs)) cs) ≡ some (record { before = take (indexOf newline cs) cs; after = [] })) →
+        cond b (some (record { before = []; after = take (cond b 0 (suc (indexOf newline cs))) cs }))
+        (withByte c (cut newline (take (cond b 0 (suc (indexOf newline cs))) cs)))
         ≡ some (record { before = take (cond b 0 (suc (indexOf newline cs))) (c ∷ cs); after = [] })
     go true h ih = refl
     go false h ih = ap (withByte c) (ih (omega arith))
@@ -68,7 +70,8 @@ begins-line (p ∷ ps) (c ∷ cs) h = go (eqb c p) (eqb c newline) refl refl (be
 
     go : (s b : Bool) → eqb c p ≡ s → eqb c newline ≡ b → beginsWith ps (take (suc (indexOf newline cs)) cs) ≡ beginsWith ps cs →
         cond s (beginsWith ps (take (cond b 0 (suc (indexOf newline cs))) cs)) false ≡ cond s (beginsWith ps cs) false
-    go true true e f ih = absurd (omega (arith, eqb-true c p e, eqb-true c newline f, leb-true blank p (and-true (leb blank p) (leb p lastPrintable) (parts .0) .0)))
+    go true true e f ih =
+        absurd (omega (arith, eqb-true c p e, eqb-true c newline f, leb-true blank p (and-true (leb blank p) (leb p lastPrintable) (parts .0) .0)))
     go true false e f ih = ih
     go false b e f ih = refl
 
@@ -77,7 +80,8 @@ unfolding beginsWith
 begins-none [] h = absurd (omega arith)
 begins-none (p ∷ ps) h = refl
 
-goes-on-begins : (t u : Text) → allPrintable (take nameColumns t) ≡ true → 1 ≤ length (take nameColumns t) → goesOn t (linesOf u) ≡ beginsWith (take nameColumns t) u
+goes-on-begins : (t u : Text) → allPrintable (take nameColumns t) ≡ true → 1 ≤ length (take nameColumns t)
+    → goesOn t (linesOf u) ≡ beginsWith (take nameColumns t) u
 unfolding goesOn linesOf
 goes-on-begins t [] h k = sym (begins-none (take nameColumns t) k)
 goes-on-begins t (c ∷ cs) h k = ap (goesOn t) (lines-first (c ∷ cs) (omega arith)) ∙ begins-line (take nameColumns t) (c ∷ cs) h
@@ -122,7 +126,8 @@ unfolding isName
 goes-on-is text from end h k e =
     let name : Text = slice from (from + nameColumns) text in
     let is : take nameColumns (slice from (end + 1) text) ≡ name = take-slice nameColumns from (end + 1) text (omega arith) in
-    let printable : allPrintable name ≡ true = and-true (eqb (length name) nameColumns) (allPrintable name) (and-true (eqb (length name) nameColumns && allPrintable name) _ e .0) .1 in
+    let printable : allPrintable name ≡ true =
+    and-true (eqb (length name) nameColumns) (allPrintable name) (and-true (eqb (length name) nameColumns && allPrintable name) _ e .0) .1 in
     let size : length name ≡ from + nameColumns - from = length-slice from (from + nameColumns) text (omega arith) in
     goes-on-begins (slice from (end + 1) text) (drop (end + 1) text) (rw is printable) (rw is (omega arith))
     ∙ ap₂ beginsWith is (sym (slice-all (end + 1) text))

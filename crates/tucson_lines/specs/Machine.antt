@@ -3,13 +3,13 @@ use mathlib.Core.Bool.{Bool, true, cond, _&&_}
 use mathlib.Core.List.{List, dropLast}
 use mathlib.Core.Option.{Option, some, none}
 use mathlib.Core.Path.{_≡_}
-use Prim.Native.Nat.{ℕ, _+_, _≤_}
+use Prim.Native.Nat.{ℕ, _+_, _*_, _≤_}
 use lib.IntN.{ℤ}
 use lib.ListN.{length, take, drop}
 use lib.Seq.{slice}
-use Rattle.base_text.specs.Bytes.{Text, newline, indexOf}
+use Rattle.base_text.specs.Bytes.{Text, newline, indexOf, Range}
 use Rattle.spec_tucson.specs.Columns.{inColumns}
-use Rattle.spec_tucson.specs.Line.{nameColumns, yearColumns, fieldNumerals, Line, withNumerals, ifAllowed}
+use Rattle.spec_tucson.specs.Line.{nameColumns, yearColumns, fieldColumns, fieldNumerals, isName, Line, withNumerals, ifAllowed}
 use Rattle.spec_tucson.specs.Series.{allHundredths}
 use Rattle.spec_tucson.specs.TextReading.{lastField}
 use Rattle.spec_tucson.specs.Writing.{allWidths}
@@ -22,6 +22,23 @@ use Rattle.tucson_lines.specs.declared.WidthsAnswer.the-variants as widt
 pub record LineEnd (text : Text) (from end : ℕ) : Type 0 where
   pub within : from ≤ length text
   pub is : end ≡ from + indexOf newline (slice from (length text) text)
+
+-- A part of a text with n fields.
+pub record FieldsWithin (text : Text) (from to n : ℕ) : Type 0 where
+  pub part : Range text from to
+  pub longer : from + n * fieldColumns ≤ to
+
+-- A part of a text that has the columns of a line with n fields, one or more.
+pub record ColumnsOf (text : Text) (from end n : ℕ) : Type 0 where
+  pub part : Range text from end
+  pub some-field : 1 ≤ n
+  pub size : end ≡ from + 12 + n * fieldColumns
+
+-- A line with a good name that byte 10 ends.
+pub record NamedLine (text : Text) (from end : ℕ) : Type 0 where
+  pub longer : from + nameColumns ≤ end
+  pub ended : end + 1 ≤ length text
+  pub named : isName (slice from (from + nameColumns) text) ≡ true
 
 -- Whether the fields are widths, and if so whether these and those before them are all at most 9,999.
 unfoldable pub widthsTold : Bool → Option (List ℤ) → WidthsAnswer

@@ -2,17 +2,17 @@
 // the same name.
 ghost use mathlib.Core.Bool.{true, _&&_, _||_};
 ghost use mathlib.Core.Path.{_≡_};
-ghost use Prim.Native.Nat.{_+_, _*_, _≤_};
+ghost use Prim.Native.Nat.{_+_, _≤_};
 ghost use lib.ListN.{length, drop};
 ghost use lib.Seq.{slice};
 ghost use Rattle.base_text.specs.Bytes.{Range};
 ghost use Rattle.base_text.specs.Machine;
 ghost use Rattle.spec_tucson.specs.Columns.{inColumns};
-ghost use Rattle.spec_tucson.specs.Line.{fieldColumns, nameColumns, linesOf, allPrintable, allBlank, isName, fieldNumerals, yearInDecade};
+ghost use Rattle.spec_tucson.specs.Line.{nameColumns, linesOf, allPrintable, allBlank, isName, fieldNumerals, yearInDecade};
 ghost use Rattle.spec_tucson.specs.Line.{isWidth, thousandths, lineInColumns, goodLine};
 ghost use Rattle.spec_tucson.specs.Line;
 ghost use Rattle.spec_tucson.specs.TextReading.{goesOn};
-ghost use Rattle.tucson_lines.specs.Machine.{widthsTold, numeralsTold, lineTold, LineEnd};
+ghost use Rattle.tucson_lines.specs.Machine.{widthsTold, numeralsTold, lineTold, LineEnd, FieldsWithin, ColumnsOf, NamedLine};
 use base_text::numeral::Field;
 
 pub const NAME: usize = 8;
@@ -146,8 +146,7 @@ fn ends_series(field: i32) -> bool
 
 // Looks through the first n fields from the index on.
 fn widths(text: &[u8], from: usize, to: usize, n: usize) -> WidthsAnswer
-    requires { ⌜ Range (now text) from to ⌝ }
-    requires { ⌜ from + n * fieldColumns ≤ to ⌝ }
+    requires { ⌜ FieldsWithin (now text) from to n ⌝ }
     ensures { λ r. ⌜ r ≡ widthsTold true (fieldNumerals n (slice from to (now (text .entry)))) ⌝ }
 {
     let mut small = true;
@@ -174,8 +173,7 @@ fn widths(text: &[u8], from: usize, to: usize, n: usize) -> WidthsAnswer
 
 // The year and the n fields of the line from the one index up to the other, the decade's end and the last field tested too.
 fn numerals(text: &[u8], from: usize, end: usize, n: usize) -> LineAnswer
-    requires { ⌜ Range (now text) from end ⌝ }
-    requires { ⌜ (1 ≤ n) × (end ≡ from + 12 + n * fieldColumns) ⌝ }
+    requires { ⌜ ColumnsOf (now text) from end n ⌝ }
     ensures { λ r. ⌜ r ≡ numeralsTold (slice from end (now (text .entry))) n ⌝ }
 {
     let Field::Numeral(year) = numeral(text, from + NAME, from + HEAD) else {
@@ -223,8 +221,7 @@ pub fn line(text: &[u8], from: usize, end: usize) -> LineAnswer
 
 // Whether the line from the one index on, whose name is good, goes on in the one that begins at the other.
 pub fn goes_on(text: &[u8], from: usize, end: usize) -> bool
-    requires { ⌜ (from + nameColumns ≤ end) × (end + 1 ≤ length (now text)) ⌝ }
-    requires { ⌜ isName (slice from (from + nameColumns) (now text)) ≡ true ⌝ }
+    requires { ⌜ NamedLine (now text) from end ⌝ }
     ensures { λ r. ⌜ r ≡ goesOn (slice from (end + 1) (now (text .entry))) (linesOf (drop (end + 1) (now (text .entry)))) ⌝ }
 {
     base_text::fields::begins(text, end + 1, text.len(), &text[from..from + NAME])

@@ -1,19 +1,12 @@
 // The first pass: every line is tested in its place, and series and widths are counted. Nothing is written.
-ghost use mathlib.Core.Bool.{Bool, true, false, cond, _&&_, _||_, not};
-ghost use mathlib.Core.Option.{Option};
+ghost use mathlib.Core.Bool.{true, false, cond, _&&_, _||_, not};
 ghost use mathlib.Core.Path.{_≡_};
-ghost use Prim.Native.Nat.{ℕ, _+_, _<_, _≤_};
+ghost use Prim.Native.Nat.{_≤_};
 ghost use lib.Dec.{eqb};
-ghost use lib.IntN.{natAbs};
-ghost use lib.ListN.{drop};
-ghost use lib.Seq.{slice};
-ghost use Rattle.base_text.specs.Bytes.{Text};
-ghost use Rattle.base_text.specs.Numeral.{numeralLimit};
-ghost use Rattle.spec_tucson.specs.Line.{linesOf, decade, yearInDecade, same, goodLine};
-ghost use Rattle.spec_tucson.specs.TextReading.{Begun, goesOn, readLine, readText};
-ghost use Rattle.tucson_lines.specs.Machine.{LineEnd, lineTold};
-ghost use Rattle.tucson_lines.specs.declared.LineAnswer.the-variants.{Good};
-ghost use Rattle.tucson_scan.specs.Scan.{Tracks, Told, Within, Advances, scanTold};
+ghost use Rattle.spec_tucson.specs.Line.{yearInDecade, same};
+ghost use Rattle.spec_tucson.specs.TextReading.{readText};
+ghost use Rattle.tucson_lines.specs.Machine.{LineEnd};
+ghost use Rattle.tucson_scan.specs.Scan.{scanTold, ExtendAsks, GoodPassed, LinePassed};
 use tucson_lines::LineAnswer;
 
 // How many series and widths a text has, or a refusal's code and place.
@@ -60,11 +53,8 @@ fn extend(
     front: bool,
     last: i32,
 ) -> Passed
-    requires { ⌜ (natAbs year < numeralLimit) × ((1 ≤ n) × (n ≤ decade)) ⌝ }
-    ensures { λ r. ⌜ ((place : ℕ) (b : Option Begun) (t : Text) → Tracks b begun next small
-        → lineTold (goodLine true t) ≡ Good year n front last →
-        Told place b (readLine place b true t) r) ⌝ }
-    ensures { λ r. ⌜ Within true n r ⌝ }
+    requires { ⌜ ExtendAsks year n ⌝ }
+    ensures { λ r. ⌜ GoodPassed true begun next small year n front last r ⌝ }
 {
     if !tucson_lines::is_width(last) {
         return Passed::Refused(MALFORMED);
@@ -80,10 +70,7 @@ fn extend(
 // What a good line leaves that is its series' last.
 fn close(begun: bool, next: i32, small: bool, year: i32, n: usize, front: bool, last: i32) -> Passed
     requires { ⌜ 1 ≤ n ⌝ }
-    ensures { λ r. ⌜ ((place : ℕ) (b : Option Begun) (t : Text) → Tracks b begun next small
-        → lineTold (goodLine true t) ≡ Good year n front last →
-        Told place b (readLine place b false t) r) ⌝ }
-    ensures { λ r. ⌜ Within false n r ⌝ }
+    ensures { λ r. ⌜ GoodPassed false begun next small year n front last r ⌝ }
 {
     if !follows(begun, next, year) {
         return Passed::Refused(NOT_NEXT);
@@ -101,10 +88,7 @@ fn close(begun: bool, next: i32, small: bool, year: i32, n: usize, front: bool, 
 // Tests the line from the one index up to the other.
 fn pass(text: &[u8], from: usize, end: usize, begun: bool, next: i32, small: bool) -> Passed
     requires { ⌜ LineEnd (now text) from end ⌝ }
-    ensures { λ r. ⌜ ((place : ℕ) (b : Option Begun) → Tracks b begun next small →
-        Told place b (readLine place b (goesOn (slice from (end + 1) (now (text .entry))) (linesOf (drop (end + 1) (now (text .entry)))))
-        (slice from (end + 1) (now (text .entry)))) r) ⌝ }
-    ensures { λ r. ⌜ Advances (now (text .entry)) from end r ⌝ }
+    ensures { λ r. ⌜ LinePassed (now (text .entry)) from end begun next small r ⌝ }
 {
     let line = tucson_lines::line(text, from, end);
     match line {

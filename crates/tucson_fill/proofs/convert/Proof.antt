@@ -38,17 +38,20 @@ same-length c = search needs
 
 returns : tie.Need-returns
 returns c =
-    let s = c .before .before .before .before .before in
-    c .before .scale .ensures
-    ∙ ap (sets (s .args .widths .now) (s .args .from)) (from-hundredths (s .args .closing) _ (sym (closing-test (c .before .before .before .before)) ∙ c .before .before .before .if1 .taken))
+    let t = c .before .before .before in
+    let s = t .before .before in
+    let yes = sym (closing-test (t .before)) ∙ t .if1 .taken in
+    c .before .scale .ensures ∙ ap (sets (s .args .widths .now) (s .args .from)) (from-hundredths (s .args .closing) _ yes)
 
 returns-2 : tie.Need-returns-2
 returns-2 c =
     let s = c .before .before in
     let w = s .args .widths .now in
-    let e : s .args .from + (s .args .to - s .args .from) ≡ s .args .to = omega (arith, s .pre .0) in
-    sym (ap (sets w (s .args .from)) (sym (from-thousandths (s .args .closing) (slice (s .args .from) (s .args .to) w) (sym (closing-test (c .before)) ∙ c .if1 .left)) ∙ ap (λ (n : ℕ). slice (s .args .from) n w) (sym e))
-    ∙ sets-slice (s .args .to - s .args .from) (s .args .from) w (omega (arith, s .pre .1 .0)))
+    let from = s .args .from in
+    let e : from + (s .args .to - from) ≡ s .args .to = omega (arith, s .pre .rising) in
+    let no = sym (closing-test (c .before)) ∙ c .if1 .left in
+    let same-part = sym (from-thousandths (s .args .closing) (slice from (s .args .to) w) no) ∙ ap (λ (n : ℕ). slice from n w) (sym e) in
+    sym (ap (sets w from) same-part ∙ sets-slice (s .args .to - from) from w (omega (arith, s .pre .within)))
 
 pub convert-spec : {M : Type 1} → statement M
 convert-spec = tie.close (tie.spec same-requires scale-requires same-length returns returns-2)

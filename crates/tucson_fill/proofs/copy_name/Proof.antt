@@ -1,30 +1,23 @@
 -- The bytes written so far and those from `from + i` on make up the name.
-use borrow.Author.Needs.{needs}
-use mathlib.Core.Bool.{true}
-use mathlib.Core.List.{List, [], _∷_}
-use mathlib.Core.Option.{Option, some, none}
 use mathlib.Core.Path.{_≡_, refl, sym, _∙_, ap, ap₂}
-use Prim.Native.Nat.{ℕ, suc, _+_, _*_, _-_, _^_, _<_, _≤_}
+use Prim.Native.Nat.{ℕ, _+_, _-_, _≤_}
 use native.Mathlib.Omega.{arith}
-use lib.IntN.{ℤ, pos, natAbs, _*ℤ_}
 use lib.ListN.{length, getD, set, length-set}
-use lib.Seq.{slice, sets, length-sets, slice-empty}
-use mir.Syntax.{w32}
-use mir.Val.{SFits}
-use Rattle.base_exact.proofs.Word.{toZ-ofZ, sfits-abs, abs-mul}
+use lib.Seq.{slice, sets, slice-empty}
 use Rattle.base_text.specs.Bytes.{Text}
-use Rattle.base_text.proofs.Numerals.{field-none, field-some}
 use Rattle.base_text.proofs.Slice.{slice-step}
-use Rattle.spec_tucson.specs.Line.{nameColumns, fieldColumns, fieldNumerals}
-use Rattle.spec_tucson.specs.Series.{fromHundredths}
-use Rattle.spec_tucson.specs.Writing.{allWidths}
-use Rattle.tucson_fill.specs.Write.{numeralsOf}
+use Rattle.spec_tucson.specs.Line.{nameColumns}
 use Rattle.tucson_fill.proofs.Sets.{sets-next}
 use Rattle.tucson_fill.proofs.copy_name.Statement.{statement}
 use Rattle.tucson_fill.proofs.copy_name.Tie as tie
 
+record Copying (text : Text) (from : ℕ) (before : Text) (at : ℕ) (names : Text) (i : ℕ) : Type 0 where
+  within : i ≤ nameColumns
+  kept : length names ≡ length before
+  left : sets before at (slice from (from + nameColumns) text) ≡ sets names (at + i) (slice (from + i) (from + nameColumns) text)
+
 abbrev Inv-loop : tie.InvT-loop
-Inv-loop text from names₀ at i₀ names i = (i ≤ nameColumns) × ((length names ≡ length names₀) × (sets names₀ at (slice from (from + nameColumns) text) ≡ sets names (at + i) (slice (from + i) (from + nameColumns) text)))
+Inv-loop text from names₀ at i₀ names i = Copying text from names₀ at names i
 
 abbrev μ-loop : tie.MeasureT-loop
 μ-loop text from names₀ at i₀ names i = nameColumns - i
@@ -34,7 +27,11 @@ loop-holds c =
     let a = c .args in
     let e : a .at ≡ a .at + 0 = omega arith in
     let f : a .from ≡ a .from + 0 = omega arith in
-    (omega arith, (refl, ap₂ (λ (i j : ℕ). sets (a .names .now) i (slice j (a .from + nameColumns) (a .text .now))) e f))
+    record {
+      within = omega arith;
+      kept = refl;
+      left = ap₂ (λ (i j : ℕ). sets (a .names .now) i (slice j (a .from + nameColumns) (a .text .now))) e f;
+    }
 
 add-names : tie.Need-add-names Inv-loop μ-loop
 add-names c = omega arith
@@ -59,25 +56,30 @@ loop-again c =
     let l = c .before .before .loop in
     let a = c .before .before .before .args in
     let h = c .before .loop-test .taken in
-    let e : a .from + l .i + 1 ≡ a .from + (l .i + 1) = omega arith in (
-      omega arith,
-      (
-        length-set (l .names) (a .at + l .i) _ ∙ l .inv .1 .0,
-        l .inv .1 .1 ∙ ap (sets (l .names) (a .at + l .i)) (slice-step (a .from + l .i) (a .from + nameColumns) (a .text .now) 0 (omega arith) (omega arith))
-            ∙ sets-next (l .names) (a .at) (l .i) (getD (a .text .now) (a .from + l .i) 0) (slice (a .from + l .i + 1) (a .from + nameColumns) (a .text .now))
-            ∙ ap (λ (k : ℕ). sets (set (l .names) (a .at + l .i) (getD (a .text .now) (a .from + l .i) 0)) (a .at + (l .i + 1)) (slice k (a .from + nameColumns) (a .text .now))) e,
-      ),
-    )
+    let e : a .from + l .i + 1 ≡ a .from + (l .i + 1) = omega arith in
+    let to = a .from + nameColumns in
+    let byte = getD (a .text .now) (a .from + l .i) 0 in
+    record {
+      within = omega arith;
+      kept = length-set (l .names) (a .at + l .i) _ ∙ l .inv .kept;
+      left =
+          l .inv .left
+          ∙ ap (sets (l .names) (a .at + l .i)) (slice-step (a .from + l .i) to (a .text .now) 0 (omega arith) (omega arith))
+          ∙ sets-next (l .names) (a .at) (l .i) byte (slice (a .from + l .i + 1) to (a .text .now))
+          ∙ ap (λ (k : ℕ). sets (set (l .names) (a .at + l .i) byte) (a .at + (l .i + 1)) (slice k to (a .text .now))) e;
+    }
 
 same-length : tie.Need-same-length Inv-loop μ-loop
-same-length c = c .before .loop .inv .1 .0
+same-length c = c .before .loop .inv .kept
 
 returns : tie.Need-returns Inv-loop μ-loop
 returns c =
     let l = c .before .loop in
     let a = c .before .before .args in
     let e : l .i ≡ nameColumns = omega (arith, c .loop-test .left) in
-    sym (l .inv .1 .1 ∙ ap (sets (l .names) (a .at + l .i)) (ap (λ (i : ℕ). slice (a .from + i) (a .from + nameColumns) (a .text .now)) e ∙ slice-empty (a .from + nameColumns) (a .text .now)))
+    let to = a .from + nameColumns in
+    let none-left = ap (λ (i : ℕ). slice (a .from + i) to (a .text .now)) e ∙ slice-empty to (a .text .now) in
+    sym (l .inv .left ∙ ap (sets (l .names) (a .at + l .i)) none-left)
 
 pub copy-name-spec : {M : Type 1} → statement M
 copy-name-spec =

@@ -9,7 +9,7 @@ mul-copy-name : tie.Need-mul-copy-name
 mul-copy-name c = search needs
 
 copy-name-requires : tie.Need-copy-name-requires
-copy-name-requires c κs = search needs
+copy-name-requires c κs = c .before .before .before .before .pre .name
 
 mul-first : tie.Need-mul-first
 mul-first c = search needs
@@ -39,7 +39,7 @@ returns : tie.Need-returns
 returns c =
     let s = c .before .before .before .before .before .before .before in
     let f = s .fits .first in
-    simp toZ-ofZ (c .before .before .copy-name .ensures, (refl, refl))
+    simp toZ-ofZ (record { name-put = c .before .before .copy-name .ensures; year-put = refl; count-put = refl })
 
 pub enter-spec : {M : Type 1} → statement M
 enter-spec =

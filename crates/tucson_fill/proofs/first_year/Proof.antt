@@ -1,5 +1,5 @@
 -- The one year or the other.
-use mathlib.Core.Path.{_≡_, sym, _∙_, ap}
+use mathlib.Core.Path.{sym, ap}
 use mathlib.Core.Bool.{Bool, cond}
 use Rattle.base_exact.proofs.Word.{toZ-ofZ}
 use Rattle.tucson_fill.proofs.first_year.Statement.{statement}

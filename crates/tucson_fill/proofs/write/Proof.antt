@@ -2,38 +2,40 @@
 use borrow.Author.Needs.{needs}
 use mathlib.Core.Bool.{Bool, true, false, cond}
 use mathlib.Core.List.{List}
-use mathlib.Core.Path.{_≡_, refl, sym, _∙_, ap, subst}
-use Prim.Native.Nat.{ℕ, _+_, _*_, _-_, _<_, _≤_}
+use mathlib.Core.Path.{_≡_, sym, _∙_}
+use Prim.Native.Nat.{ℕ, _+_, _-_}
 use native.Mathlib.Omega.{arith}
 use lib.IntN.{ℤ}
 use lib.ListN.{length, drop}
 use lib.Seq.{slice, sets, length-sets}
 use mir.Syntax.{w32}
-use mir.Val.{SFits, toZ, ofZ}
+use mir.Val.{SFits, toZ}
 use Rattle.base_exact.proofs.Word.{toZ-ofZ}
 use Rattle.base_text.specs.Bytes.{Text}
-use Rattle.spec_tucson.specs.Line.{Line, linesOf, goodLine}
+use Rattle.spec_tucson.specs.Line.{linesOf, goodLine}
 use Rattle.spec_tucson.specs.TextReading.{goesOn, readText}
 use Rattle.spec_tucson.specs.ReadCall.{namesOf, yearsOf, countsOf, widthsOf}
 use Rattle.tucson_lines.specs.Machine.{lineTold, LineEnd}
 use Rattle.tucson_lines.specs.declared.LineAnswer.the-variants.{Good, Bad}
 use Rattle.tucson_lines.proofs.GoodLines.{GoodLine, good-line, IsLine, line-none, line-some}
 use Rattle.tucson_fill.specs.Write.{seriesIn}
-use Rattle.tucson_scan.proofs.Passing.{said-count}
-use Rattle.tucson_fill.proofs.Writes.{Writes, writes-start, lengths-kept, writes-end, never-bad, more-ready, writes-more, last-ready, convert-ready, enter-ready, writes-last}
+use Rattle.tucson_scan.proofs.Passing.{says}
+use Rattle.tucson_fill.proofs.Writes.{Writes, writes-start, names-kept, years-kept, counts-kept, widths-kept, writes-end, never-bad}
+use Rattle.tucson_fill.proofs.Writes.{more-ready, writes-more, last-ready, convert-ready, enter-ready, writes-last}
 use Rattle.tucson_fill.proofs.write.Statement.{statement}
 use Rattle.tucson_fill.proofs.write.Tie as tie
 
 abbrev Inv-loop : tie.InvT-loop
 Inv-loop text names₀ years₀ counts₀ widths₀ from₀ series₀ start₀ at₀ begun₀ first₀ names years counts widths from series start at begun first =
     let ss = seriesIn (readText text) in
-    Writes text (sets names₀ 0 (namesOf ss)) (sets years₀ 0 (yearsOf ss)) (sets counts₀ 0 (countsOf ss)) (sets widths₀ 0 (widthsOf ss)) names years counts widths from series start at begun (toZ w32 first)
+    Writes text (sets names₀ 0 (namesOf ss)) (sets years₀ 0 (yearsOf ss)) (sets counts₀ 0 (countsOf ss)) (sets widths₀ 0 (widthsOf ss)) names years
+    counts widths from series start at begun (toZ w32 first)
 
 abbrev μ-loop : tie.MeasureT-loop
 μ-loop text names₀ years₀ counts₀ widths₀ from₀ series₀ start₀ at₀ begun₀ first₀ names years counts widths from series start at begun first = length text - from
 
 loop-holds : tie.Need-loop-holds Inv-loop μ-loop
-loop-holds c = let s = c .before .before .before in writes-start (s .args .text .now) (s .args .names .now) (s .args .years .now) (s .args .counts .now) (s .args .widths .now) (seriesIn (readText (s .args .text .now))) _ (s .pre .0) (s .pre .1 .0) (s .pre .1 .1 .0) (s .pre .1 .1 .1 .0) (s .pre .1 .1 .1 .1)
+loop-holds c = let s = c .before .before .before in writes-start _ (s .pre)
 
 find-requires : tie.Need-find-requires Inv-loop μ-loop
 find-requires c κs = let i = c .before .loop .inv in omega (arith, i .within)
@@ -69,7 +71,7 @@ not-bad : (c : tie.After-line Inv-loop μ-loop) → c .line .result ≡ Bad → 
 not-bad c e =
     let f = c .before in
     let g = l f .loop in
-    never-bad (text f) _ _ _ _ (g .names) (g .years) (g .counts) (g .widths) (from f) (g .series) (g .start) (g .at) (g .begun) (toZ w32 (g .first)) (g .inv) (end f) (line-end f) (f .before .loop-test .taken) (line-none _ (sym (c .line .ensures) ∙ e))
+    never-bad (g .inv) (line-end f) (f .before .loop-test .taken) (line-none _ (sym (c .line .ensures) ∙ e))
 
 enum-told : tie.Need-enum-told Inv-loop μ-loop
 enum-told c = search needs
@@ -131,7 +133,7 @@ module _ (y : tie.After-first-year Inv-loop μ-loop) where
   good = good-line (text f) (from f) (end f) (line-end f) (is-line .line) (is-line .is)
 
   count : length (is-line .line .fields) ≡ n
-  count = said-count (is-line .line) year n front last (is-line .told)
+  count = says (is-line .told) .count-is
 
   first-now : y .first-year .result ≡ cond (l f .loop .begun) (toZ w32 (l f .loop .first)) year
   first-now = let h = year-fits in simp toZ-ofZ at (y .first-year .ensures)
@@ -156,19 +158,25 @@ module _ (c : tie.Else1 Inv-loop μ-loop) where
   stops = sym (c .before .goes-on .ensures) ∙ c .if1 .left
 
 goes-on-requires : tie.Need-goes-on-requires Inv-loop μ-loop
-goes-on-requires c κs = let h = good c in ((omega arith, omega arith), h .named)
+goes-on-requires c κs = let h = good c in record { longer = omega (arith, h .size); ended = omega (arith, h .ended); named = h .named }
 
 add-fill : tie.Need-add-fill Inv-loop μ-loop
 add-fill c = let h = good (y1 c) in omega (arith, s (f (y1 c)) .good)
 
 fill-requires : tie.Need-fill-requires Inv-loop μ-loop
-fill-requires c κs = let k = c .before in let y = y1 k in more-ready (text (f y)) _ _ _ _ (l (f y) .loop .names) (l (f y) .loop .years) (l (f y) .loop .counts) (l (f y) .loop .widths) (from (f y)) (l (f y) .loop .series) (l (f y) .loop .start) (l (f y) .loop .at) (l (f y) .loop .begun) (toZ w32 (l (f y) .loop .first)) (l (f y) .loop .inv) (end (f y)) (line-end (f y)) (f y .before .loop-test .taken) (year y) (n y) (front y) (last y) (told y) (goes k)
+fill-requires c κs = let k = c .before in let y = y1 k in more-ready (l (f y) .loop .inv) (line-end (f y)) (f y .before .loop-test .taken) (told y) (goes k)
 
 add-at : tie.Need-add-at Inv-loop μ-loop
 add-at c =
     let k = c .before .before .before in
     let y = y1 k in
-    omega (arith, more-ready (text (f y)) _ _ _ _ (l (f y) .loop .names) (l (f y) .loop .years) (l (f y) .loop .counts) (l (f y) .loop .widths) (from (f y)) (l (f y) .loop .series) (l (f y) .loop .start) (l (f y) .loop .at) (l (f y) .loop .begun) (toZ w32 (l (f y) .loop .first)) (l (f y) .loop .inv) (end (f y)) (line-end (f y)) (f y .before .loop-test .taken) (year y) (n y) (front y) (last y) (told y) (goes k) .fits, lengths-kept (text (f y)) _ _ _ _ (l (f y) .loop .names) (l (f y) .loop .years) (l (f y) .loop .counts) (l (f y) .loop .widths) (from (f y)) (l (f y) .loop .series) (l (f y) .loop .start) (l (f y) .loop .at) (l (f y) .loop .begun) (toZ w32 (l (f y) .loop .first)) (l (f y) .loop .inv) .1 .1 .1, length-sets (s (f y) .args .widths .now) 0 (widthsOf (seriesIn (readText (text (f y))))), s (f y) .good)
+    omega (
+      arith,
+      more-ready (l (f y) .loop .inv) (line-end (f y)) (f y .before .loop-test .taken) (told y) (goes k) .fits,
+      widths-kept (l (f y) .loop .inv),
+      length-sets (s (f y) .args .widths .now) 0 (widthsOf (seriesIn (readText (text (f y))))),
+      s (f y) .good,
+    )
 
 add-from : tie.Need-add-from Inv-loop μ-loop
 add-from c = let y = y1 (c .before .before .before) in let h = good y in omega (arith, s (f y) .good)
@@ -181,7 +189,7 @@ loop-again c =
     let k = c .before .before .before in
     let y = y1 k in
     let h = first-fits y in
-    simp toZ-ofZ (writes-more (text (f y)) _ _ _ _ (l (f y) .loop .names) (l (f y) .loop .years) (l (f y) .loop .counts) (l (f y) .loop .widths) (from (f y)) (l (f y) .loop .series) (l (f y) .loop .start) (l (f y) .loop .at) (l (f y) .loop .begun) (toZ w32 (l (f y) .loop .first)) (l (f y) .loop .inv) (end (f y)) (line-end (f y)) (f y .before .loop-test .taken) (year y) (n y) (front y) (last y) (told y) (goes k) (c .before .fill .last .1 .1 .1 .1 .0) (c .before .fill .ensures) (y .first-year .result) (first-now y))
+    simp toZ-ofZ (writes-more (l (f y) .loop .inv) (line-end (f y)) (f y .before .loop-test .taken) (told y) (goes k) (c .before .fill .ensures) (first-now y))
 
 add-fill-2 : tie.Need-add-fill-2 Inv-loop μ-loop
 add-fill-2 c = let h = good (y2 c) in omega (arith, s (f (y2 c)) .good)
@@ -190,7 +198,7 @@ sub-fill : tie.Need-sub-fill Inv-loop μ-loop
 sub-fill c = let h = good (y2 c) in omega (arith, count (y2 c))
 
 fill-requires-2 : tie.Need-fill-requires-2 Inv-loop μ-loop
-fill-requires-2 c κs = let k = c .before in let y = y2 k in last-ready (text (f y)) _ _ _ _ (l (f y) .loop .names) (l (f y) .loop .years) (l (f y) .loop .counts) (l (f y) .loop .widths) (from (f y)) (l (f y) .loop .series) (l (f y) .loop .start) (l (f y) .loop .at) (l (f y) .loop .begun) (toZ w32 (l (f y) .loop .first)) (l (f y) .loop .inv) (end (f y)) (line-end (f y)) (f y .before .loop-test .taken) (year y) (n y) (front y) (last y) (told y) (stops k)
+fill-requires-2 c κs = let k = c .before in let y = y2 k in last-ready (l (f y) .loop .inv) (line-end (f y)) (f y .before .loop-test .taken) (told y) (stops k)
 
 sub-at : tie.Need-sub-at Inv-loop μ-loop
 sub-at c = let y = y2 (c .before .before .before) in let h = good y in omega (arith, count y)
@@ -199,10 +207,19 @@ add-at-2 : tie.Need-add-at-2 Inv-loop μ-loop
 add-at-2 c =
     let k = c .before .before .before in
     let y = y2 k in
-    omega (arith, last-ready (text (f y)) _ _ _ _ (l (f y) .loop .names) (l (f y) .loop .years) (l (f y) .loop .counts) (l (f y) .loop .widths) (from (f y)) (l (f y) .loop .series) (l (f y) .loop .start) (l (f y) .loop .at) (l (f y) .loop .begun) (toZ w32 (l (f y) .loop .first)) (l (f y) .loop .inv) (end (f y)) (line-end (f y)) (f y .before .loop-test .taken) (year y) (n y) (front y) (last y) (told y) (stops k) .fits, lengths-kept (text (f y)) _ _ _ _ (l (f y) .loop .names) (l (f y) .loop .years) (l (f y) .loop .counts) (l (f y) .loop .widths) (from (f y)) (l (f y) .loop .series) (l (f y) .loop .start) (l (f y) .loop .at) (l (f y) .loop .begun) (toZ w32 (l (f y) .loop .first)) (l (f y) .loop .inv) .1 .1 .1, length-sets (s (f y) .args .widths .now) 0 (widthsOf (seriesIn (readText (text (f y))))), s (f y) .good)
+    omega (
+      arith,
+      last-ready (l (f y) .loop .inv) (line-end (f y)) (f y .before .loop-test .taken) (told y) (stops k) .fits,
+      widths-kept (l (f y) .loop .inv),
+      length-sets (s (f y) .args .widths .now) 0 (widthsOf (seriesIn (readText (text (f y))))),
+      s (f y) .good,
+    )
 
 convert-requires : tie.Need-convert-requires Inv-loop μ-loop
-convert-requires c κs = let k = c .before .before .before .before in let y = y2 k in convert-ready (text (f y)) _ _ _ _ (l (f y) .loop .names) (l (f y) .loop .years) (l (f y) .loop .counts) (l (f y) .loop .widths) (from (f y)) (l (f y) .loop .series) (l (f y) .loop .start) (l (f y) .loop .at) (l (f y) .loop .begun) (toZ w32 (l (f y) .loop .first)) (l (f y) .loop .inv) (end (f y)) (line-end (f y)) (f y .before .loop-test .taken) (year y) (n y) (front y) (last y) (told y) (stops k) (c .before .before .fill2 .last .1 .1 .1 .1 .0) (c .before .before .fill2 .ensures)
+convert-requires c κs =
+    let k = c .before .before .before .before in
+    let y = y2 k in
+    convert-ready (l (f y) .loop .inv) (line-end (f y)) (f y .before .loop-test .taken) (told y) (stops k) (c .before .before .fill2 .ensures)
 
 sub-enter : tie.Need-sub-enter Inv-loop μ-loop
 sub-enter c = let y = y2 (c .before .before .before .before .before .before) in omega (arith, l (f y) .loop .inv .at-is)
@@ -212,21 +229,34 @@ enter-requires c κs =
     let v = c .before .before .before .before .before .before .before in
     let k = v .before .before in
     let y = y2 k in
-    enter-ready (text (f y)) _ _ _ _ (l (f y) .loop .names) (l (f y) .loop .years) (l (f y) .loop .counts) (l (f y) .loop .widths) (from (f y)) (l (f y) .loop .series) (l (f y) .loop .start) (l (f y) .loop .at) (l (f y) .loop .begun) (toZ w32 (l (f y) .loop .first)) (l (f y) .loop .inv) (end (f y)) (line-end (f y)) (f y .before .loop-test .taken) (year y) (n y) (front y) (last y) (told y) (stops k) (v .fill2 .last .1 .1 .1 .1 .0) (v .fill2 .ensures) _ refl
+    enter-ready (l (f y) .loop .inv) (line-end (f y)) (f y .before .loop-test .taken) (told y) (stops k) (v .fill2 .ensures)
 
 add-series : tie.Need-add-series Inv-loop μ-loop
 add-series c =
     let v = c .before .before .before .before .before .before .before .before .before .before .before .before .before in
     let k = v .before .before in
     let y = y2 k in
-    let r = enter-ready (text (f y)) _ _ _ _ (l (f y) .loop .names) (l (f y) .loop .years) (l (f y) .loop .counts) (l (f y) .loop .widths) (from (f y)) (l (f y) .loop .series) (l (f y) .loop .start) (l (f y) .loop .at) (l (f y) .loop .begun) (toZ w32 (l (f y) .loop .first)) (l (f y) .loop .inv) (end (f y)) (line-end (f y)) (f y .before .loop-test .taken) (year y) (n y) (front y) (last y) (told y) (stops k) (v .fill2 .last .1 .1 .1 .1 .0) (v .fill2 .ensures) _ refl in
-    omega (arith, r .1 .0, lengths-kept (text (f y)) _ _ _ _ (l (f y) .loop .names) (l (f y) .loop .years) (l (f y) .loop .counts) (l (f y) .loop .widths) (from (f y)) (l (f y) .loop .series) (l (f y) .loop .start) (l (f y) .loop .at) (l (f y) .loop .begun) (toZ w32 (l (f y) .loop .first)) (l (f y) .loop .inv) .1 .0, length-sets (s (f y) .args .years .now) 0 (yearsOf (seriesIn (readText (text (f y))))), s (f y) .good)
+    let r = enter-ready (l (f y) .loop .inv) (line-end (f y)) (f y .before .loop-test .taken) (told y) (stops k) (v .fill2 .ensures) in
+    omega (
+      arith,
+      r .year-fits,
+      years-kept (l (f y) .loop .inv),
+      length-sets (s (f y) .args .years .now) 0 (yearsOf (seriesIn (readText (text (f y))))),
+      s (f y) .good,
+    )
 
 add-from-2 : tie.Need-add-from-2 Inv-loop μ-loop
-add-from-2 c = let y = y2 (c .before .before .before .before .before .before .before .before .before .before .before .before .before .before .before) in let h = good y in omega (arith, s (f y) .good)
+add-from-2 c =
+    let y = y2 (c .before .before .before .before .before .before .before .before .before .before .before .before .before .before .before) in
+    let h = good y in
+    omega (arith, s (f y) .good)
 
 loop-less-2 : tie.Need-loop-less-2 Inv-loop μ-loop
-loop-less-2 c = let y = y2 (c .before .before .before .before .before .before .before .before .before .before .before .before .before .before .before) in let h = good y in let e = f y .before .loop-test .taken in omega arith
+loop-less-2 c =
+    let y = y2 (c .before .before .before .before .before .before .before .before .before .before .before .before .before .before .before) in
+    let h = good y in
+    let e = f y .before .loop-test .taken in
+    omega arith
 
 loop-again-2 : tie.Need-loop-again-2 Inv-loop μ-loop
 loop-again-2 c =
@@ -237,41 +267,43 @@ loop-again-2 c =
     let h = first-fits y in
     let o = c .before .before .before .before .before .before .before .before .before .before .convert in
     let r = c .before .before .before .before .before .enter in
-    writes-last (text (f y)) _ _ _ _ (l (f y) .loop .names) (l (f y) .loop .years) (l (f y) .loop .counts) (l (f y) .loop .widths) (from (f y)) (l (f y) .loop .series) (l (f y) .loop .start) (l (f y) .loop .at) (l (f y) .loop .begun) (toZ w32 (l (f y) .loop .first)) (l (f y) .loop .inv) (end (f y)) (line-end (f y)) (f y .before .loop-test .taken) (year y) (n y) (front y) (last y) (told y) (stops k) (v .fill2 .last .1 .1 .1 .1 .0) (v .fill2 .ensures) (o .last .1 .0) (simp toZ-ofZ at (o .ensures)) (r .last .1 .1 .1 .1 .0) (r .ensures .0) (y .first-year .result) (first-now y) (r .last .1 .1 .1 .1 .1 .0) (simp toZ-ofZ at (r .ensures .1 .0)) (r .last .1 .1 .1 .1 .1 .1 .0) (r .ensures .1 .1) _
+    writes-last (l (f y) .loop .inv) (line-end (f y)) (f y .before .loop-test .taken) (told y) (stops k) (v .fill2 .ensures)
+    (simp toZ-ofZ at (o .ensures)) (first-now y) (simp toZ-ofZ at (r .ensures)) _
 
 same-length-5 : tie.Need-same-length-5 Inv-loop μ-loop
 same-length-5 c =
     let s = c .before .before .before .before .before in
     let g = c .before .loop in
-    lengths-kept (s .args .text .now) _ _ _ _ (g .names) (g .years) (g .counts) (g .widths) (g .from) (g .series) (g .start) (g .at) (g .begun) (toZ w32 (g .first)) (g .inv) .0
+    names-kept (g .inv)
     ∙ length-sets (s .args .names .now) 0 (namesOf (seriesIn (readText (s .args .text .now))))
 
 same-length-6 : tie.Need-same-length-6 Inv-loop μ-loop
 same-length-6 c =
     let s = c .before .before .before .before .before in
     let g = c .before .loop in
-    lengths-kept (s .args .text .now) _ _ _ _ (g .names) (g .years) (g .counts) (g .widths) (g .from) (g .series) (g .start) (g .at) (g .begun) (toZ w32 (g .first)) (g .inv) .1 .0
+    years-kept (g .inv)
     ∙ length-sets (s .args .years .now) 0 (yearsOf (seriesIn (readText (s .args .text .now))))
 
 same-length-7 : tie.Need-same-length-7 Inv-loop μ-loop
 same-length-7 c =
     let s = c .before .before .before .before .before in
     let g = c .before .loop in
-    lengths-kept (s .args .text .now) _ _ _ _ (g .names) (g .years) (g .counts) (g .widths) (g .from) (g .series) (g .start) (g .at) (g .begun) (toZ w32 (g .first)) (g .inv) .1 .1 .0
+    counts-kept (g .inv)
     ∙ length-sets (s .args .counts .now) 0 (countsOf (seriesIn (readText (s .args .text .now))))
 
 same-length-8 : tie.Need-same-length-8 Inv-loop μ-loop
 same-length-8 c =
     let s = c .before .before .before .before .before in
     let g = c .before .loop in
-    lengths-kept (s .args .text .now) _ _ _ _ (g .names) (g .years) (g .counts) (g .widths) (g .from) (g .series) (g .start) (g .at) (g .begun) (toZ w32 (g .first)) (g .inv) .1 .1 .1
+    widths-kept (g .inv)
     ∙ length-sets (s .args .widths .now) 0 (widthsOf (seriesIn (readText (s .args .text .now))))
 
 returns-2 : tie.Need-returns-2 Inv-loop μ-loop
 returns-2 c =
     let s = c .before .before .before .before .before in
     let g = c .before .loop in
-    writes-end (s .args .text .now) _ _ _ _ (g .names) (g .years) (g .counts) (g .widths) (g .from) (g .series) (g .start) (g .at) (g .begun) (toZ w32 (g .first)) (g .inv) (c .loop-test .left)
+    let w = writes-end (g .inv) (c .loop-test .left) in
+    record { names-are = w .names-are; years-are = w .years-are; counts-are = w .counts-are; widths-are = w .widths-are }
 
 pub write-spec : {M : Type 1} → statement M
 write-spec =

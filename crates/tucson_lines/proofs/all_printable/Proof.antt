@@ -51,7 +51,10 @@ returns-3 : tie.Need-returns-3 Inv-loop μ-loop
 returns-3 c =
     let s = c .before .before in
     let e : c .before .loop .i ≡ s .args .to = omega arith in
-    sym (c .before .loop .inv .1 ∙ ap (λ (n : ℕ). allPrintable (slice n (s .args .to) (s .args .text .now))) e ∙ printable-end (s .args .text .now) (s .args .to))
+    sym (c .before .loop .inv .1 ∙ ap (λ (n : ℕ). allPrintable (slice n (s .args .to) (s .args .text .now))) e
+    ∙ printable-end (s .args .text .now) (s .args .to))
 
 pub all-printable-spec : {M : Type 1} → statement M
-all-printable-spec = tie.close (tie.spec Inv-loop μ-loop loop-holds shared-slice-read-if1 returns shared-slice-read-if2 returns-2 add-i loop-less loop-again returns-3)
+all-printable-spec =
+    tie.close (tie.spec Inv-loop μ-loop loop-holds shared-slice-read-if1 returns shared-slice-read-if2 returns-2 add-i loop-less loop-again
+    returns-3)

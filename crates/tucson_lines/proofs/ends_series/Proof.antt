@@ -1,9 +1,9 @@
 -- The last field is a width, or else it must be the closing.
 use borrow.Author.Needs.{needs}
 use mathlib.Core.Bool.{Bool, _||_}
-use mathlib.Core.Path.{_≡_, sym, _∙_, ap}
+use mathlib.Core.Path.{sym, _∙_, ap}
 use Rattle.base_exact.proofs.Word.{toZ-ofZ}
-use Rattle.spec_tucson.specs.Line.{isWidth, same, thousandths}
+use Rattle.spec_tucson.specs.Line.{same, thousandths}
 use Rattle.tucson_lines.proofs.ends_series.Statement.{statement}
 use Rattle.tucson_lines.proofs.ends_series.Tie as tie
 

@@ -38,7 +38,7 @@ returns c =
     let name : take (s .args .from + nameColumns - s .args .from) (drop (s .args .from) text) ≡ slice (s .args .from) (s .args .from + nameColumns) text =
     ap (λ (n : ℕ). take n (drop (s .args .from) text)) e ∙ sym (slice-take (s .args .from) nameColumns text) in
     c .begins .ensures ∙ ap (λ (key : Text). beginsWith key (slice (s .args .end + 1) (length text) text)) name
-    ∙ sym (goes-on-is (s .args .text .now) (s .args .from) (s .args .end) (s .pre .0 .0) (s .pre .0 .1) (s .pre .1))
+    ∙ sym (goes-on-is (s .args .text .now) (s .args .from) (s .args .end) (s .pre .longer) (s .pre .ended) (s .pre .named))
 
 pub goes-on-spec : {M : Type 1} → statement M
 goes-on-spec = tie.close (tie.spec add-begins add-begins-2 sub-begins part-begins-start part-begins-end begins-requires returns)

@@ -2,7 +2,7 @@
 use borrow.Author.Needs.{needs}
 use borrow.Author.Tests.{not-true, not-false}
 use mathlib.Core.Bool.{not}
-use mathlib.Core.Path.{_≡_, sym, _∙_, ap}
+use mathlib.Core.Path.{sym, _∙_, ap}
 use Rattle.tucson_lines.proofs.Fields.{name-unprintable, name-printable}
 use Rattle.tucson_lines.proofs.is_name.Statement.{statement}
 use Rattle.tucson_lines.proofs.is_name.Tie as tie

@@ -48,7 +48,8 @@ unfolding field
 returns-2 c =
     let s = c .before .before .before in
     let e : c .before .loop .i ≡ s .args .to = omega arith in
-    sym (ap field (c .before .loop .inv .1 ∙ ap (λ (n : ℕ). inColumns (slice n (s .args .to) (s .args .text .now))) e ∙ columns-end (s .args .text .now) (s .args .to)))
+    sym (ap field (c .before .loop .inv .1 ∙ ap (λ (n : ℕ). inColumns (slice n (s .args .to) (s .args .text .now))) e
+    ∙ columns-end (s .args .text .now) (s .args .to)))
 
 pub numeral-spec : {M : Type 1} → statement M
 numeral-spec =

@@ -1,10 +1,10 @@
 -- The year, the fields but the last and the last one are read; then come the decade's end and the last field's test.
 use borrow.Author.Needs.{needs}
 use borrow.Author.Tests.{not-true, not-false}
-use mathlib.Core.Bool.{Bool, true, false, _||_}
+use mathlib.Core.Bool.{Bool, true, _||_}
 use mathlib.Core.Option.{some}
-use mathlib.Core.Path.{_≡_, sym, _∙_, ap}
-use Prim.Native.Nat.{ℕ, _+_, _*_, _-_, _≤_, _<_}
+use mathlib.Core.Path.{_≡_, sym, _∙_}
+use Prim.Native.Nat.{ℕ}
 use native.Mathlib.Omega.{arith}
 use lib.IntN.{ℤ}
 use mir.Syntax.{w32}
@@ -12,10 +12,11 @@ use mir.Val.{SFits}
 use Rattle.base_exact.proofs.Word.{toZ-ofZ}
 use Rattle.base_text.specs.Bytes.{Text}
 use Rattle.base_text.proofs.Numerals.{field-none, field-some}
-use Rattle.spec_tucson.specs.Line.{decade, isWidth, same, thousandths, yearInDecade}
-use Rattle.tucson_lines.specs.Machine.{widthsTold}
+use Rattle.spec_tucson.specs.Line.{isWidth, same, thousandths, yearInDecade}
+use Rattle.tucson_lines.specs.Machine.{widthsTold, ColumnsOf}
 use Rattle.tucson_lines.specs.declared.WidthsAnswer.the-variants.{Small}
-use Rattle.tucson_lines.proofs.LineNumerals.{year-below, year-numeral, front-numerals, last-numeral, numerals-no-year, numerals-no-widths, numerals-no-last, numerals-late, numerals-no-end, numerals-good}
+use Rattle.tucson_lines.proofs.LineNumerals.{year-below, year-numeral, front-numerals, last-numeral, numerals-no-year}
+use Rattle.tucson_lines.proofs.LineNumerals.{numerals-no-widths, numerals-no-last, numerals-late, numerals-no-end, numerals-good}
 use Rattle.tucson_lines.proofs.numerals.Statement.{statement}
 use Rattle.tucson_lines.proofs.numerals.Tie as tie
 
@@ -36,11 +37,8 @@ module _ (c : tie.After-numeral) where
   abbrev n : ℕ
   n = s .args .n
 
-  abbrev some-field : 1 ≤ n
-  some-field = s .pre .1 .0
-
-  abbrev size : end ≡ from + 12 + n * 6
-  size = s .pre .1 .1
+  abbrev columns : ColumnsOf text from end n
+  columns = s .pre
 
 -- a year
 module _ (c : tie.After-known-told) where
@@ -53,7 +51,7 @@ module _ (c : tie.After-known-told) where
   year-fits : SFits w32 year
   year-fits = record { sfits = c .known-told .given .0 .1 }
 
-  is-year : year-numeral (text f) (from f) (end f) (n f) (some-field f) (size f) ≡ some year
+  is-year : year-numeral (columns f) ≡ some year
   is-year = field-some _ year (sym (f .numeral .ensures) ∙ c .before .year .given .1)
 
 -- widths before the last field
@@ -64,7 +62,7 @@ module _ (c : tie.After-known-told2) where
   abbrev small : Bool
   small = c .before .small .given .0 .0
 
-  are-widths : widthsTold true (front-numerals (text (f y)) (from (f y)) (end (f y)) (n (f y)) (some-field (f y)) (size (f y))) ≡ Small small
+  are-widths : widthsTold true (front-numerals (columns (f y))) ≡ Small small
   are-widths = sym (c .before .before .before .widths .ensures) ∙ c .before .small .given .1
 
 -- a last field
@@ -78,7 +76,7 @@ module _ (c : tie.After-known-told3) where
   last-fits : SFits w32 last
   last-fits = record { sfits = c .known-told3 .given .0 .1 }
 
-  is-last : last-numeral (text (f (y w))) (from (f (y w))) (end (f (y w))) (n (f (y w))) (some-field (f (y w))) (size (f (y w))) ≡ some last
+  is-last : last-numeral (columns (f (y w))) ≡ some last
   is-last = field-some _ last (sym (c .before .before .before .numeral2 .ensures) ∙ c .before .last .given .1)
 
 -- the year's place in its decade
@@ -103,7 +101,7 @@ enum-told c = search needs
 returns : tie.Need-returns
 returns c =
     let k = c .before .before in
-    sym (numerals-no-year (text k) (from k) (end k) (n k) (some-field k) (size k) (field-none _ (sym (k .numeral .ensures) ∙ c .enum-told .given .1)))
+    sym (numerals-no-year (columns k) (field-none _ (sym (k .numeral .ensures) ∙ c .enum-told .given .1)))
 
 add-widths : tie.Need-add-widths
 add-widths c = search needs
@@ -124,7 +122,7 @@ returns-2 : tie.Need-returns-2
 returns-2 c =
     let l = c .before .before in
     let k = f (l .before) in
-    sym (numerals-no-widths (text k) (from k) (end k) (n k) (some-field k) (size k) (year (l .before)) (is-year (l .before)) (sym (l .widths .ensures) ∙ c .enum-told2 .given .1))
+    sym (numerals-no-widths (columns k) (is-year (l .before)) (sym (l .widths .ensures) ∙ c .enum-told2 .given .1))
 
 sub-numeral : tie.Need-sub-numeral
 sub-numeral c = search needs
@@ -143,7 +141,7 @@ returns-3 c =
     let l = c .before .before in
     let m = y (l .before) in
     let k = f m in
-    sym (numerals-no-last (text k) (from k) (end k) (n k) (some-field k) (size k) (year m) (is-year m) (field-none _ (sym (l .numeral2 .ensures) ∙ c .enum-told3 .given .1)))
+    sym (numerals-no-last (columns k) (is-year m) (field-none _ (sym (l .numeral2 .ensures) ∙ c .enum-told3 .given .1)))
 
 year-in-decade-requires : tie.Need-year-in-decade-requires
 year-in-decade-requires c κs = search needs
@@ -151,7 +149,7 @@ year-in-decade-requires c κs = search needs
 add-if1 : tie.Need-add-if1
 add-if1 c =
     let k = f (y (w (c .before))) in
-    omega (arith, in-decade c, year-below (year (y (w (c .before)))), s k .pre .0 .within, s k .good .0)
+    omega (arith, in-decade c, year-below (year (y (w (c .before)))), s k .pre .part .within, s k .good .0)
 
 returns-4 : tie.Need-returns-4
 returns-4 c =
@@ -159,13 +157,14 @@ returns-4 c =
     let v = w l in
     let m = y v in
     let k = f m in
-    sym (numerals-late (text k) (from k) (end k) (n k) (some-field k) (size k) (year m) (is-year m) (small v) (are-widths v) (last l) (is-last l) (omega (arith, in-decade (c .before), c .if1 .taken)))
+    sym (numerals-late (columns k) (is-year m) (are-widths v) (is-last l) (omega (arith, in-decade (c .before), c .if1 .taken)))
 
 ends-series-requires : tie.Need-ends-series-requires
 ends-series-requires c κs = search needs
 
 -- what the last field's test says
-end-test : (c : tie.After-ends-series) → c .ends-series .result ≡ (isWidth (last (c .before .before .before)) || same (last (c .before .before .before)) thousandths)
+end-test : (c : tie.After-ends-series)
+    → c .ends-series .result ≡ (isWidth (last (c .before .before .before)) || same (last (c .before .before .before)) thousandths)
 end-test c = let g = last-fits (c .before .before .before) in simp toZ-ofZ at (c .ends-series .ensures)
 
 returns-5 : tie.Need-returns-5
@@ -174,7 +173,7 @@ returns-5 c =
     let v = w l in
     let m = y v in
     let k = f m in
-    sym (numerals-no-end (text k) (from k) (end k) (n k) (some-field k) (size k) (year m) (is-year m) (small v) (are-widths v) (last l) (is-last l) (sym (end-test (c .before)) ∙ not-true _ (c .if2 .taken)))
+    sym (numerals-no-end (columns k) (is-year m) (are-widths v) (is-last l) (sym (end-test (c .before)) ∙ not-true _ (c .if2 .taken)))
 
 returns-6 : tie.Need-returns-6
 returns-6 c =
@@ -185,7 +184,10 @@ returns-6 c =
     let g = year-fits m in
     let h = last-fits l in
     simp toZ-ofZ
-    (sym (numerals-good (text k) (from k) (end k) (n k) (some-field k) (size k) (year m) (is-year m) (small v) (are-widths v) (last l) (is-last l) (omega (arith, in-decade (c .before .before .before), c .before .before .if1 .left)) (sym (end-test (c .before)) ∙ not-false _ (c .if2 .left))))
+    (sym
+    (numerals-good (columns k) (is-year m) (are-widths v) (is-last l)
+    (omega (arith, in-decade (c .before .before .before), c .before .before .if1 .left)) (sym (end-test (c .before))
+    ∙ not-false _ (c .if2 .left))))
 
 pub numerals-spec : {M : Type 1} → statement M
 numerals-spec =

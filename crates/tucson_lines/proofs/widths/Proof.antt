@@ -13,6 +13,7 @@ use lib.Signed.{leZ}
 use mir.Syntax.{w32}
 use mir.Val.{SFits}
 use Rattle.base_exact.proofs.Word.{toZ-ofZ}
+use Rattle.base_text.specs.Bytes.{Text}
 use Rattle.spec_tucson.specs.Columns.{inColumns}
 use Rattle.spec_tucson.specs.Line.{fieldColumns, withField, fieldNumerals, isWidth}
 use Rattle.spec_tucson.specs.Series.{hundredthsLimit}
@@ -22,15 +23,18 @@ use Rattle.tucson_lines.proofs.Fields.{fields-first, widths-no-numeral,
 use Rattle.tucson_lines.proofs.widths.Statement.{statement}
 use Rattle.tucson_lines.proofs.widths.Tie as tie
 
+record Reading (text : Text) (from to n : ℕ) (small : Bool) (at left : ℕ) : Type 0 where
+  within : at + left * fieldColumns ≤ to
+  told : widthsTold true (fieldNumerals n (slice from to text)) ≡ widthsTold small (fieldNumerals left (slice at to text))
+
 abbrev Inv-loop : tie.InvT-loop
-Inv-loop text from to n small₀ at₀ left₀ small at left =
-    (at + left * fieldColumns ≤ to) × (widthsTold true (fieldNumerals n (slice from to text)) ≡ widthsTold small (fieldNumerals left (slice at to text)))
+Inv-loop text from to n small₀ at₀ left₀ small at left = Reading text from to n small at left
 
 abbrev μ-loop : tie.MeasureT-loop
 μ-loop text from to n small₀ at₀ left₀ small at left = left
 
 loop-holds : tie.Need-loop-holds Inv-loop μ-loop
-loop-holds c = (omega arith, refl)
+loop-holds c = record { within = omega arith; told = refl }
 
 add-numeral : tie.Need-add-numeral Inv-loop μ-loop
 add-numeral c = omega arith
@@ -59,7 +63,7 @@ module _ (c : tie.After-numeral Inv-loop μ-loop) where
   others = fieldNumerals (left - 1) (slice (at + fieldColumns) (s .args .to) (s .args .text .now))
 
   so-far : widthsTold true (fieldNumerals (s .args .n) (slice (s .args .from) (s .args .to) (s .args .text .now))) ≡ widthsTold small (withField here others)
-  so-far = c .before .before .loop .inv .1 ∙ ap (widthsTold small) (fields-first left (s .args .text .now) at (s .args .to) (omega arith) (omega arith))
+  so-far = c .before .before .loop .inv .told ∙ ap (widthsTold small) (fields-first left (s .args .text .now) at (s .args .to) (omega arith) (omega arith))
 
 enum-told : tie.Need-enum-told Inv-loop μ-loop
 enum-told c = search needs
@@ -104,18 +108,21 @@ loop-again c =
     let z = k .before .field .given .0 .0 in
     let fits : SFits w32 z = record { sfits = k .known-told .given .0 .1 } in
     let is-width : isWidth z ≡ true = sym (simp toZ-ofZ at (w .is-width .ensures)) ∙ not-false _ (c .before .if1 .left) in
-    let both : c .both .result ≡ (small f && leZ z (pos hundredthsLimit)) = simp toZ-ofZ at (c .both .ensures) in (
-      omega arith,
-      so-far f ∙ widths-next (small f) (here f) z (others f) (field-some _ z (sym (f .numeral .ensures) ∙ k .before .field .given .1)) is-width
-          ∙ ap (λ (b : Bool). widthsTold b (others f)) (sym both),
-    )
+    let both : c .both .result ≡ (small f && leZ z (pos hundredthsLimit)) = simp toZ-ofZ at (c .both .ensures) in
+    let is = field-some _ z (sym (f .numeral .ensures) ∙ k .before .field .given .1) in
+    record {
+      within = omega arith;
+      told =
+          so-far f ∙ widths-next (small f) (here f) z (others f) is is-width
+          ∙ ap (λ (b : Bool). widthsTold b (others f)) (sym both);
+    }
 
 returns-3 : tie.Need-returns-3 Inv-loop μ-loop
 returns-3 c =
     let l = c .before .loop in
     let s = c .before .before .before in
     let e : l .left ≡ 0 = omega arith in
-    sym (l .inv .1 ∙ ap (λ (n : ℕ). widthsTold (l .small) (fieldNumerals n (slice (l .at) (s .args .to) (s .args .text .now)))) e ∙ widths-end (l .small) _)
+    sym (l .inv .told ∙ ap (λ (n : ℕ). widthsTold (l .small) (fieldNumerals n (slice (l .at) (s .args .to) (s .args .text .now)))) e ∙ widths-end (l .small) _)
 
 pub widths-spec : {M : Type 1} → statement M
 widths-spec =

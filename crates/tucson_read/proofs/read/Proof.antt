@@ -1,16 +1,25 @@
 -- The first pass refuses, or finds what the buffers must have room for; then the second writes.
 use borrow.Author.Needs.{needs}
-use mathlib.Core.Path.{_≡_, sym, _∙_}
-use Prim.Native.Nat.{ℕ, _/_, _<_, _≤_}
+use mathlib.Core.Path.{sym, _∙_}
+use Prim.Native.Nat.{ℕ, _/_, _≤_}
 use native.Mathlib.Omega.{arith}
 use lib.ListN.{length}
-use Rattle.base_text.specs.Bytes.{Text}
 use Rattle.spec_tucson.specs.Line.{nameColumns}
 use Rattle.spec_tucson.specs.TextReading.{readText}
 use Rattle.spec_tucson.specs.ReadCall.{widthsOf}
-use Rattle.tucson_read.proofs.Answers.{Found, scan-refused, scan-found, read-refused, short-names, short-years, short-counts, short-widths, write-ready, read-answers}
+use Rattle.tucson_read.proofs.Answers.{Given, Found, scan-refused, scan-found, read-refused, short-names, short-years, short-counts}
+use Rattle.tucson_read.proofs.Answers.{short-widths, write-ready, read-answers}
 use Rattle.tucson_read.proofs.read.Statement.{statement}
 use Rattle.tucson_read.proofs.read.Tie as tie
+
+abbrev given : tie.Start → Given
+given s = record {
+  text = s .args .text .now;
+  names = s .args .names .now;
+  years = s .args .years .now;
+  counts = s .args .counts .now;
+  widths = s .args .widths .now;
+}
 
 -- the text is good
 module _ (c : tie.After-known-told2) where
@@ -53,24 +62,27 @@ enum-known-scanned-2 : tie.Need-enum-known-scanned-2
 enum-known-scanned-2 c = search needs
 
 returns : tie.Need-returns
-returns c = let k = c .before in short-names (s k .args .text .now) (s k .args .names .now) (s k .args .years .now) (s k .args .counts .now) (s k .args .widths .now) (found k .list) (found k .is) (omega (arith, found k .series-is, c .if1 .taken))
+returns c = let k = c .before in short-names (given (s k)) (found k .is) (omega (arith, found k .series-is, c .if1 .taken))
 
 returns-2 : tie.Need-returns-2
-returns-2 c = let k = c .before .before in short-years (s k .args .text .now) (s k .args .names .now) (s k .args .years .now) (s k .args .counts .now) (s k .args .widths .now) (found k .list) (found k .is) (omega (arith, found k .series-is, c .if2 .taken))
+returns-2 c = let k = c .before .before in short-years (given (s k)) (found k .is) (omega (arith, found k .series-is, c .if2 .taken))
 
 returns-3 : tie.Need-returns-3
-returns-3 c = let k = c .before .before .before in short-counts (s k .args .text .now) (s k .args .names .now) (s k .args .years .now) (s k .args .counts .now) (s k .args .widths .now) (found k .list) (found k .is) (omega (arith, found k .series-is, c .if3 .taken))
+returns-3 c = let k = c .before .before .before in short-counts (given (s k)) (found k .is) (omega (arith, found k .series-is, c .if3 .taken))
 
 returns-4 : tie.Need-returns-4
-returns-4 c = let k = c .before .before .before .before in short-widths (s k .args .text .now) (s k .args .names .now) (s k .args .years .now) (s k .args .counts .now) (s k .args .widths .now) (found k .list) (found k .is) (omega (arith, found k .total-is, c .if4 .taken))
+returns-4 c = let k = c .before .before .before .before in short-widths (given (s k)) (found k .is) (omega (arith, found k .total-is, c .if4 .taken))
 
 write-requires : tie.Need-write-requires
-write-requires c κs = let e = c .before .before .before .before in let h = k e in write-ready (s h .args .text .now) (s h .args .names .now) (s h .args .years .now) (s h .args .counts .now) (s h .args .widths .now) (found h .list) (found h .is) (names-long e) (years-long e) (counts-long e) (widths-long e)
+write-requires c κs =
+    let e = c .before .before .before .before in
+    let h = k e in
+    write-ready (given (s h)) (found h .is) (names-long e) (years-long e) (counts-long e) (widths-long e)
 
 returns-5 : tie.Need-returns-5
 returns-5 c =
     let s = c .before .before .before .before .before .before .before in
-    read-refused (s .args .text .now) (s .args .names .now) (s .args .years .now) (s .args .counts .now) (s .args .widths .now) _ _ (scan-refused (readText (s .args .text .now)) _ _ (sym (c .before .scanned .given .1) ∙ c .before .before .before .scan .ensures))
+    read-refused (given s) (scan-refused (readText (s .args .text .now)) _ _ (sym (c .before .scanned .given .1) ∙ c .before .before .before .scan .ensures))
 
 same-length : tie.Need-same-length
 same-length c = search needs
@@ -89,8 +101,7 @@ returns-6 c =
     let w = c .before .before .before .before .before .before in
     let e = w .before .before .before .before .before in
     let h = k e in
-    let r = w .write .ensures in
-    read-answers (s h .args .text .now) (s h .args .names .now) (s h .args .years .now) (s h .args .counts .now) (s h .args .widths .now) (found h .list) (found h .is) (names-long e) (years-long e) (counts-long e) (widths-long e) (series h) (found h .series-is) (w .write .last .1 .0) (w .write .last .1 .1 .0) (w .write .last .1 .1 .1 .0) (w .write .last .1 .1 .1 .1 .0) (r .0) (r .1 .0) (r .1 .1 .0) (r .1 .1 .1)
+    read-answers (given (s h)) (found h .is) (names-long e) (years-long e) (counts-long e) (widths-long e) (found h .series-is) (w .write .ensures)
 
 pub read-spec : {M : Type 1} → statement M
 read-spec =

@@ -1,9 +1,9 @@
 -- Each return is one of the cases of a series' last line.
 use borrow.Author.Needs.{needs}
 use borrow.Author.Tests.{not-true, not-false}
-use mathlib.Core.Bool.{Bool, true, false, _&&_, _||_, not}
+use mathlib.Core.Bool.{true, _&&_, _||_, not}
 use native.Mathlib.Omega.{arith}
-use mathlib.Core.Path.{_≡_, refl, sym, _∙_, ap, ap₂}
+use mathlib.Core.Path.{_≡_, refl, sym, _∙_, ap₂}
 use lib.Dec.{eqb}
 use Rattle.base_exact.proofs.Word.{toZ-ofZ}
 use Rattle.spec_tucson.specs.Line.{same, thousandths, yearInDecade}
@@ -48,7 +48,10 @@ follows-requires : tie.Need-follows-requires
 follows-requires c κs = search needs
 
 returns : tie.Need-returns
-returns c = (λ place b t tracks told. close-not-next place b t _ _ _ tracks _ _ _ _ told (sym (year-test (c .before)) ∙ not-true _ (c .if1 .taken)), tt)
+returns c = record {
+  told = λ place b t tracks told. close-not-next place b t _ _ _ tracks told (sym (year-test (c .before)) ∙ not-true _ (c .if1 .taken));
+  within = tt;
+}
 
 same-requires : tie.Need-same-requires
 same-requires c κs = search needs
@@ -57,7 +60,10 @@ sub-t12 : tie.Need-sub-t12
 sub-t12 c = search needs
 
 returns-2 : tie.Need-returns-2
-returns-2 c = (λ place b t tracks told. close-thousandths place b t _ _ _ tracks _ _ _ _ told (follows (c .before)) (sym (thousandths-test (c .before)) ∙ c .if2 .taken), (refl, omega arith))
+returns-2 c = record {
+  told = λ place b t tracks told. close-thousandths place b t _ _ _ tracks told (follows (c .before)) (sym (thousandths-test (c .before)) ∙ c .if2 .taken);
+  within = (refl, omega arith);
+}
 
 both-requires : tie.Need-both-requires
 both-requires c κs = search needs
@@ -73,17 +79,17 @@ sub-t14 c = search needs
 
 returns-3 : tie.Need-returns-3
 returns-3 c =
-    let k = t (c .before) in (
-      λ place b x tracks told. close-hundredths place b x _ _ _ tracks _ _ _ _ told (follows k) (sym (thousandths-test k) ∙ c .before .before .before .before .if2 .left) (sym (hundredths-test (c .before)) ∙ c .if3 .taken),
-      (refl, omega arith),
-    )
+    let k = t (c .before) in
+    let no = sym (thousandths-test k) ∙ c .before .before .before .before .if2 .left in
+    let test = sym (hundredths-test (c .before)) ∙ c .if3 .taken in
+    record { told = λ place b t tracks told. close-hundredths place b t _ _ _ tracks told (follows k) no test; within = (refl, omega arith) }
 
 returns-4 : tie.Need-returns-4
 returns-4 c =
-    let k = t (c .before) in (
-      λ place b x tracks told. close-unclosed place b x _ _ _ tracks _ _ _ _ told (follows k) (sym (thousandths-test k) ∙ c .before .before .before .before .if2 .left) (sym (hundredths-test (c .before)) ∙ c .if3 .left),
-      tt,
-    )
+    let k = t (c .before) in
+    let no = sym (thousandths-test k) ∙ c .before .before .before .before .if2 .left in
+    let test = sym (hundredths-test (c .before)) ∙ c .if3 .left in
+    record { told = λ place b t tracks told. close-unclosed place b t _ _ _ tracks told (follows k) no test; within = tt }
 
 pub close-spec : {M : Type 1} → statement M
 close-spec =

@@ -1,12 +1,11 @@
 -- Each return is one of the cases of a line whose series goes on.
 use borrow.Author.Needs.{needs}
 use borrow.Author.Tests.{not-true, not-false}
-use mathlib.Core.Bool.{Bool, true, false, _&&_, _||_, not}
+use mathlib.Core.Bool.{Bool, true, _&&_, _||_, not}
 use mathlib.Core.Path.{_≡_, refl, sym, _∙_, ap}
-use Prim.Native.Nat.{ℕ}
 use native.Mathlib.Omega.{arith}
 use lib.Dec.{eqb}
-use lib.IntN.{ℤ, pos, natAbs, _+ℤ_}
+use lib.IntN.{pos, _+ℤ_}
 use lib.Signed.{leZ}
 use mir.Syntax.{w32}
 use mir.Val.{SFits, toZ, ofZ}
@@ -61,13 +60,18 @@ is-width-requires : tie.Need-is-width-requires
 is-width-requires c κs = search needs
 
 returns : tie.Need-returns
-returns c = (λ place b t tracks told. extend-malformed place b t _ _ _ tracks _ _ _ _ told (sym (width-test (c .before)) ∙ not-true _ (c .if1 .taken)), tt)
+returns c = record {
+  told = λ place b t tracks told. extend-malformed place b t _ _ _ tracks told (sym (width-test (c .before)) ∙ not-true _ (c .if1 .taken));
+  within = tt;
+}
 
 follows-requires : tie.Need-follows-requires
 follows-requires c κs = search needs
 
 returns-2 : tie.Need-returns-2
-returns-2 c = (λ place b t tracks told. extend-not-next place b t _ _ _ tracks _ _ _ _ told (is-width (c .before)) (sym (year-test (c .before)) ∙ not-true _ (c .if2 .taken)), tt)
+returns-2 c =
+    let no = sym (year-test (c .before)) ∙ not-true _ (c .if2 .taken) in
+    record { told = λ place b t tracks told. extend-not-next place b t _ _ _ tracks told (is-width (c .before)) no; within = tt }
 
 both-requires : tie.Need-both-requires
 both-requires c κs = search needs
@@ -85,11 +89,12 @@ add-t13 c =
 
 returns-3 : tie.Need-returns-3
 returns-3 c =
-    let k = c .before .before .before in (
-      λ place b t tracks told. rw (sum-is c, all-is c)
-          (extend-on place b t _ _ _ tracks _ _ _ _ told (e c .pre .1 .0) (is-width k) (sym (year-test k) ∙ not-false _ (c .before .before .if2 .left))),
-      (refl, omega arith),
-    )
+    let k = c .before .before .before in
+    let yes = sym (year-test k) ∙ not-false _ (c .before .before .if2 .left) in
+    record {
+      told = λ place b t tracks told. rw (sum-is c, all-is c) (extend-on place b t _ _ _ tracks told (e c .pre .some-field) (is-width k) yes);
+      within = (refl, omega arith);
+    }
 
 pub extend-spec : {M : Type 1} → statement M
 extend-spec = tie.close (tie.spec is-width-requires returns follows-requires returns-2 both-requires both-requires-2 cast-t12 add-t13 returns-3)

@@ -1,6 +1,6 @@
 -- Where a series is begun, two tests of the year.
 use borrow.Author.Needs.{needs}
-use borrow.Author.Tests.{not-true, not-false}
+use borrow.Author.Tests.{not-false}
 use mathlib.Core.Bool.{Bool, _&&_, _||_, not}
 use mathlib.Core.Path.{_≡_, sym, _∙_, ap, ap₂}
 use lib.Dec.{eqb}
@@ -30,7 +30,8 @@ returns-2 c =
     let y : c .before .year-in-decade .result ≡ yearInDecade (s .args .year) = simp toZ-ofZ at (c .before .year-in-decade .ensures) in
     let d : c .before .before .same .result ≡ same (s .args .year) (s .args .next) = simp toZ-ofZ at (c .before .before .same .ensures) in
     c .both .ensures ∙ ap₂ (λ (a : Bool) (k : ℕ). a && eqb k 0) d y
-    ∙ sym (ap (λ (b : Bool). not b || (same (s .args .year) (s .args .next) && eqb (yearInDecade (s .args .year)) 0)) (not-false (s .args .begun) (c .before .before .before .if1 .left)))
+    ∙ sym (ap (λ (b : Bool). not b || (same (s .args .year) (s .args .next) && eqb (yearInDecade (s .args .year)) 0))
+    (not-false (s .args .begun) (c .before .before .before .if1 .left)))
 
 pub follows-spec : {M : Type 1} → statement M
 follows-spec = tie.close (tie.spec returns same-requires year-in-decade-requires both-requires returns-2)

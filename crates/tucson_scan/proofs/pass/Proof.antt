@@ -3,26 +3,24 @@ use borrow.Author.Needs.{needs}
 use mathlib.Core.Bool.{Bool, true, false}
 use mathlib.Core.List.{List}
 use mathlib.Core.Option.{Option}
-use mathlib.Core.Path.{_≡_, sym, _∙_, ap, subst}
-use Prim.Native.Nat.{ℕ, _+_, _<_, _≤_}
+use mathlib.Core.Path.{_≡_, sym, _∙_, subst}
+use Prim.Native.Nat.{ℕ, _+_}
 use native.Mathlib.Omega.{arith}
-use lib.IntN.{ℤ, natAbs}
+use lib.IntN.{ℤ}
 use lib.ListN.{length, drop}
 use lib.Seq.{slice}
 use mir.Syntax.{w32}
 use mir.Val.{SFits}
-use Rattle.base_exact.proofs.Decide.{true-not-false}
 use Rattle.base_exact.proofs.Word.{toZ-ofZ}
 use Rattle.base_text.specs.Bytes.{Text}
-use Rattle.spec_tucson.specs.Line.{Line, linesOf, goodLine}
-use Rattle.base_text.specs.Numeral.{numeralLimit}
+use Rattle.spec_tucson.specs.Line.{linesOf, goodLine}
 use Rattle.spec_tucson.specs.TextReading.{Begun, goesOn, readLine}
 use Rattle.tucson_lines.specs.Machine.{lineTold}
 use Rattle.tucson_lines.specs.declared.LineAnswer.the-variants.{Good}
 use Rattle.tucson_lines.proofs.GoodLines.{GoodLine, good-line, IsLine, line-none, line-some}
 use Rattle.tucson_scan.specs.Scan.{Told, Within, Advances}
 use Rattle.tucson_scan.specs.declared.Passed.{Passed}
-use Rattle.tucson_scan.proofs.Passing.{said-count, said-year, line-refused, followed-by, advances}
+use Rattle.tucson_scan.proofs.Passing.{says, line-refused, followed-by, advances}
 use Rattle.tucson_scan.proofs.pass.Statement.{statement}
 use Rattle.tucson_scan.proofs.pass.Tie as tie
 
@@ -74,7 +72,7 @@ module _ (c : tie.After-known-told) where
   good = good-line text from end (s .pre) (is-line .line) (is-line .is)
 
   count : length (is-line .line .fields) ≡ n
-  count = said-count (is-line .line) year n front last (is-line .told)
+  count = says (is-line .told) .count-is
 
 line-requires : tie.Need-line-requires
 line-requires c κs = search needs
@@ -86,22 +84,26 @@ enum-known-line : tie.Need-enum-known-line
 enum-known-line c = search needs
 
 goes-on-requires : tie.Need-goes-on-requires
-goes-on-requires c κs = let g = good c in ((omega arith, omega arith), g .named)
+goes-on-requires c κs = let g = good c in record { longer = omega (arith, g .size); ended = omega (arith, g .ended); named = g .named }
 
 extend-requires : tie.Need-extend-requires
 extend-requires c κs =
     let k = c .before .before in
     let f = year-fits k in
-    let small : natAbs (year k) < numeralLimit = rw (said-year (is-line k .line) (year k) (n k) (front k) (last k) (is-line k .told)) at (good k .year-small) in
-    simp toZ-ofZ (small, (omega (arith, count k, good k .some-field), omega (arith, count k, good k .few)))
+    simp toZ-ofZ (record {
+      year-small = rw (says (is-line k .told) .year-is) at (good k .year-small);
+      some-field = omega (arith, count k, good k .some-field);
+      few = omega (arith, count k, good k .few);
+    })
 
 -- what is told of the line's step, by the answer of the one or the other function
 module _ (g : tie.After-goes-on) where
   abbrev k : tie.After-known-told
   k = g .before
 
-  step-told : (more : Bool) → g .goes-on .result ≡ more → (place : ℕ) (b : Option Begun) (r : Passed) → Told place b (readLine place b more (t k)) r → Told place b (readLine place b (goesOn (t k) (later k)) (t k)) r
-  step-told more e place b r h = subst (λ (m : Bool). Told place b (readLine place b m (t k)) r) (sym e ∙ g .goes-on .ensures) h
+  step-told : {more : Bool} → g .goes-on .result ≡ more → (place : ℕ) (b : Option Begun) (r : Passed) → Told place b (readLine place b more (t k)) r
+      → Told place b (readLine place b (goesOn (t k) (later k)) (t k)) r
+  step-told e place b r h = subst (λ (m : Bool). Told place b (readLine place b m (t k)) r) (sym e ∙ g .goes-on .ensures) h
 
   ahead : (goes : Bool) (r : Passed) → g .goes-on .result ≡ goes → Within goes (n k) r → Advances (text k) (from k) (end k) r
   ahead goes r e w =
@@ -113,10 +115,13 @@ returns c =
     let g = c .before .before in
     let f = year-fits (k g) in
     let h = last-fits (k g) in
-    let y = s (k g) .fits .next in (
-      λ place b tracks. step-told g true (c .before .if1 .taken) place b (c .extend .result) ((simp toZ-ofZ at (c .extend .ensures .0)) place b (t (k g)) tracks (told (k g))),
-      ahead g true (c .extend .result) (c .before .if1 .taken) (c .extend .ensures .1),
-    )
+    let y = s (k g) .fits .next in
+    let r = c .extend .result in
+    let passed = simp toZ-ofZ at (c .extend .ensures) in
+    record {
+      told = λ place b tracks. step-told g (c .before .if1 .taken) place b r (passed .told place b (t (k g)) tracks (told (k g)));
+      advances = ahead g true r (c .before .if1 .taken) (passed .within);
+    }
 
 close-requires : tie.Need-close-requires
 close-requires c κs = let k = c .before .before in omega (arith, count k, good k .some-field)
@@ -124,17 +129,21 @@ close-requires c κs = let k = c .before .before in omega (arith, count k, good 
 returns-2 : tie.Need-returns-2
 returns-2 c =
     let a = c .before .before in
-    (λ place b tracks. line-refused place b _ _ (line-none _ (sym (a .line .ensures) ∙ c .enum-told .given .1)), tt)
+    let bad = line-none _ (sym (a .line .ensures) ∙ c .enum-told .given .1) in
+    record { told = λ place b tracks. line-refused place b _ _ bad; advances = tt }
 
 returns-3 : tie.Need-returns-3
 returns-3 c =
     let g = c .before .before in
     let f = year-fits (k g) in
     let h = last-fits (k g) in
-    let y = s (k g) .fits .next in (
-      λ place b tracks. step-told g false (c .before .if1 .left) place b (c .close .result) ((simp toZ-ofZ at (c .close .ensures .0)) place b (t (k g)) tracks (told (k g))),
-      ahead g false (c .close .result) (c .before .if1 .left) (c .close .ensures .1),
-    )
+    let y = s (k g) .fits .next in
+    let r = c .close .result in
+    let passed = simp toZ-ofZ at (c .close .ensures) in
+    record {
+      told = λ place b tracks. step-told g (c .before .if1 .left) place b r (passed .told place b (t (k g)) tracks (told (k g)));
+      advances = ahead g false r (c .before .if1 .left) (passed .within);
+    }
 
 pub pass-spec : {M : Type 1} → statement M
 pass-spec =

@@ -1,21 +1,21 @@
 -- Each line that is not refused leads to the next, and the first that is refused to its code and place.
 use borrow.Author.Needs.{needs}
-use mathlib.Core.Bool.{Bool, true, false, cond}
-use mathlib.Core.Path.{_≡_, sym, _∙_, ap, ap₂, subst}
-use Prim.Native.Nat.{ℕ, _+_, _-_, _≤_}
+use mathlib.Core.Bool.{Bool}
+use mathlib.Core.Path.{_≡_, sym, _∙_, ap, subst}
+use Prim.Native.Nat.{ℕ, _+_, _-_}
 use native.Mathlib.Omega.{arith}
-use lib.IntN.{ℤ, pos}
+use lib.IntN.{ℤ}
 use lib.ListN.{length, drop}
 use lib.Seq.{slice}
 use mir.Syntax.{w32}
 use mir.Val.{SFits, toZ, ofZ}
 use Rattle.base_exact.proofs.Word.{toZ-ofZ}
-use Rattle.base_outcome.specs.Outcome.{capped}
+use Rattle.base_outcome.specs.Outcome.{Outcome}
 use Rattle.base_text.specs.Bytes.{Text}
 use Rattle.spec_tucson.specs.Line.{linesOf}
-use Rattle.spec_tucson.specs.TextReading.{goesOn, readLine}
+use Rattle.spec_tucson.specs.TextReading.{goesOn, Step, readLine}
 use Rattle.tucson_lines.specs.Machine.{LineEnd}
-use Rattle.tucson_scan.specs.Scan.{Tracks, Told, Advances, Ahead}
+use Rattle.tucson_scan.specs.Scan.{Told, Advances, Ahead}
 use Rattle.tucson_scan.specs.declared.Passed.{Passed}
 use Rattle.tucson_scan.specs.declared.Scanned.the-variants.{Refused}
 use Rattle.tucson_scan.proofs.Counts.{Scans, scans-start, scans-end, scans-refused, scans-next}
@@ -23,7 +23,8 @@ use Rattle.tucson_scan.proofs.scan.Statement.{statement}
 use Rattle.tucson_scan.proofs.scan.Tie as tie
 
 abbrev Inv-loop : tie.InvT-loop
-Inv-loop text from₀ lines₀ series₀ total₀ begun₀ next₀ small₀ from lines series total begun next small = Scans text from lines series total begun (toZ w32 next) small
+Inv-loop text from₀ lines₀ series₀ total₀ begun₀ next₀ small₀ from lines series total begun next small =
+    Scans text from lines series total begun (toZ w32 next) small
 
 abbrev μ-loop : tie.MeasureT-loop
 μ-loop text from₀ lines₀ series₀ total₀ begun₀ next₀ small₀ from lines series total begun next small = length text - from
@@ -36,8 +37,11 @@ find-requires c κs = let i = c .before .loop .inv in omega (arith, i .within)
 
 -- a line
 module _ (c : tie.After-find Inv-loop μ-loop) where
+  abbrev s : tie.Start Inv-loop μ-loop
+  s = c .before .before .before .before
+
   abbrev text : Text
-  text = c .before .before .before .before .args .text .now
+  text = s .args .text .now
 
   abbrev from : ℕ
   from = c .before .before .loop .from
@@ -62,10 +66,15 @@ module _ (c : tie.After-pass Inv-loop μ-loop) where
   abbrev inv : Scans (text f) (from f) (l .loop .lines) (l .loop .series) (l .loop .total) (l .loop .begun) (toZ w32 (l .loop .next)) (l .loop .small)
   inv = l .loop .inv
 
-  step-told : (r : Passed) → c .pass .result ≡ r → Told (l .loop .lines) (inv .series-begun) (readLine (l .loop .lines) (inv .series-begun) (goesOn (slice (from f) (end f + 1) (text f)) (linesOf (drop (end f + 1) (text f)))) (slice (from f) (end f + 1) (text f))) r
-  step-told r e =
-      subst (Told (l .loop .lines) (inv .series-begun) (readLine (l .loop .lines) (inv .series-begun) (goesOn (slice (from f) (end f + 1) (text f)) (linesOf (drop (end f + 1) (text f)))) (slice (from f) (end f + 1) (text f)))) e
-      (c .pass .ensures .0 (l .loop .lines) (inv .series-begun) (inv .tracks))
+  abbrev line : Text
+  line = slice (from f) (end f + 1) (text f)
+
+  abbrev step : Outcome Step
+  step = readLine (l .loop .lines) (inv .series-begun) (goesOn line (linesOf (drop (end f + 1) (text f)))) line
+
+  step-told : {r : Passed} → c .pass .result ≡ r → Told (l .loop .lines) (inv .series-begun) step r
+  step-told e =
+      subst (Told (l .loop .lines) (inv .series-begun) step) e (c .pass .ensures .told (l .loop .lines) (inv .series-begun) (inv .tracks))
 
 -- a line that is not refused
 module _ (c : tie.After-whole Inv-loop μ-loop) where
@@ -88,20 +97,17 @@ module _ (c : tie.After-whole Inv-loop μ-loop) where
   year-fits = record { sfits = c .before .known-told2 .given .1 .1 .0 .1 }
 
   ahead : Ahead (text (f p)) (from (f p)) (end (f p)) more n
-  ahead = subst (Advances (text (f p)) (from (f p)) (end (f p))) (c .before .before .passed2 .given .1) (p .pass .ensures .1)
+  ahead = subst (Advances (text (f p)) (from (f p)) (end (f p))) (c .before .before .passed2 .given .1) (p .pass .ensures .advances)
 
-  one-at-most : c .whole .result ≤ 1
-  one-at-most = rw (c .whole .ensures) (go more)
-    where
-      go : (b : Bool) → cond b 0 1 ≤ 1
-      go true = omega arith
-      go false = omega arith
-
-  scans : Scans (text (f p)) (end (f p) + 1) (l p .loop .lines + 1) (l p .loop .series + c .whole .result) (l p .loop .total + n) more (toZ w32 (ofZ w32 year)) all
+  scans : Scans (text (f p)) (end (f p) + 1) (l p .loop .lines + 1) (l p .loop .series + c .whole .result) (l p .loop .total + n) more
+      (toZ w32 (ofZ w32 year)) all
   scans =
       let y = year-fits in
-      simp toZ-ofZ (subst (λ (k : ℕ). Scans (text (f p)) (end (f p) + 1) (l p .loop .lines + 1) (l p .loop .series + k) (l p .loop .total + n) more year all) (sym (c .whole .ensures))
-      (scans-next (text (f p)) (from (f p)) (l p .loop .lines) (l p .loop .series) (l p .loop .total) (l p .loop .begun) (toZ w32 (l p .loop .next)) (l p .loop .small) (inv p) (end (f p)) (line-end (f p)) (f p .before .loop-test .taken) more n year all (step-told p _ (c .before .before .passed2 .given .1)) ahead))
+      let told = step-told p (c .before .before .passed2 .given .1) in
+      simp toZ-ofZ (subst
+      (λ (k : ℕ). Scans (text (f p)) (end (f p) + 1) (l p .loop .lines + 1) (l p .loop .series + k) (l p .loop .total + n) more year all)
+      (sym (c .whole .ensures))
+      (scans-next (inv p) (line-end (f p)) (f p .before .loop-test .taken) told ahead))
 
 enum-known-passed : tie.Need-enum-known-passed Inv-loop μ-loop
 enum-known-passed c = search needs
@@ -113,7 +119,7 @@ returns : tie.Need-returns Inv-loop μ-loop
 returns c =
     let p = c .before .before .before .before in
     let k = f p in
-    let h = scans-refused (text k) (from k) (l p .loop .lines) (l p .loop .series) (l p .loop .total) (l p .loop .begun) (toZ w32 (l p .loop .next)) (l p .loop .small) (inv p) (end k) (line-end k) (k .before .loop-test .taken) _ (step-told p _ (c .before .before .passed .given .1)) in
+    let h = scans-refused (inv p) (line-end k) (k .before .loop-test .taken) (step-told p (c .before .before .passed .given .1)) in
     ap (Refused (c .before .before .passed .given .0 .0)) (c .place .ensures) ∙ h
 
 enum-known-passed-2 : tie.Need-enum-known-passed-2 Inv-loop μ-loop
@@ -123,16 +129,16 @@ whole-requires : tie.Need-whole-requires Inv-loop μ-loop
 whole-requires c κs = search needs
 
 add-series : tie.Need-add-series Inv-loop μ-loop
-add-series c = omega (arith, inv (p c) .few-series, inv (p c) .few-widths, inv (p c) .few-lines, ahead c .ended, ahead c .longer, one-at-most c, c .before .before .before .before .before .before .before .before .before .good)
+add-series c = omega (arith, scans c .few-series, scans c .within, s (f (p c)) .good)
 
 add-total : tie.Need-add-total Inv-loop μ-loop
-add-total c = omega (arith, inv (p c) .few-series, inv (p c) .few-widths, inv (p c) .few-lines, ahead c .ended, ahead c .longer, one-at-most c, c .before .before .before .before .before .before .before .before .before .good)
+add-total c = omega (arith, scans c .few-widths, scans c .within, s (f (p c)) .good)
 
 add-from : tie.Need-add-from Inv-loop μ-loop
-add-from c = omega (arith, inv (p c) .few-series, inv (p c) .few-widths, inv (p c) .few-lines, ahead c .ended, ahead c .longer, one-at-most c, c .before .before .before .before .before .before .before .before .before .good)
+add-from c = omega (arith, scans c .within, s (f (p c)) .good)
 
 add-lines : tie.Need-add-lines Inv-loop μ-loop
-add-lines c = omega (arith, inv (p c) .few-series, inv (p c) .few-widths, inv (p c) .few-lines, ahead c .ended, ahead c .longer, one-at-most c, c .before .before .before .before .before .before .before .before .before .good)
+add-lines c = omega (arith, scans c .few-lines, scans c .within, s (f (p c)) .good)
 
 loop-less : tie.Need-loop-less Inv-loop μ-loop
 loop-less c = let e = f (p c) .before .loop-test .taken in omega (arith, ahead c .longer, ahead c .ended)
@@ -141,7 +147,7 @@ loop-again : tie.Need-loop-again Inv-loop μ-loop
 loop-again c = scans c
 
 returns-2 : tie.Need-returns-2 Inv-loop μ-loop
-returns-2 c = let s = c .before .before .before in scans-end (s .args .text .now) _ _ _ _ _ _ _ (c .before .loop .inv) (c .loop-test .left)
+returns-2 c = scans-end (c .before .loop .inv) (c .loop-test .left)
 
 pub scan-spec : {M : Type 1} → statement M
 scan-spec =

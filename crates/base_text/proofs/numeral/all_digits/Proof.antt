@@ -54,4 +54,6 @@ returns-3 c =
     sym (c .before .loop .inv .1 ∙ ap (λ (n : ℕ). allDigits (slice n (s .args .to) (s .args .text .now))) e ∙ digits-end (s .args .text .now) (s .args .to))
 
 pub all-digits-spec : {M : Type 1} → statement M
-all-digits-spec = tie.close (tie.spec Inv-loop μ-loop loop-holds shared-slice-read-if1 returns shared-slice-read-if2 returns-2 add-i loop-less loop-again returns-3)
+all-digits-spec =
+    tie.close (tie.spec Inv-loop μ-loop loop-holds shared-slice-read-if1 returns shared-slice-read-if2 returns-2 add-i loop-less loop-again
+    returns-3)

@@ -2,6 +2,7 @@
 use mathlib.Core.Path.{_≡_, refl, sym, _∙_, ap}
 use mathlib.Core.Bool.{true}
 use mathlib.Core.List.{List}
+use Rattle.base_text.specs.Bytes.{Text}
 use Prim.Native.Nat.{ℕ, _+_, _-_, _*_, _≤_, _<_}
 use native.Mathlib.Omega.{arith}
 use lib.ListN.{getD}
@@ -11,14 +12,19 @@ use Rattle.base_text.proofs.Digits.{natural-parts, natural-small, digit
 use Rattle.base_text.proofs.numeral.digits_value.Statement.{statement}
 use Rattle.base_text.proofs.numeral.digits_value.Tie as tie
 
+record Reading (text : Text) (from to v i : ℕ) : Type 0 where
+  within : i ≤ to
+  value-left : digitsValue 0 (slice from to text) ≡ digitsValue v (slice i to text)
+  digits-left : allDigits (slice i to text) ≡ true
+
 abbrev Inv-loop : tie.InvT-loop
-Inv-loop text from to v₀ i₀ v i = (i ≤ to) × (digitsValue 0 (slice from to text) ≡ digitsValue v (slice i to text)) × (allDigits (slice i to text) ≡ true)
+Inv-loop text from to v₀ i₀ v i = Reading text from to v i
 
 abbrev μ-loop : tie.MeasureT-loop
 μ-loop text from to v₀ i₀ v i = to - i
 
 loop-holds : tie.Need-loop-holds Inv-loop μ-loop
-loop-holds c = (c .pre .0 .ordered, refl, natural-parts _ (c .pre .1) .2)
+loop-holds c = record { within = c .pre .part .ordered; value-left = refl; digits-left = natural-parts _ (c .pre .natural) .2 }
 
 -- a turn's digit, and the number behind it
 module _ (c : tie.In-loop Inv-loop μ-loop) where
@@ -35,13 +41,13 @@ module _ (c : tie.In-loop Inv-loop μ-loop) where
   next = c .before .loop .v * 10 + (getD text i 0 - 48)
 
   digit : (48 ≤ getD text i 0) × (getD text i 0 ≤ 57)
-  digit = digits-first text i to (c .loop-test .taken) (c .before .before .pre .0 .within) (c .before .loop .inv .2)
+  digit = digits-first text i to (c .loop-test .taken) (c .before .before .pre .part .within) (c .before .loop .inv .digits-left)
 
   value : digitsValue 0 (slice (c .before .before .args .from) to text) ≡ digitsValue next (slice (i + 1) to text)
-  value = c .before .loop .inv .1 ∙ value-next text i to (c .loop-test .taken) (c .before .before .pre .0 .within) (c .before .loop .v)
+  value = c .before .loop .inv .value-left ∙ value-next text i to (c .loop-test .taken) (c .before .before .pre .part .within) (c .before .loop .v)
 
   small : next < 10000000
-  small = omega (arith, value, value-grows next (slice (i + 1) to text), natural-small _ (c .before .before .pre .1))
+  small = omega (arith, value, value-grows next (slice (i + 1) to text), natural-small _ (c .before .before .pre .natural))
 
 mul-v : tie.Need-mul-v Inv-loop μ-loop
 mul-v c = omega (arith, small c)
@@ -66,14 +72,20 @@ loop-less c = omega arith
 
 loop-again : tie.Need-loop-again Inv-loop μ-loop
 loop-again c =
-    let l = c .before .before in
-    (omega arith, value (c .before), digits-rest (text (c .before)) (i (c .before)) (to (c .before)) (omega arith) (l .before .pre .0 .within) (l .loop .inv .2))
+    let t = c .before in
+    let l = t .before in
+    record {
+      within = omega arith;
+      value-left = value t;
+      digits-left = digits-rest (text t) (i t) (to t) (omega arith) (l .before .pre .part .within) (l .loop .inv .digits-left);
+    }
 
 returns : tie.Need-returns Inv-loop μ-loop
 returns c =
     let s = c .before .before in
     let e : c .before .loop .i ≡ s .args .to = omega arith in
-    sym (c .before .loop .inv .1 ∙ ap (λ (n : ℕ). digitsValue (c .before .loop .v) (slice n (s .args .to) (s .args .text .now))) e ∙ value-end _ (s .args .text .now) (s .args .to))
+    sym (c .before .loop .inv .value-left ∙ ap (λ (n : ℕ). digitsValue (c .before .loop .v) (slice n (s .args .to) (s .args .text .now))) e
+    ∙ value-end _ (s .args .text .now) (s .args .to))
 
 pub digits-value-spec : {M : Type 1} → statement M
 digits-value-spec = tie.close (tie.spec Inv-loop μ-loop loop-holds mul-v shared-slice-read-v sub-v cast-v add-v add-i loop-less loop-again returns)

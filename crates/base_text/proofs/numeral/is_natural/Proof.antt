@@ -17,12 +17,16 @@ sub-n c = search needs
 returns : tie.Need-returns
 returns c =
     let s = c .before .before in
-    sym (natural-short (slice (s .args .from) (s .args .to) (s .args .text .now)) (omega (arith, length-slice (s .args .from) (s .args .to) (s .args .text .now) (s .pre .within))))
+    sym
+    (natural-short (slice (s .args .from) (s .args .to) (s .args .text .now))
+    (omega (arith, length-slice (s .args .from) (s .args .to) (s .args .text .now) (s .pre .within))))
 
 returns-2 : tie.Need-returns-2
 returns-2 c =
     let s = c .before .before .before in
-    sym (natural-long (slice (s .args .from) (s .args .to) (s .args .text .now)) (omega (arith, length-slice (s .args .from) (s .args .to) (s .args .text .now) (s .pre .within))))
+    sym
+    (natural-long (slice (s .args .from) (s .args .to) (s .args .text .now))
+    (omega (arith, length-slice (s .args .from) (s .args .to) (s .args .text .now) (s .pre .within))))
 
 shared-slice-read-if4 : tie.Need-shared-slice-read-if4
 shared-slice-read-if4 c = search needs
@@ -30,7 +34,9 @@ shared-slice-read-if4 c = search needs
 returns-3 : tie.Need-returns-3
 returns-3 c =
     let s = c .before .before .before .before .before .before in
-    sym (natural-spare (slice (s .args .from) (s .args .to) (s .args .text .now)) (spare-first (s .args .text .now) (s .args .from) (s .args .to) (omega arith) (s .pre .within) ∙ eq-eqb _ _ (c .if4 .taken)))
+    sym
+    (natural-spare (slice (s .args .from) (s .args .to) (s .args .text .now))
+    (spare-first (s .args .text .now) (s .args .from) (s .args .to) (omega arith) (s .pre .within) ∙ eq-eqb _ _ (c .if4 .taken)))
 
 all-digits-requires : tie.Need-all-digits-requires
 all-digits-requires c κs = search needs
@@ -43,7 +49,8 @@ returns-4 c =
     let to = s .args .to in
     let size = length-slice from to text (s .pre .within) in
     let spare : spareZero (slice from to text) ≡ false =
-    ⊎-elim (λ w. spare-first text from to (omega arith) (s .pre .within) ∙ ne-eqb _ _ (w .2 .left)) (λ w. spare-short (slice from to text) (omega arith)) (c .before .if3 .came) in
+    ⊎-elim (λ w. spare-first text from to (omega arith) (s .pre .within) ∙ ne-eqb _ _ (w .2 .left))
+    (λ w. spare-short (slice from to text) (omega arith)) (c .before .if3 .came) in
     c .all-digits .ensures ∙ sym (natural-digits (slice from to text) (omega arith) (omega arith) spare)
 
 pub is-natural-spec : {M : Type 1} → statement M

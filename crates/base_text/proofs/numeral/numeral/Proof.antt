@@ -79,14 +79,16 @@ add-digits-value : tie.Need-add-digits-value
 add-digits-value c = search needs
 
 digits-value-requires : tie.Need-digits-value-requires
-digits-value-requires c κs = (search needs, sym (c .before .is-natural .ensures) ∙ c .if3 .taken)
+digits-value-requires c κs = record { part = search needs; natural = sym (c .before .is-natural .ensures) ∙ c .if3 .taken }
 
 returns-2 : tie.Need-returns-2
 unfolding field
 returns-2 c =
     let d = c .before in
     let s = start d in
-    sym (ap field (minus-zero (text s) (from s) (to s) (before s) (within s) (d .before .before .before .if2 .taken) (natural d) (omega (arith, small d, d .digits-value .ensures))))
+    sym
+    (ap field (minus-zero (text s) (from s) (to s) (before s) (within s) (d .before .before .before .if2 .taken) (natural d)
+    (omega (arith, small d, d .digits-value .ensures))))
 
 cast-t12 : tie.Need-cast-t12
 cast-t12 c = omega (arith, small (c .before))
@@ -105,19 +107,23 @@ returns-3 c =
     let fits : SFits w32 (pos 0 -ℤ pos v) = sfits-abs {w = w32} (omega (arith, small d, abs-sub (pos 0) (pos v))) in
     simp (toZ-pos w32 v (omega (arith, small d)), toZ-ofZ)
     (ap (λ (n : ℕ). Numeral (pos 0 -ℤ pos n)) (d .digits-value .ensures)
-    ∙ sym (ap field (minus-numeral (text s) (from s) (to s) (before s) (within s) (d .before .before .before .if2 .taken) (natural d) (λ e. c .if4 .left (d .digits-value .ensures ∙ e)))))
+    ∙ sym
+    (ap field (minus-numeral (text s) (from s) (to s) (before s) (within s) (d .before .before .before .if2 .taken) (natural d)
+    (λ e. c .if4 .left (d .digits-value .ensures ∙ e)))))
 
 returns-4 : tie.Need-returns-4
 unfolding field
 returns-4 c =
     let s = c .before .before .before .before in
-    sym (ap field (minus-bad (text s) (from s) (to s) (before s) (within s) (c .before .before .if2 .taken) (sym (c .before .is-natural .ensures) ∙ c .if3 .left)))
+    sym
+    (ap field (minus-bad (text s) (from s) (to s) (before s) (within s) (c .before .before .if2 .taken) (sym (c .before .is-natural .ensures)
+    ∙ c .if3 .left)))
 
 is-natural-requires-2 : tie.Need-is-natural-requires-2
 is-natural-requires-2 c κs = search needs
 
 digits-value-requires-2 : tie.Need-digits-value-requires-2
-digits-value-requires-2 c κs = (search needs, sym (c .before .is-natural2 .ensures) ∙ c .if5 .taken)
+digits-value-requires-2 c κs = record { part = search needs; natural = sym (c .before .is-natural2 .ensures) ∙ c .if5 .taken }
 
 cast-t16 : tie.Need-cast-t16
 cast-t16 c = omega (arith, small2 c)
@@ -135,7 +141,9 @@ returns-6 : tie.Need-returns-6
 unfolding field
 returns-6 c =
     let s = c .before .before .before .before in
-    sym (ap field (plain-bad (text s) (from s) (to s) (before s) (within s) (c .before .before .if2 .left) (sym (c .before .is-natural2 .ensures) ∙ c .if5 .left)))
+    sym
+    (ap field (plain-bad (text s) (from s) (to s) (before s) (within s) (c .before .before .if2 .left) (sym (c .before .is-natural2 .ensures)
+    ∙ c .if5 .left)))
 
 pub numeral-spec : {M : Type 1} → statement M
 numeral-spec =
