@@ -12,7 +12,7 @@ use borrow.Author.Tests.{le-leb, lt-leb, lt-ltb, le-ltb}
 use Rattle.base_exact.proofs.Decide.{le-or-lt}
 use Rattle.base_exact.proofs.Tabulate.{tab-length, tab-getD}
 use Rattle.base_text.specs.Bytes.{Text}
-use Rattle.base_print.specs.Buffer.{written, Puts}
+use Rattle.base_print.specs.Buffer.{written, Puts, Prints}
 
 pub written-length : (at : ℕ) (t : Text) (out : List ℕ) → length (written at t out) ≡ length out
 unfolding written
@@ -32,7 +32,8 @@ unfolding written
 written-behind at t out k h l m = tab-getD (length out) _ k 0 h ∙ rw (le-leb at k l, le-ltb k (at + length t) m)
 
 -- two writings into buffers that agree at each cell
-written-ext : (at : ℕ) (t : Text) (out all : List ℕ) → length all ≡ length out → ((k : ℕ) → k < length out → getD all k 0 ≡ getD (written at t out) k 0) → all ≡ written at t out
+written-ext : (at : ℕ) (t : Text) (out all : List ℕ) → length all ≡ length out
+    → ((k : ℕ) → k < length out → getD all k 0 ≡ getD (written at t out) k 0) → all ≡ written at t out
 written-ext at t out all e h = ext-getD 0 all (written at t out) (e ∙ sym (written-length at t out)) (λ k l. h k (omega arith))
 
 pub written-none : (at : ℕ) (out : List ℕ) → out ≡ written at [] out
@@ -124,7 +125,8 @@ written-byte-past at b out h = sym (set-out out at b h) ∙ written-byte at b ou
 pub puts-none : (at : ℕ) (out : List ℕ) → Puts 0 at [] out out at
 puts-none at out = record { contents = written-none at out; behind = omega arith; near = omega arith }
 
-pub puts-then : {l m at : ℕ} {a b : Text} {out mid end : List ℕ} {next last : ℕ} → Puts l at a out mid next → Puts m next b mid end last → Puts (l + m) at (a ++ b) out end last
+pub puts-then : {l m at : ℕ} {a b : Text} {out mid end : List ℕ} {next last : ℕ} → Puts l at a out mid next → Puts m next b mid end last
+    → Puts (l + m) at (a ++ b) out end last
 puts-then {l} {m} {at} {a} {b} {out} {mid} {end} {next} {last} p q = record {
   contents = q .contents ∙ ap (λ j. written j b mid) (p .behind) ∙ ap (written (at + length a) b) (p .contents) ∙ written-append at a b out;
   behind = omega (arith, p .behind, q .behind, length-append a b);
@@ -143,8 +145,13 @@ pub puts-as : {l at : ℕ} {t u : Text} {out end : List ℕ} {next : ℕ} → t 
 puts-as e p = rw e at p
 
 -- ---- a text from the buffer's start on, with its length
-pub written-as : {t u : Text} (out : List ℕ) {end : List ℕ} {count : ℕ} → t ≡ u → count ≡ length t → end ≡ written 0 t out → (count ≡ length u) × (end ≡ written 0 u out)
-written-as out e p q = (p ∙ ap length e, q ∙ ap (λ v. written 0 v out) e)
+pub prints-as : {limit most : ℕ} {t u : Text} {out end : List ℕ} {count : ℕ} → t ≡ u → count ≤ most → Prints limit t out end count
+    → Prints most u out end count
+prints-as {out = out} e h p = record { count-is = p .count-is ∙ ap length e; contents = p .contents ∙ ap (λ v. written 0 v out) e; few = h }
 
-pub puts-whole : {l : ℕ} {t u : Text} {out end : List ℕ} {count : ℕ} → t ≡ u → Puts l 0 t out end count → (count ≡ length u) × (end ≡ written 0 u out)
-puts-whole {out} e p = written-as out e (p .behind ∙ zero-add _) (p .contents)
+pub puts-whole : {limit : ℕ} {t u : Text} {out end : List ℕ} {count : ℕ} → t ≡ u → Puts limit 0 t out end count → Prints limit u out end count
+puts-whole {out = out} e p = record {
+  count-is = p .behind ∙ zero-add _ ∙ ap length e;
+  contents = p .contents ∙ ap (λ v. written 0 v out) e;
+  few = omega (arith, p .near);
+}

@@ -18,3 +18,9 @@ pub record Puts (limit at : ℕ) (text : Text) (before after : List ℕ) (next :
   pub contents : after ≡ written at text before
   pub behind : next ≡ at + length text
   pub near : next ≤ at + limit
+
+-- What a printing function leaves from the buffer's start on: the text, and its length, which is at most `limit`.
+pub record Prints (limit : ℕ) (text : Text) (before after : List ℕ) (count : ℕ) : Type 0 where
+  pub count-is : count ≡ length text
+  pub contents : after ≡ written 0 text before
+  pub few : count ≤ limit

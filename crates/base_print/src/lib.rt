@@ -6,7 +6,7 @@ ghost use mathlib.Core.List.{[], _∷_};
 ghost use Prim.Native.Nat.{_^_, _<_, _≤_};
 ghost use lib.ListN.{length};
 ghost use Rattle.base_text.specs.Numeral.{digits, decimal};
-ghost use Rattle.base_print.specs.Buffer.{written, Puts};
+ghost use Rattle.base_print.specs.Buffer.{Puts, Prints};
 ghost use Rattle.base_print.specs.Refusal.{refusalLine, refusalLineLimit};
 
 // One byte.
@@ -79,9 +79,7 @@ pub fn put_decimal(out: &mut [u8], at: usize, z: i64) -> usize
 
 // The printout of a refusal: no=number,place
 pub fn refusal(code: u8, place: u32, out: &mut [u8]) -> usize
-    ensures { λ r. ⌜ r ≡ length (refusalLine code place) ⌝ }
-    ensures { λ r. ⌜ now (out .exit) ≡ written 0 (refusalLine code place) (now (out .entry)) ⌝ }
-    ensures { λ r. ⌜ r ≤ refusalLineLimit ⌝ }
+    ensures { λ r. ⌜ Prints refusalLineLimit (refusalLine code place) (now (out .entry)) (now (out .exit)) r ⌝ }
 {
     let a = put_text(out, 0, b"no=");
     let b = put_digits(out, a, code as u64);

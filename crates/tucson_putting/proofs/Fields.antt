@@ -21,7 +21,8 @@ use Rattle.theorems_tucson.proofs.ReadsBack.{width-fits, widths-fit}
 pub fields-append : (fs gs : List ℤ) → fieldsText (fs ++ gs) ≡ fieldsText fs ++ fieldsText gs
 unfolding fieldsText
 fields-append [] gs = refl
-fields-append (f ∷ fs) gs = ap (λ (t : Text). columns fieldColumns f ++ t) (fields-append fs gs) ∙ sym (append-assoc (columns fieldColumns f) (fieldsText fs) (fieldsText gs))
+fields-append (f ∷ fs) gs = ap (λ (t : Text). columns fieldColumns f ++ t) (fields-append fs gs)
+    ∙ sym (append-assoc (columns fieldColumns f) (fieldsText fs) (fieldsText gs))
 
 pub fields-one : (f : ℤ) → fieldsText (f ∷ []) ≡ columns fieldColumns f
 unfolding fieldsText

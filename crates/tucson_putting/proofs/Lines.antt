@@ -19,7 +19,7 @@ use Rattle.theorems_tucson.proofs.Columns.{year-fits, fits-length, columns-leng
 use Rattle.theorems_tucson.proofs.Lines.{name-parts}
 use Rattle.theorems_tucson.proofs.InDecades.{widths-parts}
 use Rattle.tucson_series.specs.Sizes.{series, yearsLeft, yearAt, mostLeft, headBytes, lineBytes}
-use Rattle.tucson_putting.specs.Putting.{line, begun}
+use Rattle.tucson_putting.specs.Putting.{line, begun, LineFits}
 use Rattle.tucson_series.proofs.Years.{year-at, year-dated, years-later-at, room-at}
 use Rattle.tucson_putting.proofs.Fields.{fields-append, fields-one, widths-take, widths-length}
 
@@ -31,16 +31,29 @@ year-length y e = fits-length 2 y (year-fits y e)
 pub closing-length : length (decimal thousandths) ≤ fieldColumns
 closing-length = fits-length 4 thousandths (omega arith)
 
-pub begun-length : (name : Text) (y : ℤ) (ws : List ℤ) → isName name ≡ true → between leastYear greatestYear y ≡ true → allWidths ws ≡ true → length (begun name y ws) ≡ headBytes + length ws * fieldColumns
+pub begun-length : (name : Text) (y : ℤ) (ws : List ℤ) → isName name ≡ true → between leastYear greatestYear y ≡ true → allWidths ws ≡ true
+    → length (begun name y ws) ≡ headBytes + length ws * fieldColumns
 begun-length name y ws n e a =
     length-append name (columns yearColumns y ++ fieldsText ws)
-    ∙ omega (arith, name-parts name n .0, length-append (columns yearColumns y) (fieldsText ws), columns-length yearColumns y (year-length y e), widths-length ws a)
+    ∙ omega (
+      arith,
+      name-parts name n .0,
+      length-append (columns yearColumns y) (fieldsText ws),
+      columns-length yearColumns y (year-length y e),
+      widths-length ws a,
+    )
+
+-- the same of a line that fits
+pub begun-size : {name : Text} {y : ℤ} {ws : List ℤ} {bytes at room : ℕ} → LineFits name y ws bytes at room
+    → length (begun name y ws) ≡ headBytes + length ws * fieldColumns
+begun-size {name} {y} {ws} f = begun-length name y ws (f .named) (f .dated) (f .allowed)
 
 pub line-ends : (name : Text) (y : ℤ) (ws : List ℤ) → begun name y ws ++ (newline ∷ []) ≡ lineText (line name y ws)
 unfolding lineText
 line-ends name y ws = simp append-assoc
 
-pub line-closes : (name : Text) (y : ℤ) (ws : List ℤ) → begun name y ws ++ (columns fieldColumns thousandths ++ (newline ∷ [])) ≡ lineText (line name y (ws ++ (thousandths ∷ [])))
+pub line-closes : (name : Text) (y : ℤ) (ws : List ℤ) → begun name y ws ++ (columns fieldColumns thousandths ++ (newline ∷ []))
+    ≡ lineText (line name y (ws ++ (thousandths ∷ [])))
 unfolding lineText
 line-closes name y ws = rw (fields-append ws (thousandths ∷ []), fields-one thousandths) (simp append-assoc)
 
@@ -52,7 +65,12 @@ module _ (name : Text) (y : ℤ) (ws : List ℤ) (n : isName name ≡ true) (e :
   last-length =
       ap length (sym (line-closes name y ws))
       ∙ length-append (begun name y ws) (columns fieldColumns thousandths ++ (newline ∷ []))
-      ∙ omega (arith, begun-length name y ws n e a, length-append (columns fieldColumns thousandths) (newline ∷ []), columns-length fieldColumns thousandths closing-length)
+      ∙ omega (
+        arith,
+        begun-length name y ws n e a,
+        length-append (columns fieldColumns thousandths) (newline ∷ []),
+        columns-length fieldColumns thousandths closing-length,
+      )
 
 -- ---- parts of allowed widths
 
@@ -67,7 +85,8 @@ widths-slice from to ws h = widths-drop from (take to ws) (widths-take to ws h)
 -- ---- the first line of those to come
 
 -- a full line
-lines-full : (c : ℤ) (room : ℕ) (vs : List ℤ) → room < length vs → inLines room (vs ++ (c ∷ [])) ≡ take (suc room) vs ∷ inLines (decade - 1) (drop (suc room) vs ++ (c ∷ []))
+lines-full : (c : ℤ) (room : ℕ) (vs : List ℤ) → room < length vs
+    → inLines room (vs ++ (c ∷ [])) ≡ take (suc room) vs ∷ inLines (decade - 1) (drop (suc room) vs ++ (c ∷ []))
 unfolding inLines
 lines-full c zero [] h = absurd (omega arith)
 lines-full c zero (v ∷ vs) h = refl
@@ -111,30 +130,41 @@ module _ (name : Text) (ws : List ℤ) where
     after-are : drop (suc (left % decade)) (drop from ws) ≡ drop to ws
     after-are = drop-drop (suc (left % decade)) from ws ∙ ap (λ (n : ℕ). drop n ws) (let e : from + suc (left % decade) ≡ to = omega arith in e)
 
-    pub rest-full : left % decade < length ws - from → length ws - from ≤ left → rest left from ≡ lineText (line name (yearAt left) (slice from to ws)) ++ rest (left - (to - from)) to
+    pub rest-full : left % decade < length ws - from → length ws - from ≤ left
+        → rest left from ≡ lineText (line name (yearAt left) (slice from to ws)) ++ rest (left - (to - from)) to
     unfolding linesText linesFrom
     rest-full h enough =
+        let fs = slice from to ws in
+        let first = line name (yearAt left) fs in
+        let later : left - length fs ≡ left - (to - from) = omega (arith, slice-length h) in
         ap (λ (ls : List (List ℤ)). linesText (linesFrom name (yearAt left) ls))
         (lines-full thousandths (left % decade) (drop from ws) (omega (arith, length-drop from ws))
         ∙ ap₂ (λ (fs vs : List ℤ). fs ∷ inLines (decade - 1) (vs ++ (thousandths ∷ []))) fields-are after-are)
-        ∙ ap₂ (λ (x : ℤ) (room : ℕ). lineText (line name (yearAt left) (slice from to ws)) ++ linesText (linesFrom name x (inLines room (drop to ws ++ (thousandths ∷ [])))))
-        (years-later-at left (length (slice from to ws)) (omega (arith, slice-length h)) ∙ ap yearAt (let e : left - length (slice from to ws) ≡ left - (to - from) = omega (arith, slice-length h) in e))
+        ∙ ap₂ (λ (x : ℤ) (room : ℕ). lineText first ++ linesText (linesFrom name x (inLines room (drop to ws ++ (thousandths ∷ [])))))
+        (years-later-at left (length fs) (omega (arith, slice-length h)) ∙ ap yearAt later)
         (let e : decade - 1 ≡ (left - (to - from)) % decade = omega arith in e)
 
     pub rest-last : length ws - from ≤ left % decade → rest left from ≡ lineText (line name (yearAt left) (drop from ws ++ (thousandths ∷ [])))
     unfolding linesText linesFrom
     rest-last h =
-        ap (λ (ls : List (List ℤ)). linesText (linesFrom name (yearAt left) ls)) (lines-last thousandths (left % decade) (drop from ws) (omega (arith, length-drop from ws)))
+        ap (λ (ls : List (List ℤ)). linesText (linesFrom name (yearAt left) ls))
+        (lines-last thousandths (left % decade) (drop from ws) (omega (arith, length-drop from ws)))
         ∙ append-nil (lineText (line name (yearAt left) (drop from ws ++ (thousandths ∷ []))))
 
   -- their bytes
   module _ (left from : ℕ) (within : from ≤ length ws) (named : isName name ≡ true) (allowed : allWidths ws ≡ true) (few : left ≤ mostLeft) where
-    pub full-bytes : left % decade < length ws - from → length ws - from ≤ left → length (rest left from) ≡ lineBytes + length (slice from (from + left % decade + 1) ws) * fieldColumns + length (rest (left - (from + left % decade + 1 - from)) (from + left % decade + 1))
+    abbrev line-end : ℕ
+    line-end = to left from within
+
+    pub full-bytes : left % decade < length ws - from → length ws - from ≤ left
+        → length (rest left from) ≡ lineBytes + length (slice from line-end ws) * fieldColumns + length (rest (left - (line-end - from)) line-end)
     full-bytes h enough =
-        let fs = slice from (from + left % decade + 1) ws in
+        let fs = slice from line-end ws in
         ap length (rest-full left from within h enough)
-        ∙ length-append (lineText (line name (yearAt left) fs)) (rest (left - (from + left % decade + 1 - from)) (from + left % decade + 1))
-        ∙ omega (arith, line-length name (yearAt left) fs named (year-at left few) (widths-slice from (from + left % decade + 1) ws allowed))
+        ∙ length-append (lineText (line name (yearAt left) fs)) (rest (left - (line-end - from)) line-end)
+        ∙ omega (arith, line-length name (yearAt left) fs named (year-at left few) (widths-slice from line-end ws allowed))
 
     pub last-bytes : length ws - from ≤ left % decade → length (rest left from) ≡ lineBytes + fieldColumns + length (drop from ws) * fieldColumns
-    last-bytes h = ap length (rest-last left from within h) ∙ last-length name (yearAt left) (drop from ws) named (year-at left few) (widths-drop from ws allowed)
+    last-bytes h =
+        ap length (rest-last left from within h) ∙ last-length name (yearAt left) (drop from ws) named (year-at left few)
+        (widths-drop from ws allowed)

@@ -18,7 +18,8 @@ use Rattle.tucson_putting.specs.Putting.{Wrote}
 pub wrote-none : (at : ℕ) (out : List ℕ) → Wrote at [] out out at
 wrote-none at out = record { contents = written-none at out; behind = omega arith }
 
-pub wrote-then : {at : ℕ} {a b : Text} {out mid end : List ℕ} {next last : ℕ} → Wrote at a out mid next → Wrote next b mid end last → Wrote at (a ++ b) out end last
+pub wrote-then : {at : ℕ} {a b : Text} {out mid end : List ℕ} {next last : ℕ} → Wrote at a out mid next → Wrote next b mid end last
+    → Wrote at (a ++ b) out end last
 wrote-then {at} {a} {b} {out} {mid} {end} {next} {last} p q = record {
   contents = q .contents ∙ ap (λ j. written j b mid) (p .behind) ∙ ap (written (at + length a) b) (p .contents) ∙ written-append at a b out;
   behind = omega (arith, p .behind, q .behind, length-append a b);
@@ -57,7 +58,9 @@ module _ (t : Text) (out : List ℕ) (fits : length t ≤ length out) where
           ∙ sym (List·getD-append t (drop (length t) out) 0 k l)
 
   pub written-whole : written 0 t out ≡ overwritten t out
-  written-whole = ext-getD 0 (written 0 t out) (overwritten t out) (written-length 0 t out ∙ sym whole-length) (λ k h. whole-cell k (omega (arith, written-length 0 t out)))
+  written-whole =
+      ext-getD 0 (written 0 t out) (overwritten t out) (written-length 0 t out ∙ sym whole-length)
+      (λ k h. whole-cell k (omega (arith, written-length 0 t out)))
 
 -- ---- blanks
 

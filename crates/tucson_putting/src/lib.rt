@@ -1,17 +1,15 @@
 // The text of series that can be written and have room, from an index on. Each function answers the index after its text.
 ghost use mathlib.Core.Path.{_≡_};
-ghost use mathlib.Core.Bool.{true};
 ghost use mathlib.Core.List.{[], _∷_, _++_};
-ghost use mathlib.Core.Option.{none};
-ghost use Prim.Native.Nat.{_+_, _*_, _≤_};
+ghost use Prim.Native.Nat.{_+_, _≤_};
 ghost use lib.ListN.{length, replicate};
 ghost use Rattle.base_text.specs.Numeral.{decimal};
 ghost use Rattle.spec_tucson.specs.Columns.{blank, columns};
 ghost use Rattle.spec_tucson.specs.Line.{fieldColumns, thousandths};
-ghost use Rattle.spec_tucson.specs.Writing.{allWidths, fieldsText, lineText, linesText, seriesLines, written, unwritable};
-ghost use Rattle.spec_tucson.specs.WriteCall.{listsFit, seriesOf};
+ghost use Rattle.spec_tucson.specs.Writing.{fieldsText, lineText, linesText, seriesLines, written};
+ghost use Rattle.spec_tucson.specs.WriteCall.{seriesOf};
 ghost use Rattle.tucson_series.specs.Sizes.{series, headBytes, lineBytes, mostLeft, yearAt};
-ghost use Rattle.tucson_putting.specs.Putting.{Wrote, LineFits, SeriesFits, line, begun};
+ghost use Rattle.tucson_putting.specs.Putting.{Wrote, NumberFits, FieldsFit, LineFits, SeriesFits, AllFit, line, begun};
 use tucson_series::lists::NAME_COLUMNS;
 use tucson_series::room::DECADE;
 use tucson_series::room::FIELD_COLUMNS;
@@ -55,7 +53,7 @@ fn decimal_length(z: i64) -> usize
 
 // A number at the end of so many columns.
 fn put_columns(text: &mut [u8], at: usize, size: usize, z: i32) -> usize
-    requires { ⌜ (length (decimal z) ≤ size) × (at + size ≤ length (now text)) ⌝ }
+    requires { ⌜ NumberFits z size at (length (now text)) ⌝ }
     ensures { λ r. ⌜ Wrote at (columns size z) (now (text .entry)) (now (text .exit)) r ⌝ }
 {
     let number = z as i64;
@@ -66,7 +64,7 @@ fn put_columns(text: &mut [u8], at: usize, size: usize, z: i32) -> usize
 
 // Widths in six columns each.
 fn put_fields(text: &mut [u8], at: usize, widths: &[i32]) -> usize
-    requires { ⌜ (allWidths (now widths) ≡ true) × (at + length (now widths) * fieldColumns ≤ length (now text)) ⌝ }
+    requires { ⌜ FieldsFit (now widths) at (length (now text)) ⌝ }
     ensures { λ r. ⌜ Wrote at (fieldsText (now (widths .entry))) (now (text .entry)) (now (text .exit)) r ⌝ }
 {
     let mut next = at;
@@ -145,9 +143,7 @@ pub fn put_all(
     widths: &[i32],
     text: &mut [u8],
 ) -> usize
-    requires { ⌜ listsFit (now names) (now years) (now counts) (now widths) ≡ true ⌝ }
-    requires { ⌜ unwritable (seriesOf (now names) (now years) (now counts) (now widths)) ≡ none ⌝ }
-    requires { ⌜ length (written (seriesOf (now names) (now years) (now counts) (now widths))) ≤ length (now text) ⌝ }
+    requires { ⌜ AllFit (now names) (now years) (now counts) (now widths) (length (now text)) ⌝ }
     ensures { λ r. ⌜ Wrote 0 (written (seriesOf (now (names .entry)) (now (years .entry)) (now (counts .entry)) (now (widths .entry))))
         (now (text .entry)) (now (text .exit)) r ⌝ }
 {

@@ -21,7 +21,8 @@ use Rattle.tucson_series.proofs.Tests.{drop-step, drop-end}
 use Rattle.tucson_series.proofs.Sizes.{series-years, series-length}
 
 module _ (years : List ℤ) (counts : List ℕ) (k : ℕ) where
-  pub bytes-step : k < length years → k < length counts → textBytes (drop k years) (drop k counts) ≡ seriesBytes (getD years k (pos 0)) (getD counts k 0) + textBytes (drop (k + 1) years) (drop (k + 1) counts)
+  pub bytes-step : k < length years → k < length counts
+      → textBytes (drop k years) (drop k counts) ≡ seriesBytes (getD years k (pos 0)) (getD counts k 0) + textBytes (drop (k + 1) years) (drop (k + 1) counts)
   unfolding textBytes
   bytes-step h l = ap₂ textBytes (drop-step years k (pos 0) h) (drop-step counts k 0 l)
 
@@ -29,7 +30,8 @@ module _ (years : List ℤ) (counts : List ℕ) (k : ℕ) where
   unfolding textBytes
   bytes-end h l = ap (λ (ys : List ℤ). textBytes ys (drop k counts)) (drop-end years k h l)
 
-  pub closings-step : k < length years → k < length counts → closingsFit (drop k years) (drop k counts) ≡ true → (closingFits (getD years k (pos 0)) (getD counts k 0) ≡ true) × (closingsFit (drop (k + 1) years) (drop (k + 1) counts) ≡ true)
+  pub closings-step : k < length years → k < length counts → closingsFit (drop k years) (drop k counts) ≡ true
+      → (closingFits (getD years k (pos 0)) (getD counts k 0) ≡ true) × (closingsFit (drop (k + 1) years) (drop (k + 1) counts) ≡ true)
   unfolding closingsFit
   closings-step h l e =
       and-true (closingFits (getD years k (pos 0)) (getD counts k 0)) (closingsFit (drop (k + 1) years) (drop (k + 1) counts))
@@ -45,14 +47,17 @@ none-counted : (counts : List ℕ) → Counted [] counts []
 unfolding closingsFit textBytes written
 none-counted counts = record { closed = refl; bytes = refl }
 
-more-counted : (y : ℤ) (ys : List ℤ) (n : ℕ) (ns : List ℕ) (s : Series) (ss : List Series) → closingFits y n ≡ true → length (linesText (seriesLines s)) ≡ seriesBytes y n → Counted ys ns ss → Counted (y ∷ ys) (n ∷ ns) (s ∷ ss)
+more-counted : (y : ℤ) (ys : List ℤ) (n : ℕ) (ns : List ℕ) (s : Series) (ss : List Series)
+    → closingFits y n ≡ true → length (linesText (seriesLines s)) ≡ seriesBytes y n → Counted ys ns ss → Counted (y ∷ ys) (n ∷ ns) (s ∷ ss)
 unfolding closingsFit textBytes written
 more-counted y ys n ns s ss e b c = record {
   closed = ap₂ (λ (p q : Bool). p && q) e (c .closed);
   bytes = length-append (linesText (seriesLines s)) (written ss) ∙ ap₂ (λ (p q : ℕ). p + q) b (c .bytes);
 }
 
-pub all-counted : (years : List ℤ) (names : Text) (counts : List ℕ) (widths : List ℤ) (k : ℕ) (before : Text) → ListsFit names years counts widths → firstUnwritable k before (seriesOf names years counts widths) ≡ none → Counted years counts (seriesOf names years counts widths)
+pub all-counted : (years : List ℤ) (names : Text) (counts : List ℕ) (widths : List ℤ) (k : ℕ) (before : Text)
+    → ListsFit names years counts widths → firstUnwritable k before (seriesOf names years counts widths) ≡ none
+    → Counted years counts (seriesOf names years counts widths)
 unfolding seriesOf total
 all-counted [] names counts widths k before f e = none-counted counts
 all-counted (y ∷ years) names [] widths k before f e = absurd (omega (arith, f .counts-fit))

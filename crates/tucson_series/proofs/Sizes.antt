@@ -22,7 +22,8 @@ use Rattle.tucson_series.proofs.Years.{year-at, year-dated, years-later
 -- ---- years
 
 -- lines whose first year can't be written
-first-late : (name : Text) (y : ℤ) {c : ℤ} {room : ℕ} {lines : List (List ℤ)} {ws : List ℤ} → InDecades c room lines ws → between leastYear greatestYear y ≡ false → yearsFit (linesFrom name y lines) ≡ false
+first-late : (name : Text) (y : ℤ) {c : ℤ} {room : ℕ} {lines : List (List ℤ)} {ws : List ℤ} → InDecades c room lines ws
+    → between leastYear greatestYear y ≡ false → yearsFit (linesFrom name y lines) ≡ false
 unfolding linesFrom yearsFit
 first-late name y {c} (ends {ws = ws} l k) e = ap (λ (b : Bool). b && yearsFit (linesFrom name (y +ℤ pos (length (ws ++ (c ∷ [])))) [])) e
 first-late name y (goes {fs = fs} {more = more} l k d) e = ap (λ (b : Bool). b && yearsFit (linesFrom name (y +ℤ pos (length fs)) more)) e
@@ -54,7 +55,8 @@ full-years name {more} {ws} fs d left later = go (le-or-lt (length fs) left)
         first-late name (yearAt left +ℤ pos (length fs)) d (years-too-late left (length fs) m)
         ∙ sym (lt-leb (length (fs ++ ws)) left (omega (arith, length-append fs ws)))
 
-lines-years : (name : Text) {c : ℤ} {room : ℕ} {lines : List (List ℤ)} {ws : List ℤ} → InDecades c room lines ws → (left : ℕ) → left ≤ mostLeft → left % decade ≡ room → yearsFit (linesFrom name (yearAt left) lines) ≡ leb (length ws) left
+lines-years : (name : Text) {c : ℤ} {room : ℕ} {lines : List (List ℤ)} {ws : List ℤ} → InDecades c room lines ws → (left : ℕ) → left ≤ mostLeft
+    → left % decade ≡ room → yearsFit (linesFrom name (yearAt left) lines) ≡ leb (length ws) left
 unfolding linesFrom yearsFit
 lines-years name (ends {ws = ws} l k) left h e = ap (λ (b : Bool). b && true) (year-at left h) ∙ sym (le-leb (length ws) left (omega arith))
 lines-years name (goes {room = room} {fs = fs} {more = more} {ws = ws} l k d) left h e =
@@ -90,7 +92,8 @@ module _ (name : Text) (y : ℤ) (ws : List ℤ) (allowed : allWidths ws ≡ tru
 
 -- ---- bytes
 
-pub bytes-in-decades : {c : ℤ} {room : ℕ} {lines : List (List ℤ)} {ws : List ℤ} → room < decade → InDecades c room lines ws → bytesOf (sizes lines) ≡ (length ws + 1) * 6 + ((9 - room + length ws) / 10 + 1) * 13
+pub bytes-in-decades : {c : ℤ} {room : ℕ} {lines : List (List ℤ)} {ws : List ℤ} → room < decade → InDecades c room lines ws
+    → bytesOf (sizes lines) ≡ (length ws + 1) * 6 + ((9 - room + length ws) / 10 + 1) * 13
 bytes-in-decades {c} h (ends {ws = ws} l k) = omega (arith, length-append ws (c ∷ []))
 bytes-in-decades h (goes {fs = fs} {ws = ws} l k d) = omega (arith, length-append fs ws, bytes-in-decades (omega arith) d)
 
@@ -104,6 +107,7 @@ module _ (name : Text) (named : isName name ≡ true) (y : ℤ) (ws : List ℤ) 
   series-length =
       let r = room-is name y ws allowed series-dated in
       ap (λ (ls : List Line). length (linesText ls)) (lines-are name y ws allowed)
-      ∙ lines-length name named y (omega arith) (cut-lies name y ws allowed) (ap yearsFit (sym (lines-are name y ws allowed)) ∙ series-years name y ws allowed ∙ dated)
+      ∙ lines-length name named y (omega arith) (cut-lies name y ws allowed) (ap yearsFit (sym (lines-are name y ws allowed))
+      ∙ series-years name y ws allowed ∙ dated)
       ∙ bytes-in-decades (omega arith) (cut-lies name y ws allowed)
       ∙ ap (λ (n : ℕ). (length ws + 1) * 6 + ((9 - n + length ws) / 10 + 1) * 13) r

@@ -68,7 +68,8 @@ module _ (ws : List ℤ) (i : ℕ) (h : i < length ws) where
   unfolding allWidths
   widths-step = ap allWidths (drop-step ws i (pos 0) h)
 
-  pub widths-next : ltZ (getD ws i (pos 0)) (pos 0) ≡ false → ltZ (pos widthLimit) (getD ws i (pos 0)) ≡ false → allWidths (drop i ws) ≡ allWidths (drop (i + 1) ws)
+  pub widths-next : ltZ (getD ws i (pos 0)) (pos 0) ≡ false → ltZ (pos widthLimit) (getD ws i (pos 0)) ≡ false
+      → allWidths (drop i ws) ≡ allWidths (drop (i + 1) ws)
   unfolding isWidth
   widths-next a b = widths-step ∙ rw (leZ-not-ltZ (getD ws i (pos 0)) (pos 0), leZ-not-ltZ (pos widthLimit) (getD ws i (pos 0)), a, b)
 

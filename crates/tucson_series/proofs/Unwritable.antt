@@ -31,7 +31,8 @@ module _ (before name : Text) (y : ℤ) (ws : List ℤ) where
   unfolding isWritable
   not-dated a h = simp (series-years name y ws a ∙ h, and-false)
 
-  pub named-apart : isName name ≡ true → allWidths ws ≡ true → closingFits y (length ws) ≡ true → isWritable before (series name y ws) ≡ not (beginsWith name before)
+  pub named-apart : isName name ≡ true → allWidths ws ≡ true → closingFits y (length ws) ≡ true
+      → isWritable before (series name y ws) ≡ not (beginsWith name before)
   unfolding isWritable
   named-apart n a h = simp (n, series-years name y ws a ∙ h, a)
 
@@ -52,7 +53,8 @@ unwritable-none k before = refl
 
 -- ---- the text of series that can all be written
 
-pub writable-next : (k : ℕ) (before : Text) (s : Series) (ss : List Series) → firstUnwritable k before (s ∷ ss) ≡ none → CanBeWritten before s × (firstUnwritable (k + 1) (s .name) ss ≡ none)
+pub writable-next : (k : ℕ) (before : Text) (s : Series) (ss : List Series) → firstUnwritable k before (s ∷ ss) ≡ none
+    → CanBeWritten before s × (firstUnwritable (k + 1) (s .name) ss ≡ none)
 writable-next k before s ss e =
     let parts = first-parts k before s ss e in
     (parts .0, ap (λ (n : ℕ). firstUnwritable n (s .name) ss) (add-one k) ∙ parts .1)

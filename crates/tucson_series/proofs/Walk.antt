@@ -32,17 +32,23 @@ module _ (names : Text) (years : List ℤ) (counts : List ℕ) (widths : List �
     pub names-left : length names ≡ at + (length years - k) * nameColumns
     pub widths-left : from + total (drop k counts) ≡ length widths
 
-  pub walk-begins : ListsFit names years counts widths → Walked 0 0 0
-  walk-begins f = record { passed = omega arith; counted = f .counts-fit; names-left = omega (arith, f .names-fit); widths-left = omega (arith, f .widths-fit) }
+module _ {names : Text} {years : List ℤ} {counts : List ℕ} {widths : List ℤ} where
+  pub walk-begins : ListsFit names years counts widths → Walked names years counts widths 0 0 0
+  walk-begins f = record {
+    passed = omega arith;
+    counted = f .counts-fit;
+    names-left = omega (arith, f .names-fit);
+    widths-left = omega (arith, f .widths-fit);
+  }
 
-  module _ {at from k : ℕ} (w : Walked at from k) (h : k < length years) where
+  module _ {at from k : ℕ} (w : Walked names years counts widths at from k) (h : k < length years) where
     pub name-within : at + nameColumns ≤ length names
     name-within = omega (arith, w .names-left)
 
     pub widths-within : from + getD counts k 0 ≤ length widths
     widths-within = omega (arith, w .widths-left, w .counted, total-step counts k (omega (arith, w .counted)))
 
-    pub walk-more : Walked (at + nameColumns) (from + getD counts k 0) (k + 1)
+    pub walk-more : Walked names years counts widths (at + nameColumns) (from + getD counts k 0) (k + 1)
     walk-more = record {
       passed = omega arith;
       counted = w .counted;
@@ -50,15 +56,24 @@ module _ (names : Text) (years : List ℤ) (counts : List ℕ) (widths : List �
       widths-left = omega (arith, w .widths-left, w .counted, total-step counts k (omega (arith, w .counted)));
     }
 
-    pub series-step : seriesFrom at from k ≡ seriesAt at from k ∷ seriesFrom (at + nameColumns) (from + getD counts k 0) (k + 1)
+    pub series-step : seriesFrom names years counts widths at from k
+        ≡ seriesAt names years counts widths at from k
+        ∷ seriesFrom names years counts widths (at + nameColumns) (from + getD counts k 0) (k + 1)
     unfolding seriesOf
     series-step =
         let y = getD years k (pos 0) in
         let n = getD counts k 0 in
-        ap₂ (λ (ys : List ℤ) (ns : List ℕ). seriesOf (drop at names) ys ns (drop from widths)) (drop-step years k (pos 0) h) (drop-step counts k 0 (omega (arith, w .counted)))
-        ∙ ap₂ (λ (t : Text) (ws : List ℤ). series t y ws ∷ seriesOf (drop nameColumns (drop at names)) (drop (k + 1) years) (drop (k + 1) counts) (drop n (drop from widths))) (sym (slice-take at nameColumns names)) (sym (slice-take from n widths))
-        ∙ ap₂ (λ (t : Text) (ws : List ℤ). seriesAt at from k ∷ seriesOf t (drop (k + 1) years) (drop (k + 1) counts) ws) (drop-drop nameColumns at names) (drop-drop n from widths)
+        let ys = drop (k + 1) years in
+        let ns = drop (k + 1) counts in
+        let rest = seriesOf (drop nameColumns (drop at names)) ys ns (drop n (drop from widths)) in
+        ap₂ (λ (us : List ℤ) (ms : List ℕ). seriesOf (drop at names) us ms (drop from widths))
+        (drop-step years k (pos 0) h) (drop-step counts k 0 (omega (arith, w .counted)))
+        ∙ ap₂ (λ (t : Text) (ws : List ℤ). series t y ws ∷ rest) (sym (slice-take at nameColumns names)) (sym (slice-take from n widths))
+        ∙ ap₂ (λ (t : Text) (ws : List ℤ). seriesAt names years counts widths at from k ∷ seriesOf t ys ns ws)
+        (drop-drop nameColumns at names) (drop-drop n from widths)
 
-  pub series-end : {at from k : ℕ} → Walked at from k → length years ≤ k → seriesFrom at from k ≡ []
+  pub series-end : {at from k : ℕ} → Walked names years counts widths at from k → length years ≤ k
+      → seriesFrom names years counts widths at from k ≡ []
   unfolding seriesOf
-  series-end {at} {from} {k} w h = ap (λ (ys : List ℤ). seriesOf (drop at names) ys (drop k counts) (drop from widths)) (drop-end years k h (w .passed))
+  series-end {at} {from} {k} w h =
+      ap (λ (ys : List ℤ). seriesOf (drop at names) ys (drop k counts) (drop from widths)) (drop-end years k h (w .passed))

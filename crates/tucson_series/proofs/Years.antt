@@ -57,7 +57,13 @@ year-dated y e =
 
 -- some years later
 pub years-later-at : (left k : ℕ) → k ≤ left → yearAt left +ℤ pos k ≡ yearAt (left - k)
-years-later-at left k h = ext (yearAt left +ℤ pos k) (yearAt (left - k)) (omega (arith, bal-+ (yearAt left) (pos k), year-balance (pos left), year-balance (pos (left - k))))
+years-later-at left k h =
+    ext (yearAt left +ℤ pos k) (yearAt (left - k)) (omega (
+      arith,
+      bal-+ (yearAt left) (pos k),
+      year-balance (pos left),
+      year-balance (pos (left - k)),
+    ))
 
 pub years-too-late : (left k : ℕ) → left < k → between leastYear greatestYear (yearAt left +ℤ pos k) ≡ false
 years-too-late left k h = between-late (yearAt left +ℤ pos k) (omega (arith, bal-+ (yearAt left) (pos k), year-balance (pos left)))
@@ -85,7 +91,9 @@ module _ (y : ℤ) (e : between leastYear greatestYear y ≡ true) where
   years-fit-word = let d = year-dated y e in sfits-abs (omega (arith, d .few))
 
   pub years-natural : T (nonNeg (greatestYear -ℤ y)) × Fits w64 (natAbs (greatestYear -ℤ y))
-  years-natural = let d = year-dated y e in (yes-nonNeg (≤-in (pos 0) (greatestYear -ℤ y) (omega (arith, ap up (d .difference), ap dn (d .difference)))), record { fits = omega (arith, d .few) })
+  years-natural =
+      let d = year-dated y e in
+      (yes-nonNeg (≤-in (pos 0) (greatestYear -ℤ y) (omega (arith, ap up (d .difference), ap dn (d .difference)))), record { fits = omega (arith, d .few) })
 
 pub early-year : (y : ℤ) → ltZ y leastYear ≡ true → between leastYear greatestYear y ≡ false
 early-year y e = ap (λ (b : Bool). b && leZ y greatestYear) (not-le-test (ltZ-true y leastYear e))

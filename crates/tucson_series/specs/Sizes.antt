@@ -3,9 +3,11 @@
 -- in proofs/Sizes.
 use mathlib.Core.Bool.{Bool, true, _&&_}
 use mathlib.Core.List.{List, [], _∷_}
-use Prim.Native.Nat.{ℕ, _+_, _*_, _-_, _/_, _%_}
+use mathlib.Core.Path.{_≡_}
+use Prim.Native.Nat.{ℕ, _+_, _*_, _-_, _/_, _%_, _≤_}
 use lib.Dec.{leb}
 use lib.IntN.{ℤ, pos, natAbs, _-ℤ_}
+use lib.ListN.{length}
 use Rattle.base_outcome.specs.Tests.{between}
 use Rattle.base_text.specs.Bytes.{Text}
 use Rattle.spec_tucson.specs.Line.{nameColumns, yearColumns, fieldColumns, decade}
@@ -59,3 +61,15 @@ unfoldable pub textBytes : List ℤ → List ℕ → ℕ
 textBytes [] counts = 0
 textBytes (y ∷ ys) [] = 0
 textBytes (y ∷ ys) (n ∷ ns) = seriesBytes y n + textBytes ys ns
+
+-- ---- what is asked
+
+-- A name from index `at` on, behind the name from the index before.
+pub record NameBehind (names : Text) (before at : ℕ) : Type 0 where
+  pub ordered : before ≤ at
+  pub within : at + nameColumns ≤ length names
+
+-- A count for each year, and closings that can be written.
+pub record ClosedSeries (years : List ℤ) (counts : List ℕ) : Type 0 where
+  pub counted : length counts ≡ length years
+  pub closed : closingsFit years counts ≡ true

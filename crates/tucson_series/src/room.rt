@@ -2,8 +2,7 @@
 ghost use mathlib.Core.Path.{_≡_};
 ghost use mathlib.Core.Bool.{true};
 ghost use lib.Dec.{leb};
-ghost use lib.ListN.{length};
-ghost use Rattle.tucson_series.specs.Sizes.{closingFits, closingsFit, seriesBytes, textBytes};
+ghost use Rattle.tucson_series.specs.Sizes.{closingFits, seriesBytes, textBytes, ClosedSeries};
 use crate::writable;
 
 // "ten years from one ending in 0".
@@ -27,7 +26,7 @@ fn series_bytes(year: i32, count: usize) -> usize
 
 // Whether the series are no longer than this. What is left of it falls from series to series, so that no sum can overflow.
 pub fn text_fits(years: &[i32], counts: &[u32], room: usize) -> bool
-    requires { ⌜ (length (now counts) ≡ length (now years)) × (closingsFit (now years) (now counts) ≡ true) ⌝ }
+    requires { ⌜ ClosedSeries (now years) (now counts) ⌝ }
     ensures { λ r. ⌜ r ≡ leb (textBytes (now (years .entry)) (now (counts .entry))) room ⌝ }
 {
     let mut left = room;

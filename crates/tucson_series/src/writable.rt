@@ -1,15 +1,14 @@
 // Code 11: the first series that can't be written.
 ghost use mathlib.Core.Path.{_≡_};
 ghost use mathlib.Core.Bool.{true};
-ghost use Prim.Native.Nat.{_+_, _≤_};
-ghost use lib.ListN.{length};
+ghost use Prim.Native.Nat.{_+_};
 ghost use lib.Seq.{slice};
 ghost use Rattle.base_outcome.specs.Tests.{between};
 ghost use Rattle.base_outcome.specs.Machine.{found};
 ghost use Rattle.spec_tucson.specs.Line.{nameColumns, allPrintable, allBlank, isName};
 ghost use Rattle.spec_tucson.specs.Writing.{leastYear, greatestYear, allWidths, isWritable, unwritable};
 ghost use Rattle.spec_tucson.specs.WriteCall.{listsFit, seriesOf};
-ghost use Rattle.tucson_series.specs.Sizes.{series, yearsLeft, closingFits};
+ghost use Rattle.tucson_series.specs.Sizes.{series, yearsLeft, closingFits, NameBehind};
 use crate::lists::NAME_COLUMNS;
 
 // The byte of an empty column, the first that is printable.
@@ -111,7 +110,7 @@ fn years_fit(year: i32, count: usize) -> bool
 
 // The series whose name stands from this index on, behind the name from the index before.
 fn is_writable(names: &[u8], before: usize, at: usize, year: i32, widths: &[i32]) -> bool
-    requires { ⌜ (before ≤ at) × (at + nameColumns ≤ length (now names)) ⌝ }
+    requires { ⌜ NameBehind (now names) before at ⌝ }
     ensures { λ r. ⌜ r ≡ isWritable (slice before at (now (names .entry)))
         (series (slice at (at + nameColumns) (now (names .entry))) year (now (widths .entry))) ⌝ }
 {

@@ -14,7 +14,7 @@ use Rattle.base_print.specs.Refusal.{refusalLine}
 use Rattle.spec_tucson.specs.Line.{nameColumns}
 use Rattle.spec_tucson.specs.Series.{Series}
 use Rattle.spec_tucson.specs.TextReading.{readText}
-use Rattle.spec_tucson.specs.ReadCall.{widthsOf, readOutcome, overwritten, readEnd}
+use Rattle.spec_tucson.specs.ReadCall.{widthsOf, readOutcome, overwritten, ReadEnd, readEnd}
 use Rattle.spec_tucson.specs.Writing.{written}
 use Rattle.spec_tucson.specs.WriteCall.{total, writeEnd}
 use Rattle.theorems_tucson.specs.TucsonCells.{rewriteEnd}
@@ -24,11 +24,21 @@ use Rattle.tucson_putting.proofs.Wrote.{written-whole}
 use Rattle.tucson_text.specs.Filter.{textLimit, outcomeText}
 use Rattle.tucson_text.proofs.Room.{seriesCells, nameBytes, widthCells, bytes-at-least}
 
+-- Buffers of the filter's sizes.
+pub record Cells (names : Text) (years : List ℤ) (counts : List ℕ) (widths : List ℤ) : Type 0 where
+  pub names-are : length names ≡ nameBytes
+  pub years-are : length years ≡ seriesCells
+  pub counts-are : length counts ≡ seriesCells
+  pub widths-are : length widths ≡ widthCells
+
 module _ (t : Text) (short : length t ≤ textLimit) where
   few : (ss : List Series) → readText t ≡ answer ss → 19 * length ss + 6 * length (widthsOf ss) ≤ textLimit
   few ss e = omega (arith, short, bytes-at-least ss 0 [] (read-is-writable t ss e), read-keeps-length t ss e)
 
-  module _ (names : Text) (years : List ℤ) (counts : List ℕ) (widths : List ℤ) (a : length names ≡ nameBytes) (b : length years ≡ seriesCells) (c : length counts ≡ seriesCells) (d : length widths ≡ widthCells) where
+  module _ {names : Text} {years : List ℤ} {counts : List ℕ} {widths : List ℤ} (cells : Cells names years counts widths) where
+    abbrev end : ReadEnd
+    end = readEnd t names years counts widths
+
     abbrev outcome : Outcome (List Series)
     outcome = readOutcome t (length names) (length years) (length counts) (length widths)
 
@@ -43,15 +53,19 @@ module _ (t : Text) (short : length t ≤ textLimit) where
             let h = few ss e in
             let n = years-count ss in
             roomy-reads t names years counts widths ss e
-            (room-yes ss (length names) (length years) (length counts) (length widths) (omega (arith, f .names-fit)) (omega arith) (omega (arith, f .counts-fit)) (omega arith))
+            (room-yes ss (length names) (length years) (length counts) (length widths)
+            (omega (arith, cells .names-are, f .names-fit))
+            (omega (arith, cells .years-are))
+            (omega (arith, cells .counts-are, f .counts-fit))
+            (omega (arith, cells .widths-are)))
         go (refusal code place) e = then-refuses _ e
 
     -- so a refusal is printed as it is
-    pub refused-text : (code place : ℕ) → readEnd t names years counts widths .answers ≡ refusal code place → refusalLine code place ≡ outcomeText (readText t)
+    pub refused-text : (code place : ℕ) → end .answers ≡ refusal code place → refusalLine code place ≡ outcomeText (readText t)
     unfolding outcomeText
     refused-text code place e = ap outcomeText (sym (with-refuses length outcome e) ∙ reads-whole)
 
-    module _ (n : ℕ) (e : readEnd t names years counts widths .answers ≡ answer n) where
+    module _ {n : ℕ} (e : end .answers ≡ answer n) where
       pub read : HasRead t names years counts widths n
       read = has-read t names years counts widths n e
 
@@ -59,7 +73,7 @@ module _ (t : Text) (short : length t ≤ textLimit) where
       pub series-within : n ≤ seriesCells
       series-within = omega (arith, few (read .series) (read .reads), read .count)
 
-      pub widths-within : total (take n (readEnd t names years counts widths .counts)) ≤ widthCells
+      pub widths-within : total (take n (end .counts)) ≤ widthCells
       widths-within = omega (arith, few (read .series) (read .reads), counts-total t names years counts widths n read)
 
       text-is : outcomeText (readText t) ≡ written (read .series)
@@ -76,13 +90,17 @@ module _ (t : Text) (short : length t ≤ textLimit) where
             ∙ ap (λ (u : Text). Buffer.written 0 u out) (sym text-is)
 
         -- and are written in full: the write call's end, with the lists from the buffers
-        pub writes-whole : (names′ : Text) (years′ : List ℤ) (counts′ : List ℕ) (widths′ : List ℤ) (m : ℕ) →
-            names′ ≡ readEnd t names years counts widths .names → years′ ≡ readEnd t names years counts widths .years → counts′ ≡ readEnd t names years counts widths .counts → widths′ ≡ readEnd t names years counts widths .widths → m ≡ total (take n counts′) →
-            writeEnd (take (n * nameColumns) names′) (take n years′) (take n counts′) (take m widths′) out ≡ record { answers = answer (length t); text = Buffer.written 0 (outcomeText (readText t)) out }
-        writes-whole names′ years′ counts′ widths′ m p q r s h =
-            lists (take (n * nameColumns) names′) (take n years′) (take n counts′) (take m widths′) (ap (take (n * nameColumns)) p) (ap (take n) q) (ap (take n) r) (ap (take m) s ∙ ap (λ (k : ℕ). take k (readEnd t names years counts widths .widths)) (h ∙ ap (λ (ns : List ℕ). total (take n ns)) r))
+        pub writes-whole : {names′ : Text} {years′ : List ℤ} {counts′ : List ℕ} {widths′ : List ℤ} {m : ℕ}
+            → names′ ≡ end .names → years′ ≡ end .years → counts′ ≡ end .counts → widths′ ≡ end .widths → m ≡ total (take n counts′)
+            → writeEnd (take (n * nameColumns) names′) (take n years′) (take n counts′) (take m widths′) out
+            ≡ record { answers = answer (length t); text = Buffer.written 0 (outcomeText (readText t)) out }
+        writes-whole {names′} {years′} {counts′} {widths′} {m} p q r s h =
+            let all : m ≡ total (take n (end .counts)) = h ∙ ap (λ (ns : List ℕ). total (take n ns)) r in
+            lists (take (n * nameColumns) names′) (take n years′) (take n counts′) (take m widths′)
+            (ap (take (n * nameColumns)) p) (ap (take n) q) (ap (take n) r) (ap (take m) s ∙ ap (λ (k : ℕ). take k (end .widths)) all)
             ∙ rewritten-end t names years counts widths n read out (omega (arith, short))
             ∙ ap (λ (u : Text). record { answers = answer (length t); text = u }) text-written
           where
-            lists : (a : Text) (b : List ℤ) (c : List ℕ) (d : List ℤ) → a ≡ take (n * nameColumns) (readEnd t names years counts widths .names) → b ≡ take n (readEnd t names years counts widths .years) → c ≡ take n (readEnd t names years counts widths .counts) → d ≡ take (total (take n (readEnd t names years counts widths .counts))) (readEnd t names years counts widths .widths) → writeEnd a b c d out ≡ rewriteEnd (readEnd t names years counts widths) n out
+            lists : (a : Text) (b : List ℤ) (c : List ℕ) (d : List ℤ) → a ≡ take (n * nameColumns) (end .names) → b ≡ take n (end .years)
+                → c ≡ take n (end .counts) → d ≡ take (total (take n (end .counts))) (end .widths) → writeEnd a b c d out ≡ rewriteEnd end n out
             lists a b c d p q u v = rw (p, q, u, v)

@@ -30,11 +30,13 @@ unfolding seriesBytes
 series-at-least before s w =
     omega (
       arith,
-      series-length (s .name) (w .named) (s .firstYear) (s .widths) (w .measured) (sym (series-years (s .name) (s .firstYear) (s .widths) (w .measured)) ∙ w .dated),
+      series-length (s .name) (w .named) (s .firstYear) (s .widths) (w .measured)
+          (sym (series-years (s .name) (s .firstYear) (s .widths) (w .measured)) ∙ w .dated),
     )
 
 -- a list of them
-pub bytes-at-least : (ss : List Series) (place : ℕ) (before : Text) → firstUnwritable place before ss ≡ none → 19 * length ss + 6 * length (widthsOf ss) ≤ length (written ss)
+pub bytes-at-least : (ss : List Series) (place : ℕ) (before : Text) → firstUnwritable place before ss ≡ none
+    → 19 * length ss + 6 * length (widthsOf ss) ≤ length (written ss)
 unfolding written widthsOf
 bytes-at-least [] place before e = omega arith
 bytes-at-least (s ∷ ss) place before e =

@@ -2,8 +2,7 @@
 ghost use mathlib.Core.Path.{_≡_};
 ghost use Prim.Native.Nat.{_≤_};
 ghost use lib.ListN.{length};
-ghost use Rattle.base_print.specs.Buffer.{written};
-ghost use Rattle.base_outcome.specs.Outcome.{answer};
+ghost use Rattle.base_print.specs.Buffer.{Prints};
 ghost use Rattle.spec_tucson.specs.TextReading.{readText};
 ghost use Rattle.spec_tucson.specs.WriteCall.{total};
 ghost use Rattle.tucson_text.specs.Filter.{textLimit, outcomeText, filtered};
@@ -40,9 +39,7 @@ fn sum(counts: &[u32]) -> usize
 // written, so the second refusal is never met.
 fn rewrite(input: &[u8], out: &mut [u8; TEXT_LIMIT]) -> usize
     requires { ⌜ length (now input) ≤ textLimit ⌝ }
-    ensures { λ r. ⌜ r ≡ length (outcomeText (readText (now (input .entry)))) ⌝ }
-    ensures { λ r. ⌜ now (out .exit) ≡ written 0 (outcomeText (readText (now (input .entry)))) (now (out .entry)) ⌝ }
-    ensures { λ r. ⌜ r ≤ length (now (out .exit)) ⌝ }
+    ensures { λ r. ⌜ Prints (length (now (out .exit))) (outcomeText (readText (now (input .entry)))) (now (out .entry)) (now (out .exit)) r ⌝ }
 {
     let mut names = [0u8; NAMES];
     let mut years = [0i32; SERIES];
@@ -72,9 +69,7 @@ fn rewrite(input: &[u8], out: &mut [u8; TEXT_LIMIT]) -> usize
 // The whole program: what the filter gives for a text, at the front of the lent buffer, which takes it whole. The answer is its
 // length.
 pub fn filter(input: &[u8], out: &mut [u8; TEXT_LIMIT]) -> usize
-    ensures { λ r. ⌜ r ≡ length (filtered (now (input .entry))) ⌝ }
-    ensures { λ r. ⌜ now (out .exit) ≡ written 0 (filtered (now (input .entry))) (now (out .entry)) ⌝ }
-    ensures { λ r. ⌜ r ≤ length (now (out .exit)) ⌝ }
+    ensures { λ r. ⌜ Prints (length (now (out .exit))) (filtered (now (input .entry))) (now (out .entry)) (now (out .exit)) r ⌝ }
 {
     if input.len() > TEXT_LIMIT {
         return base_print::refusal(SHORT_BUFFER, 0, out);

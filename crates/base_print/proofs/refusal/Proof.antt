@@ -42,7 +42,7 @@ returns c =
     (puts-then (b .put .ensures)
     (puts-then (d .put-digits2 .ensures)
     (e .put2 .ensures)))) in
-    (p .behind ∙ omega arith, (p .contents, omega (arith, p .near)))
+    record { count-is = p .behind ∙ omega arith; contents = p .contents; few = omega (arith, p .near) }
 
 pub refusal-spec : {M : Type 1} → statement M
 refusal-spec = tie.close (tie.spec slice-aggregate-put-text put-text-requires put-digits-requires put-requires put-digits-requires-2 put-requires-2 same-length returns)

@@ -13,7 +13,7 @@ within : {count size : ℕ} → count ≤ printoutLimit → size ≡ printoutLim
 within h e = omega arith
 
 fits : (c : tie.After-out2) → c .before .sheet .result ≤ length (c .before .sheet .last .1 .0)
-fits c = within (c .before .sheet .ensures .1 .1) (c .out2 .given)
+fits c = within (c .before .sheet .ensures .few) (c .out2 .given)
 
 -- by the law and with their number, since the zeros are too many to be counted one by one
 zeros-are : (n : ℕ) → n ≡ length {A = ℕ} (replicate n 0)

@@ -33,10 +33,10 @@ filter-requires : tie.Need-filter-requires
 filter-requires c κs = tt
 
 array-share-prefix-out : tie.Need-array-share-prefix-out
-array-share-prefix-out c = c .filter .ensures .1 .1
+array-share-prefix-out c = c .filter .ensures .few
 
 slice-aggregate-write-all : tie.Need-slice-aggregate-write-all
-slice-aggregate-write-all c = sym (length-take-le (c .before .filter .result) _ (c .before .filter .ensures .1 .1))
+slice-aggregate-write-all c = sym (length-take-le (c .before .filter .result) _ (c .before .filter .ensures .few))
 
 write-all-requires : tie.Need-write-all-requires
 write-all-requires c κs = tt

@@ -19,7 +19,10 @@ put-columns-requires c κs =
     let s = c .before .before .before .before .before .before .before in
     let f : SFits w32 (s .args .year) = s .fits .year in
     let p = puts-wrote (c .before .before .before .put-text .ensures) in
-    simp toZ-ofZ (year-length (s .args .year) (s .pre .dated), omega (arith, s .pre .fits, p .behind, wrote-length p, name-parts (s .args .name .now) (s .pre .named) .0))
+    simp toZ-ofZ (record {
+      short = year-length (s .args .year) (s .pre .dated);
+      fits = omega (arith, s .pre .fits, p .behind, wrote-length p, name-parts (s .args .name .now) (s .pre .named) .0);
+    })
 
 put-fields-requires : tie.Need-put-fields-requires
 put-fields-requires c κs =
@@ -27,7 +30,19 @@ put-fields-requires c κs =
     let f : SFits w32 (s .args .year) = s .fits .year in
     let p = puts-wrote (c .before .before .before .before .before .before .before .put-text .ensures) in
     let q = simp toZ-ofZ at (c .before .before .before .put-columns .ensures) in
-    (s .pre .allowed, omega (arith, s .pre .fits, p .behind, wrote-length p, q .behind, wrote-length q, name-parts (s .args .name .now) (s .pre .named) .0, columns-length 4 (s .args .year) (year-length (s .args .year) (s .pre .dated))))
+    record {
+      allowed = s .pre .allowed;
+      fits = omega (
+        arith,
+        s .pre .fits,
+        p .behind,
+        wrote-length p,
+        q .behind,
+        wrote-length q,
+        name-parts (s .args .name .now) (s .pre .named) .0,
+        columns-length 4 (s .args .year) (year-length (s .args .year) (s .pre .dated)),
+      );
+    }
 
 same-length : tie.Need-same-length
 same-length c = search needs
@@ -36,7 +51,10 @@ returns : tie.Need-returns
 returns c =
     let s = c .before .before .before .before .before .before .before .before .before .before .before .before .before .before in
     let f : SFits w32 (s .args .year) = s .fits .year in
-    wrote-then (puts-wrote (c .before .before .before .before .before .before .before .before .before .before .put-text .ensures)) (wrote-then (simp toZ-ofZ at (c .before .before .before .before .before .before .put-columns .ensures)) (c .before .before .put-fields .ensures))
+    let year = c .before .before .before .before .before .before in
+    let name = year .before .before .before .before in
+    wrote-then (puts-wrote (name .put-text .ensures))
+    (wrote-then (simp toZ-ofZ at (year .put-columns .ensures)) (c .before .before .put-fields .ensures))
 
 pub put-begun-spec : {M : Type 1} → statement M
 put-begun-spec =

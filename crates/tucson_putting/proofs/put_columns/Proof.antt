@@ -27,16 +27,17 @@ decimal-length-requires : tie.Need-decimal-length-requires
 decimal-length-requires c κs = search needs
 
 sub-put-blanks : tie.Need-sub-put-blanks
-sub-put-blanks c = omega (arith, length-is (c .before), c .before .before .before .pre .0)
+sub-put-blanks c = omega (arith, length-is (c .before), c .before .before .before .pre .short)
 
 put-blanks-requires : tie.Need-put-blanks-requires
-put-blanks-requires c κs = omega (arith, length-is (c .before), c .before .before .before .pre .0, c .before .before .before .pre .1)
+put-blanks-requires c κs = omega (arith, length-is (c .before), c .before .before .before .pre .short, c .before .before .before .pre .fits)
 
 put-decimal-requires : tie.Need-put-decimal-requires
 put-decimal-requires c κs =
     let b = c .before .before .before .put-blanks in
     let s = c .before .before .before .before .before .before .before in
-    omega (arith, b .ensures .behind, blanks-all (s .args .size - c .before .before .before .before .before .decimal-length .result), length-is (c .before .before .before .before .before), s .pre .0, s .pre .1)
+    let d = c .before .before .before .before .before in
+    omega (arith, b .ensures .behind, blanks-all (s .args .size - d .decimal-length .result), length-is d, s .pre .short, s .pre .fits)
 
 same-length : tie.Need-same-length
 same-length c = search needs
@@ -47,7 +48,9 @@ returns c =
     let s = c .before .before .before .before .before .before .before .before .before .before in
     let f : SFits w32 (s .args .z) = s .fits .z in
     let g : SFits w64 (s .args .z) = sfits-widen f in
-    wrote-as (ap (λ (n : ℕ). replicate (s .args .size - n) blank ++ decimal (s .args .z)) (length-is (c .before .before .before .before .before .before .before .before))) (wrote-then (c .before .before .before .before .before .before .put-blanks .ensures) (puts-wrote (simp toZ-ofZ at (c .before .before .put-decimal .ensures))))
+    let b = c .before .before .before .before .before .before in
+    wrote-as (ap (λ (n : ℕ). replicate (s .args .size - n) blank ++ decimal (s .args .z)) (length-is (b .before .before)))
+    (wrote-then (b .put-blanks .ensures) (puts-wrote (simp toZ-ofZ at (c .before .before .put-decimal .ensures))))
 
 pub put-columns-spec : {M : Type 1} → statement M
 put-columns-spec =

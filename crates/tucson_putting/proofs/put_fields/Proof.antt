@@ -40,7 +40,11 @@ put-columns-requires c κs =
     let l = c .before .before .before .loop in
     let ws = s .args .widths .now in
     let f : SFits w32 (getD ws (l .i) (pos 0)) = record { sfits = c .put-columns-arg2 .given } in
-    simp toZ-ofZ (width-length ws (l .i) (omega arith) (s .pre .0), omega (arith, l .inv .wrote .behind, wrote-length (l .inv .wrote), taken-length ws (l .i) (l .inv .within) (s .pre .0), s .pre .1))
+    let wrote = l .inv .wrote in
+    simp toZ-ofZ (record {
+      short = width-length ws (l .i) (omega arith) (s .pre .allowed);
+      fits = omega (arith, wrote .behind, wrote-length wrote, taken-length ws (l .i) (l .inv .within) (s .pre .allowed), s .pre .fits);
+    })
 
 add-i : tie.Need-add-i Inv-loop μ-loop
 add-i c = omega arith

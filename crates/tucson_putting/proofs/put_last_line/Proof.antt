@@ -6,7 +6,7 @@ use mir.Val.{SFits}
 use Rattle.base_exact.proofs.Word.{toZ-ofZ}
 use Rattle.spec_tucson.specs.Line.{thousandths}
 use Rattle.theorems_tucson.proofs.Columns.{columns-length}
-use Rattle.tucson_putting.proofs.Lines.{begun-length, closing-length, line-closes}
+use Rattle.tucson_putting.proofs.Lines.{begun-size, closing-length, line-closes}
 use Rattle.tucson_putting.proofs.Wrote.{wrote-then, wrote-as, wrote-length, puts-wrote}
 use Rattle.tucson_putting.proofs.put_last_line.Statement.{statement}
 use Rattle.tucson_putting.proofs.put_last_line.Tie as tie
@@ -22,14 +22,15 @@ put-columns-requires c κs =
     let s = c .before .before .before .before .before .before .before in
     let f : SFits w32 (s .args .year) = s .fits .year in
     let b = simp toZ-ofZ at (c .before .before .before .put-begun .ensures) in
-    (closing-length, omega (arith, s .pre .fits, b .behind, wrote-length b, begun-length (s .args .name .now) (s .args .year) (s .args .widths .now) (s .pre .named) (s .pre .dated) (s .pre .allowed)))
+    record { short = closing-length; fits = omega (arith, s .pre .fits, b .behind, wrote-length b, begun-size (s .pre)) }
 
 put-requires : tie.Need-put-requires
 put-requires c κs =
     let s = c .before .before .before .before .before .before .before .before .before .before .before in
     let f : SFits w32 (s .args .year) = s .fits .year in
     let b = simp toZ-ofZ at (c .before .before .before .before .before .before .before .put-begun .ensures) in
-    omega (arith, s .pre .fits, b .behind, c .before .before .before .put-columns .ensures .behind, columns-length 6 thousandths closing-length, begun-length (s .args .name .now) (s .args .year) (s .args .widths .now) (s .pre .named) (s .pre .dated) (s .pre .allowed))
+    let closing = c .before .before .before .put-columns .ensures in
+    omega (arith, s .pre .fits, b .behind, closing .behind, columns-length 6 thousandths closing-length, begun-size (s .pre))
 
 same-length : tie.Need-same-length
 same-length c = search needs
@@ -38,7 +39,10 @@ returns : tie.Need-returns
 returns c =
     let s = c .before .before .before .before .before .before .before .before .before .before .before .before .before .before in
     let f : SFits w32 (s .args .year) = s .fits .year in
-    wrote-as (line-closes (s .args .name .now) (s .args .year) (s .args .widths .now)) (wrote-then (simp toZ-ofZ at (c .before .before .before .before .before .before .before .before .before .before .put-begun .ensures)) (wrote-then (c .before .before .before .before .before .before .put-columns .ensures) (puts-wrote (c .before .before .put .ensures))))
+    let closing = c .before .before .before .before .before .before in
+    let begun = simp toZ-ofZ at (closing .before .before .before .before .put-begun .ensures) in
+    wrote-as (line-closes (s .args .name .now) (s .args .year) (s .args .widths .now))
+    (wrote-then begun (wrote-then (closing .put-columns .ensures) (puts-wrote (c .before .before .put .ensures))))
 
 pub put-last-line-spec : {M : Type 1} → statement M
 put-last-line-spec =

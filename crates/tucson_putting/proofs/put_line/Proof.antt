@@ -4,7 +4,7 @@ use borrow.Author.Needs.{needs}
 use mir.Syntax.{w32}
 use mir.Val.{SFits}
 use Rattle.base_exact.proofs.Word.{toZ-ofZ}
-use Rattle.tucson_putting.proofs.Lines.{begun-length, line-ends}
+use Rattle.tucson_putting.proofs.Lines.{begun-size, line-ends}
 use Rattle.tucson_putting.proofs.Wrote.{wrote-then, wrote-as, puts-wrote}
 use Rattle.tucson_putting.proofs.put_line.Statement.{statement}
 use Rattle.tucson_putting.proofs.put_line.Tie as tie
@@ -20,7 +20,7 @@ put-requires c κs =
     let s = c .before .before .before .before .before .before .before in
     let f : SFits w32 (s .args .year) = s .fits .year in
     let b = simp toZ-ofZ at (c .before .before .before .put-begun .ensures) in
-    omega (arith, s .pre .fits, b .behind, begun-length (s .args .name .now) (s .args .year) (s .args .widths .now) (s .pre .named) (s .pre .dated) (s .pre .allowed))
+    omega (arith, s .pre .fits, b .behind, begun-size (s .pre))
 
 same-length : tie.Need-same-length
 same-length c = search needs
@@ -29,7 +29,8 @@ returns : tie.Need-returns
 returns c =
     let s = c .before .before .before .before .before .before .before .before .before .before in
     let f : SFits w32 (s .args .year) = s .fits .year in
-    wrote-as (line-ends (s .args .name .now) (s .args .year) (s .args .widths .now)) (wrote-then (simp toZ-ofZ at (c .before .before .before .before .before .before .put-begun .ensures)) (puts-wrote (c .before .before .put .ensures)))
+    let begun = simp toZ-ofZ at (c .before .before .before .before .before .before .put-begun .ensures) in
+    wrote-as (line-ends (s .args .name .now) (s .args .year) (s .args .widths .now)) (wrote-then begun (puts-wrote (c .before .before .put .ensures)))
 
 pub put-line-spec : {M : Type 1} → statement M
 put-line-spec = tie.close (tie.spec put-begun-requires put-requires same-length returns)

@@ -55,6 +55,39 @@ loop-holds c =
       wrote = wrote-none _ _;
     }
 
+-- a turn: the year's line from `from` up to `to`, and what is left of the room
+module _ (l : tie.At-loop Inv-loop μ-loop) where
+  abbrev s : tie.Start Inv-loop μ-loop
+  s = l .before .before .before .before
+
+  abbrev name : Text
+  name = s .args .name .now
+
+  abbrev ws : List ℤ
+  ws = s .args .widths .now
+
+  abbrev to : ℕ
+  to = l .loop .from + l .loop .left % 10 + 1
+
+  all-lines : rest name ws (l .before .years-left .result) 0 ≡ linesText (seriesLines (series name (s .args .first) ws))
+  all-lines =
+      let f : SFits w32 (s .args .first) = s .fits .first in
+      let e : l .before .years-left .result ≡ yearsLeft (s .args .first) = simp toZ-ofZ at (l .before .years-left .ensures) in
+      ap (λ (k : ℕ). rest name ws k 0) e ∙ rest-begins name ws (s .args .first) (closing-parts (s .args .first) (length ws) (s .pre .dated) .dated)
+
+  room-left : l .loop .next + length (rest name ws (l .loop .left) (l .loop .from)) ≤ length (l .loop .text)
+  room-left =
+      let i = l .loop .inv in
+      omega (
+        arith,
+        s .pre .fits,
+        i .wrote .behind,
+        wrote-length (i .wrote),
+        ap length all-lines,
+        ap length (i .whole),
+        length-append (i .soFar) (rest name ws (l .loop .left) (l .loop .from)),
+      )
+
 sub-loop : tie.Need-sub-loop Inv-loop μ-loop
 sub-loop c = c .loop .inv .within
 
@@ -81,22 +114,22 @@ part-put-line-end c = omega (arith, c .before .before .before .loop .inv .within
 
 put-line-requires : tie.Need-put-line-requires Inv-loop μ-loop
 put-line-requires c κs =
-    let a = c .before .before .before .before .before .before .before .before .args in
-    let l = c .before .before .before .before .loop in
+    let t = c .before .before .before .before in
+    let l = t .loop in
     let i = l .inv in
-    let n = a .name .now in
-    let ws = a .widths .now in
+    let p = s t .pre in
     let y = c .before .before .year-at in
     let f : SFits w32 (y .result) = record { sfits = y .ok } in
-    let p = c .before .before .before .before .before .before .before .before .pre in
-    let f0 : SFits w32 (a .first) = c .before .before .before .before .before .before .before .before .fits .first in
-    let e0 : c .before .before .before .before .before .years-left .result ≡ yearsLeft (a .first) = simp toZ-ofZ at (c .before .before .before .before .before .years-left .ensures) in
-    let e : rest n ws (c .before .before .before .before .before .years-left .result) 0 ≡ linesText (seriesLines (series n (a .first) ws)) = ap (λ (k : ℕ). rest n ws k 0) e0 ∙ rest-begins n ws (a .first) (closing-parts (a .first) (length ws) (p .dated) .dated) in
-    simp toZ-ofZ (rw (y .ensures, part-is (l .from) (l .from + l .left % 10 + 1) ws (omega arith)) (record {
+    let taken = c .before .before .before .loop-test .taken in
+    simp toZ-ofZ (rw (y .ensures, part-is (l .from) (to t) (ws t) (omega arith)) (record {
       named = p .named;
       dated = year-at (l .left) (i .few);
-      allowed = widths-slice (l .from) (l .from + l .left % 10 + 1) ws (p .allowed);
-      fits = omega (arith, p .fits, i .wrote .behind, wrote-length (i .wrote), ap length e, ap length (i .whole), length-append (i .soFar) (rest n ws (l .left) (l .from)), full-bytes n ws (l .left) (l .from) (i .within) (p .named) (p .allowed) (i .few) (c .before .before .before .loop-test .taken) (i .enough));
+      allowed = widths-slice (l .from) (to t) (ws t) (p .allowed);
+      fits = omega (
+        arith,
+        room-left t,
+        full-bytes (name t) (ws t) (l .left) (l .from) (i .within) (p .named) (p .allowed) (i .few) taken (i .enough),
+      );
     }))
 
 sub-left : tie.Need-sub-left Inv-loop μ-loop
@@ -110,24 +143,24 @@ loop-less c = let i = c .before .before .before .before .before .before .before 
 
 loop-again : tie.Need-loop-again Inv-loop μ-loop
 loop-again c =
-    let a = c .before .before .before .before .before .before .before .before .before .before .before .args in
-    let l = c .before .before .before .before .before .before .before .loop in
+    let t = c .before .before .before .before .before .before .before in
+    let l = t .loop in
     let i = l .inv in
-    let n = a .name .now in
-    let ws = a .widths .now in
     let y = c .before .before .before .before .before .year-at in
     let f : SFits w32 (y .result) = record { sfits = y .ok } in
-    let fs = slice (l .from) (l .from + l .left % 10 + 1) ws in
+    let text = lineText (line (name t) (yearAt (l .left)) (slice (l .from) (to t) (ws t))) in
+    let taken = c .before .before .before .before .before .before .loop-test .taken in
+    let put = simp toZ-ofZ at (c .before .before .put-line .ensures) in
     record {
       within = omega (arith, i .within);
       few = omega (arith, i .few);
       enough = omega (arith, i .within, i .enough);
-      soFar = i .soFar ++ lineText (line n (yearAt (l .left)) fs);
+      soFar = i .soFar ++ text;
       whole =
-          append-assoc (i .soFar) (lineText (line n (yearAt (l .left)) fs)) _
-          ∙ ap (λ (t : Text). i .soFar ++ t) (sym (rest-full n ws (l .left) (l .from) (i .within) (c .before .before .before .before .before .before .loop-test .taken) (i .enough)))
+          append-assoc (i .soFar) text _
+          ∙ ap (λ (u : Text). i .soFar ++ u) (sym (rest-full (name t) (ws t) (l .left) (l .from) (i .within) taken (i .enough)))
           ∙ i .whole;
-      wrote = wrote-then (i .wrote) (rw (y .ensures, part-is (l .from) (l .from + l .left % 10 + 1) ws (omega arith)) at (simp toZ-ofZ at (c .before .before .put-line .ensures)));
+      wrote = wrote-then (i .wrote) (rw (y .ensures, part-is (l .from) (to t) (ws t) (omega arith)) at put);
     }
 
 year-at-requires-2 : tie.Need-year-at-requires-2 Inv-loop μ-loop
@@ -147,22 +180,22 @@ part-put-last-line-end c = omega (arith, c .before .before .before .loop .inv .w
 
 put-last-line-requires : tie.Need-put-last-line-requires Inv-loop μ-loop
 put-last-line-requires c κs =
-    let a = c .before .before .before .before .before .before .before .before .args in
-    let l = c .before .before .before .before .loop in
+    let t = c .before .before .before .before in
+    let l = t .loop in
     let i = l .inv in
-    let n = a .name .now in
-    let ws = a .widths .now in
+    let p = s t .pre in
     let y = c .before .before .year-at2 in
     let f : SFits w32 (y .result) = record { sfits = y .ok } in
-    let p = c .before .before .before .before .before .before .before .before .pre in
-    let f0 : SFits w32 (a .first) = c .before .before .before .before .before .before .before .before .fits .first in
-    let e0 : c .before .before .before .before .before .years-left .result ≡ yearsLeft (a .first) = simp toZ-ofZ at (c .before .before .before .before .before .years-left .ensures) in
-    let e : rest n ws (c .before .before .before .before .before .years-left .result) 0 ≡ linesText (seriesLines (series n (a .first) ws)) = ap (λ (k : ℕ). rest n ws k 0) e0 ∙ rest-begins n ws (a .first) (closing-parts (a .first) (length ws) (p .dated) .dated) in
-    simp toZ-ofZ (rw (y .ensures, part-rest (l .from) ws) (record {
+    let left = c .before .before .before .loop-test .left in
+    simp toZ-ofZ (rw (y .ensures, part-rest (l .from) (ws t)) (record {
       named = p .named;
       dated = year-at (l .left) (i .few);
-      allowed = widths-drop (l .from) ws (p .allowed);
-      fits = omega (arith, p .fits, i .wrote .behind, wrote-length (i .wrote), ap length e, ap length (i .whole), length-append (i .soFar) (rest n ws (l .left) (l .from)), last-bytes n ws (l .left) (l .from) (i .within) (p .named) (p .allowed) (i .few) (c .before .before .before .loop-test .left));
+      allowed = widths-drop (l .from) (ws t) (p .allowed);
+      fits = omega (
+        arith,
+        room-left t,
+        last-bytes (name t) (ws t) (l .left) (l .from) (i .within) (p .named) (p .allowed) (i .few) left,
+      );
     }))
 
 same-length : tie.Need-same-length Inv-loop μ-loop
@@ -174,18 +207,16 @@ same-length c =
 
 returns : tie.Need-returns Inv-loop μ-loop
 returns c =
-    let a = c .before .before .before .before .before .before .before .before .before .before .before .args in
-    let l = c .before .before .before .before .before .before .before .loop in
+    let t = c .before .before .before .before .before .before .before in
+    let l = t .loop in
     let i = l .inv in
-    let n = a .name .now in
-    let ws = a .widths .now in
     let y = c .before .before .before .before .before .year-at2 in
     let f : SFits w32 (y .result) = record { sfits = y .ok } in
-    let p = c .before .before .before .before .before .before .before .before .before .before .before .pre in
-    let f0 : SFits w32 (a .first) = c .before .before .before .before .before .before .before .before .before .before .before .fits .first in
-    let e0 : c .before .before .before .before .before .before .before .before .years-left .result ≡ yearsLeft (a .first) = simp toZ-ofZ at (c .before .before .before .before .before .before .before .before .years-left .ensures) in
-    let e : rest n ws (c .before .before .before .before .before .before .before .before .years-left .result) 0 ≡ linesText (seriesLines (series n (a .first) ws)) = ap (λ (k : ℕ). rest n ws k 0) e0 ∙ rest-begins n ws (a .first) (closing-parts (a .first) (length ws) (p .dated) .dated) in
-    wrote-as (ap (λ (t : Text). i .soFar ++ t) (sym (rest-last n ws (l .left) (l .from) (i .within) (c .before .before .before .before .before .before .loop-test .left))) ∙ i .whole ∙ e) (wrote-then (i .wrote) (rw (y .ensures, part-rest (l .from) ws) at (simp toZ-ofZ at (c .before .before .put-last-line .ensures))))
+    let left = c .before .before .before .before .before .before .loop-test .left in
+    let last = rest-last (name t) (ws t) (l .left) (l .from) (i .within) left in
+    let put = simp toZ-ofZ at (c .before .before .put-last-line .ensures) in
+    wrote-as (ap (λ (u : Text). i .soFar ++ u) (sym last) ∙ i .whole ∙ all-lines t)
+    (wrote-then (i .wrote) (rw (y .ensures, part-rest (l .from) (ws t)) at put))
 
 pub put-series-spec : {M : Type 1} → statement M
 put-series-spec =

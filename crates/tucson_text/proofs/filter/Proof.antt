@@ -2,7 +2,6 @@
 use borrow.Author.Needs.{needs}
 use native.Mathlib.Omega.{arith}
 use mathlib.Core.Path.{_≡_, sym, ap, _∙_}
-use mathlib.Core.Bool.{true, false}
 use Prim.Native.Nat.{ℕ, _<_, _≤_}
 use borrow.Author.Tests.{le-leb, lt-leb}
 use lib.ListN.{length}
@@ -10,7 +9,7 @@ use Rattle.base_exact.proofs.Decide.{cond-true, cond-false}
 use Rattle.base_text.specs.Bytes.{Text}
 use Rattle.base_print.specs.Refusal.{refusalLineLimit}
 use Rattle.base_print.specs.Refusal.{refusalLine}
-use Rattle.base_print.proofs.Buffer.{written-as, written-length}
+use Rattle.base_print.proofs.Buffer.{prints-as, written-length}
 use Rattle.spec_tucson.specs.TextReading.{readText}
 use Rattle.tucson_text.specs.Filter.{textLimit, outcomeText, filtered}
 use Rattle.tucson_text.proofs.filter.Statement.{statement}
@@ -33,8 +32,8 @@ refusal-requires c κs = search needs
 returns : tie.Need-returns
 returns c =
     let p = c .refusal .ensures in
-    let w = written-as _ (too-long _ (c .before .before .if1 .taken)) (p .0) (p .1 .0) in
-    (w .0, (w .1, line-fits (p .1 .1) (ap length (p .1 .0) ∙ written-length 0 _ _) (c .before .refusal-arg .given .0 .1)))
+    let room = line-fits (p .few) (ap length (p .contents) ∙ written-length 0 _ _) (c .before .refusal-arg .given .0 .1) in
+    prints-as (too-long _ (c .before .before .if1 .taken)) room p
 
 rewrite-requires : tie.Need-rewrite-requires
 rewrite-requires c κs = search needs
@@ -42,8 +41,7 @@ rewrite-requires c κs = search needs
 returns-2 : tie.Need-returns-2
 returns-2 c =
     let p = c .rewrite .ensures in
-    let w = written-as _ (held _ (c .before .before .if1 .left)) (p .0) (p .1 .0) in
-    (w .0, (w .1, p .1 .1))
+    prints-as (held _ (c .before .before .if1 .left)) (p .few) p
 
 pub filter-spec : {M : Type 1} → statement M
 filter-spec = tie.close (tie.spec refusal-requires returns rewrite-requires returns-2)

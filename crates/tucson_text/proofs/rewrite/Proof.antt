@@ -1,6 +1,5 @@
 -- `rewrite` meets its contract: the buffers take what the text holds, so that code 1 never comes, and the lists at their fronts
 -- are written in full.
-use borrow.Author.Needs.{needs}
 use native.Mathlib.Omega.{arith}
 use mathlib.Core.Path.{_≡_, sym, ap, _∙_}
 use mathlib.Core.List.{List}
@@ -14,7 +13,7 @@ use Rattle.base_text.specs.Bytes.{Text}
 use Rattle.base_print.specs.Refusal.{refusalLineLimit}
 use Rattle.base_print.specs.Refusal.{refusalLine}
 use Rattle.base_print.specs.Buffer.{written}
-use Rattle.base_print.proofs.Buffer.{written-as, written-length}
+use Rattle.base_print.proofs.Buffer.{prints-as, written-length}
 use Rattle.spec_tucson.specs.Line.{nameColumns}
 use Rattle.spec_tucson.specs.TextReading.{readText}
 use Rattle.spec_tucson.specs.ReadCall.{ReadEnd, readEnd}
@@ -22,7 +21,7 @@ use Rattle.spec_tucson.specs.WriteCall.{total, WriteEnd, writeEnd}
 use Rattle.base_outcome.specs.Machine.{reply}
 use Rattle.tucson_text.specs.Filter.{textLimit, outcomeText}
 use Rattle.tucson_text.proofs.Room.{seriesCells, nameBytes, widthCells}
-use Rattle.tucson_text.proofs.Rewriting.{refused-text, series-within, widths-within, text-length, writes-whole}
+use Rattle.tucson_text.proofs.Rewriting.{Cells, refused-text, series-within, widths-within, text-length, writes-whole}
 use Rattle.tucson_text.proofs.rewrite.Statement.{statement}
 use Rattle.tucson_text.proofs.rewrite.Tie as tie
 
@@ -51,6 +50,9 @@ counts-are = length-replicate {0} {A = ℕ} seriesCells 0
 
 widths-are : length widths ≡ widthCells
 widths-are = length-replicate {0} {A = ℤ} widthCells (pos 0)
+
+cells : Cells names years counts widths
+cells = record { names-are = names-are; years-are = years-are; counts-are = counts-are; widths-are = widths-are }
 
 slice-aggregate-read : tie.Need-slice-aggregate-read
 slice-aggregate-read c = sym names-are
@@ -88,11 +90,22 @@ module _ (k : tie.After-read) where
   short : length text ≤ textLimit
   short = k .before .before .before .before .before .before .pre
 
+  -- the buffers
+  abbrev names-read : Text
+  names-read = k .read .last .1 .0
+
+  abbrev years-read : List ℤ
+  years-read = k .read .last .1 .1 .0
+
+  abbrev counts-read : List ℕ
+  counts-read = k .read .last .1 .1 .1 .0
+
+  abbrev widths-read : List ℤ
+  widths-read = k .read .last .1 .1 .1 .1 .0
+
   -- a refusal
   refused : (code place : ℕ) → reply (k .read .result) ≡ refusal code place → refusalLine code place ≡ outcomeText (readText text)
-  refused code place e =
-      refused-text text short names years counts widths names-are years-are counts-are widths-are
-      code place (sym (k .read .ensures .0) ∙ e)
+  refused code place e = refused-text text short cells code place (sym (k .read .ensures .0) ∙ e)
 
 -- ---- the lists, where it has been answered with their count
 
@@ -111,13 +124,12 @@ module _ (a : tie.After-series2) where
   answered = sym (done .read .ensures .0) ∙ ap reply (a .series2 .given .1)
 
   few : n ≤ seriesCells
-  few =
-      series-within (text done) (short done) names years counts widths names-are years-are counts-are widths-are n answered
+  few = series-within (text done) (short done) cells answered
 
-  few-widths : total (take n (done .read .last .1 .1 .1 .0)) ≤ widthCells
+  few-widths : total (take n (counts-read done)) ≤ widthCells
   few-widths =
       no-more (ap (λ (ns : List ℕ). total (take n ns)) (done .read .ensures .1 .1 .1 .0))
-      (widths-within (text done) (short done) names years counts widths names-are years-are counts-are widths-are n answered)
+      (widths-within (text done) (short done) cells answered)
 
 within : {count size most : ℕ} → count ≤ most → size ≡ most → count ≤ size
 within h e = omega arith
@@ -128,16 +140,16 @@ within-names h e = omega arith
 below-limit : {count : ℕ} → count ≤ widthCells → count ≤ textLimit
 below-limit h = omega arith
 
-names-fit : (a : tie.After-series2) → n a * 8 ≤ length (done a .read .last .1 .0)
+names-fit : (a : tie.After-series2) → n a * 8 ≤ length (names-read (done a))
 names-fit a = within-names (few a) (a .before .before .before .before .before .names2 .given)
 
-years-fit : (a : tie.After-series2) → n a ≤ length (done a .read .last .1 .1 .0)
+years-fit : (a : tie.After-series2) → n a ≤ length (years-read (done a))
 years-fit a = within (few a) (a .before .before .before .before .years2 .given)
 
-counts-fit : (a : tie.After-series2) → n a ≤ length (done a .read .last .1 .1 .1 .0)
+counts-fit : (a : tie.After-series2) → n a ≤ length (counts-read (done a))
 counts-fit a = within (few a) (a .before .before .before .counts2 .given)
 
-widths-fit : (a : tie.After-series2) (m : ℕ) → m ≡ total (take (n a) (done a .read .last .1 .1 .1 .0)) → m ≤ length (done a .read .last .1 .1 .1 .1 .0)
+widths-fit : (a : tie.After-series2) (m : ℕ) → m ≡ total (take (n a) (counts-read (done a))) → m ≤ length (widths-read (done a))
 widths-fit a m e = within (no-more e (few-widths a)) (a .before .before .widths2 .given)
 
 mul-fits : {count : ℕ} → count ≤ seriesCells → count * 8 ≤ nameBytes
@@ -150,7 +162,7 @@ array-share-prefix-counts : tie.Need-array-share-prefix-counts
 array-share-prefix-counts c = counts-fit (c .before)
 
 slice-aggregate-sum : tie.Need-slice-aggregate-sum
-slice-aggregate-sum c = let a = c .before .before in sym (length-take-le (n a) (done a .read .last .1 .1 .1 .0) (counts-fit a))
+slice-aggregate-sum c = let a = c .before .before in sym (length-take-le (n a) (counts-read (done a)) (counts-fit a))
 
 sum-requires : tie.Need-sum-requires
 sum-requires c κs = below-limit (few-widths (c .before .before))
@@ -159,28 +171,30 @@ array-share-prefix-names : tie.Need-array-share-prefix-names
 array-share-prefix-names c = names-fit (c .before .before .before)
 
 slice-aggregate-write : tie.Need-slice-aggregate-write
-slice-aggregate-write c = let a = c .before .before .before .before in sym (length-take-le (n a * 8) (done a .read .last .1 .0) (names-fit a))
+slice-aggregate-write c = let a = c .before .before .before .before in sym (length-take-le (n a * 8) (names-read (done a)) (names-fit a))
 
 array-share-prefix-years : tie.Need-array-share-prefix-years
 array-share-prefix-years c = years-fit (c .before .before .before .before)
 
 slice-aggregate-write-2 : tie.Need-slice-aggregate-write-2
-slice-aggregate-write-2 c = let a = c .before .before .before .before .before in sym (length-take-le (n a) (done a .read .last .1 .1 .0) (years-fit a))
+slice-aggregate-write-2 c = let a = c .before .before .before .before .before in sym (length-take-le (n a) (years-read (done a)) (years-fit a))
 
 array-share-prefix-counts-2 : tie.Need-array-share-prefix-counts-2
 array-share-prefix-counts-2 c = counts-fit (c .before .before .before .before .before)
 
 slice-aggregate-write-3 : tie.Need-slice-aggregate-write-3
-slice-aggregate-write-3 c = let a = c .before .before .before .before .before .before in sym (length-take-le (n a) (done a .read .last .1 .1 .1 .0) (counts-fit a))
+slice-aggregate-write-3 c = let a = c .before .before .before .before .before .before in sym (length-take-le (n a) (counts-read (done a)) (counts-fit a))
 
 array-share-prefix-widths : tie.Need-array-share-prefix-widths
-array-share-prefix-widths c = widths-fit (c .before .before .before .before .before .before) (c .before .before .before .sum .result) (c .before .before .before .sum .ensures)
+array-share-prefix-widths c =
+    widths-fit (c .before .before .before .before .before .before) (c .before .before .before .sum .result)
+    (c .before .before .before .sum .ensures)
 
 slice-aggregate-write-4 : tie.Need-slice-aggregate-write-4
 slice-aggregate-write-4 c =
     let a = c .before .before .before .before .before .before .before in
     let m = c .before .before .before .before .sum in
-    sym (length-take-le (m .result) (done a .read .last .1 .1 .1 .1 .0) (widths-fit a (m .result) (m .ensures)))
+    sym (length-take-le (m .result) (widths-read (done a)) (widths-fit a (m .result) (m .ensures)))
 
 write-requires : tie.Need-write-requires
 write-requires c κs = tt
@@ -206,8 +220,9 @@ returns : tie.Need-returns
 unfolding reply
 returns c =
     let p = c .refusal .ensures in
-    let w = written-as _ (refused (c .before .before .before .before .before .before .before .before .before) _ _ (ap reply (c .before .before .before .series .given .1))) (p .0) (p .1 .0) in
-    (w .0, (w .1, line-fits (p .1 .1) (ap length (p .1 .0) ∙ written-length 0 _ _) (c .before .refusal-arg .given .0 .1)))
+    let k = c .before .before .before .before .before .before .before .before .before in
+    let is = refused k _ _ (ap reply (c .before .before .before .series .given .1)) in
+    prints-as is (line-fits (p .few) (ap length (p .contents) ∙ written-length 0 _ _) (c .before .refusal-arg .given .0 .1)) p
 
 -- the write call's end
 module _ (w : tie.After-write) where
@@ -224,12 +239,12 @@ module _ (w : tie.After-write) where
   m = w .before .before .before .before .before .before .sum .result
 
   writes :
-      writeEnd (take (n a * nameColumns) (k .read .last .1 .0)) (take (n a) (k .read .last .1 .1 .0)) (take (n a) (k .read .last .1 .1 .1 .0)) (take m (k .read .last .1 .1 .1 .1 .0)) out
+      writeEnd (take (n a * nameColumns) (names-read k)) (take (n a) (years-read k)) (take (n a) (counts-read k)) (take m (widths-read k)) out
       ≡ record { answers = answer (length (text k)); text = written 0 (outcomeText (readText (text k))) out }
   writes =
       let r = k .read .ensures .1 in
-      writes-whole (text k) (short k) names years counts widths names-are years-are counts-are widths-are (n a) (answered a)
-      out (w .before .write-arg .given .0 .1) _ _ _ _ m (r .0) (r .1 .0) (r .1 .1 .0) (r .1 .1 .1) (w .before .before .before .before .before .before .sum .ensures)
+      writes-whole (text k) (short k) cells (answered a) out (w .before .write-arg .given .0 .1)
+      (r .0) (r .1 .0) (r .1 .1 .0) (r .1 .1 .1) (w .before .before .before .before .before .before .sum .ensures)
 
 returns-2 : tie.Need-returns-2
 unfolding reply
@@ -243,9 +258,13 @@ returns-3 c =
     let w = c .before .before .before in
     let k = k w in
     let count = answer-unique (ap reply (c .before .text2 .given .1)) (w .write .ensures .0 ∙ ap (λ (e : WriteEnd). e .answers) (writes w)) in
-    let size = text-length (text k) (short k) names years counts widths names-are years-are counts-are widths-are (n (a w)) (answered (a w)) in
+    let size = text-length (text k) (short k) cells (answered (a w)) in
     let contents = w .write .ensures .1 ∙ ap (λ (e : WriteEnd). e .text) (writes w) in
-    (count ∙ sym size, (contents, text-fits count (short k) (ap length contents ∙ written-length 0 _ _) (w .before .write-arg .given .0 .1)))
+    record {
+      count-is = count ∙ sym size;
+      contents = contents;
+      few = text-fits count (short k) (ap length contents ∙ written-length 0 _ _) (w .before .write-arg .given .0 .1);
+    }
 
 pub rewrite-spec : {M : Type 1} → statement M
 rewrite-spec =

@@ -9,38 +9,63 @@ use lib.Dec.{leb}
 use lib.ListN.{length}
 use borrow.Author.Tests.{not-true, not-false, leb-true}
 use Rattle.base_outcome.proofs.Machine.{found-none-inverts, found-some-inverts}
-use Rattle.spec_tucson.specs.Writing.{unwritable}
-use Rattle.spec_tucson.specs.WriteCall.{listsFit, seriesOf}
-use Rattle.theorems_tucson.proofs.TucsonCells.{fits-parts}
+use Rattle.spec_tucson.specs.Writing.{written, unwritable}
+use Rattle.spec_tucson.specs.WriteCall.{listsFit}
+use Rattle.theorems_tucson.proofs.TucsonCells.{ListsFit, fits-parts}
 use Rattle.base_outcome.specs.declared.Answer.the-variants.{Refused}
 use Rattle.base_outcome.specs.Machine.{reply}
 use Rattle.tucson_series.proofs.Bytes.{Counted, all-counted}
 use Rattle.tucson_putting.proofs.Wrote.{wrote-length}
-use Rattle.tucson_write.proofs.Call.{lists-misfit, series-unwritable, text-short, text-answers, ends-refused, ends-written}
+use Rattle.tucson_write.proofs.Call.{Given, listed, lists-misfit, series-unwritable, text-short, text-answers, ends-refused, ends-written}
 use Rattle.tucson_write.proofs.write.Statement.{statement}
 use Rattle.tucson_write.proofs.write.Tie as tie
 
+abbrev given : tie.Start → Given
+given s = record {
+  names = s .args .names .now;
+  years = s .args .years .now;
+  counts = s .args .counts .now;
+  widths = s .args .widths .now;
+  text = s .args .text .now;
+}
+
 -- the lists fit
-fit : (c : tie.Else1) → listsFit (c .before .before .before .before .before .args .names .now) (c .before .before .before .before .before .args .years .now) (c .before .before .before .before .before .args .counts .now) (c .before .before .before .before .before .args .widths .now) ≡ true
-fit c = sym (c .before .lists-fit .ensures) ∙ not-false _ (c .if1 .left)
+module _ (c : tie.Else1) where
+  abbrev g : Given
+  g = given (c .before .before .before .before .before)
+
+  fit : listsFit (g .names) (g .years) (g .counts) (g .widths) ≡ true
+  fit = sym (c .before .lists-fit .ensures) ∙ not-false _ (c .if1 .left)
+
+  lists : ListsFit (g .names) (g .years) (g .counts) (g .widths)
+  lists = fits-parts (g .names) (g .years) (g .counts) (g .widths) fit
 
 -- all series can be written
 module _ (c : tie.After-enum-told) where
-  all-writable : unwritable (seriesOf (c .before .before .before .before .before .before .before .before .args .names .now) (c .before .before .before .before .before .before .before .before .args .years .now) (c .before .before .before .before .before .before .before .before .args .counts .now) (c .before .before .before .before .before .before .before .before .args .widths .now)) ≡ none
+  abbrev e : tie.Else1
+  e = c .before .before .before
+
+  all-writable : unwritable (listed (g e)) ≡ none
   all-writable = found-none-inverts _ (sym (c .before .before .first-unwritable .ensures) ∙ c .enum-told .given .1)
 
-  counted : Counted (c .before .before .before .before .before .before .before .before .args .years .now) (c .before .before .before .before .before .before .before .before .args .counts .now) (seriesOf (c .before .before .before .before .before .before .before .before .args .names .now) (c .before .before .before .before .before .before .before .before .args .years .now) (c .before .before .before .before .before .before .before .before .args .counts .now) (c .before .before .before .before .before .before .before .before .args .widths .now))
-  counted =
-      let a = c .before .before .before .before .before .before .before .before .args in
-      all-counted (a .years .now) (a .names .now) (a .counts .now) (a .widths .now) 0 [] (fits-parts (a .names .now) (a .years .now) (a .counts .now) (a .widths .now) (fit (c .before .before .before))) all-writable
+  counted : Counted (g e .years) (g e .counts) (listed (g e))
+  counted = all-counted (g e .years) (g e .names) (g e .counts) (g e .widths) 0 [] (lists e) all-writable
+
+-- the room's test
+module _ (c : tie.After-text-fits) where
+  abbrev t : tie.After-enum-told
+  t = c .before
+
+  room-test : leb (length (written (listed (g (e t))))) (length (g (e t) .text)) ≡ c .text-fits .result
+  room-test = ap (λ (n : ℕ). leb n (length (g (e t) .text))) (counted t .bytes) ∙ sym (c .text-fits .ensures)
 
 lists-fit-requires : tie.Need-lists-fit-requires
 lists-fit-requires c κs = search needs
 
 returns : tie.Need-returns
 returns c =
-    let a = c .before .before .before .before .before .args in
-    ends-refused (a .names .now) (a .years .now) (a .counts .now) (a .widths .now) (a .text .now) 2 0 (lists-misfit (a .names .now) (a .years .now) (a .counts .now) (a .widths .now) (a .text .now) (sym (c .before .lists-fit .ensures) ∙ not-true _ (c .if1 .taken)))
+    let g = given (c .before .before .before .before .before) in
+    ends-refused g (lists-misfit g (sym (c .before .lists-fit .ensures) ∙ not-true _ (c .if1 .taken)))
 
 first-unwritable-requires : tie.Need-first-unwritable-requires
 first-unwritable-requires c κs = sym (c .before .lists-fit .ensures) ∙ not-false _ (c .if1 .left)
@@ -55,39 +80,40 @@ enum-told : tie.Need-enum-told
 enum-told c = search needs
 
 text-fits-requires : tie.Need-text-fits-requires
-text-fits-requires c κs =
-    let a = c .before .before .before .before .before .before .before .before .args in
-    (fits-parts (a .names .now) (a .years .now) (a .counts .now) (a .widths .now) (fit (c .before .before .before)) .counts-fit, counted c .closed)
+text-fits-requires c κs = record { counted = lists (e c) .counts-fit; closed = counted c .closed }
 
 returns-2 : tie.Need-returns-2
 returns-2 c =
-    let a = c .before .before .before .before .before .before .before .before .before .before .args in
-    let t = c .before .before in
-    ends-refused (a .names .now) (a .years .now) (a .counts .now) (a .widths .now) (a .text .now) 1 0
-    (text-short (a .names .now) (a .years .now) (a .counts .now) (a .widths .now) (a .text .now) (fit (c .before .before .before .before .before)) (all-writable t)
-    (ap (λ (n : ℕ). leb n (length (a .text .now))) (counted t .bytes) ∙ sym (c .before .text-fits .ensures) ∙ not-true _ (c .if2 .taken)))
+    let r = c .before in
+    let k = e (t r) in
+    ends-refused (g k) (text-short (g k) (fit k) (all-writable (t r)) (room-test r ∙ not-true _ (c .if2 .taken)))
 
 put-all-requires : tie.Need-put-all-requires
 put-all-requires c κs =
-    let a = c .before .before .before .before .before .before .before .before .before .before .before .args in
-    let t = c .before .before .before in
-    (fit (c .before .before .before .before .before .before), (all-writable t, leb-true _ _ (ap (λ (n : ℕ). leb n (length (a .text .now))) (counted t .bytes) ∙ sym (c .before .before .text-fits .ensures) ∙ not-false _ (c .before .if2 .left))))
+    let r = c .before .before in
+    record {
+      lists = fit (e (t r));
+      writable = all-writable (t r);
+      fits = leb-true _ _ (room-test r ∙ not-false _ (c .before .if2 .left));
+    }
 
 returns-3 : tie.Need-returns-3
 returns-3 c =
-    let a = c .before .before .before .before .before .before .before .before .before .before .args in
-    let e = ends-refused (a .names .now) (a .years .now) (a .counts .now) (a .widths .now) (a .text .now) 11 _ (series-unwritable (a .names .now) (a .years .now) (a .counts .now) (a .widths .now) (a .text .now) (fit (c .before .before .before .before .before)) _ (found-some-inverts _ (sym (c .before .before .before .before .first-unwritable .ensures) ∙ c .before .before .found .given .1))) in
-    (ap (λ (p : ℕ). reply (Refused 11 p)) (c .place .ensures) ∙ e .0, e .1)
+    let f = c .before .before .before .before in
+    let k = f .before in
+    let at = found-some-inverts _ (sym (f .first-unwritable .ensures) ∙ c .before .before .found .given .1) in
+    let r = ends-refused (g k) (series-unwritable (g k) (fit k) _ at) in
+    (ap (λ (p : ℕ). reply (Refused 11 p)) (c .place .ensures) ∙ r .0, r .1)
 
 same-length : tie.Need-same-length
 same-length c = wrote-length (c .before .before .put-all .ensures)
 
 returns-4 : tie.Need-returns-4
 returns-4 c =
-    let a = c .before .before .before .before .before .before .before .before .before .before .before .before .before .before .args in
-    let t = c .before .before .before .before .before .before in
-    let r = ap (λ (n : ℕ). leb n (length (a .text .now))) (counted t .bytes) ∙ sym (c .before .before .before .before .before .text-fits .ensures) ∙ not-false _ (c .before .before .before .before .if2 .left) in
-    ends-written (a .names .now) (a .years .now) (a .counts .now) (a .widths .now) (a .text .now) _ _ (text-answers (a .names .now) (a .years .now) (a .counts .now) (a .widths .now) (a .text .now) (fit (c .before .before .before .before .before .before .before .before .before)) (all-writable t) r) (leb-true _ _ r) (c .before .before .put-all .ensures)
+    let r = c .before .before .before .before .before in
+    let k = e (t r) in
+    let room = room-test r ∙ not-false _ (c .before .before .before .before .if2 .left) in
+    ends-written (g k) (text-answers (g k) (fit k) (all-writable (t r)) room) (leb-true _ _ room) (c .before .before .put-all .ensures)
 
 pub write-spec : {M : Type 1} → statement M
 write-spec =

@@ -49,7 +49,8 @@ returns-2 : tie.Need-returns-2 Inv-loop μ-loop
 returns-2 c =
     let s = c .before .before in
     let l = c .before .loop in
-    left-none (total (s .args .counts .now)) (l .left) (s .args .sum) (omega (arith, l .inv .1, total-end (s .args .counts .now) (l .k) (c .loop-test .left) (l .inv .0)))
+    left-none (total (s .args .counts .now)) (l .left) (s .args .sum)
+    (omega (arith, l .inv .1, total-end (s .args .counts .now) (l .k) (c .loop-test .left) (l .inv .0)))
 
 pub adds-up-spec : {M : Type 1} → statement M
 adds-up-spec =

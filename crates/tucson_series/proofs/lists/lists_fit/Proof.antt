@@ -35,7 +35,11 @@ returns-4 : tie.Need-returns-4
 unfolding listsFit
 returns-4 c =
     let a = c .before .before .before .before .before .before .args in
-    c .adds-up .ensures ∙ sym (simp (eq-eqb (length (a .names .now)) (length (a .years .now) * 8) (omega arith), eq-eqb (length (a .counts .now)) (length (a .years .now)) (c .before .if3 .left)))
+    c .adds-up .ensures
+    ∙ sym (simp (
+      eq-eqb (length (a .names .now)) (length (a .years .now) * 8) (omega arith),
+      eq-eqb (length (a .counts .now)) (length (a .years .now)) (c .before .if3 .left),
+    ))
 
 pub lists-fit-spec : {M : Type 1} → statement M
 lists-fit-spec = tie.close (tie.spec returns returns-2 returns-3 adds-up-requires returns-4)

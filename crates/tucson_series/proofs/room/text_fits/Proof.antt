@@ -27,7 +27,7 @@ abbrev μ-loop : tie.MeasureT-loop
 μ-loop years counts room left₀ k₀ left k = length years - k
 
 loop-holds : tie.Need-loop-holds Inv-loop μ-loop
-loop-holds c = record { within = omega arith; room-is = omega arith; fit = c .before .pre .1 }
+loop-holds c = record { within = omega arith; room-is = omega arith; fit = c .before .pre .closed }
 
 mul-series-bytes : tie.Need-mul-series-bytes Inv-loop μ-loop
 mul-series-bytes c = omega arith
@@ -56,7 +56,15 @@ returns c =
     let s = c .before .before .before .before .before .before .before in
     let l = c .before .before .before .before .before .loop in
     let f : SFits w32 (getD (s .args .years .now) (l .k) (pos 0)) = record { sfits = c .before .before .before .series-bytes-arg .given } in
-    sym (lt-leb (textBytes (s .args .years .now) (s .args .counts .now)) (s .args .room) (omega (arith, l .inv .room-is, c .if1 .taken, simp toZ-ofZ at (c .before .series-bytes .ensures), bytes-step (s .args .years .now) (s .args .counts .now) (l .k) (omega arith) (omega arith))))
+    let ys = s .args .years .now in
+    let ns = s .args .counts .now in
+    sym (lt-leb (textBytes ys ns) (s .args .room) (omega (
+      arith,
+      l .inv .room-is,
+      c .if1 .taken,
+      simp toZ-ofZ at (c .before .series-bytes .ensures),
+      bytes-step ys ns (l .k) (omega arith) (omega arith),
+    )))
 
 add-k : tie.Need-add-k Inv-loop μ-loop
 add-k c = omega arith
@@ -69,17 +77,27 @@ loop-again c =
     let s = c .before .before .before .before .before .before .before in
     let l = c .before .before .before .before .before .loop in
     let f : SFits w32 (getD (s .args .years .now) (l .k) (pos 0)) = record { sfits = c .before .before .before .series-bytes-arg .given } in
+    let ys = s .args .years .now in
+    let ns = s .args .counts .now in
     record {
       within = omega arith;
-      room-is = omega (arith, l .inv .room-is, c .if1 .left, simp toZ-ofZ at (c .before .series-bytes .ensures), bytes-step (s .args .years .now) (s .args .counts .now) (l .k) (omega arith) (omega arith));
-      fit = closings-step (s .args .years .now) (s .args .counts .now) (l .k) (omega arith) (omega arith) (l .inv .fit) .1;
+      room-is = omega (
+        arith,
+        l .inv .room-is,
+        c .if1 .left,
+        simp toZ-ofZ at (c .before .series-bytes .ensures),
+        bytes-step ys ns (l .k) (omega arith) (omega arith),
+      );
+      fit = closings-step ys ns (l .k) (omega arith) (omega arith) (l .inv .fit) .1;
     }
 
 returns-2 : tie.Need-returns-2 Inv-loop μ-loop
 returns-2 c =
     let s = c .before .before .before in
     let l = c .before .loop in
-    sym (le-leb (textBytes (s .args .years .now) (s .args .counts .now)) (s .args .room) (omega (arith, l .inv .room-is, bytes-end (s .args .years .now) (s .args .counts .now) (l .k) (c .loop-test .left) (l .inv .within))))
+    let ys = s .args .years .now in
+    let ns = s .args .counts .now in
+    sym (le-leb (textBytes ys ns) (s .args .room) (omega (arith, l .inv .room-is, bytes-end ys ns (l .k) (c .loop-test .left) (l .inv .within))))
 
 pub text-fits-spec : {M : Type 1} → statement M
 text-fits-spec =

@@ -38,8 +38,11 @@ loop-less c = omega arith
 
 loop-again : tie.Need-loop-again Inv-loop μ-loop
 loop-again c =
-    let l = c .before .before .before .before .loop in
-    (omega arith, l .inv .1 ∙ printable-next (c .before .before .before .before .before .args .name .now) (l .i) (omega arith) (c .before .if1 .left) (c .if2 .left))
+    let l = c .before .before .before .before .loop in (
+      omega arith,
+      l .inv .1 ∙ printable-next (c .before .before .before .before .before .args .name .now) (l .i) (omega arith) (c .before .if1 .left)
+          (c .if2 .left),
+    )
 
 returns-3 : tie.Need-returns-3 Inv-loop μ-loop
 returns-3 c =

@@ -18,7 +18,7 @@ use Rattle.spec_tucson.specs.WriteCall.{seriesOf}
 use Rattle.theorems_tucson.proofs.TucsonCells.{fits-parts}
 use Rattle.tucson_series.specs.Sizes.{series}
 use Rattle.tucson_series.proofs.Tests.{part-is}
-use Rattle.tucson_series.proofs.Walk.{Walked, seriesFrom, seriesAt, walk-begins, walk-more, name-within, widths-within, series-step, series-end}
+use Rattle.tucson_series.proofs.Walk.{Walked, seriesFrom, walk-begins, walk-more, name-within, widths-within, series-step, series-end}
 use Rattle.tucson_series.proofs.Unwritable.{unwritable-here, unwritable-later, unwritable-none}
 use Rattle.tucson_series.proofs.writable.first_unwritable.Statement.{statement}
 use Rattle.tucson_series.proofs.writable.first_unwritable.Tie as tie
@@ -37,7 +37,8 @@ abbrev μ-loop : tie.MeasureT-loop
 loop-holds : tie.Need-loop-holds Inv-loop μ-loop
 loop-holds c =
     let a = c .before .before .args in
-    record { walked = walk-begins _ _ _ _ (fits-parts (a .names .now) (a .years .now) (a .counts .now) (a .widths .now) (c .before .before .pre)); ordered = omega arith; same = refl }
+    let fit = fits-parts (a .names .now) (a .years .now) (a .counts .now) (a .widths .now) (c .before .before .pre) in
+    record { walked = walk-begins fit; ordered = omega arith; same = refl }
 
 mul-to : tie.Need-mul-to Inv-loop μ-loop
 mul-to c = omega (arith, c .before .loop .inv .walked .passed, c .before .loop .inv .walked .counted)
@@ -52,7 +53,7 @@ add-to : tie.Need-add-to Inv-loop μ-loop
 add-to c =
     let a = c .before .before .before .before .before .args in
     let l = c .before .before .loop in
-    omega (arith, widths-within (a .names .now) (a .years .now) (a .counts .now) (a .widths .now) (l .inv .walked) (omega (arith, l .inv .walked .passed)))
+    omega (arith, widths-within (l .inv .walked) (omega (arith, l .inv .walked .passed)))
 
 mul-is-writable : tie.Need-mul-is-writable Inv-loop μ-loop
 mul-is-writable c = omega (arith, c .before .before .loop .inv .walked .passed)
@@ -64,7 +65,7 @@ mul-is-writable-2 : tie.Need-mul-is-writable-2 Inv-loop μ-loop
 mul-is-writable-2 c =
     let a = c .before .before .before .before .before .before .args in
     let l = c .before .before .before .loop in
-    omega (arith, widths-within (a .names .now) (a .years .now) (a .counts .now) (a .widths .now) (l .inv .walked) (omega (arith, l .inv .walked .passed)))
+    omega (arith, widths-within (l .inv .walked) (omega (arith, l .inv .walked .passed)))
 
 sub-is-writable : tie.Need-sub-is-writable Inv-loop μ-loop
 sub-is-writable c = omega arith
@@ -76,19 +77,19 @@ part-is-writable-end : tie.Need-part-is-writable-end Inv-loop μ-loop
 part-is-writable-end c =
     let a = c .before .before .before .before .before .before .args in
     let l = c .before .before .before .loop in
-    omega (arith, widths-within (a .names .now) (a .years .now) (a .counts .now) (a .widths .now) (l .inv .walked) (omega (arith, l .inv .walked .passed)))
+    omega (arith, widths-within (l .inv .walked) (omega (arith, l .inv .walked .passed)))
 
 is-writable-requires : tie.Need-is-writable-requires Inv-loop μ-loop
 is-writable-requires c κs =
     let a = c .before .before .before .before .before .before .before .args in
     let l = c .before .before .before .before .loop in
-    (l .inv .ordered, name-within (a .names .now) (a .years .now) (a .counts .now) (a .widths .now) (l .inv .walked) (omega (arith, l .inv .walked .passed)))
+    record { ordered = l .inv .ordered; within = name-within (l .inv .walked) (omega (arith, l .inv .walked .passed)) }
 
 add-at : tie.Need-add-at Inv-loop μ-loop
 add-at c =
     let a = c .before .before .before .before .before .before .before .before .before .args in
     let l = c .before .before .before .before .before .before .loop in
-    omega (arith, name-within (a .names .now) (a .years .now) (a .counts .now) (a .widths .now) (l .inv .walked) (omega (arith, l .inv .walked .passed)))
+    omega (arith, name-within (l .inv .walked) (omega (arith, l .inv .walked .passed)))
 
 add-k : tie.Need-add-k Inv-loop μ-loop
 add-k c = omega (arith, c .before .before .before .before .before .before .loop .inv .walked .passed)
@@ -103,14 +104,17 @@ loop-again c =
     let w = l .inv .walked in
     let h : l .k + 1 ≤ length (a .years .now) = omega (arith, w .passed) in
     let f : SFits w32 (getD (a .years .now) (l .k) (pos 0)) = record { sfits = c .before .before .before .is-writable-arg .given } in
+    let before = slice (l .before) (l .at) (a .names .now) in
+    let name = slice (l .at) (l .at + nameColumns) (a .names .now) in
+    let here = part-is (l .from) (l .from + getD (a .counts .now) (l .k) 0) (a .widths .now) (omega arith) in
     record {
-      walked = walk-more (a .names .now) (a .years .now) (a .counts .now) (a .widths .now) w (omega arith);
+      walked = walk-more w (omega arith);
       ordered = omega arith;
       same =
           l .inv .same
-          ∙ ap (firstUnwritable (l .k) (slice (l .before) (l .at) (a .names .now))) (series-step (a .names .now) (a .years .now) (a .counts .now) (a .widths .now) w (omega arith))
-          ∙ unwritable-later (l .k) _ (seriesAt (a .names .now) (a .years .now) (a .counts .now) (a .widths .now) (l .at) (l .from) (l .k)) _
-          (ap (λ (ws : List ℤ). isWritable (slice (l .before) (l .at) (a .names .now)) (series (slice (l .at) (l .at + nameColumns) (a .names .now)) (getD (a .years .now) (l .k) (pos 0)) ws)) (sym (part-is (l .from) (l .from + getD (a .counts .now) (l .k) 0) (a .widths .now) (omega arith)))
+          ∙ ap (firstUnwritable (l .k) before) (series-step w (omega arith))
+          ∙ unwritable-later (l .k) _ _ _
+          (ap (λ (ws : List ℤ). isWritable before (series name (getD (a .years .now) (l .k) (pos 0)) ws)) (sym here)
           ∙ sym (simp toZ-ofZ at (c .before .is-writable .ensures)) ∙ not-false _ (c .if2 .left));
     }
 
@@ -119,7 +123,8 @@ unfolding found
 returns c =
     let a = c .before .before .before .before .args in
     let l = c .before .loop in
-    sym (ap found (l .inv .same ∙ ap (firstUnwritable (l .k) (slice (l .before) (l .at) (a .names .now))) (series-end (a .names .now) (a .years .now) (a .counts .now) (a .widths .now) (l .inv .walked) (omega (arith, c .if1 .taken))) ∙ unwritable-none _ _))
+    let none-left = series-end (l .inv .walked) (omega (arith, c .if1 .taken)) in
+    sym (ap found (l .inv .same ∙ ap (firstUnwritable (l .k) (slice (l .before) (l .at) (a .names .now))) none-left ∙ unwritable-none _ _))
 
 returns-2 : tie.Need-returns-2 Inv-loop μ-loop
 unfolding found
@@ -128,11 +133,14 @@ returns-2 c =
     let l = c .before .before .before .before .before .before .loop in
     let w = l .inv .walked in
     let f : SFits w32 (getD (a .years .now) (l .k) (pos 0)) = record { sfits = c .before .before .before .is-writable-arg .given } in
+    let before = slice (l .before) (l .at) (a .names .now) in
+    let name = slice (l .at) (l .at + nameColumns) (a .names .now) in
+    let here = part-is (l .from) (l .from + getD (a .counts .now) (l .k) 0) (a .widths .now) (omega arith) in
     sym (ap found (
     l .inv .same
-    ∙ ap (firstUnwritable (l .k) (slice (l .before) (l .at) (a .names .now))) (series-step (a .names .now) (a .years .now) (a .counts .now) (a .widths .now) w (omega (arith, w .passed)))
-    ∙ unwritable-here (l .k) _ (seriesAt (a .names .now) (a .years .now) (a .counts .now) (a .widths .now) (l .at) (l .from) (l .k)) _
-    (ap (λ (ws : List ℤ). isWritable (slice (l .before) (l .at) (a .names .now)) (series (slice (l .at) (l .at + nameColumns) (a .names .now)) (getD (a .years .now) (l .k) (pos 0)) ws)) (sym (part-is (l .from) (l .from + getD (a .counts .now) (l .k) 0) (a .widths .now) (omega arith)))
+    ∙ ap (firstUnwritable (l .k) before) (series-step w (omega (arith, w .passed)))
+    ∙ unwritable-here (l .k) _ _ _
+    (ap (λ (ws : List ℤ). isWritable before (series name (getD (a .years .now) (l .k) (pos 0)) ws)) (sym here)
     ∙ sym (simp toZ-ofZ at (c .before .is-writable .ensures)) ∙ not-true _ (c .if2 .taken))))
 
 pub first-unwritable-spec : {M : Type 1} → statement M

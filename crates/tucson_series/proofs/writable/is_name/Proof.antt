@@ -28,7 +28,11 @@ returns-3 : tie.Need-returns-3
 unfolding isName
 returns-3 c =
     let n = c .before .before .before .before .before .args .name .now in
-    ap not (c .all-blank .ensures) ∙ sym (simp (eq-eqb (length n) 8 (c .before .before .before .if1 .left), sym (c .before .before .all-printable .ensures) ∙ not-false _ (c .before .if2 .left)))
+    ap not (c .all-blank .ensures)
+    ∙ sym (simp (
+      eq-eqb (length n) 8 (c .before .before .before .if1 .left),
+      sym (c .before .before .all-printable .ensures) ∙ not-false _ (c .before .if2 .left),
+    ))
 
 pub is-name-spec : {M : Type 1} → statement M
 is-name-spec =

@@ -28,22 +28,33 @@ part-name-start c = search needs
 part-name-end : tie.Need-part-name-end
 part-name-end c = search needs
 
+-- the names before the series, and its own
+module _ (s : tie.Start) where
+  abbrev behind : Text
+  behind = slice (s .args .before) (s .args .at) (s .args .names .now)
+
+  abbrev name : Text
+  name = slice (s .args .at) (s .args .at + nameColumns) (s .args .names .now)
+
 is-name-requires : tie.Need-is-name-requires
 is-name-requires c κs = search needs
 
 returns : tie.Need-returns
 returns c =
-    let a = c .before .before .before .before .args in
+    let s = c .before .before .before .before in
+    let a = s .args in
     let e = part-is (a .at) (a .at + nameColumns) (a .names .now) (omega arith) in
-    sym (not-named (slice (a .before) (a .at) (a .names .now)) (slice (a .at) (a .at + nameColumns) (a .names .now)) (a .year) (a .widths .now) (ap isName (sym e) ∙ sym (c .before .is-name .ensures) ∙ not-true _ (c .if1 .taken)))
+    let no = ap isName (sym e) ∙ sym (c .before .is-name .ensures) ∙ not-true _ (c .if1 .taken) in
+    sym (not-named (behind s) (name s) (a .year) (a .widths .now) no)
 
 all-widths-requires : tie.Need-all-widths-requires
 all-widths-requires c κs = search needs
 
 returns-2 : tie.Need-returns-2
 returns-2 c =
-    let a = c .before .before .before .before .before .before .args in
-    sym (not-measured (slice (a .before) (a .at) (a .names .now)) (slice (a .at) (a .at + nameColumns) (a .names .now)) (a .year) (a .widths .now) (sym (c .before .all-widths .ensures) ∙ not-true _ (c .if2 .taken)))
+    let s = c .before .before .before .before .before .before in
+    let no = sym (c .before .all-widths .ensures) ∙ not-true _ (c .if2 .taken) in
+    sym (not-measured (behind s) (name s) (s .args .year) (s .args .widths .now) no)
 
 years-fit-requires : tie.Need-years-fit-requires
 years-fit-requires c κs = search needs
@@ -52,7 +63,9 @@ returns-3 : tie.Need-returns-3
 returns-3 c =
     let s = c .before .before .before .before .before .before .before .before in
     let f : SFits w32 (s .args .year) = s .fits .year in
-    sym (not-dated (slice (s .args .before) (s .args .at) (s .args .names .now)) (slice (s .args .at) (s .args .at + nameColumns) (s .args .names .now)) (s .args .year) (s .args .widths .now) (sym (c .before .before .before .all-widths .ensures) ∙ not-false _ (c .before .before .if2 .left)) (sym (simp toZ-ofZ at (c .before .years-fit .ensures)) ∙ not-true _ (c .if3 .taken)))
+    let measured = sym (c .before .before .before .all-widths .ensures) ∙ not-false _ (c .before .before .if2 .left) in
+    let no = sym (simp toZ-ofZ at (c .before .years-fit .ensures)) ∙ not-true _ (c .if3 .taken) in
+    sym (not-dated (behind s) (name s) (s .args .year) (s .args .widths .now) measured no)
 
 begins-requires : tie.Need-begins-requires
 begins-requires c κs = search needs
@@ -61,11 +74,13 @@ returns-4 : tie.Need-returns-4
 returns-4 c =
     let s = c .before .before .before .before .before .before .before .before .before in
     let f : SFits w32 (s .args .year) = s .fits .year in
-    let b = slice (s .args .before) (s .args .at) (s .args .names .now) in
-    let n = slice (s .args .at) (s .args .at + nameColumns) (s .args .names .now) in
     let e = part-is (s .args .at) (s .args .at + nameColumns) (s .args .names .now) (omega arith) in
-    ap not (c .begins .ensures ∙ ap (λ (t : Text). beginsWith t b) e)
-    ∙ sym (named-apart b n (s .args .year) (s .args .widths .now) (ap isName (sym e) ∙ sym (c .before .before .before .before .before .before .is-name .ensures) ∙ not-false _ (c .before .before .before .before .before .if1 .left)) (sym (c .before .before .before .before .all-widths .ensures) ∙ not-false _ (c .before .before .before .if2 .left)) (sym (simp toZ-ofZ at (c .before .before .years-fit .ensures)) ∙ not-false _ (c .before .if3 .left)))
+    let t = c .before .before .before .before in
+    let named = ap isName (sym e) ∙ sym (t .before .before .is-name .ensures) ∙ not-false _ (t .before .if1 .left) in
+    let measured = sym (t .all-widths .ensures) ∙ not-false _ (c .before .before .before .if2 .left) in
+    let dated = sym (simp toZ-ofZ at (c .before .before .years-fit .ensures)) ∙ not-false _ (c .before .if3 .left) in
+    ap not (c .begins .ensures ∙ ap (λ (u : Text). beginsWith u (behind s)) e)
+    ∙ sym (named-apart (behind s) (name s) (s .args .year) (s .args .widths .now) named measured dated)
 
 pub is-writable-spec : {M : Type 1} → statement M
 is-writable-spec =

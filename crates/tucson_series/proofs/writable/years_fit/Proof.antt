@@ -34,7 +34,8 @@ unfolding closingFits
 returns-3 c =
     let s = c .before .before .before in
     let f : SFits w32 (s .args .year) = s .fits .year in
-    ap (leb (s .args .count)) (simp toZ-ofZ at (c .years-left .ensures)) ∙ sym (simp (year-within (s .args .year) (simp toZ-ofZ at (c .before .before .if1 .left)) (simp toZ-ofZ at (c .before .if2 .left))))
+    let within = year-within (s .args .year) (simp toZ-ofZ at (c .before .before .if1 .left)) (simp toZ-ofZ at (c .before .if2 .left)) in
+    ap (leb (s .args .count)) (simp toZ-ofZ at (c .years-left .ensures)) ∙ sym (simp within)
 
 pub years-fit-spec : {M : Type 1} → statement M
 years-fit-spec = tie.close (tie.spec returns returns-2 years-left-requires returns-3)
