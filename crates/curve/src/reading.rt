@@ -1,4 +1,5 @@
-// The values at the positions: the first columns and the first positions of the segments once, and then position by position.
+// The values at the positions: the first columns and positions of the segments and the inverses of their lengths once, and then
+// position by position.
 ghost use mathlib.Core.Path.{_≡_};
 ghost use mathlib.Core.List.{[]};
 ghost use Rattle.build_space.specs.Machine.{space};
@@ -37,13 +38,17 @@ pub fn write_values(
 {
     let columns = first_columns(degrees);
     let firsts = curve_triangle::first_positions(breaks, degrees, orders);
+    let wholes = curve_triangle::inverse_wholes(breaks, degrees);
+    let parts = curve_triangle::inverse_parts(breaks, degrees);
     let mut at = 0;
     let mut k = 0;
     while k < positions.len() {
         let x = positions[k];
         at = curve_triangle::segment_near(&firsts, degrees.len(), x, at);
         let place = curve_triangle::place_at(breaks, degrees, &columns, at, x);
-        let pair = curve_triangle::pair_at(earlywood, latewood, place);
+        let whole = wholes[at];
+        let part = parts[at];
+        let pair = curve_triangle::pair_at(earlywood, latewood, place, whole, part);
         let early = pair.early;
         let late = pair.late;
         values[2 * k] = early;

@@ -1,7 +1,7 @@
 -- The blend of two neighbours: it is no larger in size than they are, and the rate of its position gives it.
-use mathlib.Core.Path.{_≡_, refl, sym, _∙_, ap, ap₂}
+use mathlib.Core.Path.{_≡_, refl, sym, _∙_, ap, subst}
 use mathlib.Core.List.{[], _∷_}
-use Prim.Native.Nat.{ℕ, _*_, _<_, _≤_}
+use Prim.Native.Nat.{ℕ, _+_, _*_, _/_, _<_, _≤_}
 use native.Mathlib.Nat.{div-le-self}
 use native.Mathlib.Omega.{arith}
 use lib.IntN.{ℤ, pos, negsuc, negℤ, natAbs, _+ℤ_, _-ℤ_, _*ℤ_}
@@ -9,15 +9,15 @@ use lib.Signed.{_≤ℤ_}
 use Rattle.base_exact.specs.Floor.{floorDiv, nearest}
 use Rattle.base_exact.proofs.Ring.{ring, reads}
 use Rattle.base_exact.proofs.Integer.{ℤ-ring, ≤-in, ≤-out, <-out, <-≤, +-comm, *-comm, *-mono, *-pos, bal-+, bal-*, bal-neg, abs-le}
-use Rattle.base_exact.proofs.Integer.{abs-le-in, abs-le-out, abs-mono, abs-sub, abs-mul-le, floorDiv-le, lt-floorDiv, le-floorDiv}
+use Rattle.base_exact.proofs.Integer.{abs-le-in, abs-le-out, abs-mono, abs-add, abs-sub, abs-mul-le, floorDiv-le, lt-floorDiv, le-floorDiv}
 use Rattle.base_exact.proofs.Floor.{floorDiv-mono, floorDiv-exact, nearest-add}
-use Rattle.base_exact.proofs.Rate.{lack, lack-bounds, quotient-nearest}
 use Rattle.base_exact.proofs.Word.{pos-of}
 use Rattle.spec_spline.specs.Reading.{blend, rounded}
 use Rattle.theorems_values.proofs.Triangle.{Between, blend-between}
 use Rattle.curve_ordinates.specs.Ordinates.{ordinateLimit}
-use Rattle.curve_triangle.specs.Offsets.{Offset}
-use Rattle.curve_triangle.specs.Rate.{highOf, lowOf, Rated}
+use Rattle.curve_triangle.specs.Offsets.{Length, Offset}
+use Rattle.curve_triangle.specs.Rate.{wholeOf, partOf, lack, Rated, RateAsks, RateIs}
+use Rattle.curve_triangle.proofs.Rate.{quotient-nearest, rate-lacks}
 
 -- sizes keep within a bound
 pub blend-abs : (d : ℕ) (u g h : ℤ) → 0 < d → pos 0 ≤ℤ u → u ≤ℤ pos d → (k : ℕ) → natAbs g ≤ k → natAbs h ≤ k → natAbs (blend d u g h) ≤ k
@@ -35,7 +35,7 @@ blend-is d u g h positive = sym (ap (λ t. nearest t d) (alg (pos d)) ∙ neares
     alg : (d : ℤ) → (d -ℤ u) *ℤ g +ℤ u *ℤ h ≡ u *ℤ (h -ℤ g) +ℤ g *ℤ d
     alg d = ring ℤ-ring (d ∷ u ∷ g ∷ h ∷ []) (search reads) (search reads) refl
 
--- ---- the rate of an offset: its parts and what is worked out on the way keep within 64 bits
+-- ---- the inverse of a length, and the rate of an offset: all that is worked out on the way keeps within 64 bits
 
 -- k times a part of d, over d, is at most k
 share-abs : (v : ℤ) (n k : ℕ) → 0 < n → pos 0 ≤ℤ v → v ≤ℤ pos n → natAbs (floorDiv (v *ℤ pos k) n) ≤ k
@@ -64,66 +64,128 @@ rest-bounds z n p =
       )),
     )
 
+rest-abs : (z : ℤ) (n : ℕ) → 0 < n → natAbs (z -ℤ floorDiv z n *ℤ pos n) ≤ n
+rest-abs z n p = abs-mono (z -ℤ floorDiv z n *ℤ pos n) (pos n) (rest-bounds z n p .0) (rest-bounds z n p .1)
+
 -- no quotient is larger in size than its dividend
 floorDiv-abs : (z : ℤ) (k : ℕ) → natAbs (floorDiv z k) ≤ natAbs z
 floorDiv-abs (pos a) k = omega (arith, div-le-self a k)
 floorDiv-abs (negsuc a) k = omega (arith, div-le-self a k)
 
+-- a shift by 29 bits
+shift-abs : (z : ℤ) (m : ℕ) → natAbs z ≤ m * 536870912 → natAbs (floorDiv z 536870912) ≤ m
+shift-abs (pos a) m h = omega arith
+shift-abs (negsuc a) m h = omega arith
+
 -- sizes of an offset
 pub offset-abs : (u d : ℤ) → Offset u d → natAbs u ≤ 512000
 offset-abs u d o = abs-le u 512000 (omega (arith, ≤-out _ _ (o .below), ≤-out _ _ (o .short))) (omega (arith, ≤-out _ _ (o .above)))
 
--- what the first part leaves of 2^33 u
-abbrev pub rest : ℤ → ℤ → ℤ
-rest u d = u *ℤ pos 8589934592 -ℤ highOf u d *ℤ d
+-- what the first number of the inverse leaves of 2^62
+abbrev pub rest : ℤ → ℤ
+rest d = pos 4611686018427387904 -ℤ wholeOf d *ℤ d
 
-pub record Sizes (u d : ℤ) : Type 0 where
-  pub fine-abs : natAbs (u *ℤ pos 8589934592) ≤ 512000 * 8589934592
-  pub high-abs : natAbs (highOf u d) ≤ 8589934592
-  pub back-abs : natAbs (highOf u d *ℤ d) ≤ 8589934592 * 512000
-  pub rest-inside : Offset (rest u d) d
-  pub low-abs : natAbs (lowOf u d) ≤ 131072
-  pub width-abs : natAbs d ≤ 512000
-  pub positive : 0 < natAbs d
-  pub lacks : natAbs (lack u (highOf u d) (lowOf u d) (pos (natAbs d))) ≤ natAbs d
+pub record InverseSizes (d : ℤ) : Type 0 where
+  pub back-abs : natAbs (wholeOf d *ℤ d) ≤ 4611686018427387904
+  pub rest-inside : Offset (rest d) d
+  pub part-abs : natAbs (partOf d) ≤ 536870912
+  pub left-abs : natAbs ((pos 4611686018427387904 -ℤ wholeOf d *ℤ pos (natAbs d)) *ℤ pos 536870912 -ℤ partOf d *ℤ pos (natAbs d)) ≤ natAbs d
 
-pub sizes : (u d : ℤ) → Offset u d → Sizes u d
-sizes u (negsuc n) o = absurd (o .long .lt)
-sizes u (pos n) o = record {
-  fine-abs = abs-mul-le u (pos 8589934592) 512000 8589934592 (offset-abs u (pos n) o) (omega arith);
-  high-abs = share-abs u n 8589934592 p (o .above) (o .below);
-  back-abs = abs-mul-le (highOf u (pos n)) (pos n) 8589934592 512000 (share-abs u n 8589934592 p (o .above) (o .below))
-      (omega (arith, ≤-out _ _ (o .short)));
+pub inverse-sizes : (d : ℤ) → Length d → InverseSizes d
+unfolding wholeOf partOf
+inverse-sizes (negsuc n) o = absurd (o .long .lt)
+inverse-sizes (pos n) o = record {
+  back-abs = omega (arith, ≤-out _ _ (floorDiv-le (pos 4611686018427387904) n p));
   rest-inside = record { above = left .0; below = left .1; long = o .long; short = o .short };
-  low-abs = share-abs (rest u (pos n)) n 131072 p (left .0) (left .1);
-  width-abs = omega (arith, ≤-out _ _ (o .short));
-  positive = p;
-  lacks = lack-bounds u (highOf u (pos n)) n p;
+  part-abs = share-abs (pos 4611686018427387904 -ℤ floorDiv (pos 4611686018427387904) n *ℤ pos n) n 536870912 p (left .0) (left .1);
+  left-abs = rest-abs ((pos 4611686018427387904 -ℤ floorDiv (pos 4611686018427387904) n *ℤ pos n) *ℤ pos 536870912) n p;
 }
   where
     p : 0 < n
     p = omega (arith, <-out (pos 0) (pos n) (o .long))
 
-    left : (pos 0 ≤ℤ rest u (pos n)) × (rest u (pos n) ≤ℤ pos n)
-    left = rest-bounds (u *ℤ pos 8589934592) n p
+    left : (pos 0 ≤ℤ (pos 4611686018427387904 -ℤ floorDiv (pos 4611686018427387904) n *ℤ pos n))
+        × ((pos 4611686018427387904 -ℤ floorDiv (pos 4611686018427387904) n *ℤ pos n) ≤ℤ pos n)
+    left = rest-bounds (pos 4611686018427387904) n p
+
+-- ---- the rate of an offset from that
+abbrev pub more : ℤ → ℤ → ℤ
+more u part = floorDiv (u *ℤ part) 536870912
+
+abbrev pub total : ℤ → ℤ → ℤ → ℤ
+total u whole part = u *ℤ whole +ℤ more u part
+
+abbrev pub high : ℤ → ℤ → ℤ → ℤ
+high u whole part = floorDiv (total u whole part) 536870912
+
+abbrev pub low : ℤ → ℤ → ℤ → ℤ
+low u whole part = total u whole part -ℤ high u whole part *ℤ pos 536870912
+
+product-abs : (u d : ℤ) → Offset u d → natAbs (u *ℤ wholeOf d) ≤ 4611686018427387904
+unfolding wholeOf
+product-abs u (negsuc n) o = absurd (o .long .lt)
+product-abs u (pos n) o = omega (
+  arith,
+  abs-mul-le u (pos (4611686018427387904 / n)) n (4611686018427387904 / n) (abs-mono u (pos n) (o .above) (o .below)) (omega arith),
+  ≤-out _ _ (floorDiv-le (pos 4611686018427387904) n (omega (arith, <-out (pos 0) (pos n) (o .long)))),
+)
+
+pub record RateSizes (u whole part : ℤ) : Type 0 where
+  pub offset-small : natAbs u ≤ 512000
+  pub part-small : natAbs part ≤ 536870912
+  pub product-small : natAbs (u *ℤ whole) ≤ 4611686018427387904
+  pub more-small : natAbs (more u part) ≤ 512000
+
+pub rate-sizes : (u whole part : ℤ) → RateAsks u whole part → RateSizes u whole part
+rate-sizes u whole part h =
+    let d = h .width in
+    let s = inverse-sizes d (record { long = h .inside .long; short = h .inside .short }) in
+    let few = offset-abs u d (h .inside) in
+    let part-small : natAbs part ≤ 536870912 = rw (h .inverted .part-is) (s .part-abs) in
+    record {
+      offset-small = few;
+      part-small = part-small;
+      product-small = rw (h .inverted .whole-is) (product-abs u d (h .inside));
+      more-small = shift-abs (u *ℤ part) 512000 (abs-mul-le u part 512000 536870912 few part-small);
+    }
+
+module _ (u whole part : ℤ) (s : RateSizes u whole part) where
+  pub total-abs : natAbs (total u whole part) ≤ 4611686018427387904 + 512000
+  total-abs = omega (arith, abs-add (u *ℤ whole) (more u part), s .product-small, s .more-small)
+
+  pub high-abs : natAbs (high u whole part) ≤ 8589934592 + 524288
+  high-abs = shift-abs (total u whole part) (8589934592 + 524288) (omega (arith, total-abs))
+
+  pub low-abs : natAbs (low u whole part) ≤ 536870912
+  low-abs = rest-abs (total u whole part) 536870912 (omega arith)
+
+-- it is the rate of the offset in each segment of this inverse
+pub rate-is : (u whole part : ℤ) → RateSizes u whole part → RateIs u whole part (high u whole part) (low u whole part)
+rate-is u whole part s d o inverted = record {
+  inside = o;
+  high-small = high-abs u whole part s;
+  low-small = low-abs u whole part s;
+  lacks = subst (λ (z : ℤ). natAbs (lack u (high u whole part) (low u whole part) z) ≤ 2 * natAbs d) (sym (pos-of d (o .long) .0))
+      (rate-lacks u whole part (more u part) (high u whole part) (natAbs d) (s .offset-small)
+      (rw (inverted .whole-is, inverted .part-is) (inverse-sizes d (record { long = o .long; short = o .short }) .left-abs))
+      (rest-abs (u *ℤ part) 536870912 (omega arith)));
+}
 
 -- ---- a share of a number by the rate
 module _ (high low u d x : ℤ) (rated : Rated high low u d) (size : natAbs x ≤ 536870912) where
-  pub low-abs : natAbs (low) ≤ 131072
-  low-abs = rw (rated .low-is) (sizes u d (rated .inside) .low-abs)
+  pub whole-abs : natAbs (x *ℤ high) ≤ 536870912 * (8589934592 + 524288)
+  whole-abs = abs-mul-le x high 536870912 (8589934592 + 524288) size (rated .high-small)
 
-  pub whole-abs : natAbs (x *ℤ high) ≤ 536870912 * 8589934592
-  whole-abs = abs-mul-le x (high) 536870912 8589934592 size (rw (rated .high-is) (sizes u d (rated .inside) .high-abs))
+  pub part-abs : natAbs (floorDiv (x *ℤ low) 536870912) ≤ 536870912
+  part-abs = shift-abs (x *ℤ low) 536870912 (abs-mul-le x low 536870912 536870912 size (rated .low-small))
 
-  pub part-abs : natAbs (floorDiv (x *ℤ low) 131072) ≤ 536870912 * 131072
-  part-abs = omega (arith, floorDiv-abs (x *ℤ low) 131072, abs-mul-le x (low) 536870912 131072 size low-abs)
-
-  pub share-is : (half : ℕ) → 4294971392 ≤ half → half ≤ 4294971588
-      → floorDiv (x *ℤ high +ℤ floorDiv (x *ℤ low) 131072 +ℤ pos half) 8589934592 ≡ nearest (u *ℤ x) (natAbs d)
+  pub share-is : (half : ℕ) → 4294967298 ≤ half → half ≤ 4294975682
+      → floorDiv (x *ℤ high +ℤ floorDiv (x *ℤ low) 536870912 +ℤ pos half) 8589934592 ≡ nearest (u *ℤ x) (natAbs d)
   share-is half enough close =
-      let s = sizes u d (rated .inside) in
-      ap₂ (λ (a b : ℤ). floorDiv (x *ℤ a +ℤ floorDiv (x *ℤ b) 131072 +ℤ pos half) 8589934592) (rated .high-is) (rated .low-is)
-      ∙ quotient-nearest half enough close u (highOf u d) (lowOf u d) x (natAbs d) (s .positive) (s .width-abs) size (s .lacks)
+      let n = pos-of d (rated .inside .long) in
+      quotient-nearest half enough close u high low x (natAbs d) (n .1)
+      (abs-le d 512000 (omega (arith, ≤-out _ _ (rated .inside .short))) (omega (arith, <-out _ _ (rated .inside .long))))
+      size (subst (λ (z : ℤ). natAbs (lack u high low z) ≤ 2 * natAbs d) (n .0) (rated .lacks))
 
 -- ---- the blend on the machine
 module _ (u d g h : ℤ) (o : Offset u d) (p : natAbs g ≤ ordinateLimit) (q : natAbs h ≤ ordinateLimit) where

@@ -92,6 +92,10 @@ module _ (b d o : List ℤ) (x : ℤ) (i : ℕ) (at : i ≡ segmentAt (space b d
     width = (e-is ∙ ap (λ n. pos (fineWidth (space b d o) n)) at) z;
   }
 
+pub place-width : (s : Space) (x : ℤ) → placeOf s x .width ≡ pos (fineWidth s (segmentAt s x))
+unfolding placeOf
+place-width s x = refl
+
 -- ---- the value
 
 -- from the segment's ordinates in an array of six

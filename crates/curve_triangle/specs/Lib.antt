@@ -2,3 +2,4 @@
 pub mod Offsets
 pub mod Place
 pub mod Rate
+pub mod Inverses

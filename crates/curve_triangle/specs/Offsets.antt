@@ -53,6 +53,11 @@ pub record Within (s : Space) (x : ℤ) : Type 0 where
   pub low : fine (break s 0) ≤ℤ x
   pub high : x ≤ℤ fine (break s (segments s))
 
+-- The length of a segment of at most 2,000 rings.
+pub record Length (d : ℤ) : Type 0 where
+  pub long : pos 0 <ℤ d
+  pub short : d ≤ℤ pos (fineness * spanLimit)
+
 -- u of d: an offset in a segment of at most 2,000 rings.
 pub record Offset (u d : ℤ) : Type 0 where
   pub above : pos 0 ≤ℤ u

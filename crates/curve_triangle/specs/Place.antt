@@ -9,7 +9,7 @@ use Rattle.spec_spline.specs.Reading as reading
 use Rattle.build_space.specs.Machine.{space}
 use Rattle.build_space.specs.Legal.{ListsLegal}
 use Rattle.curve_triangle.specs.Offsets.{columnLimit, columnsOf, BeamOrdinates, Within, Offset}
-use Rattle.curve_triangle.specs.Rate.{Rated, SomeRate}
+use Rattle.curve_triangle.specs.Rate.{Inverted, Rated, SomeRate}
 use Rattle.curve_triangle.specs.declared.Pair.{Pair}
 use Rattle.curve_triangle.specs.declared.Place.{Place}
 
@@ -54,9 +54,10 @@ pub record ValueAtAsks (os : List ℤ) (p : Place) : Type 0 where
   pub sound : Sound p
   pub ordinates : BeamOrdinates os
 
--- A place, and the ordinates of both.
-pub record PairAsks (earlywood latewood : List ℤ) (p : Place) : Type 0 where
+-- A place, the ordinates of both, and the inverse of the length.
+pub record PairAsks (earlywood latewood : List ℤ) (p : Place) (whole part : ℤ) : Type 0 where
   pub sound : Sound p
+  pub inverted : Inverted whole part (p .width)
   pub early-ordinates : BeamOrdinates earlywood
   pub late-ordinates : BeamOrdinates latewood
 

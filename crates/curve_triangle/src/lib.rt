@@ -1,5 +1,5 @@
 // The values at one position: its place and its rate, found once for both woods, and for each wood the segment's ordinates and
-// the de Casteljau triangle on them.
+// the de Casteljau triangle on them. A rate takes the inverse of the segment's length, worked out once a call.
 ghost use mathlib.Core.Path.{_≡_};
 ghost use mathlib.Core.List.{List, []};
 ghost use mathlib.Core.Option.{Option·getD};
@@ -12,6 +12,7 @@ ghost use Rattle.build_space.specs.Legal.{ListsLegal};
 ghost use Rattle.base_outcome.specs.Search;
 ghost use Rattle.spec_spline.specs.Reading;
 ghost use Rattle.curve_triangle.specs.Offsets.{firstPosition, firstPositionsOf, localOf, BreakAt, StartAt};
+ghost use Rattle.curve_triangle.specs.Inverses.{wholesOf, partsOf, InversesAsk};
 ghost use Rattle.curve_triangle.specs.Place.{valueOf, PlaceAsks, PlaceIs, ValueAsks, ValueIs, ValueAtAsks, PairAsks, PairIs};
 
 mod triangle;
@@ -138,6 +139,38 @@ pub fn fine_width(breaks: &[i32], i: usize) -> i64
     256 * length
 }
 
+// The inverses of the lengths of the segments, rounded down.
+pub fn inverse_wholes(breaks: &[i32], degrees: &[i32]) -> [i64; build_space::MAX_SEGMENTS]
+    requires { ⌜ InversesAsk (now breaks) (now degrees) ⌝ }
+    ensures { λ r. ⌜ r ≡ wholesOf (space (now (breaks .entry)) (now (degrees .entry)) []) ⌝ }
+{
+    let mut wholes = [0; build_space::MAX_SEGMENTS];
+    let mut k = 0;
+    while k < degrees.len() {
+        let d = fine_width(breaks, k);
+        let whole = crate::triangle::whole_of(d);
+        wholes[k] = whole;
+        k += 1;
+    }
+    wholes
+}
+
+// What these lack, in 2^29ths.
+pub fn inverse_parts(breaks: &[i32], degrees: &[i32]) -> [i64; build_space::MAX_SEGMENTS]
+    requires { ⌜ InversesAsk (now breaks) (now degrees) ⌝ }
+    ensures { λ r. ⌜ r ≡ partsOf (space (now (breaks .entry)) (now (degrees .entry)) []) ⌝ }
+{
+    let mut parts = [0; build_space::MAX_SEGMENTS];
+    let mut k = 0;
+    while k < degrees.len() {
+        let d = fine_width(breaks, k);
+        let part = crate::triangle::part_of(d);
+        parts[k] = part;
+        k += 1;
+    }
+    parts
+}
+
 // How far position x lies past the start of segment i.
 fn offset(breaks: &[i32], i: usize, x: i32) -> i64
     requires { ⌜ BreakAt (now breaks) i ⌝ }
@@ -195,20 +228,32 @@ pub fn value_at(ordinates: &[i32], place: Place) -> i32
     requires { ⌜ ValueAtAsks (now ordinates) place ⌝ }
     ensures { λ r. ⌜ r ≡ valueOf (now (ordinates .entry)) place ⌝ }
 {
-    let rate = crate::triangle::rate_of(place.offset, place.width);
+    let d = place.width;
+    let whole = crate::triangle::whole_of(d);
+    let part = crate::triangle::part_of(d);
+    let rate = crate::triangle::rate_of(place.offset, whole, part);
     value_by(ordinates, place.column, place.degree, rate.high, rate.low)
 }
 
-// The values of both woods at a place, by one rate.
-pub fn pair_at(earlywood: &[i32], latewood: &[i32], place: Place) -> Pair
-    requires { ⌜ PairAsks (now earlywood) (now latewood) place ⌝ }
+// The values of both woods at a place, by one rate, from the inverse of the segment's length. The one blend of degree 1 is made
+// here, without a call.
+pub fn pair_at(earlywood: &[i32], latewood: &[i32], place: Place, whole: i64, part: i64) -> Pair
+    requires { ⌜ PairAsks (now earlywood) (now latewood) place whole part ⌝ }
     ensures { λ r. ⌜ PairIs (now (earlywood .entry)) (now (latewood .entry)) place r ⌝ }
 {
     let c = place.column;
     let p = place.degree;
-    let rate = crate::triangle::rate_of(place.offset, place.width);
+    let rate = crate::triangle::rate_of(place.offset, whole, part);
     let h = rate.high;
     let l = rate.low;
+    if p == 1 {
+        let first = value_of(earlywood, c, 1, h, l);
+        let second = value_of(latewood, c, 1, h, l);
+        return Pair {
+            early: first,
+            late: second,
+        };
+    }
     let early = value_by(earlywood, c, p, h, l);
     let late = value_by(latewood, c, p, h, l);
     Pair {

@@ -3,56 +3,68 @@ ghost use mathlib.Core.Path.{_≡_};
 ghost use Prim.Native.Nat.{_^_};
 ghost use lib.IntN.{ℤ, natAbs, _*ℤ_};
 ghost use Rattle.base_exact.specs.Floor.{floorDiv, nearest};
-ghost use Rattle.curve_triangle.specs.Offsets.{Offset};
-ghost use Rattle.curve_triangle.specs.Rate.{Rated, ScaleAsks, CarryAsks, ShareAsks, BlendAsks, StageAsks};
-ghost use Rattle.curve_triangle.specs.Rate.{BlendIs, StageIs, TriangleIs};
+ghost use Rattle.curve_triangle.specs.Offsets.{Length};
+ghost use Rattle.curve_triangle.specs.Rate.{wholeOf, partOf, Rated, RateAsks, CarryAsks, ShareAsks, BlendAsks, StageAsks};
+ghost use Rattle.curve_triangle.specs.Rate.{RateIs, BlendIs, StageIs, TriangleIs};
 
-// The parts of a rate count 2^33ths and 2^50ths: these are 2^33 and 2^17, with their bits.
-const HIGH: i64 = 8589934592;
+// The inverse of a length counts 2^62ths and 2^29ths of them, a rate 2^33ths and 2^29ths of them: these are 2^62 and 2^29, and the
+// bits of 2^33 and 2^29.
+const UNIT: i64 = 4611686018427387904;
 
-const LOW: i64 = 131072;
+const FINE: i64 = 536870912;
 
 const HIGH_BITS: u32 = 33;
 
-const LOW_BITS: u32 = 17;
+const FINE_BITS: u32 = 29;
 
 // Half of 2^33, and 2^12 for what a rate lacks.
 const HALF: i64 = 4294971392;
 
-// u / d as two whole numbers: 2^33 u / d rounded down, and 17 bits more.
+// u / d as two whole numbers: 2^33ths, and 29 bits more.
 pub struct Rate {
     pub high: i64,
     pub low: i64,
 }
 
-// v k / d, rounded down.
-fn scaled(v: i64, k: i64, d: i64) -> i64
-    requires { ⌜ ScaleAsks v k d ⌝ }
-    ensures { λ r. ⌜ r ≡ floorDiv (v *ℤ k) (natAbs d) ⌝ }
+// 2^62 / d, rounded down.
+pub fn whole_of(d: i64) -> i64
+    requires { ⌜ Length d ⌝ }
+    ensures { λ r. ⌜ r ≡ wholeOf d ⌝ }
 {
-    v * k / d
+    UNIT / d
 }
 
-// Two divisions, in place of one for each blend.
-pub fn rate_of(u: i64, d: i64) -> Rate
-    requires { ⌜ Offset u d ⌝ }
-    ensures { λ r. ⌜ Rated (r .high) (r .low) u d ⌝ }
+// 29 bits more of 2^62 / d.
+pub fn part_of(d: i64) -> i64
+    requires { ⌜ Length d ⌝ }
+    ensures { λ r. ⌜ r ≡ partOf d ⌝ }
 {
-    let high = scaled(u, HIGH, d);
-    let rest = u * HIGH - high * d;
-    let low = scaled(rest, LOW, d);
+    let whole = whole_of(d);
+    let rest = UNIT - whole * d;
+    rest * FINE / d
+}
+
+// A number of 2^29ths times a rise or an offset, rounded down.
+fn carried(rise: i64, low: i64) -> i64
+    requires { ⌜ CarryAsks rise low ⌝ }
+    ensures { λ r. ⌜ r ≡ floorDiv (rise *ℤ low) (2 ^ 29) ⌝ }
+{
+    (rise * low) >> FINE_BITS
+}
+
+// By products, in place of a division for each position or blend.
+pub fn rate_of(u: i64, whole: i64, part: i64) -> Rate
+    requires { ⌜ RateAsks u whole part ⌝ }
+    ensures { λ r. ⌜ RateIs u whole part (r .high) (r .low) ⌝ }
+{
+    let more = carried(u, part);
+    let total = u * whole + more;
+    let high = total >> FINE_BITS;
+    let low = total - high * FINE;
     Rate {
         high: high,
         low: low,
     }
-}
-
-// What the low part of a rate adds to a rise, in 2^33ths, rounded down.
-fn carried(rise: i64, low: i64) -> i64
-    requires { ⌜ CarryAsks rise low ⌝ }
-    ensures { λ r. ⌜ r ≡ floorDiv (rise *ℤ low) (2 ^ 17) ⌝ }
-{
-    (rise * low) >> LOW_BITS
 }
 
 // The nearest number to the rise times u / d, by products and shifts.

@@ -15,7 +15,7 @@ use Rattle.curve_triangle.proofs.triangle.carried.Tie as tie
 
 product-fits : (c : tie.Start) → SFits w64 (c .args .rise *ℤ c .args .low)
 product-fits c =
-    sfits-abs (omega (arith, abs-mul-le (c .args .rise) (c .args .low) 536870912 131072 (c .pre .rise-small) (c .pre .low-small)))
+    sfits-abs (omega (arith, abs-mul-le (c .args .rise) (c .args .low) 536870912 536870912 (c .pre .rise-small) (c .pre .low-small)))
 
 mul-result : tie.Need-mul-result
 mul-result c = let f = c .fits .rise in let g = c .fits .low in simp toZ-ofZ (product-fits c)
@@ -31,7 +31,7 @@ returns c =
     let f = c .fits .rise in
     let g = c .fits .low in
     let h = product-fits c in
-    let k : SFits w64 (floorDiv (c .args .rise *ℤ c .args .low) 131072) = floor-fits 131072 (product-fits c) in
+    let k : SFits w64 (floorDiv (c .args .rise *ℤ c .args .low) 536870912) = floor-fits 536870912 (product-fits c) in
     simp (toZ-ofZ, floorDiv-shrZ) refl
 
 pub carried-spec : {M : Type 1} → statement M

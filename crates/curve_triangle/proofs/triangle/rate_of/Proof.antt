@@ -1,98 +1,136 @@
--- `triangle::triangle::rate_of` meets its contract: what the first part leaves is an offset again, so that nothing leaves 64 bits.
--- Assumes nothing.
+-- `triangle::triangle::rate_of` meets its contract: the products and their sum keep within 64 bits. Assumes nothing.
 use native.Mathlib.Omega.{arith}
 use borrow.Author.Needs.{needs}
-use mathlib.Core.Path.{_≡_, sym, ap, _∙_, subst}
-use lib.IntN.{ℤ, pos, natAbs, _-ℤ_, _*ℤ_}
+use mathlib.Core.Path.{_≡_, sym, ap, ap₂, _∙_, subst}
+use Prim.Native.Nat.{_*_, _+_, _≤_}
+use lib.IntN.{ℤ, pos, natAbs, _+ℤ_, _-ℤ_, _*ℤ_}
+use lib.Signed.{shrZ}
 use mir.Syntax.{w64}
 use mir.Val.{SFits}
 use mir.ValLaws.{toZ-ofZ}
 use Rattle.base_exact.specs.Floor.{floorDiv}
-use Rattle.base_exact.proofs.Integer.{≤-in}
-use Rattle.base_exact.proofs.Word.{sfits-abs}
-use Rattle.curve_triangle.specs.Offsets.{Offset}
-use Rattle.curve_triangle.specs.Rate.{highOf, lowOf}
-use Rattle.curve_triangle.proofs.Blend.{offset-abs, rest, Sizes, sizes}
+use Rattle.base_exact.proofs.Floor.{floorDiv-shrZ}
+use Rattle.base_exact.proofs.Word.{sfits-abs, abs-mul-le}
+use Rattle.curve_triangle.specs.Rate.{Rated, RateIs}
+use Rattle.curve_triangle.proofs.Blend.{more, high, low, RateSizes, rate-sizes, total-abs, high-abs, low-abs, rate-is}
 use Rattle.curve_triangle.proofs.triangle.rate_of.Statement.{statement}
 use Rattle.curve_triangle.proofs.triangle.rate_of.Tie as tie
 
-scaled-requires : tie.Need-scaled-requires
-scaled-requires c κs =
+sizes : (c : tie.Start) → RateSizes (c .args .u) (c .args .whole) (c .args .part)
+sizes c = rate-sizes (c .args .u) (c .args .whole) (c .args .part) (c .pre)
+
+carried-requires : tie.Need-carried-requires
+carried-requires c κs =
     let f = c .fits .u in
-    let g = c .fits .d in
-    simp toZ-ofZ (record { inside = c .pre; above = ≤-in (pos 0) (pos 8589934592) (omega arith); small = omega arith })
+    let g = c .fits .part in
+    let s = sizes c in
+    simp toZ-ofZ (record { rise-small = omega (arith, s .offset-small); low-small = s .part-small })
 
-module _ (c : tie.After-scaled) where
+module _ (c : tie.After-carried) where
+  abbrev start : tie.Start
+  start = c .before
+
   abbrev u : ℤ
-  u = c .before .args .u
+  u = start .args .u
 
-  abbrev d : ℤ
-  d = c .before .args .d
+  abbrev whole : ℤ
+  whole = start .args .whole
 
-  bounds : Sizes u d
-  bounds = sizes u d (c .before .pre)
+  abbrev part : ℤ
+  part = start .args .part
 
-  high : SFits w64 (c .scaled .result)
-  high = record { sfits = c .scaled .ok }
+  abbrev sum : ℤ
+  sum = u *ℤ whole +ℤ c .carried .result
 
-  high-is : c .scaled .result ≡ highOf u d
-  high-is = let f = c .before .fits .u in let g = c .before .fits .d in simp toZ-ofZ at (c .scaled .ensures)
+  more-is : c .carried .result ≡ more u part
+  more-is = let f = start .fits .u in let g = start .fits .part in simp toZ-ofZ at (c .carried .ensures)
 
-  fine-fits : SFits w64 (u *ℤ pos 8589934592)
-  fine-fits = sfits-abs (omega (arith, bounds .fine-abs))
+  more-fits : SFits w64 (c .carried .result)
+  more-fits = record { sfits = c .carried .ok }
 
-  back-fits : SFits w64 (c .scaled .result *ℤ d)
-  back-fits = subst (λ (x : ℤ). SFits w64 (x *ℤ c .before .args .d)) (sym high-is) (sfits-abs (omega (arith, bounds .back-abs)))
+  product-fits : SFits w64 (u *ℤ whole)
+  product-fits = sfits-abs (omega (arith, sizes start .product-small))
 
-  rest-fits : SFits w64 (u *ℤ pos 8589934592 -ℤ c .scaled .result *ℤ d)
-  rest-fits =
-      subst (λ (x : ℤ). SFits w64 (c .before .args .u *ℤ pos 8589934592 -ℤ x *ℤ c .before .args .d)) (sym high-is)
-      (sfits-abs (omega (arith, offset-abs (rest u d) d (bounds .rest-inside))))
+  sum-fits : SFits w64 sum
+  sum-fits = subst (λ (m : ℤ). SFits w64 (start .args .u *ℤ start .args .whole +ℤ m)) (sym more-is)
+      (sfits-abs (omega (arith, total-abs u whole part (sizes start))))
 
-  rest-inside : Offset (u *ℤ pos 8589934592 -ℤ c .scaled .result *ℤ d) d
-  rest-inside =
-      subst (λ (x : ℤ). Offset (c .before .args .u *ℤ pos 8589934592 -ℤ x *ℤ c .before .args .d) (c .before .args .d)) (sym high-is)
-      (bounds .rest-inside)
+  -- the shift gives the first part of the rate
+  high-is : shrZ sum 536870912 ≡ high u whole part
+  high-is = sym (floorDiv-shrZ sum 536870912)
+      ∙ ap (λ (m : ℤ). floorDiv (start .args .u *ℤ start .args .whole +ℤ m) 536870912) more-is
 
-mul-rest : tie.Need-mul-rest
-mul-rest c = let f = c .before .fits .u in simp toZ-ofZ (fine-fits c)
+  high-fits : SFits w64 (shrZ sum 536870912)
+  high-fits = subst (SFits w64) (sym high-is) (sfits-abs (omega (arith, high-abs u whole part (sizes start))))
 
-mul-rest-2 : tie.Need-mul-rest-2
-mul-rest-2 c = let f = c .before .fits .d in let g = high c in simp toZ-ofZ (back-fits c)
+  back-fits : SFits w64 (shrZ sum 536870912 *ℤ pos 536870912)
+  back-fits = subst (λ (z : ℤ). SFits w64 (z *ℤ pos 536870912)) (sym high-is)
+      (sfits-abs (omega (
+        arith,
+        abs-mul-le (high u whole part) (pos 536870912) (8589934592 + 524288) 536870912
+            (high-abs u whole part (sizes start)) (omega arith),
+      )))
 
-sub-rest : tie.Need-sub-rest
-sub-rest c =
+  low-is : sum -ℤ shrZ sum 536870912 *ℤ pos 536870912 ≡ low u whole part
+  low-is = ap₂ (λ (m z : ℤ). start .args .u *ℤ start .args .whole +ℤ m -ℤ z *ℤ pos 536870912) more-is high-is
+
+  low-fits : SFits w64 (sum -ℤ shrZ sum 536870912 *ℤ pos 536870912)
+  low-fits = subst (SFits w64) (sym low-is) (sfits-abs (omega (arith, low-abs u whole part (sizes start))))
+
+  rated : RateIs u whole part (shrZ sum 536870912) (sum -ℤ shrZ sum 536870912 *ℤ pos 536870912)
+  rated d o inverted =
+      subst (λ (z : ℤ). Rated (shrZ sum 536870912) z (c .before .args .u) d) (sym low-is)
+      (subst (λ (z : ℤ). Rated z (low u whole part) (c .before .args .u) d) (sym high-is)
+      (rate-is u whole part (sizes start) d o inverted))
+
+mul-total : tie.Need-mul-total
+mul-total c = let f = c .before .fits .u in let g = c .before .fits .whole in simp toZ-ofZ (product-fits c)
+
+add-total : tie.Need-add-total
+add-total c =
     let f = c .before .fits .u in
-    let g = c .before .fits .d in let h = high c in let k = fine-fits c in let l = back-fits c in simp toZ-ofZ (rest-fits c)
+    let g = c .before .fits .whole in
+    let h = product-fits c in
+    let k = more-fits c in
+    simp toZ-ofZ (sum-fits c)
 
-scaled-requires-2 : tie.Need-scaled-requires-2
-scaled-requires-2 c κs =
+cast-high : tie.Need-cast-high
+cast-high c = search needs
+
+shr-high : tie.Need-shr-high
+shr-high c = search needs
+
+mul-low : tie.Need-mul-low
+mul-low c =
     let f = c .before .fits .u in
-    let g = c .before .fits .d in
-    let h = high c in
-    let k = fine-fits c in
-    let l = back-fits c in
-    let m = rest-fits c in
-    simp toZ-ofZ (record { inside = rest-inside c; above = ≤-in (pos 0) (pos 131072) (omega arith); small = omega arith })
+    let g = c .before .fits .whole in
+    let h = product-fits c in
+    let k = more-fits c in
+    let l = sum-fits c in
+    let m = high-fits c in
+    simp toZ-ofZ (back-fits c)
+
+sub-low : tie.Need-sub-low
+sub-low c =
+    let f = c .before .fits .u in
+    let g = c .before .fits .whole in
+    let h = product-fits c in
+    let k = more-fits c in
+    let l = sum-fits c in
+    let m = high-fits c in
+    let n = back-fits c in
+    simp toZ-ofZ (low-fits c)
 
 returns : tie.Need-returns
-returns c =
-    let s = c .before .before in
-    let f = s .fits .u in
-    let g = s .fits .d in
-    let h = high (c .before) in
-    let k = fine-fits (c .before) in
-    let l = back-fits (c .before) in
-    let m = rest-fits (c .before) in
-    let n : SFits w64 (c .scaled2 .result) = record { sfits = c .scaled2 .ok } in
-    record {
-      inside = s .pre;
-      high-is = simp toZ-ofZ (high-is (c .before));
-      low-is = simp toZ-ofZ ((simp toZ-ofZ at (c .scaled2 .ensures))
-          ∙ ap (λ (x : ℤ). floorDiv ((s .args .u *ℤ pos 8589934592 -ℤ x *ℤ s .args .d) *ℤ pos 131072) (natAbs (s .args .d)))
-          (high-is (c .before)));
-    }
+returns c d o inverted =
+    let f = c .before .fits .u in
+    let g = c .before .fits .whole in
+    let h = product-fits c in
+    let k = more-fits c in
+    let l = sum-fits c in
+    let m = high-fits c in
+    let n = back-fits c in
+    simp toZ-ofZ (rw (toZ-ofZ w64 _ (low-fits c)) (rated c d o inverted))
 
 pub rate-of-spec : {M : Type 1} → statement M
-rate-of-spec =
-    tie.close (tie.spec scaled-requires mul-rest mul-rest-2 sub-rest scaled-requires-2 returns)
+rate-of-spec = tie.close (tie.spec carried-requires mul-total add-total cast-high shr-high mul-low sub-low returns)

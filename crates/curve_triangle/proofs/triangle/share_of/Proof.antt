@@ -3,7 +3,7 @@
 use native.Mathlib.Omega.{arith}
 use borrow.Author.Needs.{needs}
 use mathlib.Core.Path.{_≡_, sym, ap, _∙_, subst}
-use Prim.Native.Nat.{ℕ, _*_, _≤_}
+use Prim.Native.Nat.{ℕ, _+_, _*_, _≤_}
 use lib.IntN.{ℤ, pos, natAbs, _+ℤ_, _*ℤ_}
 use lib.Signed.{shrZ}
 use mir.Syntax.{w64}
@@ -12,7 +12,7 @@ use mir.ValLaws.{toZ-ofZ}
 use Rattle.base_exact.specs.Floor.{floorDiv}
 use Rattle.base_exact.proofs.Floor.{floorDiv-shrZ}
 use Rattle.base_exact.proofs.Word.{sfits-abs, abs-add, floor-fits}
-use Rattle.curve_triangle.proofs.Blend.{low-abs, whole-abs, part-abs, share-is}
+use Rattle.curve_triangle.proofs.Blend.{whole-abs, part-abs, share-is}
 use Rattle.curve_triangle.proofs.triangle.share_of.Statement.{statement}
 use Rattle.curve_triangle.proofs.triangle.share_of.Tie as tie
 
@@ -22,7 +22,7 @@ carried-requires c κs =
     let g = c .fits .low in
     simp toZ-ofZ (record {
       rise-small = c .pre .rise-small;
-      low-small = low-abs (c .args .high) (c .args .low) _ _ (c .args .rise) (c .pre .rate .rated) (c .pre .rise-small);
+      low-small = c .pre .rate .rated .low-small;
     })
 
 module _ (c : tie.After-carried) where
@@ -38,14 +38,14 @@ module _ (c : tie.After-carried) where
   carried : SFits w64 (c .carried .result)
   carried = record { sfits = c .carried .ok }
 
-  part-is : c .carried .result ≡ floorDiv (x *ℤ start .args .low) 131072
+  part-is : c .carried .result ≡ floorDiv (x *ℤ start .args .low) 536870912
   part-is = let f = start .fits .rise in let g = start .fits .low in simp toZ-ofZ at (c .carried .ensures)
 
-  whole-size : natAbs whole ≤ 536870912 * 8589934592
+  whole-size : natAbs whole ≤ 536870912 * (8589934592 + 524288)
   whole-size = whole-abs (start .args .high) (start .args .low) _ _ x (start .pre .rate .rated) (start .pre .rise-small)
 
-  part-size : natAbs (c .carried .result) ≤ 536870912 * 131072
-  part-size = subst (λ (z : ℤ). natAbs z ≤ 536870912 * 131072) (sym part-is)
+  part-size : natAbs (c .carried .result) ≤ 536870912
+  part-size = subst (λ (z : ℤ). natAbs z ≤ 536870912) (sym part-is)
       (part-abs (start .args .high) (start .args .low) _ _ x (start .pre .rate .rated) (start .pre .rise-small))
 
   whole-fits : SFits w64 whole
