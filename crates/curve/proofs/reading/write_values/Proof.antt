@@ -17,14 +17,14 @@ use Rattle.spec_spline.specs.Reading.{Pair, sideBySide, segmentAt, fineWidth, b
 use Rattle.spec_spline.proofs.Pairs.{pairs-none, pairs-more}
 use Rattle.build_space.specs.Machine.{space}
 use Rattle.build_space.specs.Legal.{ListsLegal}
-use Rattle.curve_triangle.specs.Offsets.{Within}
-use Rattle.curve_triangle.specs.Rate.{wholeOf, partOf}
-use Rattle.curve_triangle.specs.Inverses.{byLength}
-use Rattle.curve_triangle.specs.Place.{placeOf, valueOf}
-use Rattle.curve_triangle.specs.declared.Place.{Place}
-use Rattle.curve_triangle.proofs.First.{firsts-long}
-use Rattle.curve_triangle.proofs.Inverses.{by-length-at}
-use Rattle.curve_triangle.proofs.Position.{segment-within, place-width, value-blended}
+use Rattle.curve_places.specs.Offsets.{Within}
+use Rattle.curve_rate.specs.Rate.{wholeOf, partOf}
+use Rattle.curve_places.specs.Inverses.{byLength}
+use Rattle.curve_places.specs.Place.{placeOf, valueOf}
+use Rattle.curve_places.specs.declared.Place.{Place}
+use Rattle.curve_segments.proofs.First.{firsts-long}
+use Rattle.curve_places.proofs.Inverses.{by-length-at}
+use Rattle.curve_places.proofs.Position.{segment-within, place-width, value-blended}
 use Rattle.curve.specs.Pairs.{pairOf}
 use Rattle.curve.proofs.reading.write_values.Statement.{statement}
 use Rattle.curve.proofs.reading.write_values.Tie as tie
