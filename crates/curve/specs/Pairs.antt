@@ -6,7 +6,7 @@ use lib.ListN.{length, getD, drop}
 use Rattle.spec_spline.specs.Space.{Space, segmentLimit}
 use Rattle.spec_spline.specs.Reading.{Pair, sideBySide, segmentAt, blended}
 use Rattle.build_space.specs.Legal.{DegreesLegal, ListsLegal}
-use Rattle.curve_triangle.specs.Offsets.{BeamOrdinates, Within}
+use Rattle.curve_places.specs.Offsets.{BeamOrdinates, Within}
 
 -- The pair of values at position x, given the ordinates of all columns for earlywood and for latewood.
 unfoldable pub pairOf : Space → List ℤ → List ℤ → ℤ → Pair

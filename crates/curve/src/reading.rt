@@ -1,8 +1,9 @@
-// The values at the positions: the first columns and the first positions of the segments once, and then position by position.
+// The values at the positions: the first columns and positions of the segments and the inverses of their lengths once, and then
+// position by position.
 ghost use mathlib.Core.Path.{_≡_};
 ghost use mathlib.Core.List.{[]};
 ghost use Rattle.build_space.specs.Machine.{space};
-ghost use Rattle.curve_triangle.specs.Offsets.{columnsOf};
+ghost use Rattle.curve_places.specs.Offsets.{columnsOf};
 ghost use Rattle.curve.specs.Pairs.{pairsWritten, FewDegrees, ValuesAsk};
 
 // The first columns of the segments.
@@ -36,14 +37,18 @@ pub fn write_values(
         (now (earlywood .entry)) (now (latewood .entry)) (now (positions .entry)) (now (values .entry)) ⌝ }
 {
     let columns = first_columns(degrees);
-    let firsts = curve_triangle::first_positions(breaks, degrees, orders);
+    let firsts = curve_segments::first_positions(breaks, degrees, orders);
+    let wholes = curve_places::inverse_wholes(breaks, degrees);
+    let parts = curve_places::inverse_parts(breaks, degrees);
     let mut at = 0;
     let mut k = 0;
     while k < positions.len() {
         let x = positions[k];
-        at = curve_triangle::segment_near(&firsts, degrees.len(), x, at);
-        let place = curve_triangle::place_at(breaks, degrees, &columns, at, x);
-        let pair = curve_triangle::pair_at(earlywood, latewood, place);
+        at = curve_segments::segment_near(&firsts, degrees.len(), x, at);
+        let place = curve_places::place_at(breaks, degrees, &columns, at, x);
+        let whole = wholes[at];
+        let part = parts[at];
+        let pair = curve_places::pair_at(earlywood, latewood, place, whole, part);
         let early = pair.early;
         let late = pair.late;
         values[2 * k] = early;

@@ -14,7 +14,7 @@ use Rattle.base_outcome.specs.Outcome.{Outcome, answer, refusal, refuse}
 use Rattle.spec_spline.specs.Space.{Space, break, degree, firstColumn}
 use Rattle.spec_spline.specs.Reading.{fineness}
 use Rattle.build_space.specs.Legal.{ListsLegal}
-use Rattle.curve_triangle.specs.Offsets.{columnLimit}
+use Rattle.curve_places.specs.Offsets.{columnLimit}
 use Rattle.curve_pieces.specs.Pieces.{drawableDegree, Piece, isDrawable}
 use Rattle.curve_pieces.specs.declared.Curve.{Curve}
 use Rattle.curve_pieces.specs.declared.Curve.the-variants.{Line, Quadratic, Cubic}

@@ -3,7 +3,7 @@ use mathlib.Core.List.{List}
 use lib.IntN.{ℤ}
 use Rattle.spec_spline.specs.Space.{Space}
 use Rattle.build_space.specs.Legal.{ListsLegal}
-use Rattle.curve_triangle.specs.Offsets.{BeamOrdinates}
+use Rattle.curve_places.specs.Offsets.{BeamOrdinates}
 
 -- Legal lists, and the ordinates of both wood parts.
 pub record ReachAsks (s : Space) (early late : List ℤ) : Type 0 where

@@ -77,8 +77,8 @@ pub fn reach(
         (now (coefs .entry)) width (now (num .entry)) (now (den .entry)) in
         (reply r ≡ e .answers) × ((now (num .exit) ≡ e .numerators) × (now (den .exit) ≡ e .denominators))) ⌝ }
 {
-    let mut early = [0; curve_triangle::MAX_COLUMNS];
-    let mut late = [0; curve_triangle::MAX_COLUMNS];
+    let mut early = [0; curve_places::MAX_COLUMNS];
+    let mut late = [0; curve_places::MAX_COLUMNS];
     let built = curve_start::build_curves(
         breaks,
         degrees,

@@ -7,7 +7,7 @@ use lib.ListN.{length}
 use Rattle.spec_spline.specs.Space.{Space, spanLimit}
 use Rattle.spec_spline.specs.Reading.{fineness}
 use Rattle.build_space.specs.Legal.{ListsLegal}
-use Rattle.curve_triangle.specs.Offsets.{BeamOrdinates, BreakAt}
+use Rattle.curve_places.specs.Offsets.{BeamOrdinates, BreakAt}
 
 -- Legal lists, and the ordinates of a wood part.
 pub record SearchAsks (s : Space) (os : List ℤ) : Type 0 where

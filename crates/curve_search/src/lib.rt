@@ -65,7 +65,7 @@ pub fn search(
     let mut i = 0;
     while i < degrees.len() {
         let p = build_space::degree_at(degrees, i);
-        let d = curve_triangle::fine_width(breaks, i) as usize;
+        let d = curve_places::fine_width(breaks, i) as usize;
         let next = start_offset(degrees, orders, i + 1);
         let u = curve_steps::first_offset(ordinates, column, p, d, start, d + next, target);
         if u < d + next {

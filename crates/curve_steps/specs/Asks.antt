@@ -6,7 +6,7 @@ use lib.Signed.{_≤ℤ_}
 use Rattle.spec_spline.specs.Space.{spanLimit, degreeLimit}
 use Rattle.spec_spline.specs.Reading.{fineness}
 use Rattle.curve_ordinates.specs.Ordinates.{ordinateLimit}
-use Rattle.curve_triangle.specs.Offsets.{columnLimit, BeamOrdinates}
+use Rattle.curve_places.specs.Offsets.{columnLimit, BeamOrdinates}
 
 -- The p + 1 ordinates from column c on.
 pub record ColumnsAsk (os : List ℤ) (c p : ℕ) : Type 0 where

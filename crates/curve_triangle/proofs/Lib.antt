@@ -1,6 +1,3 @@
--- The laws behind the value at one position: a blend and the stages of the triangle; a position's segment and its ordinates.
-pub mod Blend
+-- The laws behind the triangle: a blend, and the stages.
+pub mod Blends
 pub mod Stages
-pub mod Local
-pub mod First
-pub mod Position

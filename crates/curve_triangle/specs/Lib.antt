@@ -1,4 +1,2 @@
 -- What the contracts of curve_triangle cite beside the definitions of crate spec_spline.
-pub mod Offsets
-pub mod Place
-pub mod Rate
+pub mod Triangle

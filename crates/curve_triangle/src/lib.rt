@@ -1,218 +1,41 @@
-// The values at one position: its place and its rate, found once for both woods, and for each wood the segment's ordinates and
-// the de Casteljau triangle on them.
-ghost use mathlib.Core.Path.{_≡_};
-ghost use mathlib.Core.List.{List, []};
-ghost use mathlib.Core.Option.{Option·getD};
-ghost use Prim.Native.Nat.{_+_, _<_, _≤_};
-ghost use lib.IntN.{ℤ, pos};
-ghost use lib.ListN.{length, getD};
-ghost use lib.Signed.{leZ};
-ghost use Rattle.build_space.specs.Machine.{space};
-ghost use Rattle.build_space.specs.Legal.{ListsLegal};
-ghost use Rattle.base_outcome.specs.Search;
-ghost use Rattle.spec_spline.specs.Reading;
-ghost use Rattle.curve_triangle.specs.Offsets.{firstPosition, firstPositionsOf, localOf, BreakAt, StartAt};
-ghost use Rattle.curve_triangle.specs.Place.{valueOf, PlaceAsks, PlaceIs, ValueAsks, ValueIs, ValueAtAsks, PairAsks, PairIs};
+// The de Casteljau triangle on at most six ordinates held by value, with one rate for all of its blends.
+ghost use Rattle.curve_triangle.specs.Triangle.{BlendAsks, StageAsks, BlendIs, StageIs, TriangleIs};
 
-mod triangle;
-
-// Where a position lies: its segment's first column and degree, how far past the segment's start it is and how long the
-// segment is, both in 256ths of a ring.
-pub struct Place {
-    pub column: usize,
-    pub degree: usize,
-    pub offset: i64,
-    pub width: i64,
-}
-
-// The values of both woods at a position.
-pub struct Pair {
-    pub early: i32,
-    pub late: i32,
-}
-
-// Six columns for each of 48 segments.
-pub const MAX_COLUMNS: usize = 288;
-
-// Whether segment i starts at a discontinuity.
-fn starts_at_discontinuity(orders: &[i32], i: usize) -> bool
-    requires { ⌜ i ≤ length (now orders) ⌝ }
-    ensures { λ r. ⌜ r ≡ Reading.startsAtDiscontinuity (space [] [] (now (orders .entry))) i ⌝ }
+// Neighbours g, h at u of d.
+fn blend(g: i64, h: i64, high: i64, low: i64) -> i64
+    requires { ⌜ BlendAsks g h high low ⌝ }
+    ensures { λ r. ⌜ BlendIs g h high low r ⌝ }
 {
-    if i == 0 {
-        return false;
-    }
-    build_space::is_discontinuity(orders, i - 1)
+    g + curve_rate::share_of(h - g, high, low)
 }
 
-// The first position of segment i.
-fn first_position(breaks: &[i32], orders: &[i32], i: usize) -> i32
-    requires { ⌜ StartAt (now breaks) (now orders) i ⌝ }
-    ensures { λ r. ⌜ r ≡ firstPosition (space (now (breaks .entry)) [] (now (orders .entry))) i ⌝ }
+// One stage: the first n numbers are blended with their neighbours.
+fn stage(o: [i64; 6], n: usize, high: i64, low: i64) -> [i64; 6]
+    requires { ⌜ StageAsks o n high low ⌝ }
+    ensures { λ r. ⌜ StageIs o n high low r ⌝ }
 {
-    let start = 256 * breaks[i];
-    if starts_at_discontinuity(orders, i) {
-        return start + 1;
-    }
-    start
-}
-
-// The first positions of the segments.
-pub fn first_positions(
-    breaks: &[i32],
-    degrees: &[i32],
-    orders: &[i32],
-) -> [i32; build_space::MAX_SEGMENTS]
-    requires { ⌜ ListsLegal (now breaks) (now degrees) (now orders) ⌝ }
-    ensures { λ r. ⌜ r ≡ firstPositionsOf (space (now (breaks .entry)) (now (degrees .entry)) (now (orders .entry))) ⌝ }
-{
-    let mut firsts = [0; build_space::MAX_SEGMENTS];
-    let mut i = 0;
-    while i < degrees.len() {
-        let first = first_position(breaks, orders, i);
-        firsts[i] = first;
-        i += 1;
-    }
-    firsts
-}
-
-// The last of m segments whose first position is at or before position x. All are looked at: a loop that ends early is mostly
-// guessed wrong by the processor, which costs more than the comparisons that it saves.
-fn segment_at(firsts: &[i32], m: usize, x: i32) -> usize
-    requires { ⌜ m ≤ length (now firsts) ⌝ }
-    ensures { λ r. ⌜ r ≡ Option·getD (Search.last m (λ k. leZ (getD (now (firsts .entry)) k (pos 0)) x)) 0 ⌝ }
-{
-    let mut at = 0;
-    let mut i = 0;
-    while i < m {
-        let first = firsts[i];
-        if first <= x {
-            at = i;
-        }
-        i += 1;
-    }
-    at
-}
-
-// The segment of position x. The one given, of the position before, is tried first: most lists rise.
-pub fn segment_near(firsts: &[i32], m: usize, x: i32, near: usize) -> usize
-    requires { ⌜ (near < m) × (m ≤ length (now firsts)) ⌝ }
-    ensures { λ r. ⌜ ((b d o : List ℤ) → ListsLegal b d o → now (firsts .entry) ≡ firstPositionsOf (space b d o) → length d ≡ m
-        → r ≡ Reading.segmentAt (space b d o) x) ⌝ }
-{
-    let first = firsts[near];
-    if first <= x {
-        let next = near + 1;
-        if next == m {
-            return near;
-        }
-        let after = firsts[next];
-        if x < after {
-            return near;
-        }
-    }
-    segment_at(firsts, m, x)
-}
-
-// The p + 1 ordinates from column c on, 0 past them.
-fn local_ordinates(ordinates: &[i32], c: usize, p: usize) -> [i64; 6]
-    requires { ⌜ (p ≤ 5) × (c + p < length (now ordinates)) ⌝ }
-    ensures { λ r. ⌜ r ≡ localOf (now (ordinates .entry)) c p ⌝ }
-{
-    let mut o = [0; 6];
+    let mut r = o;
     let mut k = 0;
-    while k <= p {
-        let x = ordinates[c + k] as i64;
-        o[k] = x;
+    while k < n {
+        let g = r[k];
+        let h = r[k + 1];
+        let b = blend(g, h, high, low);
+        r[k] = b;
         k += 1;
     }
-    o
+    r
 }
 
-// The length of segment i, in 256ths of a ring.
-pub fn fine_width(breaks: &[i32], i: usize) -> i64
-    requires { ⌜ BreakAt (now breaks) (i + 1) ⌝ }
-    ensures { λ r. ⌜ r ≡ pos (Reading.fineWidth (space (now (breaks .entry)) [] []) i) ⌝ }
+// All p stages: what is left of p + 1 ordinates.
+pub fn triangle(o: [i64; 6], p: usize, high: i64, low: i64) -> i64
+    requires { ⌜ StageAsks o p high low ⌝ }
+    ensures { λ r. ⌜ TriangleIs o p high low r ⌝ }
 {
-    let length = build_space::segment_length(breaks, i);
-    256 * length
-}
-
-// How far position x lies past the start of segment i.
-fn offset(breaks: &[i32], i: usize, x: i32) -> i64
-    requires { ⌜ BreakAt (now breaks) i ⌝ }
-    ensures { λ r. ⌜ r ≡ Reading.offset (space (now (breaks .entry)) [] []) i x ⌝ }
-{
-    let start = breaks[i] as i64;
-    x as i64 - 256 * start
-}
-
-// The place of position x, which lies in segment i.
-pub fn place_at(breaks: &[i32], degrees: &[i32], columns: &[usize], i: usize, x: i32) -> Place
-    requires { ⌜ PlaceAsks (now breaks) (now degrees) (now columns) i x ⌝ }
-    ensures { λ r. ⌜ PlaceIs (now (breaks .entry)) (now (degrees .entry)) i x r ⌝ }
-{
-    let p = build_space::degree_at(degrees, i);
-    let u = offset(breaks, i, x);
-    let d = fine_width(breaks, i);
-    let c = columns[i];
-    Place {
-        column: c,
-        degree: p,
-        offset: u,
-        width: d,
+    let mut r = o;
+    let mut n = p;
+    while n > 0 {
+        r = stage(r, n, high, low);
+        n -= 1;
     }
-}
-
-// The value of the p + 1 ordinates from column c on, at the offset with this rate.
-fn value_of(ordinates: &[i32], c: usize, p: usize, high: i64, low: i64) -> i32
-    requires { ⌜ ValueAsks (now ordinates) c p high low ⌝ }
-    ensures { λ r. ⌜ ValueIs (now (ordinates .entry)) c p high low r ⌝ }
-{
-    let o = local_ordinates(ordinates, c, p);
-    let v = crate::triangle::triangle(o, p, high, low);
-    v as i32
-}
-
-// The same. Each degree has an arm, in which the count of ordinates and of stages is known, so that the ordinates stay in
-// registers.
-fn value_by(ordinates: &[i32], c: usize, p: usize, high: i64, low: i64) -> i32
-    requires { ⌜ ValueAsks (now ordinates) c p high low ⌝ }
-    ensures { λ r. ⌜ ValueIs (now (ordinates .entry)) c p high low r ⌝ }
-{
-    match p {
-        1 => value_of(ordinates, c, 1, high, low),
-        2 => value_of(ordinates, c, 2, high, low),
-        3 => value_of(ordinates, c, 3, high, low),
-        4 => value_of(ordinates, c, 4, high, low),
-        5 => value_of(ordinates, c, 5, high, low),
-        _ => value_of(ordinates, c, p, high, low),
-    }
-}
-
-// The value at a place of the curve with these ordinates.
-pub fn value_at(ordinates: &[i32], place: Place) -> i32
-    requires { ⌜ ValueAtAsks (now ordinates) place ⌝ }
-    ensures { λ r. ⌜ r ≡ valueOf (now (ordinates .entry)) place ⌝ }
-{
-    let rate = crate::triangle::rate_of(place.offset, place.width);
-    value_by(ordinates, place.column, place.degree, rate.high, rate.low)
-}
-
-// The values of both woods at a place, by one rate.
-pub fn pair_at(earlywood: &[i32], latewood: &[i32], place: Place) -> Pair
-    requires { ⌜ PairAsks (now earlywood) (now latewood) place ⌝ }
-    ensures { λ r. ⌜ PairIs (now (earlywood .entry)) (now (latewood .entry)) place r ⌝ }
-{
-    let c = place.column;
-    let p = place.degree;
-    let rate = crate::triangle::rate_of(place.offset, place.width);
-    let h = rate.high;
-    let l = rate.low;
-    let early = value_by(earlywood, c, p, h, l);
-    let late = value_by(latewood, c, p, h, l);
-    Pair {
-        early: early,
-        late: late,
-    }
+    r[0]
 }

@@ -10,7 +10,7 @@ use Rattle.theorems_values.proofs.LegalCall.{values-length}
 use Rattle.build_space.specs.Machine.{space}
 use Rattle.base_outcome.specs.declared.Answer.{Answer}
 use Rattle.base_outcome.specs.declared.Answer.the-variants.{Count}
-use Rattle.curve_triangle.specs.Offsets.{columnLimit}
+use Rattle.curve_places.specs.Offsets.{columnLimit}
 use Rattle.curve_start.specs.Parts.{Lent, lent}
 use Rattle.curve_start.specs.Machine.{Call, call, CurvesTold}
 use Rattle.curve_start.proofs.Fronted.{fronted, early-bounded, late-bounded}

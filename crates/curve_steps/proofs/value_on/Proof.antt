@@ -10,7 +10,7 @@ use mir.ValLaws.{toZ-ofZ, toZ-pos}
 use Rattle.base_exact.proofs.Integer as Z
 use Rattle.base_exact.proofs.Word.{sfits-widen}
 use Rattle.curve_ordinates.specs.Ordinates.{ordinateLimit}
-use Rattle.curve_triangle.specs.Place.{Sound, valueOf}
+use Rattle.curve_places.specs.Place.{Sound, valueOf}
 use Rattle.curve_steps.specs.Machine.{valueOn}
 use Rattle.curve_steps.proofs.Passing.{value-small}
 use Rattle.curve_steps.proofs.value_on.Statement.{statement}

@@ -10,7 +10,7 @@ use Rattle.base_exact.proofs.Tabulate.{tab-none, tab-more}
 use Rattle.spec_spline.specs.Space.{Space, firstColumn}
 use Rattle.build_space.specs.Machine.{space}
 use Rattle.build_space.proofs.Bounds.{degree-high, first-column-zero, first-column-next, first-column-high}
-use Rattle.curve_triangle.proofs.Position.{columns-filled}
+use Rattle.curve_places.proofs.Position.{columns-filled}
 use Rattle.curve.proofs.reading.first_columns.Statement.{statement}
 use Rattle.curve.proofs.reading.first_columns.Tie as tie
 

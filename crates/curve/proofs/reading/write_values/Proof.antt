@@ -2,24 +2,29 @@
 -- cells held. Assumes nothing.
 use borrow.Author.Needs.{needs}
 use native.Mathlib.Omega.{arith}
-use mathlib.Core.List.{List, _++_, map}
+use mathlib.Core.List.{List, [], _++_, map}
 use mathlib.Core.Path.{_≡_, refl, sym, ap, ap₂, _∙_}
 use Prim.Native.Nat.{ℕ, _+_, _*_, _≤_, _<_, _-_}
 use lib.IntN.{ℤ, pos}
 use lib.ListN.{length, getD, set, drop, length-set}
-use mir.Syntax.{w32}
+use mir.Syntax.{w32, w64}
 use mir.Val.{ofZ, toZ}
 use mir.ValLaws.{toZ-ofZ}
 use Rattle.base_exact.specs.Tabulate.{tab}
 use Rattle.base_exact.proofs.Tabulate.{tab-self, map-tab}
 use Rattle.spec_spline.specs.Space.{Space}
-use Rattle.spec_spline.specs.Reading.{Pair, sideBySide, segmentAt, blended}
+use Rattle.spec_spline.specs.Reading.{Pair, sideBySide, segmentAt, fineWidth, blended}
 use Rattle.spec_spline.proofs.Pairs.{pairs-none, pairs-more}
 use Rattle.build_space.specs.Machine.{space}
-use Rattle.curve_triangle.specs.Offsets.{Within}
-use Rattle.curve_triangle.specs.Place.{placeOf, valueOf}
-use Rattle.curve_triangle.proofs.First.{firsts-long}
-use Rattle.curve_triangle.proofs.Position.{segment-within, value-blended}
+use Rattle.build_space.specs.Legal.{ListsLegal}
+use Rattle.curve_places.specs.Offsets.{Within}
+use Rattle.curve_rate.specs.Rate.{wholeOf, partOf}
+use Rattle.curve_places.specs.Inverses.{byLength}
+use Rattle.curve_places.specs.Place.{placeOf, valueOf}
+use Rattle.curve_places.specs.declared.Place.{Place}
+use Rattle.curve_segments.proofs.First.{firsts-long}
+use Rattle.curve_places.proofs.Inverses.{by-length-at}
+use Rattle.curve_places.proofs.Position.{segment-within, place-width, value-blended}
 use Rattle.curve.specs.Pairs.{pairOf}
 use Rattle.curve.proofs.reading.write_values.Statement.{statement}
 use Rattle.curve.proofs.reading.write_values.Tie as tie
@@ -35,11 +40,11 @@ record Inv (s : Space) (earlywood latewood positions values₀ values : List ℤ
   written : values ≡ sideBySide (tab k (pairAtEntry s earlywood latewood positions)) ++ drop (2 * k) values₀
 
 abbrev Inv-loop : tie.InvT-loop
-Inv-loop breaks degrees orders earlywood latewood positions values₀ columns firsts at₀ k₀ values at k =
+Inv-loop breaks degrees orders earlywood latewood positions values₀ columns firsts wholes parts at₀ k₀ values at k =
     Inv (space breaks degrees orders) earlywood latewood positions values₀ values at k
 
 abbrev μ-loop : tie.MeasureT-loop
-μ-loop breaks degrees orders earlywood latewood positions values₀ columns firsts at₀ k₀ values at k = length positions - k
+μ-loop breaks degrees orders earlywood latewood positions values₀ columns firsts wholes parts at₀ k₀ values at k = length positions - k
 
 first-columns-requires : tie.Need-first-columns-requires Inv-loop μ-loop
 first-columns-requires c κs = record { few = c .pre .legal .few; legal = c .pre .legal .degrees-legal }
@@ -47,10 +52,16 @@ first-columns-requires c κs = record { few = c .pre .legal .few; legal = c .pre
 first-positions-requires : tie.Need-first-positions-requires Inv-loop μ-loop
 first-positions-requires c κs = c .before .pre .legal
 
+inverse-wholes-requires : tie.Need-inverse-wholes-requires Inv-loop μ-loop
+inverse-wholes-requires c κs = let s = c .before .before in record { orders = s .args .orders .now; legal = s .pre .legal }
+
+inverse-parts-requires : tie.Need-inverse-parts-requires Inv-loop μ-loop
+inverse-parts-requires c κs = let s = c .before .before .before in record { orders = s .args .orders .now; legal = s .pre .legal }
+
 loop-holds : tie.Need-loop-holds Inv-loop μ-loop
 loop-holds c = record {
   some = omega arith;
-  segment = omega (arith, c .before .before .pre .legal .some);
+  segment = omega (arith, c .before .before .before .before .pre .legal .some);
   kept = refl;
   written = pairs-none _ _;
 }
@@ -69,7 +80,7 @@ module _ (c : tie.After-x Inv-loop μ-loop) where
   turn = c .before .before
 
   abbrev placed-first : tie.After-first-positions Inv-loop μ-loop
-  placed-first = turn .before
+  placed-first = turn .before .before .before
 
   abbrev start : tie.Start Inv-loop μ-loop
   start = placed-first .before .before
@@ -129,11 +140,6 @@ place-at-requires c κs =
       columns-are = placed-first r .before .first-columns .ensures;
     }
 
-pair-at-requires : tie.Need-pair-at-requires Inv-loop μ-loop
-pair-at-requires c κs =
-    let s = start (read (c .before .before)) in
-    record { sound = c .place-at .ensures .sound; early-ordinates = s .pre .early-ordinates; late-ordinates = s .pre .late-ordinates }
-
 -- the place of the position, and where its pair goes
 module _ (c : tie.After-place-at Inv-loop μ-loop) where
   abbrev near : tie.After-segment-near Inv-loop μ-loop
@@ -142,12 +148,62 @@ module _ (c : tie.After-place-at Inv-loop μ-loop) where
   abbrev here : tie.After-x Inv-loop μ-loop
   here = read near
 
+  abbrev segment : ℕ
+  segment = near .segment-near .result
+
+  legal : ListsLegal (start here .args .breaks .now) (start here .args .degrees .now) (start here .args .orders .now)
+  legal = start here .pre .legal
+
+  inside : segment < length (start here .args .degrees .now)
+  inside = segment-within _ _ _ legal (x here) (within here) segment (found near)
+
   -- the value that some ordinates have there
   value-there : (os : List ℤ) → valueOf os (c .place-at .result) ≡ blended (lists here) os (segmentAt (lists here) (x here)) (x here)
   value-there os =
       ap (valueOf os) (c .place-at .ensures .is (start here .args .orders .now) (found-there near))
       ∙ ap (λ (z : ℤ). valueOf os (placeOf (lists here) z)) (x-is here)
       ∙ value-blended (lists here) os (x here)
+
+  -- the segment's length, and its number in an array of inverses
+  width-there : c .place-at .result .width ≡ pos (fineWidth (lists here) segment)
+  width-there =
+      ap (λ (p : Place). p .width) (c .place-at .ensures .is (start here .args .orders .now) (found-there near))
+      ∙ place-width (lists here) _
+      ∙ ap (λ (i : ℕ). pos (fineWidth (lists here) i)) (sym (found-there near))
+
+  number-there : (f : ℤ → ℤ) (l : List ℤ) → l ≡ byLength f (space (start here .args .breaks .now) (start here .args .degrees .now) [])
+      → getD l segment (pos 0) ≡ f (c .place-at .result .width)
+  number-there f l e =
+      ap (λ (ns : List ℤ). getD ns (near .segment-near .result) (pos 0)) e
+      ∙ by-length-at _ _ _ legal segment inside f
+      ∙ ap f (sym width-there)
+
+mul-whole : tie.Need-mul-whole Inv-loop μ-loop
+mul-whole c = omega (arith, inside c, legal c .few)
+
+array-copy-out-whole : tie.Need-array-copy-out-whole Inv-loop μ-loop
+array-copy-out-whole c = omega (arith, inside c, legal c .few)
+
+mul-part : tie.Need-mul-part Inv-loop μ-loop
+mul-part c = let p = c .before in omega (arith, inside p, legal p .few)
+
+array-copy-out-part : tie.Need-array-copy-out-part Inv-loop μ-loop
+array-copy-out-part c = let p = c .before in omega (arith, inside p, legal p .few)
+
+pair-at-requires : tie.Need-pair-at-requires Inv-loop μ-loop
+pair-at-requires c κs =
+    let p = c .before .before in
+    let s = start (here p) in
+    let t = turn (here p) .before in
+    record {
+      sound = p .place-at .ensures .sound;
+      inverted = record {
+        whole-is = toZ-ofZ w64 _ (record { sfits = c .before .whole .given }) ∙ number-there p wholeOf _ (t .before .inverse-wholes .ensures);
+        part-is = toZ-ofZ w64 _ (record { sfits = c .part .given }) ∙ number-there p partOf _ (t .inverse-parts .ensures);
+      };
+      early-ordinates = s .pre .early-ordinates;
+      late-ordinates = s .pre .late-ordinates;
+    }
 
 -- the pairs in list order
 pairs : tie.Start Inv-loop μ-loop → ℕ → Pair
@@ -157,7 +213,7 @@ pairs s =
 
 module _ (c : tie.After-struct-told2 Inv-loop μ-loop) where
   abbrev placed : tie.After-place-at Inv-loop μ-loop
-  placed = c .before .before .before
+  placed = c .before .before .before .before .before
 
   abbrev at : tie.After-x Inv-loop μ-loop
   at = here placed
@@ -239,7 +295,7 @@ same-length c = c .before .loop .inv .kept
 returns : tie.Need-returns Inv-loop μ-loop
 returns c =
     let l = c .before .loop in
-    let a = c .before .before .before .before .args in
+    let a = c .before .before .before .before .before .before .args in
     let ps = a .positions .now in
     let f = pairOf (space (a .breaks .now) (a .degrees .now) (a .orders .now)) (a .earlywood .now) (a .latewood .now) in
     let all : l .k ≡ length ps = omega (arith, l .inv .some) in
@@ -256,6 +312,8 @@ write-values-spec =
     μ-loop
     first-columns-requires
     first-positions-requires
+    inverse-wholes-requires
+    inverse-parts-requires
     loop-holds
     mul-x
     shared-slice-copy-out-x
@@ -263,6 +321,10 @@ write-values-spec =
     segment-near-requires
     slice-aggregate-place-at
     place-at-requires
+    mul-whole
+    array-copy-out-whole
+    mul-part
+    array-copy-out-part
     pair-at-requires
     mul-early
     mul-early-2

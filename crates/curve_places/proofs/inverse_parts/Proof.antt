@@ -1,0 +1,92 @@
+-- `curve_places::inverse_parts` meets its contract: below k stand the part numbers of the segments' inverses, from k on 0. Assumes
+-- nothing.
+use native.Mathlib.Omega.{arith}
+use mathlib.Core.List.{List, [], _++_}
+use mathlib.Core.Path.{_≡_, ap, ap₂, _∙_}
+use Prim.Native.Nat.{ℕ, _≤_, _-_}
+use lib.IntN.{ℤ, pos}
+use lib.ListN.{length, set, drop, replicate}
+use mir.Syntax.{w64}
+use mir.Val.{ofZ, toZ}
+use mir.ValLaws.{toZ-ofZ}
+use Rattle.base_exact.specs.Tabulate.{tab}
+use Rattle.base_exact.proofs.Tabulate.{tab-none, tab-more}
+use Rattle.spec_spline.specs.Space.{Space}
+use Rattle.spec_spline.specs.Reading.{fineWidth}
+use Rattle.build_space.specs.Machine.{space}
+use Rattle.curve_rate.specs.Rate.{partOf}
+use Rattle.curve_places.proofs.Inverses.{by-length-filled, length-is}
+use Rattle.curve_places.proofs.inverse_parts.Statement.{statement}
+use Rattle.curve_places.proofs.inverse_parts.Tie as tie
+
+-- the number of segment i
+abbrev number : Space → ℕ → ℤ
+number s i = partOf (pos (fineWidth s i))
+
+abbrev Inv-loop : tie.InvT-loop
+Inv-loop breaks degrees parts₀ k₀ parts k =
+    (k ≤ length degrees) × (parts ≡ tab k (number (space breaks degrees [])) ++ drop k (replicate 48 (pos 0)))
+
+abbrev μ-loop : tie.MeasureT-loop
+μ-loop breaks degrees parts₀ k₀ parts k = length degrees - k
+
+loop-holds : tie.Need-loop-holds Inv-loop μ-loop
+loop-holds c = (omega arith, tab-none _ _)
+
+fine-width-requires : tie.Need-fine-width-requires Inv-loop μ-loop
+fine-width-requires c κs =
+    let h = c .before .before .pre .legal in
+    record { within = omega (arith, h .break-count); legal = h .breaks-legal }
+
+module _ (c : tie.After-fine-width Inv-loop μ-loop) where
+  abbrev turn : tie.At-loop Inv-loop μ-loop
+  turn = c .before .before
+
+  abbrev start : tie.Start Inv-loop μ-loop
+  start = turn .before
+
+  width-is : toZ w64 (ofZ w64 (c .fine-width .result)) ≡ pos (fineWidth (space (start .args .breaks .now) (start .args .degrees .now) []) (turn .loop .k))
+  width-is = toZ-ofZ w64 _ (record { sfits = c .fine-width .ok }) ∙ c .fine-width .ensures
+
+part-of-requires : tie.Need-part-of-requires Inv-loop μ-loop
+part-of-requires c κs =
+    let s = start c in
+    rw (width-is c) (length-is (s .args .breaks .now) (s .args .degrees .now) (s .pre .orders) (s .pre .legal) (turn c .loop .k) (omega arith))
+
+mul-parts : tie.Need-mul-parts Inv-loop μ-loop
+mul-parts c = let s = start (c .before) in omega (arith, s .pre .legal .few)
+
+array-set-from-parts : tie.Need-array-set-from-parts Inv-loop μ-loop
+array-set-from-parts c = let s = start (c .before) in omega (arith, s .pre .legal .few)
+
+add-k : tie.Need-add-k Inv-loop μ-loop
+add-k c = let s = start (c .before) in omega (arith, s .pre .legal .few)
+
+loop-less : tie.Need-loop-less Inv-loop μ-loop
+loop-less c = omega arith
+
+loop-again : tie.Need-loop-again Inv-loop μ-loop
+loop-again c =
+    let l = turn (c .before) .loop in
+    let s = start (c .before) in
+    let f = number (space (s .args .breaks .now) (s .args .degrees .now) []) in
+    let is : toZ w64 (ofZ w64 (c .part-of .result)) ≡ f (l .k) =
+    toZ-ofZ w64 _ (record { sfits = c .part-of .ok }) ∙ c .part-of .ensures ∙ ap partOf (width-is (c .before)) in (
+      omega arith,
+      ap₂ (λ (ns : List ℤ) (v : ℤ). set ns (l .k) v) (l .inv .1) is
+          ∙ tab-more f (l .k) (replicate 48 (pos 0)) (omega (arith, s .pre .legal .few)),
+    )
+
+returns : tie.Need-returns Inv-loop μ-loop
+returns c =
+    let s = c .before .before in
+    let b = s .args .breaks .now in
+    let d = s .args .degrees .now in
+    c .before .loop .inv .1
+    ∙ ap (λ (k : ℕ). tab k (number (space b d [])) ++ drop k (replicate 48 (pos 0))) (let e : c .before .loop .k ≡ length d = omega arith in e)
+    ∙ by-length-filled partOf b d (s .pre .legal .few)
+
+pub inverse-parts-spec : {M : Type 1} → statement M
+inverse-parts-spec =
+    tie.close (tie.spec Inv-loop μ-loop loop-holds fine-width-requires part-of-requires mul-parts array-set-from-parts add-k loop-less loop-again
+    returns)

@@ -1,0 +1,107 @@
+-- `curve_places::value_at` meets its contract: the triangle of the place's ordinates by the place's rate.
+-- Assumes nothing.
+use borrow.Author.Needs.{needs}
+use mathlib.Core.List.{List}
+use mathlib.Core.Path.{_≡_, refl, _∙_}
+use lib.IntN.{ℤ}
+use mir.Syntax.{w32, w64}
+use mir.Val.{SFits, ofZ, toZ}
+use mir.ValLaws.{toZ-ofZ}
+use Rattle.curve_places.specs.Offsets.{BeamOrdinates}
+use Rattle.curve_places.specs.Place.{valueOf, ValueAsks, ValueIs}
+use Rattle.curve_rate.specs.Rate.{Inverted, Rated}
+use Rattle.curve_places.specs.declared.Place.{Place}
+use Rattle.curve_places.proofs.Position.{value-arm}
+use Rattle.curve_places.proofs.value_at.Statement.{statement}
+use Rattle.curve_places.proofs.value_at.Tie as tie
+
+-- a number read back from its word
+abbrev word : ℤ → ℤ
+word z = toZ w64 (ofZ w64 z)
+
+whole-of-requires : tie.Need-whole-of-requires
+whole-of-requires c κs = search needs
+
+part-of-requires : tie.Need-part-of-requires
+part-of-requires c κs = search needs
+
+module _ (c : tie.After-struct-told2) where
+  abbrev begin : tie.Start
+  begin = c .before .before .before .before
+
+  offset-fits : SFits w64 (begin .args .place .offset)
+  offset-fits = record { sfits = c .struct-told2 .given .1 .1 .0 .1 }
+
+  width-fits : SFits w64 (begin .args .place .width)
+  width-fits = record { sfits = c .before .before .before .struct-told .given .1 .1 .1 .0 .1 }
+
+  whole-fits : SFits w64 (c .before .before .whole-of .result)
+  whole-fits = record { sfits = c .before .before .whole-of .ok }
+
+  part-fits : SFits w64 (c .before .part-of .result)
+  part-fits = record { sfits = c .before .part-of .ok }
+
+  -- the inverse of the segment's length
+  inverted : Inverted (c .before .before .whole-of .result) (c .before .part-of .result) (begin .args .place .width)
+  inverted =
+      let f = width-fits in
+      record { whole-is = simp toZ-ofZ at (c .before .before .whole-of .ensures); part-is = simp toZ-ofZ at (c .before .part-of .ensures) }
+
+rate-of-requires : tie.Need-rate-of-requires
+rate-of-requires c κs =
+    let f = offset-fits c in
+    let g = whole-fits c in
+    let h = part-fits c in
+    simp toZ-ofZ (record { width = _; inside = begin c .pre .sound .inside; inverted = inverted c })
+
+module _ (c : tie.After-struct-told4) where
+  abbrev start : tie.Start
+  start = begin (c .before .before .before)
+
+  abbrev place : Place
+  place = start .args .place
+
+  abbrev high : ℤ
+  high = c .before .before .rate-of .result .high
+
+  abbrev low : ℤ
+  low = c .before .before .rate-of .result .low
+
+  high-fits : SFits w64 high
+  high-fits = record { sfits = c .before .struct-told3 .given .0 .1 }
+
+  low-fits : SFits w64 low
+  low-fits = record { sfits = c .struct-told4 .given .1 .0 .1 }
+
+  -- the rate of the place, as its parts are passed on
+  rated : Rated (word high) (word low) (place .offset) (place .width)
+  rated =
+      let t = c .before .before .before in
+      let f = offset-fits t in
+      let g = whole-fits t in
+      let h = part-fits t in
+      let k = high-fits in
+      let l = low-fits in
+      simp toZ-ofZ ((simp toZ-ofZ at (c .before .before .rate-of .ensures)) _ (start .pre .sound .inside) (inverted t))
+
+  -- the value there
+  there : (os : List ℤ) (r : ℤ) → ValueIs os (place .column) (place .degree) (word high) (word low) r → r ≡ valueOf os place
+  there os r h = value-arm os place (place .degree) r refl (h _ _ rated)
+
+  -- what the ordinates of a wood part are asked
+  asked : (os : List ℤ) → BeamOrdinates os → ValueAsks os (place .column) (place .degree) (word high) (word low)
+  asked os h = record {
+    degree-low = start .pre .sound .low;
+    columns-within = start .pre .sound .within;
+    rate = record { offset = _; width = _; rated = rated };
+    ordinates = h;
+  }
+
+value-by-requires : tie.Need-value-by-requires
+value-by-requires c κs = asked c _ (start c .pre .ordinates)
+
+returns : tie.Need-returns
+returns c = toZ-ofZ w32 _ (record { sfits = c .value-by .ok }) ∙ there (c .before) _ _ (c .value-by .ensures)
+
+pub value-at-spec : {M : Type 1} → statement M
+value-at-spec = tie.close (tie.spec whole-of-requires part-of-requires rate-of-requires value-by-requires returns)

@@ -1,0 +1,136 @@
+-- `curve_rate::rate_of` meets its contract: the products and their sum keep within 64 bits. Assumes nothing.
+use native.Mathlib.Omega.{arith}
+use borrow.Author.Needs.{needs}
+use mathlib.Core.Path.{_≡_, sym, ap, ap₂, _∙_, subst}
+use Prim.Native.Nat.{_+_}
+use lib.IntN.{ℤ, pos, _+ℤ_, _-ℤ_, _*ℤ_}
+use lib.Signed.{shrZ}
+use mir.Syntax.{w64}
+use mir.Val.{SFits}
+use mir.ValLaws.{toZ-ofZ}
+use Rattle.base_exact.specs.Floor.{floorDiv}
+use Rattle.base_exact.proofs.Floor.{floorDiv-shrZ}
+use Rattle.base_exact.proofs.Word.{sfits-abs, abs-mul-le}
+use Rattle.curve_rate.specs.Rate.{Rated, RateIs}
+use Rattle.curve_rate.proofs.Sizes.{more, high, low, RateSizes, rate-sizes, total-abs, high-abs, low-abs, rate-is}
+use Rattle.curve_rate.proofs.rate_of.Statement.{statement}
+use Rattle.curve_rate.proofs.rate_of.Tie as tie
+
+sizes : (c : tie.Start) → RateSizes (c .args .u) (c .args .whole) (c .args .part)
+sizes c = rate-sizes (c .args .u) (c .args .whole) (c .args .part) (c .pre)
+
+carried-requires : tie.Need-carried-requires
+carried-requires c κs =
+    let f = c .fits .u in
+    let g = c .fits .part in
+    let s = sizes c in
+    simp toZ-ofZ (record { rise-small = omega (arith, s .offset-small); low-small = s .part-small })
+
+module _ (c : tie.After-carried) where
+  abbrev start : tie.Start
+  start = c .before
+
+  abbrev u : ℤ
+  u = start .args .u
+
+  abbrev whole : ℤ
+  whole = start .args .whole
+
+  abbrev part : ℤ
+  part = start .args .part
+
+  abbrev sum : ℤ
+  sum = u *ℤ whole +ℤ c .carried .result
+
+  more-is : c .carried .result ≡ more u part
+  more-is = let f = start .fits .u in let g = start .fits .part in simp toZ-ofZ at (c .carried .ensures)
+
+  more-fits : SFits w64 (c .carried .result)
+  more-fits = record { sfits = c .carried .ok }
+
+  product-fits : SFits w64 (u *ℤ whole)
+  product-fits = sfits-abs (omega (arith, sizes start .product-small))
+
+  sum-fits : SFits w64 sum
+  sum-fits = subst (λ (m : ℤ). SFits w64 (start .args .u *ℤ start .args .whole +ℤ m)) (sym more-is)
+      (sfits-abs (omega (arith, total-abs u whole part (sizes start))))
+
+  -- the shift gives the first part of the rate
+  high-is : shrZ sum 536870912 ≡ high u whole part
+  high-is = sym (floorDiv-shrZ sum 536870912)
+      ∙ ap (λ (m : ℤ). floorDiv (start .args .u *ℤ start .args .whole +ℤ m) 536870912) more-is
+
+  high-fits : SFits w64 (shrZ sum 536870912)
+  high-fits = subst (SFits w64) (sym high-is) (sfits-abs (omega (arith, high-abs u whole part (sizes start))))
+
+  back-fits : SFits w64 (shrZ sum 536870912 *ℤ pos 536870912)
+  back-fits = subst (λ (z : ℤ). SFits w64 (z *ℤ pos 536870912)) (sym high-is)
+      (sfits-abs (omega (
+        arith,
+        abs-mul-le (high u whole part) (pos 536870912) (8589934592 + 524288) 536870912
+            (high-abs u whole part (sizes start)) (omega arith),
+      )))
+
+  low-is : sum -ℤ shrZ sum 536870912 *ℤ pos 536870912 ≡ low u whole part
+  low-is = ap₂ (λ (m z : ℤ). start .args .u *ℤ start .args .whole +ℤ m -ℤ z *ℤ pos 536870912) more-is high-is
+
+  low-fits : SFits w64 (sum -ℤ shrZ sum 536870912 *ℤ pos 536870912)
+  low-fits = subst (SFits w64) (sym low-is) (sfits-abs (omega (arith, low-abs u whole part (sizes start))))
+
+  rated : RateIs u whole part (shrZ sum 536870912) (sum -ℤ shrZ sum 536870912 *ℤ pos 536870912)
+  rated d o inverted =
+      subst (λ (z : ℤ). Rated (shrZ sum 536870912) z (c .before .args .u) d) (sym low-is)
+      (subst (λ (z : ℤ). Rated z (low u whole part) (c .before .args .u) d) (sym high-is)
+      (rate-is u whole part (sizes start) d o inverted))
+
+mul-total : tie.Need-mul-total
+mul-total c = let f = c .before .fits .u in let g = c .before .fits .whole in simp toZ-ofZ (product-fits c)
+
+add-total : tie.Need-add-total
+add-total c =
+    let f = c .before .fits .u in
+    let g = c .before .fits .whole in
+    let h = product-fits c in
+    let k = more-fits c in
+    simp toZ-ofZ (sum-fits c)
+
+cast-high : tie.Need-cast-high
+cast-high c = search needs
+
+shr-high : tie.Need-shr-high
+shr-high c = search needs
+
+mul-low : tie.Need-mul-low
+mul-low c =
+    let f = c .before .fits .u in
+    let g = c .before .fits .whole in
+    let h = product-fits c in
+    let k = more-fits c in
+    let l = sum-fits c in
+    let m = high-fits c in
+    simp toZ-ofZ (back-fits c)
+
+sub-low : tie.Need-sub-low
+sub-low c =
+    let f = c .before .fits .u in
+    let g = c .before .fits .whole in
+    let h = product-fits c in
+    let k = more-fits c in
+    let l = sum-fits c in
+    let m = high-fits c in
+    let n = back-fits c in
+    simp toZ-ofZ (low-fits c)
+
+returns : tie.Need-returns
+returns c d o inverted =
+    let f = c .before .fits .u in
+    let g = c .before .fits .whole in
+    let h = product-fits c in
+    let k = more-fits c in
+    let l = sum-fits c in
+    let m = high-fits c in
+    let n = back-fits c in
+    simp toZ-ofZ (rw (toZ-ofZ w64 _ (low-fits c)) (rated c d o inverted))
+
+pub rate-of-spec : {M : Type 1} → statement M
+rate-of-spec = tie.close (tie.spec carried-requires mul-total add-total cast-high shr-high mul-low sub-low returns)

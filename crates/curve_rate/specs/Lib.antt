@@ -1,0 +1,2 @@
+-- What the contracts of curve_rate cite.
+pub mod Rate

@@ -1,0 +1,2 @@
+-- The laws of the first positions.
+pub mod First

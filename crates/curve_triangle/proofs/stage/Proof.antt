@@ -1,0 +1,121 @@
+-- `curve_triangle::stage` meets its contract: below k stand the blends, from k on the numbers as they came. Assumes nothing.
+use borrow.Author.Needs.{needs}
+use native.Mathlib.Omega.{arith}
+use mathlib.Core.Path.{_≡_, ap₂, _∙_}
+use Prim.Native.Nat.{_+_, _≤_, _-_}
+use lib.IntN.{ℤ, pos, natAbs}
+use lib.ListN.{length, getD}
+use mir.Syntax.{w64}
+use mir.Val.{SFits, ofZ, toZ}
+use mir.ValLaws.{toZ-ofZ}
+use Rattle.base_exact.proofs.Word.{sfits-abs}
+use Rattle.spec_spline.specs.Reading.{blend}
+use Rattle.curve_rate.specs.Rate.{Rated}
+use Rattle.curve_triangle.proofs.Stages.{Staged, staged-none, staged-more}
+use Rattle.curve_triangle.proofs.stage.Statement.{statement}
+use Rattle.curve_triangle.proofs.stage.Tie as tie
+
+abbrev Inv-loop : tie.InvT-loop
+Inv-loop n high low r₀ k₀ r k = (k ≤ n) × ((u d : ℤ) → Rated (toZ w64 high) (toZ w64 low) u d → Staged (natAbs d) u r₀ r k)
+
+abbrev μ-loop : tie.MeasureT-loop
+μ-loop n high low r₀ k₀ r k = n - k
+
+loop-holds : tie.Need-loop-holds Inv-loop μ-loop
+loop-holds c = let l : length (c .args .o) ≡ 6 = search needs in (omega arith, λ u d rated. staged-none _ _ _ l (c .pre .bounded))
+
+-- the offset whose rate is given, and what holds for it
+held : (c : tie.At-loop Inv-loop μ-loop) → let s = c .before in let r = s .pre .rate in
+    Staged (natAbs (r .width)) (r .offset) (s .args .o) (c .loop .r) (c .loop .k)
+held c =
+    let s = c .before in
+    let f = s .fits .high in
+    let g = s .fits .low in
+    c .loop .inv .1 (s .pre .rate .offset) (s .pre .rate .width) (simp toZ-ofZ (s .pre .rate .rated))
+
+mul-g : tie.Need-mul-g Inv-loop μ-loop
+mul-g c = omega arith
+
+array-copy-out-g : tie.Need-array-copy-out-g Inv-loop μ-loop
+array-copy-out-g c = omega arith
+
+add-h : tie.Need-add-h Inv-loop μ-loop
+add-h c = omega arith
+
+mul-h : tie.Need-mul-h Inv-loop μ-loop
+mul-h c = omega arith
+
+array-copy-out-h : tie.Need-array-copy-out-h Inv-loop μ-loop
+array-copy-out-h c = omega arith
+
+module _ (c : tie.After-h Inv-loop μ-loop) where
+  first-fits : SFits w64 (getD (c .before .before .before .loop .r) (c .before .before .before .loop .k) (pos 0))
+  first-fits = sfits-abs (omega (arith, held (c .before .before .before) .bounded (c .before .before .before .loop .k)))
+
+  second-fits : SFits w64 (getD (c .before .before .before .loop .r) (c .before .before .before .loop .k + 1) (pos 0))
+  second-fits = sfits-abs (omega (arith, held (c .before .before .before) .bounded (c .before .before .before .loop .k + 1)))
+
+blend-requires : tie.Need-blend-requires Inv-loop μ-loop
+blend-requires c κs =
+    let s = c .before .before .before .before in
+    let f = first-fits c in
+    let g = second-fits c in
+    let h = s .fits .high in
+    let k = s .fits .low in
+    let bounded = held (c .before .before .before) .bounded in
+    simp toZ-ofZ (record { first-small = bounded _; second-small = bounded _; rate = s .pre .rate })
+
+mul-r : tie.Need-mul-r Inv-loop μ-loop
+mul-r c = omega arith
+
+array-set-from-r : tie.Need-array-set-from-r Inv-loop μ-loop
+array-set-from-r c = omega arith
+
+add-k : tie.Need-add-k Inv-loop μ-loop
+add-k c = omega arith
+
+loop-less : tie.Need-loop-less Inv-loop μ-loop
+loop-less c = omega arith
+
+-- the blend as it is stored
+stored : (c : tie.After-blend Inv-loop μ-loop) → toZ w64 (ofZ w64 (c .blend .result)) ≡ c .blend .result
+stored c = toZ-ofZ w64 (c .blend .result) (record { sfits = c .blend .ok })
+
+loop-again : tie.Need-loop-again Inv-loop μ-loop
+loop-again c = (
+  omega arith,
+  λ u d rated. staged-more _ _ _ _ _ _ (c .before .before .before .before .loop .inv .1 u d rated) (omega arith)
+      (stored c ∙ c .blend .ensures .is u d rated
+      ∙ ap₂ (blend _ _) (toZ-ofZ w64 _ (first-fits (c .before))) (toZ-ofZ w64 _ (second-fits (c .before))))
+      (rw (stored c) (c .blend .ensures .small)),
+)
+
+returns : tie.Need-returns Inv-loop μ-loop
+returns c =
+    let s = c .before .before in
+    let f = s .fits .high in
+    let g = s .fits .low in
+    record {
+      is = λ u d rated k h. c .before .loop .inv .1 u d (simp toZ-ofZ rated) .before k (omega arith);
+      bounded = held (c .before) .bounded;
+    }
+
+pub stage-spec : {M : Type 1} → statement M
+stage-spec =
+    tie.close
+    (tie.spec
+    Inv-loop
+    μ-loop
+    loop-holds
+    mul-g
+    array-copy-out-g
+    add-h
+    mul-h
+    array-copy-out-h
+    blend-requires
+    mul-r
+    array-set-from-r
+    add-k
+    loop-less
+    loop-again
+    returns)
