@@ -24,22 +24,22 @@ LINE = re.compile(r"(degree \d order \d|mixed degrees) segments (\d+) parts (\d+
 
 # The engine's instructions to the plain program's: of the build, and of the curve calls the largest.
 MEASURED = {
-    ("degree 1 order 0", 12, 1): (0.77, 0.78),
-    ("degree 2 order 0", 12, 1): (0.68, 0.75),
-    ("degree 2 order 1", 12, 1): (0.64, 0.74),
-    ("degree 3 order 0", 12, 1): (0.63, 0.73),
-    ("degree 3 order 1", 12, 1): (0.60, 0.72),
-    ("degree 3 order 2", 12, 1): (0.57, 0.71),
-    ("degree 4 order 0", 12, 1): (0.60, 0.70),
-    ("degree 4 order 1", 12, 1): (0.57, 0.69),
-    ("degree 4 order 2", 12, 1): (0.54, 0.68),
-    ("degree 5 order 0", 12, 1): (0.55, 0.67),
-    ("degree 5 order 1", 12, 1): (0.54, 0.66),
-    ("degree 5 order 2", 12, 1): (0.53, 0.65),
-    ("mixed degrees", 12, 1): (0.59, 0.71),
-    ("mixed degrees", 12, 4): (0.82, 0.75),
-    ("mixed degrees", 48, 4): (0.58, 0.71),
-    ("degree 3 order 1", 6, 1): (0.81, 0.73),
+    ("degree 1 order 0", 12, 1): (0.77, 0.66),
+    ("degree 2 order 0", 12, 1): (0.68, 0.69),
+    ("degree 2 order 1", 12, 1): (0.64, 0.69),
+    ("degree 3 order 0", 12, 1): (0.63, 0.69),
+    ("degree 3 order 1", 12, 1): (0.60, 0.68),
+    ("degree 3 order 2", 12, 1): (0.57, 0.67),
+    ("degree 4 order 0", 12, 1): (0.60, 0.67),
+    ("degree 4 order 1", 12, 1): (0.57, 0.66),
+    ("degree 4 order 2", 12, 1): (0.54, 0.65),
+    ("degree 5 order 0", 12, 1): (0.55, 0.65),
+    ("degree 5 order 1", 12, 1): (0.54, 0.64),
+    ("degree 5 order 2", 12, 1): (0.53, 0.63),
+    ("mixed degrees", 12, 1): (0.59, 0.65),
+    ("mixed degrees", 12, 4): (0.82, 0.68),
+    ("mixed degrees", 48, 4): (0.58, 0.68),
+    ("degree 3 order 1", 6, 1): (0.81, 0.71),
 }
 
 # A call for coefficients to the engine's build of the same space.

@@ -1,6 +1,5 @@
 -- Exact numbers: the laws, for other crates to cite as `Rattle.base_exact.proofs.M`. A module has the name of the definitions
--- that its laws are about; Decide, Ring and Integer are what the others rest on, Rate is about a quotient that is taken once for
--- many, Word links integers to machine words.
+-- that its laws are about; Decide, Ring and Integer are what the others rest on, Word links integers to machine words.
 --
 -- Names say the subject first and then what is said of it: `gcd-comm`, `sum-ext`, `floor-unique`.
 -- - An operation's name as a suffix says how the subject meets it: `gcd-mul`, `nn-add`, `abs-mul`, `floor-int`. In Integer
@@ -20,7 +19,6 @@ pub mod Rational
 pub mod Order
 pub mod Sum
 pub mod Floor
-pub mod Rate
 pub mod Word
 pub mod Tabulate
 pub mod Examples

@@ -1,59 +1,29 @@
--- A piece by the ordinates of all columns: the floats of each case, code 17, the piece of the definition, and the call's
--- outcome.
+-- A piece by the ordinates of all columns: code 17, the piece of the definition, and the call's outcome.
 use mathlib.Core.Path.{_≡_, refl, sym, _∙_, ap, subst}
 use mathlib.Core.Logic.{_⊎_, inl, inr}
 use mathlib.Core.Bool.{true, false, cond}
-use mathlib.Core.List.{List, [], _∷_, _++_}
+use mathlib.Core.List.{List, _++_}
 use Prim.Native.Nat.{ℕ, suc, _+_, _<_, _≤_}
 use native.Mathlib.Omega.{arith}
 use borrow.Author.Tests.{lt-ltb, le-ltb, le-leb, lt-leb}
-use lib.Ieee.{Float}
 use lib.IntN.{ℤ, pos}
 use lib.ListN.{getD, List·getD-append}
-use Rattle.base_exact.specs.Tabulate.{tab}
 use Rattle.base_exact.proofs.Decide.{le-or-lt, cond-true, cond-false}
 use Rattle.base_exact.proofs.Tabulate.{tab-getD, tab-ext}
 use Rattle.base_outcome.specs.Outcome.{answer, refusal, refuse, largestPlace}
 use Rattle.spec_spline.specs.Space.{Space, segments, break, degree, firstColumn, columnCount}
 use Rattle.spec_spline.specs.Table.{Table}
-use Rattle.spec_spline.specs.Reading.{fineness, Wood, coefficient, ordinate, ordinates}
+use Rattle.spec_spline.specs.Reading.{Wood, coefficient, ordinate, ordinates}
 use Rattle.spec_spline.specs.CurveCall.{CurveResult}
 use Rattle.base_outcome.proofs.Outcome.{capped-small, then-answers, then-refuses}
 use Rattle.theorems_values.proofs.Value.{segment-column}
 use Rattle.curve_start.proofs.Fronts.{ordinates-length}
 use Rattle.curve_start.specs.CurveAlone.{curveAlone}
 use Rattle.curve_pieces.specs.Pieces.{isDrawable, drawableDegree, pieceOf, pieceOutcome}
-use Rattle.curve_pieces.specs.Machine.{Is, Each, none, more, Shows, Replies, drawn, refused, pieceHeld, drawnHeld}
+use Rattle.curve_pieces.specs.Machine.{Shows, Replies, drawn, refused, pieceHeld, drawnHeld}
 use Rattle.curve_pieces.specs.declared.Drawing.{Drawing}
 use Rattle.curve_pieces.specs.declared.Answer.{Answer}
 use Rattle.curve_pieces.specs.declared.Answer.the-variants.{Drawn, Refused}
-
--- ---- the floats of a line, a quadratic and a cubic
-
-module _ (os : List ℤ) (c d : ℕ) where
-  abbrev local : ℕ → ℤ
-  local i = getD os (c + i) (pos 0)
-
-  here : (x : Float) → Is x (getD os c (pos 0)) fineness → Is x (local 0) fineness
-  here x h = subst (λ i. Is x (getD os i (pos 0)) fineness) (let e : c ≡ c + 0 = omega arith in e) h
-
-  counted : {n : ℕ} {xs : List Float} → d ≡ n → Each fineness xs (tab (suc n) local) → Each fineness xs (tab (1 + d) local)
-  counted {n} {xs} e h = subst (λ m. Each fineness xs (tab m local)) (let z : suc n ≡ 1 + d = omega arith in z) h
-
-  pub line-held : {x y : Float} → d ≡ 1 → Is x (getD os c (pos 0)) fineness → Is y (local 1) fineness
-      → Each fineness (x ∷ y ∷ []) (tab (1 + d) local)
-  unfolding tab
-  line-held {x} e p q = counted e (more (here x p) (more q none))
-
-  pub quadratic-held : {x y z : Float} → d ≡ 2 → Is x (getD os c (pos 0)) fineness → Is y (local 1) fineness → Is z (local 2) fineness
-      → Each fineness (x ∷ y ∷ z ∷ []) (tab (1 + d) local)
-  unfolding tab
-  quadratic-held {x} e p q r = counted e (more (here x p) (more q (more r none)))
-
-  pub cubic-held : {x y z w : Float} → d ≡ 3 → Is x (getD os c (pos 0)) fineness → Is y (local 1) fineness → Is z (local 2) fineness
-      → Is w (local 3) fineness → Each fineness (x ∷ y ∷ z ∷ w ∷ []) (tab (1 + d) local)
-  unfolding tab
-  cubic-held {x} e p q r t = counted e (more (here x p) (more q (more r (more t none))))
 
 -- ---- code 17
 

@@ -3,5 +3,4 @@ pub mod AtEnds
 pub mod Joins
 pub mod PieceCurve
 pub mod Instances
-pub mod Floats
 pub mod Held

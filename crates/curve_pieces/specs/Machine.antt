@@ -1,43 +1,22 @@
--- The machine's form of a piece: each float is a whole number of the definition over 1 or over 256, and the answer's case is the
--- outcome's; and a piece by the ordinates of all columns.
-use mathlib.Core.Bool.{cond, not}
-use mathlib.Core.List.{List, [], _∷_}
+-- The machine's form of a piece: its floats are the definition's numbers, and the answer's case is the outcome's; and a piece by the
+-- ordinates of all columns.
+use mathlib.Core.Bool.{cond}
+use mathlib.Core.List.{List}
 use mathlib.Core.Path.{_≡_}
 use Prim.Native.Nat.{ℕ, suc, _+_, _<_, _≤_}
-use lib.Ieee.{Float}
-use lib.Ieee.Exact.{HasValue}
-use lib.IntN.{ℤ, pos, natAbs}
+use lib.IntN.{ℤ, pos}
 use lib.ListN.{length, getD}
-use lib.Signed.{nonNeg}
 use Rattle.base_exact.specs.Tabulate.{tab}
 use Rattle.base_outcome.specs.Outcome.{Outcome, answer, refusal, refuse}
 use Rattle.spec_spline.specs.Space.{Space, break, degree, firstColumn}
 use Rattle.spec_spline.specs.Reading.{fineness}
 use Rattle.build_space.specs.Legal.{ListsLegal}
 use Rattle.curve_places.specs.Offsets.{columnLimit}
+use Rattle.curve_drawing.specs.Floats.{Is, Each, floats}
 use Rattle.curve_pieces.specs.Pieces.{drawableDegree, Piece, isDrawable}
-use Rattle.curve_pieces.specs.declared.Curve.{Curve}
-use Rattle.curve_pieces.specs.declared.Curve.the-variants.{Line, Quadratic, Cubic}
 use Rattle.curve_pieces.specs.declared.Drawing.{Drawing}
 use Rattle.curve_pieces.specs.declared.Answer.{Answer}
 use Rattle.curve_pieces.specs.declared.Answer.the-variants.{Drawn, Refused}
-
--- ---- floats
-
--- The float is z / d itself; the float of 0 is +0.0.
-abbrev pub Is : Float → ℤ → ℕ → Type 0
-Is x z d = HasValue x (not (nonNeg z)) (natAbs z) d
-
--- Each float is the number beside it, over d.
-pub data Each (d : ℕ) : List Float → List ℤ → Type 0 where
-  none : Each d [] []
-  more : {x : Float} {z : ℤ} {xs : List Float} {zs : List ℤ} → Is x z d → Each d xs zs → Each d (x ∷ xs) (z ∷ zs)
-
--- The floats of a curve: two of a line, three of a quadratic, four of a cubic.
-abbrev pub floats : Curve → List Float
-floats (Line a b) = a ∷ b ∷ []
-floats (Quadratic a b c) = a ∷ b ∷ c ∷ []
-floats (Cubic a b c d) = a ∷ b ∷ c ∷ d ∷ []
 
 -- The machine's piece is the definition's: "an end is the breakpoint itself, and an ordinate times 256 is the whole number from
 -- step 1".
@@ -66,13 +45,6 @@ abbrev pub drawnHeld : Space → List ℤ → ℕ → Outcome Piece
 drawnHeld s os k = cond (isDrawable s k) (answer (pieceHeld s os k)) (refuse 17 k)
 
 -- ---- what the functions of a piece ask
-
--- Ordinates from a column on, as many as a degree that the screen draws asks.
-pub record CurveAsks (os : List ℤ) (column degree : ℕ) : Type 0 where
-  pub degree-some : 1 ≤ degree
-  pub drawable : degree ≤ drawableDegree
-  pub within : column + degree < length os
-  pub long : length os ≤ columnLimit
 
 -- A segment of legal lists whose degree the screen draws, and the ordinates of all columns.
 pub record PieceAsks (s : Space) (os : List ℤ) (k : ℕ) : Type 0 where

@@ -1,24 +1,12 @@
 // One piece of a curve for the screen: the weights and the ordinates of all columns as for a curve call without positions, and
 // then the named segment's ordinates and ends as 64-bit floats.
 ghost use mathlib.Core.Path.{_≡_};
-ghost use Prim.Native.Nat.{_+_, _<_};
-ghost use lib.IntN.{pos};
-ghost use lib.ListN.{length, getD};
-ghost use Rattle.base_exact.specs.Tabulate.{tab};
-ghost use Rattle.spec_spline.specs.Reading.{fineness};
 ghost use Rattle.build_space.specs.Machine.{space};
 ghost use Rattle.curve_ordinates.specs.Wood.{woodOf};
 ghost use Rattle.curve_pieces.specs.Pieces.{pieceEnd};
-ghost use Rattle.curve_pieces.specs.Machine.{Is, Each, floats, Shows, pieceHeld, drawnHeld, Replies};
-ghost use Rattle.curve_pieces.specs.Machine.{CurveAsks, PieceAsks, DrawAsks};
+ghost use Rattle.curve_pieces.specs.Machine.{Shows, pieceHeld, drawnHeld, Replies, PieceAsks, DrawAsks};
+use curve_drawing::Curve;
 use curve_ordinates::Wood;
-
-// A line, a quadratic or a cubic, with its ordinates from the left, in thousandths of a millimetre.
-pub enum Curve {
-    Line(f64, f64),
-    Quadratic(f64, f64, f64),
-    Cubic(f64, f64, f64, f64),
-}
 
 // The two ends of a piece, in rings.
 pub struct Ends {
@@ -41,50 +29,6 @@ pub enum Answer {
 // The screen draws lines, quadratics and cubics.
 const MAX_DRAWN_DEGREE: usize = 3;
 
-// 1 / 256, a power of two.
-const SCALE: f64 = 0.00390625;
-
-// An ordinate in 256ths, exactly.
-fn scaled(x: i32) -> f64
-    ensures { λ r. ⌜ Is r x fineness ⌝ }
-{
-    (x as f64) * SCALE
-}
-
-// A breakpoint, exactly.
-fn whole(x: i32) -> f64
-    ensures { λ r. ⌜ Is r x 1 ⌝ }
-{
-    x as f64
-}
-
-// Ordinate i.
-fn float_at(ordinates: &[i32], i: usize) -> f64
-    requires { ⌜ i < length (now ordinates) ⌝ }
-    ensures { λ r. ⌜ Is r (getD (now (ordinates .entry)) i (pos 0)) fineness ⌝ }
-{
-    let o = ordinates[i];
-    scaled(o)
-}
-
-// The ordinates from this column on, as many as the degree asks.
-fn curve_at(ordinates: &[i32], column: usize, degree: usize) -> Curve
-    requires { ⌜ CurveAsks (now ordinates) column degree ⌝ }
-    ensures { λ r. ⌜ Each fineness (floats r) (tab (1 + degree) (λ i. getD (now (ordinates .entry)) (column + i) (pos 0))) ⌝ }
-{
-    let a = float_at(ordinates, column);
-    let b = float_at(ordinates, column + 1);
-    if degree == 1 {
-        return Curve::Line(a, b);
-    }
-    let c = float_at(ordinates, column + 2);
-    if degree == 2 {
-        return Curve::Quadratic(a, b, c);
-    }
-    let d = float_at(ordinates, column + 3);
-    Curve::Cubic(a, b, c, d)
-}
-
 // The piece of segment k, whose degree the screen draws.
 fn piece_at(breaks: &[i32], degrees: &[i32], orders: &[i32], ordinates: &[i32], k: usize) -> Drawing
     requires { ⌜ PieceAsks (space (now breaks) (now degrees) (now orders)) (now ordinates) k ⌝ }
@@ -93,9 +37,9 @@ fn piece_at(breaks: &[i32], degrees: &[i32], orders: &[i32], ordinates: &[i32], 
 {
     let column = build_space::first_column(degrees, k);
     let degree = build_space::degree_at(degrees, k);
-    let curve = curve_at(ordinates, column, degree);
-    let start = whole(breaks[k]);
-    let end = whole(breaks[k + 1]);
+    let curve = curve_drawing::curve_at(ordinates, column, degree);
+    let start = curve_drawing::whole(breaks[k]);
+    let end = curve_drawing::whole(breaks[k + 1]);
     let ends = Ends { start, end };
     Drawing { curve, ends }
 }

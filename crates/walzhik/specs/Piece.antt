@@ -7,8 +7,8 @@ use lib.IntN.{ℤ, pos}
 use lib.ListN.{length, replicate}
 use Rattle.base_outcome.specs.Outcome.{Outcome, answer, refusal}
 use Rattle.spec_spline.specs.Reading.{fineness}
+use Rattle.curve_drawing.specs.Floats.{Is, Each}
 use Rattle.curve_pieces.specs.Pieces as pieces
-use Rattle.curve_pieces.specs.Machine.{Is, Each}
 use Rattle.walzhik.specs.declared.Piece.{Piece}
 
 -- The struct has room for a cubic's ordinates.

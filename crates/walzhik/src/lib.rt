@@ -254,9 +254,9 @@ fn sent(drawing: curve_pieces::Drawing) -> Piece
 {
     let curve = drawing.curve;
     match curve {
-        curve_pieces::Curve::Line(a, b) => of_degree(1, a, b, 0.0, 0.0, drawing.ends),
-        curve_pieces::Curve::Quadratic(a, b, c) => of_degree(2, a, b, c, 0.0, drawing.ends),
-        curve_pieces::Curve::Cubic(a, b, c, d) => of_degree(3, a, b, c, d, drawing.ends),
+        curve_drawing::Curve::Line(a, b) => of_degree(1, a, b, 0.0, 0.0, drawing.ends),
+        curve_drawing::Curve::Quadratic(a, b, c) => of_degree(2, a, b, c, 0.0, drawing.ends),
+        curve_drawing::Curve::Cubic(a, b, c, d) => of_degree(3, a, b, c, d, drawing.ends),
     }
 }
 

@@ -15,7 +15,7 @@ use Rattle.build_space.specs.Machine.{space}
 use Rattle.build_space.proofs.Bounds.{degree-low}
 use Rattle.build_space.proofs.Partial.{first-column-partial}
 use Rattle.build_space.proofs.Legal.{legal-columns-within, legal-column-count-high}
-use Rattle.curve_pieces.specs.Machine.{Is, Each, floats}
+use Rattle.curve_drawing.specs.Floats.{Is, Each, floats}
 use Rattle.curve_pieces.proofs.piece_at.Statement.{statement}
 use Rattle.curve_pieces.proofs.piece_at.Tie as tie
 

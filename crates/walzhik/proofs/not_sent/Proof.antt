@@ -1,6 +1,6 @@
 -- Number and place, and zeros. Assumes nothing.
 use mathlib.Core.Path.{refl}
-use Rattle.curve_pieces.specs.Machine.{none, more}
+use Rattle.curve_drawing.specs.Floats.{none, more}
 use Rattle.walzhik.proofs.Struct.{nought-is}
 use Rattle.walzhik.proofs.not_sent.Statement.{statement}
 use Rattle.walzhik.proofs.not_sent.Tie as tie

@@ -3,9 +3,9 @@ use borrow.Author.Needs.{needs}
 use native.Mathlib.Omega.{arith}
 use mir.ValLaws.{toZ-ofZ}
 use Rattle.base_exact.proofs.Word.{abs-sfits}
-use Rattle.curve_pieces.proofs.Floats.{cast-is}
-use Rattle.curve_pieces.proofs.whole.Statement.{statement}
-use Rattle.curve_pieces.proofs.whole.Tie as tie
+use Rattle.curve_drawing.proofs.Floats.{cast-is}
+use Rattle.curve_drawing.proofs.whole.Statement.{statement}
+use Rattle.curve_drawing.proofs.whole.Tie as tie
 
 int-to-float-result : tie.Need-int-to-float-result
 int-to-float-result c = search needs

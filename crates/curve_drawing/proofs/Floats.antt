@@ -11,7 +11,7 @@ use lib.Ieee.Fits.{down-pos}
 use lib.Ieee.Scale.{round-same}
 use lib.IntN.{ℤ, pos, negsuc, natAbs}
 use lib.Pow.{shl-lt}
-use Rattle.curve_pieces.specs.Machine.{Is}
+use Rattle.curve_drawing.specs.Floats.{Is}
 
 -- ---- the cast
 

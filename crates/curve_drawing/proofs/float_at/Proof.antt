@@ -5,8 +5,8 @@ use mir.Val.{SFits}
 use mir.ValLaws.{toZ-ofZ}
 use lib.IntN.{pos}
 use lib.ListN.{getD}
-use Rattle.curve_pieces.proofs.float_at.Statement.{statement}
-use Rattle.curve_pieces.proofs.float_at.Tie as tie
+use Rattle.curve_drawing.proofs.float_at.Statement.{statement}
+use Rattle.curve_drawing.proofs.float_at.Tie as tie
 
 mul-o : tie.Need-mul-o
 mul-o c = search needs

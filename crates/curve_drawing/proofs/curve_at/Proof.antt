@@ -1,9 +1,9 @@
 -- Two, three or four floats, by the degree. Assumes nothing.
 use borrow.Author.Needs.{needs}
 use native.Mathlib.Omega.{arith}
-use Rattle.curve_pieces.proofs.Held.{line-held, quadratic-held, cubic-held}
-use Rattle.curve_pieces.proofs.curve_at.Statement.{statement}
-use Rattle.curve_pieces.proofs.curve_at.Tie as tie
+use Rattle.curve_drawing.proofs.Cases.{line-held, quadratic-held, cubic-held}
+use Rattle.curve_drawing.proofs.curve_at.Statement.{statement}
+use Rattle.curve_drawing.proofs.curve_at.Tie as tie
 
 float-at-requires : tie.Need-float-at-requires
 float-at-requires c κs = search needs

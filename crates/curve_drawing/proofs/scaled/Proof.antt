@@ -5,10 +5,10 @@ use mathlib.Core.Path.{sym, subst}
 use mir.ValLaws.{toZ-ofZ}
 use lib.Ieee.{Float, binary64, mul, ofInt}
 use Rattle.base_exact.proofs.Word.{abs-sfits}
-use Rattle.curve_pieces.specs.Machine.{Is}
-use Rattle.curve_pieces.proofs.Floats.{cast-is, scale-is, scaled-is}
-use Rattle.curve_pieces.proofs.scaled.Statement.{statement}
-use Rattle.curve_pieces.proofs.scaled.Tie as tie
+use Rattle.curve_drawing.specs.Floats.{Is}
+use Rattle.curve_drawing.proofs.Floats.{cast-is, scale-is, scaled-is}
+use Rattle.curve_drawing.proofs.scaled.Statement.{statement}
+use Rattle.curve_drawing.proofs.scaled.Tie as tie
 
 int-to-float-result : tie.Need-int-to-float-result
 int-to-float-result c = search needs

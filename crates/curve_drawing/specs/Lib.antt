@@ -1,0 +1,2 @@
+-- What the contracts of curve_drawing cite.
+pub mod Floats
