@@ -2,11 +2,11 @@
 use mathlib.Core.Path.{_≡_, refl, sym, _∙_, ap, ap₂}
 use mathlib.Core.List.{List, []}
 use mathlib.Core.Option.{Option, some, none}
-use Prim.Native.Nat.{ℕ, _+_, _*_, _/_, _<_, _≤_}
+use Prim.Native.Nat.{ℕ, _*_, _/_, _<_, _≤_}
 use native.Mathlib.Omega.{arith}
 use borrow.Author.Tests.{lt-ltb, le-ltb}
-use lib.IntN.{ℤ, pos}
-use lib.ListN.{length, getD, drop}
+use lib.IntN.{ℤ}
+use lib.ListN.{length}
 use Rattle.base_exact.specs.Tabulate.{tab}
 use Rattle.base_exact.proofs.Decide.{cond-true, cond-false}
 use Rattle.base_exact.proofs.Tabulate.{tab-ext}
@@ -16,18 +16,19 @@ use Rattle.spec_spline.specs.Space.{Space}
 use Rattle.base_outcome.specs.Tests.{refuseFirst}
 use Rattle.spec_spline.specs.Table.{tableCells, numerators, denominators}
 use Rattle.spec_spline.specs.Build.{numeratorsAfter, denominatorsAfter}
-use Rattle.spec_spline.specs.Reading.{Wood, earlywood, latewood, woodIndex, Pair}
-use Rattle.spec_spline.specs.CurveCall.{CurveResult, positionLimit, curveOutcome, returned, curveNumerators, curveDenominators, valuesAfter}
+use Rattle.spec_spline.specs.Reading.{Wood, woodIndex}
+use Rattle.spec_spline.specs.CurveCall.{CurveResult, positionLimit, curveOutcome, curveNumerators, curveDenominators, valuesAfter}
 use Rattle.base_outcome.proofs.Outcome.{then-answers, capped-small, answer-unique}
 use Rattle.base_outcome.proofs.Search.{first-ext, first-some-inverts}
-use Rattle.spec_spline.proofs.Pairs.{ofTheWood, getD-pairs, length-pairs}
+use Rattle.spec_spline.proofs.Pairs.{length-pairs}
 use Rattle.spec_spline.proofs.Build.{long-enough}
 use Rattle.theorems_values.proofs.LegalCall.{answered-calls-are-legal, legal-calls-answer, values-length}
 use Rattle.base_outcome.specs.declared.Answer.{Answer}
-use Rattle.theorems_indices.specs.Indices.{ringPositions, ringWidth, ringValue, isRefused, badRing, indexOf, ringIndices, ringsRead, ringsIndexed, indicesReturned, indicesAfter}
+use Rattle.theorems_indices.specs.Indices.{ringPositions, ringWidth, isRefused, badRing, indexOf, ringIndices, ringsRead, ringsIndexed}
+use Rattle.theorems_indices.specs.Indices.{indicesReturned, indicesAfter}
 use Rattle.theorems_indices.proofs.Cells.{value-cell}
 use Rattle.base_outcome.specs.Machine.{reply}
-use Rattle.indices.specs.Machine.{cellsIndexed}
+use Rattle.indices.specs.Machine.{cellsIndexed, Indexed}
 use Rattle.indices_positions.specs.Words.{wordPositions, ringsTaken}
 use Rattle.indices_rings.specs.Cells.{badCell, cellIndex}
 use Rattle.base_outcome.specs.declared.Answer.the-variants.{Refused}
@@ -37,13 +38,15 @@ use Rattle.indices_positions.proofs.Positions.{words-length, outcome-same}
 -- ---- code 14 and the indices by the cells
 
 module _ (widths cells : List ℤ) (offset : ℕ) where
-  pub cells-refused : {i : ℕ} → first (length widths) (badCell widths cells offset) ≡ some i → length widths ≤ positionLimit → cellsIndexed widths cells offset ≡ refusal 14 i
+  pub cells-refused : {i : ℕ} → first (length widths) (badCell widths cells offset) ≡ some i → length widths ≤ positionLimit
+      → cellsIndexed widths cells offset ≡ refusal 14 i
   unfolding cellsIndexed
   cells-refused {i} e h =
       ap (λ (o : Option ℕ). refuseFirst 14 o (answer (tab (length widths) (cellIndex widths cells offset)))) e
       ∙ ap (refusal 14) (capped-small i (omega (arith, first-some-inverts (badCell widths cells offset) (length widths) e .below)))
 
-  pub cells-answered : first (length widths) (badCell widths cells offset) ≡ none → cellsIndexed widths cells offset ≡ answer (tab (length widths) (cellIndex widths cells offset))
+  pub cells-answered : first (length widths) (badCell widths cells offset) ≡ none
+      → cellsIndexed widths cells offset ≡ answer (tab (length widths) (cellIndex widths cells offset))
   unfolding cellsIndexed
   cells-answered e = ap (λ (o : Option ℕ). refuseFirst 14 o (answer (tab (length widths) (cellIndex widths cells offset)))) e
 
@@ -67,9 +70,17 @@ pub record Ends (s : Space) (wood : Wood) (widths : List ℤ) (o : Outcome Curve
   pub values-are : vs′ ≡ valuesAfter o vs
   pub indices-are : is′ ≡ indicesAfter (o then ringsIndexed wood widths) is
 
+-- as the contract says it
+pub ended : {s : Space} {wood : Wood} {widths : List ℤ} {o : Outcome CurveResult} {r : Answer} {num den vs is num′ den′ vs′ is′ : List ℤ}
+    → Ends s wood widths o r num den vs is num′ den′ vs′ is′
+    → (reply r ≡ indicesReturned (o then ringsIndexed wood widths)) × ((num′ ≡ curveNumerators s o num)
+    × ((den′ ≡ curveDenominators s o den) × ((vs′ ≡ valuesAfter o vs) × (is′ ≡ indicesAfter (o then ringsIndexed wood widths) is))))
+ended e = (e .answers, (e .numerators-are, (e .denominators-are, (e .values-are, e .indices-are))))
+
 module _ (s : Space) (wood : Wood) (widths : List ℤ) {o : Outcome CurveResult} (num den vs is : List ℤ) where
   -- a refusal of the curve call: the buffers as it leaves them, the indices as they were
-  pub ends-refused : {code place : ℕ} {num′ den′ vs′ : List ℤ} → o ≡ refusal code place → num′ ≡ curveNumerators s o num → den′ ≡ curveDenominators s o den → vs′ ≡ valuesAfter o vs
+  pub ends-refused : {code place : ℕ} {num′ den′ vs′ : List ℤ} → o ≡ refusal code place → num′ ≡ curveNumerators s o num
+      → den′ ≡ curveDenominators s o den → vs′ ≡ valuesAfter o vs
       → Ends s wood widths o (Refused code place) num den vs is num′ den′ vs′ is
   unfolding reply indicesAfter
   ends-refused e p q w = record {
@@ -89,17 +100,65 @@ module _ (s : Space) (wood : Wood) (widths : List ℤ) {o : Outcome CurveResult}
       (sym (ap (λ x. valuesAfter x vs) e))
 
   -- an answer of the curve call: code 14 or the indices, by the cells after it
-  pub ends-indexed : {r : CurveResult} {a : Answer} {num′ den′ vs′ is′ : List ℤ} → o ≡ answer r → length (r .values) ≡ length widths → num′ ≡ curveNumerators s o num → den′ ≡ curveDenominators s o den → vs′ ≡ valuesAfter o vs
-      → reply a ≡ indicesReturned (cellsIndexed widths vs′ (woodIndex wood)) → is′ ≡ indicesAfter (cellsIndexed widths vs′ (woodIndex wood)) is
+  pub ends-indexed : {r : CurveResult} {a : Answer} {num′ den′ vs′ is′ : List ℤ} → o ≡ answer r → length (r .values) ≡ length widths
+      → num′ ≡ curveNumerators s o num → den′ ≡ curveDenominators s o den → vs′ ≡ valuesAfter o vs
+      → Indexed (cellsIndexed widths vs′ (woodIndex wood)) a is is′
       → Ends s wood widths o a num den vs is num′ den′ vs′ is′
-  ends-indexed {r} {vs′ = vs′} e count p q w x y =
+  ends-indexed {r} {vs′ = vs′} e count p q w x =
       let same : cellsIndexed widths vs′ (woodIndex wood) ≡ (o then ringsIndexed wood widths)
-      = ap (λ (l : List ℤ). cellsIndexed widths l (woodIndex wood)) (w ∙ ap (λ z. valuesAfter z vs) e) ∙ indexed-by-cells wood widths r vs count ∙ sym (then-answers (ringsIndexed wood widths) e) in
-      record { answers = x ∙ ap indicesReturned same; numerators-are = p; denominators-are = q; values-are = w; indices-are = y ∙ ap (λ z. indicesAfter z is) same }
+      = ap (λ (l : List ℤ). cellsIndexed widths l (woodIndex wood)) (w ∙ ap (λ z. valuesAfter z vs) e)
+      ∙ indexed-by-cells wood widths r vs count ∙ sym (then-answers (ringsIndexed wood widths) e) in
+      record {
+        answers = x .answers ∙ ap indicesReturned same;
+        numerators-are = p;
+        denominators-are = q;
+        values-are = w;
+        indices-are = x .indices-are ∙ ap (λ z. indicesAfter z is) same;
+      }
 
 -- ---- the call's outcome
 
-module _ (s : Space) (coefs : List ℤ) (firstRing : ℤ) (widths : List ℤ) (numLength denLength valuesLength indicesLength : ℕ) where
+-- What a call is given: the curve's lists, the rings, and how many cells each buffer has.
+pub record Given : Type 0 where
+  pub lists : Space
+  pub coefs : List ℤ
+  pub firstRing : ℤ
+  pub widths : List ℤ
+  pub numLength : ℕ
+  pub denLength : ℕ
+  pub valuesLength : ℕ
+  pub indicesLength : ℕ
+
+-- What reading the rings ends with.
+abbrev pub outcomeOf : Given → Outcome CurveResult
+outcomeOf g =
+    ringsRead (g .lists) (g .coefs) (g .firstRing) (g .widths) (g .numLength) (g .denLength) (g .valuesLength) (g .indicesLength)
+
+module _ (given : Given) where
+  abbrev s : Space
+  s = given .lists
+
+  abbrev coefs : List ℤ
+  coefs = given .coefs
+
+  abbrev firstRing : ℤ
+  firstRing = given .firstRing
+
+  abbrev widths : List ℤ
+  widths = given .widths
+
+  abbrev numLength : ℕ
+  numLength = given .numLength
+
+  abbrev denLength : ℕ
+  denLength = given .denLength
+
+  abbrev valuesLength : ℕ
+  valuesLength = given .valuesLength
+
+  abbrev indicesLength : ℕ
+  indicesLength = given .indicesLength
+
   abbrev outcome : Outcome CurveResult
   outcome = ringsRead s coefs firstRing widths numLength denLength valuesLength indicesLength
 
@@ -117,7 +176,10 @@ module _ (s : Space) (coefs : List ℤ) (firstRing : ℤ) (widths : List ℤ) (n
   module _ (h : tableCells ≤ numLength) (k : tableCells ≤ denLength) where
     pub third-short : valuesLength / 2 < length widths → outcome ≡ refusal 1 2
     unfolding ringsRead capped
-    third-short l = long-enough numLength denLength _ h k ∙ cond-true _ _ (lt-ltb (valuesLength / 2) (length (ringPositions firstRing (length widths))) (rw (exact-length firstRing (length widths)) l))
+    third-short l =
+        long-enough numLength denLength _ h k
+        ∙ cond-true _ _
+        (lt-ltb (valuesLength / 2) (length (ringPositions firstRing (length widths))) (rw (exact-length firstRing (length widths)) l))
 
     module _ (l : length widths ≤ valuesLength / 2) where
       pub fourth-short : indicesLength < length widths → outcome ≡ refusal 1 3
@@ -141,7 +203,9 @@ module _ (s : Space) (coefs : List ℤ) (firstRing : ℤ) (widths : List ℤ) (n
       let p = wordPositions firstRing (ringsTaken (length widths)) in
       let l = answered-calls-are-legal s coefs p numLength denLength valuesLength r e in
       let few : ringsTaken (length widths) ≤ positionLimit = rw (words-length firstRing (ringsTaken (length widths))) at (l .positionCount) in
-      let count : length (r .values) ≡ ringsTaken (length widths) = ap (λ q. length (q .values)) (answer-unique e (legal-calls-answer s coefs p numLength denLength valuesLength l)) ∙ values-length s (l .accepted .table) coefs p ∙ words-length firstRing (ringsTaken (length widths)) in
+      let same = answer-unique e (legal-calls-answer s coefs p numLength denLength valuesLength l) in
+      let count : length (r .values) ≡ ringsTaken (length widths) =
+      ap (λ q. length (q .values)) same ∙ values-length s (l .accepted .table) coefs p ∙ words-length firstRing (ringsTaken (length widths)) in
       (omega arith, count ∙ omega arith)
 
 -- the values' buffer is as long as it was

@@ -1,16 +1,16 @@
 // Ring indices: each measured ring divided by the curve of a named wood part. Of the code of the curves it calls `curve::curve` alone, and
 // knows of it what its contract promises.
 ghost use mathlib.Core.Path.{_≡_};
-ghost use Prim.Native.Nat.{_+_, _*_, _≤_};
+ghost use Prim.Native.Nat.{_+_, _≤_};
 ghost use lib.ListN.{length};
 ghost use Rattle.base_outcome.specs.Machine.{reply};
 ghost use Rattle.spec_spline.specs.Reading.{woodIndex};
 ghost use Rattle.spec_spline.specs.CurveCall.{positionLimit, curveEnd};
 ghost use Rattle.build_space.specs.Machine.{space};
 ghost use Rattle.curve_ordinates.specs.Wood.{woodOf};
-ghost use Rattle.theorems_indices.specs.Indices.{indicesReturned, indicesAfter, indicesEnd};
+ghost use Rattle.theorems_indices.specs.Indices.{indicesEnd};
 ghost use Rattle.indices_positions.specs.Words.{ringsTaken, wordPositions};
-ghost use Rattle.indices.specs.Machine.{cellsIndexed};
+ghost use Rattle.indices.specs.Machine.{cellsIndexed, IndexAsks, Indexed, CurveLeaves};
 use base_outcome::Answer;
 
 // One more than the curve call takes: it refuses these as it would refuse more.
@@ -36,10 +36,9 @@ fn read_rings(
     values: &mut [i32],
 ) -> Answer
     requires { ⌜ length (now positions) ≤ positionLimit + 1 ⌝ }
-    ensures { λ r. ⌜ (let e = curveEnd (space (now (breaks .entry)) (now (degrees .entry)) (now (orders .entry))) (now (coefs .entry))
-        (wordPositions first (length (now (positions .entry)))) (now (num .entry)) (now (den .entry)) (now (values .entry)) in
-        (reply r ≡ e .answers) × ((now (num .exit) ≡ e .numerators)
-        × ((now (den .exit) ≡ e .denominators) × (now (values .exit) ≡ e .values)))) ⌝ }
+    ensures { λ r. ⌜ CurveLeaves (curveEnd (space (now (breaks .entry)) (now (degrees .entry)) (now (orders .entry))) (now (coefs .entry))
+        (wordPositions first (length (now (positions .entry)))) (now (num .entry)) (now (den .entry)) (now (values .entry)))
+        r (now (num .exit)) (now (den .exit)) (now (values .exit)) ⌝ }
 {
     indices_positions::fill_positions(first, positions);
     curve::curve(breaks, degrees, orders, coefs, positions, num, den, values)
@@ -62,10 +61,9 @@ fn index_rings(
     values: &[i32],
     indices: &mut [i64],
 ) -> Answer
-    requires { ⌜ ((2 * length (now widths) ≤ length (now values)) × (length (now widths) ≤ length (now indices)))
-        × (length (now widths) ≤ positionLimit) ⌝ }
-    ensures { λ r. ⌜ (let i = cellsIndexed (now (widths .entry)) (now (values .entry)) (woodIndex (woodOf wood)) in
-        (reply r ≡ indicesReturned i) × (now (indices .exit) ≡ indicesAfter i (now (indices .entry)))) ⌝ }
+    requires { ⌜ IndexAsks (now widths) (now values) (now indices) ⌝ }
+    ensures { λ r. ⌜ Indexed (cellsIndexed (now (widths .entry)) (now (values .entry)) (woodIndex (woodOf wood))) r (now (indices .entry))
+        (now (indices .exit)) ⌝ }
 {
     let offset = wood_index(wood);
     let bad = indices_rings::first_bad_ring(widths, values, offset);

@@ -65,8 +65,11 @@ module _ (low high z : ℤ) (l : leastWord <ℤ low) (h : high <ℤ greatestWord
   between-nearest = go word
     where
       go : Word → between low high (nearestWord z) ≡ between low high z
-      go (beneath p) = ap (between low high) (sym (nearest-below z (lt-test p))) ∙ below-both leastWord (≤-in leastWord leastWord (omega arith)) ∙ sym (below-both z (≤-in z leastWord (omega (arith, <-out z leastWord p))))
-      go (beyond p q) = ap (between low high) (sym (nearest-above z (not-lt-test p) (lt-test q))) ∙ above-both greatestWord (≤-in greatestWord greatestWord (omega arith)) ∙ sym (above-both z (≤-in greatestWord z (omega (arith, <-out greatestWord z q))))
+      go (beneath p) = ap (between low high) (sym (nearest-below z (lt-test p))) ∙ below-both leastWord (≤-in leastWord leastWord (omega arith))
+          ∙ sym (below-both z (≤-in z leastWord (omega (arith, <-out z leastWord p))))
+      go (beyond p q) = ap (between low high) (sym (nearest-above z (not-lt-test p) (lt-test q)))
+          ∙ above-both greatestWord (≤-in greatestWord greatestWord (omega arith))
+          ∙ sym (above-both z (≤-in greatestWord z (omega (arith, <-out greatestWord z q))))
       go (within p q) = ap (between low high) (sym (nearest-inside z (not-lt-test p) (not-lt-test q)))
 
   pub nearest-between : (low ≤ℤ z) × (z ≤ℤ high) → z ≡ nearestWord z
@@ -85,7 +88,9 @@ fine-below b p = <-in (fine b) greatestWord (omega (arith, bal-* (pos 256) b, �
 break-in-range : (s : Space) (i : ℕ) → badBreak s i ≡ false → (negℤ (pos breakLimit) ≤ℤ break s i) × (break s i ≤ℤ pos breakLimit)
 unfolding badBreak
 break-in-range s zero e = between-inverts (negℤ (pos breakLimit)) (pos breakLimit) (break s zero) e
-break-in-range s (suc i) e = between-inverts (negℤ (pos breakLimit)) (pos breakLimit) (break s (suc i)) (or-false (not (between (negℤ (pos breakLimit)) (pos breakLimit) (break s (suc i)))) (leZ (break s (suc i)) (break s i)) e .0)
+break-in-range s (suc i) e =
+    between-inverts (negℤ (pos breakLimit)) (pos breakLimit) (break s (suc i))
+    (or-false (not (between (negℤ (pos breakLimit)) (pos breakLimit) (break s (suc i)))) (leZ (break s (suc i)) (break s i)) e .0)
 
 module _ (s : Space) (c : Checked s) where
   span-low : leastWord <ℤ fine (break s 0)
@@ -119,7 +124,8 @@ module _ (firstRing : ℤ) (n : ℕ) where
         ∙ sym (ap (λ (z : ℤ). not (between (fine (break s 0)) (fine (break s (segments s))) z)) (exact-at firstRing n i h))
 
     same-first : first (length words) (badPosition s words) ≡ first (length exact) (badPosition s exact)
-    same-first = ap (λ k. first k (badPosition s words)) words-length ∙ first-ext n same-test ∙ sym (ap (λ k. first k (badPosition s exact)) (exact-length firstRing n))
+    same-first = ap (λ k. first k (badPosition s words)) words-length ∙ first-ext n same-test
+        ∙ sym (ap (λ k. first k (badPosition s exact)) (exact-length firstRing n))
 
     -- positions in the span are handed on as they are
     same-inside : first (length exact) (badPosition s exact) ≡ none → words ≡ exact
@@ -132,22 +138,29 @@ module _ (firstRing : ℤ) (n : ℕ) where
 
   module _ (s : Space) (coefs : List ℤ) where
     entries-same : Checked s → legalEntries s coefs words (answer s) ≡ legalEntries s coefs exact (answer s)
-    entries-same c = ap (λ (o : Option ℕ). cond (eqb (length coefs) (2 * rowCount s)) (refuseFirst 6 (first (length coefs) (badCoefficient coefs)) (refuseFirst 7 o (answer s))) (refuse 6 largestPlace)) (same-first s c)
+    entries-same c =
+        ap
+        (λ (o : Option ℕ). cond (eqb (length coefs) (2 * rowCount s))
+        (refuseFirst 6 (first (length coefs) (badCoefficient coefs)) (refuseFirst 7 o (answer s))) (refuse 6 largestPlace)) (same-first s c)
 
     abbrev rest : List ℤ → Outcome Space → Outcome Space
     rest p o = cond (ltb positionLimit (length p)) (refuse 2 1) (o then λ legal. legalEntries legal coefs p (answer legal))
 
-    rest-same : (o : Outcome Space) → (o then λ legal. legalEntries legal coefs words (answer legal)) ≡ (o then λ legal. legalEntries legal coefs exact (answer legal)) → rest words o ≡ rest exact o
+    rest-same : (o : Outcome Space) → (o then λ legal. legalEntries legal coefs words (answer legal))
+        ≡ (o then λ legal. legalEntries legal coefs exact (answer legal)) → rest words o ≡ rest exact o
     rest-same o e = ap₂ (λ (k : ℕ) (r : Outcome Space). cond (ltb positionLimit k) (refuse 2 1) r) (words-length ∙ sym (exact-length firstRing n)) e
 
     checks-same : curveChecked s coefs words ≡ curveChecked s coefs exact
     unfolding curveChecked checked
     checks-same = go (lengthsFit s) refl (checkedEntries s) refl
       where
-        go : (b : Bool) → lengthsFit s ≡ b → (o : Outcome Space) → checkedEntries s ≡ o → cond b (rest words o) (refuse 2 0) ≡ cond b (rest exact o) (refuse 2 0)
+        go : (b : Bool) → lengthsFit s ≡ b → (o : Outcome Space) → checkedEntries s ≡ o
+            → cond b (rest words o) (refuse 2 0) ≡ cond b (rest exact o) (refuse 2 0)
         go false fit o e = refl
         go true fit (refusal code place) e = rest-same (refusal code place) refl
-        go true fit (answer t) e = rest-same (answer t) (subst (λ (u : Space). legalEntries u coefs words (answer u) ≡ legalEntries u coefs exact (answer u)) (legal .0) (entries-same (legal .1)))
+        go true fit (answer t) e =
+            rest-same (answer t) (subst (λ (u : Space). legalEntries u coefs words (answer u) ≡ legalEntries u coefs exact (answer u)) (legal .0)
+            (entries-same (legal .1)))
           where
             legal : (s ≡ t) × Checked s
             legal = checked-inverts s (cond-true (checkedEntries s) (refuse 2 0) fit ∙ e)
@@ -157,23 +170,31 @@ module _ (firstRing : ℤ) (n : ℕ) where
       where
         go : (o : Outcome Space) → curveChecked s coefs exact ≡ o → (o then curveRead coefs words) ≡ (o then curveRead coefs exact)
         go (refusal code place) e = refl
-        go (answer t) e = let p = checks-passed s coefs exact e .0 in ap (λ (l : List ℤ). curveRead coefs l t) (same-inside s (checked-inverts s (p .space) .1) (p .entries .positions-inside))
+        go (answer t) e =
+            let p = checks-passed s coefs exact e .0 in
+            ap (λ (l : List ℤ). curveRead coefs l t) (same-inside s (checked-inverts s (p .space) .1) (p .entries .positions-inside))
 
 -- ---- more than the curve call takes
 
 too-many : (s : Space) (coefs p q : List ℤ) → positionLimit < length p → positionLimit < length q → curveChecked s coefs p ≡ curveChecked s coefs q
 unfolding curveChecked
-too-many s coefs p q h k = ap (λ (o : Outcome Space). cond (lengthsFit s) o (refuse 2 0)) (cond-true _ _ (lt-ltb positionLimit (length p) h) ∙ sym (cond-true _ _ (lt-ltb positionLimit (length q) k)))
+too-many s coefs p q h k =
+    ap (λ (o : Outcome Space). cond (lengthsFit s) o (refuse 2 0)) (cond-true _ _ (lt-ltb positionLimit (length p) h)
+    ∙ sym (cond-true _ _ (lt-ltb positionLimit (length q) k)))
 
-too-many-refused : (s : Space) (coefs p : List ℤ) (r : Outcome CurveResult) → positionLimit < length p → (curveChecked s coefs p then curveRead coefs p) ≡ (curveChecked s coefs p then λ _. r)
+too-many-refused : (s : Space) (coefs p : List ℤ) (r : Outcome CurveResult) → positionLimit < length p
+    → (curveChecked s coefs p then curveRead coefs p) ≡ (curveChecked s coefs p then λ _. r)
 unfolding curveChecked
 too-many-refused s coefs p r h = go (lengthsFit s)
   where
     inner : cond (ltb positionLimit (length p)) (refuse 2 1) (checkedEntries s then λ legal. legalEntries legal coefs p (answer legal)) ≡ refuse 2 1
     inner = cond-true _ _ (lt-ltb positionLimit (length p) h)
 
-    go : (b : Bool) → (cond b (cond (ltb positionLimit (length p)) (refuse 2 1) (checkedEntries s then λ legal. legalEntries legal coefs p (answer legal))) (refuse 2 0) then curveRead coefs p)
-        ≡ (cond b (cond (ltb positionLimit (length p)) (refuse 2 1) (checkedEntries s then λ legal. legalEntries legal coefs p (answer legal))) (refuse 2 0) then λ _. r)
+    go : (b : Bool)
+        → (cond b (cond (ltb positionLimit (length p)) (refuse 2 1) (checkedEntries s then λ legal. legalEntries legal coefs p (answer legal)))
+        (refuse 2 0) then curveRead coefs p)
+        ≡ (cond b (cond (ltb positionLimit (length p)) (refuse 2 1) (checkedEntries s then λ legal. legalEntries legal coefs p (answer legal)))
+        (refuse 2 0) then λ _. r)
     go true = ap (λ (o : Outcome Space). o then curveRead coefs p) inner ∙ sym (ap (λ (o : Outcome Space). o then λ _. r) inner)
     go false = refl
 
@@ -189,18 +210,23 @@ module _ (s : Space) (coefs : List ℤ) (firstRing : ℤ) (n : ℕ) where
       ≡ (curveChecked s coefs (ringPositions firstRing n) then curveRead coefs (ringPositions firstRing n))
   taken-same = go (le-or-lt n positionLimit)
     where
-      go : (n ≤ positionLimit) ⊎ (positionLimit < n) → (curveChecked s coefs (wordPositions firstRing (ringsTaken n)) then curveRead coefs (wordPositions firstRing (ringsTaken n)))
+      go : (n ≤ positionLimit) ⊎ (positionLimit < n)
+          → (curveChecked s coefs (wordPositions firstRing (ringsTaken n)) then curveRead coefs (wordPositions firstRing (ringsTaken n)))
           ≡ (curveChecked s coefs (ringPositions firstRing n) then curveRead coefs (ringPositions firstRing n))
-      go (inl h) = ap (λ (k : ℕ). curveChecked s coefs (wordPositions firstRing k) then curveRead coefs (wordPositions firstRing k)) (let e : ringsTaken n ≡ n = omega arith in e) ∙ read-same firstRing n s coefs
+      go (inl h) =
+          ap (λ (k : ℕ). curveChecked s coefs (wordPositions firstRing k) then curveRead coefs (wordPositions firstRing k))
+          (let e : ringsTaken n ≡ n = omega arith in e) ∙ read-same firstRing n s coefs
       go (inr h) =
           let p = wordPositions firstRing (ringsTaken n) in
           let q = ringPositions firstRing n in
           let a : positionLimit < length p = rw (words-length firstRing (ringsTaken n)) (omega arith) in
           let b : positionLimit < length q = rw (exact-length firstRing n) h in
-          too-many-refused s coefs p (refusal 0 0) a ∙ ap (λ (o : Outcome Space). o then λ _. refusal 0 0) (too-many s coefs p q a b) ∙ sym (too-many-refused s coefs q (refusal 0 0) b)
+          too-many-refused s coefs p (refusal 0 0) a ∙ ap (λ (o : Outcome Space). o then λ _. refusal 0 0) (too-many s coefs p q a b)
+          ∙ sym (too-many-refused s coefs q (refusal 0 0) b)
 
   pub outcome-same : (numLength denLength valuesLength : ℕ) → tableCells ≤ numLength → tableCells ≤ denLength → n ≤ valuesLength / 2
-      → curveOutcome s coefs (wordPositions firstRing (ringsTaken n)) numLength denLength valuesLength ≡ curveOutcome s coefs (ringPositions firstRing n) numLength denLength valuesLength
+      → curveOutcome s coefs (wordPositions firstRing (ringsTaken n)) numLength denLength valuesLength
+      ≡ curveOutcome s coefs (ringPositions firstRing n) numLength denLength valuesLength
   outcome-same numLength denLength valuesLength h k l =
       all-long s coefs (wordPositions firstRing (ringsTaken n)) numLength denLength valuesLength h k (rw (words-length firstRing (ringsTaken n)) (omega arith))
       ∙ taken-same

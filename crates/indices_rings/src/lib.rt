@@ -1,13 +1,11 @@
 // The rings by the value cells: code 14 at the first ring that it refuses, and the index of each.
 ghost use mathlib.Core.Path.{_≡_};
 ghost use mathlib.Core.List.{_++_};
-ghost use mathlib.Core.Bool.{false};
-ghost use Prim.Native.Nat.{ℕ, _+_, _*_, _<_, _≤_};
 ghost use lib.ListN.{length, drop};
 ghost use Rattle.base_exact.specs.Tabulate.{tab};
 ghost use Rattle.base_outcome.specs.Search;
 ghost use Rattle.base_outcome.specs.Machine.{found};
-ghost use Rattle.indices_rings.specs.Cells.{badCell, cellIndex};
+ghost use Rattle.indices_rings.specs.Cells.{badCell, cellIndex, RingAt, GoodRing, RingsAt, GoodRings};
 
 const WIDTH_LIMIT: i32 = 99999;
 
@@ -16,7 +14,7 @@ const INDEX_SCALE: i64 = 256000;
 
 // Code 14 of one ring.
 fn ring_is_bad(widths: &[i32], values: &[i32], offset: usize, i: usize) -> bool
-    requires { ⌜ (i < length (now widths)) × (2 * i + offset < length (now values)) ⌝ }
+    requires { ⌜ RingAt (now widths) (now values) offset i ⌝ }
     ensures { λ r. ⌜ r ≡ badCell (now (widths .entry)) (now (values .entry)) offset i ⌝ }
 {
     let width = widths[i];
@@ -34,7 +32,7 @@ fn ring_is_bad(widths: &[i32], values: &[i32], offset: usize, i: usize) -> bool
 }
 
 pub fn first_bad_ring(widths: &[i32], values: &[i32], offset: usize) -> base_outcome::Found
-    requires { ⌜ (2 * length (now widths) ≤ length (now values)) × (offset < 2) ⌝ }
+    requires { ⌜ RingsAt (now widths) (now values) offset ⌝ }
     ensures { λ r. ⌜ r ≡ found (Search.first (length (now (widths .entry)))
         (badCell (now (widths .entry)) (now (values .entry)) offset)) ⌝ }
 {
@@ -54,8 +52,7 @@ pub fn first_bad_ring(widths: &[i32], values: &[i32], offset: usize) -> base_out
 
 // The index of one ring that passed code 14.
 fn index(widths: &[i32], values: &[i32], offset: usize, i: usize) -> i64
-    requires { ⌜ ((i < length (now widths)) × (2 * i + offset < length (now values)))
-        × (badCell (now widths) (now values) offset i ≡ false) ⌝ }
+    requires { ⌜ GoodRing (now widths) (now values) offset i ⌝ }
     ensures { λ r. ⌜ r ≡ cellIndex (now (widths .entry)) (now (values .entry)) offset i ⌝ }
 {
     let width = widths[i];
@@ -70,8 +67,7 @@ fn index(widths: &[i32], values: &[i32], offset: usize, i: usize) -> i64
 
 // The indices of all rings, none of which is refused.
 pub fn write_indices(widths: &[i32], values: &[i32], offset: usize, indices: &mut [i64])
-    requires { ⌜ ((2 * length (now widths) ≤ length (now values)) × (offset < 2)) × (length (now widths) ≤ length (now indices)) ⌝ }
-    requires { ⌜ ((i : ℕ) → i < length (now widths) → badCell (now widths) (now values) offset i ≡ false) ⌝ }
+    requires { ⌜ GoodRings (now widths) (now values) offset (now indices) ⌝ }
     ensures { λ _. ⌜ now (indices .exit) ≡ tab (length (now (widths .entry))) (cellIndex (now (widths .entry)) (now (values .entry)) offset)
         ++ drop (length (now (widths .entry))) (now (indices .entry)) ⌝ }
 {

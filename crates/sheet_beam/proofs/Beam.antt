@@ -70,7 +70,9 @@ module _ (s : Space) (x : Accepted s) where
   -- all its rows
   pub beam-lines : weightLines (firstRows (rowCount s) (tableOf (spaceWeights s))) ≡ weightsText s
   unfolding weightsText
-  beam-lines = ap weightLines (ap (λ k. firstRows k (tableOf (spaceWeights s))) (sym (rows-and-columns s x .0) ∙ ap length (sym table-is)) ∙ rows-all (tableOf (spaceWeights s)))
+  beam-lines =
+      ap weightLines (ap (λ k. firstRows k (tableOf (spaceWeights s))) (sym (rows-and-columns s x .0) ∙ ap length (sym table-is))
+      ∙ rows-all (tableOf (spaceWeights s)))
 
   pub rows-at-end : {b : ℕ} → b ≡ segments s → rowCount (section s 0 b) ≡ rowCount s
   rows-at-end e = ap (λ b. rowCount (section s 0 b)) e ∙ ap rowCount (section-all s beam-lengths)
@@ -110,7 +112,8 @@ module _ (s : Space) (x : Accepted s) where
       zero-before = λ i j h l. of .zero-beside i j (omega (arith, shape .0)) (inl l);
     }
       where
-        go : (i j : ℕ) → i < rowCount part → (columnCount part ≤ j) ⊎ (j < columnCount part) → cell (x .table) (rowsBefore s a + i) (firstColumn s a + j) ≡ cell table i j
+        go : (i j : ℕ) → i < rowCount part → (columnCount part ≤ j) ⊎ (j < columnCount part)
+            → cell (x .table) (rowsBefore s a + i) (firstColumn s a + j) ≡ cell table i j
         go i j h (inr l) = of .same i j h l
         go i j h (inl l) =
             of .zero-beside i (firstColumn s a + j) h (inr (omega (arith, part-columns s fitting a A)))
@@ -138,7 +141,8 @@ module _ (s : Space) (x : Accepted s) where
     -- so its lines follow those of the rows before it
     pub part-lines : (num den : List ℤ) → weightLines (firstRows (rowCount (section s 0 (partEnd s a))) (tableOf (spaceWeights s)))
         ≡ weightLines (firstRows (rowCount (section s 0 a)) (tableOf (spaceWeights s)))
-        ++ weightLines (storedWeights (rowCount (section s 0 a)) (firstColumn s a) (rowCells * rowCount part) (numeratorsAfter (weights part) num) (denominatorsAfter (weights part) den))
+        ++ weightLines (storedWeights (rowCount (section s 0 a)) (firstColumn s a) (rowCells * rowCount part) (numeratorsAfter (weights part) num)
+        (denominatorsAfter (weights part) den))
     unfolding numeratorsAfter denominatorsAfter
     part-lines num den =
         rw (part-answers, table-is, front-rows s a A, front-rows-more s fitting a A, sym (shape .0))
@@ -164,7 +168,8 @@ before-first s num den out at = record {
   put = puts-as (sym (rows-none (tableOf (spaceWeights s)))) (puts-none at out);
 }
 
-module _ {s : Space} (x : Accepted s) {num₀ den₀ : List ℤ} {out₀ : List ℕ} {at : ℕ} {num den : List ℤ} {out : List ℕ} {next row a : ℕ} (t : Before s num₀ den₀ out₀ at num den out next row a) where
+module _ {s : Space} (x : Accepted s) {num₀ den₀ : List ℤ} {out₀ : List ℕ} {at : ℕ} {num den : List ℤ} {out : List ℕ} {next row a : ℕ}
+    (t : Before s num₀ den₀ out₀ at num den out next row a) where
   pub rows-few : row ≤ 288
   rows-few = omega (arith, t .rows, front-rows-few s x a (t .boundary .within))
 
@@ -175,8 +180,10 @@ module _ {s : Space} (x : Accepted s) {num₀ den₀ : List ℤ} {out₀ : List 
   starts h = boundary-starts (t .boundary) h
 
   -- one part more
-  pub before-next : (h : a < segments s) → tableCells ≤ length num₀ → tableCells ≤ length den₀ → {b column n : ℕ} {num′ den′ : List ℤ} {out′ : List ℕ} {next′ : ℕ}
-      → b ≡ partEnd s a → column ≡ firstColumn s a → n ≡ rowCount (partAt s a) → num′ ≡ numeratorsAfter (weights (partAt s a)) num → den′ ≡ denominatorsAfter (weights (partAt s a)) den
+  pub before-next : (h : a < segments s) → tableCells ≤ length num₀ → tableCells ≤ length den₀
+      → {b column n : ℕ} {num′ den′ : List ℤ} {out′ : List ℕ} {next′ : ℕ}
+      → b ≡ partEnd s a → column ≡ firstColumn s a → n ≡ rowCount (partAt s a) → num′ ≡ numeratorsAfter (weights (partAt s a)) num
+      → den′ ≡ denominatorsAfter (weights (partAt s a)) den
       → Puts (weightLineLimit * (rowCells * n)) next (weightLines (storedWeights row column (rowCells * n) num′ den′)) out out′ next′
       → Before s num₀ den₀ out₀ at num′ den′ out′ next′ (row + n) b
   before-next h nl dl {b} {column} {n} {num′} {den′} eb ec en pn pd p =
@@ -200,7 +207,8 @@ module _ {s : Space} (x : Accepted s) {num₀ den₀ : List ℤ} {out₀ : List 
 
 -- ---- the printout of a beam in the buffers
 module _ {s : Space} {n : ℕ} {num den : List ℤ} (f : Filled s n num den) (xs : List ℤ) (vs : List Pair) where
-  pub answer-joined : countLine n ++ (weightsText s ++ (valueLines xs vs ++ lowLines (sorted (lowPositions xs vs)))) ≡ answerText (tableOf (spaceWeights s)) xs vs
+  pub answer-joined : countLine n ++ (weightsText s ++ (valueLines xs vs ++ lowLines (sorted (lowPositions xs vs))))
+      ≡ answerText (tableOf (spaceWeights s)) xs vs
   unfolding answerText weightsText
   answer-joined =
       ap (λ k. countLine k ++ (weightsText s ++ (valueLines xs vs ++ lowLines (sorted (lowPositions xs vs)))))
@@ -226,15 +234,24 @@ module _ {s : Space} {n : ℕ} {num den : List ℤ} (f : Filled s n num den) (on
   holds-all : Holds all 0 0 all
   holds-all = record {
     few = omega (arith, one-rows-fit, f .rows, rows-and-columns s (f .accepted) .0);
-    narrow = λ i h. omega (arith, rows-and-columns s (f .accepted) .1 i (omega (arith, rows-and-columns s (f .accepted) .0)), ap columnCount whole, columns-fit s (f .accepted) 0 first-part);
+    narrow =
+        λ i h. omega (
+          arith,
+          rows-and-columns s (f .accepted) .1 i (omega (arith, rows-and-columns s (f .accepted) .0)),
+          ap columnCount whole,
+          columns-fit s (f .accepted) 0 first-part,
+        );
     same = λ i j h. ap₂ (cell all) (zero-add i) (zero-add j);
     zero-before = λ i j h l. absurd (omega arith);
   }
 
   pub one-lines : weightLines (storedWeights 0 0 (rowCells * n) num den) ≡ weightsText s
   one-lines =
-      ap₂ (λ a b. weightLines (storedWeights 0 0 (rowCells * n) a b)) (f .num-is ∙ ap (λ u. numerators u num) last-is-all) (f .den-is ∙ ap (λ u. denominators u den) last-is-all)
-      ∙ ap (λ k. weightLines (storedWeights 0 0 (rowCells * k) (numerators all num) (denominators all den))) (f .rows ∙ sym (rows-and-columns s (f .accepted) .0))
-      ∙ sym (rows-more all 0 0 all holds-all num den ∙ ap (λ l. l ++ weightLines (storedWeights 0 0 (rowCells * length all) (numerators all num) (denominators all den))) (rows-none all))
+      ap₂ (λ a b. weightLines (storedWeights 0 0 (rowCells * n) a b)) (f .num-is ∙ ap (λ u. numerators u num) last-is-all)
+      (f .den-is ∙ ap (λ u. denominators u den) last-is-all)
+      ∙ ap (λ k. weightLines (storedWeights 0 0 (rowCells * k) (numerators all num) (denominators all den)))
+      (f .rows ∙ sym (rows-and-columns s (f .accepted) .0))
+      ∙ sym (rows-more all 0 0 all holds-all num den
+      ∙ ap (λ l. l ++ weightLines (storedWeights 0 0 (rowCells * length all) (numerators all num) (denominators all den))) (rows-none all))
       ∙ ap₂ (λ k u. weightLines (firstRows k u)) (zero-add (length all) ∙ rows-and-columns s (f .accepted) .0) (sym (table-is s (f .accepted)))
       ∙ beam-lines s (f .accepted)

@@ -1,15 +1,17 @@
 -- The w lines of a whole beam, and what the two buffers hold when they are to be written.
 use mathlib.Core.List.{List, []}
 use mathlib.Core.Path.{_≡_}
-use Prim.Native.Nat.{ℕ, _+_, _*_, _≤_}
+use Prim.Native.Nat.{ℕ, _+_, _*_, _^_, _≤_}
 use lib.IntN.{ℤ}
 use lib.ListN.{length}
 use Rattle.base_outcome.specs.Outcome.{Outcome, answer, refusal}
-use Rattle.spec_spline.specs.Space.{Space, segmentLimit, degreeLimit, rowCount}
+use Rattle.spec_spline.specs.Space.{Space, segmentLimit, degreeLimit, partEnd, rowCount}
 use Rattle.spec_spline.specs.Table.{Table, tableCells, numerators, denominators}
-use Rattle.spec_spline.specs.Build.{spaceWeights, lastPart}
+use Rattle.spec_spline.specs.Build.{weights, spaceWeights, lastPart, numeratorsAfter, denominatorsAfter}
 use Rattle.spec_spline.specs.Listing.{tableWeights}
 use Rattle.spec_spline.specs.Piecewise.{Accepted}
+use Rattle.theorems_beams.specs.Sections.{partAt}
+use Rattle.theorems_beams.specs.Parts.{Starts}
 use Rattle.base_text.specs.Bytes.{Text}
 use Rattle.spec_sheet.specs.Printout.{weightLines}
 
@@ -34,3 +36,24 @@ pub record Filled (s : Space) (n : ℕ) (num den : List ℤ) : Type 0 where
   pub den-long : tableCells ≤ length den
   pub num-is : num ≡ numerators (lastPart s (accepted .table)) num
   pub den-is : den ≡ denominators (lastPart s (accepted .table)) den
+
+-- An accepted beam, the two segments between which a part of it lies, and buffers for its table.
+pub record PartAsks (s : Space) (a b : ℕ) (num den : List ℤ) : Type 0 where
+  pub accepted : Accepted s
+  pub num-long : tableCells ≤ length num
+  pub den-long : tableCells ≤ length den
+  pub starts : Starts s a
+  pub ends : b ≡ partEnd s a
+
+-- The number of rows of the part from segment a on, and the buffers with its table.
+pub record PartBuilt (s : Space) (a : ℕ) (num den num-now den-now : List ℤ) (rows : ℕ) : Type 0 where
+  pub rows-are : rows ≡ rowCount (partAt s a)
+  pub num-is : num-now ≡ numeratorsAfter (weights (partAt s a)) num
+  pub den-is : den-now ≡ denominatorsAfter (weights (partAt s a)) den
+
+-- An accepted beam, buffers for the table of a part, and an index to write at.
+pub record PartsAsk (s : Space) (num den : List ℤ) (at : ℕ) : Type 0 where
+  pub accepted : Accepted s
+  pub near : at ≤ 2 ^ 40
+  pub num-long : tableCells ≤ length num
+  pub den-long : tableCells ≤ length den

@@ -1,17 +1,10 @@
 // The w lines of a beam: each part is built again in the two lent buffers, and its rows and columns are counted over the beam.
-ghost use mathlib.Core.Path.{_≡_};
 ghost use Prim.Native.Nat.{_*_, _^_, _≤_};
-ghost use lib.ListN.{length};
-ghost use Rattle.spec_spline.specs.Space.{partEnd, rowCount};
-ghost use Rattle.spec_spline.specs.Table.{rowCells, tableCells};
-ghost use Rattle.spec_spline.specs.Build;
-ghost use Rattle.spec_spline.specs.Piecewise.{Accepted};
-ghost use Rattle.theorems_beams.specs.Sections.{partAt};
-ghost use Rattle.theorems_beams.specs.Parts.{Starts};
+ghost use Rattle.spec_spline.specs.Table.{rowCells};
 ghost use Rattle.build_space.specs.Machine.{space};
 ghost use Rattle.base_print.specs.Buffer.{Puts};
 ghost use Rattle.sheet_weights.specs.Printed.{weightLineLimit};
-ghost use Rattle.sheet_beam.specs.Beam.{rowLimit, weightsText, Filled};
+ghost use Rattle.sheet_beam.specs.Beam.{rowLimit, weightsText, Filled, PartAsks, PartBuilt, PartsAsk};
 
 // Builds the part from segment a up to segment b of an accepted beam, and answers its row count.
 fn build_rows(
@@ -23,13 +16,9 @@ fn build_rows(
     num: &mut [i64],
     den: &mut [i64],
 ) -> usize
-    requires { ⌜ Accepted (space (now breaks) (now degrees) (now orders))
-        × ((tableCells ≤ length (now num)) × (tableCells ≤ length (now den))) ⌝ }
-    requires { ⌜ Starts (space (now breaks) (now degrees) (now orders)) a
-        × (b ≡ partEnd (space (now breaks) (now degrees) (now orders)) a) ⌝ }
-    ensures { λ r. ⌜ (let part = partAt (space (now (breaks .entry)) (now (degrees .entry)) (now (orders .entry))) a in
-        (r ≡ rowCount part) × ((now (num .exit) ≡ Build.numeratorsAfter (Build.weights part) (now (num .entry)))
-        × (now (den .exit) ≡ Build.denominatorsAfter (Build.weights part) (now (den .entry))))) ⌝ }
+    requires { ⌜ PartAsks (space (now breaks) (now degrees) (now orders)) a b (now num) (now den) ⌝ }
+    ensures { λ r. ⌜ PartBuilt (space (now (breaks .entry)) (now (degrees .entry)) (now (orders .entry))) a (now (num .entry))
+        (now (den .entry)) (now (num .exit)) (now (den .exit)) r ⌝ }
 {
     let built = build::parts::build_part(
         breaks,
@@ -58,8 +47,7 @@ fn put_parts(
     out: &mut [u8],
     at: usize,
 ) -> usize
-    requires { ⌜ Accepted (space (now breaks) (now degrees) (now orders)) ⌝ }
-    requires { ⌜ (at ≤ 2 ^ 40) × (tableCells ≤ length (now num)) × (tableCells ≤ length (now den)) ⌝ }
+    requires { ⌜ PartsAsk (space (now breaks) (now degrees) (now orders)) (now num) (now den) at ⌝ }
     ensures { λ r. ⌜ Puts (weightLineLimit * (rowCells * rowLimit)) at
         (weightsText (space (now (breaks .entry)) (now (degrees .entry)) (now (orders .entry)))) (now (out .entry)) (now (out .exit)) r ⌝ }
 {

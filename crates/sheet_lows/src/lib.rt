@@ -7,7 +7,7 @@ ghost use Rattle.spec_spline.specs.CurveCall.{positionLimit};
 ghost use Rattle.base_print.specs.Buffer.{Puts};
 ghost use Rattle.base_sorting.specs.Sorted.{sorted};
 ghost use Rattle.spec_sheet.specs.Printout.{isLow, lowLine, lowLines, lowPositions};
-ghost use Rattle.spec_sheet.specs.Pairs.{paired};
+ghost use Rattle.spec_sheet.specs.Pairs.{paired, ValuesAsk};
 ghost use Rattle.sheet_lows.specs.Printed.{lowLineLimit};
 
 // The most positions of a call.
@@ -66,7 +66,7 @@ fn put_low_lines(out: &mut [u8], at: usize, lows: &[i32]) -> usize
 
 // A low line for each entry with a value of zero or less, by rising position.
 pub fn put_lows(out: &mut [u8], at: usize, positions: &[i32], values: &[i32]) -> usize
-    requires { ⌜ (at ≤ 2 ^ 41) × (length (now positions) ≤ positionLimit) × (length (now positions) ≤ length (now values) / 2) ⌝ }
+    requires { ⌜ ValuesAsk at (now positions) (now values) ⌝ }
     ensures { λ r. ⌜ Puts (lowLineLimit * length (now (positions .entry))) at
         (lowLines (sorted (lowPositions (now (positions .entry)) (paired (now (values .entry)))))) (now (out .entry)) (now (out .exit))
         r ⌝ }

@@ -16,32 +16,39 @@ use Rattle.spec_spline.proofs.Pairs.{sideBySide-length}
 use Rattle.spec_spline.proofs.Legal.{cond-refuse-inverts}
 use Rattle.base_text.specs.Bytes.{Text, newline, Cut, cut, stripped, Range}
 use Rattle.base_text.specs.Numeral.{numeral}
-use Rattle.spec_sheet.specs.SheetReading.{pair, Lists, Line, listOf, lineOf, bodyOf, cutLine, line, readLine, breaksKey, degreesKey, ordersKey, coefsKey, atKey, ended, fiveLines, listLimit, textLimit, read}
+use Rattle.spec_sheet.specs.SheetReading.{pair, Lists, Line, listOf, lineOf, bodyOf, cutLine, line, readLine, breaksKey, degreesKey}
+use Rattle.spec_sheet.specs.SheetReading.{ordersKey, coefsKey, atKey, ended, fiveLines, listLimit, textLimit, read}
 use Rattle.sheet_lines.specs.Machine.{ListAt}
-use Rattle.sheet_read.specs.Machine.{numeralsOf, numerals, overwritten, Lengths, lengths, reply, counted, after}
+use Rattle.sheet_read.specs.Machine.{numeralsOf, numerals, overwritten, Lengths, lengths, reply, counted, after, readEnd}
+use Rattle.sheet_read.specs.Machine.{ListFits, ListPut, EndsAs}
 use Rattle.sheet_read.specs.declared.Lists.{Lists as Answer}
 use Rattle.sheet_read.specs.declared.Lists.the-variants.{Read, Refused}
 use Rattle.sheet_read.proofs.Numerals.{list-few, plain-numerals, pair-numerals}
 
 -- ---- from the outcome to the answer and the buffers
-pub refused : (text : Text) (place : ℕ) → read text ≡ refusal 10 place → (b d o c p : List ℤ) →
-    (reply (Refused place) ≡ counted (read text))
-    × ((b ≡ after (λ l. l .breaks) (read text) b)
-    × ((d ≡ after (λ l. l .degrees) (read text) d)
-    × ((o ≡ after (λ l. l .orders) (read text) o)
-    × ((c ≡ after (λ l. sideBySide (l .coefs)) (read text) c)
-    × (p ≡ after (λ l. l .positions) (read text) p)))))
+pub refused : (text : Text) {place : ℕ} → read text ≡ refusal 10 place → {b d o c p : List ℤ}
+    → EndsAs (readEnd text b d o c p) (Refused place) b d o c p
 unfolding reply after
-refused text place e b d o c p = rw e (refl, (refl, (refl, (refl, (refl, refl)))))
+refused text e =
+    rw e (record { replies = refl; breaks-are = refl; degrees-are = refl; orders-are = refl; coefs-are = refl; positions-are = refl })
 
-pub answered : (text : Text) (l : Lists) → read text ≡ answer l → (list : Lists → List ℤ) (before now : List ℤ) → now ≡ overwritten (list l) before → now ≡ after list (read text) before
-unfolding after
-answered text l e list before now h = rw e h
+-- a list written at the front of its buffer, and its length
+pub record Fills (zs before now : List ℤ) (n : ℕ) : Type 0 where
+  pub count : n ≡ length zs
+  pub put : now ≡ overwritten zs before
 
-pub replied : (text : Text) (l : Lists) → read text ≡ answer l → (b d o c p : ℕ) → b ≡ length (l .breaks) → d ≡ length (l .degrees) → o ≡ length (l .orders) → c ≡ length (sideBySide (l .coefs)) → p ≡ length (l .positions) →
-    reply (Read b d o c p) ≡ counted (read text)
-unfolding reply
-replied text l e b d o c p hb hd ho hc hp = rw (e, hb, hd, ho, hc, hp)
+pub answered : (text : Text) {l : Lists} → read text ≡ answer l → {b d o c p b′ d′ o′ c′ p′ : List ℤ} {nb nd no nc np : ℕ}
+    → Fills (l .breaks) b b′ nb → Fills (l .degrees) d d′ nd → Fills (l .orders) o o′ no → Fills (sideBySide (l .coefs)) c c′ nc
+    → Fills (l .positions) p p′ np → EndsAs (readEnd text b d o c p) (Read nb nd no nc np) b′ d′ o′ c′ p′
+unfolding reply after
+answered text e fb fd fo fc fp = rw e (record {
+  replies = rw (fb .count, fd .count, fo .count, fc .count, fp .count);
+  breaks-are = fb .put;
+  degrees-are = fd .put;
+  orders-are = fo .put;
+  coefs-are = fc .put;
+  positions-are = fp .put;
+})
 
 -- ---- writing a list
 
@@ -52,7 +59,13 @@ pub record NumeralsAt (limit : ℕ) (text : Text) (zs : List ℤ) (start end : �
   pub few : length zs ≤ limit
 
 pub numerals-at : {text : Text} {zs : List ℤ} {start end : ℕ} → ListAt numeral text zs start end → NumeralsAt listLimit text zs start end
-numerals-at {text} {zs} {start} {end} at = record { range = at .range; are = plain-numerals (slice start end text) zs (at .list); few = list-few numeral (slice start end text) zs (at .list) }
+numerals-at {text} {zs} {start} {end} at =
+    record {
+      range = at .range;
+      are = plain-numerals (slice start end text) zs (at .list);
+      few =
+          list-few numeral (slice start end text) zs (at .list);
+    }
 
 -- two numbers for each pair
 pub pairs-at : {text : Text} {ps : List Pair} {start end : ℕ} → ListAt pair text ps start end → NumeralsAt (2 * listLimit) text (sideBySide ps) start end
@@ -63,15 +76,15 @@ pairs-at {text} {ps} {start} {end} at =
       few = omega (arith, sideBySide-length ps, list-few pair (slice start end text) ps (at .list));
     }
 
-module _ (limit : ℕ) (text : Text) (zs : List ℤ) (start end : ℕ) (at : NumeralsAt limit text zs start end) where
-  pub fill-ready : (room : ℕ) → room ≡ limit → Range text start end × ((numeralsOf (slice start end text) ≡ some (numerals (numeralsOf (slice start end text)))) × (length (numerals (numeralsOf (slice start end text))) ≤ room))
-  fill-ready room h = (at .range, (rw (at .are), rw (at .are) (omega (arith, at .few))))
+module _ {limit : ℕ} {text : Text} {zs : List ℤ} {start end : ℕ} (at : NumeralsAt limit text zs start end) where
+  pub fill-ready : {room : ℕ} → room ≡ limit → ListFits text start end room
+  fill-ready h = record { part = at .range; good = rw (at .are); fits = rw (at .are) (omega (arith, at .few)) }
 
-  pub fill-count : (n : ℕ) → n ≡ length (numerals (numeralsOf (slice start end text))) → n ≡ length zs
-  fill-count n e = e ∙ ap (λ (o : Option (List ℤ)). length (numerals o)) (at .are)
-
-  pub fill-written : (before now : List ℤ) → now ≡ overwritten (numerals (numeralsOf (slice start end text))) before → now ≡ overwritten zs before
-  fill-written before now e = e ∙ ap (λ (o : Option (List ℤ)). overwritten (numerals o) before) (at .are)
+  pub fills : {before now : List ℤ} {n : ℕ} → ListPut text start end before now n → Fills zs before now n
+  fills {before} p = record {
+    count = p .count ∙ ap (λ (o : Option (List ℤ)). length (numerals o)) (at .are);
+    put = p .put ∙ ap (λ (o : Option (List ℤ)). overwritten (numerals o) before) (at .are);
+  }
 
 -- ---- from the answer and the buffers back to the outcome
 
@@ -97,7 +110,8 @@ reply-malformed (refusal n p) a place e v = same (sym e ∙ ap reply v)
 
 -- ---- a buffer after reading
 
-module _ (list : Lists → List ℤ) {o : Outcome Lists} {l : Lists} (e : o ≡ answer l) (before : List ℤ) {buffer : List ℤ} (h : buffer ≡ after list o before) {n : ℕ} (k : n ≡ length (list l)) where
+module _ (list : Lists → List ℤ) {o : Outcome Lists} {l : Lists} (e : o ≡ answer l) (before : List ℤ) {buffer : List ℤ}
+    (h : buffer ≡ after list o before) {n : ℕ} (k : n ≡ length (list l)) where
   whole : buffer ≡ list l ++ drop (length (list l)) before
   unfolding after
   whole = h ∙ ap (λ q. after list q before) e
@@ -148,6 +162,13 @@ positions-few text l e =
     let p = then-inverts (readLine 5 numeral atKey (c .middle .rest)) _ (c .after) in
     let t = line-body numeral atKey (c .middle .rest) 5 (p .middle) (p .before) in
     let few : length (p .middle .list) ≤ listLimit = list-few numeral (t .body) (p .middle .list) (t .is) in
-    let m : Lists = record { breaks = b .middle .list; degrees = d .middle .list; orders = o .middle .list; coefs = c .middle .list; positions = p .middle .list } in
+    let m : Lists =
+    record {
+      breaks = b .middle .list;
+      degrees = d .middle .list;
+      orders = o .middle .list;
+      coefs = c .middle .list;
+      positions = p .middle .list;
+    } in
     let same : p .middle .list ≡ l .positions = ended-positions (p .middle .rest) m l (p .after) in
     subst (λ xs. length xs ≤ listLimit) same few

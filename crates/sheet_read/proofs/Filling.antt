@@ -36,7 +36,8 @@ pub filled-start : (t : Text) → 0 < length t → (zs before : List ℤ) → nu
 filled-start t h zs before e room =
     record { up-to = omega arith; room = room; others = sym (numerals-fields t h) ∙ e; written = refl }
 
-pub prepended-some : {A : Type 0} (a : Option A) (o : Option (List A)) (l : List A) → prepended a o ≡ some l → (x : A) × (ys : List A) × (a ≡ some x) × (o ≡ some ys) × (l ≡ x ∷ ys)
+pub prepended-some : {A : Type 0} (a : Option A) (o : Option (List A)) (l : List A) → prepended a o ≡ some l
+    → (x : A) × (ys : List A) × (a ≡ some x) × (o ≡ some ys) × (l ≡ x ∷ ys)
 prepended-some none o l e = clash cc
 prepended-some (some x) none l e = clash cc
 prepended-some (some x) (some ys) l e = (x, ys, refl, refl, cc)
@@ -64,7 +65,8 @@ pub record Stored (zs : List ℤ) (fs : List Text) (before now : List ℤ) (n : 
   pub others : entries numeral fs ≡ some (drop (n + 1) zs)
   pub written : set now n z ≡ take (n + 1) zs ++ drop (n + 1) before
 
-module _ (zs : List ℤ) (left : Text) (before now : List ℤ) (n : ℕ) (filled : Filled zs left before now n) (f : Text) (fs : List Text) (first : fieldsBetween isSeparator left ≡ f ∷ fs) where
+module _ (zs : List ℤ) (left : Text) (before now : List ℤ) (n : ℕ) (filled : Filled zs left before now n) (f : Text) (fs : List Text)
+    (first : fieldsBetween isSeparator left ≡ f ∷ fs) where
   parts : (z : ℤ) × (ws : List ℤ) × (numeral f ≡ some z) × (entries numeral fs ≡ some ws) × (drop n zs ≡ z ∷ ws)
   unfolding entries
   parts = prepended-some (numeral f) (entries numeral fs) (drop n zs) (ap (entries numeral) (sym first) ∙ filled .others)
@@ -89,7 +91,8 @@ filled-length zs left before now n f =
     ap length (f .written) ∙ length-front before (take n zs) n (length-take-le n zs (f .up-to) ∙ sym (length-take-le n before short))
 
 -- between two fields
-pub filled-next : (zs : List ℤ) (left : Text) (before now : List ℤ) (n : ℕ) (z : ℤ) → length zs ≤ length before → Stored zs (fieldsBetween isSeparator left) before now n z → Filled zs left before (set now n z) (n + 1)
+pub filled-next : (zs : List ℤ) (left : Text) (before now : List ℤ) (n : ℕ) (z : ℤ) → length zs ≤ length before
+    → Stored zs (fieldsBetween isSeparator left) before now n z → Filled zs left before (set now n z) (n + 1)
 filled-next zs left before now n z room s = record { up-to = omega (arith, s .below); room = room; others = s .others; written = s .written }
 
 -- after the last field the whole list is written

@@ -98,7 +98,8 @@ cut-sides b (a ∷ t) c e = go (eqb a b) refl e (cut-sides b t)
         ap (λ (x : ℕ). x ∷ t) (eqb-true a b q) ∙ ap (λ (k : Cut). k .before ++ (b ∷ k .after)) same
     go false q f ih = later (cut b t) f ih
 
-pair-sides : (t : Text) (p : Pair) → pair t ≡ some p → (c : Cut) × (t ≡ c .before ++ (colon ∷ c .after)) × (numeral (c .before) ≡ some (p .early)) × (numeral (c .after) ≡ some (p .late))
+pair-sides : (t : Text) (p : Pair) → pair t ≡ some p → (c : Cut) × (t ≡ c .before ++ (colon ∷ c .after)) × (numeral (c .before) ≡ some (p .early))
+    × (numeral (c .after) ≡ some (p .late))
 unfolding pair
 pair-sides t p e = go (cut colon t) refl e
   where
@@ -109,7 +110,8 @@ pair-sides t p e = go (cut colon t) refl e
         let same : record { early = y; late = z } ≡ p = cc in
         (ap (λ (q : Pair). some (q .early)) same, ap (λ (q : Pair). some (q .late)) same)
 
-    go : (o : Option Cut) → cut colon t ≡ o → sidesOf o ≡ some p → (c : Cut) × (t ≡ c .before ++ (colon ∷ c .after)) × (numeral (c .before) ≡ some (p .early)) × (numeral (c .after) ≡ some (p .late))
+    go : (o : Option Cut) → cut colon t ≡ o → sidesOf o ≡ some p
+        → (c : Cut) × (t ≡ c .before ++ (colon ∷ c .after)) × (numeral (c .before) ≡ some (p .early)) × (numeral (c .after) ≡ some (p .late))
     go none q f = clash cc
     go (some c) q f = let sides = both (numeral (c .before)) (numeral (c .after)) f in (c, cut-sides colon t c q, sides .0, sides .1)
 
@@ -128,14 +130,17 @@ pair-spelled : Spelled pair (λ p. p .early ∷ p .late ∷ [])
 unfolding entries
 pair-spelled f p e =
     let s = pair-sides f p e in
-    let first = fields-first isSeparator (s .0 .before) colon (s .0 .after) refl (numeral-lacks isSeparator separator-outside (s .0 .before) (p .early) (s .2)) in
+    let first =
+    fields-first isSeparator (s .0 .before) colon (s .0 .after) refl
+    (numeral-lacks isSeparator separator-outside (s .0 .before) (p .early) (s .2)) in
     ap (λ (t : Text). entries numeral (separated t)) (s .1)
     ∙ ap (entries numeral) (first ∙ ap (λ (fs : List Text). s .0 .before ∷ fs) (numeral-only (s .0 .after) (p .late) (s .3)))
     ∙ ap₂ (λ (a b : Option ℤ). prepended a (prepended b (some []))) (s .2) (s .3)
 
 -- ---- the numbers of a list
 
-entries-append : (fs gs : List Text) (ys zs : List ℤ) → entries numeral fs ≡ some ys → entries numeral gs ≡ some zs → entries numeral (fs ++ gs) ≡ some (ys ++ zs)
+entries-append : (fs gs : List Text) (ys zs : List ℤ) → entries numeral fs ≡ some ys → entries numeral gs ≡ some zs
+    → entries numeral (fs ++ gs) ≡ some (ys ++ zs)
 unfolding entries
 entries-append [] gs ys zs e h = let none-before : [] ≡ ys = cc in h ∙ ap (λ (l : List ℤ). some (l ++ zs)) none-before
 entries-append (f ∷ fs) gs ys zs e h =

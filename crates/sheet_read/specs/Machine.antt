@@ -3,13 +3,15 @@
 use mathlib.Core.Bool.{Bool, _||_}
 use mathlib.Core.List.{List, [], _∷_, _++_}
 use mathlib.Core.Option.{Option, some, none}
-use Prim.Native.Nat.{ℕ}
+use mathlib.Core.Path.{_≡_}
+use Prim.Native.Nat.{ℕ, _≤_}
 use lib.Dec.{eqb}
 use lib.IntN.{ℤ}
 use lib.ListN.{length, drop}
+use lib.Seq.{slice}
 use Rattle.base_outcome.specs.Outcome.{Outcome, answer, refusal, with-answer}
 use Rattle.spec_spline.specs.Reading.{sideBySide}
-use Rattle.base_text.specs.Bytes.{Text, comma, colon, fieldsBetween}
+use Rattle.base_text.specs.Bytes.{Text, comma, colon, fieldsBetween, Range}
 use Rattle.base_text.specs.Numeral.{numeral}
 use Rattle.spec_sheet.specs.SheetReading.{entries, Lists, read}
 use Rattle.sheet_read.specs.declared.Lists.{Lists as Answer}
@@ -34,6 +36,21 @@ numerals (some zs) = zs
 -- A buffer with a list at its front; the cells past the list keep what they held.
 abbrev pub overwritten : List ℤ → List ℤ → List ℤ
 overwritten zs before = zs ++ drop (length zs) before
+
+-- The numbers of a part of a text; none where it is no list.
+abbrev pub numeralsAt : Text → ℕ → ℕ → List ℤ
+numeralsAt text from to = numerals (numeralsOf (slice from to text))
+
+-- A part of a text that is a good list, and room for its numbers.
+pub record ListFits (text : Text) (from to room : ℕ) : Type 0 where
+  pub part : Range text from to
+  pub good : numeralsOf (slice from to text) ≡ some (numeralsAt text from to)
+  pub fits : length (numeralsAt text from to) ≤ room
+
+-- The numbers of a part at the front of a buffer, and how many they are.
+pub record ListPut (text : Text) (from to : ℕ) (before now : List ℤ) (n : ℕ) : Type 0 where
+  pub count : n ≡ length (numeralsAt text from to)
+  pub put : now ≡ overwritten (numeralsAt text from to) before
 
 -- ---- the sheet
 
@@ -90,3 +107,12 @@ readEnd text breaks degrees orders coefs positions =
       coefs = after (λ l. sideBySide (l .coefs)) o coefs;
       positions = after (λ l. l .positions) o positions;
     }
+
+-- The answer and the buffers are those.
+pub record EndsAs (e : ReadEnd) (r : Answer) (breaks degrees orders coefs positions : List ℤ) : Type 0 where
+  pub replies : reply r ≡ e .answers
+  pub breaks-are : breaks ≡ e .breaks
+  pub degrees-are : degrees ≡ e .degrees
+  pub orders-are : orders ≡ e .orders
+  pub coefs-are : coefs ≡ e .coefs
+  pub positions-are : positions ≡ e .positions

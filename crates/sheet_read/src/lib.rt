@@ -1,11 +1,10 @@
 // Reading the five lines: first all of them are looked through (sheet_scan), and only then are the lists written.
-ghost use mathlib.Core.Option.{some};
 ghost use mathlib.Core.Path.{_≡_};
-ghost use Prim.Native.Nat.{_+_, _≤_};
+ghost use Prim.Native.Nat.{_+_};
 ghost use lib.ListN.{length};
 ghost use lib.Seq.{slice};
 ghost use Rattle.base_text.specs.Bytes.{Range, indexWhere};
-ghost use Rattle.sheet_read.specs.Machine.{numeralsOf, numerals, isSeparator, overwritten, reply, readEnd};
+ghost use Rattle.sheet_read.specs.Machine.{isSeparator, readEnd, ListFits, ListPut, EndsAs};
 use base_text::numeral::Field;
 use sheet_scan::Places;
 
@@ -30,11 +29,8 @@ fn separator(text: &[u8], from: usize, to: usize) -> usize
 // Writes the numbers of a good list to the front of the buffer, those of a pair side by side, and answers how many they are.
 // What stands between the commas and colons of such a list are numbers, so the bad case is never met.
 fn fill(text: &[u8], from: usize, to: usize, list: &mut [i32]) -> usize
-    requires { ⌜ Range (now text) from to ⌝ }
-    requires { ⌜ numeralsOf (slice from to (now text)) ≡ some (numerals (numeralsOf (slice from to (now text)))) ⌝ }
-    requires { ⌜ length (numerals (numeralsOf (slice from to (now text)))) ≤ length (now list) ⌝ }
-    ensures { λ r. ⌜ r ≡ length (numerals (numeralsOf (slice from to (now (text .entry))))) ⌝ }
-    ensures { λ r. ⌜ now (list .exit) ≡ overwritten (numerals (numeralsOf (slice from to (now (text .entry))))) (now (list .entry)) ⌝ }
+    requires { ⌜ ListFits (now text) from to (length (now list)) ⌝ }
+    ensures { λ r. ⌜ ListPut (now (text .entry)) from to (now (list .entry)) (now (list .exit)) r ⌝ }
 {
     if from == to {
         return 0;
@@ -70,11 +66,9 @@ pub fn read(
     coefs: &mut [i32; COEFFICIENT_NUMBERS],
     positions: &mut [i32; sheet_lines::LIST_LIMIT],
 ) -> Lists
-    ensures { λ r. ⌜ (let e = readEnd (now (text .entry)) (now (breaks .entry)) (now (degrees .entry)) (now (orders .entry))
-        (now (coefs .entry)) (now (positions .entry)) in
-        (reply r ≡ e .answers) × ((now (breaks .exit) ≡ e .breaks)
-        × ((now (degrees .exit) ≡ e .degrees) × ((now (orders .exit) ≡ e .orders)
-        × ((now (coefs .exit) ≡ e .coefs) × (now (positions .exit) ≡ e .positions)))))) ⌝ }
+    ensures { λ r. ⌜ EndsAs (readEnd (now (text .entry)) (now (breaks .entry)) (now (degrees .entry)) (now (orders .entry))
+        (now (coefs .entry)) (now (positions .entry)))
+        r (now (breaks .exit)) (now (degrees .exit)) (now (orders .exit)) (now (coefs .exit)) (now (positions .exit)) ⌝ }
 {
     let scanned = sheet_scan::scan(text);
     match scanned {

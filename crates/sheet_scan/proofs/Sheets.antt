@@ -13,7 +13,8 @@ use Rattle.base_outcome.specs.Outcome.{Outcome, answer, refusal, refuse, _then_
 use Rattle.spec_spline.specs.Reading.{Pair}
 use Rattle.base_text.specs.Bytes.{Text}
 use Rattle.base_text.specs.Numeral.{numeral}
-use Rattle.spec_sheet.specs.SheetReading.{textLimit, pair, Line, line, readLine, breaksKey, degreesKey, ordersKey, coefsKey, atKey, Lists, ended, fiveLines, read}
+use Rattle.spec_sheet.specs.SheetReading.{textLimit, pair, Line, line, readLine, breaksKey, degreesKey, ordersKey, coefsKey, atKey, Lists}
+use Rattle.spec_sheet.specs.SheetReading.{ended, fiveLines, read}
 use Rattle.spec_sheet.proofs.FiveLines.{NumeralLine, PairLine, read-short, line-answers, line-refuses, lists, after-one, after-five}
 use Rattle.sheet_lines.specs.Machine.{Spans, LineAt}
 use Rattle.sheet_scan.specs.Machine.{ListsAt, Scanned}
@@ -29,7 +30,8 @@ module _ {A : Type 0} (entry : Text → Option A) (text : Text) where
   line-none (some l) span-cases.Bad h e = absurd h
   line-none (some l) (span-cases.List s t) h e = clash cc
 
-  line-some : (o : Option (Line A)) (r : LineSpan) (start end : ℕ) → LineAt entry text o r → r ≡ span-cases.List start end → (l : Line A) × (o ≡ some l) × Spans entry text l start end
+  line-some : (o : Option (Line A)) (r : LineSpan) (start end : ℕ) → LineAt entry text o r → r ≡ span-cases.List start end
+      → (l : Line A) × (o ≡ some l) × Spans entry text l start end
   line-some none span-cases.Bad start end h e = clash cc
   line-some none (span-cases.List s t) start end h e = absurd h
   line-some (some l) span-cases.Bad start end h e = absurd h
@@ -45,7 +47,9 @@ pub record Reached {A : Type 0} (entry : Text → Option A) (text : Text) (next 
   pub so-far : read text ≡ next line
 
 -- a good line, and a bad one, at the head of what is left to read
-module _ {A : Type 0} (entry : Text → Option A) (text : Text) (place : ℕ) (key : Text) (next : Line A → Outcome Lists) (at : ℕ) (left : Text) (same : left ≡ drop at text) (so-far : read text ≡ (readLine place entry key left then next)) (r : LineSpan) (found : LineAt entry text (line entry key (drop at text)) r) where
+module _ {A : Type 0} (entry : Text → Option A) (text : Text) (place : ℕ) (key : Text) (next : Line A → Outcome Lists) (at : ℕ) (left : Text)
+    (same : left ≡ drop at text) (so-far : read text ≡ (readLine place entry key left then next)) (r : LineSpan)
+    (found : LineAt entry text (line entry key (drop at text)) r) where
   reach : (start end : ℕ) → r ≡ span-cases.List start end → Reached entry text next start end
   reach start end e =
       let good = line-some entry text (line entry key (drop at text)) r start end found e in
@@ -73,7 +77,9 @@ module _ (text : Text) (short : length text ≤ textLimit) (r : LineSpan) (found
   first-bad = refuse-line numeral text 1 breaksKey (after-one lists) 0 text refl so-far-none r found
 
 -- a line of entries of one kind, behind one of another
-module _ {A B : Type 0} (before : Text → Option A) (entry : Text → Option B) (text : Text) (place : ℕ) (key : Text) (next : Line A → Line B → Outcome Lists) (s t : ℕ) (prev : Reached before text (λ l. readLine place entry key (l .rest) then next l) s t) (r : LineSpan) (found : LineAt entry text (line entry key (drop (t + 1) text)) r) where
+module _ {A B : Type 0} (before : Text → Option A) (entry : Text → Option B) (text : Text) (place : ℕ) (key : Text)
+    (next : Line A → Line B → Outcome Lists) (s t : ℕ) (prev : Reached before text (λ l. readLine place entry key (l .rest) then next l) s t)
+    (r : LineSpan) (found : LineAt entry text (line entry key (drop (t + 1) text)) r) where
   pub next-line : (start end : ℕ) → r ≡ span-cases.List start end → Reached entry text (next (prev .line)) start end
   next-line = reach entry text place key (next (prev .line)) (t + 1) (prev .line .rest) (prev .spans .rest) (prev .so-far) r found
 
@@ -96,14 +102,17 @@ module _ (text : Text) (make : NumeralLine → Lists) (s t : ℕ) (prev : Reache
 pub scan-refused : (text : Text) (place : ℕ) → read text ≡ refusal 10 place → Scanned text (read text) (places-cases.Refused place)
 scan-refused text place e = rw e (refl, refl)
 
-pub scan-lists : (text : Text) {l : Lists} {b b-end d d-end o o-end c c-end p p-end : ℕ} → read text ≡ answer l → ListsAt text l b b-end d d-end o o-end c c-end p p-end → Scanned text (read text) (places-cases.Lists b b-end d d-end o o-end c c-end p p-end)
+pub scan-lists : (text : Text) {l : Lists} {b b-end d d-end o o-end c c-end p p-end : ℕ} → read text ≡ answer l
+    → ListsAt text l b b-end d d-end o o-end c c-end p p-end → Scanned text (read text) (places-cases.Lists b b-end d d-end o o-end c c-end p p-end)
 scan-lists text e at = rw e at
 
 refusal-scanned : (text : Text) (o : Outcome Lists) (place : ℕ) → Scanned text o (places-cases.Refused place) → o ≡ refusal 10 place
 refusal-scanned text (answer l) place h = absurd h
 refusal-scanned text (refusal code at) place h = ap₂ refusal (h .0) (h .1)
 
-lists-scanned : (text : Text) (outcome : Outcome Lists) (b b-end d d-end o o-end c c-end p p-end : ℕ) → Scanned text outcome (places-cases.Lists b b-end d d-end o o-end c c-end p p-end) → (l : Lists) × (outcome ≡ answer l) × ListsAt text l b b-end d d-end o o-end c c-end p p-end
+lists-scanned : (text : Text) (outcome : Outcome Lists) (b b-end d d-end o o-end c c-end p p-end : ℕ)
+    → Scanned text outcome (places-cases.Lists b b-end d d-end o o-end c c-end p p-end)
+    → (l : Lists) × (outcome ≡ answer l) × ListsAt text l b b-end d d-end o o-end c c-end p p-end
 lists-scanned text (answer l) b b-end d d-end o o-end c c-end p p-end h = (l, refl, h)
 lists-scanned text (refusal code at) b b-end d d-end o o-end c c-end p p-end h = absurd h
 
@@ -111,5 +120,7 @@ module _ (text : Text) (r : Places) (scanned : Scanned text (read text) r) where
   pub scanned-refusal : (place : ℕ) → r ≡ places-cases.Refused place → read text ≡ refusal 10 place
   scanned-refusal place e = refusal-scanned text (read text) place (subst (Scanned text (read text)) e scanned)
 
-  pub scanned-lists : (b b-end d d-end o o-end c c-end p p-end : ℕ) → r ≡ places-cases.Lists b b-end d d-end o o-end c c-end p p-end → (l : Lists) × (read text ≡ answer l) × ListsAt text l b b-end d d-end o o-end c c-end p p-end
-  scanned-lists b b-end d d-end o o-end c c-end p p-end e = lists-scanned text (read text) b b-end d d-end o o-end c c-end p p-end (subst (Scanned text (read text)) e scanned)
+  pub scanned-lists : (b b-end d d-end o o-end c c-end p p-end : ℕ) → r ≡ places-cases.Lists b b-end d d-end o o-end c c-end p p-end
+      → (l : Lists) × (read text ≡ answer l) × ListsAt text l b b-end d d-end o o-end c c-end p p-end
+  scanned-lists b b-end d d-end o o-end c c-end p p-end e =
+      lists-scanned text (read text) b b-end d d-end o o-end c c-end p p-end (subst (Scanned text (read text)) e scanned)

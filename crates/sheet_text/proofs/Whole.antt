@@ -1,13 +1,13 @@
 -- From the contract of the curve call to the printout of its outcome: a refused call prints its refusal, and an answered one its
 -- table, positions and values, with the last part of the table in the buffers.
-use mathlib.Core.Path.{_≡_, refl, sym, ap, ap₂, _∙_}
+use mathlib.Core.Path.{_≡_, sym, ap, ap₂, _∙_}
 use mathlib.Core.List.{List}
 use Prim.Native.Nat.{ℕ, _*_, _/_, _≤_}
 use native.Mathlib.Omega.{arith}
 use lib.IntN.{ℤ}
 use lib.ListN.{length, take, drop}
 use lib.Seq.{take-at}
-use Rattle.base_outcome.specs.Outcome.{Outcome, answer, refusal}
+use Rattle.base_outcome.specs.Outcome.{answer}
 use Rattle.spec_spline.specs.Space.{rowCount}
 use Rattle.spec_spline.specs.Table.{Table, tableCells, numerators, denominators}
 use Rattle.spec_spline.specs.Build.{spaceWeights, lastPart, numeratorsAfter, denominatorsAfter}
@@ -15,7 +15,7 @@ use Rattle.spec_spline.specs.Piecewise.{Accepted}
 use Rattle.spec_spline.specs.CurveCall.{CurveResult, returned, curveNumerators, curveDenominators, valuesAfter}
 use Rattle.spec_spline.specs.ExactCurve.{Legal}
 use Rattle.spec_spline.specs.Reading.{sideBySide}
-use Rattle.base_outcome.proofs.Outcome.{answer-unique, answer-not-refusal}
+use Rattle.base_outcome.proofs.Outcome.{answer-unique}
 use Rattle.spec_spline.proofs.Pairs.{sideBySide-length}
 use Rattle.theorems_values.specs.ValueLimits.{legalResult}
 use Rattle.theorems_values.proofs.LegalCall.{answered-calls-are-legal, legal-calls-answer, values-length}

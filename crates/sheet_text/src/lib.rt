@@ -1,16 +1,16 @@
 // The sheet: five lines of text in, the printout out, on bytes.
 ghost use mathlib.Core.Path.{_≡_};
-ghost use Prim.Native.Nat.{_/_, _≤_};
+ghost use Prim.Native.Nat.{_≤_};
 ghost use lib.ListN.{length};
 ghost use Rattle.spec_spline.specs.Build.{spaceWeights};
 ghost use Rattle.spec_spline.specs.CurveCall.{positionLimit};
 ghost use Rattle.build_space.specs.Machine.{space};
-ghost use Rattle.base_print.specs.Buffer.{written, Puts};
+ghost use Rattle.base_print.specs.Buffer.{Puts, Prints};
 ghost use Rattle.spec_sheet.specs.Printout.{answerText};
 ghost use Rattle.spec_sheet.specs.Pairs.{paired};
 ghost use Rattle.theorems_sheet.specs.Sheet.{calledText, printout};
-ghost use Rattle.sheet_beam.specs.Beam.{tableOf, Filled};
-ghost use Rattle.sheet_text.specs.Limit.{printoutLimit};
+ghost use Rattle.sheet_beam.specs.Beam.{tableOf};
+ghost use Rattle.sheet_text.specs.Limit.{printoutLimit, AnswerAsks};
 
 // The cells of the values' buffer, two for each of the most positions of a call.
 const VALUE_CELLS: usize = 8192;
@@ -28,8 +28,7 @@ fn put_answer(
     values: &[i32],
     out: &mut [u8],
 ) -> usize
-    requires { ⌜ Filled (space (now breaks) (now degrees) (now orders)) n (now num) (now den) ⌝ }
-    requires { ⌜ (length (now positions) ≤ positionLimit) × (length (now positions) ≤ length (now values) / 2) ⌝ }
+    requires { ⌜ AnswerAsks (space (now breaks) (now degrees) (now orders)) n (now num) (now den) (now positions) (now values) ⌝ }
     ensures { λ r. ⌜ Puts printoutLimit 0 (answerText (tableOf (spaceWeights
         (space (now (breaks .entry)) (now (degrees .entry)) (now (orders .entry))))) (now (positions .entry))
         (paired (now (values .entry)))) (now (out .entry)) (now (out .exit)) r ⌝ }
@@ -50,21 +49,13 @@ fn run(
     out: &mut [u8],
 ) -> usize
     requires { ⌜ length (now positions) ≤ positionLimit ⌝ }
-    ensures { λ r. ⌜ r ≡ length (calledText (record {
+    ensures { λ r. ⌜ Prints printoutLimit (calledText (record {
       breaks = now (breaks .entry);
       degrees = now (degrees .entry);
       orders = now (orders .entry);
       coefs = now (coefs .entry);
       positions = now (positions .entry);
-    })) ⌝ }
-    ensures { λ r. ⌜ now (out .exit) ≡ written 0 (calledText (record {
-      breaks = now (breaks .entry);
-      degrees = now (degrees .entry);
-      orders = now (orders .entry);
-      coefs = now (coefs .entry);
-      positions = now (positions .entry);
-    })) (now (out .entry)) ⌝ }
-    ensures { λ r. ⌜ r ≤ printoutLimit ⌝ }
+    })) (now (out .entry)) (now (out .exit)) r ⌝ }
 {
     let mut num = [0; build_cells::TABLE_CELLS];
     let mut den = [1; build_cells::TABLE_CELLS];
@@ -101,9 +92,7 @@ fn run(
 // The whole program: the printout of a sheet's text, written into the lent buffer as far as it fits. The answer is the
 // printout's length, which no sheet takes past the limit.
 pub fn sheet(input: &[u8], out: &mut [u8]) -> usize
-    ensures { λ r. ⌜ r ≡ length (printout (now (input .entry))) ⌝ }
-    ensures { λ r. ⌜ now (out .exit) ≡ written 0 (printout (now (input .entry))) (now (out .entry)) ⌝ }
-    ensures { λ r. ⌜ r ≤ printoutLimit ⌝ }
+    ensures { λ r. ⌜ Prints printoutLimit (printout (now (input .entry))) (now (out .entry)) (now (out .exit)) r ⌝ }
 {
     let mut breaks = [0; sheet_lines::LIST_LIMIT];
     let mut degrees = [0; sheet_lines::LIST_LIMIT];

@@ -1,12 +1,11 @@
 // The n line and the v lines, into a lent buffer. Each function writes its text from an index on, as far as the buffer reaches, and
 // answers the index after it. The limits on the index keep every sum from overflowing; a caller's limit is below its callees'.
 ghost use mathlib.Core.Path.{_≡_};
-ghost use Prim.Native.Nat.{_*_, _/_, _^_, _≤_};
+ghost use Prim.Native.Nat.{_*_, _^_, _≤_};
 ghost use lib.ListN.{length};
-ghost use Rattle.spec_spline.specs.CurveCall.{positionLimit};
 ghost use Rattle.base_print.specs.Buffer.{Puts};
 ghost use Rattle.spec_sheet.specs.Printout.{countLine, valueLine, valueLines};
-ghost use Rattle.spec_sheet.specs.Pairs.{paired};
+ghost use Rattle.spec_sheet.specs.Pairs.{paired, ValuesAsk};
 ghost use Rattle.sheet_values.specs.Printed.{countLineLimit, valueLineLimit};
 
 // n=rows
@@ -35,7 +34,7 @@ fn put_value(out: &mut [u8], at: usize, x: i32, early: i32, late: i32) -> usize
 
 // A line for each position with its two values, which stand side by side in the list.
 pub fn put_values(out: &mut [u8], at: usize, positions: &[i32], values: &[i32]) -> usize
-    requires { ⌜ (at ≤ 2 ^ 41) × (length (now positions) ≤ positionLimit) × (length (now positions) ≤ length (now values) / 2) ⌝ }
+    requires { ⌜ ValuesAsk at (now positions) (now values) ⌝ }
     ensures { λ r. ⌜ Puts (valueLineLimit * length (now (positions .entry))) at
         (valueLines (now (positions .entry)) (paired (now (values .entry)))) (now (out .entry)) (now (out .exit)) r ⌝ }
 {

@@ -16,7 +16,8 @@ module _ (r c : ℕ) where
   unfolding storedWeight
   cell-zero k num den e = rw (eq-eqb (natAbs num) 0 (ap natAbs e)) weightLines-none
 
-  pub cell-line : (k : ℕ) (num den : ℤ) → (num ≡ pos 0 → ⊥) → weightLines (storedWeight r c k num den) ≡ placeText (r + k / 72) (c + k % 72) ++ fractionText num (natAbs den)
+  pub cell-line : (k : ℕ) (num den : ℤ) → (num ≡ pos 0 → ⊥)
+      → weightLines (storedWeight r c k num den) ≡ placeText (r + k / 72) (c + k % 72) ++ fractionText num (natAbs den)
   unfolding storedWeight weightLine
   cell-line k num den h = rw (ne-eqb (natAbs num) 0 (λ e. h (abs-zero num e))) (weightLines-one _ ∙ simp append-assoc)
 
@@ -24,6 +25,7 @@ module _ (r c : ℕ) where
   unfolding storedWeights
   cells-none num den = weightLines-none
 
-  pub cells-more : (k : ℕ) (num den : List ℤ) → weightLines (storedWeights r c (suc k) num den) ≡ weightLines (storedWeights r c k num den) ++ weightLines (storedWeight r c k (getD num k (pos 0)) (getD den k (pos 0)))
+  pub cells-more : (k : ℕ) (num den : List ℤ) → weightLines (storedWeights r c (suc k) num den) ≡ weightLines (storedWeights r c k num den)
+      ++ weightLines (storedWeight r c k (getD num k (pos 0)) (getD den k (pos 0)))
   unfolding storedWeights
   cells-more k num den = weightLines-append (storedWeights r c k num den) (storedWeight r c k (getD num k (pos 0)) (getD den k (pos 0)))

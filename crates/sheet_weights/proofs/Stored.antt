@@ -79,7 +79,8 @@ table-rows r (qs ∷ t) =
     ∙ sym (concat-cons (length t) (λ i. rowWeights (r + i) 0 (row (qs ∷ t) i)))
 
 -- a row with zeros before column c, and from there on the entries of another
-row-from : (r c : ℕ) (qs us : Row) → ((j : ℕ) → j < c → entry qs j ≡ int (pos 0)) → ((j : ℕ) → entry qs (c + j) ≡ entry us j) → rowWeights r 0 qs ≡ rowWeights r c us
+row-from : (r c : ℕ) (qs us : Row) → ((j : ℕ) → j < c → entry qs j ≡ int (pos 0)) → ((j : ℕ) → entry qs (c + j) ≡ entry us j)
+    → rowWeights r 0 qs ≡ rowWeights r c us
 row-from r c qs us before same =
     let m = length qs + length us in
     row-cells r 0 (c + m) qs (omega arith)
@@ -150,12 +151,14 @@ rows-all t = concat-ext (length t) (λ i l. ap (λ k. rowWeights k 0 (row t i)) 
 
 -- the lines of the rows before a part, then those printed from the buffers that hold the part, are those of the rows up to its end
 pub rows-more : (t : Table) (r c : ℕ) (u : Table) → Holds t r c u → (num den : List ℤ)
-    → weightLines (firstRows (r + length u) t) ≡ weightLines (firstRows r t) ++ weightLines (storedWeights r c (rowCells * length u) (numerators u num) (denominators u den))
+    → weightLines (firstRows (r + length u) t) ≡ weightLines (firstRows r t)
+    ++ weightLines (storedWeights r c (rowCells * length u) (numerators u num) (denominators u den))
 unfolding firstRows
 rows-more t r c u h num den =
     ap weightLines
     (concat-add r (length u) (λ i. rowWeights i 0 (row t i))
     ∙ ap (λ ws. firstRows r t ++ ws)
-    (concat-ext (length u) (λ i l. row-from (r + i) c (row t (r + i)) (row u i) (λ j. h .zero-before i j l) (λ j. h .same i j l) ∙ sym (row-listed u num den r c i (omega (arith, h .few)) (h .narrow i l)))
+    (concat-ext (length u) (λ i l. row-from (r + i) c (row t (r + i)) (row u i) (λ j. h .zero-before i j l) (λ j. h .same i j l)
+    ∙ sym (row-listed u num den r c i (omega (arith, h .few)) (h .narrow i l)))
     ∙ sym (stored-cells r c (rowCells * length u) (numerators u num) (denominators u den) ∙ concat-rows rowCells (length u) (at-cell u num den r c))))
     ∙ weightLines-append (firstRows r t) (storedWeights r c (rowCells * length u) (numerators u num) (denominators u den))

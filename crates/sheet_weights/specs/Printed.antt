@@ -3,12 +3,12 @@
 -- table's weights in the part's rows.
 use mathlib.Core.Bool.{cond}
 use mathlib.Core.List.{List, [], _∷_, _++_}
-use Prim.Native.Nat.{ℕ, zero, suc, _+_, _/_, _%_}
+use Prim.Native.Nat.{ℕ, zero, suc, _+_, _/_, _%_, _^_, _≤_}
 use lib.Dec.{eqb}
 use lib.IntN.{ℤ, pos, natAbs}
-use lib.ListN.{getD}
+use lib.ListN.{length, getD}
 use Rattle.spec_spline.specs.Listing.{Weight}
-use Rattle.spec_spline.specs.Table.{rowCells}
+use Rattle.spec_spline.specs.Table.{rowCells, tableCells}
 use Rattle.base_text.specs.Bytes.{Text, newline, comma, slash}
 use Rattle.base_text.specs.Numeral.{digits, decimal}
 use Rattle.spec_sheet.specs.Printout.{weightKey}
@@ -36,3 +36,21 @@ storedWeight r c k num den =
 unfoldable pub storedWeights : ℕ → ℕ → ℕ → List ℤ → List ℤ → List Weight
 storedWeights r c zero num den = []
 storedWeights r c (suc k) num den = storedWeights r c k num den ++ storedWeight r c k (getD num k (pos 0)) (getD den k (pos 0))
+
+-- ---- what is asked
+
+-- A cell of a table whose first row and column have such numbers, and an index to write at.
+pub record CellAsks (at row column k : ℕ) : Type 0 where
+  pub near : at ≤ 2 ^ 42
+  pub row-low : row ≤ 2 ^ 41
+  pub column-low : column ≤ 2 ^ 41
+  pub within : k ≤ tableCells
+
+-- Two buffers with n rows of such a table.
+pub record RowsAsk (at row column n : ℕ) (num den : List ℤ) : Type 0 where
+  pub near : at ≤ 2 ^ 41
+  pub row-low : row ≤ 2 ^ 41
+  pub column-low : column ≤ 2 ^ 41
+  pub few : n ≤ rowCells
+  pub num-long : tableCells ≤ length num
+  pub den-long : tableCells ≤ length den

@@ -3,11 +3,10 @@
 ghost use mathlib.Core.Path.{_≡_};
 ghost use Prim.Native.Nat.{_*_, _^_, _≤_};
 ghost use lib.IntN.{natAbs};
-ghost use lib.ListN.{length};
-ghost use Rattle.spec_spline.specs.Table.{rowCells, tableCells};
+ghost use Rattle.spec_spline.specs.Table.{rowCells};
 ghost use Rattle.base_print.specs.Buffer.{Puts};
 ghost use Rattle.spec_sheet.specs.Printout.{weightLines};
-ghost use Rattle.sheet_weights.specs.Printed.{weightLineLimit, placeText, fractionText, storedWeight, storedWeights};
+ghost use Rattle.sheet_weights.specs.Printed.{weightLineLimit, placeText, fractionText, storedWeight, storedWeights, CellAsks, RowsAsk};
 
 // w=row,column,
 fn put_place(out: &mut [u8], at: usize, i: usize, c: usize) -> usize
@@ -43,7 +42,7 @@ fn put_cell(
     num: i64,
     den: i64,
 ) -> usize
-    requires { ⌜ (at ≤ 2 ^ 42) × (row ≤ 2 ^ 41) × (column ≤ 2 ^ 41) × (k ≤ tableCells) ⌝ }
+    requires { ⌜ CellAsks at row column k ⌝ }
     ensures { λ r. ⌜ Puts weightLineLimit at (weightLines (storedWeight row column k num den)) (now (out .entry)) (now (out .exit)) r ⌝ }
 {
     if num == 0 {
@@ -68,8 +67,7 @@ pub fn put_weights(
     num: &[i64],
     den: &[i64],
 ) -> usize
-    requires { ⌜ (at ≤ 2 ^ 41) × (row ≤ 2 ^ 41) × (column ≤ 2 ^ 41) × (n ≤ rowCells) × (tableCells ≤ length (now num))
-        × (tableCells ≤ length (now den)) ⌝ }
+    requires { ⌜ RowsAsk at row column n (now num) (now den) ⌝ }
     ensures { λ r. ⌜ Puts (weightLineLimit * (rowCells * n)) at
         (weightLines (storedWeights row column (rowCells * n) (now (num .entry)) (now (den .entry)))) (now (out .entry)) (now (out .exit))
         r ⌝ }

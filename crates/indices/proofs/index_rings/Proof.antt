@@ -2,16 +2,14 @@
 use borrow.Author.Needs.{needs}
 use native.Mathlib.Omega.{arith}
 use mathlib.Core.Path.{_≡_, sym, _∙_, ap}
-use mathlib.Core.List.{List, _++_}
+use mathlib.Core.List.{_++_}
 use mathlib.Core.Option.{some, none}
 use Prim.Native.Nat.{ℕ, _<_}
-use lib.IntN.{ℤ}
 use lib.ListN.{length, drop}
 use Rattle.base_exact.specs.Tabulate.{tab}
 use Rattle.base_exact.proofs.Tabulate.{tab-length}
 use Rattle.base_outcome.specs.Outcome.{answer}
 use Rattle.base_outcome.specs.Search.{first}
-use Rattle.spec_spline.specs.Reading.{woodIndex}
 use Rattle.base_outcome.proofs.Search.{first-some-inverts, first-none-inverts}
 use Rattle.spec_spline.proofs.Pairs.{woodIndex-below}
 use Rattle.theorems_indices.specs.Indices.{indicesReturned, indicesAfter}
@@ -31,7 +29,7 @@ offset-small : (c : tie.After-wood-index) → c .wood-index .result < 2
 offset-small c = rw (c .wood-index .ensures) (woodIndex-below (woodOf (c .before .args .wood)))
 
 first-bad-ring-requires : tie.Need-first-bad-ring-requires
-first-bad-ring-requires c κs = (c .before .pre .0 .0, offset-small c)
+first-bad-ring-requires c κs = record { valued = c .before .pre .valued; offset-low = offset-small c }
 
 enum-known-bad : tie.Need-enum-known-bad
 enum-known-bad c = search needs
@@ -47,14 +45,15 @@ module _ (c : tie.After-known-told) where
   abbrev place : ℕ
   place = c .before .bad .given .0 .0
 
-  refused-at : first (length (start .args .widths .now)) (badCell (start .args .widths .now) (start .args .values .now) (searched .before .wood-index .result)) ≡ some place
+  refused-at : first (length (start .args .widths .now)) (badCell (start .args .widths .now) (start .args .values .now)
+      (searched .before .wood-index .result)) ≡ some place
   refused-at = found-some-inverts _ (sym (searched .first-bad-ring .ensures) ∙ c .before .bad .given .1)
 
   place-below : place < length (start .args .widths .now)
   place-below = first-some-inverts _ _ refused-at .below
 
 cast-t9 : tie.Need-cast-t9
-cast-t9 c = record { fits = omega (arith, place-below c, start c .pre .1) }
+cast-t9 c = record { fits = omega (arith, place-below c, start c .pre .few) }
 
 enum-told : tie.Need-enum-told
 enum-told c = search needs
@@ -67,20 +66,28 @@ module _ (c : tie.After-enum-told) where
   abbrev begin : tie.Start
   begin = passed .before .before
 
-  none-refused : first (length (begin .args .widths .now)) (badCell (begin .args .widths .now) (begin .args .values .now) (passed .before .wood-index .result)) ≡ none
+  none-refused : first (length (begin .args .widths .now)) (badCell (begin .args .widths .now) (begin .args .values .now)
+      (passed .before .wood-index .result)) ≡ none
   none-refused = found-none-inverts _ (sym (passed .first-bad-ring .ensures) ∙ c .enum-told .given .1)
 
 write-indices-requires : tie.Need-write-indices-requires
 write-indices-requires c κs =
     let p = begin (c .before) .pre in
-    (((p .0 .0, offset-small (passed (c .before) .before)), p .0 .1), first-none-inverts _ _ (none-refused (c .before)))
+    record {
+      rings = record { valued = p .valued; offset-low = offset-small (passed (c .before) .before) };
+      room = p .room;
+      good = first-none-inverts _ _ (none-refused (c .before));
+    }
 
 returns : tie.Need-returns
 unfolding reply indicesAfter
 returns c =
     let a = start c .args in
-    let e = ap (cellsIndexed (a .widths .now) (a .values .now)) (sym (searched c .before .wood-index .ensures)) ∙ cells-refused (a .widths .now) (a .values .now) (searched c .before .wood-index .result) (refused-at c) (start c .pre .1) in
-    (sym (ap indicesReturned e), sym (ap (λ o. indicesAfter o (a .indices .now)) e))
+    let w = searched c .before .wood-index in
+    let e =
+    ap (cellsIndexed (a .widths .now) (a .values .now)) (sym (w .ensures))
+    ∙ cells-refused (a .widths .now) (a .values .now) (w .result) (refused-at c) (start c .pre .few) in
+    record { answers = sym (ap indicesReturned e); indices-are = sym (ap (λ o. indicesAfter o (a .indices .now)) e) }
 
 same-length : tie.Need-same-length
 same-length c = search needs
@@ -91,12 +98,19 @@ returns-2 c =
     let w = c .before in
     let t = w .before .before in
     let a = begin t .args in
-    let f = cellIndex (a .widths .now) (a .values .now) (passed t .before .wood-index .result) in
+    let i = passed t .before .wood-index in
+    let f = cellIndex (a .widths .now) (a .values .now) (i .result) in
     let n = length (a .widths .now) in
-    let e = ap (cellsIndexed (a .widths .now) (a .values .now)) (sym (passed t .before .wood-index .ensures)) ∙ cells-answered (a .widths .now) (a .values .now) (passed t .before .wood-index .result) (none-refused t) in (
-      sym (ap indicesReturned e ∙ ap answer (tab-length n f)),
-      w .write-indices .ensures ∙ ap (λ (k : ℕ). tab n f ++ drop k (a .indices .now)) (sym (tab-length n f)) ∙ sym (ap (λ o. indicesAfter o (a .indices .now)) e),
-    )
+    let e =
+    ap (cellsIndexed (a .widths .now) (a .values .now)) (sym (i .ensures))
+    ∙ cells-answered (a .widths .now) (a .values .now) (i .result) (none-refused t) in
+    record {
+      answers = sym (ap indicesReturned e ∙ ap answer (tab-length n f));
+      indices-are =
+          w .write-indices .ensures
+          ∙ ap (λ (k : ℕ). tab n f ++ drop k (a .indices .now)) (sym (tab-length n f))
+          ∙ sym (ap (λ o. indicesAfter o (a .indices .now)) e);
+    }
 
 pub index-rings-spec : {M : Type 1} → statement M
 index-rings-spec =

@@ -12,17 +12,18 @@ use mir.Syntax.{w32}
 use mir.Val.{ofZ, toZ}
 use mir.ValLaws.{toZ-ofZ}
 use Rattle.build_space.specs.Machine.{space}
-use Rattle.base_outcome.specs.Outcome.{Outcome}
+use Rattle.base_outcome.specs.Outcome.{Outcome, refusal}
+use Rattle.base_outcome.specs.declared.Answer.the-variants.{Refused}
 use Rattle.spec_spline.specs.Space.{Space}
 use Rattle.spec_spline.specs.Table.{tableCells}
 use Rattle.spec_spline.specs.CurveCall.{CurveResult, positionLimit, curveOutcome, returned, curveNumerators, curveDenominators, valuesAfter}
 use Rattle.base_outcome.specs.Machine.{reply}
 use Rattle.base_outcome.proofs.Reply.{Counted, count-inverts, refused-inverts}
 use Rattle.spec_spline.proofs.Pairs.{half-le}
-use Rattle.theorems_indices.specs.Indices.{ringsRead}
 use Rattle.curve_ordinates.specs.Wood.{woodOf}
 use Rattle.indices_positions.specs.Words.{wordPositions, ringsTaken}
-use Rattle.indices.proofs.Call.{Ends, ends-refused, ends-unchanged, ends-indexed, first-short, second-short, third-short, fourth-short, handed-on, rings-answered, values-kept}
+use Rattle.indices.proofs.Call.{Ends, ended, Given, outcomeOf, ends-refused, ends-unchanged, ends-indexed, first-short, second-short}
+use Rattle.indices.proofs.Call.{third-short, fourth-short, handed-on, rings-answered, values-kept}
 use Rattle.indices.proofs.indices.Statement.{statement}
 use Rattle.indices.proofs.indices.Tie as tie
 
@@ -30,36 +31,56 @@ module _ (s : tie.Start) where
   abbrev lists : Space
   lists = space (s .args .breaks .now) (s .args .degrees .now) (s .args .orders .now)
 
+  abbrev num : List ℤ
+  num = s .args .num .now
+
+  abbrev den : List ℤ
+  den = s .args .den .now
+
+  abbrev values : List ℤ
+  values = s .args .values .now
+
+  abbrev indices : List ℤ
+  indices = s .args .indices .now
+
+  abbrev widths : List ℤ
+  widths = s .args .widths .now
+
+  abbrev given : Given
+  given = record {
+    lists = lists;
+    coefs = s .args .coefs .now;
+    firstRing = s .args .first;
+    widths = widths;
+    numLength = length num;
+    denLength = length den;
+    valuesLength = length values;
+    indicesLength = length indices;
+  }
+
   abbrev outcome : Outcome CurveResult
-  outcome = ringsRead lists (s .args .coefs .now) (s .args .first) (s .args .widths .now) (length (s .args .num .now)) (length (s .args .den .now)) (length (s .args .values .now)) (length (s .args .indices .now))
+  outcome = outcomeOf given
+
+  unchanged : {place : ℕ} → outcome ≡ refusal 1 place
+      → Ends lists (woodOf (s .args .wood)) widths outcome (Refused 1 place) num den values indices num den values indices
+  unchanged = ends-unchanged lists (woodOf (s .args .wood)) widths num den values indices
 
 returns : tie.Need-returns
-returns c =
-    let s = c .before in
-    let a = s .args in
-    let e = ends-unchanged (lists s) (woodOf (a .wood)) (a .widths .now) {o = outcome s} (a .num .now) (a .den .now) (a .values .now) (a .indices .now) (first-short (lists s) _ _ _ _ _ _ _ (c .if1 .taken)) in
-    (e .answers, (e .numerators-are, (e .denominators-are, (e .values-are, e .indices-are))))
+returns c = let s = c .before in ended (unchanged s (first-short (given s) (c .if1 .taken)))
 
 returns-2 : tie.Need-returns-2
-returns-2 c =
-    let s = c .before .before in
-    let a = s .args in
-    let e = ends-unchanged (lists s) (woodOf (a .wood)) (a .widths .now) {o = outcome s} (a .num .now) (a .den .now) (a .values .now) (a .indices .now) (second-short (lists s) _ _ _ _ _ _ _ (c .before .if1 .left) (c .if2 .taken)) in
-    (e .answers, (e .numerators-are, (e .denominators-are, (e .values-are, e .indices-are))))
+returns-2 c = let s = c .before .before in ended (unchanged s (second-short (given s) (c .before .if1 .left) (c .if2 .taken)))
 
 returns-3 : tie.Need-returns-3
 returns-3 c =
     let s = c .before .before .before in
-    let a = s .args in
-    let e = ends-unchanged (lists s) (woodOf (a .wood)) (a .widths .now) {o = outcome s} (a .num .now) (a .den .now) (a .values .now) (a .indices .now) (third-short (lists s) _ _ _ _ _ _ _ (c .before .before .if1 .left) (c .before .if2 .left) (c .if3 .taken)) in
-    (e .answers, (e .numerators-are, (e .denominators-are, (e .values-are, e .indices-are))))
+    ended (unchanged s (third-short (given s) (c .before .before .if1 .left) (c .before .if2 .left) (c .if3 .taken)))
 
 returns-4 : tie.Need-returns-4
 returns-4 c =
     let s = c .before .before .before .before in
-    let a = s .args in
-    let e = ends-unchanged (lists s) (woodOf (a .wood)) (a .widths .now) {o = outcome s} (a .num .now) (a .den .now) (a .values .now) (a .indices .now) (fourth-short (lists s) _ _ _ _ _ _ _ (c .before .before .before .if1 .left) (c .before .before .if2 .left) (c .before .if3 .left) (c .if4 .taken)) in
-    (e .answers, (e .numerators-are, (e .denominators-are, (e .values-are, e .indices-are))))
+    let first = c .before .before .before .if1 .left in
+    ended (unchanged s (fourth-short (given s) first (c .before .before .if2 .left) (c .before .if3 .left) (c .if4 .taken)))
 
 rings-taken-requires : tie.Need-rings-taken-requires
 rings-taken-requires c κs = search needs
@@ -92,45 +113,70 @@ module _ (k : tie.After-read-rings) where
   start = long .before .before .before .before
 
   abbrev at : List ℤ → Outcome CurveResult
-  at p = curveOutcome (lists start) (start .args .coefs .now) p (length (start .args .num .now)) (length (start .args .den .now)) (length (start .args .values .now))
+  at p = curveOutcome (lists start) (start .args .coefs .now) p (length (num start)) (length (den start)) (length (values start))
 
-  positions-are : wordPositions (toZ w32 (ofZ w32 (start .args .first))) (length (take (k .before .before .before .before .before .rings-taken .result) (replicate 4097 (pos 0)))) ≡ wordPositions (start .args .first) (ringsTaken (length (start .args .widths .now)))
-  positions-are = ap₂ wordPositions (toZ-ofZ w32 (start .args .first) (start .fits .first)) (room _ (k .before .before .before .before .before .rings-taken .ensures) ∙ k .before .before .before .before .before .rings-taken .ensures)
+  abbrev taken : tie.After-rings-taken
+  taken = k .before .before .before .before .before
 
-  first-long : tableCells ≤ length (start .args .num .now)
+  abbrev positions : List ℤ
+  positions = wordPositions (start .args .first) (ringsTaken (length (widths start)))
+
+  positions-are :
+      wordPositions (toZ w32 (ofZ w32 (start .args .first))) (length (take (taken .rings-taken .result) (replicate 4097 (pos 0)))) ≡ positions
+  positions-are =
+      ap₂ wordPositions (toZ-ofZ w32 (start .args .first) (start .fits .first))
+      (room _ (taken .rings-taken .ensures) ∙ taken .rings-taken .ensures)
+
+  first-long : tableCells ≤ length (num start)
   first-long = long .before .before .before .if1 .left
 
-  second-long : tableCells ≤ length (start .args .den .now)
+  second-long : tableCells ≤ length (den start)
   second-long = long .before .before .if2 .left
 
-  same : at (wordPositions (start .args .first) (ringsTaken (length (start .args .widths .now)))) ≡ outcome start
-  same = handed-on (lists start) (start .args .coefs .now) (start .args .first) (start .args .widths .now) (length (start .args .num .now)) (length (start .args .den .now)) (length (start .args .values .now)) (length (start .args .indices .now)) first-long second-long (long .before .if3 .left) (long .if4 .left)
+  same : at positions ≡ outcome start
+  same = handed-on (given start) first-long second-long (long .before .if3 .left) (long .if4 .left)
+
+  -- the curve call's end at the positions that were handed on is the outcome's
+  read-is : at (wordPositions (toZ w32 (ofZ w32 (start .args .first))) (length (take (taken .rings-taken .result) (replicate 4097 (pos 0)))))
+      ≡ outcome start
+  read-is = ap at positions-are ∙ same
 
   answers-are : reply (k .read-rings .result) ≡ returned (outcome start)
-  answers-are = k .read-rings .ensures .0 ∙ ap (λ p. returned (at p)) positions-are ∙ ap returned same
+  answers-are = k .read-rings .ensures .answers ∙ ap returned read-is
 
-  numerators-are : k .read-rings .last .1 .1 .1 .1 .1 .1 .0 ≡ curveNumerators (lists start) (outcome start) (start .args .num .now)
-  numerators-are = k .read-rings .ensures .1 .0 ∙ ap (λ p. curveNumerators (lists start) (at p) (start .args .num .now)) positions-are ∙ ap (λ o. curveNumerators (lists start) o (start .args .num .now)) same
+  abbrev num-now : List ℤ
+  num-now = k .read-rings .last .1 .1 .1 .1 .1 .1 .0
 
-  denominators-are : k .read-rings .last .1 .1 .1 .1 .1 .1 .1 .0 ≡ curveDenominators (lists start) (outcome start) (start .args .den .now)
-  denominators-are = k .read-rings .ensures .1 .1 .0 ∙ ap (λ p. curveDenominators (lists start) (at p) (start .args .den .now)) positions-are ∙ ap (λ o. curveDenominators (lists start) o (start .args .den .now)) same
+  abbrev den-now : List ℤ
+  den-now = k .read-rings .last .1 .1 .1 .1 .1 .1 .1 .0
 
-  values-are : k .read-rings .last .1 .1 .1 .1 .1 .1 .1 .1 .0 ≡ valuesAfter (outcome start) (start .args .values .now)
-  values-are = k .read-rings .ensures .1 .1 .1 ∙ ap (λ p. valuesAfter (at p) (start .args .values .now)) positions-are ∙ ap (λ o. valuesAfter o (start .args .values .now)) same
+  abbrev values-now : List ℤ
+  values-now = k .read-rings .last .1 .1 .1 .1 .1 .1 .1 .1 .0
+
+  numerators-are : num-now ≡ curveNumerators (lists start) (outcome start) (num start)
+  numerators-are = k .read-rings .ensures .numerators-are ∙ ap (λ o. curveNumerators (lists start) o (num start)) read-is
+
+  denominators-are : den-now ≡ curveDenominators (lists start) (outcome start) (den start)
+  denominators-are = k .read-rings .ensures .denominators-are ∙ ap (λ o. curveDenominators (lists start) o (den start)) read-is
+
+  values-are : values-now ≡ valuesAfter (outcome start) (values start)
+  values-are = k .read-rings .ensures .values-are ∙ ap (λ o. valuesAfter o (values start)) read-is
 
 -- it answered
 abbrev valueCount : CurveResult → ℕ
 valueCount r = length (r .values)
 
 module _ (k : tie.After-read-rings) {n : ℕ} (h : Counted valueCount (outcome (start k)) n) where
-  counted : (length (start k .args .widths .now) ≤ positionLimit) × (length (h .result .values) ≡ length (start k .args .widths .now))
-  counted = rings-answered (lists (start k)) (start k .args .coefs .now) (start k .args .first) (start k .args .widths .now) (length (start k .args .num .now)) (length (start k .args .den .now)) (length (start k .args .values .now)) (length (start k .args .indices .now)) (same k ∙ h .is)
+  counted : (length (widths (start k)) ≤ positionLimit) × (length (h .result .values) ≡ length (widths (start k)))
+  counted = rings-answered (given (start k)) (same k ∙ h .is)
 
-  room-for-pairs : 2 * length (start k .args .widths .now) ≤ length (start k .args .values .now)
+  room-for-pairs : 2 * length (widths (start k)) ≤ length (values (start k))
   room-for-pairs = half-le _ _ (long k .before .if3 .left)
 
-  values-length : length (k .read-rings .last .1 .1 .1 .1 .1 .1 .1 .1 .0) ≡ length (start k .args .values .now)
-  values-length = ap length (values-are k ∙ ap (λ o. valuesAfter o (start k .args .values .now)) (h .is)) ∙ values-kept (h .result) (start k .args .values .now) (omega (arith, counted .1, room-for-pairs))
+  values-length : length (values-now k) ≡ length (values (start k))
+  values-length =
+      ap length (values-are k ∙ ap (λ o. valuesAfter o (values (start k))) (h .is))
+      ∙ values-kept (h .result) (values (start k)) (omega (arith, counted .1, room-for-pairs))
 
 result-of : (t : tie.After-enum-told) → Counted valueCount (outcome (start (t .before .before .before .before .before .before))) (t .enum-told .given .0 .0)
 result-of t = count-inverts valueCount _ (ap reply (sym (t .enum-told .given .1)) ∙ answers-are (t .before .before .before .before .before .before))
@@ -140,7 +186,7 @@ index-rings-requires c κs =
     let t = c .before .before in
     let k = t .before .before .before .before .before .before in
     let h = result-of t in
-    ((omega (arith, values-length k h, room-for-pairs k h), long k .if4 .left), counted k h .0)
+    record { valued = omega (arith, values-length k h, room-for-pairs k h); room = long k .if4 .left; few = counted k h .0 }
 
 same-length : tie.Need-same-length
 same-length c = search needs
@@ -154,9 +200,10 @@ same-length-3 c = search needs
 returns-5 : tie.Need-returns-5
 returns-5 c =
     let k = c .before .before .before .before .before .before .before in
-    let a = start k .args in
-    let e = ends-refused (lists (start k)) (woodOf (a .wood)) (a .widths .now) (a .num .now) (a .den .now) (a .values .now) (a .indices .now) (refused-inverts valueCount (outcome (start k)) (ap reply (sym (c .before .read .given .1)) ∙ answers-are k)) (numerators-are k) (denominators-are k) (values-are k) in
-    (e .answers, (e .numerators-are, (e .denominators-are, (e .values-are, e .indices-are))))
+    let s = start k in
+    let refused = refused-inverts valueCount (outcome s) (ap reply (sym (c .before .read .given .1)) ∙ answers-are k) in
+    ended (ends-refused (lists s) (woodOf (s .args .wood)) (widths s) (num s) (den s) (values s) (indices s)
+    refused (numerators-are k) (denominators-are k) (values-are k))
 
 same-length-4 : tie.Need-same-length-4
 same-length-4 c = search needs
@@ -175,10 +222,10 @@ returns-6 c =
     let x = c .before in
     let t = x .before .before .before in
     let k = t .before .before .before .before .before .before in
-    let a = start k .args in
+    let s = start k in
     let h = result-of t in
-    let e = ends-indexed (lists (start k)) (woodOf (a .wood)) (a .widths .now) (a .num .now) (a .den .now) (a .values .now) (a .indices .now) (h .is) (counted k h .1) (numerators-are k) (denominators-are k) (values-are k) (x .index-rings .ensures .0) (x .index-rings .ensures .1) in
-    (e .answers, (e .numerators-are, (e .denominators-are, (e .values-are, e .indices-are))))
+    ended (ends-indexed (lists s) (woodOf (s .args .wood)) (widths s) (num s) (den s) (values s) (indices s)
+    (h .is) (counted k h .1) (numerators-are k) (denominators-are k) (values-are k) (x .index-rings .ensures))
 
 pub indices-spec : {M : Type 1} → statement M
 indices-spec =

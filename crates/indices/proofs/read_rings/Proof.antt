@@ -1,6 +1,6 @@
 -- `indices::read_rings` meets its contract: what the curve call promises at the positions that were filled in. Assumes nothing.
 use borrow.Author.Needs.{needs}
-use mathlib.Core.Path.{_≡_, ap, _∙_}
+use mathlib.Core.Path.{ap, _∙_}
 use mathlib.Core.List.{List}
 use lib.IntN.{ℤ}
 use lib.ListN.{length}
@@ -36,9 +36,16 @@ returns c =
     let f = c .before .before .before .before .before .before .before .before .before in
     let a = f .before .before .args in
     let e = k .curve .ensures in
-    let p = f .fill-positions .ensures ∙ ap (λ (z : ℤ). wordPositions z (length (a .positions .now))) (toZ-ofZ w32 (a .first) (f .before .before .fits .first)) in
-    let end : List ℤ → CurveEnd = λ (l : List ℤ). curveEnd (space (a .breaks .now) (a .degrees .now) (a .orders .now)) (a .coefs .now) l (a .num .now) (a .den .now) (a .values .now) in
-    (e .0 ∙ ap (λ (l : List ℤ). end l .answers) p, (e .1 .0 ∙ ap (λ (l : List ℤ). end l .numerators) p, (e .1 .1 .0 ∙ ap (λ (l : List ℤ). end l .denominators) p, e .1 .1 .1 ∙ ap (λ (l : List ℤ). end l .values) p)))
+    let fits = toZ-ofZ w32 (a .first) (f .before .before .fits .first) in
+    let p = f .fill-positions .ensures ∙ ap (λ (z : ℤ). wordPositions z (length (a .positions .now))) fits in
+    let s = space (a .breaks .now) (a .degrees .now) (a .orders .now) in
+    let end : List ℤ → CurveEnd = λ (l : List ℤ). curveEnd s (a .coefs .now) l (a .num .now) (a .den .now) (a .values .now) in
+    record {
+      answers = e .0 ∙ ap (λ (l : List ℤ). end l .answers) p;
+      numerators-are = e .1 .0 ∙ ap (λ (l : List ℤ). end l .numerators) p;
+      denominators-are = e .1 .1 .0 ∙ ap (λ (l : List ℤ). end l .denominators) p;
+      values-are = e .1 .1 .1 ∙ ap (λ (l : List ℤ). end l .values) p;
+    }
 
 pub read-rings-spec : {M : Type 1} → statement M
 read-rings-spec =

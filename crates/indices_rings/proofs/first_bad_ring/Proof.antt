@@ -1,25 +1,31 @@
 -- `indices_rings::first_bad_ring` meets its contract. The loop's invariant: no ring passed is bad. Assumes nothing.
 use native.Mathlib.Omega.{arith}
 use mathlib.Core.Bool.{false}
+use mathlib.Core.List.{List}
 use mathlib.Core.Path.{_≡_, sym, _∙_}
 use Prim.Native.Nat.{ℕ, _≤_, _<_, _-_}
+use lib.IntN.{ℤ}
 use borrow.Author.Count.{below-none, below-more}
 use Rattle.indices_rings.specs.Cells.{badCell}
 use Rattle.base_outcome.proofs.Machine.{found-at, found-none}
 use Rattle.indices_rings.proofs.first_bad_ring.Statement.{statement}
 use Rattle.indices_rings.proofs.first_bad_ring.Tie as tie
 
+record Passed (widths values : List ℤ) (offset n i : ℕ) : Type 0 where
+  within : i ≤ n
+  good : (k : ℕ) → k < i → badCell widths values offset k ≡ false
+
 abbrev Inv-loop : tie.InvT-loop
-Inv-loop widths values offset n i₀ i = (i ≤ n) × ((k : ℕ) → k < i → badCell widths values offset k ≡ false)
+Inv-loop widths values offset n i₀ i = Passed widths values offset n i
 
 abbrev μ-loop : tie.MeasureT-loop
 μ-loop widths values offset n i₀ i = n - i
 
 loop-holds : tie.Need-loop-holds Inv-loop μ-loop
-loop-holds c = (omega arith, below-none _)
+loop-holds c = record { within = omega arith; good = below-none _ }
 
 ring-is-bad-requires : tie.Need-ring-is-bad-requires Inv-loop μ-loop
-ring-is-bad-requires c κs = (omega arith, omega arith)
+ring-is-bad-requires c κs = record { within = omega arith; valued = omega arith }
 
 add-i : tie.Need-add-i Inv-loop μ-loop
 add-i c = omega arith
@@ -28,13 +34,16 @@ loop-less : tie.Need-loop-less Inv-loop μ-loop
 loop-less c = omega arith
 
 loop-again : tie.Need-loop-again Inv-loop μ-loop
-loop-again c = (omega arith, below-more _ _ (c .before .before .before .loop .inv .1) (sym (c .before .ring-is-bad .ensures) ∙ c .if2 .left))
+loop-again c = record {
+  within = omega arith;
+  good = below-more _ _ (c .before .before .before .loop .inv .good) (sym (c .before .ring-is-bad .ensures) ∙ c .if2 .left);
+}
 
 returns : tie.Need-returns Inv-loop μ-loop
-returns c = found-none _ _ (λ k l. c .before .loop .inv .1 k (omega arith))
+returns c = found-none _ _ (λ k l. c .before .loop .inv .good k (omega arith))
 
 returns-2 : tie.Need-returns-2 Inv-loop μ-loop
-returns-2 c = found-at _ _ _ (omega arith) (sym (c .before .ring-is-bad .ensures) ∙ c .if2 .taken) (c .before .before .before .loop .inv .1)
+returns-2 c = found-at _ _ _ (omega arith) (sym (c .before .ring-is-bad .ensures) ∙ c .if2 .taken) (c .before .before .before .loop .inv .good)
 
 pub first-bad-ring-spec : {M : Type 1} → statement M
 first-bad-ring-spec =

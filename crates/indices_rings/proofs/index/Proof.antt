@@ -2,14 +2,14 @@
 -- above zero. Assumes nothing.
 use borrow.Author.Needs.{needs}
 use native.Mathlib.Omega.{arith}
-use mathlib.Core.Path.{_≡_, _∙_, ap, ap₂}
+use mathlib.Core.Path.{_∙_, ap}
 use mathlib.Core.Logic.{_≢_}
 use Prim.Native.Nat.{_+_, _*_}
-use lib.IntN.{ℤ, pos, natAbs, _*ℤ_}
+use lib.IntN.{ℤ, pos, _*ℤ_}
 use lib.ListN.{getD}
 use lib.Signed.{quotZ, _<ℤ_, _≤ℤ_}
 use mir.Syntax.{w32, w64}
-use mir.Val.{SFits, ofZ, toZ}
+use mir.Val.{SFits, ofZ}
 use mir.ValLaws.{toZ-ofZ, sfits-le}
 use Rattle.base_exact.proofs.Integer.{abs-mul, ≤-in, *-pos}
 use Rattle.base_exact.proofs.Word.{ofZ-inj, ofZ-pos, sfits-nat, sfits-widen, sfits-abs, quot-mag, quot-floor}
@@ -65,15 +65,15 @@ module _ (c : tie.After-value) where
 
   value-positive : pos 0 <ℤ value
   unfolding badCell
-  value-positive = passes-value width value (start .pre .1) present
+  value-positive = passes-value width value (start .pre .good) present
 
   dividend-fits : SFits w64 (indexScale *ℤ width)
   unfolding badCell
-  dividend-fits = sfits-abs (omega (arith, abs-mul indexScale width, passes-small width value (start .pre .1)))
+  dividend-fits = sfits-abs (omega (arith, abs-mul indexScale width, passes-small width value (start .pre .good)))
 
   dividend-above : pos 0 ≤ℤ (indexScale *ℤ width)
   unfolding badCell
-  dividend-above = *-pos indexScale width (≤-in (pos 0) indexScale (omega arith)) (passes-width width value (start .pre .1) .0)
+  dividend-above = *-pos indexScale width (≤-in (pos 0) indexScale (omega arith)) (passes-width width value (start .pre .good) .0)
 
   quotient-fits : SFits w64 (quotZ (indexScale *ℤ width) value)
   quotient-fits = sfits-le (quot-mag (indexScale *ℤ width) value dividend-above value-positive) dividend-fits

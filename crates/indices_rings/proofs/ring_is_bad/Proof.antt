@@ -54,7 +54,8 @@ returns-4 c =
     let a = e .before .before .before in
     let f = width-fits a in
     let g : SFits w32 (getD (a .before .args .values .now) (2 * a .before .args .i + a .before .args .offset) (pos 0)) = record { sfits = c .value .given } in
-    simp toZ-ofZ (present-by-value _ _ (simp toZ-ofZ at (e .before .before .if1 .left)) (simp toZ-ofZ at (e .before .if2 .left)) (λ z. e .if3 .left (ap (ofZ w32) z)))
+    simp toZ-ofZ (present-by-value _ _ (simp toZ-ofZ at (e .before .before .if1 .left)) (simp toZ-ofZ at (e .before .if2 .left))
+    (λ z. e .if3 .left (ap (ofZ w32) z)))
 
 pub ring-is-bad-spec : {M : Type 1} → statement M
 ring-is-bad-spec =

@@ -15,18 +15,25 @@ use Rattle.indices_rings.specs.Cells.{cellIndex}
 use Rattle.indices_rings.proofs.write_indices.Statement.{statement}
 use Rattle.indices_rings.proofs.write_indices.Tie as tie
 
+record Writing (widths values : List ℤ) (offset : ℕ) (before indices : List ℤ) (i : ℕ) : Type 0 where
+  within : i ≤ length widths
+  kept : length indices ≡ length before
+  are : indices ≡ tab i (cellIndex widths values offset) ++ drop i before
+
 abbrev Inv-loop : tie.InvT-loop
-Inv-loop widths values offset indices₀ i₀ indices i =
-    (i ≤ length widths) × ((length indices ≡ length indices₀) × (indices ≡ tab i (cellIndex widths values offset) ++ drop i indices₀))
+Inv-loop widths values offset indices₀ i₀ indices i = Writing widths values offset indices₀ indices i
 
 abbrev μ-loop : tie.MeasureT-loop
 μ-loop widths values offset indices₀ i₀ indices i = length widths - i
 
 loop-holds : tie.Need-loop-holds Inv-loop μ-loop
-loop-holds c = (omega arith, (omega arith, tab-none _ _))
+loop-holds c = record { within = omega arith; kept = omega arith; are = tab-none _ _ }
 
 index-requires : tie.Need-index-requires Inv-loop μ-loop
-index-requires c κs = ((omega arith, omega arith), c .before .before .pre .1 (c .before .loop .i) (omega arith))
+index-requires c κs = record {
+  ring = record { within = omega arith; valued = omega arith };
+  good = c .before .before .pre .good (c .before .loop .i) (omega arith);
+}
 
 mul-z : tie.Need-mul-z Inv-loop μ-loop
 mul-z c = omega arith
@@ -44,24 +51,26 @@ loop-again : tie.Need-loop-again Inv-loop μ-loop
 loop-again c =
     let l = c .before .before in
     let a = l .before .args in
-    let i = l .loop .i in (
-      omega arith,
-      (
-        length-set (l .loop .indices) i (toZ w64 (ofZ w64 (c .index .result))) ∙ l .loop .inv .1 .0,
-        ap₂ (λ (t : List ℤ) (v : ℤ). set t i v) (l .loop .inv .1 .1) (toZ-ofZ w64 (c .index .result) (record { sfits = c .index .ok }) ∙ c .index .ensures)
-            ∙ tab-more (cellIndex (a .widths .now) (a .values .now) (a .offset)) i (a .indices .now) (omega arith),
-      ),
-    )
+    let i = l .loop .i in
+    let r = c .index .result in
+    record {
+      within = omega arith;
+      kept = length-set (l .loop .indices) i (toZ w64 (ofZ w64 r)) ∙ l .loop .inv .kept;
+      are =
+          ap₂ (λ (t : List ℤ) (v : ℤ). set t i v) (l .loop .inv .are) (toZ-ofZ w64 r (record { sfits = c .index .ok }) ∙ c .index .ensures)
+          ∙ tab-more (cellIndex (a .widths .now) (a .values .now) (a .offset)) i (a .indices .now) (omega arith);
+    }
 
 same-length : tie.Need-same-length Inv-loop μ-loop
-same-length c = c .before .loop .inv .1 .0
+same-length c = c .before .loop .inv .kept
 
 returns : tie.Need-returns Inv-loop μ-loop
 returns c =
     let l = c .before in
     let a = l .before .args in
-    l .loop .inv .1 .1
-    ∙ ap (λ (k : ℕ). tab k (cellIndex (a .widths .now) (a .values .now) (a .offset)) ++ drop k (a .indices .now)) (let e : l .loop .i ≡ length (a .widths .now) = omega arith in e)
+    l .loop .inv .are
+    ∙ ap (λ (k : ℕ). tab k (cellIndex (a .widths .now) (a .values .now) (a .offset)) ++ drop k (a .indices .now))
+    (let e : l .loop .i ≡ length (a .widths .now) = omega arith in e)
 
 pub write-indices-spec : {M : Type 1} → statement M
 write-indices-spec =

@@ -30,16 +30,25 @@ module _ (k : tie.After-build-part) where
   abbrev beam : Space
   beam = let x = start .args in space (x .breaks .now) (x .degrees .now) (x .orders .now)
 
-  left : Leaves (partAt beam (start .args .a)) (k .build-part .result) (start .args .num .now) (start .args .den .now) (k .build-part .last .1 .1 .1 .1 .1 .0) (k .build-part .last .1 .1 .1 .1 .1 .1 .0)
+  abbrev num-now : List ℤ
+  num-now = k .build-part .last .1 .1 .1 .1 .1 .0
+
+  abbrev den-now : List ℤ
+  den-now = k .build-part .last .1 .1 .1 .1 .1 .1 .0
+
+  left : Leaves (partAt beam (start .args .a)) (k .build-part .result) (start .args .num .now) (start .args .den .now) num-now den-now
   left =
       let e = k .build-part .ensures in
-      subst (λ (b : ℕ). Leaves (section beam (start .args .a) (b - start .args .a)) (k .build-part .result) (start .args .num .now) (start .args .den .now) (k .build-part .last .1 .1 .1 .1 .1 .0) (k .build-part .last .1 .1 .1 .1 .1 .1 .0))
-      (start .pre .1 .1) (record { answers = e .0; numerators = e .1 .0; denominators = e .1 .1 })
+      let a = start .args .a in
+      subst (λ (b : ℕ). Leaves (section beam a (b - a)) (k .build-part .result) (start .args .num .now) (start .args .den .now) num-now den-now)
+      (start .pre .ends) (record { answers = e .0; numerators = e .1 .0; denominators = e .1 .1 })
 
 build-part-requires : tie.Need-build-part-requires
 build-part-requires c κs =
-    let p = c .before .before .pre in
-    ((beam-legal _ (p .0 .0), p .0 .1), (p .1, (omega arith, record { zeros = λ k h l. absurd (omega arith); ones = λ k h l. absurd (omega arith) })))
+    let p = c .before .before .pre in (
+      (beam-legal _ (p .accepted), (p .num-long, p .den-long)),
+      ((p .starts, p .ends), (omega arith, record { zeros = λ k h l. absurd (omega arith); ones = λ k h l. absurd (omega arith) })),
+    )
 
 enum-known-built : tie.Need-enum-known-built
 enum-known-built c = search needs
@@ -57,7 +66,11 @@ returns : tie.Need-returns
 returns c =
     let k = c .before .before .before .before .before in
     let p = start k .pre in
-    (rows-told (beam k) (p .0 .0) _ (p .1 .0) (k .build-part .result) _ (left k .answers) (c .before .built .given .1), (left k .numerators, left k .denominators))
+    record {
+      rows-are = rows-told (beam k) (p .accepted) _ (p .starts) (k .build-part .result) _ (left k .answers) (c .before .built .given .1);
+      num-is = left k .numerators;
+      den-is = left k .denominators;
+    }
 
 same-length-3 : tie.Need-same-length-3
 same-length-3 c = search needs
@@ -69,7 +82,7 @@ returns-2 : tie.Need-returns-2
 returns-2 c =
     let k = c .before .before .before .before .before in
     let p = start k .pre in
-    absurd (never-refused (beam k) (p .0 .0) _ (p .1 .0) (k .build-part .result) _ _ (left k .answers) (c .before .built2 .given .1))
+    absurd (never-refused (beam k) (p .accepted) _ (p .starts) (k .build-part .result) _ _ (left k .answers) (c .before .built2 .given .1))
 
 pub build-rows-spec : {M : Type 1} → statement M
 build-rows-spec =

@@ -49,7 +49,9 @@ returns c =
     puts-within (omega (arith, rows-fit k)) (puts-as (one-lines (start k .pre .0) (one k)) (c .before .before .put-weights .ensures))
 
 put-parts-requires : tie.Need-put-parts-requires
-put-parts-requires c κs = let p = c .before .before .before .before .before .before .pre in (p .0 .accepted, omega (arith, p .1, p .0 .num-long, p .0 .den-long))
+put-parts-requires c κs =
+    let p = c .before .before .before .before .before .before .pre in
+    record { accepted = p .0 .accepted; near = p .1; num-long = p .0 .num-long; den-long = p .0 .den-long }
 
 same-length-4 : tie.Need-same-length-4
 same-length-4 c = search needs

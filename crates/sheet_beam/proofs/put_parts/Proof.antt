@@ -10,12 +10,14 @@ use Rattle.build_space.specs.Machine.{space}
 use Rattle.build_space.proofs.Partial.{part-end-partial, first-column-partial}
 use Rattle.build_space.proofs.Legal.{legal-first-column-high}
 use Rattle.base_print.proofs.Buffer.{puts-length}
-use Rattle.sheet_beam.proofs.Beam.{beam-lengths, beam-legal, part-rows-fit, numerators-long, denominators-long, Before, before-first, rows-few, next-near, starts, before-next, before-end}
+use Rattle.sheet_beam.proofs.Beam.{beam-lengths, beam-legal, part-rows-fit, numerators-long, denominators-long, Before, before-first}
+use Rattle.sheet_beam.proofs.Beam.{rows-few, next-near, starts, before-next, before-end}
 use Rattle.sheet_beam.proofs.put_parts.Statement.{statement}
 use Rattle.sheet_beam.proofs.put_parts.Tie as tie
 
 abbrev Inv-loop : tie.InvT-loop
-Inv-loop breaks degrees orders num₀ den₀ out₀ at next₀ row₀ a₀ num den out next row a = Before (space breaks degrees orders) num₀ den₀ out₀ at num den out next row a
+Inv-loop breaks degrees orders num₀ den₀ out₀ at next₀ row₀ a₀ num den out next row a =
+    Before (space breaks degrees orders) num₀ den₀ out₀ at num den out next row a
 
 abbrev μ-loop : tie.MeasureT-loop
 μ-loop breaks degrees orders num₀ den₀ out₀ at next₀ row₀ a₀ num den out next row a = length degrees - a
@@ -29,7 +31,7 @@ module _ (c : tie.In-loop Inv-loop μ-loop) where
   beam = let x = start .args in space (x .breaks .now) (x .degrees .now) (x .orders .now)
 
   abbrev accepted : Accepted beam
-  accepted = start .pre .0
+  accepted = start .pre .accepted
 
   abbrev turn : ℕ
   turn = c .before .loop .a
@@ -52,28 +54,43 @@ end-is k = let x = start (k .before) .args in k .part-end .ensures ∙ part-end-
 
 -- its first column
 column-is : (k : tie.After-first-column Inv-loop μ-loop) → k .first-column .result ≡ firstColumn (beam (k .before .before)) (turn (k .before .before))
-column-is k = let x = start (k .before .before) .args in k .first-column .ensures ∙ first-column-partial (x .breaks .now) (x .degrees .now) (x .orders .now) (turn (k .before .before))
+column-is k =
+    let x = start (k .before .before) .args in
+    k .first-column .ensures ∙ first-column-partial (x .breaks .now) (x .degrees .now) (x .orders .now) (turn (k .before .before))
 
 build-rows-requires : tie.Need-build-rows-requires Inv-loop μ-loop
 build-rows-requires c κs =
     let k = c .before .before .before in
     let i = k .before .before .loop .inv in
     let p = start (k .before) .pre in
-    ((p .0, (omega (arith, p .1, i .num-long), omega (arith, p .1, i .den-long))), (starts (p .0) i (omega arith), end-is k))
+    record {
+      accepted = p .accepted;
+      num-long = omega (arith, p .num-long, i .num-long);
+      den-long = omega (arith, p .den-long, i .den-long);
+      starts = starts (p .accepted) i (omega arith);
+      ends = end-is k;
+    }
 
 -- where it is built
 module _ (k : tie.After-build-rows Inv-loop μ-loop) where
   abbrev inside : tie.In-loop Inv-loop μ-loop
   inside = k .before .before .before .before .before
 
-  abbrev before : Before (beam inside) (start inside .args .num .now) (start inside .args .den .now) (start inside .args .out .now) (start inside .args .at) (inside .before .loop .num) (inside .before .loop .den) (inside .before .loop .out) (inside .before .loop .next) (inside .before .loop .row) (turn inside)
+  abbrev before : (let x = start inside .args in
+      let l = inside .before .loop in
+      Before (beam inside) (x .num .now) (x .den .now) (x .out .now) (x .at) (l .num) (l .den) (l .out) (l .next) (l .row) (turn inside))
   before = inside .before .loop .inv
 
   below : turn inside < length (start inside .args .degrees .now)
   below = omega arith
 
   rows-fit : k .build-rows .result ≤ 72
-  rows-fit = omega (arith, k .build-rows .ensures .0, part-rows-fit (beam inside) (accepted inside) (turn inside) (starts (accepted inside) before below))
+  rows-fit =
+      omega (
+        arith,
+        k .build-rows .ensures .rows-are,
+        part-rows-fit (beam inside) (accepted inside) (turn inside) (starts (accepted inside) before below),
+      )
 
 put-weights-requires : tie.Need-put-weights-requires Inv-loop μ-loop
 put-weights-requires c κs =
@@ -83,16 +100,16 @@ put-weights-requires c κs =
     let A = starts (accepted i) (before k) (below k) in
     omega (
       arith,
-      p .1,
+      p .near,
       next-near (accepted i) (before k),
       rows-few (accepted i) (before k),
       column-is (k .before .before .before),
       legal-first-column-high _ _ _ (beam-legal (beam i) (accepted i)) (turn i) (omega (arith, below k)),
       rows-fit k,
-      ap length (k .build-rows .ensures .1 .0),
-      ap length (k .build-rows .ensures .1 .1),
-      numerators-long (beam i) (accepted i) (turn i) A (i .before .loop .num) (omega (arith, p .1, before k .num-long)),
-      denominators-long (beam i) (accepted i) (turn i) A (i .before .loop .den) (omega (arith, p .1, before k .den-long)),
+      ap length (k .build-rows .ensures .num-is),
+      ap length (k .build-rows .ensures .den-is),
+      numerators-long (beam i) (accepted i) (turn i) A (i .before .loop .num) (omega (arith, p .num-long, before k .num-long)),
+      denominators-long (beam i) (accepted i) (turn i) A (i .before .loop .den) (omega (arith, p .den-long, before k .den-long)),
       before k .num-long,
       before k .den-long,
       beam-legal (beam i) (accepted i) .few,
@@ -102,15 +119,19 @@ add-row : tie.Need-add-row Inv-loop μ-loop
 add-row c = let k = c .before .before .before .before .before .before .before .before in omega (arith, rows-fit k, rows-few (accepted (inside k)) (before k))
 
 loop-less : tie.Need-loop-less Inv-loop μ-loop
-loop-less c = let k = c .before .before .before .before .before .before .before .before .before .before .before .before in omega (arith, end-is k, part-ends (beam (k .before)) (turn (k .before)) (omega arith) .above)
+loop-less c =
+    let k = c .before .before .before .before .before .before .before .before .before .before .before .before in
+    omega (arith, end-is k, part-ends (beam (k .before)) (turn (k .before)) (omega arith) .above)
 
 loop-again : tie.Need-loop-again Inv-loop μ-loop
 loop-again c =
     let k = c .before .before .before .before .before .before .before .before in
     let i = inside k in
     let p = start i .pre in
-    before-next (p .0) (before k) (below k) (omega (arith, p .1)) (omega (arith, p .1)) (end-is (k .before .before .before .before)) (column-is (k .before .before .before)) (k .build-rows .ensures .0) (k .build-rows .ensures .1 .0) (k .build-rows .ensures .1 .1)
-    (c .before .before .put-weights .ensures)
+    let built = k .build-rows .ensures in
+    before-next (p .accepted) (before k) (below k) (omega (arith, p .num-long)) (omega (arith, p .den-long))
+    (end-is (k .before .before .before .before)) (column-is (k .before .before .before))
+    (built .rows-are) (built .num-is) (built .den-is) (c .before .before .put-weights .ensures)
 
 same-length : tie.Need-same-length Inv-loop μ-loop
 same-length c = c .before .loop .inv .num-long
@@ -122,7 +143,7 @@ same-length-3 : tie.Need-same-length-3 Inv-loop μ-loop
 same-length-3 c = puts-length (c .before .loop .inv .put)
 
 returns : tie.Need-returns Inv-loop μ-loop
-returns c = before-end (c .before .before .before .pre .0) (c .before .loop .inv) (omega arith)
+returns c = before-end (c .before .before .before .pre .accepted) (c .before .loop .inv) (omega arith)
 
 pub put-parts-spec : {M : Type 1} → statement M
 put-parts-spec =

@@ -45,7 +45,8 @@ begins-requires c κs =
 returns-2 : tie.Need-returns-2
 returns-2 c =
     let f = c .before .before .before in
-    line-bad (entry f) (text f) (line-unkeyed (entry f) (key f) (text f) (from f) (end f) (f .before .before .before .pre) (f .find .ensures) (c .before .before .if1 .left) (sym (c .before .begins .ensures) ∙ not-true _ (c .if2 .taken)))
+    line-bad (entry f) (text f) (line-unkeyed (entry f) (key f) (text f) (from f) (end f) (f .before .before .before .pre) (f .find .ensures)
+    (c .before .before .if1 .left) (sym (c .before .begins .ensures) ∙ not-true _ (c .if2 .taken)))
 
 -- the line has its key
 module _ (c : tie.Else2) where
@@ -74,7 +75,8 @@ returns-3 c =
     let l = c .before .before in
     let k = l .before in
     let f = found k in
-    line-bad (entry f) (text f) (line-bad-list (entry f) (key f) (text f) (from f) (end f) (f .before .before .before .pre) (f .find .ensures) (k .before .before .if1 .left) (keyed k) (count-none _ (sym (l .count-list .ensures) ∙ c .enum-told .given .1)))
+    line-bad (entry f) (text f) (line-bad-list (entry f) (key f) (text f) (from f) (end f) (f .before .before .before .pre) (f .find .ensures)
+    (k .before .before .if1 .left) (keyed k) (count-none _ (sym (l .count-list .ensures) ∙ c .enum-told .given .1)))
 
 returns-4 : tie.Need-returns-4
 returns-4 c =
@@ -82,7 +84,8 @@ returns-4 c =
     let k = l .before in
     let f = found k in
     let good = count-some _ _ (sym (l .count-list .ensures) ∙ c .enum-told2 .given .1) in
-    line-good (entry f) (key f) (text f) (from f) (end f) (f .before .before .before .pre) (f .find .ensures) (k .before .before .if1 .left) (keyed k) (good .0) (good .1)
+    line-good (entry f) (key f) (text f) (from f) (end f) (f .before .before .before .pre) (f .find .ensures) (k .before .before .if1 .left)
+    (keyed k) (good .0) (good .1)
 
 pub line-spec : {M : Type 1} → statement M
 line-spec = tie.close (tie.spec find-requires returns begins-requires returns-2 add-start count-list-requires enum-told enum-told-2 returns-3 returns-4)

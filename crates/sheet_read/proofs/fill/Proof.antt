@@ -2,7 +2,7 @@
 use borrow.Author.Needs.{needs}
 use mathlib.Core.List.{List, [], _∷_}
 use mathlib.Core.Option.{some}
-use mathlib.Core.Path.{_≡_, refl, sym, _∙_, ap}
+use mathlib.Core.Path.{_≡_, sym, _∙_, ap}
 use Prim.Native.Nat.{ℕ, _+_, _-_, _*_, _^_, _≤_, _<_}
 use native.Mathlib.Omega.{arith}
 use lib.IntN.{ℤ}
@@ -12,7 +12,7 @@ use mir.Syntax.{w32}
 use mir.Val.{SFits}
 use Rattle.base_exact.proofs.Word.{toZ-ofZ}
 use Rattle.base_text.specs.Bytes.{Text, Range, fieldsBetween}
-use Rattle.sheet_read.specs.Machine.{isSeparator, numeralsOf, numerals, overwritten}
+use Rattle.sheet_read.specs.Machine.{isSeparator, numeralsOf, numeralsAt, overwritten}
 use Rattle.base_text.specs.declared.numeral.Field.the-variants as field-cases
 use Rattle.base_text.proofs.Numerals.{field-none, field-some}
 use Rattle.sheet_lines.proofs.Entries.{stop-part, stop-within, field-last, field-more, field-first}
@@ -20,8 +20,12 @@ use Rattle.sheet_read.proofs.Filling.{Filled, Stored, filled-start, fil
 use Rattle.sheet_read.proofs.fill.Statement.{statement}
 use Rattle.sheet_read.proofs.fill.Tie as tie
 
+record Inv (text : Text) (from to : ℕ) (before list : List ℤ) (n start : ℕ) : Type 0 where
+  within : start ≤ to
+  filled : Filled (numeralsAt text from to) (slice start to text) before list n
+
 abbrev Inv-loop : tie.InvT-loop
-Inv-loop text from to list₀ n₀ start₀ list n start = (start ≤ to) × Filled (numerals (numeralsOf (slice from to text))) (slice start to text) list₀ list n
+Inv-loop text from to list₀ n₀ start₀ list n start = Inv text from to list₀ list n start
 
 abbrev μ-loop : tie.MeasureT-loop
 μ-loop text from to list₀ n₀ start₀ list n start = to + 1 - start
@@ -31,13 +35,15 @@ returns c =
     let a = c .before .before .args in
     let empty : numeralsOf (slice (a .from) (a .to) (a .text .now)) ≡ some [] =
     ap (λ (n : ℕ). numeralsOf (slice n (a .to) (a .text .now))) (c .if1 .taken) ∙ numerals-empty (a .text .now) (a .to) in
-    rw empty (refl, refl)
+    record { count = rw empty; put = rw empty }
 
 loop-holds : tie.Need-loop-holds Inv-loop μ-loop
 loop-holds c =
     let s = c .before .before in
     let a = s .args in
-    (omega arith, filled-start (slice (a .from) (a .to) (a .text .now)) (omega (arith, length-slice (a .from) (a .to) (a .text .now) (s .pre .0 .within))) _ (a .list .now) (s .pre .1 .0) (s .pre .1 .1))
+    let t = slice (a .from) (a .to) (a .text .now) in
+    let some-bytes : 0 < length t = omega (arith, length-slice (a .from) (a .to) (a .text .now) (s .pre .part .within)) in
+    record { within = omega arith; filled = filled-start t some-bytes _ (a .list .now) (s .pre .good) (s .pre .fits) }
 
 separator-requires : tie.Need-separator-requires Inv-loop μ-loop
 separator-requires c κs = omega arith
@@ -71,16 +77,19 @@ module _ (c : tie.After-numeral Inv-loop μ-loop) where
   stop = c .before .separator .result
 
   abbrev zs : List ℤ
-  zs = numerals (numeralsOf (slice (c .before .before .before .before .before .args .from) to text))
+  zs = numeralsAt text (c .before .before .before .before .before .args .from) to
 
   range : Range text start to
   range = omega arith
 
   stops : (start ≤ stop) × (stop ≤ to)
-  stops = (stop-part isSeparator text start to stop range (c .before .separator .ensures) .ordered, stop-within isSeparator text start to stop range (c .before .separator .ensures))
+  stops = (
+    stop-part isSeparator text start to stop range (c .before .separator .ensures) .ordered,
+    stop-within isSeparator text start to stop range (c .before .separator .ensures),
+  )
 
   abbrev filled : Filled zs (slice start to text) before list n
-  filled = c .before .before .loop .inv .1
+  filled = c .before .before .loop .inv .filled
 
   room : length list * 4 < 2 ^ 63
   room = rw (filled-length zs (slice start to text) before list n filled) (c .before .before .before .before .before .good .1 .1 .1 .0 .1)
@@ -103,7 +112,9 @@ module _ (c : tie.After-numeral Inv-loop μ-loop) where
     last h = filled-last zs before list n z (store [] (field-last isSeparator text start to stop range (c .before .separator .ensures) h))
 
     more : (stop ≡ to → ⊥) → Filled zs (slice (stop + 1) to text) before (set list n z) (n + 1)
-    more h = filled-next zs (slice (stop + 1) to text) before list n z (filled .room) (store _ (field-more isSeparator text start to stop range (c .before .separator .ensures) h))
+    more h =
+        filled-next zs (slice (stop + 1) to text) before list n z (filled .room)
+        (store _ (field-more isSeparator text start to stop range (c .before .separator .ensures) h))
 
 enum-told : tie.Need-enum-told Inv-loop μ-loop
 enum-told c = search needs
@@ -133,7 +144,8 @@ returns-3 : tie.Need-returns-3 Inv-loop μ-loop
 returns-3 c =
     let f = c .before .before .field in
     let fits : SFits w32 (f .given .0 .0) = record { sfits = c .before .known-told .given .0 .1 } in
-    simp toZ-ofZ (last (c .before .before .before .before) _ (f .given .1) (c .if2 .taken))
+    let done = last (c .before .before .before .before) _ (f .given .1) (c .if2 .taken) in
+    simp toZ-ofZ (record { count = done .0; put = done .1 })
 
 add-start : tie.Need-add-start Inv-loop μ-loop
 add-start c = omega (arith, stops (c .before .before .before .before), c .before .before .before .before .before .before .before .before .before .good .0)
@@ -146,7 +158,8 @@ loop-again c =
     let f = c .before .before .field in
     let fits : SFits w32 (f .given .0 .0) = record { sfits = c .before .known-told .given .0 .1 } in
     let h = c .if2 .left in
-    (omega (arith, stops (c .before .before .before .before)), simp toZ-ofZ (more (c .before .before .before .before) _ (f .given .1) h))
+    let t = c .before .before .before .before in
+    simp toZ-ofZ (record { within = omega (arith, stops t); filled = more t _ (f .given .1) h })
 
 pub fill-spec : {M : Type 1} → statement M
 fill-spec =

@@ -13,13 +13,16 @@ find-requires : tie.Need-find-requires
 find-requires c κs = search needs
 
 find-requires-2 : tie.Need-find-requires-2
-find-requires-2 c κs = let a = c .before .before .args in stop-part (byte comma) (a .text .now) (a .from) (a .to) (c .find .result) (c .before .before .pre) (c .find .ensures)
+find-requires-2 c κs =
+    let a = c .before .before .args in
+    stop-part (byte comma) (a .text .now) (a .from) (a .to) (c .find .result) (c .before .before .pre) (c .find .ensures)
 
 returns : tie.Need-returns
 returns c =
     let f = c .before in
     let a = f .before .before .args in
-    c .find2 .ensures ∙ ap (λ (k : ℕ). a .from + k) (separator-is (a .text .now) (a .from) (a .to) (f .find .result) (f .before .before .pre) (f .find .ensures))
+    c .find2 .ensures
+    ∙ ap (λ (k : ℕ). a .from + k) (separator-is (a .text .now) (a .from) (a .to) (f .find .result) (f .before .before .pre) (f .find .ensures))
 
 pub separator-spec : {M : Type 1} → statement M
 separator-spec = tie.close (tie.spec find-requires find-requires-2 returns)

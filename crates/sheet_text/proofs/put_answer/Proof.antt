@@ -34,8 +34,8 @@ returns c =
     let b = d .before .before .before .before .before .before in
     let a = b .before .before .before .before .before .before in
     let p = a .before .before .before .pre in
-    puts-within (omega (arith, p .1))
-    (puts-as (answer-joined (p .0) _ _)
+    puts-within (omega (arith, p .few))
+    (puts-as (answer-joined (p .filled) _ _)
     (puts-then (a .put-count .ensures)
     (puts-then (b .put-beam .ensures)
     (puts-then (d .put-values .ensures)

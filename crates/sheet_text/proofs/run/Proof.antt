@@ -6,7 +6,7 @@ use mathlib.Core.Path.{sym}
 use Prim.Native.Nat.{ℕ, _*_, _≤_}
 use lib.ListN.{length}
 use lib.Seq.{length-take-le}
-use Rattle.base_print.proofs.Buffer.{written-as, puts-whole}
+use Rattle.base_print.proofs.Buffer.{prints-as, puts-whole}
 use Rattle.theorems_sheet.specs.Sheet.{Arguments, called}
 use Rattle.sheet_text.proofs.Whole.{refused-prints, answered-filled, answered-prints, values-enough, count-positions}
 use Rattle.sheet_text.proofs.run.Statement.{statement}
@@ -83,7 +83,11 @@ put-answer-requires c κs =
     let m = k .curve .result in
     let e = k .curve .ensures in
     let v = a .answer2 .given .1 in
-    (answered-filled (lists k) m (e .0) (count a) v _ _ (search needs) (search needs) (e .1 .0) (e .1 .1 .0), (few a, rw (e .1 .1 .1) (values-enough (lists k) m (e .0) (count a) v _)))
+    record {
+      filled = answered-filled (lists k) m (e .0) (count a) v _ _ (search needs) (search needs) (e .1 .0) (e .1 .1 .0);
+      few = few a;
+      valued = rw (e .1 .1 .1) (values-enough (lists k) m (e .0) (count a) v _);
+    }
 
 same-length : tie.Need-same-length
 same-length c = search needs
@@ -95,8 +99,7 @@ returns c =
     let x = c .before .before .before .before .before .answer .given in
     let p = c .before .before .refusal .ensures in
     let t = refused-prints (lists k) (k .curve .result) (k .curve .ensures .0) _ _ (x .1) in
-    let w = written-as _ t (p .0) (p .1 .0) in
-    (w .0, (w .1, omega (arith, p .1 .1)))
+    prints-as t (omega (arith, p .few)) p
 
 same-length-2 : tie.Need-same-length-2
 same-length-2 c = search needs
@@ -107,8 +110,8 @@ returns-2 c =
     let a = c .before .before .before .before .before .before .before .before .before .before in
     let k = returned a in
     let p = c .before .before .before .before .put-answer .ensures in
-    let w = puts-whole (answered-prints (lists k) (k .curve .result) (k .curve .ensures .0) (count a) (a .answer2 .given .1) _ (k .curve .ensures .1 .1 .1)) p in
-    (w .0, (w .1, p .near))
+    let e = k .curve .ensures in
+    puts-whole (answered-prints (lists k) (k .curve .result) (e .0) (count a) (a .answer2 .given .1) _ (e .1 .1 .1)) p
 
 pub run-spec : {M : Type 1} → statement M
 run-spec =

@@ -10,7 +10,7 @@ use Rattle.base_text.specs.Bytes.{Text}
 use Rattle.spec_sheet.specs.SheetReading.{read}
 use Rattle.sheet_read.specs.Machine.{Lengths}
 use Rattle.sheet_read.proofs.Answers.{Listed, reply-read, positions-few, part-fits, part-is}
-use Rattle.base_print.proofs.Buffer.{written-as}
+use Rattle.base_print.proofs.Buffer.{prints-as}
 use Rattle.sheet_text.proofs.Parts.{called-prints, malformed-prints}
 use Rattle.sheet_text.proofs.sheet.Statement.{statement}
 use Rattle.sheet_text.proofs.sheet.Tie as tie
@@ -39,22 +39,22 @@ module _ (a : tie.After-lists2) where
   counts = let n = a .lists2 .given .0 in record { breaks = n .0; degrees = n .1 .0; orders = n .1 .1 .0; coefs = n .1 .1 .1 .0; positions = n .1 .1 .1 .1 .0 }
 
   listed : Listed (read text) counts
-  listed = reply-read (read text) (done .read .result) _ _ _ _ _ (done .read .ensures .0) (a .lists2 .given .1)
+  listed = reply-read (read text) (done .read .result) _ _ _ _ _ (done .read .ensures .replies) (a .lists2 .given .1)
 
   breaks-fit : counts .breaks ≤ length (done .read .last .1 .0)
-  breaks-fit = part-fits (λ l. l .breaks) (listed .is) _ (done .read .ensures .1 .0) (ap (λ n. n .breaks) (listed .counts))
+  breaks-fit = part-fits (λ l. l .breaks) (listed .is) _ (done .read .ensures .breaks-are) (ap (λ n. n .breaks) (listed .counts))
 
   degrees-fit : counts .degrees ≤ length (done .read .last .1 .1 .0)
-  degrees-fit = part-fits (λ l. l .degrees) (listed .is) _ (done .read .ensures .1 .1 .0) (ap (λ n. n .degrees) (listed .counts))
+  degrees-fit = part-fits (λ l. l .degrees) (listed .is) _ (done .read .ensures .degrees-are) (ap (λ n. n .degrees) (listed .counts))
 
   orders-fit : counts .orders ≤ length (done .read .last .1 .1 .1 .0)
-  orders-fit = part-fits (λ l. l .orders) (listed .is) _ (done .read .ensures .1 .1 .1 .0) (ap (λ n. n .orders) (listed .counts))
+  orders-fit = part-fits (λ l. l .orders) (listed .is) _ (done .read .ensures .orders-are) (ap (λ n. n .orders) (listed .counts))
 
   coefs-fit : counts .coefs ≤ length (done .read .last .1 .1 .1 .1 .0)
-  coefs-fit = part-fits (λ l. sideBySide (l .coefs)) (listed .is) _ (done .read .ensures .1 .1 .1 .1 .0) (ap (λ n. n .coefs) (listed .counts))
+  coefs-fit = part-fits (λ l. sideBySide (l .coefs)) (listed .is) _ (done .read .ensures .coefs-are) (ap (λ n. n .coefs) (listed .counts))
 
   positions-fit : counts .positions ≤ length (done .read .last .1 .1 .1 .1 .1 .0)
-  positions-fit = part-fits (λ l. l .positions) (listed .is) _ (done .read .ensures .1 .1 .1 .1 .1) (ap (λ n. n .positions) (listed .counts))
+  positions-fit = part-fits (λ l. l .positions) (listed .is) _ (done .read .ensures .positions-are) (ap (λ n. n .positions) (listed .counts))
 
 array-share-prefix-breaks : tie.Need-array-share-prefix-breaks
 array-share-prefix-breaks c = breaks-fit (c .before)
@@ -89,7 +89,12 @@ slice-aggregate-run-5 c = let a = c .before .before .before .before .before .bef
 run-requires : tie.Need-run-requires
 run-requires c κs =
     let a = c .before .before .before .before .before .before .before in
-    omega (arith, length-take-le (counts a .positions) (done a .read .last .1 .1 .1 .1 .1 .0) (positions-fit a), ap (λ n. n .positions) (listed a .counts), positions-few (text a) (listed a .lists) (listed a .is))
+    omega (
+      arith,
+      length-take-le (counts a .positions) (done a .read .last .1 .1 .1 .1 .1 .0) (positions-fit a),
+      ap (λ n. n .positions) (listed a .counts),
+      positions-few (text a) (listed a .lists) (listed a .is),
+    )
 
 same-length : tie.Need-same-length
 same-length c = search needs
@@ -99,9 +104,8 @@ returns c =
     let a = c .before .before .before .before .before in
     let k = a .before .before in
     let p = c .before .before .refusal .ensures in
-    let t = malformed-prints _ (k .read .result) _ (k .read .ensures .0) (a .lists .given .1) in
-    let w = written-as _ t (p .0) (p .1 .0) in
-    (w .0, (w .1, omega (arith, p .1 .1)))
+    let t = malformed-prints _ (k .read .result) _ (k .read .ensures .replies) (a .lists .given .1) in
+    prints-as t (omega (arith, p .few)) p
 
 same-length-2 : tie.Need-same-length-2
 same-length-2 c = search needs
@@ -113,13 +117,12 @@ returns-2 c =
     let p = c .before .before .run .ensures in
     let t =
     called-prints (text a) (listed a .lists) (listed a .is) _
-    (part-is (λ l. l .breaks) (listed a .is) _ (k .read .ensures .1 .0) (ap (λ n. n .breaks) (listed a .counts)))
-    (part-is (λ l. l .degrees) (listed a .is) _ (k .read .ensures .1 .1 .0) (ap (λ n. n .degrees) (listed a .counts)))
-    (part-is (λ l. l .orders) (listed a .is) _ (k .read .ensures .1 .1 .1 .0) (ap (λ n. n .orders) (listed a .counts)))
-    (part-is (λ l. sideBySide (l .coefs)) (listed a .is) _ (k .read .ensures .1 .1 .1 .1 .0) (ap (λ n. n .coefs) (listed a .counts)))
-    (part-is (λ l. l .positions) (listed a .is) _ (k .read .ensures .1 .1 .1 .1 .1) (ap (λ n. n .positions) (listed a .counts))) in
-    let w = written-as _ t (p .0) (p .1 .0) in
-    (w .0, (w .1, p .1 .1))
+    (part-is (λ l. l .breaks) (listed a .is) _ (k .read .ensures .breaks-are) (ap (λ n. n .breaks) (listed a .counts)))
+    (part-is (λ l. l .degrees) (listed a .is) _ (k .read .ensures .degrees-are) (ap (λ n. n .degrees) (listed a .counts)))
+    (part-is (λ l. l .orders) (listed a .is) _ (k .read .ensures .orders-are) (ap (λ n. n .orders) (listed a .counts)))
+    (part-is (λ l. sideBySide (l .coefs)) (listed a .is) _ (k .read .ensures .coefs-are) (ap (λ n. n .coefs) (listed a .counts)))
+    (part-is (λ l. l .positions) (listed a .is) _ (k .read .ensures .positions-are) (ap (λ n. n .positions) (listed a .counts))) in
+    prints-as t (p .few) p
 
 pub sheet-spec : {M : Type 1} → statement M
 sheet-spec =

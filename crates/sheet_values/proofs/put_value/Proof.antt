@@ -37,7 +37,9 @@ put-requires-2 c κs = search needs
 
 cast-put-decimal-3 : tie.Need-cast-put-decimal-3
 cast-put-decimal-3 c =
-    let f = c .before .before .before .before .before .before .before .before .before .before .before .before .before .before .before .before .before .before .before .before .before .before .before .fits .late in
+    let early = c .before .before .before .before .before .before .before .before in
+    let s = early .before .before .before .before .before .before .before .before .before .before .before .before .before .before .before in
+    let f = s .fits .late in
     simp toZ-ofZ (sfits-widen f)
 
 put-decimal-requires-3 : tie.Need-put-decimal-requires-3
@@ -76,4 +78,6 @@ returns c =
     (last .put3 .ensures)))))))
 
 pub put-value-spec : {M : Type 1} → statement M
-put-value-spec = tie.close (tie.spec slice-aggregate-put-text put-text-requires cast-put-decimal put-decimal-requires put-requires cast-put-decimal-2 put-decimal-requires-2 put-requires-2 cast-put-decimal-3 put-decimal-requires-3 put-requires-3 same-length returns)
+put-value-spec =
+    tie.close (tie.spec slice-aggregate-put-text put-text-requires cast-put-decimal put-decimal-requires put-requires cast-put-decimal-2
+    put-decimal-requires-2 put-requires-2 cast-put-decimal-3 put-decimal-requires-3 put-requires-3 same-length returns)

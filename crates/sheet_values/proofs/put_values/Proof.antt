@@ -80,7 +80,11 @@ loop-again c =
     record {
       within = omega arith;
       put =
-          rw (add-one, valueLines-more (a .positions .now) (paired vs) (l .k) (omega arith) (omega (arith, paired-length vs)), paired-at vs (l .k) (omega arith))
+          rw (
+            add-one,
+            valueLines-more (a .positions .now) (paired vs) (l .k) (omega arith) (omega (arith, paired-length vs)),
+            paired-at vs (l .k) (omega arith),
+          )
           (puts-within (omega arith) (puts-then (l .inv .put) (simp toZ-ofZ at (c .before .before .put-value .ensures))));
     }
 
@@ -94,4 +98,6 @@ returns c =
     puts-within (omega arith) (rw (take-all (l .k) positions (omega arith)) at (l .inv .put))
 
 pub put-values-spec : {M : Type 1} → statement M
-put-values-spec = tie.close (tie.spec Inv-loop μ-loop loop-holds mul-early mul-early-2 shared-slice-copy-out-early mul-late add-late mul-late-2 shared-slice-copy-out-late mul-put-value shared-slice-copy-out-put-value put-value-requires add-k loop-less loop-again same-length returns)
+put-values-spec =
+    tie.close (tie.spec Inv-loop μ-loop loop-holds mul-early mul-early-2 shared-slice-copy-out-early mul-late add-late mul-late-2
+    shared-slice-copy-out-late mul-put-value shared-slice-copy-out-put-value put-value-requires add-k loop-less loop-again same-length returns)

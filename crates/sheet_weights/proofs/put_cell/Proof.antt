@@ -37,7 +37,9 @@ returns-2 c =
     let s = c .before .before .before .before .before .before .before .before .before .before in
     let f : SFits w64 (s .args .num) = s .fits .num in
     let g : SFits w64 (s .args .den) = s .fits .den in
-    puts-as (sym (cell-line _ _ _ _ _ (λ e. c .before .before .before .before .before .before .before .before .if1 .left (ap (ofZ w64) e)))) (puts-within (omega arith) (puts-then (c .before .before .before .before .before .before .put-place .ensures) (simp toZ-ofZ at (c .before .before .put-fraction .ensures))))
+    let place = c .before .before .before .before .before .before in
+    puts-as (sym (cell-line _ _ _ _ _ (λ e. place .before .before .if1 .left (ap (ofZ w64) e))))
+    (puts-within (omega arith) (puts-then (place .put-place .ensures) (simp toZ-ofZ at (c .before .before .put-fraction .ensures))))
 
 pub put-cell-spec : {M : Type 1} → statement M
 put-cell-spec = tie.close (tie.spec returns add-put-place add-put-place-2 put-place-requires put-fraction-requires same-length returns-2)

@@ -77,4 +77,6 @@ returns c =
     rw all at (l .inv .put)
 
 pub put-weights-spec : {M : Type 1} → statement M
-put-weights-spec = tie.close (tie.spec Inv-loop μ-loop mul-cells loop-holds mul-put-cell shared-slice-copy-out-put-cell mul-put-cell-2 shared-slice-copy-out-put-cell-2 put-cell-requires add-k loop-less loop-again same-length returns)
+put-weights-spec =
+    tie.close (tie.spec Inv-loop μ-loop mul-cells loop-holds mul-put-cell shared-slice-copy-out-put-cell mul-put-cell-2
+    shared-slice-copy-out-put-cell-2 put-cell-requires add-k loop-less loop-again same-length returns)
