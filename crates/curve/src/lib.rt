@@ -6,8 +6,6 @@ ghost use Rattle.spec_spline.specs.CurveCall.{curveEnd};
 ghost use Rattle.base_outcome.specs.Machine.{reply};
 use base_outcome::Answer;
 
-mod reading;
-
 // Builds the weights and writes the values at each position, earlywood first, in list order. Lists and buffers may have any
 // length and content: what the definition refuses is refused, and the buffers are then as it says.
 pub fn curve(
@@ -42,7 +40,7 @@ pub fn curve(
     match built {
         Answer::Refused(code, place) => Answer::Refused(code, place),
         Answer::Count(_) => {
-            reading::write_values(breaks, degrees, orders, &early, &late, positions, values);
+            curve_values::write_values(breaks, degrees, orders, &early, &late, positions, values);
             Answer::Count(positions.len())
         }
     }

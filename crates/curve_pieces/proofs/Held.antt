@@ -17,7 +17,7 @@ use Rattle.spec_spline.specs.Reading.{Wood, coefficient, ordinate, ordinates}
 use Rattle.spec_spline.specs.CurveCall.{CurveResult}
 use Rattle.base_outcome.proofs.Outcome.{capped-small, then-answers, then-refuses}
 use Rattle.theorems_values.proofs.Value.{segment-column}
-use Rattle.curve_start.proofs.Fronts.{ordinates-length}
+use Rattle.curve_parts.proofs.Fronts.{ordinates-length}
 use Rattle.curve_start.specs.CurveAlone.{curveAlone}
 use Rattle.curve_pieces.specs.Pieces.{isDrawable, drawableDegree, pieceOf, pieceOutcome}
 use Rattle.curve_pieces.specs.Machine.{Shows, Replies, drawn, refused, pieceHeld, drawnHeld}

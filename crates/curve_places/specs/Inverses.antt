@@ -7,7 +7,7 @@ use Rattle.base_exact.specs.Tabulate.{tab}
 use Rattle.spec_spline.specs.Space.{Space, segmentLimit, segments}
 use Rattle.spec_spline.specs.Reading.{fineWidth}
 use Rattle.build_space.specs.Legal.{ListsLegal}
-use Rattle.curve_rate.specs.Rate.{wholeOf, partOf}
+use Rattle.curve_rate.specs.Rate.{wholeOf, tailOf}
 
 -- One number for each segment, by its length, in an array; 0 past the segments.
 unfoldable pub byLength : (ℤ → ℤ) → Space → List ℤ
@@ -18,8 +18,8 @@ abbrev pub wholesOf : Space → List ℤ
 wholesOf = byLength wholeOf
 
 -- The second ones.
-abbrev pub partsOf : Space → List ℤ
-partsOf = byLength partOf
+abbrev pub tailsOf : Space → List ℤ
+tailsOf = byLength tailOf
 
 -- Breakpoints and degrees of legal lists.
 pub record InversesAsk (breaks degrees : List ℤ) : Type 0 where

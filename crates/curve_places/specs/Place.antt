@@ -55,9 +55,9 @@ pub record ValueAtAsks (os : List ℤ) (p : Place) : Type 0 where
   pub ordinates : BeamOrdinates os
 
 -- A place, the ordinates of both, and the inverse of the length.
-pub record PairAsks (earlywood latewood : List ℤ) (p : Place) (whole part : ℤ) : Type 0 where
+pub record PairAsks (earlywood latewood : List ℤ) (p : Place) (whole tail : ℤ) : Type 0 where
   pub sound : Sound p
-  pub inverted : Inverted whole part (p .width)
+  pub inverted : Inverted whole tail (p .width)
   pub early-ordinates : BeamOrdinates earlywood
   pub late-ordinates : BeamOrdinates latewood
 

@@ -8,7 +8,7 @@ ghost use lib.ListN.{length};
 ghost use Rattle.build_space.specs.Machine.{space};
 ghost use Rattle.spec_spline.specs.Reading;
 ghost use Rattle.curve_places.specs.Offsets.{localOf, BreakAt};
-ghost use Rattle.curve_places.specs.Inverses.{wholesOf, partsOf, InversesAsk};
+ghost use Rattle.curve_places.specs.Inverses.{wholesOf, tailsOf, InversesAsk};
 ghost use Rattle.curve_places.specs.Place.{valueOf, PlaceAsks, PlaceIs, ValueAsks, ValueIs, ValueAtAsks, PairAsks, PairIs};
 
 // Where a position lies: its segment's first column and degree, how far past the segment's start it is and how long the
@@ -70,19 +70,19 @@ pub fn inverse_wholes(breaks: &[i32], degrees: &[i32]) -> [i64; build_space::MAX
 }
 
 // What these lack, in 2^29ths.
-pub fn inverse_parts(breaks: &[i32], degrees: &[i32]) -> [i64; build_space::MAX_SEGMENTS]
+pub fn inverse_tails(breaks: &[i32], degrees: &[i32]) -> [i64; build_space::MAX_SEGMENTS]
     requires { ⌜ InversesAsk (now breaks) (now degrees) ⌝ }
-    ensures { λ r. ⌜ r ≡ partsOf (space (now (breaks .entry)) (now (degrees .entry)) []) ⌝ }
+    ensures { λ r. ⌜ r ≡ tailsOf (space (now (breaks .entry)) (now (degrees .entry)) []) ⌝ }
 {
-    let mut parts = [0; build_space::MAX_SEGMENTS];
+    let mut tails = [0; build_space::MAX_SEGMENTS];
     let mut k = 0;
     while k < degrees.len() {
         let d = fine_width(breaks, k);
-        let part = curve_rate::part_of(d);
-        parts[k] = part;
+        let tail = curve_rate::tail_of(d);
+        tails[k] = tail;
         k += 1;
     }
-    parts
+    tails
 }
 
 // How far position x lies past the start of segment i.
@@ -144,20 +144,20 @@ pub fn value_at(ordinates: &[i32], place: Place) -> i32
 {
     let d = place.width;
     let whole = curve_rate::whole_of(d);
-    let part = curve_rate::part_of(d);
-    let rate = curve_rate::rate_of(place.offset, whole, part);
+    let tail = curve_rate::tail_of(d);
+    let rate = curve_rate::rate_of(place.offset, whole, tail);
     value_by(ordinates, place.column, place.degree, rate.high, rate.low)
 }
 
 // The values of both woods at a place, by one rate, from the inverse of the segment's length. The one blend of degree 1 is made
 // here, without a call.
-pub fn pair_at(earlywood: &[i32], latewood: &[i32], place: Place, whole: i64, part: i64) -> Pair
-    requires { ⌜ PairAsks (now earlywood) (now latewood) place whole part ⌝ }
+pub fn pair_at(earlywood: &[i32], latewood: &[i32], place: Place, whole: i64, tail: i64) -> Pair
+    requires { ⌜ PairAsks (now earlywood) (now latewood) place whole tail ⌝ }
     ensures { λ r. ⌜ PairIs (now (earlywood .entry)) (now (latewood .entry)) place r ⌝ }
 {
     let c = place.column;
     let p = place.degree;
-    let rate = curve_rate::rate_of(place.offset, whole, part);
+    let rate = curve_rate::rate_of(place.offset, whole, tail);
     let h = rate.high;
     let l = rate.low;
     if p == 1 {

@@ -11,10 +11,10 @@ use Rattle.base_exact.proofs.Integer.{≤-in, ≤-out, <-out, *-comm, *-mono, *
 use Rattle.base_exact.proofs.Integer.{abs-mono, abs-add, abs-mul-le, floorDiv-le, lt-floorDiv, le-floorDiv}
 use Rattle.base_exact.proofs.Floor.{floorDiv-mono, floorDiv-exact}
 use Rattle.base_exact.proofs.Word.{pos-of}
-use Rattle.curve_rate.specs.Rate.{Length, Offset, wholeOf, partOf, lack, Rated, RateAsks, RateIs}
+use Rattle.curve_rate.specs.Rate.{Length, Offset, wholeOf, tailOf, lack, Rated, RateAsks, RateIs}
 use Rattle.curve_rate.proofs.Quotient.{quotient-nearest, rate-lacks}
 
--- k times a part of d, over d, is at most k
+-- k times less than d, over d, is at most k
 share-abs : (v : ℤ) (n k : ℕ) → 0 < n → pos 0 ≤ℤ v → v ≤ℤ pos n → natAbs (floorDiv (v *ℤ pos k) n) ≤ k
 share-abs v n k p above below = abs-mono (floorDiv (v *ℤ pos k) n) (pos k)
     (le-floorDiv (pos 0) (v *ℤ pos k) n p (≤-in (pos 0 *ℤ pos n) (v *ℤ pos k)
@@ -65,16 +65,16 @@ rest d = pos 4611686018427387904 -ℤ wholeOf d *ℤ d
 pub record InverseSizes (d : ℤ) : Type 0 where
   pub back-abs : natAbs (wholeOf d *ℤ d) ≤ 4611686018427387904
   pub rest-inside : Offset (rest d) d
-  pub part-abs : natAbs (partOf d) ≤ 536870912
-  pub left-abs : natAbs ((pos 4611686018427387904 -ℤ wholeOf d *ℤ pos (natAbs d)) *ℤ pos 536870912 -ℤ partOf d *ℤ pos (natAbs d)) ≤ natAbs d
+  pub tail-abs : natAbs (tailOf d) ≤ 536870912
+  pub left-abs : natAbs ((pos 4611686018427387904 -ℤ wholeOf d *ℤ pos (natAbs d)) *ℤ pos 536870912 -ℤ tailOf d *ℤ pos (natAbs d)) ≤ natAbs d
 
 pub inverse-sizes : (d : ℤ) → Length d → InverseSizes d
-unfolding wholeOf partOf
+unfolding wholeOf tailOf
 inverse-sizes (negsuc n) o = absurd (o .long .lt)
 inverse-sizes (pos n) o = record {
   back-abs = omega (arith, ≤-out _ _ (floorDiv-le (pos 4611686018427387904) n p));
   rest-inside = record { above = left .0; below = left .1; long = o .long; short = o .short };
-  part-abs = share-abs (pos 4611686018427387904 -ℤ floorDiv (pos 4611686018427387904) n *ℤ pos n) n 536870912 p (left .0) (left .1);
+  tail-abs = share-abs (pos 4611686018427387904 -ℤ floorDiv (pos 4611686018427387904) n *ℤ pos n) n 536870912 p (left .0) (left .1);
   left-abs = rest-abs ((pos 4611686018427387904 -ℤ floorDiv (pos 4611686018427387904) n *ℤ pos n) *ℤ pos 536870912) n p;
 }
   where
@@ -87,16 +87,16 @@ inverse-sizes (pos n) o = record {
 
 -- ---- the rate of an offset from that
 abbrev pub more : ℤ → ℤ → ℤ
-more u part = floorDiv (u *ℤ part) 536870912
+more u tail = floorDiv (u *ℤ tail) 536870912
 
 abbrev pub total : ℤ → ℤ → ℤ → ℤ
-total u whole part = u *ℤ whole +ℤ more u part
+total u whole tail = u *ℤ whole +ℤ more u tail
 
 abbrev pub high : ℤ → ℤ → ℤ → ℤ
-high u whole part = floorDiv (total u whole part) 536870912
+high u whole tail = floorDiv (total u whole tail) 536870912
 
 abbrev pub low : ℤ → ℤ → ℤ → ℤ
-low u whole part = total u whole part -ℤ high u whole part *ℤ pos 536870912
+low u whole tail = total u whole tail -ℤ high u whole tail *ℤ pos 536870912
 
 product-abs : (u d : ℤ) → Offset u d → natAbs (u *ℤ wholeOf d) ≤ 4611686018427387904
 unfolding wholeOf
@@ -107,45 +107,45 @@ product-abs u (pos n) o = omega (
   ≤-out _ _ (floorDiv-le (pos 4611686018427387904) n (omega (arith, <-out (pos 0) (pos n) (o .long)))),
 )
 
-pub record RateSizes (u whole part : ℤ) : Type 0 where
+pub record RateSizes (u whole tail : ℤ) : Type 0 where
   pub offset-small : natAbs u ≤ 512000
-  pub part-small : natAbs part ≤ 536870912
+  pub tail-small : natAbs tail ≤ 536870912
   pub product-small : natAbs (u *ℤ whole) ≤ 4611686018427387904
-  pub more-small : natAbs (more u part) ≤ 512000
+  pub more-small : natAbs (more u tail) ≤ 512000
 
-pub rate-sizes : (u whole part : ℤ) → RateAsks u whole part → RateSizes u whole part
-rate-sizes u whole part h =
+pub rate-sizes : (u whole tail : ℤ) → RateAsks u whole tail → RateSizes u whole tail
+rate-sizes u whole tail h =
     let d = h .width in
     let s = inverse-sizes d (record { long = h .inside .long; short = h .inside .short }) in
     let few = offset-abs u d (h .inside) in
-    let part-small : natAbs part ≤ 536870912 = rw (h .inverted .part-is) (s .part-abs) in
+    let tail-small : natAbs tail ≤ 536870912 = rw (h .inverted .tail-is) (s .tail-abs) in
     record {
       offset-small = few;
-      part-small = part-small;
+      tail-small = tail-small;
       product-small = rw (h .inverted .whole-is) (product-abs u d (h .inside));
-      more-small = shift-abs (u *ℤ part) 512000 (abs-mul-le u part 512000 536870912 few part-small);
+      more-small = shift-abs (u *ℤ tail) 512000 (abs-mul-le u tail 512000 536870912 few tail-small);
     }
 
-module _ (u whole part : ℤ) (s : RateSizes u whole part) where
-  pub total-abs : natAbs (total u whole part) ≤ 4611686018427387904 + 512000
-  total-abs = omega (arith, abs-add (u *ℤ whole) (more u part), s .product-small, s .more-small)
+module _ (u whole tail : ℤ) (s : RateSizes u whole tail) where
+  pub total-abs : natAbs (total u whole tail) ≤ 4611686018427387904 + 512000
+  total-abs = omega (arith, abs-add (u *ℤ whole) (more u tail), s .product-small, s .more-small)
 
-  pub high-abs : natAbs (high u whole part) ≤ 8589934592 + 524288
-  high-abs = shift-abs (total u whole part) (8589934592 + 524288) (omega (arith, total-abs))
+  pub high-abs : natAbs (high u whole tail) ≤ 8589934592 + 524288
+  high-abs = shift-abs (total u whole tail) (8589934592 + 524288) (omega (arith, total-abs))
 
-  pub low-abs : natAbs (low u whole part) ≤ 536870912
-  low-abs = rest-abs (total u whole part) 536870912 (omega arith)
+  pub low-abs : natAbs (low u whole tail) ≤ 536870912
+  low-abs = rest-abs (total u whole tail) 536870912 (omega arith)
 
 -- it is the rate of the offset in each segment of this inverse
-pub rate-is : (u whole part : ℤ) → RateSizes u whole part → RateIs u whole part (high u whole part) (low u whole part)
-rate-is u whole part s d o inverted = record {
+pub rate-is : (u whole tail : ℤ) → RateSizes u whole tail → RateIs u whole tail (high u whole tail) (low u whole tail)
+rate-is u whole tail s d o inverted = record {
   inside = o;
-  high-small = high-abs u whole part s;
-  low-small = low-abs u whole part s;
-  lacks = subst (λ (z : ℤ). natAbs (lack u (high u whole part) (low u whole part) z) ≤ 2 * natAbs d) (sym (pos-of d (o .long) .0))
-      (rate-lacks u whole part (more u part) (high u whole part) (natAbs d) (s .offset-small)
-      (rw (inverted .whole-is, inverted .part-is) (inverse-sizes d (record { long = o .long; short = o .short }) .left-abs))
-      (rest-abs (u *ℤ part) 536870912 (omega arith)));
+  high-small = high-abs u whole tail s;
+  low-small = low-abs u whole tail s;
+  lacks = subst (λ (z : ℤ). natAbs (lack u (high u whole tail) (low u whole tail) z) ≤ 2 * natAbs d) (sym (pos-of d (o .long) .0))
+      (rate-lacks u whole tail (more u tail) (high u whole tail) (natAbs d) (s .offset-small)
+      (rw (inverted .whole-is, inverted .tail-is) (inverse-sizes d (record { long = o .long; short = o .short }) .left-abs))
+      (rest-abs (u *ℤ tail) 536870912 (omega arith)));
 }
 
 -- ---- a share of a number by the rate
@@ -153,8 +153,8 @@ module _ (high low u d x : ℤ) (rated : Rated high low u d) (size : natAbs x �
   pub whole-abs : natAbs (x *ℤ high) ≤ 536870912 * (8589934592 + 524288)
   whole-abs = abs-mul-le x high 536870912 (8589934592 + 524288) size (rated .high-small)
 
-  pub part-abs : natAbs (floorDiv (x *ℤ low) 536870912) ≤ 536870912
-  part-abs = shift-abs (x *ℤ low) 536870912 (abs-mul-le x low 536870912 536870912 size (rated .low-small))
+  pub tail-abs : natAbs (floorDiv (x *ℤ low) 536870912) ≤ 536870912
+  tail-abs = shift-abs (x *ℤ low) 536870912 (abs-mul-le x low 536870912 536870912 size (rated .low-small))
 
   pub share-is : (half : ℕ) → 4294967298 ≤ half → half ≤ 4294975682
       → floorDiv (x *ℤ high +ℤ floorDiv (x *ℤ low) 536870912 +ℤ pos half) 8589934592 ≡ nearest (u *ℤ x) (natAbs d)

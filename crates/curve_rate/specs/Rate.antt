@@ -24,19 +24,19 @@ unfoldable pub wholeOf : ℤ → ℤ
 wholeOf d = floorDiv (pos 4611686018427387904) (natAbs d)
 
 -- What that leaves of 2^62, times 2^29 / d, rounded down: with the first it makes 2^91 / d, rounded down.
-unfoldable pub partOf : ℤ → ℤ
-partOf d = floorDiv ((pos 4611686018427387904 -ℤ wholeOf d *ℤ d) *ℤ pos 536870912) (natAbs d)
+unfoldable pub tailOf : ℤ → ℤ
+tailOf d = floorDiv ((pos 4611686018427387904 -ℤ wholeOf d *ℤ d) *ℤ pos 536870912) (natAbs d)
 
 -- The inverse of length d, as its two numbers.
-pub record Inverted (whole part d : ℤ) : Type 0 where
+pub record Inverted (whole tail d : ℤ) : Type 0 where
   pub whole-is : whole ≡ wholeOf d
-  pub part-is : part ≡ partOf d
+  pub tail-is : tail ≡ tailOf d
 
 -- What a rate of h 2^33ths and l 2^62ths lacks of u / d, times 2^62 d.
 abbrev pub lack : ℤ → ℤ → ℤ → ℤ → ℤ
 lack u h l d = (u *ℤ pos 8589934592 -ℤ h *ℤ d) *ℤ pos 536870912 -ℤ l *ℤ d
 
--- A rate of offset u in a segment of length d, as its two parts: it lacks at most two 2^62ths.
+-- A rate of offset u in a segment of length d, as its two numbers: it lacks at most two 2^62ths.
 pub record Rated (high low u d : ℤ) : Type 0 where
   pub inside : Offset u d
   pub high-small : natAbs high ≤ 2 ^ 33 + 2 ^ 19
@@ -52,10 +52,10 @@ pub record SomeRate (high low : ℤ) : Type 0 where
 -- ---- what is asked
 
 -- An offset in a segment, and the inverse of the segment's length.
-pub record RateAsks (u whole part : ℤ) : Type 0 where
+pub record RateAsks (u whole tail : ℤ) : Type 0 where
   pub width : ℤ
   pub inside : Offset u width
-  pub inverted : Inverted whole part width
+  pub inverted : Inverted whole tail width
 
 -- The sizes of a rise or an offset, and of a number of 2^29ths.
 pub record CarryAsks (rise low : ℤ) : Type 0 where
@@ -71,4 +71,4 @@ pub record ShareAsks (rise high low : ℤ) : Type 0 where
 
 -- The rate of the offset in every segment of this inverse.
 abbrev pub RateIs : ℤ → ℤ → ℤ → ℤ → ℤ → Type 0
-RateIs u whole part high low = (d : ℤ) → Offset u d → Inverted whole part d → Rated high low u d
+RateIs u whole tail high low = (d : ℤ) → Offset u d → Inverted whole tail d → Rated high low u d

@@ -4,7 +4,7 @@ ghost use mathlib.Core.Path.{_≡_};
 ghost use Prim.Native.Nat.{_^_};
 ghost use lib.IntN.{ℤ, natAbs, _*ℤ_};
 ghost use Rattle.base_exact.specs.Floor.{floorDiv, nearest};
-ghost use Rattle.curve_rate.specs.Rate.{wholeOf, partOf, Length, Rated, RateAsks, CarryAsks, ShareAsks, RateIs};
+ghost use Rattle.curve_rate.specs.Rate.{wholeOf, tailOf, Length, Rated, RateAsks, CarryAsks, ShareAsks, RateIs};
 
 // The inverse of a length counts 2^62ths and 2^29ths of them, a rate 2^33ths and 2^29ths of them: these are 2^62 and 2^29, and the
 // bits of 2^33 and 2^29.
@@ -34,9 +34,9 @@ pub fn whole_of(d: i64) -> i64
 }
 
 // 29 bits more of 2^62 / d.
-pub fn part_of(d: i64) -> i64
+pub fn tail_of(d: i64) -> i64
     requires { ⌜ Length d ⌝ }
-    ensures { λ r. ⌜ r ≡ partOf d ⌝ }
+    ensures { λ r. ⌜ r ≡ tailOf d ⌝ }
 {
     let whole = whole_of(d);
     let rest = UNIT - whole * d;
@@ -52,11 +52,11 @@ fn carried(rise: i64, low: i64) -> i64
 }
 
 // By products, in place of a division for each position or blend.
-pub fn rate_of(u: i64, whole: i64, part: i64) -> Rate
-    requires { ⌜ RateAsks u whole part ⌝ }
-    ensures { λ r. ⌜ RateIs u whole part (r .high) (r .low) ⌝ }
+pub fn rate_of(u: i64, whole: i64, tail: i64) -> Rate
+    requires { ⌜ RateAsks u whole tail ⌝ }
+    ensures { λ r. ⌜ RateIs u whole tail (r .high) (r .low) ⌝ }
 {
-    let more = carried(u, part);
+    let more = carried(u, tail);
     let total = u * whole + more;
     let high = total >> FINE_BITS;
     let low = total - high * FINE;
@@ -71,6 +71,6 @@ pub fn share_of(rise: i64, high: i64, low: i64) -> i64
     requires { ⌜ ShareAsks rise high low ⌝ }
     ensures { λ r. ⌜ ((u d : ℤ) → Rated high low u d → r ≡ nearest (u *ℤ rise) (natAbs d)) ⌝ }
 {
-    let part = carried(rise, low);
-    (rise * high + part + HALF) >> HIGH_BITS
+    let tail = carried(rise, low);
+    (rise * high + tail + HALF) >> HIGH_BITS
 }

@@ -26,7 +26,7 @@ use Rattle.build_space.proofs.Legal.{checked-legal}
 use Rattle.curve_entries.proofs.Entries.{good-coefficient, good-position}
 use Rattle.curve_ordinates.specs.Ordinates.{Coefficients}
 use Rattle.curve_places.specs.Offsets.{Within}
-use Rattle.curve_start.specs.Parts.{Lent, TableRoom}
+use Rattle.curve_parts.specs.Parts.{Lent, TableRoom}
 use Rattle.curve_start.specs.Machine.{Call, outcomeOf}
 
 -- What the tests of lists and entries give.

@@ -14,9 +14,9 @@ use Rattle.spec_spline.specs.Table.{Table}
 use Rattle.spec_spline.specs.Reading.{earlywood, latewood, coefficient, ordinate, ordinates, fineWidth, offset, triangle, blended}
 use Rattle.curve_ordinates.specs.Ordinates.{Bounded, ordinateLimit}
 use Rattle.curve_ordinates.proofs.Columns.{ordinate-small}
-use Rattle.curve_start.specs.Parts.{Lent, lent}
+use Rattle.curve_parts.specs.Parts.{Lent, lent}
 use Rattle.curve_start.specs.Machine.{Call, CurvesHeld}
-use Rattle.curve_start.proofs.Fronts.{ordinates-length}
+use Rattle.curve_parts.proofs.Fronts.{ordinates-length}
 
 -- 0 everywhere, also past the end
 zeros : (n j : ℕ) → getD (replicate n (pos 0)) j (pos 0) ≡ pos 0

@@ -18,7 +18,7 @@ use Rattle.spec_spline.proofs.Pairs.{half-le}
 use Rattle.base_outcome.specs.declared.Answer.{Answer}
 use Rattle.base_outcome.specs.declared.Answer.the-variants.{Count, Refused}
 use Rattle.base_outcome.proofs.Reply.{count-inverts, refused-inverts}
-use Rattle.curve_start.specs.Parts.{Lent, TableRoom, PartsLeave}
+use Rattle.curve_parts.specs.Parts.{Lent, TableRoom, PartsLeave}
 use Rattle.curve_start.specs.Machine.{Call, outcomeOf, CurvesLeave}
 use Rattle.curve_start.proofs.Call.{checkedOf, resultOf, call-stopped, call-answers, lists-legal, coefficients-good, positions-good}
 

@@ -1,7 +1,5 @@
--- The laws behind the start of a curve call: one part of a beam, all of them, the outcome, what is left, and that an answered
+-- The laws behind the start of a curve call: the ordinates at the front of a list, the outcome, what is left, and that an answered
 -- call's space is accepted.
-pub mod Part
-pub mod Fronts
 pub mod Fronted
 pub mod Call
 pub mod Leaves

@@ -1,5 +1,3 @@
--- Where a curve call starts: without positions in CurveAlone, what building the parts asks and leaves in Parts, what the whole
--- start leaves in Machine.
+-- Where a curve call starts: without positions in CurveAlone, what the whole start leaves in Machine.
 pub mod CurveAlone
-pub mod Parts
 pub mod Machine

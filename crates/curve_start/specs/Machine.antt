@@ -14,7 +14,7 @@ use Rattle.base_outcome.specs.declared.Answer.{Answer}
 use Rattle.base_outcome.specs.declared.Answer.the-variants.{Count, Refused}
 use Rattle.curve_ordinates.specs.Ordinates.{Coefficients}
 use Rattle.curve_places.specs.Offsets.{columnLimit, Within}
-use Rattle.curve_start.specs.Parts.{Lent}
+use Rattle.curve_parts.specs.Parts.{Lent}
 
 -- Both lists of ordinates take the columns of every beam.
 pub record ColumnRoom (l : Lent) : Type 0 where

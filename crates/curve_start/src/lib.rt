@@ -1,11 +1,8 @@
 // Where every curve call starts: the tests, the weights, and the ordinates of all columns for both wood parts. The calls then read
 // them at given positions, for the first reach, or as a piece.
 ghost use Rattle.build_space.specs.Machine.{space};
-ghost use Rattle.curve_start.specs.Parts.{lent};
+ghost use Rattle.curve_parts.specs.Parts.{lent};
 ghost use Rattle.curve_start.specs.Machine.{ColumnRoom, call, CurvesLeave};
-
-mod parts;
-
 use base_outcome::Answer;
 
 // Makes the tests of a curve call at these positions with `room` cells for values, builds the weights, and writes the ordinates of
@@ -40,7 +37,7 @@ pub fn build_curves(
     let checked = curve_limits::check(breaks, degrees, orders, coefs, positions);
     match checked {
         base_outcome::Legality::Refused(code, place) => Answer::Refused(code, place),
-        base_outcome::Legality::Legal => crate::parts::build_parts(
+        base_outcome::Legality::Legal => curve_parts::build_parts(
             breaks,
             degrees,
             orders,

@@ -46,12 +46,12 @@ module _ (c : tie.After-struct-told3) where
   low-fits : SFits w64 low
   low-fits = record { sfits = c .struct-told3 .given .1 .0 .1 }
 
-  -- the rate of the place, as its parts are passed on
+  -- the rate of the place, as its two numbers are passed on
   rated : Rated (word high) (word low) (place .offset) (place .width)
   rated =
       let f = offset-fits in
       let g = start .fits .whole in
-      let h = start .fits .part in
+      let h = start .fits .tail in
       let k = high-fits in
       let l = low-fits in
       simp toZ-ofZ ((simp toZ-ofZ at (c .before .before .rate-of .ensures)) _ (start .pre .sound .inside) (start .pre .inverted))

@@ -22,8 +22,8 @@ word z = toZ w64 (ofZ w64 z)
 whole-of-requires : tie.Need-whole-of-requires
 whole-of-requires c κs = search needs
 
-part-of-requires : tie.Need-part-of-requires
-part-of-requires c κs = search needs
+tail-of-requires : tie.Need-tail-of-requires
+tail-of-requires c κs = search needs
 
 module _ (c : tie.After-struct-told2) where
   abbrev begin : tie.Start
@@ -38,20 +38,20 @@ module _ (c : tie.After-struct-told2) where
   whole-fits : SFits w64 (c .before .before .whole-of .result)
   whole-fits = record { sfits = c .before .before .whole-of .ok }
 
-  part-fits : SFits w64 (c .before .part-of .result)
-  part-fits = record { sfits = c .before .part-of .ok }
+  tail-fits : SFits w64 (c .before .tail-of .result)
+  tail-fits = record { sfits = c .before .tail-of .ok }
 
   -- the inverse of the segment's length
-  inverted : Inverted (c .before .before .whole-of .result) (c .before .part-of .result) (begin .args .place .width)
+  inverted : Inverted (c .before .before .whole-of .result) (c .before .tail-of .result) (begin .args .place .width)
   inverted =
       let f = width-fits in
-      record { whole-is = simp toZ-ofZ at (c .before .before .whole-of .ensures); part-is = simp toZ-ofZ at (c .before .part-of .ensures) }
+      record { whole-is = simp toZ-ofZ at (c .before .before .whole-of .ensures); tail-is = simp toZ-ofZ at (c .before .tail-of .ensures) }
 
 rate-of-requires : tie.Need-rate-of-requires
 rate-of-requires c κs =
     let f = offset-fits c in
     let g = whole-fits c in
-    let h = part-fits c in
+    let h = tail-fits c in
     simp toZ-ofZ (record { width = _; inside = begin c .pre .sound .inside; inverted = inverted c })
 
 module _ (c : tie.After-struct-told4) where
@@ -73,13 +73,13 @@ module _ (c : tie.After-struct-told4) where
   low-fits : SFits w64 low
   low-fits = record { sfits = c .struct-told4 .given .1 .0 .1 }
 
-  -- the rate of the place, as its parts are passed on
+  -- the rate of the place, as its two numbers are passed on
   rated : Rated (word high) (word low) (place .offset) (place .width)
   rated =
       let t = c .before .before .before in
       let f = offset-fits t in
       let g = whole-fits t in
-      let h = part-fits t in
+      let h = tail-fits t in
       let k = high-fits in
       let l = low-fits in
       simp toZ-ofZ ((simp toZ-ofZ at (c .before .before .rate-of .ensures)) _ (start .pre .sound .inside) (inverted t))
@@ -104,4 +104,4 @@ returns : tie.Need-returns
 returns c = toZ-ofZ w32 _ (record { sfits = c .value-by .ok }) ∙ there (c .before) _ _ (c .value-by .ensures)
 
 pub value-at-spec : {M : Type 1} → statement M
-value-at-spec = tie.close (tie.spec whole-of-requires part-of-requires rate-of-requires value-by-requires returns)
+value-at-spec = tie.close (tie.spec whole-of-requires tail-of-requires rate-of-requires value-by-requires returns)

@@ -18,7 +18,7 @@ abbrev word : ℤ → ℤ
 word z = toZ w64 (ofZ w64 z)
 
 module _ (s : tie.Start) where
-  -- the rate, as its parts are passed on
+  -- the rate, as its two numbers are passed on
   passed : (u d : ℤ) → Rated (s .args .high) (s .args .low) u d → Rated (word (s .args .high)) (word (s .args .low)) u d
   passed u d rated = let f = s .fits .high in let g = s .fits .low in simp toZ-ofZ rated
 

@@ -16,15 +16,15 @@ use Rattle.curve_rate.proofs.Sizes.{more, high, low, RateSizes, rate-si
 use Rattle.curve_rate.proofs.rate_of.Statement.{statement}
 use Rattle.curve_rate.proofs.rate_of.Tie as tie
 
-sizes : (c : tie.Start) → RateSizes (c .args .u) (c .args .whole) (c .args .part)
-sizes c = rate-sizes (c .args .u) (c .args .whole) (c .args .part) (c .pre)
+sizes : (c : tie.Start) → RateSizes (c .args .u) (c .args .whole) (c .args .tail)
+sizes c = rate-sizes (c .args .u) (c .args .whole) (c .args .tail) (c .pre)
 
 carried-requires : tie.Need-carried-requires
 carried-requires c κs =
     let f = c .fits .u in
-    let g = c .fits .part in
+    let g = c .fits .tail in
     let s = sizes c in
-    simp toZ-ofZ (record { rise-small = omega (arith, s .offset-small); low-small = s .part-small })
+    simp toZ-ofZ (record { rise-small = omega (arith, s .offset-small); low-small = s .tail-small })
 
 module _ (c : tie.After-carried) where
   abbrev start : tie.Start
@@ -36,14 +36,14 @@ module _ (c : tie.After-carried) where
   abbrev whole : ℤ
   whole = start .args .whole
 
-  abbrev part : ℤ
-  part = start .args .part
+  abbrev tail : ℤ
+  tail = start .args .tail
 
   abbrev sum : ℤ
   sum = u *ℤ whole +ℤ c .carried .result
 
-  more-is : c .carried .result ≡ more u part
-  more-is = let f = start .fits .u in let g = start .fits .part in simp toZ-ofZ at (c .carried .ensures)
+  more-is : c .carried .result ≡ more u tail
+  more-is = let f = start .fits .u in let g = start .fits .tail in simp toZ-ofZ at (c .carried .ensures)
 
   more-fits : SFits w64 (c .carried .result)
   more-fits = record { sfits = c .carried .ok }
@@ -53,35 +53,35 @@ module _ (c : tie.After-carried) where
 
   sum-fits : SFits w64 sum
   sum-fits = subst (λ (m : ℤ). SFits w64 (start .args .u *ℤ start .args .whole +ℤ m)) (sym more-is)
-      (sfits-abs (omega (arith, total-abs u whole part (sizes start))))
+      (sfits-abs (omega (arith, total-abs u whole tail (sizes start))))
 
-  -- the shift gives the first part of the rate
-  high-is : shrZ sum 536870912 ≡ high u whole part
+  -- the shift gives the first number of the rate
+  high-is : shrZ sum 536870912 ≡ high u whole tail
   high-is = sym (floorDiv-shrZ sum 536870912)
       ∙ ap (λ (m : ℤ). floorDiv (start .args .u *ℤ start .args .whole +ℤ m) 536870912) more-is
 
   high-fits : SFits w64 (shrZ sum 536870912)
-  high-fits = subst (SFits w64) (sym high-is) (sfits-abs (omega (arith, high-abs u whole part (sizes start))))
+  high-fits = subst (SFits w64) (sym high-is) (sfits-abs (omega (arith, high-abs u whole tail (sizes start))))
 
   back-fits : SFits w64 (shrZ sum 536870912 *ℤ pos 536870912)
   back-fits = subst (λ (z : ℤ). SFits w64 (z *ℤ pos 536870912)) (sym high-is)
       (sfits-abs (omega (
         arith,
-        abs-mul-le (high u whole part) (pos 536870912) (8589934592 + 524288) 536870912
-            (high-abs u whole part (sizes start)) (omega arith),
+        abs-mul-le (high u whole tail) (pos 536870912) (8589934592 + 524288) 536870912
+            (high-abs u whole tail (sizes start)) (omega arith),
       )))
 
-  low-is : sum -ℤ shrZ sum 536870912 *ℤ pos 536870912 ≡ low u whole part
+  low-is : sum -ℤ shrZ sum 536870912 *ℤ pos 536870912 ≡ low u whole tail
   low-is = ap₂ (λ (m z : ℤ). start .args .u *ℤ start .args .whole +ℤ m -ℤ z *ℤ pos 536870912) more-is high-is
 
   low-fits : SFits w64 (sum -ℤ shrZ sum 536870912 *ℤ pos 536870912)
-  low-fits = subst (SFits w64) (sym low-is) (sfits-abs (omega (arith, low-abs u whole part (sizes start))))
+  low-fits = subst (SFits w64) (sym low-is) (sfits-abs (omega (arith, low-abs u whole tail (sizes start))))
 
-  rated : RateIs u whole part (shrZ sum 536870912) (sum -ℤ shrZ sum 536870912 *ℤ pos 536870912)
+  rated : RateIs u whole tail (shrZ sum 536870912) (sum -ℤ shrZ sum 536870912 *ℤ pos 536870912)
   rated d o inverted =
       subst (λ (z : ℤ). Rated (shrZ sum 536870912) z (c .before .args .u) d) (sym low-is)
-      (subst (λ (z : ℤ). Rated z (low u whole part) (c .before .args .u) d) (sym high-is)
-      (rate-is u whole part (sizes start) d o inverted))
+      (subst (λ (z : ℤ). Rated z (low u whole tail) (c .before .args .u) d) (sym high-is)
+      (rate-is u whole tail (sizes start) d o inverted))
 
 mul-total : tie.Need-mul-total
 mul-total c = let f = c .before .fits .u in let g = c .before .fits .whole in simp toZ-ofZ (product-fits c)

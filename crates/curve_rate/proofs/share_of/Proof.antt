@@ -12,7 +12,7 @@ use mir.ValLaws.{toZ-ofZ}
 use Rattle.base_exact.specs.Floor.{floorDiv}
 use Rattle.base_exact.proofs.Floor.{floorDiv-shrZ}
 use Rattle.base_exact.proofs.Word.{sfits-abs, abs-add, floor-fits}
-use Rattle.curve_rate.proofs.Sizes.{whole-abs, part-abs, share-is}
+use Rattle.curve_rate.proofs.Sizes.{whole-abs, tail-abs, share-is}
 use Rattle.curve_rate.proofs.share_of.Statement.{statement}
 use Rattle.curve_rate.proofs.share_of.Tie as tie
 
@@ -38,25 +38,25 @@ module _ (c : tie.After-carried) where
   carried : SFits w64 (c .carried .result)
   carried = record { sfits = c .carried .ok }
 
-  part-is : c .carried .result ≡ floorDiv (x *ℤ start .args .low) 536870912
-  part-is = let f = start .fits .rise in let g = start .fits .low in simp toZ-ofZ at (c .carried .ensures)
+  tail-is : c .carried .result ≡ floorDiv (x *ℤ start .args .low) 536870912
+  tail-is = let f = start .fits .rise in let g = start .fits .low in simp toZ-ofZ at (c .carried .ensures)
 
   whole-size : natAbs whole ≤ 536870912 * (8589934592 + 524288)
   whole-size = whole-abs (start .args .high) (start .args .low) _ _ x (start .pre .rate .rated) (start .pre .rise-small)
 
-  part-size : natAbs (c .carried .result) ≤ 536870912
-  part-size = subst (λ (z : ℤ). natAbs z ≤ 536870912) (sym part-is)
-      (part-abs (start .args .high) (start .args .low) _ _ x (start .pre .rate .rated) (start .pre .rise-small))
+  tail-size : natAbs (c .carried .result) ≤ 536870912
+  tail-size = subst (λ (z : ℤ). natAbs z ≤ 536870912) (sym tail-is)
+      (tail-abs (start .args .high) (start .args .low) _ _ x (start .pre .rate .rated) (start .pre .rise-small))
 
   whole-fits : SFits w64 whole
   whole-fits = sfits-abs (omega (arith, whole-size))
 
   sum-fits : SFits w64 (whole +ℤ c .carried .result)
-  sum-fits = sfits-abs (omega (arith, whole-size, part-size, abs-add whole (c .carried .result)))
+  sum-fits = sfits-abs (omega (arith, whole-size, tail-size, abs-add whole (c .carried .result)))
 
   half-fits : (half : ℕ) → half ≤ 8589934592 → SFits w64 (whole +ℤ c .carried .result +ℤ pos half)
   half-fits half h =
-      sfits-abs (omega (arith, whole-size, part-size, abs-add whole (c .carried .result), abs-add (whole +ℤ c .carried .result) (pos half)))
+      sfits-abs (omega (arith, whole-size, tail-size, abs-add whole (c .carried .result), abs-add (whole +ℤ c .carried .result) (pos half)))
 
   shifted-fits : (half : ℕ) → half ≤ 8589934592 → SFits w64 (shrZ (whole +ℤ c .carried .result +ℤ pos half) 8589934592)
   shifted-fits half h =
@@ -99,7 +99,7 @@ returns c u d rated =
     let n = shifted-fits c 4294971392 (omega arith) in
     simp toZ-ofZ
     (sym (floorDiv-shrZ (whole c +ℤ c .carried .result +ℤ pos 4294971392) 8589934592)
-    ∙ ap (λ (p : ℤ). floorDiv (whole c +ℤ p +ℤ pos 4294971392) 8589934592) (part-is c)
+    ∙ ap (λ (p : ℤ). floorDiv (whole c +ℤ p +ℤ pos 4294971392) 8589934592) (tail-is c)
     ∙ share-is (c .before .args .high) (c .before .args .low) u d (x c) rated (c .before .pre .rise-small) 4294971392 (omega arith)
     (omega arith))
 

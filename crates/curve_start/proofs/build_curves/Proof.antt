@@ -10,7 +10,7 @@ use Rattle.base_outcome.proofs.Machine.{refused-refuses}
 use Rattle.theorems_values.proofs.LegalCall.{curve-checks}
 use Rattle.build_space.specs.Machine.{space}
 use Rattle.build_space.proofs.Legal.{legal-column-count-high}
-use Rattle.curve_start.specs.Parts.{Lent, lent, TableRoom}
+use Rattle.curve_parts.specs.Parts.{Lent, lent, TableRoom}
 use Rattle.curve_start.specs.Machine.{Call, call}
 use Rattle.curve_start.proofs.Call.{checkedOf, first-short, second-short, third-short, call-refused, lists-legal, coefficients-good}
 use Rattle.curve_start.proofs.Leaves.{leaves-unchanged, leaves-built}

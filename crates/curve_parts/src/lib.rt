@@ -3,7 +3,7 @@ ghost use Prim.Native.Nat.{_+_};
 ghost use Rattle.spec_spline.specs.Reading.{coefficient};
 ghost use Rattle.theorems_beams.specs.Sections.{partAt};
 ghost use Rattle.build_space.specs.Machine.{space};
-ghost use Rattle.curve_start.specs.Parts.{lent, PartAsks, PartsAsk, PartsLeave};
+ghost use Rattle.curve_parts.specs.Parts.{lent, PartAsks, PartsAsk, PartsLeave};
 use base_outcome::Answer;
 use curve_ordinates::Wood;
 

@@ -35,7 +35,7 @@ use Rattle.build.proofs.Stepped.{Proper, weights-proper}
 use Rattle.base_outcome.proofs.Reply.{Counted, count-inverts, refused-inverts}
 use Rattle.build.proofs.Beam.{sliced, part-legal}
 use Rattle.curve_ordinates.specs.Ordinates.{Weighs, Coefficients}
-use Rattle.curve_start.specs.Parts.{lent, TableRoom, PartOf, PartsLeave}
+use Rattle.curve_parts.specs.Parts.{lent, TableRoom, PartOf, PartsLeave}
 
 -- ---- the coefficients of the n rows from one on
 

@@ -1,4 +1,4 @@
--- `curve_start::parts::build_part` meets its contract: the three slices are the lists of the part, which is legal; after an answer the
+-- `curve_parts::build_part` meets its contract: the three slices are the lists of the part, which is legal; after an answer the
 -- buffers hold its weights, and the slice of the coefficients those of its rows. Assumes nothing.
 use borrow.Author.Needs.{needs}
 use native.Mathlib.Omega.{arith}
@@ -10,10 +10,10 @@ use Rattle.spec_spline.specs.Table.{rowCells}
 use Rattle.theorems_beams.specs.Sections.{partAt}
 use Rattle.build_space.specs.Machine.{space}
 use Rattle.curve_ordinates.specs.Ordinates.{Weighs, Coefficients, WeighedRows}
-use Rattle.curve_start.proofs.Part.{rowsFrom, middle-coefficients, part-after, part-within, beam-rows-few, part-columns-few}
-use Rattle.curve_start.proofs.Part.{rows-told, weighs-rows, leaves-rows, leaves-refused}
-use Rattle.curve_start.proofs.parts.build_part.Statement.{statement}
-use Rattle.curve_start.proofs.parts.build_part.Tie as tie
+use Rattle.curve_parts.proofs.Part.{rowsFrom, middle-coefficients, part-after, part-within, beam-rows-few, part-columns-few}
+use Rattle.curve_parts.proofs.Part.{rows-told, weighs-rows, leaves-rows, leaves-refused}
+use Rattle.curve_parts.proofs.build_part.Statement.{statement}
+use Rattle.curve_parts.proofs.build_part.Tie as tie
 
 -- where the part lies in the lists
 record Lies (breaks degrees orders a b : ℕ) : Type 0 where

@@ -1,4 +1,4 @@
--- `curve::reading::first_columns` meets its contract: below i stand the segments' first columns, from i on 0, and the sum is
+-- `curve_values::first_columns` meets its contract: below i stand the segments' first columns, from i on 0, and the sum is
 -- the first column of segment i. Assumes nothing.
 use native.Mathlib.Omega.{arith}
 use mathlib.Core.List.{List, [], _++_}
@@ -11,8 +11,8 @@ use Rattle.spec_spline.specs.Space.{Space, firstColumn}
 use Rattle.build_space.specs.Machine.{space}
 use Rattle.build_space.proofs.Bounds.{degree-high, first-column-zero, first-column-next, first-column-high}
 use Rattle.curve_places.proofs.Position.{columns-filled}
-use Rattle.curve.proofs.reading.first_columns.Statement.{statement}
-use Rattle.curve.proofs.reading.first_columns.Tie as tie
+use Rattle.curve_values.proofs.first_columns.Statement.{statement}
+use Rattle.curve_values.proofs.first_columns.Tie as tie
 
 abbrev Inv-loop : tie.InvT-loop
 Inv-loop degrees columns₀ column₀ i₀ columns column i = let s = space [] degrees [] in

@@ -4,7 +4,7 @@ ghost use mathlib.Core.Path.{_≡_};
 ghost use mathlib.Core.List.{[]};
 ghost use Rattle.build_space.specs.Machine.{space};
 ghost use Rattle.curve_places.specs.Offsets.{columnsOf};
-ghost use Rattle.curve.specs.Pairs.{pairsWritten, FewDegrees, ValuesAsk};
+ghost use Rattle.curve_values.specs.Pairs.{pairsWritten, FewDegrees, ValuesAsk};
 
 // The first columns of the segments.
 fn first_columns(degrees: &[i32]) -> [usize; build_space::MAX_SEGMENTS]
@@ -39,7 +39,7 @@ pub fn write_values(
     let columns = first_columns(degrees);
     let firsts = curve_segments::first_positions(breaks, degrees, orders);
     let wholes = curve_places::inverse_wholes(breaks, degrees);
-    let parts = curve_places::inverse_parts(breaks, degrees);
+    let tails = curve_places::inverse_tails(breaks, degrees);
     let mut at = 0;
     let mut k = 0;
     while k < positions.len() {
@@ -47,8 +47,8 @@ pub fn write_values(
         at = curve_segments::segment_near(&firsts, degrees.len(), x, at);
         let place = curve_places::place_at(breaks, degrees, &columns, at, x);
         let whole = wholes[at];
-        let part = parts[at];
-        let pair = curve_places::pair_at(earlywood, latewood, place, whole, part);
+        let tail = tails[at];
+        let pair = curve_places::pair_at(earlywood, latewood, place, whole, tail);
         let early = pair.early;
         let late = pair.late;
         values[2 * k] = early;

@@ -1,4 +1,4 @@
--- `curve::reading::write_values` meets its contract: below 2 k stand the pairs of the first k positions, from there on what the
+-- `curve_values::write_values` meets its contract: below 2 k stand the pairs of the first k positions, from there on what the
 -- cells held. Assumes nothing.
 use borrow.Author.Needs.{needs}
 use native.Mathlib.Omega.{arith}
@@ -18,16 +18,16 @@ use Rattle.spec_spline.proofs.Pairs.{pairs-none, pairs-more}
 use Rattle.build_space.specs.Machine.{space}
 use Rattle.build_space.specs.Legal.{ListsLegal}
 use Rattle.curve_places.specs.Offsets.{Within}
-use Rattle.curve_rate.specs.Rate.{wholeOf, partOf}
+use Rattle.curve_rate.specs.Rate.{wholeOf, tailOf}
 use Rattle.curve_places.specs.Inverses.{byLength}
 use Rattle.curve_places.specs.Place.{placeOf, valueOf}
 use Rattle.curve_places.specs.declared.Place.{Place}
 use Rattle.curve_segments.proofs.First.{firsts-long}
 use Rattle.curve_places.proofs.Inverses.{by-length-at}
 use Rattle.curve_places.proofs.Position.{segment-within, place-width, value-blended}
-use Rattle.curve.specs.Pairs.{pairOf}
-use Rattle.curve.proofs.reading.write_values.Statement.{statement}
-use Rattle.curve.proofs.reading.write_values.Tie as tie
+use Rattle.curve_values.specs.Pairs.{pairOf}
+use Rattle.curve_values.proofs.write_values.Statement.{statement}
+use Rattle.curve_values.proofs.write_values.Tie as tie
 
 -- both values at position j of the list
 abbrev pairAtEntry : Space → List ℤ → List ℤ → List ℤ → ℕ → Pair
@@ -40,11 +40,11 @@ record Inv (s : Space) (earlywood latewood positions values₀ values : List ℤ
   written : values ≡ sideBySide (tab k (pairAtEntry s earlywood latewood positions)) ++ drop (2 * k) values₀
 
 abbrev Inv-loop : tie.InvT-loop
-Inv-loop breaks degrees orders earlywood latewood positions values₀ columns firsts wholes parts at₀ k₀ values at k =
+Inv-loop breaks degrees orders earlywood latewood positions values₀ columns firsts wholes tails at₀ k₀ values at k =
     Inv (space breaks degrees orders) earlywood latewood positions values₀ values at k
 
 abbrev μ-loop : tie.MeasureT-loop
-μ-loop breaks degrees orders earlywood latewood positions values₀ columns firsts wholes parts at₀ k₀ values at k = length positions - k
+μ-loop breaks degrees orders earlywood latewood positions values₀ columns firsts wholes tails at₀ k₀ values at k = length positions - k
 
 first-columns-requires : tie.Need-first-columns-requires Inv-loop μ-loop
 first-columns-requires c κs = record { few = c .pre .legal .few; legal = c .pre .legal .degrees-legal }
@@ -55,8 +55,8 @@ first-positions-requires c κs = c .before .pre .legal
 inverse-wholes-requires : tie.Need-inverse-wholes-requires Inv-loop μ-loop
 inverse-wholes-requires c κs = let s = c .before .before in record { orders = s .args .orders .now; legal = s .pre .legal }
 
-inverse-parts-requires : tie.Need-inverse-parts-requires Inv-loop μ-loop
-inverse-parts-requires c κs = let s = c .before .before .before in record { orders = s .args .orders .now; legal = s .pre .legal }
+inverse-tails-requires : tie.Need-inverse-tails-requires Inv-loop μ-loop
+inverse-tails-requires c κs = let s = c .before .before .before in record { orders = s .args .orders .now; legal = s .pre .legal }
 
 loop-holds : tie.Need-loop-holds Inv-loop μ-loop
 loop-holds c = record {
@@ -184,11 +184,11 @@ mul-whole c = omega (arith, inside c, legal c .few)
 array-copy-out-whole : tie.Need-array-copy-out-whole Inv-loop μ-loop
 array-copy-out-whole c = omega (arith, inside c, legal c .few)
 
-mul-part : tie.Need-mul-part Inv-loop μ-loop
-mul-part c = let p = c .before in omega (arith, inside p, legal p .few)
+mul-tail : tie.Need-mul-tail Inv-loop μ-loop
+mul-tail c = let p = c .before in omega (arith, inside p, legal p .few)
 
-array-copy-out-part : tie.Need-array-copy-out-part Inv-loop μ-loop
-array-copy-out-part c = let p = c .before in omega (arith, inside p, legal p .few)
+array-copy-out-tail : tie.Need-array-copy-out-tail Inv-loop μ-loop
+array-copy-out-tail c = let p = c .before in omega (arith, inside p, legal p .few)
 
 pair-at-requires : tie.Need-pair-at-requires Inv-loop μ-loop
 pair-at-requires c κs =
@@ -199,7 +199,7 @@ pair-at-requires c κs =
       sound = p .place-at .ensures .sound;
       inverted = record {
         whole-is = toZ-ofZ w64 _ (record { sfits = c .before .whole .given }) ∙ number-there p wholeOf _ (t .before .inverse-wholes .ensures);
-        part-is = toZ-ofZ w64 _ (record { sfits = c .part .given }) ∙ number-there p partOf _ (t .inverse-parts .ensures);
+        tail-is = toZ-ofZ w64 _ (record { sfits = c .tail .given }) ∙ number-there p tailOf _ (t .inverse-tails .ensures);
       };
       early-ordinates = s .pre .early-ordinates;
       late-ordinates = s .pre .late-ordinates;
@@ -313,7 +313,7 @@ write-values-spec =
     first-columns-requires
     first-positions-requires
     inverse-wholes-requires
-    inverse-parts-requires
+    inverse-tails-requires
     loop-holds
     mul-x
     shared-slice-copy-out-x
@@ -323,8 +323,8 @@ write-values-spec =
     place-at-requires
     mul-whole
     array-copy-out-whole
-    mul-part
-    array-copy-out-part
+    mul-tail
+    array-copy-out-tail
     pair-at-requires
     mul-early
     mul-early-2

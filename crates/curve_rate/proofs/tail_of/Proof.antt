@@ -1,4 +1,4 @@
--- `curve_rate::part_of` meets its contract: what the first number leaves is an offset, so that nothing leaves 64 bits.
+-- `curve_rate::tail_of` meets its contract: what the first number leaves is an offset, so that nothing leaves 64 bits.
 -- Assumes nothing.
 use native.Mathlib.Omega.{arith}
 use borrow.Author.Needs.{needs}
@@ -12,10 +12,10 @@ use Rattle.base_exact.specs.Floor.{floorDiv}
 use Rattle.base_exact.proofs.Integer.{≤-in, *-pos, abs-mul-le}
 use Rattle.base_exact.proofs.Word.{sfits-abs, ofZ-pos, quot-mag, quot-floor}
 use Rattle.curve_rate.specs.Rate.{Offset}
-use Rattle.curve_rate.specs.Rate.{wholeOf, partOf}
+use Rattle.curve_rate.specs.Rate.{wholeOf, tailOf}
 use Rattle.curve_rate.proofs.Sizes.{offset-abs, InverseSizes, inverse-sizes}
-use Rattle.curve_rate.proofs.part_of.Statement.{statement}
-use Rattle.curve_rate.proofs.part_of.Tie as tie
+use Rattle.curve_rate.proofs.tail_of.Statement.{statement}
+use Rattle.curve_rate.proofs.tail_of.Tie as tie
 
 whole-of-requires : tie.Need-whole-of-requires
 whole-of-requires c κs = search needs
@@ -79,7 +79,7 @@ div-result c =
     (ofZ-pos w64 _ (c .before .pre .long), simp toZ-ofZ (quotient-fits c))
 
 returns : tie.Need-returns
-unfolding partOf
+unfolding tailOf
 returns c =
     let f = c .before .fits .d in
     let g = whole c in
@@ -91,5 +91,5 @@ returns c =
     ∙ ap (λ (x : ℤ). floorDiv ((pos 4611686018427387904 -ℤ x *ℤ c .before .args .d) *ℤ pos 536870912) (natAbs (c .before .args .d)))
     (whole-is c))
 
-pub part-of-spec : {M : Type 1} → statement M
-part-of-spec = tie.close (tie.spec whole-of-requires mul-rest sub-rest mul-result div-result returns)
+pub tail-of-spec : {M : Type 1} → statement M
+tail-of-spec = tie.close (tie.spec whole-of-requires mul-rest sub-rest mul-result div-result returns)

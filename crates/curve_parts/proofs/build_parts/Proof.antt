@@ -1,4 +1,4 @@
--- `curve_start::parts::build_parts` meets its contract: before the turn at a the parts before segment a are built, the buffers hold the
+-- `curve_parts::build_parts` meets its contract: before the turn at a the parts before segment a are built, the buffers hold the
 -- last of them, and the ordinates of their columns are at the front of the two lists. Assumes nothing.
 use borrow.Author.Needs.{needs}
 use native.Mathlib.Omega.{arith}
@@ -18,10 +18,10 @@ use Rattle.build_space.proofs.Legal.{legal-column-count-high}
 use Rattle.build_space.proofs.Partial.{part-end-partial, first-column-partial}
 use Rattle.base_outcome.specs.declared.Answer.the-variants.{Count}
 use Rattle.build.proofs.Beam.{starts, rows-high}
-use Rattle.curve_start.specs.Parts.{Lent, lent}
-use Rattle.curve_start.proofs.Fronts.{Front, front-first, rows-within, columns-more, front-more, front-refused, front-whole}
-use Rattle.curve_start.proofs.parts.build_parts.Statement.{statement}
-use Rattle.curve_start.proofs.parts.build_parts.Tie as tie
+use Rattle.curve_parts.specs.Parts.{Lent, lent}
+use Rattle.curve_parts.proofs.Fronts.{Front, front-first, rows-within, columns-more, front-more, front-refused, front-whole}
+use Rattle.curve_parts.proofs.build_parts.Statement.{statement}
+use Rattle.curve_parts.proofs.build_parts.Tie as tie
 
 record Inv (s : Space) (coefs : List ℤ) (l₀ l : Lent) (row column a : ℕ) : Type 0 where
   num-long : length (l .num) ≡ length (l₀ .num)

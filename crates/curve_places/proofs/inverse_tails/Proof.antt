@@ -1,4 +1,4 @@
--- `curve_places::inverse_parts` meets its contract: below k stand the part numbers of the segments' inverses, from k on 0. Assumes
+-- `curve_places::inverse_tails` meets its contract: below k stand the second numbers of the segments' inverses, from k on 0. Assumes
 -- nothing.
 use native.Mathlib.Omega.{arith}
 use mathlib.Core.List.{List, [], _++_}
@@ -14,21 +14,21 @@ use Rattle.base_exact.proofs.Tabulate.{tab-none, tab-more}
 use Rattle.spec_spline.specs.Space.{Space}
 use Rattle.spec_spline.specs.Reading.{fineWidth}
 use Rattle.build_space.specs.Machine.{space}
-use Rattle.curve_rate.specs.Rate.{partOf}
+use Rattle.curve_rate.specs.Rate.{tailOf}
 use Rattle.curve_places.proofs.Inverses.{by-length-filled, length-is}
-use Rattle.curve_places.proofs.inverse_parts.Statement.{statement}
-use Rattle.curve_places.proofs.inverse_parts.Tie as tie
+use Rattle.curve_places.proofs.inverse_tails.Statement.{statement}
+use Rattle.curve_places.proofs.inverse_tails.Tie as tie
 
 -- the number of segment i
 abbrev number : Space → ℕ → ℤ
-number s i = partOf (pos (fineWidth s i))
+number s i = tailOf (pos (fineWidth s i))
 
 abbrev Inv-loop : tie.InvT-loop
-Inv-loop breaks degrees parts₀ k₀ parts k =
-    (k ≤ length degrees) × (parts ≡ tab k (number (space breaks degrees [])) ++ drop k (replicate 48 (pos 0)))
+Inv-loop breaks degrees tails₀ k₀ tails k =
+    (k ≤ length degrees) × (tails ≡ tab k (number (space breaks degrees [])) ++ drop k (replicate 48 (pos 0)))
 
 abbrev μ-loop : tie.MeasureT-loop
-μ-loop breaks degrees parts₀ k₀ parts k = length degrees - k
+μ-loop breaks degrees tails₀ k₀ tails k = length degrees - k
 
 loop-holds : tie.Need-loop-holds Inv-loop μ-loop
 loop-holds c = (omega arith, tab-none _ _)
@@ -48,16 +48,16 @@ module _ (c : tie.After-fine-width Inv-loop μ-loop) where
   width-is : toZ w64 (ofZ w64 (c .fine-width .result)) ≡ pos (fineWidth (space (start .args .breaks .now) (start .args .degrees .now) []) (turn .loop .k))
   width-is = toZ-ofZ w64 _ (record { sfits = c .fine-width .ok }) ∙ c .fine-width .ensures
 
-part-of-requires : tie.Need-part-of-requires Inv-loop μ-loop
-part-of-requires c κs =
+tail-of-requires : tie.Need-tail-of-requires Inv-loop μ-loop
+tail-of-requires c κs =
     let s = start c in
     rw (width-is c) (length-is (s .args .breaks .now) (s .args .degrees .now) (s .pre .orders) (s .pre .legal) (turn c .loop .k) (omega arith))
 
-mul-parts : tie.Need-mul-parts Inv-loop μ-loop
-mul-parts c = let s = start (c .before) in omega (arith, s .pre .legal .few)
+mul-tails : tie.Need-mul-tails Inv-loop μ-loop
+mul-tails c = let s = start (c .before) in omega (arith, s .pre .legal .few)
 
-array-set-from-parts : tie.Need-array-set-from-parts Inv-loop μ-loop
-array-set-from-parts c = let s = start (c .before) in omega (arith, s .pre .legal .few)
+array-set-from-tails : tie.Need-array-set-from-tails Inv-loop μ-loop
+array-set-from-tails c = let s = start (c .before) in omega (arith, s .pre .legal .few)
 
 add-k : tie.Need-add-k Inv-loop μ-loop
 add-k c = let s = start (c .before) in omega (arith, s .pre .legal .few)
@@ -70,8 +70,8 @@ loop-again c =
     let l = turn (c .before) .loop in
     let s = start (c .before) in
     let f = number (space (s .args .breaks .now) (s .args .degrees .now) []) in
-    let is : toZ w64 (ofZ w64 (c .part-of .result)) ≡ f (l .k) =
-    toZ-ofZ w64 _ (record { sfits = c .part-of .ok }) ∙ c .part-of .ensures ∙ ap partOf (width-is (c .before)) in (
+    let is : toZ w64 (ofZ w64 (c .tail-of .result)) ≡ f (l .k) =
+    toZ-ofZ w64 _ (record { sfits = c .tail-of .ok }) ∙ c .tail-of .ensures ∙ ap tailOf (width-is (c .before)) in (
       omega arith,
       ap₂ (λ (ns : List ℤ) (v : ℤ). set ns (l .k) v) (l .inv .1) is
           ∙ tab-more f (l .k) (replicate 48 (pos 0)) (omega (arith, s .pre .legal .few)),
@@ -84,9 +84,9 @@ returns c =
     let d = s .args .degrees .now in
     c .before .loop .inv .1
     ∙ ap (λ (k : ℕ). tab k (number (space b d [])) ++ drop k (replicate 48 (pos 0))) (let e : c .before .loop .k ≡ length d = omega arith in e)
-    ∙ by-length-filled partOf b d (s .pre .legal .few)
+    ∙ by-length-filled tailOf b d (s .pre .legal .few)
 
-pub inverse-parts-spec : {M : Type 1} → statement M
-inverse-parts-spec =
-    tie.close (tie.spec Inv-loop μ-loop loop-holds fine-width-requires part-of-requires mul-parts array-set-from-parts add-k loop-less loop-again
+pub inverse-tails-spec : {M : Type 1} → statement M
+inverse-tails-spec =
+    tie.close (tie.spec Inv-loop μ-loop loop-holds fine-width-requires tail-of-requires mul-tails array-set-from-tails add-k loop-less loop-again
     returns)

@@ -30,7 +30,7 @@ use Rattle.base_outcome.specs.declared.Answer.{Answer}
 use Rattle.base_outcome.specs.declared.Answer.the-variants.{Count, Refused}
 use Rattle.build.proofs.Beam.{Before, before-first, starts, part-more, part-refused, parts-done}
 use Rattle.base_outcome.proofs.Reply.{Counted, count-inverts, refused-inverts}
-use Rattle.curve_start.specs.Parts.{Lent, lent, PartsLeave}
+use Rattle.curve_parts.specs.Parts.{Lent, lent, PartsLeave}
 
 pub ordinates-length : (s : Space) (t : Table) (a : ℕ → ℤ) → length (ordinates s t a) ≡ columnCount s
 unfolding ordinates
