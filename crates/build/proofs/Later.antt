@@ -32,7 +32,8 @@ use Rattle.spec_spline.specs.Build.{orderSteps}
 use Rattle.spec_spline.proofs.Table.{entry-past, identity-off}
 use Rattle.spec_spline.proofs.Answers.{jumps-length}
 use Rattle.build_space.proofs.Bounds.{first-column-next}
-use Rattle.build.specs.Plan.{Planned, planned, renewed}
+use Rattle.build_factors.specs.Machine.{Planned, planOver}
+use Rattle.build.specs.Plan.{planFrom, planned, rowsRenewed}
 use Rattle.build.proofs.Plan.{step-planned, Works, plan-works}
 use Rattle.build_conditions.specs.Terms.{columnOf}
 use Rattle.build_conditions.proofs.Terms.{conditions-length, column-left, column-right}
@@ -173,8 +174,8 @@ module _ (j : ℕ) (κ : List Entry) (t later : Table) (idle : (i : ℕ) → i <
   unfolding newRows
   new-rows g ws h = collect-ext (g .l - g .f) (λ d k. ap₂ (newRow j (entry ws d) (entry ws (suc d))) (row-before (g .f + d) (omega arith)) (row-before (g .f + suc d) (omega arith)))
 
-  pub renewed-all : (g : Span) (ws : List ℚ) → g .f ≤ g .l → g .l < length t → renewed j g ws all ≡ with-answer (λ u. u ++ later) (renewed j g ws t)
-  unfolding renewed
+  pub renewed-all : (g : Span) (ws : List ℚ) → g .f ≤ g .l → g .l < length t → rowsRenewed j g ws all ≡ with-answer (λ u. u ++ later) (rowsRenewed j g ws t)
+  unfolding rowsRenewed
   renewed-all g ws order below = ap (λ (o : Outcome Table). o then λ rs. answer (take (g .f) all ++ (rs ++ drop (suc (g .l)) all))) (new-rows g ws below) ∙ with-rows (newRows j g ws t)
     where
       with-rows : (o : Outcome Table) → (o then λ rs. answer (take (g .f) all ++ (rs ++ drop (suc (g .l)) all))) ≡ with-answer (λ u. u ++ later) (o then λ rs. answer (take (g .f) t ++ (rs ++ drop (suc (g .l)) t)))
@@ -186,7 +187,7 @@ module _ (j : ℕ) (κ : List Entry) (t later : Table) (idle : (i : ℕ) → i <
   with-zeros p = record { jumps = longer (p .jumps); span = p .span; factors = p .factors }
 
   pub planned-all : planned j κ all ≡ with-answer with-zeros (planned j κ t)
-  unfolding planned
+  unfolding planned planFrom planOver
   planned-all = go (jumps j κ t) refl
     where
       rest : List ℚ → Span → Outcome Planned
@@ -224,7 +225,8 @@ module _ (j : ℕ) (κ : List Entry) (t later : Table) (idle : (i : ℕ) → i <
   pub step-all : step j κ all ≡ with-answer (λ u. u ++ later) (step j κ t)
   step-all =
       step-planned j κ all
-      ∙ then-all (λ p. renewed j (p .span) (p .factors) all) (λ p. renewed j (p .span) (p .factors) t) (λ u. u ++ later) (λ p w. renewed-all (p .span) (p .factors) (w .spans .ordered) (omega (arith, w .spans .below, w .count)))
+      ∙ then-all (λ p. rowsRenewed j (p .span) (p .factors) all) (λ p. rowsRenewed j (p .span) (p .factors) t) (λ u. u ++ later)
+      (λ p w. renewed-all (p .span) (p .factors) (w .spans .ordered) (omega (arith, w .spans .below, w .count)))
       ∙ ap (with-answer (λ u. u ++ later)) (sym (step-planned j κ t))
 
 -- ---- a row whose entries under the conditions are zero

@@ -17,13 +17,14 @@ use Rattle.spec_spline.proofs.Refusals.{newRows-refuse-8}
 use Rattle.build_cells.specs.Held.{Holds, Shaped}
 use Rattle.build_cells.proofs.Tables.{renewed-without}
 use Rattle.build_cells.proofs.Buffer.{holds-left, numerators-again, denominators-again}
+use Rattle.build_factors.specs.Machine.{Planned}
 use Rattle.build_factors.specs.declared.Refusal.{Refusal}
 use Rattle.build_factors.specs.declared.Refusal.the-variants as refusals
 use Rattle.build_factors.proofs.Quotients.{refusal-some, Ended}
 use Rattle.build_factors.proofs.Answers.{eight-named}
 use Rattle.build_rows.specs.Rows.{LeavesIf}
 use Rattle.build_rows.proofs.Left.{kept-same, left-answer, left-refusal, Done, left-done, Halted, left-halted}
-use Rattle.build.specs.Plan.{Planned, planned, renewed}
+use Rattle.build.specs.Plan.{planned, rowsRenewed}
 use Rattle.build.specs.Leaves.{Leaves, toldStep}
 use Rattle.build.proofs.Plan.{step-planned}
 use Rattle.build.proofs.Stepped.{renewed-fits, renewed-shaped, newRows-fit, newRows-length}
@@ -48,8 +49,8 @@ module _ (j : ℕ) (t : Table) (ws : List ℚ) (g : Span) where
   stepped rs = take (g .f) t ++ (rs ++ drop (suc (g .l)) t)
 
   pub renewed-large : (num den num′ den′ : List ℤ) (b : Bool) → b ≡ false → LeavesIf (with-answer with-new (newRows j g ws t)) b num den num′ den′
-      → LeavesIf (renewed j g ws t) false num den num′ den′
-  unfolding renewed
+      → LeavesIf (rowsRenewed j g ws t) false num den num′ den′
+  unfolding rowsRenewed
   renewed-large num den num′ den′ b h left = go (newRows j g ws t) left
     where
       go : (o : Outcome Table) → LeavesIf (with-answer with-new o) b num den num′ den′ → LeavesIf (o then λ rs. answer (stepped rs)) false num den num′ den′
@@ -60,8 +61,8 @@ module _ (j : ℕ) (t : Table) (ws : List ℚ) (g : Span) where
       → LeavesIf (with-answer with-new (newRows j g ws t)) b num den num′ den′
       → ((s : Table) → Holds num′ den′ s → length s ≡ rows
       → (num₂ ≡ numerators (take (g .l) s ++ drop (suc (g .l)) s) num′) × (den₂ ≡ denominators (take (g .l) s ++ drop (suc (g .l)) s) den′))
-      → LeavesIf (renewed j g ws t) true num den num₂ den₂
-  unfolding renewed
+      → LeavesIf (rowsRenewed j g ws t) true num den num₂ den₂
+  unfolding rowsRenewed
   renewed-done {rows} {columns} num den num′ den′ num₂ den₂ b h holds shaped order below left dropped = go (newRows j g ws t) refl left
     where
       go : (o : Outcome Table) → newRows j g ws t ≡ o → LeavesIf (with-answer with-new o) b num den num′ den′ → LeavesIf (o then λ rs. answer (stepped rs)) true num den num₂ den₂
@@ -78,8 +79,8 @@ module _ (j : ℕ) (t : Table) (ws : List ℚ) (g : Span) where
       go (refusal code place) z left = absurd (false≢true (sym (left .0) ∙ h))
 
   -- only code 8 refuses it
-  pub renewed-refuses : (code place : ℕ) → renewed j g ws t ≡ refusal code place → code ≡ 8
-  unfolding renewed
+  pub renewed-refuses : (code place : ℕ) → rowsRenewed j g ws t ≡ refusal code place → code ≡ 8
+  unfolding rowsRenewed
   renewed-refuses code place e = go (then-breaks (newRows j g ws t) (λ rs. answer (stepped rs)) e)
     where
       go : Broken (newRows j g ws t) (λ rs. answer (stepped rs)) code place → code ≡ 8
@@ -93,19 +94,22 @@ module _ (j : ℕ) (κ : List Entry) (t : Table) where
   step-ended num den e = left-refusal (λ t. t) toldStep num den num den (step-planned j κ t ∙ then-refuses _ (e .refuses)) (sym (e .named)) (kept-same num) (kept-same den)
 
   module _ {p : Planned} (e : planned j κ t ≡ answer p) (num den num′ den′ : List ℤ) where
-    halves : step j κ t ≡ renewed j (p .span) (p .factors) t
-    halves = step-planned j κ t ∙ then-answers (λ p. renewed j (p .span) (p .factors) t) e
+    abbrev made : Outcome Table
+    made = rowsRenewed j (p .span) (p .factors) t
 
-    pub step-large : LeavesIf (renewed j (p .span) (p .factors) t) false num den num′ den′ → Leaves (step j κ t) refusals.TooLarge num den num′ den′
-    step-large left = go (renewed j (p .span) (p .factors) t) refl left
+    halves : step j κ t ≡ made
+    halves = step-planned j κ t ∙ then-answers (λ p. rowsRenewed j (p .span) (p .factors) t) e
+
+    pub step-large : LeavesIf made false num den num′ den′ → Leaves (step j κ t) refusals.TooLarge num den num′ den′
+    step-large left = go made refl left
       where
-        go : (o : Outcome Table) → renewed j (p .span) (p .factors) t ≡ o → LeavesIf o false num den num′ den′ → Leaves (step j κ t) refusals.TooLarge num den num′ den′
+        go : (o : Outcome Table) → made ≡ o → LeavesIf o false num den num′ den′ → Leaves (step j κ t) refusals.TooLarge num den num′ den′
         go (answer u) z left = absurd (false≢true (left .0))
         go (refusal code place) z left = left-refusal (λ t. t) toldStep num den num′ den′ (halves ∙ z) (sym (eight-named (renewed-refuses j t (p .factors) (p .span) code place z))) (left .1) (left .2)
 
-    pub step-done : LeavesIf (renewed j (p .span) (p .factors) t) true num den num′ den′ → Leaves (step j κ t) refusals.None num den num′ den′
-    step-done left = go (renewed j (p .span) (p .factors) t) refl left
+    pub step-done : LeavesIf made true num den num′ den′ → Leaves (step j κ t) refusals.None num den num′ den′
+    step-done left = go made refl left
       where
-        go : (o : Outcome Table) → renewed j (p .span) (p .factors) t ≡ o → LeavesIf o true num den num′ den′ → Leaves (step j κ t) refusals.None num den num′ den′
+        go : (o : Outcome Table) → made ≡ o → LeavesIf o true num den num′ den′ → Leaves (step j κ t) refusals.None num den num′ den′
         go (answer u) z left = left-answer (λ t. t) toldStep num den num′ den′ (halves ∙ z) refl (left .1) (left .2)
         go (refusal code place) z left = absurd (false≢true (sym (left .0)))

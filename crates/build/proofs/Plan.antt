@@ -7,7 +7,6 @@ use lib.ListN.{length}
 use Rattle.base_exact.specs.Rational.{ℚ}
 use Rattle.base_fraction.specs.Fractions.{fractions}
 use Rattle.base_outcome.specs.Outcome.{Outcome, answer, refusal, _then_}
-use Rattle.base_fraction.specs.declared.arrays.Fractions.{Fractions}
 use Rattle.base_outcome.proofs.Outcome.{answer-unique, then-answers, then-refuses, then-inverts}
 use Rattle.spec_spline.specs.Conditions.{Entry}
 use Rattle.spec_spline.specs.Table.{Table}
@@ -16,7 +15,7 @@ use Rattle.spec_spline.proofs.Answers.{jumps-length, jumps-fit, Spans, span-inv
 use Rattle.spec_spline.proofs.Refusals.{jumps-refuse-8, span-refuses-9}
 use Rattle.build_jumps.proofs.Counted.{Refused}
 use Rattle.build_factors.specs.Jumps.{AllFit}
-use Rattle.build_factors.specs.Machine.{rowFactors}
+use Rattle.build_factors.specs.Machine.{Planned, planOver, Plans}
 use Rattle.build_factors.specs.declared.RowFactors.{RowFactors}
 use Rattle.build_factors.specs.declared.Refusal.{Refusal}
 use Rattle.build_factors.specs.declared.Refusal.the-variants as refusals
@@ -24,14 +23,13 @@ use Rattle.build_factors.proofs.Quotients.{refusal-some, Ended}
 use Rattle.build_factors.proofs.Answers.{eight-named, nine-named}
 use Rattle.build_rows.specs.Rows.{UnitFactors}
 use Rattle.build_rows.proofs.Mixing.{unit-factors}
-use Rattle.build.specs.Plan.{Planned, planned, renewed, Plans}
-use Rattle.build.specs.declared.step.Plan.{Plan}
+use Rattle.build.specs.Plan.{planFrom, planned, rowsRenewed}
 
 module _ (j : ℕ) (κ : List Entry) (t : Table) where
   -- what is done after the first half, for any rest
   pub then-planned : {B : Type 0} (rest : Planned → Outcome B)
       → (planned j κ t then rest) ≡ (jumps j κ t then λ js. span j js then λ g. factors j js g then λ ws. rest (record { jumps = js; span = g; factors = ws }))
-  unfolding planned
+  unfolding planned planFrom planOver
   then-planned {B} rest = with-jumps (jumps j κ t)
     where
       with-factors : (js : List ℚ) (g : Span) (o : Outcome (List ℚ)) → ((o then λ ws. answer (record { jumps = js; span = g; factors = ws })) then rest) ≡ (o then λ ws. rest (record { jumps = js; span = g; factors = ws }))
@@ -50,9 +48,9 @@ module _ (j : ℕ) (κ : List Entry) (t : Table) where
       with-jumps (refusal code place) = refl
 
   -- a step is its two halves
-  pub step-planned : step j κ t ≡ (planned j κ t then λ p. renewed j (p .span) (p .factors) t)
-  unfolding step renewed
-  step-planned = sym (then-planned (λ p. renewed j (p .span) (p .factors) t))
+  pub step-planned : step j κ t ≡ (planned j κ t then λ p. rowsRenewed j (p .span) (p .factors) t)
+  unfolding step rowsRenewed
+  step-planned = sym (then-planned (λ p. rowsRenewed j (p .span) (p .factors) t))
 
   -- ---- what the first half tells
   pub record Works (p : Planned) : Type 0 where
@@ -65,7 +63,7 @@ module _ (j : ℕ) (κ : List Entry) (t : Table) where
     pub unit : UnitFactors (fractions (p .factors))
 
   pub plan-works : {p : Planned} → planned j κ t ≡ answer p → Works p
-  unfolding planned
+  unfolding planned planFrom planOver
   plan-works {p} e =
       let a = then-inverts (jumps j κ t) (λ js. span j js then λ g. factors j js g then λ ws. answer (record { jumps = js; span = g; factors = ws })) e in
       let b = then-inverts (span j (a .middle)) (λ g. factors j (a .middle) g then λ ws. answer (record { jumps = a .middle; span = g; factors = ws })) (a .after) in
@@ -85,59 +83,58 @@ module _ (j : ℕ) (κ : List Entry) (t : Table) where
 
   -- ---- the machine's plan
 
-  -- from the jumps, their span and the factors, as the machine has them
-  pub plans-large : (r : Plan) → Refused (jumps j κ t) → r .refusal ≡ refusals.TooLarge → Plans (planned j κ t) r
+  -- jumps that are too large
+  pub unplanned : Refused (jumps j κ t) → Ended (planned j κ t) refusals.TooLarge
   unfolding planned
-  plans-large r e h =
-      subst (λ (o : Outcome Planned). Plans o r) (sym (then-refuses (λ js. span j js then λ g. factors j js g then λ ws. answer (record { jumps = js; span = g; factors = ws })) (e .refuses)))
-      (h ∙ sym (eight-named (jumps-refuse-8 j κ t (e .code) (e .place) (e .refuses) .0)))
+  unplanned e = record {
+    code = e .code;
+    place = e .place;
+    refuses = then-refuses (planFrom j) (e .refuses);
+    named = eight-named (jumps-refuse-8 j κ t (e .code) (e .place) (e .refuses) .0);
+  }
 
-  module _ {js : List ℚ} (has-jumps : jumps j κ t ≡ answer js) where
-    pub plans-shapeless : (r : Plan) → Refused (span j js) → r .refusal ≡ refusals.Shape → Plans (planned j κ t) r
-    unfolding planned
-    plans-shapeless r e h =
-        subst (λ (o : Outcome Planned). Plans o r)
-        (sym (then-answers (λ js. span j js then λ g. factors j js g then λ ws. answer (record { jumps = js; span = g; factors = ws })) has-jumps ∙ then-refuses (λ g. factors j js g then λ ws. answer (record { jumps = js; span = g; factors = ws })) (e .refuses)))
-        (h ∙ sym (nine-named (span-refuses-9 j js (e .code) (e .place) (e .refuses) .0)))
-
-    pub plans-factors : {f l : ℕ} {jumped : Fractions} (made : RowFactors) → span j js ≡ answer (record { f = f; l = l }) → jumped ≡ fractions js
-        → made ≡ rowFactors (factors j js (record { f = f; l = l })) → Plans (planned j κ t) (record { refusal = made .refusal; jumps = jumped; f = f; l = l; factors = made .of })
-    unfolding planned rowFactors
-    plans-factors {f} {l} {jumped} made has-span is e =
-        subst (λ (o : Outcome Planned). Plans o (record { refusal = made .refusal; jumps = jumped; f = f; l = l; factors = made .of }))
-        (sym (then-answers (λ js. span j js then λ g. factors j js g then λ ws. answer (record { jumps = js; span = g; factors = ws })) has-jumps ∙ then-answers (λ g. factors j js g then λ ws. answer (record { jumps = js; span = g; factors = ws })) has-span))
-        (go (factors j js (record { f = f; l = l })) e)
-      where
-        go : (o : Outcome (List ℚ)) → made ≡ rowFactors o → Plans (o then λ ws. answer (record { jumps = js; span = record { f = f; l = l }; factors = ws })) (record { refusal = made .refusal; jumps = jumped; f = f; l = l; factors = made .of })
-        go (answer ws) z = λ i. record { refusal = z i .refusal; jumps = is i; f = f; l = l; factors = z i .of }
-        go (refusal code place) z = ap (λ (x : RowFactors). x .refusal) z
-
-  -- what its refusal tells
-  pub record Ready (r : Plan) : Type 0 where
+  -- no refusal: the rows and factors
+  pub record Ready (r : RowFactors) : Type 0 where
     pub of : Planned
     pub answers : planned j κ t ≡ answer of
-    pub jumps-are : r .jumps ≡ fractions (of .jumps)
     pub span-is : record { f = r .f; l = r .l } ≡ of .span
-    pub factors-are : r .factors ≡ fractions (of .factors)
+    pub factors-are : r .of ≡ fractions (of .factors)
     pub works : Works of
 
-  pub plan-ready : (r : Plan) → Plans (planned j κ t) r → r .refusal ≡ refusals.None → Ready r
-  plan-ready r plans h = go (planned j κ t) refl plans
-    where
-      go : (o : Outcome Planned) → planned j κ t ≡ o → Plans o r → Ready r
-      go (answer p) e z = record {
-        of = p;
-        answers = e;
-        jumps-are = ap (λ (x : Plan). x .jumps) z;
-        span-is = ap (λ (x : Plan). record { f = x .f; l = x .l }) z;
-        factors-are = ap (λ (x : Plan). x .factors) z;
-        works = plan-works e;
-      }
-      go (refusal code place) e z = absurd (refusal-some code (sym z ∙ h))
+  module _ {js : List ℚ} (has-jumps : jumps j κ t ≡ answer js) (r : RowFactors) (plans : Plans (planFrom j js) r) where
+    from-jumps : planned j κ t ≡ planFrom j js
+    unfolding planned
+    from-jumps = then-answers (planFrom j) has-jumps
 
-  pub plan-ended : (r : Plan) (reason : Refusal) → Plans (planned j κ t) r → r .refusal ≡ reason → reason ≢ refusals.None → Ended (planned j κ t) reason
-  plan-ended r reason plans h n = go (planned j κ t) refl plans
-    where
-      go : (o : Outcome Planned) → planned j κ t ≡ o → Plans o r → Ended (planned j κ t) reason
-      go (answer p) e z = absurd (n (sym h ∙ ap (λ (x : Plan). x .refusal) z))
-      go (refusal code place) e z = record { code = code; place = place; refuses = e; named = sym z ∙ h }
+    pub plan-ready : r .refusal ≡ refusals.None → Ready r
+    plan-ready h = go (planFrom j js) from-jumps plans
+      where
+        go : (o : Outcome Planned) → planned j κ t ≡ o → Plans o r → Ready r
+        go (answer p) e z = record {
+          of = p;
+          answers = e;
+          span-is = ap (λ (x : RowFactors). record { f = x .f; l = x .l }) z;
+          factors-are = ap (λ (x : RowFactors). x .of) z;
+          works = plan-works e;
+        }
+        go (refusal code place) e z = absurd (refusal-some code (sym z ∙ h))
+
+    -- a refusal
+    pub plan-ended : (reason : Refusal) → r .refusal ≡ reason → reason ≢ refusals.None → Ended (planned j κ t) reason
+    plan-ended reason h n = go (planFrom j js) from-jumps plans
+      where
+        go : (o : Outcome Planned) → planned j κ t ≡ o → Plans o r → Ended (planned j κ t) reason
+        go (answer p) e z = absurd (n (sym h ∙ ap (λ (x : RowFactors). x .refusal) z))
+        go (refusal code place) e z = record { code = code; place = place; refuses = e; named = sym z ∙ h }
+
+-- from the span of the jumps: none, or rows with their factors
+module _ (j : ℕ) (js : List ℚ) (r : RowFactors) where
+  pub plans-shapeless : Refused (span j js) → r .refusal ≡ refusals.Shape → Plans (planFrom j js) r
+  unfolding planFrom
+  plans-shapeless e h =
+      subst (λ (o : Outcome Planned). Plans o r) (sym (then-refuses (planOver j js) (e .refuses)))
+      (h ∙ sym (nine-named (span-refuses-9 j js (e .code) (e .place) (e .refuses) .0)))
+
+  pub plans-over : {g : Span} → span j js ≡ answer g → Plans (planOver j js g) r → Plans (planFrom j js) r
+  unfolding planFrom
+  plans-over e h = subst (λ (o : Outcome Planned). Plans o r) (sym (then-answers (planOver j js) e)) h

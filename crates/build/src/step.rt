@@ -16,67 +16,29 @@ ghost use Rattle.build_space.specs.Legal.{ListsLegal, PartLegal};
 ghost use Rattle.build_cells.specs.Held.{Holds, Shaped, Held, ClearFrom};
 ghost use Rattle.build_conditions.specs.Sides.{SideIs, JoinIs, JoinFits};
 ghost use Rattle.base_fraction.specs.Fractions.{fractions};
+ghost use Rattle.build_factors.specs.Machine.{Plans};
+ghost use Rattle.build_factors.specs.Jumps.{Present};
 ghost use Rattle.build_rows.specs.Rows.{UnitFactors, LeavesIf};
 ghost use Rattle.base_outcome.specs.Machine.{reply};
-ghost use Rattle.build.specs.Plan.{planned, renewed, Plans};
+ghost use Rattle.build.specs.Plan.{planFrom, rowsRenewed};
 ghost use Rattle.build.specs.Leaves.{Leaves, JoinsLeave, Start, grown};
-use base_fraction::arrays;
 use base_fraction::arrays::Fractions;
 use base_outcome::Answer;
 use build_conditions::Join;
 use build_conditions::Side;
 use build_factors::Refusal;
+use build_factors::RowFactors;
 use build_jumps::JumpSpan;
 
-// What a step works out before it makes rows new: its jumps, the rows f to l that they span and the factors of these rows, from
-// index 0 on. After a refusal only the refusal counts.
-pub struct Plan {
-    pub refusal: Refusal,
-    pub jumps: Fractions,
-    pub f: usize,
-    pub l: usize,
-    pub factors: Fractions,
-}
-
-fn no_plan(refusal: Refusal) -> Plan
-    ensures { λ r. ⌜ r .refusal ≡ refusal ⌝ }
+// The first half of a step, from its jumps: the rows that they span and the factors of these rows.
+pub fn plan_step(js: Fractions, rows: usize) -> RowFactors
+    requires { ⌜ (rows ≤ rowCells) × Present js rows ⌝ }
+    ensures { λ r. ⌜ ((qs : List ℚ) (j : ℕ) → js ≡ fractions qs → length qs ≡ rows → Plans (planFrom j qs) r) ⌝ }
 {
-    Plan {
-        refusal: refusal,
-        jumps: arrays::no_fractions(),
-        f: 0,
-        l: 0,
-        factors: arrays::no_fractions(),
-    }
-}
-
-// The first half of a step.
-pub fn plan_step(num: &[i64], den: &[i64], join: Join, k: usize, rows: usize) -> Plan
-    requires { ⌜ (rows ≤ rowCells) × JoinFits join k ⌝ }
-    requires { ⌜ ((t : Table) × (Holds (now num) (now den) t × (length t ≡ rows))) ⌝ }
-    ensures { λ r. ⌜ ((s : Space) (j : ℕ) (t : Table) → JoinIs join s j → Holds (now (num .entry)) (now (den .entry)) t → length t ≡ rows
-        → Plans (planned j (Conditions.conditions s j k) t) r) ⌝ }
-{
-    let js = build_jumps::jumps(num, den, rows, join, k);
-    if !js.fit {
-        return no_plan(Refusal::TooLarge);
-    }
-    let span = build_jumps::span(js.of, rows);
+    let span = build_jumps::span(js, rows);
     match span {
-        JumpSpan::Nothing => no_plan(Refusal::Shape),
-        JumpSpan::Rows(f, l) => {
-            let ws = build_factors::factors(js.of, f, l);
-            let refusal = ws.refusal;
-            let jumps = js.of;
-            let factors = ws.of;
-            Plan {
-                refusal: refusal,
-                jumps: jumps,
-                f: f,
-                l: l,
-                factors: factors,
-            }
-        }
+        JumpSpan::Nothing => build_factors::no_factors(Refusal::Shape),
+        JumpSpan::Rows(f, l) => build_factors::factors(js, f, l),
     }
 }
 
@@ -95,7 +57,7 @@ pub fn renew_rows(
     requires { ⌜ UnitFactors factors ⌝ }
     ensures { λ r. ⌜ ((t : Table) (j : ℕ) (ws : List ℚ) → Holds (now (num .entry)) (now (den .entry)) t → Shaped t rows columns
         → factors ≡ fractions ws
-        → LeavesIf (renewed j (record { f = f; l = l }) ws t) r (now (num .entry)) (now (den .entry)) (now (num .exit))
+        → LeavesIf (rowsRenewed j (record { f = f; l = l }) ws t) r (now (num .entry)) (now (den .entry)) (now (num .exit))
         (now (den .exit))) ⌝ }
 {
     let done = build_rows::mix_rows(num, den, factors, f, l, rows, columns);
@@ -121,13 +83,17 @@ fn step(
         → Leaves (Step.step j (Conditions.conditions s j k) t) r (now (num .entry)) (now (den .entry)) (now (num .exit))
         (now (den .exit))) ⌝ }
 {
-    let worked = plan_step(num, den, join, k, rows);
-    let refusal = worked.refusal;
+    let js = build_jumps::jumps(num, den, rows, join, k);
+    if !js.fit {
+        return Refusal::TooLarge;
+    }
+    let plan = plan_step(js.of, rows);
+    let refusal = plan.refusal;
     match refusal {
         Refusal::TooLarge => Refusal::TooLarge,
         Refusal::Shape => Refusal::Shape,
         Refusal::None => {
-            let done = renew_rows(num, den, worked.factors, worked.f, worked.l, rows, columns);
+            let done = renew_rows(num, den, plan.of, plan.f, plan.l, rows, columns);
             if !done {
                 return Refusal::TooLarge;
             }

@@ -18,7 +18,8 @@ use Rattle.spec_spline.specs.Conditions.{Entry, conditions}
 use Rattle.spec_spline.specs.Table.{Table, row, entry}
 use Rattle.spec_spline.specs.Step.{jump, jumpsAt}
 use Rattle.spec_spline.proofs.Table.{entry-past}
-use Rattle.build.specs.Plan.{Planned, renewed}
+use Rattle.build_factors.specs.Machine.{Planned}
+use Rattle.build.specs.Plan.{rowsRenewed}
 use Rattle.build.proofs.Plan.{Works}
 use Rattle.build.proofs.Later.{longer, same-entries, spliced-within, renewed-all, with-zeros, then-all, repeat-through}
 use Rattle.theorems_recovery.specs.Recovery.{Combination, fitted, jumpSum, balanced, undoneCoefficient, undoneRow, undoneRows, undone, recoverStep, recoverOrders}
@@ -93,7 +94,7 @@ module _ (j : ℕ) (κ : List Entry) (t later : Table) (idle : (i : ℕ) → i <
   recovering-all p w =
       ap₂ (λ (o : Outcome Table) (r : Outcome (List ℚ)). o then λ u. r then λ ds. answer (record { table = u; coefficients = ds }))
       (renewed-all j κ t later idle (p .span) (p .factors) (w .spans .ordered) (omega (arith, w .spans .below, w .count))) (undoing-all p w)
-      ∙ go (renewed j (p .span) (p .factors) t) (undoing j p ps)
+      ∙ go (rowsRenewed j (p .span) (p .factors) t) (undoing j p ps)
     where
       go : (o : Outcome Table) (r : Outcome (List ℚ)) → (with-answer (λ u. u ++ later) o then λ u. with-answer (λ ds. ds ++ qs) r then λ ds. answer (record { table = u; coefficients = ds }))
           ≡ with-answer with-later (o then λ u. r then λ ds. answer (record { table = u; coefficients = ds }))

@@ -10,10 +10,9 @@ use Rattle.base_fraction.specs.declared.arrays.Fractions.{Fractions}
 use Rattle.base_outcome.specs.Outcome.{Outcome, answer, refusal, _then_, with-answer}
 use Rattle.spec_spline.specs.Space.{Space, degree, firstColumn, rowCount}
 use Rattle.spec_spline.specs.Table.{numerators, denominators}
-use Rattle.build_factors.specs.Jumps.{AllFit}
+use Rattle.build_factors.specs.Machine.{Planned}
 use Rattle.build_rows.specs.Left.{Left}
 use Rattle.base_outcome.specs.Machine.{reply}
-use Rattle.build.specs.Plan.{Planned}
 use Rattle.build.specs.Leaves.{grown}
 use Rattle.base_outcome.specs.declared.Answer.{Answer}
 use Rattle.base_outcome.specs.declared.Answer.the-variants.{Count, Refused}
@@ -31,13 +30,6 @@ coefficientsOf (refusal code place) = record { refusal = refusals.Refused code; 
 -- The zero test and then the undoing, with what a step has worked out.
 abbrev pub undoing : ℕ → Planned → List ℚ → Outcome (List ℚ)
 undoing j p cs = balanced j (p .jumps) cs then λ _. undone j (p .span) (p .factors) cs
-
--- The arrays hold a coefficient for each row, and all of them fit.
-pub record Present (cs : Fractions) (rows : ℕ) : Type 0 where
-  pub of : List ℚ
-  pub is : cs ≡ fractions of
-  pub fit : AllFit of
-  pub count : length of ≡ rows
 
 -- The table with the identity's rows for the segment on the right of join j, and that segment's ordinates as the coefficients of these
 -- rows.

@@ -13,13 +13,13 @@ ghost use Rattle.build_space.specs.Machine.{space};
 ghost use Rattle.build_space.specs.Legal.{PartLegal};
 ghost use Rattle.build_cells.specs.Held.{Holds, Shaped, Held};
 ghost use Rattle.build_conditions.specs.Sides.{JoinIs, JoinFits};
-ghost use Rattle.build_factors.specs.Jumps.{AllFit};
+ghost use Rattle.build_factors.specs.Jumps.{AllFit, Present};
 ghost use Rattle.build_rows.specs.Rows.{UnitFactors};
 ghost use Rattle.build.specs.Leaves.{Start};
 ghost use Rattle.recover_step.specs.Machine.{FractionsFit, NonZero};
 ghost use Rattle.theorems_recovery.specs.Recovery;
 ghost use Rattle.recover.specs.declared.Refusal.the-variants as refusals;
-ghost use Rattle.recover.specs.Leaves.{undoing, coefficientsOf, Present, grownCombination, Leaves, JoinsLeave};
+ghost use Rattle.recover.specs.Leaves.{undoing, coefficientsOf, grownCombination, Leaves, JoinsLeave};
 use crate::Joined;
 use crate::Refusal;
 use crate::RowCoefficients;
@@ -87,19 +87,23 @@ fn recover_step(
         → Leaves (Recovery.recoverStep j (Conditions.conditions s j k) (record { table = t; coefficients = ps })) r (now (num .entry))
         (now (den .entry)) (now (num .exit)) (now (den .exit))) ⌝ }
 {
-    let worked = build::step::plan_step(num, den, join, k, rows);
-    let refusal = worked.refusal;
+    let js = build_jumps::jumps(num, den, rows, join, k);
+    if !js.fit {
+        return refuse(8);
+    }
+    let plan = build::step::plan_step(js.of, rows);
+    let refusal = plan.refusal;
     match refusal {
         build_factors::Refusal::TooLarge => refuse(8),
         build_factors::Refusal::Shape => refuse(9),
         build_factors::Refusal::None => {
-            let f = worked.f;
-            let l = worked.l;
-            let done = build::step::renew_rows(num, den, worked.factors, f, l, rows, columns);
+            let f = plan.f;
+            let l = plan.l;
+            let done = build::step::renew_rows(num, den, plan.of, f, l, rows, columns);
             if !done {
                 return refuse(8);
             }
-            undo(worked.jumps, worked.factors, f, l, cs, rows)
+            undo(js.of, plan.of, f, l, cs, rows)
         }
     }
 }

@@ -14,7 +14,7 @@ use Rattle.base_fraction.specs.declared.arrays.Fractions.{Fractions}
 use Rattle.base_outcome.specs.Outcome.{Outcome, answer, refusal, _then_, with-answer}
 use Rattle.base_outcome.proofs.Outcome.{then-answers, then-refuses, with-inverts, with-refuses}
 use Rattle.spec_spline.specs.Step.{Span}
-use Rattle.build.specs.Plan.{Planned}
+use Rattle.build_factors.specs.Machine.{Planned}
 use Rattle.recover_step.specs.Machine.{undoneOf}
 use Rattle.recover_step.proofs.Rows.{renewed-length}
 use Rattle.theorems_recovery.proofs.Refusals.{balanced-here}
