@@ -1,7 +1,7 @@
 -- The loop over the parts of a beam, in the definitions' terms: after the parts before segment a the buffers hold the last of them,
 -- and the beam's front up to a is answered. A part that is refused refuses the beam; after the last part the front is the beam.
 use mathlib.Core.Path.{_≡_, refl, sym, _∙_, ap, ap₂, subst}
-use mathlib.Core.Bool.{true, false}
+use mathlib.Core.Bool.{false}
 use mathlib.Core.List.{List, []}
 use Prim.Native.Nat.{ℕ, suc, _+_, _-_, _<_, _≤_}
 use native.Mathlib.Omega.{arith}
@@ -28,7 +28,7 @@ use Rattle.build_space.proofs.Legal.{checked-legal, legal-checked, legal-first-
 use Rattle.base_outcome.specs.Machine.{reply}
 use Rattle.base_outcome.specs.declared.Answer.{Answer}
 use Rattle.base_outcome.specs.declared.Answer.the-variants.{Count, Refused}
-use Rattle.build.proofs.Building.{weights-cleared}
+use Rattle.build_joins.proofs.Ends.{weights-cleared}
 
 -- ---- what a call answers and leaves
 

@@ -39,8 +39,9 @@ use Rattle.theorems_recovery.specs.RecoveryCall.{listed, numeratorOf, denominat
 use Rattle.theorems_recovery.proofs.Reproduction.{answers-have-the-weights}
 use Rattle.theorems_recovery.proofs.Refusals.{recovered-clears}
 use Rattle.theorems_recovery.proofs.Fronts.{no-front, front-answers, front-refuses, refused-front}
-use Rattle.recover.specs.Leaves.{JoinsLeave, BeamEnds}
-use Rattle.recover.specs.declared.Joined.{Joined}
+use Rattle.recover_joins.specs.Leaves.{JoinsLeave}
+use Rattle.recover.specs.Leaves.{BeamEnds}
+use Rattle.recover_joins.specs.declared.Joined.{Joined}
 use Rattle.recover.proofs.Listed.{rest-cleared, all-cleared, zero-numerator, zero-denominator}
 
 -- ---- what the machine's answer of a part says of its outcome

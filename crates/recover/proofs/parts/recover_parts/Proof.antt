@@ -19,8 +19,9 @@ use Rattle.base_outcome.specs.declared.Answer.the-variants.{Count, Refused}
 use Rattle.base_outcome.proofs.Reply.{Counted, count-inverts, refused-inverts}
 use Rattle.theorems_recovery.specs.Recovery.{Combination, recovered}
 use Rattle.theorems_recovery.specs.RecoveryCall.{listed, numeratorOf, denominatorOf}
-use Rattle.recover.specs.Leaves.{JoinsLeave, BeamEnds}
-use Rattle.recover.specs.declared.Joined.{Joined}
+use Rattle.recover_joins.specs.Leaves.{JoinsLeave}
+use Rattle.recover.specs.Leaves.{BeamEnds}
+use Rattle.recover_joins.specs.declared.Joined.{Joined}
 use Rattle.recover.proofs.Beam.{part-told, Before, before-first, starts, rows-within, more-within, part-rows, part-count, part-more}
 use Rattle.recover.proofs.Beam.{part-refused, parts-done}
 use Rattle.recover.proofs.parts.recover_parts.Statement.{statement}
