@@ -66,7 +66,7 @@ WRONG = [
         "a constant twice in one crate",
         [
             Line(BUILD, "", "\nconst HELD: usize = 2;\n"),
-            Line("crates/build/src/step.rt", "", "\nconst HELD: usize = 400;\n"),
+            Line("crates/build/src/parts.rt", "", "\nconst HELD: usize = 400;\n"),
         ],
         "gives the name HELD twice",
     ),

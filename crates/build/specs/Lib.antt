@@ -1,3 +1,1 @@
--- What the contracts of build cite beside the definitions of crate spec_spline.
-pub mod Plan
-pub mod Leaves
+-- The contracts of build cite the definitions of other crates alone.

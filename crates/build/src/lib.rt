@@ -6,7 +6,6 @@ ghost use Rattle.base_outcome.specs.Machine.{reply};
 use base_outcome::Answer;
 
 pub mod parts;
-pub mod step;
 
 // Builds the weights of the beam with these breakpoints, degrees and orders. Lists and buffers may have any length and
 // content: what the definition refuses is refused, and the buffers are then as it says.

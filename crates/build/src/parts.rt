@@ -12,7 +12,6 @@ ghost use Rattle.build_space.specs.Machine.{space};
 ghost use Rattle.build_space.specs.Legal.{ListsLegal};
 ghost use Rattle.build_cells.specs.Held.{ClearFrom};
 ghost use Rattle.base_outcome.specs.Machine.{reply};
-use crate::step;
 use base_outcome::Answer;
 
 // The build of the part from segment a up to segment b, in buffers that are clear from row `used` on.
@@ -36,7 +35,7 @@ pub fn build_part(
         × ((now (num .exit) ≡ Build.numeratorsAfter (Build.weights part) (now (num .entry)))
         × (now (den .exit) ≡ Build.denominatorsAfter (Build.weights part) (now (den .entry))))) ⌝ }
 {
-    step::build_legal(
+    build_joins::build_legal(
         &breaks[a..b + 1],
         &degrees[a..b],
         &orders[a..b - 1],

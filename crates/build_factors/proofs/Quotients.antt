@@ -1,6 +1,6 @@
 -- The machine's next factor and the factor of the definitions: how each refusal and an answer look as a record, and what
 -- the record's refusal tells.
-use mathlib.Core.Path.{_≡_, refl, sym, _∙_, ap}
+use mathlib.Core.Path.{_≡_, refl, sym, _∙_, ap, subst}
 use mathlib.Core.Bool.{Bool, true, false, cond}
 use mathlib.Core.Logic.{_≢_}
 use mathlib.Core.List.{List, [], _∷_, _++_}
@@ -12,13 +12,12 @@ use Rattle.base_exact.specs.Rational.{ℚ, int}
 use Rattle.base_fraction.specs.Machine.{fraction}
 use Rattle.base_fraction.specs.declared.Fraction.{Fraction}
 use Rattle.base_fraction.proofs.Value.{fraction-int}
-use Rattle.base_outcome.specs.Outcome.{Outcome, answer, refusal, collect}
+use Rattle.base_outcome.specs.Outcome.{Outcome, answer, refusal, _then_, collect}
 use Rattle.spec_spline.specs.Step.{factor, factors}
-use Rattle.base_outcome.proofs.Outcome.{then-answers, then-refuses}
 use Rattle.base_fraction.specs.Fractions.{fractions}
 use Rattle.base_fraction.specs.declared.arrays.Fractions.{Fractions}
 use Rattle.base_fraction.proofs.Fractions.{fractions-zero}
-use Rattle.build_factors.specs.Machine.{nextFactor, refusalOf, rowFactors}
+use Rattle.build_factors.specs.Machine.{nextFactor, refusalOf, Planned, planOver, Plans}
 use Rattle.build_factors.specs.declared.RowFactors.{RowFactors}
 use Rattle.build_factors.specs.declared.Refusal.{Refusal}
 use Rattle.build_factors.specs.declared.Refusal.the-variants as refusals
@@ -88,18 +87,21 @@ module _ (j : ℕ) (qs : List ℚ) (f l : ℕ) where
   abbrev between-factors : Outcome (List ℚ)
   between-factors = collect (l - f - 1) (λ d. factor j qs f (f + 1 + d))
 
-  pub factors-refused : {code place : ℕ} {reason : Refusal} {none : Fractions} → between-factors ≡ refusal code place → refusalOf code ≡ reason → none ≡ fractions []
-      → record { refusal = reason; of = none } ≡ rowFactors (factors j qs (record { f = f; l = l }))
-  unfolding factors rowFactors
-  factors-refused {code} {place} {reason} {none} e named is = named-record ∙ sym (ap rowFactors (then-refuses (λ ws. answer (int (pos 1) ∷ (ws ++ (int (pos 0) ∷ [])))) e))
-    where
-      named-record : _≡_ {A = RowFactors} (record { refusal = reason; of = none }) (record { refusal = refusalOf code; of = fractions [] })
-      named-record = λ i. record { refusal = sym named i; of = is i }
+  abbrev with-ends : List ℚ → List ℚ
+  with-ends us = int (pos 1) ∷ (us ++ (int (pos 0) ∷ []))
+
+  -- the plan, from the factors between
+  abbrev plan-of : Outcome (List ℚ) → Outcome Planned
+  plan-of o = (o then λ us. answer (with-ends us)) then λ ws. answer (record { jumps = qs; span = record { f = f; l = l }; factors = ws })
+
+  pub factors-refused : {code place : ℕ} {reason : Refusal} (r : RowFactors) → between-factors ≡ refusal code place → refusalOf code ≡ reason
+      → r .refusal ≡ reason → Plans (planOver j qs (record { f = f; l = l })) r
+  unfolding factors planOver
+  factors-refused r e named h = subst (λ (o : Outcome (List ℚ)). Plans (plan-of o) r) (sym e) (h ∙ sym named)
 
   pub factors-answered : {done : List ℚ} {ws : Fractions} → between-factors ≡ answer done → ws ≡ fractions (int (pos 1) ∷ done)
-      → record { refusal = refusals.None; of = ws } ≡ rowFactors (factors j qs (record { f = f; l = l }))
-  unfolding factors rowFactors
-  factors-answered {done} {ws} e is = done-record ∙ sym (ap rowFactors (then-answers (λ us. answer (int (pos 1) ∷ (us ++ (int (pos 0) ∷ [])))) e))
-    where
-      done-record : _≡_ {A = RowFactors} (record { refusal = refusals.None; of = ws }) (record { refusal = refusals.None; of = fractions (int (pos 1) ∷ (done ++ (int (pos 0) ∷ []))) })
-      done-record = λ i. record { refusal = refusals.None; of = (is ∙ fractions-zero (int (pos 1) ∷ done)) i }
+      → Plans (planOver j qs (record { f = f; l = l })) (record { refusal = refusals.None; f = f; l = l; of = ws })
+  unfolding factors planOver
+  factors-answered {done} {ws} e is =
+      subst (λ (o : Outcome (List ℚ)). Plans (plan-of o) (record { refusal = refusals.None; f = f; l = l; of = ws })) (sym e)
+      (λ i. record { refusal = refusals.None; f = f; l = l; of = (is ∙ fractions-zero (int (pos 1) ∷ done)) i })

@@ -4,6 +4,7 @@ use mathlib.Core.List.{List}
 use mathlib.Core.Path.{_≡_}
 use Prim.Native.Nat.{ℕ, _<_, _≤_}
 use lib.IntN.{pos}
+use lib.ListN.{length}
 use Rattle.base_exact.specs.Rational.{ℚ, int}
 use Rattle.base_exact.specs.Order.{isZero, ltᵠ}
 use Rattle.base_fraction.specs.Size.{fits}
@@ -18,6 +19,13 @@ between w = ltᵠ (int (pos 0)) w && ltᵠ w (int (pos 1))
 -- Every fraction of the list fits.
 abbrev pub AllFit : List ℚ → Type 0
 AllFit qs = (i : ℕ) → fits (entry qs i) ≡ true
+
+-- The arrays hold a fraction for each row, and all of them fit.
+pub record Present (qs : Fractions) (rows : ℕ) : Type 0 where
+  pub of : List ℚ
+  pub is : qs ≡ fractions of
+  pub fit : AllFit of
+  pub count : length of ≡ rows
 
 -- Jumps that all fit, with no zero from row f to row l.
 pub record Spanned (js : Fractions) (f l : ℕ) : Type 0 where

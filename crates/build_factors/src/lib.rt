@@ -9,7 +9,7 @@ ghost use Rattle.base_exact.specs.Rational.{ℚ, _+ᵠ_};
 ghost use Rattle.base_fraction.specs.Machine.{FractionFits, value};
 ghost use Rattle.spec_spline.specs.Step;
 ghost use Rattle.base_fraction.specs.Fractions.{fractions};
-ghost use Rattle.build_factors.specs.Machine.{nextFactor, rowFactors};
+ghost use Rattle.build_factors.specs.Machine.{nextFactor, planOver, Plans};
 ghost use Rattle.build_factors.specs.Jumps.{between, Spanned};
 use base_fraction::Counted;
 use base_fraction::Fraction;
@@ -23,10 +23,23 @@ pub enum Refusal {
     Shape,
 }
 
-// The factors of the rows f to l, from index 0 on.
+// The rows f to l and their factors, from index 0 on; after a refusal only the refusal counts.
 pub struct RowFactors {
     pub refusal: Refusal,
+    pub f: usize,
+    pub l: usize,
     pub of: Fractions,
+}
+
+pub fn no_factors(refusal: Refusal) -> RowFactors
+    ensures { λ r. ⌜ r .refusal ≡ refusal ⌝ }
+{
+    RowFactors {
+        refusal: refusal,
+        f: 0,
+        l: 0,
+        of: arrays::no_fractions(),
+    }
 }
 
 // A factor w = S / jump with its partial sum S.
@@ -88,7 +101,7 @@ fn factor(before: Fraction, jump: Fraction) -> NextFactor
 // The factors of the rows f to l, from index 0 on: 1 at f, w for the rows between, 0 at l.
 pub fn factors(js: Fractions, f: usize, l: usize) -> RowFactors
     requires { ⌜ Spanned js f l ⌝ }
-    ensures { λ r. ⌜ ((qs : List ℚ) (j : ℕ) → js ≡ fractions qs → r ≡ rowFactors (Step.factors j qs (record { f = f; l = l }))) ⌝ }
+    ensures { λ r. ⌜ ((qs : List ℚ) (j : ℕ) → js ≡ fractions qs → Plans (planOver j qs (record { f = f; l = l })) r) ⌝ }
 {
     let mut ws = arrays::no_fractions();
     ws.num[0] = 1;
@@ -112,22 +125,18 @@ pub fn factors(js: Fractions, f: usize, l: usize) -> RowFactors
                 ws.den[at] = d;
             }
             Refusal::TooLarge => {
-                return RowFactors {
-                    refusal: Refusal::TooLarge,
-                    of: arrays::no_fractions(),
-                };
+                return no_factors(Refusal::TooLarge);
             }
             Refusal::Shape => {
-                return RowFactors {
-                    refusal: Refusal::Shape,
-                    of: arrays::no_fractions(),
-                };
+                return no_factors(Refusal::Shape);
             }
         }
         i += 1;
     }
     RowFactors {
         refusal: Refusal::None,
+        f: f,
+        l: l,
         of: ws,
     }
 }

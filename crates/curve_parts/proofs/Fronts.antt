@@ -21,14 +21,14 @@ use Rattle.theorems_beams.specs.Sections.{section, partAt, beside}
 use Rattle.theorems_beams.specs.Parts.{Starts}
 use Rattle.theorems_beams.proofs.Sections.{section-all, front-columns, OrdersFit, orders-fit}
 use Rattle.theorems_beams.proofs.PartLegal.{part-lastPart}
-use Rattle.theorems_beams.proofs.Fronts.{front-answers, part-columns, front-rows-more, front-rows, front-rows-within}
+use Rattle.theorems_beams.proofs.Fronts.{part-columns, front-rows-more, front-rows, front-rows-within}
 use Rattle.theorems_beams.proofs.Reading.{front-ordinates}
 use Rattle.build_space.specs.Legal.{ListsLegal}
 use Rattle.build_space.proofs.Legal.{legal-checked}
 use Rattle.base_outcome.specs.Machine.{reply}
 use Rattle.base_outcome.specs.declared.Answer.{Answer}
 use Rattle.base_outcome.specs.declared.Answer.the-variants.{Count, Refused}
-use Rattle.build.proofs.Beam.{Before, before-first, starts, part-more, part-refused, parts-done}
+use Rattle.build.proofs.Beam.{Before, before-first, starts, both-is, part-more, part-refused, parts-done}
 use Rattle.base_outcome.proofs.Reply.{Counted, count-inverts, refused-inverts}
 use Rattle.curve_parts.specs.Parts.{Lent, lent, PartsLeave}
 
@@ -179,7 +179,7 @@ module _ (s : Space) (legal : ListsLegal (s .breaks) (s .degrees) (s .orders)) w
             both = beside (firstColumn s a) (columnCount part) (f .state .table) (x .result)
 
             same : both ≡ state′ .table
-            same = answer-unique (front-answers s fit a begins (f .state .answers) (x .is)) (state′ .answers)
+            same = both-is _ _ _ legal (f .state) more (x .is) (state′ .table) (state′ .answers)
 
             up-to-end : column + (end - column) ≡ end
             up-to-end = omega (arith, end-is, columns-more)

@@ -31,7 +31,7 @@ use Rattle.base_outcome.specs.Machine.{reply}
 use Rattle.base_outcome.specs.declared.Answer.{Answer}
 use Rattle.base_outcome.specs.declared.Answer.the-variants.{Count, Refused}
 use Rattle.build.proofs.Building.{built-weights}
-use Rattle.build.proofs.Stepped.{Proper, weights-proper}
+use Rattle.build_step.proofs.Stepped.{Proper, weights-proper}
 use Rattle.base_outcome.proofs.Reply.{Counted, count-inverts, refused-inverts}
 use Rattle.build.proofs.Beam.{sliced, part-legal}
 use Rattle.curve_ordinates.specs.Ordinates.{Weighs, Coefficients}

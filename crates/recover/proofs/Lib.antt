@@ -1,10 +1,4 @@
 -- The crate's hand-written modules.
-pub mod Refusals
-pub mod Undone
-pub mod Stepped
-pub mod Orders
-pub mod Later
-pub mod Turns
 pub mod Listed
 pub mod Beam
 pub mod Calls

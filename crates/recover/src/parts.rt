@@ -1,7 +1,7 @@
 // The parts of a beam: each is recovered by itself from the left, and its coefficients are written behind those of the parts before it.
 ghost use mathlib.Core.Path.{_≡_};
 ghost use mathlib.Core.List.{List, _++_, map};
-ghost use Prim.Native.Nat.{ℕ, _+_, _-_, _≤_};
+ghost use Prim.Native.Nat.{_+_, _-_, _≤_};
 ghost use lib.IntN.{ℤ};
 ghost use lib.ListN.{length, take, drop};
 ghost use Rattle.base_exact.specs.Rational.{ℚ, int};
@@ -15,12 +15,12 @@ ghost use Rattle.base_fraction.specs.Fractions.{fractions};
 ghost use Rattle.build_factors.specs.Jumps.{AllFit};
 ghost use Rattle.theorems_recovery.specs.Recovery;
 ghost use Rattle.theorems_recovery.specs.RecoveryCall.{listed, numeratorOf, denominatorOf};
-ghost use Rattle.recover.specs.Leaves.{JoinsLeave, BeamEnds};
-use crate::Joined;
-use crate::step;
+ghost use Rattle.recover_joins.specs.Leaves.{JoinsLeave};
+ghost use Rattle.recover.specs.Leaves.{BeamEnds};
 use base_fraction::arrays;
 use base_fraction::arrays::Fractions;
 use base_outcome::Answer;
+use recover_joins::Joined;
 
 // The first n coefficients in the cells from `from` on.
 fn write(coef_num: &mut [i64], coef_den: &mut [i64], from: usize, cs: Fractions, n: usize)
@@ -67,7 +67,7 @@ fn recover_at(
 {
     let from = build_space::first_column(degrees, a);
     let to = build_space::first_column(degrees, b);
-    step::recover_part(
+    recover_joins::recover_part(
         &breaks[a..b + 1],
         &degrees[a..b],
         &orders[a..b - 1],

@@ -192,26 +192,26 @@ element-set-from-d c = omega arith
 enum-told-2 : tie.Need-enum-told-2 Inv-loop μ-loop
 enum-told-2 c = search needs
 
-no-fractions-requires-2 : tie.Need-no-fractions-requires-2 Inv-loop μ-loop
-no-fractions-requires-2 c κs = search needs
+no-factors-requires : tie.Need-no-factors-requires Inv-loop μ-loop
+no-factors-requires c κs = search needs
 
 returns : tie.Need-returns Inv-loop μ-loop
 returns c qs j e =
     let a = c .before .before .before in
     let r = ended a qs j e refusals.TooLarge (c .before .enum-told2 .given .1) (λ h. let z : _≡_ {A = ℕ} 0 1 = cc in omega arith) in
-    factors-refused j qs _ _ (stopped a qs j e (r .refuses)) (r .named) (c .no-fractions2 .ensures)
+    factors-refused j qs _ _ _ (stopped a qs j e (r .refuses)) (r .named) (c .no-factors .ensures)
 
 enum-told-3 : tie.Need-enum-told-3 Inv-loop μ-loop
 enum-told-3 c = search needs
 
-no-fractions-requires-3 : tie.Need-no-fractions-requires-3 Inv-loop μ-loop
-no-fractions-requires-3 c κs = search needs
+no-factors-requires-2 : tie.Need-no-factors-requires-2 Inv-loop μ-loop
+no-factors-requires-2 c κs = search needs
 
 returns-2 : tie.Need-returns-2 Inv-loop μ-loop
 returns-2 c qs j e =
     let a = c .before .before .before in
     let r = ended a qs j e refusals.Shape (c .before .enum-told3 .given .1) (λ h. let z : _≡_ {A = ℕ} 0 1 = cc in omega arith) in
-    factors-refused j qs _ _ (stopped a qs j e (r .refuses)) (r .named) (c .no-fractions3 .ensures)
+    factors-refused j qs _ _ _ (stopped a qs j e (r .refuses)) (r .named) (c .no-factors2 .ensures)
 
 add-i-2 : tie.Need-add-i-2 Inv-loop μ-loop
 add-i-2 c = omega arith
@@ -277,10 +277,10 @@ factors-spec =
     mul-d
     element-set-from-d
     enum-told-2
-    no-fractions-requires-2
+    no-factors-requires
     returns
     enum-told-3
-    no-fractions-requires-3
+    no-factors-requires-2
     returns-2
     add-i-2
     loop-less

@@ -18,8 +18,10 @@ use Rattle.base_outcome.specs.Machine.{reply}
 use Rattle.base_outcome.specs.declared.Answer.{Answer}
 use Rattle.theorems_recovery.specs.Recovery.{Combination}
 use Rattle.theorems_recovery.specs.RecoveryCall.{weightsAfter, answersAfter, numeratorOf, denominatorOf}
-use Rattle.recover.specs.Leaves.{ordinatesChecked, BeamEnds}
-use Rattle.recover.proofs.Calls.{ordinates-partial, ordinates-legal, recovery-first-short, recovery-second-short, recovery-third-short, recovery-fourth-short, recovery-lists-refused, recovery-ordinates-refused, recovery-legal, lists-keep, ordinates-keep, beam-unchanged}
+use Rattle.recover_limits.specs.Ordinates.{ordinatesChecked}
+use Rattle.recover.specs.Leaves.{BeamEnds}
+use Rattle.recover_limits.proofs.Ordinates.{ordinates-partial, ordinates-legal}
+use Rattle.recover.proofs.Calls.{recovery-first-short, recovery-second-short, recovery-third-short, recovery-fourth-short, recovery-lists-refused, recovery-ordinates-refused, recovery-legal, lists-keep, ordinates-keep, beam-unchanged}
 use Rattle.recover.proofs.coefficients.Statement.{statement}
 use Rattle.recover.proofs.coefficients.Tie as tie
 

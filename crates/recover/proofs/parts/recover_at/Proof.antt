@@ -25,7 +25,7 @@ use Rattle.build_space.proofs.Partial.{first-column-partial}
 use Rattle.build_factors.specs.Jumps.{AllFit}
 use Rattle.build.proofs.Beam.{sliced, part-legal}
 use Rattle.theorems_recovery.specs.Recovery.{recovered}
-use Rattle.recover.specs.Leaves.{JoinsLeave}
+use Rattle.recover_joins.specs.Leaves.{JoinsLeave}
 use Rattle.recover.proofs.parts.recover_at.Statement.{statement}
 use Rattle.recover.proofs.parts.recover_at.Tie as tie
 

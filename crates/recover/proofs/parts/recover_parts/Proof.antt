@@ -7,19 +7,23 @@ use Prim.Native.Nat.{ℕ, _+_, _-_, _<_, _≤_}
 use native.Mathlib.Omega.{arith}
 use lib.IntN.{ℤ}
 use lib.ListN.{length, take, drop}
+use Rattle.base_outcome.specs.Outcome.{Outcome, answer, with-answer}
 use Rattle.spec_spline.specs.Space.{Space, partEnd, firstColumn, columnCount, rowCount}
 use Rattle.spec_spline.proofs.Parts.{part-ends}
 use Rattle.theorems_beams.specs.Sections.{section, partAt}
 use Rattle.build_space.specs.Machine.{space}
 use Rattle.build_space.proofs.Legal.{legal-column-count-high}
 use Rattle.build_space.proofs.Partial.{part-end-partial}
+use Rattle.base_outcome.specs.Machine.{reply}
 use Rattle.base_outcome.specs.declared.Answer.the-variants.{Count, Refused}
-use Rattle.theorems_recovery.specs.Recovery.{recovered}
+use Rattle.base_outcome.proofs.Reply.{Counted, count-inverts, refused-inverts}
+use Rattle.theorems_recovery.specs.Recovery.{Combination, recovered}
 use Rattle.theorems_recovery.specs.RecoveryCall.{listed, numeratorOf, denominatorOf}
-use Rattle.build_cells.proofs.Left.{Done}
-use Rattle.recover.specs.Leaves.{toldJoins, JoinsLeave, BeamEnds}
-use Rattle.recover.specs.declared.Joined.{Joined}
-use Rattle.recover.proofs.Beam.{part-done, rows-told, part-halted, refusal-told, Before, before-first, starts, rows-within, more-within, part-rows, part-count, part-more, part-refused, parts-done}
+use Rattle.recover_joins.specs.Leaves.{JoinsLeave}
+use Rattle.recover.specs.Leaves.{BeamEnds}
+use Rattle.recover_joins.specs.declared.Joined.{Joined}
+use Rattle.recover.proofs.Beam.{part-told, Before, before-first, starts, rows-within, more-within, part-rows, part-count, part-more}
+use Rattle.recover.proofs.Beam.{part-refused, parts-done}
 use Rattle.recover.proofs.parts.recover_parts.Statement.{statement}
 use Rattle.recover.proofs.parts.recover_parts.Tie as tie
 
@@ -104,10 +108,19 @@ module _ (c : tie.After-recover-at Inv-loop μ-loop) where
   abbrev den-after : List ℤ
   den-after = c .recover-at .last .1 .1 .1 .1 .1 .1 .1 .0
 
-  left : JoinsLeave (recovered part own) (rowCount part) (c .recover-at .result) (at .loop .num) (at .loop .den) num-after den-after
+  abbrev Leaves : Outcome Combination → Type 0
+  Leaves o = JoinsLeave o (rowCount part) (c .recover-at .result) (at .loop .num) (at .loop .den) num-after den-after
+
+  left : Leaves (recovered part own)
   left =
-      subst (λ (n : ℕ). let p = section s (first ended) (n - first ended) in JoinsLeave (recovered p (take (columnCount p) (drop (firstColumn s (first ended)) given))) (rowCount p) (c .recover-at .result) (at .loop .num) (at .loop .den) num-after den-after)
+      subst (λ (n : ℕ).
+      let p = section s (first ended) (n - first ended) in
+      JoinsLeave (recovered p (take (columnCount p) (drop (firstColumn s (first ended)) given))) (rowCount p) (c .recover-at .result)
+      (at .loop .num) (at .loop .den) num-after den-after)
       (end-is ended) (c .recover-at .ensures)
+
+  told-is : reply (c .recover-at .result .built) ≡ with-answer (λ _. rowCount part) (recovered part own)
+  told-is = part-told (rowCount part) _ _ num-after den-after (recovered part own) (c .recover-at .result) left
 
   num-same : length num-after ≡ length (start .args .num .now)
   num-same = c .recover-at .kept .1 .1 .1 .1 .1 .1 .0 ∙ at .loop .inv .num-long
@@ -123,17 +136,17 @@ module _ (c : tie.After-recover-at Inv-loop μ-loop) where
 
   -- no refusal
   module _ {n : ℕ} (told : c .recover-at .result .built ≡ Count n) where
-    done : Done (λ q. q .table) (toldJoins (rowCount part)) (at .loop .num) (at .loop .den) num-after den-after (recovered part own) (c .recover-at .result)
-    done = part-done (rowCount part) (recovered part own) left told
+    answered : Counted (λ _. rowCount part) (recovered part own) n
+    answered = count-inverts (λ _. rowCount part) (recovered part own) (ap reply (sym told) ∙ told-is)
 
-    rows-are : n ≡ rowCount part
-    rows-are = rows-told (rowCount part) (recovered part own) left done told
+    done : Leaves (answer (answered .result))
+    done = subst Leaves (answered .is) left
 
     more-inside : at .loop .rows + n ≤ length given
-    more-inside = omega (arith, rows-are, more-within _ _ _ (start .pre .0 .0) given (start .pre .1 .0 .0) state turn)
+    more-inside = omega (arith, answered .count, more-within _ _ _ (start .pre .0 .0) given (start .pre .1 .0 .0) state turn (answered .is) (done .1) (done .2))
 
     own-few : n ≤ 72
-    own-few = omega (arith, rows-are, part-rows _ _ _ (start .pre .0 .0) given (start .pre .1 .0 .0) state turn)
+    own-few = omega (arith, answered .count, part-rows _ _ _ (start .pre .0 .0) given (start .pre .1 .0 .0) state turn)
 
 enum-known-built : tie.Need-enum-known-built Inv-loop μ-loop
 enum-known-built c = search needs
@@ -188,15 +201,17 @@ returns c =
     let m = refused-at c in
     let g = start m in
     let b = c .before .before .before .before .before .before .before .before .before .before .before .before .built .given in
-    let r = part-halted (rowCount (part m)) (recovered (part m) (own m)) (left m) (b .1) in
+    let r = refused-inverts (λ _. rowCount (part m)) (recovered (part m) (own m)) (ap reply (sym (b .1)) ∙ told-is m) in
+    let h = subst (Leaves m) r (left m) in
     let k = c .before .before .before .before .before .before .before .before .clear in
     let k2 = c .before .before .before .clear2 in
     let v = at m .loop .inv in
     subst (λ (place : ℕ). BeamEnds (s m) (length (given m)) (recovered (s m) (given m)) (Refused (b .0 .0) place) (g .args .num .now) (g .args .den .now) (g .args .coef-num .now) (g .args .coef-den .now) (k .last .0) (k .last .1 .0) (k2 .last .0)
     (k2 .last .1 .0))
     (sym (c .place .ensures))
-    (part-refused _ _ _ (g .pre .0 .0) (given m) (g .pre .1 .0 .0) (state m) (turn m) (refusal-told (rowCount (part m)) (recovered (part m) (own m)) (left m) r (b .1)) (omega (arith, g .pre .0 .1 .0, v .num-long)) (omega (arith, g .pre .0 .1 .1, v .den-long))
-    (g .pre .1 .1 .0) (g .pre .1 .1 .1) (r .num-kept) (r .den-kept) (k .ensures .0) (k .ensures .1) (k2 .ensures .0) (k2 .ensures .1))
+    (part-refused _ _ _ (g .pre .0 .0) (given m) (g .pre .1 .0 .0) (state m) (turn m) r
+    (omega (arith, g .pre .0 .1 .0, v .num-long)) (omega (arith, g .pre .0 .1 .1, v .den-long))
+    (g .pre .1 .1 .0) (g .pre .1 .1 .1) (h .1) (h .2) (k .ensures .0) (k .ensures .1) (k2 .ensures .0) (k2 .ensures .1))
 
 -- ---- the part is answered
 write-requires : tie.Need-write-requires Inv-loop μ-loop
@@ -232,13 +247,16 @@ loop-again c =
     let m = answered-at c in
     let g = start m in
     let w = c .before .before in
+    let x = answered m (told c) in
     let q = done m (told c) in
-    let n = rows-are m (told c) in
+    let n = x .count in
     let v = at m .loop .inv in
     let b = state m in
-    let count = part-count _ _ _ (g .pre .0 .0) (given m) (g .pre .1 .0 .0) b (turn m) (q .answers) in
+    let count = part-count _ _ _ (g .pre .0 .0) (given m) (g .pre .1 .0 .0) b (turn m) (x .is) in
     let inside = more-inside m (told c) in
-    let z = w .write .ensures (b .reached .coefficients) (q .reached .coefficients) (g .args .coef-num .now) (g .args .coef-den .now) (ap (λ (x : Joined). x .of) (q .told-is)) (b .count) (count ∙ sym n) (b .coef-num-is) (b .coef-den-is) (omega (arith, inside, g .pre .1 .1 .0)) (omega (arith, inside, g .pre .1 .1 .1)) in
+    let z = w .write .ensures (b .coefficients) (x .result .coefficients) (g .args .coef-num .now) (g .args .coef-den .now)
+    (ap (λ (y : Joined). y .of) (q .0)) (b .count) (count ∙ sym n) (b .coef-num-is) (b .coef-den-is)
+    (omega (arith, inside, g .pre .1 .1 .0)) (omega (arith, inside, g .pre .1 .1 .1)) in
     record {
       num-long = num-same m;
       den-long = den-same m;
@@ -246,9 +264,9 @@ loop-again c =
       coef-den-long = w .write .kept .1 .0 ∙ v .coef-den-long;
       state = subst (λ (e : ℕ). Before (s m) (given m) (g .args .num .now) (g .args .den .now) (g .args .coef-num .now) (g .args .coef-den .now) (num-after m) (den-after m) (w .write .last .0) (w .write .last .1 .0) (at m .loop .rows + rows-of c) e) (sym (end-is (ended m)))
           (subst (λ (k : ℕ). Before (s m) (given m) (g .args .num .now) (g .args .den .now) (g .args .coef-num .now) (g .args .coef-den .now) (num-after m) (den-after m) (w .write .last .0) (w .write .last .1 .0) (at m .loop .rows + k) (partEnd (s m) (first (ended m)))) (sym n)
-          (part-more _ _ _ (g .pre .0 .0) (given m) (g .pre .1 .0 .0) b (turn m) (q .answers) (q .num-is) (q .den-is)
-          (z .0 ∙ ap (λ (k : ℕ). listed numeratorOf (at m .loop .rows + k) (b .reached .coefficients ++ q .reached .coefficients) (g .args .coef-num .now)) n)
-          (z .1 ∙ ap (λ (k : ℕ). listed denominatorOf (at m .loop .rows + k) (b .reached .coefficients ++ q .reached .coefficients) (g .args .coef-den .now)) n)));
+          (part-more _ _ _ (g .pre .0 .0) (given m) (g .pre .1 .0 .0) b (turn m) (x .is) (q .1) (q .2)
+          (z .0 ∙ ap (λ (k : ℕ). listed numeratorOf (at m .loop .rows + k) (b .coefficients ++ x .result .coefficients) (g .args .coef-num .now)) n)
+          (z .1 ∙ ap (λ (k : ℕ). listed denominatorOf (at m .loop .rows + k) (b .coefficients ++ x .result .coefficients) (g .args .coef-den .now)) n)));
     }
 
 -- ---- after the last part

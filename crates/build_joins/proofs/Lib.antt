@@ -1,0 +1,6 @@
+-- The crate's hand-written modules.
+pub mod Later
+pub mod Grown
+pub mod Joins
+pub mod Turns
+pub mod Ends

@@ -1,0 +1,72 @@
+-- The first segment's rows of the identity, then the joins. Assumes nothing.
+use borrow.Author.Needs.{needs}
+use mathlib.Core.Path.{sym, _∙_}
+use Prim.Native.Nat.{_+_}
+use native.Mathlib.Omega.{arith}
+use Rattle.spec_spline.specs.Space.{Space, rowCount}
+use Rattle.spec_spline.specs.Table.{identity}
+use Rattle.build_space.specs.Machine.{space}
+use Rattle.build_space.proofs.Partial.{column-count-partial}
+use Rattle.build_cells.proofs.Left.{left-from}
+use Rattle.build_joins.proofs.Joins.{Beginning, beginning, begins}
+use Rattle.theorems_recovery.specs.Recovery.{recovered}
+use Rattle.recover_joins.specs.Leaves.{toldJoins}
+use Rattle.recover_joins.proofs.recover_part.Statement.{statement}
+use Rattle.recover_joins.proofs.recover_part.Tie as tie
+
+abbrev lists : tie.Start → Space
+lists c = space (c .args .breaks .now) (c .args .degrees .now) (c .args .orders .now)
+
+first-column-requires : tie.Need-first-column-requires
+first-column-requires c κs = search needs
+
+degree-at-requires : tie.Need-degree-at-requires
+degree-at-requires c κs = search needs
+
+-- the columns and the first segment's rows
+abbrev start : tie.After-degree-at → tie.Start
+start c = c .before .before .before .before
+
+begun : (c : tie.After-degree-at) → Beginning (lists (start c)) (c .before .before .before .first-column .result) (c .degree-at .result + 1)
+begun c = beginning _ _ _ (start c .pre .0 .0) _ _ (c .before .before .before .first-column .ensures ∙ column-count-partial _ (start c .args .degrees .now) _) (c .degree-at .ensures)
+
+add-identity : tie.Need-add-identity
+add-identity c = omega (arith, begun c .rows-few, begun c .columns-fit)
+
+identity-requires : tie.Need-identity-requires
+identity-requires c κs = (omega (arith, begun c .rows-few, begun c .columns-fit), start c .pre .0 .1)
+
+recover-joins-requires : tie.Need-recover-joins-requires
+recover-joins-requires c κs =
+    let i = c .before .before .before .before in
+    let s = start (i .before) in
+    let p = s .pre in
+    let b = begun (i .before) in
+    ((p .0 .0, begins (s .args .num .now) (s .args .den .now) b (p .0 .1 .0) (p .0 .1 .1) (i .identity .ensures .0) (i .identity .ensures .1)), (p .1 .0 ∙ sym (b .columns-are), p .1 .1))
+
+same-length : tie.Need-same-length
+same-length c = search needs
+
+same-length-2 : tie.Need-same-length-2
+same-length-2 c = search needs
+
+returns : tie.Need-returns
+returns c =
+    let m = c .before .before in
+    let i = m .before .before .before .before .before in
+    let s = start (i .before) in
+    left-from (λ q. q .table) (toldJoins (rowCount (lists s))) _ _ _ _ (m .recover-joins .result) (identity (i .before .degree-at .result + 1)) (s .args .num .now) (s .args .den .now) (s .pre .0 .1 .0) (s .pre .0 .1 .1) (i .identity .ensures .0) (i .identity .ensures .1)
+    (recovered (lists s) (s .args .ordinates .now)) (m .recover-joins .ensures)
+
+pub recover-part-spec : {M : Type 1} → statement M
+recover-part-spec =
+    tie.close
+    (tie.spec
+    first-column-requires
+    degree-at-requires
+    add-identity
+    identity-requires
+    recover-joins-requires
+    same-length
+    same-length-2
+    returns)

@@ -1,0 +1,2 @@
+-- What the contracts of recover_joins cite beside the definitions of crates spec_spline and theorems_recovery.
+pub mod Leaves

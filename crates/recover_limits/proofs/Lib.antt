@@ -1,0 +1,2 @@
+-- The crate's hand-written modules.
+pub mod Ordinates
