@@ -74,7 +74,8 @@ joined b c = c .before ++ (b ∷ c .after)
 
 with-byte-joins : (b d : ℕ) (t : Text) (o : Option Cut) (c : Cut) → ((r : Cut) → o ≡ some r → t ≡ joined b r) → withByte d o ≡ some c → d ∷ t ≡ joined b c
 with-byte-joins b d t none c ih e = clash cc
-with-byte-joins b d t (some r) c ih e = ap (λ (s : Text). d ∷ s) (ih r refl) ∙ ap (joined b) (Option·some-injective (record { before = d ∷ r .before; after = r .after }) c e)
+with-byte-joins b d t (some r) c ih e =
+    ap (λ (s : Text). d ∷ s) (ih r refl) ∙ ap (joined b) (Option·some-injective (record { before = d ∷ r .before; after = r .after }) c e)
 
 -- a text that is cut is its two parts
 pub cut-joins : (b : ℕ) (t : Text) (c : Cut) → cut b t ≡ some c → t ≡ joined b c
@@ -82,7 +83,8 @@ unfolding cut
 cut-joins b [] c e = clash cc
 cut-joins b (d ∷ t) c e = go (eqb d b) refl e (cut-joins b t)
   where
-    go : (s : Bool) → eqb d b ≡ s → cond s (some (record { before = []; after = t })) (withByte d (cut b t)) ≡ some c → ((r : Cut) → cut b t ≡ some r → t ≡ joined b r) → d ∷ t ≡ joined b c
+    go : (s : Bool) → eqb d b ≡ s → cond s (some (record { before = []; after = t })) (withByte d (cut b t)) ≡ some c
+        → ((r : Cut) → cut b t ≡ some r → t ≡ joined b r) → d ∷ t ≡ joined b c
     go true w e ih = ap (λ (x : ℕ). x ∷ t) (eqb-true d b w) ∙ ap (joined b) (Option·some-injective (record { before = []; after = t }) c e)
     go false w e ih = with-byte-joins b d t (cut b t) c ih e
 
@@ -98,13 +100,15 @@ module _ (picks : ℕ → Bool) where
       go true e ih = absurd (omega arith)
       go false e ih = ap (onFirst c) (ih (omega arith))
 
-  pub fields-more : (t : Text) → indexWhere picks t < length t → fieldsBetween picks t ≡ take (indexWhere picks t) t ∷ fieldsBetween picks (drop (suc (indexWhere picks t)) t)
+  pub fields-more : (t : Text) → indexWhere picks t < length t
+      → fieldsBetween picks t ≡ take (indexWhere picks t) t ∷ fieldsBetween picks (drop (suc (indexWhere picks t)) t)
   unfolding indexWhere fieldsBetween
   fields-more [] h = absurd (omega arith)
   fields-more (c ∷ cs) h = go (picks c) h (fields-more cs)
     where
       go : (s : Bool) → cond s 0 (suc (indexWhere picks cs)) < suc (length cs) →
-          (indexWhere picks cs < length cs → fieldsBetween picks cs ≡ take (indexWhere picks cs) cs ∷ fieldsBetween picks (drop (suc (indexWhere picks cs)) cs)) →
+          (indexWhere picks cs < length cs
+          → fieldsBetween picks cs ≡ take (indexWhere picks cs) cs ∷ fieldsBetween picks (drop (suc (indexWhere picks cs)) cs)) →
           cond s ([] ∷ fieldsBetween picks cs) (onFirst c (fieldsBetween picks cs))
           ≡ take (cond s 0 (suc (indexWhere picks cs))) (c ∷ cs) ∷ fieldsBetween picks (drop (suc (cond s 0 (suc (indexWhere picks cs)))) (c ∷ cs))
       go true h ih = refl
@@ -123,10 +127,13 @@ module _ (key text : Text) (from i to : ℕ) (more : i < length key) (within : t
   key-left : (t : Text) → beginsWith (drop i key) t ≡ beginsWith (getD key i 0 ∷ drop (suc i) key) t
   key-left t = ap (λ (k : Text). beginsWith k t) (drop-cons key i 0 more)
 
-  key-here : from + i < to → beginsWith (drop i key) (slice (from + i) to text) ≡ beginsWith (getD key i 0 ∷ drop (suc i) key) (getD text (from + i) 0 ∷ slice (from + i + 1) to text)
+  key-here : from + i < to
+      → beginsWith (drop i key) (slice (from + i) to text)
+      ≡ beginsWith (getD key i 0 ∷ drop (suc i) key) (getD text (from + i) 0 ∷ slice (from + i + 1) to text)
   key-here h = key-left _ ∙ ap (beginsWith _) (slice-step (from + i) to text 0 h within)
 
-  pub key-next : from + i < to → getD text (from + i) 0 ≡ getD key i 0 → beginsWith (drop i key) (slice (from + i) to text) ≡ beginsWith (drop (i + 1) key) (slice (from + (i + 1)) to text)
+  pub key-next : from + i < to → getD text (from + i) 0 ≡ getD key i 0
+      → beginsWith (drop i key) (slice (from + i) to text) ≡ beginsWith (drop (i + 1) key) (slice (from + (i + 1)) to text)
   key-next h e =
       key-here h ∙ key-same _ _ _ _ e
       ∙ ap₂ (λ (n m : ℕ). beginsWith (drop n key) (slice m to text)) (sym (add-one i)) (add-assoc from i 1)
@@ -158,7 +165,8 @@ stripped-some [] t e = (omega arith, refl)
 stripped-some (p ∷ ps) [] e = clash cc
 stripped-some (p ∷ ps) (c ∷ cs) e = go (eqb c p) e (stripped-some ps cs)
   where
-    go : (s : Bool) → cond s (beginsWith ps cs) false ≡ true → (beginsWith ps cs ≡ true → (length ps ≤ length cs) × (stripped ps cs ≡ some (drop (length ps) cs))) →
+    go : (s : Bool) → cond s (beginsWith ps cs) false ≡ true
+        → (beginsWith ps cs ≡ true → (length ps ≤ length cs) × (stripped ps cs ≡ some (drop (length ps) cs))) →
         (suc (length ps) ≤ suc (length cs)) × (cond s (stripped ps cs) none ≡ some (drop (length ps) cs))
     go true e ih = (omega (arith, ih e .0), ih e .1)
     go false e ih = clash cc

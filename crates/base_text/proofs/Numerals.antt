@@ -48,13 +48,16 @@ module _ (text : Text) (from to : ℕ) (before : from < to) (within : to ≤ len
   pub minus-zero : getD text from 0 ≡ minus → isNatural rest ≡ true → digitsValue 0 rest ≡ 0 → numeral (slice from to text) ≡ none
   minus-zero e d z = minus-is e ∙ ap (λ (b : Bool). negated b (digitsValue 0 rest)) d ∙ ap (negated true) z
 
-  pub minus-numeral : getD text from 0 ≡ minus → isNatural rest ≡ true → (digitsValue 0 rest ≡ 0 → ⊥) → numeral (slice from to text) ≡ some (pos 0 -ℤ pos (digitsValue 0 rest))
+  pub minus-numeral : getD text from 0 ≡ minus → isNatural rest ≡ true → (digitsValue 0 rest ≡ 0 → ⊥)
+      → numeral (slice from to text) ≡ some (pos 0 -ℤ pos (digitsValue 0 rest))
   minus-numeral e d z = minus-is e ∙ ap (λ (b : Bool). negated b (digitsValue 0 rest)) d ∙ negated-some (digitsValue 0 rest) z
 
-  plain-is : (getD text from 0 ≡ minus → ⊥) → numeral (slice from to text) ≡ cond (isNatural (slice from to text)) (some (pos (digitsValue 0 (slice from to text)))) none
+  plain-is : (getD text from 0 ≡ minus → ⊥)
+      → numeral (slice from to text) ≡ cond (isNatural (slice from to text)) (some (pos (digitsValue 0 (slice from to text)))) none
   plain-is h = rw (slice-step from to text 0 before within) (numeral-plain _ rest h)
 
-  pub plain-numeral : (getD text from 0 ≡ minus → ⊥) → isNatural (slice from to text) ≡ true → numeral (slice from to text) ≡ some (pos (digitsValue 0 (slice from to text)))
+  pub plain-numeral : (getD text from 0 ≡ minus → ⊥) → isNatural (slice from to text) ≡ true
+      → numeral (slice from to text) ≡ some (pos (digitsValue 0 (slice from to text)))
   plain-numeral h d = plain-is h ∙ ap (λ (b : Bool). cond b (some (pos (digitsValue 0 (slice from to text)))) none) d
 
   pub plain-bad : (getD text from 0 ≡ minus → ⊥) → isNatural (slice from to text) ≡ false → numeral (slice from to text) ≡ none

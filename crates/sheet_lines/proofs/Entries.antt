@@ -87,7 +87,9 @@ module _ {A : Type 0} (entry : Text → Option A) where
 
   pub tally-next : (n : ℕ) (f : Text) (fs : List Text) → isSome (entry f) ≡ true → tally n (entries entry (f ∷ fs)) ≡ tally (n + 1) (entries entry fs)
   unfolding entries
-  tally-next n f fs e = let good = some-is (entry f) e in ap (λ (o : Option A). tally n (prepended o (entries entry fs))) (good .1) ∙ go (good .0) (entries entry fs)
+  tally-next n f fs e =
+      let good = some-is (entry f) e in
+      ap (λ (o : Option A). tally n (prepended o (entries entry fs))) (good .1) ∙ go (good .0) (entries entry fs)
     where
       go : (x : A) (o : Option (List A)) → tally n (prepended (some x) o) ≡ tally (n + 1) o
       go x none = refl

@@ -30,7 +30,8 @@ count-some none n e = clash cc
 count-some (some xs) n e = (xs, refl)
 
 -- ---- the line from an index on
-module _ {A : Type 0} (entry : Text → Option A) (key text : Text) (from end : ℕ) (within : from ≤ length text) (is : end ≡ from + indexOf newline (slice from (length text) text)) where
+module _ {A : Type 0} (entry : Text → Option A) (key text : Text) (from end : ℕ) (within : from ≤ length text)
+    (is : end ≡ from + indexOf newline (slice from (length text) text)) where
   end-is : end ≡ from + indexOf newline (drop from text)
   end-is = is ∙ ap (λ (t : Text). from + indexOf newline t) (slice-all from text)
 
@@ -70,7 +71,8 @@ module _ {A : Type 0} (entry : Text → Option A) (key text : Text) (from end : 
       pub line-bad-list : listOf entry (slice (from + length key) end text) ≡ none → line entry key (drop from text) ≡ none
       line-bad-list e = line-keyed ∙ ap (λ (o : Option (List A)). lineOf o (drop (end + 1) text)) e
 
-      pub line-good : (xs : List A) → listOf entry (slice (from + length key) end text) ≡ some xs → LineAt entry text (line entry key (drop from text)) (span-cases.List (from + length key) end)
+      pub line-good : (xs : List A) → listOf entry (slice (from + length key) end text) ≡ some xs
+          → LineAt entry text (line entry key (drop from text)) (span-cases.List (from + length key) end)
       line-good xs e =
           rw (line-keyed ∙ ap (λ (o : Option (List A)). lineOf o (drop (end + 1) text)) e)
           (record { list = record { range = list-part; list = e }; ended = end-below; rest = refl })

@@ -97,7 +97,8 @@ module _ (l : Arguments) (m : Answer) (e : reply m ≡ returned (called l)) wher
 
     denominators-are : (before : List ℤ) → curveDenominators (spaceOf l) (called l) before ≡ denominators held before
     unfolding denominatorsAfter held
-    denominators-are before = ap (λ o. curveDenominators (spaceOf l) o before) (counted .is) ∙ ap (λ t. denominators (lastPart (spaceOf l) t) before) (told .table-is)
+    denominators-are before = ap (λ o. curveDenominators (spaceOf l) o before) (counted .is)
+        ∙ ap (λ t. denominators (lastPart (spaceOf l) t) before) (told .table-is)
 
     pub answered-filled : (num den : List ℤ) {num′ den′ : List ℤ} → tableCells ≤ length num → tableCells ≤ length den
         → num′ ≡ curveNumerators (spaceOf l) (called l) num → den′ ≡ curveDenominators (spaceOf l) (called l) den
@@ -116,7 +117,8 @@ module _ (l : Arguments) (m : Answer) (e : reply m ≡ returned (called l)) wher
         }
 
     -- an answer is printed from its table and its values
-    pub answered-prints : (vs : List ℤ) {vs′ : List ℤ} → vs′ ≡ valuesAfter (called l) vs → answerText (tableOf (spaceWeights (spaceOf l))) (l .positions) (paired (take (2 * n) vs′)) ≡ calledText l
+    pub answered-prints : (vs : List ℤ) {vs′ : List ℤ} → vs′ ≡ valuesAfter (called l) vs
+        → answerText (tableOf (spaceWeights (spaceOf l))) (l .positions) (paired (take (2 * n) vs′)) ≡ calledText l
     unfolding outcomeText
     answered-prints vs s =
         ap₂ (λ t us. answerText t (l .positions) us)

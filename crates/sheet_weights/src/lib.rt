@@ -6,7 +6,8 @@ ghost use lib.IntN.{natAbs};
 ghost use Rattle.spec_spline.specs.Table.{rowCells};
 ghost use Rattle.base_print.specs.Buffer.{Puts};
 ghost use Rattle.spec_sheet.specs.Printout.{weightLines};
-ghost use Rattle.sheet_weights.specs.Printed.{weightLineLimit, placeText, fractionText, storedWeight, storedWeights, CellAsks, RowsAsk};
+ghost use Rattle.sheet_weights.specs.Printed.{weightLineLimit, placeText, fractionText, storedWeight, storedWeights};
+ghost use Rattle.sheet_weights.specs.Printed.{CellAsks, RowsAsk};
 
 // w=row,column,
 fn put_place(out: &mut [u8], at: usize, i: usize, c: usize) -> usize

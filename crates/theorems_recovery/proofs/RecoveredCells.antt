@@ -10,6 +10,7 @@ use borrow.Author.Tests.{eqb-true}
 use lib.Dec.{eqb, ltb}
 use lib.IntN.{ℤ}
 use lib.ListN.{length}
+use Rattle.base_exact.proofs.Decide.{clash}
 use Rattle.base_outcome.specs.Outcome.{Outcome, answer, refusal, refuse, largestPlace, _then_}
 use Rattle.base_outcome.specs.Search.{first}
 use Rattle.spec_spline.specs.Space.{Space, checked, columnCount, rowCount}
@@ -25,7 +26,7 @@ use Rattle.theorems_recovery.proofs.Reproduction.{answers-have-the-weig
 
 -- a refusal with another number is not 19
 other-coefficient : {A : Type 0} (n p : ℕ) {place : ℕ} → eqb n 19 ≡ false → _≡_ {A = Outcome A} (refuse n p) (refusal 19 place) → ⊥
-other-coefficient n p h r = absurd (let z : n ≡ 19 = cc in let q : _≡_ {A = ℕ} 0 1 = let w : eqb 19 19 ≡ false = ap (λ k. eqb k 19) (sym z) ∙ h in cc in omega arith)
+other-coefficient n p h r = clash (let z : n ≡ 19 = cc in let w : eqb 19 19 ≡ false = ap (λ k. eqb k 19) (sym z) ∙ h in cc)
 
 -- Every test has passed, and the steps end like this.
 pub record Reached (s : Space) (ordinates : List ℤ) (o : Outcome Combination) : Type 0 where

@@ -26,7 +26,9 @@ module _ (xs : List ℤ) (n : ℕ) (ws : List Weight) (vs : List ℤ) where
   unfolding outcomeText answerText
   shown-prints (answer r) e =
       let same : shown (r .table) (r .values) ≡ record { rows = n; weights = ws; values = forBoth vs } = cc in
-      ap (λ (a : Answered). countLine (a .rows) ++ (weightLines (a .weights) ++ (valueLines xs (a .values) ++ lowLines (sorted (lowPositions xs (a .values)))))) same
+      ap
+      (λ (a : Answered). countLine (a .rows)
+      ++ (weightLines (a .weights) ++ (valueLines xs (a .values) ++ lowLines (sorted (lowPositions xs (a .values)))))) same
   shown-prints (refusal code place) e = clash cc
 
 -- ---- W1
@@ -53,8 +55,11 @@ w1-called : with-answer (λ r. shown (r .table) (r .values)) (called (argumentsO
 unfolding called curveOutcome outcome cases
 w1-called = every-case-holds .0
 
-w1-printed : countLine 4 ++ (weightLines weights1 ++ (valueLines (w1 .positions) (forBoth w1-values) ++ lowLines (sorted (lowPositions (w1 .positions) (forBoth w1-values))))) ≡ w1Printout
-unfolding joined countLine weightLine weightLines valueLine valueLines isLow lowPositions lowLine lowLines inserted sorted digitsUpTo digits decimal bytes lines w1Printout
+w1-printed : countLine 4
+    ++ (weightLines weights1
+    ++ (valueLines (w1 .positions) (forBoth w1-values) ++ lowLines (sorted (lowPositions (w1 .positions) (forBoth w1-values))))) ≡ w1Printout
+unfolding joined countLine weightLine weightLines valueLine valueLines isLow lowPositions lowLine lowLines inserted sorted digitsUpTo digits decimal
+    bytes lines w1Printout
 w1-printed = refl
 
 -- ---- W9
@@ -79,8 +84,11 @@ w9-called : with-answer (λ r. shown (r .table) (r .values)) (called (argumentsO
 unfolding called curveOutcome outcome cases
 w9-called = every-case-holds .1 .1 .1 .1 .1 .1 .1 .1 .1 .1 .0
 
-w9-printed : countLine 4 ++ (weightLines weights9 ++ (valueLines (w9 .positions) (forBoth w9-values) ++ lowLines (sorted (lowPositions (w9 .positions) (forBoth w9-values))))) ≡ w9Printout
-unfolding joined countLine weightLine weightLines valueLine valueLines isLow lowPositions lowLine lowLines inserted sorted digitsUpTo digits decimal bytes lines w9Printout
+w9-printed : countLine 4
+    ++ (weightLines weights9
+    ++ (valueLines (w9 .positions) (forBoth w9-values) ++ lowLines (sorted (lowPositions (w9 .positions) (forBoth w9-values))))) ≡ w9Printout
+unfolding joined countLine weightLine weightLines valueLine valueLines isLow lowPositions lowLine lowLines inserted sorted digitsUpTo digits decimal
+    bytes lines w9Printout
 w9-printed = refl
 
 -- From the text of each sheet to the text of its printout.

@@ -8,7 +8,7 @@ use Prim.Native.Nat.{ℕ}
 use lib.IntN.{ℤ, pos}
 use lib.ListN.{length, length-map}
 use Rattle.base_exact.proofs.Decide.{and-true, clash}
-use Rattle.base_outcome.specs.Outcome.{Outcome, answer, refusal, refuse, with-answer}
+use Rattle.base_outcome.specs.Outcome.{Outcome, answer, refuse}
 use Rattle.base_outcome.proofs.Outcome.{answer-unique, answer-not-refusal}
 use Rattle.base_text.specs.Bytes.{Text}
 use Rattle.spec_tucson.specs.Line.{Line, thousandths, isWidth, same, withinDecade, fieldsAllowed, lineOf, ifAllowed, goodLine}
@@ -111,7 +111,7 @@ thousandths-length z ws = go (same z hundredths)
 pub front-widths : (fs : List ℤ) → fieldsAllowed true fs ≡ true → allWidths (dropLast fs) ≡ true
 front-widths = front-widths-of true
 
--- ---- code 11's test of the fields, and an answer with a series in front
+-- ---- code 11's test of the fields
 pub good-allowed : (last : Bool) (t : Text) (l : Line) → goodLine last t ≡ some l → fieldsAllowed last (l .fields) ≡ true
 unfolding goodLine
 good-allowed last t l e = go (lineOf t) e
@@ -126,7 +126,3 @@ good-allowed last t l e = go (lineOf t) e
     go : (o : Option Line) → ifAllowed last o ≡ some l → fieldsAllowed last (l .fields) ≡ true
     go none e = clash cc
     go (some m) e = test m (withinDecade m && fieldsAllowed last (m .fields)) refl e
-
-pub with-inverts : {A : Type 0} (f : A → A) (o : Outcome A) (r : A) → with-answer f o ≡ answer r → (a : A) × (o ≡ answer a) × (r ≡ f a)
-with-inverts f (answer a) r e = (a, refl, sym (answer-unique {o = answer (f a)} refl e))
-with-inverts f (refusal code place) r e = absurd (answer-not-refusal e refl)

@@ -13,7 +13,7 @@ use lib.Seq.{slice, sets, length-sets, length-slice, slice-empty}
 use Rattle.base_exact.proofs.Decide.{and-true, true-not-false, clash}
 use Rattle.base_exact.proofs.Integer.{bal-+, abs-parts}
 use Rattle.base_outcome.specs.Outcome.{Outcome, answer, _then_}
-use Rattle.base_outcome.proofs.Outcome.{answer-unique, then-inverts}
+use Rattle.base_outcome.proofs.Outcome.{answer-unique, then-inverts, with-inverts}
 use Rattle.base_text.specs.Bytes.{Text}
 use Rattle.base_text.specs.Numeral.{numeralLimit}
 use Rattle.spec_tucson.specs.Line.{Line, nameColumns, decade, linesOf, fieldNumerals, goodLine, same}
@@ -32,7 +32,7 @@ use Rattle.tucson_fill.specs.Write.{numeralsOf, seriesIn, inThousandths,
 use Rattle.tucson_scan.proofs.Passing.{Says, says, same-is, begun-widths, front-length, followed-by}
 use Rattle.tucson_fill.proofs.Sets.{sets-append, sets-over, slice-sets}
 use Rattle.tucson_fill.proofs.Inverting.{stepped, good-as-last, opens, closes, closed-widths, thousandths-length}
-use Rattle.tucson_fill.proofs.Inverting.{all-widths, front-widths, widths-append, good-allowed, with-inverts}
+use Rattle.tucson_fill.proofs.Inverting.{all-widths, front-widths, widths-append, good-allowed}
 
 -- ---- the first line of lines that read well
 follows-some : (t : Text) (us : List Text) → goesOn t us ≡ true → 1 ≤ length us
@@ -88,7 +88,7 @@ module _ (place : ℕ) (b : Option Begun) (t : Text) (ts : List Text) (rest : Li
       let ch = then-inverts (readLine place b false t) next (step-reads false k) in
       let p = stepped place b false t (ch .middle) (ch .before) in
       let c = closes place b (p .line) (ch .middle) (p .leaves) in
-      let r = with-inverts (λ ss. c .series ∷ ss) (readLines (suc place) none ts) rest (ap next (sym (c .is)) ∙ ch .after) in
+      let r = with-inverts (λ ss. c .series ∷ ss) (readLines (suc place) none ts) (ap next (sym (c .is)) ∙ ch .after) in
       record {
         line = p .line;
         good = p .good;
@@ -97,9 +97,9 @@ module _ (place : ℕ) (b : Option Begun) (t : Text) (ts : List Text) (rest : Li
         name = c .name;
         first = c .first;
         widths = closed-widths (lastField (p .line .fields)) (soFar b ++ dropLast (p .line .fields)) (c .series .widths) (c .widths);
-        later = r .0;
-        is = r .2;
-        reads = r .1;
+        later = r .before;
+        is = sym (r .changed);
+        reads = r .answers;
       }
 
 -- ---- the widths of a series that is begun come to be among those read

@@ -6,7 +6,8 @@ ghost use lib.ListN.{length};
 ghost use lib.Seq.{slice, sets};
 ghost use Rattle.spec_tucson.specs.Line.{fieldNumerals, nameColumns};
 ghost use Rattle.spec_tucson.specs.Series.{fromHundredths};
-ghost use Rattle.tucson_fill.specs.Write.{numeralsOf, inThousandths, FieldsAt, NameAt, WidthsAt, EntryAsks, WriteAsks, Entered, Written};
+ghost use Rattle.tucson_fill.specs.Write.{numeralsOf, inThousandths, FieldsAt, NameAt, WidthsAt, EntryAsks, WriteAsks};
+ghost use Rattle.tucson_fill.specs.Write.{Entered, Written};
 use base_text::numeral::Field;
 use tucson_lines::LineAnswer;
 

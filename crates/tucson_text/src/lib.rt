@@ -39,7 +39,8 @@ fn sum(counts: &[u32]) -> usize
 // written, so the second refusal is never met.
 fn rewrite(input: &[u8], out: &mut [u8; TEXT_LIMIT]) -> usize
     requires { ⌜ length (now input) ≤ textLimit ⌝ }
-    ensures { λ r. ⌜ Prints (length (now (out .exit))) (outcomeText (readText (now (input .entry)))) (now (out .entry)) (now (out .exit)) r ⌝ }
+    ensures { λ r. ⌜ Prints (length (now (out .exit))) (outcomeText (readText (now (input .entry)))) (now (out .entry))
+        (now (out .exit)) r ⌝ }
 {
     let mut names = [0u8; NAMES];
     let mut years = [0i32; SERIES];

@@ -45,4 +45,6 @@ returns c =
     record { count-is = p .behind ∙ omega arith; contents = p .contents; few = omega (arith, p .near) }
 
 pub refusal-spec : {M : Type 1} → statement M
-refusal-spec = tie.close (tie.spec slice-aggregate-put-text put-text-requires put-digits-requires put-requires put-digits-requires-2 put-requires-2 same-length returns)
+refusal-spec =
+    tie.close (tie.spec slice-aggregate-put-text put-text-requires put-digits-requires put-requires put-digits-requires-2 put-requires-2 same-length
+    returns)

@@ -19,7 +19,8 @@ use Rattle.sheet_lows.proofs.put_lows.Tie as tie
 
 -- the array before and after its first numbers are sorted, where these are the low positions
 module _ (xs : List ℤ) (vs : List Pair) (before after : List ℤ) (count : ℕ)
-    (is : count ≡ length (lowPositions xs vs)) (kept : take count before ≡ lowPositions xs vs) (done : after ≡ sorted (take count before) ++ drop count before) where
+    (is : count ≡ length (lowPositions xs vs)) (kept : take count before ≡ lowPositions xs vs)
+    (done : after ≡ sorted (take count before) ++ drop count before) where
   first-count : length (sorted (take count before)) ≡ count
   first-count = sorted-length (take count before) ∙ ap length kept ∙ sym is
 

@@ -42,4 +42,5 @@ returns c =
     (e .put-lows .ensures)))))
 
 pub put-answer-spec : {M : Type 1} → statement M
-put-answer-spec = tie.close (tie.spec put-count-requires put-beam-requires put-values-requires put-lows-requires same-length same-length-2 same-length-3 returns)
+put-answer-spec =
+    tie.close (tie.spec put-count-requires put-beam-requires put-values-requires put-lows-requires same-length same-length-2 same-length-3 returns)
