@@ -89,11 +89,8 @@ WRONG = [
     Wrong(
         "a function that the exported call uses",
         [
-            Line(
-                CALLS,
-                "    ensures { λ r. ⌜ r ≡ replied (weights.reply built) ⌝ }\n{\n",
-                f"    let held = [0; {LONG}];\n",
-            )
+            Line(CALLS, "    let built = build::build(breaks, degrees, orders, num, den);\n", "    more();\n"),
+            Line(CALLS, "", f"\nfn more() {{\n    let held = [0; {LONG}];\n}}\n"),
         ],
         f"{LONG} numbers in {CALLS}",
     ),

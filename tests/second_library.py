@@ -58,8 +58,8 @@ ALLOWED = {
         (*DEFINITIONS_AND_LAWS, r"curve\.specs", r"indices_positions\.(specs|proofs)", r"indices_rings\.specs"),
     ),
     "walzhik_indices": Uses(
-        frozenset({"indices::indices", "walzhik_reply::answered", "walzhik_reply::refused"}),
-        (*DEFINITIONS_AND_LAWS, r"indices\.specs", r"walzhik_reply\.specs", r"walzhik_reply\.proofs\.Replied"),
+        frozenset({"indices::indices", "walzhik_reply::reply_of"}),
+        (*DEFINITIONS_AND_LAWS, r"indices\.specs", r"walzhik_reply\.specs"),
     ),
 }
 CONTRACT_OR_COMMENT = re.compile(r"⌜.*?⌝|//[^\n]*|b\"(?:[^\"\\]|\\.)*\"|b'(?:[^'\\]|\\.)*'", re.S)

@@ -75,7 +75,7 @@ NumeralReadsBack = (z : ℤ) → natAbs z < numeralLimit → numeral (decimal z)
 
 -- ---- what is asked
 
--- A part of a text that is 1 to 7 digits without a spare zero.
+-- A range of a text that is 1 to 7 digits without a spare zero.
 pub record DigitsAsks (text : Text) (from to : ℕ) : Type 0 where
-  pub part : Range text from to
+  pub range : Range text from to
   pub natural : isNatural (slice from to text) ≡ true

@@ -11,7 +11,6 @@ ghost use Rattle.curve_ordinates.specs.Wood.{woodOf};
 ghost use Rattle.theorems_indices.specs.Indices.{indicesEnd};
 ghost use Rattle.indices_positions.specs.Words.{ringsTaken, wordPositions};
 ghost use Rattle.indices.specs.Machine.{cellsIndexed, IndexAsks, Indexed, CurveLeaves};
-use base_outcome::Answer;
 
 // One more than the curve call takes: it refuses these as it would refuse more.
 const MOST_RINGS: usize = 4097;
@@ -34,7 +33,7 @@ fn read_rings(
     num: &mut [i64],
     den: &mut [i64],
     values: &mut [i32],
-) -> Answer
+) -> base_outcome::Answer
     requires { ⌜ length (now positions) ≤ positionLimit + 1 ⌝ }
     ensures { λ r. ⌜ CurveLeaves (curveEnd (space (now (breaks .entry)) (now (degrees .entry)) (now (orders .entry))) (now (coefs .entry))
         (wordPositions first (length (now (positions .entry)))) (now (num .entry)) (now (den .entry)) (now (values .entry)))
@@ -60,7 +59,7 @@ fn index_rings(
     widths: &[i32],
     values: &[i32],
     indices: &mut [i64],
-) -> Answer
+) -> base_outcome::Answer
     requires { ⌜ IndexAsks (now widths) (now values) (now indices) ⌝ }
     ensures { λ r. ⌜ Indexed (cellsIndexed (now (widths .entry)) (now (values .entry)) (woodIndex (woodOf wood))) r (now (indices .entry))
         (now (indices .exit)) ⌝ }
@@ -68,10 +67,10 @@ fn index_rings(
     let offset = wood_index(wood);
     let bad = indices_rings::first_bad_ring(widths, values, offset);
     match bad {
-        base_outcome::Found::At(i) => Answer::Refused(14, i as u32),
+        base_outcome::Found::At(i) => base_outcome::Answer::Refused(14, i as u32),
         base_outcome::Found::Nothing => {
             indices_rings::write_indices(widths, values, offset, indices);
-            Answer::Count(widths.len())
+            base_outcome::Answer::Count(widths.len())
         }
     }
 }
@@ -90,7 +89,7 @@ pub fn indices(
     den: &mut [i64],
     values: &mut [i32],
     indices: &mut [i64],
-) -> Answer
+) -> base_outcome::Answer
     ensures { λ r. ⌜ (let e = indicesEnd (woodOf wood) (space (now (breaks .entry)) (now (degrees .entry)) (now (orders .entry)))
         (now (coefs .entry)) first (now (widths .entry)) (now (num .entry)) (now (den .entry)) (now (values .entry)) (now (indices .entry))
         in
@@ -98,16 +97,16 @@ pub fn indices(
         × ((now (den .exit) ≡ e .denominators) × ((now (values .exit) ≡ e .values) × (now (indices .exit) ≡ e .indices))))) ⌝ }
 {
     if num.len() < build_cells::TABLE_CELLS {
-        return Answer::Refused(1, 0);
+        return base_outcome::Answer::Refused(1, 0);
     }
     if den.len() < build_cells::TABLE_CELLS {
-        return Answer::Refused(1, 1);
+        return base_outcome::Answer::Refused(1, 1);
     }
     if values.len() / 2 < widths.len() {
-        return Answer::Refused(1, 2);
+        return base_outcome::Answer::Refused(1, 2);
     }
     if indices.len() < widths.len() {
-        return Answer::Refused(1, 3);
+        return base_outcome::Answer::Refused(1, 3);
     }
     let mut positions = [0; MOST_RINGS];
     let n = rings_taken(widths.len());
@@ -123,7 +122,7 @@ pub fn indices(
         values,
     );
     match read {
-        Answer::Refused(code, place) => Answer::Refused(code, place),
-        Answer::Count(_) => index_rings(wood, widths, values, indices),
+        base_outcome::Answer::Refused(code, place) => base_outcome::Answer::Refused(code, place),
+        base_outcome::Answer::Count(_) => index_rings(wood, widths, values, indices),
     }
 }

@@ -12,8 +12,8 @@ use Rattle.theorems_recovery.specs.Recovery.{Combination}
 use Rattle.theorems_recovery.specs.RecoveryCall.{weightsAfter, answersAfter, numeratorOf, denominatorOf}
 
 -- What a call with n ordinates answers and leaves, by the outcome of the whole beam, of which the weight buffers hold the last part.
-pub record BeamEnds (s : Space) (n : ℕ) (o : Outcome Combination) (r : Answer) (num den coefNum coefDen num′ den′ coefNum′ coefDen′ : List ℤ)
-    : Type 0 where
+pub record BeamEnds (s : Space) (n : ℕ) (o : Outcome Combination) (r : Answer)
+    (num den coefNum coefDen num′ den′ coefNum′ coefDen′ : List ℤ) : Type 0 where
   pub answers : reply r ≡ with-answer (λ _. rowCount s) o
   pub numerators-are : num′ ≡ weightsAfter numerators s o num
   pub denominators-are : den′ ≡ weightsAfter denominators s o den

@@ -37,17 +37,17 @@ numerals (some zs) = zs
 abbrev pub overwritten : List ℤ → List ℤ → List ℤ
 overwritten zs before = zs ++ drop (length zs) before
 
--- The numbers of a part of a text; none where it is no list.
+-- The numbers of a range of a text; none where it is no list.
 abbrev pub numeralsAt : Text → ℕ → ℕ → List ℤ
 numeralsAt text from to = numerals (numeralsOf (slice from to text))
 
--- A part of a text that is a good list, and room for its numbers.
+-- A range of a text that is a good list, and room for its numbers.
 pub record ListFits (text : Text) (from to room : ℕ) : Type 0 where
-  pub part : Range text from to
+  pub range : Range text from to
   pub good : numeralsOf (slice from to text) ≡ some (numeralsAt text from to)
   pub fits : length (numeralsAt text from to) ≤ room
 
--- The numbers of a part at the front of a buffer, and how many they are.
+-- The numbers of a range at the front of a buffer, and how many they are.
 pub record ListPut (text : Text) (from to : ℕ) (before now : List ℤ) (n : ℕ) : Type 0 where
   pub count : n ≡ length (numeralsAt text from to)
   pub put : now ≡ overwritten (numeralsAt text from to) before

@@ -44,7 +44,7 @@ pub record NameAt (text : Text) (from : ℕ) (names : Text) (at : ℕ) : Type 0 
   pub within : from + nameColumns ≤ length text
   pub fits : at + nameColumns ≤ length names
 
--- The part from the one index up to the other is widths.
+-- What stands from the one index up to the other is widths.
 pub record WidthsAt (widths : List ℤ) (from to : ℕ) : Type 0 where
   pub rising : from ≤ to
   pub within : to ≤ length widths

@@ -23,14 +23,14 @@ pub record LineEnd (text : Text) (from end : ℕ) : Type 0 where
   pub within : from ≤ length text
   pub is : end ≡ from + indexOf newline (slice from (length text) text)
 
--- A part of a text with n fields.
+-- A range of a text with n fields.
 pub record FieldsWithin (text : Text) (from to n : ℕ) : Type 0 where
-  pub part : Range text from to
+  pub range : Range text from to
   pub longer : from + n * fieldColumns ≤ to
 
--- A part of a text that has the columns of a line with n fields, one or more.
+-- A range of a text that has the columns of a line with n fields, one or more.
 pub record ColumnsOf (text : Text) (from end n : ℕ) : Type 0 where
-  pub part : Range text from end
+  pub range : Range text from end
   pub some-field : 1 ≤ n
   pub size : end ≡ from + 12 + n * fieldColumns
 

@@ -4,7 +4,6 @@ ghost use Rattle.build_space.specs.Machine.{space};
 ghost use Rattle.spec_spline.specs.Reading.{earlywood, latewood};
 ghost use Rattle.theorems_indices.specs.Indices.{indicesEnd};
 ghost use Rattle.walzhik_reply.specs.Machine.{replied};
-use base_outcome::Answer;
 
 // indices::indices by the earlywood.
 #[no_mangle]
@@ -26,7 +25,7 @@ pub extern "C" fn walzhik_earlywood_indices(
         (r ≡ replied (e .answers)) × ((now (num .exit) ≡ e .numerators)
         × ((now (den .exit) ≡ e .denominators) × ((now (values .exit) ≡ e .values) × (now (indices .exit) ≡ e .indices))))) ⌝ }
 {
-    let answer: Answer = indices::indices(
+    let answer: base_outcome::Answer = indices::indices(
         curve_ordinates::Wood::Earlywood,
         breaks,
         degrees,
@@ -62,7 +61,7 @@ pub extern "C" fn walzhik_latewood_indices(
         (r ≡ replied (e .answers)) × ((now (num .exit) ≡ e .numerators)
         × ((now (den .exit) ≡ e .denominators) × ((now (values .exit) ≡ e .values) × (now (indices .exit) ≡ e .indices))))) ⌝ }
 {
-    let answer: Answer = indices::indices(
+    let answer: base_outcome::Answer = indices::indices(
         curve_ordinates::Wood::Latewood,
         breaks,
         degrees,
