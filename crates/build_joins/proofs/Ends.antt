@@ -67,6 +67,8 @@ module _ (n : ℕ) (i : Table) (num₀ den₀ num den num′ den′ : List ℤ) 
           let told = weights-cleared s z in
           record {
             answers = ap reply (left .0);
-            numerators-are = p ∙ numerators-cleared num₀ num′ long (kept-then (subst (Kept num₀) (sym num-is) (kept-numerators i num₀ long)) (left .1)) ∙ sym (ap (λ c. cond c (numerators [] num₀) num₀) told);
-            denominators-are = q ∙ denominators-cleared den₀ den′ long′ (kept-then (subst (Kept den₀) (sym den-is) (kept-denominators i den₀ long′)) (left .2)) ∙ sym (ap (λ c. cond c (denominators [] den₀) den₀) told);
+            numerators-are = p ∙ numerators-cleared num₀ num′ long (kept-then (subst (Kept num₀) (sym num-is) (kept-numerators i num₀ long)) (left .1))
+                ∙ sym (ap (λ c. cond c (numerators [] num₀) num₀) told);
+            denominators-are = q ∙ denominators-cleared den₀ den′ long′ (kept-then (subst (Kept den₀) (sym den-is) (kept-denominators i den₀ long′)) (left .2))
+                ∙ sym (ap (λ c. cond c (denominators [] den₀) den₀) told);
           }

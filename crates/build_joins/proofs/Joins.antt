@@ -16,7 +16,8 @@ use Rattle.spec_spline.specs.Build.{orderSteps}
 use Rattle.build_space.specs.Machine.{space}
 use Rattle.build_space.specs.Legal.{PartLegal}
 use Rattle.build_space.proofs.Bounds.{first-column-zero, first-column-next, conditions-before-next}
-use Rattle.build_space.proofs.Legal.{legal-width-low, legal-width-high, legal-degree-high, legal-conditions-high, legal-conditions-left, legal-conditions-right, legal-columns-within, legal-conditions-before, part-column-count-high}
+use Rattle.build_space.proofs.Legal.{legal-width-low, legal-width-high, legal-degree-high, legal-conditions-high, legal-conditions-left}
+use Rattle.build_space.proofs.Legal.{legal-conditions-right, legal-columns-within, legal-conditions-before, part-column-count-high}
 use Rattle.build_space.proofs.Partial.{first-column-partial}
 use Rattle.spec_spline.proofs.Space.{firstColumn-mono}
 use Rattle.build_cells.specs.Held.{Holds}
@@ -43,8 +44,10 @@ join-whole b d o h = record { left-is = side-whole b d o (h .left-is); right-is 
 
 module _ (b d o : List ℤ) (part : PartLegal b d o) (j : ℕ) (within : j < length o) where
   -- no condition touches the rows of later segments, so that they stay as they are
-  pub join-idle : (columns k : ℕ) → k < conditionCount (space b d o) j → (i : ℕ) → jump j (conditions (space b d o) j k) (row (drop (firstColumn (space b d o) (suc (suc j))) (identity columns)) i) ≡ answer (int (pos 0))
-  join-idle columns k h i = row-idle (space b d o) j k columns i (omega (arith, legal-conditions-left b d o (part .lists) j within)) (omega (arith, legal-conditions-right b d o (part .lists) j within))
+  pub join-idle : (columns k : ℕ) → k < conditionCount (space b d o) j → (i : ℕ)
+      → jump j (conditions (space b d o) j k) (row (drop (firstColumn (space b d o) (suc (suc j))) (identity columns)) i) ≡ answer (int (pos 0))
+  join-idle columns k h i = row-idle (space b d o) j k columns i (omega (arith, legal-conditions-left b d o (part .lists) j within))
+      (omega (arith, legal-conditions-right b d o (part .lists) j within))
 
   pub join-later : (columns : ℕ) (t : Table) → orderSteps (space b d o) j (conditionCount (space b d o) j) (t ++ drop (firstColumn (space b d o) (suc (suc j))) (identity columns))
       ≡ with-answer (λ u. u ++ drop (firstColumn (space b d o) (suc (suc j))) (identity columns)) (orderSteps (space b d o) j (conditionCount (space b d o) j) t)
@@ -118,7 +121,17 @@ at-join b d o part j within columns rows n join part-is count columns-are column
   enough = enough;
   low = omega (arith, last-column, is .right-is .degree-is, first-column-next s (suc j), rows-are, columns-fit);
   wide = omega (arith, last-column, is .right-is .column-is, is .right-is .degree-is, first-column-next s (suc j));
-  next = omega (arith, enough, rows-are, conditions-before-next s j, count, is .right-is .degree-is, first-column-next s (suc j), ap (conditionsBefore s) (add-one j), ap (λ k. firstColumn s (suc k)) (add-one j));
+  next = omega (
+    arith,
+    enough,
+    rows-are,
+    conditions-before-next s j,
+    count,
+    is .right-is .degree-is,
+    first-column-next s (suc j),
+    ap (conditionsBefore s) (add-one j),
+    ap (λ k. firstColumn s (suc k)) (add-one j),
+  );
   before-last = omega (arith, part .lists .order-count);
   small = omega (arith, part .lists .order-count, part .few);
 }

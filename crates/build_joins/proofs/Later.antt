@@ -113,7 +113,8 @@ module _ (j : ℕ) (js longer : List ℚ) (more : length js ≤ length longer) (
   span-longer : span j longer ≡ span j js
   unfolding span
   span-longer =
-      ap₂ (spanOf j longer) (first-longer (jumpsAt js) (jumpsAt longer) tests (length js) (length longer) more past) (last-longer (jumpsAt js) (jumpsAt longer) tests (length js) (length longer) more past)
+      ap₂ (spanOf j longer) (first-longer (jumpsAt js) (jumpsAt longer) tests (length js) (length longer) more past)
+      (last-longer (jumpsAt js) (jumpsAt longer) tests (length js) (length longer) more past)
       ∙ go (first (length js) (jumpsAt js)) (last (length js) (jumpsAt js))
     where
       go : (f l : Option ℕ) → spanOf j longer f l ≡ spanOf j js f l
@@ -178,7 +179,8 @@ module _ (j : ℕ) (κ : List Entry) (t later : Table) (idle : (i : ℕ) → i <
   unfolding rowsRenewed
   renewed-all g ws order below = ap (λ (o : Outcome Table). o then λ rs. answer (take (g .f) all ++ (rs ++ drop (suc (g .l)) all))) (new-rows g ws below) ∙ with-rows (newRows j g ws t)
     where
-      with-rows : (o : Outcome Table) → (o then λ rs. answer (take (g .f) all ++ (rs ++ drop (suc (g .l)) all))) ≡ with-answer (λ u. u ++ later) (o then λ rs. answer (take (g .f) t ++ (rs ++ drop (suc (g .l)) t)))
+      with-rows : (o : Outcome Table) → (o then λ rs. answer (take (g .f) all ++ (rs ++ drop (suc (g .l)) all))) ≡ with-answer (λ u. u ++ later)
+          (o then λ rs. answer (take (g .f) t ++ (rs ++ drop (suc (g .l)) t)))
       with-rows (answer rs) = ap answer (spliced-within (g .f) (g .l) t later rs order below)
       with-rows (refusal code place) = refl
 
@@ -203,14 +205,16 @@ module _ (j : ℕ) (κ : List Entry) (t later : Table) (idle : (i : ℕ) → i <
           n : length js ≡ length t
           n = jumps-length j κ t e
 
-          factored : (g : Span) (o : Outcome (List ℚ)) → (o then λ ws. answer (record { jumps = longer js; span = g; factors = ws })) ≡ with-answer with-zeros (o then λ ws. answer (record { jumps = js; span = g; factors = ws }))
+          factored : (g : Span) (o : Outcome (List ℚ)) → (o then λ ws. answer (record { jumps = longer js; span = g; factors = ws })) ≡ with-answer with-zeros
+              (o then λ ws. answer (record { jumps = js; span = g; factors = ws }))
           factored g (answer ws) = refl
           factored g (refusal code place) = refl
 
           spanned : (o : Outcome Span) → (o then rest (longer js)) ≡ with-answer with-zeros (o then rest js)
           spanned (refusal code place) = refl
           spanned (answer g) =
-              ap (λ (o : Outcome (List ℚ)). o then λ ws. answer (record { jumps = longer js; span = g; factors = ws })) (factors-longer j js (longer js) (omega (arith, tab-length (length all) (entry js), size, n)) (same-entries js n) g)
+              ap (λ (o : Outcome (List ℚ)). o then λ ws. answer (record { jumps = longer js; span = g; factors = ws }))
+              (factors-longer j js (longer js) (omega (arith, tab-length (length all) (entry js), size, n)) (same-entries js n) g)
               ∙ factored g (factors j js g)
 
   -- what follows the first half
@@ -259,9 +263,11 @@ column-low s j k e left right h = go (le-or-lt e k)
     go (inl l) = omega (arith, column-left s j k e l, first-column-next s j, first-column-next s (suc j))
     go (inr l) = omega (arith, column-right s j k e l (omega (arith, conditions-length s j k)), first-column-next s (suc j), conditions-length s j k)
 
-pub row-idle : (s : Space) (j k columns i : ℕ) → k < degree s j → k < degree s (suc j) → jump j (conditions s j k) (row (drop (firstColumn s (suc (suc j))) (identity columns)) i) ≡ answer (int (pos 0))
+pub row-idle : (s : Space) (j k columns i : ℕ) → k < degree s j → k < degree s (suc j)
+    → jump j (conditions s j k) (row (drop (firstColumn s (suc (suc j))) (identity columns)) i) ≡ answer (int (pos 0))
 row-idle s j k columns i left right = jump-idle j (conditions s j k) (row (drop c (identity columns)) i)
-    (λ e h. ap (λ r. entry r (columnOf (conditions s j k) e)) (getD-drop c (identity columns) i []) ∙ identity-off columns (c + i) (columnOf (conditions s j k) e) (λ z. omega (arith, column-low s j k e left right h)))
+    (λ e h. ap (λ r. entry r (columnOf (conditions s j k) e)) (getD-drop c (identity columns) i [])
+    ∙ identity-off columns (c + i) (columnOf (conditions s j k) e) (λ z. omega (arith, column-low s j k e left right h)))
   where
     c : ℕ
     c = firstColumn s (suc (suc j))

@@ -28,7 +28,8 @@ later s columns j = drop (firstColumn s (suc j)) (identity columns)
 pub grown-whole : (s : Space) (columns j : ℕ) (t : Table) → t ++ later s columns j ≡ grown s j columns t ++ later s columns (suc j)
 grown-whole s columns j t =
     grown-later t (firstColumn s (suc j)) (degree s (suc j) + 1) columns
-    ∙ ap (λ c. grown s j columns t ++ drop c (identity columns)) (let z : firstColumn s (suc j) + (degree s (suc j) + 1) ≡ firstColumn s (suc (suc j)) = omega (arith, first-column-next s (suc j)) in z)
+    ∙ ap (λ c. grown s j columns t ++ drop c (identity columns)) (let z : firstColumn s (suc j) + (degree s (suc j) + 1) ≡ firstColumn s (suc (suc j)) = omega
+    (arith, first-column-next s (suc j)) in z)
 
 -- after the last join none are left
 pub later-none : (s : Space) (columns j : ℕ) → columns ≡ columnCount s → suc j ≡ segments s → later s columns j ≡ []

@@ -16,8 +16,11 @@ use Rattle.build_space.specs.Machine.{space}
 use Rattle.base_outcome.specs.Machine.{legality}
 use Rattle.build_space.specs.Legal.{JoinsLegal, ListsLegal, PartLegal}
 use Rattle.base_outcome.specs.declared.Legality.the-variants.{Legal}
-use Rattle.build_space.proofs.Entries.{good-break-size, break-good-first, break-good, good-degree-low, good-degree-high, degree-good, GoodOrder, good-order, order-good, good-span, span-good, good-part, part-good}
-use Rattle.build_space.proofs.Bounds.{width-positive, width-within, degree-high, first-column-next, first-column-high, condition-count-high, condition-count-left, condition-count-right, conditions-before-columns, row-count-sum}
+use Rattle.build_space.proofs.Entries.{good-break-size, break-good-first, break-good, good-degree-low, good-degree-high, degree-good}
+use Rattle.build_space.proofs.Entries.{GoodOrder, good-order, order-good, good-span, span-good, good-part, part-good}
+use Rattle.build_space.proofs.Bounds.{width-positive, width-within, degree-high, first-column-next, first-column-high}
+use Rattle.build_space.proofs.Bounds.{condition-count-high, condition-count-left, condition-count-right, conditions-before-columns}
+use Rattle.build_space.proofs.Bounds.{row-count-sum}
 use Rattle.base_outcome.proofs.Machine.{legal-answers}
 
 -- ---- the check and its meaning
@@ -30,7 +33,10 @@ module _ (b d o : List ℤ) where
     few = lengths .few-segments;
     break-count = lengths .break-count;
     order-count = lengths .order-count;
-    breaks-legal = record { size = λ i l. good-break-size whole i (passed .breaks i (omega (arith, lengths .break-count))); rise = λ i l. good-break-rises whole i (passed .breaks (suc i) (omega (arith, lengths .break-count))) };
+    breaks-legal = record {
+      size = λ i l. good-break-size whole i (passed .breaks i (omega (arith, lengths .break-count)));
+      rise = λ i l. good-break-rises whole i (passed .breaks (suc i) (omega (arith, lengths .break-count)));
+    };
     degrees-legal = record { low = λ i l. good-degree-low whole i (passed .degrees i l); high = λ i l. good-degree-high whole i (passed .degrees i l) };
     orders-legal = record { low = λ i l. good i l .low; high = λ i l. good i l .high };
     left = λ i l. good i l .left;
@@ -58,7 +64,8 @@ module _ (b d o : List ℤ) where
     breaks = good-break;
     spans = λ i l. span-good (space b d o) i (h .spans i l);
     degrees = λ i l. degree-good (space b d o) i (h .degrees-legal .low i l) (h .degrees-legal .high i l);
-    orders = λ i l. let k : i < length o = omega (arith, h .order-count) in order-good (space b d o) i (record { low = h .orders-legal .low i k; high = h .orders-legal .high i k; left = h .left i k; right = h .right i k });
+    orders = λ i l. let k : i < length o = omega (arith, h .order-count) in
+        order-good (space b d o) i (record { low = h .orders-legal .low i k; high = h .orders-legal .high i k; left = h .left i k; right = h .right i k });
     few = λ i l. part-good (space b d o) i (h .part-counts i l);
   })
     where
@@ -93,7 +100,8 @@ module _ (b d o : List ℤ) (h : ListsLegal b d o) where
       let p = segment-in-part (space b d o) i l in
       let a = p .start in
       let e = part-ends (space b d o) a (omega (arith, p .from)) in
-      width-within (space b d o) (h .breaks-legal) a (partEnd (space b d o) a) i (p .from) (p .to) (omega (arith, e .boundary .within, h .break-count)) (h .spans a (omega (arith, p .from)) (p .starts))
+      width-within (space b d o) (h .breaks-legal) a (partEnd (space b d o) a) i (p .from) (p .to) (omega (arith, e .boundary .within, h .break-count))
+      (h .spans a (omega (arith, p .from)) (p .starts))
 
   pub legal-degree-high : (i : ℕ) → i < length d → degree (space b d o) i ≤ 5
   legal-degree-high i l = degree-high (space b d o) (h .degrees-legal) i l

@@ -9,7 +9,8 @@ use lib.Dec.{ltb}
 use lib.IntN.{ℤ}
 use lib.ListN.{length}
 use lib.Signed.{ltZ, leZ}
-use Rattle.spec_spline.specs.Space.{break, startsPart, partEnd, tooManySegments, partSegmentLimit, badBreak, badDegree, badOrder, degree, conditionCount, firstColumn, columnCount, conditionsBefore, rowCount}
+use Rattle.spec_spline.specs.Space.{break, startsPart, partEnd, tooManySegments, partSegmentLimit, badBreak, badDegree, badOrder, degree}
+use Rattle.spec_spline.specs.Space.{conditionCount, firstColumn, columnCount, conditionsBefore, rowCount}
 use Rattle.base_outcome.specs.Search.{first}
 use Rattle.spec_spline.specs.Reading.{fine, startsAtDiscontinuity, startsBy}
 use Rattle.build_space.specs.Machine.{space}
@@ -74,4 +75,5 @@ module _ (b d o : List ℤ) where
 
 -- the number of rows needs the degrees and the orders
 pub row-count-partial : (b d o : List ℤ) → rowCount (space [] d o) ≡ rowCount (space b d o)
-row-count-partial b d o = ap₂ _-_ (sym (column-count-partial [] d o) ∙ column-count-partial b d o) (sym (conditions-before-partial [] d o (length d - 1)) ∙ conditions-before-partial b d o (length d - 1))
+row-count-partial b d o = ap₂ _-_ (sym (column-count-partial [] d o) ∙ column-count-partial b d o)
+    (sym (conditions-before-partial [] d o (length d - 1)) ∙ conditions-before-partial b d o (length d - 1))

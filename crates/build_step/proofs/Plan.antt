@@ -32,12 +32,14 @@ module _ (j : ℕ) (κ : List Entry) (t : Table) where
   unfolding planned planFrom planOver
   then-planned {B} rest = with-jumps (jumps j κ t)
     where
-      with-factors : (js : List ℚ) (g : Span) (o : Outcome (List ℚ)) → ((o then λ ws. answer (record { jumps = js; span = g; factors = ws })) then rest) ≡ (o then λ ws. rest (record { jumps = js; span = g; factors = ws }))
+      with-factors : (js : List ℚ) (g : Span) (o : Outcome (List ℚ)) → ((o then λ ws. answer (record { jumps = js; span = g; factors = ws })) then rest) ≡
+          (o then λ ws. rest (record { jumps = js; span = g; factors = ws }))
       with-factors js g (answer ws) = refl
       with-factors js g (refusal code place) = refl
 
       with-span : (js : List ℚ) (o : Outcome Span)
-          → ((o then λ g. factors j js g then λ ws. answer (record { jumps = js; span = g; factors = ws })) then rest) ≡ (o then λ g. factors j js g then λ ws. rest (record { jumps = js; span = g; factors = ws }))
+          → ((o then λ g. factors j js g then λ ws. answer (record { jumps = js; span = g; factors = ws })) then rest) ≡
+          (o then λ g. factors j js g then λ ws. rest (record { jumps = js; span = g; factors = ws }))
       with-span js (answer g) = with-factors js g (factors j js g)
       with-span js (refusal code place) = refl
 

@@ -60,7 +60,8 @@ module _ (j : ℕ) (g : Span) (ws : Row) (t : Table) {rs : Table} (e : newRows j
   newRows-length = collected .size
 
   pub newRows-wide : (d : ℕ) → d < g .l - g .f → length (row rs d) ≡ length (row t (g .f + d))
-  newRows-wide d h = collect-inverts (length (row t (g .f + d))) (λ c. newEntry j (entry ws d) (entry ws (suc d)) (entry (row t (g .f + d)) c) (entry (row t (g .f + suc d)) c)) (collected .at d h []) .size
+  newRows-wide d h = collect-inverts (length (row t (g .f + d))) (λ c. newEntry j (entry ws d) (entry ws (suc d)) (entry (row t (g .f + d)) c)
+      (entry (row t (g .f + suc d)) c)) (collected .at d h []) .size
 
   pub newRows-fit : TableFits rs
   newRows-fit d c = go (decLt d (g .l - g .f))
@@ -131,6 +132,8 @@ pub weights-proper : (s : Space) {t : Table} → columnCount s ≤ rowCells → 
 unfolding weights joinSteps conditionsBefore
 weights-proper s {t} h e =
     repeat-keeps (λ k u. Proper u (columnCount s - conditionsBefore s k) (columnCount s)) (segments s - 1) (λ j. orderSteps s j (conditionCount s j)) (identity (columnCount s))
-    (subst (λ m. Proper (identity (columnCount s)) m (columnCount s)) (let z : columnCount s ≡ columnCount s - 0 = omega arith in z) (record { shaped = identity-shaped (columnCount s) h; fit = identity-fits (columnCount s) }))
-    (λ j u v l p f. subst (λ m. Proper v m (columnCount s)) (let z : columnCount s - conditionsBefore s j - conditionCount s j ≡ columnCount s - (conditionsBefore s j + conditionCount s j) = omega arith in z) (orders-less s j (conditionCount s j) u f p))
+    (subst (λ m. Proper (identity (columnCount s)) m (columnCount s)) (let z : columnCount s ≡ columnCount s - 0 = omega arith in z)
+    (record { shaped = identity-shaped (columnCount s) h; fit = identity-fits (columnCount s) }))
+    (λ j u v l p f. subst (λ m. Proper v m (columnCount s)) (let z : columnCount s - conditionsBefore s j - conditionCount s j ≡
+    columnCount s - (conditionsBefore s j + conditionCount s j) = omega arith in z) (orders-less s j (conditionCount s j) u f p))
     t e

@@ -28,7 +28,8 @@ use Rattle.recover_limits.proofs.Ordinates.{passed}
 
 -- ---- what the call ends with
 
-tested : {A : Type 0} (rest : Outcome A) (b : Bool) (o : Option ℕ) → cond b (refuseFirst 18 o rest) (refuse 18 largestPlace) ≡ (cond b (refuseFirst 18 o passed) (refuse 18 largestPlace) then λ _. rest)
+tested : {A : Type 0} (rest : Outcome A) (b : Bool) (o : Option ℕ) → cond b (refuseFirst 18 o rest)
+    (refuse 18 largestPlace) ≡ (cond b (refuseFirst 18 o passed) (refuse 18 largestPlace) then λ _. rest)
 tested rest true none = refl
 tested rest true (some i) = refl
 tested rest false o = refl
@@ -97,7 +98,8 @@ ordinates-keep s ordinates {code} {place} e = go (eqb (length ordinates) (column
     go true r = first-code Keeps 18 (first (length ordinates) (badOrdinate ordinates)) passed refl (λ z. absurd (answer-not-refusal refl z)) r
     go false r = refusal-code Keeps 18 largestPlace refl r
 
-pub beam-unchanged : (s : Space) (n : ℕ) {num den coefNum coefDen : List ℤ} {code place : ℕ} → clearsAll code ≡ false → BeamEnds s n (refusal code place) (Refused code place) num den coefNum coefDen num den coefNum coefDen
+pub beam-unchanged : (s : Space) (n : ℕ) {num den coefNum coefDen : List ℤ} {code place : ℕ} → clearsAll code ≡ false
+    → BeamEnds s n (refusal code place) (Refused code place) num den coefNum coefDen num den coefNum coefDen
 unfolding reply
 beam-unchanged s n kept = record {
   answers = refl;

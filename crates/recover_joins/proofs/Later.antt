@@ -43,7 +43,8 @@ module _ (j : ℕ) (js longer : List ℚ) (same : (i : ℕ) → entry longer i �
   sum-past zero = ap (jumpSum j longer all) (let z : length ps + 0 ≡ length ps = omega arith in z) ∙ sum-same (length ps) (omega arith)
   sum-past (suc n) =
       ap (jumpSum j longer all) (let z : length ps + suc n ≡ suc (length ps + n) = omega arith in z)
-      ∙ ap₂ (λ (o : Outcome ℚ) (b : Bool). o then λ s. cond (not b) (fitted j (entry all (length ps + n) *ᵠ entry longer (length ps + n)) then λ p. fitted j (s +ᵠ p)) (answer s)) (sum-past n) (zero-test (same (length ps + n) ∙ entry-past js (length ps + n) (omega arith)))
+      ∙ ap₂ (λ (o : Outcome ℚ) (b : Bool). o then λ s. cond (not b) (fitted j (entry all (length ps + n) *ᵠ entry longer (length ps + n)) then λ p. fitted j
+      (s +ᵠ p)) (answer s)) (sum-past n) (zero-test (same (length ps + n) ∙ entry-past js (length ps + n) (omega arith)))
       ∙ go (jumpSum j js ps (length ps))
     where
       go : (o : Outcome ℚ) → (o then λ s. answer s) ≡ o
@@ -60,7 +61,8 @@ module _ (j : ℕ) (js longer : List ℚ) (same : (i : ℕ) → entry longer i �
 rows-all : (j : ℕ) (ws ps qs : List ℚ) (f n : ℕ) → f + n ≤ length ps → undoneRows j ws (ps ++ qs) f n ≡ undoneRows j ws ps f n
 unfolding undoneRows
 rows-all j ws ps qs f zero h = refl
-rows-all j ws ps qs f (suc n) h = ap (λ (o : Outcome (List ℚ)). o then λ ds. undoneRow j ws (ps ++ qs) f n ds then λ d. answer (ds ++ (d ∷ []))) (rows-all j ws ps qs f n (omega arith)) ∙ go (undoneRows j ws ps f n)
+rows-all j ws ps qs f (suc n) h = ap (λ (o : Outcome (List ℚ)). o then λ ds. undoneRow j ws (ps ++ qs) f n ds then λ d. answer (ds ++ (d ∷ [])))
+    (rows-all j ws ps qs f n (omega arith)) ∙ go (undoneRows j ws ps f n)
   where
     row-all : (m : ℕ) (ds : List ℚ) → f + m < length ps → undoneRow j ws (ps ++ qs) f m ds ≡ undoneRow j ws ps f m ds
     row-all zero ds l = ap answer (List·getD-append ps qs (int (pos 0)) f (omega arith))
@@ -76,7 +78,8 @@ module _ (j : ℕ) (κ : List Entry) (t later : Table) (idle : (i : ℕ) → i <
   unfolding undone
   undoing-all p w =
       ap₂ (λ (o : Outcome (Unit {0})) (r : Outcome (List ℚ)). o then λ _. r then λ ds. answer (take (p .span .f) (ps ++ qs) ++ (ds ++ drop (suc (p .span .l)) (ps ++ qs))))
-      (balanced-all j (p .jumps) (longer j κ t later idle (p .jumps)) (same-entries j κ t later idle (p .jumps) (w .count)) ps qs (omega (arith, w .count, count)) (omega (arith, w .count, tab-length (length (t ++ later)) (entry (p .jumps)), length-append t later)))
+      (balanced-all j (p .jumps) (longer j κ t later idle (p .jumps)) (same-entries j κ t later idle (p .jumps) (w .count)) ps qs
+      (omega (arith, w .count, count)) (omega (arith, w .count, tab-length (length (t ++ later)) (entry (p .jumps)), length-append t later)))
       (rows-all j (p .factors) ps qs (p .span .f) (p .span .l - p .span .f) (omega (arith, w .spans .ordered, w .spans .below, w .count, count)))
       ∙ go (balanced j (p .jumps) ps) (undoneRows j (p .factors) ps (p .span .f) (p .span .l - p .span .f))
     where
@@ -110,7 +113,8 @@ module _ (j : ℕ) (κ : List Entry) (t later : Table) (idle : (i : ℕ) → i <
 -- ---- all orders of a join
 pub orders-all : (s : Space) (j n : ℕ) (r : Combination) (later : Table) (qs : List ℚ) {rows columns : ℕ} → Sound r rows columns
     → ((k : ℕ) → k < n → (i : ℕ) → i < length later → jump j (conditions s j k) (row later i) ≡ answer (int (pos 0)))
-    → recoverOrders s j n (record { table = r .table ++ later; coefficients = r .coefficients ++ qs }) ≡ with-answer (λ u. record { table = u .table ++ later; coefficients = u .coefficients ++ qs }) (recoverOrders s j n r)
+    → recoverOrders s j n (record { table = r .table ++ later; coefficients = r .coefficients ++ qs }) ≡ with-answer
+    (λ u. record { table = u .table ++ later; coefficients = u .coefficients ++ qs }) (recoverOrders s j n r)
 unfolding recoverOrders
 orders-all s j n r later qs {rows} {columns} sound idle =
     repeat-through (λ k u. (m : ℕ) × Sound u m columns) n (λ k. recoverStep j (conditions s j k)) (λ u. record { table = u .table ++ later; coefficients = u .coefficients ++ qs }) r (rows, sound)

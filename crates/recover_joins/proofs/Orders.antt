@@ -83,8 +83,11 @@ recover-one-less j κ r {next} {rows} {columns} e sound =
     let size = rows-undone j (p .own .ws) (r .coefficients) (p .own .g .f) (p .own .g .l - p .own .g .f) (p .has-rows) .size in
     record {
       proper = step-one-less j κ (r .table) (p .has-step) (sound .proper);
-      count = ap length (sym (p .whole)) ∙ spliced-length (r .coefficients) (p .ds) (p .own .g .f) (suc (p .own .g .l)) (omega (arith, s .ordered, below)) ∙ omega (arith, size, s .ordered, below, sound .count);
-      fit = subst AllFit (p .whole) (spliced-fit (r .coefficients) (p .ds) (p .own .g .f) (suc (p .own .g .l)) (omega (arith, s .ordered, below)) (omega (arith, size, s .ordered)) (sound .fit) (rows-fit j (p .own .ws) (r .coefficients) (p .own .g .f) (p .own .g .l - p .own .g .f) (sound .fit) (p .has-rows)));
+      count = ap length (sym (p .whole)) ∙ spliced-length (r .coefficients) (p .ds) (p .own .g .f) (suc (p .own .g .l)) (omega (arith, s .ordered, below))
+          ∙ omega (arith, size, s .ordered, below, sound .count);
+      fit = subst AllFit (p .whole) (spliced-fit (r .coefficients) (p .ds) (p .own .g .f) (suc (p .own .g .l)) (omega (arith, s .ordered, below))
+          (omega (arith, size, s .ordered)) (sound .fit) (rows-fit j (p .own .ws) (r .coefficients) (p .own .g .f) (p .own .g .l - p .own .g .f) (sound .fit)
+          (p .has-rows)));
     }
 
 -- ---- the orders at a join

@@ -76,7 +76,8 @@ module _ (j : ℕ) (κ : List Entry) (t : Table) (ps : List ℚ) where
         where
           go : (o : Outcome Table) → made ≡ o → LeavesIf o false num den num′ den′ → Leaving r
           go (answer u) z left = absurd (false≢true (left .0))
-          go (refusal code place) z left = left-refusal (λ q. q .table) toldCoefficients num den num′ den′ (planned-is ∙ then-refuses (λ u. undoing j p ps then λ ds. answer (record { table = u; coefficients = ds })) z)
+          go (refusal code place) z left = left-refusal (λ q. q .table) toldCoefficients num den num′ den′
+              (planned-is ∙ then-refuses (λ u. undoing j p ps then λ ds. answer (record { table = u; coefficients = ds })) z)
               (h ∙ ap (λ m. record { refusal = refusals.Refused m; of = fractions [] }) (sym (renewed-refuses j t (p .factors) (p .span) code place z))) (left .1) (left .2)
 
       -- the table is made: the undoing decides
@@ -87,9 +88,11 @@ module _ (j : ℕ) (κ : List Entry) (t : Table) (ps : List ℚ) where
           undoes : (u : Table) → made ≡ answer u → num′ ≡ numerators u num → den′ ≡ denominators u den → (o : Outcome (List ℚ)) → undoing j p ps ≡ o → r ≡ coefficientsOf o
               → Leaving r
           undoes u z k l (answer ds) e h = left-answer (λ q. q .table) toldCoefficients num den num′ den′
-              (planned-is ∙ then-answers (λ u. undoing j p ps then λ ds. answer (record { table = u; coefficients = ds })) z ∙ then-answers (λ ds. answer (record { table = u; coefficients = ds })) e) h k l
+              (planned-is ∙ then-answers (λ u. undoing j p ps then λ ds. answer (record { table = u; coefficients = ds })) z
+              ∙ then-answers (λ ds. answer (record { table = u; coefficients = ds })) e) h k l
           undoes u z k l (refusal code place) e h = left-refusal (λ q. q .table) toldCoefficients num den num′ den′
-              (planned-is ∙ then-answers (λ u. undoing j p ps then λ ds. answer (record { table = u; coefficients = ds })) z ∙ then-refuses (λ ds. answer (record { table = u; coefficients = ds })) e) h
+              (planned-is ∙ then-answers (λ u. undoing j p ps then λ ds. answer (record { table = u; coefficients = ds })) z
+              ∙ then-refuses (λ ds. answer (record { table = u; coefficients = ds })) e) h
               (subst (Kept num) (sym k) (kept-numerators u num long)) (subst (Kept den) (sym l) (kept-denominators u den long′))
 
           go : (o : Outcome Table) → made ≡ o → LeavesIf o true num den num′ den′ → Leaving r

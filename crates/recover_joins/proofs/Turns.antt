@@ -62,7 +62,8 @@ map-append (x ∷ xs) ys = ap (λ zs. int x ∷ zs) (map-append xs ys)
 pub grown-coefficients : (s : Space) (os : List ℤ) (j : ℕ) (ps : List ℚ)
     → ps ++ later-coefficients s os j ≡ (ps ++ map int (take (degree s (suc j) + 1) (drop (firstColumn s (suc j)) os))) ++ later-coefficients s os (suc j)
 grown-coefficients s os j ps =
-    ap (λ xs. ps ++ map int xs) (sym (take-append-drop n (drop c os)) ∙ ap (λ xs. take n (drop c os) ++ xs) (drop-drop n c os ∙ ap (λ i. drop i os) (let z : c + n ≡ firstColumn s (suc (suc j)) = omega (arith, first-column-next s (suc j)) in z)))
+    ap (λ xs. ps ++ map int xs) (sym (take-append-drop n (drop c os)) ∙ ap (λ xs. take n (drop c os) ++ xs)
+    (drop-drop n c os ∙ ap (λ i. drop i os) (let z : c + n ≡ firstColumn s (suc (suc j)) = omega (arith, first-column-next s (suc j)) in z)))
     ∙ ap (λ xs. ps ++ xs) (map-append (take n (drop c os)) (drop (firstColumn s (suc (suc j))) os))
     ∙ sym (append-assoc ps (map int (take n (drop c os))) (later-coefficients s os (suc j)))
   where
@@ -101,7 +102,8 @@ columns-count os c n h = length-map (take n (drop c os)) int ∙ length-take-le 
 
 -- with rows and ordinates that came in
 pub grown-sound : (s : Space) (j columns : ℕ) (os : List ℤ) (r : Combination) {rows : ℕ} → length os ≡ columns → AllFit (map int os) → firstColumn s (suc j) + (degree s (suc j) + 1) ≤ columns
-    → Proper (grown s j columns (r .table)) (rows + (degree s (suc j) + 1)) columns → length (r .coefficients) ≡ rows → AllFit (r .coefficients) → Sound (grownCombination s j columns os r) (rows + (degree s (suc j) + 1)) columns
+    → Proper (grown s j columns (r .table)) (rows + (degree s (suc j) + 1)) columns → length (r .coefficients) ≡ rows → AllFit (r .coefficients)
+    → Sound (grownCombination s j columns os r) (rows + (degree s (suc j) + 1)) columns
 grown-sound s j columns os r {rows} size fit wide proper count present = record {
   proper = proper;
   count = length-append (r .coefficients) (map int (take n (drop c os))) ∙ omega (arith, count, columns-count os c n (omega (arith, size, wide)));
@@ -134,8 +136,10 @@ module _ (b d o : List ℤ) (part : PartLegal b d o) (columns : ℕ) (columns-ar
   pub turn-at : (j : ℕ) (r : Combination) → j < segments s - 1 → Sound r (rows-in b d o part columns columns-are room j) columns
       → recoverOrders s j (conditionCount s j) (with-later j r) ≡ with-answer (with-later (suc j)) (recoverOrders s j (conditionCount s j) (grownCombination s j columns os r))
   turn-at j r l p =
-      ap₂ (λ (t : Table) (ps : List ℚ). recoverOrders s j (conditionCount s j) (record { table = t; coefficients = ps })) (grown-whole s columns j (r .table)) (grown-coefficients s os j (r .coefficients))
-      ∙ orders-all s j (conditionCount s j) (grownCombination s j columns os r) (later s columns (suc j)) (later-coefficients s os (suc j)) (laid-sound j r l p) (λ k h i i-low. join-idle b d o part j (within b d o part columns columns-are room l) columns k h i)
+      ap₂ (λ (t : Table) (ps : List ℚ). recoverOrders s j (conditionCount s j) (record { table = t; coefficients = ps })) (grown-whole s columns j (r .table))
+      (grown-coefficients s os j (r .coefficients))
+      ∙ orders-all s j (conditionCount s j) (grownCombination s j columns os r) (later s columns (suc j)) (later-coefficients s os (suc j))
+      (laid-sound j r l p) (λ k h i i-low. join-idle b d o part j (within b d o part columns columns-are room l) columns k h i)
 
   abbrev pub join-turns : Turns Combination
   join-turns = record {
@@ -148,5 +152,6 @@ module _ (b d o : List ℤ) (part : PartLegal b d o) (columns : ℕ) (columns-ar
     Sound = λ j r. Sound r (rows-in b d o part columns columns-are room j) columns;
     fits = λ j r p. p .proper .fit;
     turn = turn-at;
-    keeps = λ j r u l p e. subst (λ m. Sound u m columns) (rows-left b d o part columns columns-are room j l) (orders-sound s j (conditionCount s j) (grownCombination s j columns os r) e (laid-sound j r l p));
+    keeps = λ j r u l p e. subst (λ m. Sound u m columns) (rows-left b d o part columns columns-are room j l)
+        (orders-sound s j (conditionCount s j) (grownCombination s j columns os r) e (laid-sound j r l p));
   }

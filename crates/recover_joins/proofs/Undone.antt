@@ -43,8 +43,10 @@ pub factors-nonzero : (j : ℕ) (qs : List ℚ) (g : Span) (ws : List ℚ) → f
 factors-nonzero j qs g ws e few us h d below z = some d below (entries-same ws us h d (omega (arith, below, few)) ∙ z)
   where
     some : (d : ℕ) → d < g .l - g .f → entry ws d ≢ int (pos 0)
-    some zero l k = let z : pos 1 ≡ pos 0 = sym (int-num (pos 1)) ∙ ap (λ (q : ℚ). q .num) (sym (factors-inverts j qs g e .at-first) ∙ k) ∙ int-num (pos 0) in let q : _≡_ {A = ℕ} 1 0 = ap natAbs z in omega arith
-    some (suc d) l k = pos-nonzero (ltᵠ-true _ _ (factors-inverts j qs g e .inside (g .f + suc d) (omega arith) (omega arith) .above-zero)) (ap (entry ws) (let q : g .f + suc d - g .f ≡ suc d = omega arith in q) ∙ k)
+    some zero l k = let z : pos 1 ≡ pos 0 = sym (int-num (pos 1)) ∙ ap (λ (q : ℚ). q .num) (sym (factors-inverts j qs g e .at-first) ∙ k) ∙ int-num (pos 0) in
+        let q : _≡_ {A = ℕ} 1 0 = ap natAbs z in omega arith
+    some (suc d) l k = pos-nonzero (ltᵠ-true _ _ (factors-inverts j qs g e .inside (g .f + suc d) (omega arith) (omega arith) .above-zero))
+        (ap (entry ws) (let q : g .f + suc d - g .f ≡ suc d = omega arith in q) ∙ k)
 
 -- ---- the new coefficients without that of row l
 

@@ -53,7 +53,8 @@ module _ (s : Space) (ordinates : List ℤ) where
 -- the breakpoints and the orders do not matter to the ordinates
 pub ordinates-partial : (b d o ordinates : List ℤ) → ordinatesChecked (space [] d []) ordinates ≡ ordinatesChecked (space b d o) ordinates
 unfolding ordinatesChecked
-ordinates-partial b d o ordinates = ap (λ n. cond (eqb (length ordinates) n) (refuseFirst 18 (first (length ordinates) (badOrdinate ordinates)) passed) (refuse 18 largestPlace)) (column-count-partial b d o)
+ordinates-partial b d o ordinates = ap (λ n. cond (eqb (length ordinates) n) (refuseFirst 18 (first (length ordinates) (badOrdinate ordinates)) passed)
+    (refuse 18 largestPlace)) (column-count-partial b d o)
 
 -- ordinates in their range fit the size limit
 ordinates-fit : (ordinates : List ℤ) → ((i : ℕ) → i < length ordinates → badOrdinate ordinates i ≡ false) → AllFit (map int ordinates)

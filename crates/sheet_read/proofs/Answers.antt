@@ -78,7 +78,7 @@ pairs-at {text} {ps} {start} {end} at =
 
 module _ {limit : ℕ} {text : Text} {zs : List ℤ} {start end : ℕ} (at : NumeralsAt limit text zs start end) where
   pub fill-ready : {room : ℕ} → room ≡ limit → ListFits text start end room
-  fill-ready h = record { part = at .range; good = rw (at .are); fits = rw (at .are) (omega (arith, at .few)) }
+  fill-ready h = record { range = at .range; good = rw (at .are); fits = rw (at .are) (omega (arith, at .few)) }
 
   pub fills : {before now : List ℤ} {n : ℕ} → ListPut text start end before now n → Fills zs before now n
   fills {before} p = record {

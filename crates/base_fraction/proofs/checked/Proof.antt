@@ -35,17 +35,8 @@ den-is c =
     let f : SFits w64 (l .lowest .result .den) = record { sfits = c .before .struct-told2 .given .1 .0 .1 } in
     (simp toZ-ofZ at (c .magnitude2 .ensures)) ∙ ap (λ t. natAbs (t .den)) (lowest-is l)
 
-lowest-requires : tie.Need-lowest-requires
-lowest-requires c κs = search needs
-
-magnitude-requires : tie.Need-magnitude-requires
-magnitude-requires c κs = search needs
-
 returns : tie.Need-returns
 returns c = let p = q (c .before .before .before) in sym (answer-large p (num-large p (omega (arith, num-is (c .before)))))
-
-magnitude-requires-2 : tie.Need-magnitude-requires-2
-magnitude-requires-2 c κs = search needs
 
 returns-2 : tie.Need-returns-2
 returns-2 c = let p = q (c .before .before .before .before .before .before) in sym (answer-large p (den-large p (omega (arith, den-is (c .before)))))
@@ -59,4 +50,4 @@ returns-3 c =
 pub checked-spec : {M : Type 1} → statement M
 checked-spec =
     tie.close
-    (tie.spec lowest-requires magnitude-requires returns magnitude-requires-2 returns-2 returns-3)
+    (tie.spec (λ c κs. search needs) (λ c κs. search needs) returns (λ c κs. search needs) returns-2 returns-3)

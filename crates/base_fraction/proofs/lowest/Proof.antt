@@ -17,9 +17,6 @@ use Rattle.base_fraction.specs.Machine.{fraction, ratio}
 use Rattle.base_fraction.proofs.lowest.Statement.{statement}
 use Rattle.base_fraction.proofs.lowest.Tie as tie
 
-magnitude-requires : tie.Need-magnitude-requires
-magnitude-requires c κs = search needs
-
 cast-gcd : tie.Need-cast-gcd
 cast-gcd c =
     let f = c .before .fits .d in
@@ -27,9 +24,6 @@ cast-gcd c =
       yes-nonNeg (≤-in (pos 0) (c .before .args .d) (omega (arith, <-out _ _ (c .before .pre)))),
       omega (arith, natAbs-le (c .before .args .d) (f .sfits)),
     )
-
-gcd-requires : tie.Need-gcd-requires
-gcd-requires c κs = search needs
 
 module _ (c : tie.After-gcd) where
   abbrev n : ℤ
@@ -90,4 +84,4 @@ returns c =
     simp (toZ-ofZ, toZ-pos w64 (c .gcd .result) (g-small c)) (lowest-terms c)
 
 pub lowest-spec : {M : Type 1} → statement M
-lowest-spec = tie.close (tie.spec magnitude-requires cast-gcd gcd-requires cast-g div-t7 div-t8 returns)
+lowest-spec = tie.close (tie.spec (λ c κs. search needs) cast-gcd (λ c κs. search needs) cast-g div-t7 div-t8 returns)

@@ -19,35 +19,14 @@ Inv-loop buf₀ done₀ buf done = (done ≤ length buf) × (length buf ≡ leng
 abbrev μ-loop : tie.MeasureT-loop
 μ-loop buf₀ done₀ buf done = length buf - done
 
-loop-holds : tie.Need-loop-holds Inv-loop μ-loop
-loop-holds c = search needs
-
-read-from-requires : tie.Need-read-from-requires Inv-loop μ-loop
-read-from-requires c κs = search needs
-
-advanced-requires : tie.Need-advanced-requires Inv-loop μ-loop
-advanced-requires c κs = omega arith
-
-loop-less : tie.Need-loop-less Inv-loop μ-loop
-loop-less c = omega arith
-
 loop-again : tie.Need-loop-again Inv-loop μ-loop
 loop-again c = (omega arith, omega arith)
-
-same-length : tie.Need-same-length Inv-loop μ-loop
-same-length c = search needs
 
 returns : tie.Need-returns Inv-loop μ-loop
 returns c = counts _ _ (omega arith)
 
-same-length-2 : tie.Need-same-length-2 Inv-loop μ-loop
-same-length-2 c = search needs
-
 returns-2 : tie.Need-returns-2 Inv-loop μ-loop
 returns-2 c = counts _ _ (omega arith)
-
-same-length-3 : tie.Need-same-length-3 Inv-loop μ-loop
-same-length-3 c = search needs
 
 returns-3 : tie.Need-returns-3 Inv-loop μ-loop
 returns-3 c = counts _ _ (omega arith)
@@ -58,14 +37,14 @@ read-input-spec =
     (tie.spec
     Inv-loop
     μ-loop
-    loop-holds
-    read-from-requires
-    advanced-requires
-    loop-less
+    (λ c. search needs)
+    (λ c κs. search needs)
+    (λ c κs. omega arith)
+    (λ c. omega arith)
     loop-again
-    same-length
+    (λ c. search needs)
     returns
-    same-length-2
+    (λ c. search needs)
     returns-2
-    same-length-3
+    (λ c. search needs)
     returns-3)

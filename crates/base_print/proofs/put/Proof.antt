@@ -7,12 +7,6 @@ use Rattle.base_print.proofs.Buffer.{written-byte, written-byte-past}
 use Rattle.base_print.proofs.put.Statement.{statement}
 use Rattle.base_print.proofs.put.Tie as tie
 
-slice-write-out : tie.Need-slice-write-out
-slice-write-out c = search needs
-
-add-result : tie.Need-add-result
-add-result c = search needs
-
 same-length : tie.Need-same-length
 same-length c = ⊎-elim (λ w. ap length (w .1) ∙ simp length-set) (λ w. ap length (w .1)) (c .if1 .came)
 
@@ -24,4 +18,4 @@ returns c = record {
 }
 
 pub put-spec : {M : Type 1} → statement M
-put-spec = tie.close (tie.spec slice-write-out add-result same-length returns)
+put-spec = tie.close (tie.spec (λ c. search needs) (λ c. search needs) same-length returns)

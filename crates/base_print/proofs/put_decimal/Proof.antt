@@ -16,18 +16,6 @@ use Rattle.base_print.proofs.Buffer.{puts-then, puts-within, puts-as}
 use Rattle.base_print.proofs.put_decimal.Statement.{statement}
 use Rattle.base_print.proofs.put_decimal.Tie as tie
 
-magnitude-requires : tie.Need-magnitude-requires
-magnitude-requires c κs = search needs
-
-put-requires : tie.Need-put-requires
-put-requires c κs = search needs
-
-put-digits-requires : tie.Need-put-digits-requires
-put-digits-requires c κs = search needs
-
-same-length : tie.Need-same-length
-same-length c = search needs
-
 returns : tie.Need-returns
 returns c =
     let s = c .before .before .before .before .before .before .before .before .before .before .before in
@@ -39,12 +27,6 @@ returns c =
     (puts-within (omega arith)
     (puts-then (c .before .before .before .before .before .before .put .ensures) (c .before .before .put-digits .ensures)))
 
-put-digits-requires-2 : tie.Need-put-digits-requires-2
-put-digits-requires-2 c κs = search needs
-
-same-length-2 : tie.Need-same-length-2
-same-length-2 c = search needs
-
 returns-2 : tie.Need-returns-2
 returns-2 c =
     let s = c .before .before .before .before .before .before .before in
@@ -55,4 +37,4 @@ returns-2 c =
     puts-as (ap digits size ∙ sym (decimal-natural (s .args .z) (ltZ-false _ _ natural))) (puts-within (omega arith) (c .before .before .put-digits2 .ensures))
 
 pub put-decimal-spec : {M : Type 1} → statement M
-put-decimal-spec = tie.close (tie.spec magnitude-requires put-requires put-digits-requires same-length returns put-digits-requires-2 same-length-2 returns-2)
+put-decimal-spec = tie.close (tie.spec (λ c κs. search needs) (λ c κs. search needs) (λ c κs. search needs) (λ c. search needs) returns (λ c κs. search needs) (λ c. search needs) returns-2)

@@ -38,24 +38,6 @@ loop-holds c =
       out-is = written-none _ _;
     }
 
-sub-i : tie.Need-sub-i Inv-loop μ-loop
-sub-i c = omega arith
-
-add-put : tie.Need-add-put Inv-loop μ-loop
-add-put c = omega arith
-
-cast-put : tie.Need-cast-put Inv-loop μ-loop
-cast-put c = omega arith
-
-add-put-2 : tie.Need-add-put-2 Inv-loop μ-loop
-add-put-2 c = omega arith
-
-put-requires : tie.Need-put-requires Inv-loop μ-loop
-put-requires c κs = omega arith
-
-loop-less : tie.Need-loop-less Inv-loop μ-loop
-loop-less c = omega arith
-
 loop-again : tie.Need-loop-again Inv-loop μ-loop
 loop-again c =
     let l = c .before .before .before .before .before .loop in
@@ -74,9 +56,6 @@ loop-again c =
           (v .out-is ∙ ap (λ k. written k (v .behind) (a .out .now)) (let e : a .at + l .i ≡ a .at + (l .i - 1) + 1 = omega arith in e))
           ∙ written-prepend (a .at + (l .i - 1)) (lastDigit (l .rest)) (v .behind) (a .out .now);
     }
-
-add-result : tie.Need-add-result Inv-loop μ-loop
-add-result c = omega arith
 
 same-length : tie.Need-same-length Inv-loop μ-loop
 same-length c = ap length (c .before .loop .inv .out-is) ∙ written-length _ _ _
@@ -98,4 +77,5 @@ returns c =
     }
 
 pub put-digits-spec : {M : Type 1} → statement M
-put-digits-spec = tie.close (tie.spec Inv-loop μ-loop digit-count-requires loop-holds sub-i add-put cast-put add-put-2 put-requires loop-less loop-again add-result same-length returns)
+put-digits-spec = tie.close (tie.spec Inv-loop μ-loop digit-count-requires loop-holds (λ c. omega arith) (λ c. omega arith) (λ c. omega arith)
+    (λ c. omega arith) (λ c κs. omega arith) (λ c. omega arith) loop-again (λ c. omega arith) same-length returns)

@@ -34,12 +34,6 @@ returns-2 c =
     let e = beam-unchanged (lists s) _ _ _ (built-second-short (lists s) (length (s .args .num .now)) (length (s .args .den .now)) (c .before .if1 .left) (c .if2 .taken)) refl in
     (e .answers, (e .numerators-are, e .denominators-are))
 
-check-requires : tie.Need-check-requires
-check-requires c κs = search needs
-
-enum-told : tie.Need-enum-told
-enum-told c = search needs
-
 -- both buffers are long enough
 module _ (c : tie.Else2) where
   first-long : tableCells ≤ length (c .before .before .args .num .now)
@@ -54,15 +48,6 @@ legal c = legality-legal _ _ _ (sym (c .before .before .check .ensures) ∙ c .e
 build-parts-requires : tie.Need-build-parts-requires
 build-parts-requires c κs = let t = c .before .before in let l = t .before .before .before in (legal t, (first-long l, second-long l))
 
-enum-known-legality : tie.Need-enum-known-legality
-enum-known-legality c = search needs
-
-same-length : tie.Need-same-length
-same-length c = search needs
-
-same-length-2 : tie.Need-same-length-2
-same-length-2 c = search needs
-
 returns-3 : tie.Need-returns-3
 returns-3 c =
     let b = c .before .before in
@@ -71,7 +56,10 @@ returns-3 c =
     let s = l .before .before in
     let w = built-weights (lists s) _ _ (first-long l) (second-long l) (legal-checked _ _ _ (legal t)) in (
       b .build-parts .ensures .0 ∙ ap (with-answer (λ _. rowCount (lists s))) (sym w),
-      (b .build-parts .ensures .1 .0 ∙ ap (λ o. numeratorsAfter (with-answer (lastPart (lists s)) o) (s .args .num .now)) (sym w), b .build-parts .ensures .1 .1 ∙ ap (λ o. denominatorsAfter (with-answer (lastPart (lists s)) o) (s .args .den .now)) (sym w)),
+      (
+        b .build-parts .ensures .1 .0 ∙ ap (λ o. numeratorsAfter (with-answer (lastPart (lists s)) o) (s .args .num .now)) (sym w),
+        b .build-parts .ensures .1 .1 ∙ ap (λ o. denominatorsAfter (with-answer (lastPart (lists s)) o) (s .args .den .now)) (sym w),
+      ),
     )
 
 returns-4 : tie.Need-returns-4
@@ -89,11 +77,11 @@ build-spec =
     (tie.spec
     returns
     returns-2
-    check-requires
-    enum-told
+    (λ c κs. search needs)
+    (λ c. search needs)
     build-parts-requires
-    enum-known-legality
-    same-length
-    same-length-2
+    (λ c. search needs)
+    (λ c. search needs)
+    (λ c. search needs)
     returns-3
     returns-4)

@@ -47,15 +47,6 @@ Inv-loop k s values₀ count e₀ values e = (e ≤ 2 * k + 2) × (values ≡ fi
 abbrev μ-loop : tie.MeasureT-loop
 μ-loop k s values₀ count e₀ values e = 2 * k + 2 - e
 
-scales-requires : tie.Need-scales-requires Inv-loop μ-loop
-scales-requires c κs = search needs
-
-mul-count : tie.Need-mul-count Inv-loop μ-loop
-mul-count c = omega arith
-
-add-count : tie.Need-add-count Inv-loop μ-loop
-add-count c = omega arith
-
 loop-holds : tie.Need-loop-holds Inv-loop μ-loop
 loop-holds c = (omega arith, tab-none _ _)
 
@@ -65,18 +56,6 @@ entry-requires c κs =
     let f = b .before .pre in
     let z = scaled-small (b .scales .result) f (b .scales .ensures (f .space) (f .index) (f .is)) in
     (z .0, (z .1, omega arith))
-
-mul-values : tie.Need-mul-values Inv-loop μ-loop
-mul-values c = omega arith
-
-array-set-from-values : tie.Need-array-set-from-values Inv-loop μ-loop
-array-set-from-values c = omega arith
-
-add-e : tie.Need-add-e Inv-loop μ-loop
-add-e c = omega arith
-
-loop-less : tie.Need-loop-less Inv-loop μ-loop
-loop-less c = omega arith
 
 loop-again : tie.Need-loop-again Inv-loop μ-loop
 loop-again c =
@@ -104,14 +83,14 @@ entries-spec =
     (tie.spec
     Inv-loop
     μ-loop
-    scales-requires
-    mul-count
-    add-count
+    (λ c κs. search needs)
+    (λ c. omega arith)
+    (λ c. omega arith)
     loop-holds
     entry-requires
-    mul-values
-    array-set-from-values
-    add-e
-    loop-less
+    (λ c. omega arith)
+    (λ c. omega arith)
+    (λ c. omega arith)
+    (λ c. omega arith)
     loop-again
     returns)

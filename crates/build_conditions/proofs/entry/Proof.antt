@@ -17,9 +17,6 @@ use Rattle.build_conditions.proofs.entry.Tie as tie
 term-abs : (z u : ℤ) (k t : ℕ) → natAbs z < 2 ^ 31 → k ≤ 2 → u ≡ signedBinomial k t → natAbs (z *ℤ u) ≤ 2 ^ 33
 term-abs z u k t h l e = rw e (abs-mul-le z (signedBinomial k t) (2 ^ 31) 4 (le-of-lt h) (signed-binomial-le k t l))
 
-signed-binomial-requires : tie.Need-signed-binomial-requires
-signed-binomial-requires c κs = search needs
-
 module _ (c : tie.After-struct-told) where
   abbrev left : ℤ
   left = c .before .before .before .before .args .sides .left
@@ -48,15 +45,6 @@ returns c =
     let g = b-fits c in
     let h = term-fits c in
     simp toZ-ofZ (ap (λ (z : ℤ). a .sides .left *ℤ z) (c .before .before .signed-binomial .ensures) ∙ sym (scale-left (a .sides .left) (a .sides .right) (a .k) (a .e) (omega arith)))
-
-sub-signed-binomial : tie.Need-sub-signed-binomial
-sub-signed-binomial c = search needs
-
-sub-signed-binomial-2 : tie.Need-sub-signed-binomial-2
-sub-signed-binomial-2 c = search needs
-
-signed-binomial-requires-2 : tie.Need-signed-binomial-requires-2
-signed-binomial-requires-2 c κs = search needs
 
 module _ (c : tie.After-struct-told2) where
   abbrev right : ℤ
@@ -108,12 +96,12 @@ pub entry-spec : {M : Type 1} → statement M
 entry-spec =
     tie.close
     (tie.spec
-    signed-binomial-requires
+    (λ c κs. search needs)
     mul-result
     returns
-    sub-signed-binomial
-    sub-signed-binomial-2
-    signed-binomial-requires-2
+    (λ c. search needs)
+    (λ c. search needs)
+    (λ c κs. search needs)
     mul-result-2
     sub-result
     returns-2)

@@ -118,9 +118,6 @@ cast-gcd-2 c =
     let q = right-cast c in
     simp toZ-ofZ (search needs)
 
-gcd-requires : tie.Need-gcd-requires
-gcd-requires c κs = search needs
-
 module _ (c : tie.After-gcd) where
   abbrev first : tie.Start
   first = start (c .before)
@@ -153,7 +150,11 @@ div-t11 : tie.Need-div-t11
 div-t11 c = let f = left-word (c .before) in (omega (arith, g-pos c), simp (toZ-ofZ, toZ-pos w64 (c .gcd .result) (g-small c)) (left-quotient c))
 
 div-t12 : tie.Need-div-t12
-div-t12 c = let f = right-word (c .before) in (omega (arith, g-pos c), simp (toZ-ofZ, toZ-pos w64 (c .gcd .result) (g-small c)) (quot-fits w64 (c .before .scale2 .result) _ (omega (arith, g-pos c)) (right-word (c .before))))
+div-t12 c = let f = right-word (c .before) in (
+  omega (arith, g-pos c),
+  simp (toZ-ofZ, toZ-pos w64 (c .gcd .result) (g-small c))
+      (quot-fits w64 (c .before .scale2 .result) _ (omega (arith, g-pos c)) (right-word (c .before))),
+)
 
 returns : tie.Need-returns
 returns c = λ s j i.
@@ -176,7 +177,7 @@ scales-spec =
     scale-requires-2
     cast-gcd
     cast-gcd-2
-    gcd-requires
+    (λ c κs. search needs)
     cast-divisor
     div-t11
     div-t12

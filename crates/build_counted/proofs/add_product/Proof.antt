@@ -36,9 +36,6 @@ returns c j =
     let none = ofZ-inj w64 (s .args .weight .num) (pos 0) (sfits-abs (omega (arith, w .num-small))) (sfits-nat 0 (omega arith)) (c .if1 .taken) in
     sym (zero-then j (value (s .args .weight)) (int (s .args .condition)) (s .args .sum) (value-zero (s .args .weight) (w .den-pos) none) (s .pre .0 .0) (s .pre .1))
 
-product-requires : tie.Need-product-requires
-product-requires c κs = search needs
-
 returns-2 : tie.Need-returns-2
 returns-2 c j =
     let p = c .before .before .before in
@@ -47,16 +44,10 @@ returns-2 c j =
     let none = ofZ-inj w64 (s .args .sum .num) (pos 0) (sfits-abs (omega (arith, x .num-small))) (sfits-nat 0 (omega arith)) (c .if2 .taken) in
     product-is p j ∙ ap counted (sym (zero-before j (term p) (value (s .args .sum)) (value-zero (s .args .sum) (x .den-pos) none)))
 
-enum-known-term : tie.Need-enum-known-term
-enum-known-term c = search needs
-
 sum-requires : tie.Need-sum-requires
 sum-requires c κs =
     let p = c .before .before .before .before .before .before in
     (start p .pre .0 .0, count-sized 0 (term p) (c .before .term .given .0 .0) (sym (product-is p 0) ∙ c .before .term .given .1) .1)
-
-enum-told : tie.Need-enum-told
-enum-told c = search needs
 
 returns-3 : tie.Need-returns-3
 returns-3 c j =
@@ -72,4 +63,4 @@ returns-4 c j =
     sym (large-then (count j (term p)) (λ q. count j (value (start p .args .sum) +ᵠ q)) (sym (product-is p j) ∙ c .enum-told .given .1))
 
 pub add-product-spec : {M : Type 1} → statement M
-add-product-spec = tie.close (tie.spec returns product-requires returns-2 enum-known-term sum-requires enum-told returns-3 returns-4)
+add-product-spec = tie.close (tie.spec returns (λ c κs. search needs) returns-2 (λ c. search needs) sum-requires (λ c. search needs) returns-3 returns-4)

@@ -80,30 +80,6 @@ module _ (f : ℚ → ℤ) (v : ℤ) (unused : v ≡ f (int (pos 0))) (t : Table
   dropped : cleared ≡ laid f without xs
   dropped = laid-by f without xs cleared long (filled-length e (e + 72) v shifted ∙ moved-length (72 * l) e xs) (λ i c h k. cells i c h k (place i)) past
 
-mul-start : tie.Need-mul-start
-mul-start c = search needs
-
-sub-end : tie.Need-sub-end
-sub-end c = search needs
-
-mul-end : tie.Need-mul-end
-mul-end c = search needs
-
-move-up-requires : tie.Need-move-up-requires
-move-up-requires c κs = search needs
-
-add-clear : tie.Need-add-clear
-add-clear c = search needs
-
-clear-requires : tie.Need-clear-requires
-clear-requires c κs = search needs
-
-same-length : tie.Need-same-length
-same-length c = search needs
-
-same-length-2 : tie.Need-same-length-2
-same-length-2 c = search needs
-
 returns : tie.Need-returns
 returns c t h size =
     let m = c .before .before .before .before .before .before .before in
@@ -123,4 +99,5 @@ returns c t h size =
     )
 
 pub drop-row-spec : {M : Type 1} → statement M
-drop-row-spec = tie.close (tie.spec mul-start sub-end mul-end move-up-requires add-clear clear-requires same-length same-length-2 returns)
+drop-row-spec = tie.close (tie.spec (λ c. search needs) (λ c. search needs) (λ c. search needs) (λ c κs. search needs) (λ c. search needs)
+    (λ c κs. search needs) (λ c. search needs) (λ c. search needs) returns)

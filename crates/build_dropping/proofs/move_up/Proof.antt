@@ -38,39 +38,6 @@ turn xs₀ xs from k h l e =
 loop-holds : tie.Need-loop-holds Inv-loop μ-loop
 loop-holds c = record { passed = omega arith; within = c .pre .0; num-is = moved-none _ _; den-is = moved-none _ _; num-long = refl; den-long = refl }
 
-add-next : tie.Need-add-next Inv-loop μ-loop
-add-next c = omega arith
-
-mul-n : tie.Need-mul-n Inv-loop μ-loop
-mul-n c = omega arith
-
-slice-copy-out-n : tie.Need-slice-copy-out-n Inv-loop μ-loop
-slice-copy-out-n c = omega arith
-
-mul-d : tie.Need-mul-d Inv-loop μ-loop
-mul-d c = omega arith
-
-slice-copy-out-d : tie.Need-slice-copy-out-d Inv-loop μ-loop
-slice-copy-out-d c = omega arith
-
-mul-n-2 : tie.Need-mul-n-2 Inv-loop μ-loop
-mul-n-2 c = omega arith
-
-slice-set-from-n : tie.Need-slice-set-from-n Inv-loop μ-loop
-slice-set-from-n c = omega arith
-
-mul-d-2 : tie.Need-mul-d-2 Inv-loop μ-loop
-mul-d-2 c = omega arith
-
-slice-set-from-d : tie.Need-slice-set-from-d Inv-loop μ-loop
-slice-set-from-d c = omega arith
-
-add-k : tie.Need-add-k Inv-loop μ-loop
-add-k c = omega arith
-
-loop-less : tie.Need-loop-less Inv-loop μ-loop
-loop-less c = omega arith
-
 loop-again : tie.Need-loop-again Inv-loop μ-loop
 loop-again c =
     let l = c .before .before .before .loop in
@@ -102,4 +69,6 @@ returns c =
     )
 
 pub move-up-spec : {M : Type 1} → statement M
-move-up-spec = tie.close (tie.spec Inv-loop μ-loop loop-holds add-next mul-n slice-copy-out-n mul-d slice-copy-out-d mul-n-2 slice-set-from-n mul-d-2 slice-set-from-d add-k loop-less loop-again same-length same-length-2 returns)
+move-up-spec = tie.close (tie.spec Inv-loop μ-loop loop-holds (λ c. omega arith) (λ c. omega arith) (λ c. omega arith) (λ c. omega arith) (λ c. omega arith)
+    (λ c. omega arith) (λ c. omega arith) (λ c. omega arith) (λ c. omega arith) (λ c. omega arith)
+    (λ c. omega arith) loop-again same-length same-length-2 returns)

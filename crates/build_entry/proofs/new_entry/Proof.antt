@@ -43,11 +43,14 @@ second-is : (c : tie.After-product4) (j : ℕ) → c .product4 .result ≡ count
 second-is c j = c .product4 .ensures ∙ machine-counted j (second c)
 
 -- the second product by the complement
-second-by : (c : tie.After-product4) (j : ℕ) (v : ℚ) → value (origin (start c) .args .u) ≡ int (pos 1) -ᵠ v → c .product4 .result ≡ counted (count j ((int (pos 1) -ᵠ v) *ᵠ value (origin (start c) .args .y)))
+second-by : (c : tie.After-product4) (j : ℕ) (v : ℚ) → value (origin (start c) .args .u) ≡ int (pos 1) -ᵠ v
+    → c .product4 .result ≡ counted (count j ((int (pos 1) -ᵠ v) *ᵠ value (origin (start c) .args .y)))
 second-by c j v e = second-is c j ∙ ap (λ u. counted (count j (u *ᵠ value (origin (start c) .args .y)))) e
 
 -- the first product fits: the rest goes on with it
-first-fits : (c : tie.After-first) (j : ℕ) (v : ℚ) → counted (newEntry j (value (origin (c .before .before) .args .w)) v (value (origin (c .before .before) .args .x)) (value (origin (c .before .before) .args .y))) ≡ counted (rest (c .before .before) j v (value (c .first .given .0 .0)))
+first-fits : (c : tie.After-first) (j : ℕ) (v : ℚ) → counted (newEntry j (value (origin (c .before .before) .args .w)) v
+    (value (origin (c .before .before) .args .x)) (value (origin (c .before .before) .args .y))) ≡ counted
+    (rest (c .before .before) j v (value (c .first .given .0 .0)))
 unfolding newEntry
 first-fits c j v = let p = c .before .before in fits-then (count j (first p)) (rest p j v) (c .first .given .0 .0) (sym (first-is p j) ∙ c .first .given .1)
 
@@ -77,30 +80,6 @@ returns-3 c j v e =
     c .product2 .ensures
     ∙ machine-counted j (value (s .args .w) *ᵠ value (s .args .x))
     ∙ ap counted (sym (second-zero j (value (s .args .w)) v (value (s .args .x)) (zero-part (s .args .y) (s .pre .1 .1 .1) (c .before .if3 .taken))))
-
-product-requires : tie.Need-product-requires
-product-requires c κs = search needs
-
-product-requires-2 : tie.Need-product-requires-2
-product-requires-2 c κs = search needs
-
-product-requires-3 : tie.Need-product-requires-3
-product-requires-3 c κs = search needs
-
-enum-told : tie.Need-enum-told
-enum-told c = search needs
-
-enum-known-first : tie.Need-enum-known-first
-enum-known-first c = search needs
-
-product-requires-4 : tie.Need-product-requires-4
-product-requires-4 c κs = search needs
-
-enum-told-2 : tie.Need-enum-told-2
-enum-told-2 c = search needs
-
-enum-known-second : tie.Need-enum-known-second
-enum-known-second c = search needs
 
 sum-requires : tie.Need-sum-requires
 sum-requires c κs =
@@ -133,4 +112,5 @@ returns-6 c j v e =
 pub new-entry-spec : {M : Type 1} → statement M
 new-entry-spec =
     tie.close
-    (tie.spec returns product-requires returns-2 product-requires-2 returns-3 product-requires-3 enum-told enum-known-first product-requires-4 enum-told-2 enum-known-second sum-requires returns-4 returns-5 returns-6)
+    (tie.spec returns (λ c κs. search needs) returns-2 (λ c κs. search needs) returns-3 (λ c κs. search needs) (λ c. search needs) (λ c. search needs)
+    (λ c κs. search needs) (λ c. search needs) (λ c. search needs) sum-requires returns-4 returns-5 returns-6)

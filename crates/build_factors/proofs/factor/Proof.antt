@@ -16,18 +16,6 @@ use Rattle.build_factors.proofs.Quotients.{next-refused, next-answered}
 use Rattle.build_factors.proofs.factor.Statement.{statement}
 use Rattle.build_factors.proofs.factor.Tie as tie
 
-sum-requires : tie.Need-sum-requires
-sum-requires c κs = search needs
-
-enum-told : tie.Need-enum-told
-enum-told c = search needs
-
-no-factor-requires : tie.Need-no-factor-requires
-no-factor-requires c κs = search needs
-
-enum-known-sum : tie.Need-enum-known-sum
-enum-known-sum c = search needs
-
 -- the partial sum, and its jump
 module _ (c : tie.Start) where
   abbrev total : ℚ
@@ -42,15 +30,6 @@ sum-kept c = kept (total (c .before .before .before)) (c .sum2 .given .0 .0) (sy
 
 quotient-requires : tie.Need-quotient-requires
 quotient-requires c κs = let s = c .before .before .before .before in (sum-kept (c .before) .fitted, s .pre .1 .0, s .pre .1 .1)
-
-enum-told-2 : tie.Need-enum-told-2
-enum-told-2 c = search needs
-
-no-factor-requires-2 : tie.Need-no-factor-requires-2
-no-factor-requires-2 c κs = search needs
-
-enum-known-quotient : tie.Need-enum-known-quotient
-enum-known-quotient c = search needs
 
 module _ (c : tie.After-quotient) where
   abbrev before-sum : tie.Start
@@ -93,9 +72,6 @@ returns c j =
     (sum-kept (b .before .before .before .before .before .before) .fraction-is)
     (factor-kept b .fraction-is)
 
-no-factor-requires-3 : tie.Need-no-factor-requires-3
-no-factor-requires-3 c κs = search needs
-
 returns-2 : tie.Need-returns-2
 unfolding refusalOf
 returns-2 c j =
@@ -128,17 +104,17 @@ pub factor-spec : {M : Type 1} → statement M
 factor-spec =
     tie.close
     (tie.spec
-    sum-requires
-    enum-told
-    no-factor-requires
-    enum-known-sum
+    (λ c κs. search needs)
+    (λ c. search needs)
+    (λ c κs. search needs)
+    (λ c. search needs)
     quotient-requires
-    enum-told-2
-    no-factor-requires-2
-    enum-known-quotient
+    (λ c. search needs)
+    (λ c κs. search needs)
+    (λ c. search needs)
     strictly-between-requires
     returns
-    no-factor-requires-3
+    (λ c κs. search needs)
     returns-2
     returns-3
     returns-4)

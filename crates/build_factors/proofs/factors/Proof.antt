@@ -52,27 +52,6 @@ Inv-loop f l js ws₀ sn sd sum₀ i₀ ws sum i = Inv js f l ws sum i
 abbrev μ-loop : tie.MeasureT-loop
 μ-loop f l js ws₀ sn sd sum₀ i₀ ws sum i = l - i
 
-no-fractions-requires : tie.Need-no-fractions-requires Inv-loop μ-loop
-no-fractions-requires c κs = search needs
-
-element-set-of-ws : tie.Need-element-set-of-ws Inv-loop μ-loop
-element-set-of-ws c = search needs
-
-mul-sn : tie.Need-mul-sn Inv-loop μ-loop
-mul-sn c = omega arith
-
-element-copy-out-sn : tie.Need-element-copy-out-sn Inv-loop μ-loop
-element-copy-out-sn c = omega arith
-
-mul-sd : tie.Need-mul-sd Inv-loop μ-loop
-mul-sd c = omega arith
-
-element-copy-out-sd : tie.Need-element-copy-out-sd Inv-loop μ-loop
-element-copy-out-sd c = omega arith
-
-add-i : tie.Need-add-i Inv-loop μ-loop
-add-i c = omega arith
-
 loop-holds : tie.Need-loop-holds Inv-loop μ-loop
 loop-holds c =
     let s = c .before .before .before in
@@ -91,18 +70,6 @@ loop-holds c =
         ws-is = one-fraction (c .before .before .no-fractions .result) (c .before .before .no-fractions .ensures);
       };
     }
-
-mul-jn : tie.Need-mul-jn Inv-loop μ-loop
-mul-jn c = omega arith
-
-element-copy-out-jn : tie.Need-element-copy-out-jn Inv-loop μ-loop
-element-copy-out-jn c = omega arith
-
-mul-jd : tie.Need-mul-jd Inv-loop μ-loop
-mul-jd c = omega arith
-
-element-copy-out-jd : tie.Need-element-copy-out-jd Inv-loop μ-loop
-element-copy-out-jd c = omega arith
 
 -- the two numbers that are read
 module _ (c : tie.After-jd Inv-loop μ-loop) where
@@ -154,7 +121,8 @@ module _ (c : tie.After-factor Inv-loop μ-loop) (qs : List ℚ) (j : ℕ) (e : 
   next-is : c .factor .result ≡ nextFactor (partialSum qs first row) (factor j qs first row)
   next-is =
       c .factor .ensures j
-      ∙ ap₂ (λ s q. nextFactor (s +ᵠ q) (quotientFactor j (s +ᵠ q) q)) (ap value (at-loop .loop .inv .sum-is qs e) ∙ value-fraction _) (let n = jn-fits (c .before) in let d = jd-fits (c .before) in simp toZ-ofZ (ap value (fraction-at qs _ e row (low (c .before))) ∙ value-fraction _))
+      ∙ ap₂ (λ s q. nextFactor (s +ᵠ q) (quotientFactor j (s +ᵠ q) q)) (ap value (at-loop .loop .inv .sum-is qs e) ∙ value-fraction _)
+      (let n = jn-fits (c .before) in let d = jd-fits (c .before) in simp toZ-ofZ (ap value (fraction-at qs _ e row (low (c .before))) ∙ value-fraction _))
       ∙ ap (λ s. nextFactor s (quotientFactor j s (entry qs row))) (sym (partial-more qs first row (at-loop .loop .inv .after)))
 
   -- the place of the row among those between f and l
@@ -169,31 +137,8 @@ module _ (c : tie.After-factor Inv-loop μ-loop) (qs : List ℚ) (j : ℕ) (e : 
   ended reason h n = next-ended (partialSum qs first row) (factor j qs first row) (c .factor .result) reason next-is h n
 
   stopped : {code place : ℕ} → factor j qs first row ≡ refusal code place → collect (start (c .before) .args .l - first - 1) (λ d. factor j qs first (first + 1 + d)) ≡ refusal code place
-  stopped r = collect-stays (suc (row - first - 1)) _ _ (omega (arith, at-loop .loop .inv .after, c .before .before .before .loop-test .taken)) (collect-ends (row - first - 1) _ (rows-done .collects) (sym place ∙ r))
-
-enum-told : tie.Need-enum-told Inv-loop μ-loop
-enum-told c = search needs
-
-sub-at : tie.Need-sub-at Inv-loop μ-loop
-sub-at c = omega arith
-
-mul-n : tie.Need-mul-n Inv-loop μ-loop
-mul-n c = omega arith
-
-element-set-from-n : tie.Need-element-set-from-n Inv-loop μ-loop
-element-set-from-n c = omega arith
-
-mul-d : tie.Need-mul-d Inv-loop μ-loop
-mul-d c = omega arith
-
-element-set-from-d : tie.Need-element-set-from-d Inv-loop μ-loop
-element-set-from-d c = omega arith
-
-enum-told-2 : tie.Need-enum-told-2 Inv-loop μ-loop
-enum-told-2 c = search needs
-
-no-factors-requires : tie.Need-no-factors-requires Inv-loop μ-loop
-no-factors-requires c κs = search needs
+  stopped r = collect-stays (suc (row - first - 1)) _ _ (omega (arith, at-loop .loop .inv .after, c .before .before .before .loop-test .taken))
+      (collect-ends (row - first - 1) _ (rows-done .collects) (sym place ∙ r))
 
 returns : tie.Need-returns Inv-loop μ-loop
 returns c qs j e =
@@ -201,23 +146,11 @@ returns c qs j e =
     let r = ended a qs j e refusals.TooLarge (c .before .enum-told2 .given .1) (λ h. let z : _≡_ {A = ℕ} 0 1 = cc in omega arith) in
     factors-refused j qs _ _ _ (stopped a qs j e (r .refuses)) (r .named) (c .no-factors .ensures)
 
-enum-told-3 : tie.Need-enum-told-3 Inv-loop μ-loop
-enum-told-3 c = search needs
-
-no-factors-requires-2 : tie.Need-no-factors-requires-2 Inv-loop μ-loop
-no-factors-requires-2 c κs = search needs
-
 returns-2 : tie.Need-returns-2 Inv-loop μ-loop
 returns-2 c qs j e =
     let a = c .before .before .before in
     let r = ended a qs j e refusals.Shape (c .before .enum-told3 .given .1) (λ h. let z : _≡_ {A = ℕ} 0 1 = cc in omega arith) in
     factors-refused j qs _ _ _ (stopped a qs j e (r .refuses)) (r .named) (c .no-factors2 .ensures)
-
-add-i-2 : tie.Need-add-i-2 Inv-loop μ-loop
-add-i-2 c = omega arith
-
-loop-less : tie.Need-loop-less Inv-loop μ-loop
-loop-less c = omega arith
 
 loop-again : tie.Need-loop-again Inv-loop μ-loop
 loop-again c =
@@ -257,32 +190,32 @@ factors-spec =
     (tie.spec
     Inv-loop
     μ-loop
-    no-fractions-requires
-    element-set-of-ws
-    mul-sn
-    element-copy-out-sn
-    mul-sd
-    element-copy-out-sd
-    add-i
+    (λ c κs. search needs)
+    (λ c. search needs)
+    (λ c. omega arith)
+    (λ c. omega arith)
+    (λ c. omega arith)
+    (λ c. omega arith)
+    (λ c. omega arith)
     loop-holds
-    mul-jn
-    element-copy-out-jn
-    mul-jd
-    element-copy-out-jd
+    (λ c. omega arith)
+    (λ c. omega arith)
+    (λ c. omega arith)
+    (λ c. omega arith)
     factor-requires
-    enum-told
-    sub-at
-    mul-n
-    element-set-from-n
-    mul-d
-    element-set-from-d
-    enum-told-2
-    no-factors-requires
+    (λ c. search needs)
+    (λ c. omega arith)
+    (λ c. omega arith)
+    (λ c. omega arith)
+    (λ c. omega arith)
+    (λ c. omega arith)
+    (λ c. search needs)
+    (λ c κs. search needs)
     returns
-    enum-told-3
-    no-factors-requires-2
+    (λ c. search needs)
+    (λ c κs. search needs)
     returns-2
-    add-i-2
-    loop-less
+    (λ c. omega arith)
+    (λ c. omega arith)
     loop-again
     returns-3)

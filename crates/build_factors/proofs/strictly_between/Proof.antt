@@ -9,18 +9,13 @@ use Rattle.base_fraction.specs.Machine.{value}
 use Rattle.build_factors.proofs.strictly_between.Statement.{statement}
 use Rattle.build_factors.proofs.strictly_between.Tie as tie
 
-is-positive-requires : tie.Need-is-positive-requires
-is-positive-requires c κs = search needs
-
-is-below-one-requires : tie.Need-is-below-one-requires
-is-below-one-requires c κs = search needs
-
 returns : tie.Need-returns
-returns c = c .is-below-one .ensures ∙ ap (λ (b : Bool). b && ltᵠ (value (c .before .before .before .args .w)) (int (pos 1))) (sym (sym (c .before .before .is-positive .ensures) ∙ c .before .if1 .taken))
+returns c = c .is-below-one .ensures ∙ ap (λ (b : Bool). b && ltᵠ (value (c .before .before .before .args .w)) (int (pos 1)))
+    (sym (sym (c .before .before .is-positive .ensures) ∙ c .before .if1 .taken))
 
 returns-2 : tie.Need-returns-2
 returns-2 c = ap (λ (b : Bool). b && ltᵠ (value (c .before .before .args .w)) (int (pos 1))) (sym (sym (c .before .is-positive .ensures) ∙ c .if1 .left))
 
 pub strictly-between-spec : {M : Type 1} → statement M
 strictly-between-spec =
-    tie.close (tie.spec is-positive-requires is-below-one-requires returns returns-2)
+    tie.close (tie.spec (λ c κs. search needs) (λ c κs. search needs) returns returns-2)

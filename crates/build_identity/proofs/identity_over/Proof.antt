@@ -92,18 +92,6 @@ den-is n used xs few h clear =
     (λ k l. filled-after 0 (72 * used) (pos 1) xs k (omega arith))
     ∙ sym (denominators-laid (identity n) xs)
 
-clear-rows-requires : tie.Need-clear-rows-requires
-clear-rows-requires c κs = search needs
-
-mark-diagonal-requires : tie.Need-mark-diagonal-requires
-mark-diagonal-requires c κs = search needs
-
-same-length : tie.Need-same-length
-same-length c = search needs
-
-same-length-2 : tie.Need-same-length-2
-same-length-2 c = search needs
-
 returns : tie.Need-returns
 unfolding zeros
 returns c =
@@ -116,4 +104,4 @@ returns c =
     )
 
 pub identity-over-spec : {M : Type 1} → statement M
-identity-over-spec = tie.close (tie.spec clear-rows-requires mark-diagonal-requires same-length same-length-2 returns)
+identity-over-spec = tie.close (tie.spec (λ c κs. search needs) (λ c κs. search needs) (λ c. search needs) (λ c. search needs) returns)

@@ -24,21 +24,6 @@ abbrev μ-loop : tie.MeasureT-loop
 loop-holds : tie.Need-loop-holds Inv-loop μ-loop
 loop-holds c = record { within = omega arith; num-is = marked-none _; num-long = refl }
 
-mul-k : tie.Need-mul-k Inv-loop μ-loop
-mul-k c = omega arith
-
-mul-num : tie.Need-mul-num Inv-loop μ-loop
-mul-num c = omega arith
-
-slice-set-of-num : tie.Need-slice-set-of-num Inv-loop μ-loop
-slice-set-of-num c = omega arith
-
-add-i : tie.Need-add-i Inv-loop μ-loop
-add-i c = omega arith
-
-loop-less : tie.Need-loop-less Inv-loop μ-loop
-loop-less c = omega arith
-
 loop-again : tie.Need-loop-again Inv-loop μ-loop
 loop-again c =
     let l = c .before .loop in
@@ -60,4 +45,4 @@ returns c =
     v .num-is ∙ ap (λ (k : ℕ). marked k (s .num .now)) e
 
 pub mark-diagonal-spec : {M : Type 1} → statement M
-mark-diagonal-spec = tie.close (tie.spec Inv-loop μ-loop loop-holds mul-k mul-num slice-set-of-num add-i loop-less loop-again same-length returns)
+mark-diagonal-spec = tie.close (tie.spec Inv-loop μ-loop loop-holds (λ c. omega arith) (λ c. omega arith) (λ c. omega arith) (λ c. omega arith) (λ c. omega arith) loop-again same-length returns)

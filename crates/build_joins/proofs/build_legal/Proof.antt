@@ -17,12 +17,6 @@ use Rattle.build_joins.proofs.build_legal.Tie as tie
 abbrev lists : tie.Start → Space
 lists c = space (c .args .breaks .now) (c .args .degrees .now) (c .args .orders .now)
 
-first-column-requires : tie.Need-first-column-requires
-first-column-requires c κs = search needs
-
-degree-at-requires : tie.Need-degree-at-requires
-degree-at-requires c κs = search needs
-
 -- the columns and the first segment's rows
 abbrev start : tie.After-degree-at → tie.Start
 start c = c .before .before .before .before
@@ -37,22 +31,11 @@ identity-over-requires : tie.Need-identity-over-requires
 identity-over-requires c κs = ((omega (arith, begun c .rows-few, begun c .columns-fit), start c .pre .0 .1), start c .pre .1)
 
 join-steps-requires : tie.Need-join-steps-requires
-join-steps-requires c κs = let i = c .before .before .before .before in let s = start (i .before) in (s .pre .0 .0, begins (s .args .num .now) (s .args .den .now) (begun (i .before)) (s .pre .0 .1 .0) (s .pre .0 .1 .1) (i .identity-over .ensures .0) (i .identity-over .ensures .1))
-
-enum-known-built : tie.Need-enum-known-built
-enum-known-built c = search needs
-
-enum-known-built-2 : tie.Need-enum-known-built-2
-enum-known-built-2 c = search needs
-
-clear-requires : tie.Need-clear-requires
-clear-requires c κs = search needs
-
-same-length : tie.Need-same-length
-same-length c = search needs
-
-same-length-2 : tie.Need-same-length-2
-same-length-2 c = search needs
+join-steps-requires c κs = let i = c .before .before .before .before in let s = start (i .before) in (
+  s .pre .0 .0,
+  begins (s .args .num .now) (s .args .den .now) (begun (i .before)) (s .pre .0 .1 .0) (s .pre .0 .1 .1) (i .identity-over .ensures .0)
+      (i .identity-over .ensures .1),
+)
 
 -- what the joins left, for the answer that was told
 module _ (c : tie.After-join-steps) where
@@ -62,8 +45,10 @@ module _ (c : tie.After-join-steps) where
   abbrev whole : Space
   whole = lists (start (before-joins .before))
 
-  left : (r : Answer) → c .join-steps .result ≡ r → JoinsLeave (weights whole) (rowCount whole) r (before-joins .identity-over .last .0) (before-joins .identity-over .last .1 .0) (c .join-steps .last .1 .1 .1 .0) (c .join-steps .last .1 .1 .1 .1 .0)
-  left r e = subst (λ (x : Answer). JoinsLeave (weights whole) (rowCount whole) x (before-joins .identity-over .last .0) (before-joins .identity-over .last .1 .0) (c .join-steps .last .1 .1 .1 .0) (c .join-steps .last .1 .1 .1 .1 .0)) e (c .join-steps .ensures)
+  left : (r : Answer) → c .join-steps .result ≡ r → JoinsLeave (weights whole) (rowCount whole) r (before-joins .identity-over .last .0)
+      (before-joins .identity-over .last .1 .0) (c .join-steps .last .1 .1 .1 .0) (c .join-steps .last .1 .1 .1 .1 .0)
+  left r e = subst (λ (x : Answer). JoinsLeave (weights whole) (rowCount whole) x (before-joins .identity-over .last .0)
+      (before-joins .identity-over .last .1 .0) (c .join-steps .last .1 .1 .1 .0) (c .join-steps .last .1 .1 .1 .1 .0)) e (c .join-steps .ensures)
 
 returns : tie.Need-returns
 returns c =
@@ -72,12 +57,6 @@ returns c =
     let e = ends-rows (rowCount (whole j)) _ _ _ _ _ _ _ (i .identity-over .ensures .0) (i .identity-over .ensures .1) (weights (whole j)) (left j _ (c .before .built .given .1)) in
     (e .answers, (e .numerators-are, e .denominators-are))
 
-same-length-3 : tie.Need-same-length-3
-same-length-3 c = search needs
-
-same-length-4 : tie.Need-same-length-4
-same-length-4 c = search needs
-
 returns-2 : tie.Need-returns-2
 returns-2 c =
     let d = c .before .before in
@@ -85,24 +64,25 @@ returns-2 c =
     let j = b .before .before .before .before in
     let i = before-joins j in
     let p = start (i .before) .pre .0 .1 in
-    let e = ends-cleared (rowCount (whole j)) _ _ _ _ _ _ _ (i .identity-over .ensures .0) (i .identity-over .ensures .1) (whole j) (p .0) (p .1) (left j _ (b .built2 .given .1)) (d .clear .ensures .0) (d .clear .ensures .1) in
+    let e = ends-cleared (rowCount (whole j)) _ _ _ _ _ _ _ (i .identity-over .ensures .0) (i .identity-over .ensures .1) (whole j) (p .0) (p .1)
+    (left j _ (b .built2 .given .1)) (d .clear .ensures .0) (d .clear .ensures .1) in
     (e .answers, (e .numerators-are, e .denominators-are))
 
 pub build-legal-spec : {M : Type 1} → statement M
 build-legal-spec =
     tie.close
     (tie.spec
-    first-column-requires
-    degree-at-requires
+    (λ c κs. search needs)
+    (λ c κs. search needs)
     add-identity-over
     identity-over-requires
     join-steps-requires
-    enum-known-built
-    enum-known-built-2
-    clear-requires
-    same-length
-    same-length-2
+    (λ c. search needs)
+    (λ c. search needs)
+    (λ c κs. search needs)
+    (λ c. search needs)
+    (λ c. search needs)
     returns
-    same-length-3
-    same-length-4
+    (λ c. search needs)
+    (λ c. search needs)
     returns-2)

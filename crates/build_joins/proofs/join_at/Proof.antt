@@ -12,9 +12,6 @@ use Rattle.build_joins.proofs.join_at.Tie as tie
 side-at-requires : tie.Need-side-at-requires
 side-at-requires c κs = (c .pre .0, omega arith)
 
-add-side-at : tie.Need-add-side-at
-add-side-at c = search needs
-
 side-at-requires-2 : tie.Need-side-at-requires-2
 side-at-requires-2 c κs = (c .before .pre .0, omega arith)
 
@@ -27,4 +24,4 @@ returns c =
     }
 
 pub join-at-spec : {M : Type 1} → statement M
-join-at-spec = tie.close (tie.spec side-at-requires add-side-at side-at-requires-2 returns)
+join-at-spec = tie.close (tie.spec side-at-requires (λ c. search needs) side-at-requires-2 returns)

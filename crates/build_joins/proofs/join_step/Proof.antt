@@ -16,15 +16,6 @@ use Rattle.build_cells.proofs.Left.{left-from}
 use Rattle.build_joins.proofs.join_step.Statement.{statement}
 use Rattle.build_joins.proofs.join_step.Tie as tie
 
-add-more : tie.Need-add-more
-add-more c = search needs
-
-add-rows-requires : tie.Need-add-rows-requires
-add-rows-requires c κs = search needs
-
-add-order-steps : tie.Need-add-order-steps
-add-order-steps c = search needs
-
 abbrev start : tie.After-order-steps-arg2 → tie.Start
 start c = c .before .before .before .before .before .before .before
 
@@ -37,7 +28,8 @@ module _ (c : tie.After-order-steps-arg2) (t : Table) (h : Holds (start c .args 
   more = t ++ take (start c .args .join .right .degree + 1) (drop (start c .args .join .right .column) (identity (start c .args .columns)))
 
   proper : Proper more (start c .args .rows + (start c .args .join .right .degree + 1)) (start c .args .columns)
-  proper = grown-proper t (start c .args .rows) (start c .args .join .right .column) (start c .args .join .right .degree + 1) (start c .args .columns) (record { shaped = shaped; fit = h .fit }) (start c .pre .1 .1) (start c .pre .1 .0)
+  proper = grown-proper t (start c .args .rows) (start c .args .join .right .column) (start c .args .join .right .degree + 1) (start c .args .columns)
+      (record { shaped = shaped; fit = h .fit }) (start c .pre .1 .1) (start c .pre .1 .0)
 
   num-is : added c .add-rows .last .0 ≡ numerators more (start c .args .num .now)
   num-is = added c .add-rows .ensures t (start c .args .columns) (h .num-is) (shaped .row-count) (start c .pre .1 .1)
@@ -48,14 +40,17 @@ module _ (c : tie.After-order-steps-arg2) (t : Table) (h : Holds (start c .args 
 order-steps-requires : tie.Need-order-steps-requires
 order-steps-requires c κs =
     let p = start c .pre .0 in
-    let k = p .1 .1 in
-    (omega (arith, p .0), (p .1 .0, record { table = more c (k .table) (k .holds) (k .shaped); holds = holds c (k .table) (k .holds) (k .shaped); shaped = proper c (k .table) (k .holds) (k .shaped) .shaped }))
-
-same-length : tie.Need-same-length
-same-length c = search needs
-
-same-length-2 : tie.Need-same-length-2
-same-length-2 c = search needs
+    let k = p .1 .1 in (
+      omega (arith, p .0),
+      (
+        p .1 .0,
+        record {
+          table = more c (k .table) (k .holds) (k .shaped);
+          holds = holds c (k .table) (k .holds) (k .shaped);
+          shaped = proper c (k .table) (k .holds) (k .shaped) .shaped;
+        },
+      ),
+    )
 
 -- it is that of the space
 returns : tie.Need-returns
@@ -63,10 +58,13 @@ returns c s j t is h shaped =
     let a = c .before .before .before in
     let n = start a .args .columns in
     let it : more a t h shaped ≡ grown s j n t = ap₂ (λ m i. t ++ take (m + 1) (drop i (identity n))) (is .right-is .degree-is) (is .right-is .column-is) in
-    subst (λ (u : Table). Leaves (orderSteps s j (start a .args .n) u) (c .before .before .order-steps .result) (start a .args .num .now) (start a .args .den .now) (c .before .before .order-steps .last .0) (c .before .before .order-steps .last .1 .0)) it
-    (left-from (λ t. t) toldStep _ _ _ _ _ (more a t h shaped) (start a .args .num .now) (start a .args .den .now) (h .num-long) (h .den-long) (num-is a t h shaped) (grown-denominators t (start a .args .rows) _ _ n (record { shaped = shaped; fit = h .fit }) (start a .pre .1 .1) (start a .pre .1 .0) h (num-is a t h shaped))
+    subst (λ (u : Table). Leaves (orderSteps s j (start a .args .n) u) (c .before .before .order-steps .result) (start a .args .num .now)
+    (start a .args .den .now) (c .before .before .order-steps .last .0) (c .before .before .order-steps .last .1 .0)) it
+    (left-from (λ t. t) toldStep _ _ _ _ _ (more a t h shaped) (start a .args .num .now) (start a .args .den .now) (h .num-long) (h .den-long)
+    (num-is a t h shaped) (grown-denominators t (start a .args .rows) _ _ n (record { shaped = shaped; fit = h .fit }) (start a .pre .1 .1)
+    (start a .pre .1 .0) h (num-is a t h shaped))
     (orderSteps s j (start a .args .n) (more a t h shaped))
     (c .before .before .order-steps .ensures s j (more a t h shaped) is (holds a t h shaped) (proper a t h shaped .shaped)))
 
 pub join-step-spec : {M : Type 1} → statement M
-join-step-spec = tie.close (tie.spec add-more add-rows-requires add-order-steps order-steps-requires same-length same-length-2 returns)
+join-step-spec = tie.close (tie.spec (λ c. search needs) (λ c κs. search needs) (λ c. search needs) order-steps-requires (λ c. search needs) (λ c. search needs) returns)

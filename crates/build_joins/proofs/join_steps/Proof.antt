@@ -77,9 +77,11 @@ module _ (c : tie.After-join-at Inv-loop μ-loop) where
   j = at-loop c .loop .j
 
   here : AtJoin s (start c .args .columns) (at-loop c .loop .rows) (c .before .before .condition-count .result) (c .join-at .result) j
-  here = at-join _ _ _ (start c .pre .0) j (turn (c .before .before .before) .taken) _ _ _ _ (c .join-at .ensures) (c .before .before .condition-count .ensures) (start c .pre .1 .count) (start c .pre .1 .room) (at-loop c .loop .inv .rows-are)
+  here = at-join _ _ _ (start c .pre .0) j (turn (c .before .before .before) .taken) _ _ _ _ (c .join-at .ensures)
+      (c .before .before .condition-count .ensures) (start c .pre .1 .count) (start c .pre .1 .room) (at-loop c .loop .inv .rows-are)
 
-  abbrev inv : Inv (start c .args .breaks .now) (start c .args .degrees .now) (start c .args .orders .now) (start c .args .num .now) (start c .args .den .now) (start c .args .columns) (at-loop c .loop .num) (at-loop c .loop .den) (at-loop c .loop .rows) j
+  abbrev inv : Inv (start c .args .breaks .now) (start c .args .degrees .now) (start c .args .orders .now) (start c .args .num .now) (start c .args .den .now)
+      (start c .args .columns) (at-loop c .loop .num) (at-loop c .loop .den) (at-loop c .loop .rows) j
   inv = at-loop c .loop .inv
 
   -- the rows that come in
@@ -93,20 +95,28 @@ module _ (c : tie.After-den Inv-loop μ-loop) where
   abbrev sides : tie.After-join-at Inv-loop μ-loop
   sides = c .before .before .before .before .before
 
-  left : Leaves (orderSteps (s sides) (j sides) (conditionCount (s sides) (j sides)) (grown (s sides) (j sides) (start sides .args .columns) (inv sides .state .reached))) (c .before .before .join-step .result) (at-loop sides .loop .num) (at-loop sides .loop .den)
+  left : Leaves (orderSteps (s sides) (j sides) (conditionCount (s sides) (j sides))
+      (grown (s sides) (j sides) (start sides .args .columns) (inv sides .state .reached))) (c .before .before .join-step .result) (at-loop sides .loop .num)
+      (at-loop sides .loop .den)
       (c .before .before .join-step .last .0) (c .before .before .join-step .last .1 .0)
   left =
-      subst (λ n. Leaves (orderSteps (s sides) (j sides) n (grown (s sides) (j sides) (start sides .args .columns) (inv sides .state .reached))) (c .before .before .join-step .result) (at-loop sides .loop .num) (at-loop sides .loop .den) (c .before .before .join-step .last .0) (c .before .before .join-step .last .1 .0))
+      subst (λ n. Leaves (orderSteps (s sides) (j sides) n (grown (s sides) (j sides) (start sides .args .columns) (inv sides .state .reached)))
+      (c .before .before .join-step .result) (at-loop sides .loop .num) (at-loop sides .loop .den) (c .before .before .join-step .last .0)
+      (c .before .before .join-step .last .1 .0))
       (sides .before .before .condition-count .ensures)
-      (c .before .before .join-step .ensures (s sides) (j sides) (inv sides .state .reached) (here sides .is) (holds _ _ _ (inv sides .begun .holds .num-long) (inv sides .begun .holds .den-long) (inv sides .state)) (proper sides .shaped))
+      (c .before .before .join-step .ensures (s sides) (j sides) (inv sides .state .reached) (here sides .is)
+      (holds _ _ _ (inv sides .begun .holds .num-long) (inv sides .begun .holds .den-long) (inv sides .state)) (proper sides .shaped))
 
   -- a refusal with this name and number
-  refused : (reason : Refusal) {code : ℕ} {place : ℕ} → c .before .before .join-step .result ≡ reason → (reason ≡ refusals.None → ⊥) → ((q : ℕ) → (q ≡ 8) ⊎ (q ≡ 9) → refusalOf q ≡ reason → q ≡ code) → place ≡ capped (j sides)
-      → JoinsLeave (weights (s sides)) (rowCount (s sides)) (Refused code place) (start sides .args .num .now) (start sides .args .den .now) (c .before .before .join-step .last .0) (c .before .before .join-step .last .1 .0)
+  refused : (reason : Refusal) {code : ℕ} {place : ℕ} → c .before .before .join-step .result ≡ reason → (reason ≡ refusals.None → ⊥)
+      → ((q : ℕ) → (q ≡ 8) ⊎ (q ≡ 9) → refusalOf q ≡ reason → q ≡ code) → place ≡ capped (j sides)
+      → JoinsLeave (weights (s sides)) (rowCount (s sides)) (Refused code place) (start sides .args .num .now) (start sides .args .den .now)
+      (c .before .before .join-step .last .0) (c .before .before .join-step .last .1 .0)
   unfolding weights joinSteps
   refused reason e n which placed =
       let x = leaves-some _ left e n in
-      let p = orders-refuse (s sides) (j sides) (conditionCount (s sides) (j sides)) (grown (s sides) (j sides) (start sides .args .columns) (inv sides .state .reached)) (x .code) (x .place) (x .refuses) in
+      let p = orders-refuse (s sides) (j sides) (conditionCount (s sides) (j sides))
+      (grown (s sides) (j sides) (start sides .args .columns) (inv sides .state .reached)) (x .code) (x .place) (x .refuses) in
       ends _ _ _ (inv sides .begun .holds .num-long) (inv sides .begun .holds .den-long) (inv sides .state) (here sides .before-last) (toldJoins (rowCount (s sides))) x
       (ap₂ Refused (sym (which (x .code) (p .0) (sym (x .told-is) ∙ e))) (placed ∙ sym (p .1)))
 
@@ -159,7 +169,12 @@ degree-at-requires-2 : tie.Need-degree-at-requires-2 Inv-loop μ-loop
 degree-at-requires-2 c κs = let t = turn (c .before) in (omega (arith, t .taken, t .count), c .before .before .before .before .pre .0 .lists .degrees-legal)
 
 add-more : tie.Need-add-more Inv-loop μ-loop
-add-more c = let t = turn (c .before .before) in omega (arith, c .degree-at2 .ensures, legal-degree-high _ _ _ (c .before .before .before .before .before .pre .0 .lists) (c .before .before .before .loop .j + 1) (omega (arith, t .taken, t .count)))
+add-more c = let t = turn (c .before .before) in omega (
+  arith,
+  c .degree-at2 .ensures,
+  legal-degree-high _ _ _ (c .before .before .before .before .before .pre .0 .lists) (c .before .before .before .loop .j + 1)
+      (omega (arith, t .taken, t .count)),
+)
 
 join-at-requires : tie.Need-join-at-requires Inv-loop μ-loop
 join-at-requires c κs = let t = turn (c .before .before) in let p = c .before .before .before .before .before .pre .0 .lists in ((_, p), omega (arith, t .taken, t .count))
@@ -167,23 +182,26 @@ join-at-requires c κs = let t = turn (c .before .before) in let p = c .before .
 join-step-requires : tie.Need-join-step-requires Inv-loop μ-loop
 join-step-requires c κs =
     let d = c .before .before in
-    let v = inv d in
-    ((here d .enough, (here d .fitting, record { table = v .state .reached; holds = holds _ _ _ (v .begun .holds .num-long) (v .begun .holds .den-long) (v .state); shaped = proper d .shaped })), (here d .low, here d .wide))
-
-place-requires : tie.Need-place-requires Inv-loop μ-loop
-place-requires c κs = search needs
-
-enum-told : tie.Need-enum-told Inv-loop μ-loop
-enum-told c = search needs
+    let v = inv d in (
+      (
+        here d .enough,
+        (
+          here d .fitting,
+          record {
+            table = v .state .reached;
+            holds = holds _ _ _ (v .begun .holds .num-long) (v .begun .holds .den-long) (v .state);
+            shaped = proper d .shaped;
+          },
+        ),
+      ),
+      (here d .low, here d .wide),
+    )
 
 add-rows-2 : tie.Need-add-rows-2 Inv-loop μ-loop
 add-rows-2 c = let x = sides (c .before .before .before) in omega (arith, more-is x, here x .low)
 
 sub-rows : tie.Need-sub-rows Inv-loop μ-loop
 sub-rows c = let x = sides (c .before .before .before) in omega (arith, here x .enough)
-
-enum-told-2 : tie.Need-enum-told-2 Inv-loop μ-loop
-enum-told-2 c = search needs
 
 same-length : tie.Need-same-length Inv-loop μ-loop
 same-length c = num-same (c .before .before .before)
@@ -193,9 +211,6 @@ same-length-2 c = den-same (c .before .before .before)
 
 returns : tie.Need-returns Inv-loop μ-loop
 returns c = refused (c .before .before .before) refusals.TooLarge (c .enum-told2 .given .1) (λ z. let x : _≡_ {A = ℕ} 0 1 = cc in omega arith) (λ q. named-eight) (c .before .before .place .ensures)
-
-enum-told-3 : tie.Need-enum-told-3 Inv-loop μ-loop
-enum-told-3 c = search needs
 
 same-length-3 : tie.Need-same-length-3 Inv-loop μ-loop
 same-length-3 c = num-same (c .before .before .before)
@@ -262,15 +277,15 @@ join-steps-spec =
     add-more
     join-at-requires
     join-step-requires
-    place-requires
-    enum-told
+    (λ c κs. search needs)
+    (λ c. search needs)
     add-rows-2
     sub-rows
-    enum-told-2
+    (λ c. search needs)
     same-length
     same-length-2
     returns
-    enum-told-3
+    (λ c. search needs)
     same-length-3
     same-length-4
     returns-2

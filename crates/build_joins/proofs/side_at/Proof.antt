@@ -9,15 +9,6 @@ use Rattle.build_space.proofs.Partial.{first-column-partial}
 use Rattle.build_joins.proofs.side_at.Statement.{statement}
 use Rattle.build_joins.proofs.side_at.Tie as tie
 
-degree-at-requires : tie.Need-degree-at-requires
-degree-at-requires c κs = search needs
-
-segment-length-requires : tie.Need-segment-length-requires
-segment-length-requires c κs = search needs
-
-first-column-requires : tie.Need-first-column-requires
-first-column-requires c κs = search needs
-
 returns : tie.Need-returns
 returns c =
     let s = c .before .before .before in
@@ -29,4 +20,4 @@ returns c =
     }
 
 pub side-at-spec : {M : Type 1} → statement M
-side-at-spec = tie.close (tie.spec degree-at-requires segment-length-requires first-column-requires returns)
+side-at-spec = tie.close (tie.spec (λ c κs. search needs) (λ c κs. search needs) (λ c κs. search needs) returns)

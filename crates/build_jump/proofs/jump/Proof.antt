@@ -48,12 +48,6 @@ Inv-loop num den at join k entries count sum₀ e₀ sum e = Inv num den at join
 abbrev μ-loop : tie.MeasureT-loop
 μ-loop num den at join k entries count sum₀ e₀ sum e = 2 * k + 2 - e
 
-mul-count : tie.Need-mul-count Inv-loop μ-loop
-mul-count c = omega arith
-
-add-count : tie.Need-add-count Inv-loop μ-loop
-add-count c = omega arith
-
 loop-holds : tie.Need-loop-holds Inv-loop μ-loop
 loop-holds c = record {
   within = omega arith;
@@ -65,20 +59,8 @@ loop-holds c = record {
 column-requires : tie.Need-column-requires Inv-loop μ-loop
 column-requires c κs = (c .before .before .pre .0 .1, omega arith)
 
-mul-cell : tie.Need-mul-cell Inv-loop μ-loop
-mul-cell c = omega arith
-
-add-cell : tie.Need-add-cell Inv-loop μ-loop
-add-cell c = omega arith
-
 read-requires : tie.Need-read-requires Inv-loop μ-loop
 read-requires c κs = omega (arith, c .before .before .before .pre .1 .1 .1 .num-long, c .before .before .before .pre .1 .1 .1 .den-long)
-
-mul-condition : tie.Need-mul-condition Inv-loop μ-loop
-mul-condition c = omega arith
-
-array-copy-out-condition : tie.Need-array-copy-out-condition Inv-loop μ-loop
-array-copy-out-condition c = omega arith
 
 -- the product's two factors, in the definition's terms
 module _ (c : tie.After-condition Inv-loop μ-loop) where
@@ -114,11 +96,14 @@ add-product-requires c κs =
     let h = start c .pre .1 .1 in
     let x = read-fits c in
     let l = c .before .before .before .before .loop .inv in
-    let weight : FractionFits (c .before .read .result) = rw (weight-is c (f .space) (f .index) (f .is) (h .0) (h .1)) (fits-sized (cell (h .0) (start c .args .at) (this c (f .space) (f .index) (f .is) .column)) (h .1 .fit (start c .args .at) (this c (f .space) (f .index) (f .is) .column))) in
+    let weight : FractionFits (c .before .read .result) = rw (weight-is c (f .space) (f .index) (f .is) (h .0) (h .1))
+    (fits-sized (cell (h .0) (start c .args .at) (this c (f .space) (f .index) (f .is) .column))
+    (h .1 .fit (start c .args .at) (this c (f .space) (f .index) (f .is) .column))) in
     ((l .fitted, (weight, simp toZ-ofZ (rw (condition-is c (f .space) (f .index) (f .is)) (entry-small f (place c))))), l .lowest)
 
 -- what one more product and its sum answer
-module _ (c : tie.After-add-product Inv-loop μ-loop) (s : Space) (j : ℕ) (t : Table) (i : JoinIs (start (c .before) .args .join) s j) (h : Holds (start (c .before) .args .num .now) (start (c .before) .args .den .now) t) where
+module _ (c : tie.After-add-product Inv-loop μ-loop) (s : Space) (j : ℕ) (t : Table) (i : JoinIs (start (c .before) .args .join) s j)
+    (h : Holds (start (c .before) .args .num .now) (start (c .before) .args .den .now) t) where
   abbrev cells : List ℚ
   cells = row t (start (c .before) .args .at)
 
@@ -141,25 +126,14 @@ module _ (c : tie.After-add-product Inv-loop μ-loop) (s : Space) (j : ℕ) (t :
   jump-from : addProducts j cells (int (pos 0)) κ ≡ addProducts j cells (value (sum (c .before))) (this (c .before) s j i ∷ drop (suc (place (c .before))) κ)
   jump-from =
       c .before .before .before .before .before .loop .inv .rest s j t i h
-      ∙ ap (addProducts j cells (value (sum (c .before)))) (drop-cons κ (place (c .before)) noEntry (omega (arith, conditions-length s j (start (c .before) .args .k), c .before .before .before .before .loop-test .taken)))
-
-enum-known-next : tie.Need-enum-known-next Inv-loop μ-loop
-enum-known-next c = search needs
-
-enum-told : tie.Need-enum-told Inv-loop μ-loop
-enum-told c = search needs
+      ∙ ap (addProducts j cells (value (sum (c .before)))) (drop-cons κ (place (c .before)) noEntry
+      (omega (arith, conditions-length s j (start (c .before) .args .k), c .before .before .before .before .loop-test .taken)))
 
 returns : tie.Need-returns Inv-loop μ-loop
 returns c s j t i h =
     let a = c .before .before in
     let r = large-refused (more a s j t i h) (sym (more-is a s j t i h) ∙ c .enum-told .given .1) in
     sym (refused-large (jump-from a s j t i h ∙ products-refused j (cells a s j t i h) _ _ _ (r .refuses)))
-
-add-e : tie.Need-add-e Inv-loop μ-loop
-add-e c = omega arith
-
-loop-less : tie.Need-loop-less Inv-loop μ-loop
-loop-less c = omega arith
 
 loop-again : tie.Need-loop-again Inv-loop μ-loop
 loop-again c =
@@ -195,20 +169,20 @@ jump-spec =
     (tie.spec
     Inv-loop
     μ-loop
-    mul-count
-    add-count
+    (λ c. omega arith)
+    (λ c. omega arith)
     loop-holds
     column-requires
-    mul-cell
-    add-cell
+    (λ c. omega arith)
+    (λ c. omega arith)
     read-requires
-    mul-condition
-    array-copy-out-condition
+    (λ c. omega arith)
+    (λ c. omega arith)
     add-product-requires
-    enum-known-next
-    enum-told
+    (λ c. search needs)
+    (λ c. search needs)
     returns
-    add-e
-    loop-less
+    (λ c. omega arith)
+    (λ c. omega arith)
     loop-again
     returns-2)

@@ -53,9 +53,6 @@ abbrev μ-loop : tie.MeasureT-loop
 entries-requires : tie.Need-entries-requires Inv-loop μ-loop
 entries-requires c κs = c .pre .0 .1
 
-no-fractions-requires : tie.Need-no-fractions-requires Inv-loop μ-loop
-no-fractions-requires c κs = search needs
-
 loop-holds : tie.Need-loop-holds Inv-loop μ-loop
 loop-holds c = record {
   within = omega arith;
@@ -67,27 +64,6 @@ jump-requires c κs =
     let s = c .before .before .before .before in
     ((omega arith, s .pre .0 .1), (c .before .before .before .entries .ensures, s .pre .1))
 
-enum-known-j : tie.Need-enum-known-j Inv-loop μ-loop
-enum-known-j c = search needs
-
-mul-n : tie.Need-mul-n Inv-loop μ-loop
-mul-n c = omega arith
-
-element-set-from-n : tie.Need-element-set-from-n Inv-loop μ-loop
-element-set-from-n c = omega arith
-
-mul-d : tie.Need-mul-d Inv-loop μ-loop
-mul-d c = omega arith
-
-element-set-from-d : tie.Need-element-set-from-d Inv-loop μ-loop
-element-set-from-d c = omega arith
-
-enum-told : tie.Need-enum-told Inv-loop μ-loop
-enum-told c = search needs
-
-no-fractions-requires-2 : tie.Need-no-fractions-requires-2 Inv-loop μ-loop
-no-fractions-requires-2 c κs = search needs
-
 returns : tie.Need-returns Inv-loop μ-loop
 unfolding rowJumps
 returns c s j t i h size =
@@ -96,13 +72,8 @@ returns c s j t i h size =
     let k = a .before .before .before .before .before .args .k in
     let r = large-refused (rowJump s j k t (l .i)) (sym (a .jump .ensures s j t i h) ∙ c .before .enum-told .given .1) in
     ap (λ (none : Fractions). record { fit = false; of = none }) (c .no-fractions2 .ensures)
-    ∙ sym (ap rowJumps (collect-stays (suc (l .i)) (length t) (rowJump s j k t) (omega (arith, a .before .loop-test .taken, size)) (collect-ends (l .i) (rowJump s j k t) (l .inv .rest s j t i h .collects) (r .refuses))))
-
-add-i : tie.Need-add-i Inv-loop μ-loop
-add-i c = omega arith
-
-loop-less : tie.Need-loop-less Inv-loop μ-loop
-loop-less c = omega arith
+    ∙ sym (ap rowJumps (collect-stays (suc (l .i)) (length t) (rowJump s j k t) (omega (arith, a .before .loop-test .taken, size))
+    (collect-ends (l .i) (rowJump s j k t) (l .inv .rest s j t i h .collects) (r .refuses))))
 
 loop-again : tie.Need-loop-again Inv-loop μ-loop
 loop-again c =
@@ -120,7 +91,8 @@ loop-again c =
           record {
             done = y .done ++ (value (known .0 .0) ∷ []);
             collects = ap (λ m. collect m (rowJump s j k t)) (add-one (l .i)) ∙ collect-more (l .i) (rowJump s j k t) (y .collects) (x .answers);
-            js-is = simp toZ-ofZ (fractions-more (y .done) (value (known .0 .0)) (l .i) (l .js) (known .0 .0) (collect-inverts (l .i) (rowJump s j k t) (y .collects) .size) (omega arith) (y .js-is) (x .lowest));
+            js-is = simp toZ-ofZ (fractions-more (y .done) (value (known .0 .0)) (l .i) (l .js) (known .0 .0)
+                (collect-inverts (l .i) (rowJump s j k t) (y .collects) .size) (omega arith) (y .js-is) (x .lowest));
           };
     }
 
@@ -139,18 +111,18 @@ jumps-spec =
     Inv-loop
     μ-loop
     entries-requires
-    no-fractions-requires
+    (λ c κs. search needs)
     loop-holds
     jump-requires
-    enum-known-j
-    mul-n
-    element-set-from-n
-    mul-d
-    element-set-from-d
-    enum-told
-    no-fractions-requires-2
+    (λ c. search needs)
+    (λ c. omega arith)
+    (λ c. omega arith)
+    (λ c. omega arith)
+    (λ c. omega arith)
+    (λ c. search needs)
+    (λ c κs. search needs)
     returns
-    add-i
-    loop-less
+    (λ c. omega arith)
+    (λ c. omega arith)
     loop-again
     returns-2)

@@ -13,9 +13,6 @@ use Rattle.build_limits.proofs.check.Tie as tie
 abbrev lists : tie.Start → Space
 lists s = space (s .args .breaks .now) (s .args .degrees .now) (s .args .orders .now)
 
-lengths-fit-requires : tie.Need-lengths-fit-requires
-lengths-fit-requires c κs = search needs
-
 check-breaks-requires : tie.Need-check-breaks-requires
 check-breaks-requires c κs =
     let h : Lengths (lists (c .before .before)) = lengths-fit-inverts _ (sym (c .before .lengths-fit .ensures) ∙ c .if1 .taken) in
@@ -30,4 +27,4 @@ returns-2 : tie.Need-returns-2
 returns-2 c = sym (refusal-refused _ (checked-lengths _ (sym (c .before .lengths-fit .ensures) ∙ c .if1 .left)))
 
 pub check-spec : {M : Type 1} → statement M
-check-spec = tie.close (tie.spec lengths-fit-requires check-breaks-requires returns returns-2)
+check-spec = tie.close (tie.spec (λ c κs. search needs) check-breaks-requires returns returns-2)

@@ -17,18 +17,6 @@ first-bad-requires : tie.Need-first-bad-requires
 unfolding entries
 first-bad-requires c κs = (c .pre, omega arith)
 
-enum-known-bad : tie.Need-enum-known-bad
-enum-known-bad c = search needs
-
-place-requires : tie.Need-place-requires
-place-requires c κs = search needs
-
-enum-told : tie.Need-enum-told
-enum-told c = search needs
-
-check-parts-requires : tie.Need-check-parts-requires
-check-parts-requires c κs = search needs
-
 returns : tie.Need-returns
 returns c =
     let b = c .before .before in
@@ -46,9 +34,9 @@ check-orders-spec =
     tie.close
     (tie.spec
     first-bad-requires
-    enum-known-bad
-    place-requires
-    enum-told
-    check-parts-requires
+    (λ c. search needs)
+    (λ c κs. search needs)
+    (λ c. search needs)
+    (λ c κs. search needs)
     returns
     returns-2)

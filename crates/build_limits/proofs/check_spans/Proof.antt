@@ -21,22 +21,10 @@ first-bad-requires : tie.Need-first-bad-requires
 unfolding entries
 first-bad-requires c κs = (c .pre, omega arith)
 
-enum-known-bad : tie.Need-enum-known-bad
-enum-known-bad c = search needs
-
 part-end-requires : tie.Need-part-end-requires
 part-end-requires c κs =
     let b = c .before in
     (first-some-inverts _ _ (found-some-inverts _ (sym (b .before .before .first-bad .ensures) ∙ b .bad .given .1)) .below, b .before .before .before .pre .0)
-
-place-requires : tie.Need-place-requires
-place-requires c κs = search needs
-
-enum-told : tie.Need-enum-told
-enum-told c = search needs
-
-check-degrees-requires : tie.Need-check-degrees-requires
-check-degrees-requires c κs = search needs
 
 returns : tie.Need-returns
 returns c =
@@ -56,10 +44,10 @@ check-spans-spec =
     tie.close
     (tie.spec
     first-bad-requires
-    enum-known-bad
+    (λ c. search needs)
     part-end-requires
-    place-requires
-    enum-told
-    check-degrees-requires
+    (λ c κs. search needs)
+    (λ c. search needs)
+    (λ c κs. search needs)
     returns
     returns-2)

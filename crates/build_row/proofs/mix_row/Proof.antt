@@ -99,8 +99,10 @@ module _ (r : tie.After-read2 Inv-loop μ-loop) (t : Table) (h : Holds (start r 
       read-cell h (v .num-written) (v .den-written) _ _ (omega arith) (omega arith) _ (omega arith) (omega arith) _ (e .0) (e .1)
 
 -- what the turn makes is counted from the old entries
-outcome : (n : tie.After-new-entry Inv-loop μ-loop) (t : Table) (j : ℕ) (v : ℚ) → Holds (start (n .before) .args .num .now) (start (n .before) .args .den .now) t → value (start (n .before) .args .u) ≡ int (pos 1) -ᵠ v
-    → n .new-entry .result ≡ counted (newEntry j (value (start (n .before) .args .w)) v (cell t (start (n .before) .args .i) (at-loop (n .before) .loop .c)) (cell t (suc (start (n .before) .args .i)) (at-loop (n .before) .loop .c)))
+outcome : (n : tie.After-new-entry Inv-loop μ-loop) (t : Table) (j : ℕ) (v : ℚ)
+    → Holds (start (n .before) .args .num .now) (start (n .before) .args .den .now) t → value (start (n .before) .args .u) ≡ int (pos 1) -ᵠ v
+    → n .new-entry .result ≡ counted (newEntry j (value (start (n .before) .args .w)) v (cell t (start (n .before) .args .i) (at-loop (n .before) .loop .c))
+    (cell t (suc (start (n .before) .args .i)) (at-loop (n .before) .loop .c)))
 outcome n t j v h e =
     let r = n .before in
     let w = start r .args .w in
@@ -135,45 +137,12 @@ module _ (num dens : List ℤ) (i c : ℕ) (w : Fraction) (t : Table) (j : ℕ) 
 loop-holds : tie.Need-loop-holds Inv-loop μ-loop
 loop-holds c = record { within = omega arith; num-written = written-none _ _ _; den-written = written-none _ _ _; made = λ t j v h e d l. absurd (omega arith) }
 
-mul-at : tie.Need-mul-at Inv-loop μ-loop
-mul-at c = omega arith
-
-add-at : tie.Need-add-at Inv-loop μ-loop
-add-at c = omega arith
-
-add-below : tie.Need-add-below Inv-loop μ-loop
-add-below c = omega arith
-
-read-requires : tie.Need-read-requires Inv-loop μ-loop
-read-requires c κs = omega arith
-
-read-requires-2 : tie.Need-read-requires-2 Inv-loop μ-loop
-read-requires-2 c κs = omega arith
-
 new-entry-requires : tie.Need-new-entry-requires Inv-loop μ-loop
 new-entry-requires c κs =
     let p = start c .pre in
     let t = p .1 .0 in
     let h = p .1 .1 in
     (p .0 .0, (p .0 .1 .0, (subst FractionFits (sym (x-is c t h)) (fits-sized _ (h .fit _ _)), subst FractionFits (sym (y-is c t h)) (fits-sized _ (h .fit _ _)))))
-
-enum-known-made : tie.Need-enum-known-made Inv-loop μ-loop
-enum-known-made c = search needs
-
-mul-n : tie.Need-mul-n Inv-loop μ-loop
-mul-n c = omega arith
-
-slice-set-from-n : tie.Need-slice-set-from-n Inv-loop μ-loop
-slice-set-from-n c = omega arith
-
-mul-d : tie.Need-mul-d Inv-loop μ-loop
-mul-d c = omega arith
-
-slice-set-from-d : tie.Need-slice-set-from-d Inv-loop μ-loop
-slice-set-from-d c = omega arith
-
-enum-told : tie.Need-enum-told Inv-loop μ-loop
-enum-told c = search needs
 
 same-length : tie.Need-same-length Inv-loop μ-loop
 same-length c = at-loop (c .before .before .before) .loop .inv .num-written .long
@@ -192,12 +161,6 @@ returns c t j v h e inside wide =
     let stops = collect-stops (length (row t (a .i))) (l .c) (entries (a .w) v t (a .i) j) (mixed (a .w) v t (a .i)) (omega arith) (λ d k. l .inv .made t j v h e d k .answers) (o .refuses) in
     subst (λ (out : Outcome (List ℚ)). LeavesIf (with-answer (set t (a .i)) out) false (a .num .now) (a .den .now) (l .num) (l .den)) (sym stops)
     (refl, written-kept (omega arith) (l .inv .num-written), written-kept (omega arith) (l .inv .den-written))
-
-add-c : tie.Need-add-c Inv-loop μ-loop
-add-c c = omega arith
-
-loop-less : tie.Need-loop-less Inv-loop μ-loop
-loop-less c = omega arith
 
 loop-again : tie.Need-loop-again Inv-loop μ-loop
 loop-again c =
@@ -235,9 +198,13 @@ returns-2 c t j v h e inside wide =
     let answers = collect-answers (length (row t (a .i))) (entries (a .w) v t (a .i) j) (mixed (a .w) v t (a .i)) (λ d k. m d (omega arith) .answers) in
     subst (λ (out : Outcome (List ℚ)). LeavesIf (with-answer (set t (a .i)) out) true (a .num .now) (a .den .now) (l .num) (l .den)) (sym answers) (
       refl,
-      row-laid numerator t (a .i) _ (mixed (a .w) v t (a .i)) (a .num .now) (l .num) (h .num-long) (holds-num h) inside (omega arith) refl (omega arith) (written-wider _ (omega arith) (l .inv .num-written)) (λ d k. m d (omega arith) .num-is) ∙ sym (numerators-laid _ _),
-      row-laid denominator t (a .i) _ (mixed (a .w) v t (a .i)) (a .den .now) (l .den) (h .den-long) (holds-den h) inside (omega arith) refl (omega arith) (written-wider _ (omega arith) (l .inv .den-written)) (λ d k. m d (omega arith) .den-is) ∙ sym (denominators-laid _ _),
+      row-laid numerator t (a .i) _ (mixed (a .w) v t (a .i)) (a .num .now) (l .num) (h .num-long) (holds-num h) inside (omega arith) refl (omega arith)
+          (written-wider _ (omega arith) (l .inv .num-written)) (λ d k. m d (omega arith) .num-is) ∙ sym (numerators-laid _ _),
+      row-laid denominator t (a .i) _ (mixed (a .w) v t (a .i)) (a .den .now) (l .den) (h .den-long) (holds-den h) inside (omega arith) refl (omega arith)
+          (written-wider _ (omega arith) (l .inv .den-written)) (λ d k. m d (omega arith) .den-is) ∙ sym (denominators-laid _ _),
     )
 
 pub mix-row-spec : {M : Type 1} → statement M
-mix-row-spec = tie.close (tie.spec Inv-loop μ-loop loop-holds mul-at add-at add-below read-requires read-requires-2 new-entry-requires enum-known-made mul-n slice-set-from-n mul-d slice-set-from-d enum-told same-length same-length-2 returns add-c loop-less loop-again same-length-3 same-length-4 returns-2)
+mix-row-spec = tie.close (tie.spec Inv-loop μ-loop loop-holds (λ c. omega arith) (λ c. omega arith) (λ c. omega arith) (λ c κs. omega arith)
+    (λ c κs. omega arith) new-entry-requires (λ c. search needs) (λ c. omega arith) (λ c. omega arith) (λ c. omega arith) (λ c. omega arith)
+    (λ c. search needs) same-length same-length-2 returns (λ c. omega arith) (λ c. omega arith) loop-again same-length-3 same-length-4 returns-2)

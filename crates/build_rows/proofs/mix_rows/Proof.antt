@@ -89,17 +89,20 @@ module _ {num₀ den₀ num dens : List ℤ} {f i rows columns : ℕ} {t : Table
       (old (suc i) (omega arith) ∙ ap (row t) (let e : suc i ≡ f + suc (i - f) = omega arith in e))
 
   -- it is done: one new row more
-  goes-on : (b : Bool) (num′ dens′ : List ℤ) (o : Outcome Row) → made j qs t f (i - f) ≡ o → b ≡ true → LeavesIf (with-answer (set current i) o) b num dens num′ dens′ → State num₀ den₀ num′ dens′ f (i + 1) t j qs
+  goes-on : (b : Bool) (num′ dens′ : List ℤ) (o : Outcome Row) → made j qs t f (i - f) ≡ o → b ≡ true
+      → LeavesIf (with-answer (set current i) o) b num dens num′ dens′ → State num₀ den₀ num′ dens′ f (i + 1) t j qs
   goes-on b num′ dens′ (answer r) e d left = record {
     new = st .new ++ (r ∷ []);
     answers = ap (λ n. collect n (made j qs t f)) (let z : i + 1 - f ≡ suc (i - f) = omega arith in z) ∙ collect-more (i - f) (made j qs t f) (st .answers) e;
     num-is = left .1 ∙ ap (numerators (set current i r)) (st .num-is) ∙ numerators-again (set current i r) current num₀ ∙ ap (λ s. numerators s num₀) next;
     den-is = left .2 ∙ ap (denominators (set current i r)) (st .den-is) ∙ denominators-again (set current i r) current den₀ ∙ ap (λ s. denominators s den₀) next;
-    fit = λ k c. ap (λ s. fits (cell s k c)) (sym next) ∙ set-fits current i r (omega (arith, current-length)) (st .fit) (newRow-fits j (entry qs (i - f)) (entry qs (suc (i - f))) (row t (f + (i - f))) (row t (f + suc (i - f))) e) k c;
+    fit = λ k c. ap (λ s. fits (cell s k c)) (sym next) ∙ set-fits current i r (omega (arith, current-length)) (st .fit)
+        (newRow-fits j (entry qs (i - f)) (entry qs (suc (i - f))) (row t (f + (i - f))) (row t (f + suc (i - f))) e) k c;
   }
     where
       next : set current i r ≡ renewed f t (st .new ++ (r ∷ [])) (i + 1)
-      next = renewed-more f t (st .new) i order (omega (arith, shaped .row-count)) count r (omega (arith, shaped .row-count)) ∙ ap (renewed f t (st .new ++ (r ∷ []))) (let z : suc i ≡ i + 1 = omega arith in z)
+      next = renewed-more f t (st .new) i order (omega (arith, shaped .row-count)) count r (omega (arith, shaped .row-count))
+          ∙ ap (renewed f t (st .new ++ (r ∷ []))) (let z : suc i ≡ i + 1 = omega arith in z)
   goes-on b num′ dens′ (refusal code place) e d left = absurd (false≢true (sym (left .0) ∙ d))
 
   -- it is refused: so are all
@@ -180,24 +183,33 @@ module _ (m : tie.After-mix-row Inv-loop μ-loop) (t : Table) (j : ℕ) (qs : Li
   inside = let r = room (m .before .before .before .before .before .before .before .before) in omega arith
 
   -- the two factors that are read
-  w-is : value (record { num = toZ w64 (ofZ w64 (getD (start m .args .t3 .num) (at-loop m .loop .i - start m .args .f) (pos 0))); den = toZ w64 (ofZ w64 (getD (start m .args .t3 .den) (at-loop m .loop .i - start m .args .f) (pos 0))) })
+  w-is : value (record {
+    num = toZ w64 (ofZ w64 (getD (start m .args .t3 .num) (at-loop m .loop .i - start m .args .f) (pos 0)));
+    den = toZ w64 (ofZ w64 (getD (start m .args .t3 .den) (at-loop m .loop .i - start m .args .f) (pos 0)));
+  })
       ≡ entry qs (at-loop m .loop .i - start m .args .f)
   w-is =
       let n = wn-fits (m .before .before .before .before) in
       let d = wd-fits (m .before .before .before .before) in
-      simp toZ-ofZ (ap value (fraction-at qs _ e (at-loop m .loop .i - start m .args .f) (let r = room (m .before .before .before .before .before .before .before .before) in omega arith)) ∙ value-fraction _)
+      simp toZ-ofZ (ap value (fraction-at qs _ e (at-loop m .loop .i - start m .args .f)
+      (let r = room (m .before .before .before .before .before .before .before .before) in omega arith)) ∙ value-fraction _)
 
   u-is : value (m .before .before .before .complement .result) ≡ int (pos 1) -ᵠ entry qs (suc (at-loop m .loop .i - start m .args .f))
   u-is =
       let n = vn-fits (m .before .before .before .before) in
       let d = vd-fits (m .before .before .before .before) in
       m .before .before .before .complement .ensures .0
-      ∙ ap (λ x. int (pos 1) -ᵠ x) (simp toZ-ofZ (ap value (fraction-at qs _ e (at-loop m .loop .i - start m .args .f + 1) (let r = room (m .before .before .before .before .before .before .before .before) in omega arith)) ∙ value-fraction _ ∙ ap (entry qs) (add-one (at-loop m .loop .i - start m .args .f))))
+      ∙ ap (λ x. int (pos 1) -ᵠ x) (simp toZ-ofZ (ap value (fraction-at qs _ e (at-loop m .loop .i - start m .args .f + 1)
+      (let r = room (m .before .before .before .before .before .before .before .before) in omega arith)) ∙ value-fraction _
+      ∙ ap (entry qs) (add-one (at-loop m .loop .i - start m .args .f))))
 
-  leaves : LeavesIf (with-answer (set (current h shaped order inside st) (at-loop m .loop .i)) (made j qs t (start m .args .f) (at-loop m .loop .i - start m .args .f))) (m .mix-row .result) (at-loop m .loop .num) (at-loop m .loop .den) (m .mix-row .last .0) (m .mix-row .last .1 .0)
+  leaves : LeavesIf (with-answer (set (current h shaped order inside st) (at-loop m .loop .i))
+      (made j qs t (start m .args .f) (at-loop m .loop .i - start m .args .f))) (m .mix-row .result) (at-loop m .loop .num) (at-loop m .loop .den)
+      (m .mix-row .last .0) (m .mix-row .last .1 .0)
   leaves =
       let cur = current h shaped order inside st in
-      subst (λ (o : Outcome Row). LeavesIf (with-answer (set cur (at-loop m .loop .i)) o) (m .mix-row .result) (at-loop m .loop .num) (at-loop m .loop .den) (m .mix-row .last .0) (m .mix-row .last .1 .0))
+      subst (λ (o : Outcome Row). LeavesIf (with-answer (set cur (at-loop m .loop .i)) o) (m .mix-row .result) (at-loop m .loop .num) (at-loop m .loop .den)
+      (m .mix-row .last .0) (m .mix-row .last .1 .0))
       (row-is h shaped order inside st _ _ w-is refl)
       (m .mix-row .ensures cur j _ (holds h shaped order inside st) u-is (omega (arith, current-length h shaped order inside st, inside)) (current-wide h shaped order inside st))
 
@@ -215,39 +227,6 @@ loop-holds c = record {
     fit = λ k m. ap (λ s. fits (cell s k m)) (sym (renewed-none (c .args .f) t)) ∙ h .fit k m;
   };
 }
-
-sub-d : tie.Need-sub-d Inv-loop μ-loop
-sub-d c = omega arith
-
-mul-wn : tie.Need-mul-wn Inv-loop μ-loop
-mul-wn c = omega arith
-
-element-copy-out-wn : tie.Need-element-copy-out-wn Inv-loop μ-loop
-element-copy-out-wn c = omega arith
-
-mul-wd : tie.Need-mul-wd Inv-loop μ-loop
-mul-wd c = omega arith
-
-element-copy-out-wd : tie.Need-element-copy-out-wd Inv-loop μ-loop
-element-copy-out-wd c = omega arith
-
-add-vn : tie.Need-add-vn Inv-loop μ-loop
-add-vn c = omega arith
-
-mul-vn : tie.Need-mul-vn Inv-loop μ-loop
-mul-vn c = omega arith
-
-element-copy-out-vn : tie.Need-element-copy-out-vn Inv-loop μ-loop
-element-copy-out-vn c = omega arith
-
-add-vd : tie.Need-add-vd Inv-loop μ-loop
-add-vd c = omega arith
-
-mul-vd : tie.Need-mul-vd Inv-loop μ-loop
-mul-vd c = omega arith
-
-element-copy-out-vd : tie.Need-element-copy-out-vd Inv-loop μ-loop
-element-copy-out-vd c = omega arith
 
 complement-requires : tie.Need-complement-requires Inv-loop μ-loop
 complement-requires c κs =
@@ -282,14 +261,9 @@ same-length-2 c = let m = c .before .before .before in m .mix-row .kept .1 .0 �
 returns : tie.Need-returns Inv-loop μ-loop
 returns c t j qs h shaped e =
     let m = c .before .before .before in
-    ends h shaped (order m t j qs h shaped e) (inside m t j qs h shaped e) (st m t j qs h shaped e) (start m .args .l) (m .before .before .before .before .before .before .before .before .loop-test .taken)
+    ends h shaped (order m t j qs h shaped e) (inside m t j qs h shaped e) (st m t j qs h shaped e) (start m .args .l)
+    (m .before .before .before .before .before .before .before .before .loop-test .taken)
     (m .mix-row .result) (m .mix-row .last .0) (m .mix-row .last .1 .0) _ refl (not-true _ (c .if1 .taken)) (leaves m t j qs h shaped e)
-
-add-i : tie.Need-add-i Inv-loop μ-loop
-add-i c = omega arith
-
-loop-less : tie.Need-loop-less Inv-loop μ-loop
-loop-less c = omega arith
 
 loop-again : tie.Need-loop-again Inv-loop μ-loop
 loop-again c =
@@ -322,24 +296,24 @@ mix-rows-spec =
     Inv-loop
     μ-loop
     loop-holds
-    sub-d
-    mul-wn
-    element-copy-out-wn
-    mul-wd
-    element-copy-out-wd
-    add-vn
-    mul-vn
-    element-copy-out-vn
-    add-vd
-    mul-vd
-    element-copy-out-vd
+    (λ c. omega arith)
+    (λ c. omega arith)
+    (λ c. omega arith)
+    (λ c. omega arith)
+    (λ c. omega arith)
+    (λ c. omega arith)
+    (λ c. omega arith)
+    (λ c. omega arith)
+    (λ c. omega arith)
+    (λ c. omega arith)
+    (λ c. omega arith)
     complement-requires
     mix-row-requires
     same-length
     same-length-2
     returns
-    add-i
-    loop-less
+    (λ c. omega arith)
+    (λ c. omega arith)
     loop-again
     same-length-3
     same-length-4

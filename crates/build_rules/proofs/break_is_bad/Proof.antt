@@ -16,15 +16,6 @@ x-fits c = record { sfits = c .x .given }
 before-fits : (c : tie.After-before2) → SFits w32 (getD (c .before .before .before .before .before .args .breaks .now) (c .before .before .before .before .before .args .i - 1) (pos 0))
 before-fits c = record { sfits = c .before2 .given }
 
-mul-x : tie.Need-mul-x
-mul-x c = search needs
-
-shared-slice-copy-out-x : tie.Need-shared-slice-copy-out-x
-shared-slice-copy-out-x c = search needs
-
-sub-if1 : tie.Need-sub-if1
-sub-if1 c = search needs
-
 returns : tie.Need-returns
 returns c = let f = x-fits (c .before) in bad-break-low _ _ (simp toZ-ofZ at (c .if1 .taken))
 
@@ -36,15 +27,6 @@ returns-3 c =
     let f = x-fits (c .before .before .before) in
     good-break-first _ _ (c .if3 .taken) (simp toZ-ofZ at (c .before .before .if1 .left)) (simp toZ-ofZ at (c .before .if2 .left))
 
-sub-before : tie.Need-sub-before
-sub-before c = search needs
-
-mul-before : tie.Need-mul-before
-mul-before c = search needs
-
-shared-slice-copy-out-before : tie.Need-shared-slice-copy-out-before
-shared-slice-copy-out-before c = search needs
-
 returns-4 : tie.Need-returns-4
 returns-4 c =
     let f = x-fits (c .before .before .before .before) in
@@ -55,13 +37,13 @@ pub break-is-bad-spec : {M : Type 1} → statement M
 break-is-bad-spec =
     tie.close
     (tie.spec
-    mul-x
-    shared-slice-copy-out-x
-    sub-if1
+    (λ c. search needs)
+    (λ c. search needs)
+    (λ c. search needs)
     returns
     returns-2
     returns-3
-    sub-before
-    mul-before
-    shared-slice-copy-out-before
+    (λ c. search needs)
+    (λ c. search needs)
+    (λ c. search needs)
     returns-4)

@@ -21,36 +21,21 @@ module _ (s : tie.Start) {r : Rule} (e : s .args .rule ≡ r) where
   test : broken r (lists s) (s .args .i) ≡ broken (s .args .rule) (lists s) (s .args .i)
   test = ap (λ q. broken q (lists s) (s .args .i)) (sym e)
 
-enum-told : tie.Need-enum-told
-enum-told c = search needs
-
 break-is-bad-requires : tie.Need-break-is-bad-requires
 unfolding entries
 break-is-bad-requires c κs = entry (c .before .before) (c .enum-told .given .1)
-
-enum-told-2 : tie.Need-enum-told-2
-enum-told-2 c = search needs
 
 span-is-too-long-requires : tie.Need-span-is-too-long-requires
 unfolding entries
 span-is-too-long-requires c κs = (entry (c .before .before) (c .enum-told2 .given .1), c .before .before .pre .0)
 
-enum-told-3 : tie.Need-enum-told-3
-enum-told-3 c = search needs
-
 degree-is-bad-requires : tie.Need-degree-is-bad-requires
 unfolding entries
 degree-is-bad-requires c κs = entry (c .before .before) (c .enum-told3 .given .1)
 
-enum-told-4 : tie.Need-enum-told-4
-enum-told-4 c = search needs
-
 order-is-bad-requires : tie.Need-order-is-bad-requires
 unfolding entries
 order-is-bad-requires c κs = (entry (c .before .before) (c .enum-told4 .given .1), c .before .before .pre .0 .0)
-
-enum-told-5 : tie.Need-enum-told-5
-enum-told-5 c = search needs
 
 part-is-too-long-requires : tie.Need-part-is-too-long-requires
 unfolding entries
@@ -90,15 +75,15 @@ pub is-broken-spec : {M : Type 1} → statement M
 is-broken-spec =
     tie.close
     (tie.spec
-    enum-told
+    (λ c. search needs)
     break-is-bad-requires
-    enum-told-2
+    (λ c. search needs)
     span-is-too-long-requires
-    enum-told-3
+    (λ c. search needs)
     degree-is-bad-requires
-    enum-told-4
+    (λ c. search needs)
     order-is-bad-requires
-    enum-told-5
+    (λ c. search needs)
     part-is-too-long-requires
     returns
     returns-2

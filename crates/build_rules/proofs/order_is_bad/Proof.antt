@@ -19,38 +19,17 @@ p-fits c = record { sfits = c .p .given }
 q-fits : (c : tie.After-q) → SFits w32 (getD (c .before .before .before .before .before .before .args .degrees .now) (c .before .before .before .before .before .before .args .i + 1) (pos 0))
 q-fits c = record { sfits = c .q .given }
 
-mul-r : tie.Need-mul-r
-mul-r c = search needs
-
-shared-slice-copy-out-r : tie.Need-shared-slice-copy-out-r
-shared-slice-copy-out-r c = search needs
-
 returns : tie.Need-returns
 returns c = let f = r-fits (c .before) in bad-order-low _ _ (simp toZ-ofZ at (c .if1 .taken))
 
 returns-2 : tie.Need-returns-2
 returns-2 c = let f = r-fits (c .before .before) in bad-order-high _ _ (simp toZ-ofZ at (c .if2 .taken))
 
-mul-p : tie.Need-mul-p
-mul-p c = search needs
-
-shared-slice-copy-out-p : tie.Need-shared-slice-copy-out-p
-shared-slice-copy-out-p c = search needs
-
 returns-3 : tie.Need-returns-3
 returns-3 c =
     let f = r-fits (c .before .before .before .before) in
     let g = p-fits (c .before) in
     bad-order-left _ _ (simp toZ-ofZ at (c .if3 .taken))
-
-add-q : tie.Need-add-q
-add-q c = search needs
-
-mul-q : tie.Need-mul-q
-mul-q c = search needs
-
-shared-slice-copy-out-q : tie.Need-shared-slice-copy-out-q
-shared-slice-copy-out-q c = search needs
 
 returns-4 : tie.Need-returns-4
 returns-4 c =
@@ -63,14 +42,14 @@ pub order-is-bad-spec : {M : Type 1} → statement M
 order-is-bad-spec =
     tie.close
     (tie.spec
-    mul-r
-    shared-slice-copy-out-r
+    (λ c. search needs)
+    (λ c. search needs)
     returns
     returns-2
-    mul-p
-    shared-slice-copy-out-p
+    (λ c. search needs)
+    (λ c. search needs)
     returns-3
-    add-q
-    mul-q
-    shared-slice-copy-out-q
+    (λ c. search needs)
+    (λ c. search needs)
+    (λ c. search needs)
     returns-4)

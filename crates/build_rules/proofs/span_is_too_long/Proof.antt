@@ -29,14 +29,8 @@ lists s = space (s .args .breaks .now) (s .args .degrees .now) (s .args .orders 
 starts : (c : tie.After-starts-part) {b : Bool} → c .starts-part .result ≡ b → startsPart (lists (c .before)) (c .before .args .i) ≡ b
 starts c e = sym (starts-part-partial (c .before .args .breaks .now) (c .before .args .degrees .now) (c .before .args .orders .now) (c .before .args .i)) ∙ sym (c .starts-part .ensures) ∙ e
 
-starts-part-requires : tie.Need-starts-part-requires
-starts-part-requires c κs = search needs
-
 returns : tie.Need-returns
 returns c = no-part-no-span _ _ (starts (c .before) (not-true _ (c .if1 .taken)))
-
-part-end-requires : tie.Need-part-end-requires
-part-end-requires c κs = search needs
 
 -- the part's end, and that there is a breakpoint
 module _ (c : tie.After-part-end) where
@@ -48,12 +42,6 @@ module _ (c : tie.After-part-end) where
 
   end-within : c .part-end .result < length (start .args .breaks .now)
   end-within = omega (arith, end-is, part-ends (lists start) (start .args .i) (start .pre .0) .boundary .within, start .pre .1 .1)
-
-mul-first : tie.Need-mul-first
-mul-first c = search needs
-
-shared-slice-copy-out-first : tie.Need-shared-slice-copy-out-first
-shared-slice-copy-out-first c = search needs
 
 first-fits-at : (c : tie.After-first) → SFits w32 (getD (start (c .before) .args .breaks .now) (start (c .before) .args .i) (pos 0))
 first-fits-at c = record { sfits = c .first .given }
@@ -105,17 +93,18 @@ returns-2 c =
     let g′ = sfits-widen g in
     let h = span-fits c in
     let d = ended c in
-    simp toZ-ofZ (ap (λ (e : ℕ). ltZ (pos 2000) (getD (start d .args .breaks .now) e (pos 0) -ℤ first c)) (end-is d) ∙ sym (span-test _ _ (starts (d .before .before) (not-false _ (d .before .if1 .left)))))
+    simp toZ-ofZ (ap (λ (e : ℕ). ltZ (pos 2000) (getD (start d .args .breaks .now) e (pos 0) -ℤ first c)) (end-is d)
+    ∙ sym (span-test _ _ (starts (d .before .before) (not-false _ (d .before .if1 .left)))))
 
 pub span-is-too-long-spec : {M : Type 1} → statement M
 span-is-too-long-spec =
     tie.close
     (tie.spec
-    starts-part-requires
+    (λ c κs. search needs)
     returns
-    part-end-requires
-    mul-first
-    shared-slice-copy-out-first
+    (λ c κs. search needs)
+    (λ c. search needs)
+    (λ c. search needs)
     cast-first
     mul-last
     shared-slice-copy-out-last

@@ -11,18 +11,6 @@ use Rattle.spec_spline.specs.Conditions.{binomial}
 use Rattle.build_scales.proofs.binomial.Statement.{statement}
 use Rattle.build_scales.proofs.binomial.Tie as tie
 
-mul-result : tie.Need-mul-result
-mul-result c = search needs
-
-mul-result-2 : tie.Need-mul-result-2
-mul-result-2 c = search needs
-
-index-1-result : tie.Need-index-1-result
-index-1-result c = search needs
-
-index-2-result : tie.Need-index-2-result
-index-2-result c = search needs
-
 returns : tie.Need-returns
 unfolding tab binomial
 returns c =
@@ -30,4 +18,4 @@ returns c =
     ∙ tab-getD-getD 3 3 (λ a b. pos (binomial a b)) (c .before .args .k) (c .before .args .t) (pos 0) (omega arith) (omega arith)
 
 pub binomial-spec : {M : Type 1} → statement M
-binomial-spec = tie.close (tie.spec mul-result mul-result-2 index-1-result index-2-result returns)
+binomial-spec = tie.close (tie.spec (λ c. search needs) (λ c. search needs) (λ c. search needs) (λ c. search needs) returns)

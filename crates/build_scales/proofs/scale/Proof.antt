@@ -12,12 +12,6 @@ use Rattle.build_scales.proofs.Sizes.{scale-le}
 use Rattle.build_scales.proofs.scale.Statement.{statement}
 use Rattle.build_scales.proofs.scale.Tie as tie
 
-falling-requires : tie.Need-falling-requires
-falling-requires c κs = search needs
-
-power-requires : tie.Need-power-requires
-power-requires c κs = search needs
-
 module _ (c : tie.After-power) where
   falling-fits : SFits w64 (c .before .falling .result)
   falling-fits = record { sfits = c .before .falling .ok }
@@ -40,4 +34,4 @@ returns : tie.Need-returns
 returns c = let f = falling-fits c in let g = power-fits c in let h = fits c in simp toZ-ofZ (is c)
 
 pub scale-spec : {M : Type 1} → statement M
-scale-spec = tie.close (tie.spec falling-requires power-requires mul-result returns)
+scale-spec = tie.close (tie.spec (λ c κs. search needs) (λ c κs. search needs) mul-result returns)

@@ -14,12 +14,6 @@ use Rattle.build_scales.proofs.Sizes.{alternating-even, alternating-odd
 use Rattle.build_scales.proofs.signed_binomial.Statement.{statement}
 use Rattle.build_scales.proofs.signed_binomial.Tie as tie
 
-binomial-requires : tie.Need-binomial-requires
-binomial-requires c κs = search needs
-
-sub-if1 : tie.Need-sub-if1
-sub-if1 c = search needs
-
 returns : tie.Need-returns
 returns c =
     let b = c .before .before .args in
@@ -50,4 +44,4 @@ returns-2 : tie.Need-returns-2
 returns-2 c = let f = result-fits c in let g = negated-fits c in simp toZ-ofZ (negated c)
 
 pub signed-binomial-spec : {M : Type 1} → statement M
-signed-binomial-spec = tie.close (tie.spec binomial-requires sub-if1 sub-result returns returns-2)
+signed-binomial-spec = tie.close (tie.spec (λ c κs. search needs) (λ c. search needs) sub-result returns returns-2)

@@ -19,12 +19,6 @@ order-fits c = record { sfits = c .result .given }
 count-fits : (c : tie.Start) → SFits w32 (getD (c .args .orders .now) (c .args .i) (pos 0) +ℤ pos 1)
 count-fits c = sfits-abs (omega (arith, condition-count-high (space [] [] (c .args .orders .now)) (c .pre .1) (c .args .i) (c .pre .0)))
 
-mul-result : tie.Need-mul-result
-mul-result c = search needs
-
-shared-slice-copy-out-result : tie.Need-shared-slice-copy-out-result
-shared-slice-copy-out-result c = search needs
-
 add-result : tie.Need-add-result
 add-result c = let f = order-fits c in simp toZ-ofZ (count-fits (c .before))
 
@@ -41,4 +35,4 @@ returns c = let f = order-fits c in let g = count-fits (c .before) in simp toZ-o
 
 pub condition-count-spec : {M : Type 1} → statement M
 condition-count-spec =
-    tie.close (tie.spec mul-result shared-slice-copy-out-result add-result cast-result returns)
+    tie.close (tie.spec (λ c. search needs) (λ c. search needs) add-result cast-result returns)

@@ -27,16 +27,24 @@ condition-count-requires : tie.Need-condition-count-requires Inv-loop μ-loop
 condition-count-requires c κs = (omega arith, c .before .before .pre .1 .1)
 
 add-count : tie.Need-add-count Inv-loop μ-loop
-add-count c = omega (arith, c .condition-count .ensures, condition-count-high (joins c) (c .before .before .before .pre .1 .1) (c .before .before .loop .k) (omega arith), conditions-before-high (joins c) (c .before .before .before .pre .1 .1) (c .before .before .loop .k) (omega arith))
-
-add-k : tie.Need-add-k Inv-loop μ-loop
-add-k c = omega arith
-
-loop-less : tie.Need-loop-less Inv-loop μ-loop
-loop-less c = omega arith
+add-count c = omega (
+  arith,
+  c .condition-count .ensures,
+  condition-count-high (joins c) (c .before .before .before .pre .1 .1) (c .before .before .loop .k)
+      (omega arith),
+  conditions-before-high (joins c) (c .before .before .before .pre .1 .1) (c .before .before .loop .k) (omega arith),
+)
 
 loop-again : tie.Need-loop-again Inv-loop μ-loop
-loop-again c = (omega arith, omega (arith, c .condition-count .ensures, conditions-before-next (joins c) (c .before .before .loop .k), ap (conditionsBefore (joins c)) (add-one (c .before .before .loop .k))))
+loop-again c = (
+  omega arith,
+  omega (
+    arith,
+    c .condition-count .ensures,
+    conditions-before-next (joins c) (c .before .before .loop .k),
+    ap (conditionsBefore (joins c)) (add-one (c .before .before .loop .k)),
+  ),
+)
 
 returns : tie.Need-returns Inv-loop μ-loop
 returns c = c .before .loop .inv .1 ∙ ap (conditionsBefore (space [] [] (c .before .before .args .orders .now))) (let e : c .before .loop .k ≡ c .before .before .args .i = omega arith in e)
@@ -50,7 +58,7 @@ conditions-before-spec =
     loop-holds
     condition-count-requires
     add-count
-    add-k
-    loop-less
+    (λ c. omega arith)
+    (λ c. omega arith)
     loop-again
     returns)

@@ -17,21 +17,15 @@ use Rattle.build_space.proofs.degree_at.Tie as tie
 fits : (c : tie.After-result) → SFits w32 (getD (c .before .args .degrees .now) (c .before .args .i) (pos 0))
 fits c = record { sfits = c .result .given }
 
-mul-result : tie.Need-mul-result
-mul-result c = search needs
-
-shared-slice-copy-out-result : tie.Need-shared-slice-copy-out-result
-shared-slice-copy-out-result c = search needs
-
 cast-result : tie.Need-cast-result
 cast-result c =
     let f = fits c in
     let d = c .before .args .degrees .now in
     let i = c .before .args .i in
-    simp toZ-ofZ (yes-nonNeg (≤-trans _ (pos 1) _ (≤-in _ _ (omega arith)) (c .before .pre .1 .low i (c .before .pre .0))), omega (arith, degree-high (space [] d []) (c .before .pre .1) i (c .before .pre .0)))
-
-returns : tie.Need-returns
-returns c = search needs
+    simp toZ-ofZ (
+      yes-nonNeg (≤-trans _ (pos 1) _ (≤-in _ _ (omega arith)) (c .before .pre .1 .low i (c .before .pre .0))),
+      omega (arith, degree-high (space [] d []) (c .before .pre .1) i (c .before .pre .0)),
+    )
 
 pub degree-at-spec : {M : Type 1} → statement M
-degree-at-spec = tie.close (tie.spec mul-result shared-slice-copy-out-result cast-result returns)
+degree-at-spec = tie.close (tie.spec (λ c. search needs) (λ c. search needs) cast-result (λ c. search needs))

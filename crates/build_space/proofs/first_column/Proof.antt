@@ -38,12 +38,6 @@ add-column c = omega (arith, degree-fits c)
 add-column-2 : tie.Need-add-column-2 Inv-loop μ-loop
 add-column-2 c = omega (arith, degree-fits c, column-fits c)
 
-add-k : tie.Need-add-k Inv-loop μ-loop
-add-k c = omega arith
-
-loop-less : tie.Need-loop-less Inv-loop μ-loop
-loop-less c = omega arith
-
 loop-again : tie.Need-loop-again Inv-loop μ-loop
 loop-again c = (omega arith, omega (arith, c .degree-at .ensures, first-column-next (columns c) (c .before .before .loop .k), ap (firstColumn (columns c)) (add-one (c .before .before .loop .k))))
 
@@ -60,7 +54,7 @@ first-column-spec =
     degree-at-requires
     add-column
     add-column-2
-    add-k
-    loop-less
+    (λ c. omega arith)
+    (λ c. omega arith)
     loop-again
     returns)

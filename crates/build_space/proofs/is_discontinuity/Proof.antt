@@ -6,14 +6,8 @@ use Rattle.build_space.proofs.Tests.{discontinuity-test}
 use Rattle.build_space.proofs.is_discontinuity.Statement.{statement}
 use Rattle.build_space.proofs.is_discontinuity.Tie as tie
 
-mul-order : tie.Need-mul-order
-mul-order c = search needs
-
-shared-slice-copy-out-order : tie.Need-shared-slice-copy-out-order
-shared-slice-copy-out-order c = search needs
-
 returns : tie.Need-returns
 returns c = let a = c .before .args in discontinuity-test (space [] [] (a .orders .now)) (a .i) (record { sfits = c .order .given })
 
 pub is-discontinuity-spec : {M : Type 1} → statement M
-is-discontinuity-spec = tie.close (tie.spec mul-order shared-slice-copy-out-order returns)
+is-discontinuity-spec = tie.close (tie.spec (λ c. search needs) (λ c. search needs) returns)

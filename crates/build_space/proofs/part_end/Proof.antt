@@ -18,24 +18,14 @@ Inv-loop degrees orders i m k₀ k = ((i < k) × (k ≤ m)) × ((l : ℕ) → l 
 abbrev μ-loop : tie.MeasureT-loop
 μ-loop degrees orders i m k₀ k = m - k
 
-add-k : tie.Need-add-k Inv-loop μ-loop
-add-k c = omega arith
-
 loop-holds : tie.Need-loop-holds Inv-loop μ-loop
 loop-holds c = ((omega arith, omega arith), λ l a b. absurd (omega arith))
 
-starts-part-requires : tie.Need-starts-part-requires Inv-loop μ-loop
-starts-part-requires c κs = omega arith
-
 -- the segment reached, with the degrees
-starts : (c : tie.After-starts-part Inv-loop μ-loop) {b : Bool} → c .starts-part .result ≡ b → startsPart (space [] (c .before .before .before .args .degrees .now) (c .before .before .before .args .orders .now)) (c .before .before .loop .k) ≡ b
-starts c e = sym (starts-part-partial [] (c .before .before .before .args .degrees .now) (c .before .before .before .args .orders .now) (c .before .before .loop .k)) ∙ sym (c .starts-part .ensures) ∙ e
-
-add-k-2 : tie.Need-add-k-2 Inv-loop μ-loop
-add-k-2 c = omega arith
-
-loop-less : tie.Need-loop-less Inv-loop μ-loop
-loop-less c = omega arith
+starts : (c : tie.After-starts-part Inv-loop μ-loop) {b : Bool} → c .starts-part .result ≡ b
+    → startsPart (space [] (c .before .before .before .args .degrees .now) (c .before .before .before .args .orders .now)) (c .before .before .loop .k) ≡ b
+starts c e = sym (starts-part-partial [] (c .before .before .before .args .degrees .now) (c .before .before .before .args .orders .now)
+    (c .before .before .loop .k)) ∙ sym (c .starts-part .ensures) ∙ e
 
 loop-again : tie.Need-loop-again Inv-loop μ-loop
 loop-again c = ((omega arith, omega arith), below-more _ _ (c .before .before .before .loop .inv .1) (λ _. starts (c .before) (c .if2 .left)))
@@ -44,7 +34,12 @@ returns : tie.Need-returns Inv-loop μ-loop
 returns c = sym (ends-unique _ _ _ (record { above = omega arith; boundary = whole-boundary _; between = λ k a b. c .before .loop .inv .1 k (omega arith) a }))
 
 returns-2 : tie.Need-returns-2 Inv-loop μ-loop
-returns-2 c = sym (ends-unique _ _ _ (record { above = omega arith; boundary = record { within = omega arith; starts = λ _. starts (c .before) (c .if2 .taken) }; between = λ k a b. c .before .before .before .loop .inv .1 k b a }))
+returns-2 c = sym (ends-unique _ _ _ (record {
+  above = omega arith;
+  boundary =
+      record { within = omega arith; starts = λ _. starts (c .before) (c .if2 .taken) };
+  between = λ k a b. c .before .before .before .loop .inv .1 k b a;
+}))
 
 pub part-end-spec : {M : Type 1} → statement M
 part-end-spec =
@@ -52,11 +47,11 @@ part-end-spec =
     (tie.spec
     Inv-loop
     μ-loop
-    add-k
+    (λ c. omega arith)
     loop-holds
-    starts-part-requires
-    add-k-2
-    loop-less
+    (λ c κs. omega arith)
+    (λ c. omega arith)
+    (λ c. omega arith)
     loop-again
     returns
     returns-2)

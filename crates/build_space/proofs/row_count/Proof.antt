@@ -20,13 +20,8 @@ module _ (c : tie.After-conditions-before) where
   columns = c .before .first-column .ensures ∙ column-count-partial [] (joined .degrees) (joined .orders)
 
   conditions : c .conditions-before .result ≡ conditionsBefore joined (length (joined .degrees) - 1)
-  conditions = c .conditions-before .ensures ∙ conditions-before-partial [] (joined .degrees) (joined .orders) (length (joined .orders)) ∙ ap (conditionsBefore joined) (let e : length (joined .orders) ≡ length (joined .degrees) - 1 = omega (arith, c .before .before .pre .count) in e)
-
-first-column-requires : tie.Need-first-column-requires
-first-column-requires c κs = search needs
-
-conditions-before-requires : tie.Need-conditions-before-requires
-conditions-before-requires c κs = search needs
+  conditions = c .conditions-before .ensures ∙ conditions-before-partial [] (joined .degrees) (joined .orders) (length (joined .orders))
+      ∙ ap (conditionsBefore joined) (let e : length (joined .orders) ≡ length (joined .degrees) - 1 = omega (arith, c .before .before .pre .count) in e)
 
 sub-result : tie.Need-sub-result
 sub-result c = omega (arith, columns c, conditions c, row-count-sum (joined c) (c .before .before .pre))
@@ -36,4 +31,4 @@ returns c = ap₂ _-_ (columns c) (conditions c)
 
 pub row-count-spec : {M : Type 1} → statement M
 row-count-spec =
-    tie.close (tie.spec first-column-requires conditions-before-requires sub-result returns)
+    tie.close (tie.spec (λ c κs. search needs) (λ c κs. search needs) sub-result returns)

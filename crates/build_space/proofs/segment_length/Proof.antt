@@ -27,31 +27,18 @@ abbrev difference : tie.Start → ℤ
 difference c = getD (c .args .breaks .now) (c .args .i + 1) (pos 0) -ℤ getD (c .args .breaks .now) (c .args .i) (pos 0)
 
 difference-size : (c : tie.Start) → natAbs (difference c) ≤ 20000
-difference-size c = breaks-apart (getD (c .args .breaks .now) (c .args .i + 1) (pos 0)) (getD (c .args .breaks .now) (c .args .i) (pos 0)) (c .pre .1 .size (c .args .i + 1) (c .pre .0)) (c .pre .1 .size (c .args .i) (omega arith))
+difference-size c = breaks-apart (getD (c .args .breaks .now) (c .args .i + 1) (pos 0)) (getD (c .args .breaks .now) (c .args .i) (pos 0))
+    (c .pre .1 .size (c .args .i + 1) (c .pre .0)) (c .pre .1 .size (c .args .i) (omega arith))
 
 difference-is : (c : tie.Start) → difference c ≡ pos (width (space (c .args .breaks .now) [] []) (c .args .i))
-difference-is c = ap (λ (k : ℕ). getD (c .args .breaks .now) k (pos 0) -ℤ getD (c .args .breaks .now) (c .args .i) (pos 0)) (add-one (c .args .i)) ∙ width-difference (space (c .args .breaks .now) [] []) (c .pre .1) (c .args .i) (omega arith)
+difference-is c = ap (λ (k : ℕ). getD (c .args .breaks .now) k (pos 0) -ℤ getD (c .args .breaks .now) (c .args .i) (pos 0)) (add-one (c .args .i))
+    ∙ width-difference (space (c .args .breaks .now) [] []) (c .pre .1) (c .args .i) (omega arith)
 
 fits-32 : (c : tie.Start) → SFits w32 (difference c)
 fits-32 c = sfits-abs (omega (arith, difference-size c))
 
 fits-64 : (c : tie.Start) → SFits w64 (difference c)
 fits-64 c = sfits-abs (omega (arith, difference-size c))
-
-mul-start : tie.Need-mul-start
-mul-start c = search needs
-
-shared-slice-copy-out-start : tie.Need-shared-slice-copy-out-start
-shared-slice-copy-out-start c = search needs
-
-add-end : tie.Need-add-end
-add-end c = search needs
-
-mul-end : tie.Need-mul-end
-mul-end c = search needs
-
-shared-slice-copy-out-end : tie.Need-shared-slice-copy-out-end
-shared-slice-copy-out-end c = search needs
 
 sub-result : tie.Need-sub-result
 sub-result c = let f = start-fits (c .before) in let g = end-fits c in simp toZ-ofZ (fits-32 (c .before .before))
@@ -66,11 +53,11 @@ pub segment-length-spec : {M : Type 1} → statement M
 segment-length-spec =
     tie.close
     (tie.spec
-    mul-start
-    shared-slice-copy-out-start
-    add-end
-    mul-end
-    shared-slice-copy-out-end
+    (λ c. search needs)
+    (λ c. search needs)
+    (λ c. search needs)
+    (λ c. search needs)
+    (λ c. search needs)
     sub-result
     cast-result
     returns)

@@ -9,15 +9,9 @@ use Rattle.build_space.proofs.starts_part.Tie as tie
 returns : tie.Need-returns
 returns c = starts-part-zero _ _ (c .if1 .taken)
 
-sub-is-discontinuity : tie.Need-sub-is-discontinuity
-sub-is-discontinuity c = search needs
-
-is-discontinuity-requires : tie.Need-is-discontinuity-requires
-is-discontinuity-requires c κs = search needs
-
 returns-2 : tie.Need-returns-2
 returns-2 c = c .is-discontinuity .ensures ∙ starts-part-later _ _ (c .before .if1 .left)
 
 pub starts-part-spec : {M : Type 1} → statement M
 starts-part-spec =
-    tie.close (tie.spec returns sub-is-discontinuity is-discontinuity-requires returns-2)
+    tie.close (tie.spec returns (λ c. search needs) (λ c κs. search needs) returns-2)

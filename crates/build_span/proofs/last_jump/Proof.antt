@@ -27,18 +27,6 @@ abbrev μ-loop : tie.MeasureT-loop
 loop-holds : tie.Need-loop-holds Inv-loop μ-loop
 loop-holds c = (omega arith, λ k h l. absurd (omega arith))
 
-sub-i : tie.Need-sub-i Inv-loop μ-loop
-sub-i c = omega arith
-
-mul-if2 : tie.Need-mul-if2 Inv-loop μ-loop
-mul-if2 c = omega arith
-
-element-copy-out-if2 : tie.Need-element-copy-out-if2 Inv-loop μ-loop
-element-copy-out-if2 c = omega arith
-
-loop-less : tie.Need-loop-less Inv-loop μ-loop
-loop-less c = omega arith
-
 -- one row further down
 from-before : (c : tie.Else2 Inv-loop μ-loop) (k : ℕ) → (c .before .before .before .loop .i - 1 ≡ k) ⊎ (c .before .before .before .loop .i - 1 < k)
     → k < c .before .before .before .before .args .rows → getD (c .before .before .before .before .args .js .now) k (pos 0) ≡ pos 0
@@ -75,10 +63,10 @@ last-jump-spec =
     Inv-loop
     μ-loop
     loop-holds
-    sub-i
-    mul-if2
-    element-copy-out-if2
-    loop-less
+    (λ c. omega arith)
+    (λ c. omega arith)
+    (λ c. omega arith)
+    (λ c. omega arith)
     loop-again
     returns
     returns-2)

@@ -15,26 +15,9 @@ use Rattle.build_span.specs.Machine.{jumpSpan}
 use Rattle.build_span.proofs.span.Statement.{statement}
 use Rattle.build_span.proofs.span.Tie as tie
 
-first-jump-requires : tie.Need-first-jump-requires
-first-jump-requires c κs = search needs
-
-enum-told : tie.Need-enum-told
-enum-told c = search needs
-
-enum-known-first : tie.Need-enum-known-first
-enum-known-first c = search needs
-
-last-jump-requires : tie.Need-last-jump-requires
-last-jump-requires c κs = search needs
-
-enum-told-2 : tie.Need-enum-told-2
-enum-told-2 c = search needs
-
-enum-known-last : tie.Need-enum-known-last
-enum-known-last c = search needs
-
 zero-between-requires : tie.Need-zero-between-requires
-zero-between-requires c κs = let l = c .before .before .before .before .before in omega (arith, l .last-jump .ensures .1 (c .before .before .before .last .given .0 .0) (c .before .before .before .last .given .1))
+zero-between-requires c κs = let l = c .before .before .before .before .before in
+    omega (arith, l .last-jump .ensures .1 (c .before .before .before .last .given .0 .0) (c .before .before .before .last .given .1))
 
 -- what the first search found, in the definition's terms
 module _ (c : tie.After-first) (qs : List ℚ) (is : c .before .before .before .before .before .args .t1 ≡ fractions qs) (size : length qs ≡ c .before .before .before .before .before .args .rows) where
@@ -51,7 +34,8 @@ returns : tie.Need-returns
 unfolding jumpSpan
 returns c qs j is size =
     let l = c .before .before .before .before .before in
-    sym (ap jumpSpan (span-broken j qs (first-is (l .before .before .before .before .before .before) qs is size) (last-is l qs is size) (sym (c .before .zero-between .ensures qs (ap (λ x. x .num) is)) ∙ c .if1 .taken)))
+    sym (ap jumpSpan (span-broken j qs (first-is (l .before .before .before .before .before .before) qs is size) (last-is l qs is size)
+    (sym (c .before .zero-between .ensures qs (ap (λ x. x .num) is)) ∙ c .if1 .taken)))
 
 returns-2 : tie.Need-returns-2
 unfolding jumpSpan
@@ -62,24 +46,26 @@ returns-3 : tie.Need-returns-3
 unfolding jumpSpan
 returns-3 c qs j is size =
     let b = c .before .before in
-    sym (ap jumpSpan (span-endless j qs (first-is (b .before .before .before .before) qs is size) (ap (λ n. last n (jumpsAt qs)) size ∙ found-none-inverts _ (sym (b .last-jump .ensures .0 qs (ap (λ x. x .num) is)) ∙ c .enum-told2 .given .1))))
+    sym (ap jumpSpan (span-endless j qs (first-is (b .before .before .before .before) qs is size)
+    (ap (λ n. last n (jumpsAt qs)) size ∙ found-none-inverts _ (sym (b .last-jump .ensures .0 qs (ap (λ x. x .num) is)) ∙ c .enum-told2 .given .1))))
 
 returns-4 : tie.Need-returns-4
 unfolding jumpSpan
 returns-4 c qs j is size =
     let l = c .before .before .before .before .before in
-    sym (ap jumpSpan (span-whole j qs (first-is (l .before .before .before .before .before .before) qs is size) (last-is l qs is size) (sym (c .before .zero-between .ensures qs (ap (λ x. x .num) is)) ∙ c .if1 .left)))
+    sym (ap jumpSpan (span-whole j qs (first-is (l .before .before .before .before .before .before) qs is size) (last-is l qs is size)
+    (sym (c .before .zero-between .ensures qs (ap (λ x. x .num) is)) ∙ c .if1 .left)))
 
 pub span-spec : {M : Type 1} → statement M
 span-spec =
     tie.close
     (tie.spec
-    first-jump-requires
-    enum-told
-    enum-known-first
-    last-jump-requires
-    enum-told-2
-    enum-known-last
+    (λ c κs. search needs)
+    (λ c. search needs)
+    (λ c. search needs)
+    (λ c κs. search needs)
+    (λ c. search needs)
+    (λ c. search needs)
     zero-between-requires
     returns
     returns-2

@@ -30,12 +30,6 @@ abbrev μ-loop : tie.MeasureT-loop
 loop-holds : tie.Need-loop-holds Inv-loop μ-loop
 loop-holds c = (omega arith, λ k h l. absurd (omega arith))
 
-mul-if1 : tie.Need-mul-if1 Inv-loop μ-loop
-mul-if1 c = omega arith
-
-element-copy-out-if1 : tie.Need-element-copy-out-if1 Inv-loop μ-loop
-element-copy-out-if1 c = omega arith
-
 -- whether the jump at distance d from f is zero
 abbrev zeroAt : List ℚ → ℕ → ℕ → Bool
 zeroAt qs f d = isZero (entry qs (f + d))
@@ -48,12 +42,6 @@ returns c qs e =
     sym (ap found (first-at (zeroAt qs (a .f)) (a .l - a .f) (l .i - a .f) (omega arith)
     (ap (λ k. isZero (entry qs k)) at ∙ zero-read qs e (l .i) (omega arith) (ofZ-inj w64 _ (pos 0) (record { sfits = c .before .if12 .given }) (search needs) (c .if1 .taken)))
     (λ k h. nonzero-read qs e (a .f + k) (omega arith) (l .inv .1 (a .f + k) (omega arith) (omega arith)))))
-
-add-i : tie.Need-add-i Inv-loop μ-loop
-add-i c = omega arith
-
-loop-less : tie.Need-loop-less Inv-loop μ-loop
-loop-less c = omega arith
 
 -- one row further on
 up-to-next : (c : tie.Else1 Inv-loop μ-loop) (k : ℕ) → c .before .before .before .before .args .f ≤ k → (k ≡ c .before .before .before .loop .i) ⊎ (k < c .before .before .before .loop .i)
@@ -77,10 +65,10 @@ zero-between-spec =
     Inv-loop
     μ-loop
     loop-holds
-    mul-if1
-    element-copy-out-if1
+    (λ c. omega arith)
+    (λ c. omega arith)
     returns
-    add-i
-    loop-less
+    (λ c. omega arith)
+    (λ c. omega arith)
     loop-again
     returns-2)

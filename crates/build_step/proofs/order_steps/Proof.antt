@@ -48,10 +48,12 @@ start c = at-loop c .before
 
 module _ (c : tie.After-den Inv-loop μ-loop) (s : Space) (j : ℕ) (t : Table) (is : JoinIs (start c .args .join) s j) (h : Holds (start c .args .num .now) (start c .args .den .now) t)
     (shaped : Shaped t (start c .args .rows) (start c .args .columns)) where
-  st : State (order-turns s j (start c .args .n) (start c .args .rows) (start c .args .columns) t) (start c .args .num .now) (start c .args .den .now) (at-loop c .loop .num) (at-loop c .loop .den) (at-loop c .loop .k)
+  st : State (order-turns s j (start c .args .n) (start c .args .rows) (start c .args .columns) t) (start c .args .num .now) (start c .args .den .now)
+      (at-loop c .loop .num) (at-loop c .loop .den) (at-loop c .loop .k)
   st = at-loop c .loop .inv .state s j t is h shaped
 
-  left : Leaves (step j (conditions s j (at-loop c .loop .k)) (st .reached)) (c .before .before .step .result) (at-loop c .loop .num) (at-loop c .loop .den) (c .before .before .step .last .0) (c .before .before .step .last .1 .0)
+  left : Leaves (step j (conditions s j (at-loop c .loop .k)) (st .reached)) (c .before .before .step .result) (at-loop c .loop .num) (at-loop c .loop .den)
+      (c .before .before .step .last .0) (c .before .before .step .last .1 .0)
   left = c .before .before .step .ensures s j (st .reached) is (holds _ _ _ (h .num-long) (h .den-long) st) (st .sound .shaped)
 
   taken : at-loop c .loop .k < start c .args .n
@@ -77,9 +79,6 @@ loop-holds c = record {
   };
 }
 
-sub-step : tie.Need-sub-step Inv-loop μ-loop
-sub-step c = omega arith
-
 step-requires : tie.Need-step-requires Inv-loop μ-loop
 step-requires c κs =
     let l = c .before .before .before in
@@ -88,15 +87,6 @@ step-requires c κs =
     let k = s .pre .1 .1 in
     let x = l .loop .inv .state (f .space) (f .index) (k .table) (f .is) (k .holds) (k .shaped) in
     (f, record { table = x .reached; holds = holds _ _ _ (k .holds .num-long) (k .holds .den-long) x; shaped = x .sound .shaped })
-
-enum-told : tie.Need-enum-told Inv-loop μ-loop
-enum-told c = search needs
-
-add-k : tie.Need-add-k Inv-loop μ-loop
-add-k c = omega arith
-
-loop-less : tie.Need-loop-less Inv-loop μ-loop
-loop-less c = omega arith
 
 loop-again : tie.Need-loop-again Inv-loop μ-loop
 loop-again c =
@@ -109,9 +99,6 @@ loop-again c =
       state = λ s j t is h shaped. goes-on _ _ _ (h .num-long) (h .den-long) (st d s j t is h shaped) (taken d s j t is h shaped) (leaves-none _ (left d s j t is h shaped) (c .enum-told .given .1));
     }
 
-enum-told-2 : tie.Need-enum-told-2 Inv-loop μ-loop
-enum-told-2 c = search needs
-
 same-length : tie.Need-same-length Inv-loop μ-loop
 same-length c = let d = c .before .before in d .before .before .step .kept .0 ∙ at-loop d .loop .inv .num-long
 
@@ -120,9 +107,6 @@ same-length-2 c = let d = c .before .before in d .before .before .step .kept .1 
 
 returns : tie.Need-returns Inv-loop μ-loop
 returns c s j t is h shaped = refused (c .before .before) s j t is h shaped refusals.TooLarge (c .enum-told2 .given .1) (λ z. let x : _≡_ {A = ℕ} 0 1 = cc in omega arith)
-
-enum-told-3 : tie.Need-enum-told-3 Inv-loop μ-loop
-enum-told-3 c = search needs
 
 same-length-3 : tie.Need-same-length-3 Inv-loop μ-loop
 same-length-3 c = let d = c .before .before in d .before .before .step .kept .0 ∙ at-loop d .loop .inv .num-long
@@ -152,17 +136,17 @@ order-steps-spec =
     Inv-loop
     μ-loop
     loop-holds
-    sub-step
+    (λ c. omega arith)
     step-requires
-    enum-told
-    add-k
-    loop-less
+    (λ c. search needs)
+    (λ c. omega arith)
+    (λ c. omega arith)
     loop-again
-    enum-told-2
+    (λ c. search needs)
     same-length
     same-length-2
     returns
-    enum-told-3
+    (λ c. search needs)
     same-length-3
     same-length-4
     returns-2

@@ -21,18 +21,6 @@ module _ (c : tie.After-span2) (qs : List ℚ) (j : ℕ) (e : c .before .before 
   span-is : span j qs ≡ answer (record { f = c .span2 .given .0 .0; l = c .span2 .given .0 .1 .0 })
   span-is = span-rows _ _ _ (sym (c .before .before .span .ensures qs j e size) ∙ c .span2 .given .1)
 
-span-requires : tie.Need-span-requires
-span-requires c κs = search needs
-
-enum-told : tie.Need-enum-told
-enum-told c = search needs
-
-no-factors-requires : tie.Need-no-factors-requires
-no-factors-requires c κs = search needs
-
-enum-known-span : tie.Need-enum-known-span
-enum-known-span c = search needs
-
 factors-requires : tie.Need-factors-requires
 factors-requires c κs =
     let p = c .before .before .before .before .pre in
@@ -48,4 +36,4 @@ returns-2 : tie.Need-returns-2
 returns-2 c qs j e size = plans-over j qs _ (span-is (c .before .before) qs j e size) (c .factors .ensures qs j e)
 
 pub plan-step-spec : {M : Type 1} → statement M
-plan-step-spec = tie.close (tie.spec span-requires enum-told no-factors-requires enum-known-span factors-requires returns returns-2)
+plan-step-spec = tie.close (tie.spec (λ c κs. search needs) (λ c. search needs) (λ c κs. search needs) (λ c. search needs) factors-requires returns returns-2)

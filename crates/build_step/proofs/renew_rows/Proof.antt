@@ -5,28 +5,10 @@ use Rattle.build_step.proofs.Leaving.{renewed-large, renewed-done}
 use Rattle.build_step.proofs.renew_rows.Statement.{statement}
 use Rattle.build_step.proofs.renew_rows.Tie as tie
 
-mix-rows-requires : tie.Need-mix-rows-requires
-mix-rows-requires c κs = search needs
-
-same-length : tie.Need-same-length
-same-length c = search needs
-
-same-length-2 : tie.Need-same-length-2
-same-length-2 c = search needs
-
 returns : tie.Need-returns
 returns c t j ws h shaped e =
     let m = c .before .before .before in
     renewed-large j t ws _ _ _ _ _ (m .mix-rows .result) (not-true _ (c .if1 .taken)) (m .mix-rows .ensures t j ws h shaped e)
-
-drop-row-requires : tie.Need-drop-row-requires
-drop-row-requires c κs = search needs
-
-same-length-3 : tie.Need-same-length-3
-same-length-3 c = search needs
-
-same-length-4 : tie.Need-same-length-4
-same-length-4 c = search needs
 
 returns-2 : tie.Need-returns-2
 returns-2 c t j ws h shaped e =
@@ -40,11 +22,11 @@ pub renew-rows-spec : {M : Type 1} → statement M
 renew-rows-spec =
     tie.close
     (tie.spec
-    mix-rows-requires
-    same-length
-    same-length-2
+    (λ c κs. search needs)
+    (λ c. search needs)
+    (λ c. search needs)
     returns
-    drop-row-requires
-    same-length-3
-    same-length-4
+    (λ c κs. search needs)
+    (λ c. search needs)
+    (λ c. search needs)
     returns-2)

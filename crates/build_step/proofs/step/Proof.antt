@@ -100,12 +100,6 @@ module _ (c : tie.After-renew-rows) where
 jumps-requires : tie.Need-jumps-requires
 jumps-requires c κs = let p = c .before .before .pre in let k = p .1 in ((k .shaped .rows-fit, p .0), (k .table, k .holds))
 
-same-length : tie.Need-same-length
-same-length c = search needs
-
-same-length-2 : tie.Need-same-length-2
-same-length-2 c = search needs
-
 returns : tie.Need-returns
 returns c s j t is h shaped =
     let a = c .before .before in
@@ -124,15 +118,6 @@ plan-step-requires c κs =
     let fit = jumps-fit (g .j) _ (g .t) (js .answers) in
     (g .shaped .rows-fit, record { of = js .of; is = js .is; fit = fit; count = jumps-length (g .j) _ (g .t) (js .answers) ∙ g .shaped .row-count })
 
-enum-told : tie.Need-enum-told
-enum-told c = search needs
-
-enum-told-2 : tie.Need-enum-told-2
-enum-told-2 c = search needs
-
-enum-told-3 : tie.Need-enum-told-3
-enum-told-3 c = search needs
-
 renew-rows-requires : tie.Need-renew-rows-requires
 renew-rows-requires c κs =
     let a = c .before .before in
@@ -148,45 +133,21 @@ renew-rows-requires c κs =
       subst UnitFactors (sym (r .factors-are)) (r .works .unit),
     )
 
-same-length-3 : tie.Need-same-length-3
-same-length-3 c = search needs
-
-same-length-4 : tie.Need-same-length-4
-same-length-4 c = search needs
-
 returns-2 : tie.Need-returns-2
 returns-2 c s j t is h shaped =
     let m = c .before .before .before in
     let g : Given (first (half m)) = record { s = s; j = j; t = t; is = is; holds = h; shaped = shaped } in
     step-large j _ t (works m g .answers) _ _ _ _ (left m g (not-true _ (c .if2 .taken)))
 
-same-length-5 : tie.Need-same-length-5
-same-length-5 c = search needs
-
-same-length-6 : tie.Need-same-length-6
-same-length-6 c = search needs
-
 returns-3 : tie.Need-returns-3
 returns-3 c s j t is h shaped =
     ended (c .before .before) (record { s = s; j = j; t = t; is = is; holds = h; shaped = shaped }) refusals.TooLarge
     (c .enum-told .given .1) (λ z. let x : _≡_ {A = ℕ} 0 1 = cc in omega arith)
 
-same-length-7 : tie.Need-same-length-7
-same-length-7 c = search needs
-
-same-length-8 : tie.Need-same-length-8
-same-length-8 c = search needs
-
 returns-4 : tie.Need-returns-4
 returns-4 c s j t is h shaped =
     ended (c .before .before) (record { s = s; j = j; t = t; is = is; holds = h; shaped = shaped }) refusals.Shape
     (c .enum-told2 .given .1) (λ z. let x : _≡_ {A = ℕ} 0 1 = cc in omega arith)
-
-same-length-9 : tie.Need-same-length-9
-same-length-9 c = search needs
-
-same-length-10 : tie.Need-same-length-10
-same-length-10 c = search needs
 
 returns-5 : tie.Need-returns-5
 returns-5 c s j t is h shaped =
@@ -199,23 +160,23 @@ step-spec =
     tie.close
     (tie.spec
     jumps-requires
-    same-length
-    same-length-2
+    (λ c. search needs)
+    (λ c. search needs)
     returns
     plan-step-requires
-    enum-told
-    enum-told-2
-    enum-told-3
+    (λ c. search needs)
+    (λ c. search needs)
+    (λ c. search needs)
     renew-rows-requires
-    same-length-3
-    same-length-4
+    (λ c. search needs)
+    (λ c. search needs)
     returns-2
-    same-length-5
-    same-length-6
+    (λ c. search needs)
+    (λ c. search needs)
     returns-3
-    same-length-7
-    same-length-8
+    (λ c. search needs)
+    (λ c. search needs)
     returns-4
-    same-length-9
-    same-length-10
+    (λ c. search needs)
+    (λ c. search needs)
     returns-5)

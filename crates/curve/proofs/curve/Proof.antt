@@ -20,27 +20,6 @@ use Rattle.curve.proofs.Pairs.{pairs-fronted}
 use Rattle.curve.proofs.curve.Statement.{statement}
 use Rattle.curve.proofs.curve.Tie as tie
 
-slice-aggregate-build-curves : tie.Need-slice-aggregate-build-curves
-slice-aggregate-build-curves c = search needs
-
-slice-aggregate-build-curves-2 : tie.Need-slice-aggregate-build-curves-2
-slice-aggregate-build-curves-2 c = search needs
-
-build-curves-requires : tie.Need-build-curves-requires
-build-curves-requires c κs = search needs
-
-enum-known-built : tie.Need-enum-known-built
-enum-known-built c = search needs
-
-enum-told : tie.Need-enum-told
-enum-told c = search needs
-
-slice-aggregate-write-values : tie.Need-slice-aggregate-write-values
-slice-aggregate-write-values c = search needs
-
-slice-aggregate-write-values-2 : tie.Need-slice-aggregate-write-values-2
-slice-aggregate-write-values-2 c = search needs
-
 -- the call, the lists that it lends, and what is left in them
 module _ (d : tie.After-build-curves) where
   abbrev start : tie.Start
@@ -78,27 +57,12 @@ write-values-requires c κs =
       late-ordinates = record { long = search needs; bounded = late-bounded columnLimit h };
     }
 
-same-length : tie.Need-same-length
-same-length c = search needs
-
-same-length-2 : tie.Need-same-length-2
-same-length-2 c = search needs
-
 returns : tie.Need-returns
 returns c =
     let d = c .before .before .before .before .before .before .before in
     let l = d .build-curves .ensures in
     let r = subst (Told d) (c .before .built .given .1) (l .told) in
     (refused-answers r, (l .numerators-are, (l .denominators-are, refused-values r (start d .args .values .now))))
-
-same-length-3 : tie.Need-same-length-3
-same-length-3 c = search needs
-
-same-length-4 : tie.Need-same-length-4
-same-length-4 c = search needs
-
-same-length-5 : tie.Need-same-length-5
-same-length-5 c = search needs
 
 returns-2 : tie.Need-returns-2
 returns-2 c =
@@ -120,18 +84,18 @@ pub curve-spec : {M : Type 1} → statement M
 curve-spec =
     tie.close
     (tie.spec
-    slice-aggregate-build-curves
-    slice-aggregate-build-curves-2
-    build-curves-requires
-    enum-known-built
-    enum-told
-    slice-aggregate-write-values
-    slice-aggregate-write-values-2
+    (λ c. search needs)
+    (λ c. search needs)
+    (λ c κs. search needs)
+    (λ c. search needs)
+    (λ c. search needs)
+    (λ c. search needs)
+    (λ c. search needs)
     write-values-requires
-    same-length
-    same-length-2
+    (λ c. search needs)
+    (λ c. search needs)
     returns
-    same-length-3
-    same-length-4
-    same-length-5
+    (λ c. search needs)
+    (λ c. search needs)
+    (λ c. search needs)
     returns-2)

@@ -8,20 +8,11 @@ use lib.ListN.{getD}
 use Rattle.curve_drawing.proofs.float_at.Statement.{statement}
 use Rattle.curve_drawing.proofs.float_at.Tie as tie
 
-mul-o : tie.Need-mul-o
-mul-o c = search needs
-
-shared-slice-copy-out-o : tie.Need-shared-slice-copy-out-o
-shared-slice-copy-out-o c = search needs
-
 o-fits : (c : tie.After-o) → SFits w32 (getD (c .before .args .ordinates .now) (c .before .args .i) (pos 0))
 o-fits c = record { sfits = c .o .given }
-
-scaled-requires : tie.Need-scaled-requires
-scaled-requires c κs = search needs
 
 returns : tie.Need-returns
 returns c = let f = o-fits (c .before) in simp toZ-ofZ at (c .scaled .ensures)
 
 pub float-at-spec : {M : Type 1} → statement M
-float-at-spec = tie.close (tie.spec mul-o shared-slice-copy-out-o scaled-requires returns)
+float-at-spec = tie.close (tie.spec (λ c. search needs) (λ c. search needs) (λ c κs. search needs) returns)

@@ -10,9 +10,6 @@ use Rattle.curve_drawing.proofs.Floats.{cast-is, scale-is, scaled-is}
 use Rattle.curve_drawing.proofs.scaled.Statement.{statement}
 use Rattle.curve_drawing.proofs.scaled.Tie as tie
 
-int-to-float-result : tie.Need-int-to-float-result
-int-to-float-result c = search needs
-
 returns : tie.Need-returns
 returns c =
     let f = c .before .fits .x in
@@ -20,4 +17,4 @@ returns c =
     (scaled-is _ _ _ (omega (arith, abs-sfits f)) (cast-is (c .before .args .x) (omega (arith, abs-sfits f)))))
 
 pub scaled-spec : {M : Type 1} → statement M
-scaled-spec = tie.close (tie.spec int-to-float-result returns)
+scaled-spec = tie.close (tie.spec (λ c. search needs) returns)

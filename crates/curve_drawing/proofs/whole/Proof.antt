@@ -7,11 +7,8 @@ use Rattle.curve_drawing.proofs.Floats.{cast-is}
 use Rattle.curve_drawing.proofs.whole.Statement.{statement}
 use Rattle.curve_drawing.proofs.whole.Tie as tie
 
-int-to-float-result : tie.Need-int-to-float-result
-int-to-float-result c = search needs
-
 returns : tie.Need-returns
 returns c = let f = c .before .fits .x in simp toZ-ofZ (cast-is (c .before .args .x) (omega (arith, abs-sfits f)))
 
 pub whole-spec : {M : Type 1} → statement M
-whole-spec = tie.close (tie.spec int-to-float-result returns)
+whole-spec = tie.close (tie.spec (λ c. search needs) returns)

@@ -37,9 +37,6 @@ none-bad c =
     ap (first (length (c .before .before .before .before .before .args .coefs .now))) (coefficient-outside _)
     ∙ found-none-inverts _ (sym (c .before .before .first-outside .ensures) ∙ c .enum-told .given .1)
 
-row-count-requires : tie.Need-row-count-requires
-row-count-requires c κs = search needs
-
 -- at most six columns a segment
 mul-if1 : tie.Need-mul-if1
 mul-if1 c =
@@ -54,21 +51,6 @@ returns : tie.Need-returns
 returns c =
     sym (refusal-refused _ (coefficients-count (joined (c .before .before)) (c .before .before .args .coefs .now)
     (λ e. c .if1 .taken (e ∙ sym (ap (λ (n : ℕ). 2 * n) (c .before .row-count .ensures))))))
-
-sub-first-outside : tie.Need-sub-first-outside
-sub-first-outside c = search needs
-
-first-outside-requires : tie.Need-first-outside-requires
-first-outside-requires c κs = search needs
-
-enum-known-bad : tie.Need-enum-known-bad
-enum-known-bad c = search needs
-
-place-requires : tie.Need-place-requires
-place-requires c κs = search needs
-
-enum-told : tie.Need-enum-told
-enum-told c = search needs
 
 returns-2 : tie.Need-returns-2
 returns-2 c =
@@ -85,13 +67,13 @@ pub check-coefficients-spec : {M : Type 1} → statement M
 check-coefficients-spec =
     tie.close
     (tie.spec
-    row-count-requires
+    (λ c κs. search needs)
     mul-if1
     returns
-    sub-first-outside
-    first-outside-requires
-    enum-known-bad
-    place-requires
-    enum-told
+    (λ c. search needs)
+    (λ c κs. search needs)
+    (λ c. search needs)
+    (λ c κs. search needs)
+    (λ c. search needs)
     returns-2
     returns-3)

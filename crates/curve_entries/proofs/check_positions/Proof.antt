@@ -48,33 +48,12 @@ module _ (s : tie.Start) where
       sym (ap₂ (λ (l h : ℤ). first (length (s .args .positions .now)) (outside (s .args .positions .now) l h)) (bound 0 (omega arith))
       (bound (s .args .m) (omega arith)))
 
-shared-slice-copy-out-low : tie.Need-shared-slice-copy-out-low
-shared-slice-copy-out-low c = search needs
-
 mul-low : tie.Need-mul-low
 mul-low c = let f = break-fits (c .before) 0 (omega arith) in simp toZ-ofZ (fine-fits (c .before) 0 (omega arith))
-
-mul-high : tie.Need-mul-high
-mul-high c = search needs
-
-shared-slice-copy-out-high : tie.Need-shared-slice-copy-out-high
-shared-slice-copy-out-high c = search needs
 
 mul-high-2 : tie.Need-mul-high-2
 mul-high-2 c =
     let s = c .before .before in let f = break-fits s (s .args .m) (omega arith) in simp toZ-ofZ (fine-fits s (s .args .m) (omega arith))
-
-first-outside-requires : tie.Need-first-outside-requires
-first-outside-requires c κs = search needs
-
-enum-known-bad : tie.Need-enum-known-bad
-enum-known-bad c = search needs
-
-place-requires : tie.Need-place-requires
-place-requires c κs = search needs
-
-enum-told : tie.Need-enum-told
-enum-told c = search needs
 
 found-bad : (c : tie.After-bad) → searched (c .before .before .before .before .before) ≡ some (c .bad .given .0 .0)
 found-bad c =
@@ -101,14 +80,14 @@ pub check-positions-spec : {M : Type 1} → statement M
 check-positions-spec =
     tie.close
     (tie.spec
-    shared-slice-copy-out-low
+    (λ c. search needs)
     mul-low
-    mul-high
-    shared-slice-copy-out-high
+    (λ c. search needs)
+    (λ c. search needs)
     mul-high-2
-    first-outside-requires
-    enum-known-bad
-    place-requires
-    enum-told
+    (λ c κs. search needs)
+    (λ c. search needs)
+    (λ c κs. search needs)
+    (λ c. search needs)
     returns
     returns-2)

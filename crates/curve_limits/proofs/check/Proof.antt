@@ -20,9 +20,6 @@ module _ (s : tie.Start) where
   abbrev whole : Space
   whole = space (s .args .breaks .now) (s .args .degrees .now) (s .args .orders .now)
 
-lengths-fit-requires : tie.Need-lengths-fit-requires
-lengths-fit-requires c κs = search needs
-
 -- the lists, then the entries
 chained : (c : tie.Else2) → let s = c .before .before .before in
     curveChecked (whole s) (s .args .coefs .now) (s .args .positions .now)
@@ -48,15 +45,6 @@ returns-2 c =
     sym (refusal-refused _ (curve-positions (whole s) (s .args .coefs .now) (s .args .positions .now)
     (sym (c .before .before .lengths-fit .ensures) ∙ not-false _ (c .before .if1 .left)) (omega arith)))
 
-check-requires : tie.Need-check-requires
-check-requires c κs = search needs
-
-enum-known-lists : tie.Need-enum-known-lists
-enum-known-lists c = search needs
-
-enum-told : tie.Need-enum-told
-enum-told c = search needs
-
 check-entries-requires : tie.Need-check-entries-requires
 check-entries-requires c κs = lists c
 
@@ -79,12 +67,12 @@ pub check-spec : {M : Type 1} → statement M
 check-spec =
     tie.close
     (tie.spec
-    lengths-fit-requires
+    (λ c κs. search needs)
     returns
     returns-2
-    check-requires
-    enum-known-lists
-    enum-told
+    (λ c κs. search needs)
+    (λ c. search needs)
+    (λ c. search needs)
     check-entries-requires
     returns-3
     returns-4)

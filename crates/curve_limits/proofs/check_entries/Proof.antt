@@ -21,18 +21,6 @@ module _ (s : tie.Start) where
   abbrev after : Outcome Space
   after = positionsChecked (s .args .positions .now) (fine (break whole 0)) (fine (break whole (segments whole))) then λ _. answer whole
 
-check-coefficients-requires : tie.Need-check-coefficients-requires
-check-coefficients-requires c κs = search needs
-
-enum-known-c : tie.Need-enum-known-c
-enum-known-c c = search needs
-
-enum-told : tie.Need-enum-told
-enum-told c = search needs
-
-check-positions-requires : tie.Need-check-positions-requires
-check-positions-requires c κs = search needs
-
 returns : tie.Need-returns
 returns c =
     let s = c .before .before .before .before in
@@ -55,9 +43,9 @@ pub check-entries-spec : {M : Type 1} → statement M
 check-entries-spec =
     tie.close
     (tie.spec
-    check-coefficients-requires
-    enum-known-c
-    enum-told
-    check-positions-requires
+    (λ c κs. search needs)
+    (λ c. search needs)
+    (λ c. search needs)
+    (λ c κs. search needs)
     returns
     returns-2)

@@ -145,9 +145,6 @@ with-term-requires c κs =
 add-i : tie.Need-add-i Inv-loop μ-loop
 add-i c = omega (arith, c .before .before .before .before .pre .rows .weights .few)
 
-loop-less : tie.Need-loop-less Inv-loop μ-loop
-loop-less c = omega arith
-
 -- a row with weight on the column
 more : (c : tie.After-with-term Inv-loop μ-loop) → let l = c .before .before .before .before .before in
     GatheredTo l (c .with-term .result) (row l + 1)
@@ -207,6 +204,6 @@ column-terms-spec =
     shared-slice-copy-out-d
     with-term-requires
     add-i
-    loop-less
+    (λ c. omega arith)
     loop-again
     returns)

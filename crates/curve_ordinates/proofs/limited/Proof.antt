@@ -41,9 +41,6 @@ mul-low c =
 mul-high : tie.Need-mul-high
 mul-high c = let s = c .before .before .before .before .before .before .before in let f = greatest-fits s in simp toZ-ofZ (high-fits s)
 
-at-most-requires : tie.Need-at-most-requires
-at-most-requires c κs = search needs
-
 returns-2 : tie.Need-returns-2
 returns-2 c =
     let k = c .before .before .before .before .before .before .before in
@@ -58,9 +55,6 @@ returns-2 c =
     let some = not-false _ (c .before .before .before .before .before .before .if1 .left) in
     let below = limits-below (t .some) (t .sum) (t .least) (t .greatest) some (simp toZ-ofZ at (c .before .if2 .taken)) in
     simp toZ-ofZ ((simp toZ-ofZ at (c .at-most .ensures)) ∙ sym below)
-
-at-most-requires-2 : tie.Need-at-most-requires-2
-at-most-requires-2 c κs = search needs
 
 returns-3 : tie.Need-returns-3
 returns-3 c =
@@ -80,4 +74,4 @@ returns-3 c =
 pub limited-spec : {M : Type 1} → statement M
 limited-spec =
     tie.close
-    (tie.spec returns mul-low mul-high at-most-requires returns-2 at-most-requires-2 returns-3)
+    (tie.spec returns mul-low mul-high (λ c κs. search needs) returns-2 (λ c κs. search needs) returns-3)

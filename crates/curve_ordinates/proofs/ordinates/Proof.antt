@@ -34,9 +34,6 @@ Inv-loop num den coefs n os₀ index c₀ os c =
 abbrev μ-loop : tie.MeasureT-loop
 μ-loop num den coefs n os₀ index c₀ os c = length os₀ - c
 
-wood-index-requires : tie.Need-wood-index-requires Inv-loop μ-loop
-wood-index-requires c κs = search needs
-
 loop-holds : tie.Need-loop-holds Inv-loop μ-loop
 loop-holds c = (omega arith, (omega arith, λ t h m. tab-none _ _))
 
@@ -115,18 +112,6 @@ module _ (c : tie.After-limited Inv-loop μ-loop) where
 cast-o : tie.Need-cast-o Inv-loop μ-loop
 cast-o c = rw (toZ-ofZ w64 _ (record { sfits = c .limited .ok })) (number-fits c)
 
-mul-o : tie.Need-mul-o Inv-loop μ-loop
-mul-o c = omega arith
-
-slice-set-from-o : tie.Need-slice-set-from-o Inv-loop μ-loop
-slice-set-from-o c = omega arith
-
-add-c : tie.Need-add-c Inv-loop μ-loop
-add-c c = omega arith
-
-loop-less : tie.Need-loop-less Inv-loop μ-loop
-loop-less c = omega arith
-
 loop-again : tie.Need-loop-again Inv-loop μ-loop
 loop-again c =
     let i = c .before .before .before in
@@ -161,15 +146,15 @@ ordinates-spec =
     (tie.spec
     Inv-loop
     μ-loop
-    wood-index-requires
+    (λ c κs. search needs)
     loop-holds
     column-terms-requires
     limited-requires
     cast-o
-    mul-o
-    slice-set-from-o
-    add-c
-    loop-less
+    (λ c. omega arith)
+    (λ c. omega arith)
+    (λ c. omega arith)
+    (λ c. omega arith)
     loop-again
     same-length
     returns)

@@ -58,12 +58,6 @@ round-div-requires c κs =
     let l = product-fits c in
     simp toZ-ofZ (omega (arith, product-abs c), (c .pre .den-positive, omega (arith, c .pre .den-short)))
 
-lesser-requires : tie.Need-lesser-requires
-lesser-requires c κs = search needs
-
-greater-requires : tie.Need-greater-requires
-greater-requires c κs = search needs
-
 module _ (c : tie.After-round-div) where
   -- the nearest number is the rounded term
   divided : c .round-div .result ≡ term (c .before)
@@ -131,7 +125,7 @@ with-term-spec =
     mul-round-div
     mul-round-div-2
     round-div-requires
-    lesser-requires
-    greater-requires
+    (λ c κs. search needs)
+    (λ c κs. search needs)
     add-t8
     returns)

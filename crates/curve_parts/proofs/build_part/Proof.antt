@@ -39,9 +39,6 @@ module _ (c : tie.Start) where
 add-build : tie.Need-add-build
 add-build c = let l = lies c in omega (arith, l .some, l .within, l .break-count, l .order-count, l .few)
 
-mul-build : tie.Need-mul-build
-mul-build c = search needs
-
 sub-build : tie.Need-sub-build
 sub-build c = let l = lies c in omega (arith, l .some, l .within, l .break-count, l .order-count, l .few)
 
@@ -50,9 +47,6 @@ part-build-start c = let l = lies c in omega (arith, l .some, l .within, l .brea
 
 part-build-end : tie.Need-part-build-end
 part-build-end c = let l = lies c in omega (arith, l .some, l .within, l .break-count, l .order-count, l .few)
-
-mul-build-2 : tie.Need-mul-build-2
-mul-build-2 c = search needs
 
 sub-build-2 : tie.Need-sub-build-2
 sub-build-2 c = let l = lies (c .before) in omega (arith, l .some, l .within, l .break-count, l .order-count, l .few)
@@ -66,9 +60,6 @@ part-build-end-2 c = let l = lies (c .before) in omega (arith, l .some, l .withi
 sub-build-3 : tie.Need-sub-build-3
 sub-build-3 c = let l = lies (c .before .before) in omega (arith, l .some, l .within, l .break-count, l .order-count, l .few)
 
-mul-build-3 : tie.Need-mul-build-3
-mul-build-3 c = search needs
-
 sub-build-4 : tie.Need-sub-build-4
 sub-build-4 c = let l = lies (c .before .before) in omega (arith, l .some, l .within, l .break-count, l .order-count, l .few)
 
@@ -77,15 +68,6 @@ part-build-start-3 c = let l = lies (c .before .before) in omega (arith, l .some
 
 part-build-end-3 : tie.Need-part-build-end-3
 part-build-end-3 c = let l = lies (c .before .before) in omega (arith, l .some, l .within, l .break-count, l .order-count, l .few)
-
-build-requires : tie.Need-build-requires
-build-requires c κs = search needs
-
-enum-known-built : tie.Need-enum-known-built
-enum-known-built c = search needs
-
-enum-known-built-2 : tie.Need-enum-known-built-2
-enum-known-built-2 c = search needs
 
 -- the part is built
 module _ (c : tie.After-build) where
@@ -130,23 +112,11 @@ module _ (c : tie.After-built2) where
       rows
   own-rows = record { weights = weighed; coefficients = own-coefficients }
 
-mul-own : tie.Need-mul-own
-mul-own c = search needs
-
 add-own : tie.Need-add-own
 add-own c = let k = c .before in omega (arith, rows-within k, rows-few k, entry k .pre .coefficients .count)
 
 mul-own-2 : tie.Need-mul-own-2
 mul-own-2 c = let k = c .before in omega (arith, rows-within k, rows-few k, entry k .pre .coefficients .count)
-
-mul-own-3 : tie.Need-mul-own-3
-mul-own-3 c = search needs
-
-sub-own : tie.Need-sub-own
-sub-own c = search needs
-
-part-own-start : tie.Need-part-own-start
-part-own-start c = search needs
 
 part-own-end : tie.Need-part-own-end
 part-own-end c = let k = c .before in omega (arith, rows-within k, rows-few k, entry k .pre .coefficients .count)
@@ -159,29 +129,11 @@ ordinates-requires-2 : tie.Need-ordinates-requires-2
 ordinates-requires-2 c κs = let k = c .before .before .before .before .before .before .before .before .before .before in
     record { rows = own-rows k; columns-few = columns-fit (done k) (entry k .pre .late-long) }
 
-same-length : tie.Need-same-length
-same-length c = search needs
-
-same-length-2 : tie.Need-same-length-2
-same-length-2 c = search needs
-
 returns : tie.Need-returns
 returns c =
     let d = c .before .before .before .before .before in
     let s = start d in
     leaves-refused (lists s) _ _ (s .pre .part) _ _ _ _ (s .pre .room) _ (d .build .ensures) _ (c .before .built .given .1)
-
-same-length-3 : tie.Need-same-length-3
-same-length-3 c = search needs
-
-same-length-4 : tie.Need-same-length-4
-same-length-4 c = search needs
-
-same-length-5 : tie.Need-same-length-5
-same-length-5 c = search needs
-
-same-length-6 : tie.Need-same-length-6
-same-length-6 c = search needs
 
 returns-2 : tie.Need-returns-2
 returns-2 c =
@@ -196,36 +148,36 @@ build-part-spec =
     tie.close
     (tie.spec
     add-build
-    mul-build
+    (λ c. search needs)
     sub-build
     part-build-start
     part-build-end
-    mul-build-2
+    (λ c. search needs)
     sub-build-2
     part-build-start-2
     part-build-end-2
     sub-build-3
-    mul-build-3
+    (λ c. search needs)
     sub-build-4
     part-build-start-3
     part-build-end-3
-    build-requires
-    enum-known-built
-    enum-known-built-2
-    mul-own
+    (λ c κs. search needs)
+    (λ c. search needs)
+    (λ c. search needs)
+    (λ c. search needs)
     add-own
     mul-own-2
-    mul-own-3
-    sub-own
-    part-own-start
+    (λ c. search needs)
+    (λ c. search needs)
+    (λ c. search needs)
     part-own-end
     ordinates-requires
     ordinates-requires-2
-    same-length
-    same-length-2
+    (λ c. search needs)
+    (λ c. search needs)
     returns
-    same-length-3
-    same-length-4
-    same-length-5
-    same-length-6
+    (λ c. search needs)
+    (λ c. search needs)
+    (λ c. search needs)
+    (λ c. search needs)
     returns-2)

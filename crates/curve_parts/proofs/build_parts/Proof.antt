@@ -174,9 +174,6 @@ build-part-requires c κs =
       late-long = middle-length _ _ _ (late-room f) (size f);
     }
 
-enum-known-built : tie.Need-enum-known-built Inv-loop μ-loop
-enum-known-built c = search needs
-
 -- what the part answers and leaves
 module _ (c : tie.After-build-part Inv-loop μ-loop) where
   abbrev placed : tie.After-first-column Inv-loop μ-loop
@@ -234,12 +231,6 @@ add-row : tie.Need-add-row Inv-loop μ-loop
 add-row c =
     let m = c .before .before .before .before .before .before .before in
     omega (arith, rows-high _ _ _ (begun m .pre .legal) (more m (c .before .built .given .1) .state))
-
-enum-known-built-2 : tie.Need-enum-known-built-2 Inv-loop μ-loop
-enum-known-built-2 c = search needs
-
-cast-place : tie.Need-cast-place Inv-loop μ-loop
-cast-place c = omega arith
 
 add-place : tie.Need-add-place Inv-loop μ-loop
 add-place c =
@@ -316,10 +307,10 @@ build-parts-spec =
     part-build-part-start-2
     part-build-part-end-2
     build-part-requires
-    enum-known-built
+    (λ c. search needs)
     add-row
-    enum-known-built-2
-    cast-place
+    (λ c. search needs)
+    (λ c. omega arith)
     add-place
     place-requires
     same-length

@@ -20,9 +20,6 @@ module _ (s : tie.Start) where
 returns : tie.Need-returns
 returns c = let s = c .before in missing-replies (lists s) (s .args .ordinates .now) (s .args .segment) (small s) (c .if1 .taken)
 
-degree-at-requires : tie.Need-degree-at-requires
-degree-at-requires c κs = search needs
-
 returns-2 : tie.Need-returns-2
 returns-2 c =
     let s = c .before .before .before in
@@ -46,4 +43,4 @@ returns-3 c =
     (omega (arith, c .before .if2 .left, c .before .before .degree-at .ensures)) (c .piece-at .ensures)
 
 pub draw-spec : {M : Type 1} → statement M
-draw-spec = tie.close (tie.spec returns degree-at-requires returns-2 piece-at-requires returns-3)
+draw-spec = tie.close (tie.spec returns (λ c κs. search needs) returns-2 piece-at-requires returns-3)

@@ -21,36 +21,6 @@ use Rattle.curve_pieces.proofs.Held.{piece-refused, piece-drawn}
 use Rattle.curve_pieces.proofs.piece.Statement.{statement}
 use Rattle.curve_pieces.proofs.piece.Tie as tie
 
-sub-build-curves : tie.Need-sub-build-curves
-sub-build-curves c = search needs
-
-part-build-curves-start : tie.Need-part-build-curves-start
-part-build-curves-start c = search needs
-
-part-build-curves-end : tie.Need-part-build-curves-end
-part-build-curves-end c = search needs
-
-slice-aggregate-build-curves : tie.Need-slice-aggregate-build-curves
-slice-aggregate-build-curves c = search needs
-
-slice-aggregate-build-curves-2 : tie.Need-slice-aggregate-build-curves-2
-slice-aggregate-build-curves-2 c = search needs
-
-build-curves-requires : tie.Need-build-curves-requires
-build-curves-requires c κs = search needs
-
-enum-known-built : tie.Need-enum-known-built
-enum-known-built c = search needs
-
-enum-told : tie.Need-enum-told
-enum-told c = search needs
-
-enum-told-2 : tie.Need-enum-told-2
-enum-told-2 c = search needs
-
-slice-aggregate-draw : tie.Need-slice-aggregate-draw
-slice-aggregate-draw c = search needs
-
 -- the call without positions, the lists that it lends, and what is left in them
 module _ (d : tie.After-build-curves) where
   abbrev start : tie.Start
@@ -85,20 +55,8 @@ module _ (t : tie.After-enum-told) where
 draw-requires : tie.Need-draw-requires
 draw-requires c κs = record { legal = held (c .before .before .before) .legal; long = search needs }
 
-enum-told-3 : tie.Need-enum-told-3
-enum-told-3 c = search needs
-
-slice-aggregate-draw-2 : tie.Need-slice-aggregate-draw-2
-slice-aggregate-draw-2 c = search needs
-
 draw-requires-2 : tie.Need-draw-requires-2
 draw-requires-2 c κs = record { legal = held (c .before .before .before) .legal; long = search needs }
-
-same-length : tie.Need-same-length
-same-length c = search needs
-
-same-length-2 : tie.Need-same-length-2
-same-length-2 c = search needs
 
 returns : tie.Need-returns
 returns c =
@@ -109,12 +67,6 @@ returns c =
       piece-refused (lists d) (woodOf (a .wood)) _ _ _ _ r,
       (l .numerators-are ∙ refused-numerators (lists d) _ _ (a .num .now) r, l .denominators-are),
     )
-
-same-length-3 : tie.Need-same-length-3
-same-length-3 c = search needs
-
-same-length-4 : tie.Need-same-length-4
-same-length-4 c = search needs
 
 returns-2 : tie.Need-returns-2
 returns-2 c =
@@ -127,12 +79,6 @@ returns-2 c =
           (piece-drawn (lists d) earlywood _ _ _ _ _ _ (held t .is) (held t .early-is) (c .draw .ensures)),
       (l .numerators-are, l .denominators-are),
     )
-
-same-length-5 : tie.Need-same-length-5
-same-length-5 c = search needs
-
-same-length-6 : tie.Need-same-length-6
-same-length-6 c = search needs
 
 returns-3 : tie.Need-returns-3
 returns-3 c =
@@ -150,26 +96,26 @@ pub piece-spec : {M : Type 1} → statement M
 piece-spec =
     tie.close
     (tie.spec
-    sub-build-curves
-    part-build-curves-start
-    part-build-curves-end
-    slice-aggregate-build-curves
-    slice-aggregate-build-curves-2
-    build-curves-requires
-    enum-known-built
-    enum-told
-    enum-told-2
-    slice-aggregate-draw
+    (λ c. search needs)
+    (λ c. search needs)
+    (λ c. search needs)
+    (λ c. search needs)
+    (λ c. search needs)
+    (λ c κs. search needs)
+    (λ c. search needs)
+    (λ c. search needs)
+    (λ c. search needs)
+    (λ c. search needs)
     draw-requires
-    enum-told-3
-    slice-aggregate-draw-2
+    (λ c. search needs)
+    (λ c. search needs)
     draw-requires-2
-    same-length
-    same-length-2
+    (λ c. search needs)
+    (λ c. search needs)
     returns
-    same-length-3
-    same-length-4
+    (λ c. search needs)
+    (λ c. search needs)
     returns-2
-    same-length-5
-    same-length-6
+    (λ c. search needs)
+    (λ c. search needs)
     returns-3)

@@ -19,12 +19,6 @@ use Rattle.curve_drawing.specs.Floats.{Is, Each, floats}
 use Rattle.curve_pieces.proofs.piece_at.Statement.{statement}
 use Rattle.curve_pieces.proofs.piece_at.Tie as tie
 
-first-column-requires : tie.Need-first-column-requires
-first-column-requires c κs = search needs
-
-degree-at-requires : tie.Need-degree-at-requires
-degree-at-requires c κs = search needs
-
 abbrev lists : tie.Start → Space
 lists s = space (s .args .breaks .now) (s .args .degrees .now) (s .args .orders .now)
 
@@ -45,27 +39,6 @@ curve-at-requires c κs =
       within = omega (arith, d, column-is (c .before), w, few, s .pre .long);
       long = omega (arith, s .pre .long);
     }
-
-mul-whole : tie.Need-mul-whole
-mul-whole c = search needs
-
-shared-slice-copy-out-whole : tie.Need-shared-slice-copy-out-whole
-shared-slice-copy-out-whole c = search needs
-
-whole-requires : tie.Need-whole-requires
-whole-requires c κs = search needs
-
-add-whole : tie.Need-add-whole
-add-whole c = search needs
-
-mul-whole-2 : tie.Need-mul-whole-2
-mul-whole-2 c = search needs
-
-shared-slice-copy-out-whole-2 : tie.Need-shared-slice-copy-out-whole-2
-shared-slice-copy-out-whole-2 c = search needs
-
-whole-requires-2 : tie.Need-whole-requires-2
-whole-requires-2 c κs = search needs
 
 -- the floats are those of m ordinates from a column on
 abbrev Shown : tie.After-curve-at → ℕ → ℕ → Type 0
@@ -92,14 +65,14 @@ pub piece-at-spec : {M : Type 1} → statement M
 piece-at-spec =
     tie.close
     (tie.spec
-    first-column-requires
-    degree-at-requires
+    (λ c κs. search needs)
+    (λ c κs. search needs)
     curve-at-requires
-    mul-whole
-    shared-slice-copy-out-whole
-    whole-requires
-    add-whole
-    mul-whole-2
-    shared-slice-copy-out-whole-2
-    whole-requires-2
+    (λ c. search needs)
+    (λ c. search needs)
+    (λ c κs. search needs)
+    (λ c. search needs)
+    (λ c. search needs)
+    (λ c. search needs)
+    (λ c κs. search needs)
     returns)

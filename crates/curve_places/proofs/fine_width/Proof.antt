@@ -32,9 +32,6 @@ module _ (c : tie.After-segment-length) where
   fine-fits : SFits w64 (pos (256 * rings (c .before)))
   fine-fits = sfits-abs (omega (arith, rings-few (c .before)))
 
-segment-length-requires : tie.Need-segment-length-requires
-segment-length-requires c κs = search needs
-
 mul-result : tie.Need-mul-result
 mul-result c = rw (length-is c) (fine-fits c)
 
@@ -42,4 +39,4 @@ returns : tie.Need-returns
 returns c = ap (λ (z : ℤ). toZ w64 (ofZ w64 (pos 256 *ℤ z))) (length-is c) ∙ toZ-ofZ w64 _ (fine-fits c)
 
 pub fine-width-spec : {M : Type 1} → statement M
-fine-width-spec = tie.close (tie.spec segment-length-requires mul-result returns)
+fine-width-spec = tie.close (tie.spec (λ c κs. search needs) mul-result returns)

@@ -62,9 +62,6 @@ array-set-from-tails c = let s = start (c .before) in omega (arith, s .pre .lega
 add-k : tie.Need-add-k Inv-loop μ-loop
 add-k c = let s = start (c .before) in omega (arith, s .pre .legal .few)
 
-loop-less : tie.Need-loop-less Inv-loop μ-loop
-loop-less c = omega arith
-
 loop-again : tie.Need-loop-again Inv-loop μ-loop
 loop-again c =
     let l = turn (c .before) .loop in
@@ -88,5 +85,5 @@ returns c =
 
 pub inverse-tails-spec : {M : Type 1} → statement M
 inverse-tails-spec =
-    tie.close (tie.spec Inv-loop μ-loop loop-holds fine-width-requires tail-of-requires mul-tails array-set-from-tails add-k loop-less loop-again
+    tie.close (tie.spec Inv-loop μ-loop loop-holds fine-width-requires tail-of-requires mul-tails array-set-from-tails add-k (λ c. omega arith) loop-again
     returns)

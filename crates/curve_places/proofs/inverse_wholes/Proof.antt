@@ -62,9 +62,6 @@ array-set-from-wholes c = let s = start (c .before) in omega (arith, s .pre .leg
 add-k : tie.Need-add-k Inv-loop μ-loop
 add-k c = let s = start (c .before) in omega (arith, s .pre .legal .few)
 
-loop-less : tie.Need-loop-less Inv-loop μ-loop
-loop-less c = omega arith
-
 loop-again : tie.Need-loop-again Inv-loop μ-loop
 loop-again c =
     let l = turn (c .before) .loop in
@@ -88,5 +85,5 @@ returns c =
 
 pub inverse-wholes-spec : {M : Type 1} → statement M
 inverse-wholes-spec =
-    tie.close (tie.spec Inv-loop μ-loop loop-holds fine-width-requires whole-of-requires mul-wholes array-set-from-wholes add-k loop-less loop-again
+    tie.close (tie.spec Inv-loop μ-loop loop-holds fine-width-requires whole-of-requires mul-wholes array-set-from-wholes add-k (λ c. omega arith) loop-again
     returns)

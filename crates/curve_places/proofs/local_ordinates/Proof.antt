@@ -24,15 +24,6 @@ abbrev μ-loop : tie.MeasureT-loop
 loop-holds : tie.Need-loop-holds Inv-loop μ-loop
 loop-holds c = (omega arith, tab-none _ _)
 
-add-x : tie.Need-add-x Inv-loop μ-loop
-add-x c = omega arith
-
-mul-x : tie.Need-mul-x Inv-loop μ-loop
-mul-x c = omega arith
-
-shared-slice-copy-out-x : tie.Need-shared-slice-copy-out-x Inv-loop μ-loop
-shared-slice-copy-out-x c = omega arith
-
 -- the number that is copied
 module _ (c : tie.After-x Inv-loop μ-loop) where
   abbrev number : ℤ
@@ -43,18 +34,6 @@ module _ (c : tie.After-x Inv-loop μ-loop) where
 
 cast-x : tie.Need-cast-x Inv-loop μ-loop
 cast-x c = let f = number-fits c in simp toZ-ofZ (sfits-widen (number-fits c))
-
-mul-o : tie.Need-mul-o Inv-loop μ-loop
-mul-o c = omega arith
-
-array-set-from-o : tie.Need-array-set-from-o Inv-loop μ-loop
-array-set-from-o c = omega arith
-
-add-k : tie.Need-add-k Inv-loop μ-loop
-add-k c = omega arith
-
-loop-less : tie.Need-loop-less Inv-loop μ-loop
-loop-less c = omega arith
 
 loop-again : tie.Need-loop-again Inv-loop μ-loop
 loop-again c =
@@ -82,13 +61,13 @@ local-ordinates-spec =
     Inv-loop
     μ-loop
     loop-holds
-    add-x
-    mul-x
-    shared-slice-copy-out-x
+    (λ c. omega arith)
+    (λ c. omega arith)
+    (λ c. omega arith)
     cast-x
-    mul-o
-    array-set-from-o
-    add-k
-    loop-less
+    (λ c. omega arith)
+    (λ c. omega arith)
+    (λ c. omega arith)
+    (λ c. omega arith)
     loop-again
     returns)

@@ -34,12 +34,6 @@ module _ (s : tie.Start) where
   offset-fits : SFits w64 (s .args .x -ℤ pos 256 *ℤ break)
   offset-fits = sfits-abs (omega (arith, start-small, abs-sfits (s .fits .x), abs-sub (s .args .x) (pos 256 *ℤ break)))
 
-mul-start : tie.Need-mul-start
-mul-start c = search needs
-
-shared-slice-copy-out-start : tie.Need-shared-slice-copy-out-start
-shared-slice-copy-out-start c = search needs
-
 cast-start : tie.Need-cast-start
 cast-start c = let f = break-fits-32 (c .before) in simp toZ-ofZ (break-fits (c .before))
 
@@ -75,8 +69,8 @@ pub offset-spec : {M : Type 1} → statement M
 offset-spec =
     tie.close
     (tie.spec
-    mul-start
-    shared-slice-copy-out-start
+    (λ c. search needs)
+    (λ c. search needs)
     cast-start
     cast-result
     mul-result

@@ -21,9 +21,6 @@ use Rattle.curve_places.proofs.pair_at.Tie as tie
 abbrev word : ℤ → ℤ
 word z = toZ w64 (ofZ w64 z)
 
-rate-of-requires : tie.Need-rate-of-requires
-rate-of-requires c κs = search needs
-
 module _ (c : tie.After-struct-told3) where
   abbrev start : tie.Start
   start = c .before .before .before .before
@@ -101,4 +98,4 @@ returns-2 c =
 pub pair-at-spec : {M : Type 1} → statement M
 pair-at-spec =
     tie.close
-    (tie.spec rate-of-requires value-of-requires value-of-requires-2 returns value-by-requires value-by-requires-2 returns-2)
+    (tie.spec (λ c κs. search needs) value-of-requires value-of-requires-2 returns value-by-requires value-by-requires-2 returns-2)

@@ -19,12 +19,6 @@ use Rattle.curve_places.proofs.value_at.Tie as tie
 abbrev word : ℤ → ℤ
 word z = toZ w64 (ofZ w64 z)
 
-whole-of-requires : tie.Need-whole-of-requires
-whole-of-requires c κs = search needs
-
-tail-of-requires : tie.Need-tail-of-requires
-tail-of-requires c κs = search needs
-
 module _ (c : tie.After-struct-told2) where
   abbrev begin : tie.Start
   begin = c .before .before .before .before
@@ -104,4 +98,4 @@ returns : tie.Need-returns
 returns c = toZ-ofZ w32 _ (record { sfits = c .value-by .ok }) ∙ there (c .before) _ _ (c .value-by .ensures)
 
 pub value-at-spec : {M : Type 1} → statement M
-value-at-spec = tie.close (tie.spec whole-of-requires tail-of-requires rate-of-requires value-by-requires returns)
+value-at-spec = tie.close (tie.spec (λ c κs. search needs) (λ c κs. search needs) rate-of-requires value-by-requires returns)

@@ -16,9 +16,6 @@ use Rattle.curve_places.proofs.Position.{value-local}
 use Rattle.curve_places.proofs.value_of.Statement.{statement}
 use Rattle.curve_places.proofs.value_of.Tie as tie
 
-local-ordinates-requires : tie.Need-local-ordinates-requires
-local-ordinates-requires c κs = search needs
-
 triangle-requires : tie.Need-triangle-requires
 triangle-requires c κs =
     let s = c .before in
@@ -54,4 +51,4 @@ returns c u d rated =
     ∙ value-is c u d rated
 
 pub value-of-spec : {M : Type 1} → statement M
-value-of-spec = tie.close (tie.spec local-ordinates-requires triangle-requires cast-result returns)
+value-of-spec = tie.close (tie.spec (λ c κs. search needs) triangle-requires cast-result returns)

@@ -20,12 +20,6 @@ product-fits c =
 mul-result : tie.Need-mul-result
 mul-result c = let f = c .fits .rise in let g = c .fits .low in simp toZ-ofZ (product-fits c)
 
-cast-result : tie.Need-cast-result
-cast-result c = search needs
-
-shr-result : tie.Need-shr-result
-shr-result c = search needs
-
 returns : tie.Need-returns
 returns c =
     let f = c .fits .rise in
@@ -35,4 +29,4 @@ returns c =
     simp (toZ-ofZ, floorDiv-shrZ) refl
 
 pub carried-spec : {M : Type 1} → statement M
-carried-spec = tie.close (tie.spec mul-result cast-result shr-result returns)
+carried-spec = tie.close (tie.spec mul-result (λ c. search needs) (λ c. search needs) returns)

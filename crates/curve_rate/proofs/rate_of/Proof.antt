@@ -94,12 +94,6 @@ add-total c =
     let k = more-fits c in
     simp toZ-ofZ (sum-fits c)
 
-cast-high : tie.Need-cast-high
-cast-high c = search needs
-
-shr-high : tie.Need-shr-high
-shr-high c = search needs
-
 mul-low : tie.Need-mul-low
 mul-low c =
     let f = c .before .fits .u in
@@ -133,4 +127,4 @@ returns c d o inverted =
     simp toZ-ofZ (rw (toZ-ofZ w64 _ (low-fits c)) (rated c d o inverted))
 
 pub rate-of-spec : {M : Type 1} → statement M
-rate-of-spec = tie.close (tie.spec carried-requires mul-total add-total cast-high shr-high mul-low sub-low returns)
+rate-of-spec = tie.close (tie.spec carried-requires mul-total add-total (λ c. search needs) (λ c. search needs) mul-low sub-low returns)

@@ -82,12 +82,6 @@ add-result-2 c =
     let l = sum-fits c in
     simp toZ-ofZ (half-fits c _ (omega arith))
 
-cast-result : tie.Need-cast-result
-cast-result c = search needs
-
-shr-result : tie.Need-shr-result
-shr-result c = search needs
-
 returns : tie.Need-returns
 returns c u d rated =
     let f = c .before .fits .rise in
@@ -106,4 +100,4 @@ returns c u d rated =
 pub share-of-spec : {M : Type 1} → statement M
 share-of-spec =
     tie.close
-    (tie.spec carried-requires mul-result add-result add-result-2 cast-result shr-result returns)
+    (tie.spec carried-requires mul-result add-result add-result-2 (λ c. search needs) (λ c. search needs) returns)

@@ -17,9 +17,6 @@ use Rattle.curve_rate.proofs.Sizes.{offset-abs, InverseSizes, inverse-s
 use Rattle.curve_rate.proofs.tail_of.Statement.{statement}
 use Rattle.curve_rate.proofs.tail_of.Tie as tie
 
-whole-of-requires : tie.Need-whole-of-requires
-whole-of-requires c κs = search needs
-
 module _ (c : tie.After-whole-of) where
   abbrev d : ℤ
   d = c .before .args .d
@@ -92,4 +89,4 @@ returns c =
     (whole-is c))
 
 pub tail-of-spec : {M : Type 1} → statement M
-tail-of-spec = tie.close (tie.spec whole-of-requires mul-rest sub-rest mul-result div-result returns)
+tail-of-spec = tie.close (tie.spec (λ c κs. search needs) mul-rest sub-rest mul-result div-result returns)

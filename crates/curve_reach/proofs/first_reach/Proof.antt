@@ -35,15 +35,6 @@ cast-target c = let f = c .fits .width in simp toZ-ofZ (width-fits c)
 mul-target : tie.Need-mul-target
 mul-target c = let f = c .fits .width in let g = width-fits c in simp toZ-ofZ (target-fits c)
 
-search-requires : tie.Need-search-requires
-search-requires c κs = search needs
-
-enum-known-found : tie.Need-enum-known-found
-enum-known-found c = search needs
-
-enum-told : tie.Need-enum-told
-enum-told c = search needs
-
 -- what the search has found, for the width read back from its word
 module _ (c : tie.After-search) where
   abbrev start : tie.Start
@@ -73,4 +64,4 @@ returns-2 c = let s = c .before .before in nowhere-reached (beam s) (searched s)
 pub first-reach-spec : {M : Type 1} → statement M
 first-reach-spec =
     tie.close
-    (tie.spec cast-target mul-target search-requires enum-known-found enum-told returns returns-2)
+    (tie.spec cast-target mul-target (λ c κs. search needs) (λ c. search needs) (λ c. search needs) returns returns-2)

@@ -29,18 +29,6 @@ module _ (s : tie.Start) where
   abbrev of : Wood → List ℤ
   of wood = chosen (woodOf wood) (s .args .early .now) (s .args .late .now)
 
-enum-told : tie.Need-enum-told
-enum-told c = search needs
-
-first-reach-requires : tie.Need-first-reach-requires
-first-reach-requires c κs = search needs
-
-enum-told-2 : tie.Need-enum-told-2
-enum-told-2 c = search needs
-
-first-reach-requires-2 : tie.Need-first-reach-requires-2
-first-reach-requires-2 c κs = search needs
-
 returns : tie.Need-returns
 returns c =
     let s = c .before .before .before in
@@ -56,4 +44,4 @@ returns-2 c =
 pub part-reach-spec : {M : Type 1} → statement M
 part-reach-spec =
     tie.close
-    (tie.spec enum-told first-reach-requires enum-told-2 first-reach-requires-2 returns returns-2)
+    (tie.spec (λ c. search needs) (λ c κs. search needs) (λ c. search needs) (λ c κs. search needs) returns returns-2)

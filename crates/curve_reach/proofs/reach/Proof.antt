@@ -21,36 +21,6 @@ use Rattle.curve_reach.proofs.Call.{reach-refused, reach-searched}
 use Rattle.curve_reach.proofs.reach.Statement.{statement}
 use Rattle.curve_reach.proofs.reach.Tie as tie
 
-sub-build-curves : tie.Need-sub-build-curves
-sub-build-curves c = search needs
-
-part-build-curves-start : tie.Need-part-build-curves-start
-part-build-curves-start c = search needs
-
-part-build-curves-end : tie.Need-part-build-curves-end
-part-build-curves-end c = search needs
-
-slice-aggregate-build-curves : tie.Need-slice-aggregate-build-curves
-slice-aggregate-build-curves c = search needs
-
-slice-aggregate-build-curves-2 : tie.Need-slice-aggregate-build-curves-2
-slice-aggregate-build-curves-2 c = search needs
-
-build-curves-requires : tie.Need-build-curves-requires
-build-curves-requires c κs = search needs
-
-enum-known-built : tie.Need-enum-known-built
-enum-known-built c = search needs
-
-enum-told : tie.Need-enum-told
-enum-told c = search needs
-
-slice-aggregate-part-reach : tie.Need-slice-aggregate-part-reach
-slice-aggregate-part-reach c = search needs
-
-slice-aggregate-part-reach-2 : tie.Need-slice-aggregate-part-reach-2
-slice-aggregate-part-reach-2 c = search needs
-
 -- the call without positions, the lists that it lends, and what is left in them
 module _ (d : tie.After-build-curves) where
   abbrev start : tie.Start
@@ -96,12 +66,6 @@ part-reach-requires c κs = let h = held (c .before .before) in
       late-ordinates = record { long = search needs; bounded = late-bounded columnLimit h };
     }
 
-same-length : tie.Need-same-length
-same-length c = search needs
-
-same-length-2 : tie.Need-same-length-2
-same-length-2 c = search needs
-
 returns : tie.Need-returns
 returns c =
     let d = c .before .before .before .before .before .before .before in
@@ -111,12 +75,6 @@ returns c =
       reach-refused (beam d) (wood d) (coefs d) (a .width) (length (a .num .now)) (length (a .den .now)) r,
       (l .numerators-are ∙ refused-numerators (beam d) _ _ (a .num .now) r, l .denominators-are),
     )
-
-same-length-3 : tie.Need-same-length-3
-same-length-3 c = search needs
-
-same-length-4 : tie.Need-same-length-4
-same-length-4 c = search needs
 
 returns-2 : tie.Need-returns-2
 returns-2 c =
@@ -134,20 +92,20 @@ pub reach-spec : {M : Type 1} → statement M
 reach-spec =
     tie.close
     (tie.spec
-    sub-build-curves
-    part-build-curves-start
-    part-build-curves-end
-    slice-aggregate-build-curves
-    slice-aggregate-build-curves-2
-    build-curves-requires
-    enum-known-built
-    enum-told
-    slice-aggregate-part-reach
-    slice-aggregate-part-reach-2
+    (λ c. search needs)
+    (λ c. search needs)
+    (λ c. search needs)
+    (λ c. search needs)
+    (λ c. search needs)
+    (λ c κs. search needs)
+    (λ c. search needs)
+    (λ c. search needs)
+    (λ c. search needs)
+    (λ c. search needs)
     part-reach-requires
-    same-length
-    same-length-2
+    (λ c. search needs)
+    (λ c. search needs)
     returns
-    same-length-3
-    same-length-4
+    (λ c. search needs)
+    (λ c. search needs)
     returns-2)

@@ -31,17 +31,8 @@ module _ (s : tie.Start) where
   offset-small : s .args .u < 2147483648
   offset-small = omega (arith, s .pre .short)
 
-mul-start : tie.Need-mul-start
-mul-start c = search needs
-
-shared-slice-copy-out-start : tie.Need-shared-slice-copy-out-start
-shared-slice-copy-out-start c = search needs
-
 mul-result : tie.Need-mul-result
 mul-result c = let f = break-fits (c .before) in simp toZ-ofZ (start-fits (c .before))
-
-cast-result : tie.Need-cast-result
-cast-result c = search needs
 
 add-result : tie.Need-add-result
 add-result c =
@@ -60,4 +51,4 @@ returns c =
 pub position-at-spec : {M : Type 1} → statement M
 position-at-spec =
     tie.close
-    (tie.spec mul-start shared-slice-copy-out-start mul-result cast-result add-result returns)
+    (tie.spec (λ c. search needs) (λ c. search needs) mul-result (λ c. search needs) add-result returns)

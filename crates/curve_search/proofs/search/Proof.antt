@@ -204,9 +204,6 @@ add-column-2 c = let b = here (c .before) in omega (arith, column-within b)
 add-i : tie.Need-add-i Inv-loop μ-loop
 add-i c = let b = here (c .before) in omega (arith, below (at b), legal (start (at b)) .few)
 
-loop-less : tie.Need-loop-less Inv-loop μ-loop
-loop-less c = omega arith
-
 loop-again : tie.Need-loop-again Inv-loop μ-loop
 loop-again c = next-segment (c .before) (omega arith)
 
@@ -237,6 +234,6 @@ search-spec =
     add-column
     add-column-2
     add-i
-    loop-less
+    (λ c. omega arith)
     loop-again
     returns-2)

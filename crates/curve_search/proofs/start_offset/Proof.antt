@@ -23,12 +23,6 @@ returns-2 c =
     let s = c .before .before in
     first (space [] (s .args .degrees .now) (s .args .orders .now)) (s .args .i) (omega arith) (omega (arith, s .pre .within))
 
-sub-is-discontinuity : tie.Need-sub-is-discontinuity
-sub-is-discontinuity c = search needs
-
-is-discontinuity-requires : tie.Need-is-discontinuity-requires
-is-discontinuity-requires c κs = search needs
-
 -- the join before segment i
 module _ (c : tie.After-is-discontinuity) where
   abbrev start : tie.Start
@@ -53,4 +47,4 @@ returns-4 c = after-join (c .before) (c .if3 .left)
 pub start-offset-spec : {M : Type 1} → statement M
 start-offset-spec =
     tie.close
-    (tie.spec returns returns-2 sub-is-discontinuity is-discontinuity-requires returns-3 returns-4)
+    (tie.spec returns returns-2 (λ c. search needs) (λ c κs. search needs) returns-3 returns-4)

@@ -18,12 +18,6 @@ use Rattle.curve_segments.specs.Segments.{firstPosition}
 use Rattle.curve_segments.proofs.first_position.Statement.{statement}
 use Rattle.curve_segments.proofs.first_position.Tie as tie
 
-mul-start : tie.Need-mul-start
-mul-start c = search needs
-
-shared-slice-copy-out-start : tie.Need-shared-slice-copy-out-start
-shared-slice-copy-out-start c = search needs
-
 module _ (c : tie.After-start) where
   abbrev break : ℤ
   break = getD (c .before .args .breaks .now) (c .before .args .i) (pos 0)
@@ -38,9 +32,6 @@ module _ (c : tie.After-start) where
 
 mul-start-2 : tie.Need-mul-start-2
 mul-start-2 c = let f = break-fits c in simp toZ-ofZ (start-fits c)
-
-starts-at-discontinuity-requires : tie.Need-starts-at-discontinuity-requires
-starts-at-discontinuity-requires c κs = search needs
 
 module _ (c : tie.After-starts-at-discontinuity) where
   abbrev at-start : tie.After-start
@@ -88,4 +79,4 @@ returns-2 c =
 
 pub first-position-spec : {M : Type 1} → statement M
 first-position-spec =
-    tie.close (tie.spec mul-start shared-slice-copy-out-start mul-start-2 starts-at-discontinuity-requires add-result returns returns-2)
+    tie.close (tie.spec (λ c. search needs) (λ c. search needs) mul-start-2 (λ c κs. search needs) add-result returns returns-2)

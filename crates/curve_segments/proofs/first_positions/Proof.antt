@@ -44,9 +44,6 @@ array-set-from-firsts c = let s = c .before .before .before in omega (arith, s .
 add-i : tie.Need-add-i Inv-loop μ-loop
 add-i c = let s = c .before .before .before in omega (arith, s .pre .few)
 
-loop-less : tie.Need-loop-less Inv-loop μ-loop
-loop-less c = omega arith
-
 loop-again : tie.Need-loop-again Inv-loop μ-loop
 loop-again c =
     let l = c .before .before .loop in
@@ -71,5 +68,5 @@ returns c =
 
 pub first-positions-spec : {M : Type 1} → statement M
 first-positions-spec =
-    tie.close (tie.spec Inv-loop μ-loop loop-holds first-position-requires mul-firsts array-set-from-firsts add-i loop-less loop-again
+    tie.close (tie.spec Inv-loop μ-loop loop-holds first-position-requires mul-firsts array-set-from-firsts add-i (λ c. omega arith) loop-again
     returns)

@@ -34,18 +34,6 @@ abbrev μ-loop : tie.MeasureT-loop
 loop-holds : tie.Need-loop-holds Inv-loop μ-loop
 loop-holds c = (omega arith, sym (ap (λ o. Option·getD o 0) (last-none _ 0 (λ k l. absurd (omega arith)))))
 
-mul-first : tie.Need-mul-first Inv-loop μ-loop
-mul-first c = omega arith
-
-shared-slice-copy-out-first : tie.Need-shared-slice-copy-out-first Inv-loop μ-loop
-shared-slice-copy-out-first c = omega arith
-
-add-i : tie.Need-add-i Inv-loop μ-loop
-add-i c = omega arith
-
-loop-less : tie.Need-loop-less Inv-loop μ-loop
-loop-less c = omega arith
-
 -- one segment more
 module _ (c : tie.After-first Inv-loop μ-loop) where
   abbrev firsts : List ℤ
@@ -82,4 +70,4 @@ returns c =
     ∙ ap (λ z. lastOf (s .args .firsts .now) z (s .args .m)) (toZ-ofZ w32 _ (s .fits .x))
 
 pub segment-at-spec : {M : Type 1} → statement M
-segment-at-spec = tie.close (tie.spec Inv-loop μ-loop loop-holds mul-first shared-slice-copy-out-first add-i loop-less loop-again returns)
+segment-at-spec = tie.close (tie.spec Inv-loop μ-loop loop-holds (λ c. omega arith) (λ c. omega arith) (λ c. omega arith) (λ c. omega arith) loop-again returns)

@@ -22,24 +22,6 @@ use Rattle.curve_segments.proofs.First.{first-at, near-is, segment-foun
 use Rattle.curve_segments.proofs.segment_near.Statement.{statement}
 use Rattle.curve_segments.proofs.segment_near.Tie as tie
 
-mul-first : tie.Need-mul-first
-mul-first c = search needs
-
-shared-slice-copy-out-first : tie.Need-shared-slice-copy-out-first
-shared-slice-copy-out-first c = search needs
-
-add-next : tie.Need-add-next
-add-next c = search needs
-
-mul-after : tie.Need-mul-after
-mul-after c = search needs
-
-shared-slice-copy-out-after : tie.Need-shared-slice-copy-out-after
-shared-slice-copy-out-after c = search needs
-
-segment-at-requires : tie.Need-segment-at-requires
-segment-at-requires c κs = search needs
-
 -- a number read back from its word
 abbrev word : ℤ → ℤ
 word z = toZ w32 (ofZ w32 z)
@@ -98,5 +80,5 @@ returns-3 c b d o legal is count =
 
 pub segment-near-spec : {M : Type 1} → statement M
 segment-near-spec =
-    tie.close (tie.spec mul-first shared-slice-copy-out-first add-next returns mul-after shared-slice-copy-out-after returns-2
-    segment-at-requires returns-3)
+    tie.close (tie.spec (λ c. search needs) (λ c. search needs) (λ c. search needs) returns (λ c. search needs) (λ c. search needs) returns-2
+    (λ c κs. search needs) returns-3)

@@ -28,14 +28,8 @@ after-first orders i j e = ap (startsAtDiscontinuity (space [] [] orders)) e
 returns : tie.Need-returns
 returns c = at-first (c .before .args .orders .now) (c .before .args .i) (omega arith)
 
-sub-is-discontinuity : tie.Need-sub-is-discontinuity
-sub-is-discontinuity c = search needs
-
-is-discontinuity-requires : tie.Need-is-discontinuity-requires
-is-discontinuity-requires c κs = search needs
-
 returns-2 : tie.Need-returns-2
 returns-2 c = let a = c .before .before .args in c .is-discontinuity .ensures ∙ after-first (a .orders .now) (a .i) (a .i - 1) (omega arith)
 
 pub starts-at-discontinuity-spec : {M : Type 1} → statement M
-starts-at-discontinuity-spec = tie.close (tie.spec returns sub-is-discontinuity is-discontinuity-requires returns-2)
+starts-at-discontinuity-spec = tie.close (tie.spec returns (λ c. search needs) (λ c κs. search needs) returns-2)

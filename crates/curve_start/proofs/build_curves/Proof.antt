@@ -48,15 +48,6 @@ returns-3 c =
     let s = start e in
     leaves-unchanged (asked s) (before s) (third-short (asked s) (before s) (table-room e) (c .if3 .taken)) refl
 
-check-requires : tie.Need-check-requires
-check-requires c κs = search needs
-
-enum-known-checked : tie.Need-enum-known-checked
-enum-known-checked c = search needs
-
-enum-told : tie.Need-enum-told
-enum-told c = search needs
-
 -- the lists and the entries pass
 module _ (c : tie.After-enum-told) where
   abbrev long : tie.Else3
@@ -91,18 +82,6 @@ returns-4 c =
     leaves-unchanged (asked s) (before s) (call-refused (asked s) (before s) (table-room (e .before)) (e .if3 .left) r)
     (curve-checks (asked s .lists) _ _ r)
 
-same-length : tie.Need-same-length
-same-length c = search needs
-
-same-length-2 : tie.Need-same-length-2
-same-length-2 c = search needs
-
-same-length-3 : tie.Need-same-length-3
-same-length-3 c = search needs
-
-same-length-4 : tie.Need-same-length-4
-same-length-4 c = search needs
-
 returns-5 : tie.Need-returns-5
 returns-5 c =
     let p = c .before .before .before .before in
@@ -118,13 +97,13 @@ build-curves-spec =
     returns
     returns-2
     returns-3
-    check-requires
-    enum-known-checked
-    enum-told
+    (λ c κs. search needs)
+    (λ c. search needs)
+    (λ c. search needs)
     build-parts-requires
     returns-4
-    same-length
-    same-length-2
-    same-length-3
-    same-length-4
+    (λ c. search needs)
+    (λ c. search needs)
+    (λ c. search needs)
+    (λ c. search needs)
     returns-5)

@@ -13,9 +13,6 @@ use Rattle.curve_steps.proofs.Passing.{one-bounds, none-reaches, all-be
 use Rattle.curve_steps.proofs.first_offset.Statement.{statement}
 use Rattle.curve_steps.proofs.first_offset.Tie as tie
 
-one-reaches-requires : tie.Need-one-reaches-requires
-one-reaches-requires c κs = search needs
-
 module _ (c : tie.After-one-reaches) where
   abbrev start : tie.Start
   start = c .before
@@ -51,4 +48,4 @@ returns-2 c =
 
 pub first-offset-spec : {M : Type 1} → statement M
 first-offset-spec =
-    tie.close (tie.spec one-reaches-requires step-through-requires returns returns-2)
+    tie.close (tie.spec (λ c κs. search needs) step-through-requires returns returns-2)

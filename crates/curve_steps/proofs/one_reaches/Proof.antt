@@ -25,21 +25,6 @@ abbrev μ-loop : tie.MeasureT-loop
 loop-holds : tie.Need-loop-holds Inv-loop μ-loop
 loop-holds c = (omega arith, λ j h. absurd (omega arith))
 
-add-o : tie.Need-add-o Inv-loop μ-loop
-add-o c = omega arith
-
-mul-o : tie.Need-mul-o Inv-loop μ-loop
-mul-o c = omega arith
-
-shared-slice-copy-out-o : tie.Need-shared-slice-copy-out-o Inv-loop μ-loop
-shared-slice-copy-out-o c = omega arith
-
-add-k : tie.Need-add-k Inv-loop μ-loop
-add-k c = omega arith
-
-loop-less : tie.Need-loop-less Inv-loop μ-loop
-loop-less c = omega arith
-
 -- the test of ordinate k, with the numbers read back from their words
 module _ (s : tie.Start Inv-loop μ-loop) where
   abbrev test : ℕ → Bool
@@ -93,12 +78,12 @@ one-reaches-spec =
     Inv-loop
     μ-loop
     loop-holds
-    add-o
-    mul-o
-    shared-slice-copy-out-o
+    (λ c. omega arith)
+    (λ c. omega arith)
+    (λ c. omega arith)
     cast-o
-    add-k
-    loop-less
+    (λ c. omega arith)
+    (λ c. omega arith)
     loop-again
     returns
     returns-2)

@@ -25,9 +25,6 @@ module _ (c : tie.Start) where
   difference-fits : SFits w64 (high -ℤ low)
   difference-fits = sfits-abs (omega (arith, abs-sub high low, c .pre .low-small, c .pre .high-small))
 
-cast-reached : tie.Need-cast-reached
-cast-reached c = search needs
-
 add-reached : tie.Need-add-reached
 add-reached c = let f = c .fits .low in simp (toZ-ofZ, toZ-pos w64 (c .args .rise) (omega (arith, c .pre .rise-small))) (sum-fits c)
 
@@ -77,4 +74,4 @@ returns-2 c =
 
 pub steeper-spec : {M : Type 1} → statement M
 steeper-spec =
-    tie.close (tie.spec cast-reached add-reached sub-result cast-result returns returns-2)
+    tie.close (tie.spec (λ c. search needs) add-reached sub-result cast-result returns returns-2)

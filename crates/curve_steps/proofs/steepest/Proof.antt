@@ -22,27 +22,6 @@ abbrev μ-loop : tie.MeasureT-loop
 loop-holds : tie.Need-loop-holds Inv-loop μ-loop
 loop-holds c = (omega arith, steepest-none _ _)
 
-add-low : tie.Need-add-low Inv-loop μ-loop
-add-low c = omega arith
-
-mul-low : tie.Need-mul-low Inv-loop μ-loop
-mul-low c = omega arith
-
-shared-slice-copy-out-low : tie.Need-shared-slice-copy-out-low Inv-loop μ-loop
-shared-slice-copy-out-low c = omega arith
-
-add-high : tie.Need-add-high Inv-loop μ-loop
-add-high c = omega arith
-
-add-high-2 : tie.Need-add-high-2 Inv-loop μ-loop
-add-high-2 c = omega arith
-
-mul-high : tie.Need-mul-high Inv-loop μ-loop
-mul-high c = omega arith
-
-shared-slice-copy-out-high : tie.Need-shared-slice-copy-out-high Inv-loop μ-loop
-shared-slice-copy-out-high c = omega arith
-
 -- the two ordinates fit their words
 module _ (c : tie.After-high Inv-loop μ-loop) where
   abbrev start : tie.Start Inv-loop μ-loop
@@ -82,12 +61,6 @@ steeper-requires c κs =
       high-small = bounded (start c .args .c + k c + 1);
     })
 
-add-k : tie.Need-add-k Inv-loop μ-loop
-add-k c = omega arith
-
-loop-less : tie.Need-loop-less Inv-loop μ-loop
-loop-less c = omega arith
-
 loop-again : tie.Need-loop-again Inv-loop μ-loop
 loop-again c =
     let b = c .before in
@@ -112,17 +85,17 @@ steepest-spec =
     Inv-loop
     μ-loop
     loop-holds
-    add-low
-    mul-low
-    shared-slice-copy-out-low
-    add-high
-    add-high-2
-    mul-high
-    shared-slice-copy-out-high
+    (λ c. omega arith)
+    (λ c. omega arith)
+    (λ c. omega arith)
+    (λ c. omega arith)
+    (λ c. omega arith)
+    (λ c. omega arith)
+    (λ c. omega arith)
     cast-steeper
     cast-steeper-2
     steeper-requires
-    add-k
-    loop-less
+    (λ c. omega arith)
+    (λ c. omega arith)
     loop-again
     returns)

@@ -146,9 +146,6 @@ add-u c = omega (arith, few c)
 add-u-2 : tie.Need-add-u-2 Inv-loop μ-loop
 add-u-2 c = let s = start (at c) in omega (arith, few c, s .pre .end-within, s .pre .segment .short)
 
-loop-less : tie.Need-loop-less Inv-loop μ-loop
-loop-less c = omega arith
-
 loop-again : tie.Need-loop-again Inv-loop μ-loop
 loop-again c = let f = start (at c) .fits .target in (omega (arith, at c .before .before .loop .inv .0), simp toZ-ofZ (none-before c))
 
@@ -181,7 +178,7 @@ step-through-spec =
     ahead-requires
     add-u
     add-u-2
-    loop-less
+    (λ c. omega arith)
     loop-again
     returns
     returns-2)

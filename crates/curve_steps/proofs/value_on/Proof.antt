@@ -16,12 +16,6 @@ use Rattle.curve_steps.proofs.Passing.{value-small}
 use Rattle.curve_steps.proofs.value_on.Statement.{statement}
 use Rattle.curve_steps.proofs.value_on.Tie as tie
 
-cast-t7 : tie.Need-cast-t7
-cast-t7 c = search needs
-
-cast-t8 : tie.Need-cast-t8
-cast-t8 c = search needs
-
 -- the place of offset u
 module _ (s : tie.Start) where
   value-is : (o w : ℤ) → let a = s .args in o ≡ pos (a .u) → w ≡ pos (a .d)
@@ -81,4 +75,4 @@ returns c = let f = result-fits c in let g = sfits-widen f in simp toZ-ofZ (reco
 })
 
 pub value-on-spec : {M : Type 1} → statement M
-value-on-spec = tie.close (tie.spec cast-t7 cast-t8 value-at-requires cast-result returns)
+value-on-spec = tie.close (tie.spec (λ c. search needs) (λ c. search needs) value-at-requires cast-result returns)

@@ -33,21 +33,6 @@ held c =
     let g = s .fits .low in
     c .loop .inv .1 (s .pre .rate .offset) (s .pre .rate .width) (simp toZ-ofZ (s .pre .rate .rated))
 
-mul-g : tie.Need-mul-g Inv-loop μ-loop
-mul-g c = omega arith
-
-array-copy-out-g : tie.Need-array-copy-out-g Inv-loop μ-loop
-array-copy-out-g c = omega arith
-
-add-h : tie.Need-add-h Inv-loop μ-loop
-add-h c = omega arith
-
-mul-h : tie.Need-mul-h Inv-loop μ-loop
-mul-h c = omega arith
-
-array-copy-out-h : tie.Need-array-copy-out-h Inv-loop μ-loop
-array-copy-out-h c = omega arith
-
 module _ (c : tie.After-h Inv-loop μ-loop) where
   first-fits : SFits w64 (getD (c .before .before .before .loop .r) (c .before .before .before .loop .k) (pos 0))
   first-fits = sfits-abs (omega (arith, held (c .before .before .before) .bounded (c .before .before .before .loop .k)))
@@ -64,18 +49,6 @@ blend-requires c κs =
     let k = s .fits .low in
     let bounded = held (c .before .before .before) .bounded in
     simp toZ-ofZ (record { first-small = bounded _; second-small = bounded _; rate = s .pre .rate })
-
-mul-r : tie.Need-mul-r Inv-loop μ-loop
-mul-r c = omega arith
-
-array-set-from-r : tie.Need-array-set-from-r Inv-loop μ-loop
-array-set-from-r c = omega arith
-
-add-k : tie.Need-add-k Inv-loop μ-loop
-add-k c = omega arith
-
-loop-less : tie.Need-loop-less Inv-loop μ-loop
-loop-less c = omega arith
 
 -- the blend as it is stored
 stored : (c : tie.After-blend Inv-loop μ-loop) → toZ w64 (ofZ w64 (c .blend .result)) ≡ c .blend .result
@@ -107,15 +80,15 @@ stage-spec =
     Inv-loop
     μ-loop
     loop-holds
-    mul-g
-    array-copy-out-g
-    add-h
-    mul-h
-    array-copy-out-h
+    (λ c. omega arith)
+    (λ c. omega arith)
+    (λ c. omega arith)
+    (λ c. omega arith)
+    (λ c. omega arith)
     blend-requires
-    mul-r
-    array-set-from-r
-    add-k
-    loop-less
+    (λ c. omega arith)
+    (λ c. omega arith)
+    (λ c. omega arith)
+    (λ c. omega arith)
     loop-again
     returns)

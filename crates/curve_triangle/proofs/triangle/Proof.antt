@@ -44,12 +44,6 @@ stage-requires c κs =
     let few : c .before .loop .n ≤ 5 = omega (arith, s .pre .few) in
     simp toZ-ofZ (record { few = few; bounded = held (c .before) .bounded; rate = s .pre .rate })
 
-sub-n : tie.Need-sub-n Inv-loop μ-loop
-sub-n c = omega arith
-
-loop-less : tie.Need-loop-less Inv-loop μ-loop
-loop-less c = omega arith
-
 loop-again : tie.Need-loop-again Inv-loop μ-loop
 loop-again c =
     let l = c .before .before in
@@ -61,9 +55,6 @@ loop-again c =
           (triangled-more _ _ _ _ _ _ _ (l .loop .inv .1 u d rated) (omega arith) (c .stage .ensures .is u d rated)
           (c .stage .ensures .bounded)),
     )
-
-array-copy-out-result : tie.Need-array-copy-out-result Inv-loop μ-loop
-array-copy-out-result c = search needs
 
 module _ (c : tie.After-result Inv-loop μ-loop) where
   abbrev at-end : tie.At-loop Inv-loop μ-loop
@@ -89,4 +80,4 @@ returns c = record {
 }
 
 pub triangle-spec : {M : Type 1} → statement M
-triangle-spec = tie.close (tie.spec Inv-loop μ-loop loop-holds stage-requires sub-n loop-less loop-again array-copy-out-result returns)
+triangle-spec = tie.close (tie.spec Inv-loop μ-loop loop-holds stage-requires (λ c. omega arith) (λ c. omega arith) loop-again (λ c. search needs) returns)

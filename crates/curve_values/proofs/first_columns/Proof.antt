@@ -24,12 +24,6 @@ abbrev μ-loop : tie.MeasureT-loop
 loop-holds : tie.Need-loop-holds Inv-loop μ-loop
 loop-holds c = (omega arith, (sym (first-column-zero _), tab-none _ _))
 
-mul-columns : tie.Need-mul-columns Inv-loop μ-loop
-mul-columns c = omega arith
-
-array-write-columns : tie.Need-array-write-columns Inv-loop μ-loop
-array-write-columns c = omega arith
-
 degree-at-requires : tie.Need-degree-at-requires Inv-loop μ-loop
 degree-at-requires c κs = (omega arith, c .before .before .pre .legal)
 
@@ -51,12 +45,6 @@ add-column c = omega (arith, degree-fits c)
 
 add-column-2 : tie.Need-add-column-2 Inv-loop μ-loop
 add-column-2 c = omega (arith, degree-fits c, column-fits c)
-
-add-i : tie.Need-add-i Inv-loop μ-loop
-add-i c = omega arith
-
-loop-less : tie.Need-loop-less Inv-loop μ-loop
-loop-less c = omega arith
 
 loop-again : tie.Need-loop-again Inv-loop μ-loop
 loop-again c =
@@ -85,12 +73,12 @@ first-columns-spec =
     Inv-loop
     μ-loop
     loop-holds
-    mul-columns
-    array-write-columns
+    (λ c. omega arith)
+    (λ c. omega arith)
     degree-at-requires
     add-column
     add-column-2
-    add-i
-    loop-less
+    (λ c. omega arith)
+    (λ c. omega arith)
     loop-again
     returns)

@@ -66,15 +66,6 @@ loop-holds c = record {
   written = pairs-none _ _;
 }
 
-mul-x : tie.Need-mul-x Inv-loop μ-loop
-mul-x c = omega arith
-
-shared-slice-copy-out-x : tie.Need-shared-slice-copy-out-x Inv-loop μ-loop
-shared-slice-copy-out-x c = omega arith
-
-slice-aggregate-segment-near : tie.Need-slice-aggregate-segment-near Inv-loop μ-loop
-slice-aggregate-segment-near c = search needs
-
 module _ (c : tie.After-x Inv-loop μ-loop) where
   abbrev turn : tie.At-loop Inv-loop μ-loop
   turn = c .before .before
@@ -112,9 +103,6 @@ segment-near-requires c κs =
     let r = c .before in
     let f = placed-first r in
     (turn r .loop .inv .segment, omega (arith, start r .pre .legal .few, ap length (f .first-positions .ensures), firsts-long (lists r)))
-
-slice-aggregate-place-at : tie.Need-slice-aggregate-place-at Inv-loop μ-loop
-slice-aggregate-place-at c = search needs
 
 module _ (c : tie.After-segment-near Inv-loop μ-loop) where
   abbrev read : tie.After-x Inv-loop μ-loop
@@ -265,9 +253,6 @@ slice-set-from-late c = rw length-set (omega (arith, room (at c), turn (at c) .l
 add-k : tie.Need-add-k Inv-loop μ-loop
 add-k c = omega (arith, room (at c), entry c .good)
 
-loop-less : tie.Need-loop-less Inv-loop μ-loop
-loop-less c = omega arith
-
 loop-again : tie.Need-loop-again Inv-loop μ-loop
 unfolding pairs
 loop-again c =
@@ -315,11 +300,11 @@ write-values-spec =
     inverse-wholes-requires
     inverse-tails-requires
     loop-holds
-    mul-x
-    shared-slice-copy-out-x
-    slice-aggregate-segment-near
+    (λ c. omega arith)
+    (λ c. omega arith)
+    (λ c. search needs)
     segment-near-requires
-    slice-aggregate-place-at
+    (λ c. search needs)
     place-at-requires
     mul-whole
     array-copy-out-whole
@@ -334,7 +319,7 @@ write-values-spec =
     mul-late-2
     slice-set-from-late
     add-k
-    loop-less
+    (λ c. omega arith)
     loop-again
     same-length
     returns)

@@ -22,17 +22,11 @@ use Rattle.indices.proofs.Call.{cells-refused, cells-answered}
 use Rattle.indices.proofs.index_rings.Statement.{statement}
 use Rattle.indices.proofs.index_rings.Tie as tie
 
-wood-index-requires : tie.Need-wood-index-requires
-wood-index-requires c κs = search needs
-
 offset-small : (c : tie.After-wood-index) → c .wood-index .result < 2
 offset-small c = rw (c .wood-index .ensures) (woodIndex-below (woodOf (c .before .args .wood)))
 
 first-bad-ring-requires : tie.Need-first-bad-ring-requires
 first-bad-ring-requires c κs = record { valued = c .before .pre .valued; offset-low = offset-small c }
-
-enum-known-bad : tie.Need-enum-known-bad
-enum-known-bad c = search needs
 
 -- the first ring that is refused
 module _ (c : tie.After-known-told) where
@@ -54,9 +48,6 @@ module _ (c : tie.After-known-told) where
 
 cast-t9 : tie.Need-cast-t9
 cast-t9 c = record { fits = omega (arith, place-below c, start c .pre .few) }
-
-enum-told : tie.Need-enum-told
-enum-told c = search needs
 
 -- no ring is refused
 module _ (c : tie.After-enum-told) where
@@ -89,9 +80,6 @@ returns c =
     ∙ cells-refused (a .widths .now) (a .values .now) (w .result) (refused-at c) (start c .pre .few) in
     record { answers = sym (ap indicesReturned e); indices-are = sym (ap (λ o. indicesAfter o (a .indices .now)) e) }
 
-same-length : tie.Need-same-length
-same-length c = search needs
-
 returns-2 : tie.Need-returns-2
 unfolding reply indicesAfter
 returns-2 c =
@@ -116,12 +104,12 @@ pub index-rings-spec : {M : Type 1} → statement M
 index-rings-spec =
     tie.close
     (tie.spec
-    wood-index-requires
+    (λ c κs. search needs)
     first-bad-ring-requires
-    enum-known-bad
+    (λ c. search needs)
     cast-t9
-    enum-told
+    (λ c. search needs)
     write-indices-requires
     returns
-    same-length
+    (λ c. search needs)
     returns-2)

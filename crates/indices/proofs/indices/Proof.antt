@@ -82,12 +82,6 @@ returns-4 c =
     let first = c .before .before .before .if1 .left in
     ended (unchanged s (fourth-short (given s) first (c .before .before .if2 .left) (c .before .if3 .left) (c .if4 .taken)))
 
-rings-taken-requires : tie.Need-rings-taken-requires
-rings-taken-requires c κs = search needs
-
-array-borrow-prefix-positions : tie.Need-array-borrow-prefix-positions
-array-borrow-prefix-positions c = search needs
-
 -- the part of the array that is handed on
 room : {r : ℕ} (n : ℕ) → r ≡ ringsTaken n → length (take r (replicate 4097 (pos 0))) ≡ r
 room {r} n e = length-take-le r (replicate 4097 (pos 0)) (omega arith)
@@ -97,12 +91,6 @@ slice-aggregate-read-rings c = sym (room _ (c .before .rings-taken .ensures))
 
 read-rings-requires : tie.Need-read-rings-requires
 read-rings-requires c κs = omega (arith, room _ (c .before .before .before .before .rings-taken .ensures))
-
-enum-known-read : tie.Need-enum-known-read
-enum-known-read c = search needs
-
-enum-told : tie.Need-enum-told
-enum-told c = search needs
 
 -- the curve call
 module _ (k : tie.After-read-rings) where
@@ -188,15 +176,6 @@ index-rings-requires c κs =
     let h = result-of t in
     record { valued = omega (arith, values-length k h, room-for-pairs k h); room = long k .if4 .left; few = counted k h .0 }
 
-same-length : tie.Need-same-length
-same-length c = search needs
-
-same-length-2 : tie.Need-same-length-2
-same-length-2 c = search needs
-
-same-length-3 : tie.Need-same-length-3
-same-length-3 c = search needs
-
 returns-5 : tie.Need-returns-5
 returns-5 c =
     let k = c .before .before .before .before .before .before .before in
@@ -204,18 +183,6 @@ returns-5 c =
     let refused = refused-inverts valueCount (outcome s) (ap reply (sym (c .before .read .given .1)) ∙ answers-are k) in
     ended (ends-refused (lists s) (woodOf (s .args .wood)) (widths s) (num s) (den s) (values s) (indices s)
     refused (numerators-are k) (denominators-are k) (values-are k))
-
-same-length-4 : tie.Need-same-length-4
-same-length-4 c = search needs
-
-same-length-5 : tie.Need-same-length-5
-same-length-5 c = search needs
-
-same-length-6 : tie.Need-same-length-6
-same-length-6 c = search needs
-
-same-length-7 : tie.Need-same-length-7
-same-length-7 c = search needs
 
 returns-6 : tie.Need-returns-6
 returns-6 c =
@@ -235,19 +202,19 @@ indices-spec =
     returns-2
     returns-3
     returns-4
-    rings-taken-requires
-    array-borrow-prefix-positions
+    (λ c κs. search needs)
+    (λ c. search needs)
     slice-aggregate-read-rings
     read-rings-requires
-    enum-known-read
-    enum-told
+    (λ c. search needs)
+    (λ c. search needs)
     index-rings-requires
-    same-length
-    same-length-2
-    same-length-3
+    (λ c. search needs)
+    (λ c. search needs)
+    (λ c. search needs)
     returns-5
-    same-length-4
-    same-length-5
-    same-length-6
-    same-length-7
+    (λ c. search needs)
+    (λ c. search needs)
+    (λ c. search needs)
+    (λ c. search needs)
     returns-6)

@@ -12,24 +12,6 @@ use Rattle.indices_positions.specs.Words.{wordPositions}
 use Rattle.indices.proofs.read_rings.Statement.{statement}
 use Rattle.indices.proofs.read_rings.Tie as tie
 
-fill-positions-requires : tie.Need-fill-positions-requires
-fill-positions-requires c κs = search needs
-
-curve-requires : tie.Need-curve-requires
-curve-requires c κs = search needs
-
-same-length : tie.Need-same-length
-same-length c = search needs
-
-same-length-2 : tie.Need-same-length-2
-same-length-2 c = search needs
-
-same-length-3 : tie.Need-same-length-3
-same-length-3 c = search needs
-
-same-length-4 : tie.Need-same-length-4
-same-length-4 c = search needs
-
 returns : tie.Need-returns
 returns c =
     let k = c .before .before .before in
@@ -51,10 +33,10 @@ pub read-rings-spec : {M : Type 1} → statement M
 read-rings-spec =
     tie.close
     (tie.spec
-    fill-positions-requires
-    curve-requires
-    same-length
-    same-length-2
-    same-length-3
-    same-length-4
+    (λ c κs. search needs)
+    (λ c κs. search needs)
+    (λ c. search needs)
+    (λ c. search needs)
+    (λ c. search needs)
+    (λ c. search needs)
     returns)

@@ -74,18 +74,6 @@ mul-nearest-word c = rw (position-is c) (position-fits c)
 nearest-word-requires : tie.Need-nearest-word-requires Inv-loop μ-loop
 nearest-word-requires c κs = tt
 
-mul-x : tie.Need-mul-x Inv-loop μ-loop
-mul-x c = omega arith
-
-slice-set-from-x : tie.Need-slice-set-from-x Inv-loop μ-loop
-slice-set-from-x c = omega arith
-
-add-i : tie.Need-add-i Inv-loop μ-loop
-add-i c = omega arith
-
-loop-less : tie.Need-loop-less Inv-loop μ-loop
-loop-less c = omega arith
-
 -- the first ring's number read back from its word
 read-back : (s : tie.Start Inv-loop μ-loop) (k : ℕ) → wordPosition (toZ w32 (ofZ w32 (s .args .first))) k ≡ wordPosition (s .args .first) k
 read-back s k = ap (λ (z : ℤ). wordPosition z k) (toZ-ofZ w32 (s .args .first) (s .fits .first))
@@ -142,10 +130,10 @@ fill-positions-spec =
     add-ring
     mul-nearest-word
     nearest-word-requires
-    mul-x
-    slice-set-from-x
-    add-i
-    loop-less
+    (λ c. omega arith)
+    (λ c. omega arith)
+    (λ c. omega arith)
+    (λ c. omega arith)
     loop-again
     same-length
     returns)

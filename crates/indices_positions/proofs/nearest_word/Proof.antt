@@ -7,14 +7,8 @@ use Rattle.indices_positions.proofs.Words.{nearest-below, nearest-above
 use Rattle.indices_positions.proofs.nearest_word.Statement.{statement}
 use Rattle.indices_positions.proofs.nearest_word.Tie as tie
 
-cast-result : tie.Need-cast-result
-cast-result c = search needs
-
 returns : tie.Need-returns
 returns c = let f = c .before .fits .z in nearest-below _ (simp toZ-ofZ at (c .if1 .taken))
-
-cast-result-2 : tie.Need-cast-result-2
-cast-result-2 c = search needs
 
 returns-2 : tie.Need-returns-2
 returns-2 c = let f = c .before .before .fits .z in nearest-above _ (simp toZ-ofZ at (c .before .if1 .left)) (simp toZ-ofZ at (c .if2 .taken))
@@ -34,4 +28,4 @@ returns-3 c =
 
 pub nearest-word-spec : {M : Type 1} → statement M
 nearest-word-spec =
-    tie.close (tie.spec cast-result returns cast-result-2 returns-2 cast-result-3 returns-3)
+    tie.close (tie.spec (λ c. search needs) returns (λ c. search needs) returns-2 cast-result-3 returns-3)

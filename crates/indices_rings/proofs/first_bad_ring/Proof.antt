@@ -27,12 +27,6 @@ loop-holds c = record { within = omega arith; good = below-none _ }
 ring-is-bad-requires : tie.Need-ring-is-bad-requires Inv-loop μ-loop
 ring-is-bad-requires c κs = record { within = omega arith; valued = omega arith }
 
-add-i : tie.Need-add-i Inv-loop μ-loop
-add-i c = omega arith
-
-loop-less : tie.Need-loop-less Inv-loop μ-loop
-loop-less c = omega arith
-
 loop-again : tie.Need-loop-again Inv-loop μ-loop
 loop-again c = record {
   within = omega arith;
@@ -53,8 +47,8 @@ first-bad-ring-spec =
     μ-loop
     loop-holds
     ring-is-bad-requires
-    add-i
-    loop-less
+    (λ c. omega arith)
+    (λ c. omega arith)
     loop-again
     returns
     returns-2)

@@ -22,27 +22,9 @@ use Rattle.indices_rings.proofs.index.Tie as tie
 width-fits : (c : tie.After-width) → SFits w32 (getD (c .before .args .widths .now) (c .before .args .i) (pos 0))
 width-fits c = record { sfits = c .width .given }
 
-mul-width : tie.Need-mul-width
-mul-width c = search needs
-
-shared-slice-copy-out-width : tie.Need-shared-slice-copy-out-width
-shared-slice-copy-out-width c = search needs
-
 returns : tie.Need-returns
 unfolding cellIndex
 returns c = let f = width-fits (c .before) in index-absent _ _ (ofZ-inj w32 _ (pos 0) f (sfits-nat 0 (omega arith)) (c .if1 .taken))
-
-mul-value : tie.Need-mul-value
-mul-value c = search needs
-
-add-value : tie.Need-add-value
-add-value c = search needs
-
-mul-value-2 : tie.Need-mul-value-2
-mul-value-2 c = search needs
-
-shared-slice-copy-out-value : tie.Need-shared-slice-copy-out-value
-shared-slice-copy-out-value c = search needs
 
 module _ (c : tie.After-value) where
   abbrev start : tie.Start
@@ -114,13 +96,13 @@ pub index-spec : {M : Type 1} → statement M
 index-spec =
     tie.close
     (tie.spec
-    mul-width
-    shared-slice-copy-out-width
+    (λ c. search needs)
+    (λ c. search needs)
     returns
-    mul-value
-    add-value
-    mul-value-2
-    shared-slice-copy-out-value
+    (λ c. search needs)
+    (λ c. search needs)
+    (λ c. search needs)
+    (λ c. search needs)
     cast-dividend
     mul-dividend
     cast-result

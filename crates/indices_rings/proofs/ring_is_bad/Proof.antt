@@ -17,12 +17,6 @@ use Rattle.indices_rings.proofs.ring_is_bad.Tie as tie
 width-fits : (c : tie.After-width) → SFits w32 (getD (c .before .args .widths .now) (c .before .args .i) (pos 0))
 width-fits c = record { sfits = c .width .given }
 
-mul-width : tie.Need-mul-width
-mul-width c = search needs
-
-shared-slice-copy-out-width : tie.Need-shared-slice-copy-out-width
-shared-slice-copy-out-width c = search needs
-
 returns : tie.Need-returns
 unfolding badCell
 returns c = let f = width-fits (c .before) in refused-below _ _ (simp toZ-ofZ at (c .if1 .taken))
@@ -34,18 +28,6 @@ returns-2 c = let f = width-fits (c .before .before) in refused-above _ _ (simp 
 returns-3 : tie.Need-returns-3
 unfolding badCell
 returns-3 c = let f = width-fits (c .before .before .before) in absent-passes _ _ (ofZ-inj w32 _ (pos 0) f (sfits-nat 0 (omega arith)) (c .if3 .taken))
-
-mul-value : tie.Need-mul-value
-mul-value c = search needs
-
-add-value : tie.Need-add-value
-add-value c = search needs
-
-mul-value-2 : tie.Need-mul-value-2
-mul-value-2 c = search needs
-
-shared-slice-copy-out-value : tie.Need-shared-slice-copy-out-value
-shared-slice-copy-out-value c = search needs
 
 returns-4 : tie.Need-returns-4
 unfolding badCell
@@ -61,13 +43,13 @@ pub ring-is-bad-spec : {M : Type 1} → statement M
 ring-is-bad-spec =
     tie.close
     (tie.spec
-    mul-width
-    shared-slice-copy-out-width
+    (λ c. search needs)
+    (λ c. search needs)
     returns
     returns-2
     returns-3
-    mul-value
-    add-value
-    mul-value-2
-    shared-slice-copy-out-value
+    (λ c. search needs)
+    (λ c. search needs)
+    (λ c. search needs)
+    (λ c. search needs)
     returns-4)

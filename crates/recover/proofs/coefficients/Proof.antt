@@ -21,7 +21,9 @@ use Rattle.theorems_recovery.specs.RecoveryCall.{weightsAfter, answersAfter, nu
 use Rattle.recover_limits.specs.Ordinates.{ordinatesChecked}
 use Rattle.recover.specs.Leaves.{BeamEnds}
 use Rattle.recover_limits.proofs.Ordinates.{ordinates-partial, ordinates-legal}
-use Rattle.recover.proofs.Calls.{recovery-first-short, recovery-second-short, recovery-third-short, recovery-fourth-short, recovery-lists-refused, recovery-ordinates-refused, recovery-legal, lists-keep, ordinates-keep, beam-unchanged}
+use Rattle.recover.proofs.Calls.{recovery-first-short, recovery-second-short, recovery-third-short, recovery-fourth-short}
+use Rattle.recover.proofs.Calls.{recovery-lists-refused, recovery-ordinates-refused, recovery-legal, lists-keep, ordinates-keep}
+use Rattle.recover.proofs.Calls.{beam-unchanged}
 use Rattle.recover.proofs.coefficients.Statement.{statement}
 use Rattle.recover.proofs.coefficients.Tie as tie
 
@@ -31,7 +33,9 @@ lists c = space (c .args .breaks .now) (c .args .degrees .now) (c .args .orders 
 -- what the contract says, from what the call ends with
 module _ {s : Space} {n : ℕ} {r : Answer} {num den coefNum coefDen num′ den′ coefNum′ coefDen′ : List ℤ} where
   told : {o x : Outcome Combination} → o ≡ x → BeamEnds s n x r num den coefNum coefDen num′ den′ coefNum′ coefDen′
-      → (reply r ≡ with-answer (λ _. rowCount s) o) × ((num′ ≡ weightsAfter numerators s o num) × ((den′ ≡ weightsAfter denominators s o den) × ((coefNum′ ≡ answersAfter numeratorOf n o coefNum) × (coefDen′ ≡ answersAfter denominatorOf n o coefDen))))
+      → (reply r ≡ with-answer (λ _. rowCount s) o) × ((num′ ≡ weightsAfter numerators s o num) ×
+      ((den′ ≡ weightsAfter denominators s o den) × ((coefNum′ ≡ answersAfter numeratorOf n o coefNum) ×
+      (coefDen′ ≡ answersAfter denominatorOf n o coefDen))))
   told e b =
       let t = subst (λ y. BeamEnds s n y r num den coefNum coefDen num′ den′ coefNum′ coefDen′) (sym e) b in
       (t .answers, (t .numerators-are, (t .denominators-are, (t .coefficient-numerators-are, t .coefficient-denominators-are))))
@@ -56,15 +60,6 @@ returns-4 c =
     let s = b .before .before in
     told (recovery-fourth-short (lists s) _ _ _ _ _ (b .before .if1 .left) (b .if2 .left) (c .before .if3 .left) (c .if4 .taken)) (beam-unchanged (lists s) _ refl)
 
-check-requires : tie.Need-check-requires
-check-requires c κs = search needs
-
-enum-known-lists : tie.Need-enum-known-lists
-enum-known-lists c = search needs
-
-enum-told : tie.Need-enum-told
-enum-told c = search needs
-
 -- all four buffers are long enough
 module _ (c : tie.Else4) where
   abbrev begun : tie.Start
@@ -88,15 +83,10 @@ legal c = legality-legal _ _ _ (sym (c .before .before .check .ensures) ∙ c .e
 check-ordinates-requires : tie.Need-check-ordinates-requires
 check-ordinates-requires c κs = (legal c .few, legal c .degrees-legal)
 
-enum-known-entries : tie.Need-enum-known-entries
-enum-known-entries c = search needs
-
-enum-told-2 : tie.Need-enum-told-2
-enum-told-2 c = search needs
-
 -- the check of the ordinates, of the whole space
 entries-told : (c : tie.After-check-ordinates) → let s = begun (c .before .before .before .before) in c .check-ordinates .result ≡ legality (ordinatesChecked (lists s) (s .args .ordinates .now))
-entries-told c = let a = begun (c .before .before .before .before) .args in c .check-ordinates .ensures ∙ ap legality (ordinates-partial (a .breaks .now) (a .degrees .now) (a .orders .now) (a .ordinates .now))
+entries-told c = let a = begun (c .before .before .before .before) .args in c .check-ordinates .ensures
+    ∙ ap legality (ordinates-partial (a .breaks .now) (a .degrees .now) (a .orders .now) (a .ordinates .now))
 
 entries-pass : (c : tie.After-enum-told2) → let s = begun (c .before .before .before .before .before .before) in ordinatesChecked (lists s) (s .args .ordinates .now) ≡ answer tt
 entries-pass c = legal-answers _ (sym (entries-told (c .before .before)) ∙ c .enum-told2 .given .1) .is
@@ -123,19 +113,8 @@ returns-6 c =
     let b = l .before .before .before in
     let s = begun b in
     let r = refused-refuses (ordinatesChecked (lists s) (s .args .ordinates .now)) (sym (entries-told k) ∙ c .before .entries .given .1) in
-    told (recovery-ordinates-refused (lists s) _ _ _ _ _ (first-long b) (second-long b) (third-long b) (fourth-long b) (legal-checked _ _ _ (legal l)) r) (beam-unchanged (lists s) _ (ordinates-keep (lists s) (s .args .ordinates .now) r))
-
-same-length : tie.Need-same-length
-same-length c = search needs
-
-same-length-2 : tie.Need-same-length-2
-same-length-2 c = search needs
-
-same-length-3 : tie.Need-same-length-3
-same-length-3 c = search needs
-
-same-length-4 : tie.Need-same-length-4
-same-length-4 c = search needs
+    told (recovery-ordinates-refused (lists s) _ _ _ _ _ (first-long b) (second-long b) (third-long b) (fourth-long b) (legal-checked _ _ _ (legal l)) r)
+    (beam-unchanged (lists s) _ (ordinates-keep (lists s) (s .args .ordinates .now) r))
 
 returns-7 : tie.Need-returns-7
 returns-7 c =
@@ -155,17 +134,17 @@ coefficients-spec =
     returns-2
     returns-3
     returns-4
-    check-requires
-    enum-known-lists
-    enum-told
+    (λ c κs. search needs)
+    (λ c. search needs)
+    (λ c. search needs)
     check-ordinates-requires
-    enum-known-entries
-    enum-told-2
+    (λ c. search needs)
+    (λ c. search needs)
     recover-parts-requires
     returns-5
     returns-6
-    same-length
-    same-length-2
-    same-length-3
-    same-length-4
+    (λ c. search needs)
+    (λ c. search needs)
+    (λ c. search needs)
+    (λ c. search needs)
     returns-7)

@@ -42,41 +42,11 @@ none ps f = sym (append-nil ps)
 loop-holds : tie.Need-loop-holds Inv-loop μ-loop
 loop-holds c = record { within = omega arith; is = λ ps e size. e ∙ ap fractions (none ps _) }
 
-add-at : tie.Need-add-at Inv-loop μ-loop
-add-at c = omega arith
-
-add-from : tie.Need-add-from Inv-loop μ-loop
-add-from c = omega arith
-
-mul-o : tie.Need-mul-o Inv-loop μ-loop
-mul-o c = omega arith
-
-shared-slice-copy-out-o : tie.Need-shared-slice-copy-out-o Inv-loop μ-loop
-shared-slice-copy-out-o c = omega arith
-
 ordinate-fits : (c : tie.After-o Inv-loop μ-loop) → SFits w32 (getD (c .before .before .before .args .ordinates .now) (c .before .before .before .args .column + c .before .before .loop .i) (pos 0))
 ordinate-fits c = record { sfits = c .o .given }
 
 cast-o : tie.Need-cast-o Inv-loop μ-loop
 cast-o c = let f = ordinate-fits c in simp toZ-ofZ (sfits-widen f)
-
-mul-o-2 : tie.Need-mul-o-2 Inv-loop μ-loop
-mul-o-2 c = omega arith
-
-element-set-from-o : tie.Need-element-set-from-o Inv-loop μ-loop
-element-set-from-o c = omega arith
-
-mul-all : tie.Need-mul-all Inv-loop μ-loop
-mul-all c = omega arith
-
-element-set-of-all : tie.Need-element-set-of-all Inv-loop μ-loop
-element-set-of-all c = omega arith
-
-add-i : tie.Need-add-i Inv-loop μ-loop
-add-i c = omega arith
-
-loop-less : tie.Need-loop-less Inv-loop μ-loop
-loop-less c = omega arith
 
 loop-again : tie.Need-loop-again Inv-loop μ-loop
 loop-again c =
@@ -89,7 +59,9 @@ loop-again c =
     record {
       within = omega arith;
       is = λ ps e size.
-          (simp toZ-ofZ (fractions-more (ps ++ tab (l .i) f) (f (l .i)) (g .rows + l .i) (l .all) (record { num = getD os (g .column + l .i) (pos 0); den = pos 1 }) (length-append ps (tab (l .i) f) ∙ omega (arith, size, tab-length (l .i) f)) (omega arith) (l .inv .is ps e size)
+          (simp toZ-ofZ (fractions-more (ps ++ tab (l .i) f) (f (l .i)) (g .rows + l .i) (l .all)
+          (record { num = getD os (g .column + l .i) (pos 0); den = pos 1 }) (length-append ps (tab (l .i) f) ∙ omega (arith, size, tab-length (l .i) f))
+          (omega arith) (l .inv .is ps e size)
           (sym (fraction-int (getD os (g .column + l .i) (pos 0))))))
           ∙ ap fractions (append-assoc ps (tab (l .i) f) (f (l .i) ∷ []) ∙ ap (λ xs. ps ++ xs) (sym (tab-snoc (l .i) f) ∙ ap (λ m. tab m f) (sym (add-one (l .i)))));
     }
@@ -106,7 +78,8 @@ returns c ps e size =
     let l = c .before .loop in
     let g = c .before .before .args in
     l .inv .is ps e size
-    ∙ ap (λ xs. fractions (ps ++ xs)) (ap (λ m. tab m (coefficient (g .ordinates .now) (g .column))) (let z : l .i ≡ g .n = omega arith in z) ∙ columns-of (g .ordinates .now) (g .column) (g .n) (c .before .before .pre .1))
+    ∙ ap (λ xs. fractions (ps ++ xs)) (ap (λ m. tab m (coefficient (g .ordinates .now) (g .column))) (let z : l .i ≡ g .n = omega arith in z)
+    ∙ columns-of (g .ordinates .now) (g .column) (g .n) (c .before .before .pre .1))
 
 pub append-spec : {M : Type 1} → statement M
 append-spec =
@@ -115,16 +88,16 @@ append-spec =
     Inv-loop
     μ-loop
     loop-holds
-    add-at
-    add-from
-    mul-o
-    shared-slice-copy-out-o
+    (λ c. omega arith)
+    (λ c. omega arith)
+    (λ c. omega arith)
+    (λ c. omega arith)
     cast-o
-    mul-o-2
-    element-set-from-o
-    mul-all
-    element-set-of-all
-    add-i
-    loop-less
+    (λ c. omega arith)
+    (λ c. omega arith)
+    (λ c. omega arith)
+    (λ c. omega arith)
+    (λ c. omega arith)
+    (λ c. omega arith)
     loop-again
     returns)

@@ -37,17 +37,8 @@ none : (f : ℕ → ℚ) → tab 0 f ≡ []
 unfolding tab
 none f = refl
 
-no-fractions-requires : tie.Need-no-fractions-requires Inv-loop μ-loop
-no-fractions-requires c κs = search needs
-
 loop-holds : tie.Need-loop-holds Inv-loop μ-loop
 loop-holds c = record { within = omega arith; state = λ ps e long. c .no-fractions .ensures ∙ ap fractions (sym (none _)) }
-
-sub-loop : tie.Need-sub-loop Inv-loop μ-loop
-sub-loop c = omega arith
-
-kept-row-requires : tie.Need-kept-row-requires Inv-loop μ-loop
-kept-row-requires c κs = omega arith
 
 -- the row that is read is the one that comes here
 module _ (k : tie.After-kept-row Inv-loop μ-loop) where
@@ -83,24 +74,6 @@ mul-d c = omega (arith, row-low (c .before))
 element-copy-out-d : tie.Need-element-copy-out-d Inv-loop μ-loop
 element-copy-out-d c = omega (arith, row-low (c .before))
 
-mul-n-2 : tie.Need-mul-n-2 Inv-loop μ-loop
-mul-n-2 c = omega arith
-
-element-set-from-n : tie.Need-element-set-from-n Inv-loop μ-loop
-element-set-from-n c = omega arith
-
-mul-d-2 : tie.Need-mul-d-2 Inv-loop μ-loop
-mul-d-2 c = omega arith
-
-element-set-from-d : tie.Need-element-set-from-d Inv-loop μ-loop
-element-set-from-d c = omega arith
-
-add-i : tie.Need-add-i Inv-loop μ-loop
-add-i c = omega arith
-
-loop-less : tie.Need-loop-less Inv-loop μ-loop
-loop-less c = omega arith
-
 loop-again : tie.Need-loop-again Inv-loop μ-loop
 loop-again c =
     let k = c .before .before in
@@ -113,7 +86,8 @@ loop-again c =
       within = omega arith;
       state = λ ps e long.
           let w = entry (without ps (s k .args .l) long) in
-          (simp toZ-ofZ (fractions-more (tab (l .i) w) (w (l .i)) (l .i) (l .left) (record { num = getD (cs .num) r (pos 0); den = getD (cs .den) r (pos 0) }) (tab-length (l .i) w) (omega arith) (l .inv .state ps e long)
+          (simp toZ-ofZ (fractions-more (tab (l .i) w) (w (l .i)) (l .i) (l .left) (record { num = getD (cs .num) r (pos 0); den = getD (cs .den) r (pos 0) })
+          (tab-length (l .i) w) (omega arith) (l .inv .state ps e long)
           (fraction-at ps cs e r (row-low k) ∙ ap fraction (row-is k ps long))))
           ∙ ap fractions (sym (tab-snoc (l .i) w) ∙ ap (λ m. tab m w) (sym (add-one (l .i))));
     }
@@ -124,7 +98,8 @@ returns c ps e size =
     let l = c .before .loop in
     let long : a .l < length ps = omega (arith, size, c .before .before .before .pre .0) in
     l .inv .state ps e long
-    ∙ ap fractions (ap (λ m. tab m (entry (without ps (a .l) long))) (let z : l .i ≡ length (without ps (a .l) long) = omega (arith, without-length ps (a .l) long, size, l .inv .within, c .loop-test .left) in z) ∙ tab-self (without ps (a .l) long) (int (pos 0)))
+    ∙ ap fractions (ap (λ m. tab m (entry (without ps (a .l) long))) (let z : l .i ≡ length (without ps (a .l) long) = omega
+    (arith, without-length ps (a .l) long, size, l .inv .within, c .loop-test .left) in z) ∙ tab-self (without ps (a .l) long) (int (pos 0)))
 
 pub drop-coefficient-spec : {M : Type 1} → statement M
 drop-coefficient-spec =
@@ -132,19 +107,19 @@ drop-coefficient-spec =
     (tie.spec
     Inv-loop
     μ-loop
-    no-fractions-requires
+    (λ c κs. search needs)
     loop-holds
-    sub-loop
-    kept-row-requires
+    (λ c. omega arith)
+    (λ c κs. omega arith)
     mul-n
     element-copy-out-n
     mul-d
     element-copy-out-d
-    mul-n-2
-    element-set-from-n
-    mul-d-2
-    element-set-from-d
-    add-i
-    loop-less
+    (λ c. omega arith)
+    (λ c. omega arith)
+    (λ c. omega arith)
+    (λ c. omega arith)
+    (λ c. omega arith)
+    (λ c. omega arith)
     loop-again
     returns)

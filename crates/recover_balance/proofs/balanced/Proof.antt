@@ -52,30 +52,6 @@ loop-holds c = record {
   state = λ j qs ps e h. sum-none j qs ps ∙ ap answer (sym (value-int (pos 0)));
 }
 
-mul-cn : tie.Need-mul-cn Inv-loop μ-loop
-mul-cn c = omega arith
-
-element-copy-out-cn : tie.Need-element-copy-out-cn Inv-loop μ-loop
-element-copy-out-cn c = omega arith
-
-mul-cd : tie.Need-mul-cd Inv-loop μ-loop
-mul-cd c = omega arith
-
-element-copy-out-cd : tie.Need-element-copy-out-cd Inv-loop μ-loop
-element-copy-out-cd c = omega arith
-
-mul-jn : tie.Need-mul-jn Inv-loop μ-loop
-mul-jn c = omega arith
-
-element-copy-out-jn : tie.Need-element-copy-out-jn Inv-loop μ-loop
-element-copy-out-jn c = omega arith
-
-mul-jd : tie.Need-mul-jd Inv-loop μ-loop
-mul-jd c = omega arith
-
-element-copy-out-jd : tie.Need-element-copy-out-jd Inv-loop μ-loop
-element-copy-out-jd c = omega arith
-
 -- the four coefficients that are read
 module _ (c : tie.After-jd Inv-loop μ-loop) where
   abbrev at : tie.At-loop Inv-loop μ-loop
@@ -127,26 +103,16 @@ module _ (a : tie.After-add-term Inv-loop μ-loop) (j : ℕ) (qs ps : List ℚ) 
       let y = cd-fits c in
       let u = jn-fits c in
       let v = jd-fits c in
-      a .add-term .ensures .0 j (value (at-loop .loop .sum)) (entry ps (i c)) (entry qs (i c)) (at-loop .loop .inv .lowest) (simp toZ-ofZ (fraction-at ps _ h (i c) (low c))) (simp toZ-ofZ (fraction-at qs _ e (i c) (low c)))
-
-enum-known-next : tie.Need-enum-known-next Inv-loop μ-loop
-enum-known-next c = search needs
-
-enum-told : tie.Need-enum-told Inv-loop μ-loop
-enum-told c = search needs
+      a .add-term .ensures .0 j (value (at-loop .loop .sum)) (entry ps (i c)) (entry qs (i c)) (at-loop .loop .inv .lowest)
+      (simp toZ-ofZ (fraction-at ps _ h (i c) (low c))) (simp toZ-ofZ (fraction-at qs _ e (i c) (low c)))
 
 returns : tie.Need-returns Inv-loop μ-loop
 returns c j qs ps e h size =
     let a = c .before .before in
     let l = at-loop a j qs ps .loop in
     let r = large-refused (added j qs ps (l .i) (value (l .sum))) (sym (added-is a j qs ps e h) ∙ c .enum-told .given .1) in
-    balance-large j qs ps (sum-stays j qs ps (suc (l .i)) (length qs) (omega (arith, size, a .before .before .before .before .before .loop-test .taken)) (sum-more j qs ps (l .i) (l .inv .state j qs ps e h) ∙ r .refuses))
-
-add-i : tie.Need-add-i Inv-loop μ-loop
-add-i c = omega arith
-
-loop-less : tie.Need-loop-less Inv-loop μ-loop
-loop-less c = omega arith
+    balance-large j qs ps (sum-stays j qs ps (suc (l .i)) (length qs) (omega (arith, size, a .before .before .before .before .before .loop-test .taken))
+    (sum-more j qs ps (l .i) (l .inv .state j qs ps e h) ∙ r .refuses))
 
 loop-again : tie.Need-loop-again Inv-loop μ-loop
 loop-again c =
@@ -156,7 +122,8 @@ loop-again c =
     record {
       within = omega arith;
       fitted = a .add-term .ensures .1 (k .0 .0) (k .1);
-      lowest = let p = at (a .before) .before .pre .1 in fits-answered (added 0 (p .0 .of) (p .1 .of) (l .i) (value (l .sum))) (k .0 .0) (sym (added-is a 0 (p .0 .of) (p .1 .of) (p .0 .is) (p .1 .is)) ∙ k .1) .lowest;
+      lowest = let p = at (a .before) .before .pre .1 in fits-answered (added 0 (p .0 .of) (p .1 .of) (l .i) (value (l .sum))) (k .0 .0)
+          (sym (added-is a 0 (p .0 .of) (p .1 .of) (p .0 .is) (p .1 .is)) ∙ k .1) .lowest;
       state = λ j qs ps e h.
           ap (jumpSum j qs ps) (add-one (l .i))
           ∙ sum-more j qs ps (l .i) (l .inv .state j qs ps e h)
@@ -164,7 +131,8 @@ loop-again c =
     }
 
 -- the sum of all rows
-module _ (c : tie.After-loop Inv-loop μ-loop) (j : ℕ) (qs ps : List ℚ) (e : c .before .before .args .t1 ≡ fractions qs) (h : c .before .before .args .t2 ≡ fractions ps) (size : length qs ≡ c .before .before .args .rows) where
+module _ (c : tie.After-loop Inv-loop μ-loop) (j : ℕ) (qs ps : List ℚ) (e : c .before .before .args .t1 ≡ fractions qs)
+    (h : c .before .before .args .t2 ≡ fractions ps) (size : length qs ≡ c .before .before .args .rows) where
   whole : jumpSum j qs ps (length qs) ≡ answer (value (c .before .loop .sum))
   whole = ap (jumpSum j qs ps) (let z : length qs ≡ c .before .loop .i = omega (arith, size, c .before .loop .inv .within, c .loop-test .left) in z) ∙ c .before .loop .inv .state j qs ps e h
 
@@ -190,20 +158,20 @@ balanced-spec =
     Inv-loop
     μ-loop
     loop-holds
-    mul-cn
-    element-copy-out-cn
-    mul-cd
-    element-copy-out-cd
-    mul-jn
-    element-copy-out-jn
-    mul-jd
-    element-copy-out-jd
+    (λ c. omega arith)
+    (λ c. omega arith)
+    (λ c. omega arith)
+    (λ c. omega arith)
+    (λ c. omega arith)
+    (λ c. omega arith)
+    (λ c. omega arith)
+    (λ c. omega arith)
     add-term-requires
-    enum-known-next
-    enum-told
+    (λ c. search needs)
+    (λ c. search needs)
     returns
-    add-i
-    loop-less
+    (λ c. omega arith)
+    (λ c. omega arith)
     loop-again
     returns-2
     returns-3)

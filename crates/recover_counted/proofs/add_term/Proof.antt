@@ -46,7 +46,8 @@ module _ (p : tie.After-product) where
   plain : (j : ℕ) → p .product .result ≡ counted (fitted j (value (start .args .coefficient) *ᵠ value (start .args .jump)))
   plain j = p .product .ensures ∙ machine-sized j _
 
-  tested : (j : ℕ) (s c q : ℚ) → start .args .jump ≡ fraction q → counted (cond (not (isZero q)) (fitted j (c *ᵠ q) then λ p. fitted j (s +ᵠ p)) (answer s)) ≡ counted (fitted j (c *ᵠ q) then λ p. fitted j (s +ᵠ p))
+  tested : (j : ℕ) (s c q : ℚ) → start .args .jump ≡ fraction q → counted
+      (cond (not (isZero q)) (fitted j (c *ᵠ q) then λ p. fitted j (s +ᵠ p)) (answer s)) ≡ counted (fitted j (c *ᵠ q) then λ p. fitted j (s +ᵠ p))
   tested j s c q h = ap (λ b. counted (cond (not b) (fitted j (c *ᵠ q) then λ p. fitted j (s +ᵠ p)) (answer s))) (some-told (start .args .jump) q h (λ z. p .before .if1 .left (ap (ofZ w64) z)))
 
 returns : tie.Need-returns
@@ -54,23 +55,15 @@ unfolding counted
 returns c =
     let s = c .before .before .before in
     let n = num-fits (s .pre .1 .1) in (
-      (λ j a b q e h k. ap Fits e ∙ sym (ap (λ z. counted (cond (not z) (fitted j (b *ᵠ q) then λ p. fitted j (a +ᵠ p)) (answer a))) (zero-told (s .args .jump) q k (ofZ-inj w64 _ (pos 0) n (search needs) (c .if1 .taken))))),
+      (λ j a b q e h k. ap Fits e ∙ sym (ap (λ z. counted (cond (not z) (fitted j (b *ᵠ q) then λ p. fitted j (a +ᵠ p)) (answer a)))
+          (zero-told (s .args .jump) q k (ofZ-inj w64 _ (pos 0) n (search needs) (c .if1 .taken))))),
       (λ f e. subst FractionFits (let z : s .args .sum ≡ f = cc in z) (s .pre .0)),
     )
-
-product-requires : tie.Need-product-requires
-product-requires c κs = search needs
-
-enum-known-term : tie.Need-enum-known-term
-enum-known-term c = search needs
 
 sum-requires : tie.Need-sum-requires
 sum-requires c κs =
     let p = c .before .before .before in
     (start p .pre .0, sized-sized 0 (value (start p .args .coefficient) *ᵠ value (start p .args .jump)) (c .before .term .given .0 .0) (sym (plain p 0) ∙ c .before .term .given .1) .1)
-
-enum-told : tie.Need-enum-told
-enum-told c = search needs
 
 returns-2 : tie.Need-returns-2
 returns-2 c =
@@ -94,4 +87,4 @@ returns-3 c =
 pub add-term-spec : {M : Type 1} → statement M
 add-term-spec =
     tie.close
-    (tie.spec returns product-requires enum-known-term sum-requires enum-told returns-2 returns-3)
+    (tie.spec returns (λ c κs. search needs) (λ c. search needs) sum-requires (λ c. search needs) returns-2 returns-3)

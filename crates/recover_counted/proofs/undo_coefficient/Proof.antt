@@ -41,7 +41,8 @@ module _ (p : tie.After-product) where
   plain j = p .product .ensures ∙ machine-sized j _
 
   share-is : (j : ℕ) (v b : ℚ) → start .args .w ≡ fraction v → start .args .before ≡ fraction b → p .product .result ≡ counted (fitted j ((int (pos 1) -ᵠ v) *ᵠ b))
-  share-is j v b e h = plain j ∙ ap₂ (λ x y. counted (fitted j (x *ᵠ y))) (p .before .complement .ensures .0 ∙ ap (λ x. int (pos 1) -ᵠ x) (ap value e ∙ value-fraction v)) (ap value h ∙ value-fraction b)
+  share-is j v b e h = plain j ∙ ap₂ (λ x y. counted (fitted j (x *ᵠ y)))
+      (p .before .complement .ensures .0 ∙ ap (λ x. int (pos 1) -ᵠ x) (ap value e ∙ value-fraction v)) (ap value h ∙ value-fraction b)
 
 module _ (s : tie.After-share) where
   abbrev at-product : tie.After-product
@@ -81,18 +82,6 @@ module _ (m : tie.After-sum) where
   unfolding undoneCoefficient
   after-share j v a b e h = fits-then (fitted j ((int (pos 1) -ᵠ v) *ᵠ b)) (subtracted j v a) (share at-share) (sym (share-is (at-product at-share) j v b e h) ∙ at-share .share .given .1)
 
-complement-requires : tie.Need-complement-requires
-complement-requires c κs = search needs
-
-product-requires : tie.Need-product-requires
-product-requires c κs = search needs
-
-enum-told : tie.Need-enum-told
-enum-told c = search needs
-
-enum-known-share : tie.Need-enum-known-share
-enum-known-share c = search needs
-
 sub-t12 : tie.Need-sub-t12
 sub-t12 c =
     let s = c .before .before .before in
@@ -106,12 +95,6 @@ sum-requires c κs =
     let g = den-fits (share-sized s) in
     let h = negated-fits s in
     (start (at-product s) .pre .1 .1 .0, simp toZ-ofZ (neg-sized (share s) (share-sized s)))
-
-enum-told-2 : tie.Need-enum-told-2
-enum-told-2 c = search needs
-
-enum-known-difference : tie.Need-enum-known-difference
-enum-known-difference c = search needs
 
 quotient-requires : tie.Need-quotient-requires
 quotient-requires c κs =
@@ -143,14 +126,14 @@ pub undo-coefficient-spec : {M : Type 1} → statement M
 undo-coefficient-spec =
     tie.close
     (tie.spec
-    complement-requires
-    product-requires
-    enum-told
-    enum-known-share
+    (λ c κs. search needs)
+    (λ c κs. search needs)
+    (λ c. search needs)
+    (λ c. search needs)
     sub-t12
     sum-requires
-    enum-told-2
-    enum-known-difference
+    (λ c. search needs)
+    (λ c. search needs)
     quotient-requires
     returns
     returns-2

@@ -23,20 +23,12 @@ use Rattle.recover_joins.proofs.recover_join.Tie as tie
 abbrev start : tie.After-append → tie.Start
 start c = c .before .before .before .before .before .before
 
-add-more : tie.Need-add-more
-add-more c = search needs
-
-add-rows-requires : tie.Need-add-rows-requires
-add-rows-requires c κs = search needs
-
 append-requires : tie.Need-append-requires
 append-requires c κs = let p = c .before .before .before .before .before .pre .1 in (p .0 .0, omega (arith, p .0 .1, p .1 .0))
 
-add-recover-orders : tie.Need-add-recover-orders
-add-recover-orders c = search needs
-
 -- the table with the rows and the coefficients that came in
-module _ (c : tie.After-append) (t : Table) (ps : List ℚ) (h : Holds (start c .args .num .now) (start c .args .den .now) t) (shaped : Shaped t (start c .args .rows) (start c .args .columns)) (e : start c .args .cs ≡ fractions ps)
+module _ (c : tie.After-append) (t : Table) (ps : List ℚ) (h : Holds (start c .args .num .now) (start c .args .den .now) t)
+    (shaped : Shaped t (start c .args .rows) (start c .args .columns)) (e : start c .args .cs ≡ fractions ps)
     (size : length ps ≡ start c .args .rows) (fit : AllFit ps) where
   abbrev column : ℕ
   column = start c .args .join .right .column
@@ -66,7 +58,8 @@ module _ (c : tie.After-append) (t : Table) (ps : List ℚ) (h : Holds (start c 
   coefficients-are = c .append .ensures ps e size
 
   count : length coefficients ≡ start c .args .rows + n
-  count = length-append ps (map int (take n (drop column (start c .args .ordinates .now)))) ∙ omega (arith, size, columns-count (start c .args .ordinates .now) column n (omega (arith, start c .pre .1 .0 .1, start c .pre .1 .1 .0)))
+  count = length-append ps (map int (take n (drop column (start c .args .ordinates .now))))
+      ∙ omega (arith, size, columns-count (start c .args .ordinates .now) column n (omega (arith, start c .pre .1 .0 .1, start c .pre .1 .1 .0)))
 
   all-fit : AllFit coefficients
   all-fit = append-fit ps (map int (take n (drop column (start c .args .ordinates .now)))) fit (columns-fit (start c .args .ordinates .now) column n (start c .pre .1 .1 .1))
@@ -81,17 +74,23 @@ recover-orders-requires c κs =
       (
         p .1 .0,
         (
-          record { table = more a (k .table) (q .of) (k .holds) (k .shaped) (q .is) (q .count) (q .fit); holds = holds a (k .table) (q .of) (k .holds) (k .shaped) (q .is) (q .count) (q .fit); shaped = proper a (k .table) (q .of) (k .holds) (k .shaped) (q .is) (q .count) (q .fit) .shaped },
-          record { of = coefficients a (k .table) (q .of) (k .holds) (k .shaped) (q .is) (q .count) (q .fit); is = coefficients-are a (k .table) (q .of) (k .holds) (k .shaped) (q .is) (q .count) (q .fit); fit = all-fit a (k .table) (q .of) (k .holds) (k .shaped) (q .is) (q .count) (q .fit); count = count a (k .table) (q .of) (k .holds) (k .shaped) (q .is) (q .count) (q .fit) },
+          record {
+            table = more a (k .table) (q .of) (k .holds) (k .shaped) (q .is) (q .count) (q .fit);
+            holds = holds a (k .table) (q .of) (k .holds) (k .shaped) (q .is) (q .count) (q .fit);
+            shaped =
+                proper a (k .table) (q .of) (k .holds) (k .shaped) (q .is) (q .count) (q .fit) .shaped;
+          },
+          record {
+            of = coefficients a (k .table) (q .of) (k .holds) (k .shaped) (q .is) (q .count) (q .fit);
+            is = coefficients-are a (k .table) (q .of) (k .holds) (k .shaped) (q .is) (q .count) (q .fit);
+            fit =
+                all-fit a (k .table) (q .of) (k .holds) (k .shaped) (q .is) (q .count) (q .fit);
+            count =
+                count a (k .table) (q .of) (k .holds) (k .shaped) (q .is) (q .count) (q .fit);
+          },
         ),
       ),
     )
-
-same-length : tie.Need-same-length
-same-length c = search needs
-
-same-length-2 : tie.Need-same-length-2
-same-length-2 c = search needs
 
 -- they are those of the space
 returns : tie.Need-returns
@@ -99,23 +98,30 @@ returns c s j t ps is h shaped e size fit =
     let m = c .before .before in
     let a = m .before .before .before in
     let g = start a .args in
-    let it : record { table = more a t ps h shaped e size fit; coefficients = coefficients a t ps h shaped e size fit } ≡ grownCombination s j (g .columns) (g .ordinates .now) (record { table = t; coefficients = ps })
-    = ap₂ (λ k i. record { table = t ++ take (k + 1) (drop i (identity (g .columns))); coefficients = ps ++ map int (take (k + 1) (drop i (g .ordinates .now))) }) (is .right-is .degree-is) (is .right-is .column-is) in
+    let it : record { table = more a t ps h shaped e size fit; coefficients = coefficients a t ps h shaped e size fit } ≡ grownCombination s j (g .columns)
+    (g .ordinates .now) (record { table = t; coefficients = ps })
+    = ap₂ (λ k i. record {
+      table = t ++ take (k + 1) (drop i (identity (g .columns)));
+      coefficients = ps ++ map int (take (k + 1) (drop i (g .ordinates .now)));
+    }) (is .right-is .degree-is) (is .right-is .column-is) in
     subst (λ (r : Combination). Leaves (recoverOrders s j (g .n) r) (m .recover-orders .result) (g .num .now) (g .den .now) (m .recover-orders .last .0) (m .recover-orders .last .1 .0)) it
-    (left-from (λ q. q .table) toldCoefficients _ _ _ _ (m .recover-orders .result) (more a t ps h shaped e size fit) (g .num .now) (g .den .now) (h .num-long) (h .den-long) (num-is a t ps h shaped e size fit)
+    (left-from (λ q. q .table) toldCoefficients _ _ _ _ (m .recover-orders .result) (more a t ps h shaped e size fit) (g .num .now) (g .den .now) (h .num-long)
+    (h .den-long) (num-is a t ps h shaped e size fit)
     (grown-denominators t (g .rows) _ _ (g .columns) (record { shaped = shaped; fit = h .fit }) (start a .pre .1 .0 .1) (start a .pre .1 .0 .0) h (num-is a t ps h shaped e size fit))
     (recoverOrders s j (g .n) (record { table = more a t ps h shaped e size fit; coefficients = coefficients a t ps h shaped e size fit }))
-    (m .recover-orders .ensures s j (more a t ps h shaped e size fit) (coefficients a t ps h shaped e size fit) is (holds a t ps h shaped e size fit) (proper a t ps h shaped e size fit .shaped) (coefficients-are a t ps h shaped e size fit) (count a t ps h shaped e size fit) (all-fit a t ps h shaped e size fit)))
+    (m .recover-orders .ensures s j (more a t ps h shaped e size fit) (coefficients a t ps h shaped e size fit) is (holds a t ps h shaped e size fit)
+    (proper a t ps h shaped e size fit .shaped) (coefficients-are a t ps h shaped e size fit) (count a t ps h shaped e size fit)
+    (all-fit a t ps h shaped e size fit)))
 
 pub recover-join-spec : {M : Type 1} → statement M
 recover-join-spec =
     tie.close
     (tie.spec
-    add-more
-    add-rows-requires
+    (λ c. search needs)
+    (λ c κs. search needs)
     append-requires
-    add-recover-orders
+    (λ c. search needs)
     recover-orders-requires
-    same-length
-    same-length-2
+    (λ c. search needs)
+    (λ c. search needs)
     returns)

@@ -65,9 +65,6 @@ degree-at-requires c κs = (omega (arith, c .pre .0 .0 .lists .order-count), c .
 add-rows : tie.Need-add-rows Inv-loop μ-loop
 add-rows c = omega (arith, c .degree-at .ensures, legal-degree-high _ _ _ (c .before .pre .0 .0 .lists) 0 (omega (arith, c .before .pre .0 .0 .lists .order-count)))
 
-no-fractions-requires : tie.Need-no-fractions-requires Inv-loop μ-loop
-no-fractions-requires c κs = search needs
-
 -- the first segment's rows
 module _ (c : tie.After-degree-at Inv-loop μ-loop) where
   first-rows : c .degree-at .result + 1 ≡ firstColumn (lists (c .before)) 1
@@ -104,12 +101,14 @@ loop-holds c =
         reached = record { table = take m (identity n); coefficients = map int (take m os) };
         answers =
             ap (λ n. answer (record { table = identity n; coefficients = map int os })) (sym (b .count))
-            ∙ ap₂ (λ (t : Table) (ps : List ℚ). answer (record { table = t; coefficients = ps })) (sym (take-append-drop m (identity n))) (ap (map int) (sym (take-append-drop m os)) ∙ map-append (take m os) (drop m os));
-        sound = subst (λ (k : ℕ). Sound (record { table = take m (identity n); coefficients = map int (take m os) }) k n) (let z : m ≡ m - conditionsBefore s 0 = omega (arith, conditions-before-zero s) in z) (record {
-          proper = first-proper m n (first-few f) (b .room);
-          count = columns-count os 0 m (omega (arith, first-few f, g .pre .1 .0));
-          fit = columns-fit os 0 m (g .pre .1 .1);
-        });
+            ∙ ap₂ (λ (t : Table) (ps : List ℚ). answer (record { table = t; coefficients = ps })) (sym (take-append-drop m (identity n)))
+            (ap (map int) (sym (take-append-drop m os)) ∙ map-append (take m os) (drop m os));
+        sound = subst (λ (k : ℕ). Sound (record { table = take m (identity n); coefficients = map int (take m os) }) k n)
+            (let z : m ≡ m - conditionsBefore s 0 = omega (arith, conditions-before-zero s) in z) (record {
+              proper = first-proper m n (first-few f) (b .room);
+              count = columns-count os 0 m (omega (arith, first-few f, g .pre .1 .0));
+              fit = columns-fit os 0 m (g .pre .1 .1);
+            });
         num-is = b .holds .num-is;
         den-is = b .holds .den-is;
       };
@@ -133,7 +132,8 @@ record Turn (orders degrees j : ℕ) : Type 0 where
   count : orders + 1 ≡ degrees
   few : degrees ≤ 12
 
-turn : (c : tie.In-loop Inv-loop μ-loop) → Turn (length (c .before .before .before .before .before .args .orders .now)) (length (c .before .before .before .before .before .args .degrees .now)) (c .before .loop .j)
+turn : (c : tie.In-loop Inv-loop μ-loop) → Turn (length (c .before .before .before .before .before .args .orders .now))
+    (length (c .before .before .before .before .before .args .degrees .now)) (c .before .loop .j)
 turn c = let p = c .before .before .before .before .before .pre .0 .0 in record { taken = omega arith; count = p .lists .order-count; few = p .few }
 
 module _ (c : tie.After-join-at Inv-loop μ-loop) where
@@ -143,12 +143,14 @@ module _ (c : tie.After-join-at Inv-loop μ-loop) where
   abbrev j : ℕ
   j = at-loop c .loop .j
 
-  abbrev inv : Inv (start c .args .breaks .now) (start c .args .degrees .now) (start c .args .orders .now) (start c .args .ordinates .now) (start c .args .num .now) (start c .args .den .now) (start c .args .columns) (at-loop c .loop .num)
+  abbrev inv : Inv (start c .args .breaks .now) (start c .args .degrees .now) (start c .args .orders .now) (start c .args .ordinates .now)
+      (start c .args .num .now) (start c .args .den .now) (start c .args .columns) (at-loop c .loop .num)
       (at-loop c .loop .den) (at-loop c .loop .rows) (at-loop c .loop .present) j
   inv = at-loop c .loop .inv
 
   here : AtJoin s (start c .args .columns) (at-loop c .loop .rows) (c .before .before .condition-count .result) (c .join-at .result) j
-  here = at-join _ _ _ (inv .part) j (turn (c .before .before .before) .taken) _ _ _ _ (c .join-at .ensures) (c .before .before .condition-count .ensures) (inv .begun .count) (inv .begun .room) (inv .rows-are)
+  here = at-join _ _ _ (inv .part) j (turn (c .before .before .before) .taken) _ _ _ _ (c .join-at .ensures) (c .before .before .condition-count .ensures)
+      (inv .begun .count) (inv .begun .room) (inv .rows-are)
 
   -- the rows that come in
   more-is : c .before .degree-at2 .result + 1 ≡ c .join-at .result .right .degree + 1
@@ -169,7 +171,12 @@ degree-at-requires-2 c κs = let t = turn (c .before) in (omega (arith, t .taken
 add-more : tie.Need-add-more Inv-loop μ-loop
 add-more c =
     let t = turn (c .before .before) in
-    omega (arith, c .degree-at2 .ensures, legal-degree-high _ _ _ (c .before .before .before .before .before .before .before .pre .0 .0 .lists) (c .before .before .before .loop .j + 1) (omega (arith, t .taken, t .count)))
+    omega (
+      arith,
+      c .degree-at2 .ensures,
+      legal-degree-high _ _ _ (c .before .before .before .before .before .before .before .pre .0 .0 .lists)
+          (c .before .before .before .loop .j + 1) (omega (arith, t .taken, t .count)),
+    )
 
 join-at-requires : tie.Need-join-at-requires Inv-loop μ-loop
 join-at-requires c κs = let t = turn (c .before .before) in let p = c .before .before .before .before .before .before .before .pre .0 .0 .lists in ((_, p), omega (arith, t .taken, t .count))
@@ -180,7 +187,20 @@ recover-join-requires c κs =
     let v = inv d in
     let h = v .begun .holds in
     let p = sound d in (
-      (here d .enough, (here d .fitting, (record { table = v .state .reached .table; holds = holds _ _ _ (h .num-long) (h .den-long) (v .state); shaped = p .proper .shaped }, record { of = v .state .reached .coefficients; is = v .is; fit = p .fit; count = p .count }))),
+      (
+        here d .enough,
+        (
+          here d .fitting,
+          (
+            record {
+              table = v .state .reached .table;
+              holds = holds _ _ _ (h .num-long) (h .den-long) (v .state);
+              shaped = p .proper .shaped;
+            },
+            record { of = v .state .reached .coefficients; is = v .is; fit = p .fit; count = p .count },
+          ),
+        ),
+      ),
       ((here d .low, here d .wide), (v .given, v .fit)),
     )
 
@@ -189,10 +209,13 @@ module _ (c : tie.After-recover-join Inv-loop μ-loop) where
   abbrev sides : tie.After-join-at Inv-loop μ-loop
   sides = c .before .before .before
 
-  left : Leaves (recoverOrders (s sides) (j sides) (conditionCount (s sides) (j sides)) (grownCombination (s sides) (j sides) (start sides .args .columns) (start sides .args .ordinates .now) (inv sides .state .reached))) (c .recover-join .result)
+  left : Leaves (recoverOrders (s sides) (j sides) (conditionCount (s sides) (j sides))
+      (grownCombination (s sides) (j sides) (start sides .args .columns) (start sides .args .ordinates .now) (inv sides .state .reached)))
+      (c .recover-join .result)
       (at-loop sides .loop .num) (at-loop sides .loop .den) (c .recover-join .last .1 .0) (c .recover-join .last .1 .1 .0)
   left =
-      subst (λ n. Leaves (recoverOrders (s sides) (j sides) n (grownCombination (s sides) (j sides) (start sides .args .columns) (start sides .args .ordinates .now) (inv sides .state .reached))) (c .recover-join .result)
+      subst (λ n. Leaves (recoverOrders (s sides) (j sides) n (grownCombination (s sides) (j sides) (start sides .args .columns)
+      (start sides .args .ordinates .now) (inv sides .state .reached))) (c .recover-join .result)
       (at-loop sides .loop .num) (at-loop sides .loop .den) (c .recover-join .last .1 .0) (c .recover-join .last .1 .1 .0)) (sides .before .before .condition-count .ensures)
       (c .recover-join .ensures (s sides) (j sides) (inv sides .state .reached .table) (inv sides .state .reached .coefficients) (here sides .is)
       (holds _ _ _ (inv sides .begun .holds .num-long) (inv sides .begun .holds .den-long) (inv sides .state)) (sound sides .proper .shaped) (inv sides .is) (sound sides .count) (sound sides .fit))
@@ -205,19 +228,14 @@ module _ (c : tie.After-recover-join Inv-loop μ-loop) where
 
   -- refused
   refused : {code place : ℕ} {none : Fractions} → c .recover-join .result .refusal ≡ refusals.Refused code → place ≡ capped (j sides) → none ≡ fractions []
-      → JoinsLeave (recovered (s sides) (start sides .args .ordinates .now)) (rowCount (s sides)) (record { built = Refused code place; of = none }) (start sides .args .num .now) (start sides .args .den .now) (c .recover-join .last .1 .0) (c .recover-join .last .1 .1 .0)
+      → JoinsLeave (recovered (s sides) (start sides .args .ordinates .now)) (rowCount (s sides)) (record { built = Refused code place; of = none })
+      (start sides .args .num .now) (start sides .args .den .now) (c .recover-join .last .1 .0) (c .recover-join .last .1 .1 .0)
   unfolding recovered recoverJoins
   refused {code} {place} {none} e placed empty =
       let x = leaves-some _ left e in
       let p = orders-stop (s sides) (j sides) (conditionCount (s sides) (j sides)) _ (x .code) (x .place) (x .refuses) in
       ends _ _ _ (inv sides .begun .holds .num-long) (inv sides .begun .holds .den-long) (inv sides .state) (here sides .before-last) (toldJoins (rowCount (s sides))) x
       (ap (λ (a : Fractions). record { built = Refused code place; of = a }) empty ∙ ap₂ (λ q r. record { built = Refused q r; of = fractions [] }) (code-told _ left x e) (placed ∙ sym (p .1)))
-
-place-requires : tie.Need-place-requires Inv-loop μ-loop
-place-requires c κs = search needs
-
-enum-told : tie.Need-enum-told Inv-loop μ-loop
-enum-told c = search needs
 
 -- the call before a turn's end
 abbrev called : tie.After-present Inv-loop μ-loop → tie.After-recover-join Inv-loop μ-loop
@@ -228,12 +246,6 @@ add-rows-2 c = let x = sides (called c) in omega (arith, more-is x, here x .low)
 
 sub-rows : tie.Need-sub-rows Inv-loop μ-loop
 sub-rows c = let x = sides (called c) in omega (arith, here x .enough)
-
-enum-known-refusal : tie.Need-enum-known-refusal Inv-loop μ-loop
-enum-known-refusal c = search needs
-
-no-fractions-requires-2 : tie.Need-no-fractions-requires-2 Inv-loop μ-loop
-no-fractions-requires-2 c κs = search needs
 
 same-length : tie.Need-same-length Inv-loop μ-loop
 same-length c = num-same (c .before .before .before .before .before .before .before)
@@ -289,9 +301,11 @@ returns-2 c =
     let last : suc (l .j) ≡ segments s = omega (arith, p .order-count) in
     let none : drop (firstColumn s (suc (l .j))) os ≡ [] = drop-of-length-le os {i = firstColumn s (suc (l .j))} (omega (arith, g .pre .1 .0, l .inv .begun .count, ap (firstColumn s) last)) in
     all-done _ _ _ (toldJoins (rowCount s)) x e
-    (ap₂ (λ (t : Table) (ps : List ℚ). record { table = x .reached .table ++ t; coefficients = x .reached .coefficients ++ ps }) (later-none s (g .args .columns) (l .j) (l .inv .begun .count) last) (ap (map int) none)
+    (ap₂ (λ (t : Table) (ps : List ℚ). record { table = x .reached .table ++ t; coefficients = x .reached .coefficients ++ ps })
+    (later-none s (g .args .columns) (l .j) (l .inv .begun .count) last) (ap (map int) none)
     ∙ ap₂ (λ (t : Table) (ps : List ℚ). record { table = t; coefficients = ps }) (append-nil (x .reached .table)) (append-nil (x .reached .coefficients)))
-    (ap₂ (λ (n : ℕ) (a : Fractions). record { built = Count n; of = a }) (omega (arith, l .inv .rows-are, legal-row-count-sum _ _ _ p, ap (conditionsBefore s) e, ap (firstColumn s) last)) (l .inv .is))
+    (ap₂ (λ (n : ℕ) (a : Fractions). record { built = Count n; of = a }) (omega
+    (arith, l .inv .rows-are, legal-row-count-sum _ _ _ p, ap (conditionsBefore s) e, ap (firstColumn s) last)) (l .inv .is))
 
 pub recover-joins-spec : {M : Type 1} → statement M
 recover-joins-spec =
@@ -301,7 +315,7 @@ recover-joins-spec =
     μ-loop
     degree-at-requires
     add-rows
-    no-fractions-requires
+    (λ c κs. search needs)
     append-requires
     loop-holds
     condition-count-requires
@@ -310,12 +324,12 @@ recover-joins-spec =
     add-more
     join-at-requires
     recover-join-requires
-    place-requires
-    enum-told
+    (λ c κs. search needs)
+    (λ c. search needs)
     add-rows-2
     sub-rows
-    enum-known-refusal
-    no-fractions-requires-2
+    (λ c. search needs)
+    (λ c κs. search needs)
     same-length
     same-length-2
     returns

@@ -56,16 +56,14 @@ loop-holds c = record {
     state = record {
       reached = record { table = t; coefficients = ps };
       answers = refl;
-      sound = subst (λ (m : ℕ). Sound (record { table = t; coefficients = ps }) m (c .args .columns)) (let z : c .args .rows ≡ c .args .rows - 0 = omega arith in z) (record { proper = record { shaped = shaped; fit = h .fit }; count = m; fit = f });
+      sound = subst (λ (m : ℕ). Sound (record { table = t; coefficients = ps }) m (c .args .columns))
+          (let z : c .args .rows ≡ c .args .rows - 0 = omega arith in z) (record { proper = record { shaped = shaped; fit = h .fit }; count = m; fit = f });
       num-is = h .num-is;
       den-is = h .den-is;
     };
     is = e;
   };
 }
-
-sub-recover-step : tie.Need-sub-recover-step Inv-loop μ-loop
-sub-recover-step c = omega arith
 
 recover-step-requires : tie.Need-recover-step-requires Inv-loop μ-loop
 recover-step-requires c κs =
@@ -77,7 +75,10 @@ recover-step-requires c κs =
     let x = l .loop .inv .at (f .space) (f .index) (k .table) (n .of) (f .is) (k .holds) (k .shaped) (n .is) (n .count) (n .fit) in
     let y = x .state .sound in (
       f,
-      (record { table = x .state .reached .table; holds = holds _ _ _ (k .holds .num-long) (k .holds .den-long) (x .state); shaped = y .proper .shaped }, record { of = x .state .reached .coefficients; is = x .is; fit = y .fit; long = omega (arith, y .count) }),
+      (
+        record { table = x .state .reached .table; holds = holds _ _ _ (k .holds .num-long) (k .holds .den-long) (x .state); shaped = y .proper .shaped },
+        record { of = x .state .reached .coefficients; is = x .is; fit = y .fit; long = omega (arith, y .count) },
+      ),
     )
 
 -- what the turn leaves, in the definitions' terms
@@ -99,32 +100,28 @@ module _ (m : tie.After-recover-step Inv-loop μ-loop) where
 
   module _ (s : Space) (j : ℕ) (t : Table) (ps : List ℚ) (is : JoinIs (start .args .join) s j) (h : Holds (start .args .num .now) (start .args .den .now) t)
       (shaped : Shaped t (start .args .rows) (start .args .columns)) (e : start .args .cs ≡ fractions ps) (size : length ps ≡ start .args .rows) (f : AllFit ps) where
-    before : Reached s j (start .args .n) (start .args .rows) (start .args .columns) (record { table = t; coefficients = ps }) (start .args .num .now) (start .args .den .now) (at-loop .loop .num) (at-loop .loop .den) (at-loop .loop .present) (at-loop .loop .k)
+    before : Reached s j (start .args .n) (start .args .rows) (start .args .columns) (record { table = t; coefficients = ps }) (start .args .num .now)
+        (start .args .den .now) (at-loop .loop .num) (at-loop .loop .den) (at-loop .loop .present) (at-loop .loop .k)
     before = at-loop .loop .inv .at s j t ps is h shaped e size f
 
-    left : Leaves (recoverStep j (conditions s j (at-loop .loop .k)) (before .state .reached)) (m .recover-step .result) (at-loop .loop .num) (at-loop .loop .den) (m .recover-step .last .0) (m .recover-step .last .1 .0)
-    left = m .recover-step .ensures s j (before .state .reached .table) (before .state .reached .coefficients) is (holds _ _ _ (h .num-long) (h .den-long) (before .state)) (before .state .sound .proper .shaped) (before .is) (before .state .sound .count)
+    left : Leaves (recoverStep j (conditions s j (at-loop .loop .k)) (before .state .reached)) (m .recover-step .result) (at-loop .loop .num)
+        (at-loop .loop .den) (m .recover-step .last .0) (m .recover-step .last .1 .0)
+    left = m .recover-step .ensures s j (before .state .reached .table) (before .state .reached .coefficients) is
+        (holds _ _ _ (h .num-long) (h .den-long) (before .state)) (before .state .sound .proper .shaped) (before .is) (before .state .sound .count)
 
     -- it is done
     after : m .recover-step .result .refusal ≡ refusals.None
-        → Reached s j (start .args .n) (start .args .rows) (start .args .columns) (record { table = t; coefficients = ps }) (start .args .num .now) (start .args .den .now) (m .recover-step .last .0) (m .recover-step .last .1 .0) (m .recover-step .result .of) (at-loop .loop .k + 1)
+        → Reached s j (start .args .n) (start .args .rows) (start .args .columns) (record { table = t; coefficients = ps }) (start .args .num .now)
+        (start .args .den .now) (m .recover-step .last .0) (m .recover-step .last .1 .0) (m .recover-step .result .of) (at-loop .loop .k + 1)
     after z = let d = leaves-none _ left z in record { state = goes-on _ _ _ (h .num-long) (h .den-long) (before .state) taken d; is = ap (λ (x : RowCoefficients). x .of) (d .told-is) }
 
     -- it is refused
     refused : {code : ℕ} {r : RowCoefficients} → m .recover-step .result .refusal ≡ refusals.Refused code → r ≡ record { refusal = refusals.Refused code; of = fractions [] }
-        → Leaves (recoverOrders s j (start .args .n) (record { table = t; coefficients = ps })) r (start .args .num .now) (start .args .den .now) (m .recover-step .last .0) (m .recover-step .last .1 .0)
+        → Leaves (recoverOrders s j (start .args .n) (record { table = t; coefficients = ps })) r (start .args .num .now) (start .args .den .now)
+        (m .recover-step .last .0) (m .recover-step .last .1 .0)
     unfolding recoverOrders
     refused z told = let x = leaves-some _ left z in
         ends _ _ _ (h .num-long) (h .den-long) (before .state) taken toldCoefficients x (told ∙ ap (λ q. record { refusal = refusals.Refused q; of = fractions [] }) (code-told _ left x z))
-
-enum-told : tie.Need-enum-told Inv-loop μ-loop
-enum-told c = search needs
-
-add-k : tie.Need-add-k Inv-loop μ-loop
-add-k c = omega arith
-
-loop-less : tie.Need-loop-less Inv-loop μ-loop
-loop-less c = omega arith
 
 loop-again : tie.Need-loop-again Inv-loop μ-loop
 loop-again c =
@@ -135,12 +132,6 @@ loop-again c =
       den-long = den-kept m;
       at = λ s j t ps is h shaped e size f. after m s j t ps is h shaped e size f (c .before .enum-told .given .1);
     }
-
-enum-known-refusal : tie.Need-enum-known-refusal Inv-loop μ-loop
-enum-known-refusal c = search needs
-
-refuse-requires : tie.Need-refuse-requires Inv-loop μ-loop
-refuse-requires c κs = search needs
 
 same-length : tie.Need-same-length Inv-loop μ-loop
 same-length c = num-kept (c .before .before .before .before .before .before)
@@ -171,14 +162,14 @@ recover-orders-spec =
     Inv-loop
     μ-loop
     loop-holds
-    sub-recover-step
+    (λ c. omega arith)
     recover-step-requires
-    enum-told
-    add-k
-    loop-less
+    (λ c. search needs)
+    (λ c. omega arith)
+    (λ c. omega arith)
     loop-again
-    enum-known-refusal
-    refuse-requires
+    (λ c. search needs)
+    (λ c κs. search needs)
     same-length
     same-length-2
     returns

@@ -17,12 +17,6 @@ use Rattle.recover_joins.proofs.recover_part.Tie as tie
 abbrev lists : tie.Start → Space
 lists c = space (c .args .breaks .now) (c .args .degrees .now) (c .args .orders .now)
 
-first-column-requires : tie.Need-first-column-requires
-first-column-requires c κs = search needs
-
-degree-at-requires : tie.Need-degree-at-requires
-degree-at-requires c κs = search needs
-
 -- the columns and the first segment's rows
 abbrev start : tie.After-degree-at → tie.Start
 start c = c .before .before .before .before
@@ -44,29 +38,24 @@ recover-joins-requires c κs =
     let b = begun (i .before) in
     ((p .0 .0, begins (s .args .num .now) (s .args .den .now) b (p .0 .1 .0) (p .0 .1 .1) (i .identity .ensures .0) (i .identity .ensures .1)), (p .1 .0 ∙ sym (b .columns-are), p .1 .1))
 
-same-length : tie.Need-same-length
-same-length c = search needs
-
-same-length-2 : tie.Need-same-length-2
-same-length-2 c = search needs
-
 returns : tie.Need-returns
 returns c =
     let m = c .before .before in
     let i = m .before .before .before .before .before in
     let s = start (i .before) in
-    left-from (λ q. q .table) (toldJoins (rowCount (lists s))) _ _ _ _ (m .recover-joins .result) (identity (i .before .degree-at .result + 1)) (s .args .num .now) (s .args .den .now) (s .pre .0 .1 .0) (s .pre .0 .1 .1) (i .identity .ensures .0) (i .identity .ensures .1)
+    left-from (λ q. q .table) (toldJoins (rowCount (lists s))) _ _ _ _ (m .recover-joins .result) (identity (i .before .degree-at .result + 1))
+    (s .args .num .now) (s .args .den .now) (s .pre .0 .1 .0) (s .pre .0 .1 .1) (i .identity .ensures .0) (i .identity .ensures .1)
     (recovered (lists s) (s .args .ordinates .now)) (m .recover-joins .ensures)
 
 pub recover-part-spec : {M : Type 1} → statement M
 recover-part-spec =
     tie.close
     (tie.spec
-    first-column-requires
-    degree-at-requires
+    (λ c κs. search needs)
+    (λ c κs. search needs)
     add-identity
     identity-requires
     recover-joins-requires
-    same-length
-    same-length-2
+    (λ c. search needs)
+    (λ c. search needs)
     returns)

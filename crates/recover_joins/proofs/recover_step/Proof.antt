@@ -161,15 +161,6 @@ given c =
 jumps-requires : tie.Need-jumps-requires
 jumps-requires c κs = let p = c .before .before .pre in let k = p .1 .0 in ((k .shaped .rows-fit, p .0), (k .table, k .holds))
 
-refuse-requires : tie.Need-refuse-requires
-refuse-requires c κs = search needs
-
-same-length : tie.Need-same-length
-same-length c = search needs
-
-same-length-2 : tie.Need-same-length-2
-same-length-2 c = search needs
-
 returns : tie.Need-returns
 returns c s j t ps is h shaped e n =
     let a = c .before .before .before in
@@ -184,21 +175,6 @@ plan-step-requires c κs =
     let fit = jumps-fit (g .j) _ (g .t) (js .answers) in
     (g .shaped .rows-fit, record { of = js .of; is = js .is; fit = fit; count = jumps-length (g .j) _ (g .t) (js .answers) ∙ g .shaped .row-count })
 
-enum-told : tie.Need-enum-told
-enum-told c = search needs
-
-refuse-requires-2 : tie.Need-refuse-requires-2
-refuse-requires-2 c κs = search needs
-
-enum-told-2 : tie.Need-enum-told-2
-enum-told-2 c = search needs
-
-refuse-requires-3 : tie.Need-refuse-requires-3
-refuse-requires-3 c κs = search needs
-
-enum-told-3 : tie.Need-enum-told-3
-enum-told-3 c = search needs
-
 renew-rows-requires : tie.Need-renew-rows-requires
 renew-rows-requires c κs =
     let a = c .before .before in
@@ -210,15 +186,6 @@ renew-rows-requires c κs =
       ),
       unit a g,
     )
-
-refuse-requires-4 : tie.Need-refuse-requires-4
-refuse-requires-4 c κs = search needs
-
-same-length-3 : tie.Need-same-length-3
-same-length-3 c = search needs
-
-same-length-4 : tie.Need-same-length-4
-same-length-4 c = search needs
 
 returns-2 : tie.Need-returns-2
 returns-2 c s j t ps is h shaped e n =
@@ -241,35 +208,17 @@ undo-requires c κs =
       (omega (arith, f-is a g, l-is a g, w .works .spans .ordered), (omega (arith, l-is a g, within a g), (unit a g, nonzero a g))),
     )
 
-same-length-5 : tie.Need-same-length-5
-same-length-5 c = search needs
-
-same-length-6 : tie.Need-same-length-6
-same-length-6 c = search needs
-
 returns-3 : tie.Need-returns-3
 returns-3 c s j t ps is h shaped e n =
     let a = c .before .before .before in
     let g : Given (first a) = record { s = s; j = j; t = t; ps = ps; is = is; holds = h; shaped = shaped } in
     ended (first a) g (refused a g (c .before .enum-told .given .1) (λ z. let q : _≡_ {A = ℕ} 0 1 = cc in omega arith)) (λ q. named-eight) (c .refuse2 .ensures)
 
-same-length-7 : tie.Need-same-length-7
-same-length-7 c = search needs
-
-same-length-8 : tie.Need-same-length-8
-same-length-8 c = search needs
-
 returns-4 : tie.Need-returns-4
 returns-4 c s j t ps is h shaped e n =
     let a = c .before .before .before in
     let g : Given (first a) = record { s = s; j = j; t = t; ps = ps; is = is; holds = h; shaped = shaped } in
     ended (first a) g (refused a g (c .before .enum-told2 .given .1) (λ z. let q : _≡_ {A = ℕ} 0 1 = cc in omega arith)) (λ q. named-nine) (c .refuse3 .ensures)
-
-same-length-9 : tie.Need-same-length-9
-same-length-9 c = search needs
-
-same-length-10 : tie.Need-same-length-10
-same-length-10 c = search needs
 
 returns-5 : tie.Need-returns-5
 returns-5 c s j t ps is h shaped e n =
@@ -286,28 +235,28 @@ recover-step-spec =
     tie.close
     (tie.spec
     jumps-requires
-    refuse-requires
-    same-length
-    same-length-2
+    (λ c κs. search needs)
+    (λ c. search needs)
+    (λ c. search needs)
     returns
     plan-step-requires
-    enum-told
-    refuse-requires-2
-    enum-told-2
-    refuse-requires-3
-    enum-told-3
+    (λ c. search needs)
+    (λ c κs. search needs)
+    (λ c. search needs)
+    (λ c κs. search needs)
+    (λ c. search needs)
     renew-rows-requires
-    refuse-requires-4
-    same-length-3
-    same-length-4
+    (λ c κs. search needs)
+    (λ c. search needs)
+    (λ c. search needs)
     returns-2
     undo-requires
-    same-length-5
-    same-length-6
+    (λ c. search needs)
+    (λ c. search needs)
     returns-3
-    same-length-7
-    same-length-8
+    (λ c. search needs)
+    (λ c. search needs)
     returns-4
-    same-length-9
-    same-length-10
+    (λ c. search needs)
+    (λ c. search needs)
     returns-5)

@@ -6,11 +6,8 @@ use Rattle.recover_joins.specs.declared.Refusal.the-variants as refusals
 use Rattle.recover_joins.proofs.refuse.Statement.{statement}
 use Rattle.recover_joins.proofs.refuse.Tie as tie
 
-no-fractions-requires : tie.Need-no-fractions-requires
-no-fractions-requires c κs = search needs
-
 returns : tie.Need-returns
 returns c = ap (λ (none : Fractions). record { refusal = refusals.Refused (c .before .args .code); of = none }) (c .no-fractions .ensures)
 
 pub refuse-spec : {M : Type 1} → statement M
-refuse-spec = tie.close (tie.spec no-fractions-requires returns)
+refuse-spec = tie.close (tie.spec (λ c κs. search needs) returns)

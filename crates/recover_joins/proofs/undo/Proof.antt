@@ -27,24 +27,6 @@ use Rattle.recover_joins.proofs.Undone.{undone-in-arrays, undone-refuse
 use Rattle.recover_joins.proofs.undo.Statement.{statement}
 use Rattle.recover_joins.proofs.undo.Tie as tie
 
-balanced-requires : tie.Need-balanced-requires
-balanced-requires c κs = search needs
-
-enum-told : tie.Need-enum-told
-enum-told c = search needs
-
-refuse-requires : tie.Need-refuse-requires
-refuse-requires c κs = search needs
-
-enum-told-2 : tie.Need-enum-told-2
-enum-told-2 c = search needs
-
-refuse-requires-2 : tie.Need-refuse-requires-2
-refuse-requires-2 c κs = search needs
-
-enum-told-3 : tie.Need-enum-told-3
-enum-told-3 c = search needs
-
 undo-rows-requires : tie.Need-undo-rows-requires
 undo-rows-requires c κs =
     let p = c .before .before .before .pre in
@@ -58,7 +40,8 @@ refused e h = h ∙ sym (ap coefficientsOf e)
 
 -- what the undoing answers, in the definition's terms
 module _ (u : tie.After-undo-rows) (j : ℕ) (qs us ps : List ℚ) (e : u .before .before .before .before .args .js ≡ fractions qs) (w : u .before .before .before .before .args .ws ≡ fractions us)
-    (h : u .before .before .before .before .args .cs ≡ fractions ps) (m : length qs ≡ u .before .before .before .before .args .rows) (n : length ps ≡ u .before .before .before .before .args .rows) where
+    (h : u .before .before .before .before .args .cs ≡ fractions ps) (m : length qs ≡ u .before .before .before .before .args .rows)
+    (n : length ps ≡ u .before .before .before .before .args .rows) where
   abbrev start : tie.Start
   start = u .before .before .before .before
 
@@ -84,7 +67,8 @@ module _ (u : tie.After-undo-rows) (j : ℕ) (qs us ps : List ℚ) (e : u .befor
   undone-is = u .undo-rows .ensures j us ps w h (omega (arith, n, start .pre .1 .1 .0))
 
   -- refused
-  too-large : {r : RowCoefficients} → u .undo-rows .result .fit ≡ false → r ≡ record { refusal = refusals.Refused 20; of = fractions [] } → r ≡ coefficientsOf (undoing j (record { jumps = qs; span = spanned; factors = us }) ps)
+  too-large : {r : RowCoefficients} → u .undo-rows .result .fit ≡ false → r ≡ record { refusal = refusals.Refused 20; of = fractions [] }
+      → r ≡ coefficientsOf (undoing j (record { jumps = qs; span = spanned; factors = us }) ps)
   unfolding undone
   too-large x told =
       let r = undone-refused (with-answer among new) (u .undo-rows .result) undone-is x in
@@ -92,7 +76,8 @@ module _ (u : tie.After-undo-rows) (j : ℕ) (qs us ps : List ℚ) (e : u .befor
       refused (then-answers (λ _. undone j spanned us ps) zero ∙ z ∙ ap (λ q. refusal q (r .place)) (undone-refuses-20 j spanned us ps (r .code) (r .place) z)) told
 
   -- done
-  done : {of : Fractions} → u .undo-rows .result .fit ≡ true → ((qs : List ℚ) → u .undo-rows .result .coefficients ≡ fractions qs → length qs ≡ start .args .rows → of ≡ fractions (take l qs ++ drop (suc l) qs))
+  done : {of : Fractions} → u .undo-rows .result .fit ≡ true → ((qs : List ℚ) → u .undo-rows .result .coefficients ≡ fractions qs
+      → length qs ≡ start .args .rows → of ≡ fractions (take l qs ++ drop (suc l) qs))
       → record { refusal = refusals.None; of = of } ≡ coefficientsOf (undoing j (record { jumps = qs; span = spanned; factors = us }) ps)
   unfolding undone
   done x dropped =
@@ -105,14 +90,8 @@ module _ (u : tie.After-undo-rows) (j : ℕ) (qs us ps : List ℚ) (e : u .befor
       (dropped (among (d .before)) (a .is ∙ ap fractions (sym (d .changed))) (renewed-length f l ps (d .before) order (omega arith) size ∙ n) ∙ renewed-without f l ps (d .before) order below size)
       ∙ sym (ap coefficientsOf (then-answers (λ _. undone j spanned us ps) zero ∙ then-answers (λ ds. answer (take f ps ++ (ds ++ drop (suc l) ps))) (d .answers)))
 
-refuse-requires-3 : tie.Need-refuse-requires-3
-refuse-requires-3 c κs = search needs
-
 returns : tie.Need-returns
 returns c j qs us ps e w h m n = too-large (c .before .before .before) j qs us ps e w h m n (not-true _ (c .before .if1 .taken)) (c .refuse3 .ensures)
-
-drop-coefficient-requires : tie.Need-drop-coefficient-requires
-drop-coefficient-requires c κs = search needs
 
 returns-2 : tie.Need-returns-2
 returns-2 c j qs us ps e w h m n =
@@ -133,16 +112,16 @@ pub undo-spec : {M : Type 1} → statement M
 undo-spec =
     tie.close
     (tie.spec
-    balanced-requires
-    enum-told
-    refuse-requires
-    enum-told-2
-    refuse-requires-2
-    enum-told-3
+    (λ c κs. search needs)
+    (λ c. search needs)
+    (λ c κs. search needs)
+    (λ c. search needs)
+    (λ c κs. search needs)
+    (λ c. search needs)
     undo-rows-requires
-    refuse-requires-3
+    (λ c κs. search needs)
     returns
-    drop-coefficient-requires
+    (λ c κs. search needs)
     returns-2
     returns-3
     returns-4)

@@ -21,37 +21,24 @@ segmented s = space [] (s .args .degrees .now) []
 counted : (c : tie.Else1) → length (c .before .before .args .ordinates .now) ≡ columnCount (segmented (c .before .before))
 counted c = c .if1 .left ∙ c .before .first-column .ensures
 
-found-bad : (c : tie.After-bad) → first (length (c .before .before .before .before .before .args .ordinates .now)) (badOrdinate (c .before .before .before .before .before .args .ordinates .now)) ≡ some (c .bad .given .0 .0)
-found-bad c = ap (first (length (c .before .before .before .before .before .args .ordinates .now))) (ordinate-outside _) ∙ found-some-inverts _ (sym (c .before .before .first-outside .ensures) ∙ c .bad .given .1)
+found-bad : (c : tie.After-bad) → first (length (c .before .before .before .before .before .args .ordinates .now))
+    (badOrdinate (c .before .before .before .before .before .args .ordinates .now)) ≡ some (c .bad .given .0 .0)
+found-bad c = ap (first (length (c .before .before .before .before .before .args .ordinates .now))) (ordinate-outside _)
+    ∙ found-some-inverts _ (sym (c .before .before .first-outside .ensures) ∙ c .bad .given .1)
 
-none-bad : (c : tie.After-enum-told) → first (length (c .before .before .before .before .before .args .ordinates .now)) (badOrdinate (c .before .before .before .before .before .args .ordinates .now)) ≡ none
-none-bad c = ap (first (length (c .before .before .before .before .before .args .ordinates .now))) (ordinate-outside _) ∙ found-none-inverts _ (sym (c .before .before .first-outside .ensures) ∙ c .enum-told .given .1)
-
-first-column-requires : tie.Need-first-column-requires
-first-column-requires c κs = search needs
+none-bad : (c : tie.After-enum-told) → first (length (c .before .before .before .before .before .args .ordinates .now))
+    (badOrdinate (c .before .before .before .before .before .args .ordinates .now)) ≡ none
+none-bad c = ap (first (length (c .before .before .before .before .before .args .ordinates .now))) (ordinate-outside _)
+    ∙ found-none-inverts _ (sym (c .before .before .first-outside .ensures) ∙ c .enum-told .given .1)
 
 returns : tie.Need-returns
 returns c = sym (refusal-refused _ (ordinates-count (segmented (c .before .before)) (c .before .before .args .ordinates .now) (λ e. c .if1 .taken (e ∙ sym (c .before .first-column .ensures)))))
 
-sub-first-outside : tie.Need-sub-first-outside
-sub-first-outside c = search needs
-
-first-outside-requires : tie.Need-first-outside-requires
-first-outside-requires c κs = search needs
-
-enum-known-bad : tie.Need-enum-known-bad
-enum-known-bad c = search needs
-
-place-requires : tie.Need-place-requires
-place-requires c κs = search needs
-
-enum-told : tie.Need-enum-told
-enum-told c = search needs
-
 returns-2 : tie.Need-returns-2
 returns-2 c =
     let s = c .before .before .before .before .before .before .before in
-    sym (refusal-refused _ (ordinates-refused (segmented s) (s .args .ordinates .now) (counted (c .before .before .before .before .before)) (found-bad (c .before .before)) ∙ ap (refusal 18) (sym (c .place .ensures))))
+    sym (refusal-refused _ (ordinates-refused (segmented s) (s .args .ordinates .now) (counted (c .before .before .before .before .before))
+    (found-bad (c .before .before)) ∙ ap (refusal 18) (sym (c .place .ensures))))
 
 returns-3 : tie.Need-returns-3
 returns-3 c =
@@ -62,12 +49,12 @@ pub check-ordinates-spec : {M : Type 1} → statement M
 check-ordinates-spec =
     tie.close
     (tie.spec
-    first-column-requires
+    (λ c κs. search needs)
     returns
-    sub-first-outside
-    first-outside-requires
-    enum-known-bad
-    place-requires
-    enum-told
+    (λ c. search needs)
+    (λ c κs. search needs)
+    (λ c. search needs)
+    (λ c κs. search needs)
+    (λ c. search needs)
     returns-2
     returns-3)

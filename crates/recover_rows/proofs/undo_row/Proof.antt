@@ -31,23 +31,12 @@ module _ (j : ℕ) (us ps : List ℚ) (f i : ℕ) where
   later-row : f < i → undoneRow j us ps f (i - f) (drop f ps) ≡ undoneCoefficient j (entry us (i - f)) (entry ps i) (entry ps (i - 1))
   later-row h =
       ap (λ n. undoneRow j us ps f n (drop f ps)) next
-      ∙ ap₂ (undoneCoefficient j (entry us (suc (i - f - 1)))) (ap (entry ps) (let z : f + suc (i - f - 1) ≡ i = omega (arith, h) in z)) (getD-drop f ps (i - f - 1) (int (pos 0)) ∙ ap (entry ps) (let z : f + (i - f - 1) ≡ i - 1 = omega (arith, h) in z))
+      ∙ ap₂ (undoneCoefficient j (entry us (suc (i - f - 1)))) (ap (entry ps) (let z : f + suc (i - f - 1) ≡ i = omega (arith, h) in z))
+      (getD-drop f ps (i - f - 1) (int (pos 0)) ∙ ap (entry ps) (let z : f + (i - f - 1) ≡ i - 1 = omega (arith, h) in z))
       ∙ ap (λ n. undoneCoefficient j (entry us n) (entry ps i) (entry ps (i - 1))) (sym next)
     where
       next : i - f ≡ suc (i - f - 1)
       next = omega (arith, h)
-
-mul-cn : tie.Need-mul-cn
-mul-cn c = search needs
-
-element-copy-out-cn : tie.Need-element-copy-out-cn
-element-copy-out-cn c = search needs
-
-mul-cd : tie.Need-mul-cd
-mul-cd c = search needs
-
-element-copy-out-cd : tie.Need-element-copy-out-cd
-element-copy-out-cd c = search needs
 
 -- the coefficients that are read: of the row itself
 module _ (c : tie.After-cd) where
@@ -67,42 +56,6 @@ returns c j us ps e h =
     let n = cn-fits (c .before) in
     let d = cd-fits (c .before) in
     ap Fits (simp toZ-ofZ (fraction-at ps _ h (s .args .i) (s .pre .1 .0))) ∙ sym (ap counted (first-row j us ps (s .args .f) (s .args .i) (c .if1 .taken)))
-
-sub-wn : tie.Need-sub-wn
-sub-wn c = omega arith
-
-mul-wn : tie.Need-mul-wn
-mul-wn c = omega arith
-
-element-copy-out-wn : tie.Need-element-copy-out-wn
-element-copy-out-wn c = omega arith
-
-sub-wd : tie.Need-sub-wd
-sub-wd c = omega arith
-
-mul-wd : tie.Need-mul-wd
-mul-wd c = omega arith
-
-element-copy-out-wd : tie.Need-element-copy-out-wd
-element-copy-out-wd c = omega arith
-
-sub-bn : tie.Need-sub-bn
-sub-bn c = omega arith
-
-mul-bn : tie.Need-mul-bn
-mul-bn c = omega arith
-
-element-copy-out-bn : tie.Need-element-copy-out-bn
-element-copy-out-bn c = omega arith
-
-sub-bd : tie.Need-sub-bd
-sub-bd c = omega arith
-
-mul-bd : tie.Need-mul-bd
-mul-bd c = omega arith
-
-element-copy-out-bd : tie.Need-element-copy-out-bd
-element-copy-out-bd c = omega arith
 
 -- of its factor and of the row before
 module _ (c : tie.After-bd) where
@@ -161,7 +114,8 @@ returns-2 c j us ps e h =
     let a4 = wd-fits b in
     let a5 = bn-fits b in
     let a6 = bd-fits b in
-    c .undo-coefficient .ensures j (entry us (d b)) (entry ps (s .args .i)) (entry ps (s .args .i - 1)) (simp toZ-ofZ (fraction-at us _ e (d b) (omega (arith, s .pre .1 .0)))) (simp toZ-ofZ (fraction-at ps _ h (s .args .i) (s .pre .1 .0)))
+    c .undo-coefficient .ensures j (entry us (d b)) (entry ps (s .args .i)) (entry ps (s .args .i - 1))
+    (simp toZ-ofZ (fraction-at us _ e (d b) (omega (arith, s .pre .1 .0)))) (simp toZ-ofZ (fraction-at ps _ h (s .args .i) (s .pre .1 .0)))
     (simp toZ-ofZ (fraction-at ps _ h (s .args .i - 1) (omega (arith, s .pre .1 .0))))
     ∙ sym (ap counted (later-row j us ps (s .args .f) (s .args .i) (later b)))
 
@@ -169,22 +123,22 @@ pub undo-row-spec : {M : Type 1} → statement M
 undo-row-spec =
     tie.close
     (tie.spec
-    mul-cn
-    element-copy-out-cn
-    mul-cd
-    element-copy-out-cd
+    (λ c. search needs)
+    (λ c. search needs)
+    (λ c. search needs)
+    (λ c. search needs)
     returns
-    sub-wn
-    mul-wn
-    element-copy-out-wn
-    sub-wd
-    mul-wd
-    element-copy-out-wd
-    sub-bn
-    mul-bn
-    element-copy-out-bn
-    sub-bd
-    mul-bd
-    element-copy-out-bd
+    (λ c. omega arith)
+    (λ c. omega arith)
+    (λ c. omega arith)
+    (λ c. omega arith)
+    (λ c. omega arith)
+    (λ c. omega arith)
+    (λ c. omega arith)
+    (λ c. omega arith)
+    (λ c. omega arith)
+    (λ c. omega arith)
+    (λ c. omega arith)
+    (λ c. omega arith)
     undo-coefficient-requires
     returns-2)

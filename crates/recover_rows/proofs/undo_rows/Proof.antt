@@ -63,7 +63,8 @@ loop-holds c =
     }
 
 -- the state at a turn, and what it says
-module _ (a : tie.At-loop Inv-loop μ-loop) (inside : a .loop .i < a .before .args .l) (j : ℕ) (us ps : List ℚ) (e : a .before .args .ws ≡ fractions us) (h : a .before .args .cs ≡ fractions ps) (long : a .before .args .l ≤ length ps) where
+module _ (a : tie.At-loop Inv-loop μ-loop) (inside : a .loop .i < a .before .args .l) (j : ℕ) (us ps : List ℚ) (e : a .before .args .ws ≡ fractions us)
+    (h : a .before .args .cs ≡ fractions ps) (long : a .before .args .l ≤ length ps) where
   abbrev f : ℕ
   f = a .before .args .f
 
@@ -103,27 +104,6 @@ undo-row-requires c κs =
       ),
     )
 
-enum-known-next : tie.Need-enum-known-next Inv-loop μ-loop
-enum-known-next c = search needs
-
-mul-n : tie.Need-mul-n Inv-loop μ-loop
-mul-n c = omega arith
-
-element-set-from-n : tie.Need-element-set-from-n Inv-loop μ-loop
-element-set-from-n c = omega arith
-
-mul-d : tie.Need-mul-d Inv-loop μ-loop
-mul-d c = omega arith
-
-element-set-from-d : tie.Need-element-set-from-d Inv-loop μ-loop
-element-set-from-d c = omega arith
-
-enum-told : tie.Need-enum-told Inv-loop μ-loop
-enum-told c = search needs
-
-no-fractions-requires : tie.Need-no-fractions-requires Inv-loop μ-loop
-no-fractions-requires c κs = search needs
-
 returns : tie.Need-returns Inv-loop μ-loop
 unfolding undoneOf
 returns c j us ps e h long =
@@ -131,15 +111,13 @@ returns c j us ps e h long =
     let a = r .before .before in
     let s = a .before .args in
     let y = st a (r .before .loop-test .taken) j us ps e h long in
-    let x = large-refused (undoneRow j us ps (s .f) (a .loop .i - s .f) (y .new)) (ap counted (sym (same a (r .before .loop-test .taken) j us ps e h long)) ∙ sym (r .undo-row .ensures j us _ e (y .is)) ∙ c .before .enum-told .given .1) in
+    let x = large-refused (undoneRow j us ps (s .f) (a .loop .i - s .f) (y .new))
+    (ap counted (sym (same a (r .before .loop-test .taken) j us ps e h long)) ∙ sym (r .undo-row .ensures j us _ e (y .is))
+    ∙ c .before .enum-told .given .1) in
     ap (λ (none : Fractions). record { fit = false; coefficients = none }) (c .no-fractions .ensures)
-    ∙ sym (ap (λ (o : Outcome (List ℚ)). undoneOf (with-answer (λ ds. take (s .f) ps ++ (ds ++ drop (s .l) ps)) o)) (rows-stay j us ps (s .f) (suc (a .loop .i - s .f)) (s .l - s .f) (omega arith) (rows-end j us ps (s .f) (a .loop .i - s .f) (y .answers) (x .refuses))))
-
-add-i : tie.Need-add-i Inv-loop μ-loop
-add-i c = omega arith
-
-loop-less : tie.Need-loop-less Inv-loop μ-loop
-loop-less c = omega arith
+    ∙ sym (ap (λ (o : Outcome (List ℚ)). undoneOf (with-answer (λ ds. take (s .f) ps ++ (ds ++ drop (s .l) ps)) o))
+    (rows-stay j us ps (s .f) (suc (a .loop .i - s .f)) (s .l - s .f) (omega arith)
+    (rows-end j us ps (s .f) (a .loop .i - s .f) (y .answers) (x .refuses))))
 
 loop-again : tie.Need-loop-again Inv-loop μ-loop
 loop-again c =
@@ -159,7 +137,8 @@ loop-again c =
           let x = fits-answered (undoneRow j us ps (s .f) (a .loop .i - s .f) (y .new)) (k .0 .0) (ap counted (sym (same a t j us ps e h long)) ∙ sym (r .undo-row .ensures j us _ e (y .is)) ∙ k .1) in
           record {
             new = y .new ++ (value (k .0 .0) ∷ []);
-            answers = ap (undoneRows j us ps (s .f)) (let q : a .loop .i + 1 - s .f ≡ suc (a .loop .i - s .f) = omega arith in q) ∙ rows-more j us ps (s .f) (a .loop .i - s .f) (y .answers) (x .answers);
+            answers = ap (undoneRows j us ps (s .f)) (let q : a .loop .i + 1 - s .f ≡ suc (a .loop .i - s .f) = omega arith in q)
+                ∙ rows-more j us ps (s .f) (a .loop .i - s .f) (y .answers) (x .answers);
             is = (simp toZ-ofZ
                 (fractions-store (renewed (s .f) ps (y .new) (a .loop .i)) (renewed (s .f) ps (y .new ++ (value (k .0 .0) ∷ [])) (suc (a .loop .i))) (value (k .0 .0)) (a .loop .i) (omega arith)
                 (more-here (s .f) (a .loop .i) ps (y .new) (a .loop .inv .passed) (omega arith) z (value (k .0 .0)) (omega arith))
@@ -177,7 +156,8 @@ returns-2 c j us ps e h long =
     let s = c .before .before .args in
     let y = l .inv .state j us ps e h long in
     ap (λ (now : Fractions). record { fit = true; coefficients = now }) (y .is ∙ ap (λ m. fractions (renewed (s .f) ps (y .new) m)) (let z : l .i ≡ s .l = omega arith in z))
-    ∙ sym (ap (λ (o : Outcome (List ℚ)). undoneOf (with-answer (λ ds. take (s .f) ps ++ (ds ++ drop (s .l) ps)) o)) (ap (λ m. undoneRows j us ps (s .f) (m - s .f)) (let z : s .l ≡ l .i = omega arith in z) ∙ y .answers))
+    ∙ sym (ap (λ (o : Outcome (List ℚ)). undoneOf (with-answer (λ ds. take (s .f) ps ++ (ds ++ drop (s .l) ps)) o))
+    (ap (λ m. undoneRows j us ps (s .f) (m - s .f)) (let z : s .l ≡ l .i = omega arith in z) ∙ y .answers))
 
 pub undo-rows-spec : {M : Type 1} → statement M
 undo-rows-spec =
@@ -187,15 +167,15 @@ undo-rows-spec =
     μ-loop
     loop-holds
     undo-row-requires
-    enum-known-next
-    mul-n
-    element-set-from-n
-    mul-d
-    element-set-from-d
-    enum-told
-    no-fractions-requires
+    (λ c. search needs)
+    (λ c. omega arith)
+    (λ c. omega arith)
+    (λ c. omega arith)
+    (λ c. omega arith)
+    (λ c. search needs)
+    (λ c κs. search needs)
     returns
-    add-i
-    loop-less
+    (λ c. omega arith)
+    (λ c. omega arith)
     loop-again
     returns-2)

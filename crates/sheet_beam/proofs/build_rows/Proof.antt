@@ -50,18 +50,6 @@ build-part-requires c κs =
       ((p .starts, p .ends), (omega arith, record { zeros = λ k h l. absurd (omega arith); ones = λ k h l. absurd (omega arith) })),
     )
 
-enum-known-built : tie.Need-enum-known-built
-enum-known-built c = search needs
-
-enum-known-built-2 : tie.Need-enum-known-built-2
-enum-known-built-2 c = search needs
-
-same-length : tie.Need-same-length
-same-length c = search needs
-
-same-length-2 : tie.Need-same-length-2
-same-length-2 c = search needs
-
 returns : tie.Need-returns
 returns c =
     let k = c .before .before .before .before .before in
@@ -71,12 +59,6 @@ returns c =
       num-is = left k .numerators;
       den-is = left k .denominators;
     }
-
-same-length-3 : tie.Need-same-length-3
-same-length-3 c = search needs
-
-same-length-4 : tie.Need-same-length-4
-same-length-4 c = search needs
 
 returns-2 : tie.Need-returns-2
 returns-2 c =
@@ -89,11 +71,11 @@ build-rows-spec =
     tie.close
     (tie.spec
     build-part-requires
-    enum-known-built
-    enum-known-built-2
-    same-length
-    same-length-2
+    (λ c. search needs)
+    (λ c. search needs)
+    (λ c. search needs)
+    (λ c. search needs)
     returns
-    same-length-3
-    same-length-4
+    (λ c. search needs)
+    (λ c. search needs)
     returns-2)

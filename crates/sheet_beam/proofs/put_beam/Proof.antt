@@ -34,15 +34,6 @@ put-weights-requires c κs =
     let p = start k .pre in
     omega (arith, p .1, p .0 .num-long, p .0 .den-long, rows-fit k)
 
-same-length : tie.Need-same-length
-same-length c = search needs
-
-same-length-2 : tie.Need-same-length-2
-same-length-2 c = search needs
-
-same-length-3 : tie.Need-same-length-3
-same-length-3 c = search needs
-
 returns : tie.Need-returns
 returns c =
     let k = c .before .before .before .before .before .before in
@@ -53,30 +44,18 @@ put-parts-requires c κs =
     let p = c .before .before .before .before .before .before .pre in
     record { accepted = p .0 .accepted; near = p .1; num-long = p .0 .num-long; den-long = p .0 .den-long }
 
-same-length-4 : tie.Need-same-length-4
-same-length-4 c = search needs
-
-same-length-5 : tie.Need-same-length-5
-same-length-5 c = search needs
-
-same-length-6 : tie.Need-same-length-6
-same-length-6 c = search needs
-
-returns-2 : tie.Need-returns-2
-returns-2 c = search needs
-
 pub put-beam-spec : {M : Type 1} → statement M
 put-beam-spec =
     tie.close
     (tie.spec
     part-end-requires
     put-weights-requires
-    same-length
-    same-length-2
-    same-length-3
+    (λ c. search needs)
+    (λ c. search needs)
+    (λ c. search needs)
     returns
     put-parts-requires
-    same-length-4
-    same-length-5
-    same-length-6
-    returns-2)
+    (λ c. search needs)
+    (λ c. search needs)
+    (λ c. search needs)
+    (λ c. search needs))

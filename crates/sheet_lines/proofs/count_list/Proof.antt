@@ -35,9 +35,6 @@ loop-holds c =
     let a = s .args in
     (omega arith, omega arith, list-count (entryOf (a .kind)) (slice (a .from) (a .to) (a .text .now)) (omega (arith, length-slice (a .from) (a .to) (a .text .now) (s .pre .within))))
 
-find-requires : tie.Need-find-requires Inv-loop μ-loop
-find-requires c κs = omega arith
-
 is-entry-requires : tie.Need-is-entry-requires Inv-loop μ-loop
 is-entry-requires c κs =
     let s = c .before .before .before .before in
@@ -102,9 +99,6 @@ returns-2 c = sym (bad (c .before) (not-true _ (c .if2 .taken)))
 returns-3 : tie.Need-returns-3 Inv-loop μ-loop
 returns-3 c = sym (full (c .before .before) (not-false _ (c .before .if2 .left)) (omega (arith, c .if3 .taken)))
 
-add-n : tie.Need-add-n Inv-loop μ-loop
-add-n c = omega arith
-
 returns-4 : tie.Need-returns-4 Inv-loop μ-loop
 returns-4 c = sym (last (c .before .before .before) (not-false _ (c .before .before .if2 .left)) (c .before .if3 .left) (c .if4 .taken))
 
@@ -128,11 +122,11 @@ count-list-spec =
     μ-loop
     returns
     loop-holds
-    find-requires
+    (λ c κs. omega arith)
     is-entry-requires
     returns-2
     returns-3
-    add-n
+    (λ c. omega arith)
     returns-4
     add-start
     loop-less

@@ -7,18 +7,6 @@ use Rattle.sheet_lines.specs.declared.Entry.{Entry}
 use Rattle.sheet_lines.proofs.is_entry.Statement.{statement}
 use Rattle.sheet_lines.proofs.is_entry.Tie as tie
 
-enum-told : tie.Need-enum-told
-enum-told c = search needs
-
-is-numeral-requires : tie.Need-is-numeral-requires
-is-numeral-requires c κs = search needs
-
-enum-told-2 : tie.Need-enum-told-2
-enum-told-2 c = search needs
-
-is-pair-requires : tie.Need-is-pair-requires
-is-pair-requires c κs = search needs
-
 returns : tie.Need-returns
 returns c =
     let k = c .before in
@@ -32,4 +20,4 @@ returns-2 c =
     c .is-pair .ensures ∙ sym (ap (λ (kind : Entry). isSome (entryOf kind (slice (a .from) (a .to) (a .text .now)))) (k .enum-told2 .given .1))
 
 pub is-entry-spec : {M : Type 1} → statement M
-is-entry-spec = tie.close (tie.spec enum-told is-numeral-requires enum-told-2 is-pair-requires returns returns-2)
+is-entry-spec = tie.close (tie.spec (λ c. search needs) (λ c κs. search needs) (λ c. search needs) (λ c κs. search needs) returns returns-2)

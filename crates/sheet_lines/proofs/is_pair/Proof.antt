@@ -15,9 +15,6 @@ use Rattle.sheet_lines.proofs.Ranges.{one-bad, one-good, pair-uncut, pa
 use Rattle.sheet_lines.proofs.is_pair.Statement.{statement}
 use Rattle.sheet_lines.proofs.is_pair.Tie as tie
 
-find-requires : tie.Need-find-requires
-find-requires c κs = search needs
-
 -- the place where the first colon is known
 module _ (c : tie.After-find) where
   abbrev text : Text
@@ -74,4 +71,4 @@ returns-3 c =
     ∙ sym (ap isSome (sides f (e .before .before .if1 .left)) ∙ one-good (numeral (slice (from f) (stop f) (text f))) _ (sym (e .before .is-numeral .ensures) ∙ not-false _ (e .if2 .left)))
 
 pub is-pair-spec : {M : Type 1} → statement M
-is-pair-spec = tie.close (tie.spec find-requires returns is-numeral-requires returns-2 add-is-numeral is-numeral-requires-2 returns-3)
+is-pair-spec = tie.close (tie.spec (λ c κs. search needs) returns is-numeral-requires returns-2 add-is-numeral is-numeral-requires-2 returns-3)

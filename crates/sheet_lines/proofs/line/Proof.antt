@@ -29,9 +29,6 @@ module _ (c : tie.After-find) where
   abbrev end : ℕ
   end = c .find .result
 
-find-requires : tie.Need-find-requires
-find-requires c κs = search needs
-
 returns : tie.Need-returns
 returns c =
     let f = c .before in
@@ -56,19 +53,10 @@ module _ (c : tie.Else2) where
   keyed : beginsWith (key found) (slice (from found) (end found) (text found)) ≡ true
   keyed = sym (c .before .begins .ensures) ∙ not-false _ (c .if2 .left)
 
-add-start : tie.Need-add-start
-add-start c = search needs
-
 count-list-requires : tie.Need-count-list-requires
 count-list-requires c κs =
     let f = found c in
     list-part (entry f) (key f) (text f) (from f) (end f) (f .before .before .before .pre) (f .find .ensures) (c .before .before .if1 .left) (keyed c)
-
-enum-told : tie.Need-enum-told
-enum-told c = search needs
-
-enum-told-2 : tie.Need-enum-told-2
-enum-told-2 c = search needs
 
 returns-3 : tie.Need-returns-3
 returns-3 c =
@@ -88,4 +76,4 @@ returns-4 c =
     (keyed k) (good .0) (good .1)
 
 pub line-spec : {M : Type 1} → statement M
-line-spec = tie.close (tie.spec find-requires returns begins-requires returns-2 add-start count-list-requires enum-told enum-told-2 returns-3 returns-4)
+line-spec = tie.close (tie.spec (λ c κs. search needs) returns begins-requires returns-2 (λ c. search needs) count-list-requires (λ c. search needs) (λ c. search needs) returns-3 returns-4)

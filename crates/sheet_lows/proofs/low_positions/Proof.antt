@@ -70,51 +70,6 @@ abbrev μ-loop : tie.MeasureT-loop
 loop-holds : tie.Need-loop-holds Inv-loop μ-loop
 loop-holds c = record { within = omega arith; few = omega arith; same = refl; kept = sym (lowPositions-none _) }
 
-mul-lows : tie.Need-mul-lows Inv-loop μ-loop
-mul-lows c = omega arith
-
-shared-slice-copy-out-lows : tie.Need-shared-slice-copy-out-lows Inv-loop μ-loop
-shared-slice-copy-out-lows c = omega arith
-
-mul-is-low : tie.Need-mul-is-low Inv-loop μ-loop
-mul-is-low c = omega arith
-
-slice-set-from-is-low : tie.Need-slice-set-from-is-low Inv-loop μ-loop
-slice-set-from-is-low c = omega arith
-
-mul-is-low-2 : tie.Need-mul-is-low-2 Inv-loop μ-loop
-mul-is-low-2 c = omega arith
-
-mul-is-low-3 : tie.Need-mul-is-low-3 Inv-loop μ-loop
-mul-is-low-3 c = omega arith
-
-shared-slice-copy-out-is-low : tie.Need-shared-slice-copy-out-is-low Inv-loop μ-loop
-shared-slice-copy-out-is-low c = omega arith
-
-mul-is-low-4 : tie.Need-mul-is-low-4 Inv-loop μ-loop
-mul-is-low-4 c = omega arith
-
-add-is-low : tie.Need-add-is-low Inv-loop μ-loop
-add-is-low c = omega arith
-
-mul-is-low-5 : tie.Need-mul-is-low-5 Inv-loop μ-loop
-mul-is-low-5 c = omega arith
-
-shared-slice-copy-out-is-low-2 : tie.Need-shared-slice-copy-out-is-low-2 Inv-loop μ-loop
-shared-slice-copy-out-is-low-2 c = omega arith
-
-is-low-requires : tie.Need-is-low-requires Inv-loop μ-loop
-is-low-requires c κs = search needs
-
-add-count : tie.Need-add-count Inv-loop μ-loop
-add-count c = omega arith
-
-add-k : tie.Need-add-k Inv-loop μ-loop
-add-k c = omega arith
-
-loop-less : tie.Need-loop-less Inv-loop μ-loop
-loop-less c = omega arith
-
 loop-again : tie.Need-loop-again Inv-loop μ-loop
 loop-again c =
     let q = c .before in
@@ -152,21 +107,21 @@ low-positions-spec =
     Inv-loop
     μ-loop
     loop-holds
-    mul-lows
-    shared-slice-copy-out-lows
-    mul-is-low
-    slice-set-from-is-low
-    mul-is-low-2
-    mul-is-low-3
-    shared-slice-copy-out-is-low
-    mul-is-low-4
-    add-is-low
-    mul-is-low-5
-    shared-slice-copy-out-is-low-2
-    is-low-requires
-    add-count
-    add-k
-    loop-less
+    (λ c. omega arith)
+    (λ c. omega arith)
+    (λ c. omega arith)
+    (λ c. omega arith)
+    (λ c. omega arith)
+    (λ c. omega arith)
+    (λ c. omega arith)
+    (λ c. omega arith)
+    (λ c. omega arith)
+    (λ c. omega arith)
+    (λ c. omega arith)
+    (λ c κs. search needs)
+    (λ c. omega arith)
+    (λ c. omega arith)
+    (λ c. omega arith)
     loop-again
     same-length
     returns)

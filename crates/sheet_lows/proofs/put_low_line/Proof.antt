@@ -7,25 +7,10 @@ use Rattle.base_print.proofs.Buffer.{puts-then, puts-within}
 use Rattle.sheet_lows.proofs.put_low_line.Statement.{statement}
 use Rattle.sheet_lows.proofs.put_low_line.Tie as tie
 
-slice-aggregate-put-text : tie.Need-slice-aggregate-put-text
-slice-aggregate-put-text c = search needs
-
-put-text-requires : tie.Need-put-text-requires
-put-text-requires c κs = search needs
-
 cast-put-decimal : tie.Need-cast-put-decimal
 cast-put-decimal c =
     let f = c .before .before .before .before .before .before .before .fits .x in
     simp toZ-ofZ (sfits-widen f)
-
-put-decimal-requires : tie.Need-put-decimal-requires
-put-decimal-requires c κs = search needs
-
-put-requires : tie.Need-put-requires
-put-requires c κs = search needs
-
-same-length : tie.Need-same-length
-same-length c = search needs
 
 returns : tie.Need-returns
 unfolding lowLine
@@ -40,4 +25,4 @@ returns c =
     (puts-then (simp toZ-ofZ at (b .put-decimal .ensures)) (d .put .ensures)))
 
 pub put-low-line-spec : {M : Type 1} → statement M
-put-low-line-spec = tie.close (tie.spec slice-aggregate-put-text put-text-requires cast-put-decimal put-decimal-requires put-requires same-length returns)
+put-low-line-spec = tie.close (tie.spec (λ c. search needs) (λ c κs. search needs) cast-put-decimal (λ c κs. search needs) (λ c κs. search needs) (λ c. search needs) returns)

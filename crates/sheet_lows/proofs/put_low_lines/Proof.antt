@@ -30,21 +30,6 @@ abbrev μ-loop : tie.MeasureT-loop
 loop-holds : tie.Need-loop-holds Inv-loop μ-loop
 loop-holds c = record { within = omega arith; put = puts-as (sym lowLines-none) (puts-none _ _) }
 
-mul-put-low-line : tie.Need-mul-put-low-line Inv-loop μ-loop
-mul-put-low-line c = omega arith
-
-shared-slice-copy-out-put-low-line : tie.Need-shared-slice-copy-out-put-low-line Inv-loop μ-loop
-shared-slice-copy-out-put-low-line c = omega arith
-
-put-low-line-requires : tie.Need-put-low-line-requires Inv-loop μ-loop
-put-low-line-requires c κs = omega arith
-
-add-k : tie.Need-add-k Inv-loop μ-loop
-add-k c = omega arith
-
-loop-less : tie.Need-loop-less Inv-loop μ-loop
-loop-less c = omega arith
-
 loop-again : tie.Need-loop-again Inv-loop μ-loop
 loop-again c =
     let l = c .before .before .before .before .before .before .loop in
@@ -67,4 +52,4 @@ returns c =
     puts-within (omega arith) (rw (take-all (l .k) lows (omega arith)) at (l .inv .put))
 
 pub put-low-lines-spec : {M : Type 1} → statement M
-put-low-lines-spec = tie.close (tie.spec Inv-loop μ-loop loop-holds mul-put-low-line shared-slice-copy-out-put-low-line put-low-line-requires add-k loop-less loop-again same-length returns)
+put-low-lines-spec = tie.close (tie.spec Inv-loop μ-loop loop-holds (λ c. omega arith) (λ c. omega arith) (λ c κs. omega arith) (λ c. omega arith) (λ c. omega arith) loop-again same-length returns)

@@ -30,15 +30,6 @@ module _ (xs : List ℤ) (vs : List Pair) (before after : List ℤ) (count : ℕ
   lows-are : take count after ≡ sorted (lowPositions xs vs)
   lows-are = ap (take count) done ∙ take-at (sorted (take count before)) (drop count before) count first-count ∙ ap sorted kept
 
-slice-aggregate-low-positions : tie.Need-slice-aggregate-low-positions
-slice-aggregate-low-positions c = search needs
-
-low-positions-requires : tie.Need-low-positions-requires
-low-positions-requires c κs = search needs
-
-sort-requires : tie.Need-sort-requires
-sort-requires c κs = search needs
-
 -- where the array has been sorted
 module _ (k : tie.After-sort) where
   abbrev collected : tie.After-low-positions
@@ -71,9 +62,6 @@ slice-aggregate-put-low-lines c = let k = c .before .before in sym (length-take-
 put-low-lines-requires : tie.Need-put-low-lines-requires
 put-low-lines-requires c κs = omega (arith, few (c .before .before), c .before .before .before .before .before .before .before .before .pre)
 
-same-length : tie.Need-same-length
-same-length c = search needs
-
 returns : tie.Need-returns
 returns c =
     let p = c .before .before in
@@ -84,11 +72,11 @@ pub put-lows-spec : {M : Type 1} → statement M
 put-lows-spec =
     tie.close
     (tie.spec
-    slice-aggregate-low-positions
-    low-positions-requires
-    sort-requires
+    (λ c. search needs)
+    (λ c κs. search needs)
+    (λ c κs. search needs)
     array-share-prefix-lows
     slice-aggregate-put-low-lines
     put-low-lines-requires
-    same-length
+    (λ c. search needs)
     returns)

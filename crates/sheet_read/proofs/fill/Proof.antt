@@ -42,11 +42,8 @@ loop-holds c =
     let s = c .before .before in
     let a = s .args in
     let t = slice (a .from) (a .to) (a .text .now) in
-    let some-bytes : 0 < length t = omega (arith, length-slice (a .from) (a .to) (a .text .now) (s .pre .part .within)) in
+    let some-bytes : 0 < length t = omega (arith, length-slice (a .from) (a .to) (a .text .now) (s .pre .range .within)) in
     record { within = omega arith; filled = filled-start t some-bytes _ (a .list .now) (s .pre .good) (s .pre .fits) }
-
-separator-requires : tie.Need-separator-requires Inv-loop μ-loop
-separator-requires c κs = omega arith
 
 numeral-requires : tie.Need-numeral-requires Inv-loop μ-loop
 numeral-requires c κs =
@@ -116,17 +113,11 @@ module _ (c : tie.After-numeral Inv-loop μ-loop) where
         filled-next zs (slice (stop + 1) to text) before list n z (filled .room)
         (store _ (field-more isSeparator text start to stop range (c .before .separator .ensures) h))
 
-enum-told : tie.Need-enum-told Inv-loop μ-loop
-enum-told c = search needs
-
 same-length : tie.Need-same-length Inv-loop μ-loop
 same-length c = absurd (not-bad (c .before .before) (c .enum-told .given .1))
 
 returns-2 : tie.Need-returns-2 Inv-loop μ-loop
 returns-2 c = absurd (not-bad (c .before .before) (c .enum-told .given .1))
-
-enum-known-field : tie.Need-enum-known-field Inv-loop μ-loop
-enum-known-field c = search needs
 
 mul-z : tie.Need-mul-z Inv-loop μ-loop
 mul-z c = omega (arith, below (c .before .before .before) _ (c .before .field .given .1), room (c .before .before .before))
@@ -169,12 +160,12 @@ fill-spec =
     μ-loop
     returns
     loop-holds
-    separator-requires
+    (λ c κs. omega arith)
     numeral-requires
-    enum-told
+    (λ c. search needs)
     same-length
     returns-2
-    enum-known-field
+    (λ c. search needs)
     mul-z
     slice-set-from-z
     add-n

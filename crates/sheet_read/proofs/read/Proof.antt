@@ -10,15 +10,6 @@ use Rattle.sheet_read.proofs.Answers.{refused, answered, numerals-at, p
 use Rattle.sheet_read.proofs.read.Statement.{statement}
 use Rattle.sheet_read.proofs.read.Tie as tie
 
-scan-requires : tie.Need-scan-requires
-scan-requires c κs = search needs
-
-enum-known-scanned : tie.Need-enum-known-scanned
-enum-known-scanned c = search needs
-
-enum-known-scanned-2 : tie.Need-enum-known-scanned-2
-enum-known-scanned-2 c = search needs
-
 -- the lists are good
 module _ (c : tie.After-known-told2) where
   abbrev text : Text
@@ -78,9 +69,9 @@ pub read-spec : {M : Type 1} → statement M
 read-spec =
     tie.close
     (tie.spec
-    scan-requires
-    enum-known-scanned
-    enum-known-scanned-2
+    (λ c κs. search needs)
+    (λ c. search needs)
+    (λ c. search needs)
     fill-requires
     fill-requires-2
     fill-requires-3

@@ -9,9 +9,6 @@ use Rattle.sheet_read.proofs.Separators.{separator-is}
 use Rattle.sheet_read.proofs.separator.Statement.{statement}
 use Rattle.sheet_read.proofs.separator.Tie as tie
 
-find-requires : tie.Need-find-requires
-find-requires c κs = search needs
-
 find-requires-2 : tie.Need-find-requires-2
 find-requires-2 c κs =
     let a = c .before .before .args in
@@ -25,4 +22,4 @@ returns c =
     ∙ ap (λ (k : ℕ). a .from + k) (separator-is (a .text .now) (a .from) (a .to) (f .find .result) (f .before .before .pre) (f .find .ensures))
 
 pub separator-spec : {M : Type 1} → statement M
-separator-spec = tie.close (tie.spec find-requires find-requires-2 returns)
+separator-spec = tie.close (tie.spec (λ c κs. search needs) find-requires-2 returns)

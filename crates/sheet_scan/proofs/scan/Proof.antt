@@ -16,18 +16,6 @@ returns : tie.Need-returns
 unfolding capped
 returns c = let text = c .before .before .args .text .now in scan-refused text 0 (read-long text (omega (arith, c .if1 .taken)))
 
-slice-aggregate-line : tie.Need-slice-aggregate-line
-slice-aggregate-line c = search needs
-
-line-requires : tie.Need-line-requires
-line-requires c κs = search needs
-
-enum-known-b : tie.Need-enum-known-b
-enum-known-b c = search needs
-
-enum-told : tie.Need-enum-told
-enum-told c = search needs
-
 -- the text, where the first line is asked for
 module _ (l : tie.After-line) where
   abbrev text : Text
@@ -62,17 +50,8 @@ module _ (c : tie.After-known-told) where
 add-line : tie.Need-add-line
 add-line c = omega (arith, one c .spans .ended, short-1 c)
 
-slice-aggregate-line-2 : tie.Need-slice-aggregate-line-2
-slice-aggregate-line-2 c = search needs
-
 line-requires-2 : tie.Need-line-requires-2
 line-requires-2 c κs = omega (arith, one (c .before) .spans .ended)
-
-enum-known-d : tie.Need-enum-known-d
-enum-known-d c = search needs
-
-enum-told-2 : tie.Need-enum-told-2
-enum-told-2 c = search needs
 
 returns-3 : tie.Need-returns-3
 unfolding capped
@@ -103,17 +82,8 @@ module _ (c : tie.After-known-told2) where
 add-line-2 : tie.Need-add-line-2
 add-line-2 c = omega (arith, two c .spans .ended, short-2 c)
 
-slice-aggregate-line-3 : tie.Need-slice-aggregate-line-3
-slice-aggregate-line-3 c = search needs
-
 line-requires-3 : tie.Need-line-requires-3
 line-requires-3 c κs = omega (arith, two (c .before) .spans .ended)
-
-enum-known-o : tie.Need-enum-known-o
-enum-known-o c = search needs
-
-enum-told-3 : tie.Need-enum-told-3
-enum-told-3 c = search needs
 
 returns-4 : tie.Need-returns-4
 unfolding capped
@@ -144,17 +114,8 @@ module _ (c : tie.After-known-told3) where
 add-line-3 : tie.Need-add-line-3
 add-line-3 c = omega (arith, three c .spans .ended, short-3 c)
 
-slice-aggregate-line-4 : tie.Need-slice-aggregate-line-4
-slice-aggregate-line-4 c = search needs
-
 line-requires-4 : tie.Need-line-requires-4
 line-requires-4 c κs = omega (arith, three (c .before) .spans .ended)
-
-enum-known-c : tie.Need-enum-known-c
-enum-known-c c = search needs
-
-enum-told-4 : tie.Need-enum-told-4
-enum-told-4 c = search needs
 
 returns-5 : tie.Need-returns-5
 unfolding capped
@@ -185,17 +146,8 @@ module _ (c : tie.After-known-told4) where
 add-line-4 : tie.Need-add-line-4
 add-line-4 c = omega (arith, four c .spans .ended, short-4 c)
 
-slice-aggregate-line-5 : tie.Need-slice-aggregate-line-5
-slice-aggregate-line-5 c = search needs
-
 line-requires-5 : tie.Need-line-requires-5
 line-requires-5 c κs = omega (arith, four (c .before) .spans .ended)
-
-enum-known-p : tie.Need-enum-known-p
-enum-known-p c = search needs
-
-enum-told-5 : tie.Need-enum-told-5
-enum-told-5 c = search needs
 
 returns-6 : tie.Need-returns-6
 unfolding capped
@@ -247,34 +199,34 @@ scan-spec =
     tie.close
     (tie.spec
     returns
-    slice-aggregate-line
-    line-requires
-    enum-known-b
-    enum-told
+    (λ c. search needs)
+    (λ c κs. search needs)
+    (λ c. search needs)
+    (λ c. search needs)
     returns-2
     add-line
-    slice-aggregate-line-2
+    (λ c. search needs)
     line-requires-2
-    enum-known-d
-    enum-told-2
+    (λ c. search needs)
+    (λ c. search needs)
     returns-3
     add-line-2
-    slice-aggregate-line-3
+    (λ c. search needs)
     line-requires-3
-    enum-known-o
-    enum-told-3
+    (λ c. search needs)
+    (λ c. search needs)
     returns-4
     add-line-3
-    slice-aggregate-line-4
+    (λ c. search needs)
     line-requires-4
-    enum-known-c
-    enum-told-4
+    (λ c. search needs)
+    (λ c. search needs)
     returns-5
     add-line-4
-    slice-aggregate-line-5
+    (λ c. search needs)
     line-requires-5
-    enum-known-p
-    enum-told-5
+    (λ c. search needs)
+    (λ c. search needs)
     returns-6
     add-if2
     returns-7

@@ -6,27 +6,6 @@ use Rattle.sheet_beam.proofs.Beam.{answer-joined}
 use Rattle.sheet_text.proofs.put_answer.Statement.{statement}
 use Rattle.sheet_text.proofs.put_answer.Tie as tie
 
-put-count-requires : tie.Need-put-count-requires
-put-count-requires c κs = search needs
-
-put-beam-requires : tie.Need-put-beam-requires
-put-beam-requires c κs = search needs
-
-put-values-requires : tie.Need-put-values-requires
-put-values-requires c κs = search needs
-
-put-lows-requires : tie.Need-put-lows-requires
-put-lows-requires c κs = search needs
-
-same-length : tie.Need-same-length
-same-length c = search needs
-
-same-length-2 : tie.Need-same-length-2
-same-length-2 c = search needs
-
-same-length-3 : tie.Need-same-length-3
-same-length-3 c = search needs
-
 returns : tie.Need-returns
 returns c =
     let e = c .before .before in
@@ -43,4 +22,4 @@ returns c =
 
 pub put-answer-spec : {M : Type 1} → statement M
 put-answer-spec =
-    tie.close (tie.spec put-count-requires put-beam-requires put-values-requires put-lows-requires same-length same-length-2 same-length-3 returns)
+    tie.close (tie.spec (λ c κs. search needs) (λ c κs. search needs) (λ c κs. search needs) (λ c κs. search needs) (λ c. search needs) (λ c. search needs) (λ c. search needs) returns)

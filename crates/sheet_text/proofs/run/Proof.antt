@@ -12,33 +12,6 @@ use Rattle.sheet_text.proofs.Whole.{refused-prints, answered-filled, an
 use Rattle.sheet_text.proofs.run.Statement.{statement}
 use Rattle.sheet_text.proofs.run.Tie as tie
 
-slice-aggregate-curve : tie.Need-slice-aggregate-curve
-slice-aggregate-curve c = search needs
-
-slice-aggregate-curve-2 : tie.Need-slice-aggregate-curve-2
-slice-aggregate-curve-2 c = search needs
-
-slice-aggregate-curve-3 : tie.Need-slice-aggregate-curve-3
-slice-aggregate-curve-3 c = search needs
-
-curve-requires : tie.Need-curve-requires
-curve-requires c κs = search needs
-
-enum-known-answer : tie.Need-enum-known-answer
-enum-known-answer c = search needs
-
-refusal-requires : tie.Need-refusal-requires
-refusal-requires c κs = search needs
-
-enum-known-answer-2 : tie.Need-enum-known-answer-2
-enum-known-answer-2 c = search needs
-
-slice-aggregate-put-answer : tie.Need-slice-aggregate-put-answer
-slice-aggregate-put-answer c = search needs
-
-slice-aggregate-put-answer-2 : tie.Need-slice-aggregate-put-answer-2
-slice-aggregate-put-answer-2 c = search needs
-
 -- the five lists, where the call has returned
 abbrev lists : tie.After-curve → Arguments
 lists k =
@@ -89,9 +62,6 @@ put-answer-requires c κs =
       valued = rw (e .1 .1 .1) (values-enough (lists k) m (e .0) (count a) v _);
     }
 
-same-length : tie.Need-same-length
-same-length c = search needs
-
 returns : tie.Need-returns
 unfolding called
 returns c =
@@ -100,9 +70,6 @@ returns c =
     let p = c .before .before .refusal .ensures in
     let t = refused-prints (lists k) (k .curve .result) (k .curve .ensures .0) _ _ (x .1) in
     prints-as t (omega (arith, p .few)) p
-
-same-length-2 : tie.Need-same-length-2
-same-length-2 c = search needs
 
 returns-2 : tie.Need-returns-2
 unfolding called
@@ -117,20 +84,20 @@ pub run-spec : {M : Type 1} → statement M
 run-spec =
     tie.close
     (tie.spec
-    slice-aggregate-curve
-    slice-aggregate-curve-2
-    slice-aggregate-curve-3
-    curve-requires
-    enum-known-answer
-    refusal-requires
-    enum-known-answer-2
+    (λ c. search needs)
+    (λ c. search needs)
+    (λ c. search needs)
+    (λ c κs. search needs)
+    (λ c. search needs)
+    (λ c κs. search needs)
+    (λ c. search needs)
     mul-cells
-    slice-aggregate-put-answer
-    slice-aggregate-put-answer-2
+    (λ c. search needs)
+    (λ c. search needs)
     array-share-prefix-values
     slice-aggregate-put-answer-3
     put-answer-requires
-    same-length
+    (λ c. search needs)
     returns
-    same-length-2
+    (λ c. search needs)
     returns-2)

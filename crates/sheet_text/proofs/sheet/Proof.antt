@@ -15,18 +15,6 @@ use Rattle.sheet_text.proofs.Parts.{called-prints, malformed-prints}
 use Rattle.sheet_text.proofs.sheet.Statement.{statement}
 use Rattle.sheet_text.proofs.sheet.Tie as tie
 
-read-requires : tie.Need-read-requires
-read-requires c κs = search needs
-
-enum-known-lists : tie.Need-enum-known-lists
-enum-known-lists c = search needs
-
-refusal-requires : tie.Need-refusal-requires
-refusal-requires c κs = search needs
-
-enum-known-lists-2 : tie.Need-enum-known-lists-2
-enum-known-lists-2 c = search needs
-
 -- the lists, where the sheet has been read
 module _ (a : tie.After-lists2) where
   abbrev done : tie.After-read
@@ -96,9 +84,6 @@ run-requires c κs =
       positions-few (text a) (listed a .lists) (listed a .is),
     )
 
-same-length : tie.Need-same-length
-same-length c = search needs
-
 returns : tie.Need-returns
 returns c =
     let a = c .before .before .before .before .before in
@@ -106,9 +91,6 @@ returns c =
     let p = c .before .before .refusal .ensures in
     let t = malformed-prints _ (k .read .result) _ (k .read .ensures .replies) (a .lists .given .1) in
     prints-as t (omega (arith, p .few)) p
-
-same-length-2 : tie.Need-same-length-2
-same-length-2 c = search needs
 
 returns-2 : tie.Need-returns-2
 returns-2 c =
@@ -128,10 +110,10 @@ pub sheet-spec : {M : Type 1} → statement M
 sheet-spec =
     tie.close
     (tie.spec
-    read-requires
-    enum-known-lists
-    refusal-requires
-    enum-known-lists-2
+    (λ c κs. search needs)
+    (λ c. search needs)
+    (λ c κs. search needs)
+    (λ c. search needs)
     array-share-prefix-breaks
     slice-aggregate-run
     array-share-prefix-degrees
@@ -143,7 +125,7 @@ sheet-spec =
     array-share-prefix-positions
     slice-aggregate-run-5
     run-requires
-    same-length
+    (λ c. search needs)
     returns
-    same-length-2
+    (λ c. search needs)
     returns-2)

@@ -6,21 +6,6 @@ use Rattle.base_print.proofs.Buffer.{puts-then, puts-within}
 use Rattle.sheet_values.proofs.put_count.Statement.{statement}
 use Rattle.sheet_values.proofs.put_count.Tie as tie
 
-slice-aggregate-put-text : tie.Need-slice-aggregate-put-text
-slice-aggregate-put-text c = search needs
-
-put-text-requires : tie.Need-put-text-requires
-put-text-requires c κs = search needs
-
-put-digits-requires : tie.Need-put-digits-requires
-put-digits-requires c κs = search needs
-
-put-requires : tie.Need-put-requires
-put-requires c κs = search needs
-
-same-length : tie.Need-same-length
-same-length c = search needs
-
 returns : tie.Need-returns
 unfolding countLine
 returns c =
@@ -33,4 +18,4 @@ returns c =
     (d .put .ensures)))
 
 pub put-count-spec : {M : Type 1} → statement M
-put-count-spec = tie.close (tie.spec slice-aggregate-put-text put-text-requires put-digits-requires put-requires same-length returns)
+put-count-spec = tie.close (tie.spec (λ c. search needs) (λ c κs. search needs) (λ c κs. search needs) (λ c κs. search needs) (λ c. search needs) returns)

@@ -7,33 +7,15 @@ use Rattle.base_print.proofs.Buffer.{puts-then, puts-within}
 use Rattle.sheet_values.proofs.put_value.Statement.{statement}
 use Rattle.sheet_values.proofs.put_value.Tie as tie
 
-slice-aggregate-put-text : tie.Need-slice-aggregate-put-text
-slice-aggregate-put-text c = search needs
-
-put-text-requires : tie.Need-put-text-requires
-put-text-requires c κs = search needs
-
 cast-put-decimal : tie.Need-cast-put-decimal
 cast-put-decimal c =
     let f = c .before .before .before .before .before .before .before .fits .x in
     simp toZ-ofZ (sfits-widen f)
 
-put-decimal-requires : tie.Need-put-decimal-requires
-put-decimal-requires c κs = search needs
-
-put-requires : tie.Need-put-requires
-put-requires c κs = search needs
-
 cast-put-decimal-2 : tie.Need-cast-put-decimal-2
 cast-put-decimal-2 c =
     let f = c .before .before .before .before .before .before .before .before .before .before .before .before .before .before .before .fits .early in
     simp toZ-ofZ (sfits-widen f)
-
-put-decimal-requires-2 : tie.Need-put-decimal-requires-2
-put-decimal-requires-2 c κs = search needs
-
-put-requires-2 : tie.Need-put-requires-2
-put-requires-2 c κs = search needs
 
 cast-put-decimal-3 : tie.Need-cast-put-decimal-3
 cast-put-decimal-3 c =
@@ -41,15 +23,6 @@ cast-put-decimal-3 c =
     let s = early .before .before .before .before .before .before .before .before .before .before .before .before .before .before .before in
     let f = s .fits .late in
     simp toZ-ofZ (sfits-widen f)
-
-put-decimal-requires-3 : tie.Need-put-decimal-requires-3
-put-decimal-requires-3 c κs = search needs
-
-put-requires-3 : tie.Need-put-requires-3
-put-requires-3 c κs = search needs
-
-same-length : tie.Need-same-length
-same-length c = search needs
 
 returns : tie.Need-returns
 unfolding valueLine
@@ -79,5 +52,5 @@ returns c =
 
 pub put-value-spec : {M : Type 1} → statement M
 put-value-spec =
-    tie.close (tie.spec slice-aggregate-put-text put-text-requires cast-put-decimal put-decimal-requires put-requires cast-put-decimal-2
-    put-decimal-requires-2 put-requires-2 cast-put-decimal-3 put-decimal-requires-3 put-requires-3 same-length returns)
+    tie.close (tie.spec (λ c. search needs) (λ c κs. search needs) cast-put-decimal (λ c κs. search needs) (λ c κs. search needs) cast-put-decimal-2
+    (λ c κs. search needs) (λ c κs. search needs) cast-put-decimal-3 (λ c κs. search needs) (λ c κs. search needs) (λ c. search needs) returns)

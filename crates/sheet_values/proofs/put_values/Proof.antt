@@ -33,42 +33,6 @@ abbrev μ-loop : tie.MeasureT-loop
 loop-holds : tie.Need-loop-holds Inv-loop μ-loop
 loop-holds c = record { within = omega arith; put = puts-as (sym (valueLines-none _)) (puts-none _ _) }
 
-mul-early : tie.Need-mul-early Inv-loop μ-loop
-mul-early c = omega arith
-
-mul-early-2 : tie.Need-mul-early-2 Inv-loop μ-loop
-mul-early-2 c = omega arith
-
-shared-slice-copy-out-early : tie.Need-shared-slice-copy-out-early Inv-loop μ-loop
-shared-slice-copy-out-early c = omega arith
-
-mul-late : tie.Need-mul-late Inv-loop μ-loop
-mul-late c = omega arith
-
-add-late : tie.Need-add-late Inv-loop μ-loop
-add-late c = omega arith
-
-mul-late-2 : tie.Need-mul-late-2 Inv-loop μ-loop
-mul-late-2 c = omega arith
-
-shared-slice-copy-out-late : tie.Need-shared-slice-copy-out-late Inv-loop μ-loop
-shared-slice-copy-out-late c = omega arith
-
-mul-put-value : tie.Need-mul-put-value Inv-loop μ-loop
-mul-put-value c = omega arith
-
-shared-slice-copy-out-put-value : tie.Need-shared-slice-copy-out-put-value Inv-loop μ-loop
-shared-slice-copy-out-put-value c = omega arith
-
-put-value-requires : tie.Need-put-value-requires Inv-loop μ-loop
-put-value-requires c κs = omega arith
-
-add-k : tie.Need-add-k Inv-loop μ-loop
-add-k c = omega arith
-
-loop-less : tie.Need-loop-less Inv-loop μ-loop
-loop-less c = omega arith
-
 loop-again : tie.Need-loop-again Inv-loop μ-loop
 loop-again c =
     let l = c .before .before .before .before .before .before .before .before .loop in
@@ -99,5 +63,5 @@ returns c =
 
 pub put-values-spec : {M : Type 1} → statement M
 put-values-spec =
-    tie.close (tie.spec Inv-loop μ-loop loop-holds mul-early mul-early-2 shared-slice-copy-out-early mul-late add-late mul-late-2
-    shared-slice-copy-out-late mul-put-value shared-slice-copy-out-put-value put-value-requires add-k loop-less loop-again same-length returns)
+    tie.close (tie.spec Inv-loop μ-loop loop-holds (λ c. omega arith) (λ c. omega arith) (λ c. omega arith) (λ c. omega arith) (λ c. omega arith) (λ c. omega arith)
+    (λ c. omega arith) (λ c. omega arith) (λ c. omega arith) (λ c κs. omega arith) (λ c. omega arith) (λ c. omega arith) loop-again same-length returns)

@@ -17,21 +17,6 @@ returns c =
     let f : SFits w64 (s .args .num) = s .fits .num in
     puts-as (sym (cell-zero _ _ _ _ _ (ofZ-inj w64 _ (pos 0) f (sfits-nat 0 (omega arith)) (c .if1 .taken)))) (puts-within (omega arith) (puts-none _ _))
 
-add-put-place : tie.Need-add-put-place
-add-put-place c = omega arith
-
-add-put-place-2 : tie.Need-add-put-place-2
-add-put-place-2 c = omega arith
-
-put-place-requires : tie.Need-put-place-requires
-put-place-requires c κs = search needs
-
-put-fraction-requires : tie.Need-put-fraction-requires
-put-fraction-requires c κs = search needs
-
-same-length : tie.Need-same-length
-same-length c = search needs
-
 returns-2 : tie.Need-returns-2
 returns-2 c =
     let s = c .before .before .before .before .before .before .before .before .before .before in
@@ -42,4 +27,4 @@ returns-2 c =
     (puts-within (omega arith) (puts-then (place .put-place .ensures) (simp toZ-ofZ at (c .before .before .put-fraction .ensures))))
 
 pub put-cell-spec : {M : Type 1} → statement M
-put-cell-spec = tie.close (tie.spec returns add-put-place add-put-place-2 put-place-requires put-fraction-requires same-length returns-2)
+put-cell-spec = tie.close (tie.spec returns (λ c. omega arith) (λ c. omega arith) (λ c κs. search needs) (λ c κs. search needs) (λ c. search needs) returns-2)

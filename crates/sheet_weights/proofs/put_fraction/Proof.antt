@@ -11,24 +11,6 @@ use Rattle.base_print.proofs.Buffer.{puts-then, puts-within, puts-as}
 use Rattle.sheet_weights.proofs.put_fraction.Statement.{statement}
 use Rattle.sheet_weights.proofs.put_fraction.Tie as tie
 
-magnitude-requires : tie.Need-magnitude-requires
-magnitude-requires c κs = search needs
-
-put-decimal-requires : tie.Need-put-decimal-requires
-put-decimal-requires c κs = search needs
-
-put-requires : tie.Need-put-requires
-put-requires c κs = search needs
-
-put-digits-requires : tie.Need-put-digits-requires
-put-digits-requires c κs = search needs
-
-put-requires-2 : tie.Need-put-requires-2
-put-requires-2 c κs = search needs
-
-same-length : tie.Need-same-length
-same-length c = search needs
-
 returns : tie.Need-returns
 returns c =
     let e = c .before .before in
@@ -46,4 +28,4 @@ returns c =
     (e .put2 .ensures))))
 
 pub put-fraction-spec : {M : Type 1} → statement M
-put-fraction-spec = tie.close (tie.spec magnitude-requires put-decimal-requires put-requires put-digits-requires put-requires-2 same-length returns)
+put-fraction-spec = tie.close (tie.spec (λ c κs. search needs) (λ c κs. search needs) (λ c κs. search needs) (λ c κs. search needs) (λ c κs. search needs) (λ c. search needs) returns)

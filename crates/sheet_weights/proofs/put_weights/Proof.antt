@@ -27,32 +27,8 @@ Inv-loop out₀ at row column n num den cells next₀ k₀ out next k = Inv out�
 abbrev μ-loop : tie.MeasureT-loop
 μ-loop out₀ at row column n num den cells next₀ k₀ out next k = cells - k
 
-mul-cells : tie.Need-mul-cells Inv-loop μ-loop
-mul-cells c = omega arith
-
 loop-holds : tie.Need-loop-holds Inv-loop μ-loop
 loop-holds c = record { within = omega arith; put = puts-as (sym (cells-none _ _ _ _)) (puts-none _ _) }
-
-mul-put-cell : tie.Need-mul-put-cell Inv-loop μ-loop
-mul-put-cell c = omega arith
-
-shared-slice-copy-out-put-cell : tie.Need-shared-slice-copy-out-put-cell Inv-loop μ-loop
-shared-slice-copy-out-put-cell c = omega arith
-
-mul-put-cell-2 : tie.Need-mul-put-cell-2 Inv-loop μ-loop
-mul-put-cell-2 c = omega arith
-
-shared-slice-copy-out-put-cell-2 : tie.Need-shared-slice-copy-out-put-cell-2 Inv-loop μ-loop
-shared-slice-copy-out-put-cell-2 c = omega arith
-
-put-cell-requires : tie.Need-put-cell-requires Inv-loop μ-loop
-put-cell-requires c κs = omega arith
-
-add-k : tie.Need-add-k Inv-loop μ-loop
-add-k c = omega arith
-
-loop-less : tie.Need-loop-less Inv-loop μ-loop
-loop-less c = omega arith
 
 loop-again : tie.Need-loop-again Inv-loop μ-loop
 loop-again c =
@@ -78,5 +54,5 @@ returns c =
 
 pub put-weights-spec : {M : Type 1} → statement M
 put-weights-spec =
-    tie.close (tie.spec Inv-loop μ-loop mul-cells loop-holds mul-put-cell shared-slice-copy-out-put-cell mul-put-cell-2
-    shared-slice-copy-out-put-cell-2 put-cell-requires add-k loop-less loop-again same-length returns)
+    tie.close (tie.spec Inv-loop μ-loop (λ c. omega arith) loop-holds (λ c. omega arith) (λ c. omega arith) (λ c. omega arith)
+    (λ c. omega arith) (λ c κs. omega arith) (λ c. omega arith) (λ c. omega arith) loop-again same-length returns)

@@ -27,15 +27,6 @@ from-thousandths z ws e = sym (ap (λ (b : Bool). cond b (fromHundredths ws) ws)
 closing-test : (c : tie.After-same) → c .same .result ≡ same (c .before .args .closing) hundredths
 closing-test c = let f = c .before .fits .closing in simp toZ-ofZ at (c .same .ensures)
 
-same-requires : tie.Need-same-requires
-same-requires c κs = search needs
-
-scale-requires : tie.Need-scale-requires
-scale-requires c κs = search needs
-
-same-length : tie.Need-same-length
-same-length c = search needs
-
 returns : tie.Need-returns
 returns c =
     let t = c .before .before .before in
@@ -54,4 +45,4 @@ returns-2 c =
     sym (ap (sets w from) same-part ∙ sets-slice (s .args .to - from) from w (omega (arith, s .pre .within)))
 
 pub convert-spec : {M : Type 1} → statement M
-convert-spec = tie.close (tie.spec same-requires scale-requires same-length returns returns-2)
+convert-spec = tie.close (tie.spec (λ c κs. search needs) (λ c κs. search needs) (λ c. search needs) returns returns-2)

@@ -33,24 +33,6 @@ loop-holds c =
       left = ap₂ (λ (i j : ℕ). sets (a .names .now) i (slice j (a .from + nameColumns) (a .text .now))) e f;
     }
 
-add-names : tie.Need-add-names Inv-loop μ-loop
-add-names c = omega arith
-
-shared-slice-read-names : tie.Need-shared-slice-read-names Inv-loop μ-loop
-shared-slice-read-names c = omega arith
-
-add-names-2 : tie.Need-add-names-2 Inv-loop μ-loop
-add-names-2 c = omega arith
-
-slice-write-names : tie.Need-slice-write-names Inv-loop μ-loop
-slice-write-names c = omega arith
-
-add-i : tie.Need-add-i Inv-loop μ-loop
-add-i c = omega arith
-
-loop-less : tie.Need-loop-less Inv-loop μ-loop
-loop-less c = omega arith
-
 loop-again : tie.Need-loop-again Inv-loop μ-loop
 loop-again c =
     let l = c .before .before .loop in
@@ -88,12 +70,12 @@ copy-name-spec =
     Inv-loop
     μ-loop
     loop-holds
-    add-names
-    shared-slice-read-names
-    add-names-2
-    slice-write-names
-    add-i
-    loop-less
+    (λ c. omega arith)
+    (λ c. omega arith)
+    (λ c. omega arith)
+    (λ c. omega arith)
+    (λ c. omega arith)
+    (λ c. omega arith)
     loop-again
     same-length
     returns)

@@ -52,12 +52,6 @@ loop-holds c =
       left = ap₂ (λ (i k : ℕ). sets (a .widths .now) i (NumeralsOf k t)) e f;
     }
 
-add-numeral : tie.Need-add-numeral Inv-loop μ-loop
-add-numeral c = omega arith
-
-numeral-requires : tie.Need-numeral-requires Inv-loop μ-loop
-numeral-requires c κs = omega arith
-
 -- a turn's field
 module _ (c : tie.After-numeral Inv-loop μ-loop) where
   abbrev s : tie.Start Inv-loop μ-loop
@@ -78,35 +72,14 @@ module _ (c : tie.After-numeral Inv-loop μ-loop) where
       field-numeral text (l .start) (s .args .to) (s .args .n - l .i) left longer (l .inv .numerals)
       (field-none _ (sym (c .numeral .ensures) ∙ e))
 
-enum-told : tie.Need-enum-told Inv-loop μ-loop
-enum-told c = search needs
-
 same-length : tie.Need-same-length Inv-loop μ-loop
 same-length c = absurd (not-bad (c .before .before) (c .enum-told .given .1))
 
 returns : tie.Need-returns Inv-loop μ-loop
 returns c = absurd (not-bad (c .before .before) (c .enum-told .given .1))
 
-enum-known-field : tie.Need-enum-known-field Inv-loop μ-loop
-enum-known-field c = search needs
-
-add-z : tie.Need-add-z Inv-loop μ-loop
-add-z c = omega arith
-
 mul-z : tie.Need-mul-z Inv-loop μ-loop
 mul-z c = omega (arith, c .before .before .before .before .before .before .before .good)
-
-slice-set-from-z : tie.Need-slice-set-from-z Inv-loop μ-loop
-slice-set-from-z c = omega arith
-
-add-start : tie.Need-add-start Inv-loop μ-loop
-add-start c = omega arith
-
-add-i : tie.Need-add-i Inv-loop μ-loop
-add-i c = omega arith
-
-loop-less : tie.Need-loop-less Inv-loop μ-loop
-loop-less c = omega arith
 
 loop-again : tie.Need-loop-again Inv-loop μ-loop
 loop-again c =
@@ -148,18 +121,18 @@ fill-spec =
     Inv-loop
     μ-loop
     loop-holds
-    add-numeral
-    numeral-requires
-    enum-told
+    (λ c. omega arith)
+    (λ c κs. omega arith)
+    (λ c. search needs)
     same-length
     returns
-    enum-known-field
-    add-z
+    (λ c. search needs)
+    (λ c. omega arith)
     mul-z
-    slice-set-from-z
-    add-start
-    add-i
-    loop-less
+    (λ c. omega arith)
+    (λ c. omega arith)
+    (λ c. omega arith)
+    (λ c. omega arith)
     loop-again
     same-length-2
     returns-2)

@@ -73,9 +73,6 @@ not-bad c e =
     let g = l f .loop in
     never-bad (g .inv) (line-end f) (f .before .loop-test .taken) (line-none _ (sym (c .line .ensures) ∙ e))
 
-enum-told : tie.Need-enum-told Inv-loop μ-loop
-enum-told c = search needs
-
 same-length : tie.Need-same-length Inv-loop μ-loop
 same-length c = absurd (not-bad (c .before .before) (c .enum-told .given .1))
 
@@ -90,12 +87,6 @@ same-length-4 c = absurd (not-bad (c .before .before) (c .enum-told .given .1))
 
 returns : tie.Need-returns Inv-loop μ-loop
 returns c = absurd (not-bad (c .before .before) (c .enum-told .given .1))
-
-enum-known-line : tie.Need-enum-known-line Inv-loop μ-loop
-enum-known-line c = search needs
-
-first-year-requires : tie.Need-first-year-requires Inv-loop μ-loop
-first-year-requires c κs = search needs
 
 -- a good line, and the year with which its series began
 module _ (y : tie.After-first-year Inv-loop μ-loop) where
@@ -314,14 +305,14 @@ write-spec =
     loop-holds
     find-requires
     line-requires
-    enum-told
+    (λ c. search needs)
     same-length
     same-length-2
     same-length-3
     same-length-4
     returns
-    enum-known-line
-    first-year-requires
+    (λ c. search needs)
+    (λ c κs. search needs)
     goes-on-requires
     add-fill
     fill-requires

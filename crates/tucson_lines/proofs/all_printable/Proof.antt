@@ -17,29 +17,17 @@ abbrev μ-loop : tie.MeasureT-loop
 loop-holds : tie.Need-loop-holds Inv-loop μ-loop
 loop-holds c = (c .pre .ordered, refl)
 
-shared-slice-read-if1 : tie.Need-shared-slice-read-if1 Inv-loop μ-loop
-shared-slice-read-if1 c = omega arith
-
 returns : tie.Need-returns Inv-loop μ-loop
 returns c =
     let s = c .before .before .before .before in
     let l = c .before .before .before .loop in
     sym (l .inv .1 ∙ printable-low (s .args .text .now) (l .i) (s .args .to) (omega arith) (s .pre .within) (c .if1 .taken))
 
-shared-slice-read-if2 : tie.Need-shared-slice-read-if2 Inv-loop μ-loop
-shared-slice-read-if2 c = omega arith
-
 returns-2 : tie.Need-returns-2 Inv-loop μ-loop
 returns-2 c =
     let s = c .before .before .before .before .before .before in
     let l = c .before .before .before .before .before .loop in
     sym (l .inv .1 ∙ printable-high (s .args .text .now) (l .i) (s .args .to) (omega arith) (s .pre .within) (c .if2 .taken))
-
-add-i : tie.Need-add-i Inv-loop μ-loop
-add-i c = omega arith
-
-loop-less : tie.Need-loop-less Inv-loop μ-loop
-loop-less c = omega arith
 
 loop-again : tie.Need-loop-again Inv-loop μ-loop
 loop-again c =
@@ -56,5 +44,5 @@ returns-3 c =
 
 pub all-printable-spec : {M : Type 1} → statement M
 all-printable-spec =
-    tie.close (tie.spec Inv-loop μ-loop loop-holds shared-slice-read-if1 returns shared-slice-read-if2 returns-2 add-i loop-less loop-again
+    tie.close (tie.spec Inv-loop μ-loop loop-holds (λ c. omega arith) returns (λ c. omega arith) returns-2 (λ c. omega arith) (λ c. omega arith) loop-again
     returns-3)

@@ -7,17 +7,11 @@ use Rattle.spec_tucson.specs.Line.{same, thousandths}
 use Rattle.tucson_lines.proofs.ends_series.Statement.{statement}
 use Rattle.tucson_lines.proofs.ends_series.Tie as tie
 
-is-width-requires : tie.Need-is-width-requires
-is-width-requires c κs = search needs
-
 returns : tie.Need-returns
 returns c =
     let s = c .before .before in
     let f = s .fits .field in
     sym (ap (λ (b : Bool). b || same (s .args .field) thousandths) (sym (simp toZ-ofZ at (c .before .is-width .ensures)) ∙ c .if1 .taken))
-
-same-requires : tie.Need-same-requires
-same-requires c κs = search needs
 
 returns-2 : tie.Need-returns-2
 returns-2 c =
@@ -27,4 +21,4 @@ returns-2 c =
     ∙ sym (ap (λ (b : Bool). b || same (s .args .field) thousandths) (sym (simp toZ-ofZ at (c .before .before .is-width .ensures)) ∙ c .before .if1 .left))
 
 pub ends-series-spec : {M : Type 1} → statement M
-ends-series-spec = tie.close (tie.spec is-width-requires returns same-requires returns-2)
+ends-series-spec = tie.close (tie.spec (λ c κs. search needs) returns (λ c κs. search needs) returns-2)

@@ -12,24 +12,6 @@ use Rattle.tucson_lines.proofs.Lines.{goes-on-is}
 use Rattle.tucson_lines.proofs.goes_on.Statement.{statement}
 use Rattle.tucson_lines.proofs.goes_on.Tie as tie
 
-add-begins : tie.Need-add-begins
-add-begins c = search needs
-
-add-begins-2 : tie.Need-add-begins-2
-add-begins-2 c = search needs
-
-sub-begins : tie.Need-sub-begins
-sub-begins c = search needs
-
-part-begins-start : tie.Need-part-begins-start
-part-begins-start c = search needs
-
-part-begins-end : tie.Need-part-begins-end
-part-begins-end c = search needs
-
-begins-requires : tie.Need-begins-requires
-begins-requires c κs = search needs
-
 returns : tie.Need-returns
 returns c =
     let s = c .before .before .before in
@@ -41,4 +23,4 @@ returns c =
     ∙ sym (goes-on-is (s .args .text .now) (s .args .from) (s .args .end) (s .pre .longer) (s .pre .ended) (s .pre .named))
 
 pub goes-on-spec : {M : Type 1} → statement M
-goes-on-spec = tie.close (tie.spec add-begins add-begins-2 sub-begins part-begins-start part-begins-end begins-requires returns)
+goes-on-spec = tie.close (tie.spec (λ c. search needs) (λ c. search needs) (λ c. search needs) (λ c. search needs) (λ c. search needs) (λ c κs. search needs) returns)

@@ -7,22 +7,10 @@ use Rattle.tucson_lines.proofs.Fields.{name-unprintable, name-printable
 use Rattle.tucson_lines.proofs.is_name.Statement.{statement}
 use Rattle.tucson_lines.proofs.is_name.Tie as tie
 
-add-all-printable : tie.Need-add-all-printable
-add-all-printable c = search needs
-
-all-printable-requires : tie.Need-all-printable-requires
-all-printable-requires c κs = search needs
-
 returns : tie.Need-returns
 returns c =
     let s = c .before .before .before in
     sym (name-unprintable (s .args .text .now) (s .args .from) (s .pre) (sym (c .before .all-printable .ensures) ∙ not-true _ (c .if1 .taken)))
-
-add-all-blank : tie.Need-add-all-blank
-add-all-blank c = search needs
-
-all-blank-requires : tie.Need-all-blank-requires
-all-blank-requires c κs = search needs
 
 returns-2 : tie.Need-returns-2
 returns-2 c =
@@ -31,4 +19,4 @@ returns-2 c =
     ∙ sym (name-printable (s .args .text .now) (s .args .from) (s .pre) (sym (c .before .before .all-printable .ensures) ∙ not-false _ (c .before .if1 .left)))
 
 pub is-name-spec : {M : Type 1} → statement M
-is-name-spec = tie.close (tie.spec add-all-printable all-printable-requires returns add-all-blank all-blank-requires returns-2)
+is-name-spec = tie.close (tie.spec (λ c. search needs) (λ c κs. search needs) returns (λ c. search needs) (λ c κs. search needs) returns-2)

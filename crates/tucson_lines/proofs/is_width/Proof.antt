@@ -5,12 +5,9 @@ use Rattle.spec_tucson.specs.Line.{isWidth}
 use Rattle.tucson_lines.proofs.is_width.Statement.{statement}
 use Rattle.tucson_lines.proofs.is_width.Tie as tie
 
-both-requires : tie.Need-both-requires
-both-requires c κs = search needs
-
 returns : tie.Need-returns
 unfolding isWidth
 returns c = let f = c .before .fits .field in simp toZ-ofZ at (c .both .ensures)
 
 pub is-width-spec : {M : Type 1} → statement M
-is-width-spec = tie.close (tie.spec both-requires returns)
+is-width-spec = tie.close (tie.spec (λ c κs. search needs) returns)

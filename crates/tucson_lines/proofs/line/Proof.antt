@@ -73,21 +73,9 @@ misfits c e = sym (ap lineTold (good-misfits (text c) (from c) (end c) (s c .pre
 sub-size : tie.Need-sub-size
 sub-size c = omega (arith, within c)
 
-add-if2 : tie.Need-add-if2
-add-if2 c = search needs
-
 returns-2 : tie.Need-returns-2
 unfolding lineTold
 returns-2 c = let k = c .before in misfits k (misfit-short (text k) (from k) (end k) (s k .pre) (ended k) (c .if2 .taken))
-
-sub-n : tie.Need-sub-n
-sub-n c = search needs
-
-mul-if3 : tie.Need-mul-if3
-mul-if3 c = search needs
-
-add-if3 : tie.Need-add-if3
-add-if3 c = search needs
 
 returns-3 : tie.Need-returns-3
 unfolding lineTold
@@ -111,7 +99,7 @@ numerals-requires c κs =
     let k = e1 (c .before) in
     let at = c .before .before in
     record {
-      part = record { ordered = within k .0; within = within k .1 };
+      range = record { ordered = within k .0; within = within k .1 };
       some-field = omega (arith, at .before .before .if2 .left);
       size = omega (arith, within k, at .before .if3 .left, at .before .before .if2 .left);
     }
@@ -125,4 +113,5 @@ returns-6 c =
 
 pub line-spec : {M : Type 1} → statement M
 line-spec =
-    tie.close (tie.spec returns sub-size add-if2 returns-2 sub-n mul-if3 add-if3 returns-3 returns-4 is-name-requires returns-5 numerals-requires returns-6)
+    tie.close (tie.spec returns sub-size (λ c. search needs) returns-2 (λ c. search needs) (λ c. search needs)
+    (λ c. search needs) returns-3 returns-4 is-name-requires returns-5 numerals-requires returns-6)

@@ -83,58 +83,16 @@ module _ (c : tie.After-known-told3) where
 in-decade : (c : tie.After-year-in-decade) → c .year-in-decade .result ≡ yearInDecade (year (y (w (c .before))))
 in-decade c = let g = year-fits (y (w (c .before))) in simp toZ-ofZ at (c .year-in-decade .ensures)
 
-add-numeral : tie.Need-add-numeral
-add-numeral c = search needs
-
-add-numeral-2 : tie.Need-add-numeral-2
-add-numeral-2 c = search needs
-
-numeral-requires : tie.Need-numeral-requires
-numeral-requires c κs = search needs
-
-enum-known-year : tie.Need-enum-known-year
-enum-known-year c = search needs
-
-enum-told : tie.Need-enum-told
-enum-told c = search needs
-
 returns : tie.Need-returns
 returns c =
     let k = c .before .before in
     sym (numerals-no-year (columns k) (field-none _ (sym (k .numeral .ensures) ∙ c .enum-told .given .1)))
-
-add-widths : tie.Need-add-widths
-add-widths c = search needs
-
-sub-widths : tie.Need-sub-widths
-sub-widths c = search needs
-
-widths-requires : tie.Need-widths-requires
-widths-requires c κs = omega arith
-
-enum-known-small : tie.Need-enum-known-small
-enum-known-small c = search needs
-
-enum-told-2 : tie.Need-enum-told-2
-enum-told-2 c = search needs
 
 returns-2 : tie.Need-returns-2
 returns-2 c =
     let l = c .before .before in
     let k = f (l .before) in
     sym (numerals-no-widths (columns k) (is-year (l .before)) (sym (l .widths .ensures) ∙ c .enum-told2 .given .1))
-
-sub-numeral : tie.Need-sub-numeral
-sub-numeral c = search needs
-
-numeral-requires-2 : tie.Need-numeral-requires-2
-numeral-requires-2 c κs = search needs
-
-enum-known-last : tie.Need-enum-known-last
-enum-known-last c = search needs
-
-enum-told-3 : tie.Need-enum-told-3
-enum-told-3 c = search needs
 
 returns-3 : tie.Need-returns-3
 returns-3 c =
@@ -143,13 +101,10 @@ returns-3 c =
     let k = f m in
     sym (numerals-no-last (columns k) (is-year m) (field-none _ (sym (l .numeral2 .ensures) ∙ c .enum-told3 .given .1)))
 
-year-in-decade-requires : tie.Need-year-in-decade-requires
-year-in-decade-requires c κs = search needs
-
 add-if1 : tie.Need-add-if1
 add-if1 c =
     let k = f (y (w (c .before))) in
-    omega (arith, in-decade c, year-below (year (y (w (c .before)))), s k .pre .part .within, s k .good .0)
+    omega (arith, in-decade c, year-below (year (y (w (c .before)))), s k .pre .range .within, s k .good .0)
 
 returns-4 : tie.Need-returns-4
 returns-4 c =
@@ -158,9 +113,6 @@ returns-4 c =
     let m = y v in
     let k = f m in
     sym (numerals-late (columns k) (is-year m) (are-widths v) (is-last l) (omega (arith, in-decade (c .before), c .if1 .taken)))
-
-ends-series-requires : tie.Need-ends-series-requires
-ends-series-requires c κs = search needs
 
 -- what the last field's test says
 end-test : (c : tie.After-ends-series)
@@ -193,26 +145,26 @@ pub numerals-spec : {M : Type 1} → statement M
 numerals-spec =
     tie.close
     (tie.spec
-    add-numeral
-    add-numeral-2
-    numeral-requires
-    enum-known-year
-    enum-told
+    (λ c. search needs)
+    (λ c. search needs)
+    (λ c κs. search needs)
+    (λ c. search needs)
+    (λ c. search needs)
     returns
-    add-widths
-    sub-widths
-    widths-requires
-    enum-known-small
-    enum-told-2
+    (λ c. search needs)
+    (λ c. search needs)
+    (λ c κs. omega arith)
+    (λ c. search needs)
+    (λ c. search needs)
     returns-2
-    sub-numeral
-    numeral-requires-2
-    enum-known-last
-    enum-told-3
+    (λ c. search needs)
+    (λ c κs. search needs)
+    (λ c. search needs)
+    (λ c. search needs)
     returns-3
-    year-in-decade-requires
+    (λ c κs. search needs)
     add-if1
     returns-4
-    ends-series-requires
+    (λ c κs. search needs)
     returns-5
     returns-6)

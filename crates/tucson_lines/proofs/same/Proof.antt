@@ -4,9 +4,6 @@ use Rattle.base_exact.proofs.Word.{toZ-ofZ}
 use Rattle.tucson_lines.proofs.same.Statement.{statement}
 use Rattle.tucson_lines.proofs.same.Tie as tie
 
-both-requires : tie.Need-both-requires
-both-requires c κs = search needs
-
 returns : tie.Need-returns
 returns c =
     let f = c .before .fits .a in
@@ -14,4 +11,4 @@ returns c =
     simp toZ-ofZ at (c .both .ensures)
 
 pub same-spec : {M : Type 1} → statement M
-same-spec = tie.close (tie.spec both-requires returns)
+same-spec = tie.close (tie.spec (λ c κs. search needs) returns)

@@ -36,12 +36,6 @@ abbrev μ-loop : tie.MeasureT-loop
 loop-holds : tie.Need-loop-holds Inv-loop μ-loop
 loop-holds c = record { within = omega arith; told = refl }
 
-add-numeral : tie.Need-add-numeral Inv-loop μ-loop
-add-numeral c = omega arith
-
-numeral-requires : tie.Need-numeral-requires Inv-loop μ-loop
-numeral-requires c κs = omega arith
-
 -- a turn's field, and the answer by it and the fields behind it
 module _ (c : tie.After-numeral Inv-loop μ-loop) where
   abbrev s : tie.Start Inv-loop μ-loop
@@ -65,19 +59,10 @@ module _ (c : tie.After-numeral Inv-loop μ-loop) where
   so-far : widthsTold true (fieldNumerals (s .args .n) (slice (s .args .from) (s .args .to) (s .args .text .now))) ≡ widthsTold small (withField here others)
   so-far = c .before .before .loop .inv .told ∙ ap (widthsTold small) (fields-first left (s .args .text .now) at (s .args .to) (omega arith) (omega arith))
 
-enum-told : tie.Need-enum-told Inv-loop μ-loop
-enum-told c = search needs
-
 returns : tie.Need-returns Inv-loop μ-loop
 returns c =
     let f = c .before .before in
     sym (so-far f ∙ widths-no-numeral (small f) (here f) (others f) (field-none _ (sym (f .numeral .ensures) ∙ c .enum-told .given .1)))
-
-enum-known-field : tie.Need-enum-known-field Inv-loop μ-loop
-enum-known-field c = search needs
-
-is-width-requires : tie.Need-is-width-requires Inv-loop μ-loop
-is-width-requires c κs = search needs
 
 returns-2 : tie.Need-returns-2 Inv-loop μ-loop
 returns-2 c =
@@ -87,18 +72,6 @@ returns-2 c =
     let fits : SFits w32 z = record { sfits = k .known-told .given .0 .1 } in
     let no-width : isWidth z ≡ false = sym (simp toZ-ofZ at (c .before .is-width .ensures)) ∙ not-true _ (c .if1 .taken) in
     sym (so-far f ∙ widths-no-width (small f) (here f) z (others f) (field-some _ z (sym (f .numeral .ensures) ∙ k .before .field .given .1)) no-width)
-
-both-requires : tie.Need-both-requires Inv-loop μ-loop
-both-requires c κs = search needs
-
-add-at : tie.Need-add-at Inv-loop μ-loop
-add-at c = omega arith
-
-sub-left : tie.Need-sub-left Inv-loop μ-loop
-sub-left c = omega arith
-
-loop-less : tie.Need-loop-less Inv-loop μ-loop
-loop-less c = omega arith
 
 loop-again : tie.Need-loop-again Inv-loop μ-loop
 loop-again c =
@@ -131,16 +104,16 @@ widths-spec =
     Inv-loop
     μ-loop
     loop-holds
-    add-numeral
-    numeral-requires
-    enum-told
+    (λ c. omega arith)
+    (λ c κs. omega arith)
+    (λ c. search needs)
     returns
-    enum-known-field
-    is-width-requires
+    (λ c. search needs)
+    (λ c κs. search needs)
     returns-2
-    both-requires
-    add-at
-    sub-left
-    loop-less
+    (λ c κs. search needs)
+    (λ c. omega arith)
+    (λ c. omega arith)
+    (λ c. omega arith)
     loop-again
     returns-3)

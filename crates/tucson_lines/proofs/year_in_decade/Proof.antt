@@ -40,9 +40,6 @@ module _ (c : tie.Then1) where
 above : (c : tie.Else1) → pos 0 ≤ℤ c .before .args .year
 above c = let f = c .before .fits .year in ltZ-false _ _ (simp toZ-ofZ at (c .if1 .left))
 
-sub-result : tie.Need-sub-result
-sub-result c = search needs
-
 sub-result-2 : tie.Need-sub-result-2
 sub-result-2 c = let f = c .before .fits .year in simp toZ-ofZ (turned-fits c)
 
@@ -51,12 +48,6 @@ cast-result c =
     let f = c .before .fits .year in
     let g = turned-fits c in
     simp toZ-ofZ (fits-unsigned (turned-above c) g)
-
-cast-result-2 : tie.Need-cast-result-2
-cast-result-2 c = search needs
-
-sub-result-3 : tie.Need-sub-result-3
-sub-result-3 c = search needs
 
 returns : tie.Need-returns
 returns c =
@@ -67,11 +58,8 @@ returns c =
 cast-result-3 : tie.Need-cast-result-3
 cast-result-3 c = let f = c .before .fits .year in simp toZ-ofZ (fits-unsigned (above c) f)
 
-cast-result-4 : tie.Need-cast-result-4
-cast-result-4 c = search needs
-
 returns-2 : tie.Need-returns-2
 returns-2 c = let f = c .before .fits .year in simp toZ-ofZ (natural-year _ (above c))
 
 pub year-in-decade-spec : {M : Type 1} → statement M
-year-in-decade-spec = tie.close (tie.spec sub-result sub-result-2 cast-result cast-result-2 sub-result-3 returns cast-result-3 cast-result-4 returns-2)
+year-in-decade-spec = tie.close (tie.spec (λ c. search needs) sub-result-2 cast-result (λ c. search needs) (λ c. search needs) returns cast-result-3 (λ c. search needs) returns-2)

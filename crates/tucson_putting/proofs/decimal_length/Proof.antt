@@ -14,15 +14,6 @@ use Rattle.base_text.proofs.Decimal.{decimal-negative, decimal-natural}
 use Rattle.tucson_putting.proofs.decimal_length.Statement.{statement}
 use Rattle.tucson_putting.proofs.decimal_length.Tie as tie
 
-magnitude-requires : tie.Need-magnitude-requires
-magnitude-requires c κs = search needs
-
-digit-count-requires : tie.Need-digit-count-requires
-digit-count-requires c κs = search needs
-
-add-result : tie.Need-add-result
-add-result c = search needs
-
 returns : tie.Need-returns
 returns c =
     let s = c .before .before .before in
@@ -41,4 +32,4 @@ returns-2 c =
 
 pub decimal-length-spec : {M : Type 1} → statement M
 decimal-length-spec =
-    tie.close (tie.spec magnitude-requires digit-count-requires add-result returns returns-2)
+    tie.close (tie.spec (λ c κs. search needs) (λ c κs. search needs) (λ c. search needs) returns returns-2)

@@ -101,33 +101,15 @@ add-to c =
     let w = c .before .before .loop .inv .walked in
     omega (arith, name-within w (omega arith), widths-within w (omega arith))
 
-sub-put-series : tie.Need-sub-put-series Inv-loop μ-loop
-sub-put-series c = omega arith
-
-part-put-series-start : tie.Need-part-put-series-start Inv-loop μ-loop
-part-put-series-start c = omega arith
-
 part-put-series-end : tie.Need-part-put-series-end Inv-loop μ-loop
 part-put-series-end c =
     let w = c .before .before .before .loop .inv .walked in
     omega (arith, name-within w (omega arith), widths-within w (omega arith))
 
-mul-put-series : tie.Need-mul-put-series Inv-loop μ-loop
-mul-put-series c = omega arith
-
-shared-slice-copy-out-put-series : tie.Need-shared-slice-copy-out-put-series Inv-loop μ-loop
-shared-slice-copy-out-put-series c = omega arith
-
 mul-put-series-2 : tie.Need-mul-put-series-2 Inv-loop μ-loop
 mul-put-series-2 c =
     let w = c .before .before .before .before .before .loop .inv .walked in
     omega (arith, name-within w (omega arith), widths-within w (omega arith))
-
-sub-put-series-2 : tie.Need-sub-put-series-2 Inv-loop μ-loop
-sub-put-series-2 c = omega arith
-
-part-put-series-start-2 : tie.Need-part-put-series-start-2 Inv-loop μ-loop
-part-put-series-start-2 c = omega arith
 
 part-put-series-end-2 : tie.Need-part-put-series-end-2 Inv-loop μ-loop
 part-put-series-end-2 c =
@@ -159,12 +141,6 @@ put-series-requires c κs =
         length-append (linesText (seriesLines (here t))) (written (later t)),
       );
     }))
-
-add-k : tie.Need-add-k Inv-loop μ-loop
-add-k c = omega arith
-
-loop-less : tie.Need-loop-less Inv-loop μ-loop
-loop-less c = omega arith
 
 loop-again : tie.Need-loop-again Inv-loop μ-loop
 loop-again c =
@@ -207,18 +183,18 @@ put-all-spec =
     shared-slice-read-to
     cast-to
     add-to
-    sub-put-series
-    part-put-series-start
+    (λ c. omega arith)
+    (λ c. omega arith)
     part-put-series-end
-    mul-put-series
-    shared-slice-copy-out-put-series
+    (λ c. omega arith)
+    (λ c. omega arith)
     mul-put-series-2
-    sub-put-series-2
-    part-put-series-start-2
+    (λ c. omega arith)
+    (λ c. omega arith)
     part-put-series-end-2
     put-series-requires
-    add-k
-    loop-less
+    (λ c. omega arith)
+    (λ c. omega arith)
     loop-again
     same-length
     returns)

@@ -44,9 +44,6 @@ put-fields-requires c κs =
       );
     }
 
-same-length : tie.Need-same-length
-same-length c = search needs
-
 returns : tie.Need-returns
 returns c =
     let s = c .before .before .before .before .before .before .before .before .before .before .before .before .before .before in
@@ -59,4 +56,4 @@ returns c =
 pub put-begun-spec : {M : Type 1} → statement M
 put-begun-spec =
     tie.close
-    (tie.spec put-text-requires put-columns-requires put-fields-requires same-length returns)
+    (tie.spec put-text-requires put-columns-requires put-fields-requires (λ c. search needs) returns)

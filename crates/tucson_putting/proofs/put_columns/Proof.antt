@@ -23,9 +23,6 @@ length-is c =
 cast-number : tie.Need-cast-number
 cast-number c = let f : SFits w32 (c .before .args .z) = c .before .fits .z in simp toZ-ofZ (sfits-widen f)
 
-decimal-length-requires : tie.Need-decimal-length-requires
-decimal-length-requires c κs = search needs
-
 sub-put-blanks : tie.Need-sub-put-blanks
 sub-put-blanks c = omega (arith, length-is (c .before), c .before .before .before .pre .short)
 
@@ -38,9 +35,6 @@ put-decimal-requires c κs =
     let s = c .before .before .before .before .before .before .before in
     let d = c .before .before .before .before .before in
     omega (arith, b .ensures .behind, blanks-all (s .args .size - d .decimal-length .result), length-is d, s .pre .short, s .pre .fits)
-
-same-length : tie.Need-same-length
-same-length c = search needs
 
 returns : tie.Need-returns
 unfolding columns
@@ -57,9 +51,9 @@ put-columns-spec =
     tie.close
     (tie.spec
     cast-number
-    decimal-length-requires
+    (λ c κs. search needs)
     sub-put-blanks
     put-blanks-requires
     put-decimal-requires
-    same-length
+    (λ c. search needs)
     returns)

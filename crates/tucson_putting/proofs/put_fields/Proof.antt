@@ -28,12 +28,6 @@ abbrev μ-loop : tie.MeasureT-loop
 loop-holds : tie.Need-loop-holds Inv-loop μ-loop
 loop-holds c = record { within = omega arith; wrote = wrote-as (fields-none (c .before .args .widths .now)) (wrote-none _ _) }
 
-mul-put-columns : tie.Need-mul-put-columns Inv-loop μ-loop
-mul-put-columns c = omega arith
-
-shared-slice-copy-out-put-columns : tie.Need-shared-slice-copy-out-put-columns Inv-loop μ-loop
-shared-slice-copy-out-put-columns c = omega arith
-
 put-columns-requires : tie.Need-put-columns-requires Inv-loop μ-loop
 put-columns-requires c κs =
     let s = c .before .before .before .before .before in
@@ -45,12 +39,6 @@ put-columns-requires c κs =
       short = width-length ws (l .i) (omega arith) (s .pre .allowed);
       fits = omega (arith, wrote .behind, wrote-length wrote, taken-length ws (l .i) (l .inv .within) (s .pre .allowed), s .pre .fits);
     })
-
-add-i : tie.Need-add-i Inv-loop μ-loop
-add-i c = omega arith
-
-loop-less : tie.Need-loop-less Inv-loop μ-loop
-loop-less c = omega arith
 
 loop-again : tie.Need-loop-again Inv-loop μ-loop
 loop-again c =
@@ -78,11 +66,11 @@ put-fields-spec =
     Inv-loop
     μ-loop
     loop-holds
-    mul-put-columns
-    shared-slice-copy-out-put-columns
+    (λ c. omega arith)
+    (λ c. omega arith)
     put-columns-requires
-    add-i
-    loop-less
+    (λ c. omega arith)
+    (λ c. omega arith)
     loop-again
     same-length
     returns)

@@ -32,9 +32,6 @@ put-requires c κs =
     let closing = c .before .before .before .put-columns .ensures in
     omega (arith, s .pre .fits, b .behind, closing .behind, columns-length 6 thousandths closing-length, begun-size (s .pre))
 
-same-length : tie.Need-same-length
-same-length c = search needs
-
 returns : tie.Need-returns
 returns c =
     let s = c .before .before .before .before .before .before .before .before .before .before .before .before .before .before in
@@ -46,4 +43,4 @@ returns c =
 
 pub put-last-line-spec : {M : Type 1} → statement M
 put-last-line-spec =
-    tie.close (tie.spec put-begun-requires put-columns-requires put-requires same-length returns)
+    tie.close (tie.spec put-begun-requires put-columns-requires put-requires (λ c. search needs) returns)

@@ -22,9 +22,6 @@ put-requires c κs =
     let b = simp toZ-ofZ at (c .before .before .before .put-begun .ensures) in
     omega (arith, s .pre .fits, b .behind, begun-size (s .pre))
 
-same-length : tie.Need-same-length
-same-length c = search needs
-
 returns : tie.Need-returns
 returns c =
     let s = c .before .before .before .before .before .before .before .before .before .before in
@@ -33,4 +30,4 @@ returns c =
     wrote-as (line-ends (s .args .name .now) (s .args .year) (s .args .widths .now)) (wrote-then begun (puts-wrote (c .before .before .put .ensures)))
 
 pub put-line-spec : {M : Type 1} → statement M
-put-line-spec = tie.close (tie.spec put-begun-requires put-requires same-length returns)
+put-line-spec = tie.close (tie.spec put-begun-requires put-requires (λ c. search needs) returns)

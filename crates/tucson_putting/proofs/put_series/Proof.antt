@@ -103,12 +103,6 @@ year-at-requires c κs = c .before .loop .inv .few
 mul-put-line : tie.Need-mul-put-line Inv-loop μ-loop
 mul-put-line c = omega (arith, c .before .before .before .loop .inv .within)
 
-sub-put-line : tie.Need-sub-put-line Inv-loop μ-loop
-sub-put-line c = omega arith
-
-part-put-line-start : tie.Need-part-put-line-start Inv-loop μ-loop
-part-put-line-start c = omega arith
-
 part-put-line-end : tie.Need-part-put-line-end Inv-loop μ-loop
 part-put-line-end c = omega (arith, c .before .before .before .loop .inv .within)
 
@@ -131,9 +125,6 @@ put-line-requires c κs =
         full-bytes (name t) (ws t) (l .left) (l .from) (i .within) (p .named) (p .allowed) (i .few) taken (i .enough),
       );
     }))
-
-sub-left : tie.Need-sub-left Inv-loop μ-loop
-sub-left c = omega arith
 
 sub-left-2 : tie.Need-sub-left-2 Inv-loop μ-loop
 sub-left-2 c = let i = c .before .before .before .before .before .before .before .loop .inv in omega (arith, i .within, i .enough)
@@ -231,11 +222,11 @@ put-series-spec =
     add-to-2
     year-at-requires
     mul-put-line
-    sub-put-line
-    part-put-line-start
+    (λ c. omega arith)
+    (λ c. omega arith)
     part-put-line-end
     put-line-requires
-    sub-left
+    (λ c. omega arith)
     sub-left-2
     loop-less
     loop-again

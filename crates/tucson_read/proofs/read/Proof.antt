@@ -52,15 +52,6 @@ module _ (c : tie.Else4) where
   widths-long : length (widthsOf (found k .list)) ≤ length (s k .args .widths .now)
   widths-long = omega (arith, found k .total-is, c .if4 .left)
 
-scan-requires : tie.Need-scan-requires
-scan-requires c κs = search needs
-
-enum-known-scanned : tie.Need-enum-known-scanned
-enum-known-scanned c = search needs
-
-enum-known-scanned-2 : tie.Need-enum-known-scanned-2
-enum-known-scanned-2 c = search needs
-
 returns : tie.Need-returns
 returns c = let k = c .before in short-names (given (s k)) (found k .is) (omega (arith, found k .series-is, c .if1 .taken))
 
@@ -84,18 +75,6 @@ returns-5 c =
     let s = c .before .before .before .before .before .before .before in
     read-refused (given s) (scan-refused (readText (s .args .text .now)) _ _ (sym (c .before .scanned .given .1) ∙ c .before .before .before .scan .ensures))
 
-same-length : tie.Need-same-length
-same-length c = search needs
-
-same-length-2 : tie.Need-same-length-2
-same-length-2 c = search needs
-
-same-length-3 : tie.Need-same-length-3
-same-length-3 c = search needs
-
-same-length-4 : tie.Need-same-length-4
-same-length-4 c = search needs
-
 returns-6 : tie.Need-returns-6
 returns-6 c =
     let w = c .before .before .before .before .before .before in
@@ -107,17 +86,17 @@ pub read-spec : {M : Type 1} → statement M
 read-spec =
     tie.close
     (tie.spec
-    scan-requires
-    enum-known-scanned
-    enum-known-scanned-2
+    (λ c κs. search needs)
+    (λ c. search needs)
+    (λ c. search needs)
     returns
     returns-2
     returns-3
     returns-4
     write-requires
     returns-5
-    same-length
-    same-length-2
-    same-length-3
-    same-length-4
+    (λ c. search needs)
+    (λ c. search needs)
+    (λ c. search needs)
+    (λ c. search needs)
     returns-6)

@@ -44,38 +44,17 @@ module _ (c : tie.After-both2) where
       let g = s (f t) .fits .last in
       c .both2 .ensures ∙ ap₂ _&&_ (simp toZ-ofZ at (c .before .same2 .ensures)) (c .before .before .both .ensures)
 
-follows-requires : tie.Need-follows-requires
-follows-requires c κs = search needs
-
 returns : tie.Need-returns
 returns c = record {
   told = λ place b t tracks told. close-not-next place b t _ _ _ tracks told (sym (year-test (c .before)) ∙ not-true _ (c .if1 .taken));
   within = tt;
 }
 
-same-requires : tie.Need-same-requires
-same-requires c κs = search needs
-
-sub-t12 : tie.Need-sub-t12
-sub-t12 c = search needs
-
 returns-2 : tie.Need-returns-2
 returns-2 c = record {
   told = λ place b t tracks told. close-thousandths place b t _ _ _ tracks told (follows (c .before)) (sym (thousandths-test (c .before)) ∙ c .if2 .taken);
   within = (refl, omega arith);
 }
-
-both-requires : tie.Need-both-requires
-both-requires c κs = search needs
-
-same-requires-2 : tie.Need-same-requires-2
-same-requires-2 c κs = search needs
-
-both-requires-2 : tie.Need-both-requires-2
-both-requires-2 c κs = search needs
-
-sub-t14 : tie.Need-sub-t14
-sub-t14 c = search needs
 
 returns-3 : tie.Need-returns-3
 returns-3 c =
@@ -93,4 +72,5 @@ returns-4 c =
 
 pub close-spec : {M : Type 1} → statement M
 close-spec =
-    tie.close (tie.spec follows-requires returns same-requires sub-t12 returns-2 both-requires same-requires-2 both-requires-2 sub-t14 returns-3 returns-4)
+    tie.close (tie.spec (λ c κs. search needs) returns (λ c κs. search needs) (λ c. search needs) returns-2 (λ c κs. search needs) (λ c κs. search needs)
+    (λ c κs. search needs) (λ c. search needs) returns-3 returns-4)

@@ -56,31 +56,16 @@ module _ (c : tie.After-both2) where
       let f = e .fits .last in
       (simp toZ-ofZ at (c .both2 .ensures)) ∙ ap (λ (b : Bool). b && leZ (e .args .last) (pos hundredthsLimit)) (c .before .both .ensures)
 
-is-width-requires : tie.Need-is-width-requires
-is-width-requires c κs = search needs
-
 returns : tie.Need-returns
 returns c = record {
   told = λ place b t tracks told. extend-malformed place b t _ _ _ tracks told (sym (width-test (c .before)) ∙ not-true _ (c .if1 .taken));
   within = tt;
 }
 
-follows-requires : tie.Need-follows-requires
-follows-requires c κs = search needs
-
 returns-2 : tie.Need-returns-2
 returns-2 c =
     let no = sym (year-test (c .before)) ∙ not-true _ (c .if2 .taken) in
     record { told = λ place b t tracks told. extend-not-next place b t _ _ _ tracks told (is-width (c .before)) no; within = tt }
-
-both-requires : tie.Need-both-requires
-both-requires c κs = search needs
-
-both-requires-2 : tie.Need-both-requires-2
-both-requires-2 c κs = search needs
-
-cast-t12 : tie.Need-cast-t12
-cast-t12 c = search needs
 
 add-t13 : tie.Need-add-t13
 add-t13 c =
@@ -97,4 +82,4 @@ returns-3 c =
     }
 
 pub extend-spec : {M : Type 1} → statement M
-extend-spec = tie.close (tie.spec is-width-requires returns follows-requires returns-2 both-requires both-requires-2 cast-t12 add-t13 returns-3)
+extend-spec = tie.close (tie.spec (λ c κs. search needs) returns (λ c κs. search needs) returns-2 (λ c κs. search needs) (λ c κs. search needs) (λ c. search needs) add-t13 returns-3)

@@ -10,18 +10,6 @@ use Rattle.spec_tucson.specs.Line.{same, yearInDecade}
 use Rattle.tucson_scan.proofs.follows.Statement.{statement}
 use Rattle.tucson_scan.proofs.follows.Tie as tie
 
-returns : tie.Need-returns
-returns c = search needs
-
-same-requires : tie.Need-same-requires
-same-requires c κs = search needs
-
-year-in-decade-requires : tie.Need-year-in-decade-requires
-year-in-decade-requires c κs = search needs
-
-both-requires : tie.Need-both-requires
-both-requires c κs = search needs
-
 returns-2 : tie.Need-returns-2
 returns-2 c =
     let s = c .before .before .before .before in
@@ -34,4 +22,4 @@ returns-2 c =
     (not-false (s .args .begun) (c .before .before .before .if1 .left)))
 
 pub follows-spec : {M : Type 1} → statement M
-follows-spec = tie.close (tie.spec returns same-requires year-in-decade-requires both-requires returns-2)
+follows-spec = tie.close (tie.spec (λ c. search needs) (λ c κs. search needs) (λ c κs. search needs) (λ c κs. search needs) returns-2)

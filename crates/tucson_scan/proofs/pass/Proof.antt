@@ -74,15 +74,6 @@ module _ (c : tie.After-known-told) where
   count : length (is-line .line .fields) ≡ n
   count = says (is-line .told) .count-is
 
-line-requires : tie.Need-line-requires
-line-requires c κs = search needs
-
-enum-told : tie.Need-enum-told
-enum-told c = search needs
-
-enum-known-line : tie.Need-enum-known-line
-enum-known-line c = search needs
-
 goes-on-requires : tie.Need-goes-on-requires
 goes-on-requires c κs = let g = good c in record { longer = omega (arith, g .size); ended = omega (arith, g .ended); named = g .named }
 
@@ -147,4 +138,4 @@ returns-3 c =
 
 pub pass-spec : {M : Type 1} → statement M
 pass-spec =
-    tie.close (tie.spec line-requires enum-told enum-known-line goes-on-requires extend-requires returns close-requires returns-2 returns-3)
+    tie.close (tie.spec (λ c κs. search needs) (λ c. search needs) (λ c. search needs) goes-on-requires extend-requires returns close-requires returns-2 returns-3)

@@ -109,24 +109,12 @@ module _ (c : tie.After-whole Inv-loop μ-loop) where
       (sym (c .whole .ensures))
       (scans-next (inv p) (line-end (f p)) (f p .before .loop-test .taken) told ahead))
 
-enum-known-passed : tie.Need-enum-known-passed Inv-loop μ-loop
-enum-known-passed c = search needs
-
-place-requires : tie.Need-place-requires Inv-loop μ-loop
-place-requires c κs = search needs
-
 returns : tie.Need-returns Inv-loop μ-loop
 returns c =
     let p = c .before .before .before .before in
     let k = f p in
     let h = scans-refused (inv p) (line-end k) (k .before .loop-test .taken) (step-told p (c .before .before .passed .given .1)) in
     ap (Refused (c .before .before .passed .given .0 .0)) (c .place .ensures) ∙ h
-
-enum-known-passed-2 : tie.Need-enum-known-passed-2 Inv-loop μ-loop
-enum-known-passed-2 c = search needs
-
-whole-requires : tie.Need-whole-requires Inv-loop μ-loop
-whole-requires c κs = search needs
 
 add-series : tie.Need-add-series Inv-loop μ-loop
 add-series c = omega (arith, scans c .few-series, scans c .within, s (f (p c)) .good)
@@ -158,11 +146,11 @@ scan-spec =
     loop-holds
     find-requires
     pass-requires
-    enum-known-passed
-    place-requires
+    (λ c. search needs)
+    (λ c κs. search needs)
     returns
-    enum-known-passed-2
-    whole-requires
+    (λ c. search needs)
+    (λ c κs. search needs)
     add-series
     add-total
     add-from

@@ -26,17 +26,11 @@ held t h = sym (cond-true (outcomeText (readText t)) (refusalLine 1 0) (le-leb (
 line-fits : {count size after : ℕ} → count ≤ refusalLineLimit → after ≡ size → size ≡ textLimit → count ≤ after
 line-fits h e l = omega arith
 
-refusal-requires : tie.Need-refusal-requires
-refusal-requires c κs = search needs
-
 returns : tie.Need-returns
 returns c =
     let p = c .refusal .ensures in
     let room = line-fits (p .few) (ap length (p .contents) ∙ written-length 0 _ _) (c .before .refusal-arg .given .0 .1) in
     prints-as (too-long _ (c .before .before .if1 .taken)) room p
-
-rewrite-requires : tie.Need-rewrite-requires
-rewrite-requires c κs = search needs
 
 returns-2 : tie.Need-returns-2
 returns-2 c =
@@ -44,4 +38,4 @@ returns-2 c =
     prints-as (held _ (c .before .before .if1 .left)) (p .few) p
 
 pub filter-spec : {M : Type 1} → statement M
-filter-spec = tie.close (tie.spec refusal-requires returns rewrite-requires returns-2)
+filter-spec = tie.close (tie.spec (λ c κs. search needs) returns (λ c κs. search needs) returns-2)

@@ -14,15 +14,6 @@ Inv-loop counts all₀ k₀ all k = (k ≤ length counts) × (all + total (drop 
 abbrev μ-loop : tie.MeasureT-loop
 μ-loop counts all₀ k₀ all k = length counts - k
 
-loop-holds : tie.Need-loop-holds Inv-loop μ-loop
-loop-holds c = omega arith
-
-mul-all : tie.Need-mul-all Inv-loop μ-loop
-mul-all c = omega arith
-
-shared-slice-read-all : tie.Need-shared-slice-read-all Inv-loop μ-loop
-shared-slice-read-all c = omega arith
-
 cast-all : tie.Need-cast-all Inv-loop μ-loop
 cast-all c = omega (arith, c .shared-slice-known .given (c .before .before .loop .k))
 
@@ -31,12 +22,6 @@ add-all c =
     let s = c .before .before .before in
     let l = c .before .before .loop in
     omega (arith, l .inv .1, s .pre, total-step (s .args .counts .now) (l .k) (omega arith))
-
-add-k : tie.Need-add-k Inv-loop μ-loop
-add-k c = omega arith
-
-loop-less : tie.Need-loop-less Inv-loop μ-loop
-loop-less c = omega arith
 
 loop-again : tie.Need-loop-again Inv-loop μ-loop
 loop-again c =
@@ -56,12 +41,12 @@ sum-spec =
     (tie.spec
     Inv-loop
     μ-loop
-    loop-holds
-    mul-all
-    shared-slice-read-all
+    (λ c. omega arith)
+    (λ c. omega arith)
+    (λ c. omega arith)
     cast-all
     add-all
-    add-k
-    loop-less
+    (λ c. omega arith)
+    (λ c. omega arith)
     loop-again
     returns)

@@ -59,9 +59,6 @@ module _ (c : tie.After-text-fits) where
   room-test : leb (length (written (listed (g (e t))))) (length (g (e t) .text)) ≡ c .text-fits .result
   room-test = ap (λ (n : ℕ). leb n (length (g (e t) .text))) (counted t .bytes) ∙ sym (c .text-fits .ensures)
 
-lists-fit-requires : tie.Need-lists-fit-requires
-lists-fit-requires c κs = search needs
-
 returns : tie.Need-returns
 returns c =
     let g = given (c .before .before .before .before .before) in
@@ -69,15 +66,6 @@ returns c =
 
 first-unwritable-requires : tie.Need-first-unwritable-requires
 first-unwritable-requires c κs = sym (c .before .lists-fit .ensures) ∙ not-false _ (c .if1 .left)
-
-enum-known-found : tie.Need-enum-known-found
-enum-known-found c = search needs
-
-place-requires : tie.Need-place-requires
-place-requires c κs = search needs
-
-enum-told : tie.Need-enum-told
-enum-told c = search needs
 
 text-fits-requires : tie.Need-text-fits-requires
 text-fits-requires c κs = record { counted = lists (e c) .counts-fit; closed = counted c .closed }
@@ -119,12 +107,12 @@ pub write-spec : {M : Type 1} → statement M
 write-spec =
     tie.close
     (tie.spec
-    lists-fit-requires
+    (λ c κs. search needs)
     returns
     first-unwritable-requires
-    enum-known-found
-    place-requires
-    enum-told
+    (λ c. search needs)
+    (λ c κs. search needs)
+    (λ c. search needs)
     text-fits-requires
     returns-2
     put-all-requires

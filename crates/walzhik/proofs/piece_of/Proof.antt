@@ -4,18 +4,6 @@ use Rattle.walzhik.proofs.Struct.{drawn-sent, refused-sent}
 use Rattle.walzhik.proofs.piece_of.Statement.{statement}
 use Rattle.walzhik.proofs.piece_of.Tie as tie
 
-enum-known-answer : tie.Need-enum-known-answer
-enum-known-answer c = search needs
-
-sent-requires : tie.Need-sent-requires
-sent-requires c κs = search needs
-
-enum-known-answer-2 : tie.Need-enum-known-answer-2
-enum-known-answer-2 c = search needs
-
-not-sent-requires : tie.Need-not-sent-requires
-not-sent-requires c κs = search needs
-
 returns : tie.Need-returns
 returns c o told = drawn-sent (c .sent .result) told _ (c .before .before .answer .given .1) (c .sent .ensures)
 
@@ -25,4 +13,4 @@ returns-2 c o told = refused-sent (c .not-sent .result) told _ _ (c .before .bef
 pub piece-of-spec : {M : Type 1} → statement M
 piece-of-spec =
     tie.close
-    (tie.spec enum-known-answer sent-requires enum-known-answer-2 not-sent-requires returns returns-2)
+    (tie.spec (λ c. search needs) (λ c κs. search needs) (λ c. search needs) (λ c κs. search needs) returns returns-2)

@@ -11,21 +11,6 @@ use Rattle.walzhik.proofs.Reached.{reach-ext}
 use Rattle.walzhik.proofs.reach_of.Statement.{statement}
 use Rattle.walzhik.proofs.reach_of.Tie as tie
 
-enum-known-answer : tie.Need-enum-known-answer
-enum-known-answer c = search needs
-
-reach-struct-requires : tie.Need-reach-struct-requires
-reach-struct-requires c κs = search needs
-
-enum-known-answer-2 : tie.Need-enum-known-answer-2
-enum-known-answer-2 c = search needs
-
-cast-reach-struct : tie.Need-cast-reach-struct
-cast-reach-struct c = search needs
-
-reach-struct-requires-2 : tie.Need-reach-struct-requires-2
-reach-struct-requires-2 c κs = search needs
-
 returns : tie.Need-returns
 unfolding reply reached
 returns c =
@@ -44,10 +29,10 @@ pub reach-of-spec : {M : Type 1} → statement M
 reach-of-spec =
     tie.close
     (tie.spec
-    enum-known-answer
-    reach-struct-requires
-    enum-known-answer-2
-    cast-reach-struct
-    reach-struct-requires-2
+    (λ c. search needs)
+    (λ c κs. search needs)
+    (λ c. search needs)
+    (λ c. search needs)
+    (λ c κs. search needs)
     returns
     returns-2)

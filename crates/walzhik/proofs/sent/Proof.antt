@@ -4,24 +4,6 @@ use Rattle.walzhik.proofs.Struct.{line-told, quadratic-told, cubic-told
 use Rattle.walzhik.proofs.sent.Statement.{statement}
 use Rattle.walzhik.proofs.sent.Tie as tie
 
-enum-known-curve : tie.Need-enum-known-curve
-enum-known-curve c = search needs
-
-of-degree-requires : tie.Need-of-degree-requires
-of-degree-requires c κs = search needs
-
-enum-known-curve-2 : tie.Need-enum-known-curve-2
-enum-known-curve-2 c = search needs
-
-of-degree-requires-2 : tie.Need-of-degree-requires-2
-of-degree-requires-2 c κs = search needs
-
-enum-known-curve-3 : tie.Need-enum-known-curve-3
-enum-known-curve-3 c = search needs
-
-of-degree-requires-3 : tie.Need-of-degree-requires-3
-of-degree-requires-3 c κs = search needs
-
 returns : tie.Need-returns
 returns c p s =
     line-told (c .before .before .before .before .args .drawing) p _ _ (c .before .before .curve .given .1) (c .of-degree .ensures) s
@@ -39,12 +21,12 @@ pub sent-spec : {M : Type 1} → statement M
 sent-spec =
     tie.close
     (tie.spec
-    enum-known-curve
-    of-degree-requires
-    enum-known-curve-2
-    of-degree-requires-2
-    enum-known-curve-3
-    of-degree-requires-3
+    (λ c. search needs)
+    (λ c κs. search needs)
+    (λ c. search needs)
+    (λ c κs. search needs)
+    (λ c. search needs)
+    (λ c κs. search needs)
     returns
     returns-2
     returns-3)

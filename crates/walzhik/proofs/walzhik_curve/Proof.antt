@@ -5,23 +5,8 @@ use Rattle.walzhik_reply.specs.Machine.{replied}
 use Rattle.walzhik.proofs.walzhik_curve.Statement.{statement}
 use Rattle.walzhik.proofs.walzhik_curve.Tie as tie
 
-curve-requires : tie.Need-curve-requires
-curve-requires c κs = search needs
-
-reply-of-requires : tie.Need-reply-of-requires
-reply-of-requires c κs = search needs
-
-same-length : tie.Need-same-length
-same-length c = search needs
-
-same-length-2 : tie.Need-same-length-2
-same-length-2 c = search needs
-
-same-length-3 : tie.Need-same-length-3
-same-length-3 c = search needs
-
 returns : tie.Need-returns
 returns c = let b = c .before .before .before .before .curve .ensures in (c .reply-of .ensures ∙ ap replied (b .0), b .1)
 
 pub walzhik-curve-spec : {M : Type 1} → statement M
-walzhik-curve-spec = tie.close (tie.spec curve-requires reply-of-requires same-length same-length-2 same-length-3 returns)
+walzhik-curve-spec = tie.close (tie.spec (λ c κs. search needs) (λ c κs. search needs) (λ c. search needs) (λ c. search needs) (λ c. search needs) returns)

@@ -5,26 +5,8 @@ use Rattle.walzhik_reply.specs.Machine.{replied}
 use Rattle.walzhik.proofs.walzhik_tucson_read.Statement.{statement}
 use Rattle.walzhik.proofs.walzhik_tucson_read.Tie as tie
 
-read-requires : tie.Need-read-requires
-read-requires c κs = search needs
-
-reply-of-requires : tie.Need-reply-of-requires
-reply-of-requires c κs = search needs
-
-same-length : tie.Need-same-length
-same-length c = search needs
-
-same-length-2 : tie.Need-same-length-2
-same-length-2 c = search needs
-
-same-length-3 : tie.Need-same-length-3
-same-length-3 c = search needs
-
-same-length-4 : tie.Need-same-length-4
-same-length-4 c = search needs
-
 returns : tie.Need-returns
 returns c = let b = c .before .before .before .before .before .before .before .read .ensures in (c .reply-of .ensures ∙ ap replied (b .0), b .1)
 
 pub walzhik-tucson-read-spec : {M : Type 1} → statement M
-walzhik-tucson-read-spec = tie.close (tie.spec read-requires reply-of-requires same-length same-length-2 same-length-3 same-length-4 returns)
+walzhik-tucson-read-spec = tie.close (tie.spec (λ c κs. search needs) (λ c κs. search needs) (λ c. search needs) (λ c. search needs) (λ c. search needs) (λ c. search needs) returns)

@@ -5,17 +5,8 @@ use Rattle.walzhik_reply.specs.Machine.{replied}
 use Rattle.walzhik.proofs.walzhik_tucson_write.Statement.{statement}
 use Rattle.walzhik.proofs.walzhik_tucson_write.Tie as tie
 
-write-requires : tie.Need-write-requires
-write-requires c κs = search needs
-
-reply-of-requires : tie.Need-reply-of-requires
-reply-of-requires c κs = search needs
-
-same-length : tie.Need-same-length
-same-length c = search needs
-
 returns : tie.Need-returns
 returns c = let b = c .before .before .before .write .ensures in (c .reply-of .ensures ∙ ap replied (b .0), b .1)
 
 pub walzhik-tucson-write-spec : {M : Type 1} → statement M
-walzhik-tucson-write-spec = tie.close (tie.spec write-requires reply-of-requires same-length returns)
+walzhik-tucson-write-spec = tie.close (tie.spec (λ c κs. search needs) (λ c κs. search needs) (λ c. search needs) returns)

@@ -6,24 +6,6 @@ use Rattle.walzhik_reply.specs.Machine.{replied}
 use Rattle.walzhik_indices.proofs.walzhik_latewood_indices.Statement.{statement}
 use Rattle.walzhik_indices.proofs.walzhik_latewood_indices.Tie as tie
 
-indices-requires : tie.Need-indices-requires
-indices-requires c κs = search needs
-
-reply-of-requires : tie.Need-reply-of-requires
-reply-of-requires c κs = search needs
-
-same-length : tie.Need-same-length
-same-length c = search needs
-
-same-length-2 : tie.Need-same-length-2
-same-length-2 c = search needs
-
-same-length-3 : tie.Need-same-length-3
-same-length-3 c = search needs
-
-same-length-4 : tie.Need-same-length-4
-same-length-4 c = search needs
-
 returns : tie.Need-returns
 returns c =
     let k = c .before .before .before .before .before in
@@ -34,4 +16,4 @@ returns c =
 pub walzhik-latewood-indices-spec : {M : Type 1} → statement M
 walzhik-latewood-indices-spec =
     tie.close
-    (tie.spec indices-requires reply-of-requires same-length same-length-2 same-length-3 same-length-4 returns)
+    (tie.spec (λ c κs. search needs) (λ c κs. search needs) (λ c. search needs) (λ c. search needs) (λ c. search needs) (λ c. search needs) returns)

@@ -6,18 +6,6 @@ use Rattle.walzhik_reply.proofs.Replied.{answer-replied, refusal-replie
 use Rattle.walzhik_reply.proofs.reply_of.Statement.{statement}
 use Rattle.walzhik_reply.proofs.reply_of.Tie as tie
 
-enum-known-answer : tie.Need-enum-known-answer
-enum-known-answer c = search needs
-
-answered-requires : tie.Need-answered-requires
-answered-requires c κs = search needs
-
-enum-known-answer-2 : tie.Need-enum-known-answer-2
-enum-known-answer-2 c = search needs
-
-refused-requires : tie.Need-refused-requires
-refused-requires c κs = search needs
-
 returns : tie.Need-returns
 unfolding reply
 returns c = answer-replied (c .answered .result) _ _ (c .answered .ensures) (sym (ap reply (c .before .before .answer .given .1)))
@@ -30,9 +18,9 @@ pub reply-of-spec : {M : Type 1} → statement M
 reply-of-spec =
     tie.close
     (tie.spec
-    enum-known-answer
-    answered-requires
-    enum-known-answer-2
-    refused-requires
+    (λ c. search needs)
+    (λ c κs. search needs)
+    (λ c. search needs)
+    (λ c κs. search needs)
     returns
     returns-2)

@@ -9,18 +9,6 @@ use Rattle.base_fraction.proofs.Fractions.{fraction-at}
 use Rattle.base_fraction.proofs.arrays.fraction_at.Statement.{statement}
 use Rattle.base_fraction.proofs.arrays.fraction_at.Tie as tie
 
-mul-n : tie.Need-mul-n
-mul-n c = search needs
-
-element-copy-out-n : tie.Need-element-copy-out-n
-element-copy-out-n c = search needs
-
-mul-d : tie.Need-mul-d
-mul-d c = search needs
-
-element-copy-out-d : tie.Need-element-copy-out-d
-element-copy-out-d c = search needs
-
 returns : tie.Need-returns
 returns c of e =
     let s = c .before .before in
@@ -29,4 +17,4 @@ returns c of e =
     simp toZ-ofZ (fraction-at of (s .args .t1) e (s .args .i) (s .pre))
 
 pub fraction-at-spec : {M : Type 1} → statement M
-fraction-at-spec = tie.close (tie.spec mul-n element-copy-out-n mul-d element-copy-out-d returns)
+fraction-at-spec = tie.close (tie.spec (λ c. search needs) (λ c. search needs) (λ c. search needs) (λ c. search needs) returns)

@@ -21,35 +21,17 @@ loop-holds c =
     let a = c .args in
     (omega arith, omega arith, ap (λ (n : ℕ). beginsWith (a .key .now) (slice n (a .to) (a .text .now))) (sym (add-zero (a .from))))
 
-add-if1 : tie.Need-add-if1 Inv-loop μ-loop
-add-if1 c = omega arith
-
 returns : tie.Need-returns Inv-loop μ-loop
 returns c =
     let s = c .before .before .before in
     let l = c .before .before .loop in
     sym (l .inv .2 ∙ key-longer (s .args .key .now) (s .args .text .now) (s .args .from) (l .i) (s .args .to) (c .before .loop-test .taken) (s .pre .within) (c .if1 .taken))
 
-add-if2 : tie.Need-add-if2 Inv-loop μ-loop
-add-if2 c = omega arith
-
-shared-slice-read-if2 : tie.Need-shared-slice-read-if2 Inv-loop μ-loop
-shared-slice-read-if2 c = omega arith
-
-shared-slice-read-if2-2 : tie.Need-shared-slice-read-if2-2 Inv-loop μ-loop
-shared-slice-read-if2-2 c = omega arith
-
 returns-2 : tie.Need-returns-2 Inv-loop μ-loop
 returns-2 c =
     let s = c .before .before .before .before .before .before in
     let l = c .before .before .before .before .before .loop in
     sym (l .inv .2 ∙ key-differs (s .args .key .now) (s .args .text .now) (s .args .from) (l .i) (s .args .to) (omega arith) (s .pre .within) (omega arith) (c .if2 .taken))
-
-add-i : tie.Need-add-i Inv-loop μ-loop
-add-i c = omega arith
-
-loop-less : tie.Need-loop-less Inv-loop μ-loop
-loop-less c = omega arith
 
 loop-again : tie.Need-loop-again Inv-loop μ-loop
 loop-again c =
@@ -61,4 +43,5 @@ returns-3 : tie.Need-returns-3 Inv-loop μ-loop
 returns-3 c = sym (c .before .loop .inv .2 ∙ key-end (c .before .before .args .key .now) (c .before .loop .i) _ (omega arith))
 
 pub begins-spec : {M : Type 1} → statement M
-begins-spec = tie.close (tie.spec Inv-loop μ-loop loop-holds add-if1 returns add-if2 shared-slice-read-if2 shared-slice-read-if2-2 returns-2 add-i loop-less loop-again returns-3)
+begins-spec = tie.close (tie.spec Inv-loop μ-loop loop-holds (λ c. omega arith) returns (λ c. omega arith) (λ c. omega arith) (λ c. omega arith) returns-2
+    (λ c. omega arith) (λ c. omega arith) loop-again returns-3)

@@ -24,7 +24,7 @@ abbrev μ-loop : tie.MeasureT-loop
 μ-loop text from to v₀ i₀ v i = to - i
 
 loop-holds : tie.Need-loop-holds Inv-loop μ-loop
-loop-holds c = record { within = c .pre .part .ordered; value-left = refl; digits-left = natural-parts _ (c .pre .natural) .2 }
+loop-holds c = record { within = c .pre .range .ordered; value-left = refl; digits-left = natural-parts _ (c .pre .natural) .2 }
 
 -- a turn's digit, and the number behind it
 module _ (c : tie.In-loop Inv-loop μ-loop) where
@@ -41,19 +41,16 @@ module _ (c : tie.In-loop Inv-loop μ-loop) where
   next = c .before .loop .v * 10 + (getD text i 0 - 48)
 
   digit : (48 ≤ getD text i 0) × (getD text i 0 ≤ 57)
-  digit = digits-first text i to (c .loop-test .taken) (c .before .before .pre .part .within) (c .before .loop .inv .digits-left)
+  digit = digits-first text i to (c .loop-test .taken) (c .before .before .pre .range .within) (c .before .loop .inv .digits-left)
 
   value : digitsValue 0 (slice (c .before .before .args .from) to text) ≡ digitsValue next (slice (i + 1) to text)
-  value = c .before .loop .inv .value-left ∙ value-next text i to (c .loop-test .taken) (c .before .before .pre .part .within) (c .before .loop .v)
+  value = c .before .loop .inv .value-left ∙ value-next text i to (c .loop-test .taken) (c .before .before .pre .range .within) (c .before .loop .v)
 
   small : next < 10000000
   small = omega (arith, value, value-grows next (slice (i + 1) to text), natural-small _ (c .before .before .pre .natural))
 
 mul-v : tie.Need-mul-v Inv-loop μ-loop
 mul-v c = omega (arith, small c)
-
-shared-slice-read-v : tie.Need-shared-slice-read-v Inv-loop μ-loop
-shared-slice-read-v c = omega arith
 
 sub-v : tie.Need-sub-v Inv-loop μ-loop
 sub-v c = omega (arith, digit (c .before))
@@ -64,12 +61,6 @@ cast-v c = omega (arith, digit (c .before))
 add-v : tie.Need-add-v Inv-loop μ-loop
 add-v c = omega (arith, small (c .before))
 
-add-i : tie.Need-add-i Inv-loop μ-loop
-add-i c = omega arith
-
-loop-less : tie.Need-loop-less Inv-loop μ-loop
-loop-less c = omega arith
-
 loop-again : tie.Need-loop-again Inv-loop μ-loop
 loop-again c =
     let t = c .before in
@@ -77,7 +68,7 @@ loop-again c =
     record {
       within = omega arith;
       value-left = value t;
-      digits-left = digits-rest (text t) (i t) (to t) (omega arith) (l .before .pre .part .within) (l .loop .inv .digits-left);
+      digits-left = digits-rest (text t) (i t) (to t) (omega arith) (l .before .pre .range .within) (l .loop .inv .digits-left);
     }
 
 returns : tie.Need-returns Inv-loop μ-loop
@@ -88,4 +79,4 @@ returns c =
     ∙ value-end _ (s .args .text .now) (s .args .to))
 
 pub digits-value-spec : {M : Type 1} → statement M
-digits-value-spec = tie.close (tie.spec Inv-loop μ-loop loop-holds mul-v shared-slice-read-v sub-v cast-v add-v add-i loop-less loop-again returns)
+digits-value-spec = tie.close (tie.spec Inv-loop μ-loop loop-holds mul-v (λ c. omega arith) sub-v cast-v add-v (λ c. omega arith) (λ c. omega arith) loop-again returns)

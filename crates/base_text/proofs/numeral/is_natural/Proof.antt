@@ -11,9 +11,6 @@ use Rattle.base_text.proofs.Digits.{natural-short, natural-long, natura
 use Rattle.base_text.proofs.numeral.is_natural.Statement.{statement}
 use Rattle.base_text.proofs.numeral.is_natural.Tie as tie
 
-sub-n : tie.Need-sub-n
-sub-n c = search needs
-
 returns : tie.Need-returns
 returns c =
     let s = c .before .before in
@@ -28,18 +25,12 @@ returns-2 c =
     (natural-long (slice (s .args .from) (s .args .to) (s .args .text .now))
     (omega (arith, length-slice (s .args .from) (s .args .to) (s .args .text .now) (s .pre .within))))
 
-shared-slice-read-if4 : tie.Need-shared-slice-read-if4
-shared-slice-read-if4 c = search needs
-
 returns-3 : tie.Need-returns-3
 returns-3 c =
     let s = c .before .before .before .before .before .before in
     sym
     (natural-spare (slice (s .args .from) (s .args .to) (s .args .text .now))
     (spare-first (s .args .text .now) (s .args .from) (s .args .to) (omega arith) (s .pre .within) ∙ eq-eqb _ _ (c .if4 .taken)))
-
-all-digits-requires : tie.Need-all-digits-requires
-all-digits-requires c κs = search needs
 
 returns-4 : tie.Need-returns-4
 returns-4 c =
@@ -54,4 +45,4 @@ returns-4 c =
     c .all-digits .ensures ∙ sym (natural-digits (slice from to text) (omega arith) (omega arith) spare)
 
 pub is-natural-spec : {M : Type 1} → statement M
-is-natural-spec = tie.close (tie.spec sub-n returns returns-2 shared-slice-read-if4 returns-3 all-digits-requires returns-4)
+is-natural-spec = tie.close (tie.spec (λ c. search needs) returns returns-2 (λ c. search needs) returns-3 (λ c κs. search needs) returns-4)

@@ -66,20 +66,8 @@ returns c =
     let a = c .before .before .args in
     sym (ap field (ap (λ (n : ℕ). Numeral.numeral (slice n (a .to) (a .text .now))) (c .if1 .taken) ∙ numeral-empty (a .text .now) (a .to)))
 
-shared-slice-read-if2 : tie.Need-shared-slice-read-if2
-shared-slice-read-if2 c = search needs
-
-add-is-natural : tie.Need-add-is-natural
-add-is-natural c = search needs
-
-is-natural-requires : tie.Need-is-natural-requires
-is-natural-requires c κs = search needs
-
-add-digits-value : tie.Need-add-digits-value
-add-digits-value c = search needs
-
 digits-value-requires : tie.Need-digits-value-requires
-digits-value-requires c κs = record { part = search needs; natural = sym (c .before .is-natural .ensures) ∙ c .if3 .taken }
+digits-value-requires c κs = record { range = search needs; natural = sym (c .before .is-natural .ensures) ∙ c .if3 .taken }
 
 returns-2 : tie.Need-returns-2
 unfolding field
@@ -119,11 +107,8 @@ returns-4 c =
     (ap field (minus-bad (text s) (from s) (to s) (before s) (within s) (c .before .before .if2 .taken) (sym (c .before .is-natural .ensures)
     ∙ c .if3 .left)))
 
-is-natural-requires-2 : tie.Need-is-natural-requires-2
-is-natural-requires-2 c κs = search needs
-
 digits-value-requires-2 : tie.Need-digits-value-requires-2
-digits-value-requires-2 c κs = record { part = search needs; natural = sym (c .before .is-natural2 .ensures) ∙ c .if5 .taken }
+digits-value-requires-2 c κs = record { range = search needs; natural = sym (c .before .is-natural2 .ensures) ∙ c .if5 .taken }
 
 cast-t16 : tie.Need-cast-t16
 cast-t16 c = omega (arith, small2 c)
@@ -150,17 +135,17 @@ numeral-spec =
     tie.close
     (tie.spec
     returns
-    shared-slice-read-if2
-    add-is-natural
-    is-natural-requires
-    add-digits-value
+    (λ c. search needs)
+    (λ c. search needs)
+    (λ c κs. search needs)
+    (λ c. search needs)
     digits-value-requires
     returns-2
     cast-t12
     sub-t13
     returns-3
     returns-4
-    is-natural-requires-2
+    (λ c κs. search needs)
     digits-value-requires-2
     cast-t16
     returns-5

@@ -35,14 +35,13 @@ module _ (c : tie.Start) where
       record { some = omega (arith, c .pre .1 .0 .1, e .above); within = omega (arith, c .pre .1 .0 .1, e .boundary .within); break-count = l .break-count; order-count = l .order-count; few = l .few }
 
   -- the slices are the part
-  part-is : space (take (c .args .b + 1 - c .args .a) (drop (c .args .a) (c .args .breaks .now))) (take (c .args .b - c .args .a) (drop (c .args .a) (c .args .degrees .now))) (take (c .args .b - 1 - c .args .a) (drop (c .args .a) (c .args .orders .now))) ≡ partAt lists (c .args .a)
+  part-is : space (take (c .args .b + 1 - c .args .a) (drop (c .args .a) (c .args .breaks .now)))
+      (take (c .args .b - c .args .a) (drop (c .args .a) (c .args .degrees .now)))
+      (take (c .args .b - 1 - c .args .a) (drop (c .args .a) (c .args .orders .now))) ≡ partAt lists (c .args .a)
   part-is = sliced lists (c .args .a) (c .args .b) (lies .some) ∙ ap (λ (e : ℕ). section lists (c .args .a) (e - c .args .a)) (c .pre .1 .0 .1)
 
 add-build-legal : tie.Need-add-build-legal
 add-build-legal c = let l = lies c in omega (arith, l .within, l .few)
-
-mul-build-legal : tie.Need-mul-build-legal
-mul-build-legal c = search needs
 
 sub-build-legal : tie.Need-sub-build-legal
 sub-build-legal c = let l = lies c in omega (arith, l .some, l .within, l .break-count, l .order-count)
@@ -52,9 +51,6 @@ part-build-legal-start c = let l = lies c in omega (arith, l .some, l .within, l
 
 part-build-legal-end : tie.Need-part-build-legal-end
 part-build-legal-end c = let l = lies c in omega (arith, l .some, l .within, l .break-count, l .order-count)
-
-mul-build-legal-2 : tie.Need-mul-build-legal-2
-mul-build-legal-2 c = search needs
 
 sub-build-legal-2 : tie.Need-sub-build-legal-2
 sub-build-legal-2 c = let l = lies (c .before) in omega (arith, l .some, l .within, l .break-count, l .order-count)
@@ -67,9 +63,6 @@ part-build-legal-end-2 c = let l = lies (c .before) in omega (arith, l .some, l 
 
 sub-build-legal-3 : tie.Need-sub-build-legal-3
 sub-build-legal-3 c = let l = lies (c .before .before) in omega (arith, l .some, l .within, l .break-count, l .order-count)
-
-mul-build-legal-3 : tie.Need-mul-build-legal-3
-mul-build-legal-3 c = search needs
 
 sub-build-legal-4 : tie.Need-sub-build-legal-4
 sub-build-legal-4 c = let l = lies (c .before .before) in omega (arith, l .some, l .within, l .break-count, l .order-count)
@@ -85,17 +78,13 @@ build-legal-requires c κs =
     let s = c .before .before .before .before .before in
     ((subst (λ (p : Space). PartLegal (p .breaks) (p .degrees) (p .orders)) (sym (part-is s)) (part-legal _ _ _ (s .pre .0 .0) (s .args .a) (s .pre .1 .0 .0)), s .pre .0 .1), s .pre .1 .1)
 
-same-length : tie.Need-same-length
-same-length c = search needs
-
-same-length-2 : tie.Need-same-length-2
-same-length-2 c = search needs
-
 returns : tie.Need-returns
 returns c =
     let m = c .before .before in
     let s = m .before .before .before .before .before .before in
-    subst (λ (p : Space). (reply (m .build-legal .result) ≡ with-answer (λ _. rowCount p) (weights p)) × ((m .build-legal .last .1 .1 .1 .0 ≡ numeratorsAfter (weights p) (s .args .num .now)) × (m .build-legal .last .1 .1 .1 .1 .0 ≡ denominatorsAfter (weights p) (s .args .den .now))))
+    subst (λ (p : Space). (reply (m .build-legal .result) ≡ with-answer (λ _. rowCount p) (weights p)) ×
+    ((m .build-legal .last .1 .1 .1 .0 ≡ numeratorsAfter (weights p) (s .args .num .now)) ×
+    (m .build-legal .last .1 .1 .1 .1 .0 ≡ denominatorsAfter (weights p) (s .args .den .now))))
     (sliced (lists s) (s .args .a) (s .args .b) (lies s .some)) (m .build-legal .ensures)
 
 pub build-part-spec : {M : Type 1} → statement M
@@ -103,20 +92,20 @@ build-part-spec =
     tie.close
     (tie.spec
     add-build-legal
-    mul-build-legal
+    (λ c. search needs)
     sub-build-legal
     part-build-legal-start
     part-build-legal-end
-    mul-build-legal-2
+    (λ c. search needs)
     sub-build-legal-2
     part-build-legal-start-2
     part-build-legal-end-2
     sub-build-legal-3
-    mul-build-legal-3
+    (λ c. search needs)
     sub-build-legal-4
     part-build-legal-start-3
     part-build-legal-end-3
     build-legal-requires
-    same-length
-    same-length-2
+    (λ c. search needs)
+    (λ c. search needs)
     returns)

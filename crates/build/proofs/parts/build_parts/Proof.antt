@@ -78,9 +78,6 @@ build-part-requires c κs =
       ((starts _ _ _ (p .0) (l .inv .state) (taken (e .before)), end-is e), (l .inv .few, l .inv .clear)),
     )
 
-enum-known-built : tie.Need-enum-known-built Inv-loop μ-loop
-enum-known-built c = search needs
-
 -- what the part answers and leaves
 module _ (c : tie.After-build-part Inv-loop μ-loop) where
   abbrev ended : tie.After-part-end Inv-loop μ-loop
@@ -91,13 +88,16 @@ module _ (c : tie.After-build-part Inv-loop μ-loop) where
 
   abbrev left : Answer → Space → Type 0
   left r p =
-      (reply r ≡ with-answer (λ _. rowCount p) (weights p)) × ((c .build-part .last .1 .1 .1 .1 .1 .0 ≡ numeratorsAfter (weights p) (ended .before .before .loop .num)) × (c .build-part .last .1 .1 .1 .1 .1 .1 .0 ≡ denominatorsAfter (weights p) (ended .before .before .loop .den)))
+      (reply r ≡ with-answer (λ _. rowCount p) (weights p)) × ((c .build-part .last .1 .1 .1 .1 .1 .0 ≡ numeratorsAfter (weights p)
+      (ended .before .before .loop .num)) × (c .build-part .last .1 .1 .1 .1 .1 .1 .0 ≡ denominatorsAfter (weights p) (ended .before .before .loop .den)))
 
   leaves : {r : Answer} → c .build-part .result ≡ r → left r part
   leaves {r} e = subst (λ (x : Answer). left x part) e (subst (λ (n : ℕ). left (c .build-part .result) (section (beam ended) (first ended) (n - first ended))) (end-is ended) (c .build-part .ensures))
 
   -- one part more
-  more : {n : ℕ} → c .build-part .result ≡ Count n → Before (beam ended) (ended .before .before .before .args .num .now) (ended .before .before .before .args .den .now) (c .build-part .last .1 .1 .1 .1 .1 .0) (c .build-part .last .1 .1 .1 .1 .1 .1 .0) (ended .before .before .loop .rows + n) (ended .part-end .result)
+  more : {n : ℕ} → c .build-part .result ≡ Count n → Before (beam ended) (ended .before .before .before .args .num .now)
+      (ended .before .before .before .args .den .now) (c .build-part .last .1 .1 .1 .1 .1 .0) (c .build-part .last .1 .1 .1 .1 .1 .1 .0)
+      (ended .before .before .loop .rows + n) (ended .part-end .result)
   more {n} e =
       let x = leaves e in
       let t = count-inverts (λ _. rowCount part) (weights part) (x .0) in
@@ -129,12 +129,6 @@ module _ (c : tie.After-build-part Inv-loop μ-loop) where
 add-rows : tie.Need-add-rows Inv-loop μ-loop
 add-rows c = let m = c .before .before .before .before .before in omega (arith, rows-high _ _ _ (ended m .before .before .before .pre .0) (more m (c .before .built .given .1)))
 
-enum-known-built-2 : tie.Need-enum-known-built-2 Inv-loop μ-loop
-enum-known-built-2 c = search needs
-
-cast-place : tie.Need-cast-place Inv-loop μ-loop
-cast-place c = omega arith
-
 add-place : tie.Need-add-place Inv-loop μ-loop
 add-place c = omega (arith, taken (ended (c .before .before .before .before .before) .before), ended (c .before .before .before .before .before) .before .before .before .pre .0 .few)
 
@@ -152,7 +146,8 @@ returns c =
     let m = c .before .before .before .before .before .before in
     let d = ended m in
     let x = leaves m (c .before .before .built2 .given .1) in
-    let e = part-refused _ _ _ (d .before .before .before .pre .0) (d .before .before .loop .inv .state) (taken (d .before)) (refused-inverts (λ _. rowCount (part m)) (weights (part m)) (x .0)) (x .1 .0) (x .1 .1) in
+    let e = part-refused _ _ _ (d .before .before .before .pre .0) (d .before .before .loop .inv .state) (taken (d .before))
+    (refused-inverts (λ _. rowCount (part m)) (weights (part m)) (x .0)) (x .1 .0) (x .1 .1) in
     (ap (λ (p : ℕ). reply (Refused (c .before .before .built2 .given .0 .0) p)) (c .place .ensures) ∙ e .answers, (e .numerators-are, e .denominators-are))
 
 loop-less : tie.Need-loop-less Inv-loop μ-loop
@@ -187,10 +182,10 @@ build-parts-spec =
     loop-holds
     part-end-requires
     build-part-requires
-    enum-known-built
+    (λ c. search needs)
     add-rows
-    enum-known-built-2
-    cast-place
+    (λ c. search needs)
+    (λ c. omega arith)
     add-place
     place-requires
     same-length

@@ -59,9 +59,6 @@ record Lies (breaks degrees orders ordinates a b from to : ℕ) : Type 0 where
   inside : to ≤ ordinates
   columns : ordinates ≤ 288
 
-first-column-requires : tie.Need-first-column-requires
-first-column-requires c κs = search needs
-
 first-column-requires-2 : tie.Need-first-column-requires-2
 first-column-requires-2 c κs =
     let s = c .before in
@@ -88,7 +85,8 @@ module _ (c : tie.After-first-column2) where
   whole : start .args .a + (start .args .b - start .args .a) ≡ start .args .b
   whole = let e = part-ends lists (start .args .a) (start .pre .1 .0 .0 .below) in omega (arith, ends-at, e .above)
 
-  lies : Lies (length (start .args .breaks .now)) (length (start .args .degrees .now)) (length (start .args .orders .now)) (length (start .args .ordinates .now)) (start .args .a) (start .args .b) (c .before .first-column .result) (c .first-column2 .result)
+  lies : Lies (length (start .args .breaks .now)) (length (start .args .degrees .now)) (length (start .args .orders .now))
+      (length (start .args .ordinates .now)) (start .args .a) (start .args .b) (c .before .first-column .result) (c .first-column2 .result)
   lies =
       let e = part-ends lists (start .args .a) (start .pre .1 .0 .0 .below) in
       let l = start .pre .0 .0 in
@@ -105,7 +103,10 @@ module _ (c : tie.After-first-column2) where
       }
 
   -- the slices are the part
-  part-is : space (take (start .args .b + 1 - start .args .a) (drop (start .args .a) (start .args .breaks .now))) (take (start .args .b - start .args .a) (drop (start .args .a) (start .args .degrees .now))) (take (start .args .b - 1 - start .args .a) (drop (start .args .a) (start .args .orders .now))) ≡ section lists (start .args .a) (start .args .b - start .args .a)
+  part-is : space (take (start .args .b + 1 - start .args .a) (drop (start .args .a) (start .args .breaks .now)))
+      (take (start .args .b - start .args .a) (drop (start .args .a) (start .args .degrees .now)))
+      (take (start .args .b - 1 - start .args .a) (drop (start .args .a) (start .args .orders .now))) ≡ section lists (start .args .a)
+      (start .args .b - start .args .a)
   part-is = sliced lists (start .args .a) (start .args .b) (lies .some)
 
   -- and its columns those of its ordinates
@@ -115,9 +116,6 @@ module _ (c : tie.After-first-column2) where
 add-recover-part : tie.Need-add-recover-part
 add-recover-part c = let l = lies c in omega (arith, l .within, l .few)
 
-mul-recover-part : tie.Need-mul-recover-part
-mul-recover-part c = search needs
-
 sub-recover-part : tie.Need-sub-recover-part
 sub-recover-part c = let l = lies c in omega (arith, l .some, l .within, l .break-count, l .order-count)
 
@@ -126,9 +124,6 @@ part-recover-part-start c = let l = lies c in omega (arith, l .some, l .within, 
 
 part-recover-part-end : tie.Need-part-recover-part-end
 part-recover-part-end c = let l = lies c in omega (arith, l .some, l .within, l .break-count, l .order-count)
-
-mul-recover-part-2 : tie.Need-mul-recover-part-2
-mul-recover-part-2 c = search needs
 
 sub-recover-part-2 : tie.Need-sub-recover-part-2
 sub-recover-part-2 c = let l = lies (c .before) in omega (arith, l .some, l .within, l .break-count, l .order-count)
@@ -141,9 +136,6 @@ part-recover-part-end-2 c = let l = lies (c .before) in omega (arith, l .some, l
 
 sub-recover-part-3 : tie.Need-sub-recover-part-3
 sub-recover-part-3 c = let l = lies (c .before .before) in omega (arith, l .some, l .within, l .break-count, l .order-count)
-
-mul-recover-part-3 : tie.Need-mul-recover-part-3
-mul-recover-part-3 c = search needs
 
 sub-recover-part-4 : tie.Need-sub-recover-part-4
 sub-recover-part-4 c = let l = lies (c .before .before) in omega (arith, l .some, l .within, l .break-count, l .order-count)
@@ -172,21 +164,18 @@ recover-part-requires c κs =
     let s = start f in
     let l = lies f in (
       (
-        subst (λ (p : Space). PartLegal (p .breaks) (p .degrees) (p .orders)) (sym (part-is f ∙ ap (λ (e : ℕ). section (lists f) (s .args .a) (e - s .args .a)) (ends-at f))) (part-legal _ _ _ (s .pre .0 .0) (s .args .a) (s .pre .1 .0 .0)),
+        subst (λ (p : Space). PartLegal (p .breaks) (p .degrees) (p .orders))
+            (sym (part-is f ∙ ap (λ (e : ℕ). section (lists f) (s .args .a) (e - s .args .a)) (ends-at f)))
+            (part-legal _ _ _ (s .pre .0 .0) (s .args .a) (s .pre .1 .0 .0)),
         s .pre .0 .1,
       ),
       (
-        length-take-le (f .first-column2 .result - f .before .first-column .result) (drop (f .before .first-column .result) (s .args .ordinates .now)) (omega (arith, l .ordered, l .inside, length-drop (f .before .first-column .result) (s .args .ordinates .now)))
+        length-take-le (f .first-column2 .result - f .before .first-column .result) (drop (f .before .first-column .result) (s .args .ordinates .now))
+            (omega (arith, l .ordered, l .inside, length-drop (f .before .first-column .result) (s .args .ordinates .now)))
             ∙ columns-are f ∙ ap columnCount (sym (part-is f)),
         slice-fit (f .before .first-column .result) (f .first-column2 .result - f .before .first-column .result) (s .args .ordinates .now) (s .pre .1 .1 .1),
       ),
     )
-
-same-length : tie.Need-same-length
-same-length c = search needs
-
-same-length-2 : tie.Need-same-length-2
-same-length-2 c = search needs
 
 returns : tie.Need-returns
 returns c =
@@ -194,28 +183,31 @@ returns c =
     let f = m .before .before .before .before .before .before .before in
     let s = start f in
     let part = section (lists f) (s .args .a) (s .args .b - s .args .a) in
-    subst (λ (os : List ℤ). JoinsLeave (recovered part os) (rowCount part) (m .recover-part .result) (s .args .num .now) (s .args .den .now) (m .recover-part .last .1 .1 .1 .1 .0) (m .recover-part .last .1 .1 .1 .1 .1 .0))
+    subst (λ (os : List ℤ). JoinsLeave (recovered part os) (rowCount part) (m .recover-part .result) (s .args .num .now) (s .args .den .now)
+    (m .recover-part .last .1 .1 .1 .1 .0) (m .recover-part .last .1 .1 .1 .1 .1 .0))
     (ap₂ (λ (n : ℕ) (i : ℕ). take n (drop i (s .args .ordinates .now))) (columns-are f) (from-is f))
-    (subst (λ (p : Space). JoinsLeave (recovered p (take (f .first-column2 .result - f .before .first-column .result) (drop (f .before .first-column .result) (s .args .ordinates .now)))) (rowCount p) (m .recover-part .result) (s .args .num .now) (s .args .den .now) (m .recover-part .last .1 .1 .1 .1 .0) (m .recover-part .last .1 .1 .1 .1 .1 .0))
+    (subst (λ (p : Space). JoinsLeave (recovered p (take (f .first-column2 .result - f .before .first-column .result)
+    (drop (f .before .first-column .result) (s .args .ordinates .now)))) (rowCount p) (m .recover-part .result) (s .args .num .now) (s .args .den .now)
+    (m .recover-part .last .1 .1 .1 .1 .0) (m .recover-part .last .1 .1 .1 .1 .1 .0))
     (part-is f) (m .recover-part .ensures))
 
 pub recover-at-spec : {M : Type 1} → statement M
 recover-at-spec =
     tie.close
     (tie.spec
-    first-column-requires
+    (λ c κs. search needs)
     first-column-requires-2
     add-recover-part
-    mul-recover-part
+    (λ c. search needs)
     sub-recover-part
     part-recover-part-start
     part-recover-part-end
-    mul-recover-part-2
+    (λ c. search needs)
     sub-recover-part-2
     part-recover-part-start-2
     part-recover-part-end-2
     sub-recover-part-3
-    mul-recover-part-3
+    (λ c. search needs)
     sub-recover-part-4
     part-recover-part-start-3
     part-recover-part-end-3
@@ -224,6 +216,6 @@ recover-at-spec =
     part-recover-part-start-4
     part-recover-part-end-4
     recover-part-requires
-    same-length
-    same-length-2
+    (λ c. search needs)
+    (λ c. search needs)
     returns)

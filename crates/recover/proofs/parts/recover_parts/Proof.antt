@@ -131,7 +131,8 @@ module _ (c : tie.After-recover-at Inv-loop μ-loop) where
   turn : first ended < length (start .args .degrees .now)
   turn = taken (ended .before)
 
-  abbrev state : Before s given (start .args .num .now) (start .args .den .now) (start .args .coef-num .now) (start .args .coef-den .now) (at .loop .num) (at .loop .den) (at .loop .coef-num) (at .loop .coef-den) (at .loop .rows) (first ended)
+  abbrev state : Before s given (start .args .num .now) (start .args .den .now) (start .args .coef-num .now) (start .args .coef-den .now) (at .loop .num)
+      (at .loop .den) (at .loop .coef-num) (at .loop .coef-den) (at .loop .rows) (first ended)
   state = at .loop .inv .state
 
   -- no refusal
@@ -148,12 +149,6 @@ module _ (c : tie.After-recover-at Inv-loop μ-loop) where
     own-few : n ≤ 72
     own-few = omega (arith, answered .count, part-rows _ _ _ (start .pre .0 .0) given (start .pre .1 .0 .0) state turn)
 
-enum-known-built : tie.Need-enum-known-built Inv-loop μ-loop
-enum-known-built c = search needs
-
-enum-known-built-2 : tie.Need-enum-known-built-2 Inv-loop μ-loop
-enum-known-built-2 c = search needs
-
 clear-requires : tie.Need-clear-requires Inv-loop μ-loop
 clear-requires c κs =
     let m = c .before .before .before .before .before .before .before in
@@ -166,9 +161,6 @@ clear-requires-2 c κs =
     let p = start m .pre .1 .1 in
     let v = at m .loop .inv in
     (omega arith, (omega (arith, p .0, v .coef-num-long), omega (arith, p .1, v .coef-den-long)))
-
-cast-place : tie.Need-cast-place Inv-loop μ-loop
-cast-place c = omega arith
 
 add-place : tie.Need-add-place Inv-loop μ-loop
 add-place c =
@@ -206,7 +198,8 @@ returns c =
     let k = c .before .before .before .before .before .before .before .before .clear in
     let k2 = c .before .before .before .clear2 in
     let v = at m .loop .inv in
-    subst (λ (place : ℕ). BeamEnds (s m) (length (given m)) (recovered (s m) (given m)) (Refused (b .0 .0) place) (g .args .num .now) (g .args .den .now) (g .args .coef-num .now) (g .args .coef-den .now) (k .last .0) (k .last .1 .0) (k2 .last .0)
+    subst (λ (place : ℕ). BeamEnds (s m) (length (given m)) (recovered (s m) (given m)) (Refused (b .0 .0) place) (g .args .num .now) (g .args .den .now)
+    (g .args .coef-num .now) (g .args .coef-den .now) (k .last .0) (k .last .1 .0) (k2 .last .0)
     (k2 .last .1 .0))
     (sym (c .place .ensures))
     (part-refused _ _ _ (g .pre .0 .0) (given m) (g .pre .1 .0 .0) (state m) (turn m) r
@@ -262,8 +255,10 @@ loop-again c =
       den-long = den-same m;
       coef-num-long = w .write .kept .0 ∙ v .coef-num-long;
       coef-den-long = w .write .kept .1 .0 ∙ v .coef-den-long;
-      state = subst (λ (e : ℕ). Before (s m) (given m) (g .args .num .now) (g .args .den .now) (g .args .coef-num .now) (g .args .coef-den .now) (num-after m) (den-after m) (w .write .last .0) (w .write .last .1 .0) (at m .loop .rows + rows-of c) e) (sym (end-is (ended m)))
-          (subst (λ (k : ℕ). Before (s m) (given m) (g .args .num .now) (g .args .den .now) (g .args .coef-num .now) (g .args .coef-den .now) (num-after m) (den-after m) (w .write .last .0) (w .write .last .1 .0) (at m .loop .rows + k) (partEnd (s m) (first (ended m)))) (sym n)
+      state = subst (λ (e : ℕ). Before (s m) (given m) (g .args .num .now) (g .args .den .now) (g .args .coef-num .now) (g .args .coef-den .now) (num-after m)
+          (den-after m) (w .write .last .0) (w .write .last .1 .0) (at m .loop .rows + rows-of c) e) (sym (end-is (ended m)))
+          (subst (λ (k : ℕ). Before (s m) (given m) (g .args .num .now) (g .args .den .now) (g .args .coef-num .now) (g .args .coef-den .now) (num-after m)
+          (den-after m) (w .write .last .0) (w .write .last .1 .0) (at m .loop .rows + k) (partEnd (s m) (first (ended m)))) (sym n)
           (part-more _ _ _ (g .pre .0 .0) (given m) (g .pre .1 .0 .0) b (turn m) (x .is) (q .1) (q .2)
           (z .0 ∙ ap (λ (k : ℕ). listed numeratorOf (at m .loop .rows + k) (b .coefficients ++ x .result .coefficients) (g .args .coef-num .now)) n)
           (z .1 ∙ ap (λ (k : ℕ). listed denominatorOf (at m .loop .rows + k) (b .coefficients ++ x .result .coefficients) (g .args .coef-den .now)) n)));
@@ -309,10 +304,10 @@ recover-parts-spec =
     loop-holds
     part-end-requires
     recover-at-requires
-    enum-known-built
+    (λ c. search needs)
     clear-requires
     clear-requires-2
-    cast-place
+    (λ c. omega arith)
     add-place
     place-requires
     same-length
@@ -320,7 +315,7 @@ recover-parts-spec =
     same-length-3
     same-length-4
     returns
-    enum-known-built-2
+    (λ c. search needs)
     write-requires
     add-rows
     loop-less

@@ -52,7 +52,8 @@ here-is : (from i : ℕ) (done ps : List ℚ) → length done ≡ from → entry
 here-is from i done ps e = ap (λ m. entry (done ++ ps) (m + i)) (sym e) ∙ getD-append-add done ps i (int (pos 0))
 
 -- one cell more
-more : (part : ℚ → ℤ) (from i : ℕ) (all : List ℚ) (now before : List ℤ) (z : ℤ) → now ≡ listed part (from + i) all before → z ≡ part (entry all (from + i)) → from + i < length before → set now (from + i) z ≡ listed part (from + (i + 1)) all before
+more : (part : ℚ → ℤ) (from i : ℕ) (all : List ℚ) (now before : List ℤ) (z : ℤ) → now ≡ listed part (from + i) all before → z ≡ part (entry all (from + i))
+    → from + i < length before → set now (from + i) z ≡ listed part (from + (i + 1)) all before
 more part from i all now before z e h l =
     ap₂ (λ (xs : List ℤ) (v : ℤ). set xs (from + i) v) e h
     ∙ tab-more (λ k. part (entry all k)) (from + i) before l
@@ -67,7 +68,9 @@ unfolding fraction
 den-part q = refl
 
 -- the turn's cell is inside
-inside : (c : tie.After-struct-told2 Inv-loop μ-loop) → (c .before .before .before .before .before .args .from + c .before .before .before .before .loop .i < length (c .before .before .before .before .loop .coef-num)) × (c .before .before .before .before .before .args .from + c .before .before .before .before .loop .i < length (c .before .before .before .before .loop .coef-den))
+inside : (c : tie.After-struct-told2 Inv-loop μ-loop) → (c .before .before .before .before .before .args .from + c .before .before .before .before .loop
+    .i < length (c .before .before .before .before .loop .coef-num)) × (c .before .before .before .before .before .args .from + c .before .before .before
+    .before .loop .i < length (c .before .before .before .before .loop .coef-den))
 inside c =
     let a = c .before .before .before .before in
     let p = a .before .pre in
@@ -81,9 +84,6 @@ loop-holds c = record {
   den-long = refl;
   state = λ done ps num den e m n p q k l. record { num-is = p ∙ first-is numeratorOf (c .args .from) done ps num m; den-is = q ∙ first-is denominatorOf (c .args .from) done ps den m };
 }
-
-fraction-at-requires : tie.Need-fraction-at-requires Inv-loop μ-loop
-fraction-at-requires c κs = omega arith
 
 add-k : tie.Need-add-k Inv-loop μ-loop
 add-k c = let h = inside c in omega (arith, h .0)
@@ -99,12 +99,6 @@ mul-d c = let h = inside c in omega (arith, h .0)
 
 slice-set-from-d : tie.Need-slice-set-from-d Inv-loop μ-loop
 slice-set-from-d c = inside c .1
-
-add-i : tie.Need-add-i Inv-loop μ-loop
-add-i c = omega arith
-
-loop-less : tie.Need-loop-less Inv-loop μ-loop
-loop-less c = omega arith
 
 loop-again : tie.Need-loop-again Inv-loop μ-loop
 loop-again c =
@@ -123,8 +117,10 @@ loop-again c =
           let b = q .fraction-at .ensures ps e in
           let w = here-is (g .from) (a .loop .i) done ps m in
           record {
-            num-is = simp toZ-ofZ (more numeratorOf (g .from) (a .loop .i) (done ++ ps) (a .loop .coef-num) num (q .fraction-at .result .num) (z .num-is) (ap (λ (t : Fraction). t .num) b ∙ num-part (entry ps (a .loop .i)) ∙ ap numeratorOf (sym w)) (omega arith));
-            den-is = simp toZ-ofZ (more denominatorOf (g .from) (a .loop .i) (done ++ ps) (a .loop .coef-den) den (q .fraction-at .result .den) (z .den-is) (ap (λ (t : Fraction). t .den) b ∙ den-part (entry ps (a .loop .i)) ∙ ap denominatorOf (sym w)) (omega arith));
+            num-is = simp toZ-ofZ (more numeratorOf (g .from) (a .loop .i) (done ++ ps) (a .loop .coef-num) num (q .fraction-at .result .num) (z .num-is)
+                (ap (λ (t : Fraction). t .num) b ∙ num-part (entry ps (a .loop .i)) ∙ ap numeratorOf (sym w)) (omega arith));
+            den-is = simp toZ-ofZ (more denominatorOf (g .from) (a .loop .i) (done ++ ps) (a .loop .coef-den) den (q .fraction-at .result .den) (z .den-is)
+                (ap (λ (t : Fraction). t .den) b ∙ den-part (entry ps (a .loop .i)) ∙ ap denominatorOf (sym w)) (omega arith));
           };
     }
 
@@ -149,14 +145,14 @@ write-spec =
     Inv-loop
     μ-loop
     loop-holds
-    fraction-at-requires
+    (λ c κs. omega arith)
     add-k
     mul-p
     slice-set-from-p
     mul-d
     slice-set-from-d
-    add-i
-    loop-less
+    (λ c. omega arith)
+    (λ c. omega arith)
     loop-again
     same-length
     same-length-2

@@ -15,15 +15,6 @@ Inv-loop counts sum left₀ k₀ left k = (k ≤ length counts) × (total counts
 abbrev μ-loop : tie.MeasureT-loop
 μ-loop counts sum left₀ k₀ left k = length counts - k
 
-loop-holds : tie.Need-loop-holds Inv-loop μ-loop
-loop-holds c = omega arith
-
-mul-count : tie.Need-mul-count Inv-loop μ-loop
-mul-count c = omega arith
-
-shared-slice-read-count : tie.Need-shared-slice-read-count Inv-loop μ-loop
-shared-slice-read-count c = omega arith
-
 cast-count : tie.Need-cast-count Inv-loop μ-loop
 cast-count c = omega (arith, c .shared-slice-known .given (c .before .before .loop .k))
 
@@ -32,12 +23,6 @@ returns c =
     let s = c .before .before .before .before in
     let l = c .before .before .before .loop in
     sym (ne-eqb (total (s .args .counts .now)) (s .args .sum) (λ e. omega (arith, l .inv .1, total-step (s .args .counts .now) (l .k) (omega arith))))
-
-add-k : tie.Need-add-k Inv-loop μ-loop
-add-k c = omega arith
-
-loop-less : tie.Need-loop-less Inv-loop μ-loop
-loop-less c = omega arith
 
 loop-again : tie.Need-loop-again Inv-loop μ-loop
 loop-again c =
@@ -58,12 +43,12 @@ adds-up-spec =
     (tie.spec
     Inv-loop
     μ-loop
-    loop-holds
-    mul-count
-    shared-slice-read-count
+    (λ c. omega arith)
+    (λ c. omega arith)
+    (λ c. omega arith)
     cast-count
     returns
-    add-k
-    loop-less
+    (λ c. omega arith)
+    (λ c. omega arith)
     loop-again
     returns-2)

@@ -28,9 +28,6 @@ returns-3 c =
     let a = c .before .before .before .before .before .args in
     sym (simp (ne-eqb (length (a .counts .now)) (length (a .years .now)) (c .if3 .taken), and-false))
 
-adds-up-requires : tie.Need-adds-up-requires
-adds-up-requires c κs = search needs
-
 returns-4 : tie.Need-returns-4
 unfolding listsFit
 returns-4 c =
@@ -42,4 +39,4 @@ returns-4 c =
     ))
 
 pub lists-fit-spec : {M : Type 1} → statement M
-lists-fit-spec = tie.close (tie.spec returns returns-2 returns-3 adds-up-requires returns-4)
+lists-fit-spec = tie.close (tie.spec returns returns-2 returns-3 (λ c κs. search needs) returns-4)

@@ -17,12 +17,6 @@ few c = closing-parts (c .before .args .year) (c .before .args .count) (c .befor
 years-left-requires : tie.Need-years-left-requires
 years-left-requires c κs = let f : SFits w32 (c .args .year) = c .fits .year in simp toZ-ofZ (closing-parts (c .args .year) (c .args .count) (c .pre) .dated)
 
-sub-lines : tie.Need-sub-lines
-sub-lines c = search needs
-
-sub-lines-2 : tie.Need-sub-lines-2
-sub-lines-2 c = search needs
-
 add-lines : tie.Need-add-lines
 add-lines c = omega (arith, few c)
 
@@ -54,8 +48,8 @@ series-bytes-spec =
     tie.close
     (tie.spec
     years-left-requires
-    sub-lines
-    sub-lines-2
+    (λ c. search needs)
+    (λ c. search needs)
     add-lines
     add-lines-2
     add-result

@@ -29,18 +29,6 @@ abbrev μ-loop : tie.MeasureT-loop
 loop-holds : tie.Need-loop-holds Inv-loop μ-loop
 loop-holds c = record { within = omega arith; room-is = omega arith; fit = c .before .pre .closed }
 
-mul-series-bytes : tie.Need-mul-series-bytes Inv-loop μ-loop
-mul-series-bytes c = omega arith
-
-shared-slice-copy-out-series-bytes : tie.Need-shared-slice-copy-out-series-bytes Inv-loop μ-loop
-shared-slice-copy-out-series-bytes c = omega arith
-
-mul-series-bytes-2 : tie.Need-mul-series-bytes-2 Inv-loop μ-loop
-mul-series-bytes-2 c = omega arith
-
-shared-slice-read-series-bytes : tie.Need-shared-slice-read-series-bytes Inv-loop μ-loop
-shared-slice-read-series-bytes c = omega arith
-
 cast-series-bytes : tie.Need-cast-series-bytes Inv-loop μ-loop
 cast-series-bytes c = omega (arith, c .shared-slice-known2 .given (c .before .before .before .loop .k))
 
@@ -65,12 +53,6 @@ returns c =
       simp toZ-ofZ at (c .before .series-bytes .ensures),
       bytes-step ys ns (l .k) (omega arith) (omega arith),
     )))
-
-add-k : tie.Need-add-k Inv-loop μ-loop
-add-k c = omega arith
-
-loop-less : tie.Need-loop-less Inv-loop μ-loop
-loop-less c = omega arith
 
 loop-again : tie.Need-loop-again Inv-loop μ-loop
 loop-again c =
@@ -106,14 +88,14 @@ text-fits-spec =
     Inv-loop
     μ-loop
     loop-holds
-    mul-series-bytes
-    shared-slice-copy-out-series-bytes
-    mul-series-bytes-2
-    shared-slice-read-series-bytes
+    (λ c. omega arith)
+    (λ c. omega arith)
+    (λ c. omega arith)
+    (λ c. omega arith)
     cast-series-bytes
     series-bytes-requires
     returns
-    add-k
-    loop-less
+    (λ c. omega arith)
+    (λ c. omega arith)
     loop-again
     returns-2)

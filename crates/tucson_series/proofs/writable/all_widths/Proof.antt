@@ -21,12 +21,6 @@ abbrev μ-loop : tie.MeasureT-loop
 loop-holds : tie.Need-loop-holds Inv-loop μ-loop
 loop-holds c = (omega arith, refl)
 
-mul-width : tie.Need-mul-width Inv-loop μ-loop
-mul-width c = omega arith
-
-shared-slice-copy-out-width : tie.Need-shared-slice-copy-out-width Inv-loop μ-loop
-shared-slice-copy-out-width c = omega arith
-
 returns : tie.Need-returns Inv-loop μ-loop
 returns c =
     let l = c .before .before .before .loop in
@@ -40,12 +34,6 @@ returns-2 c =
     let ws = c .before .before .before .before .before .args .widths .now in
     let f : SFits w32 (getD ws (l .i) (pos 0)) = record { sfits = c .before .before .width .given } in
     sym (l .inv .1 ∙ widths-high ws (l .i) (omega arith) (simp toZ-ofZ at (c .if2 .taken)))
-
-add-i : tie.Need-add-i Inv-loop μ-loop
-add-i c = omega arith
-
-loop-less : tie.Need-loop-less Inv-loop μ-loop
-loop-less c = omega arith
 
 loop-again : tie.Need-loop-again Inv-loop μ-loop
 loop-again c =
@@ -66,11 +54,11 @@ all-widths-spec =
     Inv-loop
     μ-loop
     loop-holds
-    mul-width
-    shared-slice-copy-out-width
+    (λ c. omega arith)
+    (λ c. omega arith)
     returns
     returns-2
-    add-i
-    loop-less
+    (λ c. omega arith)
+    (λ c. omega arith)
     loop-again
     returns-3)

@@ -67,12 +67,6 @@ mul-is-writable-2 c =
     let l = c .before .before .before .loop in
     omega (arith, widths-within (l .inv .walked) (omega (arith, l .inv .walked .passed)))
 
-sub-is-writable : tie.Need-sub-is-writable Inv-loop μ-loop
-sub-is-writable c = omega arith
-
-part-is-writable-start : tie.Need-part-is-writable-start Inv-loop μ-loop
-part-is-writable-start c = omega arith
-
 part-is-writable-end : tie.Need-part-is-writable-end Inv-loop μ-loop
 part-is-writable-end c =
     let a = c .before .before .before .before .before .before .args in
@@ -157,8 +151,8 @@ first-unwritable-spec =
     mul-is-writable
     shared-slice-copy-out-is-writable
     mul-is-writable-2
-    sub-is-writable
-    part-is-writable-start
+    (λ c. omega arith)
+    (λ c. omega arith)
     part-is-writable-end
     is-writable-requires
     add-at

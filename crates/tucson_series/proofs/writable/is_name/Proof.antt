@@ -12,17 +12,11 @@ returns : tie.Need-returns
 unfolding isName
 returns c = sym (simp (ne-eqb (length (c .before .before .args .name .now)) 8 (c .if1 .taken)))
 
-all-printable-requires : tie.Need-all-printable-requires
-all-printable-requires c κs = search needs
-
 returns-2 : tie.Need-returns-2
 unfolding isName
 returns-2 c =
     let n = c .before .before .before .before .args .name .now in
     sym (simp (eq-eqb (length n) 8 (c .before .before .if1 .left), sym (c .before .all-printable .ensures) ∙ not-true _ (c .if2 .taken)))
-
-all-blank-requires : tie.Need-all-blank-requires
-all-blank-requires c κs = search needs
 
 returns-3 : tie.Need-returns-3
 unfolding isName
@@ -36,4 +30,4 @@ returns-3 c =
 
 pub is-name-spec : {M : Type 1} → statement M
 is-name-spec =
-    tie.close (tie.spec returns all-printable-requires returns-2 all-blank-requires returns-3)
+    tie.close (tie.spec returns (λ c κs. search needs) returns-2 (λ c κs. search needs) returns-3)

@@ -16,18 +16,6 @@ use Rattle.tucson_series.proofs.Unwritable.{not-named, not-measured, no
 use Rattle.tucson_series.proofs.writable.is_writable.Statement.{statement}
 use Rattle.tucson_series.proofs.writable.is_writable.Tie as tie
 
-add-end : tie.Need-add-end
-add-end c = search needs
-
-sub-name : tie.Need-sub-name
-sub-name c = search needs
-
-part-name-start : tie.Need-part-name-start
-part-name-start c = search needs
-
-part-name-end : tie.Need-part-name-end
-part-name-end c = search needs
-
 -- the names before the series, and its own
 module _ (s : tie.Start) where
   abbrev behind : Text
@@ -35,9 +23,6 @@ module _ (s : tie.Start) where
 
   abbrev name : Text
   name = slice (s .args .at) (s .args .at + nameColumns) (s .args .names .now)
-
-is-name-requires : tie.Need-is-name-requires
-is-name-requires c κs = search needs
 
 returns : tie.Need-returns
 returns c =
@@ -47,17 +32,11 @@ returns c =
     let no = ap isName (sym e) ∙ sym (c .before .is-name .ensures) ∙ not-true _ (c .if1 .taken) in
     sym (not-named (behind s) (name s) (a .year) (a .widths .now) no)
 
-all-widths-requires : tie.Need-all-widths-requires
-all-widths-requires c κs = search needs
-
 returns-2 : tie.Need-returns-2
 returns-2 c =
     let s = c .before .before .before .before .before .before in
     let no = sym (c .before .all-widths .ensures) ∙ not-true _ (c .if2 .taken) in
     sym (not-measured (behind s) (name s) (s .args .year) (s .args .widths .now) no)
-
-years-fit-requires : tie.Need-years-fit-requires
-years-fit-requires c κs = search needs
 
 returns-3 : tie.Need-returns-3
 returns-3 c =
@@ -66,9 +45,6 @@ returns-3 c =
     let measured = sym (c .before .before .before .all-widths .ensures) ∙ not-false _ (c .before .before .if2 .left) in
     let no = sym (simp toZ-ofZ at (c .before .years-fit .ensures)) ∙ not-true _ (c .if3 .taken) in
     sym (not-dated (behind s) (name s) (s .args .year) (s .args .widths .now) measured no)
-
-begins-requires : tie.Need-begins-requires
-begins-requires c κs = search needs
 
 returns-4 : tie.Need-returns-4
 returns-4 c =
@@ -86,15 +62,15 @@ pub is-writable-spec : {M : Type 1} → statement M
 is-writable-spec =
     tie.close
     (tie.spec
-    add-end
-    sub-name
-    part-name-start
-    part-name-end
-    is-name-requires
+    (λ c. search needs)
+    (λ c. search needs)
+    (λ c. search needs)
+    (λ c. search needs)
+    (λ c κs. search needs)
     returns
-    all-widths-requires
+    (λ c κs. search needs)
     returns-2
-    years-fit-requires
+    (λ c κs. search needs)
     returns-3
-    begins-requires
+    (λ c κs. search needs)
     returns-4)
