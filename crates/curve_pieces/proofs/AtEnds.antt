@@ -9,13 +9,13 @@ use Rattle.base_exact.specs.Rational.{ℚ, int, inv, _+ᵠ_, _*ᵠ_}
 use Rattle.base_exact.specs.Order.{_≤ᵠ_}
 use Rattle.base_exact.proofs.Ring.{ring}
 use Rattle.base_exact.proofs.Integer.{ℤ-ring, readsℤ, +-zero, +-neg}
-use Rattle.base_exact.proofs.Rational.{ℚ-ring, readsℚ, mul-inv, zero-mul}
+use Rattle.base_exact.proofs.Rational.{mul-inv, zero-mul}
 use Rattle.base_exact.proofs.Order.{pos-nonzero}
 use Rattle.base_exact.proofs.Floor.{nearest-exact}
 use Rattle.spec_spline.specs.Reading.{rounded, blend, triangle}
 use Rattle.theorems_values.proofs.Rounding.{pos-of-nat}
 use Rattle.theorems_values.proofs.Mean.{Factors, mean-within}
-use Rattle.theorems_values.proofs.Bernstein.{exactTriangle}
+use Rattle.theorems_values.proofs.Bernstein.{exactTriangle, triangle-first, triangle-last}
 use Rattle.theorems_values.proofs.Triangle.{leftFactor, rightFactor}
 
 -- ---- the factors
@@ -35,31 +35,12 @@ module _ (d : ℕ) (positive : 0 < d) where
 
   -- ---- the exact triangle
 
-  all-left : (e : ℕ → ℚ) (n k : ℕ) → exactTriangle (int (pos 1)) (int (pos 0)) e n k ≡ e k
-  unfolding exactTriangle
-  all-left e zero k = refl
-  all-left e (suc n) k =
-      first (exactTriangle (int (pos 1)) (int (pos 0)) e n k) (exactTriangle (int (pos 1)) (int (pos 0)) e n (suc k)) ∙ all-left e n k
-    where
-      first : (x y : ℚ) → int (pos 1) *ᵠ x +ᵠ int (pos 0) *ᵠ y ≡ x
-      first x y = ring ℚ-ring (x ∷ y ∷ []) (search readsℚ) (search readsℚ) refl
-
-  all-right : (e : ℕ → ℚ) (n k : ℕ) → exactTriangle (int (pos 0)) (int (pos 1)) e n k ≡ e (k + n)
-  unfolding exactTriangle
-  all-right e zero k = ap e (let z : k ≡ k + 0 = omega arith in z)
-  all-right e (suc n) k =
-      second (exactTriangle (int (pos 0)) (int (pos 1)) e n k) (exactTriangle (int (pos 0)) (int (pos 1)) e n (suc k))
-      ∙ all-right e n (suc k) ∙ ap e (let z : suc k + n ≡ k + suc n = omega arith in z)
-    where
-      second : (x y : ℚ) → int (pos 0) *ᵠ x +ᵠ int (pos 1) *ᵠ y ≡ y
-      second x y = ring ℚ-ring (x ∷ y ∷ []) (search readsℚ) (search readsℚ) refl
-
   pub exactTriangle-start : (e : ℕ → ℚ) (n : ℕ) → exactTriangle (leftFactor d (pos 0)) (rightFactor d (pos 0)) e n 0 ≡ e 0
-  exactTriangle-start e n = ap₂ (λ α β. exactTriangle α β e n 0) left-at-start right-at-start ∙ all-left e n 0
+  exactTriangle-start e n = ap₂ (λ α β. exactTriangle α β e n 0) left-at-start right-at-start ∙ triangle-first e n 0
 
   pub exactTriangle-end : (e : ℕ → ℚ) (n : ℕ) → exactTriangle (leftFactor d (pos d)) (rightFactor d (pos d)) e n 0 ≡ e n
   exactTriangle-end e n =
-      ap₂ (λ α β. exactTriangle α β e n 0) left-at-end whole ∙ all-right e n 0 ∙ ap e (let z : 0 + n ≡ n = omega arith in z)
+      ap₂ (λ α β. exactTriangle α β e n 0) left-at-end whole ∙ triangle-last e n 0 ∙ ap e (let z : n + 0 ≡ n = omega arith in z)
 
   -- ---- the rounded triangle
 

@@ -20,8 +20,8 @@ use Rattle.spec_spline.proofs.Legal.{Checked}
 use Rattle.theorems_beams.specs.Sections.{partAt}
 use Rattle.theorems_beams.specs.Parts.{Starts}
 use Rattle.theorems_values.specs.ValueLimits.{InSpan}
-use Rattle.theorems_values.proofs.Fine.{fine-mono-<}
-use Rattle.theorems_values.proofs.Segment.{Located, accepted-checked, located, breaks-rise, fineWidth-is}
+use Rattle.theorems_values.proofs.Segment.{Located, accepted-checked, located, fineWidth-is}
+use Rattle.theorems_values.proofs.Positions.{breaks-ordered}
 use Rattle.theorems_values.proofs.Value.{segment-column}
 use Rattle.theorems_values.proofs.Cells.{cell-holds-value}
 use Rattle.theorems_promises.specs.FallingCurves.{LowOrders, InPart, FallingListsFall, ClimbingListsClimb, FallingCells, ClimbingCells}
@@ -48,13 +48,6 @@ module _ (s : Space) (c : Checked s) (y z : ℤ) (p : InSpan s y) (q : InSpan s 
   not-before x i = let at = located s c x i in
       Z.≤-in (fine (break s (segmentAt s x))) x (omega (arith, Z.≤-out _ _ (at .from), Z.bal-+ x (negℤ (fine (break s (segmentAt s x)))), Z.bal-neg (fine (break s (segmentAt s x)))))
 
-  breaks-ordered : (i k : ℕ) → i ≤ k → k ≤ segments s → fine (break s i) ≤ℤ fine (break s k)
-  breaks-ordered i k l m = go (eq-or-lt-of-le l)
-    where
-      go : (i ≡ k) ⊎ (i < k) → fine (break s i) ≤ℤ fine (break s k)
-      go (inl e) = subst (λ n. fine (break s i) ≤ℤ fine (break s n)) e (Z.≤-refl _)
-      go (inr b) = Z.<-≤ _ _ (Z.rises (λ n. fine (break s n)) (segments s) (λ j d. fine-mono-< _ _ (breaks-rise s c j d)) i k b m)
-
   segments-rise : segmentAt s y ≤ segmentAt s z
   segments-rise = go (le-or-lt (segmentAt s y) (segmentAt s z))
     where
@@ -63,7 +56,7 @@ module _ (s : Space) (c : Checked s) (y z : ℤ) (p : InSpan s y) (q : InSpan s 
       go (inr l) =
           let back : z ≤ℤ y =
           Z.≤-trans z _ y (not-past z q)
-          (Z.≤-trans _ (fine (break s (segmentAt s y))) y (breaks-ordered (suc (segmentAt s z)) (segmentAt s y) l (omega (arith, located s c y p .below)))
+          (Z.≤-trans _ (fine (break s (segmentAt s y))) y (breaks-ordered s c (suc (segmentAt s z)) (segmentAt s y) l (omega (arith, located s c y p .below)))
           (not-before y p)) in
           omega (arith, ap (segmentAt s) (Z.≤-antisym y z h back))
 

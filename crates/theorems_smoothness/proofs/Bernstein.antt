@@ -9,13 +9,13 @@ use lib.IntN.{pos}
 use Rattle.base_exact.specs.Rational.{ℚ, int, inv, _+ᵠ_, _*ᵠ_, -ᵠ_, _-ᵠ_, _/ᵠ_}
 use Rattle.base_exact.specs.Sum.{sum}
 use Rattle.base_exact.proofs.Ring.{ring, reads}
-use Rattle.base_exact.proofs.Rational.{ℚ-ring, readsℚ, int-suc, int-nonzero, mul-inv, mul-assoc, mul-comm, zero-mul, one-mul, zero-add, add-zero}
+use Rattle.base_exact.proofs.Rational.{ℚ-ring, readsℚ, int-suc, int-nonzero, mul-inv, mul-assoc, mul-comm, zero-mul}
 use Rattle.base_exact.proofs.Sum.{sum-ext, sum-mul, sum-sub}
 use Rattle.spec_spline.specs.Conditions.{binomial}
 use Rattle.spec_spline.specs.ExactCurve as Exact
 use Rattle.spec_spline.specs.Published.{derivativeCoefficient}
 use Rattle.theorems_weights.proofs.Pascal.{binomialSum-suc}
-use Rattle.theorems_values.proofs.Bernstein.{bernstein, bernsteinSum, exactTriangle, triangle-is-sum}
+use Rattle.theorems_values.proofs.Bernstein.{bernstein, bernsteinSum, exactTriangle, triangle-is-sum, triangle-first, triangle-last}
 use Rattle.theorems_smoothness.specs.Polynomial.{coefficient, value, _+ᵖ_, _·ᵖ_, _*ᵖ_, power, derivative, iterated}
 use Rattle.theorems_smoothness.specs.Bernstein.{passed, ahead, bernsteinPolynomial, bernsteinForm}
 use Rattle.theorems_smoothness.proofs.Polynomial.{coefficient-multiple, coefficient-total, shift, shift-map, shift-mul, linear, linear-ext}
@@ -49,20 +49,6 @@ linear-sum : (a b : ℚ) (n : ℕ) (o : ℕ → ℚ) (F : ℕ → ℕ → ℚ) (
 unfolding sum
 linear-sum a b zero o F i = linear-none a b (λ i. refl) i
 linear-sum a b (suc n) o F i = linear-mix a b (o n) (λ i. sum n (λ t. o t *ᵠ F t i)) (F n) i ∙ ap (λ u. u +ᵠ o n *ᵠ linear a b (F n) i) (linear-sum a b n o F i)
-
--- ---- the ends of a triangle
-
-triangle-first : (o : ℕ → ℚ) (n k : ℕ) → exactTriangle (int (pos 1)) (int (pos 0)) o n k ≡ o k
-unfolding exactTriangle
-triangle-first o zero k = refl
-triangle-first o (suc n) k = ap₂ _+ᵠ_ (ap (λ u. int (pos 1) *ᵠ u) (triangle-first o n k) ∙ one-mul (o k)) (zero-mul _) ∙ add-zero (o k)
-
-triangle-last : (o : ℕ → ℚ) (n k : ℕ) → exactTriangle (int (pos 0)) (int (pos 1)) o n k ≡ o (n + k)
-unfolding exactTriangle
-triangle-last o zero k = ap o (let e : k ≡ 0 + k = omega arith in e)
-triangle-last o (suc n) k =
-    ap₂ _+ᵠ_ (zero-mul _) (ap (λ u. int (pos 1) *ᵠ u) (triangle-last o n (suc k)) ∙ one-mul (o (n + suc k))) ∙ zero-add _
-    ∙ ap o (let e : n + suc k ≡ suc n + k = omega arith in e)
 
 module _ (h : ℕ) where
   -- the factors x / h and 1 - x / h

@@ -16,6 +16,7 @@ use Rattle.base_exact.proofs.Ring.{ring, reads}
 use Rattle.base_exact.proofs.Rational.{ℚ-ring, readsℚ, int-suc, mul-zero, mul-comm, zero-add, add-zero, zero-mul}
 use Rattle.base_exact.proofs.Tabulate.{tab-length, tab-getD}
 use Rattle.spec_spline.specs.ExactCurve as Exact
+use Rattle.theorems_weights.proofs.Basis.{zeros-mixed}
 use Rattle.theorems_smoothness.specs.Polynomial.{Polynomial, coefficient, value, _+ᵖ_, _·ᵖ_, _*ᵖ_, power, total, derivative, DerivativeIsSlope}
 
 -- ---- coefficients
@@ -107,12 +108,9 @@ act-linear : (p : Polynomial) (a b : ℚ) (f : ℕ → ℚ) (i : ℕ) → act p 
 unfolding act linear
 act-linear [] a b f i = sym (ap (λ u. a *ᵠ int (pos 0) +ᵠ b *ᵠ u) (shift-map (λ x y. int (pos 0)) refl f f i) ∙ ring ℚ-ring (a ∷ b ∷ []) (search readsℚ) (search readsℚ) refl)
 act-linear (c ∷ p) a b f i =
-    ap (λ u. c *ᵠ (a *ᵠ f i +ᵠ b *ᵠ shift f i) +ᵠ u) (shift-ext (act-linear p a b f) i ∙ shift-map (λ x y. a *ᵠ x +ᵠ b *ᵠ y) (zeros a b) (act p f) (shift (act p f)) i)
+    ap (λ u. c *ᵠ (a *ᵠ f i +ᵠ b *ᵠ shift f i) +ᵠ u) (shift-ext (act-linear p a b f) i ∙ shift-map (λ x y. a *ᵠ x +ᵠ b *ᵠ y) (zeros-mixed a b) (act p f) (shift (act p f)) i)
     ∙ ring ℚ-ring (a ∷ b ∷ c ∷ f i ∷ shift f i ∷ shift (act p f) i ∷ shift (shift (act p f)) i ∷ []) (search reads depth 20) (search reads depth 20) refl
     ∙ ap (λ u. a *ᵠ (c *ᵠ f i +ᵠ shift (act p f) i) +ᵠ b *ᵠ u) (sym (shift-map (λ x y. c *ᵠ x +ᵠ y) (ring ℚ-ring (c ∷ []) (search readsℚ) (search readsℚ) refl) f (shift (act p f)) i))
-  where
-    zeros : (a b : ℚ) → a *ᵠ int (pos 0) +ᵠ b *ᵠ int (pos 0) ≡ int (pos 0)
-    zeros a b = ring ℚ-ring (a ∷ b ∷ []) (search readsℚ) (search readsℚ) refl
 
 act-pair : (a b : ℚ) (f : ℕ → ℚ) (i : ℕ) → act (a ∷ b ∷ []) f i ≡ linear a b f i
 unfolding act linear

@@ -74,6 +74,26 @@ unfoldable pub exactTriangle : ℚ → ℚ → (ℕ → ℚ) → ℕ → ℕ →
 exactTriangle α β e zero k = e k
 exactTriangle α β e (suc n) k = α *ᵠ exactTriangle α β e n k +ᵠ β *ᵠ exactTriangle α β e n (suc k)
 
+-- with the factors 1 and 0 it is the first of its numbers, with 0 and 1 the last
+pub triangle-first : (e : ℕ → ℚ) (n k : ℕ) → exactTriangle (int (pos 1)) (int (pos 0)) e n k ≡ e k
+unfolding exactTriangle
+triangle-first e zero k = refl
+triangle-first e (suc n) k =
+    first (exactTriangle (int (pos 1)) (int (pos 0)) e n k) (exactTriangle (int (pos 1)) (int (pos 0)) e n (suc k)) ∙ triangle-first e n k
+  where
+    first : (x y : ℚ) → int (pos 1) *ᵠ x +ᵠ int (pos 0) *ᵠ y ≡ x
+    first x y = ring ℚ-ring (x ∷ y ∷ []) (search readsℚ) (search readsℚ) refl
+
+pub triangle-last : (e : ℕ → ℚ) (n k : ℕ) → exactTriangle (int (pos 0)) (int (pos 1)) e n k ≡ e (n + k)
+unfolding exactTriangle
+triangle-last e zero k = ap e (let z : k ≡ 0 + k = omega arith in z)
+triangle-last e (suc n) k =
+    second (exactTriangle (int (pos 0)) (int (pos 1)) e n k) (exactTriangle (int (pos 0)) (int (pos 1)) e n (suc k))
+    ∙ triangle-last e n (suc k) ∙ ap e (let z : n + suc k ≡ suc n + k = omega arith in z)
+  where
+    second : (x y : ℚ) → int (pos 0) *ᵠ x +ᵠ int (pos 1) *ᵠ y ≡ y
+    second x y = ring ℚ-ring (x ∷ y ∷ []) (search readsℚ) (search readsℚ) refl
+
 pub triangle-is-sum : (α β : ℚ) (e : ℕ → ℚ) (n k : ℕ) → exactTriangle α β e n k ≡ bernsteinSum α β n (λ t. e (k + t))
 unfolding exactTriangle
 triangle-is-sum α β e zero k = ap e (let z : k ≡ k + 0 = omega arith in z) ∙ sym (bernsteinSum-zero α β (λ t. e (k + t)))

@@ -80,12 +80,14 @@ last-breakpoint-belongs-last s e =
 
 -- ---- a breakpoint lies in the span
 
-pub breakpoint-in-span : (s : Space) → Checked s → (i : ℕ) → i ≤ segments s → InSpan s (fine (break s i))
-breakpoint-in-span s c i h = rw (le-test (up-to 0 i (omega arith) h), le-test (up-to i (segments s) h (omega arith))) tt
+-- a later breakpoint is not before an earlier one
+pub breaks-ordered : (s : Space) → Checked s → (i j : ℕ) → i ≤ j → j ≤ segments s → fine (break s i) ≤ℤ fine (break s j)
+breaks-ordered s c i j k l = go (eq-or-lt-of-le k)
   where
-    up-to : (i j : ℕ) → i ≤ j → j ≤ segments s → fine (break s i) ≤ℤ fine (break s j)
-    up-to i j k l = go (eq-or-lt-of-le k)
-      where
-        go : (i ≡ j) ⊎ (i < j) → fine (break s i) ≤ℤ fine (break s j)
-        go (inl e) = subst (λ n. fine (break s i) ≤ℤ fine (break s n)) e (Z.≤-refl (fine (break s i)))
-        go (inr t) = Z.<-≤ _ _ (Z.rises (λ n. fine (break s n)) (segments s) (fine-rises s c) i j t l)
+    go : (i ≡ j) ⊎ (i < j) → fine (break s i) ≤ℤ fine (break s j)
+    go (inl e) = subst (λ n. fine (break s i) ≤ℤ fine (break s n)) e (Z.≤-refl (fine (break s i)))
+    go (inr t) = Z.<-≤ _ _ (Z.rises (λ n. fine (break s n)) (segments s) (fine-rises s c) i j t l)
+
+pub breakpoint-in-span : (s : Space) → Checked s → (i : ℕ) → i ≤ segments s → InSpan s (fine (break s i))
+breakpoint-in-span s c i h =
+    rw (le-test (breaks-ordered s c 0 i (omega arith) h), le-test (breaks-ordered s c i (segments s) h (omega arith))) tt

@@ -52,6 +52,10 @@ jumps-sum-zero width κ t I z h =
     sum-ext (length t) (λ i k. sym (one-mul (values κ t i))) ∙ sym (applied-sum κ (length t) (λ i. int (pos 1)) (cell t))
     ∙ applied-agree width I (λ c k. sum-ext (length t) (λ i m. one-mul (cell t i c)) ∙ h c k) ∙ z
 
+-- a mixture of zeros is zero
+pub zeros-mixed : (a b : ℚ) → a *ᵠ int (pos 0) +ᵠ b *ᵠ int (pos 0) ≡ int (pos 0)
+zeros-mixed a b = ring ℚ-ring (a ∷ b ∷ []) (search readsℚ) (search readsℚ) refl
+
 -- ---- one step
 
 -- the multipliers moved by one place
@@ -91,12 +95,10 @@ module _ (K K′ : List Entry → Type 0) (width : ℕ) (κ : List Entry) (t t�
   unfolding mixed
   new-meets κ′ m i = go (added κ′ m) (le-or-lt (length t′) i)
     where
-      nothing : (a b : ℚ) → a *ᵠ int (pos 0) +ᵠ b *ᵠ int (pos 0) ≡ int (pos 0)
-      nothing a b = ring ℚ-ring (a ∷ b ∷ []) (search readsℚ) (search readsℚ) refl
-
       go : K κ′ ⊎ (κ ≡ κ′) → (length t′ ≤ i) ⊎ (i < length t′) → values κ′ t′ i ≡ int (pos 0)
       go k (inl h) = values-past κ′ t′ i h
-      go (inl k) (inr h) = values-mixed κ′ i ∙ ap₂ (λ u v. S .w i *ᵠ u +ᵠ (int (pos 1) -ᵠ S .w (suc i)) *ᵠ v) (B .meets κ′ k i) (B .meets κ′ k (suc i)) ∙ nothing (S .w i) (int (pos 1) -ᵠ S .w (suc i))
+      go (inl k) (inr h) = values-mixed κ′ i ∙ ap₂ (λ u v. S .w i *ᵠ u +ᵠ (int (pos 1) -ᵠ S .w (suc i)) *ᵠ v) (B .meets κ′ k i) (B .meets κ′ k (suc i))
+          ∙ zeros-mixed (S .w i) (int (pos 1) -ᵠ S .w (suc i))
       go (inr e) (inr h) = let n = S .rows in ap (λ λ′. values λ′ t′ i) (sym e) ∙ values-mixed κ i ∙ mixed-null (S .null) i (omega arith)
 
   new-spans : (z : ℕ → ℚ) → ((c : ℕ) → width ≤ c → z c ≡ int (pos 0)) → ((κ′ : List Entry) → K′ κ′ → applied κ′ z ≡ int (pos 0)) → (a : ℕ → ℚ) × ((c : ℕ) → combined a t′ c ≡ z c)
