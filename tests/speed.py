@@ -24,39 +24,39 @@ LINE = re.compile(r"(degree \d order \d|mixed degrees) segments (\d+) parts (\d+
 
 # The engine's instructions to the plain program's: of the build, and of the curve calls the largest.
 MEASURED = {
-    ("degree 1 order 0", 12, 1): (0.77, 0.66),
-    ("degree 2 order 0", 12, 1): (0.68, 0.69),
-    ("degree 2 order 1", 12, 1): (0.64, 0.69),
-    ("degree 3 order 0", 12, 1): (0.63, 0.69),
-    ("degree 3 order 1", 12, 1): (0.60, 0.68),
-    ("degree 3 order 2", 12, 1): (0.57, 0.67),
-    ("degree 4 order 0", 12, 1): (0.60, 0.67),
-    ("degree 4 order 1", 12, 1): (0.57, 0.66),
-    ("degree 4 order 2", 12, 1): (0.54, 0.65),
-    ("degree 5 order 0", 12, 1): (0.55, 0.65),
-    ("degree 5 order 1", 12, 1): (0.54, 0.64),
-    ("degree 5 order 2", 12, 1): (0.53, 0.63),
-    ("mixed degrees", 12, 1): (0.59, 0.65),
-    ("mixed degrees", 12, 4): (0.82, 0.68),
-    ("mixed degrees", 48, 4): (0.58, 0.68),
-    ("degree 3 order 1", 6, 1): (0.81, 0.71),
+    ("degree 1 order 0", 12, 1): (0.66, 0.61),
+    ("degree 2 order 0", 12, 1): (0.60, 0.69),
+    ("degree 2 order 1", 12, 1): (0.56, 0.68),
+    ("degree 3 order 0", 12, 1): (0.56, 0.68),
+    ("degree 3 order 1", 12, 1): (0.53, 0.67),
+    ("degree 3 order 2", 12, 1): (0.52, 0.66),
+    ("degree 4 order 0", 12, 1): (0.54, 0.66),
+    ("degree 4 order 1", 12, 1): (0.52, 0.65),
+    ("degree 4 order 2", 12, 1): (0.50, 0.64),
+    ("degree 5 order 0", 12, 1): (0.50, 0.64),
+    ("degree 5 order 1", 12, 1): (0.50, 0.63),
+    ("degree 5 order 2", 12, 1): (0.49, 0.62),
+    ("mixed degrees", 12, 1): (0.54, 0.64),
+    ("mixed degrees", 12, 4): (0.73, 0.67),
+    ("mixed degrees", 48, 4): (0.53, 0.66),
+    ("degree 3 order 1", 6, 1): (0.71, 0.67),
 }
 
 # A call for coefficients to the engine's build of the same space.
 MEASURED_COEFFICIENTS = {
-    ("degree 1 order 0", 12, 1): 1.86,
-    ("degree 3 order 1", 12, 1): 1.62,
-    ("degree 3 order 2", 12, 1): 1.51,
-    ("degree 5 order 2", 12, 1): 1.46,
-    ("mixed degrees", 12, 1): 1.57,
-    ("mixed degrees", 48, 4): 1.58,
+    ("degree 1 order 0", 12, 1): 2.00,
+    ("degree 3 order 1", 12, 1): 1.69,
+    ("degree 3 order 2", 12, 1): 1.56,
+    ("degree 5 order 2", 12, 1): 1.49,
+    ("mixed degrees", 12, 1): 1.63,
+    ("mixed degrees", 48, 4): 1.64,
 }
 
 # A build of 12 segments to one of 2, and a beam of 48 in 48 parts to one in 4.
 MEASURED_GROWTH = {
-    "degree 1 order 0": (5.1, 0.15),
-    "degree 3 order 1": (9.1, 0.07),
-    "degree 5 order 2": (12.6, 0.04),
+    "degree 1 order 0": (4.7, 0.17),
+    "degree 3 order 1": (8.9, 0.08),
+    "degree 5 order 2": (12.8, 0.05),
 }
 
 
