@@ -2,9 +2,9 @@
 use mathlib.Core.Bool.{cond}
 use mathlib.Core.List.{List}
 use mathlib.Core.Path.{_≡_}
-use Prim.Native.Nat.{ℕ, suc, _-_, _/_}
+use Prim.Native.Nat.{ℕ, suc, _+_, _-_, _*_, _/_, _^_, _<_, _≤_}
 use lib.Dec.{leb}
-use lib.IntN.{ℤ, pos, negℤ, _*ℤ_}
+use lib.IntN.{ℤ, pos, negℤ, natAbs, _*ℤ_}
 use lib.ListN.{getD}
 use Rattle.base_exact.specs.Gcd.{gcd}
 use Rattle.base_exact.specs.Tabulate.{tab}
@@ -23,6 +23,13 @@ pub record ScaledOf (r : Scaled) (s : Space) (j k : ℕ) : Type 0 where
       (scale (degree s (suc j)) k (width s j)))
   pub right-is : r .right ≡ pos (scale (degree s (suc j)) k (width s j) / gcd (scale (degree s j) k (width s (suc j)))
       (scale (degree s (suc j)) k (width s j)))
+
+-- Both scales have a size below 2^31, and e is the index of an entry for order k.
+pub record ConditionAsks (sides : Scaled) (k e : ℕ) : Type 0 where
+  pub left-small : natAbs (sides .left) < 2 ^ 31
+  pub right-small : natAbs (sides .right) < 2 ^ 31
+  pub order : k ≤ 2
+  pub within : e < 2 * k + 2
 
 -- No entry.
 abbrev pub noEntry : Entry

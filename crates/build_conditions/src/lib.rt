@@ -1,12 +1,11 @@
 // The column of conditions of a join and an order, as its few non-zero entries.
 ghost use mathlib.Core.Path.{_≡_};
-ghost use Prim.Native.Nat.{ℕ, _+_, _*_, _^_, _<_, _≤_};
-ghost use lib.IntN.{natAbs};
+ghost use Prim.Native.Nat.{ℕ, _+_, _*_, _<_};
 ghost use Rattle.spec_spline.specs.Space.{Space};
 ghost use Rattle.spec_spline.specs.Conditions;
 ghost use Rattle.spec_spline.specs.Table.{rowCells};
 ghost use Rattle.build_conditions.specs.Sides.{JoinIs, JoinFits};
-ghost use Rattle.build_conditions.specs.Terms.{scaleOf, entriesOf, ScaledOf, columnOf};
+ghost use Rattle.build_conditions.specs.Terms.{scaleOf, entriesOf, ScaledOf, ConditionAsks, columnOf};
 
 // One side of a join: the degree, length and first column of its segment.
 pub struct Side {
@@ -43,7 +42,7 @@ fn scales(join: Join, k: usize) -> Scaled
 
 // Entry e of the column: k + 1 on the left, then k + 1 on the right.
 fn entry(sides: Scaled, k: usize, e: usize) -> i64
-    requires { ⌜ (natAbs (sides .left) < 2 ^ 31) × ((natAbs (sides .right) < 2 ^ 31) × ((k ≤ 2) × (e < 2 * k + 2))) ⌝ }
+    requires { ⌜ ConditionAsks sides k e ⌝ }
     ensures { λ r. ⌜ r ≡ scaleOf (sides .left) (sides .right) k e ⌝ }
 {
     if e <= k {

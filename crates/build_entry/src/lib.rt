@@ -6,14 +6,14 @@ ghost use Rattle.base_exact.specs.Rational.{ℚ, int, _-ᵠ_};
 ghost use Rattle.base_fraction.specs.Machine.{FractionFits, value};
 ghost use Rattle.spec_spline.specs.Step;
 ghost use Rattle.build_counted.specs.Machine.{counted};
-ghost use Rattle.build_entry.specs.Factor.{UnitFactor};
+ghost use Rattle.build_entry.specs.Factor.{UnitFactor, NewEntryAsks};
 use base_fraction::Counted;
 use base_fraction::Fraction;
 
 // w x + u y, with both products and the sum counted. A product with a zero is zero, and the sum with it is the other product, which
 // was counted before.
 pub fn new_entry(w: Fraction, u: Fraction, x: Fraction, y: Fraction) -> Counted
-    requires { ⌜ FractionFits w × (FractionFits u × (FractionFits x × FractionFits y)) ⌝ }
+    requires { ⌜ NewEntryAsks w u x y ⌝ }
     ensures { λ r. ⌜ ((j : ℕ) (v : ℚ) → value u ≡ int (pos 1) -ᵠ v → r ≡ counted (Step.newEntry j (value w) v (value x) (value y))) ⌝ }
 {
     if x.num == 0 {

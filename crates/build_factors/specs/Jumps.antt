@@ -1,6 +1,7 @@
 -- What the factors of a step ask of its jumps, and where a factor lies.
 use mathlib.Core.Bool.{Bool, true, false, _&&_}
 use mathlib.Core.List.{List}
+use mathlib.Core.Logic.{_≢_}
 use mathlib.Core.Path.{_≡_}
 use Prim.Native.Nat.{ℕ, _<_, _≤_}
 use lib.IntN.{pos}
@@ -8,8 +9,10 @@ use lib.ListN.{length}
 use Rattle.base_exact.specs.Rational.{ℚ, int}
 use Rattle.base_exact.specs.Order.{isZero, ltᵠ}
 use Rattle.base_fraction.specs.Size.{fits}
+use Rattle.base_fraction.specs.Machine.{FractionFits}
 use Rattle.spec_spline.specs.Table.{entry, rowCells}
 use Rattle.base_fraction.specs.Fractions.{fractions}
+use Rattle.base_fraction.specs.declared.Fraction.{Fraction}
 use Rattle.base_fraction.specs.declared.arrays.Fractions.{Fractions}
 
 -- Strictly between 0 and 1.
@@ -35,3 +38,9 @@ pub record Spanned (js : Fractions) (f l : ℕ) : Type 0 where
   pub order : f ≤ l
   pub within : l < rowCells
   pub jump : (i : ℕ) → f ≤ i → i ≤ l → isZero (entry of i) ≡ false
+
+-- The sum of the jumps before fits, and so does the jump, which is not zero.
+pub record FactorAsks (before jump : Fraction) : Type 0 where
+  pub before-fits : FractionFits before
+  pub jump-fits : FractionFits jump
+  pub jump-nonzero : jump .num ≢ pos 0

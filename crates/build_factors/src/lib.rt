@@ -1,16 +1,15 @@
 // The factors of a step: 1 at the first row that the jumps span, 0 at the last, and w = S / jump at the rows between.
 ghost use mathlib.Core.Path.{_≡_};
 ghost use mathlib.Core.List.{List, []};
-ghost use mathlib.Core.Logic.{_≢_};
 ghost use Prim.Native.Nat.{ℕ, _<_};
 ghost use lib.IntN.{pos};
 ghost use lib.Signed.{_<ℤ_};
 ghost use Rattle.base_exact.specs.Rational.{ℚ, _+ᵠ_};
-ghost use Rattle.base_fraction.specs.Machine.{FractionFits, value};
+ghost use Rattle.base_fraction.specs.Machine.{value};
 ghost use Rattle.spec_spline.specs.Step;
 ghost use Rattle.base_fraction.specs.Fractions.{fractions};
 ghost use Rattle.build_factors.specs.Machine.{nextFactor, planOver, Plans};
-ghost use Rattle.build_factors.specs.Jumps.{between, Spanned};
+ghost use Rattle.build_factors.specs.Jumps.{between, Spanned, FactorAsks};
 use base_fraction::Counted;
 use base_fraction::Fraction;
 use base_fraction::arrays;
@@ -72,7 +71,7 @@ fn strictly_between(w: Fraction) -> bool
 
 // The next factor, from the sum of the jumps before and the jump itself.
 fn factor(before: Fraction, jump: Fraction) -> NextFactor
-    requires { ⌜ FractionFits before × (FractionFits jump × (jump .num ≢ pos 0)) ⌝ }
+    requires { ⌜ FactorAsks before jump ⌝ }
     ensures { λ r. ⌜ ((j : ℕ) → r ≡ nextFactor (value before +ᵠ value jump)
         (Step.quotientFactor j (value before +ᵠ value jump) (value jump))) ⌝ }
 {

@@ -1,23 +1,21 @@
 // The jump of one row.
 ghost use mathlib.Core.Path.{_≡_};
-ghost use Prim.Native.Nat.{ℕ, _<_};
+ghost use Prim.Native.Nat.{ℕ};
 ghost use Rattle.spec_spline.specs.Space.{Space};
 ghost use Rattle.spec_spline.specs.Conditions;
-ghost use Rattle.spec_spline.specs.Table.{Table, row, rowCells};
+ghost use Rattle.spec_spline.specs.Table.{Table, row};
 ghost use Rattle.spec_spline.specs.Step;
 ghost use Rattle.build_cells.specs.Held.{Holds};
-ghost use Rattle.build_conditions.specs.Sides.{JoinIs, JoinFits};
-ghost use Rattle.build_conditions.specs.Terms.{entriesOf};
+ghost use Rattle.build_conditions.specs.Sides.{JoinIs};
 ghost use Rattle.build_counted.specs.Machine.{counted};
+ghost use Rattle.build_jump.specs.Jump.{JumpAsks};
 use base_fraction::Counted;
 use base_fraction::Fraction;
 use build_conditions::Join;
 
 // The jump of one row, by the entries of the column of conditions.
 pub fn jump(num: &[i64], den: &[i64], at: usize, join: Join, k: usize, entries: [i64; 6]) -> Counted
-    requires { ⌜ (at < rowCells) × JoinFits join k ⌝ }
-    requires { ⌜ ((s : Space) (j : ℕ) → JoinIs join s j → entries ≡ entriesOf (Conditions.conditions s j k)) ⌝ }
-    requires { ⌜ ((t : Table) × Holds (now num) (now den) t) ⌝ }
+    requires { ⌜ JumpAsks (now num) (now den) at join k entries ⌝ }
     ensures { λ r. ⌜ ((s : Space) (j : ℕ) (t : Table) → JoinIs join s j → Holds (now (num .entry)) (now (den .entry)) t
         → r ≡ counted (Step.jump j (Conditions.conditions s j k) (row t at))) ⌝ }
 {

@@ -2,9 +2,9 @@
 ghost use mathlib.Core.Path.{_≡_};
 ghost use Prim.Native.Nat.{_-_, _^_, _≤_};
 ghost use lib.IntN.{pos, natAbs, _*ℤ_};
-ghost use lib.Signed.{_≤ℤ_};
-ghost use Rattle.spec_spline.specs.Space.{spanLimit, degreeLimit};
+ghost use Rattle.spec_spline.specs.Space.{degreeLimit};
 ghost use Rattle.spec_spline.specs.Conditions;
+ghost use Rattle.build_scales.specs.Scales.{PowerAsks, ScaleAsks};
 
 // FALLING[p][k] is p (p - 1) .. (p - k + 1).
 const FALLING: [[i64; 3]; 6] = [
@@ -34,7 +34,7 @@ fn binomial(k: usize, t: usize) -> i64
 }
 
 fn power(x: i64, k: usize) -> i64
-    requires { ⌜ (pos 0 ≤ℤ x) × ((natAbs x ≤ spanLimit) × (k ≤ 2)) ⌝ }
+    requires { ⌜ PowerAsks x k ⌝ }
     ensures { λ r. ⌜ r ≡ pos (natAbs x ^ k) ⌝ }
 {
     if k == 0 {
@@ -48,7 +48,7 @@ fn power(x: i64, k: usize) -> i64
 
 // F(p, k) times the k-th power of the other side's length.
 pub fn scale(p: usize, k: usize, other: i64) -> i64
-    requires { ⌜ (p ≤ degreeLimit) × ((k ≤ 2) × ((pos 0 ≤ℤ other) × (natAbs other ≤ spanLimit))) ⌝ }
+    requires { ⌜ ScaleAsks p k other ⌝ }
     ensures { λ r. ⌜ r ≡ pos (Conditions.scale p k (natAbs other)) ⌝ }
 {
     let f = falling(p, k);

@@ -1,17 +1,14 @@
 // The new coefficients of the rows of a step that is undone.
 ghost use mathlib.Core.Path.{_≡_};
 ghost use mathlib.Core.List.{List, _++_};
-ghost use Prim.Native.Nat.{ℕ, suc, _-_, _<_, _≤_};
+ghost use Prim.Native.Nat.{ℕ, _-_, _≤_};
 ghost use lib.ListN.{length, take, drop};
 ghost use Rattle.base_exact.specs.Rational.{ℚ};
 ghost use Rattle.base_outcome.specs.Outcome.{with-answer};
-ghost use Rattle.spec_spline.specs.Table.{rowCells};
 ghost use Rattle.base_fraction.specs.Fractions.{fractions};
 ghost use Rattle.build_counted.specs.Machine.{counted};
-ghost use Rattle.build_rows.specs.Rows.{UnitFactors};
 ghost use Rattle.theorems_recovery.specs.Recovery;
-ghost use Rattle.recover_rows.specs.Machine.{undoneOf, NonZero};
-ghost use Rattle.recover_counted.specs.Machine.{FractionsFit};
+ghost use Rattle.recover_rows.specs.Machine.{undoneOf, RowAsks, RowsAsk};
 use base_fraction::Counted;
 use base_fraction::Fraction;
 use base_fraction::arrays;
@@ -25,7 +22,7 @@ pub struct Undone {
 
 // The new coefficient of row i, where the rows f to i - 1 have their new coefficients.
 fn undo_row(cs: Fractions, ws: Fractions, f: usize, i: usize) -> Counted
-    requires { ⌜ (f ≤ i) × ((i < rowCells) × (FractionsFit cs (suc i) × (UnitFactors ws × NonZero ws (suc (i - f))))) ⌝ }
+    requires { ⌜ RowAsks cs ws f i ⌝ }
     ensures { λ r. ⌜ ((j : ℕ) (us ps : List ℚ) → ws ≡ fractions us → cs ≡ fractions ps
         → r ≡ counted (Recovery.undoneRow j us ps f (i - f) (drop f ps))) ⌝ }
 {
@@ -47,7 +44,7 @@ fn undo_row(cs: Fractions, ws: Fractions, f: usize, i: usize) -> Counted
 
 // The new coefficients of the rows f to l - 1, rows rising; the others as they were.
 pub fn undo_rows(cs: Fractions, ws: Fractions, f: usize, l: usize) -> Undone
-    requires { ⌜ (f ≤ l) × ((l < rowCells) × (FractionsFit cs l × (UnitFactors ws × NonZero ws (l - f)))) ⌝ }
+    requires { ⌜ RowsAsk cs ws f l ⌝ }
     ensures { λ r. ⌜ ((j : ℕ) (us ps : List ℚ) → ws ≡ fractions us → cs ≡ fractions ps → l ≤ length ps
         → r ≡ undoneOf (with-answer (λ ds. take f ps ++ (ds ++ drop l ps)) (Recovery.undoneRows j us ps f (l - f)))) ⌝ }
 {

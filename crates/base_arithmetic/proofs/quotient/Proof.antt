@@ -15,6 +15,18 @@ use Rattle.base_arithmetic.proofs.quotient.Statement.{statement}
 use Rattle.base_arithmetic.proofs.quotient.Tie as tie
 
 module _ (s : tie.Start) where
+  a-num : SFits w64 (s .args .a .num)
+  a-num = num-fits (s .pre .first)
+
+  a-den : SFits w64 (s .args .a .den)
+  a-den = den-fits (s .pre .first)
+
+  b-num : SFits w64 (s .args .b .num)
+  b-num = num-fits (s .pre .second)
+
+  b-den : SFits w64 (s .args .b .den)
+  b-den = den-fits (s .pre .second)
+
   abbrev n : ℤ
   n = s .args .a .num *ℤ s .args .b .den
 
@@ -22,16 +34,16 @@ module _ (s : tie.Start) where
   d = s .args .a .den *ℤ s .args .b .num
 
   n-fits : SFits w64 n
-  n-fits = mul-fits (s .args .a .num) (s .args .b .den) (s .pre .0 .num-small) (s .pre .1 .den-small)
+  n-fits = mul-fits (s .args .a .num) (s .args .b .den) (s .pre .first .num-small) (s .pre .second .den-small)
 
   d-fits : SFits w64 d
-  d-fits = mul-fits (s .args .a .den) (s .args .b .num) (s .pre .0 .den-small) (s .pre .1 .num-small)
+  d-fits = mul-fits (s .args .a .den) (s .args .b .num) (s .pre .first .den-small) (s .pre .second .num-small)
 
   turned-n : SFits w64 (pos 0 -ℤ n)
-  turned-n = zero-sub-mul-fits (s .args .a .num) (s .args .b .den) (s .pre .0 .num-small) (s .pre .1 .den-small)
+  turned-n = zero-sub-mul-fits (s .args .a .num) (s .args .b .den) (s .pre .first .num-small) (s .pre .second .den-small)
 
   turned-d : SFits w64 (pos 0 -ℤ d)
-  turned-d = zero-sub-mul-fits (s .args .a .den) (s .args .b .num) (s .pre .0 .den-small) (s .pre .1 .num-small)
+  turned-d = zero-sub-mul-fits (s .args .a .den) (s .args .b .num) (s .pre .first .den-small) (s .pre .second .num-small)
 
 abbrev start : tie.After-struct-told4 → tie.Start
 start c = c .before .before .before .before .before .before .before .before
@@ -39,30 +51,30 @@ start c = c .before .before .before .before .before .before .before .before
 mul-n : tie.Need-mul-n
 mul-n c =
     let s = c .before .before .before .before in
-    let an = num-fits (s .pre .0) in
-    let bd = den-fits (s .pre .1) in
+    let an = a-num s in
+    let bd = b-den s in
     simp toZ-ofZ (n-fits s)
 
 mul-d : tie.Need-mul-d
 mul-d c =
     let s = start c in
-    let ad = den-fits (s .pre .0) in
-    let bn = num-fits (s .pre .1) in
+    let ad = a-den s in
+    let bn = b-num s in
     simp toZ-ofZ (d-fits s)
 
 sub-checked : tie.Need-sub-checked
 sub-checked c =
     let s = start (c .before) in
-    let an = num-fits (s .pre .0) in
-    let bd = den-fits (s .pre .1) in
+    let an = a-num s in
+    let bd = b-den s in
     let f = n-fits s in
     simp toZ-ofZ (turned-n s)
 
 sub-checked-2 : tie.Need-sub-checked-2
 sub-checked-2 c =
     let s = start (c .before) in
-    let ad = den-fits (s .pre .0) in
-    let bn = num-fits (s .pre .1) in
+    let ad = a-den s in
+    let bn = b-num s in
     let f = d-fits s in
     simp toZ-ofZ (turned-d s)
 
@@ -70,24 +82,25 @@ sub-checked-2 c =
 below : (c : tie.Then1) → pos 0 <ℤ (pos 0 -ℤ d (start (c .before)))
 below c =
     let s = start (c .before) in
-    let ad = den-fits (s .pre .0) in
-    let bn = num-fits (s .pre .1) in
+    let ad = a-den s in
+    let bn = b-num s in
     let f = d-fits s in
     zero-sub-pos (d s) (ltZ-true (d s) (pos 0) (simp toZ-ofZ at (c .if1 .taken)))
 
 above : (c : tie.Else1) → pos 0 <ℤ d (start (c .before))
 above c =
     let s = start (c .before) in
-    let ad = den-fits (s .pre .0) in
-    let bn = num-fits (s .pre .1) in
+    let ad = a-den s in
+    let bn = b-num s in
     let f = d-fits s in
-    *-nonzero-pos (s .args .a .den) (s .args .b .num) (s .pre .0 .den-pos) (s .pre .2) (ltZ-false (d s) (pos 0) (simp toZ-ofZ at (c .if1 .left)))
+    *-nonzero-pos (s .args .a .den) (s .args .b .num) (s .pre .first .den-pos) (s .pre .divisor-nonzero)
+    (ltZ-false (d s) (pos 0) (simp toZ-ofZ at (c .if1 .left)))
 
 checked-requires : tie.Need-checked-requires
 checked-requires c κs =
     let s = start (c .before) in
-    let ad = den-fits (s .pre .0) in
-    let bn = num-fits (s .pre .1) in
+    let ad = a-den s in
+    let bn = b-num s in
     let f = d-fits s in
     let t = turned-d s in
     simp toZ-ofZ (below c)
@@ -96,22 +109,23 @@ returns : tie.Need-returns
 unfolding value
 returns c =
     let s = start (c .before .before) in
-    let an = num-fits (s .pre .0) in
-    let ad = den-fits (s .pre .0) in
-    let bn = num-fits (s .pre .1) in
-    let bd = den-fits (s .pre .1) in
+    let an = a-num s in
+    let ad = a-den s in
+    let bn = b-num s in
+    let bd = b-den s in
     let f = n-fits s in
     let g = d-fits s in
     let t = turned-n s in
     let u = turned-d s in
     (simp toZ-ofZ at (c .checked .ensures))
-    ∙ ap (λ q. answer (count q)) (ratio-div-below (s .args .a .num) (s .args .a .den) (s .args .b .num) (s .args .b .den) (s .pre .0 .den-pos) (s .pre .1 .den-pos) (s .pre .2) (below (c .before)))
+    ∙ ap (λ q. answer (count q)) (ratio-div-below (s .args .a .num) (s .args .a .den) (s .args .b .num) (s .args .b .den)
+    (s .pre .first .den-pos) (s .pre .second .den-pos) (s .pre .divisor-nonzero) (below (c .before)))
 
 checked-requires-2 : tie.Need-checked-requires-2
 checked-requires-2 c κs =
     let s = start (c .before) in
-    let ad = den-fits (s .pre .0) in
-    let bn = num-fits (s .pre .1) in
+    let ad = a-den s in
+    let bn = b-num s in
     let f = d-fits s in
     simp toZ-ofZ (above c)
 
@@ -119,14 +133,15 @@ returns-2 : tie.Need-returns-2
 unfolding value
 returns-2 c =
     let s = start (c .before .before) in
-    let an = num-fits (s .pre .0) in
-    let ad = den-fits (s .pre .0) in
-    let bn = num-fits (s .pre .1) in
-    let bd = den-fits (s .pre .1) in
+    let an = a-num s in
+    let ad = a-den s in
+    let bn = b-num s in
+    let bd = b-den s in
     let f = n-fits s in
     let g = d-fits s in
     (simp toZ-ofZ at (c .checked2 .ensures))
-    ∙ ap (λ q. answer (count q)) (ratio-div-above (s .args .a .num) (s .args .a .den) (s .args .b .num) (s .args .b .den) (s .pre .0 .den-pos) (s .pre .1 .den-pos) (s .pre .2) (above (c .before)))
+    ∙ ap (λ q. answer (count q)) (ratio-div-above (s .args .a .num) (s .args .a .den) (s .args .b .num) (s .args .b .den)
+    (s .pre .first .den-pos) (s .pre .second .den-pos) (s .pre .divisor-nonzero) (above (c .before)))
 
 pub quotient-spec : {M : Type 1} → statement M
 quotient-spec = tie.close (tie.spec mul-n mul-d sub-checked sub-checked-2 checked-requires returns checked-requires-2 returns-2)

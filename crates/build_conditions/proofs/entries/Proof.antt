@@ -55,7 +55,7 @@ entry-requires c κs =
     let b = c .before .before in
     let f = b .before .pre in
     let z = scaled-small (b .scales .result) f (b .scales .ensures (f .space) (f .index) (f .is)) in
-    (z .0, (z .1, omega arith))
+    record { left-small = z .0; right-small = z .1; order = f .order; within = omega arith }
 
 loop-again : tie.Need-loop-again Inv-loop μ-loop
 loop-again c =

@@ -25,7 +25,7 @@ module _ (c : tie.After-struct-told) where
   b = c .before .before .signed-binomial .result
 
   left-fits : SFits w64 left
-  left-fits = sfits-abs (omega (arith, c .before .before .before .before .pre .0))
+  left-fits = sfits-abs (omega (arith, c .before .before .before .before .pre .left-small))
 
   b-fits : SFits w64 b
   b-fits = record { sfits = c .before .before .signed-binomial .ok }
@@ -33,7 +33,7 @@ module _ (c : tie.After-struct-told) where
   term-fits : SFits w64 (left *ℤ b)
   term-fits =
       let s = c .before .before .before .before in
-      sfits-abs (omega (arith, term-abs left b (s .args .k) (s .args .e) (s .pre .0) (s .pre .1 .1 .0) (c .before .before .signed-binomial .ensures)))
+      sfits-abs (omega (arith, term-abs left b (s .args .k) (s .args .e) (s .pre .left-small) (s .pre .order) (c .before .before .signed-binomial .ensures)))
 
 mul-result : tie.Need-mul-result
 mul-result c = let f = left-fits c in let g = b-fits c in simp toZ-ofZ (term-fits c)
@@ -54,7 +54,7 @@ module _ (c : tie.After-struct-told2) where
   d = c .before .before .signed-binomial2 .result
 
   right-fits : SFits w64 right
-  right-fits = sfits-abs (omega (arith, c .before .before .before .before .pre .1 .0))
+  right-fits = sfits-abs (omega (arith, c .before .before .before .before .pre .right-small))
 
   d-fits : SFits w64 d
   d-fits = record { sfits = c .before .before .signed-binomial2 .ok }
@@ -62,7 +62,7 @@ module _ (c : tie.After-struct-told2) where
   size : natAbs (right *ℤ d) ≤ 2 ^ 33
   size =
       let s = c .before .before .before .before in
-      term-abs right d (s .args .k) (s .args .e - s .args .k - 1) (s .pre .1 .0) (s .pre .1 .1 .0) (c .before .before .signed-binomial2 .ensures)
+      term-abs right d (s .args .k) (s .args .e - s .args .k - 1) (s .pre .right-small) (s .pre .order) (c .before .before .signed-binomial2 .ensures)
 
   product-fits : SFits w64 (right *ℤ d)
   product-fits = sfits-abs (omega (arith, size))

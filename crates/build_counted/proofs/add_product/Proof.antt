@@ -32,22 +32,26 @@ product-is c j =
 returns : tie.Need-returns
 returns c j =
     let s = c .before .before .before in
-    let w = s .pre .0 .1 .0 in
+    let w = s .pre .weight-fits in
     let none = ofZ-inj w64 (s .args .weight .num) (pos 0) (sfits-abs (omega (arith, w .num-small))) (sfits-nat 0 (omega arith)) (c .if1 .taken) in
-    sym (zero-then j (value (s .args .weight)) (int (s .args .condition)) (s .args .sum) (value-zero (s .args .weight) (w .den-pos) none) (s .pre .0 .0) (s .pre .1))
+    sym (zero-then j (value (s .args .weight)) (int (s .args .condition)) (s .args .sum)
+    (value-zero (s .args .weight) (w .den-pos) none) (s .pre .sum-fits) (s .pre .sum-lowest))
 
 returns-2 : tie.Need-returns-2
 returns-2 c j =
     let p = c .before .before .before in
     let s = start p in
-    let x = s .pre .0 .0 in
+    let x = s .pre .sum-fits in
     let none = ofZ-inj w64 (s .args .sum .num) (pos 0) (sfits-abs (omega (arith, x .num-small))) (sfits-nat 0 (omega arith)) (c .if2 .taken) in
     product-is p j ∙ ap counted (sym (zero-before j (term p) (value (s .args .sum)) (value-zero (s .args .sum) (x .den-pos) none)))
 
 sum-requires : tie.Need-sum-requires
 sum-requires c κs =
     let p = c .before .before .before .before .before .before in
-    (start p .pre .0 .0, count-sized 0 (term p) (c .before .term .given .0 .0) (sym (product-is p 0) ∙ c .before .term .given .1) .1)
+    record {
+      first = start p .pre .sum-fits;
+      second = count-sized 0 (term p) (c .before .term .given .0 .0) (sym (product-is p 0) ∙ c .before .term .given .1) .1;
+    }
 
 returns-3 : tie.Need-returns-3
 returns-3 c j =

@@ -62,7 +62,9 @@ zero-part f s e = value-zero f (s .den-pos) (ofZ-inj w64 (f .num) (pos 0) (sfits
 returns : tie.Need-returns
 returns c j v e =
     let s = c .before .before .before .before .before .before in
-    sym (zero-entry j (value (s .args .w)) v (zero-part (s .args .x) (s .pre .1 .1 .0) (c .before .before .before .if1 .taken)) (zero-part (s .args .y) (s .pre .1 .1 .1) (c .if2 .taken)))
+    sym (zero-entry j (value (s .args .w)) v
+    (zero-part (s .args .x) (s .pre .first-entry) (c .before .before .before .if1 .taken))
+    (zero-part (s .args .y) (s .pre .second-entry) (c .if2 .taken)))
 
 -- a zero and an entry
 returns-2 : tie.Need-returns-2
@@ -71,7 +73,8 @@ returns-2 c j v e =
     c .product .ensures
     ∙ machine-counted j (value (s .args .u) *ᵠ value (s .args .y))
     ∙ ap (λ u. counted (count j (u *ᵠ value (s .args .y)))) e
-    ∙ ap counted (sym (first-zero j (value (s .args .w)) v (value (s .args .y)) (zero-part (s .args .x) (s .pre .1 .1 .0) (c .before .before .before .before .if1 .taken))))
+    ∙ ap counted (sym (first-zero j (value (s .args .w)) v (value (s .args .y))
+    (zero-part (s .args .x) (s .pre .first-entry) (c .before .before .before .before .if1 .taken))))
 
 -- an entry and a zero
 returns-3 : tie.Need-returns-3
@@ -79,14 +82,17 @@ returns-3 c j v e =
     let s = c .before .before .before .before .before .before .before in
     c .product2 .ensures
     ∙ machine-counted j (value (s .args .w) *ᵠ value (s .args .x))
-    ∙ ap counted (sym (second-zero j (value (s .args .w)) v (value (s .args .x)) (zero-part (s .args .y) (s .pre .1 .1 .1) (c .before .if3 .taken))))
+    ∙ ap counted (sym (second-zero j (value (s .args .w)) v (value (s .args .x)) (zero-part (s .args .y) (s .pre .second-entry) (c .before .if3 .taken))))
 
 sum-requires : tie.Need-sum-requires
 sum-requires c κs =
     let s = c .before .before .before in
     let k = c .before .second .given in
     let f = s .before .before .first .given in
-    (count-sized 0 (first (start s)) (f .0 .0) (sym (first-is (start s) 0) ∙ f .1) .1, count-sized 0 (second s) (k .0 .0) (sym (second-is s 0) ∙ k .1) .1)
+    record {
+      first = count-sized 0 (first (start s)) (f .0 .0) (sym (first-is (start s) 0) ∙ f .1) .1;
+      second = count-sized 0 (second s) (k .0 .0) (sym (second-is s 0) ∙ k .1) .1;
+    }
 
 returns-4 : tie.Need-returns-4
 unfolding newEntry

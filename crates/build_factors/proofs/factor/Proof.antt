@@ -29,7 +29,9 @@ sum-kept : (c : tie.After-sum2) → Kept (total (c .before .before .before)) (c 
 sum-kept c = kept (total (c .before .before .before)) (c .sum2 .given .0 .0) (sym (c .before .before .sum .ensures) ∙ c .sum2 .given .1)
 
 quotient-requires : tie.Need-quotient-requires
-quotient-requires c κs = let s = c .before .before .before .before in (sum-kept (c .before) .fitted, s .pre .1 .0, s .pre .1 .1)
+quotient-requires c κs =
+    let s = c .before .before .before .before in
+    record { first = sum-kept (c .before) .fitted; second = s .pre .jump-fits; divisor-nonzero = s .pre .jump-nonzero }
 
 module _ (c : tie.After-quotient) where
   abbrev before-sum : tie.Start

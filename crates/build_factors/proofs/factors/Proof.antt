@@ -96,13 +96,12 @@ factor-requires c κs =
     let n = jn-fits c in
     let d = jd-fits c in
     let e = fraction-at (p .of) _ (p .is) (l .i) (low c) in
-    simp toZ-ofZ (
-      l .inv .fitted,
-      (
-        rw e (fits-sized (entry (p .of) (l .i)) (p .fit (l .i))),
-        λ z. isZero-false (entry (p .of) (l .i)) (p .jump (l .i) (omega arith) (omega arith)) (zero-is (entry (p .of) (l .i)) (sym (ap (λ (x : Fraction). x .num) e) ∙ z)),
-      ),
-    )
+    simp toZ-ofZ (record {
+      before-fits = l .inv .fitted;
+      jump-fits = rw e (fits-sized (entry (p .of) (l .i)) (p .fit (l .i)));
+      jump-nonzero = λ z. isZero-false (entry (p .of) (l .i)) (p .jump (l .i) (omega arith) (omega arith))
+          (zero-is (entry (p .of) (l .i)) (sym (ap (λ (x : Fraction). x .num) e) ∙ z));
+    })
 
 -- what the call of factor answers, in the definition's terms
 module _ (c : tie.After-factor Inv-loop μ-loop) (qs : List ℚ) (j : ℕ) (e : start (c .before) .args .t1 ≡ fractions qs) where

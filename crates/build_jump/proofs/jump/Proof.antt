@@ -57,10 +57,10 @@ loop-holds c = record {
 }
 
 column-requires : tie.Need-column-requires Inv-loop μ-loop
-column-requires c κs = (c .before .before .pre .0 .1, omega arith)
+column-requires c κs = (c .before .before .pre .join-fits, omega arith)
 
 read-requires : tie.Need-read-requires Inv-loop μ-loop
-read-requires c κs = omega (arith, c .before .before .before .pre .1 .1 .1 .num-long, c .before .before .before .pre .1 .1 .1 .den-long)
+read-requires c κs = let h = c .before .before .before .pre .held in omega (arith, h .num-long, h .den-long)
 
 -- the product's two factors, in the definition's terms
 module _ (c : tie.After-condition Inv-loop μ-loop) where
@@ -81,7 +81,7 @@ module _ (c : tie.After-condition Inv-loop μ-loop) (s : Space) (j : ℕ) (i : J
   this = getD (conditions s j (start c .args .k)) (place c) noEntry
 
   condition-is : getD (start c .args .t6) (place c) (pos 0) ≡ this .condition
-  condition-is = ap (λ xs. getD xs (place c) (pos 0)) (start c .pre .1 .0 s j i) ∙ entries-getD (conditions s j (start c .args .k)) (place c) (omega arith)
+  condition-is = ap (λ xs. getD xs (place c) (pos 0)) (start c .pre .entries-are s j i) ∙ entries-getD (conditions s j (start c .args .k)) (place c) (omega arith)
 
   weight-is : (t : Table) → Holds (start c .args .num .now) (start c .args .den .now) t → c .before .read .result ≡ fraction (entry (row t (start c .args .at)) (this .column))
   weight-is t h =
@@ -92,14 +92,21 @@ module _ (c : tie.After-condition Inv-loop μ-loop) (s : Space) (j : ℕ) (i : J
 
 add-product-requires : tie.Need-add-product-requires Inv-loop μ-loop
 add-product-requires c κs =
-    let f = start c .pre .0 .1 in
-    let h = start c .pre .1 .1 in
+    let p = start c .pre in
+    let f = p .join-fits in
+    let t = p .table in
+    let h = p .held in
     let x = read-fits c in
     let l = c .before .before .before .before .loop .inv in
-    let weight : FractionFits (c .before .read .result) = rw (weight-is c (f .space) (f .index) (f .is) (h .0) (h .1))
-    (fits-sized (cell (h .0) (start c .args .at) (this c (f .space) (f .index) (f .is) .column))
-    (h .1 .fit (start c .args .at) (this c (f .space) (f .index) (f .is) .column))) in
-    ((l .fitted, (weight, simp toZ-ofZ (rw (condition-is c (f .space) (f .index) (f .is)) (entry-small f (place c))))), l .lowest)
+    let weight : FractionFits (c .before .read .result) = rw (weight-is c (f .space) (f .index) (f .is) t h)
+    (fits-sized (cell t (start c .args .at) (this c (f .space) (f .index) (f .is) .column))
+    (h .fit (start c .args .at) (this c (f .space) (f .index) (f .is) .column))) in
+    record {
+      sum-fits = l .fitted;
+      weight-fits = weight;
+      condition-small = simp toZ-ofZ (rw (condition-is c (f .space) (f .index) (f .is)) (entry-small f (place c)));
+      sum-lowest = l .lowest;
+    }
 
 -- what one more product and its sum answer
 module _ (c : tie.After-add-product Inv-loop μ-loop) (s : Space) (j : ℕ) (t : Table) (i : JoinIs (start (c .before) .args .join) s j)
@@ -139,12 +146,15 @@ loop-again : tie.Need-loop-again Inv-loop μ-loop
 loop-again c =
     let a = c .before .before .before in
     let known = c .before .next .given in
-    let f = start (a .before) .pre .0 .1 in
-    let h = start (a .before) .pre .1 .1 in
+    let p = start (a .before) .pre in
+    let f = p .join-fits in
+    let t = p .table in
+    let h = p .held in
     record {
       within = omega arith;
-      fitted = more-sized a (f .space) (f .index) (h .0) (f .is) (h .1) (known .0 .0) (known .1);
-      lowest = fits-answered (more a (f .space) (f .index) (h .0) (f .is) (h .1)) (known .0 .0) (sym (more-is a (f .space) (f .index) (h .0) (f .is) (h .1)) ∙ known .1) .lowest;
+      fitted = more-sized a (f .space) (f .index) t (f .is) h (known .0 .0) (known .1);
+      lowest = fits-answered (more a (f .space) (f .index) t (f .is) h) (known .0 .0)
+          (sym (more-is a (f .space) (f .index) t (f .is) h) ∙ known .1) .lowest;
       rest = λ s j t i h.
           let x = fits-answered (more a s j t i h) (known .0 .0) (sym (more-is a s j t i h) ∙ known .1) in
           jump-from a s j t i h

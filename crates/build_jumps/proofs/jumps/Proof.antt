@@ -62,7 +62,13 @@ loop-holds c = record {
 jump-requires : tie.Need-jump-requires Inv-loop μ-loop
 jump-requires c κs =
     let s = c .before .before .before .before in
-    ((omega arith, s .pre .0 .1), (c .before .before .before .entries .ensures, s .pre .1))
+    record {
+      row-within = omega arith;
+      join-fits = s .pre .0 .1;
+      entries-are = c .before .before .before .entries .ensures;
+      table = s .pre .1 .0;
+      held = s .pre .1 .1;
+    }
 
 returns : tie.Need-returns Inv-loop μ-loop
 unfolding rowJumps

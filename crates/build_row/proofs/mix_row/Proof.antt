@@ -142,7 +142,12 @@ new-entry-requires c κs =
     let p = start c .pre in
     let t = p .1 .0 in
     let h = p .1 .1 in
-    (p .0 .0, (p .0 .1 .0, (subst FractionFits (sym (x-is c t h)) (fits-sized _ (h .fit _ _)), subst FractionFits (sym (y-is c t h)) (fits-sized _ (h .fit _ _)))))
+    record {
+      first-factor = p .0 .0;
+      second-factor = p .0 .1 .0;
+      first-entry = subst FractionFits (sym (x-is c t h)) (fits-sized _ (h .fit _ _));
+      second-entry = subst FractionFits (sym (y-is c t h)) (fits-sized _ (h .fit _ _));
+    }
 
 same-length : tie.Need-same-length Inv-loop μ-loop
 same-length c = at-loop (c .before .before .before) .loop .inv .num-written .long

@@ -31,11 +31,13 @@ returns-2 : tie.Need-returns-2
 returns-2 c =
     let b = c .before .before in
     let e : b .args .k ≡ 1 = omega arith in
-    toZ-ofZ w64 (b .args .x) (b .fits .x) ∙ is-pos (b .args .x) (b .pre .0)
+    toZ-ofZ w64 (b .args .x) (b .fits .x) ∙ is-pos (b .args .x) (b .pre .low)
     ∙ ap pos (sym (ap (λ n. natAbs (b .args .x) ^ n) e ∙ pow-one (natAbs (b .args .x))))
 
 square-fits : (c : tie.Else2) → SFits w64 (c .before .before .args .x *ℤ c .before .before .args .x)
-square-fits c = let x = c .before .before .args .x in sfits-abs (omega (arith, abs-mul-le x x 2000 2000 (c .before .before .pre .1 .0) (c .before .before .pre .1 .0)))
+square-fits c =
+    let b = c .before .before in
+    sfits-abs (omega (arith, abs-mul-le (b .args .x) (b .args .x) 2000 2000 (b .pre .short) (b .pre .short)))
 
 mul-result : tie.Need-mul-result
 mul-result c = let f = c .before .before .fits .x in simp toZ-ofZ (square-fits c)
@@ -46,7 +48,7 @@ returns-3 c =
     let f = b .fits .x in
     let g = square-fits c in
     let e : b .args .k ≡ 2 = omega arith in
-    simp toZ-ofZ (square (b .args .x) (b .pre .0) ∙ ap pos (sym (ap (λ n. natAbs (b .args .x) ^ n) e ∙ pow-two (natAbs (b .args .x)))))
+    simp toZ-ofZ (square (b .args .x) (b .pre .low) ∙ ap pos (sym (ap (λ n. natAbs (b .args .x) ^ n) e ∙ pow-two (natAbs (b .args .x)))))
 
 pub power-spec : {M : Type 1} → statement M
 power-spec = tie.close (tie.spec returns returns-2 mul-result returns-3)

@@ -25,7 +25,7 @@ module _ (c : tie.After-power) where
   fits : SFits w64 (c .before .falling .result *ℤ c .power .result)
   fits =
       let b = c .before .before in
-      rw is (sfits-abs (omega (arith, scale-le (b .args .p) (b .args .k) (natAbs (b .args .other)) (b .pre .0) (b .pre .1 .0) (b .pre .1 .1 .1))))
+      rw is (sfits-abs (omega (arith, scale-le (b .args .p) (b .args .k) (natAbs (b .args .other)) (b .pre .degree) (b .pre .order) (b .pre .short))))
 
 mul-result : tie.Need-mul-result
 mul-result c = let f = falling-fits c in let g = power-fits c in simp toZ-ofZ (fits c)

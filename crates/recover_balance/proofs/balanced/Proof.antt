@@ -83,13 +83,11 @@ add-term-requires c κs =
     let b = cd-fits c in
     let d = jn-fits c in
     let e = jd-fits c in
-    simp toZ-ofZ (
-      l .loop .inv .fitted,
-      (
-        rw (fraction-at (p .1 .of) _ (p .1 .is) (i c) (low c)) (fits-sized _ (p .1 .fit (i c))),
-        rw (fraction-at (p .0 .of) _ (p .0 .is) (i c) (low c)) (fits-sized _ (p .0 .fit (i c))),
-      ),
-    )
+    simp toZ-ofZ (record {
+      sum-fits = l .loop .inv .fitted;
+      coefficient-fits = rw (fraction-at (p .1 .of) _ (p .1 .is) (i c) (low c)) (fits-sized _ (p .1 .fit (i c)));
+      jump-fits = rw (fraction-at (p .0 .of) _ (p .0 .is) (i c) (low c)) (fits-sized _ (p .0 .fit (i c)));
+    })
 
 -- what the turn answers, in the definition's terms
 module _ (a : tie.After-add-term Inv-loop μ-loop) (j : ℕ) (qs ps : List ℚ) where

@@ -54,16 +54,19 @@ returns : tie.Need-returns
 unfolding counted
 returns c =
     let s = c .before .before .before in
-    let n = num-fits (s .pre .1 .1) in (
+    let n = num-fits (s .pre .jump-fits) in (
       (λ j a b q e h k. ap Fits e ∙ sym (ap (λ z. counted (cond (not z) (fitted j (b *ᵠ q) then λ p. fitted j (a +ᵠ p)) (answer a)))
           (zero-told (s .args .jump) q k (ofZ-inj w64 _ (pos 0) n (search needs) (c .if1 .taken))))),
-      (λ f e. subst FractionFits (let z : s .args .sum ≡ f = cc in z) (s .pre .0)),
+      (λ f e. subst FractionFits (let z : s .args .sum ≡ f = cc in z) (s .pre .sum-fits)),
     )
 
 sum-requires : tie.Need-sum-requires
 sum-requires c κs =
     let p = c .before .before .before in
-    (start p .pre .0, sized-sized 0 (value (start p .args .coefficient) *ᵠ value (start p .args .jump)) (c .before .term .given .0 .0) (sym (plain p 0) ∙ c .before .term .given .1) .1)
+    record {
+      first = start p .pre .sum-fits;
+      second = sized-sized 0 _ (c .before .term .given .0 .0) (sym (plain p 0) ∙ c .before .term .given .1) .1;
+    }
 
 returns-2 : tie.Need-returns-2
 returns-2 c =

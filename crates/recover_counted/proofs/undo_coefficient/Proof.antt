@@ -94,14 +94,18 @@ sum-requires c κs =
     let f = num-fits (share-sized s) in
     let g = den-fits (share-sized s) in
     let h = negated-fits s in
-    (start (at-product s) .pre .1 .1 .0, simp toZ-ofZ (neg-sized (share s) (share-sized s)))
+    record { first = start (at-product s) .pre .coefficient-fits; second = simp toZ-ofZ (neg-sized (share s) (share-sized s)) }
 
 quotient-requires : tie.Need-quotient-requires
 quotient-requires c κs =
     let d = c .before in
     let m = d .before .before in
     let p = whole m .pre in
-    (sized-sized 0 _ (d .difference .given .0 .0) (sym (difference m 0) ∙ d .difference .given .1) .1, unit-sized (whole m .args .w) (p .0), p .1 .0)
+    record {
+      first = sized-sized 0 _ (d .difference .given .0 .0) (sym (difference m 0) ∙ d .difference .given .1) .1;
+      second = unit-sized (whole m .args .w) (p .factor);
+      divisor-nonzero = p .factor-nonzero;
+    }
 
 returns : tie.Need-returns
 unfolding undoneCoefficient

@@ -32,7 +32,13 @@ undo-rows-requires c κs =
     let p = c .before .before .before .pre in
     let n = p .0 .1 .1 in
     let q = p .1 in
-    (q .0, (omega (arith, q .1 .0, p .0 .0), (record { of = n .of; is = n .is; fit = n .fit; long = omega (arith, n .long, q .1 .0) }, q .1 .1)))
+    record {
+      order = q .0;
+      within = omega (arith, q .1 .0, p .0 .0);
+      coefficients = record { of = n .of; is = n .is; fit = n .fit; long = omega (arith, n .long, q .1 .0) };
+      factors = q .1 .1 .0;
+      nonzero = q .1 .1 .1;
+    }
 
 -- a refusal with this code and no fraction
 refused : {o : Outcome (List ℚ)} {code place : ℕ} {r : RowCoefficients} → o ≡ refusal code place → r ≡ record { refusal = refusals.Refused code; of = fractions [] } → r ≡ coefficientsOf o

@@ -55,7 +55,7 @@ returns c j us ps e h =
     let s = start (c .before) in
     let n = cn-fits (c .before) in
     let d = cd-fits (c .before) in
-    ap Fits (simp toZ-ofZ (fraction-at ps _ h (s .args .i) (s .pre .1 .0))) ∙ sym (ap counted (first-row j us ps (s .args .f) (s .args .i) (c .if1 .taken)))
+    ap Fits (simp toZ-ofZ (fraction-at ps _ h (s .args .i) (s .pre .within))) ∙ sym (ap counted (first-row j us ps (s .args .f) (s .args .i) (c .if1 .taken)))
 
 -- of its factor and of the row before
 module _ (c : tie.After-bd) where
@@ -66,7 +66,7 @@ module _ (c : tie.After-bd) where
   d = start own .args .i - start own .args .f
 
   later : start own .args .f < start own .args .i
-  later = omega (arith, start own .pre .0, c .before .before .before .before .if1 .left)
+  later = omega (arith, start own .pre .order, c .before .before .before .before .if1 .left)
 
   wn-fits : SFits w64 (getD (start own .args .t2 .num) d (pos 0))
   wn-fits = record { sfits = c .before .before .before .wn .given }
@@ -84,25 +84,21 @@ undo-coefficient-requires : tie.Need-undo-coefficient-requires
 unfolding fraction
 undo-coefficient-requires c κs =
     let s = start (own c) in
-    let n = s .pre .1 .1 .0 in
-    let u = s .pre .1 .1 .1 .0 in
+    let n = s .pre .coefficients in
+    let u = s .pre .factors in
     let a1 = cn-fits (own c) in
     let a2 = cd-fits (own c) in
     let a3 = wn-fits c in
     let a4 = wd-fits c in
     let a5 = bn-fits c in
     let a6 = bd-fits c in
-    let e = fraction-at (u .of) _ (u .is) (d c) (omega (arith, s .pre .1 .0)) in
-    simp toZ-ofZ (
-      record { of = entry (u .of) (d c); is = e; fit = u .fit (d c); low = u .low (d c); high = u .high (d c) },
-      (
-        (λ z. s .pre .1 .1 .1 .1 (u .of) (u .is) (d c) (omega arith) (zero-is (entry (u .of) (d c)) (sym (ap (λ (x : Fraction). x .num) e) ∙ z))),
-        (
-          rw (fraction-at (n .of) _ (n .is) (s .args .i) (s .pre .1 .0)) (fits-sized _ (n .fit (s .args .i))),
-          rw (fraction-at (n .of) _ (n .is) (s .args .i - 1) (omega (arith, s .pre .1 .0))) (fits-sized _ (n .fit (s .args .i - 1))),
-        ),
-      ),
-    )
+    let e = fraction-at (u .of) _ (u .is) (d c) (omega (arith, s .pre .within)) in
+    simp toZ-ofZ (record {
+      factor = record { of = entry (u .of) (d c); is = e; fit = u .fit (d c); low = u .low (d c); high = u .high (d c) };
+      factor-nonzero = λ z. s .pre .nonzero (u .of) (u .is) (d c) (omega arith) (zero-is (entry (u .of) (d c)) (sym (ap (λ (x : Fraction). x .num) e) ∙ z));
+      coefficient-fits = rw (fraction-at (n .of) _ (n .is) (s .args .i) (s .pre .within)) (fits-sized _ (n .fit (s .args .i)));
+      before-fits = rw (fraction-at (n .of) _ (n .is) (s .args .i - 1) (omega (arith, s .pre .within))) (fits-sized _ (n .fit (s .args .i - 1)));
+    })
 
 returns-2 : tie.Need-returns-2
 returns-2 c j us ps e h =
@@ -115,8 +111,8 @@ returns-2 c j us ps e h =
     let a5 = bn-fits b in
     let a6 = bd-fits b in
     c .undo-coefficient .ensures j (entry us (d b)) (entry ps (s .args .i)) (entry ps (s .args .i - 1))
-    (simp toZ-ofZ (fraction-at us _ e (d b) (omega (arith, s .pre .1 .0)))) (simp toZ-ofZ (fraction-at ps _ h (s .args .i) (s .pre .1 .0)))
-    (simp toZ-ofZ (fraction-at ps _ h (s .args .i - 1) (omega (arith, s .pre .1 .0))))
+    (simp toZ-ofZ (fraction-at us _ e (d b) (omega (arith, s .pre .within)))) (simp toZ-ofZ (fraction-at ps _ h (s .args .i) (s .pre .within)))
+    (simp toZ-ofZ (fraction-at ps _ h (s .args .i - 1) (omega (arith, s .pre .within))))
     ∙ sym (ap counted (later-row j us ps (s .args .f) (s .args .i) (later b)))
 
 pub undo-row-spec : {M : Type 1} → statement M

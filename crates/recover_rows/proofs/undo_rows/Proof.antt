@@ -92,17 +92,15 @@ undo-row-requires : tie.Need-undo-row-requires Inv-loop μ-loop
 undo-row-requires c κs =
     let a = c .before in
     let p = a .before .pre in
-    let u = p .1 .1 .1 .0 in
-    let n = p .1 .1 .0 in (
-      a .loop .inv .passed,
-      (
-        omega arith,
-        (
-          present-fit a (c .loop-test .taken) 0 (u .of) (n .of) (u .is) (n .is) (n .long) (n .fit),
-          (u, λ us e d h. p .1 .1 .1 .1 us e d (omega arith)),
-        ),
-      ),
-    )
+    let u = p .factors in
+    let n = p .coefficients in
+    record {
+      order = a .loop .inv .passed;
+      within = omega arith;
+      coefficients = present-fit a (c .loop-test .taken) 0 (u .of) (n .of) (u .is) (n .is) (n .long) (n .fit);
+      factors = u;
+      nonzero = λ us e d h. p .nonzero us e d (omega arith);
+    }
 
 returns : tie.Need-returns Inv-loop μ-loop
 unfolding undoneOf

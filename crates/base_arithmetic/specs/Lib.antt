@@ -1,0 +1,2 @@
+-- What the contracts of base_arithmetic ask of their operands.
+pub mod Operands
