@@ -30,9 +30,10 @@ use Rattle.recover_joins.proofs.undo.Tie as tie
 undo-rows-requires : tie.Need-undo-rows-requires
 undo-rows-requires c κs =
     let p = c .before .before .before .pre in
-    let n = p .0 .1 .1 in
-    let q = p .1 in
-    (q .0, (omega (arith, q .1 .0, p .0 .0), (record { of = n .of; is = n .is; fit = n .fit; long = omega (arith, n .long, q .1 .0) }, q .1 .1)))
+    let n = p .coefficients in (
+      p .ordered,
+      (omega (arith, p .below, p .few), (record { of = n .of; is = n .is; fit = n .fit; long = omega (arith, n .long, p .below) }, (p .unit, p .nonzero))),
+    )
 
 -- a refusal with this code and no fraction
 refused : {o : Outcome (List ℚ)} {code place : ℕ} {r : RowCoefficients} → o ≡ refusal code place → r ≡ record { refusal = refusals.Refused code; of = fractions [] } → r ≡ coefficientsOf o
@@ -64,7 +65,7 @@ module _ (u : tie.After-undo-rows) (j : ℕ) (qs us ps : List ℚ) (e : u .befor
   zero = told-zero (balanced j qs ps) (sym (u .before .before .before .balanced .ensures j qs ps e h m) ∙ u .before .enum-told3 .given .1)
 
   undone-is : u .undo-rows .result ≡ undoneOf (with-answer among new)
-  undone-is = u .undo-rows .ensures j us ps w h (omega (arith, n, start .pre .1 .1 .0))
+  undone-is = u .undo-rows .ensures j us ps w h (omega (arith, n, start .pre .below))
 
   -- refused
   too-large : {r : RowCoefficients} → u .undo-rows .result .fit ≡ false → r ≡ record { refusal = refusals.Refused 20; of = fractions [] }
@@ -84,8 +85,8 @@ module _ (u : tie.After-undo-rows) (j : ℕ) (qs us ps : List ℚ) (e : u .befor
       let a = undone-in-arrays (with-answer among new) (u .undo-rows .result) undone-is x in
       let d = with-inverts among new (a .answers) in
       let size = rows-undone j us ps f (l - f) (d .answers) .size in
-      let order = start .pre .1 .0 in
-      let below : l < length ps = omega (arith, n, start .pre .1 .1 .0) in
+      let order = start .pre .ordered in
+      let below : l < length ps = omega (arith, n, start .pre .below) in
       ap (λ (x : Fractions). record { refusal = refusals.None; of = x })
       (dropped (among (d .before)) (a .is ∙ ap fractions (sym (d .changed))) (renewed-length f l ps (d .before) order (omega arith) size ∙ n) ∙ renewed-without f l ps (d .before) order below size)
       ∙ sym (ap coefficientsOf (then-answers (λ _. undone j spanned us ps) zero ∙ then-answers (λ ds. answer (take f ps ++ (ds ++ drop (suc l) ps))) (d .answers)))
