@@ -1,1 +1,2 @@
--- The contracts of build cite the definitions of other crates alone.
+-- What the contracts of build cite beside the definitions of other crates.
+pub mod Asks

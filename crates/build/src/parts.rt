@@ -1,17 +1,13 @@
 // The parts of a beam: each is built by itself in the same two buffers, from the left, so that the last one stays there.
 ghost use mathlib.Core.Path.{_≡_};
-ghost use Prim.Native.Nat.{_-_, _≤_};
-ghost use lib.ListN.{length};
+ghost use Prim.Native.Nat.{_-_};
 ghost use Rattle.base_outcome.specs.Outcome.{with-answer};
-ghost use Rattle.spec_spline.specs.Space.{partEnd, rowCount};
-ghost use Rattle.spec_spline.specs.Table.{rowCells, tableCells};
+ghost use Rattle.spec_spline.specs.Space.{rowCount};
 ghost use Rattle.spec_spline.specs.Build;
 ghost use Rattle.theorems_beams.specs.Sections.{section};
-ghost use Rattle.theorems_beams.specs.Parts.{Starts};
 ghost use Rattle.build_space.specs.Machine.{space};
-ghost use Rattle.build_space.specs.Legal.{ListsLegal};
-ghost use Rattle.build_cells.specs.Held.{ClearFrom};
 ghost use Rattle.base_outcome.specs.Machine.{reply};
+ghost use Rattle.build.specs.Asks.{PartAsks, PartsAsk};
 use base_outcome::Answer;
 
 // The build of the part from segment a up to segment b, in buffers that are clear from row `used` on.
@@ -25,11 +21,7 @@ pub fn build_part(
     den: &mut [i64],
     used: usize,
 ) -> Answer
-    requires { ⌜ ListsLegal (now breaks) (now degrees) (now orders)
-        × ((tableCells ≤ length (now num)) × (tableCells ≤ length (now den))) ⌝ }
-    requires { ⌜ Starts (space (now breaks) (now degrees) (now orders)) a
-        × (b ≡ partEnd (space (now breaks) (now degrees) (now orders)) a) ⌝ }
-    requires { ⌜ (used ≤ rowCells) × ClearFrom (now num) (now den) used ⌝ }
+    requires { ⌜ PartAsks (now breaks) (now degrees) (now orders) a b (now num) (now den) used ⌝ }
     ensures { λ r. ⌜ (let part = section (space (now (breaks .entry)) (now (degrees .entry)) (now (orders .entry))) a (b - a) in
         (reply r ≡ with-answer (λ _. rowCount part) (Build.weights part))
         × ((now (num .exit) ≡ Build.numeratorsAfter (Build.weights part) (now (num .entry)))
@@ -54,8 +46,7 @@ pub fn build_parts(
     num: &mut [i64],
     den: &mut [i64],
 ) -> Answer
-    requires { ⌜ ListsLegal (now breaks) (now degrees) (now orders)
-        × ((tableCells ≤ length (now num)) × (tableCells ≤ length (now den))) ⌝ }
+    requires { ⌜ PartsAsk (now breaks) (now degrees) (now orders) (now num) (now den) ⌝ }
     ensures { λ r. ⌜ (let s = space (now (breaks .entry)) (now (degrees .entry)) (now (orders .entry)) in
         let held = with-answer (Build.lastPart s) (Build.weights s) in
         (reply r ≡ with-answer (λ _. rowCount s) (Build.weights s))

@@ -1,2 +1,3 @@
 -- What the contracts of build_joins cite beside the definitions of crate spec_spline.
 pub mod Leaves
+pub mod Asks

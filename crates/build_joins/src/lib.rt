@@ -1,20 +1,18 @@
 // The joins of a part from the left, and the build of a part: its steps in buffers that hold its first segment's rows.
 ghost use mathlib.Core.Path.{_≡_};
-ghost use mathlib.Core.List.{List, []};
-ghost use Prim.Native.Nat.{ℕ, _+_, _<_, _≤_};
-ghost use lib.IntN.{ℤ};
-ghost use lib.ListN.{length};
+ghost use mathlib.Core.List.{[]};
+ghost use Prim.Native.Nat.{ℕ, _+_};
 ghost use Rattle.base_outcome.specs.Outcome.{with-answer};
 ghost use Rattle.spec_spline.specs.Space.{Space, rowCount};
-ghost use Rattle.spec_spline.specs.Table.{Table, rowCells, tableCells};
+ghost use Rattle.spec_spline.specs.Table.{Table};
 ghost use Rattle.spec_spline.specs.Build;
 ghost use Rattle.build_space.specs.Machine.{space};
-ghost use Rattle.build_space.specs.Legal.{ListsLegal, PartLegal};
-ghost use Rattle.build_cells.specs.Held.{Holds, Shaped, Held, ClearFrom};
-ghost use Rattle.build_conditions.specs.Sides.{SideIs, JoinIs, JoinFits};
+ghost use Rattle.build_cells.specs.Held.{Holds, Shaped};
+ghost use Rattle.build_conditions.specs.Sides.{SideIs, JoinIs};
 ghost use Rattle.base_outcome.specs.Machine.{reply};
 ghost use Rattle.build_step.specs.Leaves.{Leaves};
-ghost use Rattle.build_joins.specs.Leaves.{JoinsLeave, Start, grown};
+ghost use Rattle.build_joins.specs.Leaves.{JoinsLeave, grown};
+ghost use Rattle.build_joins.specs.Asks.{JoinAsks, SideAsks, JoinsAsk, LegalAsks};
 use base_outcome::Answer;
 use build_conditions::Join;
 use build_conditions::Side;
@@ -29,8 +27,7 @@ fn join_step(
     rows: usize,
     columns: usize,
 ) -> Refusal
-    requires { ⌜ (n ≤ rows) × (((k : ℕ) → k < n → JoinFits join k) × Held (now num) (now den) rows columns) ⌝ }
-    requires { ⌜ (rows + (join .right .degree + 1) ≤ rowCells) × (join .right .column + (join .right .degree + 1) ≤ columns) ⌝ }
+    requires { ⌜ JoinAsks join n (now num) (now den) rows columns ⌝ }
     ensures { λ r. ⌜ ((s : Space) (j : ℕ) (t : Table) → JoinIs join s j → Holds (now (num .entry)) (now (den .entry)) t
         → Shaped t rows columns
         → Leaves (Build.orderSteps s j n (grown s j columns t)) r (now (num .entry)) (now (den .entry)) (now (num .exit))
@@ -43,7 +40,7 @@ fn join_step(
 }
 
 fn side_at(breaks: &[i32], degrees: &[i32], i: usize) -> Side
-    requires { ⌜ ((orders : List ℤ) × ListsLegal (now breaks) (now degrees) orders) × (i < length (now degrees)) ⌝ }
+    requires { ⌜ SideAsks (now breaks) (now degrees) i ⌝ }
     ensures { λ r. ⌜ SideIs r (space (now (breaks .entry)) (now (degrees .entry)) []) i ⌝ }
 {
     let degree = build_space::degree_at(degrees, i);
@@ -57,7 +54,7 @@ fn side_at(breaks: &[i32], degrees: &[i32], i: usize) -> Side
 }
 
 pub fn join_at(breaks: &[i32], degrees: &[i32], j: usize) -> Join
-    requires { ⌜ ((orders : List ℤ) × ListsLegal (now breaks) (now degrees) orders) × (j + 1 < length (now degrees)) ⌝ }
+    requires { ⌜ SideAsks (now breaks) (now degrees) (j + 1) ⌝ }
     ensures { λ r. ⌜ JoinIs r (space (now (breaks .entry)) (now (degrees .entry)) []) j ⌝ }
 {
     let left = side_at(breaks, degrees, j);
@@ -78,8 +75,7 @@ fn join_steps(
     den: &mut [i64],
     columns: usize,
 ) -> Answer
-    requires { ⌜ PartLegal (now breaks) (now degrees) (now orders)
-        × Start (space (now breaks) (now degrees) (now orders)) (now num) (now den) columns ⌝ }
+    requires { ⌜ JoinsAsk (now breaks) (now degrees) (now orders) (now num) (now den) columns ⌝ }
     ensures { λ r. ⌜ JoinsLeave (Build.weights (space (now (breaks .entry)) (now (degrees .entry)) (now (orders .entry))))
         (rowCount (space (now (breaks .entry)) (now (degrees .entry)) (now (orders .entry)))) r (now (num .entry)) (now (den .entry))
         (now (num .exit)) (now (den .exit)) ⌝ }
@@ -117,8 +113,7 @@ pub fn build_legal(
     den: &mut [i64],
     used: usize,
 ) -> Answer
-    requires { ⌜ PartLegal (now breaks) (now degrees) (now orders) × ((tableCells ≤ length (now num)) × (tableCells ≤ length (now den))) ⌝ }
-    requires { ⌜ (used ≤ rowCells) × ClearFrom (now num) (now den) used ⌝ }
+    requires { ⌜ LegalAsks (now breaks) (now degrees) (now orders) (now num) (now den) used ⌝ }
     ensures { λ r. ⌜ reply r ≡ with-answer (λ _. rowCount (space (now (breaks .entry)) (now (degrees .entry)) (now (orders .entry))))
         (Build.weights (space (now (breaks .entry)) (now (degrees .entry)) (now (orders .entry)))) ⌝ }
     ensures { λ r. ⌜ now (num .exit) ≡ Build.numeratorsAfter (Build.weights

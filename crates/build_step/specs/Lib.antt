@@ -1,3 +1,4 @@
 -- What the contracts of build_step cite beside the definitions of crate spec_spline.
 pub mod Plan
+pub mod Asks
 pub mod Leaves

@@ -1,22 +1,21 @@
 // A step of the build, and the steps of a join: one for each order from 0 up to its own.
 ghost use mathlib.Core.Path.{_≡_};
 ghost use mathlib.Core.List.{List};
-ghost use Prim.Native.Nat.{ℕ, _<_, _≤_};
+ghost use Prim.Native.Nat.{ℕ};
 ghost use lib.ListN.{length};
 ghost use Rattle.base_exact.specs.Rational.{ℚ};
 ghost use Rattle.spec_spline.specs.Space.{Space};
 ghost use Rattle.spec_spline.specs.Conditions;
-ghost use Rattle.spec_spline.specs.Table.{Table, rowCells};
+ghost use Rattle.spec_spline.specs.Table.{Table};
 ghost use Rattle.spec_spline.specs.Step;
 ghost use Rattle.spec_spline.specs.Build;
-ghost use Rattle.build_cells.specs.Held.{Holds, Shaped, Held};
-ghost use Rattle.build_conditions.specs.Sides.{JoinIs, JoinFits};
+ghost use Rattle.build_cells.specs.Held.{Holds, Shaped};
+ghost use Rattle.build_conditions.specs.Sides.{JoinIs};
 ghost use Rattle.base_fraction.specs.Fractions.{fractions};
 ghost use Rattle.build_factors.specs.Machine.{Plans};
-ghost use Rattle.build_factors.specs.Jumps.{Present};
-ghost use Rattle.build_rows.specs.Rows.{UnitFactors};
 ghost use Rattle.build_cells.specs.Left.{LeavesIf};
 ghost use Rattle.build_step.specs.Plan.{planFrom, rowsRenewed};
+ghost use Rattle.build_step.specs.Asks.{PlanAsks, RenewAsks, StepAsks, StepsAsk};
 ghost use Rattle.build_step.specs.Leaves.{Leaves};
 use base_fraction::arrays::Fractions;
 use build_conditions::Join;
@@ -26,7 +25,7 @@ use build_span::JumpSpan;
 
 // The first half of a step, from its jumps: the rows that they span and the factors of these rows.
 pub fn plan_step(js: Fractions, rows: usize) -> RowFactors
-    requires { ⌜ (rows ≤ rowCells) × Present js rows ⌝ }
+    requires { ⌜ PlanAsks js rows ⌝ }
     ensures { λ r. ⌜ ((qs : List ℚ) (j : ℕ) → js ≡ fractions qs → length qs ≡ rows → Plans (planFrom j qs) r) ⌝ }
 {
     let span = build_span::span(js, rows);
@@ -47,8 +46,7 @@ pub fn renew_rows(
     rows: usize,
     columns: usize,
 ) -> bool
-    requires { ⌜ (f ≤ l) × ((l < rows) × Held (now num) (now den) rows columns) ⌝ }
-    requires { ⌜ UnitFactors factors ⌝ }
+    requires { ⌜ RenewAsks (now num) (now den) factors f l rows columns ⌝ }
     ensures { λ r. ⌜ ((t : Table) (j : ℕ) (ws : List ℚ) → Holds (now (num .entry)) (now (den .entry)) t → Shaped t rows columns
         → factors ≡ fractions ws
         → LeavesIf (rowsRenewed j (record { f = f; l = l }) ws t) r (now (num .entry)) (now (den .entry)) (now (num .exit))
@@ -71,7 +69,7 @@ fn step(
     rows: usize,
     columns: usize,
 ) -> Refusal
-    requires { ⌜ JoinFits join k × Held (now num) (now den) rows columns ⌝ }
+    requires { ⌜ StepAsks join k (now num) (now den) rows columns ⌝ }
     ensures { λ r. ⌜ ((s : Space) (j : ℕ) (t : Table) → JoinIs join s j → Holds (now (num .entry)) (now (den .entry)) t
         → Shaped t rows columns
         → Leaves (Step.step j (Conditions.conditions s j k) t) r (now (num .entry)) (now (den .entry)) (now (num .exit))
@@ -105,7 +103,7 @@ pub fn order_steps(
     rows: usize,
     columns: usize,
 ) -> Refusal
-    requires { ⌜ (n ≤ rows) × (((k : ℕ) → k < n → JoinFits join k) × Held (now num) (now den) rows columns) ⌝ }
+    requires { ⌜ StepsAsk join n (now num) (now den) rows columns ⌝ }
     ensures { λ r. ⌜ ((s : Space) (j : ℕ) (t : Table) → JoinIs join s j → Holds (now (num .entry)) (now (den .entry)) t
         → Shaped t rows columns
         → Leaves (Build.orderSteps s j n t) r (now (num .entry)) (now (den .entry)) (now (num .exit)) (now (den .exit))) ⌝ }

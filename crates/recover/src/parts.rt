@@ -1,21 +1,18 @@
 // The parts of a beam: each is recovered by itself from the left, and its coefficients are written behind those of the parts before it.
 ghost use mathlib.Core.Path.{_≡_};
-ghost use mathlib.Core.List.{List, _++_, map};
+ghost use mathlib.Core.List.{List, _++_};
 ghost use Prim.Native.Nat.{_+_, _-_, _≤_};
 ghost use lib.IntN.{ℤ};
 ghost use lib.ListN.{length, take, drop};
-ghost use Rattle.base_exact.specs.Rational.{ℚ, int};
-ghost use Rattle.spec_spline.specs.Space.{partEnd, firstColumn, columnCount, rowCount};
-ghost use Rattle.spec_spline.specs.Table.{tableCells, rowCells};
+ghost use Rattle.base_exact.specs.Rational.{ℚ};
+ghost use Rattle.spec_spline.specs.Space.{firstColumn, columnCount, rowCount};
 ghost use Rattle.theorems_beams.specs.Sections.{section};
-ghost use Rattle.theorems_beams.specs.Parts.{Starts};
 ghost use Rattle.build_space.specs.Machine.{space};
-ghost use Rattle.build_space.specs.Legal.{ListsLegal};
 ghost use Rattle.base_fraction.specs.Fractions.{fractions};
-ghost use Rattle.build_factors.specs.Jumps.{AllFit};
 ghost use Rattle.theorems_recovery.specs.Recovery;
 ghost use Rattle.theorems_recovery.specs.RecoveryCall.{listed, numeratorOf, denominatorOf};
 ghost use Rattle.recover_joins.specs.Leaves.{JoinsLeave};
+ghost use Rattle.recover.specs.Asks.{WriteAsks, PartAsks, PartsAsk};
 ghost use Rattle.recover.specs.Leaves.{BeamEnds};
 use base_fraction::arrays;
 use base_fraction::arrays::Fractions;
@@ -24,7 +21,7 @@ use recover_joins::Joined;
 
 // The first n coefficients in the cells from `from` on.
 fn write(coef_num: &mut [i64], coef_den: &mut [i64], from: usize, cs: Fractions, n: usize)
-    requires { ⌜ (n ≤ rowCells) × ((from + n ≤ length (now «coef_num»)) × (from + n ≤ length (now «coef_den»))) ⌝ }
+    requires { ⌜ WriteAsks (now «coef_num») (now «coef_den») from n ⌝ }
     ensures { λ _. ⌜ ((done ps : List ℚ) (num den : List ℤ) → cs ≡ fractions ps → length done ≡ from → length ps ≡ n
         → now («coef_num» .entry) ≡ listed numeratorOf from done num → now («coef_den» .entry) ≡ listed denominatorOf from done den
         → from + n ≤ length num → from + n ≤ length den
@@ -54,12 +51,7 @@ fn recover_at(
     num: &mut [i64],
     den: &mut [i64],
 ) -> Joined
-    requires { ⌜ ListsLegal (now breaks) (now degrees) (now orders)
-        × ((tableCells ≤ length (now num)) × (tableCells ≤ length (now den))) ⌝ }
-    requires { ⌜ Starts (space (now breaks) (now degrees) (now orders)) a
-        × (b ≡ partEnd (space (now breaks) (now degrees) (now orders)) a) ⌝ }
-    requires { ⌜ (length (now ordinates) ≡ columnCount (space (now breaks) (now degrees) (now orders)))
-        × AllFit (map int (now ordinates)) ⌝ }
+    requires { ⌜ PartAsks (now breaks) (now degrees) (now orders) (now ordinates) a b (now num) (now den) ⌝ }
     ensures { λ r. ⌜ (let s = space (now (breaks .entry)) (now (degrees .entry)) (now (orders .entry)) in
         let part = section s a (b - a) in
         JoinsLeave (Recovery.recovered part (take (columnCount part) (drop (firstColumn s a) (now (ordinates .entry))))) (rowCount part) r
@@ -88,11 +80,8 @@ pub fn recover_parts(
     coef_num: &mut [i64],
     coef_den: &mut [i64],
 ) -> Answer
-    requires { ⌜ ListsLegal (now breaks) (now degrees) (now orders)
-        × ((tableCells ≤ length (now num)) × (tableCells ≤ length (now den))) ⌝ }
-    requires { ⌜ (length (now ordinates) ≡ columnCount (space (now breaks) (now degrees) (now orders)))
-        × AllFit (map int (now ordinates)) ⌝ }
-    requires { ⌜ (length (now ordinates) ≤ length (now «coef_num»)) × (length (now ordinates) ≤ length (now «coef_den»)) ⌝ }
+    requires { ⌜ PartsAsk (now breaks) (now degrees) (now orders) (now ordinates) (now num) (now den) (now «coef_num»)
+        (now «coef_den») ⌝ }
     ensures { λ r. ⌜ (let s = space (now (breaks .entry)) (now (degrees .entry)) (now (orders .entry)) in
         BeamEnds s (length (now (ordinates .entry))) (Recovery.recovered s (now (ordinates .entry))) r (now (num .entry)) (now (den .entry))
         (now («coef_num» .entry)) (now («coef_den» .entry)) (now (num .exit)) (now (den .exit)) (now («coef_num» .exit))

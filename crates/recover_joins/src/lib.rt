@@ -1,25 +1,21 @@
 // The steps of the build, each followed by its undoing on the present coefficients of the rows.
 ghost use mathlib.Core.Path.{_≡_};
-ghost use mathlib.Core.List.{List, [], map};
-ghost use Prim.Native.Nat.{ℕ, _+_, _-_, _<_, _≤_};
+ghost use mathlib.Core.List.{List, []};
+ghost use Prim.Native.Nat.{ℕ};
 ghost use lib.ListN.{length};
-ghost use Rattle.base_exact.specs.Rational.{ℚ, int};
+ghost use Rattle.base_exact.specs.Rational.{ℚ};
 ghost use Rattle.base_fraction.specs.Fractions.{fractions};
-ghost use Rattle.spec_spline.specs.Space.{Space, columnCount, rowCount};
+ghost use Rattle.spec_spline.specs.Space.{Space, rowCount};
 ghost use Rattle.spec_spline.specs.Conditions;
-ghost use Rattle.spec_spline.specs.Table.{Table, rowCells, tableCells};
+ghost use Rattle.spec_spline.specs.Table.{Table};
 ghost use Rattle.build_space.specs.Machine.{space};
-ghost use Rattle.build_space.specs.Legal.{PartLegal};
-ghost use Rattle.build_cells.specs.Held.{Holds, Shaped, Held};
-ghost use Rattle.build_conditions.specs.Sides.{JoinIs, JoinFits};
-ghost use Rattle.build_factors.specs.Jumps.{AllFit, Present};
-ghost use Rattle.build_rows.specs.Rows.{UnitFactors};
-ghost use Rattle.build_joins.specs.Leaves.{Start};
-ghost use Rattle.recover_counted.specs.Machine.{FractionsFit};
-ghost use Rattle.recover_rows.specs.Machine.{NonZero};
+ghost use Rattle.build_cells.specs.Held.{Holds, Shaped};
+ghost use Rattle.build_conditions.specs.Sides.{JoinIs};
+ghost use Rattle.build_factors.specs.Jumps.{AllFit};
 ghost use Rattle.theorems_recovery.specs.Recovery;
 ghost use Rattle.recover_joins.specs.declared.Refusal.the-variants as refusals;
 ghost use Rattle.recover_joins.specs.Leaves.{undoing, coefficientsOf, grownCombination, Leaves, JoinsLeave};
+ghost use Rattle.recover_joins.specs.Asks.{UndoAsks, StepAsks, OrdersAsk, JoinAsks, JoinsAsk, PartAsks};
 use base_fraction::arrays;
 use base_fraction::arrays::Fractions;
 use base_outcome::Answer;
@@ -62,8 +58,7 @@ fn undo(
     cs: Fractions,
     rows: usize,
 ) -> RowCoefficients
-    requires { ⌜ (rows ≤ rowCells) × (FractionsFit js rows × FractionsFit cs rows) ⌝ }
-    requires { ⌜ (f ≤ l) × ((l < rows) × (UnitFactors ws × NonZero ws (l - f))) ⌝ }
+    requires { ⌜ UndoAsks js ws f l cs rows ⌝ }
     ensures { λ r. ⌜ ((j : ℕ) (qs us ps : List ℚ) → js ≡ fractions qs → ws ≡ fractions us → cs ≡ fractions ps → length qs ≡ rows
         → length ps ≡ rows
         → r ≡ coefficientsOf (undoing j (record { jumps = qs; span = record { f = f; l = l }; factors = us }) ps)) ⌝ }
@@ -96,7 +91,7 @@ fn recover_step(
     columns: usize,
     cs: Fractions,
 ) -> RowCoefficients
-    requires { ⌜ JoinFits join k × (Held (now num) (now den) rows columns × FractionsFit cs rows) ⌝ }
+    requires { ⌜ StepAsks join k (now num) (now den) rows columns cs ⌝ }
     ensures { λ r. ⌜ ((s : Space) (j : ℕ) (t : Table) (ps : List ℚ) → JoinIs join s j → Holds (now (num .entry)) (now (den .entry)) t
         → Shaped t rows columns → cs ≡ fractions ps → length ps ≡ rows
         → Leaves (Recovery.recoverStep j (Conditions.conditions s j k) (record { table = t; coefficients = ps })) r (now (num .entry))
@@ -133,7 +128,7 @@ fn recover_orders(
     columns: usize,
     cs: Fractions,
 ) -> RowCoefficients
-    requires { ⌜ (n ≤ rows) × (((k : ℕ) → k < n → JoinFits join k) × (Held (now num) (now den) rows columns × Present cs rows)) ⌝ }
+    requires { ⌜ OrdersAsk join n (now num) (now den) rows columns cs ⌝ }
     ensures { λ r. ⌜ ((s : Space) (j : ℕ) (t : Table) (ps : List ℚ) → JoinIs join s j → Holds (now (num .entry)) (now (den .entry)) t
         → Shaped t rows columns → cs ≡ fractions ps → length ps ≡ rows → AllFit ps
         → Leaves (Recovery.recoverOrders s j n (record { table = t; coefficients = ps })) r (now (num .entry)) (now (den .entry))
@@ -172,9 +167,7 @@ fn recover_join(
     columns: usize,
     cs: Fractions,
 ) -> RowCoefficients
-    requires { ⌜ (n ≤ rows) × (((k : ℕ) → k < n → JoinFits join k) × (Held (now num) (now den) rows columns × Present cs rows)) ⌝ }
-    requires { ⌜ (rows + (join .right .degree + 1) ≤ rowCells) × (join .right .column + (join .right .degree + 1) ≤ columns) ⌝ }
-    requires { ⌜ (length (now ordinates) ≡ columns) × AllFit (map int (now ordinates)) ⌝ }
+    requires { ⌜ JoinAsks (now ordinates) join n (now num) (now den) rows columns cs ⌝ }
     ensures { λ r. ⌜ ((s : Space) (j : ℕ) (t : Table) (ps : List ℚ) → JoinIs join s j → Holds (now (num .entry)) (now (den .entry)) t
         → Shaped t rows columns → cs ≡ fractions ps → length ps ≡ rows → AllFit ps
         → Leaves (Recovery.recoverOrders s j n (grownCombination s j columns (now (ordinates .entry))
@@ -198,9 +191,7 @@ fn recover_joins(
     den: &mut [i64],
     columns: usize,
 ) -> Joined
-    requires { ⌜ PartLegal (now breaks) (now degrees) (now orders)
-        × Start (space (now breaks) (now degrees) (now orders)) (now num) (now den) columns ⌝ }
-    requires { ⌜ (length (now ordinates) ≡ columns) × AllFit (map int (now ordinates)) ⌝ }
+    requires { ⌜ JoinsAsk (now breaks) (now degrees) (now orders) (now ordinates) (now num) (now den) columns ⌝ }
     ensures { λ r. ⌜ JoinsLeave (Recovery.recovered (space (now (breaks .entry)) (now (degrees .entry)) (now (orders .entry)))
         (now (ordinates .entry))) (rowCount (space (now (breaks .entry)) (now (degrees .entry)) (now (orders .entry)))) r (now (num .entry))
         (now (den .entry)) (now (num .exit)) (now (den .exit)) ⌝ }
@@ -244,9 +235,7 @@ pub fn recover_part(
     num: &mut [i64],
     den: &mut [i64],
 ) -> Joined
-    requires { ⌜ PartLegal (now breaks) (now degrees) (now orders) × ((tableCells ≤ length (now num)) × (tableCells ≤ length (now den))) ⌝ }
-    requires { ⌜ (length (now ordinates) ≡ columnCount (space (now breaks) (now degrees) (now orders)))
-        × AllFit (map int (now ordinates)) ⌝ }
+    requires { ⌜ PartAsks (now breaks) (now degrees) (now orders) (now ordinates) (now num) (now den) ⌝ }
     ensures { λ r. ⌜ JoinsLeave (Recovery.recovered (space (now (breaks .entry)) (now (degrees .entry)) (now (orders .entry)))
         (now (ordinates .entry))) (rowCount (space (now (breaks .entry)) (now (degrees .entry)) (now (orders .entry)))) r (now (num .entry))
         (now (den .entry)) (now (num .exit)) (now (den .exit)) ⌝ }

@@ -46,7 +46,10 @@ legal : (c : tie.After-enum-told) → let a = c .before .before .before .before 
 legal c = legality-legal _ _ _ (sym (c .before .before .check .ensures) ∙ c .enum-told .given .1)
 
 build-parts-requires : tie.Need-build-parts-requires
-build-parts-requires c κs = let t = c .before .before in let l = t .before .before .before in (legal t, (first-long l, second-long l))
+build-parts-requires c κs =
+    let t = c .before .before in
+    let l = t .before .before .before in
+    record { legal = legal t; room = record { num-long = first-long l; den-long = second-long l } }
 
 returns-3 : tie.Need-returns-3
 returns-3 c =

@@ -22,20 +22,28 @@ abbrev start : tie.After-degree-at → tie.Start
 start c = c .before .before .before .before
 
 begun : (c : tie.After-degree-at) → Beginning (lists (start c)) (c .before .before .before .first-column .result) (c .degree-at .result + 1)
-begun c = beginning _ _ _ (start c .pre .0 .0) _ _ (c .before .before .before .first-column .ensures ∙ column-count-partial _ (start c .args .degrees .now) _) (c .degree-at .ensures)
+begun c =
+    beginning _ _ _ (start c .pre .part) _ _
+    (c .before .before .before .first-column .ensures ∙ column-count-partial _ (start c .args .degrees .now) _) (c .degree-at .ensures)
 
 add-identity-over : tie.Need-add-identity-over
 add-identity-over c = omega (arith, begun c .rows-few, begun c .columns-fit)
 
 identity-over-requires : tie.Need-identity-over-requires
-identity-over-requires c κs = ((omega (arith, begun c .rows-few, begun c .columns-fit), start c .pre .0 .1), start c .pre .1)
+identity-over-requires c κs =
+    let p = start c .pre in
+    ((omega (arith, begun c .rows-few, begun c .columns-fit), (p .room .num-long, p .room .den-long)), (p .rest .few, p .rest .clear))
 
 join-steps-requires : tie.Need-join-steps-requires
-join-steps-requires c κs = let i = c .before .before .before .before in let s = start (i .before) in (
-  s .pre .0 .0,
-  begins (s .args .num .now) (s .args .den .now) (begun (i .before)) (s .pre .0 .1 .0) (s .pre .0 .1 .1) (i .identity-over .ensures .0)
-      (i .identity-over .ensures .1),
-)
+join-steps-requires c κs =
+    let i = c .before .before .before .before in
+    let s = start (i .before) in
+    let room = s .pre .room in
+    record {
+      part = s .pre .part;
+      start = begins (s .args .num .now) (s .args .den .now) (begun (i .before)) (room .num-long) (room .den-long) (i .identity-over .ensures .0)
+          (i .identity-over .ensures .1);
+    }
 
 -- what the joins left, for the answer that was told
 module _ (c : tie.After-join-steps) where
@@ -63,9 +71,9 @@ returns-2 c =
     let b = d .before .before .before .before in
     let j = b .before .before .before .before in
     let i = before-joins j in
-    let p = start (i .before) .pre .0 .1 in
-    let e = ends-cleared (rowCount (whole j)) _ _ _ _ _ _ _ (i .identity-over .ensures .0) (i .identity-over .ensures .1) (whole j) (p .0) (p .1)
-    (left j _ (b .built2 .given .1)) (d .clear .ensures .0) (d .clear .ensures .1) in
+    let room = start (i .before) .pre .room in
+    let e = ends-cleared (rowCount (whole j)) _ _ _ _ _ _ _ (i .identity-over .ensures .0) (i .identity-over .ensures .1) (whole j)
+    (room .num-long) (room .den-long) (left j _ (b .built2 .given .1)) (d .clear .ensures .0) (d .clear .ensures .1) in
     (e .answers, (e .numerators-are, e .denominators-are))
 
 pub build-legal-spec : {M : Type 1} → statement M

@@ -10,10 +10,10 @@ use Rattle.build_joins.proofs.join_at.Statement.{statement}
 use Rattle.build_joins.proofs.join_at.Tie as tie
 
 side-at-requires : tie.Need-side-at-requires
-side-at-requires c κs = (c .pre .0, omega arith)
+side-at-requires c κs = let p = c .pre in record { orders = p .orders; legal = p .legal; below = omega arith }
 
 side-at-requires-2 : tie.Need-side-at-requires-2
-side-at-requires-2 c κs = (c .before .pre .0, omega arith)
+side-at-requires-2 c κs = c .before .pre
 
 returns : tie.Need-returns
 returns c =

@@ -29,28 +29,28 @@ module _ (c : tie.After-order-steps-arg2) (t : Table) (h : Holds (start c .args 
 
   proper : Proper more (start c .args .rows + (start c .args .join .right .degree + 1)) (start c .args .columns)
   proper = grown-proper t (start c .args .rows) (start c .args .join .right .column) (start c .args .join .right .degree + 1) (start c .args .columns)
-      (record { shaped = shaped; fit = h .fit }) (start c .pre .1 .1) (start c .pre .1 .0)
+      (record { shaped = shaped; fit = h .fit }) (start c .pre .growth .wide) (start c .pre .growth .low)
 
   num-is : added c .add-rows .last .0 ≡ numerators more (start c .args .num .now)
-  num-is = added c .add-rows .ensures t (start c .args .columns) (h .num-is) (shaped .row-count) (start c .pre .1 .1)
+  num-is = added c .add-rows .ensures t (start c .args .columns) (h .num-is) (shaped .row-count) (start c .pre .growth .wide)
 
   holds : Holds (added c .add-rows .last .0) (start c .args .den .now) more
-  holds = grown-holds t (start c .args .rows) _ _ (start c .args .columns) (record { shaped = shaped; fit = h .fit }) (start c .pre .1 .1) (start c .pre .1 .0) h num-is
+  holds = grown-holds t (start c .args .rows) _ _ (start c .args .columns) (record { shaped = shaped; fit = h .fit })
+      (start c .pre .growth .wide) (start c .pre .growth .low) h num-is
 
 order-steps-requires : tie.Need-order-steps-requires
 order-steps-requires c κs =
-    let p = start c .pre .0 in
-    let k = p .1 .1 in (
-      omega (arith, p .0),
-      (
-        p .1 .0,
-        record {
-          table = more c (k .table) (k .holds) (k .shaped);
-          holds = holds c (k .table) (k .holds) (k .shaped);
-          shaped = proper c (k .table) (k .holds) (k .shaped) .shaped;
-        },
-      ),
-    )
+    let p = start c .pre .steps in
+    let k = p .held in
+    record {
+      few = omega (arith, p .few);
+      fits = p .fits;
+      held = record {
+        table = more c (k .table) (k .holds) (k .shaped);
+        holds = holds c (k .table) (k .holds) (k .shaped);
+        shaped = proper c (k .table) (k .holds) (k .shaped) .shaped;
+      };
+    }
 
 -- it is that of the space
 returns : tie.Need-returns
@@ -61,8 +61,8 @@ returns c s j t is h shaped =
     subst (λ (u : Table). Leaves (orderSteps s j (start a .args .n) u) (c .before .before .order-steps .result) (start a .args .num .now)
     (start a .args .den .now) (c .before .before .order-steps .last .0) (c .before .before .order-steps .last .1 .0)) it
     (left-from (λ t. t) toldStep _ _ _ _ _ (more a t h shaped) (start a .args .num .now) (start a .args .den .now) (h .num-long) (h .den-long)
-    (num-is a t h shaped) (grown-denominators t (start a .args .rows) _ _ n (record { shaped = shaped; fit = h .fit }) (start a .pre .1 .1)
-    (start a .pre .1 .0) h (num-is a t h shaped))
+    (num-is a t h shaped) (grown-denominators t (start a .args .rows) _ _ n (record { shaped = shaped; fit = h .fit }) (start a .pre .growth .wide)
+    (start a .pre .growth .low) h (num-is a t h shaped))
     (orderSteps s j (start a .args .n) (more a t h shaped))
     (c .before .before .order-steps .ensures s j (more a t h shaped) is (holds a t h shaped) (proper a t h shaped .shaped)))
 

@@ -67,7 +67,7 @@ record Turn (orders degrees j : ℕ) : Type 0 where
   few : degrees ≤ 12
 
 turn : (c : tie.In-loop Inv-loop μ-loop) → Turn (length (c .before .before .before .args .orders .now)) (length (c .before .before .before .args .degrees .now)) (c .before .loop .j)
-turn c = record { taken = omega arith; count = c .before .before .before .pre .0 .lists .order-count; few = c .before .before .before .pre .0 .few }
+turn c = record { taken = omega arith; count = c .before .before .before .pre .part .lists .order-count; few = c .before .before .before .pre .part .few }
 
 module _ (c : tie.After-join-at Inv-loop μ-loop) where
   abbrev s : Space
@@ -77,8 +77,8 @@ module _ (c : tie.After-join-at Inv-loop μ-loop) where
   j = at-loop c .loop .j
 
   here : AtJoin s (start c .args .columns) (at-loop c .loop .rows) (c .before .before .condition-count .result) (c .join-at .result) j
-  here = at-join _ _ _ (start c .pre .0) j (turn (c .before .before .before) .taken) _ _ _ _ (c .join-at .ensures)
-      (c .before .before .condition-count .ensures) (start c .pre .1 .count) (start c .pre .1 .room) (at-loop c .loop .inv .rows-are)
+  here = at-join _ _ _ (start c .pre .part) j (turn (c .before .before .before) .taken) _ _ _ _ (c .join-at .ensures)
+      (c .before .before .condition-count .ensures) (start c .pre .start .count) (start c .pre .start .room) (at-loop c .loop .inv .rows-are)
 
   abbrev inv : Inv (start c .args .breaks .now) (start c .args .degrees .now) (start c .args .orders .now) (start c .args .num .now) (start c .args .den .now)
       (start c .args .columns) (at-loop c .loop .num) (at-loop c .loop .den) (at-loop c .loop .rows) j
@@ -127,10 +127,12 @@ module _ (c : tie.After-den Inv-loop μ-loop) where
   den-same = c .before .before .join-step .kept .1 .0 ∙ at-loop sides .loop .inv .den-long
 
 degree-at-requires : tie.Need-degree-at-requires Inv-loop μ-loop
-degree-at-requires c κs = (omega (arith, c .pre .0 .lists .order-count), c .pre .0 .lists .degrees-legal)
+degree-at-requires c κs = (omega (arith, c .pre .part .lists .order-count), c .pre .part .lists .degrees-legal)
 
 add-rows : tie.Need-add-rows Inv-loop μ-loop
-add-rows c = omega (arith, c .degree-at .ensures, legal-degree-high _ _ _ (c .before .pre .0 .lists) 0 (omega (arith, c .before .pre .0 .lists .order-count)))
+add-rows c =
+    let l = c .before .pre .part .lists in
+    omega (arith, c .degree-at .ensures, legal-degree-high _ _ _ l 0 (omega (arith, l .order-count)))
 
 -- the first segment's rows
 first-rows : (c : tie.After-degree-at Inv-loop μ-loop) → c .degree-at .result + 1 ≡ firstColumn (lists (c .before)) 1
@@ -139,7 +141,7 @@ first-rows c = omega (arith, c .degree-at .ensures, first-column-zero (lists (c 
 loop-holds : tie.Need-loop-holds Inv-loop μ-loop
 unfolding repeat
 loop-holds c =
-    let b = c .before .pre .1 in
+    let b = c .before .pre .start in
     let s = lists (c .before) in
     let n = c .before .args .columns in
     record {
@@ -147,55 +149,58 @@ loop-holds c =
       rows-are = omega (arith, conditions-before-zero s, first-rows c);
       num-long = refl;
       den-long = refl;
-      part = c .before .pre .0;
+      part = c .before .pre .part;
       begun = b;
       state = record {
         reached = take (firstColumn s 1) (identity n);
         answers = ap (λ n. answer (identity n)) (sym (b .count)) ∙ ap answer (sym (take-append-drop (firstColumn s 1) (identity n)));
         sound = subst (λ (k : ℕ). Proper (take (firstColumn s 1) (identity n)) k n) (let z : firstColumn s 1 ≡ firstColumn s 1 - conditionsBefore s 0 = omega (arith, conditions-before-zero s) in z)
-            (first-proper (firstColumn s 1) n (omega (arith, firstColumn-mono s 1 (segments s) (omega (arith, c .before .pre .0 .lists .order-count)), b .count)) (b .room));
+            (first-proper (firstColumn s 1) n
+            (omega (arith, firstColumn-mono s 1 (segments s) (omega (arith, c .before .pre .part .lists .order-count)), b .count)) (b .room));
         num-is = b .holds .num-is;
         den-is = b .holds .den-is;
       };
     }
 
 condition-count-requires : tie.Need-condition-count-requires Inv-loop μ-loop
-condition-count-requires c κs = (turn c .taken, c .before .before .before .pre .0 .lists .orders-legal)
+condition-count-requires c κs = (turn c .taken, c .before .before .before .pre .part .lists .orders-legal)
 
 add-degree-at : tie.Need-add-degree-at Inv-loop μ-loop
 add-degree-at c = let t = turn (c .before) in omega (arith, t .taken, t .count, t .few)
 
 degree-at-requires-2 : tie.Need-degree-at-requires-2 Inv-loop μ-loop
-degree-at-requires-2 c κs = let t = turn (c .before) in (omega (arith, t .taken, t .count), c .before .before .before .before .pre .0 .lists .degrees-legal)
+degree-at-requires-2 c κs = let t = turn (c .before) in (omega (arith, t .taken, t .count), c .before .before .before .before .pre .part .lists .degrees-legal)
 
 add-more : tie.Need-add-more Inv-loop μ-loop
 add-more c = let t = turn (c .before .before) in omega (
   arith,
   c .degree-at2 .ensures,
-  legal-degree-high _ _ _ (c .before .before .before .before .before .pre .0 .lists) (c .before .before .before .loop .j + 1)
+  legal-degree-high _ _ _ (c .before .before .before .before .before .pre .part .lists) (c .before .before .before .loop .j + 1)
       (omega (arith, t .taken, t .count)),
 )
 
 join-at-requires : tie.Need-join-at-requires Inv-loop μ-loop
-join-at-requires c κs = let t = turn (c .before .before) in let p = c .before .before .before .before .before .pre .0 .lists in ((_, p), omega (arith, t .taken, t .count))
+join-at-requires c κs =
+    let t = turn (c .before .before) in
+    let p = c .before .before .before .before .before .pre .part in
+    record { orders = _; legal = p .lists; below = omega (arith, t .taken, t .count) }
 
 join-step-requires : tie.Need-join-step-requires Inv-loop μ-loop
 join-step-requires c κs =
     let d = c .before .before in
-    let v = inv d in (
-      (
-        here d .enough,
-        (
-          here d .fitting,
-          record {
-            table = v .state .reached;
-            holds = holds _ _ _ (v .begun .holds .num-long) (v .begun .holds .den-long) (v .state);
-            shaped = proper d .shaped;
-          },
-        ),
-      ),
-      (here d .low, here d .wide),
-    )
+    let v = inv d in
+    record {
+      steps = record {
+        few = here d .enough;
+        fits = here d .fitting;
+        held = record {
+          table = v .state .reached;
+          holds = holds _ _ _ (v .begun .holds .num-long) (v .begun .holds .den-long) (v .state);
+          shaped = proper d .shaped;
+        };
+      };
+      growth = record { low = here d .low; wide = here d .wide };
+    }
 
 add-rows-2 : tie.Need-add-rows-2 Inv-loop μ-loop
 add-rows-2 c = let x = sides (c .before .before .before) in omega (arith, more-is x, here x .low)
@@ -254,12 +259,13 @@ unfolding weights joinSteps
 returns-3 c =
     let b = c .before .before .before in
     let l = c .before .loop in
-    let p = b .pre .0 .lists in
+    let p = b .pre .part .lists in
     let s = lists b in
     let x = l .inv .state in
     let e : l .j ≡ segments s - 1 = omega (arith, p .order-count) in
     let last : suc (l .j) ≡ segments s = omega (arith, p .order-count) in
-    all-done _ _ _ (toldJoins (rowCount s)) x e (ap (λ r. x .reached ++ r) (later-none s (b .args .columns) (l .j) (b .pre .1 .count) last) ∙ append-nil (x .reached))
+    all-done _ _ _ (toldJoins (rowCount s)) x e
+    (ap (λ r. x .reached ++ r) (later-none s (b .args .columns) (l .j) (b .pre .start .count) last) ∙ append-nil (x .reached))
     (ap Count (omega (arith, l .inv .rows-are, legal-row-count-sum _ _ _ p, ap (conditionsBefore s) e, ap (firstColumn s) last)))
 
 pub join-steps-spec : {M : Type 1} → statement M

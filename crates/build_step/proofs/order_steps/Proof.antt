@@ -83,10 +83,10 @@ step-requires : tie.Need-step-requires Inv-loop μ-loop
 step-requires c κs =
     let l = c .before .before .before in
     let s = l .before in
-    let f = s .pre .1 .0 (l .loop .k) (c .before .before .loop-test .taken) in
-    let k = s .pre .1 .1 in
+    let f = s .pre .fits (l .loop .k) (c .before .before .loop-test .taken) in
+    let k = s .pre .held in
     let x = l .loop .inv .state (f .space) (f .index) (k .table) (f .is) (k .holds) (k .shaped) in
-    (f, record { table = x .reached; holds = holds _ _ _ (k .holds .num-long) (k .holds .den-long) x; shaped = x .sound .shaped })
+    record { fits = f; held = record { table = x .reached; holds = holds _ _ _ (k .holds .num-long) (k .holds .den-long) x; shaped = x .sound .shaped } }
 
 loop-again : tie.Need-loop-again Inv-loop μ-loop
 loop-again c =

@@ -24,8 +24,8 @@ module _ (c : tie.After-span2) (qs : List ℚ) (j : ℕ) (e : c .before .before 
 factors-requires : tie.Need-factors-requires
 factors-requires c κs =
     let p = c .before .before .before .before .pre in
-    let js = p .1 in
-    spanned 0 (js .of) (js .is) (js .fit) (omega (arith, js .count, p .0)) (span-is (c .before) (js .of) 0 (js .is) (js .count))
+    let js = p .jumps in
+    spanned 0 (js .of) (js .is) (js .fit) (omega (arith, js .count, p .few)) (span-is (c .before) (js .of) 0 (js .is) (js .count))
 
 returns : tie.Need-returns
 returns c qs j e size =

@@ -15,8 +15,9 @@ returns-2 c t j ws h shaped e =
     let d = c .before .before in
     let b = d .before .before .before in
     let m = b .before .before .before in
-    let p = m .before .before .before .pre .0 in
-    renewed-done j t ws _ _ _ _ _ _ _ (m .mix-rows .result) (not-false _ (b .if1 .left)) h shaped (p .0) (p .1 .0) (m .mix-rows .ensures t j ws h shaped e) (d .drop-row .ensures)
+    let p = m .before .before .before .pre in
+    renewed-done j t ws _ _ _ _ _ _ _ (m .mix-rows .result) (not-false _ (b .if1 .left)) h shaped (p .ordered) (p .below)
+    (m .mix-rows .ensures t j ws h shaped e) (d .drop-row .ensures)
 
 pub renew-rows-spec : {M : Type 1} → statement M
 renew-rows-spec =

@@ -98,7 +98,7 @@ module _ (c : tie.After-renew-rows) where
         (c .renew-rows .ensures (g .t) (g .j) (works .of .factors) (g .holds) (g .shaped) (works .factors-are)))
 
 jumps-requires : tie.Need-jumps-requires
-jumps-requires c κs = let p = c .before .before .pre in let k = p .1 in ((k .shaped .rows-fit, p .0), (k .table, k .holds))
+jumps-requires c κs = let p = c .before .before .pre in let k = p .held in ((k .shaped .rows-fit, p .fits), (k .table, k .holds))
 
 returns : tie.Need-returns
 returns c s j t is h shaped =
@@ -108,7 +108,10 @@ returns c s j t is h shaped =
 
 -- the join and table that the call asks for
 given : (c : tie.After-jumps) → Given c
-given c = let p = start c .pre in let k = p .1 in record { s = p .0 .space; j = p .0 .index; t = k .table; is = p .0 .is; holds = k .holds; shaped = k .shaped }
+given c =
+    let i = start c .pre .fits in
+    let k = start c .pre .held in
+    record { s = i .space; j = i .index; t = k .table; is = i .is; holds = k .holds; shaped = k .shaped }
 
 plan-step-requires : tie.Need-plan-step-requires
 plan-step-requires c κs =
@@ -116,7 +119,10 @@ plan-step-requires c κs =
     let g = given a in
     let js = jumped a g (not-false _ (c .if1 .left)) in
     let fit = jumps-fit (g .j) _ (g .t) (js .answers) in
-    (g .shaped .rows-fit, record { of = js .of; is = js .is; fit = fit; count = jumps-length (g .j) _ (g .t) (js .answers) ∙ g .shaped .row-count })
+    record {
+      few = g .shaped .rows-fit;
+      jumps = record { of = js .of; is = js .is; fit = fit; count = jumps-length (g .j) _ (g .t) (js .answers) ∙ g .shaped .row-count };
+    }
 
 renew-rows-requires : tie.Need-renew-rows-requires
 renew-rows-requires c κs =
@@ -125,13 +131,13 @@ renew-rows-requires c κs =
     let g = given (first d) in
     let r = ready d g (a .enum-told3 .given .1) in
     let f = ap (λ (x : Span). x .f) (r .span-is) in
-    let l = ap (λ (x : Span). x .l) (r .span-is) in (
-      (
-        omega (arith, f, l, r .works .spans .ordered),
-        (omega (arith, l, r .works .spans .below, r .works .count, g .shaped .row-count), record { table = g .t; holds = g .holds; shaped = g .shaped }),
-      ),
-      subst UnitFactors (sym (r .factors-are)) (r .works .unit),
-    )
+    let l = ap (λ (x : Span). x .l) (r .span-is) in
+    record {
+      ordered = omega (arith, f, l, r .works .spans .ordered);
+      below = omega (arith, l, r .works .spans .below, r .works .count, g .shaped .row-count);
+      held = record { table = g .t; holds = g .holds; shaped = g .shaped };
+      unit = subst UnitFactors (sym (r .factors-are)) (r .works .unit);
+    }
 
 returns-2 : tie.Need-returns-2
 returns-2 c s j t is h shaped =

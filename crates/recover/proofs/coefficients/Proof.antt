@@ -96,7 +96,14 @@ recover-parts-requires c κs =
     let t = c .before .before .before .before in
     let l = t .before .before .before in
     let b = l .before .before .before in
-    ((legal l, (first-long b, second-long b)), (ordinates-legal (lists (begun b)) (begun b .args .ordinates .now) (entries-pass t), (third-long b, fourth-long b)))
+    let o = ordinates-legal (lists (begun b)) (begun b .args .ordinates .now) (entries-pass t) in
+    record {
+      legal = legal l;
+      room = record { num-long = first-long b; den-long = second-long b };
+      given = record { count = o .0; fit = o .1 };
+      coef-num-long = third-long b;
+      coef-den-long = fourth-long b;
+    }
 
 returns-5 : tie.Need-returns-5
 returns-5 c =

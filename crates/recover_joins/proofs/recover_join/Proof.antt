@@ -24,7 +24,7 @@ abbrev start : tie.After-append → tie.Start
 start c = c .before .before .before .before .before .before
 
 append-requires : tie.Need-append-requires
-append-requires c κs = let p = c .before .before .before .before .before .pre .1 in (p .0 .0, omega (arith, p .0 .1, p .1 .0))
+append-requires c κs = let p = c .before .before .before .before .before .pre in (p .growth .low, omega (arith, p .growth .wide, p .given .count))
 
 -- the table with the rows and the coefficients that came in
 module _ (c : tie.After-append) (t : Table) (ps : List ℚ) (h : Holds (start c .args .num .now) (start c .args .den .now) t)
@@ -46,51 +46,50 @@ module _ (c : tie.After-append) (t : Table) (ps : List ℚ) (h : Holds (start c 
   coefficients = ps ++ map int (take n (drop column (start c .args .ordinates .now)))
 
   proper : Proper more (start c .args .rows + n) columns
-  proper = grown-proper t (start c .args .rows) column n columns (record { shaped = shaped; fit = h .fit }) (start c .pre .1 .0 .1) (start c .pre .1 .0 .0)
+  proper = grown-proper t (start c .args .rows) column n columns (record { shaped = shaped; fit = h .fit })
+      (start c .pre .growth .wide) (start c .pre .growth .low)
 
   num-is : c .before .before .add-rows .last .0 ≡ numerators more (start c .args .num .now)
-  num-is = c .before .before .add-rows .ensures t columns (h .num-is) (shaped .row-count) (start c .pre .1 .0 .1)
+  num-is = c .before .before .add-rows .ensures t columns (h .num-is) (shaped .row-count) (start c .pre .growth .wide)
 
   holds : Holds (c .before .before .add-rows .last .0) (start c .args .den .now) more
-  holds = grown-holds t (start c .args .rows) column n columns (record { shaped = shaped; fit = h .fit }) (start c .pre .1 .0 .1) (start c .pre .1 .0 .0) h num-is
+  holds = grown-holds t (start c .args .rows) column n columns (record { shaped = shaped; fit = h .fit })
+      (start c .pre .growth .wide) (start c .pre .growth .low) h num-is
 
   coefficients-are : c .append .result ≡ fractions coefficients
   coefficients-are = c .append .ensures ps e size
 
   count : length coefficients ≡ start c .args .rows + n
   count = length-append ps (map int (take n (drop column (start c .args .ordinates .now))))
-      ∙ omega (arith, size, columns-count (start c .args .ordinates .now) column n (omega (arith, start c .pre .1 .0 .1, start c .pre .1 .1 .0)))
+      ∙ omega (arith, size, columns-count (start c .args .ordinates .now) column n (omega (arith, start c .pre .growth .wide, start c .pre .given .count)))
 
   all-fit : AllFit coefficients
-  all-fit = append-fit ps (map int (take n (drop column (start c .args .ordinates .now)))) fit (columns-fit (start c .args .ordinates .now) column n (start c .pre .1 .1 .1))
+  all-fit = append-fit ps (map int (take n (drop column (start c .args .ordinates .now)))) fit
+      (columns-fit (start c .args .ordinates .now) column n (start c .pre .given .fit))
 
 recover-orders-requires : tie.Need-recover-orders-requires
 recover-orders-requires c κs =
     let a = c .before .before in
-    let p = start a .pre .0 in
-    let k = p .1 .1 .0 in
-    let q = p .1 .1 .1 in (
-      omega (arith, p .0),
-      (
-        p .1 .0,
-        (
-          record {
-            table = more a (k .table) (q .of) (k .holds) (k .shaped) (q .is) (q .count) (q .fit);
-            holds = holds a (k .table) (q .of) (k .holds) (k .shaped) (q .is) (q .count) (q .fit);
-            shaped =
-                proper a (k .table) (q .of) (k .holds) (k .shaped) (q .is) (q .count) (q .fit) .shaped;
-          },
-          record {
-            of = coefficients a (k .table) (q .of) (k .holds) (k .shaped) (q .is) (q .count) (q .fit);
-            is = coefficients-are a (k .table) (q .of) (k .holds) (k .shaped) (q .is) (q .count) (q .fit);
-            fit =
-                all-fit a (k .table) (q .of) (k .holds) (k .shaped) (q .is) (q .count) (q .fit);
-            count =
-                count a (k .table) (q .of) (k .holds) (k .shaped) (q .is) (q .count) (q .fit);
-          },
-        ),
-      ),
-    )
+    let p = start a .pre in
+    let k = p .steps .held in
+    let q = p .coefficients in
+    record {
+      steps = record {
+        few = omega (arith, p .steps .few);
+        fits = p .steps .fits;
+        held = record {
+          table = more a (k .table) (q .of) (k .holds) (k .shaped) (q .is) (q .count) (q .fit);
+          holds = holds a (k .table) (q .of) (k .holds) (k .shaped) (q .is) (q .count) (q .fit);
+          shaped = proper a (k .table) (q .of) (k .holds) (k .shaped) (q .is) (q .count) (q .fit) .shaped;
+        };
+      };
+      coefficients = record {
+        of = coefficients a (k .table) (q .of) (k .holds) (k .shaped) (q .is) (q .count) (q .fit);
+        is = coefficients-are a (k .table) (q .of) (k .holds) (k .shaped) (q .is) (q .count) (q .fit);
+        fit = all-fit a (k .table) (q .of) (k .holds) (k .shaped) (q .is) (q .count) (q .fit);
+        count = count a (k .table) (q .of) (k .holds) (k .shaped) (q .is) (q .count) (q .fit);
+      };
+    }
 
 -- they are those of the space
 returns : tie.Need-returns
@@ -107,7 +106,8 @@ returns c s j t ps is h shaped e size fit =
     subst (λ (r : Combination). Leaves (recoverOrders s j (g .n) r) (m .recover-orders .result) (g .num .now) (g .den .now) (m .recover-orders .last .0) (m .recover-orders .last .1 .0)) it
     (left-from (λ q. q .table) toldCoefficients _ _ _ _ (m .recover-orders .result) (more a t ps h shaped e size fit) (g .num .now) (g .den .now) (h .num-long)
     (h .den-long) (num-is a t ps h shaped e size fit)
-    (grown-denominators t (g .rows) _ _ (g .columns) (record { shaped = shaped; fit = h .fit }) (start a .pre .1 .0 .1) (start a .pre .1 .0 .0) h (num-is a t ps h shaped e size fit))
+    (grown-denominators t (g .rows) _ _ (g .columns) (record { shaped = shaped; fit = h .fit })
+    (start a .pre .growth .wide) (start a .pre .growth .low) h (num-is a t ps h shaped e size fit))
     (recoverOrders s j (g .n) (record { table = more a t ps h shaped e size fit; coefficients = coefficients a t ps h shaped e size fit }))
     (m .recover-orders .ensures s j (more a t ps h shaped e size fit) (coefficients a t ps h shaped e size fit) is (holds a t ps h shaped e size fit)
     (proper a t ps h shaped e size fit .shaped) (coefficients-are a t ps h shaped e size fit) (count a t ps h shaped e size fit)

@@ -60,10 +60,12 @@ lists c = space (c .args .breaks .now) (c .args .degrees .now) (c .args .orders 
 -- ---- before the first join
 
 degree-at-requires : tie.Need-degree-at-requires Inv-loop μ-loop
-degree-at-requires c κs = (omega (arith, c .pre .0 .0 .lists .order-count), c .pre .0 .0 .lists .degrees-legal)
+degree-at-requires c κs = (omega (arith, c .pre .part .lists .order-count), c .pre .part .lists .degrees-legal)
 
 add-rows : tie.Need-add-rows Inv-loop μ-loop
-add-rows c = omega (arith, c .degree-at .ensures, legal-degree-high _ _ _ (c .before .pre .0 .0 .lists) 0 (omega (arith, c .before .pre .0 .0 .lists .order-count)))
+add-rows c =
+    let l = c .before .pre .part .lists in
+    omega (arith, c .degree-at .ensures, legal-degree-high _ _ _ l 0 (omega (arith, l .order-count)))
 
 -- the first segment's rows
 module _ (c : tie.After-degree-at Inv-loop μ-loop) where
@@ -71,19 +73,23 @@ module _ (c : tie.After-degree-at Inv-loop μ-loop) where
   first-rows = omega (arith, c .degree-at .ensures, first-column-zero (lists (c .before)), first-column-next (lists (c .before)) 0)
 
   first-few : firstColumn (lists (c .before)) 1 ≤ c .before .args .columns
-  first-few = omega (arith, firstColumn-mono (lists (c .before)) 1 (segments (lists (c .before))) (omega (arith, c .before .pre .0 .0 .lists .order-count)), c .before .pre .0 .1 .count)
+  first-few =
+      let p = c .before .pre in
+      let s = lists (c .before) in
+      omega (arith, firstColumn-mono s 1 (segments s) (omega (arith, p .part .lists .order-count)), p .start .count)
 
 append-requires : tie.Need-append-requires Inv-loop μ-loop
 append-requires c κs =
     let p = c .before .before .pre in
-    (omega (arith, first-rows (c .before), first-few (c .before), p .0 .1 .room), omega (arith, first-rows (c .before), first-few (c .before), p .1 .0))
+    let f = c .before in
+    (omega (arith, first-rows f, first-few f, p .start .room), omega (arith, first-rows f, first-few f, p .given .count))
 
 loop-holds : tie.Need-loop-holds Inv-loop μ-loop
 unfolding repeat
 loop-holds c =
     let f = c .before .before in
     let g = f .before in
-    let b = g .pre .0 .1 in
+    let b = g .pre .start in
     let s = lists g in
     let n = g .args .columns in
     let os = g .args .ordinates .now in
@@ -93,10 +99,10 @@ loop-holds c =
       rows-are = omega (arith, conditions-before-zero s, first-rows f);
       num-long = refl;
       den-long = refl;
-      part = g .pre .0 .0;
+      part = g .pre .part;
       begun = b;
-      given = g .pre .1 .0;
-      fit = g .pre .1 .1;
+      given = g .pre .given .count;
+      fit = g .pre .given .fit;
       state = record {
         reached = record { table = take m (identity n); coefficients = map int (take m os) };
         answers =
@@ -106,8 +112,8 @@ loop-holds c =
         sound = subst (λ (k : ℕ). Sound (record { table = take m (identity n); coefficients = map int (take m os) }) k n)
             (let z : m ≡ m - conditionsBefore s 0 = omega (arith, conditions-before-zero s) in z) (record {
               proper = first-proper m n (first-few f) (b .room);
-              count = columns-count os 0 m (omega (arith, first-few f, g .pre .1 .0));
-              fit = columns-fit os 0 m (g .pre .1 .1);
+              count = columns-count os 0 m (omega (arith, first-few f, g .pre .given .count));
+              fit = columns-fit os 0 m (g .pre .given .fit);
             });
         num-is = b .holds .num-is;
         den-is = b .holds .den-is;
@@ -134,7 +140,7 @@ record Turn (orders degrees j : ℕ) : Type 0 where
 
 turn : (c : tie.In-loop Inv-loop μ-loop) → Turn (length (c .before .before .before .before .before .args .orders .now))
     (length (c .before .before .before .before .before .args .degrees .now)) (c .before .loop .j)
-turn c = let p = c .before .before .before .before .before .pre .0 .0 in record { taken = omega arith; count = p .lists .order-count; few = p .few }
+turn c = let p = c .before .before .before .before .before .pre .part in record { taken = omega arith; count = p .lists .order-count; few = p .few }
 
 module _ (c : tie.After-join-at Inv-loop μ-loop) where
   abbrev s : Space
@@ -160,13 +166,15 @@ module _ (c : tie.After-join-at Inv-loop μ-loop) where
   sound = subst (λ (n : ℕ). Sound (inv .state .reached) n (start c .args .columns)) (omega (arith, inv .rows-are)) (inv .state .sound)
 
 condition-count-requires : tie.Need-condition-count-requires Inv-loop μ-loop
-condition-count-requires c κs = (turn c .taken, c .before .before .before .before .before .pre .0 .0 .lists .orders-legal)
+condition-count-requires c κs = (turn c .taken, c .before .before .before .before .before .pre .part .lists .orders-legal)
 
 add-degree-at : tie.Need-add-degree-at Inv-loop μ-loop
 add-degree-at c = let t = turn (c .before) in omega (arith, t .taken, t .count, t .few)
 
 degree-at-requires-2 : tie.Need-degree-at-requires-2 Inv-loop μ-loop
-degree-at-requires-2 c κs = let t = turn (c .before) in (omega (arith, t .taken, t .count), c .before .before .before .before .before .before .pre .0 .0 .lists .degrees-legal)
+degree-at-requires-2 c κs =
+    let t = turn (c .before) in
+    (omega (arith, t .taken, t .count), c .before .before .before .before .before .before .pre .part .lists .degrees-legal)
 
 add-more : tie.Need-add-more Inv-loop μ-loop
 add-more c =
@@ -174,35 +182,36 @@ add-more c =
     omega (
       arith,
       c .degree-at2 .ensures,
-      legal-degree-high _ _ _ (c .before .before .before .before .before .before .before .pre .0 .0 .lists)
+      legal-degree-high _ _ _ (c .before .before .before .before .before .before .before .pre .part .lists)
           (c .before .before .before .loop .j + 1) (omega (arith, t .taken, t .count)),
     )
 
 join-at-requires : tie.Need-join-at-requires Inv-loop μ-loop
-join-at-requires c κs = let t = turn (c .before .before) in let p = c .before .before .before .before .before .before .before .pre .0 .0 .lists in ((_, p), omega (arith, t .taken, t .count))
+join-at-requires c κs =
+    let t = turn (c .before .before) in
+    let p = c .before .before .before .before .before .before .before .pre .part in
+    record { orders = _; legal = p .lists; below = omega (arith, t .taken, t .count) }
 
 recover-join-requires : tie.Need-recover-join-requires Inv-loop μ-loop
 recover-join-requires c κs =
     let d = c .before .before in
     let v = inv d in
     let h = v .begun .holds in
-    let p = sound d in (
-      (
-        here d .enough,
-        (
-          here d .fitting,
-          (
-            record {
-              table = v .state .reached .table;
-              holds = holds _ _ _ (h .num-long) (h .den-long) (v .state);
-              shaped = p .proper .shaped;
-            },
-            record { of = v .state .reached .coefficients; is = v .is; fit = p .fit; count = p .count },
-          ),
-        ),
-      ),
-      ((here d .low, here d .wide), (v .given, v .fit)),
-    )
+    let p = sound d in
+    record {
+      steps = record {
+        few = here d .enough;
+        fits = here d .fitting;
+        held = record {
+          table = v .state .reached .table;
+          holds = holds _ _ _ (h .num-long) (h .den-long) (v .state);
+          shaped = p .proper .shaped;
+        };
+      };
+      coefficients = record { of = v .state .reached .coefficients; is = v .is; fit = p .fit; count = p .count };
+      growth = record { low = here d .low; wide = here d .wide };
+      given = record { count = v .given; fit = v .fit };
+    }
 
 -- what it leaves
 module _ (c : tie.After-recover-join Inv-loop μ-loop) where
@@ -293,13 +302,14 @@ unfolding recovered recoverJoins
 returns-2 c =
     let g = c .before .before .before .before .before in
     let l = c .before .loop in
-    let p = g .pre .0 .0 .lists in
+    let p = g .pre .part .lists in
     let s = lists g in
     let x = l .inv .state in
     let os = g .args .ordinates .now in
     let e : l .j ≡ segments s - 1 = omega (arith, p .order-count) in
     let last : suc (l .j) ≡ segments s = omega (arith, p .order-count) in
-    let none : drop (firstColumn s (suc (l .j))) os ≡ [] = drop-of-length-le os {i = firstColumn s (suc (l .j))} (omega (arith, g .pre .1 .0, l .inv .begun .count, ap (firstColumn s) last)) in
+    let none : drop (firstColumn s (suc (l .j))) os ≡ [] = drop-of-length-le os {i = firstColumn s (suc (l .j))}
+    (omega (arith, g .pre .given .count, l .inv .begun .count, ap (firstColumn s) last)) in
     all-done _ _ _ (toldJoins (rowCount s)) x e
     (ap₂ (λ (t : Table) (ps : List ℚ). record { table = x .reached .table ++ t; coefficients = x .reached .coefficients ++ ps })
     (later-none s (g .args .columns) (l .j) (l .inv .begun .count) last) (ap (map int) none)

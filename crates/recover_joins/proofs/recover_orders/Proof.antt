@@ -69,17 +69,16 @@ recover-step-requires : tie.Need-recover-step-requires Inv-loop μ-loop
 recover-step-requires c κs =
     let l = c .before .before .before in
     let p = l .before .pre in
-    let f = p .1 .0 (l .loop .k) (c .before .before .loop-test .taken) in
-    let k = p .1 .1 .0 in
-    let n = p .1 .1 .1 in
+    let f = p .steps .fits (l .loop .k) (c .before .before .loop-test .taken) in
+    let k = p .steps .held in
+    let n = p .coefficients in
     let x = l .loop .inv .at (f .space) (f .index) (k .table) (n .of) (f .is) (k .holds) (k .shaped) (n .is) (n .count) (n .fit) in
-    let y = x .state .sound in (
-      f,
-      (
-        record { table = x .state .reached .table; holds = holds _ _ _ (k .holds .num-long) (k .holds .den-long) (x .state); shaped = y .proper .shaped },
-        record { of = x .state .reached .coefficients; is = x .is; fit = y .fit; long = omega (arith, y .count) },
-      ),
-    )
+    let y = x .state .sound in
+    record {
+      fits = f;
+      held = record { table = x .state .reached .table; holds = holds _ _ _ (k .holds .num-long) (k .holds .den-long) (x .state); shaped = y .proper .shaped };
+      coefficients = record { of = x .state .reached .coefficients; is = x .is; fit = y .fit; long = omega (arith, y .count) };
+    }
 
 -- what the turn leaves, in the definitions' terms
 module _ (m : tie.After-recover-step Inv-loop μ-loop) where

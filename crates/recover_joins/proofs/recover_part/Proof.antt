@@ -22,13 +22,17 @@ abbrev start : tie.After-degree-at → tie.Start
 start c = c .before .before .before .before
 
 begun : (c : tie.After-degree-at) → Beginning (lists (start c)) (c .before .before .before .first-column .result) (c .degree-at .result + 1)
-begun c = beginning _ _ _ (start c .pre .0 .0) _ _ (c .before .before .before .first-column .ensures ∙ column-count-partial _ (start c .args .degrees .now) _) (c .degree-at .ensures)
+begun c =
+    beginning _ _ _ (start c .pre .part) _ _
+    (c .before .before .before .first-column .ensures ∙ column-count-partial _ (start c .args .degrees .now) _) (c .degree-at .ensures)
 
 add-identity : tie.Need-add-identity
 add-identity c = omega (arith, begun c .rows-few, begun c .columns-fit)
 
 identity-requires : tie.Need-identity-requires
-identity-requires c κs = (omega (arith, begun c .rows-few, begun c .columns-fit), start c .pre .0 .1)
+identity-requires c κs =
+    let room = start c .pre .room in
+    (omega (arith, begun c .rows-few, begun c .columns-fit), (room .num-long, room .den-long))
 
 recover-joins-requires : tie.Need-recover-joins-requires
 recover-joins-requires c κs =
@@ -36,7 +40,11 @@ recover-joins-requires c κs =
     let s = start (i .before) in
     let p = s .pre in
     let b = begun (i .before) in
-    ((p .0 .0, begins (s .args .num .now) (s .args .den .now) b (p .0 .1 .0) (p .0 .1 .1) (i .identity .ensures .0) (i .identity .ensures .1)), (p .1 .0 ∙ sym (b .columns-are), p .1 .1))
+    record {
+      part = p .part;
+      start = begins (s .args .num .now) (s .args .den .now) b (p .room .num-long) (p .room .den-long) (i .identity .ensures .0) (i .identity .ensures .1);
+      given = record { count = p .given .count ∙ sym (b .columns-are); fit = p .given .fit };
+    }
 
 returns : tie.Need-returns
 returns c =
@@ -44,7 +52,7 @@ returns c =
     let i = m .before .before .before .before .before in
     let s = start (i .before) in
     left-from (λ q. q .table) (toldJoins (rowCount (lists s))) _ _ _ _ (m .recover-joins .result) (identity (i .before .degree-at .result + 1))
-    (s .args .num .now) (s .args .den .now) (s .pre .0 .1 .0) (s .pre .0 .1 .1) (i .identity .ensures .0) (i .identity .ensures .1)
+    (s .args .num .now) (s .args .den .now) (s .pre .room .num-long) (s .pre .room .den-long) (i .identity .ensures .0) (i .identity .ensures .1)
     (recovered (lists s) (s .args .ordinates .now)) (m .recover-joins .ensures)
 
 pub recover-part-spec : {M : Type 1} → statement M

@@ -155,11 +155,12 @@ module _ (c : tie.After-renew-rows) where
 given : (c : tie.After-jumps) → Given c
 given c =
     let p = start c .pre in
-    let k = p .1 .0 in
-    record { s = p .0 .space; j = p .0 .index; t = k .table; ps = p .1 .1 .of; is = p .0 .is; holds = k .holds; shaped = k .shaped }
+    let k = p .held in
+    let i = p .fits in
+    record { s = i .space; j = i .index; t = k .table; ps = p .coefficients .of; is = i .is; holds = k .holds; shaped = k .shaped }
 
 jumps-requires : tie.Need-jumps-requires
-jumps-requires c κs = let p = c .before .before .pre in let k = p .1 .0 in ((k .shaped .rows-fit, p .0), (k .table, k .holds))
+jumps-requires c κs = let p = c .before .before .pre in let k = p .held in ((k .shaped .rows-fit, p .fits), (k .table, k .holds))
 
 returns : tie.Need-returns
 returns c s j t ps is h shaped e n =
@@ -173,19 +174,22 @@ plan-step-requires c κs =
     let g = given a in
     let js = jumped a g (not-false _ (c .if1 .left)) in
     let fit = jumps-fit (g .j) _ (g .t) (js .answers) in
-    (g .shaped .rows-fit, record { of = js .of; is = js .is; fit = fit; count = jumps-length (g .j) _ (g .t) (js .answers) ∙ g .shaped .row-count })
+    record {
+      few = g .shaped .rows-fit;
+      jumps = record { of = js .of; is = js .is; fit = fit; count = jumps-length (g .j) _ (g .t) (js .answers) ∙ g .shaped .row-count };
+    }
 
 renew-rows-requires : tie.Need-renew-rows-requires
 renew-rows-requires c κs =
     let a = c .before .before in
     let g = given (first (half a)) in
-    let w = works a g in (
-      (
-        omega (arith, f-is a g, l-is a g, w .works .spans .ordered),
-        (omega (arith, l-is a g, within a g), record { table = g .t; holds = g .holds; shaped = g .shaped }),
-      ),
-      unit a g,
-    )
+    let w = works a g in
+    record {
+      ordered = omega (arith, f-is a g, l-is a g, w .works .spans .ordered);
+      below = omega (arith, l-is a g, within a g);
+      held = record { table = g .t; holds = g .holds; shaped = g .shaped };
+      unit = unit a g;
+    }
 
 returns-2 : tie.Need-returns-2
 returns-2 c s j t ps is h shaped e n =
@@ -197,16 +201,16 @@ undo-requires : tie.Need-undo-requires
 undo-requires c κs =
     let a = told-at (c .before .before .before) in
     let g = given (first (half a)) in
-    let w = works a g in (
-      (
-        g .shaped .rows-fit,
-        (
-          record { of = w .of .jumps; is = jumps-same a g; fit = w .works .fit; long = omega (arith, w .works .count, g .shaped .row-count) },
-          start (first (half a)) .pre .1 .1,
-        ),
-      ),
-      (omega (arith, f-is a g, l-is a g, w .works .spans .ordered), (omega (arith, l-is a g, within a g), (unit a g, nonzero a g))),
-    )
+    let w = works a g in
+    record {
+      few = g .shaped .rows-fit;
+      jumps = record { of = w .of .jumps; is = jumps-same a g; fit = w .works .fit; long = omega (arith, w .works .count, g .shaped .row-count) };
+      coefficients = start (first (half a)) .pre .coefficients;
+      ordered = omega (arith, f-is a g, l-is a g, w .works .spans .ordered);
+      below = omega (arith, l-is a g, within a g);
+      unit = unit a g;
+      nonzero = nonzero a g;
+    }
 
 returns-3 : tie.Need-returns-3
 returns-3 c s j t ps is h shaped e n =

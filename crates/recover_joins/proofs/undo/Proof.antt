@@ -30,14 +30,13 @@ use Rattle.recover_joins.proofs.undo.Tie as tie
 undo-rows-requires : tie.Need-undo-rows-requires
 undo-rows-requires c κs =
     let p = c .before .before .before .pre in
-    let n = p .0 .1 .1 in
-    let q = p .1 in
+    let n = p .coefficients in
     record {
-      order = q .0;
-      within = omega (arith, q .1 .0, p .0 .0);
-      coefficients = record { of = n .of; is = n .is; fit = n .fit; long = omega (arith, n .long, q .1 .0) };
-      factors = q .1 .1 .0;
-      nonzero = q .1 .1 .1;
+      order = p .ordered;
+      within = omega (arith, p .below, p .few);
+      coefficients = record { of = n .of; is = n .is; fit = n .fit; long = omega (arith, n .long, p .below) };
+      factors = p .unit;
+      nonzero = p .nonzero;
     }
 
 -- a refusal with this code and no fraction
@@ -70,7 +69,7 @@ module _ (u : tie.After-undo-rows) (j : ℕ) (qs us ps : List ℚ) (e : u .befor
   zero = told-zero (balanced j qs ps) (sym (u .before .before .before .balanced .ensures j qs ps e h m) ∙ u .before .enum-told3 .given .1)
 
   undone-is : u .undo-rows .result ≡ undoneOf (with-answer among new)
-  undone-is = u .undo-rows .ensures j us ps w h (omega (arith, n, start .pre .1 .1 .0))
+  undone-is = u .undo-rows .ensures j us ps w h (omega (arith, n, start .pre .below))
 
   -- refused
   too-large : {r : RowCoefficients} → u .undo-rows .result .fit ≡ false → r ≡ record { refusal = refusals.Refused 20; of = fractions [] }
@@ -90,8 +89,8 @@ module _ (u : tie.After-undo-rows) (j : ℕ) (qs us ps : List ℚ) (e : u .befor
       let a = undone-in-arrays (with-answer among new) (u .undo-rows .result) undone-is x in
       let d = with-inverts among new (a .answers) in
       let size = rows-undone j us ps f (l - f) (d .answers) .size in
-      let order = start .pre .1 .0 in
-      let below : l < length ps = omega (arith, n, start .pre .1 .1 .0) in
+      let order = start .pre .ordered in
+      let below : l < length ps = omega (arith, n, start .pre .below) in
       ap (λ (x : Fractions). record { refusal = refusals.None; of = x })
       (dropped (among (d .before)) (a .is ∙ ap fractions (sym (d .changed))) (renewed-length f l ps (d .before) order (omega arith) size ∙ n) ∙ renewed-without f l ps (d .before) order below size)
       ∙ sym (ap coefficientsOf (then-answers (λ _. undone j spanned us ps) zero ∙ then-answers (λ ds. answer (take f ps ++ (ds ++ drop (suc l) ps))) (d .answers)))

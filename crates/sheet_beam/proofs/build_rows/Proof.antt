@@ -45,10 +45,13 @@ module _ (k : tie.After-build-part) where
 
 build-part-requires : tie.Need-build-part-requires
 build-part-requires c κs =
-    let p = c .before .before .pre in (
-      (beam-legal _ (p .accepted), (p .num-long, p .den-long)),
-      ((p .starts, p .ends), (omega arith, record { zeros = λ k h l. absurd (omega arith); ones = λ k h l. absurd (omega arith) })),
-    )
+    let p = c .before .before .pre in
+    record {
+      legal = beam-legal _ (p .accepted);
+      part = record { starts = p .starts; ends = p .ends };
+      room = record { num-long = p .num-long; den-long = p .den-long };
+      rest = record { few = omega arith; clear = record { zeros = λ k h l. absurd (omega arith); ones = λ k h l. absurd (omega arith) } };
+    }
 
 returns : tie.Need-returns
 returns c =

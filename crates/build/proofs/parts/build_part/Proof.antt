@@ -30,15 +30,22 @@ module _ (c : tie.Start) where
 
   lies : Lies (length (c .args .breaks .now)) (length (c .args .degrees .now)) (length (c .args .orders .now)) (c .args .a) (c .args .b)
   lies =
-      let e = part-ends lists (c .args .a) (c .pre .1 .0 .0 .below) in
-      let l = c .pre .0 .0 in
-      record { some = omega (arith, c .pre .1 .0 .1, e .above); within = omega (arith, c .pre .1 .0 .1, e .boundary .within); break-count = l .break-count; order-count = l .order-count; few = l .few }
+      let p = c .pre .part in
+      let e = part-ends lists (c .args .a) (p .starts .below) in
+      let l = c .pre .legal in
+      record {
+        some = omega (arith, p .ends, e .above);
+        within = omega (arith, p .ends, e .boundary .within);
+        break-count = l .break-count;
+        order-count = l .order-count;
+        few = l .few;
+      }
 
   -- the slices are the part
   part-is : space (take (c .args .b + 1 - c .args .a) (drop (c .args .a) (c .args .breaks .now)))
       (take (c .args .b - c .args .a) (drop (c .args .a) (c .args .degrees .now)))
       (take (c .args .b - 1 - c .args .a) (drop (c .args .a) (c .args .orders .now))) ≡ partAt lists (c .args .a)
-  part-is = sliced lists (c .args .a) (c .args .b) (lies .some) ∙ ap (λ (e : ℕ). section lists (c .args .a) (e - c .args .a)) (c .pre .1 .0 .1)
+  part-is = sliced lists (c .args .a) (c .args .b) (lies .some) ∙ ap (λ (e : ℕ). section lists (c .args .a) (e - c .args .a)) (c .pre .part .ends)
 
 add-build-legal : tie.Need-add-build-legal
 add-build-legal c = let l = lies c in omega (arith, l .within, l .few)
@@ -76,7 +83,12 @@ part-build-legal-end-3 c = let l = lies (c .before .before) in omega (arith, l .
 build-legal-requires : tie.Need-build-legal-requires
 build-legal-requires c κs =
     let s = c .before .before .before .before .before in
-    ((subst (λ (p : Space). PartLegal (p .breaks) (p .degrees) (p .orders)) (sym (part-is s)) (part-legal _ _ _ (s .pre .0 .0) (s .args .a) (s .pre .1 .0 .0)), s .pre .0 .1), s .pre .1 .1)
+    let own = part-legal _ _ _ (s .pre .legal) (s .args .a) (s .pre .part .starts) in
+    record {
+      part = subst (λ (p : Space). PartLegal (p .breaks) (p .degrees) (p .orders)) (sym (part-is s)) own;
+      room = s .pre .room;
+      rest = s .pre .rest;
+    }
 
 returns : tie.Need-returns
 returns c =

@@ -56,7 +56,7 @@ taken : (c : tie.In-loop Inv-loop μ-loop) → c .before .loop .a < length (c .b
 taken c = omega arith
 
 part-end-requires : tie.Need-part-end-requires Inv-loop μ-loop
-part-end-requires c κs = (taken c, sym (c .before .before .pre .0 .order-count))
+part-end-requires c κs = (taken c, sym (c .before .before .pre .legal .order-count))
 
 -- the part's end
 module _ (c : tie.After-part-end Inv-loop μ-loop) where
@@ -73,10 +73,13 @@ build-part-requires : tie.Need-build-part-requires Inv-loop μ-loop
 build-part-requires c κs =
     let e = c .before .before in
     let l = e .before .before .loop in
-    let p = e .before .before .before .pre in (
-      (p .0, (omega (arith, p .1 .0, l .inv .num-long), omega (arith, p .1 .1, l .inv .den-long))),
-      ((starts _ _ _ (p .0) (l .inv .state) (taken (e .before)), end-is e), (l .inv .few, l .inv .clear)),
-    )
+    let p = e .before .before .before .pre in
+    record {
+      legal = p .legal;
+      part = record { starts = starts _ _ _ (p .legal) (l .inv .state) (taken (e .before)); ends = end-is e };
+      room = record { num-long = omega (arith, p .room .num-long, l .inv .num-long); den-long = omega (arith, p .room .den-long, l .inv .den-long) };
+      rest = record { few = l .inv .few; clear = l .inv .clear };
+    }
 
 -- what the part answers and leaves
 module _ (c : tie.After-build-part Inv-loop μ-loop) where
@@ -102,12 +105,13 @@ module _ (c : tie.After-build-part Inv-loop μ-loop) where
       let x = leaves e in
       let t = count-inverts (λ _. rowCount part) (weights part) (x .0) in
       subst (Before (beam ended) _ _ _ _ (ended .before .before .loop .rows + n)) (sym (end-is ended))
-      (part-more _ _ _ (ended .before .before .before .pre .0) (ended .before .before .loop .inv .state) (taken (ended .before)) (t .is) (t .count) (x .1 .0) (x .1 .1))
+      (part-more _ _ _ (ended .before .before .before .pre .legal) (ended .before .before .loop .inv .state) (taken (ended .before))
+      (t .is) (t .count) (x .1 .0) (x .1 .1))
 
   -- it has at most 72 rows, and the rest of the table is clear
   rows-few : {n : ℕ} → c .build-part .result ≡ Count n → n ≤ rowCells
   rows-few {n} e =
-      let legal = ended .before .before .before .pre .0 in
+      let legal = ended .before .before .before .pre .legal in
       let own = part-legal _ _ _ legal (first ended) (starts _ _ _ legal (ended .before .before .loop .inv .state) (taken (ended .before))) in
       omega (arith, count-inverts (λ _. rowCount part) (weights part) (leaves e .0) .count, part-column-count-high _ _ _ own)
 
@@ -127,10 +131,14 @@ module _ (c : tie.After-build-part Inv-loop μ-loop) where
   den-kept = c .build-part .kept .1 .1 .1 .1 .1 .1 .0 ∙ ended .before .before .loop .inv .den-long
 
 add-rows : tie.Need-add-rows Inv-loop μ-loop
-add-rows c = let m = c .before .before .before .before .before in omega (arith, rows-high _ _ _ (ended m .before .before .before .pre .0) (more m (c .before .built .given .1)))
+add-rows c =
+    let m = c .before .before .before .before .before in
+    omega (arith, rows-high _ _ _ (ended m .before .before .before .pre .legal) (more m (c .before .built .given .1)))
 
 add-place : tie.Need-add-place Inv-loop μ-loop
-add-place c = omega (arith, taken (ended (c .before .before .before .before .before) .before), ended (c .before .before .before .before .before) .before .before .before .pre .0 .few)
+add-place c =
+    let d = ended (c .before .before .before .before .before) in
+    omega (arith, taken (d .before), d .before .before .before .pre .legal .few)
 
 place-requires : tie.Need-place-requires Inv-loop μ-loop
 place-requires c κs = tt
@@ -146,7 +154,7 @@ returns c =
     let m = c .before .before .before .before .before .before in
     let d = ended m in
     let x = leaves m (c .before .before .built2 .given .1) in
-    let e = part-refused _ _ _ (d .before .before .before .pre .0) (d .before .before .loop .inv .state) (taken (d .before))
+    let e = part-refused _ _ _ (d .before .before .before .pre .legal) (d .before .before .loop .inv .state) (taken (d .before))
     (refused-inverts (λ _. rowCount (part m)) (weights (part m)) (x .0)) (x .1 .0) (x .1 .1) in
     (ap (λ (p : ℕ). reply (Refused (c .before .before .built2 .given .0 .0) p)) (c .place .ensures) ∙ e .answers, (e .numerators-are, e .denominators-are))
 
@@ -170,7 +178,7 @@ same-length-4 c = c .before .loop .inv .den-long
 
 returns-2 : tie.Need-returns-2 Inv-loop μ-loop
 returns-2 c =
-    let e = parts-done _ _ _ (c .before .before .pre .0) (c .before .loop .inv .state) (omega arith) in
+    let e = parts-done _ _ _ (c .before .before .pre .legal) (c .before .loop .inv .state) (omega arith) in
     (e .answers, (e .numerators-are, e .denominators-are))
 
 pub build-parts-spec : {M : Type 1} → statement M

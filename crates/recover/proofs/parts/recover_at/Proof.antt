@@ -62,9 +62,9 @@ record Lies (breaks degrees orders ordinates a b from to : ℕ) : Type 0 where
 first-column-requires-2 : tie.Need-first-column-requires-2
 first-column-requires-2 c κs =
     let s = c .before in
-    let l = s .pre .0 .0 in
-    let e = part-ends (space (s .args .breaks .now) (s .args .degrees .now) (s .args .orders .now)) (s .args .a) (s .pre .1 .0 .0 .below) in
-    (omega (arith, s .pre .1 .0 .1, e .boundary .within), (l .few, l .degrees-legal))
+    let l = s .pre .legal in
+    let e = part-ends (space (s .args .breaks .now) (s .args .degrees .now) (s .args .orders .now)) (s .args .a) (s .pre .part .starts .below) in
+    (omega (arith, s .pre .part .ends, e .boundary .within), (l .few, l .degrees-legal))
 
 module _ (c : tie.After-first-column2) where
   abbrev start : tie.Start
@@ -80,16 +80,16 @@ module _ (c : tie.After-first-column2) where
   to-is = c .first-column2 .ensures ∙ first-column-partial _ _ _ (start .args .b)
 
   ends-at : start .args .b ≡ partEnd lists (start .args .a)
-  ends-at = start .pre .1 .0 .1
+  ends-at = start .pre .part .ends
 
   whole : start .args .a + (start .args .b - start .args .a) ≡ start .args .b
-  whole = let e = part-ends lists (start .args .a) (start .pre .1 .0 .0 .below) in omega (arith, ends-at, e .above)
+  whole = let e = part-ends lists (start .args .a) (start .pre .part .starts .below) in omega (arith, ends-at, e .above)
 
   lies : Lies (length (start .args .breaks .now)) (length (start .args .degrees .now)) (length (start .args .orders .now))
       (length (start .args .ordinates .now)) (start .args .a) (start .args .b) (c .before .first-column .result) (c .first-column2 .result)
   lies =
-      let e = part-ends lists (start .args .a) (start .pre .1 .0 .0 .below) in
-      let l = start .pre .0 .0 in
+      let e = part-ends lists (start .args .a) (start .pre .part .starts .below) in
+      let l = start .pre .legal in
       let i : start .args .b ≤ segments lists = omega (arith, ends-at, e .boundary .within) in
       record {
         some = omega (arith, ends-at, e .above);
@@ -98,8 +98,8 @@ module _ (c : tie.After-first-column2) where
         order-count = l .order-count;
         few = l .few;
         ordered = omega (arith, from-is, to-is, firstColumn-mono lists (start .args .a) (start .args .b) (omega (arith, whole)));
-        inside = omega (arith, to-is, firstColumn-mono lists (start .args .b) (segments lists) i, start .pre .1 .1 .0);
-        columns = omega (arith, start .pre .1 .1 .0, legal-first-column-high _ _ _ l (segments lists) (omega arith), l .few);
+        inside = omega (arith, to-is, firstColumn-mono lists (start .args .b) (segments lists) i, start .pre .given .count);
+        columns = omega (arith, start .pre .given .count, legal-first-column-high _ _ _ l (segments lists) (omega arith), l .few);
       }
 
   -- the slices are the part
@@ -162,20 +162,20 @@ recover-part-requires : tie.Need-recover-part-requires
 recover-part-requires c κs =
     let f = c .before .before .before .before .before .before in
     let s = start f in
-    let l = lies f in (
-      (
-        subst (λ (p : Space). PartLegal (p .breaks) (p .degrees) (p .orders))
-            (sym (part-is f ∙ ap (λ (e : ℕ). section (lists f) (s .args .a) (e - s .args .a)) (ends-at f)))
-            (part-legal _ _ _ (s .pre .0 .0) (s .args .a) (s .pre .1 .0 .0)),
-        s .pre .0 .1,
-      ),
-      (
-        length-take-le (f .first-column2 .result - f .before .first-column .result) (drop (f .before .first-column .result) (s .args .ordinates .now))
+    let l = lies f in
+    record {
+      part = subst (λ (p : Space). PartLegal (p .breaks) (p .degrees) (p .orders))
+          (sym (part-is f ∙ ap (λ (e : ℕ). section (lists f) (s .args .a) (e - s .args .a)) (ends-at f)))
+          (part-legal _ _ _ (s .pre .legal) (s .args .a) (s .pre .part .starts));
+      room = s .pre .room;
+      given = record {
+        count = length-take-le (f .first-column2 .result - f .before .first-column .result) (drop (f .before .first-column .result) (s .args .ordinates .now))
             (omega (arith, l .ordered, l .inside, length-drop (f .before .first-column .result) (s .args .ordinates .now)))
-            ∙ columns-are f ∙ ap columnCount (sym (part-is f)),
-        slice-fit (f .before .first-column .result) (f .first-column2 .result - f .before .first-column .result) (s .args .ordinates .now) (s .pre .1 .1 .1),
-      ),
-    )
+            ∙ columns-are f ∙ ap columnCount (sym (part-is f));
+        fit = slice-fit (f .before .first-column .result) (f .first-column2 .result - f .before .first-column .result) (s .args .ordinates .now)
+            (s .pre .given .fit);
+      };
+    }
 
 returns : tie.Need-returns
 returns c =

@@ -57,7 +57,7 @@ taken : (c : tie.In-loop Inv-loop μ-loop) → c .before .loop .a < length (c .b
 taken c = omega arith
 
 part-end-requires : tie.Need-part-end-requires Inv-loop μ-loop
-part-end-requires c κs = (taken c, sym (c .before .before .pre .0 .0 .order-count))
+part-end-requires c κs = (taken c, sym (c .before .before .pre .legal .order-count))
 
 -- the part's end
 module _ (c : tie.After-part-end Inv-loop μ-loop) where
@@ -74,10 +74,13 @@ recover-at-requires : tie.Need-recover-at-requires Inv-loop μ-loop
 recover-at-requires c κs =
     let e = c .before .before in
     let l = e .before .before .loop in
-    let p = e .before .before .before .pre in (
-      (p .0 .0, (omega (arith, p .0 .1 .0, l .inv .num-long), omega (arith, p .0 .1 .1, l .inv .den-long))),
-      ((starts _ _ _ (p .0 .0) _ (p .1 .0 .0) (l .inv .state) (taken (e .before)), end-is e), p .1 .0),
-    )
+    let p = e .before .before .before .pre in
+    record {
+      legal = p .legal;
+      part = record { starts = starts _ _ _ (p .legal) _ (p .given .count) (l .inv .state) (taken (e .before)); ends = end-is e };
+      room = record { num-long = omega (arith, p .room .num-long, l .inv .num-long); den-long = omega (arith, p .room .den-long, l .inv .den-long) };
+      given = p .given;
+    }
 
 -- what the part answers and leaves
 module _ (c : tie.After-recover-at Inv-loop μ-loop) where
@@ -144,29 +147,31 @@ module _ (c : tie.After-recover-at Inv-loop μ-loop) where
     done = subst Leaves (answered .is) left
 
     more-inside : at .loop .rows + n ≤ length given
-    more-inside = omega (arith, answered .count, more-within _ _ _ (start .pre .0 .0) given (start .pre .1 .0 .0) state turn (answered .is) (done .1) (done .2))
+    more-inside =
+        let within = more-within _ _ _ (start .pre .legal) given (start .pre .given .count) state turn (answered .is) (done .1) (done .2) in
+        omega (arith, answered .count, within)
 
     own-few : n ≤ 72
-    own-few = omega (arith, answered .count, part-rows _ _ _ (start .pre .0 .0) given (start .pre .1 .0 .0) state turn)
+    own-few = omega (arith, answered .count, part-rows _ _ _ (start .pre .legal) given (start .pre .given .count) state turn)
 
 clear-requires : tie.Need-clear-requires Inv-loop μ-loop
 clear-requires c κs =
     let m = c .before .before .before .before .before .before .before in
-    let p = start m .pre .0 .1 in
-    (omega arith, (omega (arith, num-same m, p .0), omega (arith, den-same m, p .1)))
+    let p = start m .pre .room in
+    (omega arith, (omega (arith, num-same m, p .num-long), omega (arith, den-same m, p .den-long)))
 
 clear-requires-2 : tie.Need-clear-requires-2 Inv-loop μ-loop
 clear-requires-2 c κs =
     let m = c .before .before .before .before .before .before .before .before .before .before .before .before in
-    let p = start m .pre .1 .1 in
+    let p = start m .pre in
     let v = at m .loop .inv in
-    (omega arith, (omega (arith, p .0, v .coef-num-long), omega (arith, p .1, v .coef-den-long)))
+    (omega arith, (omega (arith, p .coef-num-long, v .coef-num-long), omega (arith, p .coef-den-long, v .coef-den-long)))
 
 add-place : tie.Need-add-place Inv-loop μ-loop
 add-place c =
     let m = c .before .before .before .before .before .before .before .before .before .before .before .before .before .before .before in
     let g = c .before .before .before .before .before .before .before .before .before .before .known-told .given in
-    omega (arith, turn m, start m .pre .0 .0 .few, g .1)
+    omega (arith, turn m, start m .pre .legal .few, g .1)
 
 place-requires : tie.Need-place-requires Inv-loop μ-loop
 place-requires c κs = tt
@@ -202,18 +207,22 @@ returns c =
     (g .args .coef-num .now) (g .args .coef-den .now) (k .last .0) (k .last .1 .0) (k2 .last .0)
     (k2 .last .1 .0))
     (sym (c .place .ensures))
-    (part-refused _ _ _ (g .pre .0 .0) (given m) (g .pre .1 .0 .0) (state m) (turn m) r
-    (omega (arith, g .pre .0 .1 .0, v .num-long)) (omega (arith, g .pre .0 .1 .1, v .den-long))
-    (g .pre .1 .1 .0) (g .pre .1 .1 .1) (h .1) (h .2) (k .ensures .0) (k .ensures .1) (k2 .ensures .0) (k2 .ensures .1))
+    (part-refused _ _ _ (g .pre .legal) (given m) (g .pre .given .count) (state m) (turn m) r
+    (omega (arith, g .pre .room .num-long, v .num-long)) (omega (arith, g .pre .room .den-long, v .den-long))
+    (g .pre .coef-num-long) (g .pre .coef-den-long) (h .1) (h .2) (k .ensures .0) (k .ensures .1) (k2 .ensures .0) (k2 .ensures .1))
 
 -- ---- the part is answered
 write-requires : tie.Need-write-requires Inv-loop μ-loop
 write-requires c κs =
     let m = c .before .before .before .before .before .before .before .before in
-    let p = start m .pre .1 .1 in
+    let p = start m .pre in
     let v = at m .loop .inv in
     let z = c .before .before .before .before .built2 .given .1 in
-    (own-few m z, (omega (arith, more-inside m z, p .0, v .coef-num-long), omega (arith, more-inside m z, p .1, v .coef-den-long)))
+    record {
+      few = own-few m z;
+      num-room = omega (arith, more-inside m z, p .coef-num-long, v .coef-num-long);
+      den-room = omega (arith, more-inside m z, p .coef-den-long, v .coef-den-long);
+    }
 
 -- after its coefficients are written
 module _ (c : tie.After-coef-den2 Inv-loop μ-loop) where
@@ -227,7 +236,7 @@ module _ (c : tie.After-coef-den2 Inv-loop μ-loop) where
   told = c .before .before .before .before .before .before .before .built2 .given .1
 
 add-rows : tie.Need-add-rows Inv-loop μ-loop
-add-rows c = let m = answered-at c in omega (arith, more-inside m (told c), legal-column-count-high _ _ _ (start m .pre .0 .0), start m .pre .1 .0 .0)
+add-rows c = let m = answered-at c in omega (arith, more-inside m (told c), legal-column-count-high _ _ _ (start m .pre .legal), start m .pre .given .count)
 
 loop-less : tie.Need-loop-less Inv-loop μ-loop
 loop-less c =
@@ -245,11 +254,11 @@ loop-again c =
     let n = x .count in
     let v = at m .loop .inv in
     let b = state m in
-    let count = part-count _ _ _ (g .pre .0 .0) (given m) (g .pre .1 .0 .0) b (turn m) (x .is) in
+    let count = part-count _ _ _ (g .pre .legal) (given m) (g .pre .given .count) b (turn m) (x .is) in
     let inside = more-inside m (told c) in
     let z = w .write .ensures (b .coefficients) (x .result .coefficients) (g .args .coef-num .now) (g .args .coef-den .now)
     (ap (λ (y : Joined). y .of) (q .0)) (b .count) (count ∙ sym n) (b .coef-num-is) (b .coef-den-is)
-    (omega (arith, inside, g .pre .1 .1 .0)) (omega (arith, inside, g .pre .1 .1 .1)) in
+    (omega (arith, inside, g .pre .coef-num-long)) (omega (arith, inside, g .pre .coef-den-long)) in
     record {
       num-long = num-same m;
       den-long = den-same m;
@@ -259,7 +268,7 @@ loop-again c =
           (den-after m) (w .write .last .0) (w .write .last .1 .0) (at m .loop .rows + rows-of c) e) (sym (end-is (ended m)))
           (subst (λ (k : ℕ). Before (s m) (given m) (g .args .num .now) (g .args .den .now) (g .args .coef-num .now) (g .args .coef-den .now) (num-after m)
           (den-after m) (w .write .last .0) (w .write .last .1 .0) (at m .loop .rows + k) (partEnd (s m) (first (ended m)))) (sym n)
-          (part-more _ _ _ (g .pre .0 .0) (given m) (g .pre .1 .0 .0) b (turn m) (x .is) (q .1) (q .2)
+          (part-more _ _ _ (g .pre .legal) (given m) (g .pre .given .count) b (turn m) (x .is) (q .1) (q .2)
           (z .0 ∙ ap (λ (k : ℕ). listed numeratorOf (at m .loop .rows + k) (b .coefficients ++ x .result .coefficients) (g .args .coef-num .now)) n)
           (z .1 ∙ ap (λ (k : ℕ). listed denominatorOf (at m .loop .rows + k) (b .coefficients ++ x .result .coefficients) (g .args .coef-den .now)) n)));
     }
@@ -273,8 +282,10 @@ clear-requires-3 : tie.Need-clear-requires-3 Inv-loop μ-loop
 clear-requires-3 c κs =
     let a = c .before .before .before in
     let p = a .before .pre in
-    let v = a .loop .inv in
-    (omega (arith, rows-within _ _ _ (p .0 .0) _ (p .1 .0 .0) (v .state)), (omega (arith, p .1 .1 .0, v .coef-num-long), omega (arith, p .1 .1 .1, v .coef-den-long)))
+    let v = a .loop .inv in (
+      omega (arith, rows-within _ _ _ (p .legal) _ (p .given .count) (v .state)),
+      (omega (arith, p .coef-num-long, v .coef-num-long), omega (arith, p .coef-den-long, v .coef-den-long)),
+    )
 
 same-length-5 : tie.Need-same-length-5 Inv-loop μ-loop
 same-length-5 c = last-at c .loop .inv .num-long
@@ -293,7 +304,7 @@ returns-2 c =
     let a = last-at c in
     let p = a .before .pre in
     let k = c .before .before .clear3 .ensures in
-    parts-done _ _ _ (p .0 .0) _ (p .1 .0 .0) (a .loop .inv .state) (omega arith) (p .1 .1 .0) (p .1 .1 .1) (k .0) (k .1)
+    parts-done _ _ _ (p .legal) _ (p .given .count) (a .loop .inv .state) (omega arith) (p .coef-num-long) (p .coef-den-long) (k .0) (k .1)
 
 pub recover-parts-spec : {M : Type 1} → statement M
 recover-parts-spec =

@@ -75,7 +75,7 @@ inside c =
     let a = c .before .before .before .before in
     let p = a .before .pre in
     let t = c .before .before .before .loop-test .taken in
-    (omega (arith, t, p .1 .0, a .loop .inv .num-long), omega (arith, t, p .1 .1, a .loop .inv .den-long))
+    (omega (arith, t, p .num-room, a .loop .inv .num-long), omega (arith, t, p .den-room, a .loop .inv .den-long))
 
 loop-holds : tie.Need-loop-holds Inv-loop μ-loop
 loop-holds c = record {
