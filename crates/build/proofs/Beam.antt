@@ -8,7 +8,7 @@ use native.Mathlib.Omega.{arith}
 use lib.IntN.{ℤ}
 use lib.ListN.{length, take, drop}
 use Rattle.base_exact.proofs.Decide.{cond-true, cond-false}
-use Rattle.base_outcome.specs.Outcome.{Outcome, answer, refusal, capped, with-answer}
+use Rattle.base_outcome.specs.Outcome.{Outcome, answer, refusal, capped}
 use Rattle.base_outcome.proofs.Outcome.{answer-unique}
 use Rattle.spec_spline.specs.Space.{Space, partEnd, firstColumn, columnCount, conditionsBefore, rowCount}
 use Rattle.spec_spline.specs.Table.{Table, numerators, denominators}
@@ -26,17 +26,11 @@ use Rattle.build_space.specs.Machine.{space}
 use Rattle.build_space.specs.Legal.{ListsLegal, PartLegal}
 use Rattle.build_space.proofs.Legal.{checked-legal, legal-checked, legal-first-column-high}
 use Rattle.base_outcome.specs.Machine.{reply}
-use Rattle.base_outcome.specs.declared.Answer.{Answer}
 use Rattle.base_outcome.specs.declared.Answer.the-variants.{Count, Refused}
 use Rattle.build_joins.proofs.Ends.{weights-cleared}
+use Rattle.build.specs.Leaves.{BeamEnds}
 
 -- ---- what a call answers and leaves
-
--- by the outcome of the whole beam, of which the buffers hold the last part
-pub record BeamEnds (s : Space) (o : Outcome Table) (r : Answer) (num den num′ den′ : List ℤ) : Type 0 where
-  pub answers : reply r ≡ with-answer (λ _. rowCount s) o
-  pub numerators-are : num′ ≡ numeratorsAfter (with-answer (lastPart s) o) num
-  pub denominators-are : den′ ≡ denominatorsAfter (with-answer (lastPart s) o) den
 
 -- a refusal that leaves the buffers
 pub beam-unchanged : (s : Space) (o : Outcome Table) (num den : List ℤ) {code place : ℕ} → o ≡ refusal code place → clears code ≡ false

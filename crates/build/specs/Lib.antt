@@ -1,2 +1,3 @@
 -- What the contracts of build cite beside the definitions of other crates.
 pub mod Asks
+pub mod Leaves

@@ -1,13 +1,12 @@
 // The parts of a beam: each is built by itself in the same two buffers, from the left, so that the last one stays there.
-ghost use mathlib.Core.Path.{_≡_};
 ghost use Prim.Native.Nat.{_-_};
-ghost use Rattle.base_outcome.specs.Outcome.{with-answer};
 ghost use Rattle.spec_spline.specs.Space.{rowCount};
 ghost use Rattle.spec_spline.specs.Build;
 ghost use Rattle.theorems_beams.specs.Sections.{section};
 ghost use Rattle.build_space.specs.Machine.{space};
-ghost use Rattle.base_outcome.specs.Machine.{reply};
+ghost use Rattle.build_joins.specs.Leaves.{Ends};
 ghost use Rattle.build.specs.Asks.{PartAsks, PartsAsk};
+ghost use Rattle.build.specs.Leaves.{BeamEnds};
 use base_outcome::Answer;
 
 // The build of the part from segment a up to segment b, in buffers that are clear from row `used` on.
@@ -23,9 +22,7 @@ pub fn build_part(
 ) -> Answer
     requires { ⌜ PartAsks (now breaks) (now degrees) (now orders) a b (now num) (now den) used ⌝ }
     ensures { λ r. ⌜ (let part = section (space (now (breaks .entry)) (now (degrees .entry)) (now (orders .entry))) a (b - a) in
-        (reply r ≡ with-answer (λ _. rowCount part) (Build.weights part))
-        × ((now (num .exit) ≡ Build.numeratorsAfter (Build.weights part) (now (num .entry)))
-        × (now (den .exit) ≡ Build.denominatorsAfter (Build.weights part) (now (den .entry))))) ⌝ }
+        Ends (Build.weights part) (rowCount part) r (now (num .entry)) (now (den .entry)) (now (num .exit)) (now (den .exit))) ⌝ }
 {
     build_joins::build_legal(
         &breaks[a..b + 1],
@@ -48,10 +45,7 @@ pub fn build_parts(
 ) -> Answer
     requires { ⌜ PartsAsk (now breaks) (now degrees) (now orders) (now num) (now den) ⌝ }
     ensures { λ r. ⌜ (let s = space (now (breaks .entry)) (now (degrees .entry)) (now (orders .entry)) in
-        let held = with-answer (Build.lastPart s) (Build.weights s) in
-        (reply r ≡ with-answer (λ _. rowCount s) (Build.weights s))
-        × ((now (num .exit) ≡ Build.numeratorsAfter held (now (num .entry)))
-        × (now (den .exit) ≡ Build.denominatorsAfter held (now (den .entry))))) ⌝ }
+        BeamEnds s (Build.weights s) r (now (num .entry)) (now (den .entry)) (now (num .exit)) (now (den .exit))) ⌝ }
 {
     let mut rows = 0;
     let mut used = build_cells::ROW_CELLS;

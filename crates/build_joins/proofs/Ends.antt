@@ -7,7 +7,7 @@ use Prim.Native.Nat.{ℕ, _-_, _≤_}
 use native.Mathlib.Omega.{arith}
 use lib.IntN.{ℤ, pos}
 use lib.ListN.{length}
-use Rattle.base_outcome.specs.Outcome.{Outcome, answer, refusal, with-answer}
+use Rattle.base_outcome.specs.Outcome.{Outcome, answer, refusal}
 use Rattle.spec_spline.specs.Space.{Space, segments, columnCount, conditionCount}
 use Rattle.spec_spline.specs.Table.{Table, identity, tableCells, numerators, denominators}
 use Rattle.spec_spline.specs.Build.{orderSteps, joinSteps, weights, clears, numeratorsAfter, denominatorsAfter}
@@ -15,20 +15,10 @@ use Rattle.base_outcome.proofs.Outcome.{RefusedAs, repeat-refused}
 use Rattle.build_cells.specs.Held.{Kept}
 use Rattle.build_cells.specs.Region.{filled}
 use Rattle.build_cells.proofs.Buffer.{numerators-again, denominators-again, numerators-cleared, denominators-cleared, kept-numerators, kept-denominators, kept-then}
-use Rattle.build_joins.specs.Leaves.{JoinsLeave}
+use Rattle.build_joins.specs.Leaves.{JoinsLeave, Ends}
 use Rattle.base_outcome.specs.Machine.{reply}
-use Rattle.base_outcome.specs.declared.Answer.{Answer}
 use Rattle.base_outcome.specs.declared.Answer.the-variants.{Count, Refused}
 use Rattle.build_step.proofs.Orders.{orders-refuse}
-
--- ---- what a call answers and leaves, by the outcome o with n rows
-
-pub record Ends (o : Outcome Table) (n : ℕ) (r : Answer) (num den num′ den′ : List ℤ) : Type 0 where
-  pub answers : reply r ≡ with-answer (λ _. n) o
-  pub numerators-are : num′ ≡ numeratorsAfter o num
-  pub denominators-are : den′ ≡ denominatorsAfter o den
-
--- ---- the joins' table or refusal
 
 -- the weights are refused by code 8 or 9 alone
 weights-refuse : (s : Space) → RefusedAs (λ code place. (code ≡ 8) ⊎ (code ≡ 9)) (weights s)

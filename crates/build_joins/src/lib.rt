@@ -1,17 +1,14 @@
 // The joins of a part from the left, and the build of a part: its steps in buffers that hold its first segment's rows.
-ghost use mathlib.Core.Path.{_≡_};
 ghost use mathlib.Core.List.{[]};
 ghost use Prim.Native.Nat.{ℕ, _+_};
-ghost use Rattle.base_outcome.specs.Outcome.{with-answer};
 ghost use Rattle.spec_spline.specs.Space.{Space, rowCount};
 ghost use Rattle.spec_spline.specs.Table.{Table};
 ghost use Rattle.spec_spline.specs.Build;
 ghost use Rattle.build_space.specs.Machine.{space};
 ghost use Rattle.build_cells.specs.Held.{Holds, Shaped};
 ghost use Rattle.build_conditions.specs.Sides.{SideIs, JoinIs};
-ghost use Rattle.base_outcome.specs.Machine.{reply};
 ghost use Rattle.build_step.specs.Leaves.{Leaves};
-ghost use Rattle.build_joins.specs.Leaves.{JoinsLeave, grown};
+ghost use Rattle.build_joins.specs.Leaves.{JoinsLeave, Ends, grown};
 ghost use Rattle.build_joins.specs.Asks.{JoinAsks, SideAsks, JoinsAsk, LegalAsks};
 use base_outcome::Answer;
 use build_conditions::Join;
@@ -114,12 +111,8 @@ pub fn build_legal(
     used: usize,
 ) -> Answer
     requires { ⌜ LegalAsks (now breaks) (now degrees) (now orders) (now num) (now den) used ⌝ }
-    ensures { λ r. ⌜ reply r ≡ with-answer (λ _. rowCount (space (now (breaks .entry)) (now (degrees .entry)) (now (orders .entry))))
-        (Build.weights (space (now (breaks .entry)) (now (degrees .entry)) (now (orders .entry)))) ⌝ }
-    ensures { λ r. ⌜ now (num .exit) ≡ Build.numeratorsAfter (Build.weights
-        (space (now (breaks .entry)) (now (degrees .entry)) (now (orders .entry)))) (now (num .entry)) ⌝ }
-    ensures { λ r. ⌜ now (den .exit) ≡ Build.denominatorsAfter (Build.weights
-        (space (now (breaks .entry)) (now (degrees .entry)) (now (orders .entry)))) (now (den .entry)) ⌝ }
+    ensures { λ r. ⌜ (let s = space (now (breaks .entry)) (now (degrees .entry)) (now (orders .entry)) in
+        Ends (Build.weights s) (rowCount s) r (now (num .entry)) (now (den .entry)) (now (num .exit)) (now (den .exit))) ⌝ }
 {
     let columns = build_space::first_column(degrees, degrees.len());
     build_identity::identity_over(num, den, build_space::degree_at(degrees, 0) + 1, used);

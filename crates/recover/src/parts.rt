@@ -13,7 +13,7 @@ ghost use Rattle.theorems_recovery.specs.Recovery;
 ghost use Rattle.theorems_recovery.specs.RecoveryCall.{listed, numeratorOf, denominatorOf};
 ghost use Rattle.recover_joins.specs.Leaves.{JoinsLeave};
 ghost use Rattle.recover.specs.Asks.{WriteAsks, PartAsks, PartsAsk};
-ghost use Rattle.recover.specs.Leaves.{BeamEnds};
+ghost use Rattle.recover.specs.Leaves.{CoefficientsListed, BeamEnds};
 use base_fraction::arrays;
 use base_fraction::arrays::Fractions;
 use base_outcome::Answer;
@@ -25,8 +25,7 @@ fn write(coef_num: &mut [i64], coef_den: &mut [i64], from: usize, cs: Fractions,
     ensures { λ _. ⌜ ((done ps : List ℚ) (num den : List ℤ) → cs ≡ fractions ps → length done ≡ from → length ps ≡ n
         → now («coef_num» .entry) ≡ listed numeratorOf from done num → now («coef_den» .entry) ≡ listed denominatorOf from done den
         → from + n ≤ length num → from + n ≤ length den
-        → (now («coef_num» .exit) ≡ listed numeratorOf (from + n) (done ++ ps) num)
-        × (now («coef_den» .exit) ≡ listed denominatorOf (from + n) (done ++ ps) den)) ⌝ }
+        → CoefficientsListed (from + n) (done ++ ps) num den (now («coef_num» .exit)) (now («coef_den» .exit))) ⌝ }
 {
     let mut i = 0;
     while i < n {

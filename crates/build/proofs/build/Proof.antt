@@ -58,10 +58,10 @@ returns-3 c =
     let l = t .before .before .before in
     let s = l .before .before in
     let w = built-weights (lists s) _ _ (first-long l) (second-long l) (legal-checked _ _ _ (legal t)) in (
-      b .build-parts .ensures .0 ∙ ap (with-answer (λ _. rowCount (lists s))) (sym w),
+      b .build-parts .ensures .answers ∙ ap (with-answer (λ _. rowCount (lists s))) (sym w),
       (
-        b .build-parts .ensures .1 .0 ∙ ap (λ o. numeratorsAfter (with-answer (lastPart (lists s)) o) (s .args .num .now)) (sym w),
-        b .build-parts .ensures .1 .1 ∙ ap (λ o. denominatorsAfter (with-answer (lastPart (lists s)) o) (s .args .den .now)) (sym w),
+        b .build-parts .ensures .numerators-are ∙ ap (λ o. numeratorsAfter (with-answer (lastPart (lists s)) o) (s .args .num .now)) (sym w),
+        b .build-parts .ensures .denominators-are ∙ ap (λ o. denominatorsAfter (with-answer (lastPart (lists s)) o) (s .args .den .now)) (sym w),
       ),
     )
 

@@ -62,8 +62,8 @@ returns : tie.Need-returns
 returns c =
     let j = c .before .before .before .before .before in
     let i = before-joins j in
-    let e = ends-rows (rowCount (whole j)) _ _ _ _ _ _ _ (i .identity-over .ensures .0) (i .identity-over .ensures .1) (weights (whole j)) (left j _ (c .before .built .given .1)) in
-    (e .answers, (e .numerators-are, e .denominators-are))
+    ends-rows (rowCount (whole j)) _ _ _ _ _ _ _ (i .identity-over .ensures .0) (i .identity-over .ensures .1) (weights (whole j))
+    (left j _ (c .before .built .given .1))
 
 returns-2 : tie.Need-returns-2
 returns-2 c =
@@ -72,9 +72,8 @@ returns-2 c =
     let j = b .before .before .before .before in
     let i = before-joins j in
     let room = start (i .before) .pre .room in
-    let e = ends-cleared (rowCount (whole j)) _ _ _ _ _ _ _ (i .identity-over .ensures .0) (i .identity-over .ensures .1) (whole j)
-    (room .num-long) (room .den-long) (left j _ (b .built2 .given .1)) (d .clear .ensures .0) (d .clear .ensures .1) in
-    (e .answers, (e .numerators-are, e .denominators-are))
+    ends-cleared (rowCount (whole j)) _ _ _ _ _ _ _ (i .identity-over .ensures .0) (i .identity-over .ensures .1) (whole j)
+    (room .num-long) (room .den-long) (left j _ (b .built2 .given .1)) (d .clear .ensures .0) (d .clear .ensures .1)
 
 pub build-legal-spec : {M : Type 1} → statement M
 build-legal-spec =

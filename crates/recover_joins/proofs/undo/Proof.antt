@@ -11,7 +11,7 @@ use lib.ListN.{length, take, drop}
 use Rattle.base_exact.specs.Rational.{ℚ}
 use Rattle.base_fraction.specs.Fractions.{fractions}
 use Rattle.base_fraction.specs.declared.arrays.Fractions.{Fractions}
-use Rattle.base_outcome.specs.Outcome.{Outcome, answer, refusal, _then_, with-answer}
+use Rattle.base_outcome.specs.Outcome.{Outcome, answer, refusal, with-answer}
 use Rattle.base_outcome.proofs.Outcome.{then-answers, then-refuses, with-inverts, with-refuses}
 use Rattle.spec_spline.specs.Step.{Span}
 use Rattle.recover_rows.specs.Machine.{undoneOf}

@@ -1,26 +1,18 @@
 -- `build_rows` meets its contract: a part of an accepted beam is accepted, so it is not refused.
 use borrow.Author.Needs.{needs}
-use mathlib.Core.Path.{_≡_, subst}
+use mathlib.Core.Path.{subst}
 use mathlib.Core.List.{List}
 use Prim.Native.Nat.{ℕ, _-_}
 use native.Mathlib.Omega.{arith}
 use lib.IntN.{ℤ}
-use Rattle.base_outcome.specs.Outcome.{with-answer}
 use Rattle.spec_spline.specs.Space.{Space, rowCount}
-use Rattle.spec_spline.specs.Build.{weights, numeratorsAfter, denominatorsAfter}
+use Rattle.spec_spline.specs.Build.{weights}
 use Rattle.theorems_beams.specs.Sections.{section, partAt}
 use Rattle.build_space.specs.Machine.{space}
-use Rattle.base_outcome.specs.Machine.{reply}
-use Rattle.base_outcome.specs.declared.Answer.{Answer}
+use Rattle.build_joins.specs.Leaves.{Ends}
 use Rattle.sheet_beam.proofs.Beam.{beam-legal, rows-told, never-refused}
 use Rattle.sheet_beam.proofs.build_rows.Statement.{statement}
 use Rattle.sheet_beam.proofs.build_rows.Tie as tie
-
--- what the build of a part leaves
-record Leaves (p : Space) (r : Answer) (num den num′ den′ : List ℤ) : Type 0 where
-  answers : reply r ≡ with-answer (λ _. rowCount p) (weights p)
-  numerators : num′ ≡ numeratorsAfter (weights p) num
-  denominators : den′ ≡ denominatorsAfter (weights p) den
 
 -- where it has returned
 module _ (k : tie.After-build-part) where
@@ -36,12 +28,11 @@ module _ (k : tie.After-build-part) where
   abbrev den-now : List ℤ
   den-now = k .build-part .last .1 .1 .1 .1 .1 .1 .0
 
-  left : Leaves (partAt beam (start .args .a)) (k .build-part .result) (start .args .num .now) (start .args .den .now) num-now den-now
-  left =
-      let e = k .build-part .ensures in
-      let a = start .args .a in
-      subst (λ (b : ℕ). Leaves (section beam a (b - a)) (k .build-part .result) (start .args .num .now) (start .args .den .now) num-now den-now)
-      (start .pre .ends) (record { answers = e .0; numerators = e .1 .0; denominators = e .1 .1 })
+  abbrev Left : Space → Type 0
+  Left p = Ends (weights p) (rowCount p) (k .build-part .result) (start .args .num .now) (start .args .den .now) num-now den-now
+
+  left : Left (partAt beam (start .args .a))
+  left = let a = start .args .a in subst (λ (b : ℕ). Left (section beam a (b - a))) (start .pre .ends) (k .build-part .ensures)
 
 build-part-requires : tie.Need-build-part-requires
 build-part-requires c κs =
@@ -59,8 +50,8 @@ returns c =
     let p = start k .pre in
     record {
       rows-are = rows-told (beam k) (p .accepted) _ (p .starts) (k .build-part .result) _ (left k .answers) (c .before .built .given .1);
-      num-is = left k .numerators;
-      den-is = left k .denominators;
+      num-is = left k .numerators-are;
+      den-is = left k .denominators-are;
     }
 
 returns-2 : tie.Need-returns-2

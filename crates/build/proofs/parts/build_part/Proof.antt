@@ -4,14 +4,13 @@ use mathlib.Core.Path.{_≡_, sym, _∙_, ap, subst}
 use Prim.Native.Nat.{ℕ, _+_, _-_, _<_, _≤_}
 use native.Mathlib.Omega.{arith}
 use lib.ListN.{length, take, drop}
-use Rattle.base_outcome.specs.Outcome.{with-answer}
 use Rattle.spec_spline.specs.Space.{Space, rowCount}
-use Rattle.spec_spline.specs.Build.{weights, numeratorsAfter, denominatorsAfter}
+use Rattle.spec_spline.specs.Build.{weights}
 use Rattle.spec_spline.proofs.Parts.{part-ends}
 use Rattle.theorems_beams.specs.Sections.{section, partAt}
 use Rattle.build_space.specs.Machine.{space}
 use Rattle.build_space.specs.Legal.{PartLegal}
-use Rattle.base_outcome.specs.Machine.{reply}
+use Rattle.build_joins.specs.Leaves.{Ends}
 use Rattle.build.proofs.Beam.{sliced, part-legal}
 use Rattle.build.proofs.parts.build_part.Statement.{statement}
 use Rattle.build.proofs.parts.build_part.Tie as tie
@@ -94,9 +93,8 @@ returns : tie.Need-returns
 returns c =
     let m = c .before .before in
     let s = m .before .before .before .before .before .before in
-    subst (λ (p : Space). (reply (m .build-legal .result) ≡ with-answer (λ _. rowCount p) (weights p)) ×
-    ((m .build-legal .last .1 .1 .1 .0 ≡ numeratorsAfter (weights p) (s .args .num .now)) ×
-    (m .build-legal .last .1 .1 .1 .1 .0 ≡ denominatorsAfter (weights p) (s .args .den .now))))
+    subst (λ (p : Space). Ends (weights p) (rowCount p) (m .build-legal .result) (s .args .num .now) (s .args .den .now)
+    (m .build-legal .last .1 .1 .1 .0) (m .build-legal .last .1 .1 .1 .1 .0))
     (sliced (lists s) (s .args .a) (s .args .b) (lies s .some)) (m .build-legal .ensures)
 
 pub build-part-spec : {M : Type 1} → statement M

@@ -7,7 +7,6 @@ use Prim.Native.Nat.{ℕ, _+_, _-_, _<_, _≤_}
 use native.Mathlib.Omega.{arith}
 use lib.IntN.{ℤ}
 use lib.ListN.{length}
-use Rattle.base_outcome.specs.Outcome.{with-answer}
 use Rattle.spec_spline.specs.Space.{Space, partEnd, rowCount}
 use Rattle.spec_spline.specs.Build.{weights, numeratorsAfter, denominatorsAfter}
 use Rattle.spec_spline.specs.Table.{rowCells}
@@ -22,6 +21,7 @@ use Rattle.build_cells.proofs.Buffer.{clear-past}
 use Rattle.base_outcome.specs.Machine.{reply}
 use Rattle.base_outcome.specs.declared.Answer.{Answer}
 use Rattle.base_outcome.specs.declared.Answer.the-variants.{Count, Refused}
+use Rattle.build_joins.specs.Leaves.{Ends}
 use Rattle.build.proofs.Beam.{Before, before-first, starts, rows-high, part-legal, part-more, part-refused, parts-done}
 use Rattle.base_outcome.proofs.Reply.{count-inverts, refused-inverts}
 use Rattle.build.proofs.parts.build_parts.Statement.{statement}
@@ -90,9 +90,8 @@ module _ (c : tie.After-build-part Inv-loop μ-loop) where
   part = partAt (beam ended) (first ended)
 
   abbrev left : Answer → Space → Type 0
-  left r p =
-      (reply r ≡ with-answer (λ _. rowCount p) (weights p)) × ((c .build-part .last .1 .1 .1 .1 .1 .0 ≡ numeratorsAfter (weights p)
-      (ended .before .before .loop .num)) × (c .build-part .last .1 .1 .1 .1 .1 .1 .0 ≡ denominatorsAfter (weights p) (ended .before .before .loop .den)))
+  left r p = Ends (weights p) (rowCount p) r (ended .before .before .loop .num) (ended .before .before .loop .den)
+      (c .build-part .last .1 .1 .1 .1 .1 .0) (c .build-part .last .1 .1 .1 .1 .1 .1 .0)
 
   leaves : {r : Answer} → c .build-part .result ≡ r → left r part
   leaves {r} e = subst (λ (x : Answer). left x part) e (subst (λ (n : ℕ). left (c .build-part .result) (section (beam ended) (first ended) (n - first ended))) (end-is ended) (c .build-part .ensures))
@@ -103,26 +102,26 @@ module _ (c : tie.After-build-part Inv-loop μ-loop) where
       (ended .before .before .loop .rows + n) (ended .part-end .result)
   more {n} e =
       let x = leaves e in
-      let t = count-inverts (λ _. rowCount part) (weights part) (x .0) in
+      let t = count-inverts (λ _. rowCount part) (weights part) (x .answers) in
       subst (Before (beam ended) _ _ _ _ (ended .before .before .loop .rows + n)) (sym (end-is ended))
       (part-more _ _ _ (ended .before .before .before .pre .legal) (ended .before .before .loop .inv .state) (taken (ended .before))
-      (t .is) (t .count) (x .1 .0) (x .1 .1))
+      (t .is) (t .count) (x .numerators-are) (x .denominators-are))
 
   -- it has at most 72 rows, and the rest of the table is clear
   rows-few : {n : ℕ} → c .build-part .result ≡ Count n → n ≤ rowCells
   rows-few {n} e =
       let legal = ended .before .before .before .pre .legal in
       let own = part-legal _ _ _ legal (first ended) (starts _ _ _ legal (ended .before .before .loop .inv .state) (taken (ended .before))) in
-      omega (arith, count-inverts (λ _. rowCount part) (weights part) (leaves e .0) .count, part-column-count-high _ _ _ own)
+      omega (arith, count-inverts (λ _. rowCount part) (weights part) (leaves e .answers) .count, part-column-count-high _ _ _ own)
 
   rest-clear : {n : ℕ} → c .build-part .result ≡ Count n → ClearFrom (c .build-part .last .1 .1 .1 .1 .1 .0) (c .build-part .last .1 .1 .1 .1 .1 .1 .0) n
   unfolding numeratorsAfter denominatorsAfter
   rest-clear {n} e =
       let x = leaves e in
-      let t = count-inverts (λ _. rowCount part) (weights part) (x .0) in
+      let t = count-inverts (λ _. rowCount part) (weights part) (x .answers) in
       clear-past (t .result) (ended .before .before .loop .num) (ended .before .before .loop .den) _ _ n (omega (arith, t .count, weights-shaped part (t .is) .rows))
-      (x .1 .0 ∙ ap (λ o. numeratorsAfter o (ended .before .before .loop .num)) (t .is))
-      (x .1 .1 ∙ ap (λ o. denominatorsAfter o (ended .before .before .loop .den)) (t .is))
+      (x .numerators-are ∙ ap (λ o. numeratorsAfter o (ended .before .before .loop .num)) (t .is))
+      (x .denominators-are ∙ ap (λ o. denominatorsAfter o (ended .before .before .loop .den)) (t .is))
 
   num-kept : length (c .build-part .last .1 .1 .1 .1 .1 .0) ≡ length (ended .before .before .before .args .num .now)
   num-kept = c .build-part .kept .1 .1 .1 .1 .1 .0 ∙ ended .before .before .loop .inv .num-long
@@ -155,8 +154,12 @@ returns c =
     let d = ended m in
     let x = leaves m (c .before .before .built2 .given .1) in
     let e = part-refused _ _ _ (d .before .before .before .pre .legal) (d .before .before .loop .inv .state) (taken (d .before))
-    (refused-inverts (λ _. rowCount (part m)) (weights (part m)) (x .0)) (x .1 .0) (x .1 .1) in
-    (ap (λ (p : ℕ). reply (Refused (c .before .before .built2 .given .0 .0) p)) (c .place .ensures) ∙ e .answers, (e .numerators-are, e .denominators-are))
+    (refused-inverts (λ _. rowCount (part m)) (weights (part m)) (x .answers)) (x .numerators-are) (x .denominators-are) in
+    record {
+      answers = ap (λ (p : ℕ). reply (Refused (c .before .before .built2 .given .0 .0) p)) (c .place .ensures) ∙ e .answers;
+      numerators-are = e .numerators-are;
+      denominators-are = e .denominators-are;
+    }
 
 loop-less : tie.Need-loop-less Inv-loop μ-loop
 loop-less c =
@@ -177,9 +180,7 @@ same-length-4 : tie.Need-same-length-4 Inv-loop μ-loop
 same-length-4 c = c .before .loop .inv .den-long
 
 returns-2 : tie.Need-returns-2 Inv-loop μ-loop
-returns-2 c =
-    let e = parts-done _ _ _ (c .before .before .pre .legal) (c .before .loop .inv .state) (omega arith) in
-    (e .answers, (e .numerators-are, e .denominators-are))
+returns-2 c = parts-done _ _ _ (c .before .before .pre .legal) (c .before .loop .inv .state) (omega arith)
 
 pub build-parts-spec : {M : Type 1} → statement M
 build-parts-spec =

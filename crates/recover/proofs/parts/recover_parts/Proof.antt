@@ -269,8 +269,8 @@ loop-again c =
           (subst (λ (k : ℕ). Before (s m) (given m) (g .args .num .now) (g .args .den .now) (g .args .coef-num .now) (g .args .coef-den .now) (num-after m)
           (den-after m) (w .write .last .0) (w .write .last .1 .0) (at m .loop .rows + k) (partEnd (s m) (first (ended m)))) (sym n)
           (part-more _ _ _ (g .pre .legal) (given m) (g .pre .given .count) b (turn m) (x .is) (q .1) (q .2)
-          (z .0 ∙ ap (λ (k : ℕ). listed numeratorOf (at m .loop .rows + k) (b .coefficients ++ x .result .coefficients) (g .args .coef-num .now)) n)
-          (z .1 ∙ ap (λ (k : ℕ). listed denominatorOf (at m .loop .rows + k) (b .coefficients ++ x .result .coefficients) (g .args .coef-den .now)) n)));
+          (z .num-is ∙ ap (λ (k : ℕ). listed numeratorOf (at m .loop .rows + k) (b .coefficients ++ x .result .coefficients) (g .args .coef-num .now)) n)
+          (z .den-is ∙ ap (λ (k : ℕ). listed denominatorOf (at m .loop .rows + k) (b .coefficients ++ x .result .coefficients) (g .args .coef-den .now)) n)));
     }
 
 -- ---- after the last part

@@ -17,23 +17,17 @@ use Rattle.spec_spline.specs.Table.{entry}
 use Rattle.base_fraction.specs.Fractions.{fractions}
 use Rattle.base_fraction.specs.declared.arrays.Fractions.{Fractions}
 use Rattle.theorems_recovery.specs.RecoveryCall.{listed, numeratorOf, denominatorOf}
+use Rattle.recover.specs.Leaves.{CoefficientsListed}
 use Rattle.recover.proofs.parts.write.Statement.{statement}
 use Rattle.recover.proofs.parts.write.Tie as tie
-
--- cells that hold part of the coefficients
-abbrev Combination : (ℚ → ℤ) → List ℤ → List ℤ → List ℚ → ℕ → Type 0
-Combination part now before all n = now ≡ listed part n all before
-
-record State (from i : ℕ) (all : List ℚ) (nums dens num den : List ℤ) : Type 0 where
-  num-is : Combination numeratorOf nums num all (from + i)
-  den-is : Combination denominatorOf dens den all (from + i)
 
 record Inv (nums₀ dens₀ : List ℤ) (from : ℕ) (cs : Fractions) (n : ℕ) (nums dens : List ℤ) (i : ℕ) : Type 0 where
   within : i ≤ n
   num-long : length nums ≡ length nums₀
   den-long : length dens ≡ length dens₀
   state : (done ps : List ℚ) (num den : List ℤ) → cs ≡ fractions ps → length done ≡ from → length ps ≡ n
-      → nums₀ ≡ listed numeratorOf from done num → dens₀ ≡ listed denominatorOf from done den → from + n ≤ length num → from + n ≤ length den → State from i (done ++ ps) nums dens num den
+      → nums₀ ≡ listed numeratorOf from done num → dens₀ ≡ listed denominatorOf from done den → from + n ≤ length num → from + n ≤ length den
+      → CoefficientsListed (from + i) (done ++ ps) num den nums dens
 
 abbrev Inv-loop : tie.InvT-loop
 Inv-loop nums₀ dens₀ from cs n i₀ nums dens i = Inv nums₀ dens₀ from cs n nums dens i
@@ -136,7 +130,10 @@ returns c done ps num den e m n p q k l =
     let i = c .before .loop .i in
     let z : i ≡ a .n = omega arith in
     let x = c .before .loop .inv .state done ps num den e m n p q k l in
-    (x .num-is ∙ ap (λ h. listed numeratorOf (a .from + h) (done ++ ps) num) z, x .den-is ∙ ap (λ h. listed denominatorOf (a .from + h) (done ++ ps) den) z)
+    record {
+      num-is = x .num-is ∙ ap (λ h. listed numeratorOf (a .from + h) (done ++ ps) num) z;
+      den-is = x .den-is ∙ ap (λ h. listed denominatorOf (a .from + h) (done ++ ps) den) z;
+    }
 
 pub write-spec : {M : Type 1} → statement M
 write-spec =
