@@ -394,6 +394,9 @@ def test_usage(tmp_path: Path) -> None:
 
 def test_the_workers_of_this_machine_have_one_thread() -> None:
     script = "import os\nfrom walzhik.bank import local\nfrom pathlib import Path\nworker = local.started()\n"
-    script += "print(Path(f'/proc/{worker.process.pid}/environ').read_bytes().decode())\nworker.connection.close()"
+    # right after the start the system may not show the worker's environment yet
+    script += "shown = Path(f'/proc/{worker.process.pid}/environ')\n"
+    script += "while not shown.read_bytes() and worker.process.poll() is None:\n    pass\n"
+    script += "print(shown.read_bytes().decode())\nworker.connection.close()"
     said = python("-c", script).stdout
     assert all(f"{name}=1" in said for name in ("OMP_NUM_THREADS", "OPENBLAS_NUM_THREADS", "MKL_NUM_THREADS"))
