@@ -8,7 +8,7 @@ use Rattle.build_factors.specs.declared.Refusal.{Refusal}
 use Rattle.build_factors.specs.declared.Refusal.the-variants as refusals
 use Rattle.build_cells.specs.Left.{Left}
 
--- No refusal, or the name of its number.
+-- No refusal, or the name of its code.
 abbrev pub toldStep : Outcome Table → Refusal
 toldStep (answer t) = refusals.None
 toldStep (refusal code place) = refusalOf code
