@@ -1,4 +1,4 @@
--- Rounding down, and to the nearest. For -(a + 1) the quotient rounded down is -(a / d + 1), which never leaves the integers:
+-- Rounding down, and to the nearest (before § 1). For -(a + 1) the quotient rounded down is -(a / d + 1), which never leaves the integers:
 -- nothing is rounded towards zero and put right afterwards. At divisor 0, where a / 0 = 0, it is 0 or -1.
 use Prim.Native.Nat.{ℕ, _*_, _/_}
 use lib.IntN.{ℤ, pos, negsuc, _+ℤ_, _*ℤ_}

@@ -1,4 +1,4 @@
--- The rational numbers, as fractions in lowest terms with a positive denominator. Equal numbers are equal records, so
+-- The rational numbers: "A fraction is in lowest terms with a positive denominator" (§ 2). Equal numbers are equal records, so
 -- `≡` is equality of numbers, and the two parts are those that a machine fraction holds. Every operation computes.
 -- The few lemmas are those that `mk` needs to show its lowest terms; the laws are in proofs/Rational.
 use mathlib.Core.Path.{_≡_, refl}

@@ -8,7 +8,7 @@ pub data Outcome (A : Type 0) : Type 0 where
   answer : A → Outcome A
   refusal : ℕ → ℕ → Outcome A
 
--- A place is an unsigned 32-bit number, and "4,294,967,295 also stands for anything larger": the largest place.
+-- A place is an unsigned 32-bit number; "4,294,967,295, the largest place, also stands for anything larger" (§ 3).
 abbrev pub largestPlace : ℕ
 largestPlace = 4294967295
 

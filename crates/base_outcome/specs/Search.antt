@@ -1,5 +1,5 @@
--- The first and the last index below a bound that meets a test, and how many do.
--- The specification speaks of "the first" entry that breaks a rule, and of the first and last row with a non-zero jump.
+-- The first and the last index below a bound that meets a test, and how many do: the first entry that breaks a rule (§ 3), the
+-- first and the last row with a non-zero jump (§ 5).
 use mathlib.Core.Bool.{Bool, true, false, cond}
 use mathlib.Core.Option.{Option, some, none}
 use Prim.Native.Nat.{ℕ, zero, suc, _+_}

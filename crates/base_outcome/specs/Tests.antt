@@ -1,4 +1,5 @@
--- Tests that a call makes of its lists: a number within its range, and the refusal at the first entry that breaks a rule.
+-- Tests that a call makes of its lists: a number within its range, and the refusal at the first entry that breaks a rule
+-- (§ 3).
 use mathlib.Core.Bool.{Bool, _&&_}
 use mathlib.Core.Option.{Option, some, none}
 use Prim.Native.Nat.{ℕ}

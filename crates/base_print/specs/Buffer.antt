@@ -1,4 +1,4 @@
--- A text written into a lent buffer from an index on: what does not fit is left out.
+-- A text, as a printout (§ 13), written into a lent buffer from an index on: what does not fit is left out.
 use mathlib.Core.Bool.{cond, _&&_}
 use mathlib.Core.List.{List}
 use mathlib.Core.Path.{_≡_}

@@ -8,7 +8,7 @@ use Rattle.base_text.specs.Numeral.{digits}
 abbrev pub refusalKey : Text
 refusalKey = 110 ∷ 111 ∷ 61 ∷ []
 
--- "A refusal prints only no=number,place."
+-- "A refusal prints one line, no=number,place." (§ 13)
 unfoldable pub refusalLine : ℕ → ℕ → Text
 refusalLine code place = refusalKey ++ (digits code ++ (comma ∷ (digits place ++ (newline ∷ []))))
 

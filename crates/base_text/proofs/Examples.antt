@@ -1,5 +1,5 @@
--- What the specification's sentence on numbers allows and refuses, by computation on the definitions: "decimal, minus allowed, 1 to
--- 7 digits, no spare zeros, no -0".
+-- What the specification's sentence on numbers allows and refuses, by computation on the definitions: "decimal, with a minus or
+-- without a sign, 1 to 7 digits (the minus not counted), no spare zeros, no -0" (§ 13).
 use mathlib.Core.Option.{some, none}
 use mathlib.Core.Path.{_≡_, refl}
 use Prim.Native.String.{String}

@@ -1,4 +1,4 @@
--- The bytes of the sheet's text, and how a text is cut at one of them.
+-- The bytes of the sheet's text (§ 13), and how a text is cut at one of them.
 use mathlib.Core.Bool.{Bool, true, false, cond}
 use mathlib.Core.List.{List, [], _∷_, _++_}
 use mathlib.Core.Option.{Option, some, none}

@@ -26,13 +26,13 @@ unfoldable pub digitsValue : ℕ → Text → ℕ
 digitsValue v [] = v
 digitsValue v (c ∷ cs) = digitsValue (v * 10 + (c - digitZero)) cs
 
--- "no spare zeros": a 0 begins a numeral only as its one digit.
+-- "no spare zeros" (§ 13): a 0 begins a numeral only as its one digit.
 abbrev pub spareZero : Text → Bool
 spareZero [] = false
 spareZero (c ∷ []) = false
 spareZero (c ∷ d ∷ cs) = eqb c digitZero
 
--- "1 to 7 digits, no spare zeros".
+-- "1 to 7 digits (the minus not counted), no spare zeros" (§ 13).
 unfoldable pub isNatural : Text → Bool
 isNatural t = leb 1 (length t) && leb (length t) 7 && allDigits t && not (spareZero t)
 
@@ -41,7 +41,7 @@ negated true zero = none
 negated true (suc n) = some (negsuc n)
 negated false n = none
 
--- The number that a field stands for, if it is a numeral; "no -0".
+-- The number that a field stands for, if it is a numeral; "no -0" (§ 13).
 unfoldable pub numeral : Text → Option ℤ
 numeral [] = none
 numeral (c ∷ cs) = cond (eqb c minus) (negated (isNatural cs) (digitsValue 0 cs))
@@ -65,7 +65,7 @@ decimal (negsuc n) = minus ∷ digits (suc n)
 
 -- ---- reading what was printed
 
--- "1 to 7 digits": the least number that has more.
+-- "1 to 7 digits" (§ 13): the least number that has more.
 abbrev pub numeralLimit : ℕ
 numeralLimit = 10000000
 

@@ -13,11 +13,11 @@ use Rattle.base_fraction.specs.Machine.{fraction}
 use Rattle.base_fraction.specs.declared.Fraction.{Fraction}
 use Rattle.base_fraction.proofs.Value.{fraction-int}
 use Rattle.base_outcome.specs.Outcome.{Outcome, answer, refusal, _then_, collect}
-use Rattle.spec_spline.specs.Step.{factor, factors}
+use Rattle.spec_spline.specs.Step.{factor, factors, Planned, planOver}
 use Rattle.base_fraction.specs.Fractions.{fractions}
 use Rattle.base_fraction.specs.declared.arrays.Fractions.{Fractions}
 use Rattle.base_fraction.proofs.Fractions.{fractions-zero}
-use Rattle.build_factors.specs.Machine.{nextFactor, refusalOf, Planned, planOver, Plans}
+use Rattle.build_factors.specs.Machine.{nextFactor, refusalOf, Plans}
 use Rattle.build_factors.specs.declared.RowFactors.{RowFactors}
 use Rattle.build_factors.specs.declared.Refusal.{Refusal}
 use Rattle.build_factors.specs.declared.Refusal.the-variants as refusals

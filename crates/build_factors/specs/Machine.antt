@@ -1,14 +1,13 @@
 -- The machine's form of the factors and refusals that the definitions of crate spec_spline give.
 use mathlib.Core.Bool.{cond}
-use mathlib.Core.List.{List}
 use mathlib.Core.Path.{_≡_}
 use Prim.Native.Nat.{ℕ}
 use lib.Dec.{eqb}
 use lib.IntN.{pos}
 use Rattle.base_exact.specs.Rational.{ℚ, int}
 use Rattle.base_fraction.specs.Machine.{fraction}
-use Rattle.base_outcome.specs.Outcome.{Outcome, answer, refusal, _then_}
-use Rattle.spec_spline.specs.Step.{Span, factors}
+use Rattle.base_outcome.specs.Outcome.{Outcome, answer, refusal}
+use Rattle.spec_spline.specs.Step.{Planned}
 use Rattle.base_fraction.specs.Fractions.{fractions}
 use Rattle.build_factors.specs.declared.Refusal.{Refusal}
 use Rattle.build_factors.specs.declared.Refusal.the-variants as refusals
@@ -23,16 +22,6 @@ refusalOf code = cond (eqb code 8) refusals.TooLarge refusals.Shape
 unfoldable pub nextFactor : ℚ → Outcome ℚ → NextFactor
 nextFactor s (answer w) = record { refusal = refusals.None; sum = fraction s; w = fraction w }
 nextFactor s (refusal code place) = record { refusal = refusalOf code; sum = fraction (int (pos 0)); w = fraction (int (pos 0)) }
-
--- What a step works out before it makes rows new: its jumps, the rows that they span and the factors of these rows.
-pub record Planned : Type 0 where
-  pub jumps : List ℚ
-  pub span : Span
-  pub factors : List ℚ
-
--- These jumps with the factors of these rows.
-unfoldable pub planOver : ℕ → List ℚ → Span → Outcome Planned
-planOver j js g = factors j js g then λ ws. answer (record { jumps = js; span = g; factors = ws })
 
 -- The machine's form of the rows and factors; after a refusal only its name counts.
 abbrev pub Plans : Outcome Planned → RowFactors → Type 0

@@ -8,7 +8,8 @@ ghost use Rattle.base_exact.specs.Rational.{ℚ, _+ᵠ_};
 ghost use Rattle.base_fraction.specs.Machine.{value};
 ghost use Rattle.spec_spline.specs.Step;
 ghost use Rattle.base_fraction.specs.Fractions.{fractions};
-ghost use Rattle.build_factors.specs.Machine.{nextFactor, planOver, Plans};
+ghost use Rattle.build_factors.specs.Machine.{nextFactor, Plans};
+ghost use Rattle.spec_spline.specs.Step.{planOver};
 ghost use Rattle.build_factors.specs.Jumps.{between, Spanned, FactorAsks};
 use base_fraction::Counted;
 use base_fraction::Fraction;
@@ -31,7 +32,7 @@ pub struct RowFactors {
 }
 
 pub fn no_factors(refusal: Refusal) -> RowFactors
-    ensures { λ r. ⌜ r .refusal ≡ refusal ⌝ }
+    ensures { λ r. ⌜ (r .refusal ≡ refusal) × ((r .f ≡ 0) × ((r .l ≡ 0) × (r .of ≡ fractions []))) ⌝ }
 {
     RowFactors {
         refusal: refusal,

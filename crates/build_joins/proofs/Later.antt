@@ -24,7 +24,7 @@ use Rattle.base_outcome.specs.Search.{first, last, found}
 use Rattle.spec_spline.specs.Space.{Space, degree, firstColumn}
 use Rattle.spec_spline.specs.Conditions.{Entry, conditions}
 use Rattle.spec_spline.specs.Table.{Row, Table, entry, row, identity}
-use Rattle.spec_spline.specs.Step.{Span, count, jump, jumps, jumpsAt, zeroBetween, spanOf, span, partialSum, factor, quotientFactor, factors, newRow, newRows, step}
+use Rattle.spec_spline.specs.Step.{Span, count, jump, jumps, jumpsAt, zeroBetween, spanOf, span, partialSum, factor, quotientFactor, factors, newRow, newRows, step, Planned, planOver, planFrom, planned, rowsRenewed}
 use Rattle.base_outcome.proofs.Outcome.{then-answers, then-refuses, collect-answers, collect-stops, collect-inverts, collect-refuses, repeat-keeps}
 use Rattle.base_outcome.proofs.Search.{Searched, search-first, first-none, first-at, first-ext, Last, SearchedBack, search-last, last-none, last-at}
 use Rattle.spec_spline.proofs.Step.{count-fits, products-none, products-more}
@@ -32,8 +32,6 @@ use Rattle.spec_spline.specs.Build.{orderSteps}
 use Rattle.spec_spline.proofs.Table.{entry-past, identity-off}
 use Rattle.spec_spline.proofs.Answers.{jumps-length}
 use Rattle.build_space.proofs.Bounds.{first-column-next}
-use Rattle.build_factors.specs.Machine.{Planned, planOver}
-use Rattle.build_step.specs.Plan.{planFrom, planned, rowsRenewed}
 use Rattle.build_step.proofs.Plan.{step-planned, Works, plan-works}
 use Rattle.build_conditions.specs.Terms.{columnOf}
 use Rattle.build_conditions.proofs.Terms.{conditions-length, column-left, column-right}

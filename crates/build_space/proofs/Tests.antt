@@ -1,4 +1,4 @@
--- The machine's tests of one entry, taken one by one, and the tests of the definitions, which join them by "or". A test
+-- The machine's tests of one entry, taken one by one, and the tests of the definitions, which join them by `||`. A test
 -- of order is its flag, as `simp toZ-ofZ at (c .if1 .taken)` leaves it.
 use mathlib.Core.Path.{_≡_, refl, sym, _∙_, ap, ap₂}
 use mathlib.Core.Bool.{Bool, true, false, not, _&&_, _||_, and-false, or-true}

@@ -11,20 +11,18 @@ use Rattle.base_exact.specs.Rational.{ℚ}
 use Rattle.base_outcome.specs.Outcome.{Outcome, answer, refusal, _then_, with-answer}
 use Rattle.spec_spline.specs.Table.{Table, numerators, denominators}
 use Rattle.spec_spline.specs.Conditions.{Entry}
-use Rattle.spec_spline.specs.Step.{Span, newRows, step}
+use Rattle.spec_spline.specs.Step.{Span, newRows, step, Planned, planned, rowsRenewed}
 use Rattle.base_outcome.proofs.Outcome.{answer-not-refusal, then-answers, then-refuses, Broken, first-refuses, second-refuses, then-breaks}
 use Rattle.spec_spline.proofs.Refusals.{newRows-refuse-8}
 use Rattle.build_cells.specs.Held.{Holds, Shaped}
 use Rattle.build_cells.proofs.Tables.{renewed-without}
 use Rattle.build_cells.proofs.Buffer.{holds-left, numerators-again, denominators-again}
-use Rattle.build_factors.specs.Machine.{Planned}
 use Rattle.build_factors.specs.declared.Refusal.{Refusal}
 use Rattle.build_factors.specs.declared.Refusal.the-variants as refusals
 use Rattle.build_factors.proofs.Quotients.{refusal-some, Ended}
 use Rattle.build_factors.proofs.Answers.{eight-named}
 use Rattle.build_cells.specs.Left.{LeavesIf}
 use Rattle.build_cells.proofs.Left.{kept-same, left-answer, left-refusal, Done, left-done, Halted, left-halted}
-use Rattle.build_step.specs.Plan.{planned, rowsRenewed}
 use Rattle.build_step.specs.Leaves.{Leaves, toldStep}
 use Rattle.build_step.proofs.Plan.{step-planned}
 use Rattle.build_step.proofs.Stepped.{renewed-fits, renewed-shaped, newRows-fit, newRows-length}

@@ -10,12 +10,12 @@ use Rattle.base_outcome.specs.Outcome.{Outcome, answer, refusal, _then_}
 use Rattle.base_outcome.proofs.Outcome.{answer-unique, then-answers, then-refuses, then-inverts}
 use Rattle.spec_spline.specs.Conditions.{Entry}
 use Rattle.spec_spline.specs.Table.{Table}
-use Rattle.spec_spline.specs.Step.{Span, jumps, span, factors, step}
+use Rattle.spec_spline.specs.Step.{Span, jumps, span, factors, step, Planned, planOver, planFrom, planned, rowsRenewed}
 use Rattle.spec_spline.proofs.Answers.{jumps-length, jumps-fit, Spans, span-inverts}
 use Rattle.spec_spline.proofs.Refusals.{jumps-refuse-8, span-refuses-9}
 use Rattle.build_counted.proofs.Counted.{Refused}
 use Rattle.build_factors.specs.Jumps.{AllFit}
-use Rattle.build_factors.specs.Machine.{Planned, planOver, Plans}
+use Rattle.build_factors.specs.Machine.{Plans}
 use Rattle.build_factors.specs.declared.RowFactors.{RowFactors}
 use Rattle.build_factors.specs.declared.Refusal.{Refusal}
 use Rattle.build_factors.specs.declared.Refusal.the-variants as refusals
@@ -23,36 +23,12 @@ use Rattle.build_factors.proofs.Quotients.{refusal-some, Ended}
 use Rattle.build_factors.proofs.Answers.{eight-named, nine-named}
 use Rattle.build_rows.specs.Rows.{UnitFactors}
 use Rattle.build_rows.proofs.Mixing.{unit-factors}
-use Rattle.build_step.specs.Plan.{planFrom, planned, rowsRenewed}
 
 module _ (j : ℕ) (κ : List Entry) (t : Table) where
-  -- what is done after the first half, for any rest
-  pub then-planned : {B : Type 0} (rest : Planned → Outcome B)
-      → (planned j κ t then rest) ≡ (jumps j κ t then λ js. span j js then λ g. factors j js g then λ ws. rest (record { jumps = js; span = g; factors = ws }))
-  unfolding planned planFrom planOver
-  then-planned {B} rest = with-jumps (jumps j κ t)
-    where
-      with-factors : (js : List ℚ) (g : Span) (o : Outcome (List ℚ)) → ((o then λ ws. answer (record { jumps = js; span = g; factors = ws })) then rest) ≡
-          (o then λ ws. rest (record { jumps = js; span = g; factors = ws }))
-      with-factors js g (answer ws) = refl
-      with-factors js g (refusal code place) = refl
-
-      with-span : (js : List ℚ) (o : Outcome Span)
-          → ((o then λ g. factors j js g then λ ws. answer (record { jumps = js; span = g; factors = ws })) then rest) ≡
-          (o then λ g. factors j js g then λ ws. rest (record { jumps = js; span = g; factors = ws }))
-      with-span js (answer g) = with-factors js g (factors j js g)
-      with-span js (refusal code place) = refl
-
-      with-jumps : (o : Outcome (List ℚ))
-          → ((o then λ js. span j js then λ g. factors j js g then λ ws. answer (record { jumps = js; span = g; factors = ws })) then rest)
-          ≡ (o then λ js. span j js then λ g. factors j js g then λ ws. rest (record { jumps = js; span = g; factors = ws }))
-      with-jumps (answer js) = with-span js (span j js)
-      with-jumps (refusal code place) = refl
-
   -- a step is its two halves
   pub step-planned : step j κ t ≡ (planned j κ t then λ p. rowsRenewed j (p .span) (p .factors) t)
-  unfolding step rowsRenewed
-  step-planned = sym (then-planned (λ p. rowsRenewed j (p .span) (p .factors) t))
+  unfolding step
+  step-planned = refl
 
   -- ---- what the first half tells
   pub record Works (p : Planned) : Type 0 where

@@ -1,4 +1,3 @@
 -- What the contracts of build_step cite beside the definitions of crate spec_spline.
-pub mod Plan
 pub mod Asks
 pub mod Leaves

@@ -14,7 +14,7 @@ ghost use Rattle.build_conditions.specs.Sides.{JoinIs};
 ghost use Rattle.base_fraction.specs.Fractions.{fractions};
 ghost use Rattle.build_factors.specs.Machine.{Plans};
 ghost use Rattle.build_cells.specs.Left.{LeavesIf};
-ghost use Rattle.build_step.specs.Plan.{planFrom, rowsRenewed};
+ghost use Rattle.spec_spline.specs.Step.{planFrom, rowsRenewed};
 ghost use Rattle.build_step.specs.Asks.{PlanAsks, RenewAsks, StepAsks, StepsAsk};
 ghost use Rattle.build_step.specs.Leaves.{Leaves};
 use base_fraction::arrays::Fractions;

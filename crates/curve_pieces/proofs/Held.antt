@@ -18,8 +18,8 @@ use Rattle.spec_spline.specs.CurveCall.{CurveResult}
 use Rattle.base_outcome.proofs.Outcome.{capped-small, then-answers, then-refuses}
 use Rattle.theorems_values.proofs.Value.{segment-column}
 use Rattle.curve_parts.proofs.Fronts.{ordinates-length}
-use Rattle.curve_start.specs.CurveAlone.{curveAlone}
-use Rattle.curve_pieces.specs.Pieces.{isDrawable, drawableDegree, pieceOf, pieceOutcome}
+use Rattle.spec_calls.specs.CurveAlone.{curveAlone}
+use Rattle.spec_calls.specs.Pieces.{isDrawable, drawableDegree, pieceOf, pieceOutcome}
 use Rattle.curve_pieces.specs.Machine.{Shows, Replies, drawn, refused, pieceHeld, drawnHeld}
 use Rattle.curve_pieces.specs.declared.Drawing.{Drawing}
 use Rattle.curve_pieces.specs.declared.Answer.{Answer}

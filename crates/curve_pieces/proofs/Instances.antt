@@ -20,7 +20,7 @@ use Rattle.spec_spline.specs.Space.{Space, lengthsFit, badBreak, startsPart, pa
 use Rattle.spec_spline.specs.Space.{checkedEntries, checked, firstColumn, conditionsBefore}
 use Rattle.spec_spline.specs.Conditions.{falling, binomial, alternating, undivided, commonDivisor, conditions}
 use Rattle.spec_spline.specs.Table.{identity}
-use Rattle.spec_spline.specs.Step.{count, addProducts, span, partialSum, quotientFactor, factors, newEntry, newRows, step}
+use Rattle.spec_spline.specs.Step.{count, addProducts, span, partialSum, quotientFactor, factors, newEntry, newRows, planOver, planFrom, planned, rowsRenewed, step}
 use Rattle.spec_spline.specs.Build.{orderSteps, joinSteps, weights}
 use Rattle.spec_spline.specs.Piecewise.{Accepted}
 use Rattle.spec_spline.specs.Reading.{startsAtDiscontinuity, startsBy, segmentAt, Wood, earlywood, latewood, sideBySide, rounded, term}
@@ -30,7 +30,7 @@ use Rattle.spec_spline.specs.Cases.{pair, forBoth, space1, space9, lowerLimitSp
 use Rattle.spec_spline.specs.ExactCurve.{power, bernsteinAt, exactTerm, exactOn, exactCurve, largest, mostWeights}
 use Rattle.base_outcome.proofs.Outcome.{answer-unique}
 use Rattle.theorems_values.proofs.Instances.{table1, accepted1, table9, coefs9, accepted9, exact9}
-use Rattle.curve_pieces.specs.Pieces.{Piece, isDrawable, pieceOf, pieceOutcome}
+use Rattle.spec_calls.specs.Pieces.{Piece, isDrawable, pieceOf, pieceOutcome}
 use Rattle.curve_pieces.specs.PieceCurve.{polynomialAt, halfTheWeights, WithinHalfTheWeights, IsTheValue}
 use Rattle.curve_pieces.proofs.PieceCurve.{pieces-are-close, pieces-end-at-the-value, pieces-start-at-the-value}
 
@@ -60,7 +60,8 @@ first1 = record { ordinates = pos 0 ∷ pos 25600 ∷ pos 17067 ∷ []; start = 
 first-drawn1 : pieceOutcome space1 earlywood coefs1 0 5184 5184 ≡ answer first1
 unfolding gcd gcdF mk int inv _+ᵠ_ _*ᵠ_ -ᵠ_ isZero ltᵠ nearest sum tab fits capped collect repeat first last lengthsFit badBreak
     startsPart partEnd spanTooLong tooManySegments badDegree badOrder checkedEntries checked firstColumn conditionsBefore falling binomial
-    alternating undivided commonDivisor conditions identity count addProducts span partialSum quotientFactor factors newEntry newRows step
+    alternating undivided commonDivisor conditions identity count addProducts span partialSum quotientFactor factors newEntry newRows planOver
+    planFrom planned rowsRenewed step
     orderSteps joinSteps weights sideBySide rounded term termSum best ordinate values badCoefficient badPosition curveChecked curveRead
     curveOutcome isDrawable pieceOf pieceOutcome
 first-drawn1 = refl
@@ -71,7 +72,8 @@ second1 = record { ordinates = pos 17067 ∷ pos 0 ∷ pos 0 ∷ []; start = pos
 second-drawn1 : pieceOutcome space1 earlywood coefs1 1 5184 5184 ≡ answer second1
 unfolding gcd gcdF mk int inv _+ᵠ_ _*ᵠ_ -ᵠ_ isZero ltᵠ nearest sum tab fits capped collect repeat first last lengthsFit badBreak
     startsPart partEnd spanTooLong tooManySegments badDegree badOrder checkedEntries checked firstColumn conditionsBefore falling binomial
-    alternating undivided commonDivisor conditions identity count addProducts span partialSum quotientFactor factors newEntry newRows step
+    alternating undivided commonDivisor conditions identity count addProducts span partialSum quotientFactor factors newEntry newRows planOver
+    planFrom planned rowsRenewed step
     orderSteps joinSteps weights sideBySide rounded term termSum best ordinate values badCoefficient badPosition curveChecked curveRead
     curveOutcome isDrawable pieceOf pieceOutcome
 second-drawn1 = refl
@@ -82,7 +84,8 @@ late1 = record { ordinates = pos 342 ∷ pos 512 ∷ pos 0 ∷ []; start = pos 1
 late-drawn1 : pieceOutcome space1 latewood coefs1 1 5184 5184 ≡ answer late1
 unfolding gcd gcdF mk int inv _+ᵠ_ _*ᵠ_ -ᵠ_ isZero ltᵠ nearest sum tab fits capped collect repeat first last lengthsFit badBreak
     startsPart partEnd spanTooLong tooManySegments badDegree badOrder checkedEntries checked firstColumn conditionsBefore falling binomial
-    alternating undivided commonDivisor conditions identity count addProducts span partialSum quotientFactor factors newEntry newRows step
+    alternating undivided commonDivisor conditions identity count addProducts span partialSum quotientFactor factors newEntry newRows planOver
+    planFrom planned rowsRenewed step
     orderSteps joinSteps weights sideBySide rounded term termSum best ordinate values badCoefficient badPosition curveChecked curveRead
     curveOutcome isDrawable pieceOf pieceOutcome
 late-drawn1 = refl
@@ -235,7 +238,8 @@ cubic = record { ordinates = pos 256 ∷ pos 256 ∷ pos 256 ∷ pos 256 ∷ [];
 cubic-drawn : pieceOutcome lowerLimitSpace earlywood lowerCoefs 0 5184 5184 ≡ answer cubic
 unfolding gcd gcdF mk int inv _+ᵠ_ _*ᵠ_ -ᵠ_ isZero ltᵠ nearest sum tab fits capped collect repeat first last lengthsFit badBreak
     startsPart partEnd spanTooLong tooManySegments badDegree badOrder checkedEntries checked firstColumn conditionsBefore falling binomial
-    alternating undivided commonDivisor conditions identity count addProducts span partialSum quotientFactor factors newEntry newRows step
+    alternating undivided commonDivisor conditions identity count addProducts span partialSum quotientFactor factors newEntry newRows planOver
+    planFrom planned rowsRenewed step
     orderSteps joinSteps weights sideBySide rounded term termSum best ordinate values badCoefficient badPosition curveChecked curveRead
     curveOutcome isDrawable pieceOf pieceOutcome
 cubic-drawn = refl
@@ -257,7 +261,8 @@ past-the-end = refl
 degree-4 : pieceOutcome lowerLimitSpace earlywood lowerCoefs 1 5184 5184 ≡ refusal 17 1
 unfolding gcd gcdF mk int inv _+ᵠ_ _*ᵠ_ -ᵠ_ isZero ltᵠ nearest sum tab fits capped collect repeat first last lengthsFit badBreak
     startsPart partEnd spanTooLong tooManySegments badDegree badOrder checkedEntries checked firstColumn conditionsBefore falling binomial
-    alternating undivided commonDivisor conditions identity count addProducts span partialSum quotientFactor factors newEntry newRows step
+    alternating undivided commonDivisor conditions identity count addProducts span partialSum quotientFactor factors newEntry newRows planOver
+    planFrom planned rowsRenewed step
     orderSteps joinSteps weights sideBySide rounded term termSum best ordinate values badCoefficient badPosition curveChecked curveRead
     curveOutcome isDrawable pieceOf pieceOutcome
 degree-4 = refl

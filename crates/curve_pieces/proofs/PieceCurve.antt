@@ -41,9 +41,9 @@ use Rattle.theorems_values.proofs.Value.{segment-column}
 use Rattle.theorems_values.proofs.Positions.{discontinuities-belong-before, other-joins-belong-after, first-breakpoint-belongs-first}
 use Rattle.theorems_values.proofs.Positions.{last-breakpoint-belongs-last}
 use Rattle.theorems_acceptance.proofs.Curves.{curves-never-give-nine}
-use Rattle.curve_start.specs.CurveAlone.{curveAlone}
+use Rattle.spec_calls.specs.CurveAlone.{curveAlone}
 use Rattle.curve_start.proofs.Accepted.{accepted-by}
-use Rattle.curve_pieces.specs.Pieces.{isDrawable, drawableDegree, Piece, pieceOf, pieceOutcome}
+use Rattle.spec_calls.specs.Pieces.{isDrawable, drawableDegree, Piece, pieceOf, pieceOutcome}
 use Rattle.curve_pieces.specs.PieceCurve.{polynomialAt, halfTheWeights, WithinHalfTheWeights, PiecesAreClose, IsTheValue}
 use Rattle.curve_pieces.specs.PieceCurve.{PiecesEndAtTheValue, PiecesStartAtTheValue, PiecesNeverGiveNine}
 use Rattle.curve_pieces.proofs.AtEnds.{exactTriangle-start, exactTriangle-end, triangle-start, triangle-end, exactTriangle-within}

@@ -1,4 +1,3 @@
--- Pieces for the screen (§ 11): the call in Pieces, the statements in PieceCurve.
-pub mod Pieces
+-- Pieces for the screen (§ 11), which crate spec_calls defines: the machine's form in Machine, the statements in PieceCurve.
 pub mod Machine
 pub mod PieceCurve

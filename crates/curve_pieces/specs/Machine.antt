@@ -13,13 +13,13 @@ use Rattle.spec_spline.specs.Reading.{fineness}
 use Rattle.build_space.specs.Legal.{ListsLegal}
 use Rattle.curve_places.specs.Offsets.{columnLimit}
 use Rattle.curve_drawing.specs.Floats.{Is, Each, floats}
-use Rattle.curve_pieces.specs.Pieces.{drawableDegree, Piece, isDrawable}
+use Rattle.spec_calls.specs.Pieces.{drawableDegree, Piece, isDrawable}
 use Rattle.curve_pieces.specs.declared.Drawing.{Drawing}
 use Rattle.curve_pieces.specs.declared.Answer.{Answer}
 use Rattle.curve_pieces.specs.declared.Answer.the-variants.{Drawn, Refused}
 
--- The machine's piece is the definition's: "an end is the breakpoint itself, and an ordinate times 256 is the whole number from
--- step 1".
+-- The machine's piece is the definition's, "all as 64-bit floats, exactly" (§ 11): an end is the breakpoint itself, and an ordinate
+-- times 256 is the whole number from step 1 of § 6.
 pub record Shows (r : Drawing) (p : Piece) : Type 0 where
   pub ordinates : Each fineness (floats (r .curve)) (p .ordinates)
   pub start : Is (r .ends .start) (p .start) 1

@@ -16,7 +16,7 @@ use Rattle.spec_spline.specs.Reading.{Wood, fine, fineWidth, offset, startsAtDi
 use Rattle.spec_spline.specs.ExactCurve.{bernsteinAt, exactCurve, mostWeights}
 use Rattle.spec_spline.specs.Piecewise.{Accepted}
 use Rattle.theorems_values.specs.ValueLimits.{InSpan}
-use Rattle.curve_pieces.specs.Pieces.{Piece, pieceOutcome, pieceEnd}
+use Rattle.spec_calls.specs.Pieces.{Piece, pieceOutcome, pieceEnd}
 
 -- The piece's polynomial at position x of segment k, in the units of the values.
 unfoldable pub polynomialAt : Space → Piece → ℕ → ℤ → ℚ

@@ -3,7 +3,7 @@
 ghost use mathlib.Core.Path.{_≡_};
 ghost use Rattle.build_space.specs.Machine.{space};
 ghost use Rattle.curve_ordinates.specs.Wood.{woodOf};
-ghost use Rattle.curve_pieces.specs.Pieces.{pieceEnd};
+ghost use Rattle.spec_calls.specs.Pieces.{pieceEnd};
 ghost use Rattle.curve_pieces.specs.Machine.{Shows, pieceHeld, drawnHeld, Replies, PieceAsks, DrawAsks};
 use curve_drawing::Curve;
 use curve_ordinates::Wood;

@@ -14,10 +14,10 @@ use Rattle.spec_spline.specs.Reading.{Wood, coefficient, fine, segmentAt, value
 use Rattle.spec_spline.specs.CurveCall.{CurveResult}
 use Rattle.base_outcome.proofs.Outcome.{then-answers, then-refuses, capped-small}
 use Rattle.base_outcome.proofs.Search.{first-ext}
-use Rattle.curve_start.specs.CurveAlone.{curveAlone}
+use Rattle.spec_calls.specs.CurveAlone.{curveAlone}
 use Rattle.curve_start.proofs.Fronted.{fronted, blended-fronted}
-use Rattle.curve_search.specs.Positions.{positionCount, position}
-use Rattle.curve_reach.specs.Reach.{reaches, reachedAt, reachOutcome}
+use Rattle.spec_calls.specs.Positions.{positionCount, position}
+use Rattle.spec_calls.specs.Reach.{reaches, reachedAt, reachOutcome}
 use Rattle.curve_reach.specs.Machine.{reply}
 use Rattle.curve_search.specs.Machine.{heldValue, reachesHeld, found}
 use Rattle.curve_reach.specs.declared.Answer.the-variants.{Refused}

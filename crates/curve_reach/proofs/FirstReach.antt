@@ -22,10 +22,10 @@ use Rattle.base_outcome.proofs.Search.{First, first-some-inverts, first-none-in
 use Rattle.spec_spline.proofs.Legal.{keeping-refusal}
 use Rattle.theorems_values.proofs.Segment.{accepted-checked}
 use Rattle.theorems_acceptance.proofs.Curves.{curves-never-give-nine}
-use Rattle.curve_start.specs.CurveAlone.{curveAlone}
+use Rattle.spec_calls.specs.CurveAlone.{curveAlone}
 use Rattle.curve_start.proofs.Accepted.{accepted-by}
-use Rattle.curve_search.specs.Positions.{positionCount, position}
-use Rattle.curve_reach.specs.Reach.{reaches, reachedAt, reachOutcome}
+use Rattle.spec_calls.specs.Positions.{positionCount, position}
+use Rattle.spec_calls.specs.Reach.{reaches, reachedAt, reachOutcome}
 use Rattle.curve_reach.specs.FirstReach.{FirstAt, AnswersAreFirst, NeverReached, SixteenIsNever, ReachNeverGivesNine}
 use Rattle.curve_search.proofs.Positions.{position-after-start, position-before-end, indexOf, position-of-index, index-below}
 use Rattle.curve_search.proofs.Positions.{index-in-span}

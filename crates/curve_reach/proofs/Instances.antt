@@ -21,7 +21,7 @@ use Rattle.spec_spline.specs.Reading.{startsAtDiscontinuity, startsBy, segmentA
 use Rattle.spec_spline.specs.Reading.{ordinates, blend, triangle, blended, valueAt, values}
 use Rattle.spec_spline.specs.CurveCall.{badCoefficient, badPosition, curveChecked, curveRead, curveOutcome}
 use Rattle.spec_spline.specs.Cases.{space9}
-use Rattle.curve_reach.specs.Reach.{reachOutcome}
+use Rattle.spec_calls.specs.Reach.{reachOutcome}
 use Rattle.curve_reach.specs.FirstReach.{FirstAt, NeverReached}
 use Rattle.curve_reach.proofs.FirstReach.{answers-are-first, sixteen-is-never}
 

@@ -9,7 +9,7 @@ use Rattle.base_outcome.specs.Outcome.{answer, refusal}
 use Rattle.spec_spline.specs.Space.{Space, segments, break}
 use Rattle.spec_spline.specs.Reading.{Wood, fine, valueAt}
 use Rattle.spec_spline.specs.Piecewise.{Accepted}
-use Rattle.curve_reach.specs.Reach.{reachOutcome, reachEnd}
+use Rattle.spec_calls.specs.Reach.{reachOutcome, reachEnd}
 
 -- The answer x lies in the span, its value reaches the width, and no earlier position's does.
 pub record FirstAt (s : Space) (wood : Wood) (coefs : List ℤ) (width x : ℤ) : Type 0 where

@@ -13,7 +13,7 @@ use Rattle.spec_spline.specs.Reading.{fine}
 use Rattle.spec_spline.proofs.Legal.{Checked}
 use Rattle.theorems_values.proofs.Positions.{breakpoint-in-span}
 use Rattle.curve_steps.proofs.Distances.{distance, past}
-use Rattle.curve_search.specs.Positions.{positionCount, position}
+use Rattle.spec_calls.specs.Positions.{positionCount, position}
 
 module _ (s : Space) where
   pub position-after-start : (i : ℕ) → fine (break s 0) ≤ℤ position s i

@@ -21,7 +21,7 @@ use Rattle.spec_spline.proofs.Legal.{Checked, legal}
 use Rattle.theorems_values.proofs.Positions.{breakpoint-in-span}
 use Rattle.build_space.specs.Machine.{space}
 use Rattle.build_space.proofs.Partial.{starts-at-discontinuity-partial}
-use Rattle.curve_search.specs.Positions.{positionCount, position}
+use Rattle.spec_calls.specs.Positions.{positionCount, position}
 use Rattle.curve_search.specs.Machine.{startOffset, endOffset, heldValue, reachesHeld, found}
 use Rattle.curve_steps.specs.Machine.{valueOn, LeastFrom}
 use Rattle.curve_search.specs.declared.Found.the-variants.{At, Nowhere}

@@ -1,4 +1,3 @@
--- What the contracts of curve_search cite beside the definitions of crate spec_spline.
-pub mod Positions
+-- What the contracts of curve_search cite beside the definitions of crates spec_spline and spec_calls.
 pub mod Machine
 pub mod Asks

@@ -8,7 +8,7 @@ use lib.IntN.{ℤ}
 use lib.Signed.{leZ}
 use Rattle.spec_spline.specs.Space.{Space, segments}
 use Rattle.spec_spline.specs.Reading.{startsAtDiscontinuity, segmentAt, fineWidth, blended}
-use Rattle.curve_search.specs.Positions.{position}
+use Rattle.spec_calls.specs.Positions.{position}
 use Rattle.curve_search.specs.declared.Found.{Found}
 use Rattle.curve_search.specs.declared.Found.the-variants.{At, Nowhere}
 

@@ -6,7 +6,7 @@ ghost use Rattle.base_outcome.specs.Search.{first};
 ghost use Rattle.spec_spline.specs.Space.{break};
 ghost use Rattle.spec_spline.specs.Reading.{fine};
 ghost use Rattle.build_space.specs.Machine.{space};
-ghost use Rattle.curve_search.specs.Positions.{positionCount};
+ghost use Rattle.spec_calls.specs.Positions.{positionCount};
 ghost use Rattle.curve_search.specs.Machine;
 ghost use Rattle.curve_search.specs.Asks.{SearchAsks, BoundaryAsks, PositionAsks};
 

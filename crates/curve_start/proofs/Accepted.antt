@@ -9,7 +9,7 @@ use Rattle.spec_spline.specs.Piecewise.{Accepted}
 use Rattle.spec_spline.specs.CurveCall.{CurveResult}
 use Rattle.base_outcome.proofs.Outcome.{answer-unique}
 use Rattle.theorems_values.proofs.LegalCall.{answered-calls-are-legal, legal-calls-answer}
-use Rattle.curve_start.specs.CurveAlone.{curveAlone}
+use Rattle.spec_calls.specs.CurveAlone.{curveAlone}
 
 abbrev pub accepted-by : (s : Space) (coefs : List ℤ) (numLength denLength : ℕ) (r : CurveResult)
     → curveAlone s coefs numLength denLength ≡ answer r → Accepted s

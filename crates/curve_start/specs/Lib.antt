@@ -1,3 +1,2 @@
--- Where a curve call starts: without positions in CurveAlone, what the whole start leaves in Machine.
-pub mod CurveAlone
+-- Where a curve call starts: what the whole start leaves.
 pub mod Machine

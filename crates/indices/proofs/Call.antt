@@ -24,8 +24,8 @@ use Rattle.spec_spline.proofs.Pairs.{length-pairs}
 use Rattle.spec_spline.proofs.Build.{long-enough}
 use Rattle.theorems_values.proofs.LegalCall.{answered-calls-are-legal, legal-calls-answer, values-length}
 use Rattle.base_outcome.specs.declared.Answer.{Answer}
-use Rattle.theorems_indices.specs.Indices.{ringPositions, ringWidth, isRefused, badRing, indexOf, ringIndices, ringsRead, ringsIndexed}
-use Rattle.theorems_indices.specs.Indices.{indicesReturned, indicesAfter}
+use Rattle.spec_calls.specs.Indices.{ringPositions, ringWidth, isRefused, badRing, indexOf, ringIndices, ringsRead, ringsIndexed}
+use Rattle.spec_calls.specs.Indices.{indicesReturned, indicesAfter}
 use Rattle.theorems_indices.proofs.Cells.{value-cell}
 use Rattle.base_outcome.specs.Machine.{reply}
 use Rattle.indices.specs.Machine.{cellsIndexed, Indexed}

@@ -11,7 +11,7 @@ use Rattle.base_outcome.specs.Tests.{refuseFirst}
 use Rattle.base_outcome.specs.Machine.{reply}
 use Rattle.base_outcome.specs.declared.Answer.{Answer}
 use Rattle.spec_spline.specs.CurveCall.{positionLimit, CurveEnd}
-use Rattle.theorems_indices.specs.Indices.{indicesReturned, indicesAfter}
+use Rattle.spec_calls.specs.Indices.{indicesReturned, indicesAfter}
 use Rattle.indices_rings.specs.Cells.{badCell, cellIndex}
 
 -- Code 14 at the first ring that it refuses, or the indices.

@@ -8,7 +8,7 @@ ghost use Rattle.spec_spline.specs.Reading.{woodIndex};
 ghost use Rattle.spec_spline.specs.CurveCall.{positionLimit, curveEnd};
 ghost use Rattle.build_space.specs.Machine.{space};
 ghost use Rattle.curve_ordinates.specs.Wood.{woodOf};
-ghost use Rattle.theorems_indices.specs.Indices.{indicesEnd};
+ghost use Rattle.spec_calls.specs.Indices.{indicesEnd};
 ghost use Rattle.indices_positions.specs.Words.{ringsTaken, wordPositions};
 ghost use Rattle.indices.specs.Machine.{cellsIndexed, IndexAsks, Indexed, CurveLeaves};
 
@@ -90,9 +90,17 @@ pub fn indices(
     values: &mut [i32],
     indices: &mut [i64],
 ) -> base_outcome::Answer
-    ensures { λ r. ⌜ (let e = indicesEnd (woodOf wood) (space (now (breaks .entry)) (now (degrees .entry)) (now (orders .entry)))
-        (now (coefs .entry)) first (now (widths .entry)) (now (num .entry)) (now (den .entry)) (now (values .entry)) (now (indices .entry))
-        in
+    ensures { λ r. ⌜ (let e = indicesEnd (record {
+      wood = woodOf wood;
+      space = space (now (breaks .entry)) (now (degrees .entry)) (now (orders .entry));
+      coefs = now (coefs .entry);
+      firstRing = first;
+      widths = now (widths .entry);
+      num = now (num .entry);
+      den = now (den .entry);
+      values = now (values .entry);
+      indices = now (indices .entry);
+    }) in
         (reply r ≡ e .answers) × ((now (num .exit) ≡ e .numerators)
         × ((now (den .exit) ≡ e .denominators) × ((now (values .exit) ≡ e .values) × (now (indices .exit) ≡ e .indices))))) ⌝ }
 {

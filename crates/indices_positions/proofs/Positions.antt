@@ -30,7 +30,7 @@ use Rattle.spec_spline.proofs.Build.{long-enough}
 use Rattle.spec_spline.proofs.Legal.{Checked, checked-inverts, lengths-fit-inverts}
 use Rattle.spec_spline.specs.Table.{tableCells}
 use Rattle.theorems_values.proofs.LegalCall.{checks-passed}
-use Rattle.theorems_indices.specs.Indices.{ringPositions}
+use Rattle.spec_calls.specs.Indices.{ringPositions}
 use Rattle.theorems_indices.proofs.Cells.{exact-length, exact-at}
 use Rattle.indices_positions.specs.Words.{leastWord, greatestWord, nearestWord, wordPosition, wordPositions, ringsTaken}
 use Rattle.indices_positions.proofs.Words.{nearest-below, nearest-above, nearest-inside}

@@ -5,7 +5,7 @@ use mathlib.Core.Path.{_≡_}
 use Prim.Native.Nat.{ℕ, _+_, _*_, _<_, _≤_}
 use lib.IntN.{ℤ, pos}
 use lib.ListN.{length, getD}
-use Rattle.theorems_indices.specs.Indices.{ringWidth, isRefused, indexOf}
+use Rattle.spec_calls.specs.Indices.{ringWidth, isRefused, indexOf}
 
 -- Code 14 of ring i, by the cell of its value.
 unfoldable pub badCell : List ℤ → List ℤ → ℕ → ℕ → Bool

@@ -34,8 +34,8 @@ use Rattle.base_outcome.specs.Machine.{reply}
 use Rattle.base_outcome.specs.declared.Answer.{Answer}
 use Rattle.base_outcome.specs.declared.Answer.the-variants.{Count, Refused}
 use Rattle.build.proofs.Beam as built
-use Rattle.theorems_recovery.specs.Recovery.{Combination, recovered}
-use Rattle.theorems_recovery.specs.RecoveryCall.{listed, numeratorOf, denominatorOf}
+use Rattle.spec_calls.specs.Recovery.{Combination, recovered}
+use Rattle.spec_calls.specs.RecoveryCall.{listed, numeratorOf, denominatorOf}
 use Rattle.theorems_recovery.proofs.Reproduction.{answers-have-the-weights}
 use Rattle.theorems_recovery.proofs.Refusals.{recovered-clears}
 use Rattle.theorems_recovery.proofs.Fronts.{no-front, front-answers, front-refuses, refused-front}

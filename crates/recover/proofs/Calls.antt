@@ -20,8 +20,8 @@ use Rattle.spec_spline.proofs.Legal.{refusal-code, first-code, checked-code}
 use Rattle.spec_spline.proofs.Build.{long-enough}
 use Rattle.base_outcome.specs.Machine.{reply}
 use Rattle.base_outcome.specs.declared.Answer.the-variants.{Refused}
-use Rattle.theorems_recovery.specs.Recovery.{Combination, recovered}
-use Rattle.theorems_recovery.specs.RecoveryCall.{badOrdinate, legalOrdinates, recoveryOutcome, clearsAll}
+use Rattle.spec_calls.specs.Recovery.{Combination, recovered}
+use Rattle.spec_calls.specs.RecoveryCall.{badOrdinate, legalOrdinates, recoveryOutcome, clearsAll}
 use Rattle.recover_limits.specs.Ordinates.{ordinatesChecked}
 use Rattle.recover.specs.Leaves.{BeamEnds}
 use Rattle.recover_limits.proofs.Ordinates.{passed}

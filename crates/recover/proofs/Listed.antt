@@ -14,7 +14,7 @@ use Rattle.spec_spline.specs.Table.{entry}
 use Rattle.spec_spline.proofs.Table.{entry-past}
 use Rattle.build_cells.specs.Region.{filled}
 use Rattle.build_cells.proofs.Region.{filled-length, filled-inside, filled-before, filled-after}
-use Rattle.theorems_recovery.specs.RecoveryCall.{listed, numeratorOf, denominatorOf}
+use Rattle.spec_calls.specs.RecoveryCall.{listed, numeratorOf, denominatorOf}
 
 module _ (part : ℚ → ℤ) where
   -- cells that hold fractions up to `from`, and later ones as before, cleared from there up to n

@@ -9,8 +9,8 @@ use Rattle.spec_spline.specs.Space.{Space, rowCount}
 use Rattle.spec_spline.specs.Table.{numerators, denominators}
 use Rattle.base_outcome.specs.Machine.{reply}
 use Rattle.base_outcome.specs.declared.Answer.{Answer}
-use Rattle.theorems_recovery.specs.Recovery.{Combination}
-use Rattle.theorems_recovery.specs.RecoveryCall.{listed, weightsAfter, answersAfter, numeratorOf, denominatorOf}
+use Rattle.spec_calls.specs.Recovery.{Combination}
+use Rattle.spec_calls.specs.RecoveryCall.{listed, weightsAfter, answersAfter, numeratorOf, denominatorOf}
 
 -- The first n cells of the answer buffers hold these coefficients, and the other cells are as before.
 pub record CoefficientsListed (n : ℕ) (ps : List ℚ) (num den num′ den′ : List ℤ) : Type 0 where

@@ -2,7 +2,7 @@
 ghost use mathlib.Core.Path.{_≡_};
 ghost use Rattle.build_space.specs.Machine.{space};
 ghost use Rattle.base_outcome.specs.Machine.{reply};
-ghost use Rattle.theorems_recovery.specs.RecoveryCall.{recoveryEnd};
+ghost use Rattle.spec_calls.specs.RecoveryCall.{recoveryEnd};
 use base_outcome::Answer;
 use base_outcome::Legality;
 

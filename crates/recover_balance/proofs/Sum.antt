@@ -15,7 +15,7 @@ use Rattle.base_outcome.specs.Outcome.{Outcome, answer, refusal, refuse, _then_
 use Rattle.spec_spline.specs.Table.{entry}
 use Rattle.spec_spline.specs.Step.{jumpsAt}
 use Rattle.base_outcome.proofs.Outcome.{then-answers, then-refuses}
-use Rattle.theorems_recovery.specs.Recovery.{fitted, jumpSum, balanced}
+use Rattle.spec_calls.specs.Recovery.{fitted, jumpSum, balanced}
 use Rattle.theorems_recovery.proofs.Answers.{sum-refused}
 use Rattle.recover_balance.specs.Machine.{balanceOf}
 use Rattle.recover_balance.specs.declared.Balance.the-variants as balances

@@ -6,7 +6,7 @@ ghost use lib.ListN.{length};
 ghost use Rattle.base_exact.specs.Rational.{ℚ};
 ghost use Rattle.spec_spline.specs.Table.{rowCells};
 ghost use Rattle.base_fraction.specs.Fractions.{fractions};
-ghost use Rattle.theorems_recovery.specs.Recovery;
+ghost use Rattle.spec_calls.specs.Recovery;
 ghost use Rattle.recover_balance.specs.Machine.{balanceOf};
 ghost use Rattle.recover_counted.specs.Machine.{FractionsFit};
 use base_fraction::Counted;

@@ -21,7 +21,7 @@ use Rattle.spec_spline.specs.Table.{entry}
 use Rattle.base_outcome.proofs.Outcome.{answer-unique, answer-not-refusal, then-inverts}
 use Rattle.build_counted.specs.Machine.{counted}
 use Rattle.build_counted.proofs.Counted.{machine-counted, count-sized, fits-answered, lowest-sized}
-use Rattle.theorems_recovery.specs.Recovery.{fitted, undoneCoefficient, undoneRow}
+use Rattle.spec_calls.specs.Recovery.{fitted, undoneCoefficient, undoneRow}
 
 -- which refusal it is does not show in the machine's answer
 count-same : (j : ℕ) (q : ℚ) → counted (count j q) ≡ counted (fitted j q)

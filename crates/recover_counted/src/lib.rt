@@ -9,7 +9,7 @@ ghost use Rattle.base_fraction.specs.declared.Fraction.{Fraction};
 ghost use Rattle.base_fraction.specs.declared.Counted.the-variants.{Fits};
 ghost use Rattle.base_outcome.specs.Outcome.{answer, _then_};
 ghost use Rattle.build_counted.specs.Machine.{counted};
-ghost use Rattle.theorems_recovery.specs.Recovery;
+ghost use Rattle.spec_calls.specs.Recovery;
 ghost use Rattle.recover_counted.specs.Machine.{TermAsks, CoefficientAsks};
 use base_fraction::Counted;
 use base_fraction::Fraction;

@@ -15,14 +15,11 @@ use Rattle.base_outcome.specs.Outcome.{Outcome, answer, refusal, refuse, _then_
 use Rattle.spec_spline.specs.Space.{Space}
 use Rattle.spec_spline.specs.Conditions.{Entry, conditions}
 use Rattle.spec_spline.specs.Table.{Table, row, entry}
-use Rattle.spec_spline.specs.Step.{jump, jumpsAt}
+use Rattle.spec_spline.specs.Step.{jump, jumpsAt, Planned, rowsRenewed}
 use Rattle.spec_spline.proofs.Table.{entry-past}
-use Rattle.build_factors.specs.Machine.{Planned}
-use Rattle.build_step.specs.Plan.{rowsRenewed}
 use Rattle.build_step.proofs.Plan.{Works}
 use Rattle.build_joins.proofs.Later.{longer, same-entries, spliced-within, renewed-all, with-zeros, then-all, repeat-through}
-use Rattle.theorems_recovery.specs.Recovery.{Combination, fitted, jumpSum, balanced, undoneCoefficient, undoneRow, undoneRows, undone, recoverStep, recoverOrders}
-use Rattle.recover_joins.specs.Leaves.{undoing}
+use Rattle.spec_calls.specs.Recovery.{Combination, fitted, jumpSum, balanced, undoneCoefficient, undoneRow, undoneRows, undone, recoverStep, recoverOrders, undoing}
 use Rattle.recover_joins.proofs.Stepped.{recovering, recover-planned}
 use Rattle.recover_joins.proofs.Orders.{Sound, recover-one-less}
 

@@ -23,7 +23,7 @@ use Rattle.build_cells.proofs.Left.{Done, left-done, Halted, left-halted}
 use Rattle.recover_counted.proofs.FractionFits.{undone-fits}
 use Rattle.recover_rows.proofs.Rows.{more-fit}
 use Rattle.build_step.proofs.Stepped.{Proper, step-one-less}
-use Rattle.theorems_recovery.specs.Recovery.{Combination, undoneRow, undoneRows, recoverStep, recoverOrders}
+use Rattle.spec_calls.specs.Recovery.{Combination, undoneRow, undoneRows, recoverStep, recoverOrders}
 use Rattle.theorems_recovery.proofs.Answers.{rows-undone}
 use Rattle.theorems_recovery.proofs.Steps.{parts-of}
 use Rattle.recover_joins.specs.Leaves.{toldCoefficients, Leaves}

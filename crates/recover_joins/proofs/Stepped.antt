@@ -11,17 +11,15 @@ use Rattle.base_outcome.specs.Outcome.{Outcome, answer, refusal, _then_}
 use Rattle.base_outcome.proofs.Outcome.{then-answers, then-refuses, then-assoc}
 use Rattle.spec_spline.specs.Conditions.{Entry}
 use Rattle.spec_spline.specs.Table.{Table, tableCells, numerators, denominators}
-use Rattle.spec_spline.specs.Step.{jumps, span, factors}
+use Rattle.spec_spline.specs.Step.{jumps, span, factors, Planned, planned, rowsRenewed}
 use Rattle.build_cells.specs.Held.{Kept}
 use Rattle.build_cells.proofs.Buffer.{kept-numerators, kept-denominators}
 use Rattle.build_cells.specs.Left.{LeavesIf}
 use Rattle.build_cells.proofs.Left.{left-answer, left-refusal}
-use Rattle.build_factors.specs.Machine.{Planned}
-use Rattle.build_step.specs.Plan.{planned, rowsRenewed}
 use Rattle.build_step.proofs.Plan.{step-planned, Works, plan-works}
 use Rattle.build_step.proofs.Leaving.{renewed-refuses}
-use Rattle.theorems_recovery.specs.Recovery.{Combination, balanced, undone, recoverStep}
-use Rattle.recover_joins.specs.Leaves.{coefficientsOf, undoing, toldCoefficients, Leaves}
+use Rattle.spec_calls.specs.Recovery.{Combination, balanced, undone, recoverStep, undoing}
+use Rattle.recover_joins.specs.Leaves.{coefficientsOf, toldCoefficients, Leaves}
 use Rattle.recover_joins.specs.declared.RowCoefficients.{RowCoefficients}
 use Rattle.recover_joins.specs.declared.Refusal.the-variants as refusals
 
@@ -30,29 +28,9 @@ module _ (j : ℕ) (κ : List Entry) (t : Table) (ps : List ℚ) where
   abbrev pub recovering : Planned → Outcome Combination
   recovering p = rowsRenewed j (p .span) (p .factors) t then λ u. undoing j p ps then λ ds. answer (record { table = u; coefficients = ds })
 
-  -- the definition works jumps, span and factors out again
-  again : Table → Outcome Combination
-  again u = jumps j κ t then λ js. span j js then λ g. factors j js g then λ ws. balanced j js ps then λ _. undone j g ws ps then λ ds. answer (record { table = u; coefficients = ds })
-
-  again-is : (u : Table) (p : Planned) → Works j κ t p → again u ≡ (undoing j p ps then λ ds. answer (record { table = u; coefficients = ds }))
-  unfolding again
-  again-is u p w =
-      then-answers (λ js. span j js then λ g. factors j js g then λ ws. balanced j js ps then λ _. undone j g ws ps then λ ds. answer (record { table = u; coefficients = ds })) (w .has-jumps)
-      ∙ then-answers (λ g. factors j (p .jumps) g then λ ws. balanced j (p .jumps) ps then λ _. undone j g ws ps then λ ds. answer (record { table = u; coefficients = ds })) (w .has-span)
-      ∙ then-answers (λ ws. balanced j (p .jumps) ps then λ _. undone j (p .span) ws ps then λ ds. answer (record { table = u; coefficients = ds })) (w .has-factors)
-      ∙ sym (then-assoc (balanced j (p .jumps) ps) (λ _. undone j (p .span) (p .factors) ps) (λ ds. answer (record { table = u; coefficients = ds })))
-
   pub recover-planned : recoverStep j κ (record { table = t; coefficients = ps }) ≡ (planned j κ t then recovering)
-  unfolding recoverStep again
-  recover-planned = ap (λ (o : Outcome Table). o then again) (step-planned j κ t) ∙ go (planned j κ t) refl
-    where
-      with-rows : (p : Planned) → Works j κ t p → (o : Outcome Table) → (o then again) ≡ (o then λ u. undoing j p ps then λ ds. answer (record { table = u; coefficients = ds }))
-      with-rows p w (answer u) = again-is u p w
-      with-rows p w (refusal code place) = refl
-
-      go : (o : Outcome Planned) → planned j κ t ≡ o → ((o then λ p. rowsRenewed j (p .span) (p .factors) t) then again) ≡ (o then recovering)
-      go (answer p) e = with-rows p (plan-works j κ t e) (rowsRenewed j (p .span) (p .factors) t)
-      go (refusal code place) e = refl
+  unfolding recoverStep
+  recover-planned = refl
 
   -- ---- what is left
   module _ (num den num′ den′ : List ℤ) where

@@ -28,7 +28,7 @@ use Rattle.build_step.proofs.Repeated.{Turns}
 use Rattle.build_joins.proofs.Joins.{join-idle}
 use Rattle.build_step.proofs.Orders.{with-all}
 use Rattle.build_joins.proofs.Turns.{later, grown-whole, within, rows-in, laid-proper, rows-left}
-use Rattle.theorems_recovery.specs.Recovery.{Combination, recoverStep, recoverOrders}
+use Rattle.spec_calls.specs.Recovery.{Combination, recoverStep, recoverOrders}
 use Rattle.recover_joins.specs.Leaves.{grownCombination}
 use Rattle.recover_joins.proofs.Orders.{Sound, recover-one-less, orders-sound}
 use Rattle.recover_joins.proofs.Later.{orders-all}

@@ -7,11 +7,10 @@ use Rattle.base_exact.specs.Rational.{ℚ, int}
 use Rattle.base_fraction.specs.Fractions.{fractions}
 use Rattle.base_outcome.specs.Outcome.{Outcome, answer, refusal, _then_, with-answer}
 use Rattle.spec_spline.specs.Space.{Space, degree, firstColumn}
-use Rattle.build_factors.specs.Machine.{Planned}
 use Rattle.build_cells.specs.Left.{Left}
 use Rattle.build_joins.specs.Leaves.{grown}
 use Rattle.base_outcome.specs.declared.Answer.the-variants.{Count, Refused}
-use Rattle.theorems_recovery.specs.Recovery.{Combination, balanced, undone}
+use Rattle.spec_calls.specs.Recovery.{Combination}
 use Rattle.recover_joins.specs.declared.Joined.{Joined}
 use Rattle.recover_joins.specs.declared.RowCoefficients.{RowCoefficients}
 use Rattle.recover_joins.specs.declared.Refusal.the-variants as refusals
@@ -20,10 +19,6 @@ use Rattle.recover_joins.specs.declared.Refusal.the-variants as refusals
 abbrev pub coefficientsOf : Outcome (List ℚ) → RowCoefficients
 coefficientsOf (answer cs) = record { refusal = refusals.None; of = fractions cs }
 coefficientsOf (refusal code place) = record { refusal = refusals.Refused code; of = fractions [] }
-
--- The zero test and then the undoing, with what a step has worked out.
-abbrev pub undoing : ℕ → Planned → List ℚ → Outcome (List ℚ)
-undoing j p cs = balanced j (p .jumps) cs then λ _. undone j (p .span) (p .factors) cs
 
 -- The table with the identity's rows for the segment on the right of join j, and that segment's ordinates as the coefficients of these
 -- rows.

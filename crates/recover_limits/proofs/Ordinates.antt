@@ -25,7 +25,7 @@ use Rattle.build_space.proofs.Partial.{column-count-partial}
 use Rattle.build_factors.specs.Jumps.{AllFit}
 use Rattle.curve_entries.specs.Limits.{outside}
 use Rattle.curve_entries.proofs.Entries.{inside-size}
-use Rattle.theorems_recovery.specs.RecoveryCall.{ordinateLimit, badOrdinate}
+use Rattle.spec_calls.specs.RecoveryCall.{ordinateLimit, badOrdinate}
 use Rattle.recover_limits.specs.Ordinates.{ordinatesChecked}
 
 abbrev pub passed : Outcome (Unit {0})

@@ -3,7 +3,7 @@ use mathlib.Core.List.{List}
 use lib.IntN.{ℤ}
 use Rattle.base_outcome.specs.Outcome.{Outcome, answer}
 use Rattle.spec_spline.specs.Space.{Space}
-use Rattle.theorems_recovery.specs.RecoveryCall.{legalOrdinates}
+use Rattle.spec_calls.specs.RecoveryCall.{legalOrdinates}
 
 -- Code 18 of a legal space, by itself.
 unfoldable pub ordinatesChecked : Space → List ℤ → Outcome (Unit {0})

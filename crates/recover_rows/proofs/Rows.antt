@@ -18,7 +18,7 @@ use Rattle.base_outcome.proofs.Outcome.{then-answers, then-refuses}
 use Rattle.spec_spline.proofs.Splice.{spliced-length, spliced-before, spliced-inside, spliced-after}
 use Rattle.build_factors.specs.Jumps.{AllFit}
 use Rattle.base_fraction.proofs.Fractions.{entry-new, entry-kept}
-use Rattle.theorems_recovery.specs.Recovery.{undoneCoefficient, undoneRow, undoneRows}
+use Rattle.spec_calls.specs.Recovery.{undoneCoefficient, undoneRow, undoneRows}
 
 -- The old coefficients with the new ones ds from f up to i.
 abbrev pub renewed : ℕ → List ℚ → List ℚ → ℕ → List ℚ

@@ -7,7 +7,7 @@ ghost use Rattle.base_exact.specs.Rational.{ℚ};
 ghost use Rattle.base_outcome.specs.Outcome.{with-answer};
 ghost use Rattle.base_fraction.specs.Fractions.{fractions};
 ghost use Rattle.build_counted.specs.Machine.{counted};
-ghost use Rattle.theorems_recovery.specs.Recovery;
+ghost use Rattle.spec_calls.specs.Recovery;
 ghost use Rattle.recover_rows.specs.Machine.{undoneOf, RowAsks, RowsAsk};
 use base_fraction::Counted;
 use base_fraction::Fraction;

@@ -24,7 +24,7 @@ unfoldable pub tableOf : Outcome Table → Table
 tableOf (answer t) = t
 tableOf (refusal code place) = []
 
--- The w lines of a beam, "of all parts": those of its whole table.
+-- The w lines of a beam, "for each non-zero weight of the whole beam" (§ 13): those of its whole table.
 unfoldable pub weightsText : Space → Text
 weightsText s = weightLines (tableWeights 0 (tableOf (spaceWeights s)))
 

@@ -19,8 +19,9 @@ use Rattle.base_text.specs.Numeral.{numeral}
 use Rattle.spec_sheet.specs.SheetReading.{pair, Lists, Line, listOf, lineOf, bodyOf, cutLine, line, readLine, breaksKey, degreesKey}
 use Rattle.spec_sheet.specs.SheetReading.{ordersKey, coefsKey, atKey, ended, fiveLines, listLimit, textLimit, read}
 use Rattle.sheet_lines.specs.Machine.{ListAt}
-use Rattle.sheet_read.specs.Machine.{numeralsOf, numerals, overwritten, Lengths, lengths, reply, counted, after, readEnd}
+use Rattle.sheet_read.specs.Machine.{numeralsOf, numerals, reply}
 use Rattle.sheet_read.specs.Machine.{ListFits, ListPut, EndsAs}
+use Rattle.spec_sheet.specs.ReadSheet.{overwritten, Lengths, lengths, counted, after, readEnd}
 use Rattle.sheet_read.specs.declared.Lists.{Lists as Answer}
 use Rattle.sheet_read.specs.declared.Lists.the-variants.{Read, Refused}
 use Rattle.sheet_read.proofs.Numerals.{list-few, plain-numerals, pair-numerals}
@@ -150,7 +151,7 @@ ended-positions : (rest : Text) (m l : Lists) → ended rest m ≡ answer l → 
 ended-positions [] m l e = ap (λ q. q .positions) (answer-unique {a = m} {b = l} refl e)
 ended-positions (c ∷ cs) m l e = absurd (answer-not-refusal e refl)
 
--- "at most 4,096 a list"
+-- "at most 4,096 entries a list" (§ 13)
 pub positions-few : (text : Text) (l : Lists) → read text ≡ answer l → length (l .positions) ≤ listLimit
 unfolding read fiveLines
 positions-few text l e =

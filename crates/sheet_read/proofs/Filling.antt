@@ -12,7 +12,8 @@ use Rattle.base_exact.proofs.Decide.{clash}
 use Rattle.base_text.specs.Bytes.{Text, fieldsBetween}
 use Rattle.base_text.specs.Numeral.{numeral}
 use Rattle.spec_sheet.specs.SheetReading.{prepended, entries}
-use Rattle.sheet_read.specs.Machine.{isSeparator, numeralsOf, overwritten}
+use Rattle.sheet_read.specs.Machine.{isSeparator, numeralsOf}
+use Rattle.spec_sheet.specs.ReadSheet.{overwritten}
 
 -- The buffer holds the first n numbers of a list in front of what it held before, and the text that is left is the list of
 -- the others.

@@ -4,7 +4,8 @@ ghost use Prim.Native.Nat.{_+_};
 ghost use lib.ListN.{length};
 ghost use lib.Seq.{slice};
 ghost use Rattle.base_text.specs.Bytes.{Range, indexWhere};
-ghost use Rattle.sheet_read.specs.Machine.{isSeparator, readEnd, ListFits, ListPut, EndsAs};
+ghost use Rattle.sheet_read.specs.Machine.{isSeparator, ListFits, ListPut, EndsAs};
+ghost use Rattle.spec_sheet.specs.ReadSheet.{readEnd};
 use base_text::numeral::Field;
 use sheet_scan::Places;
 

@@ -6,12 +6,13 @@ use Rattle.base_outcome.specs.Outcome.{answer}
 use Rattle.spec_spline.specs.Reading.{sideBySide}
 use Rattle.base_text.specs.Bytes.{Text}
 use Rattle.spec_sheet.specs.SheetReading.{Lists, read}
-use Rattle.sheet_read.specs.Machine.{reply, counted}
+use Rattle.sheet_read.specs.Machine.{reply}
+use Rattle.spec_sheet.specs.ReadSheet.{counted}
 use Rattle.sheet_read.specs.declared.Lists.{Lists as Answer}
 use Rattle.sheet_read.specs.declared.Lists.the-variants.{Refused}
 use Rattle.sheet_read.proofs.Answers.{reply-malformed}
 use Rattle.base_print.specs.Refusal.{refusalLine}
-use Rattle.theorems_sheet.specs.Sheet.{Arguments, argumentsOf, calledText, readText, printout}
+use Rattle.spec_sheet.specs.Sheet.{Arguments, argumentsOf, calledText, readText, printout}
 
 same-arguments : (a b : Arguments) → a .breaks ≡ b .breaks → a .degrees ≡ b .degrees → a .orders ≡ b .orders → a .coefs ≡ b .coefs → a .positions ≡ b .positions → a ≡ b
 same-arguments a b hb hd ho hc hp i = record { breaks = hb i; degrees = hd i; orders = ho i; coefs = hc i; positions = hp i }

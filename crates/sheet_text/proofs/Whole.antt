@@ -28,7 +28,7 @@ use Rattle.spec_sheet.specs.Printout.{answerText}
 use Rattle.base_print.specs.Refusal.{refusalLine}
 use Rattle.spec_sheet.specs.Pairs.{paired}
 use Rattle.spec_sheet.proofs.Pairs.{paired-sideBySide}
-use Rattle.theorems_sheet.specs.Sheet.{Arguments, spaceOf, valueCells, called, outcomeText, calledText}
+use Rattle.spec_sheet.specs.Sheet.{Arguments, spaceOf, valueCells, called, outcomeText, calledText}
 use Rattle.sheet_beam.specs.Beam.{tableOf, Filled}
 use Rattle.sheet_beam.proofs.Beam.{table-is}
 

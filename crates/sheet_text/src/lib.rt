@@ -8,7 +8,7 @@ ghost use Rattle.build_space.specs.Machine.{space};
 ghost use Rattle.base_print.specs.Buffer.{Puts, Prints};
 ghost use Rattle.spec_sheet.specs.Printout.{answerText};
 ghost use Rattle.spec_sheet.specs.Pairs.{paired};
-ghost use Rattle.theorems_sheet.specs.Sheet.{calledText, printout};
+ghost use Rattle.spec_sheet.specs.Sheet.{calledText, printout};
 ghost use Rattle.sheet_beam.specs.Beam.{tableOf};
 ghost use Rattle.sheet_text.specs.Limit.{printoutLimit, AnswerAsks};
 

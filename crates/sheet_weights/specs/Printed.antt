@@ -25,8 +25,8 @@ placeText r c = weightKey ++ (digits r ++ (comma ∷ (digits c ++ (comma ∷ [])
 abbrev pub fractionText : ℤ → ℕ → Text
 fractionText num den = decimal num ++ (slash ∷ (digits den ++ (newline ∷ [])))
 
--- The weight in cell k, "row i, column j is cell 72·i + j", if its numerator is not zero; r and c are the row and the column of
--- cell 0, "n, all places and the sheet's w lines count over the beam". A denominator counts by its size.
+-- The weight in cell k, where row i, column j "is cell 72·i + j" (§ 2), if its numerator is not zero; r and c are the row and the
+-- column of cell 0, "both counted over the beam" (§ 13). A denominator counts by its size.
 unfoldable pub storedWeight : ℕ → ℕ → ℕ → ℤ → ℤ → List Weight
 storedWeight r c k num den =
     cond (eqb (natAbs num) 0) [] (record { row = r + k / rowCells; column = c + k % rowCells; numerator = num; denominator = natAbs den }

@@ -15,7 +15,7 @@ use Rattle.spec_sheet.specs.SheetReading.{pair, entries, listOf, line, r
 use Rattle.spec_sheet.specs.SheetText.{pairText, commaJoined, listText, lineText, sheetText, WritableNumerals, WritablePairs}
 use Rattle.spec_sheet.proofs.RoundTrip.{sheet-reads-back}
 
--- ---- "commas between, an empty list allowed"
+-- ---- "commas between entries", "a list may be empty" (§ 13)
 abbrev IsList : String → List ℤ → Type 0
 IsList s zs = listOf numeral (bytes s) ≡ some zs
 
@@ -30,7 +30,7 @@ not-listed : NoList "," × NoList "1," × NoList ",1" × NoList "1,,2" × NoList
 unfolding fieldsBetween allDigits digitsValue isNatural numeral entries listOf bytes
 not-listed = (refl, refl, refl, refl, refl, refl)
 
--- ---- "a pair as earlywood:latewood"
+-- ---- "a pair earlywood:latewood" (§ 13)
 abbrev both : ℤ → ℤ → Pair
 both early late = record { early = early; late = late }
 
@@ -54,7 +54,7 @@ not-numerals : NoList "5:6"
 unfolding fieldsBetween allDigits digitsValue isNatural numeral entries listOf bytes
 not-numerals = refl
 
--- ---- "the place is the first bad or missing line from 1, 6 for anything after line five"
+-- ---- "the first bad or missing line; 6 for anything after a good line five" (§ 13)
 abbrev RefusedAt : Text → ℕ → Type 0
 RefusedAt text place = read text ≡ refusal 10 place
 

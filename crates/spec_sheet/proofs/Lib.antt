@@ -5,3 +5,4 @@ pub mod Examples
 pub mod Printout
 pub mod Pairs
 pub mod PrintoutExamples
+pub mod Cases

@@ -1,4 +1,4 @@
--- Values as the buffers hold them, two numbers a position.
+-- Values as the buffers hold them, two numbers a position (§ 13: the v lines).
 use mathlib.Core.List.{List, [], _∷_}
 use Prim.Native.Nat.{ℕ, _/_, _^_, _≤_}
 use lib.IntN.{ℤ}

@@ -44,7 +44,7 @@ weightLine w = weightKey
     ++ (digits (w .row) ++
     (comma ∷ (digits (w .column) ++ (comma ∷ (decimal (w .numerator) ++ (slash ∷ (digits (w .denominator) ++ (newline ∷ []))))))))
 
--- The lines of all non-zero weights, "rows rising, then columns".
+-- The lines of all non-zero weights, "rows rising, then columns" (§ 13).
 unfoldable pub weightLines : List Weight → Text
 weightLines ws = joined (map weightLine ws)
 
@@ -62,7 +62,7 @@ valueLines (x ∷ xs) (v ∷ vs) = valueLine x v ++ valueLines xs vs
 unfoldable pub lowLine : ℤ → Text
 lowLine x = lowKey ++ (decimal x ++ (newline ∷ []))
 
--- "A position is low if either value is zero or less."
+-- "A position is low if either value is zero or less." (§ 8)
 unfoldable pub isLow : Pair → Bool
 isLow v = leZ (v .early) (pos 0) || leZ (v .late) (pos 0)
 
@@ -76,8 +76,8 @@ lowPositions (x ∷ xs) (v ∷ vs) = cond (isLow v) (x ∷ lowPositions xs vs) (
 unfoldable pub lowLines : List ℤ → Text
 lowLines xs = joined (map lowLine xs)
 
--- The whole printout of an answer. "Low lines now come by rising position, a repeated position once for each time it was
--- listed" (§ 13).
+-- The whole printout of an answer. The low lines come "by rising position, negative ones first, an entry listed twice twice"
+-- (§ 13).
 unfoldable pub answerText : Table → List ℤ → List Pair → Text
 answerText t xs vs = countLine (length t) ++ (weightLines (tableWeights 0 t)
     ++ (valueLines xs vs ++ lowLines (sorted (lowPositions xs vs))))

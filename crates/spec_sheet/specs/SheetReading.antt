@@ -13,11 +13,11 @@ use Rattle.spec_spline.specs.Reading.{Pair}
 use Rattle.base_text.specs.Bytes.{Text, newline, colon, Cut, cut, fields, stripped}
 use Rattle.base_text.specs.Numeral.{numeral}
 
--- "at most 4,096 a list", "each pair counting as one".
+-- "at most 4,096 entries a list" (§ 13). A pair "counts as one" (§ 13).
 abbrev pub listLimit : ℕ
 listLimit = 4096
 
--- "Over 65,536 bytes".
+-- The bytes that a text may have: 10 comes "for more than 65,536 bytes" (§ 13).
 abbrev pub textLimit : ℕ
 textLimit = 65536
 
@@ -32,7 +32,7 @@ abbrev pub sidesOf : Option Cut → Option Pair
 sidesOf none = none
 sidesOf (some c) = bothOf (numeral (c .before)) (numeral (c .after))
 
--- "a pair as earlywood:latewood": a numeral on either side of the first colon, so there is no second one.
+-- "a pair earlywood:latewood" (§ 13): a numeral on either side of the first colon, so there is no second one.
 unfoldable pub pair : Text → Option Pair
 pair t = sidesOf (cut colon t)
 
@@ -52,7 +52,7 @@ abbrev pub limitedList : {A : Type 0} → Option (List A) → Option (List A)
 limitedList none = none
 limitedList (some xs) = cond (leb (length xs) listLimit) (some xs) none
 
--- The list after the equals sign: "an empty list allowed".
+-- The list after the equals sign: "a list may be empty" (§ 13).
 unfoldable pub listOf : {A : Type 0} → (Text → Option A) → Text → Option (List A)
 listOf entry [] = some []
 listOf entry (c ∷ cs) = limitedList (entries entry (fields (c ∷ cs)))
@@ -80,7 +80,7 @@ cutLine entry key (some c) = lineOf (bodyOf entry (stripped key (c .before))) (c
 unfoldable pub line : {A : Type 0} → (Text → Option A) → Text → Text → Option (Line A)
 line entry key text = cutLine entry key (cut newline text)
 
--- "the place is the first bad or missing line from 1".
+-- The place is "the first bad or missing line" (§ 13), from 1.
 unfoldable pub readLine : {A : Type 0} → ℕ → (Text → Option A) → Text → Text → Outcome (Line A)
 readLine place entry key text = elim (line entry key text) [ none ↦ refuse 10 place | some l ↦ answer l ]
 
@@ -108,7 +108,7 @@ pub record Lists : Type 0 where
   pub coefs : List Pair
   pub positions : List ℤ
 
--- "6 for anything after line five".
+-- "6 for anything after a good line five" (§ 13).
 abbrev pub ended : Text → Lists → Outcome Lists
 ended [] lists = answer lists
 ended (c ∷ cs) lists = refuse 10 6
@@ -123,6 +123,6 @@ fiveLines text =
     readLine 5 numeral atKey (c .rest) then λ p.
     ended (p .rest) (record { breaks = b .list; degrees = d .list; orders = o .list; coefs = c .list; positions = p .list })
 
--- "Over 65,536 bytes: 10, place 0."
+-- 10: "place 0 for more than 65,536 bytes, tested first" (§ 13).
 unfoldable pub read : Text → Outcome Lists
 read text = cond (ltb textLimit (length text)) (refuse 10 0) (fiveLines text)

@@ -13,7 +13,7 @@ use Rattle.spec_spline.specs.Space.{lengthsFit, badBreak, startsPart, pa
 use Rattle.spec_spline.specs.Space.{checkedEntries, checked, firstColumn, conditionsBefore}
 use Rattle.spec_spline.specs.Conditions.{falling, binomial, alternating, undivided, commonDivisor, conditions}
 use Rattle.spec_spline.specs.Table.{identity}
-use Rattle.spec_spline.specs.Step.{count, addProducts, span, partialSum, quotientFactor, factors, newEntry, newRows, step}
+use Rattle.spec_spline.specs.Step.{count, addProducts, span, partialSum, quotientFactor, factors, newEntry, newRows, planOver, planFrom, planned, rowsRenewed, step}
 use Rattle.spec_spline.specs.Build.{orderSteps, joinSteps, weights, spaceWeights}
 use Rattle.spec_spline.specs.Published.{derivativeCoefficient, leftConstraint, rightConstraint, constraint, constraints, diagonal, aboveDiagonal}
 use Rattle.spec_spline.specs.Published.{bidiagonal, nullspace, product, constrain, for, smooth, extraction}
@@ -39,7 +39,7 @@ conditioning = tt
 
 -- a step of the build
 unfoldable pub stepping : Unit {0}
-unfolding fractions capped collect first last fits identity count addProducts span partialSum quotientFactor factors newEntry newRows step
+unfolding fractions capped collect first last fits identity count addProducts span partialSum quotientFactor factors newEntry newRows planOver planFrom planned rowsRenewed step
 stepping = tt
 
 -- the weights of a space

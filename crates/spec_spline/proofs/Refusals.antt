@@ -1,5 +1,5 @@
 -- The refusals of a step and of its parts: code 8 or code 9, at the step's join and nowhere else.
-use mathlib.Core.Path.{_≡_, refl, sym, _∙_}
+use mathlib.Core.Path.{_≡_, refl, sym, _∙_, subst}
 use mathlib.Core.Logic.{_⊎_, inl, inr}
 use mathlib.Core.Bool.{Bool, true, false, cond, _&&_}
 use mathlib.Core.List.{List, [], _∷_, _++_}
@@ -14,7 +14,8 @@ use Rattle.base_outcome.specs.Outcome.{Outcome, answer, refusal, refuse, capped
 use Rattle.base_outcome.specs.Search.{first, last}
 use Rattle.spec_spline.specs.Conditions.{Entry}
 use Rattle.spec_spline.specs.Table.{Row, Table, entry, row}
-use Rattle.spec_spline.specs.Step.{count, addProducts, jump, jumps, jumpsAt, Span, zeroBetween, spanOf, span, partialSum, quotientFactor, factor, factors, newEntry, newRow, newRows, mixed, step}
+use Rattle.spec_spline.specs.Step.{count, addProducts, jump, jumps, jumpsAt, Span, zeroBetween, spanOf, span, partialSum, quotientFactor, factor, factors, newEntry, newRow, newRows, step}
+use Rattle.spec_spline.proofs.Planned.{mixed, step-in-order}
 use Rattle.base_outcome.proofs.Outcome.{answer-not-refusal, RefusedAs, answer-refused, then-refused, collect-refused}
 use Rattle.spec_spline.proofs.Step.{oneMore, products-none, products-split, tested, quotientTested}
 
@@ -123,6 +124,5 @@ mixed-refuses j t js g = then-refused (EightOrNine j) (factors j js g) (λ ws. n
     whole rs = take (g .f) t ++ (rs ++ drop (suc (g .l)) t)
 
 pub step-refuses : (j : ℕ) (κ : List Entry) (t : Table) → RefusedAs (EightOrNine j) (step j κ t)
-unfolding step
-step-refuses j κ t = then-refused (EightOrNine j) (jumps j κ t) (λ js. span j js then λ g. mixed j t js g) (either-8 j (jumps j κ t) (jumps-refuse-8 j κ t))
-    (λ js h. then-refused (EightOrNine j) (span j js) (λ g. mixed j t js g) (either-9 j (span j js) (span-refuses-9 j js)) (λ g k. mixed-refuses j t js g))
+step-refuses j κ t = subst (RefusedAs (EightOrNine j)) (sym (step-in-order j κ t)) (then-refused (EightOrNine j) (jumps j κ t) (λ js. span j js then λ g. mixed j t js g) (either-8 j (jumps j κ t) (jumps-refuse-8 j κ t))
+    (λ js h. then-refused (EightOrNine j) (span j js) (λ g. mixed j t js g) (either-9 j (span j js) (span-refuses-9 j js)) (λ g k. mixed-refuses j t js g)))

@@ -9,11 +9,12 @@ use lib.ListN.{length, take, drop}
 use Rattle.base_exact.specs.Rational.{ℚ}
 use Rattle.base_exact.proofs.Decide.{le-or-lt}
 use Rattle.base_outcome.specs.Outcome.{Outcome, answer, _then_}
-use Rattle.base_outcome.proofs.Outcome.{answer-unique, then-inverts, Collected, collect-inverts}
+use Rattle.base_outcome.proofs.Outcome.{then-answers, answer-unique, then-inverts, Collected, collect-inverts}
 use Rattle.spec_spline.specs.Conditions.{Entry}
 use Rattle.spec_spline.specs.Table.{Row, Table, entry, row}
-use Rattle.spec_spline.specs.Step.{jumps, Span, span, factors, newRow, newRows, mixed, step}
+use Rattle.spec_spline.specs.Step.{jumps, Span, span, factors, newRow, newRows, Planned, planOver, planFrom, planned, rowsRenewed, step}
 use Rattle.spec_spline.proofs.Splice.{spliced-length, spliced-before, spliced-inside, spliced-after}
+use Rattle.spec_spline.proofs.Planned.{mixed, step-in-order}
 use Rattle.spec_spline.proofs.Answers.{jumps-length, Spans, span-inverts, Factors, factors-inverts}
 
 -- The intermediate results of a step from t to t′.
@@ -29,9 +30,8 @@ pub record StepParts (j : ℕ) (κ : List Entry) (t t′ : Table) : Type 0 where
   pub whole : take (g .f) t ++ (rs ++ drop (suc (g .l)) t) ≡ t′
 
 pub step-parts : (j : ℕ) (κ : List Entry) (t : Table) {t′ : Table} → step j κ t ≡ answer t′ → StepParts j κ t t′
-unfolding step
 step-parts j κ t {t′} e =
-    let a = then-inverts (jumps j κ t) (λ js. span j js then λ g. mixed j t js g) e in
+    let a = then-inverts (jumps j κ t) (λ js. span j js then λ g. mixed j t js g) (sym (step-in-order j κ t) ∙ e) in
     let b = then-inverts (span j (a .middle)) (mixed j t (a .middle)) (a .after) in
     let c = then-inverts (factors j (a .middle) (b .middle)) (λ ws. newRows j (b .middle) ws t then spliced (b .middle)) (b .after) in
     let d = then-inverts (newRows j (b .middle) (c .middle) t) (spliced (b .middle)) (c .after) in
@@ -59,6 +59,15 @@ module _ {j : ℕ} {κ : List Entry} {t t′ : Table} (p : StepParts j κ t t′
 
   abbrev l : ℕ
   l = p .g .l
+
+  -- the two halves of the step
+  pub plan-answers : planned j κ t ≡ answer (record { jumps = p .js; span = p .g; factors = p .ws })
+  unfolding planned planFrom planOver
+  plan-answers = then-answers (planFrom j) (p .has-jumps) ∙ then-answers (planOver j (p .js)) (p .has-span) ∙ then-answers _ (p .has-factors)
+
+  pub renewal-answers : rowsRenewed j (p .g) (p .ws) t ≡ answer t′
+  unfolding rowsRenewed
+  renewal-answers = then-answers _ (p .has-rows) ∙ ap answer (p .whole)
 
   pub step-spans : Spans (p .js) (p .g .f) (p .g .l)
   step-spans = span-inverts j (p .js) (p .has-span)

@@ -1,5 +1,5 @@
--- The build (§ 5, § 3; § 4, for the buffers of a beam): the
--- table of the whole beam or the first refusal, and what the two lent buffers hold afterwards.
+-- The build (§ 5): the table of the whole beam or the first refusal (§ 3), and what the two lent buffers hold afterwards (§ 2,
+-- § 4).
 use mathlib.Core.Bool.{Bool, cond, _||_}
 use mathlib.Core.List.{List, [], map}
 use Prim.Native.Nat.{ℕ, _-_}
@@ -13,11 +13,11 @@ use Rattle.spec_spline.specs.Conditions.{conditions}
 use Rattle.spec_spline.specs.Table.{Table, identity, tableCells, numerators, denominators}
 use Rattle.spec_spline.specs.Step.{step}
 
--- "at each the orders k = 0 up to its order": the first n orders at join j.
+-- "at each join j of order r the steps k = 0 up to r" (§ 5): the first n steps at join j.
 unfoldable pub orderSteps : Space → ℕ → ℕ → Table → Outcome Table
 orderSteps s j n t = repeat n (λ k. step j (conditions s j k)) t
 
--- "Start with the identity. Take joins from the left": the first n joins.
+-- "Start with the identity", "Take the joins from the left" (§ 5): the first n joins.
 unfoldable pub joinSteps : Space → ℕ → Outcome Table
 joinSteps s n = repeat n (λ j. orderSteps s j (conditionCount s j)) (identity (columnCount s))
 
@@ -37,11 +37,13 @@ longEnough numLength denLength rest = cond (ltb numLength tableCells) (refuse 1 
 unfoldable pub built : Space → ℕ → ℕ → Outcome Table
 built s numLength denLength = longEnough numLength denLength (spaceWeights s)
 
--- "After success these hold the last part, rows and columns from 0": the last part's rows and columns of the whole table.
+-- "After an answer the two buffers hold the last part, rows and columns from 0." (§ 4) The last part's rows and columns of the
+-- whole table.
 unfoldable pub lastPart : Space → Table → Table
 lastPart s t = let a = lastPartStart s in map (drop (firstColumn s a)) (drop (rowsBefore s a) t)
 
--- "After 8 or 9 the 5,184 cells are all 0/1": the buffers are cleared.
+-- "After 8, 9, 19 and 20 the 5,184 cells of both weight buffers are 0/1" (§ 3): the buffers are cleared. Building gives 8 and 9
+-- alone.
 abbrev pub clears : ℕ → Bool
 clears code = eqb code 8 || eqb code 9
 
@@ -62,7 +64,7 @@ pub record BuildEnd : Type 0 where
   pub numerators : List ℤ
   pub denominators : List ℤ
 
--- "Building returns n": the end of the call with these lists and these two buffers lent.
+-- "Building answers with n." (§ 5) The end of the call with these lists and these two buffers lent.
 abbrev pub buildEnd : Space → List ℤ → List ℤ → BuildEnd
 buildEnd s num den =
     let o = built s (length num) (length den) in

@@ -63,7 +63,7 @@ answerPairs n weights values = answer (record { rows = n; weights = weights; val
 abbrev pub pair : ℤ → ℤ → Pair
 pair early late = record { early = early; late = late }
 
--- "In 01's cases each coefficient now stands for both parts."
+-- "In each, every coefficient stands for both woods." (§ 15)
 abbrev pub forBoth : List ℤ → List Pair
 forBoth zs = map (λ z. pair z z) zs
 
@@ -92,7 +92,7 @@ weights1 =
     weightAt 2 2 1 3 ∷ weightAt 2 3 1 3 ∷ weightAt 2 4 1 1 ∷
     weightAt 3 5 1 1 ∷ []
 
--- W4: "the join's ordinate", columns 2 and 3, "has weights 4/7 and 3/7".
+-- W4: "the join's ordinate has the weights 4/7, 3/7" (§ 15), in columns 2 and 3.
 abbrev pub space4 : Space
 space4 = space (0 ∷ 1 ∷ 3 ∷ []) (2 ∷ 3 ∷ []) (pos 1 ∷ [])
 
@@ -104,7 +104,7 @@ weights4 =
     weightAt 3 5 1 1 ∷
     weightAt 4 6 1 1 ∷ []
 
--- W5: "n = 5, the join's ordinate", columns 3 and 4, "1/4, 1/2, 1/4".
+-- W5: "n = 5; the join's ordinate 1/4, 1/2, 1/4" (§ 15), in columns 3 and 4.
 abbrev pub space5 : Space
 space5 = space (0 ∷ 1 ∷ 2 ∷ []) (3 ∷ 3 ∷ []) (pos 2 ∷ [])
 
@@ -179,29 +179,29 @@ lowerLimitWeights =
 
 -- ---- the table
 
--- W1 to W10, in the papers' words where they give a case in a sentence, a space beside W9 with two discontinuities, beams, and
+-- W1 to W10, in the words of § 15, a space beside W9 with two discontinuities, beams, and
 -- the two limits.
 unfoldable pub cases : List Case
 cases =
     -- W1
     line space1 (reading (pos 0 ∷ pos 100 ∷ pos 0 ∷ pos 0 ∷ []) (pos 256 ∷ pos 512 ∷ [])) (answers 4 weights1 (pos 17067 ∷ pos 4267 ∷ [])) ∷
-    -- W2: "W1 with coefficient -100": "at 512 becomes -4266"
+    -- W2: "W1 with -100 for 100", "at 512: -4266" (§ 15)
     line space1 (reading (pos 0 ∷ negℤ (pos 100) ∷ pos 0 ∷ pos 0 ∷ []) (pos 512 ∷ [])) (answers 4 weights1 (negℤ (pos 4266) ∷ [])) ∷
-    -- W3: "W1 with four coefficients 1: 256 at both"
+    -- W3: "W1 with four coefficients 1", "256, 256" (§ 15)
     line space1 (reading (pos 1 ∷ pos 1 ∷ pos 1 ∷ pos 1 ∷ []) (pos 256 ∷ pos 512 ∷ [])) (answers 4 weights1 (pos 256 ∷ pos 256 ∷ [])) ∷
     -- W4
     line space4 building (answers 5 weights4 []) ∷
     -- W5
     line space5 building (answers 5 weights5 []) ∷
-    -- W6: "coefs 0,10: at 1, value 1"
+    -- W6: "coefficients 0,10", "at 1: 1" (§ 15)
     line (lineSpace 10) (reading (pos 0 ∷ pos 10 ∷ []) (pos 1 ∷ [])) (answers 2 lineWeights (pos 1 ∷ [])) ∷
-    -- W7: "0,2000 accepted; 0,2001 gives 3, place 1"
+    -- W7: "breaks 0,2000; 0,2001", "accepted; 3, place 1" (§ 15)
     line (lineSpace 2000) building (answers 2 lineWeights []) ∷
     line (lineSpace 2001) building (refusal 3 1) ∷
-    -- W8: "order 0 accepted, order 1 gives 5, place 0"
+    -- W8: "order 0; order 1", "accepted; 5, place 0" (§ 15)
     line (space8 0) building (answers 4 weights8 []) ∷
     line (space8 1) building (refusal 5 0) ∷
-    -- W9: "The scar case with coefficients 0, 10, 20, 30 reads 2560 at 256"
+    -- W9: "coefficients 0,10,20,30", "at 256: 2560" (§ 15)
     line space9 (reading (pos 0 ∷ pos 10 ∷ pos 20 ∷ pos 30 ∷ []) (pos 256 ∷ [])) (answers 4 weights9 (pos 2560 ∷ [])) ∷
     -- two discontinuities with one segment between them, each read from the segment that ends there
     line (threeLines (negℤ (pos 1)) (negℤ (pos 1))) (reading (pos 0 ∷ pos 10 ∷ pos 20 ∷ pos 30 ∷ pos 40 ∷ pos 50 ∷ [])
@@ -214,14 +214,14 @@ cases =
     line (fourteenLines (pos 0)) building (refusal 15 0) ∷
     line (fourteenLines (negℤ (pos 1))) building (refusal 15 1) ∷
     line (fourteenLines (pos 1)) building (refusal 5 0) ∷
-    -- W10: "three coefficients: 6", with place 4,294,967,295; "the sole position 769: 7, place 0"; "with 768 accepted"
+    -- W10: "W1 with three coefficients; with the one position 769; 768", "6, largest place; 7, place 0; accepted" (§ 15)
     line space1 (reading (pos 0 ∷ pos 100 ∷ pos 0 ∷ []) (pos 256 ∷ pos 512 ∷ [])) (refusal 6 4294967295) ∷
     line space1 (reading (pos 0 ∷ pos 100 ∷ pos 0 ∷ pos 0 ∷ []) (pos 769 ∷ [])) (refusal 7 0) ∷
     line space1 (reading (pos 0 ∷ pos 100 ∷ pos 0 ∷ pos 0 ∷ []) (pos 768 ∷ [])) (answers 4 weights1 (pos 0 ∷ [])) ∷
     -- W1 for earlywood and W2 for latewood
     line space1 (readingPairs (pair (pos 0) (pos 0) ∷ pair (pos 100) (negℤ (pos 100)) ∷ pair (pos 0) (pos 0) ∷ pair (pos 0) (pos 0) ∷ [])
     (pos 512 ∷ [])) (answerPairs 4 weights1 (pair (pos 4267) (negℤ (pos 4266)) ∷ [])) ∷
-    -- the latewood number of the second pair is out of range: "2n numbers, which 6 counts and places singly"
+    -- the latewood number of the second pair is out of range: "each number of a pair by itself" (§ 3)
     line space1 (readingPairs (pair (pos 0) (pos 0) ∷ pair (pos 100) (pos 1000001) ∷ pair (pos 0) (pos 0) ∷ pair (pos 0) (pos 0) ∷ [])
     (pos 512 ∷ [])) (refusal 6 3) ∷
     -- an odd count
@@ -286,7 +286,7 @@ NeedsTwoCellsEach s (curve coefs positions) = curveOutcome s coefs positions tab
 abbrev pub Belongs : Segments → Type 0
 Belongs c = map (λ x. segmentAt (c .space) (pos x)) (c .positions) ≡ c .belong
 
--- All that the papers say of their cases.
+-- All that § 15 says of its cases.
 abbrev pub EveryCaseHolds : Type 0
 EveryCaseHolds = Every Holds cases
 

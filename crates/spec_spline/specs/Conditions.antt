@@ -32,14 +32,14 @@ alternating (suc n) = negℤ (alternating n)
 abbrev pub scale : ℕ → ℕ → ℕ → ℕ
 scale p k other = falling p k * other ^ k
 
--- "left ordinate p - k + t has F(p, k) b^k (-1)^(k-t) C(k, t)".
+-- "the left segment's ordinate p - k + t has F(p, k)·b^k·(-1)^(k - t)·C(k, t)" (§ 5).
 abbrev pub leftEntry : Space → ℕ → ℕ → ℕ → Entry
 leftEntry s j k t = record {
   column = firstColumn s j + (degree s j - k + t);
   condition = pos (scale (degree s j) k (width s (suc j)) * binomial k t) *ℤ alternating (k - t);
 }
 
--- "right ordinate t has -F(q, k) a^k (-1)^(k-t) C(k, t)".
+-- "the right segment's ordinate t has -F(q, k)·a^k·(-1)^(k - t)·C(k, t)" (§ 5).
 abbrev pub rightEntry : Space → ℕ → ℕ → ℕ → Entry
 rightEntry s j k t = record {
   column = firstColumn s (suc j) + t;

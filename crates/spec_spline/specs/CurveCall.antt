@@ -1,5 +1,6 @@
--- The curve call (§ 1, § 3; § 8): what it ends with, and
--- what the three lent buffers hold afterwards. The refusals are tested in the order of the codes, within a code by place.
+-- The curve call (§ 6): what it ends with, and what the three lent buffers hold afterwards (§ 2, § 3). "The curve call tests 1
+-- (places 0, 1, 2), 2, 3, 4, 5, 15, 6, 7, builds (8, 9), writes both values of each position, and answers with the count of
+-- positions." (§ 6)
 use mathlib.Core.Bool.{Bool, cond, not}
 use mathlib.Core.List.{List, _++_}
 use Prim.Native.Nat.{ℕ, _*_, _/_}
@@ -14,11 +15,11 @@ use Rattle.spec_spline.specs.Table.{Table}
 use Rattle.spec_spline.specs.Build.{weights, longEnough, lastPart, numeratorsAfter, denominatorsAfter}
 use Rattle.spec_spline.specs.Reading.{fine, Pair, sideBySide, values}
 
--- "up to 4,096 positions".
+-- "at most 4,096 signed 32-bit numbers" (§ 1).
 abbrev pub positionLimit : ℕ
 positionLimit = 4096
 
--- "from -1,000,000 to 1,000,000 thousandths of a millimetre".
+-- "each from -1,000,000 to 1,000,000, in thousandths of a millimetre" (§ 1).
 abbrev pub coefficientLimit : ℕ
 coefficientLimit = 1000000
 
@@ -30,14 +31,15 @@ badCoefficient coefs i = not (between (negℤ (pos coefficientLimit)) (pos coeff
 unfoldable pub badPosition : Space → List ℤ → ℕ → Bool
 badPosition s positions i = not (between (fine (break s 0)) (fine (break s (segments s))) (getD positions i (pos 0)))
 
--- Code 1, all three places, or the value given; it "counts two cells a position".
+-- Code 1, all three places, or the value given; of the values where "half the buffer's length, rounded down, is less than the count
+-- of positions" (§ 3).
 abbrev pub allLongEnough : {A : Type 0} → List ℤ → ℕ → ℕ → ℕ → Outcome A → Outcome A
 allLongEnough positions numLength denLength valuesLength rest =
     longEnough numLength denLength
     (cond (ltb (valuesLength / 2) (length positions)) (refuse 1 2) rest)
 
--- Codes 6 and 7 of a legal space, or the value given. 6 counts and places the "2n numbers" singly; the count is tested first
--- and has the largest place.
+-- Codes 6 and 7 of a legal space, or the value given: "the count of coefficients is not 2n; tested first" (§ 3), with the largest
+-- place; then the first bad coefficient, "each number of a pair by itself" (§ 3).
 abbrev pub legalEntries : {A : Type 0} → Space → List ℤ → List ℤ → Outcome A → Outcome A
 legalEntries s coefs positions rest =
     cond (eqb (length coefs) (2 * rowCount s))
@@ -68,7 +70,7 @@ curveOutcome s coefs positions numLength denLength valuesLength =
     allLongEnough positions numLength denLength valuesLength
     (curveChecked s coefs positions then curveRead coefs positions)
 
--- "the answer still counts positions".
+-- It "answers with the count of positions" (§ 6).
 abbrev pub returned : Outcome CurveResult → Outcome ℕ
 returned o = with-answer (λ r. length (r .values)) o
 
@@ -84,8 +86,8 @@ curveNumerators s o before = numeratorsAfter (heldBy s o) before
 abbrev pub curveDenominators : Space → Outcome CurveResult → List ℤ → List ℤ
 curveDenominators s o before = denominatorsAfter (heldBy s o) before
 
--- The values' buffer after the call: the pairs in list order, "written side by side", and "the value cells that keep what they
--- held are those past twice that count"; unchanged after every refusal.
+-- The values' buffer after the call: "two signed 32-bit numbers a position, earlywood first, in list order", and "Cells past twice
+-- the count of positions keep what they held." (§ 2) It is unchanged after every refusal (§ 3).
 unfoldable pub valuesAfter : Outcome CurveResult → List ℤ → List ℤ
 valuesAfter (answer r) before = sideBySide (r .values) ++ drop (2 * length (r .values)) before
 valuesAfter (refusal code place) before = before

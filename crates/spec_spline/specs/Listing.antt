@@ -1,5 +1,5 @@
--- The non-zero weights of a table as a list (§ 13): "w is row, column, non-zero weight, rows
--- rising, then columns". The cases and the sheet show tables in this form.
+-- The non-zero weights of a table as a list: a row, a column and the fraction "for each non-zero weight of the whole beam, rows
+-- rising, then columns" (§ 13). The cases (§ 15) and the sheet show tables in this form.
 use mathlib.Core.Bool.{cond}
 use mathlib.Core.List.{List, [], _∷_, _++_}
 use Prim.Native.Nat.{ℕ, suc}

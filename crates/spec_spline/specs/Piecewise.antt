@@ -1,5 +1,5 @@
--- Demand 2's words: piecewise curves, the join conditions they meet, combinations of rows, and accepted spaces
--- (§ 7). All sums are exact; nothing is tested for its size here.
+-- Piecewise curves, the join conditions they meet (§ 7), combinations of rows (§ 12), and accepted spaces (§ 5). All sums are
+-- exact; nothing is tested for its size here.
 use mathlib.Core.Path.{_≡_}
 use mathlib.Core.List.{List, [], _∷_}
 use Prim.Native.Nat.{ℕ, _-_, _<_}
@@ -14,25 +14,26 @@ use Rattle.spec_spline.specs.Conditions.{Entry, conditions}
 use Rattle.spec_spline.specs.Table.{Row, Table, entry, cell}
 use Rattle.spec_spline.specs.Build.{spaceWeights}
 
--- "its ordinates times that column of conditions", summed over the column's non-zero entries.
+-- "its ordinates times the conditions of that step" (§ 7), summed over the non-zero conditions.
 unfoldable pub pairing : Row → List Entry → ℚ
 pairing o [] = int (pos 0)
 pairing o (e ∷ es) = entry o (e .column) *ᵠ int (e .condition) +ᵠ pairing o es
 
--- "it meets a join condition where" that sum is zero: the condition of order k at join j.
+-- "It meets the condition of a join and an order where its ordinates times the conditions of that step (§ 5, 1) sum to zero." (§ 7)
+-- The condition of order k at join j.
 abbrev pub Meets : Space → Row → ℕ → ℕ → Type 0
 Meets s o j k = pairing o (conditions s j k) ≡ int (pos 0)
 
--- "a piecewise curve is a list of such fractions, one ordinate per column", here one that meets all join conditions.
+-- "A piecewise curve is a list of fractions, one a column." (§ 7) Here one that meets all join conditions.
 pub record MeetsAll (s : Space) (o : Row) : Type 0 where
   pub columns : length o ≡ columnCount s
   pub meets : (j k : ℕ) → j < segments s - 1 → k < conditionCount s j → Meets s o j k
 
--- "combination of its rows": multiplier i times row i, summed over the rows, for a table with this many columns.
+-- "The combination of the rows" (§ 12): multiplier i times row i, summed over the rows, for a table with this many columns.
 unfoldable pub combination : ℕ → List ℚ → Table → Row
 combination columns multipliers t = tab columns (λ c. sum (length t) (λ i. entry multipliers i *ᵠ cell t i c))
 
--- "a space is accepted where no number applies that building can give with buffers long enough": it has weights.
+-- "A space is accepted where none of 2 to 5, 15, 8 and 9 applies." (§ 5) It has weights.
 pub record Accepted (s : Space) : Type 0 where
   pub table : Table
   pub is : spaceWeights s ≡ answer table

@@ -1,5 +1,5 @@
--- The published successive null-space construction: H. Speleers, Computation of multi-degree B-splines, 2019 (source
--- document 000), sections 2 and 3.2 with Figures 1 and 2, written from that paper alone. The segments are its Bernstein
+-- The published successive null-space construction: H. Speleers, Computation of multi-degree B-splines, 2019 (doi
+-- 10.1145/3321514; § 5), sections 2 and 3.2 with Figures 1 and 2, written from that paper alone. The segments are its Bernstein
 -- pieces (its Remark 2) and all numbers are exact fractions. The paper counts from 1, this file from 0: its segment join
 -- i is join i - 1 here, its k-th column order k - 1. Its mu is firstColumn, its kappa + 1 conditionCount.
 use mathlib.Core.Bool.{cond, not}
@@ -61,11 +61,11 @@ constraints s i = tab (columnCount s) (λ c. tab (conditionCount s i) (λ k. con
 
 -- ---- the sparse null-space of a vector l (section 3.2.2, Figure 2)
 
--- "- l(j-1) / l(j) H(j-1, j-1)", with j for the figure's j - 1 and d for that entry of the matrix.
+-- The figure's - l(j-1) / l(j) H(j-1, j-1), with j for its j - 1 and d for that entry of the matrix.
 abbrev pub carried : Row → ℕ → ℚ → ℚ
 carried l j d = -ᵠ (entry l j /ᵠ entry l (suc j)) *ᵠ d
 
--- H(j, j): 1 up to i1, "1 - H(j-1, j)" between i1 and i2, 0 from i2 on.
+-- H(j, j): 1 up to i1, 1 - H(j-1, j) between i1 and i2, 0 from i2 on.
 unfoldable pub diagonal : Row → ℕ → ℕ → ℕ → ℚ
 diagonal l i1 i2 zero = int (pos 1)
 diagonal l i1 i2 (suc j) =

@@ -1,7 +1,5 @@
--- Reading the curve (§ 6, also for positions on
--- discontinuities and for the rounding, § 8 for the two wood parts): the segment of a position, the ordinates, the de
--- Casteljau triangle and the values.
--- Two rules stand in one definition each: `segmentAt` says which segment a position belongs to, and `rounded` how a quotient
+-- Reading the curve (§ 6; § 8 for the two woods): the segment of a position, the ordinates, the de Casteljau triangle and the
+-- values. Two rules stand in one definition each: `segmentAt` says which segment a position belongs to, and `rounded` how a quotient
 -- becomes a whole number. Coefficients come as a function of the row.
 use mathlib.Core.Bool.{Bool, false, cond, not}
 use mathlib.Core.List.{List, [], _∷_, map}
@@ -31,33 +29,33 @@ unfoldable pub startsAtDiscontinuity : Space → ℕ → Bool
 startsAtDiscontinuity s zero = false
 startsAtDiscontinuity s (suc i) = isDiscontinuity s i
 
--- Segment i "starts at or before" the position; where it starts at a discontinuity, before it.
+-- Segment i is one that "starts at or before it", the position (§ 6); where it starts at a discontinuity, before it.
 unfoldable pub startsBy : Space → ℤ → ℕ → Bool
 startsBy s x i = cond (startsAtDiscontinuity s i) (ltZ (fine (break s i)) x) (leZ (fine (break s i)) x)
 
--- "A position belongs to the last stretch that starts at or before it", and "exactly on" a discontinuity "to the stretch
--- that ends there" (§ 6). The last breakpoint, where no segment starts, thereby belongs to the last one. Before
--- the first breakpoint, where code 7 refuses, it is segment 0.
+-- "A position belongs to the last segment that starts at or before it; exactly on a discontinuity, to the segment that ends there;
+-- on the last breakpoint, to the last segment." (§ 6) No segment starts at the last breakpoint, so it needs no rule of its own.
+-- Before the first breakpoint, where code 7 refuses, it is segment 0.
 unfoldable pub segmentAt : Space → ℤ → ℕ
 segmentAt s x = Option·getD (last (segments s) (startsBy s x)) 0
 
--- "rounding to the nearest whole number, halves upwards": the whole number that stands for z / d.
+-- "rounding to the nearest whole number, halves upwards" (before § 1): the whole number that stands for z / d.
 unfoldable pub rounded : ℤ → ℕ → ℤ
 rounded z d = nearest z d
 
 -- ---- the two wood parts
 
--- "Earlywood and latewood. The two parts of a ring get a curve each over the same space."
+-- "The two woods have a curve each over the same weights." (§ 8)
 pub data Wood : Type 0 where
   earlywood : Wood
   latewood : Wood
 
--- "side by side", "earlywood first".
+-- "entry 2i (earlywood) and entry 2i + 1 (latewood)" (§ 1).
 abbrev pub woodIndex : Wood → ℕ
 woodIndex earlywood = 0
 woodIndex latewood = 1
 
--- "a record of two numbers".
+-- The two numbers of a row or of a position, earlywood first (§ 1, § 2).
 pub record Pair : Type 0 where
   pub early : ℤ
   pub late : ℤ
@@ -69,7 +67,7 @@ sideBySide (p ∷ ps) = p .early ∷ p .late ∷ sideBySide ps
 
 -- ---- the ordinates (step 1)
 
--- The coefficient of row i for a wood part: of each row's two, "side by side in the list", its own.
+-- The coefficient of row i for a wood: "Those of row i are entry 2i (earlywood) and entry 2i + 1 (latewood)." (§ 1)
 abbrev pub coefficient : Wood → List ℤ → ℕ → ℤ
 coefficient wood coefs i = getD coefs (2 * i + woodIndex wood) (pos 0)
 
@@ -77,11 +75,11 @@ coefficient wood coefs i = getD coefs (2 * i + woodIndex wood) (pos 0)
 abbrev pub hasWeight : Table → ℕ → ℕ → Bool
 hasWeight t c i = not (isZero (cell t i c))
 
--- "256·coefficient·numerator/denominator", rounded.
+-- "nearest(256·coefficient·numerator/denominator)" (§ 6).
 unfoldable pub term : ℚ → ℤ → ℤ
 term weight a = rounded (fine a *ℤ weight .num) (den weight)
 
--- "over its non-zero weights, add": the sum of the terms of the first n rows.
+-- "over the rows with non-zero weight in it, add" (§ 6): the sum of the terms of the first n rows.
 unfoldable pub termSum : Table → (ℕ → ℤ) → ℕ → ℕ → ℤ
 termSum t a c zero = pos 0
 termSum t a c (suc n) = termSum t a c n +ℤ cond (hasWeight t c n) (term (cell t n c) (a n)) (pos 0)
@@ -104,12 +102,12 @@ least = best leZ
 abbrev pub greatest : ℕ → (ℕ → Bool) → (ℕ → ℤ) → Option ℤ
 greatest = best (λ y z. leZ z y)
 
--- "If the sum is under 256 times the least such coefficient, take that".
+-- "If the sum is below 256 times the least coefficient of these rows, take that instead" (§ 6).
 abbrev pub atLeast : Option ℤ → ℤ → ℤ
 atLeast none z = z
 atLeast (some a) z = cond (ltZ z (fine a)) (fine a) z
 
--- "likewise above the greatest".
+-- "if above 256 times the greatest, that" (§ 6).
 abbrev pub atMost : Option ℤ → ℤ → ℤ
 atMost none z = z
 atMost (some a) z = cond (ltZ (fine a) z) (fine a) z
@@ -135,7 +133,7 @@ fineWidth s i = fineness * width s i
 abbrev pub offset : Space → ℕ → ℤ → ℤ
 offset s i x = x -ℤ fine (break s i)
 
--- Neighbours g, h become "((D - u)·g + u·h)/D", rounded.
+-- "neighbours g and h become nearest(((D - u)·g + u·h)/D)" (§ 6).
 unfoldable pub blend : ℕ → ℤ → ℤ → ℤ → ℤ
 blend d u g h = rounded ((pos d -ℤ u) *ℤ g +ℤ u *ℤ h) d
 
@@ -144,7 +142,7 @@ unfoldable pub triangle : ℕ → ℤ → (ℕ → ℤ) → ℕ → ℕ → ℤ
 triangle d u g zero k = g k
 triangle d u g (suc n) k = blend d u (triangle d u g n k) (triangle d u g n (suc k))
 
--- "blend p times" the ordinates of segment i, given the ordinates of all columns.
+-- "blend p times" (§ 6): the ordinates of segment i, given the ordinates of all columns.
 unfoldable pub blended : Space → List ℤ → ℕ → ℤ → ℤ
 blended s os i x = triangle (fineWidth s i) (offset s i x) (λ k. getD os (firstColumn s i + k) (pos 0)) (degree s i) 0
 
@@ -152,7 +150,7 @@ blended s os i x = triangle (fineWidth s i) (offset s i x) (λ k. getD os (first
 unfoldable pub valueAt : Space → Table → Wood → List ℤ → ℤ → ℤ
 valueAt s t wood coefs x = blended s (ordinates s t (coefficient wood coefs)) (segmentAt s x) x
 
--- "each position gives two values".
+-- "both values of each position" (§ 6).
 unfoldable pub pairAt : Space → Table → List ℤ → ℤ → Pair
 pairAt s t coefs x = record { early = valueAt s t earlywood coefs x; late = valueAt s t latewood coefs x }
 

@@ -1,6 +1,5 @@
--- A space: breakpoints, degrees and continuity orders, and the refusals 2 to 5 and 15
--- (§ 1, § 3, § 4), which cuts a beam into parts. The lists hold any whole numbers and have
--- any length; all functions here are total. A segment is the laboratory's stretch; an order of -1 is its scar.
+-- A space: breakpoints, degrees and continuity orders, the parts of a beam, and the refusals 2 to 5
+-- and 15 (§ 1, § 3, § 4). The lists hold any whole numbers and have any length; all functions here are total. A segment is the laboratory's stretch; an order of -1 is its scar.
 use mathlib.Core.Bool.{Bool, true, false, cond, not, _&&_, _||_}
 use mathlib.Core.List.{List}
 use mathlib.Core.Option.{Option, some, none, Option·getD}
@@ -35,23 +34,23 @@ degreeEntry s i = getD (s .degrees) i (pos 0)
 abbrev pub order : Space → ℕ → ℤ
 order s i = getD (s .orders) i (pos 0)
 
--- "Accept up to 48 stretches".
+-- "m from 1 to 48" (§ 1).
 abbrev pub segmentLimit : ℕ
 segmentLimit = 48
 
--- "m from 1 to 12", for each part of a beam.
+-- "A part has at most 12 segments" (§ 1).
 abbrev pub partSegmentLimit : ℕ
 partSegmentLimit = 12
 
--- "each from -10,000 to 10,000".
+-- "each from -10,000 to 10,000" (§ 1).
 abbrev pub breakLimit : ℕ
 breakLimit = 10000
 
--- "xm - x0 at most 2,000", for each part of a beam.
+-- "a span, from its first breakpoint to its last, of at most 2,000" (§ 1), for each part of a beam.
 abbrev pub spanLimit : ℕ
 spanLimit = 2000
 
--- "Degrees, one per stretch, each 1 to 5".
+-- "Degrees, one for each segment, each from 1 to 5." (§ 1)
 abbrev pub degreeLimit : ℕ
 degreeLimit = 5
 
@@ -69,11 +68,11 @@ badBreak s (suc i) = not (between (negℤ (pos breakLimit)) (pos breakLimit) (br
 abbrev pub conditionCount : Space → ℕ → ℕ
 conditionCount s i = natAbs (order s i +ℤ pos 1)
 
--- Join i is a discontinuity, the laboratory's "scar, no condition": its order is -1.
+-- Join i is "a discontinuity, a scar: no condition" (§ 1): its order is -1.
 abbrev pub isDiscontinuity : Space → ℕ → Bool
 isDiscontinuity s i = eqb (conditionCount s i) 0
 
--- "cut at the scars", where "only the order -1 cuts": segment i is the first of a part.
+-- "The parts of a space are what lies between its discontinuities" (§ 1): segment i is the first of a part.
 unfoldable pub startsPart : Space → ℕ → Bool
 startsPart s zero = true
 startsPart s (suc i) = isDiscontinuity s i
@@ -112,8 +111,8 @@ abbrev pub partEndAt : Space → Option ℕ → Option ℕ
 partEndAt s none = none
 partEndAt s (some i) = some (partEnd s i)
 
--- The space itself, or the first of the refusals 3 to 5 and 15, in this order, where the lengths fit: of 3 all breakpoints
--- first, then the first part whose span is too long, and 15 "right after 5".
+-- The space itself, or the first of the refusals 3 to 5 and 15, where the lengths fit: "Numbers are tested in the order of this
+-- table" (§ 3); of 3 all breakpoints first, then the first part whose span is too long.
 unfoldable pub checkedEntries : Space → Outcome Space
 checkedEntries s =
     refuseFirst 3 (first (segments s + 1) (badBreak s))

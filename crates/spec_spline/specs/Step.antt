@@ -24,7 +24,7 @@ unfoldable pub addProducts : ℕ → Row → ℚ → List Entry → Outcome ℚ
 addProducts j r s [] = answer s
 addProducts j r s (e ∷ es) = count j (entry r (e .column) *ᵠ int (e .condition)) then λ p. count j (s +ᵠ p) then λ t. addProducts j r t es
 
--- "The jump of a row is the sum of weight times condition".
+-- "The jump of a row is the sum of weight times condition over the columns with a non-zero condition, columns rising." (§ 5)
 abbrev pub jump : ℕ → List Entry → Row → Outcome ℚ
 jump j κ r = addProducts j r (int (pos 0)) κ
 
@@ -50,7 +50,7 @@ spanOf j js none l = refuse 9 j
 spanOf j js (some f) none = refuse 9 j
 spanOf j js (some f) (some l) = cond (zeroBetween js f l) (refuse 9 j) (answer (record { f = f; l = l }))
 
--- "f and l be the first and last row with non-zero jump. Number 9: there is none, or a zero lies between."
+-- "f and l are the first and the last row with a non-zero jump. Number 9 where there is none, or a zero jump between them." (§ 5)
 unfoldable pub span : ℕ → List ℚ → Outcome Span
 span j js = spanOf j js (first (length js) (jumpsAt js)) (last (length js) (jumpsAt js))
 
@@ -58,7 +58,8 @@ span j js = spanOf j js (first (length js) (jumpsAt js)) (last (length js) (jump
 unfoldable pub partialSum : List ℚ → ℕ → ℕ → ℚ
 partialSum js f i = sum (suc i - f) (λ d. entry js (f + d))
 
--- The factor from S and the jump: "each S, then its w, tested for 8 before 9"; code 9 where w is not strictly between 0 and 1.
+-- The factor from S and the jump: "S and then w(i), which is tested for 8 before it is tested for 9" (§ 5), and "number 9 where
+-- w(i) is not strictly between 0 and 1" (§ 5).
 unfoldable pub quotientFactor : ℕ → ℚ → ℚ → Outcome ℚ
 quotientFactor j s q =
     count j s then λ s.
@@ -74,7 +75,7 @@ unfoldable pub factors : ℕ → List ℚ → Span → Outcome (List ℚ)
 factors j js g = collect (g .l - g .f - 1) (λ d. factor j js (g .f) (g .f + 1 + d)) then λ ws. answer
     (int (pos 1) ∷ (ws ++ (int (pos 0) ∷ [])))
 
--- "first product, second product, sum".
+-- "the first product, the second product, the sum" (§ 5).
 unfoldable pub newEntry : ℕ → ℚ → ℚ → ℚ → ℚ → Outcome ℚ
 newEntry j w v x y = count j (w *ᵠ x) then λ p. count j ((int (pos 1) -ᵠ v) *ᵠ y) then λ q. count j (p +ᵠ q)
 
@@ -86,13 +87,31 @@ newRow j w v r r′ = collect (length r) (λ c. newEntry j w v (entry r c) (entr
 unfoldable pub newRows : ℕ → Span → List ℚ → Table → Outcome Table
 newRows j g ws t = collect (g .l - g .f) (λ d. newRow j (entry ws d) (entry ws (suc d)) (row t (g .f + d)) (row t (g .f + suc d)))
 
--- The rest of a step whose jumps span g: "for i below f, old row i; for f to l - 1 the new ones; for i from l, old row i + 1."
-abbrev pub mixed : ℕ → Table → List ℚ → Span → Outcome Table
-mixed j t js g =
-    factors j js g then λ ws.
-    newRows j g ws t then λ rs.
-    answer (take (g .f) t ++ (rs ++ drop (suc (g .l)) t))
+-- ---- the two halves of a step
+
+-- What a step works out before it makes rows new: its jumps, the rows that they span and the factors of these rows.
+pub record Planned : Type 0 where
+  pub jumps : List ℚ
+  pub span : Span
+  pub factors : List ℚ
+
+-- These jumps with the factors of these rows.
+unfoldable pub planOver : ℕ → List ℚ → Span → Outcome Planned
+planOver j js g = factors j js g then λ ws. answer (record { jumps = js; span = g; factors = ws })
+
+-- What follows from the jumps: the rows that they span, and the factors of these rows.
+unfoldable pub planFrom : ℕ → List ℚ → Outcome Planned
+planFrom j js = span j js then planOver j js
+
+-- The first half of a step, or its refusal.
+unfoldable pub planned : ℕ → List Entry → Table → Outcome Planned
+planned j κ t = jumps j κ t then planFrom j
+
+-- The second half: "Row i below f stays.", then the new rows, and "Row i from l on becomes old row i + 1: there is one row less."
+-- (§ 5)
+unfoldable pub rowsRenewed : ℕ → Span → List ℚ → Table → Outcome Table
+rowsRenewed j g ws t = newRows j g ws t then λ rs. answer (take (g .f) t ++ (rs ++ drop (suc (g .l)) t))
 
 -- One step with the conditions κ at join j.
 unfoldable pub step : ℕ → List Entry → Table → Outcome Table
-step j κ t = jumps j κ t then λ js. span j js then λ g. mixed j t js g
+step j κ t = planned j κ t then λ p. rowsRenewed j (p .span) (p .factors) t

@@ -1,4 +1,4 @@
--- Tables of fractions, and how they lie in the two lent buffers (§ 1).
+-- Tables of fractions, and how they lie in the two lent buffers (§ 2).
 use mathlib.Core.Bool.{cond}
 use mathlib.Core.List.{List, [], _++_}
 use Prim.Native.Nat.{ℕ, _/_, _%_}
@@ -35,11 +35,11 @@ identity n = tab n (λ i. tab n (λ j. cond (eqb i j) (int (pos 1)) (int (pos 0)
 abbrev pub rowCells : ℕ
 rowCells = 72
 
--- "at least 5,184 cells (72 × 72)".
+-- "at least 5,184 = 72 · 72 cells" (§ 2).
 abbrev pub tableCells : ℕ
 tableCells = 5184
 
--- What cell k of the table area stands for: "row i, column j is cell 72·i + j".
+-- What cell k of the table area stands for: row i, column j "is cell 72·i + j" (§ 2).
 abbrev pub stored : Table → ℕ → ℚ
 stored t k = cell t (k / rowCells) (k % rowCells)
 

@@ -1,5 +1,6 @@
--- Numbers in columns (§ 14): "numbers right-aligned, minus allowed, without spare zeros or -0".
--- A numeral is that of the sheet (crate base_text); its seven digits are more than any column here has room for.
+-- Numbers in columns: "A number stands at the right end of its columns with blanks before it: minus allowed, no plus, no spare
+-- zeros, no -0." (§ 14) A numeral is that of the sheet (crate base_text); its seven digits are more than any column here has room
+-- for.
 use mathlib.Core.Bool.{cond}
 use mathlib.Core.List.{[], _∷_, _++_}
 use mathlib.Core.Option.{Option, none}

@@ -1,5 +1,5 @@
--- A line of a Tucson file (§ 14): "a series name in columns 1 to 8 (printable ASCII, not all blank),
--- a year in 9 to 12, then one to ten fields of six columns", "ended by byte 10", and code 11's tests of one line.
+-- A line of a Tucson file: it "is ended by byte 10 and has a series name in columns 1 to 8 (bytes 32 to 126, not all blank), a year
+-- in columns 9 to 12, then one to ten fields of six columns" (§ 14), and code 11's tests of one line.
 use mathlib.Core.Bool.{Bool, true, cond, _&&_, _||_, not}
 use mathlib.Core.List.{List, [], _∷_}
 use mathlib.Core.Option.{Option, some, none}
@@ -24,7 +24,7 @@ yearColumns = 4
 abbrev pub fieldColumns : ℕ
 fieldColumns = 6
 
--- "ten years from one ending in 0".
+-- A decade: ten years, the first of which ends in 0 (§ 14).
 abbrev pub decade : ℕ
 decade = 10
 
@@ -36,7 +36,7 @@ lastPrintable = 126
 abbrev pub widthLimit : ℕ
 widthLimit = 99999
 
--- "-9999 for thousandths": the field that closes a series of thousandths.
+-- "-9999 for thousandths" (§ 14): the field that closes a series of thousandths.
 abbrev pub thousandths : ℤ
 thousandths = negℤ (pos 9999)
 
@@ -65,7 +65,7 @@ unfoldable pub allBlank : Text → Bool
 allBlank [] = true
 allBlank (c ∷ cs) = eqb c blank && allBlank cs
 
--- A series name: eight bytes, "printable ASCII, not all blank".
+-- A series name: eight bytes, "bytes 32 to 126, not all blank" (§ 14).
 unfoldable pub isName : Text → Bool
 isName t = eqb (length t) nameColumns && allPrintable t && not (allBlank t)
 
@@ -84,7 +84,7 @@ fieldNumerals (suc n) t = withField (inColumns (take fieldColumns t)) (fieldNume
 abbrev pub fieldCount : Text → ℕ
 fieldCount body = (length body - (nameColumns + yearColumns)) / fieldColumns
 
--- "one to ten fields of six columns", and no column over.
+-- "one to ten fields of six columns" (§ 14), and no column over.
 unfoldable pub columnsFit : Text → Bool
 columnsFit body = eqb (length body) (nameColumns + yearColumns + fieldCount body * fieldColumns) && leb 1 (fieldCount body)
     && leb (fieldCount body) decade
@@ -120,7 +120,7 @@ unfoldable pub yearInDecade : ℤ → ℕ
 yearInDecade (pos n) = n % decade
 yearInDecade (negsuc n) = decade - 1 - n % decade
 
--- "No line passes the end of its decade", the closing field counted.
+-- "no line passes the end of its decade" (§ 14), the closing field counted.
 unfoldable pub withinDecade : Line → Bool
 withinDecade l = leb (yearInDecade (l .year) + length (l .fields)) decade
 
@@ -130,7 +130,7 @@ withinDecade l = leb (yearInDecade (l .year) + length (l .fields)) decade
 abbrev pub same : ℤ → ℤ → Bool
 same a b = leZ a b && leZ b a
 
--- "0 to 99,999 in thousandths".
+-- "0 to 99,999 in thousandths" (§ 14).
 unfoldable pub isWidth : ℤ → Bool
 isWidth z = between (pos 0) (pos widthLimit) z
 

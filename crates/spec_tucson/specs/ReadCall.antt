@@ -1,6 +1,6 @@
--- The read call (§ 14): what it ends with, and what the four lent buffers hold afterwards. "Then 1,
--- place 0, for a lent buffer too short for the answer; refusals write nothing. Reading returns how many series"; "later cells
--- stay".
+-- The read call: what it ends with, and what the four lent buffers hold afterwards. "After all lines 1, place 0, where any of the
+-- four buffers is too short." (§ 14) "it answers with the count of series" (§ 14). "Refusals write nothing; cells past an answer
+-- stay." (§ 14)
 use mathlib.Core.Bool.{Bool, cond, _&&_}
 use mathlib.Core.List.{List, [], _∷_, _++_, map}
 use Prim.Native.Nat.{ℕ}

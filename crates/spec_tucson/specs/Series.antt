@@ -1,5 +1,5 @@
--- A series (§ 14): "Consecutive lines with one name are a series, its fields consecutive years."
--- Its last field closes it and says the unit; widths are held in thousandths of a millimetre.
+-- A series: "Consecutive lines with the same eight bytes of name are a series, its fields consecutive years." (§ 14) Its last field
+-- closes it and says the unit; widths are held in thousandths of a millimetre.
 use mathlib.Core.Bool.{Bool, true, cond, _&&_}
 use mathlib.Core.List.{List, [], _∷_, map}
 use mathlib.Core.Option.{Option, some, none}
@@ -15,11 +15,11 @@ pub record Series : Type 0 where
   pub firstYear : ℤ
   pub widths : List ℤ
 
--- "999 for hundredths of a millimetre": the field that closes a series of hundredths.
+-- "999 for hundredths of a millimetre" (§ 14): the field that closes a series of hundredths.
 abbrev pub hundredths : ℤ
 hundredths = pos 999
 
--- "0 to 9,999 in hundredths".
+-- "0 to 9,999 in hundredths" (§ 14).
 abbrev pub hundredthsLimit : ℕ
 hundredthsLimit = 9999
 
@@ -32,7 +32,7 @@ allHundredths (w ∷ ws) = leZ w (pos hundredthsLimit) && allHundredths ws
 abbrev pub perHundredth : ℕ
 perHundredth = 10
 
--- "Read them into thousandths".
+-- "all widths in thousandths" (§ 14).
 unfoldable pub fromHundredths : List ℤ → List ℤ
 fromHundredths ws = map (λ w. w *ℤ pos perHundredth) ws
 

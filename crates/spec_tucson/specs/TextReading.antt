@@ -1,5 +1,5 @@
--- Reading a Tucson text (§ 14): its series, or the first refusal. "Lines are tested from the top, in
--- that number order, place the line from 1": each line for 11, then 12, then 13, before the next.
+-- Reading a Tucson text: its series, or the first refusal. "Lines are tested from the top" (§ 14): each line for 11, then 12, then
+-- 13, before the next; "place the line, from 1" (§ 14).
 use mathlib.Core.Bool.{Bool, true, false, cond, _&&_, not}
 use mathlib.Core.List.{List, [], _∷_, _++_, dropLast}
 use mathlib.Core.Option.{Option, some, none}
@@ -31,7 +31,8 @@ begunBy (some b) l = b
 abbrev pub nextYear : Begun → ℤ
 nextYear b = b .firstYear +ℤ pos (length (b .widths))
 
--- Code 12: "a later line's year isn't the next one or doesn't end in 0".
+-- Code 12: "a later line of a series whose year is not that of the line before plus its count of fields, or does not end in 0"
+-- (§ 14).
 unfoldable pub yearFollows : Option Begun → Line → Bool
 yearFollows none l = true
 yearFollows (some b) l = same (l .year) (nextYear b) && eqb (yearInDecade (l .year)) 0

@@ -1,6 +1,6 @@
--- The write call (§ 14): "Writing gives 2, place 0, if its lists don't fit each other, then 11", "place
--- the series from 0. Then 1, place 0, for a lent buffer too short for the answer; refusals write nothing"; writing returns
--- "how many bytes; later cells stay".
+-- The write call: "2, place 0, where they don't fit each other", the four lists; "then 11, place the series from 0"; "then 1, place
+-- 0, for a text buffer that is too short. It writes thousandths" and "answers with the count of bytes. Refusals write nothing;
+-- cells past an answer stay." (§ 14)
 use mathlib.Core.Bool.{Bool, cond, _&&_}
 use mathlib.Core.List.{List, [], _∷_}
 use Prim.Native.Nat.{ℕ, _+_, _*_}

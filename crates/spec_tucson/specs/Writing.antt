@@ -1,5 +1,5 @@
--- Writing a Tucson text (§ 14): "writing always uses thousandths". The first line of a series goes
--- from its first year to its decade's end, the later ones are full decades, the last ends with the closing.
+-- Writing a Tucson text: "It writes thousandths: the first line from the first year to its decade's end, then whole decades, -9999
+-- after the last width." (§ 14)
 use mathlib.Core.Bool.{Bool, true, cond, _&&_, not}
 use mathlib.Core.List.{List, [], _∷_, _++_}
 use mathlib.Core.Option.{Option, some, none}
@@ -76,8 +76,9 @@ unfoldable pub allWidths : List ℤ → Bool
 allWidths [] = true
 allWidths (w ∷ ws) = isWidth w && allWidths ws
 
--- "a name, line's year or width that the form above doesn't allow or a name equal to the one before it": the series has none
--- of these. (Before the first there are no bytes, with which no name begins.)
+-- "a name that the form does not allow, a line's year outside -999 to 9,999 (the closing's line too), a width outside 0 to 99,999,
+-- or a name equal to the one before" (§ 14): the series has none of these. (Before the first there are no bytes, with which no name
+-- begins.)
 unfoldable pub isWritable : Text → Series → Bool
 isWritable before s = isName (s .name) && yearsFit (seriesLines s) && allWidths (s .widths) && not (beginsWith (s .name) before)
 

@@ -1,4 +1,4 @@
--- Every value is near the exact curve: the closeness of demand 3 with s at most three and p at most five.
+-- Every value is near the exact curve: the closeness of § 7 with s at most three and p at most five.
 use mathlib.Core.Path.{sym, subst}
 use Prim.Native.Nat.{ℕ, zero, suc, _+_, _*_, _<_, _≤_}
 use native.Mathlib.Omega.{arith}

@@ -20,7 +20,7 @@ use Rattle.theorems_weights.specs.Counted.{Test, counted, buildTests}
 abbrev pub safeOrder : ℤ
 safeOrder = pos 1
 
--- "orders are all at most 1".
+-- No order is above 1.
 abbrev pub OrdersAtMostOne : Space → Type 0
 OrdersAtMostOne s = (j : ℕ) → j < segments s - 1 → order s j ≤ℤ safeOrder
 

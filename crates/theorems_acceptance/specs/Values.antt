@@ -12,7 +12,7 @@ use Rattle.spec_spline.specs.Reading.{Wood, woodIndex}
 use Rattle.spec_spline.specs.CurveCall.{curveOutcome, valuesAfter}
 use Rattle.spec_spline.specs.ExactCurve.{exactCurve, Legal}
 
--- "within 4 units of the exact one".
+-- Four units of a value: the largest distance from the exact curve where no order is above 1.
 abbrev pub unitLimit : ℕ
 unitLimit = 4
 

@@ -31,7 +31,7 @@ abbrev pub WeightsAreCounted : Type 0
 WeightsAreCounted = (s : Space) (a : Accepted s) (j u : ℕ) → j < segments s → u ≤ degree s j
     → weightCount (a .table) (firstColumn s j + u) ≡ 1 + (leftConditions s j - (u + 1)) + (rightConditions s j - (degree s j - u + 1))
 
--- "no ordinate has more than three non-zero weights".
+-- Three: the largest number of non-zero weights that an ordinate has.
 abbrev pub weightLimit : ℕ
 weightLimit = 3
 

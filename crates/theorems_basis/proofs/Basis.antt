@@ -31,7 +31,7 @@ use Rattle.theorems_basis.specs.Basis.{IsBasis, PublishedIsABasis, Publi
 use Rattle.theorems_basis.specs.Basis.{holds, refused, LegalIsBuiltOrTooLarge, EightHasABasis}
 use Rattle.theorems_basis.proofs.Stages.{last-stage, extraction-rows}
 
--- n rows that are a basis for the conditions of all joins are one in the words of demand 2
+-- n rows that are a basis for the conditions of all joins are one in the words of theorems_weights/specs/PublishedBasis
 module _ (s : Space) (t : Table) (n : length t ≡ rowCount s) (B : Basis (Done s (segments s - 1) 0) (columnCount s) t) where
   rows-meet : (i : ℕ) → i < rowCount s → MeetsAll s (row t i)
   rows-meet i h = record {

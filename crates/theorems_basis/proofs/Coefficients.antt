@@ -22,8 +22,8 @@ use Rattle.base_outcome.proofs.Outcome.{then-answers, with-refuses}
 use Rattle.base_outcome.proofs.Search.{first-none}
 use Rattle.spec_spline.proofs.Legal.{legal, checked-inverts}
 use Rattle.theorems_weights.proofs.Published.{weights-are-published}
-use Rattle.theorems_recovery.specs.Recovery.{recovered}
-use Rattle.theorems_recovery.specs.RecoveryCall.{badOrdinate, legalOrdinates, recoveryOutcome, recoveryEnd}
+use Rattle.spec_calls.specs.Recovery.{recovered}
+use Rattle.spec_calls.specs.RecoveryCall.{badOrdinate, legalOrdinates, recoveryOutcome, recoveryEnd}
 use Rattle.theorems_recovery.specs.Reproduction.{MissedCondition}
 use Rattle.theorems_recovery.proofs.Reproduction.{answers-have-the-weights, answers-reproduce, nineteen-misses-a-condition, CurveEnd, by-an-answer, by-the-build, by-twenty, curve-ends}
 use Rattle.theorems_recovery.proofs.RecoveredCells.{call-nineteen}

@@ -25,9 +25,9 @@ use Rattle.spec_spline.specs.Cases.{space, space1}
 use Rattle.spec_spline.proofs.Computing.{building, checking, conditioning, publishing}
 use Rattle.base_outcome.proofs.Search.{first-none-inverts}
 use Rattle.theorems_weights.proofs.Instances.{q0, q1, checked1}
-use Rattle.theorems_recovery.specs.Recovery.{Combination, recovered}
-use Rattle.theorems_recovery.specs.RecoveryCall.{badOrdinate, recoveryOutcome, recoveryEnd}
-use Rattle.theorems_recovery.proofs.Computing.{recovering}
+use Rattle.spec_calls.specs.Recovery.{Combination, recovered}
+use Rattle.spec_calls.specs.RecoveryCall.{badOrdinate, recoveryOutcome, recoveryEnd}
+use Rattle.spec_calls.proofs.Computing.{recovering}
 use Rattle.theorems_basis.specs.Basis.{IsBasis, BuiltOrTooLarge}
 use Rattle.theorems_basis.specs.Coefficients.{Reproduce, AnsweredOrTooLarge}
 use Rattle.theorems_basis.proofs.Basis.{eight-has-a-basis, legal-is-built-or-too-large}

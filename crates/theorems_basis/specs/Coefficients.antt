@@ -14,15 +14,15 @@ use Rattle.spec_spline.specs.Table.{tableCells}
 use Rattle.spec_spline.specs.Published.{extraction}
 use Rattle.spec_spline.specs.Piecewise.{MeetsAll, combination}
 use Rattle.theorems_weights.specs.PublishedBasis.{OneCombination}
-use Rattle.theorems_recovery.specs.Recovery.{Combination, recovered}
-use Rattle.theorems_recovery.specs.RecoveryCall.{badOrdinate, recoveryEnd}
+use Rattle.spec_calls.specs.Recovery.{Combination, recovered}
+use Rattle.spec_calls.specs.RecoveryCall.{badOrdinate, recoveryEnd}
 use Rattle.theorems_basis.specs.Basis.{LegalLists}
 
 -- These fractions, as many as there may be, reproduce the ordinates.
 abbrev pub Reproduce : Space → List ℤ → List ℚ → Type 0
 Reproduce s ordinates coefficients = combination (columnCount s) coefficients (extraction s) ≡ map int ordinates
 
--- "after 19 none of any size would", in every legal space.
+-- "after 19 none of any size is" (§ 12), in every legal space.
 abbrev pub NoneAfterNineteen : Type 0
 NoneAfterNineteen = (s : Space) → LegalLists s → (ordinates : List ℤ) → length ordinates ≡ columnCount s
     → (place : ℕ) → recovered s ordinates ≡ refusal 19 place

@@ -23,9 +23,10 @@ use Rattle.base_outcome.specs.Outcome.{Outcome, answer, refusal, refuse, capped
 use Rattle.base_outcome.specs.Search.{first, last, found}
 use Rattle.spec_spline.specs.Conditions.{Entry}
 use Rattle.spec_spline.specs.Table.{Row, Table, entry, row}
-use Rattle.spec_spline.specs.Step.{count, jump, jumps, jumpsAt, Span, zeroBetween, spanOf, span, partialSum, quotientFactor, factor, factors, newEntry, newRow, newRows, mixed, step}
+use Rattle.spec_spline.specs.Step.{count, jump, jumps, jumpsAt, Span, zeroBetween, spanOf, span, partialSum, quotientFactor, factor, factors, newEntry, newRow, newRows, rowsRenewed, step}
 use Rattle.base_outcome.proofs.Outcome.{then-answers}
 use Rattle.base_outcome.proofs.Search.{at, nowhere, Searched, search-first, first-at, first-none, first-ext, SearchedBack, search-last, last-at, last-none}
+use Rattle.spec_spline.proofs.Planned.{mixed, step-in-order}
 use Rattle.spec_spline.proofs.Table.{entry-past}
 use Rattle.spec_spline.proofs.Shape.{Wide}
 use Rattle.spec_spline.proofs.Step.{count-fits}
@@ -317,15 +318,22 @@ module _ {ρ : ℕ → ℕ} {j j′ : ℕ} {κ κ′ : List Entry} (E : Around �
           mapped : (x y z : Table) → map pad (x ++ (y ++ z)) ≡ map pad x ++ (map pad y ++ map pad z)
           mapped x y z = map-append pad x (y ++ z) ∙ ap (λ u. map pad x ++ u) (map-append pad y z)
 
+      -- the second half of a step, for rows of the table
+      pub renewed-carried : (g : Span) (ws : List ℚ) → g .f ≤ g .l → g .l < length t → rowsRenewed j′ (movedSpan p g) ws (embedded t) ≡ carried ρ embedded (rowsRenewed j g ws t)
+      unfolding rowsRenewed
+      renewed-carried g ws order within =
+          carried-then ρ (map pad) embedded (newRows j g ws t) _ _ (newRows-carried g ws within) (λ rs h. ap answer (spliced (g .f) (g .l) rs (omega arith) (omega arith)))
+
       mixed-carried : (js : List ℚ) (g : Span) → Spans js (g .f) (g .l) → length js ≡ length t → mixed j′ (embedded t) (padded p q js) (movedSpan p g) ≡ carried ρ embedded (mixed j t js g)
+      unfolding rowsRenewed
       mixed-carried js g s size =
           carried-then ρ (λ ws. ws) embedded (factors j js g) _ _ (factors-carried ρ j j′ (E .place) p q js g)
-          (λ ws e. carried-then ρ (map pad) embedded (newRows j g ws t) _ _ (newRows-carried g ws (omega (arith, s .below, size)))
-          (λ rs h. ap answer (spliced (g .f) (g .l) rs (omega (arith, s .ordered, s .below, size)) (omega (arith, s .below, size)))))
+          (λ ws e. renewed-carried g ws (s .ordered) (omega (arith, s .below, size)))
 
       pub embedded-step : step j′ κ′ (embedded t) ≡ carried ρ embedded (step j κ t)
-      unfolding step
       embedded-step =
-          carried-then ρ (padded p q) embedded (jumps j κ t) _ _ jumps-carried
+          step-in-order j′ κ′ (embedded t)
+          ∙ carried-then ρ (padded p q) embedded (jumps j κ t) _ _ jumps-carried
           (λ js e. carried-then ρ (movedSpan p) embedded (span j js) _ _ (span-carried ρ j j′ (E .place) p q js)
           (λ g h. mixed-carried js g (span-inverts j js h) (jumps-length j κ t e)))
+          ∙ ap (carried ρ embedded) (sym (step-in-order j κ t))

@@ -1,5 +1,5 @@
--- The theorem that joins the parts of a beam (§ 4): "a part's weights must be the whole table's weights on its
--- rows and columns, with zeros elsewhere", and the whole build is refused exactly where the first refused part is.
+-- The theorem that joins the parts of a beam: "a part's weights are the whole table's weights on its rows and columns, with zeros
+-- elsewhere in these rows and columns, and the first refused part refuses the beam" (§ 4).
 use mathlib.Core.Path.{_≡_}
 use mathlib.Core.Bool.{true}
 use mathlib.Core.Logic.{_⊎_}
@@ -18,7 +18,8 @@ pub record Starts (s : Space) (a : ℕ) : Type 0 where
   pub below : a < segments s
   pub starts : startsPart s a ≡ true
 
--- "Each part between scars obeys the old limits": the parts of a beam whose lists are legal are spaces whose lists are legal.
+-- The parts of a beam whose lists are legal are spaces whose lists are legal: the limits of a part are those of a space of one
+-- part.
 abbrev pub PartsAreLegal : Type 0
 PartsAreLegal = (s : Space) → checked s ≡ answer s → (a : ℕ) → Starts s a → checked (partAt s a) ≡ answer (partAt s a)
 

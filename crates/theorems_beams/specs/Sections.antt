@@ -26,7 +26,7 @@ partAt s a = section s a (partEnd s a - a)
 abbrev pub zeros : ℕ → Row
 zeros n = tab n (λ _. int (pos 0))
 
--- The one table above and to the left of the other, "with zeros elsewhere"; the one has `left` columns, the other `right`.
+-- The one table above and to the left of the other, "with zeros elsewhere" (§ 4); the one has `left` columns, the other `right`.
 unfoldable pub beside : ℕ → ℕ → Table → Table → Table
 beside left right t u = map (λ r. r ++ zeros right) t ++ map (λ r. zeros left ++ r) u
 

@@ -10,7 +10,7 @@ use Rattle.base_outcome.specs.Outcome.{answer}
 use Rattle.spec_spline.specs.Reading.{fine, Wood, earlywood, latewood, woodIndex, Pair}
 use Rattle.spec_spline.specs.CurveCall.{CurveResult, valuesAfter}
 use Rattle.spec_spline.proofs.Pairs.{ofTheWood, getD-pairs}
-use Rattle.theorems_indices.specs.Indices.{ringPositions, ofWood, noPair, ringValue}
+use Rattle.spec_calls.specs.Indices.{ringPositions, ofWood, noPair, ringValue}
 
 -- ---- the positions of the first n rings
 

@@ -28,8 +28,9 @@ use Rattle.spec_spline.specs.ExactCurve.{exactCurve, largest, mostWeights}
 use Rattle.theorems_values.specs.ValueLimits.{closeness}
 use Rattle.theorems_promises.specs.PositiveValues.{PositiveCoefficients}
 use Rattle.theorems_values.proofs.Instances.{table1, coefs1, accepted1, coefficients1, inside1 as positions-inside1, pairs1, values1 as read-values1, exact1}
-use Rattle.theorems_indices.specs.Indices.{ringPositions, ringWidth, widthLimit, isRefused, badRing, indexOf, ringIndices, ringsIndexed, indicesReturned, indicesAfter}
-use Rattle.theorems_indices.specs.Rings.{RingsCall, endOf, CurveIsLegal}
+use Rattle.spec_calls.specs.Indices.{ringPositions, ringWidth, widthLimit, isRefused, badRing, indexOf, ringIndices, ringsIndexed, indicesReturned, indicesAfter}
+use Rattle.spec_calls.specs.Indices.{RingsCall, indicesEnd}
+use Rattle.theorems_indices.specs.Rings.{CurveIsLegal}
 use Rattle.theorems_indices.proofs.Rings.{read, read-answers, index-is-above, index-is-at-most}
 use Rattle.theorems_indices.proofs.Positive.{positive-coefficients-are-enough}
 
@@ -99,30 +100,30 @@ module _ (num den : List ℤ) (h : length num ≡ tableCells) (k : length den �
   unfolding legal1 accepted1
   read1 wood w v = read-answers (call wood w v) (legal1 wood w v) (omega arith) ∙ ap (λ vs. answer (record { table = table1; values = vs })) values1
 
-  values-after1 : (wood : Wood) (w v : ℤ) → endOf (call wood w v) .values ≡ pos 17067 ∷ negsuc 17066 ∷ pos 4267 ∷ negsuc 4265 ∷ pos 9 ∷ []
+  values-after1 : (wood : Wood) (w v : ℤ) → indicesEnd (call wood w v) .values ≡ pos 17067 ∷ negsuc 17066 ∷ pos 4267 ∷ negsuc 4265 ∷ pos 9 ∷ []
   unfolding valuesAfter sideBySide
   values-after1 wood w v = ap (λ o. valuesAfter o (pos 5 ∷ pos 6 ∷ pos 7 ∷ pos 8 ∷ pos 9 ∷ [])) (read1 wood w v)
 
   -- earlywood: 749, and an absent ring
-  answers1 : endOf (call earlywood (pos 50) (pos 0)) .answers ≡ answer 2
+  answers1 : indicesEnd (call earlywood (pos 50) (pos 0)) .answers ≡ answer 2
   unfolding ringsIndexed first badRing isRefused ringIndices tab
   answers1 = ap (λ o. indicesReturned (o then ringsIndexed earlywood (pos 50 ∷ pos 0 ∷ []))) (read1 earlywood (pos 50) (pos 0))
 
-  indices1 : endOf (call earlywood (pos 50) (pos 0)) .indices ≡ pos 749 ∷ negsuc 0 ∷ pos 8 ∷ []
+  indices1 : indicesEnd (call earlywood (pos 50) (pos 0)) .indices ≡ pos 749 ∷ negsuc 0 ∷ pos 8 ∷ []
   unfolding ringsIndexed first badRing isRefused ringIndices tab indexOf indicesAfter
   indices1 = ap (λ o. indicesAfter (o then ringsIndexed earlywood (pos 50 ∷ pos 0 ∷ [])) (pos 6 ∷ pos 7 ∷ pos 8 ∷ [])) (read1 earlywood (pos 50) (pos 0))
 
   -- latewood: ring 1 is absent, and ring 2 has a value below zero
-  answers14 : endOf (call latewood (pos 0) (pos 7)) .answers ≡ refusal 14 1
+  answers14 : indicesEnd (call latewood (pos 0) (pos 7)) .answers ≡ refusal 14 1
   unfolding ringsIndexed first badRing isRefused ringIndices tab capped
   answers14 = ap (λ o. indicesReturned (o then ringsIndexed latewood (pos 0 ∷ pos 7 ∷ []))) (read1 latewood (pos 0) (pos 7))
 
-  indices14 : endOf (call latewood (pos 0) (pos 7)) .indices ≡ pos 6 ∷ pos 7 ∷ pos 8 ∷ []
+  indices14 : indicesEnd (call latewood (pos 0) (pos 7)) .indices ≡ pos 6 ∷ pos 7 ∷ pos 8 ∷ []
   unfolding ringsIndexed first badRing isRefused ringIndices tab capped indicesAfter
   indices14 = ap (λ o. indicesAfter (o then ringsIndexed latewood (pos 0 ∷ pos 7 ∷ [])) (pos 6 ∷ pos 7 ∷ pos 8 ∷ [])) (read1 latewood (pos 0) (pos 7))
 
   -- widths beyond the range come before the value, also where the ring before is fine
-  answers-wide : endOf (call earlywood (pos 50) (pos 100000)) .answers ≡ refusal 14 1
+  answers-wide : indicesEnd (call earlywood (pos 50) (pos 100000)) .answers ≡ refusal 14 1
   unfolding ringsIndexed first badRing isRefused ringIndices tab capped
   answers-wide = ap (λ o. indicesReturned (o then ringsIndexed earlywood (pos 50 ∷ pos 100000 ∷ []))) (read1 earlywood (pos 50) (pos 100000))
 
@@ -184,7 +185,7 @@ module _ (num den : List ℤ) (h : length num ≡ tableCells) (k : length den �
     values = omega arith;
   }
 
-  positive-answers1 : endOf positiveCall .answers ≡ answer 2
+  positive-answers1 : indicesEnd positiveCall .answers ≡ answer 2
   positive-answers1 = positive-coefficients-are-enough positiveCall positive-legal1 (omega arith) positive1 widths-fit
     where
       widths-fit : (i : ℕ) → i < 2 → T (between (pos 0) (pos widthLimit) (ringWidth (pos 99999 ∷ pos 0 ∷ []) i))

@@ -16,8 +16,9 @@ use Rattle.spec_spline.specs.Reading.{woodIndex}
 use Rattle.base_outcome.proofs.Search.{first-none}
 use Rattle.theorems_promises.specs.PositiveValues.{PositiveCoefficients, leastPositive}
 use Rattle.theorems_promises.proofs.PositiveValues.{positive-cells}
-use Rattle.theorems_indices.specs.Indices.{ringWidth, widthLimit, isAbsent, isRefused}
-use Rattle.theorems_indices.specs.Rings.{RingsCall, ringCount, valueCell, CurveIsLegal, PositiveCoefficientsAreEnough}
+use Rattle.spec_calls.specs.Indices.{ringWidth, widthLimit, isAbsent, isRefused}
+use Rattle.spec_calls.specs.Indices.{RingsCall}
+use Rattle.theorems_indices.specs.Rings.{ringCount, valueCell, CurveIsLegal, PositiveCoefficientsAreEnough}
 use Rattle.theorems_indices.proofs.Cells.{exact-length}
 use Rattle.theorems_indices.proofs.Rings.{positions, legal-rings-end, legal-rings-leave-the-curve}
 

@@ -15,7 +15,7 @@ use Rattle.base_exact.proofs.Integer.{abs-zero, ≤-out, abs-le-in, ≤-in}
 use Rattle.base_exact.proofs.Word.{ltZ-true, ltZ-false, leZ-false, le-test, not-le-test}
 use Rattle.base_outcome.specs.Tests.{between}
 use Rattle.spec_spline.proofs.Space.{between-inverts}
-use Rattle.theorems_indices.specs.Indices.{widthLimit, isAbsent, isRefused, indexScale, indexOf}
+use Rattle.spec_calls.specs.Indices.{widthLimit, isAbsent, isRefused, indexScale, indexOf}
 
 -- ---- code 14
 

@@ -40,9 +40,10 @@ use Rattle.theorems_values.specs.ValueLimits.{Close}
 use Rattle.theorems_values.proofs.LegalCall.{answered-calls-are-legal, legal-calls-answer, values-length}
 use Rattle.theorems_values.proofs.Cells.{cells-are-close}
 use Rattle.theorems_acceptance.proofs.Curves.{curves-never-give-nine}
-use Rattle.theorems_indices.specs.Indices.{ringPositions, ringWidth, ringValue, isRefused, badRing, indexScale, indexOf, ringIndices}
-use Rattle.theorems_indices.specs.Indices.{ringsRead, ringsIndexed, indicesReturned, indicesAfter}
-use Rattle.theorems_indices.specs.Rings.{RingsCall, endOf, ringCount, positionOf, valueCell, indexCell, CurveIsLegal, LegalRingsEnd}
+use Rattle.spec_calls.specs.Indices.{ringPositions, ringWidth, ringValue, isRefused, badRing, indexScale, indexOf, ringIndices}
+use Rattle.spec_calls.specs.Indices.{ringsRead, ringsIndexed, indicesReturned, indicesAfter}
+use Rattle.spec_calls.specs.Indices.{RingsCall, indicesEnd}
+use Rattle.theorems_indices.specs.Rings.{ringCount, positionOf, valueCell, indexCell, CurveIsLegal, LegalRingsEnd}
 use Rattle.theorems_indices.specs.Rings.{LegalRingsLeaveTheCurve, AnsweredRingsAreLegal, RingsNeverGiveNine, RefusalsKeepTheIndices}
 use Rattle.theorems_indices.specs.Rings.{IndicesPastAreKept, PresentRingsAreDivided, AbsentRingsHaveMinusOne}
 use Rattle.theorems_indices.specs.Rings.{ValuesUnderRingsAreClose, exactUnder, errorUnder, scaledWidth, IndexIsAbove, IndexIsAtMost}
@@ -158,7 +159,7 @@ lengths-passed c e =
     let f = cond-refuse-inverts (ltb (length (c .indices)) (ringCount c)) 1 3 (curves c) (d .1) in
     (ltb-false (length (c .indices)) (ringCount c) (f .0), f .1)
 
-answered : (c : RingsCall) (n : ℕ) → endOf c .answers ≡ answer n → Answered c n
+answered : (c : RingsCall) (n : ℕ) → indicesEnd c .answers ≡ answer n → Answered c n
 unfolding ringIndices
 answered c n e =
     let r = returned-inverts (indexed c) e in
@@ -217,8 +218,8 @@ refusals-keep-the-indices c code place e = go (indexed c) e
     go (refusal a b) k = refl
 
 -- the index cells hold the indices, and behind them what they held
-cells-are : (c : RingsCall) (n : ℕ) (e : endOf c .answers ≡ answer n) → let a = answered c n e in
-    endOf c .indices ≡ tab (ringCount c) (λ i. indexOf (ringWidth (c .widths) i) (ringValue (c .wood) (result c (a .legal) (a .room) .values) i))
+cells-are : (c : RingsCall) (n : ℕ) (e : indicesEnd c .answers ≡ answer n) → let a = answered c n e in
+    indicesEnd c .indices ≡ tab (ringCount c) (λ i. indexOf (ringWidth (c .widths) i) (ringValue (c .wood) (result c (a .legal) (a .room) .values) i))
     ++ drop (ringCount c) (c .indices)
 unfolding indicesAfter ringIndices
 cells-are c n e =
@@ -226,7 +227,7 @@ cells-are c n e =
     let f : ℕ → ℤ = λ (i : ℕ). indexOf (ringWidth (c .widths) i) (ringValue (c .wood) (result c (a .legal) (a .room) .values) i) in
     ap (λ o. indicesAfter o (c .indices)) (a .is) ∙ ap (λ (k : ℕ). tab (ringCount c) f ++ drop k (c .indices)) (tab-length (ringCount c) f)
 
-module _ (c : RingsCall) (n : ℕ) (e : endOf c .answers ≡ answer n) (i : ℕ) (h : i < ringCount c) where
+module _ (c : RingsCall) (n : ℕ) (e : indicesEnd c .answers ≡ answer n) (i : ℕ) (h : i < ringCount c) where
   index-is : indexCell c i ≡ indexOf (ringWidth (c .widths) i) (valueCell c i)
   index-is = let a = answered c n e in
       ap (λ (l : List ℤ). getD l i (pos 0)) (cells-are c n e)
@@ -245,9 +246,9 @@ absent-rings-have-minus-one c n e i h z = index-is c n e i h ∙ sym (index-abse
 
 pub indices-past-are-kept : IndicesPastAreKept
 unfolding indicesAfter
-indices-past-are-kept c k h = go (endOf c .answers) refl
+indices-past-are-kept c k h = go (indicesEnd c .answers) refl
   where
-    go : (o : Outcome ℕ) → endOf c .answers ≡ o → getD (endOf c .indices) k (pos 0) ≡ getD (c .indices) k (pos 0)
+    go : (o : Outcome ℕ) → indicesEnd c .answers ≡ o → getD (indicesEnd c .indices) k (pos 0) ≡ getD (c .indices) k (pos 0)
     go (answer n) e = ap (λ (l : List ℤ). getD l k (pos 0)) (cells-are c n e) ∙ getD-past-tab (ringCount c) _ (c .indices) k (pos 0) h
     go (refusal code place) e = ap (λ (l : List ℤ). getD l k (pos 0)) (refusals-keep-the-indices c code place e)
 
@@ -298,7 +299,7 @@ module _ (w v : ℤ) (low : pos 0 ≤ℤ w) (above : pos 0 <ℤ v) where
       regroup : (x : ℚ) → x +ᵠ int (pos 1) +ᵠ -ᵠ int (pos 1) ≡ x
       regroup x = ring ℚ-ring (x ∷ []) (search readsℚ depth 20) (search readsℚ depth 20) refl
 
-module _ (c : RingsCall) (l : CurveIsLegal c) (n : ℕ) (e : endOf c .answers ≡ answer n) (i : ℕ) (h : i < ringCount c)
+module _ (c : RingsCall) (l : CurveIsLegal c) (n : ℕ) (e : indicesEnd c .answers ≡ answer n) (i : ℕ) (h : i < ringCount c)
     (present : ringWidth (c .widths) i ≢ pos 0) where
   close : Close (c .space) (l .accepted .table) (c .wood) (c .coefs) (positionOf c i) (valueCell c i)
   close = values-under-rings-are-close c l (answered c n e .room) i h

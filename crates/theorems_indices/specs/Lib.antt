@@ -1,3 +1,2 @@
--- Ring indices (§ 9): what the call ends with, and what is proved of it.
-pub mod Indices
+-- What is proved of ring indices (§ 9).
 pub mod Rings

@@ -1,1 +1,1 @@
-// Ring indices: definitions, in specs/, and what is proved of them. This crate has no code.
+// What is proved of ring indices: the statements in specs/, the proofs in proofs/. This crate has no code.

@@ -7,21 +7,26 @@ use Prim.Native.Nat.{zero, suc}
 use native.Mathlib.Omega.{arith}
 use lib.Dec.{T}
 use lib.IntN.{ℤ, pos}
+use lib.ListN.{getD}
 use lib.Signed.{_≤ℤ_, _<ℤ_}
 use Rattle.base_exact.specs.Rational.{_//_}
 use Rattle.base_exact.proofs.Integer.{≤-in, <-in}
+use Rattle.base_outcome.specs.Outcome.{answer}
 use Rattle.base_outcome.specs.Search.{first, last}
 use Rattle.spec_spline.specs.Space.{Space, partEnd, startsPart, firstColumn, conditionsBefore}
 use Rattle.base_outcome.specs.Tests.{between}
 use Rattle.spec_spline.specs.Table.{Table}
 use Rattle.spec_spline.specs.Piecewise.{Accepted}
 use Rattle.spec_spline.specs.Reading.{startsAtDiscontinuity, startsBy, segmentAt, earlywood, latewood, sideBySide, valueAt}
+use Rattle.spec_spline.specs.CurveCall.{curveOutcome, valuesAfter}
+use Rattle.spec_spline.specs.ExactCurve.{Legal}
 use Rattle.spec_spline.specs.Cases.{pair, forBoth, space}
-use Rattle.spec_spline.proofs.Computing.{building, reading}
+use Rattle.spec_spline.proofs.Computing.{building, reading, calling}
 use Rattle.theorems_weights.proofs.Instances.{q0, q1, beam, beamTable, acceptedBeam}
 use Rattle.theorems_beams.specs.Parts.{Starts}
+use Rattle.theorems_values.proofs.LegalCall.{answered-calls-are-legal}
 use Rattle.theorems_promises.specs.FallingCurves.{LowOrders, Falls, Climbs, InPart}
-use Rattle.theorems_promises.proofs.FallingCurves.{falling-lists-fall, climbing-lists-climb}
+use Rattle.theorems_promises.proofs.FallingCurves.{falling-lists-fall, climbing-lists-climb, falling-cells, climbing-cells}
 
 -- ---- a beam: breaks 0,1,2,4, degrees 1,2,3, orders -1,1
 
@@ -97,6 +102,35 @@ beam-climbs = subst (λ v. pos 256 ≤ℤ v) (climbing-values .1) (subst (λ v. 
 beam-jumps : (valueAt beam beamTable latewood beamCoefs (pos 256) ≡ pos 1280) × (valueAt beam beamTable latewood beamCoefs (pos 257) ≡ pos 2300)
 unfolding reading
 beam-jumps = (refl, refl)
+
+-- ---- the cells after a curve call at these positions, in another order
+
+abbrev beamPositions : List ℤ
+beamPositions = pos 700 ∷ pos 300 ∷ pos 128 ∷ pos 0 ∷ []
+
+beam-answers : curveOutcome beam beamCoefs beamPositions 5184 5184 8 ≡ answer (record {
+  table = beamTable;
+  values = pair (pos 0) (pos 1441) ∷ pair (pos 0) (pos 2143) ∷ pair (pos 1536) (pos 768) ∷ pair (pos 2304) (pos 256) ∷ [];
+})
+unfolding calling
+beam-answers = refl
+
+beam-legal : Legal beam beamCoefs beamPositions 5184 5184 8
+beam-legal = answered-calls-are-legal beam beamCoefs beamPositions 5184 5184 8 _ beam-answers
+
+abbrev beamCells : List ℤ
+beamCells = valuesAfter (curveOutcome beam beamCoefs beamPositions 5184 5184 8) []
+
+-- cell 1, the latewood at 700, is 1441, and cell 3, that at 300, is 2143
+beam-cells-fall : getD beamCells 1 (pos 0) ≤ℤ getD beamCells 3 (pos 0)
+beam-cells-fall = falling-cells beam beamCoefs beamPositions 5184 5184 8 beam-legal [] latewood 1 second-starts second-low second-falls 1 0
+    (record { earlier-listed = omega arith; later-listed = omega arith; earlier = in-second; later = in-third; ordered = ≤-in (pos 300) (pos 700) (omega arith) })
+
+-- cell 7, the latewood at 0, is 256, and cell 5, that at 128, is 768
+beam-cells-climb : getD beamCells 7 (pos 0) ≤ℤ getD beamCells 5 (pos 0)
+unfolding last startsAtDiscontinuity startsBy segmentAt
+beam-cells-climb = climbing-cells beam beamCoefs beamPositions 5184 5184 8 beam-legal [] latewood 0 first-starts first-low first-climbs 3 2
+    (record { earlier-listed = omega arith; later-listed = omega arith; earlier = in-first (pos 0) tt refl; later = in-first (pos 128) tt refl; ordered = ≤-in (pos 0) (pos 128) (omega arith) })
 
 -- ---- order 2
 

@@ -14,8 +14,8 @@ use Rattle.spec_spline.specs.Table.{tableCells}
 use Rattle.spec_spline.specs.Build.{weights}
 use Rattle.base_outcome.proofs.Outcome.{with-refuses, then-breaks, Broken, first-refuses, second-refuses}
 use Rattle.spec_spline.proofs.Legal.{Checked, checked-inverts, checked-codes, keeping-refusal}
-use Rattle.theorems_recovery.specs.Recovery.{recovered}
-use Rattle.theorems_recovery.specs.RecoveryCall.{badOrdinate, legalOrdinates, recoveryOutcome}
+use Rattle.spec_calls.specs.Recovery.{recovered}
+use Rattle.spec_calls.specs.RecoveryCall.{badOrdinate, legalOrdinates, recoveryOutcome}
 use Rattle.theorems_recovery.proofs.Refusals.{eight-and-nine-are-the-builds}
 use Rattle.theorems_acceptance.proofs.NineNever.{weights-not-nine}
 use Rattle.theorems_promises.specs.NineNever.{RecoveryNeverGivesNine}

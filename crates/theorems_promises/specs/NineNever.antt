@@ -6,7 +6,7 @@ use Prim.Native.Nat.{ℕ}
 use lib.IntN.{ℤ}
 use Rattle.base_outcome.specs.Outcome.{refusal}
 use Rattle.spec_spline.specs.Space.{Space}
-use Rattle.theorems_recovery.specs.RecoveryCall.{recoveryEnd}
+use Rattle.spec_calls.specs.RecoveryCall.{recoveryEnd}
 
 abbrev pub RecoveryNeverGivesNine : Type 0
 RecoveryNeverGivesNine = (s : Space) (ordinates num den coefNum coefDen : List ℤ) (place : ℕ)

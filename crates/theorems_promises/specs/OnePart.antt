@@ -1,5 +1,6 @@
--- A space without discontinuities (§ 4: "cut at the scars") has one part, and is its own last part. So for such a
--- space all that is said of the last part, and of the buffers that hold it, is said of the whole space.
+-- "The parts of a space are what lies between its discontinuities" (§ 1): a space without discontinuities has one part, and is its
+-- own last part. So for such a space all that is said of the last part, and of the buffers that hold it, is said of the whole
+-- space.
 use mathlib.Core.Path.{_≡_}
 use mathlib.Core.Bool.{true}
 use mathlib.Core.List.{List}

@@ -1,4 +1,4 @@
--- The first half of demand 3 of the cells themselves: after an answered build and after a legal curve call no cell of the two
+-- A partition of unity in the cells themselves: after an answered build and after a legal curve call no cell of the two
 -- weight buffers holds a fraction below zero, and those of each column of the last part sum to exactly one.
 use mathlib.Core.Path.{_≡_}
 use mathlib.Core.List.{List}

@@ -21,7 +21,7 @@ use Rattle.base_outcome.specs.Outcome.{Outcome, answer, refusal, refuse, capped
 use Rattle.spec_spline.specs.Table.{entry}
 use Rattle.spec_spline.specs.Step.{Span, jumpsAt}
 use Rattle.base_outcome.proofs.Outcome.{answer-unique, answer-not-refusal, Chained, then-inverts, Broken, first-refuses, second-refuses, then-breaks, RefusedAs, answer-refused, then-refused}
-use Rattle.theorems_recovery.specs.Recovery.{fitted, jumpSum, balanced, undoneCoefficient, undoneRow, undoneRows, undone}
+use Rattle.spec_calls.specs.Recovery.{fitted, jumpSum, balanced, undoneCoefficient, undoneRow, undoneRows, undone}
 
 -- ---- a fraction under the size limit
 

@@ -24,7 +24,7 @@ use Rattle.theorems_beams.proofs.Embedded.{Around}
 use Rattle.theorems_beams.proofs.Sections.{moved, OrdersFit, orders-fit}
 use Rattle.theorems_beams.proofs.Cut.{Kind, both-columns, cut-run}
 use Rattle.theorems_beams.proofs.Sides.{left-around, right-around, right-embedded, identity-beside, identity-is-wide}
-use Rattle.theorems_recovery.specs.Recovery.{Combination, recoverStep, recoverOrders, recoverJoins, recovered}
+use Rattle.spec_calls.specs.Recovery.{Combination, recoverStep, recoverOrders, recoverJoins, recovered}
 use Rattle.theorems_recovery.specs.Beams.{together, CutRecovered}
 use Rattle.theorems_recovery.proofs.Steps.{Parts, parts-of, numbers-less}
 use Rattle.theorems_recovery.proofs.Moved.{within, recover-embedded}

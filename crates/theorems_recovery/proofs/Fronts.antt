@@ -19,7 +19,7 @@ use Rattle.theorems_beams.specs.Parts.{Starts}
 use Rattle.theorems_beams.proofs.Carried.{joined, joined-answers, joined-refuses}
 use Rattle.theorems_beams.proofs.Sections.{front-columns, OrdersFit}
 use Rattle.theorems_beams.proofs.Cut.{front-run, refused-run}
-use Rattle.theorems_recovery.specs.Recovery.{Combination, recoverOrders, recoverJoins, recovered}
+use Rattle.spec_calls.specs.Recovery.{Combination, recoverOrders, recoverJoins, recovered}
 use Rattle.theorems_recovery.proofs.Cut.{sideBySide, with-coefficients}
 
 -- the front with no segment

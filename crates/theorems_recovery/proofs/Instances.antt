@@ -25,10 +25,10 @@ use Rattle.spec_spline.proofs.Computing.{checking, fractions}
 use Rattle.base_outcome.proofs.Outcome.{then-answers}
 use Rattle.theorems_weights.proofs.PublishedBasis.{combinations-meet-conditions}
 use Rattle.theorems_weights.proofs.Instances.{checked1}
-use Rattle.theorems_recovery.specs.Recovery.{Combination, recovered}
-use Rattle.theorems_recovery.specs.RecoveryCall.{badOrdinate, recoveryOutcome, answersAfter, numeratorOf, recoveryEnd}
+use Rattle.spec_calls.specs.Recovery.{Combination, recovered}
+use Rattle.spec_calls.specs.RecoveryCall.{badOrdinate, recoveryOutcome, answersAfter, numeratorOf, recoveryEnd}
 use Rattle.theorems_recovery.specs.Reproduction.{MissedCondition, RecoveredOrTooLarge}
-use Rattle.theorems_recovery.specs.Cases.{joined, beam}
+use Rattle.spec_calls.specs.Cases.{joined, beam}
 use Rattle.theorems_recovery.specs.Beams.{together}
 use Rattle.theorems_beams.specs.Sections.{section, later}
 use Rattle.theorems_beams.specs.Parts.{Starts}
@@ -38,7 +38,7 @@ use Rattle.theorems_recovery.proofs.Reproduction.{exact-curve-has-the-o
 use Rattle.theorems_recovery.proofs.Refusals.{eight-and-nine-are-the-builds}
 use Rattle.theorems_recovery.proofs.Cut.{cut-recovered}
 use Rattle.theorems_recovery.proofs.RecoveredCells.{cells-reproduce, nineteen-means-none}
-use Rattle.theorems_recovery.proofs.Computing.{recovering}
+use Rattle.spec_calls.proofs.Computing.{recovering}
 
 abbrev q0 : ℚ
 q0 = int (pos 0)

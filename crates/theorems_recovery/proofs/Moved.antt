@@ -15,14 +15,15 @@ use Rattle.base_fraction.specs.Size.{fits}
 use Rattle.base_outcome.specs.Outcome.{Outcome, answer, refusal, refuse, capped, _then_}
 use Rattle.spec_spline.specs.Conditions.{Entry}
 use Rattle.spec_spline.specs.Table.{entry}
-use Rattle.spec_spline.specs.Step.{Span, jumps, jumpsAt, span, factors, step}
+use Rattle.spec_spline.specs.Step.{Span, jumps, jumpsAt, span, factors, rowsRenewed}
+use Rattle.spec_spline.proofs.Planned.{then-planned}
 use Rattle.spec_spline.proofs.Shape.{Wide}
 use Rattle.spec_spline.proofs.Splice.{spliced-within}
 use Rattle.spec_spline.proofs.Answers.{jumps-length, span-inverts}
 use Rattle.theorems_beams.proofs.Carried.{carried, carried-then}
 use Rattle.theorems_beams.proofs.Embedded.{padded, padded-at, padded-length, jumps-before, jumps-inside, jumps-behind, movedSpan, span-carried, factors-carried}
-use Rattle.theorems_beams.proofs.Embedded.{Around, embedded, jumps-carried, embedded-step}
-use Rattle.theorems_recovery.specs.Recovery.{Combination, fitted, jumpSum, balanced, undoneCoefficient, undoneRow, undoneRows, undone, recoverStep}
+use Rattle.theorems_beams.proofs.Embedded.{Around, embedded, jumps-carried, renewed-carried}
+use Rattle.spec_calls.specs.Recovery.{Combination, fitted, jumpSum, balanced, undoneCoefficient, undoneRow, undoneRows, undone, undoing, recoverStep}
 use Rattle.theorems_recovery.proofs.Answers.{added}
 
 -- ---- a list in a longer one
@@ -119,6 +120,13 @@ module _ (ρ : ℕ → ℕ) (j j′ : ℕ) (place : ρ (capped j) ≡ capped j�
         (ap (undoneRows j′ ws (xs ++ cs ++ ys) (length xs + g .f)) (let e : length xs + g .l - (length xs + g .f) ≡ g .l - g .f = omega arith in e) ∙ rows-carried (g .f) (g .l - g .f) (omega arith))
         (λ ds e. ap answer (spliced-within xs cs ys ds (g .f) (g .l) (omega arith) h))
 
+-- a step as its parts in order
+recover-in-order : (j : ℕ) (κ : List Entry) (r : Combination) → recoverStep j κ r ≡ (
+    jumps j κ (r .table) then λ js. span j js then λ g. factors j js g then λ ws. rowsRenewed j g ws (r .table) then λ t.
+    (balanced j js (r .coefficients) then λ _. undone j g ws (r .coefficients)) then λ ds. answer (record { table = t; coefficients = ds }))
+unfolding recoverStep
+recover-in-order j κ r = then-planned j κ (r .table) (λ p. rowsRenewed j (p .span) (p .factors) (r .table) then λ t. undoing j p (r .coefficients) then λ ds. answer (record { table = t; coefficients = ds }))
+
 -- ---- the step: a table in a larger one, with the coefficients xs for the rows above it and ys for the rows below it
 module _ {ρ : ℕ → ℕ} {j j′ : ℕ} {κ κ′ : List Entry} (E : Around ρ j j′ κ κ′) (xs ys : List ℚ) (count : length xs ≡ length (E .above)) where
   abbrev p : ℕ
@@ -134,18 +142,19 @@ module _ {ρ : ℕ → ℕ} {j j′ : ℕ} {κ κ′ : List Entry} (E : Around �
   within r = record { table = embedded E (r .table); coefficients = among (r .coefficients) }
 
   pub recover-embedded : (r : Combination) → length (r .coefficients) ≡ length (r .table) → (n : ℕ) → Wide n (r .table) → recoverStep j′ κ′ (within r) ≡ carried ρ within (recoverStep j κ r)
-  unfolding recoverStep
   recover-embedded r own n wide =
-      carried-then ρ (embedded E) within (step j κ (r .table)) _ _ (embedded-step E (r .table) n wide)
-      (λ t e. carried-then ρ (padded p q) within (jumps j κ (r .table)) _ _ (jumps-carried E (r .table))
+      recover-in-order j′ κ′ (within r)
+      ∙ carried-then ρ (padded p q) within (jumps j κ (r .table)) _ _ (jumps-carried E (r .table))
       (λ js i. let size = jumps-length j κ (r .table) i in carried-then ρ (movedSpan p) within (span j js) _ _ (span-carried ρ j j′ (E .place) p q js)
       (λ g h. let s = span-inverts j js h in carried-then ρ (λ ws. ws) within (factors j js g) _ _ (factors-carried ρ j j′ (E .place) p q js g)
-      (λ ws m. carried-then ρ (λ u. u) within (balanced j js (r .coefficients)) _ _ (balance js size)
-      (λ u k. carried-then ρ among within (undone j g ws (r .coefficients)) _ _ (undoing g ws (s .ordered) (omega (arith, s .below, size, own)))
-      (λ ds l. refl))))))
+      (λ ws m. carried-then ρ (embedded E) within (rowsRenewed j g ws (r .table)) _ _ (renewed-carried E (r .table) n wide g ws (s .ordered) (omega (arith, s .below, size)))
+      (λ t e. carried-then ρ among within (balanced j js (r .coefficients) then λ _. undone j g ws (r .coefficients)) _ _
+      (carried-then ρ (λ u. u) among (balanced j js (r .coefficients)) _ _ (balance js size) (λ u k. undoing-carried g ws (s .ordered) (omega (arith, s .below, size, own))))
+      (λ ds l. refl)))))
+      ∙ ap (carried ρ within) (sym (recover-in-order j κ r))
     where
-      undoing : (g : Span) (ws : List ℚ) → g .f ≤ g .l → g .l < length (r .coefficients) → undone j′ (movedSpan p g) ws (among (r .coefficients)) ≡ carried ρ among (undone j g ws (r .coefficients))
-      undoing g ws o h = ap (λ m. undone j′ (movedSpan m g) ws (among (r .coefficients))) (sym count) ∙ undone-carried ρ j j′ (E .place) xs (r .coefficients) ys ws g o h
+      undoing-carried : (g : Span) (ws : List ℚ) → g .f ≤ g .l → g .l < length (r .coefficients) → undone j′ (movedSpan p g) ws (among (r .coefficients)) ≡ carried ρ among (undone j g ws (r .coefficients))
+      undoing-carried g ws o h = ap (λ m. undone j′ (movedSpan m g) ws (among (r .coefficients))) (sym count) ∙ undone-carried ρ j j′ (E .place) xs (r .coefficients) ys ws g o h
 
       balance : (js : List ℚ) → length js ≡ length (r .table) → balanced j′ (padded p q js) (among (r .coefficients)) ≡ carried ρ (λ u. u) (balanced j js (r .coefficients))
       balance js size = ap (λ m. balanced j′ (padded m q js) (among (r .coefficients))) (sym count) ∙ balanced-carried ρ j j′ (E .place) xs (r .coefficients) ys js q (size ∙ sym own)

@@ -19,8 +19,8 @@ use Rattle.spec_spline.specs.Table.{Table, tableCells}
 use Rattle.spec_spline.specs.Build.{weights, spaceWeights}
 use Rattle.base_outcome.proofs.Outcome.{then-answers, then-inverts, Broken, first-refuses, second-refuses, then-breaks, Changed, with-inverts, with-refuses}
 use Rattle.spec_spline.proofs.Legal.{checked-inverts, checked-code, refuseFirst-inverts, cond-refuse-inverts, fitting-inverts}
-use Rattle.theorems_recovery.specs.Recovery.{Combination, recovered}
-use Rattle.theorems_recovery.specs.RecoveryCall.{badOrdinate, legalOrdinates, recoveryOutcome, answersAfter, numeratorOf, denominatorOf, recoveryEnd}
+use Rattle.spec_calls.specs.Recovery.{Combination, recovered}
+use Rattle.spec_calls.specs.RecoveryCall.{badOrdinate, legalOrdinates, recoveryOutcome, answersAfter, numeratorOf, denominatorOf, recoveryEnd}
 use Rattle.theorems_recovery.specs.RecoveredCells.{HeldCoefficients, CellsReproduce, NineteenMeansNone}
 use Rattle.theorems_recovery.proofs.Reproduction.{answers-have-the-weights, answers-reproduce, no-others-reproduce, nineteen-misses-a-condition, nineteen-has-no-coefficients}
 

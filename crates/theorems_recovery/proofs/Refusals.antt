@@ -17,8 +17,8 @@ use Rattle.spec_spline.specs.Build.{orderSteps, joinSteps, weights, clears}
 use Rattle.base_outcome.proofs.Outcome.{RefusedAs, answer-refused, then-refused, repeat-refused, repeat-more, repeat-stops, repeat-keeps}
 use Rattle.base_outcome.proofs.Outcome.{Halted, repeat-refuses}
 use Rattle.spec_spline.proofs.Refusals.{EightOrNine, step-refuses}
-use Rattle.theorems_recovery.specs.Recovery.{Combination, balanced, undone, recoverStep, recoverOrders, recoverJoins, recovered}
-use Rattle.theorems_recovery.specs.RecoveryCall.{clearsAll}
+use Rattle.spec_calls.specs.Recovery.{Combination, balanced, undone, recoverStep, recoverOrders, recoverJoins, recovered}
+use Rattle.spec_calls.specs.RecoveryCall.{clearsAll}
 use Rattle.theorems_recovery.specs.Reproduction.{EightAndNineAreTheBuilds}
 use Rattle.theorems_recovery.proofs.Steps.{undoing, RefusedIn, in-step, in-undoing, refused-in, parts-of}
 use Rattle.theorems_recovery.proofs.Answers.{balanced-refused-as, undone-refused-as}

@@ -33,7 +33,7 @@ use Rattle.theorems_weights.proofs.Basis.{Basis, combined}
 use Rattle.theorems_weights.proofs.Identity.{identity-basis, column-picks}
 use Rattle.theorems_weights.proofs.Built.{Done, nothing-done, order-stepped, order-kept, join-done, Built, built, row-count}
 use Rattle.theorems_weights.proofs.PublishedBasis.{pairing-applied, combined-past, combination-at, combination-length, combinations-meet-conditions}
-use Rattle.theorems_recovery.specs.Recovery.{Combination, recoverStep, recoverOrders, recoverJoins, recovered}
+use Rattle.spec_calls.specs.Recovery.{Combination, recoverStep, recoverOrders, recoverJoins, recovered}
 use Rattle.theorems_recovery.specs.Reproduction.{AnswersHaveTheWeights, AnswersReproduce, NoOthersReproduce, MissedCondition, NineteenMissesACondition}
 use Rattle.theorems_recovery.specs.Reproduction.{NineteenHasNoCoefficients, ExactCurveHasTheOrdinates, RecoveredOrTooLarge, recovers, too-large}
 use Rattle.theorems_recovery.specs.Reproduction.{CurvesAreRecovered}

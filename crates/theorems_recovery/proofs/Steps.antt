@@ -15,18 +15,18 @@ use Rattle.base_exact.proofs.Sum.{sum-ext, sum-past}
 use Rattle.base_outcome.specs.Outcome.{Outcome, answer, refusal, _then_}
 use Rattle.spec_spline.specs.Conditions.{Entry}
 use Rattle.spec_spline.specs.Table.{Table, entry, cell}
-use Rattle.spec_spline.specs.Step.{jumps, Span, span, factors, step}
+use Rattle.spec_spline.specs.Step.{jumps, Span, planned, rowsRenewed, step}
 use Rattle.base_outcome.proofs.Outcome.{answer-unique, Chained, then-inverts, Broken, first-refuses, second-refuses, then-breaks}
-use Rattle.base_outcome.proofs.Outcome.{then-answers, RefusedAs, answer-refused, then-refused}
+use Rattle.base_outcome.proofs.Outcome.{then-answers, then-refuses, then-assoc, answer-not-refusal, RefusedAs, answer-refused, then-refused}
 use Rattle.spec_spline.proofs.Refusals.{EightOrNine, step-refuses}
-use Rattle.spec_spline.proofs.Stepped.{StepParts, step-parts, step-spans, step-factors, span-below}
+use Rattle.spec_spline.proofs.Stepped.{StepParts, step-parts, plan-answers, renewal-answers, step-spans, step-factors, span-below}
 use Rattle.spec_spline.proofs.Splice.{spliced-length, spliced-before, spliced-inside, spliced-after}
 use Rattle.spec_spline.proofs.Answers.{Spans}
 use Rattle.theorems_weights.proofs.NullSpace.{Jumps, lifted, coefficient-lifts, factor-nonzero}
 use Rattle.theorems_weights.proofs.Extended.{extended, extended-from, null-space}
 use Rattle.theorems_weights.proofs.Stepped.{values, jumps-inverts, Stepped}
 use Rattle.theorems_weights.proofs.Basis.{combined, combination-lifts}
-use Rattle.theorems_recovery.specs.Recovery.{Combination, balanced, undoneRows, undone, recoverStep}
+use Rattle.spec_calls.specs.Recovery.{Combination, balanced, undoneRows, undone, recoverStep}
 use Rattle.theorems_recovery.proofs.Undoing.{c, undone-is, factors-agree}
 use Rattle.theorems_recovery.proofs.Answers.{balanced-zero, balanced-not, Undone, rows-undone, Twenty, undone-refuses-20}
 
@@ -46,15 +46,20 @@ module _ (j : ℕ) (κ : List Entry) (r : Combination) where
   abbrev pub undoing : Table → List ℚ → Span → List ℚ → Outcome Combination
   undoing t js g ws = balanced j js (r .coefficients) then λ _. undone j g ws (r .coefficients) then λ ds. answer (record { table = t; coefficients = ds })
 
-  abbrev after-step : Table → Outcome Combination
-  after-step t = jumps j κ (r .table) then λ js. span j js then λ g. factors j js g then undoing t js g
-
-  after-is : {t : Table} (p : StepParts j κ (r .table) t) → after-step t ≡ undoing t (p .js) (p .g) (p .ws)
-  after-is p = then-answers _ (p .has-jumps) ∙ then-answers _ (p .has-span) ∙ then-answers _ (p .has-factors)
-
   pub recover-done : {t : Table} → step j κ (r .table) ≡ answer t → (p : StepParts j κ (r .table) t) → recoverStep j κ r ≡ undoing t (p .js) (p .g) (p .ws)
   unfolding recoverStep
-  recover-done e p = then-answers after-step e ∙ after-is p
+  recover-done {t} e p =
+      then-answers _ (plan-answers p) ∙ then-answers _ (renewal-answers p)
+      ∙ then-assoc (balanced j (p .js) (r .coefficients)) (λ _. undone j (p .g) (p .ws) (r .coefficients)) (λ ds. answer (record { table = t; coefficients = ds }))
+
+  -- where the build refuses its step, so does this one
+  recover-refused : {code place : ℕ} → step j κ (r .table) ≡ refusal code place → recoverStep j κ r ≡ refusal code place
+  unfolding step recoverStep
+  recover-refused {code} {place} h = go (then-breaks (planned j κ (r .table)) (λ p. rowsRenewed j (p .span) (p .factors) (r .table)) h)
+    where
+      go : Broken (planned j κ (r .table)) (λ p. rowsRenewed j (p .span) (p .factors) (r .table)) code place → recoverStep j κ r ≡ refusal code place
+      go (first-refuses q) = then-refuses _ q
+      go (second-refuses p q k) = then-answers _ q ∙ then-refuses _ k
 
   -- a refusal is the build's, or one of the zero test and the undoing
   pub data RefusedIn (code place : ℕ) : Type 0 where
@@ -62,12 +67,11 @@ module _ (j : ℕ) (κ : List Entry) (r : Combination) where
     in-undoing : {t : Table} (p : StepParts j κ (r .table) t) → undoing t (p .js) (p .g) (p .ws) ≡ refusal code place → RefusedIn code place
 
   pub refused-in : {code place : ℕ} → recoverStep j κ r ≡ refusal code place → RefusedIn code place
-  unfolding recoverStep
-  refused-in {code} {place} e = go (then-breaks (step j κ (r .table)) after-step e)
+  refused-in {code} {place} e = go (step j κ (r .table)) refl
     where
-      go : Broken (step j κ (r .table)) after-step code place → RefusedIn code place
-      go (first-refuses q) = in-step q
-      go (second-refuses t q k) = let p = step-parts j κ (r .table) q in in-undoing p (sym (after-is p) ∙ k)
+      go : (o : Outcome Table) → step j κ (r .table) ≡ o → RefusedIn code place
+      go (answer t) h = let p = step-parts j κ (r .table) h in in-undoing p (sym (recover-done h p) ∙ e)
+      go (refusal c q) h = in-step (h ∙ ap (λ (o : Outcome Combination). o then λ x. answer (x .table)) (sym (recover-refused h) ∙ e))
 
   -- ---- a step that answers
   module _ (r′ : Combination) where
@@ -99,11 +103,11 @@ module _ (j : ℕ) (κ : List Entry) (r : Combination) where
 
     -- the build's own step answers
     step-of : recoverStep j κ r ≡ answer r′ → step j κ (r .table) ≡ answer (r′ .table)
-    unfolding recoverStep
-    step-of e =
-        let a = then-inverts (step j κ (r .table)) after-step e in
-        let p = step-parts j κ (r .table) (a .before) in
-        a .before ∙ ap (λ q. answer (q .table)) (answered (a .middle) (p .js) (p .g) (p .ws) (sym (after-is p) ∙ a .after))
+    step-of e = go (step j κ (r .table)) refl
+      where
+        go : (o : Outcome Table) → step j κ (r .table) ≡ o → step j κ (r .table) ≡ answer (r′ .table)
+        go (answer t) h = let p = step-parts j κ (r .table) h in h ∙ ap (λ q. answer (q .table)) (answered t (p .js) (p .g) (p .ws) (sym (recover-done h p) ∙ e))
+        go (refusal c q) h = absurd (answer-not-refusal e (recover-refused h))
 
     pub parts-of : recoverStep j κ r ≡ answer r′ → Parts r′
     parts-of e = record {

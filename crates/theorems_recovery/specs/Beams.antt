@@ -1,5 +1,5 @@
--- Coefficients of a beam (§ 12): "One call takes a whole beam, its parts from the left". What is recovered of a beam
--- cut at a discontinuity is what is recovered of its sections by themselves.
+-- Coefficients of a beam (§ 12): one call takes a whole beam, its parts from the left. What is recovered of a beam cut at a
+-- discontinuity is what is recovered of its sections by themselves.
 use mathlib.Core.Path.{_≡_}
 use mathlib.Core.List.{List, _++_}
 use Prim.Native.Nat.{ℕ, _+_}
@@ -9,7 +9,7 @@ use Rattle.base_outcome.specs.Outcome.{answer, _then_}
 use Rattle.spec_spline.specs.Space.{Space, segments, checked, columnCount}
 use Rattle.theorems_beams.specs.Sections.{section, beside, later}
 use Rattle.theorems_beams.specs.Parts.{Starts}
-use Rattle.theorems_recovery.specs.Recovery.{Combination, recovered}
+use Rattle.spec_calls.specs.Recovery.{Combination, recovered}
 
 -- The tables of the two spaces side by side, and their coefficients in a row.
 abbrev pub together : Space → Space → Combination → Combination → Combination

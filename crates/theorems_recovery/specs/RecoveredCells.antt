@@ -1,5 +1,5 @@
--- What the cells are good for after a call that recovers coefficients (§ 12): "If an answer is given, its coefficients
--- reproduce each ordinate exactly and no others do; after 19 none of any size would".
+-- What the cells are good for after a call that recovers coefficients: "The combination of the rows with these coefficients is the
+-- list of ordinates, exactly, and no other list of n fractions is; after 19 none of any size is." (§ 12)
 use mathlib.Core.Path.{_≡_}
 use mathlib.Core.List.{List, map}
 use Prim.Native.Nat.{ℕ}
@@ -9,7 +9,7 @@ use Rattle.base_exact.specs.Rational.{ℚ, int}
 use Rattle.base_outcome.specs.Outcome.{answer, refusal}
 use Rattle.spec_spline.specs.Space.{Space, columnCount}
 use Rattle.spec_spline.specs.Piecewise.{Accepted, combination}
-use Rattle.theorems_recovery.specs.RecoveryCall.{listed, numeratorOf, denominatorOf, RecoveryEnd, recoveryEnd}
+use Rattle.spec_calls.specs.RecoveryCall.{listed, numeratorOf, denominatorOf, RecoveryEnd, recoveryEnd}
 use Rattle.theorems_recovery.specs.Reproduction.{MissedCondition}
 
 -- The answer buffers hold n fractions from the first cell on, and these alone reproduce the ordinates.

@@ -1,5 +1,5 @@
--- What recovered coefficients are good for (§ 12): they "reproduce each ordinate exactly and no others do; after
--- 19 none of any size would". All sums are exact.
+-- What recovered coefficients are good for: "The combination of the rows with these coefficients is the list of ordinates, exactly,
+-- and no other list of n fractions is; after 19 none of any size is." (§ 12) All sums are exact.
 use mathlib.Core.Path.{_≡_}
 use mathlib.Core.Bool.{true}
 use mathlib.Core.List.{List, map}
@@ -15,7 +15,7 @@ use Rattle.spec_spline.specs.Build.{weights, clears}
 use Rattle.spec_spline.specs.Piecewise.{Accepted, Meets, MeetsAll, combination}
 use Rattle.spec_spline.specs.Reading.{Wood, fine, coefficient, fineWidth, offset}
 use Rattle.spec_spline.specs.ExactCurve.{bernsteinAt, exactOn}
-use Rattle.theorems_recovery.specs.Recovery.{Combination, recovered}
+use Rattle.spec_calls.specs.Recovery.{Combination, recovered}
 
 -- An answer has the build's own weights, and a coefficient for each of their n rows.
 abbrev pub AnswersHaveTheWeights : Type 0
@@ -23,13 +23,13 @@ AnswersHaveTheWeights = (s : Space) → checked s ≡ answer s → (ordinates : 
     → recovered s ordinates ≡ answer r
     → (weights s ≡ answer (r .table)) × (length (r .coefficients) ≡ rowCount s)
 
--- "its coefficients reproduce each ordinate exactly".
+-- "The combination of the rows with these coefficients is the list of ordinates, exactly" (§ 12).
 abbrev pub AnswersReproduce : Type 0
 AnswersReproduce = (s : Space) → checked s ≡ answer s → (ordinates : List ℤ) → length ordinates ≡ columnCount s → (r : Combination)
     → recovered s ordinates ≡ answer r
     → combination (columnCount s) (r .coefficients) (r .table) ≡ map int ordinates
 
--- "and no others do".
+-- "and no other list of n fractions is" (§ 12).
 abbrev pub NoOthersReproduce : Type 0
 NoOthersReproduce = (s : Space) → checked s ≡ answer s → (ordinates : List ℤ) → length ordinates ≡ columnCount s → (r : Combination)
     → recovered s ordinates ≡ answer r
@@ -50,7 +50,7 @@ NineteenMissesACondition = (s : Space) → checked s ≡ answer s → (ordinates
     → recovered s ordinates ≡ refusal 19 place
     → MissedCondition s ordinates
 
--- "after 19 none of any size would".
+-- "after 19 none of any size is" (§ 12).
 abbrev pub NineteenHasNoCoefficients : Type 0
 NineteenHasNoCoefficients = (s : Space) (a : Accepted s) (ordinates : List ℤ) → length ordinates ≡ columnCount s → (place : ℕ)
     → recovered s ordinates ≡ refusal 19 place
@@ -65,7 +65,7 @@ ExactCurveHasTheOrdinates = (s : Space) → checked s ≡ answer s → (ordinate
     → exactOn s (r .table) part coefs j x ≡ sum (suc (degree s j))
     (λ t. int (getD ordinates (firstColumn s j + t) (pos 0)) *ᵠ bernsteinAt (degree s j) (fineWidth s j) (offset s j x) t)
 
--- 8 and 9 are "the build's own work": they come where, and as, the build gives them.
+-- 8 and 9 are of "all that building does, with its own 8 and 9" (§ 12): they come where, and as, the build gives them.
 abbrev pub EightAndNineAreTheBuilds : Type 0
 EightAndNineAreTheBuilds = (s : Space) (ordinates : List ℤ) (code place : ℕ) → clears code ≡ true
     → recovered s ordinates ≡ refusal code place → weights s ≡ refusal code place

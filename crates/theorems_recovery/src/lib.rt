@@ -1,1 +1,1 @@
-// Coefficients from local ordinates: the theorems alone (specs/ has the definitions and statements, proofs/ the proofs).
+// Coefficients from local ordinates: the theorems alone (specs/ has the statements, proofs/ the proofs).

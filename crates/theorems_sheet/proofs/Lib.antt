@@ -1,3 +1,2 @@
--- What positive coefficients give, and the sheets of Cases.
+-- What positive coefficients give.
 pub mod LowLines
-pub mod Cases

@@ -29,7 +29,7 @@ use Rattle.theorems_promises.proofs.PositiveValues.{positive-values}
 use Rattle.spec_sheet.specs.SheetReading as entry
 use Rattle.spec_sheet.specs.SheetReading.{entries, listOf, line, readLine, Lists, fiveLines, read}
 use Rattle.spec_sheet.specs.Printout.{joined, countLine, weightLines, valueLines, isLow, lowPositions, lowLines, answerText}
-use Rattle.theorems_sheet.specs.Sheet.{Arguments, argumentsOf, spaceOf, valueCells, called, outcomeText, readText, printout}
+use Rattle.spec_sheet.specs.Sheet.{Arguments, argumentsOf, spaceOf, valueCells, called, outcomeText, readText, printout}
 use Rattle.theorems_sheet.specs.LowLines.{AllPositive, WithoutLowLines, refused, answered, PositiveSheetsHaveNoLowLines}
 
 -- ---- no position is low

@@ -1,4 +1,2 @@
--- The whole program as a function of texts, and the statements on it.
-pub mod Sheet
+-- Statements on the printout of a sheet, which crate spec_sheet defines.
 pub mod LowLines
-pub mod Cases

@@ -13,7 +13,7 @@ use Rattle.base_text.specs.Bytes.{Text}
 use Rattle.spec_sheet.specs.SheetReading.{Lists, read}
 use Rattle.spec_sheet.specs.Printout.{countLine, weightLines, valueLines}
 use Rattle.base_print.specs.Refusal.{refusalLine}
-use Rattle.theorems_sheet.specs.Sheet.{printout}
+use Rattle.spec_sheet.specs.Sheet.{printout}
 
 -- All numbers of the coefficients' line, two a pair, are above zero.
 abbrev pub AllPositive : Lists → Type 0

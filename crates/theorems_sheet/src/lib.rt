@@ -1,1 +1,1 @@
-// The sheet's program as a function of texts, in specs/, and what is proved of it. This crate has no code.
+// What is proved of the sheet's printout: the statements in specs/, the proofs in proofs/. This crate has no code.

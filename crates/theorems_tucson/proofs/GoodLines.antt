@@ -72,7 +72,7 @@ lines-bytes (c ∷ t) = go (eqb c newline) (lines-bytes t)
 -- ---- a line cut before its byte 10
 
 -- nothing follows byte 10 where it stands at the end at most
-nothing-after : (s t : Text) → atEndOnly (s ++ (newline ∷ t)) ≡ true → t ≡ []
+pub nothing-after : (s t : Text) → atEndOnly (s ++ (newline ∷ t)) ≡ true → t ≡ []
 nothing-after [] [] h = refl
 nothing-after [] (c ∷ t) h = absurd (true-not-false h refl)
 nothing-after (c ∷ []) t h = nothing-after [] t (and-true (not (eqb c newline)) (atEndOnly (newline ∷ t)) h .1)

@@ -1,5 +1,5 @@
--- What is proved of reading and writing (§ 14): "a written series reads back to the same name, years
--- and widths", and the reverse, what reading accepts can be written, in as many bytes as were read. The proofs are in proofs/.
+-- What is proved of reading and writing: "What is written reads back to the same series; what reading accepts is written in as many
+-- bytes as were read." (§ 14) The proofs are in proofs/.
 use mathlib.Core.List.{List}
 use mathlib.Core.Option.{none}
 use mathlib.Core.Path.{_≡_}

@@ -1,4 +1,4 @@
--- The laws behind the second half of demand 3, from the rounding up to the cells after a call, and the segments of positions.
+-- The laws behind the limits of values, from the rounding up to the cells after a call, and the segments of positions.
 -- Other crates cite Weights for the size of a weight, Segment and Positions for a position's segment, LegalCall and Cells for
 -- a call, ValueLimits for a value.
 pub mod Within

@@ -1,4 +1,4 @@
--- The second half of demand 3, proved: of each value, of a curve call, and of the cells after it.
+-- The limits of § 7, proved: of each value, of a curve call, and of the cells after it.
 use mathlib.Core.List.{List}
 use lib.IntN.{ℤ}
 use Rattle.spec_spline.specs.Space.{Space}

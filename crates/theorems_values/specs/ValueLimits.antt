@@ -1,4 +1,4 @@
--- The second half of demand 3, with the closeness of § 6: a curve call within the specification's limits on an
+-- What § 7 says of values: a curve call within the specification's limits on an
 -- accepted space answers with two values for each position, each on either side of the exact curve by at most (s + p)/2, and
 -- between 256 times the least and the greatest coefficient with weight on the position's segment; for each wood part apart
 -- (§ 8). `CellsAreClose` says all this of the cells after a call.
@@ -30,7 +30,7 @@ closeness s t x = int (pos (mostWeights s t (segmentAt s x) + degree s (segmentA
 
 -- ---- a value, whatever the coefficients
 
--- "A value may now lie on either side of the exact curve, by at most (s + p)/2 units": below it,
+-- "Every value is within (s + p)/2 of the exact curve" (§ 7): below it,
 abbrev pub ExactAtMostValueAndCloseness : Type 0
 ExactAtMostValueAndCloseness = (s : Space) (a : Accepted s) (wood : Wood) (coefs : List ℤ) (x : ℤ) → InSpan s x
     → exactCurve s (a .table) wood coefs x ≤ᵠ int (valueAt s (a .table) wood coefs x) +ᵠ closeness s (a .table) x
@@ -40,12 +40,12 @@ abbrev pub ValueAtMostExactAndCloseness : Type 0
 ValueAtMostExactAndCloseness = (s : Space) (a : Accepted s) (wood : Wood) (coefs : List ℤ) (x : ℤ) → InSpan s x
     → int (valueAt s (a .table) wood coefs x) ≤ᵠ exactCurve s (a .table) wood coefs x +ᵠ closeness s (a .table) x
 
--- "no less than 256 times the least .. coefficient with weight on that position's stretch".
+-- Every value is "between 256 times the least and the greatest coefficient with weight on its segment" (§ 7): not below the least,
 abbrev pub ValueAtLeastLeast : Type 0
 ValueAtLeastLeast = (s : Space) (a : Accepted s) (wood : Wood) (coefs : List ℤ) (x : ℤ) → InSpan s x
     → fine (leastOn s (a .table) wood coefs (segmentAt s x)) ≤ℤ valueAt s (a .table) wood coefs x
 
--- "and no more than 256 times the greatest".
+-- and not above the greatest.
 abbrev pub ValueAtMostGreatest : Type 0
 ValueAtMostGreatest = (s : Space) (a : Accepted s) (wood : Wood) (coefs : List ℤ) (x : ℤ) → InSpan s x
     → valueAt s (a .table) wood coefs x ≤ℤ fine (greatestOn s (a .table) wood coefs (segmentAt s x))
@@ -56,13 +56,13 @@ ValueAtMostGreatest = (s : Space) (a : Accepted s) (wood : Wood) (coefs : List �
 abbrev pub legalResult : (s : Space) → Accepted s → List ℤ → List ℤ → CurveResult
 legalResult s a coefs positions = record { table = a .table; values = values s (a .table) coefs positions }
 
--- "the curve call answers", "the positions repeated, out of order or none at all".
+-- A legal call answers, its positions repeated, out of order or none at all.
 abbrev pub LegalCallsAnswer : Type 0
 LegalCallsAnswer = (s : Space) (coefs positions : List ℤ) (numLength denLength valuesLength : ℕ)
     (l : Legal s coefs positions numLength denLength valuesLength)
     → curveOutcome s coefs positions numLength denLength valuesLength ≡ answer (legalResult s (l .accepted) coefs positions)
 
--- "it returns the positions' count".
+-- It "answers with the count of positions" (§ 6).
 abbrev pub LegalCallsReturnCount : Type 0
 LegalCallsReturnCount = (s : Space) (coefs positions : List ℤ) (numLength denLength valuesLength : ℕ)
     → Legal s coefs positions numLength denLength valuesLength
@@ -80,7 +80,7 @@ AnsweredCallsAreLegal = (s : Space) (coefs positions : List ℤ) (numLength denL
 abbrev pub valueLimit : ℕ
 valueLimit = fineness * coefficientLimit
 
--- All that demand 3 says of the number v written for a wood part at position x, and its size.
+-- All that § 7 says of the number v written for a wood part at position x, and its size.
 pub record Close (s : Space) (t : Table) (wood : Wood) (coefs : List ℤ) (x v : ℤ) : Type 0 where
   pub exact-at-most : exactCurve s t wood coefs x ≤ᵠ int v +ᵠ closeness s t x
   pub at-most-exact : int v ≤ᵠ exactCurve s t wood coefs x +ᵠ closeness s t x
@@ -88,8 +88,8 @@ pub record Close (s : Space) (t : Table) (wood : Wood) (coefs : List ℤ) (x v :
   pub at-most-greatest : v ≤ℤ fine (greatestOn s t wood coefs (segmentAt s x))
   pub size : natAbs v ≤ valueLimit
 
--- After a legal call the value cells 2 k and 2 k + 1 hold such numbers for earlywood and latewood at position k: "each position
--- gives two values, written side by side, earlywood first".
+-- After a legal call the value cells 2 k and 2 k + 1 hold such numbers for earlywood and latewood at position k: "two signed 32-bit
+-- numbers a position, earlywood first, in list order" (§ 2).
 abbrev pub CellsAreClose : Type 0
 CellsAreClose = (s : Space) (coefs positions : List ℤ) (numLength denLength valuesLength : ℕ)
     (l : Legal s coefs positions numLength denLength valuesLength) (before : List ℤ) (k : ℕ) → k < length positions → (wood : Wood)

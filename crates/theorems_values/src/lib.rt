@@ -1,1 +1,1 @@
-// The second half of demand 3, on the values of the curve call, stated in specs/ and proved in proofs/. This crate has no code.
+// The theorems on the values of the curve call, stated in specs/ and proved in proofs/. This crate has no code.

@@ -1,4 +1,4 @@
--- The cells after a call hold the published weights, proved: the last part lies in the buffers as specs/Table of spline says.
+-- The cells after a call hold the published weights, proved: the last part lies in the buffers as spec_spline/specs/Table says.
 use mathlib.Core.Path.{_≡_, sym, _∙_, ap, subst}
 use mathlib.Core.List.{List}
 use Prim.Native.Nat.{ℕ, _+_, _*_, _<_}

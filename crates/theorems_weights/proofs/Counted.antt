@@ -24,6 +24,7 @@ use Rattle.spec_spline.specs.Build.{orderSteps, joinSteps, weights, spaceWeight
 use Rattle.spec_spline.specs.Published.{for}
 use Rattle.spec_spline.specs.Piecewise.{pairing}
 use Rattle.base_outcome.proofs.Outcome.{then-answers, then-breaks, Broken, first-refuses, second-refuses, answer-not-refusal}
+use Rattle.spec_spline.proofs.Planned.{step-in-order}
 use Rattle.spec_spline.proofs.Legal.{checked-inverts, checked-codes}
 use Rattle.base_outcome.proofs.Search.{first-some-inverts, last-none-inverts}
 use Rattle.theorems_weights.specs.Counted.{Test, counted, shaped, passes, codeOf, joinOf, joined, jumpTests, exactJumps, firstJump, lastJump, shapeTest}
@@ -133,12 +134,13 @@ newRows-judged j js ws t =
     (λ c. newEntry-judged j (entry ws d) (entry ws (suc d)) (cell t (firstJump js + d) c) (cell t (firstJump js + suc d) c)))
 
 step-judged : (j : ℕ) (κ : List Entry) (t : Table) → Judged (step j κ t) (stepTests j κ t) (exactStep κ t)
-unfolding step stepTests exactStep
+unfolding stepTests exactStep
 step-judged j κ t =
     let js = exactJumps κ t in
-    chained _ (jumps-judged j κ t)
+    subst (λ o. Judged o (stepTests j κ t) (exactStep κ t)) (sym (step-in-order j κ t))
+    (chained _ (jumps-judged j κ t)
     (chained _ (span-judged j js)
-    (chained _ (factors-judged j js) (finished (λ rs. take (firstJump js) t ++ (rs ++ drop (suc (lastJump js)) t)) (newRows-judged j js (exactFactors js) t))))
+    (chained _ (factors-judged j js) (finished (λ rs. take (firstJump js) t ++ (rs ++ drop (suc (lastJump js)) t)) (newRows-judged j js (exactFactors js) t)))))
 
 -- ---- the build
 

@@ -1,4 +1,4 @@
--- The first half of demand 3, proved.
+-- No weight is negative, and the weights on each ordinate sum to one: proved.
 use mathlib.Core.Path.{sym, _∙_, ap}
 use Rattle.base_exact.specs.Sum.{sum}
 use Rattle.base_exact.proofs.Order.{nn-zero-le}

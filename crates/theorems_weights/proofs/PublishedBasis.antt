@@ -1,4 +1,4 @@
--- Demand 2 on the weights, proved: from the basis that the build ends with to lists of ordinates and multipliers.
+-- The statements of specs/PublishedBasis, proved: from the basis that the build ends with to lists of ordinates and multipliers.
 use mathlib.Core.Path.{_≡_, refl, sym, _∙_, ap}
 use mathlib.Core.Logic.{_⊎_, inl, inr}
 use mathlib.Core.List.{List, [], _∷_}

@@ -50,7 +50,7 @@ joined (suc n) f = joined n f ++ f n
 
 -- ---- one step
 
--- "each product and partial sum of each jump", from the sum so far.
+-- "each product and each partial sum of each jump" (§ 5), from the sum so far.
 unfoldable pub jumpTests : ℕ → Row → ℚ → List Entry → List Test
 jumpTests join r s [] = []
 jumpTests join r s (e ∷ es) =
@@ -77,7 +77,7 @@ shapeTest join js = shaped join (found (first (length js) (jumpsAt js)) && not (
 unfoldable pub quotient : List ℚ → ℕ → ℚ
 quotient js i = partialSum js (firstJump js) i /ᵠ entry js i
 
--- "each S, then its w, tested for 8 before 9".
+-- "S and then w(i), which is tested for 8 before it is tested for 9" (§ 5).
 unfoldable pub factorTests : ℕ → List ℚ → ℕ → List Test
 factorTests join js i =
     counted join (partialSum js (firstJump js) i) ∷
@@ -95,14 +95,14 @@ innerRow js d = firstJump js + 1 + d
 unfoldable pub exactFactors : List ℚ → List ℚ
 exactFactors js = int (pos 1) ∷ (tab (innerRows js) (λ d. quotient js (innerRow js d)) ++ (int (pos 0) ∷ []))
 
--- "first product, second product, sum" of a new entry.
+-- "the first product, the second product, the sum" (§ 5) of a new entry.
 unfoldable pub entryTests : ℕ → ℚ → ℚ → ℚ → ℚ → List Test
 entryTests join w v x y =
     counted join (w *ᵠ x) ∷
     counted join ((int (pos 1) -ᵠ v) *ᵠ y) ∷
     counted join (w *ᵠ x +ᵠ (int (pos 1) -ᵠ v) *ᵠ y) ∷ []
 
--- "each new entry, rows then columns rising": new row f + d.
+-- "for each new entry, rows f to l - 1 rising, columns rising" (§ 5): new row f + d.
 unfoldable pub rowTests : ℕ → List ℚ → List ℚ → Table → ℕ → List Test
 rowTests join js ws t d = joined (length (row t (firstJump js + d)))
     (λ c. entryTests join (entry ws d) (entry ws (suc d)) (cell t (firstJump js + d) c) (cell t (firstJump js + suc d) c))
@@ -188,7 +188,8 @@ pub record FirstTooLarge (s : Space) (place : ℕ) : Type 0 where
   pub too-large : fits fraction ≡ false
   pub place-is : place ≡ capped join
 
--- "Number 8 comes for the first one whose numerator's size or denominator is 2^31 or more, and for no other reason."
+-- "Number 8 comes for the first counted fraction whose numerator's size or denominator, in lowest terms, is 2^31 or more, and for
+-- no other reason, with the join as its place." (§ 5)
 abbrev pub EightIsFirstTooLarge : Type 0
 EightIsFirstTooLarge = (s : Space) (place : ℕ) → spaceWeights s ≡ refusal 8 place → FirstTooLarge s place
 

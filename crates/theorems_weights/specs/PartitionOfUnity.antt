@@ -1,4 +1,4 @@
--- The first half of demand 3: no weight is negative, and the weights on each ordinate sum to exactly one.
+-- A partition of unity: no weight is negative, and the weights on each ordinate sum to exactly one.
 use mathlib.Core.Path.{_≡_}
 use Prim.Native.Nat.{ℕ, _<_}
 use lib.IntN.{pos}

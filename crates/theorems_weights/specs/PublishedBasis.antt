@@ -1,4 +1,4 @@
--- Demand 2 on the weights: they are the published construction's, each combination of rows meets every join condition,
+-- The weights are the published construction's, each combination of rows meets every join condition,
 -- and each piecewise curve that meets them all is a combination in exactly one way. The multipliers are any fractions.
 use mathlib.Core.Path.{_≡_}
 use mathlib.Core.List.{List}

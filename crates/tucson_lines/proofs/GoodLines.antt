@@ -100,12 +100,12 @@ pub record GoodLine (text : Text) (from end : ℕ) (l : Line) : Type 0 where
   pub allowed : fieldsAllowed true (l .fields) ≡ true
 
 -- the parts of a line in columns
-record Columns (body : Text) (l : Line) : Type 0 where
-  fits : columnsFit body ≡ true
-  named : isName (take nameColumns body) ≡ true
-  name : l .name ≡ take nameColumns body
-  year : inColumns (take yearColumns (drop nameColumns body)) ≡ some (l .year)
-  fields : fieldNumerals (fieldCount body) (drop (nameColumns + yearColumns) body) ≡ some (l .fields)
+pub record Columns (body : Text) (l : Line) : Type 0 where
+  pub fits : columnsFit body ≡ true
+  pub named : isName (take nameColumns body) ≡ true
+  pub name : l .name ≡ take nameColumns body
+  pub year : inColumns (take yearColumns (drop nameColumns body)) ≡ some (l .year)
+  pub fields : fieldNumerals (fieldCount body) (drop (nameColumns + yearColumns) body) ≡ some (l .fields)
 
 with-some : (name : Text) (y : Option ℤ) (fs : Option (List ℤ)) (l : Line) → withNumerals name y fs ≡ some l
     → (l .name ≡ name) × ((y ≡ some (l .year)) × (fs ≡ some (l .fields)))
@@ -115,7 +115,7 @@ with-some name (some y) (some fs) l e =
     let same-line : record { name = name; year = y; fields = fs } ≡ l = cc in
     (sym (ap (λ m. m .name) same-line), (ap (λ m. some (m .year)) same-line, ap (λ m. some (m .fields)) same-line))
 
-columns-parts : (body : Text) (l : Line) → lineInColumns body ≡ some l → Columns body l
+pub columns-parts : (body : Text) (l : Line) → lineInColumns body ≡ some l → Columns body l
 unfolding lineInColumns
 columns-parts body l e = go (columnsFit body && isName (take nameColumns body)) refl e
   where
@@ -141,7 +141,7 @@ allowed-parts (some m) l e = go (withinDecade m && fieldsAllowed true (m .fields
         (e, and-true (withinDecade l) (fieldsAllowed true (l .fields)) (subst (λ x. (withinDecade x && fieldsAllowed true (x .fields)) ≡ true) same-line k))
     go false k e = clash cc
 
-fits-parts : (body : Text) → columnsFit body ≡ true → (length body ≡ 12 + fieldCount body * fieldColumns) × ((1 ≤ fieldCount body) × (fieldCount body ≤ decade))
+pub fits-parts : (body : Text) → columnsFit body ≡ true → (length body ≡ 12 + fieldCount body * fieldColumns) × ((1 ≤ fieldCount body) × (fieldCount body ≤ decade))
 unfolding columnsFit
 fits-parts body e =
     let n = fieldCount body in

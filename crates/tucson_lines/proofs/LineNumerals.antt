@@ -30,7 +30,7 @@ use Rattle.tucson_lines.specs.declared.LineAnswer.the-variants as line-c
 use Rattle.tucson_lines.proofs.Lines.{end-within, good-columns}
 
 -- ---- the last field behind the others
-abbrev behind : Option (List ℤ) → Option ℤ → Option (List ℤ)
+abbrev pub behind : Option (List ℤ) → Option ℤ → Option (List ℤ)
 behind none o = none
 behind (some ws) none = none
 behind (some ws) (some f) = some (ws ++ (f ∷ []))
@@ -45,7 +45,7 @@ behind-none : (a : Option ℤ) → withField a (some []) ≡ behind (some []) a
 behind-none none = refl
 behind-none (some z) = refl
 
-fields-behind : (n : ℕ) (t : Text) → fieldNumerals (suc n) t ≡ behind (fieldNumerals n t) (inColumns (take fieldColumns (drop (n * fieldColumns) t)))
+pub fields-behind : (n : ℕ) (t : Text) → fieldNumerals (suc n) t ≡ behind (fieldNumerals n t) (inColumns (take fieldColumns (drop (n * fieldColumns) t)))
 unfolding fieldNumerals
 fields-behind zero t = behind-none (inColumns (take fieldColumns t))
 fields-behind (suc n) t =
@@ -56,19 +56,19 @@ fields-behind (suc n) t =
     ∙ ap (λ (k : ℕ). drop k t) e)
 
 -- ---- a list and its last field
-allowed-behind : (ws : List ℤ) (f : ℤ) → fieldsAllowed true (ws ++ (f ∷ [])) ≡ (allWidths ws && (isWidth f || same f thousandths))
+pub allowed-behind : (ws : List ℤ) (f : ℤ) → fieldsAllowed true (ws ++ (f ∷ [])) ≡ (allWidths ws && (isWidth f || same f thousandths))
 unfolding fieldsAllowed allWidths
 allowed-behind [] f = refl
 allowed-behind (w ∷ []) f = ap (λ (b : Bool). b && (isWidth f || same f thousandths)) (sym (and-true-right (isWidth w)))
 allowed-behind (w ∷ v ∷ vs) f = ap (λ (b : Bool). isWidth w && b) (allowed-behind (v ∷ vs) f) ∙ sym (and-assoc (isWidth w) (allWidths (v ∷ vs)) _)
 
-last-behind : (ws : List ℤ) (f : ℤ) → lastField (ws ++ (f ∷ [])) ≡ f
+pub last-behind : (ws : List ℤ) (f : ℤ) → lastField (ws ++ (f ∷ [])) ≡ f
 unfolding lastField
 last-behind [] f = refl
 last-behind (w ∷ []) f = refl
 last-behind (w ∷ v ∷ vs) f = last-behind (v ∷ vs) f
 
-front-behind : (ws : List ℤ) (f : ℤ) → dropLast (ws ++ (f ∷ [])) ≡ ws
+pub front-behind : (ws : List ℤ) (f : ℤ) → dropLast (ws ++ (f ∷ [])) ≡ ws
 front-behind [] f = refl
 front-behind (w ∷ []) f = refl
 front-behind (w ∷ v ∷ vs) f = ap (λ (l : List ℤ). w ∷ l) (front-behind (v ∷ vs) f)

@@ -39,7 +39,7 @@ line-unended : (t : Text) → indexOf newline t ≡ length t → lineOf (take (s
 unfolding lineOf
 line-unended t e = ap lineOf (take-all (suc (indexOf newline t)) t (omega arith)) ∙ ap ofCut (cut-none newline t e)
 
-cut-line : (t : Text) → indexOf newline t < length t
+pub cut-line : (t : Text) → indexOf newline t < length t
     → cut newline (take (suc (indexOf newline t)) t) ≡ some (record { before = take (indexOf newline t) t; after = [] })
 unfolding indexWhere cut
 cut-line [] h = absurd (omega arith)
@@ -88,14 +88,14 @@ goes-on-begins t (c ∷ cs) h k = ap (goesOn t) (lines-first (c ∷ cs) (omega a
 
 -- ---- of the line between two indices
 module _ (text : Text) (from end : ℕ) (at : LineEnd text from end) where
-  end-is : end ≡ from + indexOf newline (drop from text)
+  pub end-is : end ≡ from + indexOf newline (drop from text)
   end-is = at .is ∙ ap (λ (t : Text). from + indexOf newline t) (slice-all from text)
 
   pub end-within : (from ≤ end) × (end ≤ length text)
   end-within = omega (arith, end-is, index-within (λ c. eqb c newline) (drop from text), length-drop from text, at .within)
 
   -- its bytes, with byte 10
-  line-bytes : slice from (end + 1) text ≡ take (suc (indexOf newline (drop from text))) (drop from text)
+  pub line-bytes : slice from (end + 1) text ≡ take (suc (indexOf newline (drop from text))) (drop from text)
   line-bytes =
       let e : end + 1 ≡ from + suc (indexOf newline (drop from text)) = omega (arith, end-is) in
       ap (λ (n : ℕ). slice from n text) e ∙ slice-take from (suc (indexOf newline (drop from text))) text

@@ -109,7 +109,7 @@ fn all_blank(text: &[u8], from: usize, to: usize) -> bool
 }
 
 // Whether the eight bytes from the index on are a series name.
-fn is_name(text: &[u8], from: usize) -> bool
+pub fn is_name(text: &[u8], from: usize) -> bool
     requires { ⌜ from + nameColumns ≤ length (now text) ⌝ }
     ensures { λ r. ⌜ r ≡ isName (slice from (from + nameColumns) (now (text .entry))) ⌝ }
 {

@@ -17,7 +17,7 @@ pub enum Scanned {
 
 // What a line leaves: whether its series goes on, how many widths it has, and if the series goes on the year that must come
 // next and whether all widths so far are at most 9,999. Or the code of its refusal.
-enum Passed {
+pub enum Passed {
     On(bool, usize, i32, bool),
     Refused(u8),
 }
@@ -44,7 +44,7 @@ fn follows(begun: bool, next: i32, year: i32) -> bool
 }
 
 // What a good line leaves whose series goes on in the next.
-fn extend(
+pub fn extend(
     begun: bool,
     next: i32,
     small: bool,
@@ -68,7 +68,15 @@ fn extend(
 }
 
 // What a good line leaves that is its series' last.
-fn close(begun: bool, next: i32, small: bool, year: i32, n: usize, front: bool, last: i32) -> Passed
+pub fn close(
+    begun: bool,
+    next: i32,
+    small: bool,
+    year: i32,
+    n: usize,
+    front: bool,
+    last: i32,
+) -> Passed
     requires { ⌜ 1 ≤ n ⌝ }
     ensures { λ r. ⌜ GoodPassed false begun next small year n front last r ⌝ }
 {

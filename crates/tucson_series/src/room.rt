@@ -5,7 +5,7 @@ ghost use lib.Dec.{leb};
 ghost use Rattle.tucson_series.specs.Sizes.{closingFits, seriesBytes, textBytes, ClosedSeries};
 use crate::writable;
 
-// "ten years from one ending in 0".
+// A decade: ten years, the first of which ends in 0 (§ 14).
 pub const DECADE: usize = 10;
 
 // The bytes of a field.

@@ -21,7 +21,7 @@ use Rattle.theorems_tucson.specs.TucsonCells.{rewriteEnd}
 use Rattle.theorems_tucson.proofs.Rewritten.{read-is-writable, read-keeps-length}
 use Rattle.theorems_tucson.proofs.TucsonCells.{HasRead, has-read, roomy-reads, room-yes, read-lists-fit, years-count, rewritten-end, counts-total}
 use Rattle.tucson_putting.proofs.Wrote.{written-whole}
-use Rattle.tucson_text.specs.Filter.{textLimit, outcomeText}
+use Rattle.spec_tucson.specs.Filter.{textLimit, outcomeText}
 use Rattle.tucson_text.proofs.Room.{seriesCells, nameBytes, widthCells, bytes-at-least}
 
 -- Buffers of the filter's sizes.

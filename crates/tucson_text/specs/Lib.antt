@@ -1,2 +1,1 @@
--- What the contracts of tucson_text cite beside the definitions of the crates below.
-pub mod Filter
+-- The contracts of tucson_text cite the definitions of the crates below alone.

@@ -5,7 +5,7 @@ ghost use lib.ListN.{length};
 ghost use Rattle.base_print.specs.Buffer.{Prints};
 ghost use Rattle.spec_tucson.specs.TextReading.{readText};
 ghost use Rattle.spec_tucson.specs.WriteCall.{total};
-ghost use Rattle.tucson_text.specs.Filter.{textLimit, outcomeText, filtered};
+ghost use Rattle.spec_tucson.specs.Filter.{textLimit, outcomeText, filtered};
 
 // The most bytes of a text.
 pub const TEXT_LIMIT: usize = 1048576;

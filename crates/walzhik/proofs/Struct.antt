@@ -10,7 +10,7 @@ use Rattle.base_outcome.specs.Outcome.{Outcome, answer, refusal}
 use Rattle.spec_spline.specs.Reading.{fineness}
 use Rattle.curve_drawing.specs.Floats.{Is, Each, none, more}
 use Rattle.curve_drawing.specs.declared.Curve.the-variants.{Line, Quadratic, Cubic}
-use Rattle.curve_pieces.specs.Pieces as pieces
+use Rattle.spec_calls.specs.Pieces as pieces
 use Rattle.curve_pieces.specs.Machine.{Shows, Replies, drawn, refused}
 use Rattle.curve_pieces.specs.declared.Ends.{Ends}
 use Rattle.curve_pieces.specs.declared.Drawing.{Drawing}

@@ -2,7 +2,7 @@
 ghost use mathlib.Core.Path.{_≡_};
 ghost use Rattle.build_space.specs.Machine.{space};
 ghost use Rattle.spec_spline.specs.Reading.{earlywood, latewood};
-ghost use Rattle.theorems_indices.specs.Indices.{indicesEnd};
+ghost use Rattle.spec_calls.specs.Indices.{indicesEnd};
 ghost use Rattle.walzhik_reply.specs.Machine.{replied};
 
 // indices::indices by the earlywood.
@@ -19,9 +19,17 @@ pub extern "C" fn walzhik_earlywood_indices(
     values: &mut [i32],
     indices: &mut [i64],
 ) -> walzhik_reply::Reply
-    ensures { λ r. ⌜ (let e = indicesEnd earlywood (space (now (breaks .entry)) (now (degrees .entry)) (now (orders .entry)))
-        (now (coefs .entry)) first (now (widths .entry)) (now (num .entry)) (now (den .entry)) (now (values .entry)) (now (indices .entry))
-        in
+    ensures { λ r. ⌜ (let e = indicesEnd (record {
+      wood = earlywood;
+      space = space (now (breaks .entry)) (now (degrees .entry)) (now (orders .entry));
+      coefs = now (coefs .entry);
+      firstRing = first;
+      widths = now (widths .entry);
+      num = now (num .entry);
+      den = now (den .entry);
+      values = now (values .entry);
+      indices = now (indices .entry);
+    }) in
         (r ≡ replied (e .answers)) × ((now (num .exit) ≡ e .numerators)
         × ((now (den .exit) ≡ e .denominators) × ((now (values .exit) ≡ e .values) × (now (indices .exit) ≡ e .indices))))) ⌝ }
 {
@@ -55,9 +63,17 @@ pub extern "C" fn walzhik_latewood_indices(
     values: &mut [i32],
     indices: &mut [i64],
 ) -> walzhik_reply::Reply
-    ensures { λ r. ⌜ (let e = indicesEnd latewood (space (now (breaks .entry)) (now (degrees .entry)) (now (orders .entry)))
-        (now (coefs .entry)) first (now (widths .entry)) (now (num .entry)) (now (den .entry)) (now (values .entry)) (now (indices .entry))
-        in
+    ensures { λ r. ⌜ (let e = indicesEnd (record {
+      wood = latewood;
+      space = space (now (breaks .entry)) (now (degrees .entry)) (now (orders .entry));
+      coefs = now (coefs .entry);
+      firstRing = first;
+      widths = now (widths .entry);
+      num = now (num .entry);
+      den = now (den .entry);
+      values = now (values .entry);
+      indices = now (indices .entry);
+    }) in
         (r ≡ replied (e .answers)) × ((now (num .exit) ≡ e .numerators)
         × ((now (den .exit) ≡ e .denominators) × ((now (values .exit) ≡ e .values) × (now (indices .exit) ≡ e .indices))))) ⌝ }
 {

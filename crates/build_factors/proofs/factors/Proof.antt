@@ -143,13 +143,13 @@ returns : tie.Need-returns Inv-loop μ-loop
 returns c qs j e =
     let a = c .before .before .before in
     let r = ended a qs j e refusals.TooLarge (c .before .enum-told2 .given .1) (λ h. let z : _≡_ {A = ℕ} 0 1 = cc in omega arith) in
-    factors-refused j qs _ _ _ (stopped a qs j e (r .refuses)) (r .named) (c .no-factors .ensures)
+    factors-refused j qs _ _ _ (stopped a qs j e (r .refuses)) (r .named) (c .no-factors .ensures .0)
 
 returns-2 : tie.Need-returns-2 Inv-loop μ-loop
 returns-2 c qs j e =
     let a = c .before .before .before in
     let r = ended a qs j e refusals.Shape (c .before .enum-told3 .given .1) (λ h. let z : _≡_ {A = ℕ} 0 1 = cc in omega arith) in
-    factors-refused j qs _ _ _ (stopped a qs j e (r .refuses)) (r .named) (c .no-factors2 .ensures)
+    factors-refused j qs _ _ _ (stopped a qs j e (r .refuses)) (r .named) (c .no-factors2 .ensures .0)
 
 loop-again : tie.Need-loop-again Inv-loop μ-loop
 loop-again c =

@@ -1,4 +1,4 @@
--- `space::condition_count` meets its contract: a legal order is not below -1. Assumes nothing.
+-- `build_space::condition_count` meets its contract: a legal order is not below -1. Assumes nothing.
 use borrow.Author.Needs.{needs}
 use native.Mathlib.Omega.{arith}
 use mathlib.Core.List.{[]}

@@ -1,4 +1,4 @@
--- `space::conditions_before` meets its contract. The loop's invariant: the sum counts the conditions at the joins passed. Assumes nothing.
+-- `build_space::conditions_before` meets its contract. The loop's invariant: the sum counts the conditions at the joins passed. Assumes nothing.
 use native.Mathlib.Omega.{arith}
 use native.Mathlib.Numerals.{add-one}
 use mathlib.Core.List.{[]}

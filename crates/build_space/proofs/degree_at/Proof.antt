@@ -1,4 +1,4 @@
--- `space::degree_at` meets its contract: a legal degree is above zero. Assumes nothing.
+-- `build_space::degree_at` meets its contract: a legal degree is above zero. Assumes nothing.
 use borrow.Author.Needs.{needs}
 use native.Mathlib.Omega.{arith}
 use mathlib.Core.List.{[]}

@@ -1,4 +1,4 @@
--- `space::first_column` meets its contract. The loop's invariant: the sum is the first column of the segment reached. Assumes nothing.
+-- `build_space::first_column` meets its contract. The loop's invariant: the sum is the first column of the segment reached. Assumes nothing.
 use native.Mathlib.Omega.{arith}
 use mathlib.Core.List.{[]}
 use mathlib.Core.Path.{_≡_, sym, ap, _∙_}

@@ -1,4 +1,4 @@
--- `space::is_discontinuity` meets its contract: the order is compared by its bits. Assumes nothing.
+-- `build_space::is_discontinuity` meets its contract: the order is compared by its bits. Assumes nothing.
 use borrow.Author.Needs.{needs}
 use mathlib.Core.List.{[]}
 use Rattle.build_space.specs.Machine.{space}

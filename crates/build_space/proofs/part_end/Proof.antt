@@ -1,4 +1,4 @@
--- `space::part_end` meets its contract. The loop's invariant: no segment passed after segment i starts a part. Assumes nothing.
+-- `build_space::part_end` meets its contract. The loop's invariant: no segment passed after segment i starts a part. Assumes nothing.
 use native.Mathlib.Omega.{arith}
 use mathlib.Core.Bool.{Bool, false}
 use mathlib.Core.List.{[]}

@@ -1,4 +1,4 @@
--- `space::row_count` meets its contract: legal joins have fewer conditions than the segments have columns. Assumes nothing.
+-- `build_space::row_count` meets its contract: legal joins have fewer conditions than the segments have columns. Assumes nothing.
 use borrow.Author.Needs.{needs}
 use native.Mathlib.Omega.{arith}
 use mathlib.Core.List.{[]}

@@ -1,4 +1,4 @@
--- `space::segment_length` meets its contract: breakpoints in their range differ by no more than 20,000, and rise. Assumes nothing.
+-- `build_space::segment_length` meets its contract: breakpoints in their range differ by no more than 20,000, and rise. Assumes nothing.
 use borrow.Author.Needs.{needs}
 use native.Mathlib.Omega.{arith}
 use native.Mathlib.Numerals.{add-one}

@@ -1,4 +1,4 @@
--- `space::starts_part` meets its contract: the first segment starts a part, any other where the join before it is a
+-- `build_space::starts_part` meets its contract: the first segment starts a part, any other where the join before it is a
 -- discontinuity. Assumes nothing.
 use borrow.Author.Needs.{needs}
 use mathlib.Core.Path.{_∙_}

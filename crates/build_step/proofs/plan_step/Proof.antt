@@ -30,7 +30,7 @@ factors-requires c κs =
 returns : tie.Need-returns
 returns c qs j e size =
     plans-shapeless j qs _
-    (span-refused _ (sym (c .before .before .before .span .ensures qs j e size) ∙ c .before .enum-told .given .1)) (c .no-factors .ensures)
+    (span-refused _ (sym (c .before .before .before .span .ensures qs j e size) ∙ c .before .enum-told .given .1)) (c .no-factors .ensures .0)
 
 returns-2 : tie.Need-returns-2
 returns-2 c qs j e size = plans-over j qs _ (span-is (c .before .before) qs j e size) (c .factors .ensures qs j e)

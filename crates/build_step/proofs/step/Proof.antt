@@ -10,7 +10,7 @@ use lib.IntN.{ℤ}
 use Rattle.spec_spline.specs.Space.{Space}
 use Rattle.spec_spline.specs.Conditions.{Entry, conditions}
 use Rattle.spec_spline.specs.Table.{Table}
-use Rattle.spec_spline.specs.Step.{Span, jumps, step}
+use Rattle.spec_spline.specs.Step.{Span, jumps, step, planFrom, rowsRenewed}
 use Rattle.spec_spline.proofs.Answers.{jumps-length, jumps-fit}
 use Rattle.build_cells.specs.Held.{Holds, Shaped}
 use Rattle.build_conditions.specs.Sides.{JoinIs}
@@ -21,7 +21,6 @@ use Rattle.build_factors.specs.declared.Refusal.{Refusal}
 use Rattle.build_factors.specs.declared.Refusal.the-variants as refusals
 use Rattle.build_rows.specs.Rows.{UnitFactors}
 use Rattle.build_cells.specs.Left.{LeavesIf}
-use Rattle.build_step.specs.Plan.{planFrom, rowsRenewed}
 use Rattle.build_step.specs.Leaves.{Leaves}
 use Rattle.build_step.proofs.Plan.{unplanned, Ready, plan-ready, plan-ended}
 use Rattle.build_step.proofs.Leaving.{step-ended, step-large, step-done}

@@ -1,4 +1,4 @@
--- `limits::check_coefficients` meets its contract: the count first, then what the search found. Assumes nothing.
+-- `curve_entries::check_coefficients` meets its contract: the count first, then what the search found. Assumes nothing.
 use borrow.Author.Needs.{needs}
 use native.Mathlib.Omega.{arith}
 use mathlib.Core.List.{[]}

@@ -1,4 +1,4 @@
--- `curve::limits::check_positions` meets its contract: breakpoints in their range times 256 fit, and what the search found is
+-- `curve_entries::check_positions` meets its contract: breakpoints in their range times 256 fit, and what the search found is
 -- refused. Assumes nothing.
 use borrow.Author.Needs.{needs}
 use native.Mathlib.Omega.{arith}

@@ -1,4 +1,4 @@
--- `limits::first_outside` meets its contract. The loop's invariant: no entry passed lies outside. Assumes nothing.
+-- `curve_entries::first_outside` meets its contract. The loop's invariant: no entry passed lies outside. Assumes nothing.
 use native.Mathlib.Omega.{arith}
 use mathlib.Core.Bool.{false}
 use mathlib.Core.Path.{_≡_, sym, ap₂, _∙_}

@@ -1,4 +1,4 @@
--- `curve::limits::check` meets its contract: the lengths, the number of positions, the lists, and then the entries. Assumes nothing.
+-- `curve_limits::check` meets its contract: the lengths, the number of positions, the lists, and then the entries. Assumes nothing.
 use borrow.Author.Needs.{needs}
 use native.Mathlib.Omega.{arith}
 use mathlib.Core.Path.{_≡_, sym, ap, _∙_}

@@ -1,4 +1,4 @@
--- `curve::limits::check_entries` meets its contract: the coefficients, then the positions. Assumes nothing.
+-- `curve_limits::check_entries` meets its contract: the coefficients, then the positions. Assumes nothing.
 use borrow.Author.Needs.{needs}
 use mathlib.Core.Path.{sym, ap, _∙_}
 use Rattle.base_outcome.specs.Outcome.{Outcome, answer, _then_}

@@ -1,4 +1,4 @@
--- `curve::ordinates::at_most` meets its contract. Assumes nothing.
+-- `curve_ordinates::at_most` meets its contract. Assumes nothing.
 use mathlib.Core.Path.{sym}
 use mir.ValLaws.{toZ-ofZ}
 use Rattle.base_exact.proofs.Decide.{cond-true, cond-false}

@@ -1,4 +1,4 @@
--- `curve::ordinates::column_terms` meets its contract: after i rows the terms are those of the first i rows of the table that
+-- `curve_ordinates::column_terms` meets its contract: after i rows the terms are those of the first i rows of the table that
 -- the buffers hold. Assumes nothing.
 use native.Mathlib.Omega.{arith}
 use mathlib.Core.Path.{_≡_, ap, _∙_}

@@ -1,4 +1,4 @@
--- `curve::ordinates::greater` meets its contract. Assumes nothing.
+-- `curve_ordinates::greater` meets its contract. Assumes nothing.
 use mathlib.Core.Path.{sym}
 use lib.Signed.{leZ}
 use mir.ValLaws.{toZ-ofZ}

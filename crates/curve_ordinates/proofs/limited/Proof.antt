@@ -1,4 +1,4 @@
--- `curve::ordinates::limited` meets its contract. Assumes nothing.
+-- `curve_ordinates::limited` meets its contract. Assumes nothing.
 use borrow.Author.Needs.{needs}
 use native.Mathlib.Omega.{arith}
 use mathlib.Core.Path.{sym, _∙_}

@@ -1,4 +1,4 @@
--- `ordinates::ordinates` meets its contract: below c stand the columns' ordinates, from c on what the cells held. Assumes nothing.
+-- `curve_ordinates::ordinates` meets its contract: below c stand the columns' ordinates, from c on what the cells held. Assumes nothing.
 use borrow.Author.Needs.{needs}
 use native.Mathlib.Omega.{arith}
 use mathlib.Core.Path.{_≡_, ap, ap₂, sym, _∙_}

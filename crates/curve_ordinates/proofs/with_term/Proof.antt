@@ -1,4 +1,4 @@
--- `curve::ordinates::with_term` meets its contract: a weight of at most one leaves a term within 256 times the coefficient's
+-- `curve_ordinates::with_term` meets its contract: a weight of at most one leaves a term within 256 times the coefficient's
 -- limit. Assumes nothing.
 use borrow.Author.Needs.{needs}
 use native.Mathlib.Omega.{arith}

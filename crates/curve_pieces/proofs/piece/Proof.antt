@@ -15,7 +15,7 @@ use Rattle.curve_places.specs.Offsets.{columnLimit}
 use Rattle.curve_parts.specs.Parts.{Lent, lent}
 use Rattle.curve_start.specs.Machine.{call, CurvesTold}
 use Rattle.curve_start.proofs.Leaves.{refused-numerators}
-use Rattle.curve_pieces.specs.Pieces.{Piece, pieceOutcome}
+use Rattle.spec_calls.specs.Pieces.{Piece, pieceOutcome}
 use Rattle.curve_pieces.specs.Machine.{Replies}
 use Rattle.curve_pieces.proofs.Held.{piece-refused, piece-drawn}
 use Rattle.curve_pieces.proofs.piece.Statement.{statement}

@@ -14,7 +14,7 @@ use Rattle.base_outcome.specs.Search.{first}
 use Rattle.spec_spline.specs.Space.{Space}
 use Rattle.spec_spline.specs.Reading.{fine}
 use Rattle.build_space.specs.Machine.{space}
-use Rattle.curve_search.specs.Positions.{positionCount}
+use Rattle.spec_calls.specs.Positions.{positionCount}
 use Rattle.curve_reach.specs.Machine.{reply}
 use Rattle.curve_search.specs.Machine.{reachesHeld, found}
 use Rattle.curve_reach.proofs.Call.{found-reached, nowhere-reached}

@@ -11,8 +11,8 @@ use Rattle.spec_spline.specs.Reading.{fine}
 use Rattle.build_space.specs.Machine.{space}
 use Rattle.curve_ordinates.specs.Wood.{woodOf}
 use Rattle.curve_ordinates.specs.declared.Wood.{Wood}
-use Rattle.curve_search.specs.Positions.{positionCount}
-use Rattle.curve_reach.specs.Reach.{reachedAt}
+use Rattle.spec_calls.specs.Positions.{positionCount}
+use Rattle.spec_calls.specs.Reach.{reachedAt}
 use Rattle.curve_reach.specs.Machine.{chosen}
 use Rattle.curve_search.specs.Machine.{reachesHeld}
 use Rattle.curve_reach.proofs.part_reach.Statement.{statement}

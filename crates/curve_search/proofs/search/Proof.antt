@@ -20,7 +20,7 @@ use Rattle.build_space.specs.Legal.{ListsLegal}
 use Rattle.build_space.proofs.Bounds.{degree-low as lowest-degree}
 use Rattle.build_space.proofs.Legal.{legal-checked, legal-width-low, legal-width-high, legal-degree-high, legal-columns-within}
 use Rattle.build_space.proofs.Legal.{legal-column-count-high}
-use Rattle.curve_search.specs.Positions.{positionCount}
+use Rattle.spec_calls.specs.Positions.{positionCount}
 use Rattle.curve_search.specs.Machine.{startOffset, found, reachesHeld}
 use Rattle.curve_search.specs.declared.Found.the-variants.{At}
 use Rattle.curve_search.proofs.Offsets.{start-at-most-one}

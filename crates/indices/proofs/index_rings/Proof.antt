@@ -12,7 +12,7 @@ use Rattle.base_outcome.specs.Outcome.{answer}
 use Rattle.base_outcome.specs.Search.{first}
 use Rattle.base_outcome.proofs.Search.{first-some-inverts, first-none-inverts}
 use Rattle.spec_spline.proofs.Pairs.{woodIndex-below}
-use Rattle.theorems_indices.specs.Indices.{indicesReturned, indicesAfter}
+use Rattle.spec_calls.specs.Indices.{indicesReturned, indicesAfter}
 use Rattle.curve_ordinates.specs.Wood.{woodOf}
 use Rattle.base_outcome.specs.Machine.{reply}
 use Rattle.indices.specs.Machine.{cellsIndexed}

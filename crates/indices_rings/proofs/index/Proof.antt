@@ -13,7 +13,7 @@ use mir.Val.{SFits, ofZ}
 use mir.ValLaws.{toZ-ofZ, sfits-le}
 use Rattle.base_exact.proofs.Integer.{abs-mul, ≤-in, *-pos}
 use Rattle.base_exact.proofs.Word.{ofZ-inj, ofZ-pos, sfits-nat, sfits-widen, sfits-abs, quot-mag, quot-floor}
-use Rattle.theorems_indices.specs.Indices.{indexScale}
+use Rattle.spec_calls.specs.Indices.{indexScale}
 use Rattle.indices_rings.specs.Cells.{badCell, cellIndex}
 use Rattle.theorems_indices.proofs.Ring.{passes-width, passes-small, passes-value, index-absent, index-present}
 use Rattle.indices_rings.proofs.index.Statement.{statement}

@@ -16,8 +16,8 @@ use Rattle.base_outcome.proofs.Machine.{legal-answers, refused-refuses}
 use Rattle.build_space.proofs.Legal.{legality-legal, legal-checked}
 use Rattle.base_outcome.specs.Machine.{reply}
 use Rattle.base_outcome.specs.declared.Answer.{Answer}
-use Rattle.theorems_recovery.specs.Recovery.{Combination}
-use Rattle.theorems_recovery.specs.RecoveryCall.{weightsAfter, answersAfter, numeratorOf, denominatorOf}
+use Rattle.spec_calls.specs.Recovery.{Combination}
+use Rattle.spec_calls.specs.RecoveryCall.{weightsAfter, answersAfter, numeratorOf, denominatorOf}
 use Rattle.recover_limits.specs.Ordinates.{ordinatesChecked}
 use Rattle.recover.specs.Leaves.{BeamEnds}
 use Rattle.recover_limits.proofs.Ordinates.{ordinates-partial, ordinates-legal}

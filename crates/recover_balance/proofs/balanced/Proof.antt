@@ -27,7 +27,7 @@ use Rattle.base_fraction.proofs.Fractions.{fraction-at}
 use Rattle.build_counted.specs.Machine.{counted}
 use Rattle.base_fraction.specs.declared.arrays.Fractions.{Fractions}
 use Rattle.build_counted.proofs.Counted.{fits-answered, large-refused}
-use Rattle.theorems_recovery.specs.Recovery.{jumpSum}
+use Rattle.spec_calls.specs.Recovery.{jumpSum}
 use Rattle.recover_balance.proofs.Sum.{sum-none, added, sum-more, sum-stays, balance-large, balance-zero, balance-not}
 use Rattle.recover_balance.proofs.balanced.Statement.{statement}
 use Rattle.recover_balance.proofs.balanced.Tie as tie

@@ -20,7 +20,7 @@ use Rattle.base_fraction.proofs.Bounds.{num-fits}
 use Rattle.base_outcome.specs.Outcome.{answer, _then_}
 use Rattle.build_counted.specs.Machine.{counted}
 use Rattle.build_counted.proofs.Counted.{fits-then, large-then}
-use Rattle.theorems_recovery.specs.Recovery.{fitted}
+use Rattle.spec_calls.specs.Recovery.{fitted}
 use Rattle.recover_counted.proofs.FractionFits.{machine-sized, sized-sized}
 use Rattle.recover_counted.proofs.add_term.Statement.{statement}
 use Rattle.recover_counted.proofs.add_term.Tie as tie

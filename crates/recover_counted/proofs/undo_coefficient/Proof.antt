@@ -17,7 +17,7 @@ use Rattle.base_outcome.specs.Outcome.{Outcome, _then_}
 use Rattle.build_counted.specs.Machine.{counted}
 use Rattle.build_counted.proofs.Counted.{fits-then, large-then}
 use Rattle.build_entry.specs.Factor.{UnitFactor}
-use Rattle.theorems_recovery.specs.Recovery.{fitted, undoneCoefficient}
+use Rattle.spec_calls.specs.Recovery.{fitted, undoneCoefficient}
 use Rattle.recover_counted.proofs.FractionFits.{machine-sized, sized-sized, neg-value, neg-sized}
 use Rattle.recover_counted.proofs.undo_coefficient.Statement.{statement}
 use Rattle.recover_counted.proofs.undo_coefficient.Tie as tie

@@ -14,7 +14,7 @@ use Rattle.build_factors.specs.Jumps.{AllFit}
 use Rattle.build_cells.proofs.Left.{left-from}
 use Rattle.build_step.proofs.Stepped.{Proper}
 use Rattle.build_joins.proofs.Grown.{grown-proper, grown-denominators, grown-holds}
-use Rattle.theorems_recovery.specs.Recovery.{Combination, recoverOrders}
+use Rattle.spec_calls.specs.Recovery.{Combination, recoverOrders}
 use Rattle.recover_joins.specs.Leaves.{toldCoefficients, Leaves, grownCombination}
 use Rattle.recover_joins.proofs.Turns.{append-fit, columns-fit, columns-count}
 use Rattle.recover_joins.proofs.recover_join.Statement.{statement}

@@ -26,7 +26,7 @@ use Rattle.build_joins.proofs.Grown.{first-proper}
 use Rattle.build_joins.proofs.Joins.{AtJoin, at-join}
 use Rattle.build_step.proofs.Repeated.{State, holds, goes-on, ends, all-done}
 use Rattle.build_joins.proofs.Turns.{later-none}
-use Rattle.theorems_recovery.specs.Recovery.{recoverOrders, recoverJoins, recovered}
+use Rattle.spec_calls.specs.Recovery.{recoverOrders, recoverJoins, recovered}
 use Rattle.theorems_recovery.proofs.Refusals.{orders-stop}
 use Rattle.recover_joins.specs.Leaves.{toldJoins, Leaves, JoinsLeave, grownCombination}
 use Rattle.recover_joins.specs.declared.RowCoefficients.{RowCoefficients}

@@ -19,7 +19,7 @@ use Rattle.build_conditions.specs.Sides.{JoinIs}
 use Rattle.build_conditions.specs.declared.Join.{Join}
 use Rattle.build_factors.specs.Jumps.{AllFit}
 use Rattle.build_step.proofs.Repeated.{State, holds, goes-on, ends, all-done}
-use Rattle.theorems_recovery.specs.Recovery.{Combination, recoverStep, recoverOrders}
+use Rattle.spec_calls.specs.Recovery.{Combination, recoverStep, recoverOrders}
 use Rattle.recover_joins.specs.Leaves.{toldCoefficients, Leaves}
 use Rattle.recover_joins.specs.declared.RowCoefficients.{RowCoefficients}
 use Rattle.recover_joins.specs.declared.Refusal.the-variants as refusals

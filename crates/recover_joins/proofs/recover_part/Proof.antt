@@ -9,7 +9,7 @@ use Rattle.build_space.specs.Machine.{space}
 use Rattle.build_space.proofs.Partial.{column-count-partial}
 use Rattle.build_cells.proofs.Left.{left-from}
 use Rattle.build_joins.proofs.Joins.{Beginning, beginning, begins}
-use Rattle.theorems_recovery.specs.Recovery.{recovered}
+use Rattle.spec_calls.specs.Recovery.{recovered}
 use Rattle.recover_joins.specs.Leaves.{toldJoins}
 use Rattle.recover_joins.proofs.recover_part.Statement.{statement}
 use Rattle.recover_joins.proofs.recover_part.Tie as tie

@@ -16,7 +16,7 @@ use Rattle.base_outcome.proofs.Outcome.{answer-unique, then-refuses}
 use Rattle.spec_spline.specs.Space.{Space}
 use Rattle.spec_spline.specs.Conditions.{Entry, conditions}
 use Rattle.spec_spline.specs.Table.{Table}
-use Rattle.spec_spline.specs.Step.{Span, jumps}
+use Rattle.spec_spline.specs.Step.{Span, jumps, planFrom, planned, rowsRenewed}
 use Rattle.spec_spline.proofs.Answers.{jumps-length, jumps-fit}
 use Rattle.spec_spline.proofs.Refusals.{step-refuses}
 use Rattle.build_cells.specs.Held.{Holds, Shaped}
@@ -30,12 +30,11 @@ use Rattle.build_factors.specs.declared.Refusal.the-variants as build-refusals
 use Rattle.build_rows.specs.Rows.{UnitFactors}
 use Rattle.build_cells.specs.Left.{LeavesIf}
 use Rattle.build_cells.proofs.Left.{kept-same}
-use Rattle.build_step.specs.Plan.{planFrom, planned, rowsRenewed}
 use Rattle.build_step.proofs.Plan.{step-planned, unplanned, Ready, plan-ready, plan-ended}
 use Rattle.build_step.proofs.Orders.{named-eight, named-nine}
 use Rattle.recover_rows.specs.Machine.{NonZero}
-use Rattle.theorems_recovery.specs.Recovery.{recoverStep}
-use Rattle.recover_joins.specs.Leaves.{coefficientsOf, undoing, Leaves}
+use Rattle.spec_calls.specs.Recovery.{recoverStep, undoing}
+use Rattle.recover_joins.specs.Leaves.{coefficientsOf, Leaves}
 use Rattle.recover_joins.specs.declared.RowCoefficients.{RowCoefficients}
 use Rattle.recover_joins.specs.declared.Refusal.the-variants as refusals
 use Rattle.recover_joins.proofs.Stepped.{leaves-unplanned, leaves-unmade, leaves-made}

@@ -17,9 +17,9 @@ use Rattle.spec_spline.specs.Step.{Span}
 use Rattle.recover_rows.specs.Machine.{undoneOf}
 use Rattle.recover_rows.proofs.Rows.{renewed-length}
 use Rattle.theorems_recovery.proofs.Refusals.{balanced-here}
-use Rattle.theorems_recovery.specs.Recovery.{balanced, undoneRows, undone}
+use Rattle.spec_calls.specs.Recovery.{balanced, undoneRows, undone, undoing}
 use Rattle.theorems_recovery.proofs.Answers.{rows-undone, undone-refuses-20}
-use Rattle.recover_joins.specs.Leaves.{coefficientsOf, undoing}
+use Rattle.recover_joins.specs.Leaves.{coefficientsOf}
 use Rattle.recover_joins.specs.declared.RowCoefficients.{RowCoefficients}
 use Rattle.recover_joins.specs.declared.Refusal.the-variants as refusals
 use Rattle.recover_joins.proofs.Refusals.{told-zero, told-not, told-large}

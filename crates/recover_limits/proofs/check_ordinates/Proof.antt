@@ -9,7 +9,7 @@ use Rattle.base_outcome.specs.Search.{first}
 use Rattle.spec_spline.specs.Space.{Space, columnCount}
 use Rattle.build_space.specs.Machine.{space}
 use Rattle.base_outcome.proofs.Machine.{found-some-inverts, found-none-inverts, answer-legal, refusal-refused}
-use Rattle.theorems_recovery.specs.RecoveryCall.{badOrdinate}
+use Rattle.spec_calls.specs.RecoveryCall.{badOrdinate}
 use Rattle.recover_limits.proofs.Ordinates.{ordinate-outside, ordinates-count, ordinates-refused, ordinates-pass}
 use Rattle.recover_limits.proofs.check_ordinates.Statement.{statement}
 use Rattle.recover_limits.proofs.check_ordinates.Tie as tie

@@ -20,7 +20,7 @@ use Rattle.base_outcome.specs.Outcome.{answer}
 use Rattle.spec_spline.specs.Table.{entry}
 use Rattle.base_fraction.proofs.Fractions.{fraction-at}
 use Rattle.build_counted.specs.Machine.{counted}
-use Rattle.theorems_recovery.specs.Recovery.{undoneCoefficient, undoneRow}
+use Rattle.spec_calls.specs.Recovery.{undoneCoefficient, undoneRow}
 use Rattle.recover_rows.proofs.undo_row.Statement.{statement}
 use Rattle.recover_rows.proofs.undo_row.Tie as tie
 

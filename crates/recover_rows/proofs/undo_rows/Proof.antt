@@ -20,7 +20,7 @@ use Rattle.base_fraction.specs.Fractions.{fractions}
 use Rattle.build_counted.specs.Machine.{counted}
 use Rattle.base_fraction.specs.declared.arrays.Fractions.{Fractions}
 use Rattle.build_counted.proofs.Counted.{fits-answered, large-refused}
-use Rattle.theorems_recovery.specs.Recovery.{undoneRow, undoneRows}
+use Rattle.spec_calls.specs.Recovery.{undoneRow, undoneRows}
 use Rattle.theorems_recovery.proofs.Answers.{rows-undone}
 use Rattle.recover_rows.specs.Machine.{undoneOf}
 use Rattle.recover_counted.specs.Machine.{FractionsFit}

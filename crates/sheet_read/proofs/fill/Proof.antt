@@ -12,7 +12,8 @@ use mir.Syntax.{w32}
 use mir.Val.{SFits}
 use Rattle.base_exact.proofs.Word.{toZ-ofZ}
 use Rattle.base_text.specs.Bytes.{Text, Range, fieldsBetween}
-use Rattle.sheet_read.specs.Machine.{isSeparator, numeralsOf, numeralsAt, overwritten}
+use Rattle.sheet_read.specs.Machine.{isSeparator, numeralsOf, numeralsAt}
+use Rattle.spec_sheet.specs.ReadSheet.{overwritten}
 use Rattle.base_text.specs.declared.numeral.Field.the-variants as field-cases
 use Rattle.base_text.proofs.Numerals.{field-none, field-some}
 use Rattle.sheet_lines.proofs.Entries.{stop-part, stop-within, field-last, field-more, field-first}

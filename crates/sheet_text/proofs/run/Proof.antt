@@ -7,7 +7,7 @@ use Prim.Native.Nat.{ℕ, _*_, _≤_}
 use lib.ListN.{length}
 use lib.Seq.{length-take-le}
 use Rattle.base_print.proofs.Buffer.{prints-as, puts-whole}
-use Rattle.theorems_sheet.specs.Sheet.{Arguments, called}
+use Rattle.spec_sheet.specs.Sheet.{Arguments, called}
 use Rattle.sheet_text.proofs.Whole.{refused-prints, answered-filled, answered-prints, values-enough, count-positions}
 use Rattle.sheet_text.proofs.run.Statement.{statement}
 use Rattle.sheet_text.proofs.run.Tie as tie

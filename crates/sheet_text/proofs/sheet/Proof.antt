@@ -8,7 +8,7 @@ use lib.Seq.{length-take-le}
 use Rattle.spec_spline.specs.Reading.{sideBySide}
 use Rattle.base_text.specs.Bytes.{Text}
 use Rattle.spec_sheet.specs.SheetReading.{read}
-use Rattle.sheet_read.specs.Machine.{Lengths}
+use Rattle.spec_sheet.specs.ReadSheet.{Lengths}
 use Rattle.sheet_read.proofs.Answers.{Listed, reply-read, positions-few, part-fits, part-is}
 use Rattle.base_print.proofs.Buffer.{prints-as}
 use Rattle.sheet_text.proofs.Parts.{called-prints, malformed-prints}

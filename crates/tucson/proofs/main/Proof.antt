@@ -3,7 +3,7 @@ use mathlib.Core.Path.{refl, sym}
 use Prim.Native.Nat.{ℕ, _+_}
 use lib.ListN.{length-replicate}
 use lib.Seq.{length-take-le}
-use Rattle.tucson_text.specs.Filter.{textLimit}
+use Rattle.spec_tucson.specs.Filter.{textLimit}
 use Rattle.tucson.proofs.main.Statement.{statement}
 use Rattle.tucson.proofs.main.Tie as tie
 

@@ -11,7 +11,7 @@ use Rattle.base_print.specs.Refusal.{refusalLineLimit}
 use Rattle.base_print.specs.Refusal.{refusalLine}
 use Rattle.base_print.proofs.Buffer.{prints-as, written-length}
 use Rattle.spec_tucson.specs.TextReading.{readText}
-use Rattle.tucson_text.specs.Filter.{textLimit, outcomeText, filtered}
+use Rattle.spec_tucson.specs.Filter.{textLimit, outcomeText, filtered}
 use Rattle.tucson_text.proofs.filter.Statement.{statement}
 use Rattle.tucson_text.proofs.filter.Tie as tie
 

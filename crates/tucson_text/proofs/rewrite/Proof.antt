@@ -19,7 +19,7 @@ use Rattle.spec_tucson.specs.TextReading.{readText}
 use Rattle.spec_tucson.specs.ReadCall.{ReadEnd, readEnd}
 use Rattle.spec_tucson.specs.WriteCall.{total, WriteEnd, writeEnd}
 use Rattle.base_outcome.specs.Machine.{reply}
-use Rattle.tucson_text.specs.Filter.{textLimit, outcomeText}
+use Rattle.spec_tucson.specs.Filter.{textLimit, outcomeText}
 use Rattle.tucson_text.proofs.Room.{seriesCells, nameBytes, widthCells}
 use Rattle.tucson_text.proofs.Rewriting.{Cells, refused-text, series-within, widths-within, text-length, writes-whole}
 use Rattle.tucson_text.proofs.rewrite.Statement.{statement}

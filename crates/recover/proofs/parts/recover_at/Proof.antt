@@ -24,7 +24,7 @@ use Rattle.build_space.proofs.Legal.{legal-first-column-high}
 use Rattle.build_space.proofs.Partial.{first-column-partial}
 use Rattle.build_factors.specs.Jumps.{AllFit}
 use Rattle.build.proofs.Beam.{sliced, part-legal}
-use Rattle.theorems_recovery.specs.Recovery.{recovered}
+use Rattle.spec_calls.specs.Recovery.{recovered}
 use Rattle.recover_joins.specs.Leaves.{JoinsLeave}
 use Rattle.recover.proofs.parts.recover_at.Statement.{statement}
 use Rattle.recover.proofs.parts.recover_at.Tie as tie

@@ -17,8 +17,8 @@ use Rattle.build_space.proofs.Partial.{part-end-partial}
 use Rattle.base_outcome.specs.Machine.{reply}
 use Rattle.base_outcome.specs.declared.Answer.the-variants.{Count, Refused}
 use Rattle.base_outcome.proofs.Reply.{Counted, count-inverts, refused-inverts}
-use Rattle.theorems_recovery.specs.Recovery.{Combination, recovered}
-use Rattle.theorems_recovery.specs.RecoveryCall.{listed, numeratorOf, denominatorOf}
+use Rattle.spec_calls.specs.Recovery.{Combination, recovered}
+use Rattle.spec_calls.specs.RecoveryCall.{listed, numeratorOf, denominatorOf}
 use Rattle.recover_joins.specs.Leaves.{JoinsLeave}
 use Rattle.recover.specs.Leaves.{BeamEnds}
 use Rattle.recover_joins.specs.declared.Joined.{Joined}

@@ -16,7 +16,7 @@ use Rattle.base_fraction.specs.declared.Fraction.{Fraction}
 use Rattle.spec_spline.specs.Table.{entry}
 use Rattle.base_fraction.specs.Fractions.{fractions}
 use Rattle.base_fraction.specs.declared.arrays.Fractions.{Fractions}
-use Rattle.theorems_recovery.specs.RecoveryCall.{listed, numeratorOf, denominatorOf}
+use Rattle.spec_calls.specs.RecoveryCall.{listed, numeratorOf, denominatorOf}
 use Rattle.recover.specs.Leaves.{CoefficientsListed}
 use Rattle.recover.proofs.parts.write.Statement.{statement}
 use Rattle.recover.proofs.parts.write.Tie as tie

@@ -1,0 +1,1 @@
+// The calls for indices, first reach, pieces and coefficients as definitions, in specs/. This crate has no code.

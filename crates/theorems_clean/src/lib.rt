@@ -1,0 +1,1 @@
+// What is proved of a laboratory's file in the strict form, in specs/ and proofs/. This crate has no code.

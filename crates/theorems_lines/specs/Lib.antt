@@ -1,0 +1,5 @@
+-- What is reproduced: equal coefficients, straight lines, and ordinates as coefficients; the proofs are in proofs/.
+pub mod Equal
+pub mod Lines
+pub mod Ordinates
+pub mod Nodes

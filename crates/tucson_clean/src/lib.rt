@@ -1,0 +1,259 @@
+// A laboratory's file brought into the strict form: all lines are tested first, then counted, and only then are the lent buffers written.
+ghost use mathlib.Core.Path.{_≡_};
+ghost use Prim.Native.Nat.{_+_, _^_, _<_, _≤_};
+ghost use lib.ListN.{length};
+ghost use Rattle.base_outcome.specs.Outcome.{_then_};
+ghost use Rattle.spec_tucson.specs.Line.{linesOf};
+ghost use Rattle.spec_tucson.specs.FileText.{textOf};
+ghost use Rattle.spec_tucson.specs.KeptLines.{headerOf};
+ghost use Rattle.spec_tucson.specs.CleanCall.{isUnitOption, cleanedBelow, cleanedFile, ifRoom, cleanEnd};
+ghost use Rattle.tucson_clean.specs.Machine.{TailIs, BodyAt, PutTold, MeasureTold, FillTold, Ends, counts};
+use base_outcome::Found;
+use base_outcome::Legality;
+use tucson_header::HeaderFound;
+use tucson_walk::Walked;
+
+// How many lines a text has, and whether byte 10 ends the last one.
+pub struct Tail {
+    pub count: usize,
+    pub ended: bool,
+}
+
+// How many bytes, lines and notes there are, or a refusal.
+pub enum Cleaned {
+    Counts(usize, usize, usize),
+    Refused(u8, u32),
+}
+
+const SHORT_BUFFER: u8 = 1;
+
+const FAULT: u8 = 21;
+
+const UNIT: u8 = 24;
+
+const HEADER: u8 = 26;
+
+// One more than the lines of a header that can be named.
+const NO_HEADER_NAMED: u32 = 100;
+
+const UNIT_NOT_SAID: u32 = 0;
+
+const HUNDREDTHS_SAID: u32 = 100;
+
+const THOUSANDTHS_SAID: u32 = 1000;
+
+const FILE_LIMIT: usize = 4294967295;
+
+const SUBSTITUTE: u8 = 26;
+
+// The lines of a text, counted.
+fn count_lines(body: &[u8]) -> Tail
+    ensures { λ r. ⌜ TailIs (now (body .entry)) r ⌝ }
+{
+    let mut from = 0;
+    let mut count = 0;
+    let mut ended = true;
+    while from < body.len() {
+        let end = base_text::fields::find(body, from, body.len(), b'\n');
+        ended = end < body.len();
+        count += 1;
+        from = end + 1;
+    }
+    Tail {
+        count: count,
+        ended: ended,
+    }
+}
+
+// The strict text, the numbers of its lines and all notes, as far as the buffers reach; and the indices behind them.
+fn put_all(
+    text: &[u8],
+    from: usize,
+    stop: usize,
+    header: usize,
+    unit: u32,
+    out: &mut [u8],
+    lines: &mut [usize],
+    notes: &mut [usize],
+) -> Walked
+    requires { ⌜ BodyAt (now text) from stop ⌝ }
+    ensures { λ r. ⌜ PutTold (now (text .entry)) header unit (now (out .entry)) (now (out .exit)) (now (lines .entry)) (now (lines .exit))
+        (now (notes .entry)) (now (notes .exit)) r ⌝ }
+{
+    let marked = tucson_file::is_marked(text);
+    let at = tucson_notes::put_note(notes, 0, marked, 1, 1);
+    let early = stop < text.len();
+    let walked = tucson_walk::walk(
+        &text[from..stop],
+        early,
+        header,
+        unit,
+        at,
+        out,
+        lines,
+        notes,
+    );
+    let end = count_lines(&text[from..stop]);
+    let cut = tucson_lines::both(early, end.ended);
+    let cells = tucson_notes::put_note(notes, walked.cells, cut, 2, end.count + 1);
+    Walked {
+        bytes: walked.bytes,
+        lines: walked.lines,
+        cells: cells,
+    }
+}
+
+// How many bytes, numbers of lines and cells of notes there are.
+fn measure(text: &[u8], from: usize, stop: usize, header: usize, unit: u32) -> Walked
+    requires { ⌜ BodyAt (now text) from stop ⌝ }
+    ensures { λ r. ⌜ MeasureTold (now (text .entry)) header unit r ⌝ }
+{
+    let mut bytes = [0; 1];
+    let mut numbers = [0; 1];
+    let mut cells = [0; 1];
+    put_all(
+        text,
+        from,
+        stop,
+        header,
+        unit,
+        &mut bytes[..1],
+        &mut numbers[..1],
+        &mut cells[..1],
+    )
+}
+
+// Fills the buffers, if there is room for all.
+fn fill(
+    text: &[u8],
+    from: usize,
+    stop: usize,
+    header: usize,
+    unit: u32,
+    out: &mut [u8],
+    lines: &mut [usize],
+    notes: &mut [usize],
+) -> Cleaned
+    requires { ⌜ BodyAt (now text) from stop ⌝ }
+    ensures { λ r. ⌜ FillTold (now (text .entry)) header unit (now (out .entry)) (now (out .exit)) (now (lines .entry)) (now (lines .exit))
+        (now (notes .entry)) (now (notes .exit)) r ⌝ }
+{
+    let need = measure(text, from, stop, header, unit);
+    if out.len() < need.bytes {
+        return Cleaned::Refused(SHORT_BUFFER, 0);
+    }
+    if lines.len() < need.lines {
+        return Cleaned::Refused(SHORT_BUFFER, 1);
+    }
+    if notes.len() < need.cells {
+        return Cleaned::Refused(SHORT_BUFFER, 2);
+    }
+    let put = put_all(text, from, stop, header, unit, out, lines, notes);
+    Cleaned::Counts(put.bytes, put.lines, put.cells / 2)
+}
+
+// What is made of the lines below a header that ends with the line named.
+fn clean_below(
+    text: &[u8],
+    from: usize,
+    stop: usize,
+    header: usize,
+    unit: u32,
+    out: &mut [u8],
+    lines: &mut [usize],
+    notes: &mut [usize],
+) -> Cleaned
+    requires { ⌜ BodyAt (now text) from stop ⌝ }
+    ensures { λ r. ⌜ Ends (cleanedBelow (now (text .entry)) unit header then ifRoom (length (now (out .entry))) (length (now (lines .entry))) (length (now (notes .entry))))
+        (now (out .entry)) (now (out .exit)) (now (lines .entry)) (now (lines .exit)) (now (notes .entry)) (now (notes .exit)) r ⌝ }
+{
+    let checked = tucson_check::check(&text[from..stop], header, unit);
+    match checked {
+        Legality::Refused(code, place) => Cleaned::Refused(code, place),
+        Legality::Legal => fill(text, from, stop, header, unit, out, lines, notes),
+    }
+}
+
+// What is made of a text that has no byte at fault.
+fn clean_text(
+    text: &[u8],
+    header: u32,
+    unit: u32,
+    out: &mut [u8],
+    lines: &mut [usize],
+    notes: &mut [usize],
+) -> Cleaned
+    requires { ⌜ length (now text) < 2 ^ 32 ⌝ }
+    ensures { λ r. ⌜ Ends ((headerOf header (linesOf (textOf (now (text .entry)))) then cleanedBelow (now (text .entry)) unit)
+        then ifRoom (length (now (out .entry))) (length (now (lines .entry))) (length (now (notes .entry))))
+        (now (out .entry)) (now (out .exit)) (now (lines .entry)) (now (lines .exit)) (now (notes .entry)) (now (notes .exit)) r ⌝ }
+{
+    let from = tucson_file::start(text);
+    let stop = base_text::fields::find(text, from, text.len(), SUBSTITUTE);
+    let found = tucson_header::header(&text[from..stop], header);
+    match found {
+        HeaderFound::Refused(place) => Cleaned::Refused(HEADER, place),
+        HeaderFound::Ends(last) => clean_below(text, from, stop, last, unit, out, lines, notes),
+    }
+}
+
+// Whether a unit is not said, hundredths or thousandths.
+fn is_unit(unit: u32) -> bool
+    ensures { λ r. ⌜ r ≡ isUnitOption unit ⌝ }
+{
+    if unit == UNIT_NOT_SAID {
+        return true;
+    }
+    if unit == HUNDREDTHS_SAID {
+        return true;
+    }
+    unit == THOUSANDTHS_SAID
+}
+
+// What is made of a file that is not too long.
+fn clean_file(
+    text: &[u8],
+    header: u32,
+    unit: u32,
+    out: &mut [u8],
+    lines: &mut [usize],
+    notes: &mut [usize],
+) -> Cleaned
+    requires { ⌜ length (now text) < 2 ^ 32 ⌝ }
+    ensures { λ r. ⌜ Ends (cleanedFile (now (text .entry)) header unit
+        then ifRoom (length (now (out .entry))) (length (now (lines .entry))) (length (now (notes .entry))))
+        (now (out .entry)) (now (out .exit)) (now (lines .entry)) (now (lines .exit)) (now (notes .entry)) (now (notes .exit)) r ⌝ }
+{
+    let found = tucson_file::fault(text);
+    match found {
+        Found::At(line) => Cleaned::Refused(FAULT, base_outcome::place(line)),
+        Found::Nothing => clean_text(text, header, unit, out, lines, notes),
+    }
+}
+
+// Brings a laboratory's file into the strict form: the strict text, for each of its lines the number of that line in the file, and the
+// notes, two cells each. The header is a count of lines, or 100 where none is named; the unit is 100, 1000, or 0 where none is said. The
+// text and the buffers may have any length and content.
+pub fn clean(
+    text: &[u8],
+    header: u32,
+    unit: u32,
+    out: &mut [u8],
+    lines: &mut [usize],
+    notes: &mut [usize],
+) -> Cleaned
+    ensures { λ r. ⌜ (let e = cleanEnd (now (text .entry)) header unit (now (out .entry)) (now (lines .entry)) (now (notes .entry)) in
+        (counts r ≡ e .answers) × ((now (out .exit) ≡ e .text)
+        × ((now (lines .exit) ≡ e .lines) × (now (notes .exit) ≡ e .notes)))) ⌝ }
+{
+    if header > NO_HEADER_NAMED {
+        return Cleaned::Refused(HEADER, 0);
+    }
+    if !is_unit(unit) {
+        return Cleaned::Refused(UNIT, 0);
+    }
+    if text.len() > FILE_LIMIT {
+        return Cleaned::Refused(FAULT, base_outcome::LARGEST_PLACE);
+    }
+    clean_file(text, header, unit, out, lines, notes)
+}

@@ -1,0 +1,2 @@
+-- Laws of a strict line's numbers.
+pub mod LineFields

@@ -1,0 +1,20 @@
+-- A byte of a file by its index, and where the text begins.
+use mathlib.Core.Bool.{Bool}
+use mathlib.Core.Path.{_≡_}
+use Prim.Native.Nat.{ℕ, suc, _≤_}
+use lib.ListN.{length, drop, getD}
+use Rattle.base_text.specs.Bytes.{Text}
+use Rattle.spec_tucson.specs.FileText.{isFault, unmarked}
+
+-- The byte at the index is one that no text has.
+unfoldable pub faultAt : ℕ → Text → Bool
+faultAt i t = isFault (getD t i 0) (drop (suc i) t)
+
+-- An index of a file, or its end.
+pub record FaultAsks (from : ℕ) (t : Text) : Type 0 where
+  pub within : from ≤ length t
+
+-- The index behind a mark.
+pub record StartIs (t : Text) (start : ℕ) : Type 0 where
+  pub within : start ≤ length t
+  pub text-is : unmarked t ≡ drop start t

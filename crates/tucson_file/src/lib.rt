@@ -1,0 +1,145 @@
+// The text of a laboratory's file: where it begins and ends, and the first byte that no text has.
+ghost use mathlib.Core.Path.{_≡_};
+ghost use Prim.Native.Nat.{_+_, _<_, _≤_};
+ghost use lib.ListN.{length, drop};
+ghost use lib.Seq.{slice};
+ghost use Rattle.base_outcome.specs.Machine.{found};
+ghost use Rattle.base_text.specs.Bytes.{Range};
+ghost use Rattle.spec_tucson.specs.FileText.{isMarked, unmarked, allPadding, isWide, textFault};
+ghost use Rattle.spec_tucson.specs.FileText;
+ghost use Rattle.tucson_file.specs.Machine.{faultAt, FaultAsks, StartIs};
+use base_outcome::Found;
+
+const TAB: u8 = 9;
+
+const NEWLINE: u8 = 10;
+
+const RETURN: u8 = 13;
+
+pub const SUBSTITUTE: u8 = 26;
+
+const BLANK: u8 = 32;
+
+// Whether a byte may stand behind the first byte 26.
+fn is_padding(byte: u8) -> bool
+    ensures { λ r. ⌜ r ≡ FileText.isPadding byte ⌝ }
+{
+    if byte == SUBSTITUTE {
+        return true;
+    }
+    if byte == BLANK {
+        return true;
+    }
+    if byte == TAB {
+        return true;
+    }
+    if byte == NEWLINE {
+        return true;
+    }
+    byte == RETURN
+}
+
+// Whether all bytes from the index on are such bytes.
+fn all_padding(text: &[u8], from: usize) -> bool
+    requires { ⌜ from ≤ length (now text) ⌝ }
+    ensures { λ r. ⌜ r ≡ allPadding (drop from (now (text .entry))) ⌝ }
+{
+    let mut i = from;
+    while i < text.len() {
+        if !is_padding(text[i]) {
+            return false;
+        }
+        i += 1;
+    }
+    true
+}
+
+// Whether the byte at the index, which is not 26, is one that no text has.
+fn is_fault(text: &[u8], at: usize) -> bool
+    requires { ⌜ at < length (now text) ⌝ }
+    ensures { λ r. ⌜ r ≡ faultAt at (now (text .entry)) ⌝ }
+{
+    let byte = text[at];
+    if byte == 0 {
+        return true;
+    }
+    if base_text::fields::begins(text, at, text.len(), b"\xef\xbb\xbf") {
+        return true;
+    }
+    if byte == RETURN {
+        return !base_text::fields::begins(text, at + 1, text.len(), b"\n");
+    }
+    false
+}
+
+// The line of the first byte at fault from the index on.
+fn fault_line(text: &[u8], from: usize) -> Found
+    requires { ⌜ FaultAsks from (now text) ⌝ }
+    ensures { λ r. ⌜ r ≡ found (FileText.faultLine 1 (drop from (now (text .entry)))) ⌝ }
+{
+    let mut i = from;
+    let mut line = 1;
+    while i < text.len() {
+        let byte = text[i];
+        if byte == SUBSTITUTE {
+            if all_padding(text, i + 1) {
+                return Found::Nothing;
+            }
+            return Found::At(line);
+        }
+        if is_fault(text, i) {
+            return Found::At(line);
+        }
+        line = line_after(byte, line);
+        i += 1;
+    }
+    Found::Nothing
+}
+
+// The line after a byte of this line.
+fn line_after(byte: u8, line: usize) -> usize
+    requires { ⌜ line < 18446744073709551615 ⌝ }
+    ensures { λ r. ⌜ r ≡ FileText.lineAfter byte line ⌝ }
+{
+    if byte == NEWLINE {
+        return line + 1;
+    }
+    line
+}
+
+// Whether the file begins as texts of 16-bit characters do.
+fn is_wide(text: &[u8]) -> bool
+    ensures { λ r. ⌜ r ≡ isWide (now (text .entry)) ⌝ }
+{
+    if base_text::fields::begins(text, 0, text.len(), b"\xff\xfe") {
+        return true;
+    }
+    base_text::fields::begins(text, 0, text.len(), b"\xfe\xff")
+}
+
+// Whether the file begins with a mark.
+pub fn is_marked(text: &[u8]) -> bool
+    ensures { λ r. ⌜ r ≡ isMarked (now (text .entry)) ⌝ }
+{
+    base_text::fields::begins(text, 0, text.len(), b"\xef\xbb\xbf")
+}
+
+// The index behind a mark at the start of the file.
+pub fn start(text: &[u8]) -> usize
+    ensures { λ r. ⌜ StartIs (now (text .entry)) r ⌝ }
+{
+    if is_marked(text) {
+        return 3;
+    }
+    0
+}
+
+// The line of code 21, if the file has a byte at fault.
+pub fn fault(text: &[u8]) -> Found
+    ensures { λ r. ⌜ r ≡ found (textFault (now (text .entry))) ⌝ }
+{
+    if is_wide(text) {
+        return Found::At(1);
+    }
+    fault_line(text, start(text))
+}

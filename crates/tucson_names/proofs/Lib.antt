@@ -1,0 +1,2 @@
+-- Laws of a line's columns one at a time.
+pub mod NameColumns

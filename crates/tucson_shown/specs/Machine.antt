@@ -1,0 +1,67 @@
+-- The machine's form of a strict line: two arrays with the bytes at their fronts, and the cases of the enum that is answered.
+use mathlib.Core.Bool.{Bool, false}
+use mathlib.Core.Path.{_≡_}
+use Prim.Native.Nat.{ℕ, _+_, _<_, _≤_}
+use lib.ListN.{length, take}
+use lib.Seq.{slice}
+use Rattle.base_outcome.specs.Outcome.{answer, refuse}
+use Rattle.base_text.specs.Bytes.{Text, Range}
+use Rattle.spec_tucson.specs.Shown.{shown}
+use Rattle.spec_tucson.specs.StrictLine.{hasSite, withoutSite, shownFields, strictLine, lineColumns}
+use Rattle.tucson_lines.specs.Machine.{LineEnd}
+use Rattle.tucson_columns.specs.Machine.{cells}
+use Rattle.tucson_shown.specs.declared.Front.{Front}
+use Rattle.tucson_shown.specs.declared.Front.the-variants as front-cases
+use Rattle.tucson_shown.specs.declared.Strict.{Strict}
+use Rattle.tucson_shown.specs.declared.Strict.the-variants as strict-cases
+
+-- A strict line with m bytes shown at the front of the one array and its n bytes at the front of the other.
+pub record LineTold (raw : Text) (m n : ℕ) (site : Bool) (bytes line : Text) : Type 0 where
+  pub shown-fits : m ≤ length bytes
+  pub line-fits : n ≤ length line
+  pub line-short : n ≤ lineColumns
+  pub is-shown : take m bytes ≡ shownFields raw
+  pub is-line : (place : ℕ) → strictLine place raw ≡ answer (take n line)
+  pub is-site : site ≡ hasSite (shown raw)
+
+-- What is told of a raw line.
+abbrev pub StrictTold : Text → Strict → Text → Text → Type 0
+StrictTold raw (strict-cases.Line m n site) bytes line = LineTold raw m n site bytes line
+StrictTold raw strict-cases.Malformed bytes line = (place : ℕ) → strictLine place raw ≡ refuse 11 place
+StrictTold raw strict-cases.NotAscii bytes line = (place : ℕ) → strictLine place raw ≡ refuse 22 place
+
+-- ---- what is shown without a site name
+
+-- A part of a text, and an array for what is shown of it.
+pub record ShowAsks (text : Text) (from to : ℕ) (bytes : Text) : Type 0 where
+  pub range : Range text from to
+  pub size : length bytes ≡ cells
+
+-- These m bytes at the front of an array are what is shown, without a site name.
+pub record FieldsAre (t : Text) (m : ℕ) (site : Bool) (bytes : Text) : Type 0 where
+  pub fits : m ≤ cells
+  pub are : take m bytes ≡ withoutSite t
+  pub is-site : site ≡ hasSite t
+
+-- More is shown than any strict line has, and no site name.
+pub record FieldsLong (t : Text) : Type 0 where
+  pub long : cells < length t
+  pub no-site : hasSite t ≡ false
+
+-- What is told of these shown bytes.
+abbrev pub FrontTold : Text → Front → Text → Type 0
+FrontTold t (front-cases.Fits m site) bytes = FieldsAre t m site bytes
+FrontTold t front-cases.Long bytes = FieldsLong t
+
+-- A line, what is shown of it at the front of an array, and an array for its strict line.
+pub record FitAsks (text : Text) (from end : ℕ) (bytes : Text) (m : ℕ) (site : Bool) (line : Text) : Type 0 where
+  pub at : LineEnd text from end
+  pub fields : FieldsAre (shown (slice from (end + 1) text)) m site bytes
+  pub size : length bytes ≡ cells
+  pub room : length line ≡ cells
+
+-- A line, and two arrays.
+pub record StrictAsks (text : Text) (from end : ℕ) (bytes line : Text) : Type 0 where
+  pub at : LineEnd text from end
+  pub size : length bytes ≡ cells
+  pub room : length line ≡ cells

@@ -1,0 +1,162 @@
+// A line of a laboratory's file as it is shown, and the strict line that it is.
+ghost use mathlib.Core.Path.{_≡_};
+ghost use Prim.Native.Nat.{_+_, _<_};
+ghost use lib.Seq.{slice};
+ghost use Rattle.spec_tucson.specs.Shown.{expanded, shown, isBlankLine, hasReturn, hasTab, hasTrailing};
+ghost use Rattle.spec_tucson.specs.KeptLines.{isHeaderLine};
+ghost use Rattle.tucson_lines.specs.Machine.{LineEnd};
+ghost use Rattle.tucson_shown.specs.Machine.{StrictTold, ShowAsks, FrontTold, FitAsks, StrictAsks};
+
+// The most bytes that are shown of a strict line: eight characters of four bytes in its name, and 64 columns behind that.
+pub const SHOWN: usize = 96;
+
+// The strict line of a raw line: how many bytes are shown of it, how many it has, and whether a site name was taken off; or why it is
+// none: its columns, or bytes over 127.
+pub enum Strict {
+    Line(usize, usize, bool),
+    Malformed,
+    NotAscii,
+}
+
+// What is shown of a line without a site name: how many bytes, if an array has room for them, and whether a site name was taken off.
+enum Front {
+    Fits(usize, bool),
+    Long,
+}
+
+// The columns of a line with ten fields.
+const LINE: usize = 72;
+
+const TAB: u8 = 9;
+
+// Whether nothing is shown of the line from the one index up to the other.
+pub fn is_blank_line(text: &[u8], from: usize, end: usize) -> bool
+    requires { ⌜ LineEnd (now text) from end ⌝ }
+    ensures { λ r. ⌜ r ≡ isBlankLine (slice from (end + 1) (now (text .entry))) ⌝ }
+{
+    tucson_columns::shown_to(text, from, end) == from
+}
+
+pub fn has_return(text: &[u8], from: usize, end: usize) -> bool
+    requires { ⌜ LineEnd (now text) from end ⌝ }
+    ensures { λ r. ⌜ r ≡ hasReturn (slice from (end + 1) (now (text .entry))) ⌝ }
+{
+    tucson_columns::line_stop(text, from, end) < end
+}
+
+pub fn has_tab(text: &[u8], from: usize, end: usize) -> bool
+    requires { ⌜ LineEnd (now text) from end ⌝ }
+    ensures { λ r. ⌜ r ≡ hasTab (slice from (end + 1) (now (text .entry))) ⌝ }
+{
+    base_text::fields::find(text, from, end, TAB) < end
+}
+
+pub fn has_trailing(text: &[u8], from: usize, end: usize) -> bool
+    requires { ⌜ LineEnd (now text) from end ⌝ }
+    ensures { λ r. ⌜ r ≡ hasTrailing (slice from (end + 1) (now (text .entry))) ⌝ }
+{
+    let stop = tucson_columns::line_stop(text, from, end);
+    tucson_columns::shown_end(text, from, stop) < stop
+}
+
+// Whether the one line, as it is shown, is line k of a header whose first line is the other.
+pub fn is_header_line(
+    text: &[u8],
+    first: usize,
+    past: usize,
+    k: u8,
+    from: usize,
+    end: usize,
+) -> bool
+    requires { ⌜ LineEnd (now text) first past × (LineEnd (now text) from end × (k < 10)) ⌝ }
+    ensures { λ r. ⌜ r ≡ isHeaderLine (shown (slice first (past + 1) (now (text .entry)))) k
+        (shown (slice from (end + 1) (now (text .entry)))) ⌝ }
+{
+    let mut head = [0; SHOWN];
+    let mut bytes = [0; SHOWN];
+    tucson_caption::header_line(text, first, past, k, from, end, &mut head, &mut bytes)
+}
+
+// What is shown of the part without a site name, at the front of an array.
+fn show(text: &[u8], from: usize, to: usize, bytes: &mut [u8]) -> Front
+    requires { ⌜ ShowAsks (now text) from to (now bytes) ⌝ }
+    ensures { λ r. ⌜ FrontTold (expanded 0 (slice from to (now (text .entry)))) r (now (bytes .exit)) ⌝ }
+{
+    let front = tucson_columns::expand(text, from, to, 0, LINE, bytes);
+    let at = front.at;
+    if at == to {
+        return Front::Fits(front.count, false);
+    }
+    if tucson_site::has_site(text, at, to) {
+        return Front::Fits(tucson_columns::trim_blanks(bytes, LINE), true);
+    }
+    let whole = tucson_columns::expand(text, at, to, LINE, SHOWN, bytes);
+    if whole.at == to {
+        return Front::Fits(whole.count, false);
+    }
+    Front::Long
+}
+
+// The strict line of a line of which so many bytes are shown at the front of an array.
+fn fit_line(
+    text: &[u8],
+    from: usize,
+    end: usize,
+    bytes: &[u8],
+    count: usize,
+    site: bool,
+    line: &mut [u8],
+) -> Strict
+    requires { ⌜ FitAsks (now text) from end (now bytes) count site (now line) ⌝ }
+    ensures { λ r. ⌜ StrictTold (slice from (end + 1) (now (text .entry))) r (now (bytes .entry)) (now (line .exit)) ⌝ }
+{
+    if tucson_strict::is_strict(bytes, count) {
+        tucson_masks::mask_bytes(bytes, count, line);
+        return Strict::Line(count, count, site);
+    }
+    if !tucson_strict::any_high(bytes, 0, count) {
+        return Strict::Malformed;
+    }
+    if has_tab(text, from, end) {
+        return Strict::NotAscii;
+    }
+    let n = tucson_masks::masked(bytes, count, line);
+    if n == tucson_masks::NO_LINE {
+        return Strict::NotAscii;
+    }
+    Strict::Line(count, n, site)
+}
+
+// The strict line of a line, in two lent arrays.
+fn strict_fields(text: &[u8], from: usize, end: usize, bytes: &mut [u8], line: &mut [u8]) -> Strict
+    requires { ⌜ StrictAsks (now text) from end (now bytes) (now line) ⌝ }
+    ensures { λ r. ⌜ StrictTold (slice from (end + 1) (now (text .entry))) r (now (bytes .exit)) (now (line .exit)) ⌝ }
+{
+    let to = tucson_columns::shown_to(text, from, end);
+    let front = show(text, from, to, bytes);
+    match front {
+        Front::Fits(count, site) => {
+            return fit_line(text, from, end, bytes, count, site, line);
+        }
+        Front::Long => {
+            if tucson_strict::any_high(text, from, to) {
+                return Strict::NotAscii;
+            }
+            return Strict::Malformed;
+        }
+    }
+}
+
+// The strict line that the line from the one index up to the other is: what is shown of it, and what it becomes, at the fronts of two arrays.
+pub fn strict_line(
+    text: &[u8],
+    from: usize,
+    end: usize,
+    bytes: &mut [u8; 96],
+    line: &mut [u8; 96],
+) -> Strict
+    requires { ⌜ LineEnd (now text) from end ⌝ }
+    ensures { λ r. ⌜ StrictTold (slice from (end + 1) (now (text .entry))) r (now (bytes .exit)) (now (line .exit)) ⌝ }
+{
+    strict_fields(text, from, end, bytes, line)
+}

@@ -1,0 +1,1 @@
+-- The contracts of tucson_strict cite the definitions of crate spec_tucson alone.

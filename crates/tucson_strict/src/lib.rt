@@ -1,0 +1,85 @@
+// Whether the bytes at the front of an array are a strict line: a name, a year and one to ten fields, each in its columns.
+ghost use mathlib.Core.Path.{_≡_};
+ghost use lib.ListN.{length, take};
+ghost use lib.Seq.{slice};
+ghost use Rattle.base_text.specs.Bytes.{Range};
+ghost use Rattle.spec_tucson.specs.Columns.{inColumns};
+ghost use Rattle.spec_tucson.specs.Line.{fieldNumerals};
+ghost use Rattle.spec_tucson.specs.StrictLine.{isSome, isStrict, anyHigh};
+ghost use Rattle.tucson_lines.specs.Machine.{FieldsWithin};
+ghost use Rattle.tucson_columns.specs.Machine.{cells};
+use base_text::numeral::Field;
+
+// The columns of a line with ten fields.
+const LINE: usize = 72;
+
+// The first byte that is not ASCII.
+const HIGH: u8 = 128;
+
+// Whether a number stands right-aligned in some columns.
+fn is_numeral(text: &[u8], from: usize, to: usize) -> bool
+    requires { ⌜ Range (now text) from to ⌝ }
+    ensures { λ r. ⌜ r ≡ isSome (inColumns (slice from to (now (text .entry)))) ⌝ }
+{
+    let field = tucson_lines::numeral(text, from, to);
+    match field {
+        Field::Bad => false,
+        Field::Numeral(_) => true,
+    }
+}
+
+// Whether the n fields from the index on are numbers.
+fn all_numerals(text: &[u8], from: usize, to: usize, n: usize) -> bool
+    requires { ⌜ FieldsWithin (now text) from to n ⌝ }
+    ensures { λ r. ⌜ r ≡ isSome (fieldNumerals n (slice from to (now (text .entry)))) ⌝ }
+{
+    let mut at = from;
+    let mut left = n;
+    while left > 0 {
+        if !is_numeral(text, at, at + tucson_lines::FIELD) {
+            return false;
+        }
+        at += tucson_lines::FIELD;
+        left -= 1;
+    }
+    true
+}
+
+// Whether the first n bytes are a strict line.
+pub fn is_strict(bytes: &[u8], n: usize) -> bool
+    requires { ⌜ length (now bytes) ≡ cells ⌝ }
+    ensures { λ r. ⌜ r ≡ isStrict (take n (now (bytes .entry))) ⌝ }
+{
+    if n < tucson_lines::HEAD + tucson_lines::FIELD {
+        return false;
+    }
+    if n > LINE {
+        return false;
+    }
+    let fields = (n - tucson_lines::HEAD) / tucson_lines::FIELD;
+    if n != tucson_lines::HEAD + fields * tucson_lines::FIELD {
+        return false;
+    }
+    if !tucson_lines::is_name(bytes, 0) {
+        return false;
+    }
+    if !is_numeral(bytes, tucson_lines::NAME, tucson_lines::HEAD) {
+        return false;
+    }
+    all_numerals(bytes, tucson_lines::HEAD, n, fields)
+}
+
+// Whether the part has a byte that is not ASCII.
+pub fn any_high(text: &[u8], from: usize, to: usize) -> bool
+    requires { ⌜ Range (now text) from to ⌝ }
+    ensures { λ r. ⌜ r ≡ anyHigh (slice from to (now (text .entry))) ⌝ }
+{
+    let mut i = from;
+    while i < to {
+        if text[i] >= HIGH {
+            return true;
+        }
+        i += 1;
+    }
+    false
+}

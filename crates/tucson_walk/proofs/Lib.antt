@@ -1,0 +1,11 @@
+-- Laws of the lines that are kept and of their series that the proofs of tucson_walk share.
+pub mod Kept
+pub mod Tracking
+pub mod Skips
+pub mod NextLines
+pub mod Looking
+pub mod Entering
+pub mod LineMarks
+pub mod Taking
+pub mod Steps
+pub mod SoFar
