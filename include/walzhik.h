@@ -2,7 +2,8 @@
  *
  * The static library libwalzhik.a has nine calls; ring indices are a library of their own, with walzhik_indices.h. Lists and
  * buffers may have any length and any content: a call always returns, reads and writes only what it is lent, and answers or
- * refuses with a number and a place. A list or buffer of length 0 still needs a valid (non-null, aligned) pointer. In every
+ * refuses with a number and a place. A list or buffer of length 0 may be a null pointer, as an empty std::vector gives: the
+ * functions at the end of this header lend the proved calls, which need a valid pointer, one of their own. In every
  * call the lent buffers must lie apart from each other and from the lists: no call can see that they overlap, and nothing is
  * promised where they do. Building and the curve call need at most 16,384 bytes of stack each. No call keeps anything for the
  * next.
@@ -59,9 +60,38 @@ extern "C" {
 #define WALZHIK_VERSION_MAJOR 2
 #define WALZHIK_VERSION_MINOR 0
 #define WALZHIK_VERSION_PATCH 0
+/* The same as a text, as "2.0.0". */
+#define WALZHIK_VERSION WALZHIK_TEXT_(WALZHIK_VERSION_MAJOR) "." WALZHIK_TEXT_(WALZHIK_VERSION_MINOR) "." WALZHIK_TEXT_(WALZHIK_VERSION_PATCH)
+#define WALZHIK_TEXT_(number) WALZHIK_TEXT_OF_(number)
+#define WALZHIK_TEXT_OF_(number) #number
 
 #define WALZHIK_CELLS 5184
 #define WALZHIK_LARGEST_PLACE UINT32_C(4294967295)
+
+/* The numbers of all refusals by name; what each means stands with the calls. */
+enum walzhik_number {
+    WALZHIK_ANSWER = 0,
+    WALZHIK_SHORT_BUFFER = 1,
+    WALZHIK_LENGTHS = 2,
+    WALZHIK_BREAKPOINT = 3,
+    WALZHIK_DEGREE = 4,
+    WALZHIK_ORDER = 5,
+    WALZHIK_COEFFICIENT = 6,
+    WALZHIK_POSITION = 7,
+    WALZHIK_TOO_LARGE = 8,
+    WALZHIK_JUMPS = 9,
+    WALZHIK_SHEET_LINE = 10,
+    WALZHIK_TUCSON_LINE = 11,
+    WALZHIK_TUCSON_YEAR = 12,
+    WALZHIK_TUCSON_CLOSING = 13,
+    WALZHIK_RING = 14,
+    WALZHIK_LONG_PART = 15,
+    WALZHIK_NEVER_REACHED = 16,
+    WALZHIK_NOT_DRAWN = 17,
+    WALZHIK_ORDINATE = 18,
+    WALZHIK_NO_COEFFICIENTS = 19,
+    WALZHIK_TOO_LARGE_TO_UNDO = 20
+};
 
 /* An answer: number 0, place 0, and the count of rows (build, coefficients), positions (curve), rings (the index calls), series
  * (tucson_read) or bytes (tucson_write). A refusal: count 0. */
@@ -185,6 +215,123 @@ walzhik_reply walzhik_coefficients(const int32_t *breaks, size_t breaks_len, con
                                    const int32_t *orders, size_t orders_len, const int32_t *ordinates, size_t ordinates_len,
                                    int64_t *num, size_t num_len, int64_t *den, size_t den_len, int64_t *coef_num,
                                    size_t coef_num_len, int64_t *coef_den, size_t coef_den_len);
+
+/* The calls as programs use them: a list or buffer of length 0 may be a null pointer. Each name above stands for the function below,
+ * which lends the proved call a valid pointer in its place; with WALZHIK_PROVED_CALLS defined it is the proved call itself. */
+#ifndef WALZHIK_PROVED_CALLS
+static inline void *walzhik_lent(const void *list, size_t list_len)
+{
+    static int64_t nothing;
+    return list_len == 0 ? (void *)&nothing : (void *)list;
+}
+#define WALZHIK_LEND_(type, list) (type *)walzhik_lent(list, list##_len), list##_len
+
+static inline walzhik_reply walzhik_build_lent(const int32_t *breaks, size_t breaks_len, const int32_t *degrees,
+                                               size_t degrees_len, const int32_t *orders, size_t orders_len,
+                                               int64_t *num, size_t num_len, int64_t *den, size_t den_len)
+{
+    return walzhik_build(WALZHIK_LEND_(const int32_t, breaks), WALZHIK_LEND_(const int32_t, degrees),
+                         WALZHIK_LEND_(const int32_t, orders), WALZHIK_LEND_(int64_t, num),
+                         WALZHIK_LEND_(int64_t, den));
+}
+#define walzhik_build walzhik_build_lent
+
+static inline walzhik_reply walzhik_curve_lent(const int32_t *breaks, size_t breaks_len, const int32_t *degrees,
+                                               size_t degrees_len, const int32_t *orders, size_t orders_len,
+                                               const int32_t *coefs, size_t coefs_len, const int32_t *positions,
+                                               size_t positions_len, int64_t *num, size_t num_len, int64_t *den,
+                                               size_t den_len, int32_t *values, size_t values_len)
+{
+    return walzhik_curve(WALZHIK_LEND_(const int32_t, breaks), WALZHIK_LEND_(const int32_t, degrees),
+                         WALZHIK_LEND_(const int32_t, orders), WALZHIK_LEND_(const int32_t, coefs),
+                         WALZHIK_LEND_(const int32_t, positions), WALZHIK_LEND_(int64_t, num),
+                         WALZHIK_LEND_(int64_t, den), WALZHIK_LEND_(int32_t, values));
+}
+#define walzhik_curve walzhik_curve_lent
+
+static inline walzhik_reply walzhik_tucson_read_lent(const uint8_t *text, size_t text_len, uint8_t *names,
+                                                     size_t names_len, int32_t *years, size_t years_len,
+                                                     uint32_t *counts, size_t counts_len, int32_t *widths,
+                                                     size_t widths_len)
+{
+    return walzhik_tucson_read(WALZHIK_LEND_(const uint8_t, text), WALZHIK_LEND_(uint8_t, names),
+                               WALZHIK_LEND_(int32_t, years), WALZHIK_LEND_(uint32_t, counts),
+                               WALZHIK_LEND_(int32_t, widths));
+}
+#define walzhik_tucson_read walzhik_tucson_read_lent
+
+static inline walzhik_reply walzhik_tucson_write_lent(const uint8_t *names, size_t names_len, const int32_t *years,
+                                                      size_t years_len, const uint32_t *counts, size_t counts_len,
+                                                      const int32_t *widths, size_t widths_len, uint8_t *text,
+                                                      size_t text_len)
+{
+    return walzhik_tucson_write(WALZHIK_LEND_(const uint8_t, names), WALZHIK_LEND_(const int32_t, years),
+                                WALZHIK_LEND_(const uint32_t, counts), WALZHIK_LEND_(const int32_t, widths),
+                                WALZHIK_LEND_(uint8_t, text));
+}
+#define walzhik_tucson_write walzhik_tucson_write_lent
+
+static inline walzhik_reach walzhik_earlywood_reach_lent(const int32_t *breaks, size_t breaks_len,
+                                                         const int32_t *degrees, size_t degrees_len,
+                                                         const int32_t *orders, size_t orders_len, const int32_t *coefs,
+                                                         size_t coefs_len, int32_t width, int64_t *num, size_t num_len,
+                                                         int64_t *den, size_t den_len)
+{
+    return walzhik_earlywood_reach(WALZHIK_LEND_(const int32_t, breaks), WALZHIK_LEND_(const int32_t, degrees),
+                                   WALZHIK_LEND_(const int32_t, orders), WALZHIK_LEND_(const int32_t, coefs), width,
+                                   WALZHIK_LEND_(int64_t, num), WALZHIK_LEND_(int64_t, den));
+}
+#define walzhik_earlywood_reach walzhik_earlywood_reach_lent
+
+static inline walzhik_reach walzhik_latewood_reach_lent(const int32_t *breaks, size_t breaks_len,
+                                                        const int32_t *degrees, size_t degrees_len,
+                                                        const int32_t *orders, size_t orders_len, const int32_t *coefs,
+                                                        size_t coefs_len, int32_t width, int64_t *num, size_t num_len,
+                                                        int64_t *den, size_t den_len)
+{
+    return walzhik_latewood_reach(WALZHIK_LEND_(const int32_t, breaks), WALZHIK_LEND_(const int32_t, degrees),
+                                  WALZHIK_LEND_(const int32_t, orders), WALZHIK_LEND_(const int32_t, coefs), width,
+                                  WALZHIK_LEND_(int64_t, num), WALZHIK_LEND_(int64_t, den));
+}
+#define walzhik_latewood_reach walzhik_latewood_reach_lent
+
+static inline walzhik_piece walzhik_earlywood_piece_lent(const int32_t *breaks, size_t breaks_len,
+                                                         const int32_t *degrees, size_t degrees_len,
+                                                         const int32_t *orders, size_t orders_len, const int32_t *coefs,
+                                                         size_t coefs_len, uint32_t segment, int64_t *num,
+                                                         size_t num_len, int64_t *den, size_t den_len)
+{
+    return walzhik_earlywood_piece(WALZHIK_LEND_(const int32_t, breaks), WALZHIK_LEND_(const int32_t, degrees),
+                                   WALZHIK_LEND_(const int32_t, orders), WALZHIK_LEND_(const int32_t, coefs), segment,
+                                   WALZHIK_LEND_(int64_t, num), WALZHIK_LEND_(int64_t, den));
+}
+#define walzhik_earlywood_piece walzhik_earlywood_piece_lent
+
+static inline walzhik_piece walzhik_latewood_piece_lent(const int32_t *breaks, size_t breaks_len,
+                                                        const int32_t *degrees, size_t degrees_len,
+                                                        const int32_t *orders, size_t orders_len, const int32_t *coefs,
+                                                        size_t coefs_len, uint32_t segment, int64_t *num,
+                                                        size_t num_len, int64_t *den, size_t den_len)
+{
+    return walzhik_latewood_piece(WALZHIK_LEND_(const int32_t, breaks), WALZHIK_LEND_(const int32_t, degrees),
+                                  WALZHIK_LEND_(const int32_t, orders), WALZHIK_LEND_(const int32_t, coefs), segment,
+                                  WALZHIK_LEND_(int64_t, num), WALZHIK_LEND_(int64_t, den));
+}
+#define walzhik_latewood_piece walzhik_latewood_piece_lent
+
+static inline walzhik_reply walzhik_coefficients_lent(const int32_t *breaks, size_t breaks_len, const int32_t *degrees,
+                                                      size_t degrees_len, const int32_t *orders, size_t orders_len,
+                                                      const int32_t *ordinates, size_t ordinates_len, int64_t *num,
+                                                      size_t num_len, int64_t *den, size_t den_len, int64_t *coef_num,
+                                                      size_t coef_num_len, int64_t *coef_den, size_t coef_den_len)
+{
+    return walzhik_coefficients(WALZHIK_LEND_(const int32_t, breaks), WALZHIK_LEND_(const int32_t, degrees),
+                                WALZHIK_LEND_(const int32_t, orders), WALZHIK_LEND_(const int32_t, ordinates),
+                                WALZHIK_LEND_(int64_t, num), WALZHIK_LEND_(int64_t, den),
+                                WALZHIK_LEND_(int64_t, coef_num), WALZHIK_LEND_(int64_t, coef_den));
+}
+#define walzhik_coefficients walzhik_coefficients_lent
+#endif /* WALZHIK_PROVED_CALLS */
 
 #ifdef __cplusplus
 }

@@ -35,6 +35,42 @@ walzhik_reply walzhik_latewood_indices(const int32_t *breaks, size_t breaks_len,
                                        size_t num_len, int64_t *den, size_t den_len, int32_t *values, size_t values_len,
                                        int64_t *indices, size_t indices_len);
 
+/* As in walzhik.h: a list or buffer of length 0 may be a null pointer. */
+#ifndef WALZHIK_PROVED_CALLS
+static inline walzhik_reply walzhik_earlywood_indices_lent(const int32_t *breaks, size_t breaks_len,
+                                                           const int32_t *degrees, size_t degrees_len,
+                                                           const int32_t *orders, size_t orders_len,
+                                                           const int32_t *coefs, size_t coefs_len, int32_t first,
+                                                           const int32_t *widths, size_t widths_len, int64_t *num,
+                                                           size_t num_len, int64_t *den, size_t den_len,
+                                                           int32_t *values, size_t values_len, int64_t *indices,
+                                                           size_t indices_len)
+{
+    return walzhik_earlywood_indices(WALZHIK_LEND_(const int32_t, breaks), WALZHIK_LEND_(const int32_t, degrees),
+                                     WALZHIK_LEND_(const int32_t, orders), WALZHIK_LEND_(const int32_t, coefs), first,
+                                     WALZHIK_LEND_(const int32_t, widths), WALZHIK_LEND_(int64_t, num),
+                                     WALZHIK_LEND_(int64_t, den), WALZHIK_LEND_(int32_t, values),
+                                     WALZHIK_LEND_(int64_t, indices));
+}
+#define walzhik_earlywood_indices walzhik_earlywood_indices_lent
+
+static inline walzhik_reply walzhik_latewood_indices_lent(const int32_t *breaks, size_t breaks_len,
+                                                          const int32_t *degrees, size_t degrees_len,
+                                                          const int32_t *orders, size_t orders_len,
+                                                          const int32_t *coefs, size_t coefs_len, int32_t first,
+                                                          const int32_t *widths, size_t widths_len, int64_t *num,
+                                                          size_t num_len, int64_t *den, size_t den_len, int32_t *values,
+                                                          size_t values_len, int64_t *indices, size_t indices_len)
+{
+    return walzhik_latewood_indices(WALZHIK_LEND_(const int32_t, breaks), WALZHIK_LEND_(const int32_t, degrees),
+                                    WALZHIK_LEND_(const int32_t, orders), WALZHIK_LEND_(const int32_t, coefs), first,
+                                    WALZHIK_LEND_(const int32_t, widths), WALZHIK_LEND_(int64_t, num),
+                                    WALZHIK_LEND_(int64_t, den), WALZHIK_LEND_(int32_t, values),
+                                    WALZHIK_LEND_(int64_t, indices));
+}
+#define walzhik_latewood_indices walzhik_latewood_indices_lent
+#endif /* WALZHIK_PROVED_CALLS */
+
 #ifdef __cplusplus
 }
 #endif

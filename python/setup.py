@@ -8,6 +8,7 @@ from pathlib import Path
 
 from setuptools import setup
 from setuptools.command.build_py import build_py
+from wheel.bdist_wheel import bdist_wheel
 
 HERE = Path(__file__).resolve().parent
 sys.path.insert(0, str(HERE / "src" / "walzhik"))
@@ -31,6 +32,20 @@ class BuildWithEngine(build_py):
             shutil.copy(path, native / path.name)
 
 
+class WheelOfThisMachine(bdist_wheel):
+    """A wheel whose name says which machines its code is for; any Python 3 loads it."""
+
+    def finalize_options(self) -> None:
+        super().finalize_options()
+        self.root_is_pure = False
+
+    def get_tag(self) -> tuple[str, str, str]:
+        return "py3", "none", super().get_tag()[2]
+
+
 HEADER = HERE.parent / "include" / "walzhik.h"
 
-setup(version=_build.version(HEADER.read_text(encoding="ascii")), cmdclass={"build_py": BuildWithEngine})
+setup(
+    version=_build.version(HEADER.read_text(encoding="ascii")),
+    cmdclass={"build_py": BuildWithEngine, "bdist_wheel": WheelOfThisMachine},
+)

@@ -9,8 +9,10 @@ fn main() {
         None => PathBuf::from(env!("CARGO_MANIFEST_DIR")).join("../target/staticlib"),
     };
     for library in ["libwalzhik.a", "libwalzhik_indices.a"] {
+        let archive = folder.join(library);
+        println!("cargo:rerun-if-changed={}", archive.display());
         assert!(
-            folder.join(library).exists(),
+            archive.exists(),
             "no {library} in {}: build it with rt staticlib walzhik and rt staticlib walzhik_indices, or set WALZHIK_LIB",
             folder.display()
         );

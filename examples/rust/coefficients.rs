@@ -2,6 +2,7 @@
 //! which are multiplied by their common denominator; from these whole numbers the call gives the coefficients back. Then one
 //! ordinate is off by one, which no coefficients give. Prints the list of each step, a line each.
 
+#[allow(dead_code)] // the example needs some of the calls
 #[path = "../../rust/src/lib.rs"]
 mod walzhik;
 
@@ -34,7 +35,7 @@ fn add_product(sum: Fraction, a: Fraction, b: Fraction) -> Fraction {
 
 /// The rows' combination: an exact ordinate for each column.
 fn combined(weights: &walzhik::Weights) -> Vec<Fraction> {
-    let on = |column| COEFS.iter().enumerate().fold(whole(0), |sum, (row, coef)| add_product(sum, *coef, weights.at(row, column)));
+    let on = |column| COEFS.iter().enumerate().fold(whole(0), |sum, (row, coef)| add_product(sum, *coef, weights.at(row, column).expect("a weight of the part")));
     (0..COLUMNS).map(on).collect()
 }
 

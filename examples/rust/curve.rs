@@ -1,5 +1,6 @@
 //! The curves of case W1 from Rust, each coefficient for both wood parts: prints a position with its two values a line.
 
+#[allow(dead_code)] // the example needs some of the calls
 #[path = "../../rust/src/lib.rs"]
 mod walzhik;
 

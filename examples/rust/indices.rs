@@ -1,5 +1,6 @@
 //! The indices of two measured rings against the earlywood curve of case W1, from Rust: prints ring and index, one pair a line.
 
+#[allow(dead_code)] // the example needs some of the calls
 #[path = "../../rust/src/lib.rs"]
 mod walzhik;
 

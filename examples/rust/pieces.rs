@@ -1,5 +1,6 @@
 //! The pieces of case W1's earlywood curve as SVG path commands, from Rust: one piece a line.
 
+#[allow(dead_code)] // the example needs some of the calls
 #[path = "../../rust/src/lib.rs"]
 mod walzhik;
 

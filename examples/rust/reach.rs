@@ -1,5 +1,6 @@
 //! When the curves of case W9, with a discontinuity at ring 1, reach some widths, from Rust: prints width and position, one pair a line.
 
+#[allow(dead_code)] // the example needs some of the calls
 #[path = "../../rust/src/lib.rs"]
 mod walzhik;
 

@@ -1,6 +1,7 @@
 //! Tucson decadal files from Rust: reads a text on standard input, prints a line name,first year,count for each series, then the
 //! same series as they are written, in thousandths.
 
+#[allow(dead_code)] // the example needs some of the calls
 #[path = "../../rust/src/lib.rs"]
 mod walzhik;
 

@@ -13,6 +13,7 @@ from walzhik.tucson import Series
 
 OAK = "examples/tucson/oak.rwl"
 ROOF = "examples/sheets/roof.sheet"
+GROWTH = "examples/sheets/growth.sheet"
 PARTS = ("--earlywood", "ROOF04E", "--latewood", "ROOF04L")
 REFUSED, UNUSABLE = 1, 2
 

@@ -3,36 +3,48 @@ change, what a record keeps, a task that kills its workers, and the page."""
 
 from __future__ import annotations
 
+import errno
 import gzip
 import io
 import os
+import pickle
+import signal
+import socket
+import subprocess
+import sys
 from collections import Counter
 from html.parser import HTMLParser
 from pathlib import Path
 
 import pytest
-from bankruns import python, refusals, report, started
+from bankruns import environment, python, refusals, report, started
 from hypothesis import given
 from hypothesis import strategies as st
 
 from walzhik import tucson
-from walzhik.bank import local, reading, sketch
+from walzhik.bank import local, lock, reading, sketch
 from walzhik.bank.inputs import Input, found, shown, stem
 from walzhik.bank.options import Options, version
-from walzhik.bank.page import page
+from walzhik.bank.outputs import Halt
+from walzhik.bank.page import About, page
 from walzhik.bank.progress import Progress
 from walzhik.bank.records import Record, Row
 from walzhik.bank.report import Summary, kind, rows_of
-from walzhik.bank.task import Halt, Task, run
+from walzhik.bank.task import Reply, Task, WrongCopy, run
 from walzhik.failures import Unusable
+from walzhik.threads import ONE_THREAD
 from walzhik.tucson import Series
 
 TEXT = tucson.write([Series("FEW", 1998, [12, 9, 7])])
 EVIL = "<script>alert('x')</script>&\".rwl"
 
 
-def paths(inputs: list[Input]) -> list[tuple[str, bool]]:
-    return [(each.path, bool(each.complaint)) for each in inputs]
+def paths(found: tuple[list[Input], list[str]]) -> list[tuple[str, bool]]:
+    return [(each.path, bool(each.complaint)) for each in found[0]]
+
+
+def recorded(reply: Reply) -> Record:
+    return Record.read(reply.line)
 
 
 def put(path: Path, data: bytes = TEXT) -> Path:
@@ -91,7 +103,7 @@ def test_lists(tmp_path: Path, monkeypatch: pytest.MonkeyPatch) -> None:
     with pytest.raises(Unusable, match="goes up"):
         found(["../x.rwl"], "out")
     with pytest.raises(Unusable, match="an input is a folder"):
-        found(["in/a.csv"], "out")
+        found(["in/a.crn"], "out")
     with pytest.raises(Unusable, match="would both have the place a.rwl"):
         put(Path("other/a.rwl"))
         found(["in", "other"], "out")
@@ -102,7 +114,7 @@ def test_complaints(tmp_path: Path) -> None:
     put(tmp_path / "x.rwl")
     put(tmp_path / "x.rwl.gz", gzip.compress(TEXT))
     put(tmp_path / "report.csv/y.rwl")
-    said = {each.path: each.complaint for each in found([str(tmp_path)], "/nowhere")}
+    said = {each.path: each.complaint for each in found([str(tmp_path)], "/nowhere").inputs}
     assert said == {
         "pipe.rwl": "It is no plain file.",
         "x.rwl": "",
@@ -116,6 +128,45 @@ def test_any_name_can_be_shown(name: bytes) -> None:
     text = shown(os.fsdecode(name + b".rwl"))
     assert text.isprintable() and text.encode("utf-8")
     assert stem(os.fsdecode(name + b".rwl")) == os.fsdecode(name)
+
+
+def test_one_entry_one_complaint(tmp_path: Path) -> None:
+    for name in ("a.rwl", "b/c.rwl", ".rwl", "b/.rwl.gz"):
+        put(tmp_path / "in" / name)
+    os.symlink("loop", tmp_path / "in/loop")
+    os.symlink("self.rwl", tmp_path / "in/b/self.rwl")
+    os.symlink("a.rwl/x", tmp_path / "in/into")
+    said = {each.path: each.complaint for each in found([str(tmp_path / "in")], "/nowhere").inputs}
+    assert said == {
+        "a.rwl": "",
+        "b/c.rwl": "",
+        ".rwl": "It has no name before .rwl. Give it one.",
+        "b/.rwl.gz": "It has no name before .rwl.gz. Give it one.",
+        "loop": "It can't be read: Too many levels of symbolic links.",
+        "b/self.rwl": "It can't be read: Too many levels of symbolic links.",
+        "into": "It can't be read: Not a directory.",
+    }
+
+
+def test_the_output_of_an_earlier_run_is_no_input(tmp_path: Path) -> None:
+    put(tmp_path / "in/a.rwl")
+    put(tmp_path / "in/old/a.indices.rwl")
+    put(tmp_path / "in/old/manifest.jsonl", Record("a.rwl").line())
+    put(tmp_path / "in/other/manifest.jsonl", b"another program's")
+    put(tmp_path / "in/other/b.rwl")
+    inputs, notes = found([str(tmp_path / "in")], str(tmp_path / "out"))
+    assert [each.path for each in inputs] == ["a.rwl", "other/b.rwl"]
+    assert notes == ["old/ is the output folder of an earlier run, and is not searched."]
+
+
+def test_sources_are_from_the_root_and_large_ones_known(tmp_path: Path, monkeypatch: pytest.MonkeyPatch) -> None:
+    monkeypatch.chdir(tmp_path)
+    put(Path("in/a.rwl"), TEXT * 9)
+    put(Path("in/b.rwl.gz"), TEXT * 3)
+    for given in (["in"], ["in/a.rwl", "in/b.rwl.gz"]):
+        inputs = found(given, "out").inputs
+        assert [each.source for each in inputs] == [str(tmp_path / "in/a.rwl"), str(tmp_path / "in/b.rwl.gz")]
+        assert inputs[0].size == 9 * len(TEXT) < inputs[1].size
 
 
 # What is read.
@@ -176,19 +227,19 @@ def test_damage_of_a_packed_file_is_seen(place: int, flip: int) -> None:
 
 @pytest.fixture
 def task(tmp_path: Path, monkeypatch: pytest.MonkeyPatch) -> Task:
-    for name, number in local.ONE_THREAD.items():
+    for name, number in ONE_THREAD.items():
         monkeypatch.setenv(name, number)
-    put(tmp_path / "out/journal.jsonl", b"token\n")
+    (tmp_path / "out").mkdir()
     source = Input("x.rwl", str(put(tmp_path / "x.rwl")))
-    return Task(source, str(tmp_path / "out"), Options(), version(), "token")
+    return Task(source, str(tmp_path / "out"), Options(), version(), lock.begin(tmp_path / "out"))
 
 
 def test_a_task_asks_its_worker(task: Task, monkeypatch: pytest.MonkeyPatch) -> None:
-    assert Record.read(run(task)).rows[0][:4] == ("FEW", 3, 2, "")
+    assert recorded(run(task)).rows[0][:4] == ("FEW", 3, 2, "")
     with pytest.raises(Halt, match="another version"):
         run(task._replace(version="0"))
     with pytest.raises(Halt, match="does not see the output folder"):
-        run(task._replace(token="another"))
+        run(task._replace(number="another"))
     with pytest.raises(Halt, match="does not see the output folder"):
         run(task._replace(output="/nowhere"))
     monkeypatch.setenv("OPENBLAS_NUM_THREADS", "2")
@@ -201,13 +252,13 @@ def test_a_fault_is_told_and_the_rest_goes_on(task: Task, monkeypatch: pytest.Mo
         raise ZeroDivisionError("of all things")
 
     monkeypatch.setattr("walzhik.tucson.clean", fault)
-    record = Record.read(run(task))
+    record = recorded(run(task))
     assert not record.digest and record.refusal.startswith("A fault of the program itself, ZeroDivisionError")
 
 
 def test_names_in_the_way_concern_one_file(task: Task) -> None:
     (Path(task.output) / "x.indices.csv").mkdir()
-    record = Record.read(run(task))
+    record = recorded(run(task))
     assert not record.digest and record.refusal.startswith("Its outputs can't be written: ")
 
 
@@ -215,21 +266,21 @@ def test_series_of_one_name_are_refused(task: Task) -> None:
     strict = task._replace(options=Options(strict=True))
     other = tucson.write([Series("B", 1998, [12, 9, 7])])
     Path(task.input.source).write_bytes(TEXT + other + TEXT)
-    rows = Record.read(run(strict)).rows
+    rows = recorded(run(strict)).rows
     assert [(row.name, bool(row.refusal)) for row in rows] == [("B", False), ("FEW", True), ("FEW", True)]
     assert rows[1].refusal == "2 series of the file are named FEW. Give each its own name."
 
 
 def test_names_of_series_make_safe_files(task: Task) -> None:
     Path(task.input.source).write_bytes(tucson.write([Series("../A/b", 1998, [12, 9, 7]), Series("..", 1998, [5, 6])]))
-    outputs = Record.read(run(task)).outputs
+    outputs = recorded(run(task)).outputs
     assert sorted(outputs) == ["x.indices.csv", "x.sheets/..%2FA%2Fb.sheet", "x.sheets/...sheet"]
 
 
 def test_a_zero_index_has_no_place_in_a_tucson_text(task: Task) -> None:
     Path(task.input.source).write_bytes(tucson.write([Series("Z", 1, [9000, 1, 9000, 9000]), Series("Y", 1, [50, 50])]))
     lists: tuple[list[int], list[int], list[int], list[tuple[int, int]]] = ([0, 9], [1], [], [(9000, 9000)] * 2)
-    record = Record.read(run(task._replace(options=Options(ending="rwl", sheet=lists))))
+    record = recorded(run(task._replace(options=Options(ending="rwl", sheet=lists))))
     assert [(row.name, row.n, bool(row.refusal)) for row in record.rows] == [("Y", 2, False), ("Z", None, True)]
     assert "Series Z, 2: the index is 0" in record.rows[1].refusal
     assert sorted(record.outputs) == ["x.indices.rwl"]
@@ -237,17 +288,86 @@ def test_a_zero_index_has_no_place_in_a_tucson_text(task: Task) -> None:
 
 def test_records_survive_any_text() -> None:
     for path in ("x.rwl", "\udcff\n\u2028.rwl", EVIL):
-        record = Record(path, "1f", rows=[Row("A", 3, None, "no\n", 0.5)], changes=["a"], outputs={path: "2e"})
+        record = Record(path, "1f", rows=[Row("A", 3, None, "no\n", seconds=0.5)], changes=["a"], outputs={path: "2e"})
         assert record.line().count(b"\n") == 1 and Record.read(record.line()) == record
     for line in (b"", b"{}", b"[]", b'{"path":"x"', b"\xff\n", b'{"path":"x","more":1}'):
         with pytest.raises(ValueError):
             Record.read(line)
 
 
+def test_another_file_is_refused_by_machine_and_path(task: Task) -> None:
+    digest = reading.read(task.input.source).digest
+    assert recorded(run(task._replace(digest=digest))).digest == digest
+    put(Path(task.input.source), TEXT.replace(b"12", b"13"))
+    with pytest.raises(WrongCopy, match=f"Machine {socket.gethostname()} has another file at {task.input.source} than"):
+        run(task._replace(digest=digest))
+
+
+def test_a_refused_file_has_no_outputs(task: Task) -> None:
+    assert recorded(run(task)).outputs
+    put(Path(task.output) / "x.indices.rwl", b"of another run")
+    assert sorted(path.name for path in Path(task.output).iterdir()) == [
+        "run.lock",
+        "x.indices.csv",
+        "x.indices.rwl",
+        "x.sheets",
+    ]
+    put(Path(task.input.source), b"nothing\n")
+    record = recorded(run(task))
+    assert record.number == 11 and not record.outputs
+    assert [path.name for path in Path(task.output).iterdir()] == ["run.lock"]
+
+
+def test_words_hold_no_temporary_names(task: Task) -> None:
+    (Path(task.output) / "x.sheets").write_bytes(b"in the way")
+    words = recorded(run(task)).refusal
+    assert words == (
+        f"Its outputs can't be written: {task.output}/x.sheets/FEW.sheet: Not a directory. "
+        "Give the file or the folder another name."
+    )
+
+
+def test_too_many_open_files_are_not_the_files_fault(task: Task, monkeypatch: pytest.MonkeyPatch) -> None:
+    assert recorded(run(task)).outputs
+
+    def none(*_: object) -> int:
+        raise OSError(errno.EMFILE, os.strerror(errno.EMFILE))
+
+    with monkeypatch.context() as patch:
+        patch.setattr("walzhik.bank.reading.os.open", none)
+        with pytest.raises(Halt):
+            run(task)
+    assert (Path(task.output) / "x.indices.csv").exists()
+
+
+def test_a_worker_that_outlived_its_run_writes_nothing(task: Task, tmp_path: Path) -> None:
+    """A worker is stopped when its outputs are written and not yet named; then another run begins, and it goes on."""
+    script = "import os, pickle, signal, sys\nfrom walzhik.bank import lock, task\nplain, count = lock.held, []\n"
+    script += "def held(*given):\n    count.append(1)\n"
+    script += "    if len(count) == 2: os.kill(os.getpid(), signal.SIGSTOP)\n    return plain(*given)\n"
+    script += "lock.held = held\ntask.run(pickle.load(open(sys.argv[1], 'rb')))\n"
+    put(tmp_path / "task", pickle.dumps(task))
+    called = [sys.executable, "-c", script, str(tmp_path / "task")]
+    orphan = subprocess.Popen(called, env=environment() | ONE_THREAD, stderr=subprocess.PIPE)
+    _, status = os.waitpid(orphan.pid, os.WUNTRACED)
+    assert os.WIFSTOPPED(status) and list(Path(task.output).glob(".walzhik-*.part"))
+    newer = task._replace(number=lock.begin(Path(task.output)), options=Options(first=1))
+    record = recorded(run(newer))
+    os.kill(orphan.pid, signal.SIGCONT)
+    _, said = orphan.communicate(timeout=60)
+    assert orphan.returncode != 0 and b"is over" in said
+    for path, made in record.outputs.items():
+        assert reading.digest_of((Path(task.output) / path).read_bytes()) == made
+    assert not list(Path(task.output).rglob(".walzhik-*.part"))
+
+
 # Workers.
 
 
-def test_a_task_that_kills_its_workers_is_given_up(task: Task, monkeypatch: pytest.MonkeyPatch, tmp_path: Path) -> None:
+@pytest.mark.parametrize("is_copied", [True, False])
+def test_a_task_that_kills_its_workers_is_given_up(
+    task: Task, monkeypatch: pytest.MonkeyPatch, tmp_path: Path, is_copied: bool
+) -> None:
     killer = "import os, signal, sys\nfrom walzhik.bank import worker\nplain = worker.run\n"
     killer += "def run(task):\n    if 'bad' in task.input.path: os.kill(os.getpid(), signal.SIGKILL)\n"
     killer += "    return plain(task)\nworker.run = run\nworker.main(int(sys.argv[1]))\n"
@@ -257,6 +377,13 @@ def test_a_task_that_kills_its_workers_is_given_up(task: Task, monkeypatch: pyte
     def started_with_killer(arguments: list[str], **given: object) -> object:
         return popen([arguments[0], str(script), arguments[-1]], **given)  # type: ignore[call-overload]
 
+    def run_or_die(given: Task) -> Reply:
+        if "bad" in given.input.path:
+            os.kill(os.getpid(), signal.SIGKILL)
+        return run(given)
+
+    monkeypatch.setattr(local, "is_one_thread", lambda: is_copied)
+    monkeypatch.setattr(local.worker, "run", run_or_die)
     monkeypatch.setattr(local.subprocess, "Popen", started_with_killer)
     workers = local.LocalWorkers(2)
     try:
@@ -264,7 +391,8 @@ def test_a_task_that_kills_its_workers_is_given_up(task: Task, monkeypatch: pyte
             workers.give(task._replace(input=Input(path, task.input.source)))
         lines = []
         while workers.is_busy():
-            lines.append(Record.read(workers.take()))
+            reply = workers.take(60)
+            lines += [] if reply is None else [recorded(reply)]
     finally:
         workers.close()
     said = {record.path: record.refusal for record in lines}
@@ -279,11 +407,12 @@ def test_a_worker_that_cannot_start_ends_the_run(task: Task, monkeypatch: pytest
     def started_wrongly(arguments: list[str], **given: object) -> object:
         return popen([arguments[0], "-c", "raise SystemExit(3)"], **given)  # type: ignore[call-overload]
 
+    monkeypatch.setattr(local, "is_one_thread", lambda: False)
     monkeypatch.setattr(local.subprocess, "Popen", started_wrongly)
     workers = local.LocalWorkers(1)
     workers.give(task)
     with pytest.raises(Halt, match="with status 3"):
-        workers.take()
+        workers.take(60)
     workers.close()
 
 
@@ -352,7 +481,8 @@ def test_the_pages_numbers() -> None:
     assert summary.reasons == {"Series ..: no fit. It has .. ring: so.": 300, "It can't be read: Permission denied.": 1}
     assert [slow.seconds for slow in summary.slowest] == [float(number) for number in range(299, 289, -1)]
     assert len(summary.pictures) == len(set(summary.pictures)) == 12
-    text = page(summary, "t", [])
+    text = page(summary, About.now("t", ["/in"], Options(first=3)), [])
+    assert "/in" in text and "first 3" in text
     assert "report.csv has 101 more" in text and "600" not in text.split("</dl>")[0].replace("66rem", "")
     assert sum(count for _, _, count in sketch.bins(summary.lengths)) == 600
     assert len(sketch.bins(summary.lengths)) <= sketch.MOST_BARS
@@ -366,12 +496,12 @@ def test_kinds_of_refusals_leave_out_names_and_numbers() -> None:
 
 def test_the_report_takes_any_text() -> None:
     record = Record('a,"b".rwl', refusal="one, two", changes=["x", "y"], seconds=1.0)
-    assert rows_of(record) == '"a,""b"".rwl",,0,,"one, two",x y,1.0000\n'
+    assert rows_of(record) == '"a,""b"".rwl",,,,0,,,,,,"one, two",x y,1.0000\n'
 
 
 def test_nothing_to_do(tmp_path: Path) -> None:
     ended = started(tmp_path, tmp_path.parent / f"{tmp_path.name}-out")
-    assert ended.returncode == 2 and ended.stderr == "There is no file that ends in .rwl or .rwl.gz.\n"
+    assert ended.returncode == 2 and ended.stderr == "There is no file that ends in .rwl, .fh, .rwl.gz or .fh.gz.\n"
     os.mkfifo(tmp_path / "pipe.rwl")
     ended = started(tmp_path, tmp_path.parent / f"{tmp_path.name}-out")
     assert ended.returncode == 2

@@ -14,7 +14,7 @@ from commandline import OAK, PARTS, REFUSED, ROOF, UNUSABLE, line_sheet, rwl, ta
 from conftest import ROOT, Run
 
 from walzhik import tucson
-from walzhik.sheet import read
+from walzhik.sheet import Sheet, read
 from walzhik.tucson import Series
 
 HALF_A_MILLIONTH = 0.5000001e-6
@@ -121,12 +121,14 @@ def test_fits(run: Run, tmp_path: Path) -> None:
     assert run("indices", OAK, "--fit", *straight).out != ended.out
 
 
-def test_many_fits_are_told_in_three_lines(run: Run, tmp_path: Path) -> None:
+def test_many_fits_are_told_in_few_lines(run: Run, tmp_path: Path) -> None:
     random = np.random.default_rng(1)
     data = rwl(tmp_path, *(Series(f"S{number:03}", 1900, random.integers(500, 900, 30)) for number in range(40)))
     ended = run("indices", data, "--fit")
     assert (
-        ended.status == 0 and "40 series are fitted. Worst, series S" in ended.err and len(ended.err.splitlines()) == 3
+        ended.status == 0
+        and "40 series are fitted, 39 falling, 1 hump. Worst, Series S" in ended.err
+        and len(ended.err.splitlines()) == 5
     )
 
 
@@ -159,8 +161,18 @@ def test_more_rings_than_a_call_takes(run: Run, tmp_path: Path) -> None:
     scars = ("--breaks", "1,2000,4000,5000", "--degrees", "1,1,1", "--orders", "-1,-1")
     assert run("fit", data, *scars, "-o", sheet).status == 0
     ended = run("indices", data, "--curve", sheet)
+    rows = table(ended.out)
+    assert ended.status == 0 and [row["index"] for row in rows] == ["1000"] * 4097 and rows[-1]["year"] == "4097"
+    assert run("indices", data, "--fit", *scars).out == ended.out
+    assert run("plot", sheet, data, "-o", tmp_path / "beam.png").status == 0
+
+
+def test_a_refusal_behind_the_first_call_has_its_own_ring(run: Run, tmp_path: Path) -> None:
+    data, sheet = rwl(tmp_path, Series("LONG", 1, [700] * 4999)), line_sheet(tmp_path, [1, 9], [(1, 1), (1, 1)])
+    sheet.write_bytes(Sheet([1, 2000, 4000, 4998], [1] * 3, [-1, -1], [(700, 700)] * 6).text())
+    ended = run("indices", data, "--curve", sheet)
     assert (
-        ended.status == REFUSED and "no=2,1" in ended.err and "4,097 rings: one call takes at most 4,096" in ended.err
+        ended.status == REFUSED and "no=7,4998." in ended.err and "Width 4998 of the series is ring 4999" in ended.err
     )
 
 
@@ -176,3 +188,12 @@ def test_two_files_with_one_series(run: Run, tmp_path: Path) -> None:
 def test_names_with_commas_are_quoted(run: Run, tmp_path: Path) -> None:
     data = rwl(tmp_path, Series('A,"%s', 1990, [5, 6, 7]))
     assert {row["series"] for row in table(run("indices", data, "--fit").out)} == {'A,"%s'}
+
+
+@pytest.mark.parametrize("command", [("fit",), ("indices", "--fit")])
+def test_coefficients_at_the_least_are_told(run: Run, tmp_path: Path, command: tuple[str, ...]) -> None:
+    steep = Series("STEEP", 1900, [3000, 900, 100, 30, 10, 5, 1, 1, 1, 900])
+    space = ("--breaks", "1900,1909", "--degrees", "2", "--shape", "free")
+    ended = run(*command, rwl(tmp_path, steep), *space)
+    assert ended.status == 0
+    assert "Series STEEP: Coefficient 1 is at the least allowed, 0.001 mm: the widths ask for less there." in ended.err

@@ -5,14 +5,14 @@ from __future__ import annotations
 import re
 from pathlib import Path
 
+import numpy as np
 import pytest
-from commandline import OAK, PARTS, REFUSED, ROOF, UNUSABLE, line_sheet, rwl, table
+from commandline import GROWTH, OAK, PARTS, REFUSED, ROOF, UNUSABLE, line_sheet, rwl, table
 from conftest import ROOT, Run
 
 from walzhik.sheet import Sheet, read
 from walzhik.tucson import Series
 
-GROWTH = "examples/sheets/growth.sheet"
 HALF_A_MILLIONTH = 0.5000001e-6
 ORDINATES = "stretch,earlywood_mm,latewood_mm\n0,2.4,0.7\n0,1.6,0.9\n0,1.4,0.5\n1,1.4,0.5\n1,1,0.3\n1,0.9,0.2\n"
 EXACT = "stretch,earlywood_mm,latewood_mm\n0,2.4,0.7\n0,1.6,0.9\n0,1.4,0.7\n1,1.4,0.7\n1,1,0.3\n1,0.9,0.2\n"
@@ -26,8 +26,9 @@ def test_fit_writes_a_sheet_that_the_program_accepts(run: Run, tmp_path: Path) -
     out = tmp_path / "roof.sheet"
     ended = run("fit", OAK, "--series", "ROOF04E", "-o", out)
     assert ended.status == 0 and ended.out == ""
-    assert "Template: breaks=1703,1713,1733,1802 degrees=3,3,2 orders=1,1" in ended.err
-    assert re.search(r"mean square 0\.07\d+ square mm, 81\.4 % of the variance explained", ended.err)
+    assert "Template: breaks=1703,1733,1802 degrees=3,2 orders=1" in ended.err
+    assert "Series ROOF04E: root mean square 0.334 mm, 70.7 % of the variance explained, falling\n" in ended.err
+    assert "By proof this curve never rises and stays above zero." in ended.err
     assert "A fit is a choice, and is not proved." in ended.err
     lists = read(out.read_bytes())
     assert lists.at == [] and all(early == late >= 1 for early, late in lists.pairs)
@@ -41,7 +42,7 @@ def test_fit_of_both_wood_parts(run: Run) -> None:
 
 
 def test_fit_counts_rings_from_first(run: Run) -> None:
-    assert read(run("fit", OAK, "--series", "ROOF04E", "--first", "5").out.encode()).breaks == [5, 15, 35, 104]
+    assert read(run("fit", OAK, "--series", "ROOF04E", "--first", "5").out.encode()).breaks == [5, 35, 104]
 
 
 def test_fit_of_parts_with_other_years(run: Run, tmp_path: Path) -> None:
@@ -75,10 +76,11 @@ def test_fits_that_are_refused(run: Run, arguments: tuple[str, ...], status: int
 
 
 def test_long_series_need_a_scar(run: Run, tmp_path: Path) -> None:
-    data = rwl(tmp_path, Series("LONG", 1, [700] * 2001))
+    assert run("fit", rwl(tmp_path, Series("LONG", 1, [700] * 2001))).status == 0
+    data = rwl(tmp_path, Series("LONG", 1, [700] * 2002))
     ended = run("fit", data)
-    assert ended.status == REFUSED and "2,001 rings" in ended.err and "scar (order -1)" in ended.err
-    scarred = ("--breaks", "1,1000,2001", "--degrees", "1,1", "--orders", "-1")
+    assert ended.status == REFUSED and "2,002 rings" in ended.err and "scar (order -1)" in ended.err
+    scarred = ("--breaks", "1,1000,2002", "--degrees", "1,1", "--orders", "-1")
     assert run("fit", data, *scarred).status == 0
 
 
@@ -100,10 +102,21 @@ def test_curve_at_other_distances(run: Run, tmp_path: Path) -> None:
     wanted = ["-1,-1.000000,0.000000", "-0.5,-0.500000,0.000500", "0,0.000000,0.001000"]
     assert run("curve", sheet, "--every", "0.5").out.splitlines()[1:4] == wanted
     assert len(table(run("curve", sheet, "--every", "1/256").out)) == 513
-    assert len(table(run("curve", sheet, "--every", "99999999999").out)) == 1
+    ends = run("curve", sheet, "--every", "99999999999").out.splitlines()[1:]
+    assert ends == ["-1,-1.000000,0.000000", "1,1.000000,0.002000"]
+    assert [row["ring"] for row in table(run("curve", sheet, "--every", "1.5").out)] == ["-1", "0.5", "1"]
     for every in ("0", "-1", "0.1", "x", "1/0"):
         ended = run("curve", sheet, "--every", every)
-        assert ended.status == UNUSABLE and f"--every {every}" in ended.err
+        assert ended.status == UNUSABLE and "--every" in ended.err
+
+
+def test_a_curve_of_the_whole_ring_has_one_column(run: Run, tmp_path: Path) -> None:
+    whole = line_sheet(tmp_path, [0, 2], [(1000, 1000), (3000, 3000)])
+    assert run("curve", whole).out == "ring,ring_mm\n0,1.000000\n1,2.000000\n2,3.000000\n"
+    both = table(run("curve", whole, ROOF).out)
+    assert both[1] == {"sheet": str(whole), "ring": "1", "earlywood_mm": "2.000000", "latewood_mm": "2.000000"}
+    twice = table(run("curve", whole, whole).out)
+    assert len(twice) == 6 and list(twice[0]) == ["sheet", "ring", "ring_mm"]
 
 
 def test_curve_of_more_positions_than_one_call_takes(run: Run, tmp_path: Path) -> None:
@@ -130,6 +143,34 @@ def test_reach(run: Run, tmp_path: Path) -> None:
     assert table(run("reach", whole, "--width", "0.005").out)[0]["wood"] == "ring"
     for width in ("0.0001", "x"):
         assert run("reach", whole, "--width", width).status == UNUSABLE
+
+
+def test_the_first_position_below_a_width(run: Run, tmp_path: Path) -> None:
+    falling = line_sheet(tmp_path, [0, 40], [(2000, 2000), (1000, 1000)])
+    [row] = table(run("reach", falling, "--width", "1.5", "--below").out)
+    curve = read(falling.read_bytes()).curve()
+    position = int(row["position"])
+    values = curve.values([position - 1, position])[:, 0].tolist()
+    assert row["wood"] == "ring" and values[0] >= 256 * 1500 > values[1]
+    [start] = table(run("reach", falling, "--width", "2.001", "--below").out)
+    assert start["position"] == "0"
+    ended = run("reach", falling, "--width", "1", "--below")
+    assert ended.status == REFUSED and table(ended.out)[0]["ring"] == ""
+    assert (
+        "no position from ring 0 to ring 40 is below 1.000 mm in the whole ring" in ended.err
+        and str(falling) in ended.err
+    )
+
+
+@pytest.mark.parametrize("width", ["0.1", "0.3", "0.6", "0.65"])
+def test_below_is_the_first_of_all_positions(run: Run, width: str) -> None:
+    ended = run("reach", GROWTH, "--width", width, "--below")
+    curve = read((ROOT / GROWTH).read_bytes()).curve()
+    first, last = (256 * int(end) for end in curve.space.breaks[[0, -1]])
+    values = np.concatenate([curve.values(range(at, min(at + 4096, last + 1))) for at in range(first, last + 1, 4096)])
+    for side, row in enumerate(table(ended.out)):
+        low = np.flatnonzero(values[:, side] < 256_000 * float(width))
+        assert row["position"] == (str(first + int(low[0])) if low.size else "")
 
 
 # coefficients

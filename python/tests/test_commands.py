@@ -77,9 +77,16 @@ def number_of(path: Path) -> str:
     return found[1]
 
 
+TIDIED = [f"refused_10_{fault}" for fault in ("blank", "end", "missing", "windows")]  # what the command puts right
+
+
 @pytest.mark.parametrize("path", sorted(ROOT.glob("examples/refusals/*.sheet")), ids=lambda path: path.stem)
 def test_refused_sheets_are_refused_everywhere(run: Run, path: Path) -> None:
-    for arguments in (("curve", path), ("reach", path, "--width", "1"), ("indices", OAK, "--curve", path, *PARTS)):
+    strict = ("indices", OAK, "--strict", "--curve", path, *PARTS)
+    if path.stem in TIDIED:
+        assert run("curve", path).status == 0
+    more = (("curve", path), ("reach", path, "--width", "1"), ("indices", OAK, "--curve", path, *PARTS))
+    for arguments in (strict, *(() if path.stem in TIDIED else more)):
         ended = run(*arguments)
         assert (ended.status, ended.out) == (REFUSED, "")
         assert number_of(path) in ended.err and str(path) in ended.err
@@ -154,7 +161,7 @@ def examples_of_help() -> list[str]:
 def test_the_examples_of_help_run(run: Run, tmp_path: Path, line: str) -> None:
     words = shlex.split(line)[1:]
     if "-o" in words:
-        words[words.index("-o") + 1] = str(tmp_path / words[words.index("-o") + 1])
+        words[words.index("-o") + 1] = f"{tmp_path}/{words[words.index('-o') + 1]}"
     if words[0] == "bank":
         words[2] = str(tmp_path / words[2])
     ended = run(*words)

@@ -9,10 +9,13 @@ import os
 import shutil
 import subprocess
 import sys
+import sysconfig
 from pathlib import Path
 
 import pytest
 from conftest import ROOT
+
+from walzhik import __version__
 
 SHEET = "examples/sheets/w1.sheet"
 KIT = """#!/usr/bin/env bash
@@ -158,6 +161,19 @@ def test_missing_packages_are_installed_where_it_may(checkout: Checkout, tmp_pat
     assert update == "apt-get update -qq" and install.endswith(
         "python3-matplotlib python3-cffi python3-click python3-tqdm"
     )
+    assert f"with: {update} && {install} (WALZHIK_INSTALL=no forbids it)\n" in err
+
+
+@pytest.mark.parametrize("said", ["no", "NO", "0"])
+def test_nothing_is_installed_where_that_is_forbidden(
+    checkout: Checkout, tmp_path: Path, monkeypatch: pytest.MonkeyPatch, said: str
+) -> None:
+    without_modules(checkout, tmp_path / "modules")
+    script(checkout.tools / "id", "#!/bin/sh\necho 0\n")
+    monkeypatch.setenv("WALZHIK_INSTALL", said)
+    status, out, err = checkout.run("explain", SHEET)
+    assert (status, out) == (2, "") and checkout.asked() == []
+    assert "type this, then start again: apt-get update && apt-get install" in err and "python3-tqdm\n" in err
 
 
 def test_missing_packages_are_named_where_it_may_not(checkout: Checkout, tmp_path: Path) -> None:
@@ -181,17 +197,16 @@ def test_pip_installs_it_without_a_network(tmp_path: Path) -> None:
     for name in ("include", "python", "target/staticlib", "target/bin"):
         shutil.copytree(ROOT / name, source / name, ignore=shutil.ignore_patterns("__pycache__", ".*"))
     options = ["--quiet", "--no-index", "--no-build-isolation", "--no-deps", "--disable-pip-version-check"]
-    command = [
-        sys.executable,
-        "-m",
-        "pip",
-        "install",
-        *options,
-        "--target",
-        str(tmp_path / "site"),
-        str(source / "python"),
-    ]
-    subprocess.run(command, check=True, capture_output=True)
+    pip = [sys.executable, "-m", "pip"]
+    subprocess.run(
+        [*pip, "wheel", *options, "-w", str(tmp_path), str(source / "python")], check=True, capture_output=True
+    )
+    [wheel] = tmp_path.glob("*.whl")
+    machine = sysconfig.get_platform().replace("-", "_").replace(".", "_")
+    assert wheel.name == f"walzhik-{__version__}-py3-none-{machine}.whl" and "x86_64" in machine
+    subprocess.run(
+        [*pip, "install", *options, "--target", str(tmp_path / "site"), str(wheel)], check=True, capture_output=True
+    )
     shutil.rmtree(source)
     code = "import walzhik, walzhik.sheet as s; print(walzhik.Space([0, 1, 3], [2, 2], [1]).n, s.printed(b''))"
     environment = {"PATH": os.environ["PATH"], "PYTHONPATH": str(tmp_path / "site")}

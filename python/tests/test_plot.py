@@ -184,10 +184,12 @@ def test_the_same_bytes_again(ending: plot.Ending) -> None:
 
 
 def run(capfd: pytest.CaptureFixture[str], *arguments: object) -> tuple[int, str]:
+    """The status, and what is said apart from how rings are counted, which test_counting.py looks at."""
     with pytest.raises(SystemExit) as ended:
         cli.main(["plot", *map(str, arguments)])
     assert isinstance(ended.value.code, int)
-    return ended.value.code, capfd.readouterr().err
+    told = capfd.readouterr().err.splitlines(keepends=True)
+    return ended.value.code, "".join(line for line in told if not line.startswith("Rings are "))
 
 
 ROOF, RWL = EXAMPLES / "sheets" / "roof.sheet", EXAMPLES / "tucson" / "oak.rwl"
@@ -227,7 +229,7 @@ def test_the_sheet_from_standard_input(
             "no=14,1",
         ),
         ([ROOF, "--earlywood", "ROOF04E"], 2, "no Tucson file"),
-        ([RWL], 2, "Give one sheet"),
+        ([], 2, "Give one sheet"),
         ([ROOF, ROOF], 2, "2 are given"),
         (["--curve", "-", "-"], 2, "once only"),
     ],
@@ -277,3 +279,28 @@ def test_too_many_series(tmp_path: Path, capfd: pytest.CaptureFixture[str]) -> N
     ended, told = run(capfd, flat, many, "-o", tmp_path / "a.svg")
     assert ended == 2 and f"at most {plot.MOST_SERIES}" in told
     assert run(capfd, flat, many, "--series", "S1", "--series", "S2", "-o", tmp_path / "a.svg")[0] == 0
+
+
+@pytest.mark.filterwarnings("error")
+def test_letters_that_the_font_lacks_are_told(tmp_path: Path, capfd: pytest.CaptureFixture[str]) -> None:
+    ended, told = run(capfd, ROOF, "--title", "Dach \u6728\u6728", "-o", tmp_path / "a.svg")
+    assert ended == 0 and told == "The font has no \u6728 for the title: an empty box stands in its place.\n"
+    assert run(capfd, ROOF, "--title", "Dachstuhl \u00df", "-o", tmp_path / "a.svg") == (0, "")
+    assert run(
+        capfd, ROOF, "--title", "two\nlines, and bytes that are no letters: \udcff", "-o", tmp_path / "a.svg"
+    ) == (0, "")
+
+
+def legend_of(curve: Curve, *measured: Measured) -> list[str]:
+    return [text.get_text() for text in plot.picture(curve, measured).axes[0].get_legend().get_texts()]
+
+
+def test_the_legend_says_what_is_drawn() -> None:
+    curve = Curve(Space([0, 1800], [1], []), [900, 500])
+    assert legend_of(curve, Measured("SHORT", 0, [500] * 100)) == ["growth curve", "SHORT"]
+    marked = {200: 2, 500: 5, 1801: 20}
+    for rings, step in marked.items():
+        assert legend_of(curve, Measured("LONG", 0, [500] * rings)) == [
+            "growth curve",
+            f"LONG (a mark every {step} rings)",
+        ]

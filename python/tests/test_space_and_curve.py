@@ -3,7 +3,9 @@ that fits."""
 
 from __future__ import annotations
 
+import array
 import pickle
+from typing import Any
 
 import numpy as np
 import pytest
@@ -11,7 +13,10 @@ from hypothesis import given
 from hypothesis import strategies as st
 
 from walzhik import Curve, Refused, Space, _build, _engine
+from walzhik.fit import fit
 from walzhik.reasons import UNIT
+from walzhik.recover import recover
+from walzhik.tucson import Series, read, write
 
 SCARRED = ([0, 10, 30, 50], [3, 2, 1], [-1, 0])
 
@@ -168,3 +173,88 @@ def test_curves_and_refusals_go_to_other_processes() -> None:
         Space([0, 1], [6], [])
     copied = pickle.loads(pickle.dumps(caught.value))
     assert str(copied) == str(caught.value) and copied.remedy == caught.value.remedy
+
+
+def two_series() -> list[object]:
+    import pandas
+
+    return [
+        np.ones((2, 2), dtype=np.int32),
+        [[1, 2], [3, 4]],
+        pandas.DataFrame({"A": [1, 2], "B": [3, 4]}),
+        np.int32(5),
+    ]
+
+
+@pytest.mark.parametrize("given", two_series(), ids=["array", "lists", "frame", "number"])
+def test_two_series_are_not_one(given: object) -> None:
+    curve = Curve(Space([0, 9], [1], []), [900, 900])
+    for call in (
+        lambda: curve.indices(given, 0),  # type: ignore[arg-type]
+        lambda: curve.rings(given, 0),  # type: ignore[arg-type]
+        lambda: curve.values(given),  # type: ignore[arg-type]
+        lambda: fit(Space([0, 9], [1], []), given, 0),  # type: ignore[arg-type]
+        lambda: recover(Space([0, 9], [1], []), given),  # type: ignore[arg-type]
+        lambda: write([Series("A", 1900, given)]),  # type: ignore[arg-type]
+    ):
+        with pytest.raises(TypeError):
+            call()
+
+
+def test_masked_rings_are_not_taken_for_widths() -> None:
+    curve = Curve(Space([0, 9], [1], []), [900, 900])
+    with pytest.raises(TypeError, match="masked"):
+        curve.indices(np.ma.masked_array([500, 600], mask=[True, False]), 0)
+    assert curve.indices(np.ma.masked_array([450, 900], mask=False), 0).tolist() == [500, 1000]
+
+
+def aliases() -> list[object]:
+    import pandas
+
+    one, other = array.array("i", [0, 5]), array.array("i", [0, 5])
+    return [pandas.Series([0, 5], dtype="int32"), one, memoryview(other), np.array([0, 5], dtype=np.int32)]
+
+
+@pytest.mark.parametrize("breaks", aliases(), ids=["series", "array", "memoryview", "ndarray"])
+def test_a_space_has_numbers_of_its_own(breaks: Any) -> None:
+    space = Space(breaks, [1], [])
+    before = hash(space)
+    breaks[1] = 7
+    assert space == Space([0, 5], [1], []) and hash(space) == before
+
+
+def test_all_kinds_of_numbers_name_a_segment() -> None:
+    curve = scarred()
+    assert curve.piece(np.int64(1), "earlywood") == curve.piece(1, "earlywood")
+    with pytest.raises(TypeError, match="segment"):
+        curve.piece(1.0, "earlywood")  # type: ignore[arg-type]
+    with pytest.raises(Refused, match="no stretch 7"):
+        curve.piece(np.int32(7), "earlywood")
+
+
+def test_curves_with_the_same_numbers_are_equal() -> None:
+    assert scarred() == scarred() and hash(scarred()) == hash(scarred())
+    other = Curve(Space(*SCARRED), [[900, 400]] * 8)
+    assert scarred() != other and scarred() != 5
+    assert Curve(Space([0, 5], [1], []), [1, 2]) != Curve(Space([0, 6], [1], []), [1, 2])
+
+
+def test_series_are_compared_by_their_widths() -> None:
+    one = read(b"FEW     1998    12     9\nFEW     2000     7 -9999\n", strict=True)[0]
+    assert one == read(b"FEW     1998    12     9\nFEW     2000     7 -9999\n", strict=True)[0]
+    assert one == Series("FEW", 1998, [12, 9, 7])
+    assert one != Series("FEW", 1998, [12, 9, 8]) and one != Series("FEW", 1998, [12, 9])
+    assert one != Series("FEW", 1999, [12, 9, 7]) and one != "FEW"
+
+
+def test_a_long_series_goes_to_the_engine_in_several_calls() -> None:
+    space = Space([0, 2000, 4000, 6000], [1, 1, 1], [-1, -1])
+    curve = Curve(space, [500, 900] * 3)
+    widths = np.arange(1, 5002, dtype=np.int32)
+    values, indices = curve.rings(widths, 3)
+    assert values.size == indices.size == 5001
+    for at in (0, 4095, 4096, 5000):
+        assert indices[at] == curve.indices(widths[at : at + 1], 3 + at)[0]
+    assert values[4096] == curve.values([UNIT * 4099])[0, 0]
+    with pytest.raises(Refused, match="no=14,4500: .*ring 4503"):
+        curve.indices(np.where(widths == 4501, 100_000, widths), 3)

@@ -7,8 +7,10 @@ from __future__ import annotations
 import json
 import re
 from importlib.resources import files
+from io import BytesIO
 from pathlib import Path
 from typing import Any
+from zipfile import ZipFile
 
 import numpy as np
 import pytest
@@ -157,16 +159,73 @@ def test_a_refused_ring_leaves_the_curve() -> None:
     ]
     design.breaks[-1], design.pairs[-1] = 1802, (700, -260)
     late = shown(design, None, files_given.series)["series"][1]
-    assert late["refusal"]["number"] == 14 and late["indices"] is None
-    assert design.curve().values([256 * (1703 + late["fault"])])[0, 1] <= 0
+    assert late["refusal"]["number"] == 14 and late["faults"]
+    values = design.curve().values([256 * (1703 + place) for place in late["faults"]])
+    assert (values[:, 1] <= 0).all()
 
 
-def test_a_series_of_too_many_rings_is_told_and_marks_none() -> None:
+def test_a_series_of_more_rings_than_a_call_takes() -> None:
     long = tucson.Series("LONG", 0, np.full(5_000, 900, dtype=np.int32))
     design = whole([0, 2000, 4000, 6000], [1, 1, 1], [-1, -1], [9] * 6)
     design.series = {"ring": "LONG"}
     [made] = shown(design, None, {"LONG": long})["series"]
-    assert made["refusal"]["number"] == 2 and made["fault"] is None
+    assert made["refusal"] is None and made["indices"] == [100_000] * 5_000
+    design.breaks[-1] = 4600
+    [made] = shown(design, None, {"LONG": long})["series"]
+    assert made["refusal"]["number"] == 7 and made["faults"] == list(range(4601, 5000))
+    assert made["indices"][:4601] == [100_000] * 4601
+
+
+@pytest.mark.parametrize("last", [1790, 1802])
+def test_only_rings_that_are_refused_have_no_index(last: int) -> None:
+    files_given = roof()
+    design = files_given.design
+    design.breaks[-1], design.pairs[-1] = last, (700, -260)
+    late = shown(design, None, files_given.series)["series"][1]
+    widths, curve = files_given.series["ROOF04L"].widths, design.curve()
+    for place, (index, value) in enumerate(zip(late["indices"], late["values"])):
+        if place in late["faults"]:
+            assert (index, value) == (-1, None)
+            with pytest.raises(Refused):
+                curve.indices([widths[place]], 1703 + place, "latewood")
+        else:
+            assert index == curve.indices([widths[place]], 1703 + place, "latewood")[0]
+            assert value == curve.values([256 * (1703 + place)])[0, 1]
+    assert set(range(last - 1703 + 1, 100)) <= set(late["faults"]) and len(late["faults"]) < 60
+
+
+def test_no_ring_within_the_curve_has_no_index() -> None:
+    files_given = roof()
+    design = files_given.design
+    design.first = 9000
+    for made in shown(design, None, files_given.series)["series"]:
+        assert made["refusal"]["number"] == 7 and made["faults"] == list(range(100)) and made["closeness"] is None
+
+
+def test_closeness_is_that_of_the_engine_s_values() -> None:
+    files_given = roof()
+    curve = files_given.design.curve()
+    for side, made in enumerate(shown(files_given.design, None, files_given.series)["series"]):
+        widths = np.asarray(files_given.series[made["name"]].widths)
+        left = (widths - curve.values(256 * np.arange(1703, 1803))[:, side] / 256)[widths != 0] / 1000
+        assert made["closeness"]["root_mean_square"] == pytest.approx(np.sqrt((left**2).mean()))
+        assert made["closeness"]["rings"] == (widths != 0).sum()
+        share = 1 - (left**2).sum() / ((widths[widths != 0] / 1000 - widths[widths != 0].mean() / 1000) ** 2).sum()
+        assert made["closeness"]["share"] == pytest.approx(share)
+
+
+def test_values_at_rings_are_the_engine_s() -> None:
+    files_given = roof()
+    made = shown(files_given.design, None, files_given.series)
+    values = files_given.design.curve().values(256 * np.arange(1703, 1803))
+    assert [each["values"] for each in made["curves"]] == values.T.tolist()
+    long = whole([0, 2000, 4000, 6000], [1, 1, 1], [-1, -1], [9] * 6)
+    assert shown(long, None, {})["curves"][0]["values"] == []
+
+
+def test_the_answer_has_the_sheet_s_text() -> None:
+    files_given = roof()
+    assert shown(files_given.design, None, files_given.series, files_given.at)["sheet"].encode() == ROOF.read_bytes()
 
 
 # Coefficients that are carried over.
@@ -219,7 +278,87 @@ def test_another_number_of_coefficients_is_carried_over(client: FlaskClient) -> 
     assert alone["refusal"]["number"] == 6
 
 
+def test_the_curve_is_carried_over_to_a_space_with_the_same_number_of_coefficients(client: FlaskClient) -> None:
+    design = begun(client)
+    other = design | {"degrees": [3, 3, 2, 1], "orders": [2, -1, 0]}
+    made = answer(client, "curve", design=other, before=design).get_json()
+    assert made["n"] == len(design["pairs"]) and made["pairs"] != design["pairs"]
+    old = Curve(Space(design["breaks"], design["degrees"], design["orders"]), design["pairs"])
+    new = Curve(Space(other["breaks"], other["degrees"], other["orders"]), made["pairs"])
+    kept = Curve(new.space, design["pairs"])
+    at = 256 * np.arange(1703, 1803)
+    assert np.abs(new.values(at) - old.values(at)).max() < np.abs(kept.values(at) - old.values(at)).max()
+    moved = design | {"breaks": [1703, 1716, 1748, 1776, 1802]}
+    assert answer(client, "curve", design=moved, before=None).get_json()["pairs"] == design["pairs"]
+
+
+def test_a_bad_coefficient_before_is_a_refusal(client: FlaskClient) -> None:
+    design = begun(client)
+    bad = design | {"pairs": [[2_000_000, 1], *design["pairs"][1:]]}
+    made = answer(client, "curve", design=bad | {"orders": [0, -1, 0]}, before=bad)
+    assert made.status_code == 200 and made.get_json()["refusal"]["control"] == "coefficient-0-earlywood"
+
+
 # Fits.
+
+
+def test_a_template_leaves_the_wood_without_a_series_its_own_curve(client: FlaskClient) -> None:
+    design = begun(client)
+    alone = design | {"series": {"earlywood": "ROOF04E"}}
+    made = answer(client, "fit", design=alone, is_template=True).get_json()["design"]
+    early, late = ([pair[side] for pair in made["pairs"]] for side in (0, 1))
+    assert early != late
+    old = Curve(Space(design["breaks"], design["degrees"], design["orders"]), design["pairs"])
+    assert late == [pair[1] for pair in carried(old, Space(made["breaks"], made["degrees"], made["orders"]))]
+    assert early == [
+        pair[0] for pair in answer(client, "fit", design=design, is_template=True).get_json()["design"]["pairs"]
+    ]
+
+
+@pytest.mark.parametrize("is_template", [False, True])
+@pytest.mark.parametrize("pairs", [[], [[1, 1]], [[9, 9]] * 8, [[9, 9]] * 10, [[2_000_000, 5]] * 9])
+def test_a_fit_of_another_number_of_coefficients_is_refused(
+    client: FlaskClient, pairs: list[list[int]], is_template: bool
+) -> None:
+    made = answer(client, "fit", design=begun(client) | {"pairs": pairs}, is_template=is_template)
+    assert made.status_code == 200 and made.get_json()["refusal"]["number"] == 6
+
+
+def test_the_shape_of_a_fit_is_one_of_those_offered(client: FlaskClient) -> None:
+    design = begun(client)
+    offered = client.get(f"/{TOKEN}/given", headers=HERE).get_json()["shapes"]
+    for shape, words in offered:
+        assert words and answer(client, "fit", design=design, shape=shape).get_json()["refusal"] is None
+    for shape in ("round", 7, []):
+        assert answer(client, "fit", design=design, shape=shape).status_code == 400
+
+
+def test_a_fit_takes_the_coefficients_of_the_design_before(client: FlaskClient) -> None:
+    design = begun(client)
+    other = design | {"orders": [0, -1, 0], "series": {"earlywood": "ROOF04E"}}
+    made = answer(client, "fit", design=other, before=design).get_json()["design"]
+    shown_late = answer(client, "curve", design=other, before=design).get_json()["pairs"]
+    assert [pair[1] for pair in made["pairs"]] == [pair[1] for pair in shown_late]
+
+
+def test_a_template_of_too_many_rings_is_told() -> None:
+    long = tucson.Series("LONG", 0, np.full(2_500, 900, dtype=np.int32))
+    lists = sheet.Sheet([0, 2000, 3000], [1, 1], [-1], [(9, 9)] * 4)
+    made = app_of(start({"LONG": long}, lists, {}, None, ["long.rwl", "a.sheet"]), 80, TOKEN).test_client()
+    told = answer(made, "fit", design=begun(made), is_template=True)
+    assert told.status_code == 200 and "scar" in told.get_json()["refusal"]["words"]
+
+
+def test_a_fault_of_the_server_names_no_token(
+    client: FlaskClient, monkeypatch: pytest.MonkeyPatch, caplog: pytest.LogCaptureFixture, capfd: Any
+) -> None:
+    def fail(*_: object) -> None:
+        raise ZeroDivisionError("by no pairs")
+
+    monkeypatch.setattr("walzhik.view.server.proposed", fail)
+    made = client.post(f"/{TOKEN}/fit", json={"design": begun(client)}, headers=HERE)
+    assert made.status_code == 500 and "ZeroDivisionError" in made.get_json()["words"]
+    assert "by no pairs" in caplog.text and TOKEN not in caplog.text and TOKEN not in "".join(capfd.readouterr())
 
 
 def test_fit_is_the_command_s(client: FlaskClient, run: Run) -> None:
@@ -296,6 +435,134 @@ def test_positions_of_a_sheet(client: FlaskClient) -> None:
     assert list(listed) == [256 * ring for ring in range(1703, 1803)]
 
 
+def whole_ring_client(*, sheet_name: str | None = None) -> FlaskClient:
+    series = {each.name: each for each in tucson.read(OAK)}
+    lists = sheet.Sheet([1703, 1802], [1], [], [(900, 900), (800, 800)]) if sheet_name else None
+    names = ["oak.rwl"] + ([sheet_name] if sheet_name else [])
+    return app_of(start(series, lists, {}, None, names), 80, TOKEN).test_client()
+
+
+def saved_name(made: Any) -> str:
+    return str(re.findall(r'filename="(.*)"', made.headers["Content-Disposition"])[0])
+
+
+@pytest.mark.parametrize(
+    ("sheet_name", "names"),
+    [
+        (None, ["oak_ROOF04E.sheet", "oak_ROOF04E_indices.csv", "oak_ROOF04E_indices.rwl"]),
+        ("oak.sheet", ["oak.sheet", "oak_indices.csv", "oak_indices.rwl"]),
+        ("roof.sheet", ["roof.sheet", "roof.csv", "roof.rwl"]),
+    ],
+)
+def test_indices_are_never_named_as_the_measured_file(sheet_name: str | None, names: list[str]) -> None:
+    client = whole_ring_client(sheet_name=sheet_name)
+    design = begun(client)
+    made = [saved_name(answer(client, f"download/{kind}", design=design)) for kind in ("sheet", "csv", "rwl")]
+    assert made == names
+
+
+def test_the_indices_of_a_file_with_one_series() -> None:
+    [one] = [each for each in tucson.read(OAK) if each.name == "ROOF04E"]
+    client = app_of(start({one.name: one}, None, {}, None, ["oak.rwl"]), 80, TOKEN).test_client()
+    assert saved_name(answer(client, "download/rwl", design=begun(client))) == "oak_indices.rwl"
+
+
+def test_all_designs_are_saved_with_the_commands_bytes(run: Run, tmp_path: Path) -> None:
+    client = whole_ring_client()
+    early = begun(client)
+    late = answer(client, "fit", design=early | {"series": {"ring": "ROOF04L"}}, is_template=True).get_json()["design"]
+    made = answer(client, "all", designs=[{"design": late}, {"design": early}])
+    assert made.status_code == 200 and saved_name(made) == "oak_all.zip"
+    assert made.data == answer(client, "all", designs=[{"design": late}, {"design": early}]).data
+    with ZipFile(BytesIO(made.data)) as packed:
+        assert packed.namelist() == ["ROOF04E.sheet", "ROOF04L.sheet", "oak_indices.csv"]
+        packed.extractall(tmp_path)
+    assert (tmp_path / "ROOF04E.sheet").read_bytes() == answer(client, "download/sheet", design=early).data
+    named = [f"--curve={name}={tmp_path / name}.sheet" for name in ("ROOF04E", "ROOF04L")]
+    assert run("indices", OAK, *named, "-o", tmp_path / "own.csv").status == 0
+    assert (tmp_path / "own.csv").read_bytes() == (tmp_path / "oak_indices.csv").read_bytes()
+
+
+def test_both_parts_of_a_design_are_saved_as_one_sheet(client: FlaskClient, run: Run, tmp_path: Path) -> None:
+    made = answer(client, "all", designs=[{"design": begun(client)}])
+    with ZipFile(BytesIO(made.data)) as packed:
+        assert packed.namelist() == ["ROOF04E_ROOF04L.sheet", "oak_indices.csv"]
+        packed.extractall(tmp_path)
+    named = ["--earlywood", "ROOF04E", "--latewood", "ROOF04L"]
+    ended = run("indices", OAK, "--curve", tmp_path / "ROOF04E_ROOF04L.sheet", *named, "-o", tmp_path / "own.csv")
+    assert ended.status == 0 and (tmp_path / "own.csv").read_bytes() == (tmp_path / "oak_indices.csv").read_bytes()
+
+
+def test_a_file_has_the_coefficients_that_are_carried_over(client: FlaskClient) -> None:
+    design = begun(client)
+    other = design | {"orders": [0, -1, 0]}
+    pairs = answer(client, "curve", design=other, before=design).get_json()["pairs"]
+    made = answer(client, "download/sheet", design=other | {"at": "none"}, before=design)
+    assert [list(pair) for pair in sheet.read(made.data).pairs] == pairs
+
+
+def test_a_refused_design_among_all_is_told() -> None:
+    whole_ring = whole_ring_client()
+    design = begun(whole_ring)
+    bad = design | {"breaks": [*design["breaks"][:-1], 1790]}
+    made = answer(whole_ring, "all", designs=[{"design": bad}])
+    assert made.status_code == 422 and "ROOF04E" in made.get_json()["refusal"]["words"]
+    assert answer(whole_ring, "all", designs=[{"design": design}] * 2).status_code == 400
+    assert answer(whole_ring, "all", designs=7).status_code == 400
+    assert answer(whole_ring, "all", designs=[7]).status_code == 400
+    none = answer(whole_ring, "all", designs=[])
+    assert none.status_code == 422 and "No series is chosen" in none.get_json()["refusal"]["words"]
+
+
+# A sheet that is opened, and the other series.
+
+
+def test_an_opened_sheet_is_the_design(client: FlaskClient) -> None:
+    design = begun(client)
+    text = (ROOT / "examples/sheets/step_4.sheet").read_bytes()
+    made = answer(client, "open", design=design, text=text.decode("latin-1")).get_json()["design"]
+    lists = sheet.read(text)
+    assert made["breaks"] == list(lists.breaks) and made["pairs"] == [list(pair) for pair in lists.pairs]
+    assert made["series"] == design["series"] and made["positions"] == list(lists.at)
+    back = answer(client, "download/sheet", design=made)
+    assert back.data == text
+
+
+def test_an_opened_sheet_is_tidied_as_the_commands_do_it(client: FlaskClient) -> None:
+    text = ROOF.read_text().replace("\n", "\r\n")
+    made = answer(client, "open", design=begun(client), text=text).get_json()
+    assert made["refusal"] is None and made["design"]["breaks"][0] == 1703 and made["words"]
+
+
+@pytest.mark.parametrize("text", ["", "breaks=0,60\n", "\u00ff\u00fe", "\ufeff", 7, None])
+def test_what_is_no_sheet_is_not_opened(client: FlaskClient, text: Any) -> None:
+    made = answer(client, "open", design=begun(client), text=text)
+    assert made.status_code == 400 or made.get_json()["refusal"]["words"]
+
+
+def test_the_other_series_are_those_that_are_not_chosen() -> None:
+    client = whole_ring_client()
+    design = begun(client)
+    made = answer(client, "others", design=design).get_json()
+    widths = {each.name: list(each.widths) for each in tucson.read(OAK)}
+    assert [(each["name"], each["first"], each["widths"]) for each in made["others"]] == [
+        ("ROOF04L", 1703, widths["ROOF04L"])
+    ]
+    assert made["left"] == 0
+    many = {f"S{place}": tucson.Series(f"S{place}", 0, np.full(9, 900, np.int32)) for place in range(70)}
+    crowd = app_of(start(many, None, {}, None, ["many.rwl"]), 80, TOKEN).test_client()
+    made = answer(crowd, "others", design=begun(crowd)).get_json()
+    assert (len(made["others"]), made["left"]) == (50, 19)
+
+
+def test_a_name_that_a_spreadsheet_would_compute_is_told() -> None:
+    names = ["=A1", "+B", "-C", "@D", "E=F"]
+    series = {name: tucson.Series(name, 1900, np.full(30, 900, np.int32)) for name in names}
+    made = start(series, None, {}, None, ["odd.rwl"]).as_json()["series"]
+    assert [each["care"] is None for each in made] == [False] * 4 + [True]
+    assert all(each["name"] in each["care"] for each in made[:4])
+
+
 # What is sent.
 
 
@@ -316,6 +583,7 @@ def test_positions_of_a_sheet(client: FlaskClient) -> None:
         {"first": 1.5},
         {"at": "often"},
         {"at": []},
+        {"positions": [1.5]},
         {"is_whole_ring": 1},
         {"is_whole_ring": True},
     ],
@@ -347,9 +615,11 @@ def test_only_json_is_taken(client: FlaskClient) -> None:
 def test_without_a_sheet_a_template_is_fitted() -> None:
     series = {each.name: each for each in tucson.read(OAK)}
     ring = start(series, None, {}, None, ["oak.rwl"]).design
-    assert ring.is_whole_ring and ring.series == {"ring": "ROOF04E"} and ring.breaks == [1703, 1713, 1733, 1802]
+    assert ring.is_whole_ring and ring.series == {"ring": "ROOF04E"} and ring.breaks == [1703, 1733, 1802]
     parts = start(series, None, {"earlywood": "ROOF04E", "latewood": "ROOF04L"}, 1, ["oak.rwl"]).design
     assert not parts.is_whole_ring and parts.breaks[0] == 1 and parts.pairs[0][0] != parts.pairs[0][1]
+    alone = start(series, None, {"earlywood": "ROOF04E"}, None, ["oak.rwl"])
+    assert "latewood" in alone.words and "copy" in alone.words
 
 
 def test_without_files_there_is_a_curve() -> None:

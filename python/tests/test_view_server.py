@@ -14,6 +14,7 @@ import subprocess
 import sys
 from collections.abc import Iterator
 from concurrent.futures import ThreadPoolExecutor
+from contextlib import contextmanager
 from pathlib import Path
 from threading import Thread
 from typing import Any
@@ -23,9 +24,11 @@ import pytest
 from conftest import ROOT, Run
 from test_view import roof
 
-from walzhik.view.server import MOST_BODY, Screen
+from walzhik.view.server import MOST_BODY, WAITING, Screen
 
-AT_ONCE = 1000
+AT_ONCE, IDLE = 1000, 550
+MANY, FEW_BYTES = 1500, 256  # requests, and what each may leave behind by chance
+SOON = 20  # seconds
 LONG_WAIT = 120  # seconds, only for a server that hangs
 
 
@@ -197,6 +200,32 @@ def test_a_thousand_at_once_are_answered(address: str) -> None:
     assert lives(address)
 
 
+def is_open(connection: socket.socket) -> bool:
+    """Whether the server has not closed a connection on which it has nothing to say."""
+    connection.setblocking(False)
+    try:
+        return connection.recv(1) != b""
+    except BlockingIOError:
+        return True
+
+
+def test_the_page_is_answered_beside_idle_connections(address: str) -> None:
+    idle = [connected(address) for _ in range(IDLE)]
+    try:
+        assert lives(address)
+        assert all(is_open(each) for each in idle), "it was answered only after others were closed"
+    finally:
+        for each in idle:
+            each.close()
+    assert lives(address)
+
+
+def test_idle_connections_are_closed_soon(address: str) -> None:
+    with connected(address) as connection:
+        assert connection.recv(1) == b""
+    assert WAITING["channel_timeout"] + WAITING["cleanup_interval"] < SOON
+
+
 def test_only_this_machine_is_answered(address: str) -> None:
     with pytest.raises(ConnectionRefusedError):
         connected(address, "127.0.0.2")
@@ -205,42 +234,90 @@ def test_only_this_machine_is_answered(address: str) -> None:
 # The command.
 
 
-def started(folder: Path, *arguments: object) -> tuple[subprocess.Popen[str], str]:
+def interruptible() -> None:
+    """Let a program that is started hear an interrupt, also where the tests themselves run in the background."""
+    signal.signal(signal.SIGINT, signal.SIG_DFL)
+
+
+@contextmanager
+def serving(folder: Path, *arguments: object) -> Iterator[tuple[str, int]]:
+    """The address and the process of a server that the command has started; it is interrupted, and must end well."""
     environment = os.environ | {"PYTHONPATH": str(ROOT / "python/src"), "PYTHONUNBUFFERED": "1"}
     command = [sys.executable, "-m", "walzhik", "view", *map(str, arguments)]
-    process = subprocess.Popen(command, stdout=subprocess.PIPE, text=True, cwd=folder, env=environment)
-    assert process.stdout is not None
-    found = re.search(r"http://127\.0\.0\.1:\d+/[\w-]{20,}/", process.stdout.readline())
-    assert found
-    return process, found.group()
+    with subprocess.Popen(
+        command, stdout=subprocess.PIPE, text=True, cwd=folder, env=environment, preexec_fn=interruptible
+    ) as process:
+        try:
+            assert process.stdout is not None
+            found = re.search(r"http://127\.0\.0\.1:\d+/[\w-]{20,}/", process.stdout.readline())
+            assert found
+            yield found.group(), process.pid
+            process.send_signal(signal.SIGINT)
+            assert process.wait(LONG_WAIT) == 0
+        finally:
+            process.kill()
 
 
 def test_the_command_prints_its_address_and_writes_nothing(tmp_path: Path) -> None:
     (tmp_path / "oak.rwl").write_bytes((ROOT / "examples/tucson/oak.rwl").read_bytes())
     before = {path: path.stat().st_mtime_ns for path in tmp_path.iterdir()}
-    process, address = started(tmp_path, "oak.rwl", "--series", "ROOF04L")
-    try:
+    with serving(tmp_path, "oak.rwl", "--series", "ROOF04L") as (address, _):
         design = json.loads(asked(address, path="given")[1])["design"]
         assert design["series"]["ring"] == "ROOF04L"
         for kind in ("sheet", "csv", "png"):
             body = json.dumps({"design": design}).encode()
             assert asked(address, "POST", f"download/{kind}", body, Content_Type="application/json")[0] == 200
-    finally:
-        process.send_signal(signal.SIGINT)
-        assert process.wait(LONG_WAIT) == 0
     assert {path: path.stat().st_mtime_ns for path in tmp_path.iterdir()} == before
+
+
+def test_a_test_that_fails_leaves_no_server_behind() -> None:
+    with pytest.raises(ZeroDivisionError), serving(ROOT) as (_, process):
+        raise ZeroDivisionError
+    with pytest.raises(ProcessLookupError):
+        os.kill(process, 0)
+
+
+def test_a_server_ends_also_where_interrupts_are_ignored() -> None:
+    before = signal.signal(signal.SIGINT, signal.SIG_IGN)
+    try:
+        with serving(ROOT) as (address, _):
+            assert lives(address)
+    finally:
+        signal.signal(signal.SIGINT, before)
 
 
 def test_the_example_of_help_runs() -> None:
     from walzhik.commands.view import command
 
     line = re.sub(r"\n +(?=--)", " ", str(command.help)).split("./walzhik view ")[1].split("\n")[0]
-    process, address = started(ROOT, *line.split())
-    try:
+    with serving(ROOT, *line.split()) as (address, _):
         assert json.loads(asked(address, path="given")[1])["names"] == ["oak.rwl", "roof.sheet"]
-    finally:
-        process.send_signal(signal.SIGINT)
-        assert process.wait(LONG_WAIT) == 0
+
+
+def test_a_server_is_ended_where_a_test_fails() -> None:
+    with pytest.raises(AssertionError, match="fails"), serving(ROOT) as (address, _):
+        raise AssertionError("the test fails")
+    with pytest.raises(ConnectionRefusedError):
+        connected(address)
+
+
+def resident(process: int) -> int:
+    """The memory that a process holds, in bytes."""
+    return int(Path(f"/proc/{process}/statm").read_text().split()[1]) * os.sysconf("SC_PAGE_SIZE")
+
+
+def test_memory_stays_flat() -> None:
+    with serving(ROOT, "examples/tucson/oak.rwl") as (address, process):
+        parts, body = urlsplit(address), question(address)
+        connection = http.client.HTTPConnection(str(parts.hostname), parts.port, timeout=LONG_WAIT)
+        held = []
+        for _ in range(2):
+            for _ in range(MANY):
+                connection.request("POST", f"{parts.path}curve", body, {"Content-Type": "application/json"})
+                assert connection.getresponse().read()
+            held.append(resident(process))
+        connection.close()
+    assert held[1] - held[0] < MANY * FEW_BYTES
 
 
 def test_every_server_has_a_token_of_its_own() -> None:

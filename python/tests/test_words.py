@@ -14,9 +14,9 @@ from conftest import ROOT
 from walzhik import Curve, Refused, Space, errors, explain, sheet, sheet_reasons, tucson
 from walzhik.recover import recover
 
-# What only C and Rust callers can meet: buffers that are too short, lists of series that don't fit, and 9, which is
-# proved never to come.
-NEVER = {(1, "buffer"), (1, "bytes"), (2, "series"), (9, "shape")}
+# What only C and Rust callers can meet: buffers that are too short, lists of series that don't fit, more rings than a
+# call takes, and 9, which is proved never to come.
+NEVER = {(1, "buffer"), (1, "bytes"), (2, "rings"), (2, "series"), (9, "shape")}
 GOOD = b"breaks=0,1,3\ndegrees=2,2\norders=1\ncoefs=0:0,100:100,0:0,0:0\nat=256\n"
 ONE_BY_ONE = b"A       1997    12\nA       1998     9 -9999\n"
 FEW = b"FEW     1998    12     9\nFEW     2000     7 -9999\n"
@@ -44,7 +44,6 @@ CASES: list[tuple[int, str, Callable[[], object], str]] = [
     (2, "stretches", lambda: Space([0], [], []), "no stretches: a curve has 1 to 48"),
     (2, "lengths", lambda: Space([0, 1], [1, 1], [0]), "3 breakpoints and 1 order, but breaks= lists 2 breakpoints"),
     (2, "positions", lambda: line().values([0] * 4097), "4,097 positions are asked for"),
-    (2, "rings", lambda: line().indices([1] * 4097, 0), "4,097 rings: one call takes at most 4,096"),
     (3, "range", lambda: Space([0, 10001], [1], []), "Breakpoint 1 is 10001: each is from"),
     (3, "rising", lambda: Space([5, 5], [1], []), "Breakpoint 1 is 5, but breakpoint 0, before it, is 5"),
     (3, "span", lambda: Space([0, 2001], [1], []), "a span of 2,001 rings without a scar"),

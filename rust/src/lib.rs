@@ -2,7 +2,7 @@
 //! include/walzhik_indices.h, which say what they take and give. A program takes this file as its module `walzhik` and links with both
 //! libraries of target/staticlib, libwalzhik.a and libwalzhik_indices.a. Each function lends buffers of its own that are long enough,
 //! so number 1 can't come, and gives back what an answer leaves in them.
-#![allow(dead_code)]
+#![deny(missing_docs)]
 
 /// The cells of a weight buffer: 72 rows of 72 columns.
 pub const CELLS: usize = SIDE * SIDE;
@@ -10,72 +10,100 @@ const SIDE: usize = 72;
 
 /// The calls as C has them.
 pub mod raw {
+    /// What most calls give: a count, or the number and the place of a refusal.
     #[repr(C)]
+    #[derive(Clone, Copy, Debug, PartialEq)]
     pub struct Reply {
+        /// Of rows, positions, rings, series or bytes; 0 after a refusal.
         pub count: u64,
+        /// 0 for an answer, else the reason.
         pub number: u32,
+        /// What is at fault; 0 for an answer.
         pub place: u32,
     }
 
+    /// What a reach call gives.
     #[repr(C)]
+    #[derive(Clone, Copy, Debug, PartialEq)]
     pub struct Reach {
+        /// In 256ths of a ring; 0 after a refusal.
         pub position: i32,
+        /// 0 for an answer, else the reason.
         pub number: u32,
+        /// What is at fault; 0 for an answer.
         pub place: u32,
     }
 
+    /// What a piece call gives; after a refusal all but number and place is 0.
     #[repr(C)]
+    #[derive(Clone, Copy, Debug, PartialEq)]
     pub struct Piece {
+        /// 0 for an answer, else the reason.
         pub number: u32,
+        /// What is at fault; 0 for an answer.
         pub place: u32,
+        /// 1, 2 or 3.
         pub degree: u32,
+        /// Always 0.
         pub unused: u32,
+        /// In thousandths of a millimetre; those past the degree are 0.
         pub ordinates: [f64; 4],
+        /// The breakpoint before the segment, in rings.
         pub start: f64,
+        /// The breakpoint behind it.
         pub end: f64,
     }
 
     #[link(name = "walzhik", kind = "static")]
     extern "C" {
+        /// The exact weights.
         pub fn walzhik_build(
             breaks: *const i32, breaks_len: usize, degrees: *const i32, degrees_len: usize,
             orders: *const i32, orders_len: usize, num: *mut i64, num_len: usize,
             den: *mut i64, den_len: usize,
         ) -> Reply;
+        /// Both values at each position.
         pub fn walzhik_curve(
             breaks: *const i32, breaks_len: usize, degrees: *const i32, degrees_len: usize,
             orders: *const i32, orders_len: usize, coefs: *const i32, coefs_len: usize,
             positions: *const i32, positions_len: usize, num: *mut i64, num_len: usize,
             den: *mut i64, den_len: usize, values: *mut i32, values_len: usize,
         ) -> Reply;
+        /// The series of a Tucson text.
         pub fn walzhik_tucson_read(
             text: *const u8, text_len: usize, names: *mut u8, names_len: usize, years: *mut i32, years_len: usize,
             counts: *mut u32, counts_len: usize, widths: *mut i32, widths_len: usize,
         ) -> Reply;
+        /// The Tucson text of series.
         pub fn walzhik_tucson_write(
             names: *const u8, names_len: usize, years: *const i32, years_len: usize, counts: *const u32, counts_len: usize,
             widths: *const i32, widths_len: usize, text: *mut u8, text_len: usize,
         ) -> Reply;
+        /// The first position where the earlywood's curve reaches a width.
         pub fn walzhik_earlywood_reach(
             breaks: *const i32, breaks_len: usize, degrees: *const i32, degrees_len: usize,
             orders: *const i32, orders_len: usize, coefs: *const i32, coefs_len: usize,
             width: i32, num: *mut i64, num_len: usize, den: *mut i64, den_len: usize,
         ) -> Reach;
+        /// The first position where the latewood's curve reaches a width.
         pub fn walzhik_latewood_reach(
             breaks: *const i32, breaks_len: usize, degrees: *const i32, degrees_len: usize,
             orders: *const i32, orders_len: usize, coefs: *const i32, coefs_len: usize,
             width: i32, num: *mut i64, num_len: usize, den: *mut i64, den_len: usize,
         ) -> Reach;
+        /// A segment of the earlywood's curve.
         pub fn walzhik_earlywood_piece(
             breaks: *const i32, breaks_len: usize, degrees: *const i32, degrees_len: usize,
             orders: *const i32, orders_len: usize, coefs: *const i32, coefs_len: usize,
             segment: u32, num: *mut i64, num_len: usize, den: *mut i64, den_len: usize,
         ) -> Piece;
+        /// A segment of the latewood's curve.
         pub fn walzhik_latewood_piece(
             breaks: *const i32, breaks_len: usize, degrees: *const i32, degrees_len: usize,
             orders: *const i32, orders_len: usize, coefs: *const i32, coefs_len: usize,
             segment: u32, num: *mut i64, num_len: usize, den: *mut i64, den_len: usize,
         ) -> Piece;
+        /// The coefficients of local ordinates.
         pub fn walzhik_coefficients(
             breaks: *const i32, breaks_len: usize, degrees: *const i32, degrees_len: usize,
             orders: *const i32, orders_len: usize, ordinates: *const i32, ordinates_len: usize,
@@ -86,6 +114,7 @@ pub mod raw {
 
     #[link(name = "walzhik_indices", kind = "static")]
     extern "C" {
+        /// Each ring divided by the earlywood's curve.
         pub fn walzhik_earlywood_indices(
             breaks: *const i32, breaks_len: usize, degrees: *const i32, degrees_len: usize,
             orders: *const i32, orders_len: usize, coefs: *const i32, coefs_len: usize,
@@ -93,6 +122,7 @@ pub mod raw {
             den: *mut i64, den_len: usize, values: *mut i32, values_len: usize,
             indices: *mut i64, indices_len: usize,
         ) -> Reply;
+        /// Each ring divided by the latewood's curve.
         pub fn walzhik_latewood_indices(
             breaks: *const i32, breaks_len: usize, degrees: *const i32, degrees_len: usize,
             orders: *const i32, orders_len: usize, coefs: *const i32, coefs_len: usize,
@@ -106,38 +136,65 @@ pub mod raw {
 /// Why a call is refused, as an enum.
 #[derive(Clone, Copy, Debug, PartialEq)]
 pub enum Reason {
+    /// The lists do not fit one number of segments, or series.
     ListLengths,
+    /// More positions or rings than one call takes.
     TooManyPositions,
+    /// A breakpoint out of range or not above the one before, or a part whose span is too long.
     Breakpoint,
+    /// A degree out of range.
     Degree,
+    /// An order out of range.
     Order,
+    /// A part with too many segments.
     PartTooLong,
+    /// Not one pair of coefficients for each row.
     CoefficientCount,
+    /// A coefficient out of range.
     Coefficient,
+    /// A position or a ring outside the span.
     Position,
+    /// A fraction of the build that is too large.
     TooLarge,
+    /// Jumps that lack the needed shape, which is proved never to come.
     Jumps,
+    /// A line or a series that the Tucson form does not allow.
     TucsonLine,
+    /// A line whose year does not go on.
     TucsonYear,
+    /// A series that is not closed as it must be.
     TucsonClosing,
+    /// A width out of range, or a value of zero or less under a ring.
     Ring,
+    /// A width that no position reaches.
     NeverReached,
+    /// No such segment, or one of degree 4 or 5.
     NotDrawn,
+    /// Not one ordinate for each column.
     OrdinateCount,
+    /// An ordinate out of range.
     Ordinate,
+    /// Ordinates that miss the condition of a join.
     NoCoefficients,
+    /// A fraction of the undoing that is too large.
     TooLargeToUndo,
+    /// A number that this file does not know.
     Unknown,
 }
 
 /// A refusal: its number, and the place of what is at fault.
 #[derive(Clone, Copy, Debug, PartialEq)]
 pub struct Refusal {
+    /// The reason as include/walzhik.h lists it.
     pub number: u32,
+    /// The breakpoint, segment, join, entry or line at fault; what it counts depends on the number.
     pub place: u32,
 }
 
+impl std::error::Error for Refusal {}
+
 impl Refusal {
+    /// The reason by name.
     pub fn reason(&self) -> Reason {
         match (self.number, self.place) {
             (2, 1) => Reason::TooManyPositions,
@@ -184,7 +241,9 @@ fn counted(reply: raw::Reply) -> Result<usize, Refusal> {
 /// A fraction in lowest terms, with a positive denominator.
 #[derive(Clone, Copy, Debug, PartialEq)]
 pub struct Fraction {
+    /// The numerator.
     pub num: i64,
+    /// The denominator, above zero.
     pub den: i64,
 }
 
@@ -195,6 +254,7 @@ impl std::fmt::Display for Fraction {
 }
 
 /// The two lent weight buffers.
+#[derive(Clone, Debug, PartialEq)]
 struct Cells {
     num: Vec<i64>,
     den: Vec<i64>,
@@ -207,30 +267,49 @@ impl Cells {
 }
 
 /// The weights of the last part, with the count of all rows.
+#[derive(Clone, Debug, PartialEq)]
 pub struct Weights {
+    /// The rows of all parts.
     pub rows: usize,
+    part_rows: usize,
+    part_columns: usize,
     cells: Cells,
 }
 
 impl Weights {
-    /// Both counted from the part's first.
-    pub fn at(&self, row: usize, column: usize) -> Fraction {
+    /// The weight of a row and a column, both counted from the part's first; None past its last ones.
+    pub fn at(&self, row: usize, column: usize) -> Option<Fraction> {
+        if row >= self.part_rows || column >= self.part_columns {
+            return None;
+        }
         let cell = SIDE * row + column;
-        Fraction { num: self.cells.num[cell], den: self.cells.den[cell] }
+        Some(Fraction { num: self.cells.num[cell], den: self.cells.den[cell] })
     }
+}
+
+/// The rows and the columns of the last part of legal lists.
+fn last_part(degrees: &[i32], orders: &[i32]) -> (usize, usize) {
+    let first = orders.iter().rposition(|&order| order < 0).map_or(0, |join| join + 1);
+    let columns: i32 = degrees[first..].iter().map(|degree| degree + 1).sum();
+    let conditions: i32 = orders[first..].iter().map(|order| order + 1).sum();
+    ((columns - conditions) as usize, columns as usize)
 }
 
 /// Which curve is meant, where only one is.
 #[derive(Clone, Copy, Debug, PartialEq)]
 pub enum WoodPart {
+    /// The wood of spring.
     Earlywood,
+    /// The wood of summer.
     Latewood,
 }
 
 /// A number for each part of a ring: a coefficient, or a value.
 #[derive(Clone, Copy, Debug, PartialEq)]
 pub struct Pair {
+    /// Of the earlywood.
     pub earlywood: i32,
+    /// Of the latewood.
     pub latewood: i32,
 }
 
@@ -242,6 +321,11 @@ fn side_by_side(pairs: &[Pair]) -> Vec<i32> {
 // SAFETY, of every call below: each pointer comes from a live slice or vector with the length given beside it, the buffers are
 // vectors of their own, so that none overlaps another or a list, and no call keeps a pointer.
 
+/// The exact weights of the last part, and the count of all rows.
+///
+/// # Errors
+///
+/// What the lists are refused for; so with all functions here.
 pub fn build(breaks: &[i32], degrees: &[i32], orders: &[i32]) -> Result<Weights, Refusal> {
     let Cells { mut num, mut den } = Cells::new();
     let reply = unsafe {
@@ -250,7 +334,9 @@ pub fn build(breaks: &[i32], degrees: &[i32], orders: &[i32]) -> Result<Weights,
             num.as_mut_ptr(), num.len(), den.as_mut_ptr(), den.len(),
         )
     };
-    Ok(Weights { rows: counted(reply)?, cells: Cells { num, den } })
+    let rows = counted(reply)?;
+    let (part_rows, part_columns) = last_part(degrees, orders);
+    Ok(Weights { rows, part_rows, part_columns, cells: Cells { num, den } })
 }
 
 /// The values of both curves at the positions, in list order.
@@ -314,17 +400,22 @@ pub fn reach(
 }
 
 /// A line, a quadratic or a cubic, with its ordinates from the left in thousandths of a millimetre.
-#[derive(Debug)]
+#[derive(Clone, Copy, Debug, PartialEq)]
 pub enum Piece {
+    /// Of degree 1.
     Line([f64; 2]),
+    /// Of degree 2.
     Quadratic([f64; 3]),
+    /// Of degree 3.
     Cubic([f64; 4]),
 }
 
 /// The ends of a piece, in rings.
-#[derive(Debug)]
+#[derive(Clone, Copy, Debug, PartialEq)]
 pub struct Ends {
+    /// The breakpoint before it.
     pub start: f64,
+    /// The breakpoint behind it.
     pub end: f64,
 }
 
@@ -374,9 +465,13 @@ const LEAST_SERIES: usize = 19;
 const LEAST_WIDTH: usize = 6;
 
 /// A series: its name, its first year, and its widths in thousandths of a millimetre, one for each year.
+#[derive(Clone, Debug, PartialEq)]
 pub struct Series {
+    /// Printable ASCII, with blanks up to eight bytes.
     pub name: [u8; NAME],
+    /// The year of the first width.
     pub first_year: i32,
+    /// 0 is an absent ring.
     pub widths: Vec<i32>,
 }
 

@@ -20,13 +20,16 @@ COMMENT = re.compile(r"/\*.*?\*/", re.DOTALL)
 INCLUDED = re.compile(r'^#include "([^"]+)"', re.MULTILINE)
 SHARED_MODE = 0o755
 DEFINITION = re.compile(r"^#define\s+(\w+)\s+(?:UINT32_C\()?(\d+)\)?\s*$", re.MULTILINE)
-CONDITION = re.compile(r"^#ifdef __cplusplus\n(.*?)^#endif\n", re.MULTILINE | re.DOTALL)
+CONDITION = re.compile(
+    r"^#(?:ifdef __cplusplus|ifndef WALZHIK_PROVED_CALLS)\n.*?^#endif[^\n]*\n", re.MULTILINE | re.DOTALL
+)
 
 
 def declarations(header: str) -> str:
     """The types and functions that a header declares, as cffi reads them.
 
-    Comments, the lines that begin with # and what only C++ sees are taken off; nothing else is.
+    Comments, the lines that begin with #, what only C++ sees and the functions around the proved calls are taken off;
+    nothing else is.
 
     Examples
     --------

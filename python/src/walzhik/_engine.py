@@ -117,11 +117,13 @@ def wholes(numbers: Wholes, name: str) -> NDArray[np.int32]:
     >>> wholes([0, 10**12], "breaks")
     array([         0, 2147483647], dtype=int32)
     """
+    if isinstance(numbers, np.ma.MaskedArray) and bool(np.any(numbers.mask)):
+        raise TypeError(f"{name}: whole numbers are needed, but some are masked; fill them first")
     given = np.asarray(numbers)
     if not given.size:
         return np.zeros(given.shape, dtype=np.int32)
     if given.dtype == np.int32:
-        return np.ascontiguousarray(given)
+        return np.asarray(given, order="C")
     if given.dtype == object and all(isinstance(number, int) for number in given.flat):
         words = [min(max(number, LEAST_WORD), MOST_WORD) for number in given.flat]
         return np.array(words, dtype=np.int32).reshape(given.shape)
@@ -134,11 +136,23 @@ def wholes(numbers: Wholes, name: str) -> NDArray[np.int32]:
     return near.astype(np.int32, order="C")
 
 
+def listed(numbers: Wholes, name: str) -> NDArray[np.int32]:
+    """A list of whole numbers as the engine takes them; see `wholes`.
+
+    Raises
+    ------
+    TypeError
+        If they have another shape: two series side by side are not one after the other.
+    """
+    found = wholes(numbers, name)
+    if found.ndim != 1:
+        raise TypeError(f"{name}: a list of whole numbers is needed, not an array of shape {found.shape}")
+    return found
+
+
 def kept(numbers: Wholes, name: str) -> NDArray[np.int32]:
     """Whole numbers as the engine takes them, in an array of their own that nobody can write to any more."""
-    own = wholes(numbers, name)
-    if isinstance(numbers, np.ndarray):
-        own = own.copy()
+    own = wholes(numbers, name).copy()
     own.flags.writeable = False
     return own
 

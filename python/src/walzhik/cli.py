@@ -6,13 +6,16 @@ from __future__ import annotations
 
 import importlib
 import pkgutil
+import signal
 import sys
 import traceback
+from collections import Counter
 from typing import Any
 
 import click
 
 from . import commands
+from .threads import keep_to_one
 
 DONE, UNUSABLE = 0, 2
 INTERRUPTED = 130
@@ -31,6 +34,25 @@ class Commands(click.MultiCommand):
             return None
         command: click.Command = importlib.import_module(f"{commands.__name__}.{cmd_name}").command
         return command
+
+    def resolve_command(
+        self, ctx: click.Context, args: list[str]
+    ) -> tuple[str | None, click.Command | None, list[str]]:
+        name, command, rest = super().resolve_command(ctx, args)
+        if command is not None:
+            _refuse_repeated(click.Context(command, parent=ctx, info_name=name), rest)
+        return name, command, rest
+
+
+def _refuse_repeated(ctx: click.Context, arguments: list[str]) -> None:
+    """Refuse an option that is given again although it holds one value: click would drop all but the last."""
+    try:
+        given = ctx.command.make_parser(ctx).parse_args(list(arguments))[2]
+    except click.UsageError:
+        return  # the command says the same with its own usage
+    for option, times in Counter(given).items():
+        if times > 1 and isinstance(option, click.Option) and not (option.multiple or option.is_flag):
+            raise click.UsageError(f"{option.opts[-1]} is given {times} times, but {ctx.info_name} takes one.", ctx)
 
 
 def _print_version(ctx: click.Context, _: click.Parameter, asked: bool) -> None:
@@ -62,11 +84,14 @@ def cli() -> None:
 
 def main(arguments: list[str] | None = None) -> Any:
     """Run the command and end with its status."""
+    keep_to_one()
     try:
         from .failures import told
     except ImportError as error:  # the engine is not built, or a Debian package is missing
         click.echo(error, err=True)
         sys.exit(UNUSABLE)
+    if signal.getsignal(signal.SIGINT) == signal.SIG_DFL:  # all modules are there: from here on it is caught below
+        signal.signal(signal.SIGINT, signal.default_int_handler)
     try:
         status = cli.main(args=arguments, prog_name="./walzhik", standalone_mode=False)
         sys.exit(status if isinstance(status, int) else DONE)

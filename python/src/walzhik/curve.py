@@ -4,14 +4,14 @@ comes from the engine's proved calls; only `to_scipy` hands the curve on to anot
 
 from __future__ import annotations
 
-from collections.abc import Sequence
+from collections.abc import Iterator, Sequence
 from fractions import Fraction
 from typing import TYPE_CHECKING, Any, Literal, NamedTuple
 
 import numpy as np
 
-from ._engine import LARGEST_PLACE, MOST_POSITIONS, kept, lent, library, pointer, whole, wholes
-from .reasons import WOOD, refusal
+from ._engine import LARGEST_PLACE, MOST_POSITIONS, kept, lent, library, listed, pointer, whole, wholes
+from .reasons import UNIT, WOOD, refusal
 
 if TYPE_CHECKING:
     from numpy.typing import NDArray
@@ -24,6 +24,7 @@ if TYPE_CHECKING:
 Wood = Literal["earlywood", "latewood"]
 WHOLE_RING = "whole ring"  # what a refusal calls a curve whose wood nobody had to name
 EMPTY = np.zeros(1, dtype=np.int32)
+OF_RINGS = (7, 14)  # the numbers of refusals whose place counts the rings of a series
 NOTHING = (pointer(EMPTY), 0)  # a list or buffer without entries, which still needs a valid pointer
 
 
@@ -88,19 +89,27 @@ class Curve:
             )
         self.coefficients: NDArray[np.int32] = kept(given, "coefficients")
         self.is_whole_ring = bool((given[:, 0] == given[:, 1]).all())
-        self._given = coefficients
         self._lent = (*space._lent, pointer(self.coefficients), self.coefficients.size)
-        self._ask()
+        self._ask(coefficients)
 
-    def _ask(self) -> None:
-        """Let the engine say whether it takes the coefficients."""
+    def _ask(self, given: Wholes | Sequence[Sequence[int]]) -> None:
+        """Let the engine say whether it takes the coefficients, whose own numbers a refusal tells."""
         reply = library.walzhik_curve(*self._lent, *NOTHING, *lent.weights, *NOTHING)
         if reply.number:
-            raise self._refused(reply)
+            pairs = [tuple(pair) if np.ndim(pair) else (pair, pair) for pair in list(given)]
+            raise self._refused(reply, pairs=pairs)
 
     def __reduce__(self) -> tuple[Any, ...]:
         """Curves go to other processes as their lists."""
         return Curve, (self.space, self.coefficients)
+
+    def __eq__(self, other: object) -> bool:
+        if not isinstance(other, Curve):
+            return NotImplemented
+        return self.space == other.space and bool((self.coefficients == other.coefficients).all())
+
+    def __hash__(self) -> int:
+        return hash((self.space, self.coefficients.tobytes()))
 
     def __repr__(self) -> str:
         return f"Curve({self.space!r}, {self.coefficients.tolist()})"
@@ -123,19 +132,33 @@ class Curve:
         Refused
             If the engine refuses a position.
         """
-        at = wholes(positions, "positions")
+        at = listed(positions, "positions")
         values = np.empty((at.size, len(WOOD)), dtype=np.int32)
         reply = library.walzhik_curve(*self._lent, pointer(at), at.size, *lent.weights, pointer(values), values.size)
         if reply.number:
             raise self._refused(reply, positions=list(positions))
         return values
 
+    def scanned(self) -> Iterator[tuple[range, NDArray[np.int32]]]:
+        """All positions of the span in order, in pieces that one call takes, each with both curves there.
+
+        Examples
+        --------
+        >>> from walzhik import Curve, Space
+        >>> [(positions, values.shape) for positions, values in Curve(Space([0, 16], [1], []), [1, 2]).scanned()]
+        [(range(0, 4096), (4096, 2)), (range(4096, 4097), (1, 2))]
+        """
+        first, end = UNIT * int(self.space.breaks[0]), UNIT * int(self.space.breaks[-1]) + 1
+        for start in range(first, end, MOST_POSITIONS):
+            positions = range(start, min(start + MOST_POSITIONS, end))
+            yield positions, self.values(np.arange(positions.start, positions.stop, dtype=np.int32))
+
     def indices(self, widths: Wholes, first: int, wood: Wood | None = None) -> NDArray[np.int64]:
         """Ring indices: each measured ring divided by the curve.
 
         Parameters
         ----------
-        widths : sequence of int, at most 4096
+        widths : sequence of int
             Thousandths of a millimetre, of consecutive rings; 0 is an absent ring.
         first : int
             The number of the first ring, counted as the breakpoints are.
@@ -167,34 +190,40 @@ class Curve:
     ) -> tuple[NDArray[np.int32], NDArray[np.int64]]:
         """The curve's value at each ring, in 256ths of a thousandth, and the index, as `indices` gives it.
 
+        A call of the engine takes 4,096 rings; a longer series is put to it in several.
+
         Examples
         --------
         >>> from walzhik import Curve, Space
         >>> Curve(Space([0, 2], [1], []), [1000, 3000]).rings([1000, 1000, 0], 0)
         (array([256000, 512000, 768000], dtype=int32), array([1000,  500,   -1]))
         """
-        side = self.side(wood)
+        side, measured = self.side(wood), listed(widths, "widths")
+        start, indices = whole(first, "first"), np.empty(measured.size, dtype=np.int64)
+        values = np.empty(measured.size, dtype=np.int32)
+        for at in range(0, max(measured.size, 1), MOST_POSITIONS):
+            piece = slice(at, at + MOST_POSITIONS)
+            reply = self._divided(side, whole(start + at, "first"), measured[piece], indices[piece])
+            values[piece] = lent.values[: measured[piece].size, side]
+            if reply.number:
+                told = {"widths": list(widths), "first": first, "wood": wood or WHOLE_RING, "values": values.tolist()}
+                raise self._refused(reply, at, **told)
+        return values, indices
+
+    def _divided(self, side: int, first: int, widths: NDArray[np.int32], indices: NDArray[np.int64]) -> Any:
+        """One call for indices; the values are lent."""
         call = library.walzhik_latewood_indices if side else library.walzhik_earlywood_indices
-        measured = wholes(widths, "widths")
-        count = measured.size
-        held = lent.values if count <= MOST_POSITIONS else np.empty((count, len(WOOD)), dtype=np.int32)
-        lent_values = lent.values_lent if count <= MOST_POSITIONS else pointer(held)
-        indices = np.empty(count, dtype=np.int64)
-        reply = call(
+        return call(
             *self._lent,
-            whole(first, "first"),
-            pointer(measured),
-            count,
+            first,
+            pointer(widths),
+            widths.size,
             *lent.weights,
-            lent_values,
-            held.size,
+            lent.values_lent,
+            lent.values.size,
             pointer(indices, "int64_t[]"),
-            count,
+            indices.size,
         )
-        if reply.number:
-            told = held[:count, side].tolist()
-            raise self._refused(reply, widths=list(widths), first=first, wood=wood or WHOLE_RING, values=told)
-        return held[:count, side].copy(), indices
 
     def reach(self, width: int, wood: Wood | None = None) -> int:
         """The first position that reaches a width.
@@ -252,7 +281,8 @@ class Curve:
         """
         side = self.side(wood)
         call = library.walzhik_latewood_piece if side else library.walzhik_earlywood_piece
-        number = segment if isinstance(segment, int) and 0 <= segment <= LARGEST_PLACE else LARGEST_PLACE
+        whole(segment, "segment")
+        number = int(segment) if 0 <= segment <= LARGEST_PLACE else LARGEST_PLACE
         reply = call(*self._lent, number, *lent.weights)
         if reply.number:
             raise self._refused(reply, wood=wood or WHOLE_RING)
@@ -317,13 +347,14 @@ class Curve:
             raise ValueError(f"{wood!r} is no wood part: it is earlywood or latewood.")
         return WOOD.index(wood)
 
-    def _refused(self, reply: Any, **given: Any) -> Refused:
+    def _refused(self, reply: Any, before: int = 0, **given: Any) -> Refused:
+        """The refusal of a call that was given what follows so many entries before it."""
         lists = self.space.lists()
-        pairs = list(self._given)
-        lists.pairs = [tuple(pair) if np.ndim(pair) else (pair, pair) for pair in pairs]
+        lists.pairs = self.coefficients.tolist()
         for name, entries in given.items():
             setattr(lists, name, entries)
-        return refusal(lists, reply.number, reply.place)
+        place = reply.place + before if reply.number in OF_RINGS else reply.place
+        return refusal(lists, reply.number, place)
 
 
 def _raised(ordinates: list[Fraction], degree: int) -> list[Fraction]:

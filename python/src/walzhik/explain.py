@@ -10,11 +10,14 @@ import numpy as np
 
 from . import sheet, tucson
 from .errors import Refused
+from .promises import promises
 from .reasons import PER_MM, SCAR, WOOD, count, millimetres
 from .quoting import quoted
+from .sheet_front import Tidied, as_before
 from .tucson_reasons import HUNDREDTHS, closings
 
 if TYPE_CHECKING:
+    from .curve import Curve
     from .tolerant import Cleaned
 
 
@@ -42,20 +45,34 @@ def summary(lists: sheet.Sheet, printout: sheet.Printout) -> str:
     breaks = lists.breaks
     scars = [str(breaks[join + 1]) for join, order in enumerate(lists.orders) if order == SCAR]
     shape = (
-        f"Accepted: {count(len(lists.degrees), 'stretch')} over {count(breaks[-1] - breaks[0], 'ring')}, from ring "
+        f"Accepted: {count(len(lists.degrees), 'stretch')} over {count(breaks[-1] - breaks[0] + 1, 'ring')}, from ring "
         f"{breaks[0]} to ring {breaks[-1]}, n = {printout.rows}"
         + (f", scar at ring {', '.join(scars)}" if scars else "")
     )
     if not printout.values:
-        return f"{shape}.\nNo positions are listed, so there are no values."
-    ranges = []
-    for side, name in enumerate(WOOD, start=1):
-        values = [value[side] for value in printout.values]
-        ranges.append(f"{name} is from {millimetres(min(values))} to {millimetres(max(values))} mm")
-    low = len(printout.low)
-    ending = f"{low:,} of them {'is' if low == 1 else 'are'} low (zero or less in either part)"
+        return f"{shape}.\nNo positions are listed. {all_values(lists.curve())}"
+    sides = [[value[side] for value in printout.values] for side in (1, 2)]
     positions = count(len(printout.values), "position")
-    return f"{shape}.\nOver {positions} {' and '.join(ranges)}; {ending if low else 'none of them is low'}."
+    ends = [(min(values), max(values)) for values in sides]
+    return f"{shape}.\nOver {positions} {ranges(ends, len(printout.low))}"
+
+
+def all_values(curve: Curve) -> str:
+    """The least and the greatest value over all positions of the span, by the engine's values."""
+    ends: list[tuple[int, int]] = []
+    looked, low = 0, 0
+    for positions, values in curve.scanned():
+        looked, low = looked + len(positions), low + int((values <= 0).any(axis=1).sum())
+        pieces = list(zip(values.min(axis=0).tolist(), values.max(axis=0).tolist()))
+        ends = [(min(a, c), max(b, d)) for (a, b), (c, d) in zip(ends or pieces, pieces)]
+    return f"Over all {looked:,} positions of the span {ranges(ends, low)}"
+
+
+def ranges(ends: list[tuple[int, int]], low: int) -> str:
+    """The least and the greatest value of each wood part, and how many positions are low."""
+    told = [f"{name} is from {millimetres(least)} to {millimetres(most)} mm" for name, (least, most) in zip(WOOD, ends)]
+    ending = f"{low:,} of them {'is' if low == 1 else 'are'} low (zero or less in either part)"
+    return f"{' and '.join(told)}; {ending if low else 'none of them is low'}."
 
 
 def explain_sheet(text: bytes) -> Explained:
@@ -64,10 +81,32 @@ def explain_sheet(text: bytes) -> Explained:
     Examples
     --------
     >>> print(explain_sheet(b"breaks=0,60\\ndegrees=1\\norders=\\ncoefs=2400:700,900:300\\nat=\\n").words)
-    Accepted: 1 stretch over 60 rings, from ring 0 to ring 60, n = 2.
-    No positions are listed, so there are no values.
+    Accepted: 1 stretch over 61 rings, from ring 0 to ring 60, n = 2.
+    No positions are listed. Over all 15,361 positions of the span earlywood is from 0.900 to 2.400 mm and latewood is from 0.300 to 0.700 mm; none of them is low.
     """
     return explain_printed(text, sheet.printed(text))
+
+
+def explain_tidied(made: Tidied) -> Explained:
+    """What the proved program makes of a sheet that was tidied; a refusal names the line as it was before."""
+    printed = sheet.printed(made.text)
+    refusal = sheet.read_printout(printed).refusal
+    if refusal:
+        return refused(as_before(sheet.refused(made.text, *refusal), made.lines))
+    return explain_printed(made.text, printed)
+
+
+def with_promises(said: Explained, text: bytes) -> Explained:
+    """The words for a sheet in the strict form and, where the program accepts it, what can be counted on.
+
+    Examples
+    --------
+    >>> text = b"breaks=0,60\\ndegrees=1\\norders=\\ncoefs=2400:700,900:300\\nat=\\n"
+    >>> "Raising coefficients lowers no value." in with_promises(explain_sheet(text), text).words.splitlines()
+    True
+    """
+    lists = sheet.lists_of(text) if said.is_accepted else None
+    return said if lists is None else Explained("\n".join([said.words, *promises(lists)]), True)
 
 
 def explain_printed(text: bytes, printed: bytes) -> Explained:
@@ -83,7 +122,7 @@ def explain_printed(text: bytes, printed: bytes) -> Explained:
 
 def series_line(series: tucson.Series, closing: int) -> str:
     """What a series holds, in one line."""
-    name, unit = quoted(series.columns), "hundredths" if closing == HUNDREDTHS else "thousandths"
+    name, unit = quoted(series.columns.strip(b" ")), "hundredths" if closing == HUNDREDTHS else "thousandths"
     if not len(series):
         return f"Series {name} has no widths."
     widths = np.asarray(series.widths)
@@ -107,7 +146,7 @@ def explain_tucson(text: bytes) -> Explained:
     --------
     >>> print(explain_tucson(b"FEW     1998    12     9\\nFEW     2000     7 -9999\\n").words)
     Accepted: 1 series.
-    Series 'FEW     ': 3 widths in thousandths, 1998 to 2000, 0.007 to 0.012 mm, no rings absent.
+    Series 'FEW': 3 widths in thousandths, 1998 to 2000, 0.007 to 0.012 mm, no rings absent.
     """
     try:
         return summary_of_series(text, tucson.read_strict(text))

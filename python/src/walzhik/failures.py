@@ -14,6 +14,7 @@ from ._engine import Unavailable
 from .errors import Refused
 from .sheet import NoPrintout
 from .tolerant import Unreadable
+from .widths import Unwritable
 
 REFUSED, UNUSABLE = 1, 2
 
@@ -58,7 +59,7 @@ def told(error: Exception, about: str = "") -> Failure | None:
     if isinstance(error, Refused):
         words = f"{head}refused, no={error.number},{error.place}. {error.words}"
         return Refusal(f"{words} {error.remedy}".rstrip())
-    if isinstance(error, Unreadable):
+    if isinstance(error, (Unreadable, Unwritable)):
         return Refusal(f"{head}{error}")
     if isinstance(error, (Unavailable, NoPrintout)):
         return Unusable(f"{head}{error}")

@@ -6,18 +6,176 @@ from __future__ import annotations
 
 import os
 import signal
+import stat
 import sys
-import tempfile
+from collections.abc import Iterable, Iterator
+from contextlib import contextmanager, suppress
 from pathlib import Path
+from types import TracebackType
+from typing import IO, Any
 
 STANDARD = "-"
 ALL_MAY = 0o666  # before the user's mask
 SHELL_SIGNAL = 128  # what a shell adds to a signal's number in a status
+PREFIX, SUFFIX = ".walzhik-", ".part"  # of temporary names, by which those of killed writers are found again
+NAME_BYTES = 8
+NEW = os.O_CREAT | os.O_EXCL | os.O_WRONLY | os.O_CLOEXEC
 
 
 def read_whole(name: str) -> bytes:
     """All bytes of a file, or of standard input for ``-``."""
     return sys.stdin.buffer.read() if name == STANDARD else Path(name).read_bytes()
+
+
+def same_as(output: str, inputs: Iterable[str]) -> str | None:
+    """The input that an output would destroy, or None: by the identity of the file, whatever its names and links.
+
+    ``-`` is what standard input or output stands for. A path that is not there is compared by where its links lead. What
+    is no plain file, as a device or a pipe, can't be destroyed.
+
+    Examples
+    --------
+    >>> import tempfile
+    >>> folder = tempfile.mkdtemp()
+    >>> _ = Path(f"{folder}/a.rwl").write_bytes(b"widths")
+    >>> os.symlink("a.rwl", f"{folder}/b.csv")
+    >>> same_as(f"{folder}/b.csv", ["-", f"{folder}/a.rwl"]) == f"{folder}/a.rwl"
+    True
+    """
+    written = _identity(output, sys.stdout)
+    return next((name for name in inputs if written is not None and _identity(name, sys.stdin) == written), None)
+
+
+def _identity(name: str, stream: IO[Any]) -> tuple[object, ...] | None:
+    """What makes a file the same one: device and number, or the path where nothing is there; None for what is no plain
+    file."""
+    try:
+        found = os.fstat(stream.fileno()) if name == STANDARD else os.stat(name)
+    except (OSError, ValueError):  # a stream without a file, or a path that is not there
+        return None if name == STANDARD else (os.path.realpath(name),)
+    return (found.st_dev, found.st_ino) if stat.S_ISREG(found.st_mode) else None
+
+
+class named:
+    """Say of system errors that they are about this path, not about a temporary name or about none."""
+
+    def __init__(self, path: str | Path) -> None:
+        self._path = path
+
+    def __enter__(self) -> None:
+        pass
+
+    def __exit__(self, kind: type[BaseException] | None, error: BaseException | None, at: TracebackType | None) -> None:
+        if isinstance(error, OSError):
+            raise type(error)(error.errno, error.strerror or str(error), str(self._path)) from error
+
+
+class Part:
+    """A file under a temporary name beside its own, which it takes when it is kept.
+
+    Parameters
+    ----------
+    path : Path
+        The name that it takes.
+
+    Attributes
+    ----------
+    file : binary file
+        To write to.
+
+    Examples
+    --------
+    >>> import tempfile
+    >>> folder = Path(tempfile.mkdtemp())
+    >>> part = Part(folder / "a")
+    >>> part.write(b"whole")
+    >>> part.finish()
+    >>> (folder / "a").exists()
+    False
+    >>> part.keep()
+    >>> os.listdir(folder)
+    ['a']
+    """
+
+    def __init__(self, path: Path) -> None:
+        self.path, self._is_kept = path, False
+        self.made = os.path.join(os.path.dirname(path), f"{PREFIX}{os.urandom(NAME_BYTES).hex()}{SUFFIX}")
+        with named(path):
+            self.file: IO[bytes] = os.fdopen(os.open(self.made, NEW, ALL_MAY), "wb")
+
+    def write(self, data: bytes) -> None:
+        """Write bytes to it."""
+        with named(self.path):
+            self.file.write(data)
+
+    def finish(self, *, is_synced: bool = False) -> None:
+        """End the writing; with `is_synced` the bytes are on the disk then."""
+        with named(self.path):
+            self.file.flush()
+            if is_synced:
+                os.fsync(self.file.fileno())
+            self.file.close()
+
+    def keep(self) -> None:
+        """Give the file its name."""
+        with named(self.path):
+            os.replace(self.made, self.path)
+        self._is_kept = True
+
+    def drop(self) -> None:
+        """Leave nothing of it, unless it is kept."""
+        if self._is_kept:
+            return
+        with suppress(OSError):  # what it couldn't write at the end
+            self.file.close()
+        with suppress(FileNotFoundError):  # swept, as one of a writer that was taken for lost
+            os.unlink(self.made)
+
+
+@contextmanager
+def written(path: Path, *, is_synced: bool = False) -> Iterator[IO[bytes]]:
+    """A file to write to, which takes its name when all is written; on an error nothing is left of it.
+
+    Parameters
+    ----------
+    path : Path
+        The name that it takes.
+    is_synced : bool
+        Whether it is on the disk before it takes its name.
+    """
+    part = Part(path)
+    try:
+        try:
+            yield part.file
+        except OSError as error:
+            if error.filename is not None:  # it is about another file
+                raise
+            raise type(error)(error.errno, error.strerror or str(error), str(path)) from error
+        part.finish(is_synced=is_synced)
+        part.keep()
+    finally:
+        part.drop()
+
+
+def sweep(folder: Path) -> int:
+    """Take away what killed writers have left below a folder, and say how many files that were.
+
+    Examples
+    --------
+    >>> import tempfile
+    >>> folder = Path(tempfile.mkdtemp())
+    >>> _ = (folder / ".walzhik-a1.part").write_bytes(b"ha")
+    >>> sweep(folder)
+    1
+    """
+    count = 0
+    for place, _, names in os.walk(folder):
+        for name in names:
+            if name.startswith(PREFIX) and name.endswith(SUFFIX):
+                with suppress(FileNotFoundError):
+                    os.unlink(os.path.join(place, name))
+                    count += 1
+    return count
 
 
 def write_whole(name: str, data: bytes) -> None:
@@ -37,25 +195,15 @@ def write_whole(name: str, data: bytes) -> None:
     if name == STANDARD:
         write_out(data)
         return
-    try:
-        _write_file(Path(os.path.realpath(name)), data)
-    except OSError as error:
-        raise OSError(error.errno, error.strerror, name) from error
-
-
-def _write_file(path: Path, data: bytes) -> None:
-    if path.exists() and not path.is_file():
-        path.write_bytes(data)
-        return
-    handle, made = tempfile.mkstemp(prefix=f".{path.name}.", dir=path.parent)
-    try:
-        with os.fdopen(handle, "wb") as file:
+    path = Path(os.path.realpath(name))
+    with named(name):
+        if path.exists() and not path.is_file():
+            path.write_bytes(data)
+            return
+        with written(path) as file:
+            if path.exists():
+                os.fchmod(file.fileno(), path.stat().st_mode)
             file.write(data)
-        os.chmod(made, path.stat().st_mode if path.exists() else ALL_MAY & ~_mask())
-        os.replace(made, path)
-    except BaseException:
-        os.unlink(made)
-        raise
 
 
 def write_out(data: bytes) -> None:
@@ -68,9 +216,3 @@ def write_out(data: bytes) -> None:
         if isinstance(error, BrokenPipeError):
             sys.exit(SHELL_SIGNAL + signal.SIGPIPE)
         raise OSError(error.errno, error.strerror, "standard output") from error
-
-
-def _mask() -> int:
-    mask = os.umask(0)
-    os.umask(mask)
-    return mask

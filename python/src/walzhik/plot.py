@@ -5,6 +5,7 @@ the engine's; a picture only draws them, and is not proved. The same input gives
 from __future__ import annotations
 
 import io
+import warnings
 from collections.abc import Iterator, Sequence
 from contextlib import contextmanager
 from typing import TYPE_CHECKING, Any, Literal, NamedTuple
@@ -34,8 +35,9 @@ DASHES: dict[str | None, Any] = {None: "-", WOOD[0]: "-", WOOD[1]: (0, (6, 3))}
 MARKS: dict[str | None, str] = {None: "o", WOOD[0]: "o", WOOD[1]: "s"}
 MORE = (GREEN, ORANGE, SKY, PURPLE, VERMILION)  # for further series of one part
 MOST_SERIES = len(MORE) + 1  # of one part that can be told apart
+FONT = "DejaVu Sans"
 STYLE = {
-    "font.family": "DejaVu Sans",
+    "font.family": FONT,
     "font.size": 9,
     "svg.fonttype": "path",
     "svg.hashsalt": "walzhik",
@@ -91,10 +93,25 @@ def _style() -> Iterator[None]:
     """matplotlib's own settings with these on top, whatever a user's are."""
     import matplotlib
 
-    with matplotlib.rc_context():
+    with matplotlib.rc_context(), warnings.catch_warnings():
+        warnings.filterwarnings("ignore", message="Glyph .* missing from")  # `lacking` says which
         matplotlib.rcdefaults()
         matplotlib.rcParams.update(STYLE)
         yield
+
+
+def lacking(text: str) -> str:
+    """The characters of a text that the pictures' font lacks, each once; they are drawn as empty boxes.
+
+    Examples
+    --------
+    >>> lacking("Eiche"), len(lacking("\N{HANGUL SYLLABLE GA}\N{HANGUL SYLLABLE GA}"))
+    ('', 1)
+    """
+    from matplotlib.font_manager import findfont, get_font
+
+    drawn = get_font(findfont(FONT)).get_charmap()
+    return "".join(dict.fromkeys(letter for letter in text if ord(letter) not in drawn and letter != "\n"))
 
 
 def picture(
@@ -238,7 +255,8 @@ def _draw_curves(panel: Axes, curve: Curve, parts: Sequence[Wood | None], at: Wh
         panel.add_patch(
             PathPatch(path, facecolor="none", edgecolor=CURVE_COLOURS[wood], capstyle="butt", gid=gid, zorder=4, **line)
         )
-        legend.add(CURVES, name, Line2D([], [], color=CURVE_COLOURS[wood], **line))
+        words = "growth curve" if wood is None else name
+        legend.add(CURVES, words, Line2D([], [], color=CURVE_COLOURS[wood], **line))
         values = millimetres(curve, positions)[:, curve.side(wood)]
         low = values <= 0
         if low.any():
@@ -279,11 +297,16 @@ def _draw_rings(panel: Axes, curve: Curve, each: Measured, heights: NDArray[np.f
     line = np.insert(rings.astype(float), cuts, np.nan), np.insert(heights, cuts, np.nan)
     thin = {"color": colour, "linewidth": THIN, "linestyle": DASHES[each.wood], "alpha": LINE_ALPHA}
     panel.plot(*line, zorder=2, gid=gid, **thin)
-    shown = ~np.isnan(heights) & (rings % _round_step(len(heights) / MOST_MARKS) == 0)
+    shown = ~np.isnan(heights) & (rings % _mark_step(len(heights)) == 0)
     face = colour if MARKS[each.wood] == "o" else "white"
     style = {"marker": MARKS[each.wood], "markersize": 2.8, "markerfacecolor": face, "markeredgewidth": 0.7}
     style["color"] = colour
     return _unclipped(panel, rings[shown], heights[shown], zorder=3, **style)
+
+
+def _mark_step(rings: int) -> int:
+    """Which of so many rings get a mark: every one, or every so manieth, which the legend tells."""
+    return _round_step(rings / MOST_MARKS)
 
 
 def _draw_widths(panel: Axes, curve: Curve, measured: Sequence[Measured], colours: list[str], legend: _Legend) -> None:
@@ -291,7 +314,9 @@ def _draw_widths(panel: Axes, curve: Curve, measured: Sequence[Measured], colour
     for place, (each, colour) in enumerate(zip(measured, colours)):
         widths = np.asarray(each.widths, dtype=float) / PER_MM
         heights = np.where(widths == 0, np.nan, widths)
-        legend.add(SERIES, each.name, _draw_rings(panel, curve, each, heights, colour, f"widths-{place}"))
+        step = _mark_step(len(heights))
+        name = each.name if step == 1 else f"{each.name} (a mark every {step} rings)"
+        legend.add(SERIES, name, _draw_rings(panel, curve, each, heights, colour, f"widths-{place}"))
         absent = each.first + np.flatnonzero(widths == 0)
         if absent.size:
             style = {"marker": "x", "color": BLACK, "markersize": 5, "markeredgewidth": 1.2}

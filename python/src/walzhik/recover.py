@@ -9,7 +9,7 @@ from typing import TYPE_CHECKING
 
 import numpy as np
 
-from ._engine import lent, library, pointer, wholes
+from ._engine import lent, library, listed, pointer
 from .errors import Refused
 from .reasons import UNIT, refusal
 
@@ -50,7 +50,7 @@ def recover(space: Space, ordinates: Wholes) -> list[Fraction]:
     >>> [str(each) for each in recover(space, [614400, 409600, 358400, 358400, 256000, 230400])]
     ['2400', '1600', '1000', '900']
     """
-    given = wholes(ordinates, "ordinates")
+    given = listed(ordinates, "ordinates")
     tops, bottoms = (np.empty(given.size, dtype=np.int64) for _ in (0, 1))
     reply = library.walzhik_coefficients(
         *space._lent,
@@ -103,6 +103,6 @@ def nearest(space: Space, ordinates: Wholes) -> NDArray[np.int32]:
     except Refused as error:
         if error.number not in (MISSED, TOO_LARGE):
             raise
-    solved, *_ = np.linalg.lstsq(space.matrix().T, wholes(ordinates, "ordinates") / UNIT, rcond=None)
+    solved, *_ = np.linalg.lstsq(space.matrix().T, listed(ordinates, "ordinates") / UNIT, rcond=None)
     rounded: NDArray[np.int32] = np.floor(solved + 1 / 2).astype(np.int32)
     return rounded

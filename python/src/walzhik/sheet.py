@@ -80,6 +80,19 @@ class Sheet:
         return "".join(lines).encode("ascii")
 
 
+def sheet_of(curve: Curve) -> Sheet:
+    """The sheet of a curve, without positions.
+
+    Examples
+    --------
+    >>> sheet_of(Curve(Space([0, 2], [1], []), [1000, 3000])).pairs
+    [(1000, 1000), (3000, 3000)]
+    """
+    lists = curve.space.lists()
+    pairs = [(early, late) for early, late in curve.coefficients.tolist()]
+    return Sheet(lists.breaks, lists.degrees, lists.orders, pairs)
+
+
 class NoPrintout(Exception):
     """The program `sheet` has printed nothing that is a printout."""
 

@@ -10,7 +10,7 @@ from typing import TYPE_CHECKING, Any, NamedTuple
 
 import numpy as np
 
-from ._engine import kept, lent, library, pointer
+from ._engine import kept, lent, library, listed, pointer
 from .reasons import Lists, refusal
 from .reasons import parts as parts_of
 
@@ -75,11 +75,7 @@ class Space:
 
     def __init__(self, breaks: Wholes, degrees: Wholes, orders: Wholes) -> None:
         given = {"breaks": breaks, "degrees": degrees, "orders": orders}
-        lists = [kept(numbers, name) for name, numbers in given.items()]
-        for name, numbers in zip(given, lists):
-            if numbers.ndim != 1:
-                raise TypeError(f"{name}: a list of whole numbers is needed")
-        self.breaks, self.degrees, self.orders = lists
+        self.breaks, self.degrees, self.orders = (kept(listed(each, name), name) for name, each in given.items())
         self._lent = _lend(self.breaks, self.degrees, self.orders)
         reply = library.walzhik_build(*self._lent, *lent.weights)
         if reply.number:

@@ -91,7 +91,7 @@ def clean(data: bytes, *, unit: Unit | None = None, split_gaps: bool = False) ->
     walzhik._tolerant_report.Unreadable: Line 2: series 'FEW     ' has a gap: no widths for 2000 to 2009. Put ...
     """
     changes = Changes()
-    lines = _without_header(_text_lines(_without_marks(data, changes), changes), changes)
+    lines = _without_header(text_lines(without_marks(data, changes), changes), changes)
     raw_names: dict[bytes, bytes] = {}
     lines = [_plain(line, raw_names, changes) for line in _in_columns(lines, changes)]
     lines = settled(lines, unit, split_gaps, changes)
@@ -106,7 +106,7 @@ def _line_of(data: bytes, position: int) -> int:
     return data.count(b"\n", 0, position) + 1
 
 
-def _without_marks(data: bytes, changes: Changes) -> bytes:
+def without_marks(data: bytes, changes: Changes) -> bytes:
     """The text without a byte order mark at its start and Ctrl-Z at its end."""
     if data.startswith(UTF_16_MARKS):
         raise Unreadable(1, "the file is written in UTF-16.", "Save it as plain text (ASCII or UTF-8).")
@@ -129,7 +129,7 @@ def _without_marks(data: bytes, changes: Changes) -> bytes:
     return data[:end]
 
 
-def _text_lines(data: bytes, changes: Changes) -> list[Line]:
+def text_lines(data: bytes, changes: Changes) -> list[Line]:
     """The lines that are not blank, without line ends and trailing blanks."""
     *ended, rest = data.split(b"\n")
     lines = []

@@ -13,7 +13,7 @@ from typing import TYPE_CHECKING, Literal
 import numpy as np
 
 from . import tucson_reasons
-from ._engine import library, pointer, wholes
+from ._engine import library, listed, pointer, wholes
 from .errors import Refused
 from .reasons import MOST_WIDTH, PER_MM
 from .quoting import quoted
@@ -30,7 +30,7 @@ Unit = Literal["hundredths", "thousandths"]
 LEAST_SERIES_BYTES = HEAD + FIELD_COLUMNS + 1  # one line with one field and its end
 
 
-@dataclass
+@dataclass(eq=False)
 class Series:
     """A series of ring widths.
 
@@ -56,6 +56,12 @@ class Series:
 
     def __len__(self) -> int:
         return len(self.widths)
+
+    def __eq__(self, other: object) -> bool:
+        """Whether name, first year and all widths are the same."""
+        if not isinstance(other, Series):
+            return NotImplemented
+        return (self.name, self.first) == (other.name, other.first) and np.array_equal(self.widths, other.widths)
 
     @property
     def last(self) -> int:
@@ -195,7 +201,7 @@ def write(series: Iterable[Series]) -> bytes:
     names = np.frombuffer(b"".join(each.columns for each in given), dtype=np.uint8)
     years = wholes([each.first for each in given], "first")
     counts = np.array([len(each) for each in given], dtype=np.uint32)
-    lists = [wholes(each.widths, "widths") for each in given]
+    lists = [listed(each.widths, "widths") for each in given]
     widths = np.concatenate(lists) if lists else np.zeros(0, dtype=np.int32)
     text = np.empty(_most_bytes(given), dtype=np.uint8)
     reply = library.walzhik_tucson_write(

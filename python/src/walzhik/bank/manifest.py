@@ -6,21 +6,77 @@ done it becomes the manifest, in order of path and without seconds, the same wha
 from __future__ import annotations
 
 import fcntl
-import json
+import io
 import os
-import secrets
-from collections.abc import Iterable, Iterator
+from collections.abc import Collection, Iterator
 from pathlib import Path
 from typing import IO
 
 from ..failures import Unusable
+from ..files import Part, named
+from . import lock
+from .places import JOURNAL, MANIFEST, MARK
 from .records import Record
 
-MANIFEST, JOURNAL = "manifest.jsonl", "journal.jsonl"
-TOKEN_BYTES = 16
+
+class Known:
+    """The records of an output folder, to be read: where the last one of each path begins.
+
+    Parameters
+    ----------
+    output : Path
+        The output folder; it may be missing.
+    """
+
+    def __init__(self, output: Path) -> None:
+        self.output = output
+        self._files: dict[str, IO[bytes]] = {}
+        self._places: dict[str, tuple[str, int]] = {}
+        for name in (MANIFEST, JOURNAL):
+            if (output / name).exists():
+                with named(output / name):
+                    self._index(name)
+
+    def _index(self, name: str) -> None:
+        """Where the last record of each path begins. A line that is no record, as half a line, is passed over: its file
+        is then done again."""
+        self._files[name] = (self.output / name).open("rb")
+        place = 0
+        for line in self._files[name]:
+            try:
+                self._places[Record.read(line).path] = (name, place)
+            except ValueError:
+                pass
+            place += len(line)
+
+    def line_of(self, path: str) -> bytes:
+        """The record of a path as a line, or nothing where there is none."""
+        if path not in self._places:
+            return b""
+        name, place = self._places[path]
+        with named(self.output / name):
+            self._files[name].seek(place)
+            return self._files[name].readline()
+
+    def of(self, path: str) -> Record | None:
+        """The record of a path, if there is one."""
+        line = self.line_of(path)
+        return Record.read(line) if line else None
+
+    def gone(self, paths: Collection[str]) -> Iterator[Record]:
+        """The records with outputs whose path is none of these, in order of path."""
+        for path in sorted(self._places.keys() - set(paths)):
+            record = self.of(path)
+            if record is not None and record.outputs:
+                yield record
+
+    def close(self) -> None:
+        """Close the files."""
+        for file in self._files.values():
+            file.close()
 
 
-class Manifest:
+class Manifest(Known):
     """The records of an output folder. It is this run's alone until it is closed.
 
     Parameters
@@ -30,8 +86,8 @@ class Manifest:
 
     Attributes
     ----------
-    token : str
-        The journal's first line: who can read it there has the same folder before it.
+    number : str
+        The run's number: who reads it in the folder's lock has the same folder before it.
 
     Raises
     ------
@@ -40,74 +96,64 @@ class Manifest:
     """
 
     def __init__(self, output: Path) -> None:
-        self.output = output
         try:
             output.mkdir(parents=True, exist_ok=True)
-            self._journal = _locked(output / JOURNAL)
-            self.token = _token(self._journal)
-            self._places: dict[str, tuple[IO[bytes], int]] = {}
-            self._manifest = _opened(output / MANIFEST)
+            self._journal: IO[bytes] | io.FileIO = _locked(output / JOURNAL)
+            try:
+                self.number = lock.begin(output)
+                super().__init__(output)
+                self._compact()
+            except BaseException:
+                self._journal.close()
+                raise
         except OSError as error:
             told = f"{error.filename or output}: {error.strerror or error}"
             raise Unusable(f"The output folder can't be used. {told}.") from error
-        for file in filter(None, (self._manifest, self._journal)):
-            self._index(file)
+        except lock.Held as error:
+            words = f"A worker of an earlier run is still writing to {output}, and does not end"
+            raise Unusable(f"{words}. End it, or give another folder.") from error
 
-    def _index(self, file: IO[bytes]) -> None:
-        """Where the last record of each path begins. A line that is no record, as half a line, is passed over: its file
-        is then done again."""
-        file.seek(0)
-        while True:
-            place = file.tell()
-            line = file.readline()
-            if not line:
-                return
-            try:
-                self._places[Record.read(line).path] = (file, place)
-            except ValueError:
-                continue
+    def _compact(self) -> None:
+        """Begin the journal anew, with the last record of each path that the old one has. The new file is this run's
+        before it takes the old one's name."""
+        part = Part(self.output / JOURNAL)
+        try:
+            part.file.write(MARK + self.number.encode("ascii") + b"\n")
+            part.file.writelines(self.line_of(path) for path, (name, _) in self._places.items() if name == JOURNAL)
+            part.finish()
+            made = open(part.made, "ab+", buffering=0)
+            fcntl.flock(made, fcntl.LOCK_EX | fcntl.LOCK_NB)
+            part.keep()
+        finally:
+            part.drop()
+        self._journal.close()
+        self._journal = made
+        super().close()
+        super().__init__(self.output)
 
-    def of(self, path: str) -> Record | None:
-        """The record of a path, if there is one."""
-        if path not in self._places:
-            return None
-        file, place = self._places[path]
-        file.seek(place)
-        return Record.read(file.readline())
-
-    def add(self, line: bytes) -> None:
-        """Put a record, as a line, into the journal."""
-        place = self._journal.seek(0, os.SEEK_END)
-        self._journal.write(line)
-        self._journal.flush()
-        self._places[json.loads(line)["path"]] = (self._journal, place)
-
-    def copied(self, paths: Iterable[str], kept: IO[bytes]) -> Iterator[Record]:
-        """The records of paths; each is put into the next manifest as it is given."""
-        for path in paths:
-            record = self.of(path)
-            if record is not None:
-                kept.write(record.without_seconds().line())
-                yield record
-
-    def others(self, paths: Iterable[str]) -> int:
-        """How many records with outputs have a path that is none of these."""
-        records = map(self.of, self._places.keys() - set(paths))
-        return sum(record is not None and bool(record.outputs) for record in records)
+    def add(self, record: Record) -> None:
+        """Put a record into the journal."""
+        line = record.line()
+        with named(self.output / JOURNAL):
+            place = self._journal.seek(0, os.SEEK_END)
+            rest = memoryview(line)
+            while rest:
+                rest = rest[self._journal.write(rest) :]
+        self._places[record.path] = (JOURNAL, place)
 
     def finish(self) -> None:
         """Take the journal away: all that it says is in the manifest."""
-        os.unlink(self.output / JOURNAL)
+        with named(self.output / JOURNAL):
+            os.unlink(self.output / JOURNAL)
 
     def close(self) -> None:
-        """Leave the folder to others."""
+        """Leave the folder to others. Nobody may write to it until the next run."""
+        try:
+            lock.end(self.output)
+        except (OSError, lock.Held):
+            pass  # a late worker writes what this run would have written
         self._journal.close()
-        if self._manifest is not None:
-            self._manifest.close()
-
-
-def _opened(path: Path) -> IO[bytes] | None:
-    return path.open("rb") if path.exists() else None
+        super().close()
 
 
 def _locked(path: Path) -> IO[bytes]:
@@ -122,23 +168,3 @@ def _locked(path: Path) -> IO[bytes]:
         if path.exists() and os.path.samestat(os.fstat(file.fileno()), path.stat()):
             return file
         file.close()
-
-
-def _token(journal: IO[bytes]) -> str:
-    """The journal's first line, which a new one gets; half a line at its end is closed, so that no record is joined to
-    it."""
-    journal.seek(0)
-    first = journal.readline()
-    if not first.endswith(b"\n"):
-        journal.truncate(0)
-        first = f"walzhik bank {secrets.token_hex(TOKEN_BYTES)}\n".encode("ascii")
-        journal.write(first)
-    elif not journal.seek(0, os.SEEK_END) or not _ends_a_line(journal):
-        journal.write(b"\n")
-    journal.flush()
-    return first.decode("ascii", "replace").strip()
-
-
-def _ends_a_line(journal: IO[bytes]) -> bool:
-    journal.seek(-1, os.SEEK_END)
-    return journal.read(1) == b"\n"

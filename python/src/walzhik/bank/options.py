@@ -5,7 +5,6 @@ hash of each, by which a later run knows whether a file must be done again.
 from __future__ import annotations
 
 import json
-import os
 from functools import lru_cache
 from hashlib import sha256
 from pathlib import Path
@@ -15,12 +14,11 @@ from .. import _build
 from .._engine import found
 from ..commands.indices import Names
 from ..curve import Curve
+from ..formats import Form
 from ..sheet import Sheet
 from ..space import Space
 from ..tucson import Unit
-
-THREADS = ("OMP_NUM_THREADS", "OPENBLAS_NUM_THREADS", "MKL_NUM_THREADS")
-ONE_THREAD = dict.fromkeys(THREADS, "1")  # sums in another order could round another way
+from ..widths import Asked
 
 
 class Options(NamedTuple):
@@ -40,6 +38,10 @@ class Options(NamedTuple):
         The ring of each first width; None where rings are years.
     strict, split_gaps : bool
     unit : {"hundredths", "thousandths"} or None
+    form : {"tucson", "fh", "csv"} or None
+        What every file is; None for what its ending says.
+    asked : Asked
+        What is asked of the fronts for Heidelberg files and tables.
     """
 
     ending: Literal["csv", "rwl"] = "csv"
@@ -50,6 +52,8 @@ class Options(NamedTuple):
     strict: bool = False
     split_gaps: bool = False
     unit: Unit | None = None
+    form: Form | None = None
+    asked: Asked = Asked()
 
     def key(self) -> str:
         """The hash of the options.
@@ -60,6 +64,23 @@ class Options(NamedTuple):
         True
         """
         return sha256(json.dumps(self).encode("ascii")).hexdigest()
+
+    def told(self) -> str:
+        """The options in words that are not as they are without being asked for.
+
+        Examples
+        --------
+        >>> Options(ending="rwl", first=1).told(), Options().told()
+        ('ending rwl, first 1', 'none')
+        """
+        plain = Options()._asdict()
+        said = []
+        for name, value in self._asdict().items():
+            if value != plain[name]:
+                said.append(
+                    f"{name.replace('_', ' ')} {value._asdict() if isinstance(value, (Names, Asked)) else value}"
+                )
+        return ", ".join(said) or "none"
 
     def given_space(self) -> Space | None:
         """The space of the fits, where it is given."""
@@ -82,8 +103,3 @@ def version() -> str:
     for path in [*files, found(_build.LIBRARY, f"target/lib/{_build.LIBRARY}")]:
         made.update(sha256(path.read_bytes()).digest())
     return made.hexdigest()
-
-
-def is_one_thread() -> bool:
-    """Whether numerical libraries were told, before they were loaded, to keep to one thread."""
-    return all(os.environ.get(name) == number for name, number in ONE_THREAD.items())

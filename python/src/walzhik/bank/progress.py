@@ -4,6 +4,7 @@ from __future__ import annotations
 
 import sys
 from collections.abc import Callable
+from contextlib import suppress
 from time import monotonic
 from typing import IO, Any
 
@@ -13,7 +14,7 @@ MINUTE = 60
 
 
 class Progress:
-    """Counts files that are done.
+    """Counts files that are done. Where nobody reads what it says any more, it says nothing, and the run goes on.
 
     Parameters
     ----------
@@ -23,6 +24,11 @@ class Progress:
         Standard error without it.
     clock : callable, optional
         Seconds from some moment.
+
+    Attributes
+    ----------
+    done, kept, cleared : int
+        Files that are done so far; those of them that an earlier run did; refused ones whose earlier outputs went.
 
     Examples
     --------
@@ -36,7 +42,7 @@ class Progress:
     def __init__(
         self, total: int, is_quiet: bool = False, stream: IO[str] | None = None, clock: Callable[[], float] = monotonic
     ) -> None:
-        self.total, self.done = total, 0
+        self.total, self.done, self.kept, self.cleared = total, 0, 0, 0
         self._stream, self._clock = stream or sys.stderr, clock
         self._begun = self._said = clock()
         self._is_quiet = is_quiet
@@ -44,23 +50,35 @@ class Progress:
         if not is_quiet and self._stream.isatty():
             from tqdm import tqdm
 
+            tqdm.monitor_interval = 0  # without its thread, so that workers can be copies of this process
             self._bar = tqdm(total=total, unit=" files", file=self._stream, dynamic_ncols=True)
 
     def advance(self) -> None:
         """One file more is done."""
         self.done += 1
         if self._bar is not None:
-            self._bar.update()
+            with suppress(OSError):
+                self._bar.update()
         elif not self._is_quiet:
             now = self._clock()
             if now - self._said >= MINUTE:
                 self._said = now
-                click.echo(self.line(now - self._begun), file=self._stream)
+                self.warn(self.line(now - self._begun))
 
     def say(self, words: str) -> None:
         """Say something beside the count."""
         if not self._is_quiet:
-            click.echo(words, file=self._stream)
+            self.warn(words)
+
+    def warn(self, words: str) -> None:
+        """Say something that is said even quietly."""
+        try:
+            if self._bar is None:
+                click.echo(words, file=self._stream)
+            else:
+                self._bar.write(words, file=self._stream)
+        except OSError:
+            pass
 
     def line(self, seconds: float) -> str:
         """How far it is after so many seconds, in words.
@@ -72,12 +90,19 @@ class Progress:
         >>> progress.line(600)
         '500 of 2,000 files are done, 50.0 a minute; about 30 minutes left.'
         """
-        rate = self.done * MINUTE / seconds
+        fresh = self.done - self.kept
+        said = f"{self.done:,} of {self.total:,} files are done"
+        if self.kept:
+            said += f", {self.kept:,} of them by an earlier run"
+        if not fresh:
+            return f"{said}."
+        rate = fresh * MINUTE / seconds
         left = max(1, round((self.total - self.done) / rate))
         unit = "minute" if left == 1 else "minutes"
-        return f"{self.done:,} of {self.total:,} files are done, {rate:,.1f} a minute; about {left:,} {unit} left."
+        return f"{said}, {rate:,.1f} a minute; about {left:,} {unit} left."
 
     def close(self) -> None:
         """End the bar."""
         if self._bar is not None:
-            self._bar.close()
+            with suppress(OSError):
+                self._bar.close()

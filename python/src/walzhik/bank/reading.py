@@ -4,6 +4,7 @@ changes while it is read. Apart because every way of spoiling a file is met here
 
 from __future__ import annotations
 
+import errno
 import gzip
 import io
 import os
@@ -12,10 +13,11 @@ import zlib
 from hashlib import sha256
 from typing import NamedTuple
 
-from .inputs import PACKED
+from .inputs import GZIP
 
 MOST_BYTES = 64 * 2**20  # of a file, and of what it unpacks to: some ten million rings
 SAID = f"{MOST_BYTES // 2**20} MiB"
+OF_THE_MACHINE = (errno.EMFILE, errno.ENFILE, errno.ENOMEM)  # not of the file
 
 
 class Damaged(Exception):
@@ -41,6 +43,11 @@ class Content(NamedTuple):
     digest: str
 
 
+def digest_of(data: bytes) -> str:
+    """SHA-256, as records and tasks have it."""
+    return sha256(data).hexdigest()
+
+
 def read(source: str) -> Content:
     """All of a file.
 
@@ -50,6 +57,8 @@ def read(source: str) -> Content:
         If it is too large.
     Unsteady
         If it has changed meanwhile, or can't be read.
+    OSError
+        If this machine can't read any file now, as with too many of them open.
     """
     try:
         handle = os.open(source, os.O_RDONLY | os.O_NONBLOCK)  # so that a pipe with no writer can't hold us
@@ -60,10 +69,12 @@ def read(source: str) -> Content:
             raw = _all_of(file)
             steady = state(before) == state(os.fstat(handle)) == state(os.stat(source))
     except OSError as error:
+        if error.errno in OF_THE_MACHINE:
+            raise
         raise Unsteady(f"It can't be read: {error.strerror or error}.") from error
     if not steady or len(raw) != before.st_size:
         raise Unsteady("It changed while it was read. Run again when nothing writes to it.")
-    return Content(raw, sha256(raw).hexdigest())
+    return Content(raw, digest_of(raw))
 
 
 def state(found: os.stat_result) -> tuple[int, ...]:
@@ -95,7 +106,7 @@ def unpacked(source: str, raw: bytes) -> bytes:
     ...
     walzhik.bank.reading.Damaged: It ends too early to be unpacked. Get the file again.
     """
-    if not source.lower().endswith(PACKED):
+    if not source.lower().endswith(GZIP):
         return raw
     try:
         if not raw:  # which the library takes for an empty text

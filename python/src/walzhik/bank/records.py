@@ -19,6 +19,14 @@ class Row(NamedTuple):
         How many coefficients its curve has.
     refusal : str
         Empty where all went well.
+    first : int or None
+        The year of its first ring.
+    shape : str
+        What its fitted coefficients do; empty where a sheet was given.
+    deviation, explained : float or None
+        Root of the mean square of width less curve, in millimetres, and the share of the variance explained.
+    number : int or None
+        The engine's, of a refusal that is its own.
     seconds : float or None
         None where a finished run did it before.
     """
@@ -27,11 +35,21 @@ class Row(NamedTuple):
     rings: int
     n: int | None
     refusal: str
+    first: int | None = None
+    shape: str = ""
+    deviation: float | None = None
+    explained: float | None = None
+    number: int | None = None
     seconds: float | None = None
+
+    @property
+    def last(self) -> int | None:
+        """The year of its last ring."""
+        return None if self.first is None else self.first + self.rings - 1
 
 
 class Record(NamedTuple):
-    """What a file came to.
+    """What a file came to. What it says stands in the output folder: its outputs, and no others of its name.
 
     Attributes
     ----------
@@ -45,6 +63,8 @@ class Record(NamedTuple):
         The hash of each output by its path below the output folder.
     refusal : str
         Why nothing of the file was worked out.
+    number : int or None
+        The engine's, of a refusal that is its own.
     changes : list of str
         What the tolerant front changed.
     rows : list of Row
@@ -58,6 +78,7 @@ class Record(NamedTuple):
     version: str = ""
     outputs: dict[str, str] = {}
     refusal: str = ""
+    number: int | None = None
     changes: list[str] = []
     rows: list[Row] = []
     seconds: float | None = None

@@ -15,7 +15,7 @@ from ..csvtext import quoted_field
 from .inputs import shown
 from .records import Record, Row
 
-HEADER = "file,series,rings,n,refusal,changes,seconds\n"
+HEADER = "file,series,first,last,rings,n,shape,deviation_mm,explained,number,refusal,changes,seconds\n"
 SHOWN_REFUSALS, SHOWN_SLOWEST, SHOWN_PICTURES, MOST_REASONS = 200, 10, 12, 500
 OTHER = "Other reasons"
 
@@ -41,9 +41,13 @@ class Summary:
 
     Attributes
     ----------
-    files, refused_files, unread_files, kept_files : int
-        All; those of which nothing was worked out; those of these whose bytes couldn't be had; those that an earlier,
-        finished run did.
+    files, refused_files, unread_files : int
+        All; those of which nothing was worked out; those of these whose bytes couldn't be had.
+    kept_files, cleared_files, gone_files : int
+        Those that an earlier run did; those refused of which an earlier run's outputs were taken away; those of which
+        only outputs are there.
+    pruned : int
+        How many outputs were taken away that no record names.
     series, refused_series, rings : int
     changed_files : int
         Those that the tolerant front changed.
@@ -59,7 +63,8 @@ class Summary:
     """
 
     def __init__(self) -> None:
-        self.files = self.refused_files = self.unread_files = self.kept_files = self.changed_files = 0
+        self.files = self.refused_files = self.unread_files = self.changed_files = 0
+        self.kept_files = self.cleared_files = self.gone_files = self.pruned = 0
         self.series = self.refused_series = self.rings = 0
         self.lengths: Counter[int] = Counter()
         self.reasons: Counter[str] = Counter()
@@ -74,7 +79,6 @@ class Summary:
         self.refused_files += bool(record.refusal)
         self.unread_files += not record.digest
         self.changed_files += bool(record.changes)
-        self.kept_files += record.seconds is None and bool(record.digest)
         if record.refusal:
             self._refuse(Told(shown(record.path), "", record.refusal))
         if record.seconds is not None:
@@ -108,6 +112,27 @@ class Summary:
         """How many refusals there are, of files and of series."""
         return self.refused_files + self.refused_series
 
+    def slowest_rows(self) -> list[tuple[str, str, str]]:
+        """The files that took longest, as the page shows them."""
+        return [(f"{seconds:.3f}", f"{series:,}", path) for seconds, path, series in self.slowest]
+
+    def reason_rows(self) -> list[tuple[str, str]]:
+        """The kinds of refusals by how often they came, as the page shows them."""
+        return [(f"{count:,}", words) for words, count in self.reasons.most_common()]
+
+    def asides(self) -> list[str]:
+        """What was done with outputs of inputs that are refused or gone, in words."""
+        said = []
+        if self.cleared_files:
+            said.append(f"Outputs of earlier runs were taken away of {counted(self.cleared_files, 'refused file')}.")
+        if self.gone_files:
+            said.append(
+                f"Inputs that are there no more: {self.gone_files:,}. Their outputs stand; --prune removes them."
+            )
+        if self.pruned:
+            said.append(f"{counted(self.pruned, 'output')} of no input {was(self.pruned).split()[-1]} taken away.")
+        return said
+
     def words(self) -> str:
         """What the run came to, in a sentence or two.
 
@@ -123,6 +148,8 @@ class Summary:
         said += f", {was(self.refused_series)} refused." if self.refused_series else "."
         if self.refused_files:
             said += f" Of {counted(self.refused_files, 'file')} nothing was worked out."
+        if self.kept_files:
+            said += f" {was(self.kept_files).capitalize()} done before."
         return said
 
 
@@ -173,19 +200,41 @@ def rows_of(record: Record) -> str:
 
     Examples
     --------
-    >>> record = Record("a.rwl", rows=[Row("A", 30, 4, "", 0.002)], changes=["Line 1: tabs."], seconds=0.01)
-    >>> print(rows_of(record), end="")
-    a.rwl,,30,,,Line 1: tabs.,0.0100
-    a.rwl,A,30,4,,,0.0020
+    >>> row = Row("A", 30, 4, "", 1900, "falling", 0.25, 0.5, seconds=0.002)
+    >>> print(rows_of(Record("a.rwl", rows=[row], changes=["Line 1: tabs."], seconds=0.01)), end="")
+    a.rwl,,1900,1929,30,,,,,,,Line 1: tabs.,0.0100
+    a.rwl,A,1900,1929,30,4,falling,0.25,0.5,,,,0.0020
     """
     path = shown(record.path)
+    firsts = [row.first for row in record.rows if row.first is not None]
+    lasts = [row.last for row in record.rows if row.last is not None]
     rings = sum(row.rings for row in record.rows)
-    lines = [line(path, "", rings, None, record.refusal, " ".join(record.changes), record.seconds)]
-    lines += [line(path, row.name, row.rings, row.n, row.refusal, "", row.seconds) for row in record.rows]
+    changes = " ".join(record.changes)
+    span = (min(firsts, default=None), max(lasts, default=None))
+    lines = [line(path, "", *span, rings, None, "", None, None, record.number, record.refusal, changes, record.seconds)]
+    for row in record.rows:
+        fit = (row.n, row.shape, row.deviation, row.explained)
+        lines.append(
+            line(path, row.name, row.first, row.last, row.rings, *fit, row.number, row.refusal, "", row.seconds)
+        )
     return "".join(lines)
 
 
-def line(path: str, series: str, rings: int, n: int | None, refusal: str, changes: str, seconds: float | None) -> str:
-    """A line of the table."""
-    fields = (path, series, str(rings), "" if n is None else str(n), refusal, changes)
-    return ",".join(map(quoted_field, fields)) + f",{'' if seconds is None else format(seconds, '.4f')}\n"
+def line(*fields: str | int | float | None) -> str:
+    """A line of the table; the last field is seconds.
+
+    Examples
+    --------
+    >>> line("a,b", None, 3, 0.00001, 0.1)
+    '"a,b",,3,0.00001,0.1000\\n'
+    """
+    return ",".join([*map(field, fields[:-1]), "" if fields[-1] is None else f"{fields[-1]:.4f}"]) + "\n"
+
+
+def field(value: str | int | float | None) -> str:
+    """A value as a field of the table, a number without an exponent."""
+    if value is None:
+        return ""
+    if isinstance(value, float):
+        return f"{value:.6f}".rstrip("0").rstrip(".")
+    return quoted_field(value) if isinstance(value, str) else str(value)

@@ -1,5 +1,5 @@
-"""A run over a data bank: inputs to tasks, tasks to workers, their lines to the journal, and the report at the end. An
-interrupt lets the workers end what they have; whatever ends a run, the next one goes on from there.
+"""A run over a data bank: inputs to tasks, tasks to workers, what they come to to the journal, and the report at the
+end. An interrupt lets the workers end what they have; whatever ends a run, the next one goes on from there.
 """
 
 from __future__ import annotations
@@ -9,171 +9,134 @@ import threading
 from collections.abc import Callable, Iterator, Sequence
 from contextlib import contextmanager
 from pathlib import Path
-from typing import Protocol
+from time import monotonic
+from typing import Literal, NamedTuple
 
-from ..cli import INTERRUPTED
 from ..failures import Failure, Unusable
-from . import report, whole
-from .inputs import Input, found, shown
-from .manifest import MANIFEST, Manifest
+from ..files import sweep
+from .finish import reported
+from .inputs import Input, found, stem
+from .manifest import Manifest
 from .options import Options, version
-from .page import page
+from .outputs import Halt, put
+from .page import environment
 from .progress import Progress
-from .reading import Damaged, Unsteady
+from .reading import Damaged, Unsteady, read
 from .records import Record
 from .report import Summary, counted
-from .sketch import series_picture
-from .task import Halt, Task
+from .task import Reply, Task, is_done
+from .workers import Workers
 
-REPORT, PAGE = "report.csv", "report.html"
-
-
-class Workers(Protocol):
-    """Who does tasks: processes of this machine, or a cluster."""
-
-    killed: int
-
-    def has_room(self) -> bool:
-        ...
-
-    def is_busy(self) -> bool:
-        ...
-
-    def give(self, task: Task) -> None:
-        ...
-
-    def take(self) -> bytes:
-        ...
-
-    def close(self) -> None:
-        ...
+BROKEN_OFF = 3  # exit status
+TURN_SECONDS = 0.5  # how long a reply is waited for before interrupts are looked at
+GRACE_SECONDS = 10  # that workers have after an interrupt to end what they are at
+MOST_SENT_BYTES = 16 * 2**20  # of one input
+TOO_LARGE = f"It has more than {MOST_SENT_BYTES // 2**20} MiB, and is not sent. Do it where the machines share files."
 
 
-class Interrupt:
-    """Whether an interrupt was asked for."""
+class Broken(Failure):
+    """A run ends before all is done: exit status 3."""
 
-    is_asked = False
-
-
-@contextmanager
-def interruptible() -> Iterator[Interrupt]:
-    """Let the first interrupt only be noted; a second one ends the run at once."""
-    interrupt = Interrupt()
-    if threading.current_thread() is not threading.main_thread():
-        yield interrupt
-        return
-    before = signal.getsignal(signal.SIGINT)
-
-    def note(number: int, frame: object) -> None:
-        if interrupt.is_asked:
-            raise KeyboardInterrupt
-        interrupt.is_asked = True
-
-    signal.signal(signal.SIGINT, note)
-    try:
-        yield interrupt
-    finally:
-        signal.signal(signal.SIGINT, before)
+    def __init__(self, message: str) -> None:
+        super().__init__(message, BROKEN_OFF)
 
 
-def run(
-    given: Sequence[str], output: Path, options: Options, workers: Callable[[Task], Workers], is_quiet: bool = False
-) -> Summary:
-    """Do a whole data bank.
+class Asked(NamedTuple):
+    """What a run is asked for.
 
-    Parameters
+    Attributes
     ----------
     given : sequence of str
         Folders, files and lists, as `walzhik.bank.inputs.found` takes them.
     output : Path
     options : Options
+    sends : {"nothing", "digests", "contents"}
+        What goes to the workers beside the paths: nothing to those of this machine, a digest of each input where they
+        share files with it, and its contents where they don't.
+    is_pruned, is_quiet : bool
+    """
+
+    given: Sequence[str]
+    output: Path
+    options: Options
+    sends: Literal["nothing", "digests", "contents"] = "nothing"
+    is_pruned: bool = False
+    is_quiet: bool = False
+
+
+class Interrupt:
+    """Whether an interrupt was asked for, and when."""
+
+    def __init__(self) -> None:
+        self.is_asked = False
+        self.moment = 0.0
+
+    def is_over(self) -> bool:
+        """Whether the time is over that workers have to end what they are at."""
+        return self.is_asked and monotonic() - self.moment > GRACE_SECONDS
+
+
+@contextmanager
+def interruptible() -> Iterator[Interrupt]:
+    """Let the first interrupt or termination only be noted; a second one ends the run at once."""
+    interrupt = Interrupt()
+    if threading.current_thread() is not threading.main_thread():
+        yield interrupt
+        return
+
+    def note(number: int, frame: object) -> None:
+        if interrupt.is_asked:
+            raise KeyboardInterrupt
+        interrupt.is_asked, interrupt.moment = True, monotonic()
+
+    before = {number: signal.signal(number, note) for number in (signal.SIGINT, signal.SIGTERM)}
+    try:
+        yield interrupt
+    finally:
+        for number, handler in before.items():
+            signal.signal(number, handler)
+
+
+def run(asked: Asked, workers: Callable[[Task, Callable[[str], None]], Workers]) -> Summary:
+    """Do a whole data bank.
+
+    Parameters
+    ----------
+    asked : Asked
     workers : callable
-        Makes the workers; it is given the first task.
-    is_quiet : bool
+        Makes the workers; it is given a small task, and what takes words about them.
 
     Raises
     ------
-    Failure
-        If the run ends before all is done; the message says what is missing.
+    Unusable
+        If nothing can be done.
+    Broken
+        If the run ends before all is done; the message says why and what is missing.
     """
-    inputs = found(given, str(output))
-    if not inputs:
-        raise Unusable("There is no file that ends in .rwl or .rwl.gz.")
-    manifest = Manifest(output)
-    try:
-        whole.sweep(output)
-        progress = Progress(len(inputs), is_quiet)
-        done_all(inputs, manifest, options, workers, progress)
-        others = manifest.others(each.path for each in inputs)
-        if others:
-            progress.say(f"Inputs that are there no more: {others:,}. Their outputs are left as they are.")
-        return reported(inputs, manifest, options)
-    except OSError as error:
-        raise Unusable(f"The output folder can't be used. {error.filename or output}: {error.strerror}.") from error
-    finally:
-        manifest.close()
-
-
-def tasks_of(inputs: Sequence[Input], manifest: Manifest, options: Options) -> Iterator[Task]:
-    """A task for each input that can be taken."""
-    for each in inputs:
-        if not each.complaint:
-            before = manifest.of(each.path)
-            line = before.line().decode("ascii") if before is not None else ""
-            yield Task(each, str(manifest.output.absolute()), options, version(), manifest.token, line)
-
-
-def done_all(
-    inputs: Sequence[Input],
-    manifest: Manifest,
-    options: Options,
-    workers: Callable[[Task], Workers],
-    progress: Progress,
-) -> None:
-    """Have every input done, and its record in the journal."""
-    for each in inputs:
-        if each.complaint:
-            manifest.add(Record(each.path, refusal=each.complaint).line())
-            progress.advance()
-    tasks = tasks_of(inputs, manifest, options)
-    first = next(tasks_of(inputs, manifest, options), None)
-    if first is None:
-        progress.close()
-        return
+    environment()  # so that no run is done in vain
     with interruptible() as interrupt:
-        made = workers(first)
+        inputs, notes = found(asked.given, str(asked.output))
+        if not inputs:
+            raise Unusable(" ".join([*notes, "There is no file that ends in .rwl, .fh, .rwl.gz or .fh.gz."]))
+        progress = Progress(len(inputs), asked.is_quiet)
+        manifest = Manifest(asked.output)
         try:
-            handed_out(tasks, made, manifest, progress, interrupt)
+            for note in notes:
+                progress.say(note)
+            sweep(asked.output)
+            made = Run(asked, inputs, manifest, progress, interrupt)
+            made.do_all(workers)
+            return reported(inputs, manifest, asked.options, asked.given, progress, asked.is_pruned)
+        except OSError as error:
+            where = error.filename or asked.output
+            raise Broken(f"{where}: {error.strerror or error}. {left(progress)}") from error
         except Halt as error:
-            raise Unusable(f"{error} {left(progress)}") from error
+            raise Broken(f"{error} {left(progress)}") from error
+        except KeyboardInterrupt:
+            raise Broken(f"Stopped at once. {left(progress)}") from None
         finally:
             progress.close()
-            made.close()
-            whole.sweep(manifest.output)
-    if made.killed:
-        whose = "was killed; what it" if made.killed == 1 else "were killed; what they"
-        progress.say(f"{counted(made.killed, 'worker')} {whose} had was done again.")
-    if interrupt.is_asked:
-        raise Failure(f"Interrupted. {left(progress)}", INTERRUPTED)
-
-
-def handed_out(
-    tasks: Iterator[Task], workers: Workers, manifest: Manifest, progress: Progress, interrupt: Interrupt
-) -> None:
-    """Give tasks while there is room for them, and note what they come to; after an interrupt none is given any more."""
-
-    def note() -> None:
-        manifest.add(workers.take())
-        progress.advance()
-
-    for task in tasks:
-        while not workers.has_room():
-            note()
-        if interrupt.is_asked:
-            break
-        workers.give(task)
-    while workers.is_busy():
-        note()
+            manifest.close()
 
 
 def left(progress: Progress) -> str:
@@ -181,26 +144,114 @@ def left(progress: Progress) -> str:
     return f"{progress.done:,} of {progress.total:,} files are done; the same command goes on from there."
 
 
-def reported(inputs: Sequence[Input], manifest: Manifest, options: Options) -> Summary:
-    """Write the table, the page and the manifest."""
-    output = manifest.output
-    with whole.written(output / MANIFEST, is_synced=True) as kept, whole.written(
-        output / REPORT, is_synced=True
-    ) as file:
-        summary = report.write(manifest.copied((each.path for each in inputs), kept), file)
-    by_path = {each.path: each for each in inputs}
-    pictures = list(drawn(summary, by_path, output, options))
-    with whole.written(output / PAGE, is_synced=True) as file:
-        file.write(page(summary, shown(output.name or str(output)), pictures).encode("utf-8"))
-    manifest.finish()
-    return summary
+class Run:
+    """The inputs of a run on their way to the journal."""
 
+    def __init__(
+        self, asked: Asked, inputs: Sequence[Input], manifest: Manifest, progress: Progress, interrupt: Interrupt
+    ) -> None:
+        self._asked, self._manifest, self._progress, self._interrupt = asked, manifest, progress, interrupt
+        self._inputs = inputs
+        self._output = manifest.output.absolute()
 
-def drawn(summary: Summary, inputs: dict[str, Input], output: Path, options: Options) -> Iterator[tuple[str, str]]:
-    """The pictures that the page shows, each with its words; a file that has gone meanwhile has none."""
-    for path, name in sorted(summary.pictures):
+    def do_all(self, workers: Callable[[Task, Callable[[str], None]], Workers]) -> None:
+        """Have every input done, and its record in the journal."""
+        taken = sorted((each for each in self._inputs if not each.complaint), key=lambda each: -each.size)
+        stems = {stem(each.path) for each in taken}
+        for each in self._inputs:
+            if each.complaint:
+                self._note(Reply(Record(each.path, refusal=each.complaint).line()), stem(each.path) not in stems)
+        probe = self._probe(taken)
+        if probe is None:  # there is none, or none can be read
+            for each in taken:
+                self._note(self._refused(each))
+            return
+        made = workers(probe, self._progress.warn)
         try:
-            picture = series_picture(inputs[path], name, output, options)
-        except (OSError, ValueError, Failure, Damaged, Unsteady):
-            continue
-        yield f"{name}, {shown(path)}", picture
+            self._hand_out(taken, made)
+        finally:
+            made.close()
+            sweep(self._output)
+        if made.killed:
+            whose = "was lost; what it" if made.killed == 1 else "were lost; what they"
+            self._progress.say(f"{counted(made.killed, 'worker')} {whose} had was done again.")
+        if self._interrupt.is_asked:
+            raise Broken(f"Interrupted. {left(self._progress)}")
+
+    def _hand_out(self, taken: Sequence[Input], workers: Workers) -> None:
+        """Give tasks while there is room for them, largest first, and note what they come to; after an interrupt none is
+        given any more."""
+        for each in taken:
+            while not workers.has_room() and not self._interrupt.is_asked:
+                self._receive(workers)
+            if self._interrupt.is_asked:
+                break
+            prepared = self._prepared(each)
+            if isinstance(prepared, Reply):
+                self._note(prepared)
+            else:
+                workers.give(prepared)
+        while workers.is_busy() and not self._interrupt.is_over():
+            self._receive(workers)
+
+    def _receive(self, workers: Workers) -> None:
+        reply = workers.take(TURN_SECONDS)
+        if reply is not None:
+            self._note(reply)
+
+    def _note(self, reply: Reply, is_owner: bool = True) -> None:
+        """Put what a file came to into the journal. A refused file has no outputs then, whoever refused it, unless they
+        are another's."""
+        record = Record.read(reply.line)
+        before = self._manifest.line_of(record.path)
+        if reply.line == before:
+            self._progress.kept += bool(record.digest)
+        else:
+            if is_owner and (record.refusal or self._asked.sends == "contents"):
+                record = put(record, reply.outputs, self._output, self._manifest.number)
+            self._progress.cleared += bool(record.refusal and before and Record.read(before).outputs)
+            self._manifest.add(record)
+        self._progress.advance()
+
+    def _task(self, each: Input) -> Task:
+        before = self._manifest.line_of(each.path).decode("ascii")
+        return Task(each, str(self._output), self._asked.options, version(), self._manifest.number, before)
+
+    def _probe(self, taken: Sequence[Input]) -> Task | None:
+        """A small task that workers are asked about before they are given any."""
+        for each in reversed(taken):
+            task = self._task(each)
+            if self._asked.sends == "contents":
+                return task._replace(data=b"")
+            if self._asked.sends == "nothing":
+                return task
+            try:
+                return task._replace(digest=read(each.source).digest)
+            except (Unsteady, Damaged):
+                continue
+        return None
+
+    def _refused(self, each: Input) -> Reply:
+        """What a file comes to that can't be read here."""
+        prepared = self._prepared(each)
+        assert isinstance(prepared, Reply)
+        return prepared
+
+    def _prepared(self, each: Input) -> Task | Reply:
+        """A task with what is sent, or what the file came to already."""
+        task = self._task(each)
+        if self._asked.sends == "nothing":
+            return task
+        try:
+            content = read(each.source)
+        except (Unsteady, Damaged) as error:
+            return Reply(Record(each.path, refusal=str(error)).line())
+        if self._asked.sends == "digests":
+            return task._replace(digest=content.digest)
+        if len(content.data) > MOST_SENT_BYTES:
+            return Reply(Record(each.path, refusal=TOO_LARGE).line())
+        before = Record.read(task.before.encode("ascii")) if task.before else Record(each.path)
+        now = Record(each.path, content.digest, task.options.key(), task.version)
+        if is_done(before, now, self._output):
+            return Reply(before.line())
+        return task._replace(before="", digest=content.digest, data=content.data)

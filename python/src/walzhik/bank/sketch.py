@@ -1,70 +1,95 @@
-"""Small pictures for the report's page, as SVG within the page: a series with its curve, and the histogram of lengths.
-The curve's values are the engine's; here they are only scaled to the picture.
+"""What the pictures of the report's page show, as numbers of a drawing: some series with their curves, taken from the
+tables that were written, and the histogram of lengths. The page's template makes SVG of them.
 """
 
 from __future__ import annotations
 
 from collections import Counter
-from html import escape
+from collections.abc import Iterator, Sequence
 from pathlib import Path
-from urllib.parse import quote
+from typing import NamedTuple
 
-import numpy as np
-
-from ..commands.indices import wood_of
-from ..curve import Curve
-from ..reasons import PER_MM, UNIT
-from ..sheet import lists_of
-from ..tucson import Series
-from .inputs import Input, stem
-from .options import Options
-from .reading import read, unpacked
-from .task import SHEET, SHEETS, named_by, series_of
+from ..csvtext import quoted_field
+from .inputs import shown, stem
+from .places import INDICES
 
 WIDTH, HEIGHT, MARGIN = 260, 110, 14
 BARS_WIDTH, BARS_HEIGHT, MOST_BARS = 760, 220, 24
 LEFT = 44  # of the bars, for the numbers beside them
 STEPS = (1, 2, 5)
+Points = list[tuple[float, float]]
 
 
-def series_picture(source: Input, name: str, output: Path, options: Options) -> str:
-    """A series' widths, and its curve over them."""
-    series, _ = series_of(unpacked(source.source, read(source.source).data), options)
-    [chosen] = [each for each in series if each.name == name]
-    curve, wood = options.given_curve(), None
-    if curve is None:
-        sheet = lists_of((output / f"{stem(source.path)}{SHEETS}" / f"{quote(name, safe='')}{SHEET}").read_bytes())
-        assert sheet is not None  # a run wrote it
-        curve = sheet.curve()
-    else:
-        wood = wood_of(name, named_by(options.names, series), "The sheet", curve)
-    start = chosen.first if options.first is None else options.first
-    values = curve.rings(chosen.widths, start, wood)[0] / (UNIT * PER_MM)
-    return drawn(source.path, chosen, np.asarray(values))
+class Picture(NamedTuple):
+    """A series in a drawing: its measured rings as a thin line, absent ones left out, and its curve as a thick one."""
+
+    path: str
+    name: str
+    first: int
+    last: int
+    top: float
+    widths: Points
+    curve: Points
 
 
-def drawn(path: str, series: Series, values: np.ndarray[tuple[int], np.dtype[np.float64]]) -> str:
-    """The picture of a series: widths as a thin line that leaves out absent rings, the curve as a thick one."""
-    widths = np.asarray(series.widths) / PER_MM
-    top = float(max(widths.max(), values.max(), 1 / PER_MM))
-    across = np.linspace(MARGIN, WIDTH - MARGIN, len(widths))
+class Bar(NamedTuple):
+    """A bar of the histogram."""
 
-    def points(
-        heights: np.ndarray[tuple[int], np.dtype[np.float64]], kept: np.ndarray[tuple[int], np.dtype[np.bool_]]
-    ) -> str:
-        down = HEIGHT - MARGIN - heights / top * (HEIGHT - 2 * MARGIN)
-        return " ".join(f"{x:.1f},{y:.1f}" for x, y in zip(across[kept].tolist(), down[kept].tolist()))
+    x: float
+    y: float
+    wide: float
+    tall: float
+    words: str
+    label: str
 
-    title = escape(f"Series {series.name}, {series.first} to {series.last}, up to {top:.2f} mm")
-    everywhere = np.ones(len(widths), dtype=bool)
-    return (
-        f'<svg viewBox="0 0 {WIDTH} {HEIGHT}" role="img" aria-label="{title}"><title>{title}</title>'
-        f'<polyline class="widths" points="{points(widths, widths > 0)}"/>'
-        f'<polyline class="curve" points="{points(values, everywhere)}"/>'
-        f'<text x="{MARGIN}" y="{HEIGHT - 2}">{series.first}</text>'
-        f'<text x="{WIDTH - MARGIN}" y="{HEIGHT - 2}" text-anchor="end">{series.last}</text>'
-        f'<text x="{MARGIN}" y="{MARGIN - 4}">{top:.2f} mm</text></svg>'
-    )
+
+def pictures(path: str, names: Sequence[str], output: Path) -> Iterator[Picture]:
+    """Pictures of series of one input, from its table of indices; a run that writes Tucson texts has none.
+
+    Raises
+    ------
+    OSError
+        If the table can't be read.
+    """
+    table = output / f"{stem(path)}{INDICES}csv"
+    if not table.exists():
+        return
+    data = table.read_bytes()
+    for name in names:
+        rows = [row.rsplit(b",", 4)[1:4] for row in lines_of(data, name)]
+        if rows:
+            yield drawn(path, name, [(int(year), float(width), float(value)) for year, width, value in rows])
+
+
+def lines_of(data: bytes, name: str) -> list[bytes]:
+    """The lines of a series in a table of indices, where they stand together.
+
+    Examples
+    --------
+    >>> lines_of(b"series,year\\nA,1\\nAB,1\\nAB,2\\nB,1\\n", "AB")
+    [b'AB,1', b'AB,2']
+    """
+    begin = b"\n" + quoted_field(name).encode("ascii") + b","
+    place = data.find(begin)
+    found = []
+    while place >= 0 and data.startswith(begin, place):
+        end = data.find(b"\n", place + 1)
+        found.append(data[place + 1 : end])
+        place = end
+    return found
+
+
+def drawn(path: str, name: str, rings: Sequence[tuple[int, float, float]]) -> Picture:
+    """The picture of a series from its years, widths and values in millimetres."""
+    top = max(max(width, value) for _, width, value in rings) or 1.0
+    step = (WIDTH - 2 * MARGIN) / max(1, len(rings) - 1)
+
+    def point(place: int, height: float) -> tuple[float, float]:
+        return round(MARGIN + place * step, 1), round(HEIGHT - MARGIN - height / top * (HEIGHT - 2 * MARGIN), 1)
+
+    widths = [point(place, width) for place, (_, width, _) in enumerate(rings) if width > 0]
+    curve = [point(place, value) for place, (_, _, value) in enumerate(rings)]
+    return Picture(shown(path), name, rings[0][0], rings[-1][0], top, widths, curve)
 
 
 def bins(lengths: Counter[int]) -> list[tuple[int, int, int]]:
@@ -85,26 +110,18 @@ def bins(lengths: Counter[int]) -> list[tuple[int, int, int]]:
     return [(step * place, step * (place + 1) - 1, held[place]) for place in range(min(held), max(held) + 1)]
 
 
-def histogram(lengths: Counter[int]) -> str:
+def bars(lengths: Counter[int]) -> list[Bar]:
     """How many series have how many rings, as bars."""
     groups = bins(lengths)
     most = max(count for _, _, count in groups)
     wide = (BARS_WIDTH - LEFT) / len(groups)
-    high = BARS_HEIGHT - 2 * MARGIN - MARGIN
+    high = BARS_HEIGHT - 3 * MARGIN
     every = max(1, len(groups) // (MOST_BARS // 2))
-    parts = []
+    made = []
     for place, (first, last, count) in enumerate(groups):
-        x, tall = LEFT + place * wide, count / most * high
+        tall = count / most * high
         told = f"{first:,} rings" if first == last else f"{first:,} to {last:,} rings"
-        parts.append(
-            f'<rect x="{x + 1:.1f}" y="{BARS_HEIGHT - 2 * MARGIN - tall:.1f}" width="{wide - 2:.1f}" '
-            f'height="{tall:.1f}"><title>{told}: {count:,} series</title></rect>'
-        )
-        if place % every == 0:
-            parts.append(f'<text x="{x + 1:.1f}" y="{BARS_HEIGHT - MARGIN - 2}">{first:,}</text>')
-    return (
-        f'<svg class="bars" viewBox="0 0 {BARS_WIDTH} {BARS_HEIGHT}" role="img" aria-label="Histogram of lengths">'
-        f'<text x="{LEFT - 6}" y="{2 * MARGIN - 4}" text-anchor="end">{most:,}</text>'
-        f'<text x="{LEFT - 6}" y="{BARS_HEIGHT - 2 * MARGIN}" text-anchor="end">0</text>{"".join(parts)}'
-        f'<text x="{BARS_WIDTH}" y="{BARS_HEIGHT - 4}" text-anchor="end">rings of a series</text></svg>'
-    )
+        x, y = round(LEFT + place * wide + 1, 1), round(BARS_HEIGHT - 2 * MARGIN - tall, 1)
+        label = f"{first:,}" if place % every == 0 else ""
+        made.append(Bar(x, y, round(wide - 2, 1), round(tall, 1), f"{told}: {count:,} series", label))
+    return made

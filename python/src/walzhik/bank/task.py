@@ -4,39 +4,24 @@ of a cluster; it holds one file at a time.
 
 from __future__ import annotations
 
-import errno
-from collections import Counter
-from collections.abc import Iterable, Iterator, Sequence
-from contextlib import contextmanager
-from fnmatch import fnmatchcase
-from hashlib import sha256
+import socket
 from pathlib import Path
 from time import perf_counter
 from typing import NamedTuple
-from urllib.parse import quote
 
-from .. import tucson
-from ..commands._series import listed
-from ..commands.fit import fitted_series, template_for
-from ..commands.indices import HEADER, Indexed, Names, as_table, as_tucson, wood_of
-from ..curve import Curve
-from ..failures import Failure, Refusal, telling
-from ..sheet import Sheet
-from ..space import Space
-from ..tucson import Series
-from . import whole
-from .inputs import Input, shown, stem
-from .manifest import JOURNAL
-from .options import ONE_THREAD, Options, is_one_thread, version
-from .reading import Damaged, Unsteady, read, unpacked
-from .records import Record, Row
-
-OF_ONE_FILE = (errno.EISDIR, errno.ENOTDIR, errno.EEXIST, errno.ENAMETOOLONG, errno.ENOTEMPTY)  # not of the whole disk
-SHEETS, SHEET, INDICES = ".sheets", ".sheet", ".indices."
+from ..failures import Failure
+from ..threads import ONE_THREAD, is_one_thread
+from . import lock
+from .inputs import Input, shown
+from .options import Options, version
+from .outputs import Halt, are_as_left, put
+from .reading import Content, Damaged, Unsteady, digest_of, read, unpacked
+from .records import Record
+from .work import number_of, worked_out
 
 
-class Halt(Exception):
-    """The whole run must end; the message says why and what to do."""
+class WrongCopy(Exception):
+    """This machine has another file under the input's path; the message names both."""
 
 
 class Task(NamedTuple):
@@ -46,58 +31,107 @@ class Task(NamedTuple):
     ----------
     input : Input
     output : str
-        The output folder.
+        The output folder from the root.
     options : Options
     version : str
         What every worker must be.
-    token : str
-        The first line of the output folder's journal, as every worker must see it.
+    number : str
+        The run's, as the output folder's lock has it.
     before : str
         The record of an earlier run, or an empty text.
+    digest : str
+        Of the input's bytes as the command sees them; empty where the worker is of the same machine.
+    data : bytes or None
+        The input's bytes, where they are sent; the outputs are sent back then, and the worker writes nothing.
     """
 
     input: Input
     output: str
     options: Options
     version: str
-    token: str
+    number: str
     before: str = ""
+    digest: str = ""
+    data: bytes | None = None
 
 
-class Done(NamedTuple):
-    """A series with its curve, values and indices."""
+class Reply(NamedTuple):
+    """What a task came to.
 
-    indexed: Indexed
-    curve: Curve
+    Attributes
+    ----------
+    line : bytes
+        The record.
+    outputs : dict
+        The bytes of each output by its path, where they are sent back.
+    """
+
+    line: bytes
+    outputs: dict[str, bytes] = {}
 
 
-def run(task: Task) -> bytes:
-    """Do a file, or find that it is done, and say what it came to: a record as a line.
+def run(task: Task) -> Reply:
+    """Do a file, or find that it is done, and say what it came to.
 
     Raises
     ------
     Halt
         If this worker can't do any file, or nothing can be written.
+    WrongCopy
+        If this machine has another file there.
     """
     begun = perf_counter()
     ask_worker(task)
     before = Record.read(task.before.encode("ascii")) if task.before else Record(task.input.path)
-    unsettled = Record(task.input.path, outputs=before.outputs)  # without a digest: it is tried again
+    outputs: dict[str, bytes] = {}
     try:
-        content = read(task.input.source)
+        content = content_of(task)
         record = Record(task.input.path, content.digest, task.options.key(), task.version)
-        if is_done(before, record, Path(task.output)):
-            return before.line()
+        if task.data is None and is_done(before, record, Path(task.output)):
+            return Reply(before.line())
         record, outputs = settled(record, task, content.data)
-        record = put(record, outputs, task, before)
     except (Unsteady, Damaged) as error:
-        record = unsettled._replace(refusal=str(error))
-    except Halt:
+        record = Record(task.input.path, refusal=str(error))
+    except (Halt, WrongCopy):
         raise
     except Exception as error:
         fault = f"A fault of the program itself, {type(error).__name__}: {error}."
-        record = unsettled._replace(refusal=f"{fault} Please send the file to the maintainers.")
-    return record._replace(seconds=perf_counter() - begun).line()
+        record = Record(task.input.path, refusal=f"{fault} Please send the file to the maintainers.")
+    if task.data is None:
+        record = put(record, outputs, Path(task.output), task.number)
+        outputs = {}
+    return Reply(record._replace(seconds=perf_counter() - begun).line(), outputs)
+
+
+def content_of(task: Task) -> Content:
+    """The bytes of a task's input: those that were sent, or those of the file, which must be the one that was meant."""
+    if task.data is not None:
+        return Content(task.data, digest_of(task.data))
+    try:
+        content = read(task.input.source)
+    except OSError as error:
+        raise Halt(f"{shown(task.input.source)} can't be read: {error.strerror or error}.") from error
+    if task.digest and content.digest != task.digest:
+        raise WrongCopy(
+            f"Machine {socket.gethostname()} has another file at {shown(task.input.source)} than the machine that runs "
+            "the command."
+        )
+    return content
+
+
+def is_done(before: Record, now: Record, output: Path) -> bool:
+    """Whether an earlier run did the same, and its outputs are as it left them."""
+    return before[:4] == now[:4] and are_as_left(before.outputs, output, now.path)
+
+
+def settled(record: Record, task: Task, data: bytes) -> tuple[Record, dict[str, bytes]]:
+    """The record of a file with its outputs, or with the refusal of all of it."""
+    try:
+        return worked_out(record, task.options, unpacked(task.input.source, data))
+    except Damaged as error:
+        return record._replace(refusal=str(error)), {}
+    except Failure as failure:
+        return record._replace(refusal=failure.message, number=number_of(failure)), {}
 
 
 def ask_worker(task: Task) -> None:
@@ -116,158 +150,29 @@ def ask_worker(task: Task) -> None:
     if not is_one_thread():
         told_so = " ".join(f"{name}={number}" for name, number in ONE_THREAD.items())
         raise Halt(f"A worker's numerical libraries may use several threads. Start it with {told_so}.")
+    if task.data is not None:
+        return
     try:
-        with open(Path(task.output) / JOURNAL, "rb") as journal:
-            seen = journal.readline().decode("ascii", "replace").strip()
-    except OSError:
-        seen = ""
-    if seen != task.token:
+        with lock.held(Path(task.output), task.number):
+            pass
+    except (OSError, lock.Outlived):
         raise Halt(
-            f"A worker does not see the output folder {task.output} of this command. Every machine must have it, and "
-            "the inputs, under the same path."
-        )
+            f"A worker does not see the output folder {shown(task.output)} of this command. Every machine must have "
+            "it, and the inputs, under the same path; --ship sends the files instead."
+        ) from None
 
 
-def is_done(before: Record, now: Record, output: Path) -> bool:
-    """Whether an earlier run did the same, and its outputs are as it left them."""
-    if before[:4] != now[:4]:
-        return False
-    try:
-        return all(sha256((output / path).read_bytes()).hexdigest() == made for path, made in before.outputs.items())
-    except OSError:
-        return False
+def seen(task: Task) -> str:
+    """Why this worker can't do a task, in words; an empty text if it can.
 
-
-# What a file's text comes to.
-
-
-def settled(record: Record, task: Task, data: bytes) -> tuple[Record, dict[str, bytes]]:
-    """The record of a file with its outputs, or with the refusal of all of it."""
-    try:
-        return worked_out(record, task.options, unpacked(task.input.source, data))
-    except Damaged as error:
-        return record._replace(refusal=str(error)), {}
-    except Failure as failure:
-        return record._replace(refusal=failure.message), {}
-
-
-def worked_out(record: Record, options: Options, text: bytes) -> tuple[Record, dict[str, bytes]]:
-    """The record of a text with its outputs."""
-    series, changes = series_of(text, options)
-    record = record._replace(changes=changes)
-    names = named_by(options.names, series)
-    chosen = [each for each in series if each.name in names.all()] if options.names.all() else series
-    if not chosen:
-        none = f"None of its series is asked for: there are {listed(series)}." if series else "It holds no series."
-        return record._replace(refusal=none), {}
-    rows, texts, outputs = [], [], {}
-    times = Counter(each.name for each in chosen)
-    curve, space = options.given_curve(), options.given_space()
-    for each in chosen:
-        begun = perf_counter()
-        try:
-            refuse_shared(each, times)
-            done = divided(each, names, curve, space, options.first)
-            texts.append(text_of(done.indexed, options.ending))
-            if curve is None:
-                outputs[f"{stem(record.path)}{SHEETS}/{quote(each.name, safe='')}{SHEET}"] = sheet_of(done.curve)
-            row = Row(each.name, len(each), done.curve.space.n, "")
-        except Failure as failure:
-            row = Row(each.name, len(each), None, failure.message)
-        rows.append(row._replace(seconds=perf_counter() - begun))
-    if texts:
-        head = HEADER.encode("ascii") if options.ending == "csv" else b""
-        outputs[f"{stem(record.path)}{INDICES}{options.ending}"] = head + b"".join(texts)
-    return record._replace(rows=sorted(rows, key=lambda row: row.name)), outputs
-
-
-def series_of(text: bytes, options: Options) -> tuple[list[Series], list[str]]:
-    """The series of a text, and what the tolerant front changed."""
-    with telling(""):
-        if options.strict:
-            return tucson.read_strict(text), []
-        front = tucson.clean(text, unit=options.unit, split_gaps=options.split_gaps)
-        return tucson.read_cleaned(front), [str(change) for change in front.changes]
-
-
-def named_by(patterns: Names, series: Sequence[Series]) -> Names:
-    """The names that patterns fit.
-
-    Examples
-    --------
-    >>> named_by(Names((), ("*E",), ("*L",)), [Series("A1E", 1, [1]), Series("A1L", 1, [1]), Series("B", 1, [1])])
-    Names(series=(), earlywood=('A1E',), latewood=('A1L',))
+    A worker of a cluster is asked before it is given anything, so that one that is not set up says so once, not for
+    every file.
     """
-
-    def fitting(wanted: Iterable[str]) -> tuple[str, ...]:
-        return tuple(each.name for each in series if any(fnmatchcase(each.name, pattern) for pattern in wanted))
-
-    return Names(*(fitting(wanted) for wanted in patterns))
-
-
-def refuse_shared(series: Series, times: Counter[str]) -> None:
-    """No series whose name another one has: they would be taken for one another."""
-    if times[series.name] > 1:
-        raise Refusal(f"{times[series.name]} series of the file are named {series.name}. Give each its own name.")
-
-
-def divided(series: Series, names: Names, curve: Curve | None, space: Space | None, first: int | None) -> Done:
-    """A series divided by the given curve, or by one that is fitted to it."""
-    start = series.first if first is None else first
-    if curve is None:
-        curve = fitted_series(series, space or template_for([series], first), start).curve
-        wood = None
-    else:
-        wood = wood_of(series.name, names, "The sheet", curve)
-    with telling(f"Series {series.name}"):
-        return Done(Indexed(series, *curve.rings(series.widths, start, wood)), curve)
-
-
-def text_of(indexed: Indexed, ending: str) -> bytes:
-    """A series' lines of the output, as the command `indices` writes them."""
-    return as_table([indexed])[len(HEADER) :] if ending == "csv" else as_tucson([indexed])
-
-
-def sheet_of(curve: Curve) -> bytes:
-    """A fitted curve as a sheet."""
-    lists = curve.space.lists()
-    sides = curve.coefficients.tolist()
-    return Sheet(lists.breaks, lists.degrees, lists.orders, [(early, late) for early, late in sides]).text()
-
-
-# Writing.
-
-
-def put(record: Record, outputs: dict[str, bytes], task: Task, before: Record) -> Record:
-    """Write the outputs, take away those of an earlier run that are none any more, and give the record with their
-    hashes."""
-    folder = Path(task.output)
     try:
-        with writing(task):
-            for path, data in outputs.items():
-                whole.write(folder / path, data)
-            for path in before.outputs.keys() - outputs.keys():
-                take_away(folder / path)
-    except FileExistsError as error:
-        words = f"Its outputs can't be written: {error}. Give the file or the folder another name."
-        return Record(record.path, outputs=before.outputs, refusal=words)
-    return record._replace(outputs={path: sha256(data).hexdigest() for path, data in sorted(outputs.items())})
-
-
-@contextmanager
-def writing(task: Task) -> Iterator[None]:
-    """Errors of writing: FileExistsError where this file's names are in the way, Halt where no file could be written."""
-    try:
-        yield
-    except OSError as error:
-        where, why = shown(str(error.filename or task.output)), error.strerror or str(error)
-        if error.errno in OF_ONE_FILE:
-            raise FileExistsError(f"{where}: {why}") from error
-        raise Halt(f"The outputs of {shown(task.input.path)} can't be written. {where}: {why}.") from error
-
-
-def take_away(path: Path) -> None:
-    """Take an output away, and its folder of sheets when that is empty then."""
-    path.unlink(missing_ok=True)
-    if path.parent.name.endswith(SHEETS) and path.parent.is_dir() and not any(path.parent.iterdir()):
-        path.parent.rmdir()
+        ask_worker(task)
+        content_of(task)
+    except (Halt, WrongCopy) as error:
+        return str(error)
+    except (Unsteady, Damaged) as error:
+        return f"{shown(task.input.source)} on machine {socket.gethostname()}: {error}"
+    return ""

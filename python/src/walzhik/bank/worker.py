@@ -1,34 +1,45 @@
-"""A worker of this machine: a process of its own that is sent a task at a time and sends back a line. It ends when
-nobody is left to send it anything.
+"""A worker of this machine: a process of its own that is sent a task at a time and sends back what it came to. It ends
+when nobody is left to send it anything.
 """
 
 from __future__ import annotations
 
+import gc
 import signal
 import sys
 from importlib import import_module
 from multiprocessing.connection import Connection
 
-from .task import Halt, run
+from .options import version
+from .outputs import Halt
+from .task import Reply, WrongCopy, run
+
+
+def load() -> None:
+    """Load what a task needs, so that no file's seconds are those of loading it, and let the garbage collector leave that
+    alone from now on."""
+    import_module("scipy.optimize")
+    version()
+    gc.freeze()
 
 
 def main(descriptor: int) -> None:
     """Do tasks from a connection until it is closed."""
     signal.signal(signal.SIGINT, signal.SIG_IGN)  # whoever sends the tasks says when to end
-    import_module("scipy.optimize")  # so that no file's seconds are those of loading it
+    load()
     connection = Connection(descriptor)
     while True:
         try:
             task = connection.recv()
-        except EOFError:
+        except (EOFError, ConnectionResetError):
             return
         try:
-            reply: bytes | Halt = run(task)
-        except Halt as error:
+            reply: Reply | Exception = run(task)
+        except (Halt, WrongCopy) as error:
             reply = error
         try:
             connection.send(reply)
-        except BrokenPipeError:
+        except (BrokenPipeError, ConnectionResetError):
             return
 
 

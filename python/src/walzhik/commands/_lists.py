@@ -2,10 +2,9 @@
 
 from __future__ import annotations
 
-import re
-
 import click
 
+from ..decimals import NoNumber, whole
 from ..failures import Unusable, telling
 from ..space import Space
 
@@ -19,9 +18,10 @@ class WholeNumbers(click.ParamType):
         if isinstance(value, list):
             return value
         text = str(value)
-        if text and not re.fullmatch(r"\s*-?[0-9]+\s*(,\s*-?[0-9]+\s*)*", text, re.ASCII):
-            self.fail(f"{text!r} is no list of whole numbers with commas between them", param, ctx)
-        return [int(number) for number in text.split(",")] if text else []
+        try:
+            return [whole(number) for number in text.split(",")] if text else []
+        except NoNumber as error:
+            self.fail(f"it is no list of whole numbers with commas between them: {error}", param, ctx)
 
 
 def space_of(breaks: list[int] | None, degrees: list[int] | None, orders: list[int] | None) -> Space | None:

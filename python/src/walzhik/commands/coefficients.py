@@ -3,6 +3,7 @@
 from __future__ import annotations
 
 import csv
+import io
 from collections.abc import Sequence
 from fractions import Fraction
 from typing import NamedTuple
@@ -11,18 +12,23 @@ import click
 
 from .. import sheet
 from ..curve import Curve
+from ..decimals import NoNumber, exact
 from ..errors import Refused
 from ..failures import Refusal, Unusable, telling
 from ..files import STANDARD, read_whole, write_whole
+from ..quoting import quoted
 from ..reasons import PER_MM, UNIT, WOOD
 from ..recover import nearest, recover
 from ..sheet import Sheet
 from ..space import Space
 from ._lists import WholeNumbers, space_of
+from ._outputs import format_option, keep_inputs, written_format
+from ._sheets import read_sheet
 
 NUMBERS = WholeNumbers()
 UNITS = {"_mm": UNIT * PER_MM, "_256ths": 1}  # by the ending of a column's name: how many 256ths of a thousandth
 RING, STRETCH = "ring", "stretch"
+FORMATS = ("sheet",)
 
 
 class Column(NamedTuple):
@@ -32,52 +38,68 @@ class Column(NamedTuple):
     ordinates: list[int]
 
 
+class Row(NamedTuple):
+    """A row of a table, and the line that it ends with."""
+
+    line: int
+    fields: list[str]
+
+
 def ordinate(text: str, unit: int, line: int) -> int:
     """An ordinate in whole 256ths of a thousandth: no digit is rounded away."""
     try:
-        exact = Fraction(text.strip()) * unit
-    except (ValueError, ZeroDivisionError) as error:
-        raise Refusal(f"Line {line}: {text!r} is no number.") from error
-    if exact.denominator != 1:
+        found = exact(text) * unit
+    except NoNumber as error:
+        raise Refusal(f"Line {line}: {error}.") from error
+    if found.denominator != 1:
         raise Refusal(
             f"Line {line}: {text} is no whole number of 256ths of a thousandth of a millimetre. "
             "Ask for exact ordinates."
         )
-    return int(exact)
+    return int(found)
 
 
-def check_stretches(lines: Sequence[Sequence[str]], at: int, space: Space) -> None:
+def check_stretches(rows: Sequence[Row], at: int, space: Space) -> None:
     """The column of stretches must count each stretch as often as it has ordinates."""
     wanted = [str(stretch) for stretch, degree in enumerate(space.degrees.tolist()) for _ in range(degree + 1)]
-    for line, (row, stretch) in enumerate(zip(lines, wanted), start=2):
-        if row[at].strip() != stretch:
+    for (line, fields), stretch in zip(rows, wanted):
+        if fields[at].strip() != stretch:
             raise Refusal(
-                f"Line {line} is of stretch {row[at]}, but by the degrees it belongs to stretch {stretch}, "
+                f"Line {line} is of stretch {fields[at]}, but by the degrees it belongs to stretch {stretch}, "
                 "counted from 0."
             )
 
 
+def rows_of(text: bytes) -> list[Row]:
+    """The rows of a CSV table, its header first, all of one length."""
+    try:
+        reader = csv.reader(io.StringIO(text.decode("utf-8-sig"), newline=""), strict=True)
+        rows = [Row(reader.line_num, fields) for fields in reader]
+    except UnicodeDecodeError as error:
+        raise Unusable(f"It is no CSV table: byte {error.start} is no letter of a text (UTF-8).") from error
+    except csv.Error as error:
+        raise Unusable(f"It is no CSV table: {error}.") from error
+    if not rows or not rows[0].fields:
+        raise Unusable("It is no CSV table: its first line is empty, where the names of the columns stand.")
+    for line, fields in rows:
+        if len(fields) != len(rows[0].fields):
+            raise Unusable(f"Line {line} has {len(fields)} fields, but the header has {len(rows[0].fields)}.")
+    return rows
+
+
 def columns_of(text: bytes, space: Space) -> list[Column]:
     """The columns of a supplier's table."""
-    try:
-        head, *lines = list(csv.reader(text.decode("utf-8-sig").splitlines()))
-    except (UnicodeDecodeError, ValueError, csv.Error) as error:
-        raise Unusable(f"It is no CSV table: {error}.") from error
-    for line, row in enumerate(lines, start=2):
-        if len(row) != len(head):
-            raise Unusable(f"Line {line} has {len(row)} fields, but the header has {len(head)}.")
+    (_, head), *lines = rows_of(text)
     found: list[Column] = []
     for at, name in enumerate(each.strip() for each in head):
         part, ending = next(((name.removesuffix(end), end) for end in UNITS if name.endswith(end)), (name, ""))
         if name == STRETCH:
             check_stretches(lines, at, space)
         elif ending and part in (*WOOD, RING) and part not in [column.part for column in found]:
-            found.append(
-                Column(part, [ordinate(row[at], UNITS[ending], line) for line, row in enumerate(lines, start=2)])
-            )
+            found.append(Column(part, [ordinate(fields[at], UNITS[ending], line) for line, fields in lines]))
         else:
             raise Unusable(
-                f"Column {name!r} is not known: earlywood_mm, latewood_mm or ring_mm, or the same with _256ths; "
+                f"Column {quoted(name.encode('utf-8'))} is not known: earlywood_mm, latewood_mm or ring_mm, or the same with _256ths; "
                 "and stretch."
             )
     return checked_parts(found)
@@ -136,6 +158,7 @@ def nearest_column(space: Space, column: Column) -> list[int]:
 @click.option(
     "--nearest", "is_nearest", is_flag=True, help="Take the least-squares coefficients, rounded; they are not proved."
 )
+@format_option(FORMATS)
 @click.option(
     "-o", "--output", default=STANDARD, metavar="SHEET", help="The sheet to write; standard output without it."
 )
@@ -146,6 +169,7 @@ def command(
     degrees: list[int] | None,
     orders: list[int] | None,
     is_nearest: bool,
+    written: str | None,
     output: str,
 ) -> int:
     """Work out a sheet's coefficients from the ordinates (handles) of its stretches, as a supplier sends them.
@@ -158,9 +182,15 @@ def command(
     \b
     ./walzhik coefficients ordinates.csv --breaks 0,20,60 --degrees 2,2 --orders 1 -o bought.sheet
     """
+    keep_inputs(output, [table, like])
+    written_format(output, written, FORMATS)
+    if like is not None and any(each is not None for each in (breaks, degrees, orders)):
+        raise Unusable("Give --breaks, --degrees and --orders, or --space SHEET, which has its own.")
+    if table == like == STANDARD:
+        raise Unusable("Standard input (-) can be named once only.")
     with telling(like or "the space"):
-        space = _space(sheet.read(read_whole(like))) if like else space_of(breaks, degrees, orders)
-    if space is None or (like and breaks is not None):
+        space = _space(read_sheet(like)) if like else space_of(breaks, degrees, orders)
+    if space is None:
         raise Unusable("Give the stretches: --breaks, --degrees and --orders, or --space SHEET.")
     with telling(table):
         columns = columns_of(read_whole(table), space)

@@ -4,38 +4,73 @@ from __future__ import annotations
 
 from collections.abc import Sequence
 from pathlib import PurePath
-from typing import get_args
+from typing import TYPE_CHECKING, Any, get_args
 
 import click
 
-from .. import plot, sheet
+from .. import plot
+from ..counting import Counting
 from ..curve import Curve, Wood
 from ..failures import Unusable, telling
 from ..files import STANDARD, read_whole, write_whole
+from ..fit import Shape
+from ..formats import BY_ENDING, LOOKED_AT, SHEET_LINE, ending, kind_of
 from ..plot import ENDINGS, MOST_SERIES, Ending, Measured
 from ..tucson import Series
-from ._series import listed, named, read_series, reading_options
+from ._fits import asked_of, shape_options
+from ._numbers import counting_of, counting_options
+from ._outputs import keep_inputs
+from ._plot_series import Looks, fitted_picture, measured_picture
+from ._series import fitting, listed, read_series, reading_options
+from ._sheets import read_sheet
 
-TUCSON_ENDING = ".rwl"
+if TYPE_CHECKING:
+    from matplotlib.figure import Figure
 
 
-def sheet_and_files(files: tuple[str, ...], curve: str | None) -> tuple[str, tuple[str, ...]]:
-    """The sheet and the Tucson files: all files are such where --curve names the sheet, else those that end in .rwl."""
+def is_sheet(name: str, is_said: bool) -> bool:
+    """Whether a file is a sheet, by its ending, else by its content; standard input is taken for one. Where it is said what files
+    of widths are, only what has a sheet's lines is one."""
+    if name == STANDARD:
+        return True
+    with telling(name):
+        if is_said and ending(name) not in BY_ENDING:
+            return SHEET_LINE.search(read_whole(name)[:LOOKED_AT]) is not None
+        return kind_of(name, b"" if ending(name) in BY_ENDING else read_whole(name)) == "sheet"
+
+
+def is_measured_alone(files: tuple[str, ...], curve: str | None, is_said: bool) -> bool:
+    """Whether no sheet is given, but Tucson files are."""
+    return curve is None and bool(files) and not any(is_sheet(name, is_said) for name in files)
+
+
+def refuse_curves(files: tuple[str, ...], curve: str | None, wood: str, is_said: bool) -> None:
+    """What goes with a sheet alone, where there is none."""
+    if curve is not None or not files or any(name != STANDARD and is_sheet(name, is_said) for name in files):
+        raise Unusable("--fit goes with Tucson files, and without a sheet.")
+    if wood != "both":
+        raise Unusable("--wood goes with a sheet: name the series of the wood part instead.")
+    if files.count(STANDARD) > 1:
+        raise Unusable("Standard input (-) can be named once only.")
+
+
+def sheet_and_files(files: tuple[str, ...], curve: str | None, is_said: bool) -> tuple[str, tuple[str, ...]]:
+    """The sheet and the Tucson files: all files are such where --curve names the sheet."""
     if curve is not None:
         return curve, files
-    sheets = [name for name in files if not name.endswith(TUCSON_ENDING)]
+    sheets = [name for name in files if is_sheet(name, is_said)]
     if len(sheets) != 1:
         found = "none is" if not sheets else f"{len(sheets)} are"
         raise Unusable(f"Give one sheet, as a file or with --curve SHEET: {found} given.")
-    return sheets[0], tuple(name for name in files if name.endswith(TUCSON_ENDING))
+    return sheets[0], tuple(name for name in files if name != sheets[0])
 
 
 def ending_of(output: str, chosen: str | None) -> Ending:
     """The kind of picture, by the name's ending or as it is said."""
-    asked = chosen or PurePath(output).suffix[1:].lower()
-    for ending in ENDINGS:
-        if asked == ending:
-            return ending
+    asked = chosen or ending(output)
+    for each in ENDINGS:
+        if asked == each:
+            return each
     raise Unusable(f"{output}: the picture's name must end in .svg, .png or .pdf, or --format say which it is.")
 
 
@@ -49,36 +84,61 @@ def parts_of(curve: Curve, wood: str, names: dict[Wood, tuple[str, ...]]) -> lis
 
 
 def measured_series(
-    series: list[Series], curve: Curve, names: dict[Wood, tuple[str, ...]], others: Sequence[str], first: int | None
-) -> list[Measured]:
+    series: list[Series], curve: Curve, names: dict[Wood, tuple[str, ...]], others: Sequence[str]
+) -> list[tuple[Series, Wood | None]]:
     """The series to draw, each with the wood part whose curve divides it."""
     parts: list[tuple[Series, Wood | None]] = [
-        (named(series, name), None if curve.is_whole_ring else part) for part in names for name in names[part]
+        (each, None if curve.is_whole_ring else part)
+        for part in names
+        for name in names[part]
+        for each in fitting(series, name)
     ]
     if others and not curve.is_whole_ring:
         raise Unusable("The sheet has a curve for each wood part: name the series with --earlywood or --latewood.")
-    parts += [(named(series, name), None) for name in others]
+    parts += [(each, None) for name in others for each in fitting(series, name)]
     if not parts and not curve.is_whole_ring:
         told = "The sheet has a curve for each wood part: name the series of each, with --earlywood NAME and --latewood NAME."
         raise Unusable(f"{told} There are {listed(series) or 'none'}.")
     chosen = parts or [(each, None) for each in series]
     if len(chosen) > MOST_SERIES:
         raise Unusable(f"{len(chosen):,} series can't be told apart: name at most {MOST_SERIES} with --series.")
-    return [Measured(each.name, each.first if first is None else first, each.widths, part) for each, part in chosen]
+    return chosen
+
+
+def counted(chosen: list[tuple[Series, Wood | None]], counting: Counting) -> list[Measured]:
+    """The series to draw, with the ring of each first width."""
+    starts = counting.starts([each for each, _ in chosen])
+    return [Measured(each.name, start, each.widths, part) for (each, part), start in zip(chosen, starts)]
+
+
+def readable(text: str) -> str:
+    """A text of the command line, with a mark for each byte that is no letter.
+
+    Examples
+    --------
+    >>> ascii(readable("Eiche \\udcff"))
+    "'Eiche \\\\ufffd'"
+    """
+    return text.encode("utf-8", "surrogateescape").decode("utf-8", "replace")
 
 
 @click.command()
 @click.argument("files", nargs=-1, metavar="[SHEET] [FILE.rwl...]")
 @click.option("--curve", metavar="SHEET", help="The sheet, where it is not among the files.")
-@click.option("--series", multiple=True, metavar="NAME", help="A series to draw with a curve of the whole ring.")
+@click.option("--fit", "is_fit", is_flag=True, help="In place of a sheet: fit a curve to the series, and draw both.")
+@shape_options
+@click.option(
+    "--series",
+    multiple=True,
+    metavar="NAME",
+    help="A series to draw with a curve of the whole ring, or a pattern as 'DTR*'.",
+)
 @click.option("--earlywood", multiple=True, metavar="NAME", help="A series of the earlywood; may come again.")
 @click.option("--latewood", multiple=True, metavar="NAME", help="A series of the latewood; may come again.")
 @click.option(
     "--wood", type=click.Choice([*get_args(Wood), "both"]), default="both", help="Draw one wood part's curve alone."
 )
-@click.option(
-    "--first", type=int, metavar="RING", help="The ring of each series' first width. Without it rings are years."
-)
+@counting_options
 @click.option("--title", metavar="WORDS", help="Above the picture; the sheet's name without it.")
 @click.option("--narrow", is_flag=True, help="Half the width, to stand beside another picture.")
 @reading_options
@@ -87,16 +147,20 @@ def measured_series(
 def command(
     files: tuple[str, ...],
     curve: str | None,
+    is_fit: bool,
+    shape: Shape | None,
+    scars: tuple[int, ...],
     series: tuple[str, ...],
     earlywood: tuple[str, ...],
     latewood: tuple[str, ...],
     wood: str,
     first: int | None,
+    each_first: int | None,
     title: str | None,
     narrow: bool,
     chosen: str | None,
     output: str,
-    **reading: bool,
+    **reading: Any,
 ) -> None:
     """Draw a sheet's curve; with Tucson files, their widths behind it and the ring indices below.
 
@@ -104,36 +168,84 @@ def command(
     other sheet the series of a wood part must be named; where one part's are, its curve alone is drawn. Scars are solid lines across,
     joins dotted ones; a cross is an absent ring, a circle a value of the sheet's at= list that is zero or less.
 
+    With --fit in place of a sheet, a curve is fitted as `fit` does it and drawn with the widths. Tucson files alone are drawn as their
+    widths, without a curve.
+
     Curve, values and indices are the engine's. The picture itself is tested, not proved. - is standard input.
 
     \b
     ./walzhik plot examples/sheets/step_4.sheet -o step_4.svg
     ./walzhik plot examples/sheets/roof.sheet examples/tucson/oak.rwl
                    --earlywood ROOF04E --latewood ROOF04L -o roof.png
+    ./walzhik plot examples/tucson/oak.rwl --fit --series ROOF04E -o oak.svg
+    ./walzhik plot examples/tucson/pine.rwl -o pine.svg
 
     Exit status: 0 done, 1 refused, 2 wrong usage, or a file can't be read or written.
     """
-    ending = ending_of(output, chosen)
-    name, tucson_files = sheet_and_files(files, curve)
-    if (name, *tucson_files).count(STANDARD) > 1:
-        raise Unusable("Standard input (-) can be named once only.")
+    drawn_as, asked, counting = (
+        ending_of(output, chosen),
+        asked_of(None, shape, scars, is_fit),
+        counting_of(first, each_first),
+    )
     names: dict[Wood, tuple[str, ...]] = {"earlywood": earlywood, "latewood": latewood}
-    if not tucson_files and any((series, earlywood, latewood)):
+    is_said = reading["said"] is not None
+    if is_fit or is_measured_alone(files, curve, is_said):
+        refuse_curves(files, curve, wood, is_said)
+        keep_inputs(output, files)
+        found, looks = read_series(files, **reading), Looks(heading_of(title, files[0]), counting, narrow)
+        if is_fit:
+            made = fitted_picture(found, names, series, asked, looks)
+        else:
+            made = measured_picture(found, names, series, looks)
+    else:
+        name, tucson_files = sheet_and_files(files, curve, is_said)
+        if (name, *tucson_files).count(STANDARD) > 1:
+            raise Unusable("Standard input (-) can be named once only.")
+        keep_inputs(output, [name, *tucson_files])
+        looks = Looks(heading_of(title, name), counting, narrow)
+        made = sheet_picture(name, tucson_files, names, series, wood, looks, reading)
+    write_whole(output, plot.rendered(made, drawn_as))
+
+
+def heading_of(title: str | None, name: str) -> str:
+    """The picture's title, or its file's name; letters that the font lacks are told."""
+    heading = readable(PurePath(name).stem if title is None else title)
+    if lost := plot.lacking(heading):
+        click.echo(f"The font has no {lost} for the title: an empty box stands in its place.", err=True)
+    return heading
+
+
+def sheet_picture(
+    name: str,
+    tucson_files: tuple[str, ...],
+    names: dict[Wood, tuple[str, ...]],
+    series: Sequence[str],
+    wood: str,
+    looks: Looks,
+    reading: dict[str, Any],
+) -> Figure:
+    """The picture of a sheet's curve, with the widths of Tucson files."""
+    if not tucson_files and any((series, *names.values())):
         raise Unusable("Series are named, but no Tucson file is given.")
+    if not tucson_files and any(reading.values()):
+        raise Unusable("An option says how Tucson files are read, but none is given.")
+    lists = read_sheet(name, strict=reading["strict"])
     with telling(name):
-        lists = sheet.read(read_whole(name))
         drawn = lists.curve()
-    measured: list[Measured] = []
+    measured = list[Measured]()
     if tucson_files:
-        measured = measured_series(read_series(tucson_files, **reading), drawn, names, series, first)
+        taken = measured_series(read_series(tucson_files, **reading), drawn, names, series)
+        click.echo(looks.counting.words([each for each, _ in taken]), err=True)
+        measured = counted(taken, looks.counting)
+    elif not looks.counting.is_by_years:
+        raise Unusable("--first and --each-first count the rings of series, but no Tucson file is given.")
     with telling(name):
-        made = plot.picture(
+        return plot.picture(
             drawn,
             measured,
             parts=parts_of(drawn, wood, names),
-            title=PurePath(name).stem if title is None else title,
-            rings="year" if measured and first is None else "ring",
+            title=looks.title,
+            rings=looks.rings if measured else "ring",
             at=lists.at,
-            is_narrow=narrow,
+            is_narrow=looks.is_narrow,
         )
-    write_whole(output, plot.rendered(made, ending))

@@ -4,15 +4,31 @@ from __future__ import annotations
 
 from pathlib import PurePath
 
+from typing import Any
+
 import click
 
-from .. import sheet
-from ..failures import Unusable, telling
-from ..files import STANDARD, read_whole
+from ..counting import Counting
+from ..failures import Unusable
+from ..files import STANDARD
+from ..tucson import Series
+from ._numbers import Whole, counting_of, counting_options
 from ._series import named, read_series, reading_options
+from ._sheets import read_sheet
 
 MOST_PORT = 65_535
 PACKAGES = "python3-flask python3-waitress"
+
+
+def shared_start(series: list[Series], counting: Counting) -> int | None:
+    """The ring of the first width of every series of the file, None for years: the screen counts each by itself."""
+    starts = set(counting.starts(series))
+    if counting.first is not None and len(starts) > 1:
+        raise Unusable(
+            f"The series of the file start in different years, so that --first {counting.first} is no one ring for "
+            "the first width of all. The screen counts each series by itself: --each-first RING, or years without it."
+        )
+    return None if counting.is_by_years or not starts else starts.pop()
 
 
 @click.command()
@@ -25,12 +41,8 @@ PACKAGES = "python3-flask python3-waitress"
 )
 @click.option("--earlywood", metavar="NAME", help="The series of the earlywood.")
 @click.option("--latewood", metavar="NAME", help="The series of the latewood.")
-@click.option(
-    "--first", type=int, metavar="RING", help="The ring of each series' first width. Without it rings are years."
-)
-@click.option(
-    "--port", type=click.IntRange(0, MOST_PORT), default=0, help="The port to listen on; any free one without it."
-)
+@counting_options
+@click.option("--port", type=Whole(0, MOST_PORT), default=0, help="The port to listen on; any free one without it.")
 @reading_options
 def command(
     file: str | None,
@@ -39,8 +51,9 @@ def command(
     earlywood: str | None,
     latewood: str | None,
     first: int | None,
+    each_first: int | None,
     port: int,
-    **reading: bool,
+    **reading: Any,
 ) -> int:
     """Show a curve on a page in this machine's browser, to be changed by hand.
 
@@ -63,16 +76,23 @@ def command(
         raise Unusable("Give --series, or --earlywood and --latewood.")
     if asked and file is None:
         raise Unusable("A series is named, but no Tucson file is given.")
+    if file is None and any(reading.values()):
+        raise Unusable("An option says how a Tucson file is read, but none is given.")
     if STANDARD == file == curve:
         raise Unusable("Standard input (-) can be named once only.")
+    counting = counting_of(first, each_first)
+    if file is None and not counting.is_by_years:
+        raise Unusable("--first and --each-first count the rings of series, but no Tucson file is given.")
     found = read_series([file] if file is not None else [], **reading)
+    ring = shared_start(found, counting)
     begun = None
     if curve is not None:
-        with telling(curve):
-            begun = sheet.read(read_whole(curve))
+        begun = read_sheet(curve, strict=reading["strict"])
     names = [PurePath(name).name for name in (file, curve) if name is not None]
     chosen = {wood: named(found, name).name for wood, name in asked.items()}
-    screen = Screen(start({each.name: each for each in found}, begun, chosen, first, names), port)
+    if found:
+        click.echo(counting.words(found), err=True)
+    screen = Screen(start({each.name: each for each in found}, begun, chosen, ring, names), port)
     click.echo(f"The screen is at {screen.address} (end with Ctrl-C).")
     screen.run()
     return 0

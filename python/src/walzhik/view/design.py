@@ -40,6 +40,8 @@ class Design:
         The ring of each series' first width; rings are years where it is left out.
     at : {"none", "rings", "given"}
         The positions that the sheet lists.
+    positions : list of int, optional
+        Those of a sheet that was opened in the page, in place of the given one's.
     """
 
     breaks: list[int]
@@ -50,11 +52,17 @@ class Design:
     series: dict[str, str] = field(default_factory=dict)
     first: int | None = None
     at: Positions = "none"
+    positions: list[int] | None = None
 
     @property
     def woods(self) -> list[str]:
         """The curves that are shown: ``ring``, or both wood parts."""
         return [RING] if self.is_whole_ring else list(WOOD)
+
+    @property
+    def lists(self) -> tuple[list[int], list[int], list[int]]:
+        """The three lists of its space."""
+        return self.breaks, self.degrees, self.orders
 
     def space(self) -> Space:
         """The space of the lists, if the engine accepts them."""
@@ -77,7 +85,8 @@ class Design:
         >>> Design([0, 2], [1], [], [(9, 9), (8, 8)], True, at="rings").sheet([]).at
         [0, 256, 512]
         """
-        listed: dict[str, list[int]] = {"rings": ring_positions(self.breaks), "given": list(given)}
+        own = given if self.positions is None else self.positions
+        listed: dict[str, list[int]] = {"rings": ring_positions(self.breaks), "given": list(own)}
         at = listed.get(self.at, [])
         return Sheet(self.breaks, self.degrees, self.orders, self.pairs, at)
 
@@ -164,6 +173,7 @@ def design_of(sent: object) -> Design:
         raise Malformed("is_whole_ring is neither true nor false.")
     if is_whole_ring and any(early != late for early, late in pairs):
         raise Malformed("A curve of the whole ring has pairs with two equal sides.")
-    return Design(
-        lists[0], lists[1], lists[2], pairs, is_whole_ring, series_of(sent.get("series")), first, cast(Positions, at)
-    )
+    listed = sent.get("positions")
+    positions = None if listed is None else whole_numbers(listed, "positions")
+    series = series_of(sent.get("series"))
+    return Design(lists[0], lists[1], lists[2], pairs, is_whole_ring, series, first, cast(Positions, at), positions)

@@ -11,7 +11,8 @@ from typing import NamedTuple
 
 from .. import plot, sheet
 from ..commands.indices import Indexed, Job, Names, as_table, as_tucson, chosen_series, indexed, wood_of
-from ..commands.plot import measured_series, parts_of
+from ..commands.plot import counted, measured_series, parts_of
+from ..counting import Counting
 from ..curve import Curve, Wood
 from ..failures import Unusable
 from ..plot import Ending
@@ -19,7 +20,8 @@ from ..reasons import WOOD
 from .design import RING, Design
 from .given import Given
 
-LONGEST_STEM = 40
+LONGEST_STEM = 60
+TABLES, INDICES = ("csv", "rwl"), "_indices"
 DRAWING = Lock()  # matplotlib's settings are shared by all threads
 
 
@@ -31,8 +33,20 @@ class Download(NamedTuple):
     data: bytes
 
 
+def safe(name: str) -> str:
+    """A name in letters that every system takes.
+
+    Examples
+    --------
+    >>> safe("<b>/oak 1.sheet"), safe("ROOF04E"), safe("")
+    ('oak_1', 'ROOF04E', 'curve')
+    """
+    last = re.split(r"[/\\]", name)[-1]
+    return re.sub(r"[^A-Za-z0-9_-]", "_", last.rpartition(".")[0] or last)[:LONGEST_STEM] or "curve"
+
+
 def stem(design: Design, given: Given) -> str:
-    """The front of the files' names: the sheet's or else the series', in letters that every system takes.
+    """The front of the files' names: the sheet's, or else the measured file's with the series where it has several.
 
     Examples
     --------
@@ -40,9 +54,17 @@ def stem(design: Design, given: Given) -> str:
     >>> stem(design, Given({}, ["<b>/oak 1.sheet"], design))
     'oak_1'
     """
-    named = [*reversed(given.names), *design.series.values(), "curve"][0]
-    last = re.split(r"[/\\]", named)[-1].rpartition(".")[0] or named
-    return re.sub(r"[^A-Za-z0-9_-]", "_", last)[:LONGEST_STEM] or "curve"
+    if given.sheet_name or not given.names:
+        return safe(given.sheet_name or "curve")
+    chosen = [design.series[wood] for wood in design.woods if wood in design.series]
+    return safe("_".join([safe(given.names[0]), *chosen]) if len(given.series) > 1 else given.names[0])
+
+
+def file_name(kind: str, design: Design, given: Given) -> str:
+    """The name of a file to save: indices are never named as the measured file."""
+    front = stem(design, given)
+    is_measured = given.series and front.startswith(safe(given.names[0]))
+    return f"{front}{INDICES if kind in TABLES and is_measured else ''}.{MADE[kind][0]}"
 
 
 def sheet_text(design: Design, given: Given) -> bytes:
@@ -77,7 +99,8 @@ def picture(design: Design, given: Given, ending: Ending) -> bytes:
     names = names_of(design)
     by_part: dict[Wood, tuple[str, ...]] = {"earlywood": names.earlywood, "latewood": names.latewood}
     series = list(given.series.values())
-    measured = measured_series(series, curve, by_part, names.series, design.first) if any(names) else []
+    taken = measured_series(series, curve, by_part, names.series) if any(names) else []
+    measured = counted(taken, Counting(each_first=design.first))
     with DRAWING:
         made = plot.picture(
             curve,

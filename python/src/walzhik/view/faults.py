@@ -11,7 +11,7 @@ from ..errors import Refused
 from ..reasons import WOOD
 from .design import RING, Design
 
-LISTS, COEFFICIENTS, FIT = "lists", "coefficients", "fit"
+LISTS, COEFFICIENTS, FIT, OPEN = "lists", "coefficients", "fit", "open"
 BY_PLACE = {3: "break", 4: "degree", 5: "order", 8: "order", 9: "order", 15: "degree"}  # by the refusal's number
 COEFFICIENT, OUTSIDE, INDEX = 6, 7, 14
 

@@ -14,6 +14,7 @@ from ..reasons import DEGREES, MOST_BREAKPOINT, MOST_COEFFICIENT, MOST_ORDER, SC
 from ..sheet import Sheet
 from ..tucson import Series
 from .design import RING, Design, ring_of
+from .shapes import shapes
 
 START = Sheet([0, 20, 60, 100], [3, 2, 1], [1, 0], [(n, n) for n in (1500, 2600, 2400, 1500, 1000, 800)])
 LIMITS = {
@@ -22,6 +23,26 @@ LIMITS = {
     "breakpoint": MOST_BREAKPOINT,
     "coefficient": MOST_COEFFICIENT,
 }
+
+
+COMPUTED = "=+-@"  # what a formula of a spreadsheet begins with
+
+
+def computed_words(name: str) -> str | None:
+    """What to say of a series' name that a spreadsheet would compute; None for any other.
+
+    Examples
+    --------
+    >>> computed_words("=A1+A2")
+    'Series =A1+A2 begins with =, and a spreadsheet would compute such a name. Give it another one before its table goes there.'
+    >>> computed_words("ROOF04E")
+    """
+    if not name.startswith(tuple(COMPUTED)):
+        return None
+    return (
+        f"Series {name} begins with {name[0]}, and a spreadsheet would compute such a name. "
+        "Give it another one before its table goes there."
+    )
 
 
 @dataclass
@@ -37,22 +58,35 @@ class Given:
         The positions of the sheet.
     design : Design
         What the page begins with.
+    words : str
+        What is to be said of it.
     """
 
     series: Mapping[str, Series]
     names: list[str]
     design: Design
     at: Sequence[int] = field(default_factory=list)
+    words: str = ""
+
+    @property
+    def sheet_name(self) -> str | None:
+        """The name of the sheet's file, where there is one: it stands behind the measured file's."""
+        return self.names[-1] if len(self.names) > bool(self.series) else None
 
     def as_json(self) -> dict[str, Any]:
         """All that the page needs at its start."""
-        series = [{"name": each.name, "year": each.first, "rings": len(each)} for each in self.series.values()]
+        series = [
+            {"name": each.name, "year": each.first, "rings": len(each), "care": computed_words(each.name)}
+            for each in self.series.values()
+        ]
         return {
             "names": self.names,
+            "words": self.words,
             "series": series,
             "design": self.design.as_json(),
             "positions": len(self.at),
             "limits": LIMITS,
+            "shapes": shapes(),
         }
 
 
@@ -88,13 +122,22 @@ def fitted(series: Mapping[str, Series], chosen: Mapping[str, str], first: int |
     )
 
 
+def copied_words(design: Design) -> str:
+    """What is said of a wood part that begins with the other one's curve, since it has no series."""
+    alone = [wood for wood in design.woods if wood not in design.series]
+    if design.is_whole_ring or not alone:
+        return ""
+    return f"No series of the {alone[0]} is named: its curve begins as a copy of the other one."
+
+
 def start(
     series: Mapping[str, Series], sheet: Sheet | None, named: Mapping[str, str], first: int | None, names: list[str]
 ) -> Given:
     """What the page begins with: the sheet's curve, or one fitted to the series, or a small one."""
     if sheet is None and series:
         is_whole_ring = not (set(named) & set(WOOD))
-        return Given(series, names, fitted(series, chosen_series(series, named, is_whole_ring), first))
+        design = fitted(series, chosen_series(series, named, is_whole_ring), first)
+        return Given(series, names, design, words=copied_words(design))
     begun = sheet or START
     is_whole_ring = all(early == late for early, late in begun.pairs) and not (set(named) & set(WOOD))
     chosen = chosen_series(series, named, is_whole_ring)

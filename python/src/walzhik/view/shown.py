@@ -1,21 +1,23 @@
-"""What the page draws of a design, in one answer: the pieces of each curve, low places, the measured rings with their
-indices, and what the engine promises of it. All numbers are from the proved calls; floats here are whole 256ths of a
-thousandth and hence exact.
+"""What the page draws of a design, in one answer: the pieces of each curve, low places, values at rings, the measured
+rings beside them, and what the engine promises of it. All numbers are from the proved calls; floats here are whole
+256ths of a thousandth and hence exact.
 """
 
 from __future__ import annotations
 
-from collections.abc import Mapping
+from collections.abc import Mapping, Sequence
 from typing import TYPE_CHECKING, Any
 
 import numpy as np
 
+from .._engine import MOST_POSITIONS
 from ..errors import Refused
 from ..reasons import SCAR, UNIT, WOOD, Lists, rows_sum
 from ..tucson import Series
 from .carry import carried, handle_places
-from .design import Design, Malformed, ring_of, wood_of
-from .faults import INDEX, OUTSIDE, control, told
+from .design import Design, wood_of
+from .faults import control, told
+from .measured import measured
 from .promises import promises
 
 if TYPE_CHECKING:
@@ -79,50 +81,44 @@ def part_rows(curve: Curve) -> list[int]:
     ]
 
 
-def measured(design: Design, curve: Curve | None, series: Mapping[str, Series]) -> list[dict[str, Any]]:
-    """The series beside the curves, each with its indices or with why it has none."""
-    shown = []
-    for wood in design.woods:
-        if wood not in design.series:
-            continue
-        each = series[design.series[wood]]
-        start = ring_of(each, design.first)
-        made: dict[str, Any] = {"name": each.name, "wood": wood, "first": start, "year": each.first}
-        made |= {"widths": np.asarray(each.widths).tolist(), "indices": None, "refusal": None, "fault": None}
-        if curve is not None:
-            try:
-                made["indices"] = curve.indices(each.widths, start, wood_of(wood)).tolist()
-            except Refused as error:
-                made["refusal"] = told(error, f"series-{wood}")
-                made["fault"] = error.place if error.number in (OUTSIDE, INDEX) else None
-        shown.append(made)
-    return shown
+def ring_values(curve: Curve) -> NDArray[np.int32]:
+    """Both curves at each whole ring of the span, in 256ths of a thousandth; none where it has more than one call takes."""
+    first, last = (int(end) for end in curve.space.breaks[[0, -1]])
+    if last - first >= MOST_POSITIONS:
+        return np.zeros((0, len(WOOD)), dtype=np.int32)
+    return curve.values(UNIT * np.arange(first, last + 1, dtype=np.int32))
 
 
 def with_pairs(design: Design, before: Design | None) -> tuple[Design, Curve]:
     """The design with its curve.
 
-    Where its space asks for another number of coefficients than it has, the curve of the design before is carried over.
+    Parameters
+    ----------
+    design : Design
+    before : Design, optional
+        The lists that the design's coefficients were made for. Where these are other ones than the design's own, the
+        curve over them is carried over, also if the number of coefficients happens to be the same.
     """
     space = design.space()
-    if before is not None and len(design.pairs) != space.n:
-        try:
-            design.pairs = carried(before.curve(), space)
-        except Refused as error:
-            raise Malformed(f"The design before was never accepted: {error.words}") from error
+    if before is not None and before.lists != design.lists:
+        design.pairs = carried(before.curve(), space)
     return design, design.curve(space)
 
 
-def shown(design: Design, before: Design | None, series: Mapping[str, Series]) -> dict[str, Any]:
+def shown(
+    design: Design, before: Design | None, series: Mapping[str, Series], at: Sequence[int] = ()
+) -> dict[str, Any]:
     """What the page draws of a design.
 
     Parameters
     ----------
     design : Design
     before : Design, optional
-        The last one that was accepted.
+        The one whose coefficients it has, where its own lists are other ones.
     series : mapping
         The series that were given, by name.
+    at : sequence of int
+        The positions of the sheet that was given.
     """
     try:
         design, curve = with_pairs(design, before)
@@ -130,11 +126,13 @@ def shown(design: Design, before: Design | None, series: Mapping[str, Series]) -
         return {"refusal": told(error, control(error, design)), "series": measured(design, None, series)}
     positions = looked_at(curve)
     values = curve.values(positions)
+    at_rings = ring_values(curve)
     curves = []
     for wood in design.woods:
         side = curve.side(wood_of(wood))
         pieces = [piece(curve, segment, side) for segment in range(len(design.degrees))]
-        curves.append({"wood": wood, "pieces": pieces, "low": low_places(positions, values[:, side])})
+        low = low_places(positions, values[:, side])
+        curves.append({"wood": wood, "pieces": pieces, "low": low, "values": at_rings[:, side].tolist()})
     return {
         "refusal": None,
         "n": curve.space.n,
@@ -145,4 +143,5 @@ def shown(design: Design, before: Design | None, series: Mapping[str, Series]) -
         "extent": [int(values.min()) / UNIT, int(values.max()) / UNIT],
         "series": measured(design, curve, series),
         "promises": promises(design, curve, values),
+        "sheet": design.sheet(at).text().decode("ascii"),
     }

@@ -27,7 +27,7 @@ export class Coefficients {
     const shape = `${design.pairs.length} ${design.is_whole_ring}`;
     const isSame = shape === this.shape;
     Object.assign(this, { design, shape });
-    if (!isSame) rebuilt(() => this.build());
+    if (!isSame) rebuilt(found("rows"), () => this.build());
     design.pairs.forEach((_, row) => {
       found(`place-${row}`).textContent = row in places ? places[row].toFixed(TENTHS) : "";
       for (const wood of woods(design)) fill(`coefficient-${row}-${wood}`, coefficient(design, row, wood));

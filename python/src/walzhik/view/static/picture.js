@@ -1,32 +1,40 @@
 // The picture: widths and curves above, indices below, over one axis of rings. Pixels are all that is worked out here.
 
-import { draw, found, make, millimetres, woodWords } from "./elements.js";
+import { axis, breakLines } from "./axes.js";
+import { draw, found } from "./elements.js";
 import { coefficient, SCAR, woods } from "./design.js";
 import { Handles } from "./handles.js";
+import { legend } from "./legend.js";
 import { curvePath, dotPath, ringPath } from "./paths.js";
 import { Scale } from "./scale.js";
+import { View } from "./view.js";
 
 const MARGIN = { left: 62, right: 18, top: 14, between: 52, bottom: 38 };
 const INDEX_SHARE = 0.3; // of the height
 const HEADROOM = 1.06;
 const ON_CURVE = 1000; // the index of a ring as wide as the curve
-const PIXELS_PER_TICK = { across: 80, up: 40 };
 const DOT_PIXELS = 5; // between two dots, at least
 const CROSS = 4;
 const FAULT_RADIUS = 8;
+const EDGE_SHARE = 0.03; // of the range, by which a hand at its edge draws a scale out at each move
 
 const plane = (across, up) => `matrix(${across.factor} 0 0 ${up.factor} ${across.shift} ${up.shift})`;
 
 const hidden = (numbers, isHidden) => numbers.map((number) => (isHidden(number) ? null : number));
 
+const widest = ({ widths }) => widths.reduce((most, width) => Math.max(most, width), 0);
+
 export class Picture {
-  constructor(limits, onMove) {
+  constructor(limits, on) {
     this.svg = found("picture");
+    this.clip = draw("rect");
     this.layer = draw("g");
-    this.svg.append(this.layer);
-    this.handles = new Handles(this.svg, limits, onMove);
-    this.scales = null;
-    new ResizeObserver(() => this.shown && this.show(this.shown)).observe(this.svg);
+    this.svg.append(draw("clipPath", { id: "inside" }, this.clip), this.layer);
+    this.view = new View();
+    const own = { reach: (kind, pixel) => this.reach(kind, pixel), bring: (ring) => this.bring(ring), rest: () => this.again() };
+    this.handles = new Handles(this.svg, limits, { ...on, ...own });
+    Object.assign(this, { scales: null, shown: null, former: null, others: [], ring: null });
+    new ResizeObserver(() => this.again()).observe(this.svg);
   }
 
   // Shows a design with the last good answer for it; a stale one is grey.
@@ -37,9 +45,23 @@ export class Picture {
     // The print has another size, to which the box is brought.
     this.svg.setAttribute("viewBox", `0 0 ${this.svg.clientWidth} ${this.svg.clientHeight}`);
     this.svg.classList.toggle("stale", isStale);
-    this.layer.replaceChildren(...this.upper(), ...(this.scales.index ? this.lower() : []));
+    this.drawAll();
     this.showHandles(design);
-    this.legend();
+    legend(shown);
+  }
+
+  again() {
+    if (this.shown) this.show(this.shown);
+  }
+
+  drawAll() {
+    const { across, up, index } = this.scales;
+    const box = { x: across.start, y: MARGIN.top, width: across.end - across.start, height: this.svg.clientHeight };
+    for (const [name, value] of Object.entries(box)) this.clip.setAttribute(name, value);
+    const inside = draw("g", { "clip-path": "url(#inside)" }, ...this.upper(), ...(index ? this.lower() : []), this.hairline());
+    const axes = [axis(this, up, "width, mm")];
+    if (index) axes.push(axis(this, index, "index, thousandths"));
+    this.layer.replaceChildren(...axes, inside);
   }
 
   // Moves the handles alone: they follow the hand before the answer is there.
@@ -47,14 +69,48 @@ export class Picture {
     this.handles.show(design, this.shown.answer.places, this.scales);
   }
 
+  // Marks a ring that is read out.
+  mark(ring) {
+    this.ring = ring;
+    if (this.shown) this.layer.querySelector(".hairline").replaceWith(this.hairline());
+  }
+
+  hairline() {
+    const { across } = this.scales;
+    const x = this.ring === null ? -1 : across.at(this.ring);
+    return draw("line", { class: "hairline", x1: x, x2: x, y1: MARGIN.top, y2: this.svg.clientHeight - MARGIN.bottom });
+  }
+
+  // The ring at a pixel, from the left of the picture.
+  ringAt(x) {
+    return Math.round(this.scales.across.nearest(x));
+  }
+
+  // The number at a pixel where the hand is; beyond an edge the scale follows it.
+  reach(kind, pixel) {
+    const name = kind === "break" ? "across" : "up";
+    const scale = this.scales[name].drawnOut(pixel, EDGE_SHARE);
+    if (scale !== this.scales[name]) {
+      this.scales = { ...this.scales, [name]: scale };
+      if (kind === "break") this.view.drawnOut(scale);
+      this.drawAll();
+    }
+    return scale.nearest(pixel);
+  }
+
+  bring(ring) {
+    this.view.bring(ring);
+    this.again();
+  }
+
   scaled(design, answer, series) {
     const width = this.svg.clientWidth, height = this.svg.clientHeight;
     const firsts = series.map((each) => each.first), lasts = series.map((each) => each.first + each.widths.length - 1);
     const rings = [Math.min(design.breaks[0], ...firsts), Math.max(design.breaks.at(-1), ...lasts)];
-    const across = new Scale(rings, [MARGIN.left, width - MARGIN.right]);
+    const across = new Scale(this.view.range(rings), [MARGIN.left, width - MARGIN.right]);
     const coefficients = woods(design).flatMap((wood) => design.pairs.map((_, row) => coefficient(design, row, wood)));
     const least = Math.min(0, answer.extent[0], ...coefficients);
-    const most = Math.max(1, answer.extent[1], ...coefficients, ...series.flatMap((each) => each.widths));
+    const most = Math.max(1, answer.extent[1], ...coefficients, ...[...series, ...this.others].map(widest));
     const floor = height - MARGIN.bottom;
     const below = series.length ? floor - height * INDEX_SHARE : floor;
     const foot = series.length ? below - MARGIN.between : floor - MARGIN.between / 2;
@@ -70,65 +126,36 @@ export class Picture {
   }
 
   upper() {
-    const { across, up } = this.scales;
+    const { up } = this.scales;
     const { answer, series } = this.shown;
     return [
-      ...this.axis(up, "width, mm", (tick) => String(Number(millimetres(tick)))),
-      ...this.breakLines(up, 2),
+      ...breakLines(this, up, 2),
+      ...this.others.map((each) => this.other(each)),
       ...this.rings(up, series, ({ widths }) => hidden(widths, (width) => width === 0)),
       ...series.map((each) => this.absent(each)),
-      ...series.filter(({ fault }) => fault !== null).map((each) => this.fault(each)),
+      ...series.filter(({ faults }) => faults.length).map((each) => this.faults(each)),
       ...answer.curves.map(({ wood, low }) => this.low(wood, low)),
       ...answer.curves.map(({ wood }) => this.polygon(wood)),
-      ...answer.curves.map(({ wood, pieces }) =>
-        draw("path", { class: `curve ${wood}`, "data-curve": wood, d: curvePath(pieces), transform: plane(across, up) })),
+      ...(this.former ?? []).map((each) => this.curve(each, "ghost", "data-ghost")),
+      ...answer.curves.map((each) => this.curve(each, "curve", "data-curve")),
     ];
+  }
+
+  curve({ wood, pieces }, kind, named) {
+    const { across, up } = this.scales;
+    return draw("path", { class: `${kind} ${wood}`, [named]: wood, d: curvePath(pieces), transform: plane(across, up) });
   }
 
   lower() {
     const { across, index } = this.scales;
     const { series } = this.shown;
     const level = index.at(ON_CURVE);
-    const one = { class: "one", x1: across.at(across.from), x2: across.at(across.to), y1: level, y2: level };
+    const one = { class: "one", x1: across.start, x2: across.end, y1: level, y2: level };
     return [
-      ...this.axis(index, "index, thousandths", String),
-      ...this.breakLines(index, 0),
+      ...breakLines(this, index, 0),
       draw("line", one),
       ...this.rings(index, series, ({ indices }) => hidden(indices ?? [], (each) => each < 0), "index"),
     ];
-  }
-
-  // Grid, numbers and words of an axis upwards, and the numbers of the rings below it.
-  axis(up, words, text) {
-    const { across } = this.scales;
-    const left = across.at(across.from), right = across.at(across.to);
-    const made = [];
-    for (const tick of up.ticks(Math.abs(up.at(up.to) - up.start) / PIXELS_PER_TICK.up)) {
-      made.push(draw("line", { class: tick === 0 ? "zero" : "grid", x1: left, x2: right, y1: up.at(tick), y2: up.at(tick) }));
-      made.push(draw("text", { class: "number up", x: left - 6, y: up.at(tick) }, text(tick)));
-    }
-    const isLast = up === (this.scales.index ?? this.scales.up);
-    for (const tick of across.ticks((right - left) / PIXELS_PER_TICK.across)) {
-      made.push(draw("line", { class: "tick", x1: across.at(tick), x2: across.at(tick), y1: up.start, y2: up.start + 4 }));
-      if (isLast) made.push(draw("text", { class: "number", x: across.at(tick), y: this.svg.clientHeight - 20 }, String(tick)));
-    }
-    const middle = (up.start + up.at(up.to)) / 2;
-    made.push(draw("text", { class: "words", transform: `translate(11 ${middle}) rotate(-90)` }, words));
-    const { design, series } = this.shown;
-    const rings = design.first === null && series.length ? "year" : "ring";
-    if (isLast) made.push(draw("text", { class: "words", x: (left + right) / 2, y: this.svg.clientHeight - 4 }, rings));
-    return made;
-  }
-
-  breakLines(up, below) {
-    const { breaks, orders } = this.shown.design;
-    const lines = breaks.map((ring, place) => {
-      const isEnd = place === 0 || place === breaks.length - 1;
-      const kind = isEnd ? "end" : orders[place - 1] === SCAR ? "scar" : "join";
-      const x = this.scales.across.at(ring);
-      return draw("line", { class: kind, x1: x, x2: x, y1: up.at(up.to), y2: up.start + below });
-    });
-    return lines;
   }
 
   rings(up, series, heights, kind = "") {
@@ -145,6 +172,13 @@ export class Picture {
     });
   }
 
+  // Another series of the file, under all that is worked on.
+  other({ name, first, widths }) {
+    const { across, up } = this.scales;
+    const path = ringPath(first, hidden(widths, (width) => width === 0), new Set());
+    return draw("path", { class: "other", "data-other": name, d: path, transform: plane(across, up) }, draw("title", {}, name));
+  }
+
   absent(series) {
     const { across, up } = this.scales;
     const y = up.at(0);
@@ -155,11 +189,15 @@ export class Picture {
     return draw("path", { class: "absent", d: crosses.join("") });
   }
 
-  // A ring around the measured ring that has no index.
-  fault(series) {
+  // A ring around each measured ring that has no index.
+  faults({ wood, first, widths, faults }) {
     const { across, up } = this.scales;
-    const at = { cx: across.at(series.first + series.fault), cy: up.at(series.widths[series.fault]) };
-    return draw("circle", { class: "fault-ring", "data-fault": series.wood, r: FAULT_RADIUS, ...at });
+    const size = `a${FAULT_RADIUS} ${FAULT_RADIUS} 0 1 0`;
+    const rings = faults.map((place) => {
+      const start = `M${across.at(first + place) - FAULT_RADIUS} ${up.at(widths[place])}`;
+      return `${start}${size} ${2 * FAULT_RADIUS} 0${size} ${-2 * FAULT_RADIUS} 0`;
+    });
+    return draw("path", { class: "fault-ring", "data-fault": wood, "data-count": faults.length, d: rings.join("") });
   }
 
   low(wood, places) {
@@ -180,17 +218,5 @@ export class Picture {
       return `${starts.has(row) ? "M" : "L"}${place} ${coefficient(design, row, wood)}`;
     });
     return draw("path", { class: `polygon ${wood}`, d: points.join(""), transform: plane(across, up) });
-  }
-
-  legend() {
-    const { answer, series, design } = this.shown;
-    const entries = answer.curves.map(({ wood }) => [`line ${wood}`, `curve, ${woodWords[wood]}`]);
-    for (const each of series) entries.push([`dot ${each.wood}`, each.name]);
-    if (design.orders.some((order) => order !== SCAR)) entries.push(["join", "join"]);
-    if (design.orders.includes(SCAR)) entries.push(["scar", "scar"]);
-    if (series.some(({ widths }) => widths.includes(0))) entries.push(["cross", "absent ring"]);
-    if (answer.curves.some(({ low }) => low.length)) entries.push(["low", "low"]);
-    const items = entries.map(([kind, words]) => make("li", {}, make("span", { class: `swatch ${kind}` }), words));
-    found("legend").replaceChildren(...items);
   }
 }

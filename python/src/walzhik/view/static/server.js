@@ -8,9 +8,14 @@ export class Refusal extends Error {
   }
 }
 
+// Nobody has answered at all.
+export class Unreachable extends Error {}
+
 async function asked(path, body) {
   const told = { method: "POST", headers: { "Content-Type": "application/json" }, body: JSON.stringify(body) };
-  const response = await fetch(path, told);
+  const response = await fetch(path, told).catch((error) => {
+    throw new Unreachable(error.message);
+  });
   if (response.ok) return response;
   const said = await response.json().catch(() => ({ words: `The server answered with ${response.status}.` }));
   if (said.refusal) throw new Refusal(said.refusal);
@@ -25,8 +30,15 @@ export async function ask(path, body) {
   return (await asked(path, body)).json();
 }
 
-export async function askFile(kind, design) {
-  const response = await asked(`download/${kind}`, { design });
+// An answer that may be a refusal, which is thrown.
+export async function askOrRefuse(path, body) {
+  const answer = await ask(path, body);
+  if (answer.refusal) throw new Refusal(answer.refusal);
+  return answer;
+}
+
+export async function askFile(path, body) {
+  const response = await asked(path, body);
   const [, name] = /filename="([^"]*)"/.exec(response.headers.get("Content-Disposition"));
   return { name, blob: await response.blob() };
 }
@@ -45,8 +57,9 @@ export class Newest {
     performance.measure("change", { start, end: performance.now() });
   }
 
-  async ask(body) {
-    this.waiting = body;
+  // Asks for a design, whose coefficients may still be those of the one before.
+  async ask(design, before) {
+    this.waiting = { design, before };
     if (this.isBusy) return;
     this.isBusy = true;
     while (this.waiting !== null) {
@@ -54,7 +67,7 @@ export class Newest {
       this.waiting = null;
       const start = performance.now();
       try {
-        this.onAnswer(await ask(this.path, next), next, this.waiting === null);
+        this.onAnswer(await ask(this.path, next), next.design, this.waiting === null);
         this.note(start);
       } catch (error) {
         this.onFailure(error);

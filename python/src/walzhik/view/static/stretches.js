@@ -1,10 +1,10 @@
 // The table of breakpoints, stretches and joins, in their order along the wood.
 
-import { fill, found, make, number, rebuilt, select } from "./elements.js";
+import { button, fill, found, make, number, rebuilt, select } from "./elements.js";
 import { SCAR, split, withBreak, withDegree, withOrder, withoutJoin } from "./design.js";
 import { notWhole, showRefusal, typedWhole } from "./refusals.js";
 
-const ORDER_WORDS = { [SCAR]: "-1: scar", 0: "0: meets", 1: "1: same slope", 2: "2: same bend" };
+const ORDER_WORDS = { [SCAR]: "-1: scar", 0: "0: meets", 1: "1: slope", 2: "2: bend" };
 
 const line = (head, kind, ...cells) =>
   make("tr", { class: kind }, make("th", { scope: "row" }, head), ...cells.map((each) => make("td", {}, each)));
@@ -30,17 +30,11 @@ export class Stretches {
     return made;
   }
 
-  button(words, label, change) {
-    const made = make("button", { type: "button", "aria-label": label }, words);
-    made.addEventListener("click", () => this.onChange(change()));
-    return made;
-  }
-
   stretch(place) {
     const degrees = this.limits.degrees.map((degree) => [degree, `degree ${degree}`]);
     const change = (degree) => withDegree(this.design, place, degree);
     const degree = this.chosen(`degree-${place}`, `Degree of stretch ${place}`, degrees, this.design.degrees[place], change);
-    const cut = this.button("Split", `Split stretch ${place}`, () => split(this.design, place));
+    const cut = button({ "aria-label": `Split stretch ${place}` }, "Split", () => this.onChange(split(this.design, place)));
     return line(`Stretch ${place}`, "stretch", "", degree, cut);
   }
 
@@ -48,7 +42,7 @@ export class Stretches {
     const orders = this.limits.orders.map((order) => [order, ORDER_WORDS[order]]);
     const change = (order) => withOrder(this.design, place, order);
     const order = this.chosen(`order-${place}`, `Order of join ${place}`, orders, this.design.orders[place], change);
-    const drop = this.button("Remove", `Remove join ${place}`, () => withoutJoin(this.design, place));
+    const drop = button({ "aria-label": `Remove join ${place}` }, "Remove", () => this.onChange(withoutJoin(this.design, place)));
     return line(`Join ${place}`, "join", this.breakpoint(place + 1), order, drop);
   }
 
@@ -57,7 +51,7 @@ export class Stretches {
     const isSame = this.design && this.design.degrees.length === design.degrees.length;
     this.design = design;
     if (isSame) this.fill();
-    else rebuilt(() => this.build());
+    else rebuilt(found("stretches"), () => this.build());
   }
 
   fill() {

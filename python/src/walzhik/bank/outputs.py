@@ -1,0 +1,139 @@
+"""The outputs of one file in the output folder: written whole and together, by the run that may write there now, and
+with nothing left of what an earlier run wrote for the same file.
+"""
+
+from __future__ import annotations
+
+import errno
+import os
+from collections.abc import Iterator
+from contextlib import contextmanager, suppress
+from hashlib import sha256
+from pathlib import Path
+
+from ..files import Part, named
+from . import lock
+from .inputs import shown, stem
+from .places import INDICES, SHEET, SHEETS
+from .records import Record
+
+OF_ONE_FILE = (errno.EISDIR, errno.ENOTDIR, errno.EEXIST, errno.ENAMETOOLONG, errno.ENOTEMPTY)  # not of the whole disk
+
+
+class Halt(Exception):
+    """The whole run must end; the message says why and what to do."""
+
+
+class InTheWay(Exception):
+    """This file's outputs can't have their names; the message says why."""
+
+
+def put(record: Record, outputs: dict[str, bytes], output: Path, number: str) -> Record:
+    """Write the outputs of a file, take away all others of its name, and give the record with their hashes.
+
+    Parameters
+    ----------
+    record : Record
+        What the file came to.
+    outputs : dict
+        The bytes of each output by its path below the output folder.
+    output : Path
+        The output folder.
+    number : str
+        The run's, which must be that of the folder's lock.
+
+    Raises
+    ------
+    Halt
+        If nothing can be written there, or the run of this number is over.
+    """
+    try:
+        with writing(record.path, output):
+            keep(outputs, output, number, record.path)
+    except InTheWay as error:
+        words = f"Its outputs can't be written: {error}. Give the file or the folder another name."
+        clear(record.path, output, number)
+        return Record(record.path, refusal=words, seconds=record.seconds)
+    return record._replace(outputs={path: sha256(data).hexdigest() for path, data in sorted(outputs.items())})
+
+
+def keep(outputs: dict[str, bytes], output: Path, number: str, path: str) -> None:
+    """Write outputs under temporary names, then give all of them their own while the run's number is held."""
+    parts: list[Part] = []
+    try:
+        for place, data in outputs.items():
+            parts.append(begun(output / place))
+            parts[-1].write(data)
+            parts[-1].finish()
+        with lock.held(output, number):
+            for part in parts:
+                part.keep()
+            for place in standing(path, output):
+                if place not in outputs:
+                    take_away(output / place)
+    finally:
+        for part in parts:
+            part.drop()
+
+
+def clear(path: str, output: Path, number: str) -> int:
+    """Take away the outputs of a file that came to nothing, and say how many there were."""
+    with writing(path, output), lock.held(output, number):
+        found = list(standing(path, output))
+        for place in found:
+            take_away(output / place)
+    return len(found)
+
+
+def standing(path: str, output: Path) -> Iterator[str]:
+    """The outputs of a file that stand in the output folder, whoever wrote them, by their paths below it."""
+    for ending in ("csv", "rwl"):
+        if (output / f"{stem(path)}{INDICES}{ending}").is_file():
+            yield f"{stem(path)}{INDICES}{ending}"
+    folder = f"{stem(path)}{SHEETS}"
+    with suppress(FileNotFoundError, NotADirectoryError), os.scandir(output / folder) as entries:
+        for name in sorted(entry.name for entry in entries):
+            if name.endswith(SHEET):
+                yield f"{folder}/{name}"
+
+
+def are_as_left(outputs: dict[str, str], output: Path, path: str) -> bool:
+    """Whether just these outputs of a file stand in the output folder, with these hashes."""
+    try:
+        if set(standing(path, output)) != outputs.keys():
+            return False
+        return all(sha256((output / place).read_bytes()).hexdigest() == made for place, made in outputs.items())
+    except OSError:
+        return False
+
+
+def begun(path: Path) -> Part:
+    """A new file, and its folder where that is missing: asked for in this order, since it is mostly there."""
+    try:
+        return Part(path)
+    except FileNotFoundError:
+        with named(path.parent):
+            path.parent.mkdir(parents=True, exist_ok=True)
+        return Part(path)
+
+
+def take_away(path: Path) -> None:
+    """Take an output away, and its folder of sheets when that is empty then."""
+    path.unlink(missing_ok=True)
+    if path.parent.name.endswith(SHEETS):
+        with suppress(OSError):  # it holds something else
+            path.parent.rmdir()
+
+
+@contextmanager
+def writing(path: str, output: Path) -> Iterator[None]:
+    """Errors of writing: InTheWay where this file's names are in the way, Halt where no file could be written."""
+    try:
+        yield
+    except lock.Outlived as error:
+        raise Halt(f"The run that asked for {shown(path)} is over, or {output} is not its output folder.") from error
+    except OSError as error:
+        where, why = shown(str(error.filename or output)), error.strerror or str(error)
+        if error.errno in OF_ONE_FILE:
+            raise InTheWay(f"{where}: {why}") from error
+        raise Halt(f"The outputs of {shown(path)} can't be written. {where}: {why}.") from error
