@@ -4,15 +4,15 @@
 most_entries <- 2^24 # of a list in one call; no answer takes more than 4,096
 most_whole <- .Machine$integer.max
 
-whole_numbers <- function(x, what, unit = NULL, most = most_entries, call = sys.call(-1)) {
+whole_numbers <- function(x, what, unit = NULL, most = most_entries) {
   found <- .Call(C_whole_numbers, x, most)
-  if (is.list(found)) usage(number_words(found, x, what, unit, most), call = call)
+  if (is.list(found)) usage(number_words(found, x, what, unit, most))
   found
 }
 
-one_whole <- function(x, what, unit = NULL, call = sys.call(-1)) {
-  number <- whole_numbers(x, what, unit, call = call)
-  if (length(number) != 1) usage(what, " is one number, but ", length(number), " are given.", call = call)
+one_whole <- function(x, what, unit = NULL) {
+  number <- whole_numbers(x, what, unit)
+  if (length(number) != 1) usage(what, " is one number, but ", length(number), " are given.")
   number
 }
 

@@ -1,6 +1,6 @@
 # Which case of the table of words a refusal is, and what its sentence tells, from the lists that the call was given. Number and
 # place are the engine's; where the lists show no such fault there are no words, and none are made up. `given` holds breaks,
-# degrees and orders and, by call, coefs, positions, widths with first and latewood, width or ordinates.
+# degrees and orders and, by call, coefs with whole, positions, widths with first and latewood, width or ordinates.
 
 unit <- 256 # positions are in 256ths of a ring, values in 256ths of a thousandth of a millimetre
 per_mm <- 1000
@@ -48,12 +48,12 @@ breakpoint_fault <- function(given, place) {
   ring <- breaks[place + 1]
   if (abs(ring) > most_breakpoint) return(found("range", ring = ring))
   if (place > 0 && ring <= breaks[place]) {
-    return(found("rising", ring = ring, before = place - 1, ring_before = breaks[place]))
+    return(found("rising", ring = ring, before = place, ring_before = breaks[place]))
   }
   parts <- parts_of(given)
   first <- parts[parts[, "end"] == place, "first"]
   if (length(first) != 1 || ring - breaks[first + 1] <= most_span) return(NULL)
-  found("span", ring = ring, first = first, ring_first = breaks[first + 1], span = with_commas(ring - breaks[first + 1]))
+  found("span", ring = ring, first = first + 1, ring_first = breaks[first + 1], span = with_commas(ring - breaks[first + 1]))
 }
 
 segment_told <- function(case, given, place) {
@@ -102,14 +102,14 @@ rows_sum <- function(given) {
 coefficient_fault <- function(given, place) {
   if (place == largest_place) {
     needed <- rows_sum(given)
-    return(found("count", pairs = count_of(length(given$coefs) / 2, "pair"), pairs_needed = count_of(needed$rows, "pair"),
+    noun <- if (isTRUE(given$whole)) "coefficient" else "row"
+    return(found("count", pairs = count_of(length(given$coefs) / 2, noun), pairs_needed = count_of(needed$rows, noun),
                  sum = needed$sum))
   }
-  row <- place %/% 2
-  pair <- given$coefs[2 * row + 1:2]
-  number <- pair[place %% 2 + 1]
+  number <- given$coefs[place + 1]
   if (abs(number) <= most_coefficient) return(NULL)
-  found("range", pair = row, earlywood = pair[1], latewood = pair[2], wood = wood_parts[place %% 2 + 1], number = number)
+  column <- if (isTRUE(given$whole)) "" else paste0(", \"", wood_parts[place %% 2 + 1], "\"")
+  found("range", entry = paste0(place %/% 2 + 1, column), number = number)
 }
 
 ring_fault <- function(given, place) {

@@ -1,5 +1,5 @@
-# The space of a curve: its breakpoints, degrees and orders, and the exact weights that the engine builds from them. Segments,
-# joins, rows and columns are numbered from 0, as on the sheet and in every refusal.
+# The space of a curve: its breakpoints, degrees and orders, and the exact weights that the engine builds from them. Segments
+# and joins are numbered from 1, rows and columns of the weights from 0, as the engine has them.
 
 curve_space <- function(breaks, degrees, orders = integer()) {
   lists <- list(breaks = as.vector(whole_numbers(breaks, "breaks", "rings")),
@@ -11,16 +11,16 @@ curve_space <- function(breaks, degrees, orders = integer()) {
             class = "walzhik_space")
 }
 
-check_space <- function(space, call = sys.call(-1)) {
-  if (!inherits(space, "walzhik_space")) usage("space is no space: make one with curve_space().", call = call)
+check_space <- function(space) {
+  if (!inherits(space, "walzhik_space")) usage("space is no space: make one with curve_space().")
   space
 }
 
 # The three lists as the engine takes them, looked at again: a caller may have changed the object.
-space_lists <- function(space, call = sys.call(-1)) {
-  list(breaks = whole_numbers(space$breaks, "breaks", call = call),
-       degrees = whole_numbers(space$degrees, "degrees", call = call),
-       orders = whole_numbers(space$orders, "orders", call = call))
+space_lists <- function(space) {
+  list(breaks = whole_numbers(space$breaks, "breaks"),
+       degrees = whole_numbers(space$degrees, "degrees"),
+       orders = whole_numbers(space$orders, "orders"))
 }
 
 scars_of <- function(space) space$breaks[which(space$orders == scar) + 1]
@@ -36,6 +36,6 @@ print.walzhik_space <- function(x, ...) {
   segments <- length(x$degrees)
   cat("Space: ", describe_space(x), "\n", sep = "")
   print(data.frame(from = x$breaks[seq_len(segments)], to = x$breaks[-1], degree = x$degrees,
-                   order = c(as.character(x$orders), ""), row.names = seq_len(segments) - 1L))
+                   order = c(as.character(x$orders), ""), row.names = seq_len(segments)))
   invisible(x)
 }

@@ -4,19 +4,19 @@
 chunk_bytes <- 2^20
 
 # All bytes of a file, a connection or a raw vector.
-bytes_of <- function(file, call = sys.call(-1)) {
+bytes_of <- function(file) {
   if (is.raw(file)) return(file)
   if (inherits(file, "connection")) {
     return(tryCatch(connection_bytes(file), error = function(fault) {
-      usage("The connection can't be read: ", conditionMessage(fault), call = call)
+      usage("The connection can't be read: ", conditionMessage(fault))
     }))
   }
   if (!is.character(file) || length(file) != 1 || is.na(file)) {
-    usage("file is the name of a file, a connection or a raw vector.", call = call)
+    usage("file is the name of a file, a connection or a raw vector.")
   }
-  if (!file.exists(file) || dir.exists(file)) usage("There is no file ", file, ".", call = call)
+  if (!file.exists(file) || dir.exists(file)) usage("There is no file ", file, ".")
   opened <- tryCatch(base::file(file, "rb", raw = TRUE), error = identity, warning = identity)
-  if (inherits(opened, "condition")) usage(file, " can't be read: ", conditionMessage(opened), call = call)
+  if (inherits(opened, "condition")) usage(file, " can't be read: ", conditionMessage(opened))
   on.exit(close(opened))
   connection_bytes(opened)
 }
@@ -72,38 +72,38 @@ write_tucson <- function(rwl, file = NULL) {
 
 integers_of <- function(series, field) as.integer(unlist(lapply(series, `[[`, field)))
 
-check_writable <- function(series, call = sys.call(-1)) {
+check_writable <- function(series) {
   for (each in series) {
-    if (length(each$widths) == 0) usage("Series ", each$name, " has no widths: leave its column out.", call = call)
+    if (length(each$widths) == 0) usage("Series ", each$name, " has no widths: leave its column out.")
     gap <- which(is.na(each$widths))[1]
     if (!is.na(gap)) {
       usage("Series ", each$name, " has no width for ", each$first + gap - 1,
-            ", within its years: a Tucson series has no gaps, and an absent ring is 0.", call = call)
+            ", within its years: a Tucson series has no gaps, and an absent ring is 0.")
     }
   }
 }
 
 # Eight bytes a name, with blanks at its end. A longer name is refused: nothing is cut.
-padded_names <- function(names, call = sys.call(-1)) {
+padded_names <- function(names) {
   bytes <- lapply(names, charToRaw)
   long <- which(lengths(bytes) > name_columns)[1]
   if (!is.na(long)) {
-    usage("The name ", names[long], " has ", length(bytes[[long]]), " bytes: a Tucson file takes ", name_columns, ".", call = call)
+    usage("The name ", names[long], " has ", length(bytes[[long]]), " bytes: a Tucson file takes ", name_columns, ".")
   }
   padded <- lapply(bytes, function(name) c(name, rep(blank, name_columns - length(name))))
   as.raw(unlist(padded))
 }
 
 # The file whole or not at all: a temporary file in the same folder takes its place.
-write_whole <- function(bytes, file, temporary = tempfile(".walzhik", dirname(file)), call = sys.call(-1)) {
-  if (!is.character(file) || length(file) != 1 || is.na(file)) usage("file is the name of a file.", call = call)
+write_whole <- function(bytes, file, temporary = tempfile(".walzhik", dirname(file))) {
+  if (!is.character(file) || length(file) != 1 || is.na(file)) usage("file is the name of a file.")
   folder <- dirname(file)
-  if (!dir.exists(folder)) usage("There is no folder ", folder, ".", call = call)
-  if (dir.exists(file)) usage(file, " is a folder.", call = call)
+  if (!dir.exists(folder)) usage("There is no folder ", folder, ".")
+  if (dir.exists(file)) usage(file, " is a folder.")
   on.exit(unlink(temporary))
   written <- tryCatch({
     writeBin(bytes, temporary)
     file.size(temporary) == length(bytes) && file.rename(temporary, file)
   }, error = function(fault) FALSE, warning = function(fault) FALSE)
-  if (!isTRUE(written)) usage(file, " can't be written.", call = call)
+  if (!isTRUE(written)) usage(file, " can't be written.")
 }

@@ -27,22 +27,22 @@ test_that("values are whole 256ths, and predictions millimetres", {
   curve <- growth_curve(w1(), cbind(c(0, 100, 0, 0), c(0, -100, 0, 0)))
   values <- curve_values(curve, c(512, 256))
   expect_identical(values, cbind(earlywood = c(4267L, 17067L), latewood = c(-4266L, -17067L)))
-  expect_identical(predict(curve, c(2, 1)), values / 256000)
+  expect_identical(unname(predict(curve, c(2, 1))), unname(values / 256000))
   expect_identical(nrow(predict(curve)), 4L)
-  expect_identical(predict(curve, 1 + 1 / 256), curve_values(curve, 257) / 256000)
+  expect_identical(unname(predict(curve, 1 + 1 / 256)), unname(curve_values(curve, 257) / 256000))
   expect_identical(dim(curve_values(curve, integer())), c(0L, 2L))
 })
 
 test_that("a scar is read from the stretch that ends there", {
   curve <- growth_curve(curve_space(0:2, c(1, 1), -1), c(0, 10, 20, 30))
-  expect_identical(curve_values(curve, c(256, 257))[, "earlywood"], c(2560L, 5130L))
+  expect_identical(curve_values(curve, c(256, 257))[, "ring"], c(2560L, 5130L))
   expect_identical(curve_reach(curve, 20), 257L)
 })
 
 test_that("pieces have the degree's ordinates and nothing behind", {
   curve <- growth_curve(curve_space(c(0, 10, 20, 30), c(1, 2, 3), c(0, 1)), c(1000, 900, 800, 700, 600, 500))
   pieces <- curve_pieces(curve)
-  expect_identical(pieces$segment, 0:2)
+  expect_identical(pieces$segment, 1:3)
   expect_identical(pieces$degree, c(1, 2, 3))
   expect_identical(rowSums(is.na(pieces[paste0("o", 0:3)])), c(2, 1, 0), ignore_attr = TRUE)
   expect_identical(pieces$start, c(0, 10, 20))

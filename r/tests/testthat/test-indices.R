@@ -31,15 +31,15 @@ test_that("rings may be counted from the pith", {
   rwl <- read_tucson(example_file("pine.rwl"))
   aged <- growth_curve(curve_space(c(1, 50), 1), c(1500, 900))
   expect_refused(ring_indices(rwl, aged), 7, 0)
-  rwi <- ring_indices(rwl, aged, first = 1)
-  young <- rwl["1920", "WAL 02"] / (predict(aged, 1)[, "earlywood"])
+  rwi <- ring_indices(rwl, aged, each_first = 1)
+  young <- rwl["1920", "WAL 02"] / predict(aged, 1)[, "ring"]
   expect_equal(rwi["1920", "WAL 02"], unname(young), tolerance = 1e-3)
-  by_name <- ring_indices(rwl, aged, first = c(WAL01A = 1, WAL01B = 1, "WAL 02" = 20))
+  by_name <- ring_indices(rwl, aged, each_first = c(WAL01A = 1, WAL01B = 1, "WAL 02" = 20))
   expect_identical(by_name[1:2], rwi[1:2])
   expect_false(identical(by_name[["WAL 02"]], rwi[["WAL 02"]]))
-  expect_refused(ring_indices(rwl, aged, first = 2^31 - 1), 7, 0)
-  expect_usage(ring_indices(rwl, aged, first = c(WAL01A = 1)), "first has no entry for series WAL01B")
-  expect_usage(ring_indices(rwl, aged, first = 1:2), "first is one for all series")
+  expect_refused(ring_indices(rwl, aged, each_first = 2^31 - 1), 7, 0)
+  expect_usage(ring_indices(rwl, aged, each_first = c(WAL01A = 1)), "each_first has no entry for series WAL01B")
+  expect_usage(ring_indices(rwl, aged, first = 1:2), "first is one number, the ring of the first width of the earliest series")
   expect_usage(ring_indices(rwl, aged, first = "1"), "first is of type character")
 })
 
@@ -53,12 +53,12 @@ test_that("a gap has no index, and the rings behind it keep their years", {
   expect_identical(ring_indices(gap, curve), expected)
 })
 
-test_that("a column without widths stays empty, and over 4,096 rings are refused", {
+test_that("a column without widths stays empty, and rings past the curve are refused", {
   curve <- growth_curve(curve_space(c(0, 2000), 1), c(2000, 1000))
   rwl <- data.frame(A = c(1, 2), B = NA_real_, row.names = 1:2)
   expect_identical(ring_indices(rwl, curve)$B, c(NA_real_, NA_real_))
   long <- data.frame(A = rep(1, 4097), row.names = 1:4097)
-  expect_refused(ring_indices(long, curve), 2, 1)
+  expect_refused(ring_indices(long, curve), 7, 2000)
 })
 
 test_that("rings far along keep their rows, however their numbers are printed", {

@@ -66,3 +66,17 @@ test_that("refusals, errors and interrupts lose no memory", {
   lent <- 1000 * 3 * 2 * 5184 * 8 / 1024 # kibibytes of weight buffers in these calls
   expect_lt(resident() - before, lent / 4)
 })
+
+test_that("memory stays flat over 20,000 calls", {
+  skip_if_not(file.exists("/proc/self/statm"))
+  curve <- growth_curve(w1(), 1:4)
+  rwl <- data.frame(A = c(0.1, 0.2), row.names = 1:2)
+  text <- charToRaw("A       1900     7 -9999\n")
+  calls <- list(function() curve_values(curve, 0:700), function() ring_indices(rwl, curve), function() read_tucson(text),
+                function() caught(curve_space(0:2, c(2, 2), 2)))
+  run <- function(turns) for (turn in seq_len(turns)) for (each in calls) each()
+  run(500)
+  before <- resident()
+  run(5000)
+  expect_lt(resident() - before, 4096)
+})

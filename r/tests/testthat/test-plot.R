@@ -57,3 +57,39 @@ test_that("what can't be drawn is told", {
     expect_usage(plot(growth_curve(w1(), 1:4), wood = "bark"), "wood is")
   })
 })
+
+test_that("a device that is too small is told, and left as it was", {
+  fits <- fit_curve(read_tucson(example_file("oak.rwl")))
+  nine <- structure(rep(unclass(fits)[1], 9), names = LETTERS[1:9], class = "walzhik_fits")
+  grDevices::pdf(NULL, width = 3, height = 3)
+  on.exit(grDevices::dev.off())
+  before <- graphics::par("mar", "mfrow")
+  expect_usage(plot(nine), "The device, 3 by 3 inches, is too small for 9 pictures")
+  expect_identical(graphics::par("mar", "mfrow"), before)
+})
+
+test_that("widths and indices are drawn as bars and as lines, with the words and colours that are asked for", {
+  rwl <- read_tucson(example_file("pine.rwl"))
+  rwi <- detrend_curve(rwl)
+  with_device({
+    for (type in c("segments", "spaghetti")) {
+      expect_identical(plot.rwl(rwl, type = type, main = "Pine", col = 2:4, cex.main = 0.8), rwl)
+      expect_identical(plot.rwi(rwi, type = type, main = "Pine", col = "red"), rwi)
+    }
+    expect_identical(plot(rwl), rwl)
+    expect_identical(plot(fit_curve(rwl), main = "Pines", col = "red", cex.lab = 0.7), fit_curve(rwl))
+    plot(growth_curve(w1(), cbind(1:4, 5:8)), col = c("red", "blue"), bty = "l")
+    expect_usage(plot.rwl(rwl, type = "bars"), "type is")
+    expect_usage(plot.rwl(rwl[0, ]), "no series to draw")
+    rwl[] <- NA_real_
+    expect_usage(plot.rwl(rwl), "no widths or indices to draw")
+  })
+})
+
+test_that("fits are drawn by the rings that they count, without a copy of the widths", {
+  fits <- fit_curve(read_tucson(example_file("oak.rwl")), first = 1)
+  with_device({
+    plot(fits["ROOF04E"])
+    expect_identical(plot(fits), fits)
+  })
+})

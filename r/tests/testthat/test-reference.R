@@ -64,7 +64,7 @@ test_that("pieces are those of the rational program, exactly", {
     case$reply[1] <- 0
     if (!expect_reply(drawn, case, given)) next
     curve <- growth_curve(curve_space(case$breaks, case$degrees, case$orders), matrix(case$coefs, ncol = 2, byrow = TRUE))
-    piece <- curve_pieces(curve, case$segment, case$wood)
+    piece <- curve_pieces(curve, case$segment + 1, case$wood)
     ordinates <- as.numeric(piece[paste0("o", 0:3)])
     expect_identical(c(piece$start, piece$end, 256 * ordinates[!is.na(ordinates)]), case$piece)
     expect_identical(sum(!is.na(ordinates)), as.integer(piece$degree) + 1L)

@@ -16,14 +16,41 @@ explained <- function(file) {
   list(reply = as.numeric(regmatches(lines[1], gregexpr("[0-9]+", lines[1]))[[1]]), words = lines[2])
 }
 
-test_that("refused sheets are explained as by the command", {
+# The command's words with the numbers of places taken out, and without the names that R's arguments have instead.
+without_places <- function(words) {
+  words <- gsub("(Stretch|stretch|Join) [0-9]+( \\((degrees|orders)\\[[0-9]+\\]\\))?", "\\1", words)
+  gsub("Breakpoint [0-9]+|breakpoint [0-9]+|breaks\\[[0-9]+\\]", "breakpoint", words)
+}
+
+test_that("refused sheets are explained as by the command, in R's arguments and counted from 1", {
   files <- list.files(test_path("refusals"), "[.]sheet$", full.names = TRUE)
   expect_gt(length(files), 10)
   for (file in files) {
     expected <- explained(file)
     condition <- expect_refused(ask_sheet(sheet_from(file)), expected$reply[1], expected$reply[2])
-    expect_identical(condition$words, expected$words)
+    expect_no_match(condition$words, "[a-z]=|Entry|Pair")
+    if (expected$reply[1] %in% c(3, 4, 5, 8, 15)) {
+      expect_identical(without_places(condition$words), without_places(expected$words))
+      argument <- c("3" = "breaks", "4" = "degrees", "5" = "orders", "8" = "orders", "15" = "degrees")[[as.character(expected$reply[1])]]
+      expect_match(condition$words, paste0(argument, "[", expected$reply[2] + 1, "]"), fixed = TRUE)
+    }
   }
+})
+
+test_that("R's arguments are named as they are given", {
+  expect_match(expect_refused(growth_curve(w1(), 1:3), 6, largest_place)$words,
+               "coefficients lists 3 coefficients, but this curve takes 4 coefficients")
+  expect_match(expect_refused(growth_curve(w1(), matrix(1, 3, 2)), 6, largest_place)$words,
+               "coefficients lists 3 rows, but this curve takes 4 rows")
+  expect_match(expect_refused(growth_curve(w1(), c(1, 2e6, 1, 1)), 6, 2)$words, "coefficients[2] is 2000000", fixed = TRUE)
+  expect_match(expect_refused(growth_curve(w1(), cbind(1:4, c(1, 1, 2e6, 1))), 6, 5)$words,
+               "coefficients[3, \"latewood\"] is 2000000", fixed = TRUE)
+  expect_match(expect_refused(curve_values(growth_curve(w1(), 1:4), c(0, 999)), 7, 1)$words, "positions[2] is 999", fixed = TRUE)
+  expect_match(expect_refused(curve_space(c(0, 5, 3), c(1, 1), 0), 3, 2)$words, "breaks[3] is 3, but breaks[2], before it, is 5",
+               fixed = TRUE)
+  expect_match(expect_refused(curve_pieces(growth_curve(w1(), 1:4), 3), 17, 2)$words, "There is no stretch 3: the curve has 2 stretches.",
+               fixed = TRUE)
+  expect_match(conditionMessage(caught(curve_space(c(0, 2), 9))), "\n(no=4,0)", fixed = TRUE)
 })
 
 test_that("refused Tucson texts are explained as by the command", {
@@ -66,14 +93,14 @@ test_that("the refusals of curves tell ring, wood and width", {
   curve <- growth_curve(w1(), cbind(c(0, 100, 0, 0), c(0, -100, 0, 0)))
   expect_match(expect_refused(curve_reach(curve, 200, "latewood"), 16, 0)$words,
                "ring 0 to ring 3 reaches 0.200 mm in the latewood")
-  expect_match(expect_refused(curve_pieces(curve, 2, "earlywood"), 17, 2)$words, "no stretch 2: the curve has 2 stretches")
+  expect_match(expect_refused(curve_pieces(curve, 3, "earlywood"), 17, 2)$words, "no stretch 3: the curve has 2 stretches")
   steep <- growth_curve(curve_space(c(0, 9), 4), rep(5, 5))
   expect_match(expect_refused(curve_pieces(steep), 17, 0)$words, "from ring 0 to ring 9, has degree 4")
   rwl <- data.frame(A = c(0.1, 0.2), row.names = 1:2)
   low <- expect_refused(ring_indices(rwl, curve, "latewood"), 14, 0)
   expect_match(low$words, "ring 1, is 100, but the curve of the latewood is at -0.067 mm there")
   expect_identical(low$series, "A")
-  expect_match(conditionMessage(low), "^series A: ")
+  expect_match(conditionMessage(low), "^Series A: ")
   far <- data.frame(A = 0.1, row.names = 4)
   expect_match(expect_refused(ring_indices(far, curve, "earlywood"), 7, 0)$words,
                "is ring 4, past the curve's last breakpoint, ring 3")
@@ -88,8 +115,8 @@ test_that("the refusals of coefficients tell the join and what differs", {
   bends <- curve_space(0:2, c(3, 3), 2)
   expect_match(expect_refused(curve_coefficients(bends, c(0, 0, 0, 0, 0, 0, 256, 0)), 19, 0)$words,
                "the bends .* differ by 6 thousandths")
-  expect_match(expect_refused(curve_coefficients(w1(), 1:5), 18, largest_place)$words, "The list has 5 ordinates")
-  expect_match(expect_refused(curve_coefficients(w1(), c(256000001, 0, 0, 0, 0, 0)), 18, 0)$words, "Ordinate 0 is 256000001")
+  expect_match(expect_refused(curve_coefficients(w1(), 1:5), 18, largest_place)$words, "ordinates lists 5 ordinates")
+  expect_match(expect_refused(curve_coefficients(w1(), c(256000001, 0, 0, 0, 0, 0)), 18, 0)$words, "ordinates[1] is 256000001", fixed = TRUE)
   steep <- curve_space(c(0, 1, 512), c(2, 2), 1)
   expect_refused(curve_coefficients(steep, rep(256 * 16384, 6)), 20, 0)
 })
