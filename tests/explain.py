@@ -104,7 +104,7 @@ def words_fault(text, seen):
 
 def series_words(series):
     """How the line of a series begins and ends, by the model's numbers."""
-    name = series.name.decode("ascii").replace("\\", "\\x5c")
+    name = series.name.decode("ascii").strip(" ").replace("\\", "\\x5c")
     if not series.widths:
         return f"Series '{name}' has no widths.", ""
     absent = series.widths.count(0)

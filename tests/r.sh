@@ -1,6 +1,6 @@
 #!/usr/bin/env bash
-# The R package: installs it as the README says and runs the README's lines of R, then builds it and runs R's own check of the tarball,
-# with its tests, help pages and vignette. Fails on any error or warning. The libraries must be built; what R needs comes from
+# The R package: installs it as the README says and runs the README's lines of R, builds and installs it with its vignette as
+# docs/LIBRARY.md says, then runs R's own check of the tarball, with its tests, help pages and vignette. Fails on any error or warning. The libraries must be built; what R needs comes from
 # Debian's packages, and nothing else is fetched.
 set -u
 cd "$(dirname "$0")/.."
@@ -38,6 +38,39 @@ without_archives() {
     return 1
 }
 
+# A second installation is linked to the archives as they are then, and never stands for others: with empty ones, or with archives
+# that hold nothing, it fails.
+relinks() {
+    local folder=$build/again
+    mkdir -p "$folder/target/staticlib" "$build/second"
+    cp -r r include "$folder"
+    cp target/staticlib/libwalzhik.a target/staticlib/libwalzhik_indices.a "$folder/target/staticlib"
+    (cd "$folder" && quietly R CMD INSTALL --no-docs --library="$build/second" r/) || return 1
+    local name
+    for name in walzhik walzhik_indices; do
+        rm "$folder/target/staticlib/lib$name.a"
+        ar rc "$folder/target/staticlib/lib$name.a"
+        touch -d '2001-01-01' "$folder/target/staticlib/lib$name.a"
+    done
+    (cd "$folder" && R CMD INSTALL --no-docs --library="$build/second" r/ >"$build/said" 2>&1) || { rm -r "$folder"; return 0; }
+    echo 'installed again with empty archives, and no error'
+    return 1
+}
+
+# As docs/LIBRARY.md says, without WALZHIK_LIB: built and installed from the root, after which the vignette is found.
+with_vignette() {
+    local folder=$build/vignette
+    mkdir "$folder"
+    quietly R CMD build r/ || return 1
+    mv walzhik_*.tar.gz "$folder"
+    quietly R CMD INSTALL --library="$folder" "$folder"/walzhik_*.tar.gz || return 1
+    R_LIBS=$folder Rscript -e 'stopifnot(nrow(vignette(package = "walzhik")$results) == 1, nzchar(vignette("walzhik")$PDF))' \
+        >"$build/said" 2>&1 && return 0
+    echo 'vignette("walzhik") is not found after build and install:'
+    cat "$build/said"
+    return 1
+}
+
 # The README's lines of R: an indented block that starts by loading the package.
 readme_lines() {
     sed -n '/^    library(walzhik)$/,/^$/p' README.md | sed -n 's/^    //p'
@@ -69,5 +102,10 @@ tarball_checks() {
     grep -hE '^\[ FAIL [0-9]+' walzhik.Rcheck/tests/testthat.Rout | tail -n 1
 }
 
+# The random series and Python's answers to them, which R's tests read, are those that Python gives now.
+series_in_step() {
+    PYTHONPATH=python/src /usr/bin/python3 tests/r_series.py
+}
+
 install_missing || exit 2
-without_archives && as_the_readme_says && tarball_checks
+series_in_step && without_archives && relinks && as_the_readme_says && with_vignette && tarball_checks

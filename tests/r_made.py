@@ -24,16 +24,40 @@ WORDS_HEAD = """\
 
 refusal_words <- list(
 """
-TEMPLATES = ROOT / "python" / "src" / "walzhik" / "fit.py"
+TEMPLATES = ROOT / "python" / "src" / "walzhik" / "fit_template.py"
 TEMPLATES_HEAD = """\
 # The templates of fitted curves: from how many rings on, where their segments start, and the degrees. Made by tests/r_made.py
-# from the command's templates in python/src/walzhik/fit.py, so that both fit the same curves: change that table and make this
+# from the command's templates in python/src/walzhik/fit_template.py, so that both fit the same curves: change that table and make this
 # file again.
 
 templates <- list(
 """
-# Options of the command that a remedy names, and what R has for them.
-ARGUMENTS = {"(--first RING)": "(first = RING)", "(--nearest)": "(./walzhik coefficients --nearest)"}
+# The sheet's words and the options of the command, and what R has for them: its arguments, whose entries count from 1.
+ARGUMENTS = {
+    "(--first RING)": "(first = RING)",
+    "(--nearest)": "(./walzhik coefficients --nearest)",
+    "degrees= lists": "degrees lists",
+    "breaks= lists": "breaks lists",
+    "orders= {orders}": "orders {orders}",
+    "coefs= lists": "coefficients lists",
+    "List as many pairs as": "List as many coefficients as",
+    "Pair {pair} of coefs= is {earlywood}:{latewood}, with {wood} {number}": "coefficients[{entry}] is {number}",
+    "Breakpoint {place} is": "breaks[{place}] is",
+    "but breakpoint {before}, before": "but breaks[{before}], before",
+    "and breakpoint {first} is": "and breaks[{first}] is",
+    "Stretch {place}, from": "Stretch {place} (degrees[{place}]), from",
+    "From stretch {place}, at": "From stretch {place} (degrees[{place}]), at",
+    "Join {place}, at": "Join {place} (orders[{place}]), at",
+    "Entry {place} of at= is": "positions[{place}] is",
+    "{stretches}, counted from 0.": "{stretches}.",
+    "The list has {ordinates}": "ordinates lists {ordinates}",
+    "Ordinate {place} is": "ordinates[{place}] is",
+    "one pair of coefficients more": "one coefficient more",
+    "or cut the wood into two sheets": "or cut the wood into two curves",
+    "Tell the maintainers, with the sheet": "Tell the maintainers, with the call",
+}
+OF_THE_COMMAND = ("(--", "= lists", "at= ", "counted from 0")
+OF_SHEETS = "10"  # a sheet's text, which R does not read
 
 
 def r_text(text):
@@ -43,12 +67,12 @@ def r_text(text):
     return json.dumps(text)
 
 
-def remedy_for_r(remedy):
+def in_r(sentence):
     for option, argument in ARGUMENTS.items():
-        remedy = remedy.replace(option, argument)
-    if "(--" in remedy:
-        raise SystemExit(f"{WORDS}: an option that R has no word for: {remedy}")
-    return remedy
+        sentence = sentence.replace(option, argument)
+    if any(part in sentence for part in OF_THE_COMMAND):
+        raise SystemExit(f"{WORDS}: words that R has none for: {sentence}")
+    return sentence
 
 
 def words_file():
@@ -57,7 +81,9 @@ def words_file():
         raise SystemExit(f"{WORDS}: other columns than number, case, counts, words, remedy")
     entries = []
     for number, case, counts, words, remedy in rows:
-        told = f"counts = {r_text(counts)},\n    words = {r_text(words)},\n    remedy = {r_text(remedy_for_r(remedy))}"
+        if number != OF_SHEETS:
+            words, remedy = in_r(words), in_r(remedy)
+        told = f"counts = {r_text(counts)},\n    words = {r_text(words)},\n    remedy = {r_text(remedy)}"
         entries.append(f"  {r_text(f'{number} {case}')} = c({told})")
     return (WORDS_HEAD + ",\n".join(entries) + "\n)\n").encode("ascii")
 

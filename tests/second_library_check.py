@@ -48,7 +48,7 @@ WRONG = [
     Wrong("crates/indices/src/lib.rt", "\n", "use base_division::floor_div;\n", "the import base_division::floor_div"),
     Wrong(
         "crates/walzhik_indices/src/lib.rt",
-        "{\n",
+        "\n{\n",
         "    let answer = curve::curve(a, b, c, d, e, f, g, h);\n",
         "the call curve::curve",
     ),

@@ -29,11 +29,19 @@ def printed(*command):
     return found[0] if found else f"none (status {said.returncode}: {said.stderr.strip()})"
 
 
+def text_of_header():
+    """What a C program has for WALZHIK_VERSION: the compiler's own words for the macro, put together."""
+    said = subprocess.run(["cc", "-E", "-P", "-I", str(ROOT / "include"), "-"], input='#include "walzhik.h"\nWALZHIK_VERSION\n',
+                          capture_output=True, text=True, check=False)
+    return "".join(re.findall(r'"([^"]*)"', said.stdout.strip().splitlines()[-1]))
+
+
 def main():
     version = header()
     stated = {
         "CHANGELOG.md": written("CHANGELOG.md", r"^## (\S+)$"),
         "rust/Cargo.toml": written("rust/Cargo.toml", r'^version = "([^"]+)"$'),
+        "WALZHIK_VERSION": text_of_header(),
         "r/DESCRIPTION": written("r/DESCRIPTION", r"^Version: (\S+)$"),
         "./walzhik --version": printed("./walzhik", "--version"),
         "python/setup.py": printed(PYTHON, "python/setup.py", "--version"),

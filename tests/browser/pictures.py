@@ -1,5 +1,5 @@
-"""The manual's pictures of the screen, taken by the test's own browser: wide, at 200 %, in print, with a refusal, and a
-beam with scars.
+"""The manual's pictures of the screen, taken by the test's own browser: at a desk, on a small screen and on a phone,
+dark, at 200 %, in print, with a refusal, zoomed, with the other series of a file, and a beam with scars.
 """
 
 from __future__ import annotations
@@ -14,10 +14,10 @@ from PIL import Image
 from selenium import webdriver
 
 from .page import Page
+from .stage import BEAM, OAK, ROOF_PAGE
 
-PARTS = ["--earlywood", "ROOF04E", "--latewood", "ROOF04L"]
-ROOF = ["examples/tucson/oak.rwl", "--curve", "examples/sheets/roof.sheet", *PARTS]
-WIDE, NARROW = (1280, 1000), (640, 1900)
+Serving = Callable[..., AbstractContextManager[str]]
+DESK, SMALL, PHONE, DOUBLE = (1440, 900), (1024, 768), (390, 844), (720, 1950)
 PRINT_DOTS = 75  # an inch
 COLOURS = 128  # enough for the page, and a third of the bytes
 
@@ -29,7 +29,7 @@ def kept_small(path: Path) -> None:
 
 def shot(page: Page, size: tuple[int, int], path: Path) -> None:
     """A picture of the page in a window of a size."""
-    page.resize(*size)
+    page.window(*size)
     drawn = "const svg = document.getElementById('picture'); return svg.viewBox.baseVal.width === svg.clientWidth"
     page.until(lambda: page.script(drawn), "the picture does not follow the window")
     page.driver.save_screenshot(str(path))
@@ -48,19 +48,39 @@ def printed(page: Page, path: Path) -> None:
     kept_small(path)
 
 
-def take_pictures(driver: webdriver.Chrome, serving: Callable[..., AbstractContextManager[str]], folder: Path) -> None:
+def roof_pictures(page: Page, folder: Path) -> None:
+    """The roof at all sizes, dark, refused and in print."""
+    page.key("coefficient-3-earlywood", "ArrowUp", shift=True)
+    page.until(lambda: page.count("path.ghost") == 2, "there is no former curve")
+    for name, size in {"roof": DESK, "small": SMALL, "phone": PHONE, "narrow": DOUBLE}.items():
+        shot(page, size, folder / f"{name}.png")
+    page.media(prefers_color_scheme="dark")
+    shot(page, DESK, folder / "dark.png")
+    page.media()
+    page.press("undo")
+    page.choose("order-0", "2")
+    page.until(page.is_stale, "the order that is too high is not refused")
+    shot(page, DESK, folder / "refused.png")
+    page.press("undo")
+    page.until(lambda: not page.is_stale(), "the refusal stays")
+    printed(page, folder / "print.png")
+
+
+def take_pictures(driver: webdriver.Chrome, serving: Serving, folder: Path) -> None:
     """Take all pictures into a folder."""
     folder.mkdir(parents=True, exist_ok=True)
-    with serving(*ROOF) as address:
+    with serving(*ROOF_PAGE) as address:
         page = Page(driver, address, folder)
-        shot(page, WIDE, folder / "roof.png")
-        page.choose("order-0", "2")
-        page.until(page.is_stale, "the order that is too high is not refused")
-        shot(page, WIDE, folder / "refused.png")
-        page.press("undo")
-        page.until(lambda: not page.is_stale(), "the refusal stays")
-        shot(page, NARROW, folder / "narrow.png")
-        page.resize(*WIDE)
-        printed(page, folder / "print.png")
-    with serving("--curve", "examples/sheets/beam.sheet") as address:
-        shot(Page(driver, address, folder), WIDE, folder / "beam.png")
+        roof_pictures(page, folder)
+        page.leave()
+    with serving(OAK) as address:
+        page = Page(driver, address, folder)
+        page.press("next", "zoom-in")
+        page.click("#others")
+        page.until(lambda: page.count("path.other") == 1 and page.count("path.ghost") == 1, "no other series is there")
+        shot(page, DESK, folder / "series.png")
+        page.leave()
+    with serving("--curve", BEAM) as address:
+        page = Page(driver, address, folder)
+        shot(page, DESK, folder / "beam.png")
+        page.leave()

@@ -5,6 +5,7 @@
  * and buffers are held. */
 
 #include "lent.h"
+#define WALZHIK_PROVED_CALLS /* the calls themselves, without the header\'s functions around them */
 #include "walzhik_indices.h"
 
 enum { CELLS = 5184 };

@@ -18,6 +18,7 @@
 #include <stdlib.h>
 #include <string.h>
 
+#define WALZHIK_PROVED_CALLS /* the calls themselves, without the header\'s functions around them */
 #include "walzhik.h"
 
 enum { GUARDS = 64, DECIMAL = 10, GUARD_BYTE = 0x5A, GUARD_STEP = 7 };

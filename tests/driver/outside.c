@@ -5,6 +5,7 @@
 #include <stdlib.h>
 #include <string.h>
 
+#define WALZHIK_PROVED_CALLS /* the calls themselves, without the header\'s functions around them */
 #include "walzhik_indices.h"
 
 /* Reads the cell after argument `at` where the side is "after", before it where it is "before". */

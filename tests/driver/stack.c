@@ -16,6 +16,7 @@
 #include <stdlib.h>
 #include <string.h>
 
+#define WALZHIK_PROVED_CALLS /* the calls themselves, without the header\'s functions around them */
 #include "walzhik_indices.h"
 
 enum { DEGREE = 5, ORDER = 2, PART = 12, BEAM = 48, COLUMNS = (DEGREE + 1) * BEAM };
