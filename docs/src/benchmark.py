@@ -19,7 +19,7 @@ import numpy as np
 from scipy.interpolate import BSpline
 from scipy.optimize import nnls
 
-from walzhik import Curve, tucson
+from walzhik import Curve, Space, tucson
 from walzhik.cli import cli
 from walzhik.fit import fit, template
 
@@ -30,6 +30,7 @@ ROUNDS = 1 if QUICK else 5
 CALLS = 2_000  # index calls of one timing
 NAME, HEAD, FIELD = 8, 12, 6  # columns of a Tucson line
 HUNDREDTHS = 999  # the closing field of a series in hundredths
+FORMER, FORMER_DEGREES = (0, 10, 30, 80), (3, 3, 2, 2)  # release 2.0's template: starts and degrees
 DEGREE, INNER = 3, (10, 30, 80, 130)  # of the B-splines: cubic, with as many coefficients as the template
 
 
@@ -99,6 +100,25 @@ def in_turns(first, second):
     return [statistics.median(each) for each in zip(*times)]
 
 
+def former_fit(series):
+    """A fit as release 2.0 made it: its template for 200 rings, plain least squares."""
+    breaks = [series.first + start for start in (*FORMER, RINGS - 1)]
+    return fit(Space(breaks, FORMER_DEGREES, [1] * (len(FORMER) - 1)), series.widths, series.first, "free")
+
+
+def fits(read, by):
+    for each in read:
+        by(each)
+
+
+def fit_times(path):
+    """Seconds that the fits of all series take, by the default and as release 2.0 made them, in turns."""
+    read = tucson.read(path.read_bytes())
+    return in_turns(
+        (fits, read, lambda each: fit(template(RINGS, each.first), each.widths, each.first)), (fits, read, former_fit)
+    )
+
+
 def steps_of(path):
     """Where the command's time goes, in seconds."""
     text = path.read_bytes()
@@ -154,6 +174,9 @@ def main():
         print(f"{SERIES:,} series of {RINGS} rings: {times}")
         for step, seconds in steps_of(path).items():
             print(f"  of it {step}: {seconds:.2f} s")
+        now, former = fit_times(path)
+        times = f"the default {now:.2f} s, as release 2.0 did it {former:.2f} s, ratio {now / former:.2f}"
+        print(f"fits alone: {times}")
         python, native = index_calls(folder, series[0])
         times = f"Python {1e6 * python:.1f} us, C {1e6 * native:.1f} us, ratio {python / native:.2f}"
         print(f"an index call of {RINGS} rings: {times}")

@@ -8,6 +8,7 @@
 //! Every mode first checks that both give the same, and stops where they do not.
 
 mod plain;
+#[allow(dead_code)] // the benchmark needs some of the calls
 #[path = "../../rust/src/lib.rs"]
 mod walzhik;
 

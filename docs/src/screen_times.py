@@ -1,11 +1,13 @@
 """Times a hand that drags on the screen, for a core of 300 rings: from a change to the picture of the engine's answer,
-in a real browser, and the server's share of it. docs/PERFORMANCE.md has its figures.
+in a real browser, and the server's share of it; and the server's memory over many requests. docs/PERFORMANCE.md has its
+figures.
 
     PYTHONPATH=python/src:tests /usr/bin/python3 docs/src/screen_times.py
 """
 
 import http.client
 import json
+import os
 import statistics
 import tempfile
 import time
@@ -14,7 +16,7 @@ from urllib.parse import urlsplit
 
 import numpy as np
 from browser.page import Page, browser
-from screen import ROOT, serving
+from browser.stage import ROOT, served
 from walzhik import Space, sheet, tucson
 from walzhik.fit import template
 from walzhik.reasons import MOST_PART_STRETCHES, MOST_STRETCHES, SCAR
@@ -23,6 +25,8 @@ from walzhik.view.shown import shown
 
 RINGS, FIRST, SEED = 300, 1700, 1
 MOVES, ANSWERS = 200, 21
+REQUESTS, SHOWN = 20_000, 5_000  # for the memory, and after how many it is shown
+MEBIBYTE = 2**20
 LENGTH = 40  # rings of a stretch of the large designs
 PER_SECOND = 1000
 
@@ -49,19 +53,25 @@ def browser_times(page):
     return page.script("return performance.getEntriesByName('change').map((each) => each.duration)")
 
 
-def server_times(address):
-    """Milliseconds of the same requests over one connection, without a browser."""
+def questions(address, count):
+    """Ask the same question again and again over one connection, without a browser; after each the milliseconds."""
     parts = urlsplit(address)
     connection = http.client.HTTPConnection(parts.hostname, parts.port)
     connection.request("GET", f"{parts.path}given")
     body = json.dumps({"design": json.load(connection.getresponse())["design"], "before": None})
-    times = []
-    for _ in range(MOVES):
+    for _ in range(count):
         start = time.perf_counter()
         connection.request("POST", f"{parts.path}curve", body, {"Content-Type": "application/json"})
         connection.getresponse().read()
-        times.append(PER_SECOND * (time.perf_counter() - start))
-    return times
+        yield PER_SECOND * (time.perf_counter() - start)
+
+
+def memory(address, process):
+    """The memory that the server holds, in MiB, after every so many requests."""
+    for place, _ in enumerate(questions(address, REQUESTS), 1):
+        if place % SHOWN == 0:
+            pages = int(Path(f"/proc/{process.pid}/statm").read_text().split()[1])
+            yield place, pages * os.sysconf("SC_PAGE_SIZE") / MEBIBYTE
 
 
 def large_designs():
@@ -91,12 +101,14 @@ def main():
     with tempfile.TemporaryDirectory() as folder:
         path = Path(folder) / "core.rwl"
         path.write_bytes(tucson.write([core()]))
-        with serving(str(path)) as address, browser(Path(folder)) as driver:
+        with served(str(path)) as (address, process), browser(Path(folder)) as driver:
             space = template(RINGS, FIRST)
             print(f"{RINGS} rings, {len(space.degrees)} stretches, {space.n} coefficients, {MOVES} changes each")
             page = Page(driver, address, Path(folder))
             print(f"browser, change to picture: {summary(browser_times(page))}")
-            print(f"server alone, request to answer: {summary(server_times(address))}")
+            print(f"server alone, request to answer: {summary(questions(address, MOVES))}")
+            for place, held in memory(address, process):
+                print(f"memory after {place:,} requests: {held:.1f} MiB")
     for name, design in large_designs():
         print(f"{name}: {answer_time(design):.1f} ms of processor time")
 
