@@ -51,13 +51,13 @@ module _ {s : Space} {wood : Wood} {coefs : List ℤ} {p : Piece} {k : ℕ} {x :
 -- ---- W1's space: two quadratics for each part
 
 -- W1's for earlywood, and 0, 1, 2, 0 for latewood
-abbrev coefs1 : List ℤ
+abbrev pub coefs1 : List ℤ
 coefs1 = sideBySide (pair (pos 0) (pos 0) ∷ pair (pos 100) (pos 1) ∷ pair (pos 0) (pos 2) ∷ pair (pos 0) (pos 0) ∷ [])
 
-abbrev first1 : Piece
+abbrev pub first1 : Piece
 first1 = record { ordinates = pos 0 ∷ pos 25600 ∷ pos 17067 ∷ []; start = pos 0; end = pos 1 }
 
-first-drawn1 : pieceOutcome space1 earlywood coefs1 0 5184 5184 ≡ answer first1
+pub first-drawn1 : pieceOutcome space1 earlywood coefs1 0 5184 5184 ≡ answer first1
 unfolding gcd gcdF mk int inv _+ᵠ_ _*ᵠ_ -ᵠ_ isZero ltᵠ nearest sum tab fits capped collect repeat first last lengthsFit badBreak
     startsPart partEnd spanTooLong tooManySegments badDegree badOrder checkedEntries checked firstColumn conditionsBefore falling binomial
     alternating undivided commonDivisor conditions identity count addProducts span partialSum quotientFactor factors newEntry newRows planOver

@@ -50,12 +50,12 @@ use Rattle.curve_pieces.proofs.AtEnds.{exactTriangle-start, exactTriang
 use Rattle.curve_pieces.proofs.Joins.{ordinates-meet}
 
 -- What an answered call tells.
-record Drawn (s : Space) (wood : Wood) (coefs : List ℤ) (k : ℕ) (p : Piece) : Type 0 where
-  accepted : Accepted s
-  below : k < segments s
-  is : pieceOf s (accepted .table) wood coefs k ≡ p
+pub record Drawn (s : Space) (wood : Wood) (coefs : List ℤ) (k : ℕ) (p : Piece) : Type 0 where
+  pub accepted : Accepted s
+  pub below : k < segments s
+  pub is : pieceOf s (accepted .table) wood coefs k ≡ p
 
-drawn : (s : Space) (wood : Wood) (coefs : List ℤ) (k numLength denLength : ℕ) (p : Piece)
+pub drawn : (s : Space) (wood : Wood) (coefs : List ℤ) (k numLength denLength : ℕ) (p : Piece)
     → pieceOutcome s wood coefs k numLength denLength ≡ answer p → Drawn s wood coefs k p
 unfolding pieceOutcome isDrawable
 drawn s wood coefs k numLength denLength p e =
@@ -86,13 +86,13 @@ some-condition s i e = nat-pos (conditionCount s i) (eqb-false (conditionCount s
     nat-pos (suc n) h = omega arith
 
 module _ (s : Space) (a : Accepted s) (wood : Wood) (coefs : List ℤ) (k : ℕ) where
-  abbrev piece : Piece
+  abbrev pub piece : Piece
   piece = pieceOf s (a .table) wood coefs k
 
   abbrev own : ℕ → ℤ
   own t = ordinate (a .table) (coefficient wood coefs) (firstColumn s k + t)
 
-  abbrev given : ℕ → ℤ
+  abbrev pub given : ℕ → ℤ
   given t = getD (piece .ordinates) t (pos 0)
 
   given-is : (t : ℕ) → t ≤ degree s k → given t ≡ own t
@@ -107,7 +107,7 @@ module _ (s : Space) (a : Accepted s) (wood : Wood) (coefs : List ℤ) (k : ℕ)
 
   module _ (h : k < segments s) where
     -- each ordinate is within s/2 of the exact one
-    given-within : (t : ℕ) → t ≤ degree s k → Within (halves (mostWeights s (a .table) k)) (exactOrdinates s (a .table) wood coefs k t)
+    pub given-within : (t : ℕ) → t ≤ degree s k → Within (halves (mostWeights s (a .table) k)) (exactOrdinates s (a .table) wood coefs k t)
         (given t)
     given-within t l =
         subst (Within (halves (mostWeights s (a .table) k)) (exactOrdinates s (a .table) wood coefs k t)) (sym (given-is t l))

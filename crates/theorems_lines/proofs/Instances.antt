@@ -31,12 +31,9 @@ use Rattle.theorems_acceptance.specs.Acceptance.{OrdersAtMostOne}
 use Rattle.theorems_lines.specs.Equal.{AllEqual}
 use Rattle.theorems_lines.specs.Lines.{placeOf, Line}
 use Rattle.theorems_lines.specs.Ordinates.{OwnColumn}
-use Rattle.theorems_lines.specs.Nodes.{AreNodes, InOnePart}
 use Rattle.theorems_lines.proofs.Equal.{equal-coefficients-are-kept, equal-cells}
 use Rattle.theorems_lines.proofs.Lines.{lines-have-one-list, accepted-lines-have-one-list}
 use Rattle.theorems_lines.proofs.Ordinates.{coefficients-are-ordinates}
-use Rattle.theorems_lines.proofs.Nodes.{nodes-rise}
-use Rattle.base_exact.specs.Order.{_<ᵠ_}
 
 -- ---- equal coefficients
 
@@ -135,17 +132,3 @@ own = coefficients-are-ordinates space1 accepted1 low 1 (omega arith)
 own-ordinate : entry (combination 6 nodes table1) (own .column) ≡ pos 1 // 1
 unfolding firstColumn
 own-ordinate = own .is nodes
-
--- ---- the nodes rise: 1/2 < 2 from row 1 to row 2
-
-are-nodes : AreNodes space1 table1 nodes
-unfolding firstColumn
-are-nodes = subst (Line space1 (λ j. q0) (λ j. q1)) (sym reproduces) is-line
-
-one-part : InOnePart space1 1
-one-part zero h e = let z : _≡_ {A = ℕ} 2 0 = e in absurd (omega arith)
-one-part (suc j) h e = absurd (omega arith)
-
-rise : pos 1 // 1 <ᵠ int (pos 2)
-unfolding accepted1 firstColumn conditionsBefore
-rise = nodes-rise space1 accepted1 low nodes are-nodes 1 (omega arith) one-part

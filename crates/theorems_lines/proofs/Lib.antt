@@ -2,5 +2,4 @@
 pub mod Equal
 pub mod Lines
 pub mod Ordinates
-pub mod Nodes
 pub mod Instances

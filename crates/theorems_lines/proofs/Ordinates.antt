@@ -35,10 +35,10 @@ use Rattle.theorems_lines.specs.Ordinates.{CoefficientsAreOrdinates}
 
 -- ---- a column with weight from one row alone
 
-false-not : {b : Bool} → b ≡ false → T (not b)
+pub false-not : {b : Bool} → b ≡ false → T (not b)
 false-not e = rw e tt
 
-single : (s : Space) (a : Accepted s) (c i : ℕ) → c < columnCount s → i < length (a .table) → supports.Support (λ r. cell (a .table) r c) i i
+pub single : (s : Space) (a : Accepted s) (c i : ℕ) → c < columnCount s → i < length (a .table) → supports.Support (λ r. cell (a .table) r c) i i
     → (multipliers : List ℚ) → entry (combination (columnCount s) multipliers (a .table)) c ≡ entry multipliers i
 unfolding combination
 single s a c i h l S = own

@@ -2,4 +2,3 @@
 pub mod Equal
 pub mod Lines
 pub mod Ordinates
-pub mod Nodes

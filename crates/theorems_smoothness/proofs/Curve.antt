@@ -32,7 +32,7 @@ use Rattle.theorems_smoothness.specs.Smoothness.{piece, curveOrdinates, 
 use Rattle.theorems_smoothness.proofs.Bernstein.{bernsteinForm-value}
 
 -- the multipliers are 256 times a part's coefficients
-ordinate-is : (s : Space) (a : Accepted s) (wood : Wood) (coefs : List ℤ) (c : ℕ) → entry (curveOrdinates s (a .table) wood coefs) c ≡ exactOrdinate (a .table) (coefficient wood coefs) c
+pub ordinate-is : (s : Space) (a : Accepted s) (wood : Wood) (coefs : List ℤ) (c : ℕ) → entry (curveOrdinates s (a .table) wood coefs) c ≡ exactOrdinate (a .table) (coefficient wood coefs) c
 unfolding exactOrdinate
 ordinate-is s a wood coefs c = combination-at (columnCount s) (a .table) (built s (a .table) (a .is) .basis .wide) (tab (length (a .table)) (λ i. int (fine (coefficient wood coefs i)))) c
     ∙ sum-ext (length (a .table)) (λ i l. ap (λ u. u *ᵠ cell (a .table) i c) (tab-getD (length (a .table)) (λ i. int (fine (coefficient wood coefs i))) i (int (pos 0)) l))

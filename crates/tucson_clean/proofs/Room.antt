@@ -10,13 +10,15 @@ use lib.ListN.{length}
 use Rattle.base_outcome.specs.Outcome.{Outcome, answer, refusal, refuse, capped, with-answer}
 use Rattle.base_print.specs.Buffer.{Puts}
 use Rattle.base_text.specs.Bytes.{Text}
+use Rattle.spec_tucson.specs.Line.{linesOf}
+use Rattle.spec_tucson.specs.FileText.{textOf}
 use Rattle.spec_tucson.specs.StrictLine.{Kept}
 use Rattle.spec_tucson.specs.CleanCall.{Cleaned, ifRoom, Counts, countsOf, laid}
 use Rattle.tucson_putting.proofs.Wrote.{written-whole}
 use Rattle.tucson_walk.specs.declared.Walked.{Walked}
 use Rattle.tucson_clean.specs.declared.Cleaned as machine
 use Rattle.tucson_clean.specs.declared.Cleaned.the-variants as machine-cases
-use Rattle.tucson_clean.specs.Machine.{AllPut, Measured, counts, Ends, madeOf}
+use Rattle.tucson_clean.specs.Machine.{RoomFor, AllPut, Measured, counts, Ends, madeOf}
 
 pub measured : {t : Text} {h unit : ℕ} {ks : List Kept} {out out′ : Text} {lines lines′ notes notes′ : List ℕ} {r : Walked}
     → AllPut t h unit ks out out′ lines lines′ notes notes′ r → Measured t h unit ks r
@@ -74,6 +76,20 @@ ends-answered {t} {h} {unit} {ks} {out} {out′} {lines} {lines′} {notes} {not
       lines-are = p .numbers-put .contents ∙ written-whole (madeOf t h unit ks .lines) lines g ∙ sym (ap (λ (x : Outcome Cleaned). laid (λ c. c .lines) x lines) e);
       notes-are = p .cells-put .contents ∙ written-whole (madeOf t h unit ks .notes) notes i ∙ sym (ap (λ (x : Outcome Cleaned). laid (λ c. c .notes) x notes) e);
     }
+
+-- buffers that are long enough for any text of so many lines
+pub ends-ample : {t : Text} {h unit : ℕ} {ks : List Kept} {out out′ : Text} {lines lines′ notes notes′ : List ℕ} {r : Walked} (count : ℕ)
+    → count ≡ length (linesOf (textOf t)) → RoomFor count (length out) (length lines) (length notes)
+    → AllPut t h unit ks out out′ lines lines′ notes notes′ r
+    → Ends (ifRoom (length out) (length lines) (length notes) (madeOf t h unit ks)) out out′ lines lines′ notes notes′
+    (machine-cases.Counts (r .bytes) (r .lines) (r .cells / 2))
+ends-ample {t} {h} {unit} {ks} {out} {out′} {lines} {lines′} {notes} {notes′} {r} count e room p =
+    let m = measured p in
+    let made = madeOf t h unit ks in
+    let x : length (made .text) ≤ length out = omega (arith, e, m .bytes-are, p .bytes-put .near, room .bytes-fit) in
+    let y : length (made .lines) ≤ length lines = omega (arith, e, m .lines-are, p .numbers-put .near, room .lines-fit) in
+    let z : length (made .notes) ≤ length notes = omega (arith, e, m .cells-are, p .cells-put .near, room .cells-fit) in
+    ends-answered _ (room-for-all made (length out) (length lines) (length notes) x y z) p x y z
 
 pub ends-same : {o p : Outcome Cleaned} {out out′ : Text} {lines lines′ notes notes′ : List ℕ} {r : machine.Cleaned} → o ≡ p → Ends o out out′ lines lines′ notes notes′ r
     → Ends p out out′ lines lines′ notes notes′ r

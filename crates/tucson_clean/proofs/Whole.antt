@@ -56,9 +56,9 @@ module _ {t : Text} {from stop : ℕ} (at : BodyAt t from stop) where
       let m = puts-as (mark-is t marked e) p in
       let n = puts-as (ap₂ (λ (x : Bool) (y : Text). notesOf unit h x 1 atStart (linesOf y) ks) (at .early-is) (at .body-is)) (a .cells-put) in
       let z = puts-as (end-is u cut f) q in
+      let b : length (linesOf body) ≡ length (linesOf (textOf t)) = ap (λ (x : Text). length (linesOf x)) (at .body-is) in
       record {
-        limit = 200 * (length body + 1);
-        bytes-put = puts-within (omega arith) (a .bytes-put);
-        numbers-put = puts-within (omega arith) (a .numbers-put);
-        cells-put = puts-within (omega arith) (puts-then m (puts-then n z));
+        bytes-put = puts-within (omega (arith, b)) (a .bytes-put);
+        numbers-put = puts-within (omega (arith, b)) (a .numbers-put);
+        cells-put = puts-within (omega (arith, b)) (puts-then m (puts-then n z));
       }

@@ -39,12 +39,30 @@ pub record BodyAt (t : Text) (from stop : ℕ) : Type 0 where
   pub body-is : part from stop t ≡ textOf t
   pub early-is : ltb stop (length t) ≡ endsEarly t
 
+-- How many bytes, numbers of lines and cells of notes are enough for a text of so many lines.
+abbrev pub ample : ℕ → ℕ × (ℕ × ℕ)
+ample count = (79 * (count + 1), (count + 1, 22 * (count + 1) + 4))
+
+-- The buffers have so many.
+pub record RoomFor (count textLength linesLength notesLength : ℕ) : Type 0 where
+  pub bytes-fit : ample count .0 ≤ textLength
+  pub lines-fit : ample count .1 .0 ≤ linesLength
+  pub cells-fit : ample count .1 .1 ≤ notesLength
+
+-- Whether it is known that the buffers have so many.
+abbrev pub AmpleTold : ℕ → ℕ → ℕ → ℕ → Bool → Type 0
+AmpleTold count textLength linesLength notesLength r = r ≡ true → RoomFor count textLength linesLength notesLength
+
+-- The text of a file stands from the one index up to the other, and its lines are counted.
+pub record CountedAt (t : Text) (from stop : ℕ) (r : Tail) : Type 0 where
+  pub body : BodyAt t from stop
+  pub counted : TailIs (part from stop t) r
+
 -- The strict text, the numbers of its lines and all notes, put from the beginnings of the buffers on.
 pub record AllPut (t : Text) (h unit : ℕ) (ks : List Kept) (out outAfter : Text) (lines linesAfter notes notesAfter : List ℕ) (r : Walked) : Type 0 where
-  pub limit : ℕ
-  pub bytes-put : Puts limit 0 (strictText (closedLines unit ks)) out outAfter (r .bytes)
-  pub numbers-put : Puts limit 0 (numbersOf (closedLines unit ks)) lines linesAfter (r .lines)
-  pub cells-put : Puts limit 0 (allNotes t unit h ks) notes notesAfter (r .cells)
+  pub bytes-put : Puts (ample (length (linesOf (textOf t))) .0) 0 (strictText (closedLines unit ks)) out outAfter (r .bytes)
+  pub numbers-put : Puts (ample (length (linesOf (textOf t))) .1 .0) 0 (numbersOf (closedLines unit ks)) lines linesAfter (r .lines)
+  pub cells-put : Puts (ample (length (linesOf (textOf t))) .1 .1) 0 (allNotes t unit h ks) notes notesAfter (r .cells)
 
 abbrev pub PutTold : Text → ℕ → ℕ → Text → Text → List ℕ → List ℕ → List ℕ → List ℕ → Walked → Type 0
 PutTold t h unit out outAfter lines linesAfter notes notesAfter r = (ks : List Kept) → keptLines h 1 none (linesOf (textOf t)) ≡ answer ks

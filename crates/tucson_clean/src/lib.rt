@@ -7,7 +7,7 @@ ghost use Rattle.spec_tucson.specs.Line.{linesOf};
 ghost use Rattle.spec_tucson.specs.FileText.{textOf};
 ghost use Rattle.spec_tucson.specs.KeptLines.{headerOf};
 ghost use Rattle.spec_tucson.specs.CleanCall.{isUnitOption, cleanedBelow, cleanedFile, ifRoom, cleanEnd};
-ghost use Rattle.tucson_clean.specs.Machine.{TailIs, BodyAt, PutTold, MeasureTold, FillTold, Ends, counts};
+ghost use Rattle.tucson_clean.specs.Machine.{TailIs, BodyAt, CountedAt, AmpleTold, PutTold, MeasureTold, FillTold, Ends, counts};
 use base_outcome::Found;
 use base_outcome::Legality;
 use tucson_header::HeaderFound;
@@ -44,7 +44,12 @@ const THOUSANDTHS_SAID: u32 = 1000;
 
 const FILE_LIMIT: usize = 4294967295;
 
-const SUBSTITUTE: u8 = 26;
+// The most bytes that a line takes in the strict text, the most cells of its notes, and of those of the whole file.
+const LINE_BYTES: usize = 79;
+
+const LINE_CELLS: usize = 22;
+
+const FILE_CELLS: usize = 4;
 
 // The lines of a text, counted.
 fn count_lines(body: &[u8]) -> Tail
@@ -70,13 +75,14 @@ fn put_all(
     text: &[u8],
     from: usize,
     stop: usize,
+    tail: Tail,
     header: usize,
     unit: u32,
     out: &mut [u8],
     lines: &mut [usize],
     notes: &mut [usize],
 ) -> Walked
-    requires { ⌜ BodyAt (now text) from stop ⌝ }
+    requires { ⌜ CountedAt (now text) from stop tail ⌝ }
     ensures { λ r. ⌜ PutTold (now (text .entry)) header unit (now (out .entry)) (now (out .exit)) (now (lines .entry)) (now (lines .exit))
         (now (notes .entry)) (now (notes .exit)) r ⌝ }
 {
@@ -93,9 +99,8 @@ fn put_all(
         lines,
         notes,
     );
-    let end = count_lines(&text[from..stop]);
-    let cut = tucson_lines::both(early, end.ended);
-    let cells = tucson_notes::put_note(notes, walked.cells, cut, 2, end.count + 1);
+    let cut = tucson_lines::both(early, tail.ended);
+    let cells = tucson_notes::put_note(notes, walked.cells, cut, 2, tail.count + 1);
     Walked {
         bytes: walked.bytes,
         lines: walked.lines,
@@ -104,8 +109,8 @@ fn put_all(
 }
 
 // How many bytes, numbers of lines and cells of notes there are.
-fn measure(text: &[u8], from: usize, stop: usize, header: usize, unit: u32) -> Walked
-    requires { ⌜ BodyAt (now text) from stop ⌝ }
+fn measure(text: &[u8], from: usize, stop: usize, tail: Tail, header: usize, unit: u32) -> Walked
+    requires { ⌜ CountedAt (now text) from stop tail ⌝ }
     ensures { λ r. ⌜ MeasureTold (now (text .entry)) header unit r ⌝ }
 {
     let mut bytes = [0; 1];
@@ -115,6 +120,7 @@ fn measure(text: &[u8], from: usize, stop: usize, header: usize, unit: u32) -> W
         text,
         from,
         stop,
+        tail,
         header,
         unit,
         &mut bytes[..1],
@@ -123,7 +129,51 @@ fn measure(text: &[u8], from: usize, stop: usize, header: usize, unit: u32) -> W
     )
 }
 
-// Fills the buffers, if there is room for all.
+// Whether buffers of these lengths are long enough for any text of so many lines.
+fn is_ample(count: usize, bytes: usize, lines: usize, cells: usize) -> bool
+    requires { ⌜ count < 2 ^ 32 ⌝ }
+    ensures { λ r. ⌜ AmpleTold count bytes lines cells r ⌝ }
+{
+    if bytes < LINE_BYTES * (count + 1) {
+        return false;
+    }
+    if lines < count + 1 {
+        return false;
+    }
+    cells >= LINE_CELLS * (count + 1) + FILE_CELLS
+}
+
+// Fills the buffers, if there is room for all, which is measured first.
+fn fill_measured(
+    text: &[u8],
+    from: usize,
+    stop: usize,
+    tail: Tail,
+    header: usize,
+    unit: u32,
+    out: &mut [u8],
+    lines: &mut [usize],
+    notes: &mut [usize],
+) -> Cleaned
+    requires { ⌜ CountedAt (now text) from stop tail ⌝ }
+    ensures { λ r. ⌜ FillTold (now (text .entry)) header unit (now (out .entry)) (now (out .exit)) (now (lines .entry)) (now (lines .exit))
+        (now (notes .entry)) (now (notes .exit)) r ⌝ }
+{
+    let need = measure(text, from, stop, tail, header, unit);
+    if out.len() < need.bytes {
+        return Cleaned::Refused(SHORT_BUFFER, 0);
+    }
+    if lines.len() < need.lines {
+        return Cleaned::Refused(SHORT_BUFFER, 1);
+    }
+    if notes.len() < need.cells {
+        return Cleaned::Refused(SHORT_BUFFER, 2);
+    }
+    let put = put_all(text, from, stop, tail, header, unit, out, lines, notes);
+    Cleaned::Counts(put.bytes, put.lines, put.cells / 2)
+}
+
+// Fills the buffers, if there is room for all. Nothing is measured where there is room for any text of so many lines.
 fn fill(
     text: &[u8],
     from: usize,
@@ -138,18 +188,12 @@ fn fill(
     ensures { λ r. ⌜ FillTold (now (text .entry)) header unit (now (out .entry)) (now (out .exit)) (now (lines .entry)) (now (lines .exit))
         (now (notes .entry)) (now (notes .exit)) r ⌝ }
 {
-    let need = measure(text, from, stop, header, unit);
-    if out.len() < need.bytes {
-        return Cleaned::Refused(SHORT_BUFFER, 0);
+    let tail = count_lines(&text[from..stop]);
+    if is_ample(tail.count, out.len(), lines.len(), notes.len()) {
+        let put = put_all(text, from, stop, tail, header, unit, out, lines, notes);
+        return Cleaned::Counts(put.bytes, put.lines, put.cells / 2);
     }
-    if lines.len() < need.lines {
-        return Cleaned::Refused(SHORT_BUFFER, 1);
-    }
-    if notes.len() < need.cells {
-        return Cleaned::Refused(SHORT_BUFFER, 2);
-    }
-    let put = put_all(text, from, stop, header, unit, out, lines, notes);
-    Cleaned::Counts(put.bytes, put.lines, put.cells / 2)
+    fill_measured(text, from, stop, tail, header, unit, out, lines, notes)
 }
 
 // What is made of the lines below a header that ends with the line named.
@@ -189,7 +233,7 @@ fn clean_text(
         (now (out .entry)) (now (out .exit)) (now (lines .entry)) (now (lines .exit)) (now (notes .entry)) (now (notes .exit)) r ⌝ }
 {
     let from = tucson_file::start(text);
-    let stop = base_text::fields::find(text, from, text.len(), SUBSTITUTE);
+    let stop = tucson_file::stop(text, from);
     let found = tucson_header::header(&text[from..stop], header);
     match found {
         HeaderFound::Refused(place) => Cleaned::Refused(HEADER, place),

@@ -6,14 +6,15 @@ use mathlib.Core.Option.{Option, some, none}
 use Prim.Native.Nat.{ℕ, suc, _+_, _<_, _≤_}
 use native.Mathlib.Omega.{arith}
 use native.Mathlib.Numerals.{add-one}
-use Rattle.base_exact.proofs.Decide.{true-not-false}
-use lib.Dec.{eqb}
+use Rattle.base_exact.proofs.Decide.{true-not-false, or-false}
+use borrow.Author.Tests.{ne-eqb, leb-false}
+use lib.Dec.{eqb, leb}
 use lib.ListN.{length, take, drop, getD}
 use lib.Seq.{slice, drop-cons, drop-length, take-length}
-use Rattle.base_text.specs.Bytes.{Text, newline, beginsWith}
+use Rattle.base_text.specs.Bytes.{Text, newline, indexWhere, indexOf, beginsWith}
 use Rattle.base_text.proofs.Slice.{slice-all}
 use Rattle.spec_tucson.specs.FileText.{substitute, isPadding, allPadding, isFault, lineAfter, faultLine, isMarked, unmarked, byteOrderMark}
-use Rattle.tucson_file.specs.Machine.{faultAt}
+use Rattle.tucson_file.specs.Machine.{faultAt, isSpecial, anySpecial}
 
 -- ---- padding
 
@@ -123,3 +124,54 @@ line-near c line i h = go (eqb c newline)
     go : (b : Bool) → cond b (suc line) line ≤ i + 1 + 1
     go true = omega arith
     go false = omega arith
+
+begins-not : (c : ℕ) (cs : Text) → (c ≡ 239 → ⊥) → beginsWith byteOrderMark (c ∷ cs) ≡ false
+unfolding beginsWith
+begins-not c cs h = rw (ne-eqb c 239 h)
+
+-- a byte that begins no mark and is neither 0 nor 13
+pub at-plain : (t : Text) (i : ℕ) → i < length t → 13 < getD t i 0 → getD t i 0 < 239 → faultAt i t ≡ false
+at-plain t i h low high =
+    let b = getD t i 0 in
+    at-is t i h ∙ rw (ne-eqb b 0 (λ e. omega (arith, e, low)), sym (begins-cons t i h) ∙ begins-not b (drop (suc i) t) (λ e. omega (arith, e, high)), ne-eqb b 13 (λ e. omega (arith, e, low)))
+
+-- ---- special bytes
+
+pub special-next : (t : Text) (i : ℕ) → i < length t → (any : Bool)
+    → (any || anySpecial (drop i t)) ≡ ((any || isSpecial (getD t i 0)) || anySpecial (drop (i + 1) t))
+unfolding anySpecial
+special-next t i h true = refl
+special-next t i h false = ap anySpecial (drop-cons t i 0 h) ∙ ap (λ (n : ℕ). isSpecial (getD t i 0) || anySpecial (drop n t)) (sym (add-one i))
+
+pub special-end : (any : Bool) (t : Text) (i : ℕ) → i ≡ length t → (any || anySpecial (drop i t)) ≡ any
+unfolding anySpecial
+special-end true t i e = refl
+special-end false t i e = ap (λ (n : ℕ). anySpecial (drop n t)) e ∙ ap anySpecial (drop-length t)
+
+module _ (c : ℕ) (cs : Text) (e : anySpecial (c ∷ cs) ≡ false) where
+  parts : (isSpecial c ≡ false) × (anySpecial cs ≡ false)
+  unfolding anySpecial
+  parts = or-false (isSpecial c) (anySpecial cs) e
+
+  low : (eqb c 0 ≡ false) × (eqb c 13 ≡ false)
+  low = or-false (eqb c 0) (eqb c 13) (or-false (eqb c 0 || eqb c 13) (eqb c 26 || leb 239 c) (parts .0) .0)
+
+  high : (eqb c 26 ≡ false) × (leb 239 c ≡ false)
+  high = or-false (eqb c 26) (leb 239 c) (or-false (eqb c 0 || eqb c 13) (eqb c 26 || leb 239 c) (parts .0) .1)
+
+  no-fault : isFault c cs ≡ false
+  unfolding isFault
+  no-fault = rw (low .0, low .1, begins-not c cs (λ z. omega (arith, z, leb-false 239 c (high .1))))
+
+-- without such a byte there is no fault
+pub plain-fault : (line : ℕ) (t : Text) → anySpecial t ≡ false → faultLine line t ≡ none
+unfolding faultLine
+plain-fault line [] e = refl
+plain-fault line (c ∷ cs) e =
+    rw (high c cs e .0, no-fault c cs e) (plain-fault (lineAfter c line) cs (parts c cs e .1))
+
+-- and no byte 26
+pub plain-index : (t : Text) → anySpecial t ≡ false → indexOf substitute t ≡ length t
+unfolding indexWhere
+plain-index [] e = refl
+plain-index (c ∷ cs) e = rw (high c cs e .0) (ap suc (plain-index cs (parts c cs e .1)))

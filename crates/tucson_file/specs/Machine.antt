@@ -1,14 +1,25 @@
 -- A byte of a file by its index, and where the text begins.
-use mathlib.Core.Bool.{Bool}
+use mathlib.Core.Bool.{Bool, false, _||_}
+use mathlib.Core.List.{[], _∷_}
 use mathlib.Core.Path.{_≡_}
 use Prim.Native.Nat.{ℕ, suc, _≤_}
+use lib.Dec.{eqb, leb}
 use lib.ListN.{length, drop, getD}
 use Rattle.base_text.specs.Bytes.{Text}
-use Rattle.spec_tucson.specs.FileText.{isFault, unmarked}
+use Rattle.spec_tucson.specs.FileText.{carriageReturn, substitute, isFault, unmarked}
 
 -- The byte at the index is one that no text has.
 unfoldable pub faultAt : ℕ → Text → Bool
 faultAt i t = isFault (getD t i 0) (drop (suc i) t)
+
+-- A byte that can be at fault, or ends a text.
+abbrev pub isSpecial : ℕ → Bool
+isSpecial c = (eqb c 0 || eqb c carriageReturn) || (eqb c substitute || leb 239 c)
+
+-- There is such a byte.
+unfoldable pub anySpecial : Text → Bool
+anySpecial [] = false
+anySpecial (c ∷ cs) = isSpecial c || anySpecial cs
 
 -- An index of a file, or its end.
 pub record FaultAsks (from : ℕ) (t : Text) : Type 0 where

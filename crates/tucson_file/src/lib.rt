@@ -1,13 +1,14 @@
 // The text of a laboratory's file: where it begins and ends, and the first byte that no text has.
+ghost use mathlib.Core.Bool.{_||_};
 ghost use mathlib.Core.Path.{_≡_};
 ghost use Prim.Native.Nat.{_+_, _<_, _≤_};
 ghost use lib.ListN.{length, drop};
 ghost use lib.Seq.{slice};
 ghost use Rattle.base_outcome.specs.Machine.{found};
-ghost use Rattle.base_text.specs.Bytes.{Range};
-ghost use Rattle.spec_tucson.specs.FileText.{isMarked, unmarked, allPadding, isWide, textFault};
+ghost use Rattle.base_text.specs.Bytes.{Range, indexOf};
+ghost use Rattle.spec_tucson.specs.FileText.{substitute, isMarked, unmarked, allPadding, isWide, textFault};
 ghost use Rattle.spec_tucson.specs.FileText;
-ghost use Rattle.tucson_file.specs.Machine.{faultAt, FaultAsks, StartIs};
+ghost use Rattle.tucson_file.specs.Machine.{faultAt, isSpecial, anySpecial, FaultAsks, StartIs};
 use base_outcome::Found;
 
 const TAB: u8 = 9;
@@ -19,6 +20,9 @@ const RETURN: u8 = 13;
 pub const SUBSTITUTE: u8 = 26;
 
 const BLANK: u8 = 32;
+
+// The first byte of a mark.
+const MARK: u8 = 239;
 
 // Whether a byte may stand behind the first byte 26.
 fn is_padding(byte: u8) -> bool
@@ -55,7 +59,7 @@ fn all_padding(text: &[u8], from: usize) -> bool
 }
 
 // Whether the byte at the index, which is not 26, is one that no text has.
-fn is_fault(text: &[u8], at: usize) -> bool
+fn is_odd(text: &[u8], at: usize) -> bool
     requires { ⌜ at < length (now text) ⌝ }
     ensures { λ r. ⌜ r ≡ faultAt at (now (text .entry)) ⌝ }
 {
@@ -70,6 +74,51 @@ fn is_fault(text: &[u8], at: usize) -> bool
         return !base_text::fields::begins(text, at + 1, text.len(), b"\n");
     }
     false
+}
+
+// The same; most bytes are told by themselves alone.
+fn is_fault(text: &[u8], at: usize) -> bool
+    requires { ⌜ at < length (now text) ⌝ }
+    ensures { λ r. ⌜ r ≡ faultAt at (now (text .entry)) ⌝ }
+{
+    if text[at] > RETURN {
+        if text[at] < MARK {
+            return false;
+        }
+    }
+    is_odd(text, at)
+}
+
+fn either(a: bool, b: bool) -> bool
+    ensures { λ r. ⌜ r ≡ (a || b) ⌝ }
+{
+    if a {
+        return true;
+    }
+    b
+}
+
+// Whether a byte can be at fault, or ends a text.
+fn is_special(byte: u8) -> bool
+    ensures { λ r. ⌜ r ≡ isSpecial byte ⌝ }
+{
+    let low = either(byte == 0, byte == RETURN);
+    either(low, either(byte == SUBSTITUTE, byte >= MARK))
+}
+
+// Whether there is such a byte from the index on; most files have none. All bytes are looked at, since many at once take fewer
+// instructions than one after another.
+fn any_special(text: &[u8], from: usize) -> bool
+    requires { ⌜ from ≤ length (now text) ⌝ }
+    ensures { λ r. ⌜ r ≡ anySpecial (drop from (now (text .entry))) ⌝ }
+{
+    let mut any = false;
+    let mut i = from;
+    while i < text.len() {
+        any = either(any, is_special(text[i]));
+        i += 1;
+    }
+    any
 }
 
 // The line of the first byte at fault from the index on.
@@ -141,5 +190,20 @@ pub fn fault(text: &[u8]) -> Found
     if is_wide(text) {
         return Found::At(1);
     }
-    fault_line(text, start(text))
+    let from = start(text);
+    if !any_special(text, from) {
+        return Found::Nothing;
+    }
+    fault_line(text, from)
+}
+
+// The index where the text ends that begins at this one: at the first byte 26, or at the end.
+pub fn stop(text: &[u8], from: usize) -> usize
+    requires { ⌜ from ≤ length (now text) ⌝ }
+    ensures { λ r. ⌜ r ≡ from + indexOf substitute (slice from (length (now (text .entry))) (now (text .entry))) ⌝ }
+{
+    if !any_special(text, from) {
+        return text.len();
+    }
+    base_text::fields::find(text, from, text.len(), SUBSTITUTE)
 }

@@ -16,6 +16,7 @@ use Rattle.spec_tucson.specs.TextReading.{lastField}
 use Rattle.spec_tucson.specs.StrictLine.{isStrict, lineColumns}
 use Rattle.spec_tucson.specs.CleanSeries.{fieldsOf, closingOf, withEnd}
 use Rattle.spec_tucson.specs.CleanNotes.{Ahead, widthsIn, isEmpty, isAbsentEnd, isLikeClosing, remarks, noteIf, atLine}
+use Rattle.tucson_notes.specs.declared.Ending as machine-ending
 use Rattle.tucson_notes.specs.declared.Fields as machine-fields
 use Rattle.tucson_notes.specs.declared.Ahead as machine-ahead
 use Rattle.tucson_notes.specs.declared.Marks as machine-marks
@@ -42,6 +43,11 @@ pub record SumsUp (fs : List ℤ) (f : machine-fields.Fields) : Type 0 where
   pub first-is : f .first ≡ getD fs 0 (pos 0)
   pub last-is : f .last ≡ lastField fs
   pub before-is : f .before ≡ lastField (dropLast fs)
+
+-- What is told of the end of some fields.
+pub record EndsWith (fs : List ℤ) (f : machine-ending.Ending) : Type 0 where
+  pub count-is : f .count ≡ length fs
+  pub last-is : f .last ≡ lastField fs
 
 -- A strict line of n bytes at the front of a text.
 pub record FieldsAsk (line : Text) (n : ℕ) : Type 0 where

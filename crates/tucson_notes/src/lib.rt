@@ -10,7 +10,7 @@ ghost use Rattle.spec_tucson.specs.Columns.{inColumns, columns};
 ghost use Rattle.spec_tucson.specs.Line.{fieldColumns};
 ghost use Rattle.spec_tucson.specs.CleanSeries.{fieldsOf, closingOf};
 ghost use Rattle.spec_tucson.specs.CleanNotes.{noteIf, atLine, hasLastWidth, isOtherUnit};
-ghost use Rattle.tucson_notes.specs.Machine.{numberIn, beforeIn, FieldsAsk, BeforeAsks, SumsUp, aheadOf};
+ghost use Rattle.tucson_notes.specs.Machine.{numberIn, beforeIn, FieldsAsk, BeforeAsks, SumsUp, EndsWith, aheadOf};
 ghost use Rattle.tucson_notes.specs.Machine.{TellsWidth, TellsAbsent, TellsLike, PutsRemarks};
 ghost use Rattle.tucson_notes.specs.Machine.{shownMarked, formMarked, PutsMarks, StrictAsks, strictPut};
 use base_text::numeral::Field;
@@ -25,6 +25,12 @@ pub struct Fields {
     pub first: i32,
     pub last: i32,
     pub before: i32,
+}
+
+// The last field of a strict line, and how many there are.
+pub struct Ending {
+    pub count: usize,
+    pub last: i32,
 }
 
 // What stands ahead of a line in its series: how many lines with this one, the closing, and how many fields the last line has.
@@ -107,6 +113,19 @@ pub fn summed(line: &[u8], n: usize) -> Fields
         first: first,
         last: last,
         before: before,
+    }
+}
+
+// The last field of a strict line of n bytes, and how many there are.
+pub fn last_field(line: &[u8], n: usize) -> Ending
+    requires { ⌜ FieldsAsk (now line) n ⌝ }
+    ensures { λ r. ⌜ EndsWith (fieldsOf (take n (now (line .entry)))) r ⌝ }
+{
+    let count = (n - tucson_lines::HEAD) / tucson_lines::FIELD;
+    let last = field(line, n - tucson_lines::FIELD);
+    Ending {
+        count: count,
+        last: last,
     }
 }
 

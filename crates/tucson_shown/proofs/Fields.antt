@@ -6,9 +6,11 @@ use Prim.Native.Nat.{ℕ, zero, suc, _+_, _-_, _<_, _≤_}
 use native.Mathlib.Omega.{arith}
 use borrow.Author.Tests.{ne-eqb, eqb-true, eqb-false, lt-ltb, le-ltb, ltb-true, ltb-false}
 use lib.Dec.{eqb, ltb}
-use lib.ListN.{length, take, drop, replicate, length-append, drop-of-length-le}
+use lib.ListN.{length, getD, take, drop, replicate, length-append, drop-of-length-le}
 use lib.Seq.{slice, slice-empty, length-slice, length-take-le, take-at, drop-at}
-use Rattle.base_text.specs.Bytes.{Text, indexWhere, indexOf}
+use Rattle.base_exact.proofs.Decide.{or-false}
+use Rattle.base_text.specs.Bytes.{Text, indexWhere}
+use Rattle.base_text.proofs.Slice.{slice-step}
 use Rattle.spec_tucson.specs.Columns.{blank}
 use Rattle.spec_tucson.specs.FileText.{tab}
 use Rattle.spec_tucson.specs.Shown.{tabBlanks, expanded, trimmed, anyTab, inItsColumns, shown, isBlankLine, hasTrailing}
@@ -61,33 +63,25 @@ trailing text from end stop to w s told =
         ∙ le-ltb (length (expanded 0 (slice from to text))) (length (expanded 0 (slice from to text))) (omega arith)
 
 -- ---- tabs
-less-moved : (a x b : ℕ) → a ≤ b → ltb (a + x) b ≡ ltb x (b - a)
-less-moved a x b h = go (ltb x (b - a)) refl
-  where
-    go : (s : Bool) → ltb x (b - a) ≡ s → ltb (a + x) b ≡ s
-    go true e = lt-ltb (a + x) b (omega (arith, ltb-true x (b - a) e))
-    go false e = le-ltb (a + x) b (omega (arith, ltb-false x (b - a) e))
+pub tab-next : (text : Text) (i to : ℕ) → i < to → to ≤ length text → (any : Bool)
+    → (any || anyTab (slice i to text)) ≡ ((any || eqb (getD text i 0) tab) || anyTab (slice (i + 1) to text))
+unfolding anyTab
+tab-next text i to h w true = refl
+tab-next text i to h w false = ap anyTab (slice-step i to text 0 h w)
 
-less-suc : (x y : ℕ) → ltb (suc x) (suc y) ≡ ltb x y
-less-suc x y = go (ltb x y) refl
-  where
-    go : (s : Bool) → ltb x y ≡ s → ltb (suc x) (suc y) ≡ s
-    go true e = lt-ltb (suc x) (suc y) (omega (arith, ltb-true x y e))
-    go false e = le-ltb (suc x) (suc y) (omega (arith, ltb-false x y e))
+pub tab-end : (any : Bool) (text : Text) (to : ℕ) → (any || anyTab (slice to to text)) ≡ any
+unfolding anyTab
+tab-end true text to = refl
+tab-end false text to = ap anyTab (slice-empty to text)
 
-tab-index : (t : Text) → anyTab t ≡ ltb (indexOf tab t) (length t)
-unfolding anyTab indexWhere
-tab-index [] = refl
-tab-index (c ∷ t) = go (eqb c tab) (tab-index t)
-  where
-    go : (b : Bool) → anyTab t ≡ ltb (indexOf tab t) (length t) → (b || anyTab t) ≡ ltb (cond b 0 (suc (indexOf tab t))) (suc (length t))
-    go true e = sym (lt-ltb 0 (suc (length t)) (omega arith))
-    go false e = e ∙ sym (less-suc (indexOf tab t) (length t))
-
-pub tab-found : (text : Text) (from end at : ℕ) → end ≤ length text → from ≤ end → at ≡ from + indexOf tab (slice from end text) → anyTab (slice from end text) ≡ ltb at end
-tab-found text from end at w h e =
-    tab-index (slice from end text) ∙ ap (ltb (indexOf tab (slice from end text))) (length-slice from end text w)
-    ∙ sym (ap (λ (n : ℕ). ltb n end) e ∙ less-moved from (indexOf tab (slice from end text)) end h)
+-- bytes without a tab are shown as they stand
+pub expanded-plain : (n : ℕ) (t : Text) → anyTab t ≡ false → expanded n t ≡ t
+unfolding expanded anyTab
+expanded-plain n [] e = refl
+expanded-plain n (c ∷ cs) e =
+    let both = or-false (eqb c tab) (anyTab cs) e in
+    ap (λ (b : Bool). cond b (replicate (tabBlanks n) blank ++ expanded (n + tabBlanks n) cs) (c ∷ expanded (suc n) cs)) (both .0)
+    ∙ ap (λ (t : Text). c ∷ t) (expanded-plain (suc n) cs (both .1))
 
 -- ---- bytes over 127
 blanks-low : (k : ℕ) → anyHigh (replicate k blank) ≡ false
@@ -130,6 +124,12 @@ without-none t e = rw e
 without-some : (t front rest : Text) → t ≡ front ++ rest → length front ≡ lineColumns → hasSite t ≡ true → withoutSite t ≡ trimmed front
 unfolding withoutSite
 without-some t front rest e h s = rw s (ap trimmed (ap (take lineColumns) e ∙ take-at front rest lineColumns h))
+
+-- a part without a tab that is no longer than a strict line
+pub plain-fields : (t bytes : Text) (n : ℕ) → anyTab t ≡ false → length t ≡ n → n ≤ lineColumns → take n bytes ≡ t → FieldsAre (expanded 0 t) n false bytes
+plain-fields t bytes n e size h is =
+    let s : hasSite t ≡ false = no-site-short t (omega (arith, size)) in
+    rw (expanded-plain 0 t e) (record { fits = omega arith; are = is ∙ sym (without-none t s); is-site = sym s })
 
 -- ---- what is put into the array
 module _ (text : Text) (to : ℕ) (t bytes : Text) (at n : ℕ) (size : length bytes ≡ cells) (fits : n ≤ cells)

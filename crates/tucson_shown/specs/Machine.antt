@@ -1,7 +1,7 @@
 -- The machine's form of a strict line: two arrays with the bytes at their fronts, and the cases of the enum that is answered.
 use mathlib.Core.Bool.{Bool, false}
 use mathlib.Core.Path.{_≡_}
-use Prim.Native.Nat.{ℕ, _+_, _<_, _≤_}
+use Prim.Native.Nat.{ℕ, _+_, _-_, _<_, _≤_}
 use lib.ListN.{length, take}
 use lib.Seq.{slice}
 use Rattle.base_outcome.specs.Outcome.{answer, refuse}
@@ -31,6 +31,11 @@ StrictTold raw strict-cases.Malformed bytes line = (place : ℕ) → strictLine 
 StrictTold raw strict-cases.NotAscii bytes line = (place : ℕ) → strictLine place raw ≡ refuse 22 place
 
 -- ---- what is shown without a site name
+
+-- A part of a text, and an array that has room for it.
+pub record CopyAsks (text : Text) (from to : ℕ) (bytes : Text) : Type 0 where
+  pub range : Range text from to
+  pub room : to - from ≤ length bytes
 
 -- A part of a text, and an array for what is shown of it.
 pub record ShowAsks (text : Text) (from to : ℕ) (bytes : Text) : Type 0 where

@@ -1,11 +1,14 @@
 // A line of a laboratory's file as it is shown, and the strict line that it is.
+ghost use mathlib.Core.Bool.{_||_};
 ghost use mathlib.Core.Path.{_≡_};
-ghost use Prim.Native.Nat.{_+_, _<_};
+ghost use Prim.Native.Nat.{_+_, _-_, _<_};
+ghost use lib.ListN.{take};
 ghost use lib.Seq.{slice};
-ghost use Rattle.spec_tucson.specs.Shown.{expanded, shown, isBlankLine, hasReturn, hasTab, hasTrailing};
+ghost use Rattle.base_text.specs.Bytes.{Range};
+ghost use Rattle.spec_tucson.specs.Shown.{expanded, anyTab, shown, isBlankLine, hasReturn, hasTab, hasTrailing};
 ghost use Rattle.spec_tucson.specs.KeptLines.{isHeaderLine};
 ghost use Rattle.tucson_lines.specs.Machine.{LineEnd};
-ghost use Rattle.tucson_shown.specs.Machine.{StrictTold, ShowAsks, FrontTold, FitAsks, StrictAsks};
+ghost use Rattle.tucson_shown.specs.Machine.{StrictTold, CopyAsks, ShowAsks, FrontTold, FitAsks, StrictAsks};
 
 // The most bytes that are shown of a strict line: eight characters of four bytes in its name, and 64 columns behind that.
 pub const SHOWN: usize = 96;
@@ -44,11 +47,34 @@ pub fn has_return(text: &[u8], from: usize, end: usize) -> bool
     tucson_columns::line_stop(text, from, end) < end
 }
 
+fn either(a: bool, b: bool) -> bool
+    ensures { λ r. ⌜ r ≡ (a || b) ⌝ }
+{
+    if a {
+        return true;
+    }
+    b
+}
+
+// Whether the part has a tab. All its bytes are looked at, since many at once take fewer instructions than one after another.
+fn any_tab(text: &[u8], from: usize, to: usize) -> bool
+    requires { ⌜ Range (now text) from to ⌝ }
+    ensures { λ r. ⌜ r ≡ anyTab (slice from to (now (text .entry))) ⌝ }
+{
+    let mut any = false;
+    let mut i = from;
+    while i < to {
+        any = either(any, text[i] == TAB);
+        i += 1;
+    }
+    any
+}
+
 pub fn has_tab(text: &[u8], from: usize, end: usize) -> bool
     requires { ⌜ LineEnd (now text) from end ⌝ }
     ensures { λ r. ⌜ r ≡ hasTab (slice from (end + 1) (now (text .entry))) ⌝ }
 {
-    base_text::fields::find(text, from, end, TAB) < end
+    any_tab(text, from, end)
 }
 
 pub fn has_trailing(text: &[u8], from: usize, end: usize) -> bool
@@ -77,8 +103,22 @@ pub fn is_header_line(
     tucson_caption::header_line(text, first, past, k, from, end, &mut head, &mut bytes)
 }
 
-// What is shown of the part without a site name, at the front of an array.
-fn show(text: &[u8], from: usize, to: usize, bytes: &mut [u8]) -> Front
+// The part, at the front of an array.
+fn copy(text: &[u8], from: usize, to: usize, bytes: &mut [u8])
+    requires { ⌜ CopyAsks (now text) from to (now bytes) ⌝ }
+    ensures { λ r. ⌜ take (to - from) (now (bytes .exit)) ≡ slice from to (now (text .entry)) ⌝ }
+{
+    let mut i = from;
+    let mut n = 0;
+    while i < to {
+        bytes[n] = text[i];
+        n += 1;
+        i += 1;
+    }
+}
+
+// What is shown of the part without a site name, at the front of an array: its tabs as blanks.
+fn show_columns(text: &[u8], from: usize, to: usize, bytes: &mut [u8]) -> Front
     requires { ⌜ ShowAsks (now text) from to (now bytes) ⌝ }
     ensures { λ r. ⌜ FrontTold (expanded 0 (slice from to (now (text .entry)))) r (now (bytes .exit)) ⌝ }
 {
@@ -95,6 +135,20 @@ fn show(text: &[u8], from: usize, to: usize, bytes: &mut [u8]) -> Front
         return Front::Fits(whole.count, false);
     }
     Front::Long
+}
+
+// The same; most parts have no tab and no more bytes than a strict line, and are shown as they stand.
+fn show(text: &[u8], from: usize, to: usize, bytes: &mut [u8]) -> Front
+    requires { ⌜ ShowAsks (now text) from to (now bytes) ⌝ }
+    ensures { λ r. ⌜ FrontTold (expanded 0 (slice from to (now (text .entry)))) r (now (bytes .exit)) ⌝ }
+{
+    if to - from <= LINE {
+        if !any_tab(text, from, to) {
+            copy(text, from, to, bytes);
+            return Front::Fits(to - from, false);
+        }
+    }
+    show_columns(text, from, to, bytes)
 }
 
 // The strict line of a line of which so many bytes are shown at the front of an array.

@@ -213,12 +213,11 @@ module _ (text : Text) (i to : ℕ) (before : i < to) (within : to ≤ length te
   unfolding anyHigh
   high-step = ap anyHigh (slice-step i to text 0 before within)
 
-  pub high-here : 128 ≤ getD text i 0 → anyHigh (slice i to text) ≡ true
-  high-here h = high-step ∙ ap (λ (b : Bool). b || anyHigh (slice (i + 1) to text)) (le-leb 128 (getD text i 0) h)
+  pub high-next : (any : Bool) → (any || anyHigh (slice i to text)) ≡ ((any || isHigh (getD text i 0)) || anyHigh (slice (i + 1) to text))
+  high-next true = refl
+  high-next false = high-step
 
-  pub high-next : getD text i 0 < 128 → anyHigh (slice i to text) ≡ anyHigh (slice (i + 1) to text)
-  high-next h = high-step ∙ ap (λ (b : Bool). b || anyHigh (slice (i + 1) to text)) (lt-leb 128 (getD text i 0) h)
-
-pub high-end : (text : Text) (to : ℕ) → anyHigh (slice to to text) ≡ false
+pub high-end : (any : Bool) (text : Text) (to : ℕ) → (any || anyHigh (slice to to text)) ≡ any
 unfolding anyHigh
-high-end text to = ap anyHigh (slice-empty to text)
+high-end true text to = refl
+high-end false text to = ap anyHigh (slice-empty to text)

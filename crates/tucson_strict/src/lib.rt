@@ -1,8 +1,11 @@
 // Whether the bytes at the front of an array are a strict line: a name, a year and one to ten fields, each in its columns.
+ghost use mathlib.Core.Bool.{_||_};
 ghost use mathlib.Core.Path.{_≡_};
 ghost use lib.ListN.{length, take};
 ghost use lib.Seq.{slice};
+ghost use Prim.Native.Nat.{_<_};
 ghost use Rattle.base_text.specs.Bytes.{Range};
+ghost use Rattle.base_text.specs.Numeral.{allDigits, numeral};
 ghost use Rattle.spec_tucson.specs.Columns.{inColumns};
 ghost use Rattle.spec_tucson.specs.Line.{fieldNumerals};
 ghost use Rattle.spec_tucson.specs.StrictLine.{isSome, isStrict, anyHigh};
@@ -13,19 +16,60 @@ use base_text::numeral::Field;
 // The columns of a line with ten fields.
 const LINE: usize = 72;
 
+// The most digits of a numeral.
+const MOST_DIGITS: usize = 7;
+
 // The first byte that is not ASCII.
 const HIGH: u8 = 128;
+
+// Whether all bytes of the part are digits.
+fn all_digits(text: &[u8], from: usize, to: usize) -> bool
+    requires { ⌜ Range (now text) from to ⌝ }
+    ensures { λ r. ⌜ r ≡ allDigits (slice from to (now (text .entry))) ⌝ }
+{
+    let mut i = from;
+    while i < to {
+        if text[i] < b'0' {
+            return false;
+        }
+        if text[i] > b'9' {
+            return false;
+        }
+        i += 1;
+    }
+    true
+}
+
+// Whether the part is a number; most are, and need no value, since they begin with a digit other than 0.
+fn is_number(text: &[u8], from: usize, to: usize) -> bool
+    requires { ⌜ Range (now text) from to × (from < to) ⌝ }
+    ensures { λ r. ⌜ r ≡ isSome (numeral (slice from to (now (text .entry)))) ⌝ }
+{
+    if text[from] > b'0' {
+        if to - from <= MOST_DIGITS {
+            return all_digits(text, from, to);
+        }
+    }
+    let field = base_text::numeral::numeral(text, from, to);
+    match field {
+        Field::Bad => false,
+        Field::Numeral(_) => true,
+    }
+}
 
 // Whether a number stands right-aligned in some columns.
 fn is_numeral(text: &[u8], from: usize, to: usize) -> bool
     requires { ⌜ Range (now text) from to ⌝ }
     ensures { λ r. ⌜ r ≡ isSome (inColumns (slice from to (now (text .entry)))) ⌝ }
 {
-    let field = tucson_lines::numeral(text, from, to);
-    match field {
-        Field::Bad => false,
-        Field::Numeral(_) => true,
+    let mut i = from;
+    while i < to {
+        if text[i] != b' ' {
+            return is_number(text, i, to);
+        }
+        i += 1;
     }
+    false
 }
 
 // Whether the n fields from the index on are numbers.
@@ -69,17 +113,26 @@ pub fn is_strict(bytes: &[u8], n: usize) -> bool
     all_numerals(bytes, tucson_lines::HEAD, n, fields)
 }
 
-// Whether the part has a byte that is not ASCII.
+fn either(a: bool, b: bool) -> bool
+    ensures { λ r. ⌜ r ≡ (a || b) ⌝ }
+{
+    if a {
+        return true;
+    }
+    b
+}
+
+// Whether the part has a byte that is not ASCII. All its bytes are looked at, since many at once take fewer instructions than one after
+// another.
 pub fn any_high(text: &[u8], from: usize, to: usize) -> bool
     requires { ⌜ Range (now text) from to ⌝ }
     ensures { λ r. ⌜ r ≡ anyHigh (slice from to (now (text .entry))) ⌝ }
 {
+    let mut any = false;
     let mut i = from;
     while i < to {
-        if text[i] >= HIGH {
-            return true;
-        }
+        any = either(any, text[i] >= HIGH);
         i += 1;
     }
-    false
+    any
 }

@@ -43,7 +43,7 @@ module _ (t : Text) (short : length t ≤ textLimit) where
     outcome = readOutcome t (length names) (length years) (length counts) (length widths)
 
     -- the read call's outcome is the text's
-    reads-whole : outcome ≡ readText t
+    pub reads-whole : outcome ≡ readText t
     unfolding readOutcome
     reads-whole = go (readText t) refl
       where

@@ -18,7 +18,7 @@ use Rattle.spec_tucson.specs.CleanSeries.{closedLines, strictText}
 use Rattle.spec_tucson.specs.CleanNotes.{Before, notesOf}
 use Rattle.spec_tucson.specs.CleanCall.{atStart}
 use Rattle.tucson_lines.specs.Machine.{LineEnd}
-use Rattle.tucson_lines.proofs.Lines.{end-within}
+use Rattle.tucson_lines.proofs.Lines.{end-within, lines-step}
 use Rattle.tucson_walk.specs.declared.Walked.{Walked}
 use Rattle.tucson_walk.specs.declared.Turn.{Turn}
 use Rattle.tucson_walk.specs.Tracking.{Begins}
@@ -43,6 +43,7 @@ pub record SoFar (unit h : ℕ) (early : Bool) (text : Text) (at : ℕ) (out₀ 
   pub within : from ≤ length text + 1
   pub few : number ≤ from + 1
   pub fewer : number ≤ length text + 1
+  pub counted : length (linesOf text) + 1 ≡ number + length (linesOf (drop from text))
   pub bytes-near : t .walked .bytes ≤ 79 * number
   pub lines-near : t .walked .lines ≤ number
   pub cells-near : t .walked .cells ≤ at + 22 * number
@@ -69,6 +70,7 @@ so-far-start unit h early text at out lines notes = record {
   within = omega arith;
   few = omega arith;
   fewer = omega arith;
+  counted = omega arith;
   bytes-near = omega arith;
   lines-near = omega arith;
   cells-near = omega arith;
@@ -130,6 +132,7 @@ module _ {unit h : ℕ} {early : Bool} {text : Text} {at : ℕ} {out₀ out : Te
     within = omega (arith, end-within text from end l);
     few = omega (arith, end-within text from end l, s .few);
     fewer = omega (arith, s .few, more);
+    counted = omega (arith, s .counted, ap length (lines-step text from end l more));
     bytes-near = omega (arith, s .bytes-near, x .near .bytes-near);
     lines-near = omega (arith, s .lines-near, x .near .lines-near);
     cells-near = omega (arith, s .cells-near, x .near .cells-near);
@@ -151,13 +154,17 @@ module _ {unit h : ℕ} {early : Bool} {text : Text} {at : ℕ} {out₀ out : Te
     unfolding keptLines linesOf
     none-left = answer-same (g .others) [] (sym (g .walks .kept) ∙ ap (λ (u : Text). keptLines h number (g .before .kept) (linesOf u)) (drop-of-length-le text over))
 
+    lines-are : number ≡ length (linesOf text) + 1
+    unfolding linesOf
+    lines-are = sym (s .counted ∙ ap (λ (u : Text). number + length (linesOf u)) (drop-of-length-le text over) ∙ omega arith)
+
     pub walked-all : WalkedAll unit h early text at all out₀ out lines₀ lines notes₀ notes (t .walked)
     unfolding strictText closedLines notesOf linesOf
     walked-all = record {
       bytes-put = puts-as (sym (g .bytes-are ∙ ap (λ (l : List Kept). g .bytes ++ strictText (closedLines unit l)) none-left ∙ append-nil (g .bytes)))
-          (puts-within (omega (arith, s .fewer)) (g .bytes-put));
+          (puts-within (omega (arith, lines-are)) (g .bytes-put));
       numbers-put = puts-as (sym (g .numbers-are ∙ ap (λ (l : List Kept). g .numbers ++ numbersOf (closedLines unit l)) none-left ∙ append-nil (g .numbers)))
-          (puts-within (omega (arith, s .fewer)) (g .numbers-put));
+          (puts-within (omega (arith, lines-are)) (g .numbers-put));
       cells-put = puts-as (sym (g .cells-are ∙ ap (λ (u : Text). g .cells ++ notesOf unit h early number (g .before) (linesOf u) (g .others)) (drop-of-length-le text over)
-          ∙ append-nil (g .cells))) (puts-within (omega (arith, s .fewer)) (g .cells-put));
+          ∙ append-nil (g .cells))) (puts-within (omega (arith, lines-are)) (g .cells-put));
     }

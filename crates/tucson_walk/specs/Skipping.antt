@@ -28,3 +28,8 @@ pub record Passed (text : Text) (from to : ℕ) : Type 0 where
 pub record Skipped (text : Text) (from to : ℕ) : Type 0 where
   pub passed : Passed text from to
   pub unblank : (end : ℕ) → LineEnd text to end → to < length text → isBlankLine (slice to (end + 1) text) ≡ false
+
+-- The line behind them, and where it ends.
+pub record SkipTold (text : Text) (from at end : ℕ) : Type 0 where
+  pub skipped : Skipped text from at
+  pub ends : at < length text → LineEnd text at end

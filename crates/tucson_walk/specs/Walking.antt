@@ -184,12 +184,12 @@ pub record WalkAsks (text : Text) (at : ℕ) : Type 0 where
   pub few : length text < 2 ^ 32
   pub near : at < 2 ^ 32
 
--- All that is put.
+-- All that is put, and that it is no more than so many lines take.
 pub record WalkedAll (unit h : ℕ) (early : Bool) (text : Text) (at : ℕ) (ks : List Kept)
     (out outAfter : Text) (lines linesAfter notes notesAfter : List ℕ) (r : Walked) : Type 0 where
-  pub bytes-put : Puts (79 * (length text + 1)) 0 (strictText (closedLines unit ks)) out outAfter (r .bytes)
-  pub numbers-put : Puts (length text + 1) 0 (numbersOf (closedLines unit ks)) lines linesAfter (r .lines)
-  pub cells-put : Puts (22 * (length text + 1)) at (notesOf unit h early 1 atStart (linesOf text) ks) notes notesAfter (r .cells)
+  pub bytes-put : Puts (79 * (length (linesOf text) + 1)) 0 (strictText (closedLines unit ks)) out outAfter (r .bytes)
+  pub numbers-put : Puts (length (linesOf text) + 1) 0 (numbersOf (closedLines unit ks)) lines linesAfter (r .lines)
+  pub cells-put : Puts (22 * (length (linesOf text) + 1)) at (notesOf unit h early 1 atStart (linesOf text) ks) notes notesAfter (r .cells)
 
 -- What is told of the walk: how far the notes go at most, and what is put where all lines are strict lines.
 pub record WalkTold (unit h : ℕ) (early : Bool) (text : Text) (at : ℕ) (out outAfter : Text) (lines linesAfter notes notesAfter : List ℕ) (r : Walked) : Type 0 where

@@ -10,7 +10,7 @@ ghost use Rattle.spec_tucson.specs.StrictLine.{isStrict};
 ghost use Rattle.spec_tucson.specs.KeptLines.{sameText};
 ghost use Rattle.spec_tucson.specs.CleanNotes.{atLine};
 ghost use Rattle.tucson_lines.specs.Machine.{LineEnd};
-ghost use Rattle.tucson_walk.specs.Skipping.{Skipped};
+ghost use Rattle.tucson_walk.specs.Skipping.{SkipTold};
 ghost use Rattle.tucson_walk.specs.Following.{FollowAsks, Follows, LastAhead, AheadAsks, AheadTold};
 ghost use Rattle.tucson_walk.specs.Walking.{EnterTold, LeaveTold, reclosing, marksOf, otherNotes, OtherAsks, KeptAsks, PutsKept, TakeAsks, TakeTold, TurnAsks, TurnTold, WalkAsks, WalkTold};
 use tucson_notes::Ahead;
@@ -23,6 +23,12 @@ pub struct Following {
     pub found: bool,
     pub past: usize,
     pub size: usize,
+}
+
+// A line that is not blank: where it begins and where it ends; or an index past the text.
+pub struct Unblank {
+    pub at: usize,
+    pub end: usize,
 }
 
 // What is known of the series of a line: what stands ahead of it, 0 lines where the next line begins a series; whether the closing of the
@@ -50,20 +56,20 @@ const NAME: usize = 8;
 
 const UNKNOWN_UNIT: i32 = -999;
 
-// The index of the first line from this one on that is not blank, or an index past the text.
-fn skip_blank(text: &[u8], from: usize) -> usize
+// The first line from this index on that is not blank, or an index past the text.
+fn skip_blank(text: &[u8], from: usize) -> Unblank
     requires { ⌜ from ≤ length (now text) + 1 ⌝ }
-    ensures { λ r. ⌜ Skipped (now (text .entry)) from r ⌝ }
+    ensures { λ r. ⌜ SkipTold (now (text .entry)) from (r .at) (r .end) ⌝ }
 {
     let mut at = from;
     while at < text.len() {
         let end = base_text::fields::find(text, at, text.len(), b'\n');
         if !tucson_shown::is_blank_line(text, at, end) {
-            return at;
+            return Unblank { at: at, end: end };
         }
         at = end + 1;
     }
-    at
+    Unblank { at: at, end: at }
 }
 
 // Whether two lines have the same name.
@@ -79,7 +85,9 @@ fn follow(text: &[u8], past: usize, line: &[u8], next: &mut [u8; 96]) -> Followi
     requires { ⌜ FollowAsks (now text) past (now line) ⌝ }
     ensures { λ r. ⌜ Follows (now (text .entry)) past (now (line .entry)) (now (next .exit)) r ⌝ }
 {
-    let at = skip_blank(text, past);
+    let unblank = skip_blank(text, past);
+    let at = unblank.at;
+    let end = unblank.end;
     let none = Following {
         found: false,
         past: at,
@@ -88,7 +96,6 @@ fn follow(text: &[u8], past: usize, line: &[u8], next: &mut [u8; 96]) -> Followi
     if at >= text.len() {
         return none;
     }
-    let end = base_text::fields::find(text, at, text.len(), b'\n');
     let mut shown = [0; 96];
     let strict = tucson_shown::strict_line(text, at, end, &mut shown, next);
     match strict {
@@ -110,12 +117,12 @@ fn last_ahead(line: &[u8], count: usize, unit: u32) -> Ahead
     requires { ⌜ isStrict (now line) ≡ true ⌝ }
     ensures { λ r. ⌜ LastAhead unit (now (line .entry)) count r ⌝ }
 {
-    let fields = tucson_notes::summed(line, line.len());
-    let closing = tucson_judge::closing_after(unit, fields.last);
+    let ending = tucson_notes::last_field(line, line.len());
+    let closing = tucson_judge::closing_after(unit, ending.last);
     Ahead {
         count: count,
         closing: closing,
-        fields: fields.count,
+        fields: ending.count,
     }
 }
 

@@ -8,6 +8,8 @@ ghost use Rattle.spec_spline.specs.Reading.{earlywood, latewood};
 ghost use Rattle.spec_spline.specs.CurveCall.{curveEnd};
 ghost use Rattle.spec_tucson.specs.ReadCall.{readEnd};
 ghost use Rattle.spec_tucson.specs.WriteCall.{writeEnd};
+ghost use Rattle.spec_tucson.specs.CleanCall.{cleanEnd};
+ghost use Rattle.tucson_clean.specs.Machine.{counts};
 ghost use Rattle.spec_calls.specs.Reach.{reachEnd};
 ghost use Rattle.curve_reach.specs.Machine.{reply};
 ghost use Rattle.spec_calls.specs.Pieces as pieces;
@@ -15,11 +17,22 @@ ghost use Rattle.curve_pieces.specs.Machine.{Shows, Replies};
 ghost use Rattle.walzhik_reply.specs.Machine.{replied};
 ghost use Rattle.walzhik.specs.Machine.{reached};
 ghost use Rattle.walzhik.specs.Piece.{Sent};
+ghost use Rattle.walzhik.specs.File.{cleaned};
 
 // The position with code 0 and place 0; or position 0 with a refusal's code and place.
 #[repr(C)]
 pub struct Reach {
     pub position: i32,
+    pub number: u32,
+    pub place: u32,
+}
+
+// How many bytes, lines and notes there are, with code 0 and place 0; or three zeros with a refusal's code and place.
+#[repr(C)]
+pub struct Cleaned {
+    pub bytes: u64,
+    pub lines: u64,
+    pub notes: u64,
     pub number: u32,
     pub place: u32,
 }
@@ -142,6 +155,52 @@ pub extern "C" fn walzhik_tucson_write(
 {
     let answer = tucson_write::write(names, years, counts, widths, text);
     walzhik_reply::reply_of(answer)
+}
+
+fn cleaned_struct(bytes: u64, lines: u64, notes: u64, code: u32, at: u32) -> Cleaned
+    ensures { λ r. ⌜ (r .bytes ≡ bytes) × ((r .lines ≡ lines) × ((r .notes ≡ notes) × ((r .number ≡ code) × (r .place ≡ at)))) ⌝ }
+{
+    Cleaned {
+        bytes: bytes,
+        lines: lines,
+        notes: notes,
+        number: code,
+        place: at,
+    }
+}
+
+// The struct of what the call for laboratories' files answers.
+fn cleaned_of(answer: tucson_clean::Cleaned) -> Cleaned
+    ensures { λ r. ⌜ r ≡ cleaned (counts answer) ⌝ }
+{
+    match answer {
+        tucson_clean::Cleaned::Counts(bytes, lines, notes) => cleaned_struct(
+            bytes as u64,
+            lines as u64,
+            notes as u64,
+            0,
+            0,
+        ),
+        tucson_clean::Cleaned::Refused(code, place) => cleaned_struct(0, 0, 0, code as u32, place),
+    }
+}
+
+// tucson_clean::clean
+#[no_mangle]
+pub extern "C" fn walzhik_tucson_clean(
+    text: &[u8],
+    header: u32,
+    unit: u32,
+    out: &mut [u8],
+    lines: &mut [usize],
+    notes: &mut [usize],
+) -> Cleaned
+    ensures { λ r. ⌜ (let e = cleanEnd (now (text .entry)) header unit (now (out .entry)) (now (lines .entry)) (now (notes .entry)) in
+        (r ≡ cleaned (e .answers)) × ((now (out .exit) ≡ e .text)
+        × ((now (lines .exit) ≡ e .lines) × (now (notes .exit) ≡ e .notes)))) ⌝ }
+{
+    let answer = tucson_clean::clean(text, header, unit, out, lines, notes);
+    cleaned_of(answer)
 }
 
 fn reach_struct(position: i32, code: u32, at: u32) -> Reach

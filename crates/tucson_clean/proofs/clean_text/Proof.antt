@@ -19,13 +19,13 @@ use Rattle.tucson_clean.proofs.Room.{ends-refused, ends-same}
 use Rattle.tucson_clean.proofs.clean_text.Statement.{statement}
 use Rattle.tucson_clean.proofs.clean_text.Tie as tie
 
-module _ (c : tie.After-find) where
+module _ (c : tie.After-stop) where
   abbrev s : tie.Start
   s = c .before .before .before .before .before .before
 
-  stands : BodyAt (s .args .text .now) (c .before .start .result) (c .find .result)
-  stands = body-at (s .args .text .now) (c .before .start .result) (c .find .result) (c .before .start .ensures)
-      (c .find .ensures ∙ ap (λ (u : Text). c .before .start .result + indexOf substitute u) (slice-all (c .before .start .result) (s .args .text .now))) (s .pre)
+  stands : BodyAt (s .args .text .now) (c .before .start .result) (c .stop .result)
+  stands = body-at (s .args .text .now) (c .before .start .result) (c .stop .result) (c .before .start .ensures)
+      (c .stop .ensures ∙ ap (λ (u : Text). c .before .start .result + indexOf substitute u) (slice-all (c .before .start .result) (s .args .text .now))) (s .pre)
 
   abbrev room : Outcome ℕ → Outcome Cleaned
   room o = (o then cleanedBelow (s .args .text .now) (s .args .unit))
@@ -35,7 +35,7 @@ part-header-end : tie.Need-part-header-end
 part-header-end c = stands c .within
 
 module _ (c : tie.After-header) where
-  abbrev f : tie.After-find
+  abbrev f : tie.After-stop
   f = c .before .before
 
   says : {r : HeaderFound} → c .header .result ≡ r → headerOf (s f .args .header) (linesOf (textOf (s f .args .text .now))) ≡ headerAnswer r

@@ -8,22 +8,17 @@ returns : tie.Need-returns
 returns c =
     let z = c .before .before in
     let b = z .before .before .before in
-    let n = b .before in
-    let w = n .before .before .before .before .before .before .before .before in
+    let w = b .before .before .before .before .before .before .before in
     let p = w .before .before .before .before .before .before .before in
     let m = p .before .before in
     let s = m .before .before .before .before .before in
-    all-put (s .pre) (m .is-marked .ensures) (p .put-note .ensures) (w .walk .ensures) (n .count-lines .ensures) (b .both .ensures) (z .put-note2 .ensures)
+    all-put (s .pre .body) (m .is-marked .ensures) (p .put-note .ensures) (w .walk .ensures) (s .pre .counted) (b .both .ensures) (z .put-note2 .ensures)
 
 pub put-all-spec : {M : Type 1} → statement M
 put-all-spec =
     tie.close
     (tie.spec
     (λ c κs. search needs)
-    (λ c κs. search needs)
-    (λ c. search needs)
-    (λ c. search needs)
-    (λ c. search needs)
     (λ c κs. search needs)
     (λ c. search needs)
     (λ c. search needs)

@@ -1,39 +1,51 @@
--- A byte of ASCII leaves the answer to the bytes behind it.
+-- Each turn joins the next byte to those before it.
+use borrow.Author.Needs.{needs}
+use mathlib.Core.Bool.{Bool, _||_}
 use mathlib.Core.Path.{_≡_, refl, sym, _∙_, ap}
-use Prim.Native.Nat.{ℕ, _-_, _≤_}
+use Prim.Native.Nat.{ℕ, _+_, _-_, _≤_}
 use native.Mathlib.Omega.{arith}
 use lib.Seq.{slice}
 use Rattle.spec_tucson.specs.StrictLine.{anyHigh}
-use Rattle.tucson_strict.proofs.Strict.{high-here, high-next, high-end}
+use Rattle.tucson_strict.proofs.Strict.{high-next, high-end}
 use Rattle.tucson_strict.proofs.any_high.Statement.{statement}
 use Rattle.tucson_strict.proofs.any_high.Tie as tie
 
 abbrev Inv-loop : tie.InvT-loop
-Inv-loop text from to i₀ i = (i ≤ to) × (anyHigh (slice from to text) ≡ anyHigh (slice i to text))
+Inv-loop text from to any₀ i₀ any i = (i ≤ to) × (anyHigh (slice from to text) ≡ (any || anyHigh (slice i to text)))
 
 abbrev μ-loop : tie.MeasureT-loop
-μ-loop text from to i₀ i = to - i
+μ-loop text from to any₀ i₀ any i = to - i
 
 loop-holds : tie.Need-loop-holds Inv-loop μ-loop
-loop-holds c = (c .pre .ordered, refl)
-
-returns : tie.Need-returns Inv-loop μ-loop
-returns c =
-    let s = c .before .before .before .before in
-    let l = c .before .before .before .loop in
-    sym (l .inv .1 ∙ high-here (s .args .text .now) (l .i) (s .args .to) (omega arith) (s .pre .within) (c .if1 .taken))
+loop-holds c = (c .before .pre .ordered, refl)
 
 loop-again : tie.Need-loop-again Inv-loop μ-loop
 loop-again c =
-    let s = c .before .before .before .before in
     let l = c .before .before .before .loop in
-    (omega arith, l .inv .1 ∙ high-next (s .args .text .now) (l .i) (s .args .to) (omega arith) (s .pre .within) (c .if1 .left))
+    let s = c .before .before .before .before .before in
+    let text = s .args .text .now in (
+      omega arith,
+      l .inv .1 ∙ high-next text (l .i) (s .args .to) (omega arith) (s .pre .within) (l .any)
+          ∙ ap (λ (b : Bool). b || anyHigh (slice (l .i + 1) (s .args .to) text)) (sym (c .either .ensures)),
+    )
 
-returns-2 : tie.Need-returns-2 Inv-loop μ-loop
-returns-2 c =
-    let s = c .before .before in
-    let e : c .before .loop .i ≡ s .args .to = omega arith in
-    sym (c .before .loop .inv .1 ∙ ap (λ (n : ℕ). anyHigh (slice n (s .args .to) (s .args .text .now))) e ∙ high-end (s .args .text .now) (s .args .to))
+returns : tie.Need-returns Inv-loop μ-loop
+returns c =
+    let l = c .before .loop in
+    let s = c .before .before .before in
+    let e : l .i ≡ s .args .to = omega arith in
+    sym (l .inv .1 ∙ ap (λ (n : ℕ). l .any || anyHigh (slice n (s .args .to) (s .args .text .now))) e ∙ high-end (l .any) (s .args .text .now) (s .args .to))
 
 pub any-high-spec : {M : Type 1} → statement M
-any-high-spec = tie.close (tie.spec Inv-loop μ-loop loop-holds (λ c. omega arith) returns (λ c. omega arith) (λ c. omega arith) loop-again returns-2)
+any-high-spec =
+    tie.close
+    (tie.spec
+    Inv-loop
+    μ-loop
+    loop-holds
+    (λ c. omega arith)
+    (λ c κs. search needs)
+    (λ c. omega arith)
+    (λ c. omega arith)
+    loop-again
+    returns)

@@ -19,34 +19,37 @@ use Rattle.tucson_walk.proofs.follow.Tie as tie
 
 returns : tie.Need-returns
 returns c =
-    let s = c .before .skip-blank .ensures in
+    let s = c .before .skip-blank .ensures .skipped in
     nothing-follows (s .passed .within) (λ h i k ks b. none-behind s b (c .if1 .taken))
 
 -- a line that is not blank
 module _ (c : tie.After-strict-line) where
-  abbrev f : tie.After-find
-  f = c .before .before .before
+  abbrev e : tie.Else1
+  e = c .before .before .before
 
   abbrev b : tie.After-skip-blank
-  b = f .before .before
+  b = e .before
 
   abbrev text : Text
   text = b .before .before .before .args .text .now
 
   abbrev at : ℕ
-  at = b .skip-blank .result
+  at = b .skip-blank .result .at
+
+  abbrev end : ℕ
+  end = b .skip-blank .result .end
 
   skipped : Skipped text (b .before .before .before .args .past) at
-  skipped = b .skip-blank .ensures
+  skipped = b .skip-blank .ensures .skipped
 
   more : at < length text
-  more = f .before .if1 .left
+  more = e .if1 .left
 
-  line-end : LineEnd text at (f .find .result)
-  line-end = record { within = let m = more in omega arith; is = f .find .ensures }
+  line-end : LineEnd text at end
+  line-end = b .skip-blank .ensures .ends more
 
-  sizes : (at ≤ f .find .result) × (f .find .result ≤ length text)
-  sizes = end-within text at (f .find .result) line-end
+  sizes : (at ≤ end) × (end ≤ length text)
+  sizes = end-within text at (end) line-end
 
   abbrev bytes : Text
   bytes = c .strict-line .last .1 .1 .1 .1 .0
@@ -54,11 +57,8 @@ module _ (c : tie.After-strict-line) where
   abbrev shown : Text
   shown = c .strict-line .last .1 .1 .1 .0
 
-  told : {r : Strict} → c .strict-line .result ≡ r → StrictTold (slice at (f .find .result + 1) text) r shown bytes
-  told e = subst (λ (r : Strict). StrictTold (slice at (f .find .result + 1) text) r shown bytes) e (c .strict-line .ensures)
-
-add-t21 : tie.Need-add-t21
-add-t21 c = let l = c .before .before .before .before .before .before in omega (arith, sizes l, b l .before .before .before .good)
+  told : {r : Strict} → c .strict-line .result ≡ r → StrictTold (slice at (end + 1) text) r shown bytes
+  told e = subst (λ (r : Strict). StrictTold (slice at (end + 1) text) r shown bytes) e (c .strict-line .ensures)
 
 returns-2 : tie.Need-returns-2
 returns-2 c =
@@ -87,13 +87,12 @@ follow-spec =
     (tie.spec
     (λ c κs. search needs)
     returns
-    (λ c κs. search needs)
-    (λ c κs. search needs)
+    (λ c κs. let e = c .before .before in e .before .skip-blank .ensures .ends (e .if1 .left))
     (λ c. search needs)
     (λ c. search needs)
     (λ c. search needs)
     (λ c κs. search needs)
-    add-t21
+    (λ c. let l = c .before .before .before .before .before .before in omega (arith, sizes l, b l .before .before .before .good))
     returns-2
     returns-3
     returns-4)

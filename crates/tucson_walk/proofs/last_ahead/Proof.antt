@@ -16,8 +16,8 @@ use Rattle.tucson_walk.proofs.last_ahead.Tie as tie
 
 returns : tie.Need-returns
 returns c =
-    let s = c .before .before .summed in
-    let f : SFits w32 (s .result .last) = record { sfits = c .before .struct-told .given .1 .1 .0 .1 } in
+    let s = c .before .before .last-field in
+    let f : SFits w32 (s .result .last) = record { sfits = c .before .struct-told .given .1 .0 .1 } in
     let g : SFits w32 (c .closing-after .result) = record { sfits = c .closing-after .ok } in
     let u = c .before .before .before .before .args .unit in
     let w = c .before .before .before .before .args .line .now in
@@ -29,10 +29,10 @@ returns c =
       fields-are = s .ensures .count-is ∙ ap (λ (t : Text). length (fieldsOf t)) whole;
     }
 
-summed-requires : tie.Need-summed-requires
-summed-requires c κs =
+last-field-requires : tie.Need-last-field-requires
+last-field-requires c κs =
     let s = c .before in
     record { within = omega arith; strict = ap isStrict (take-all (length (s .args .line .now)) (s .args .line .now) (omega arith)) ∙ s .pre }
 
 pub last-ahead-spec : {M : Type 1} → statement M
-last-ahead-spec = tie.close (tie.spec summed-requires (λ c κs. search needs) returns)
+last-ahead-spec = tie.close (tie.spec last-field-requires (λ c κs. search needs) returns)

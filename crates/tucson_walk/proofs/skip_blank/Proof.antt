@@ -45,7 +45,7 @@ returns : tie.Need-returns Inv-loop μ-loop
 returns c =
     let b = c .before in
     let f = b .before in
-    skipped-at (l f .loop .inv) (line-end f) (sym (b .is-blank-line .ensures) ∙ not-true _ (c .if1 .taken))
+    record { skipped = skipped-at (l f .loop .inv) (line-end f) (sym (b .is-blank-line .ensures) ∙ not-true _ (c .if1 .taken)); ends = λ more. line-end f }
 
 add-at : tie.Need-add-at Inv-loop μ-loop
 add-at c = let f = c .before .before in omega (arith, sizes f, s f .good)
@@ -60,7 +60,7 @@ loop-again c =
     passed-line (l f .loop .inv) (line-end f) (more f) (sym (b .is-blank-line .ensures) ∙ not-false _ (c .if1 .left))
 
 returns-2 : tie.Need-returns-2 Inv-loop μ-loop
-returns-2 c = skipped-all (c .before .loop .inv) (c .loop-test .left)
+returns-2 c = record { skipped = skipped-all (c .before .loop .inv) (c .loop-test .left); ends = λ more. absurd (omega (arith, more, c .loop-test .left)) }
 
 pub skip-blank-spec : {M : Type 1} → statement M
 skip-blank-spec =

@@ -1,0 +1,3 @@
+-- The proof of the statement in specs/.
+pub mod Between
+pub mod Instances

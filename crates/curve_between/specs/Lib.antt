@@ -1,0 +1,2 @@
+-- Pieces between the positions: the statement; the proof is in proofs/.
+pub mod Between

@@ -1,0 +1,2 @@
+-- What the contracts of rings_pieces cite beside the definitions of crate spec_rings.
+pub mod Piece

@@ -1,0 +1,3 @@
+-- Laws of what is held.
+pub mod Held
+pub mod Judging

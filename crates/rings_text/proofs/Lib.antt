@@ -1,0 +1,4 @@
+-- Laws of the bytes of a series.
+pub mod Fronts
+pub mod Bounds
+pub mod Indexed

@@ -1,0 +1,2 @@
+-- The definitions in specs/, computed.
+pub mod Cases

@@ -1,0 +1,1 @@
+// The program `rings` as definitions, in specs/. This crate has no code.

@@ -1,0 +1,1 @@
+// The table of indices as definitions, in specs/. This crate has no code.

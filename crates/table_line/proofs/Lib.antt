@@ -1,0 +1,2 @@
+-- Laws of a line's numbers.
+pub mod Numbers

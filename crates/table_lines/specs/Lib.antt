@@ -1,0 +1,2 @@
+-- The lists of a series as the machine has them.
+pub mod Machine

@@ -1,0 +1,2 @@
+-- Laws of a name in the table, byte after byte.
+pub mod Name

@@ -1,0 +1,2 @@
+-- What the functions of table_name tell.
+pub mod Machine

@@ -1,0 +1,2 @@
+-- Minimal support: the statement; the proof is in proofs/.
+pub mod Minimal

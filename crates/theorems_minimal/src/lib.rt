@@ -1,0 +1,1 @@
+// Rows of minimal support, stated in specs/ and proved in proofs/. This crate has no code.

@@ -1,0 +1,2 @@
+-- What is proved of both woods in the program `rings`.
+pub mod BothWoods
