@@ -1,6 +1,6 @@
 /* Walzhik: growth curves of earlywood and latewood in segments of different degree, with exact weights.
  *
- * The static library libwalzhik.a has nine calls; ring indices are a library of their own, with walzhik_indices.h. Lists and
+ * The static library libwalzhik.a has ten calls; ring indices are a library of their own, with walzhik_indices.h. Lists and
  * buffers may have any length and any content: a call always returns, reads and writes only what it is lent, and answers or
  * refuses with a number and a place. A list or buffer of length 0 may be a null pointer, as an empty std::vector gives: the
  * functions at the end of this header lend the proved calls, which need a valid pointer, one of their own. In every
@@ -90,7 +90,13 @@ enum walzhik_number {
     WALZHIK_NOT_DRAWN = 17,
     WALZHIK_ORDINATE = 18,
     WALZHIK_NO_COEFFICIENTS = 19,
-    WALZHIK_TOO_LARGE_TO_UNDO = 20
+    WALZHIK_TOO_LARGE_TO_UNDO = 20,
+    WALZHIK_FILE_TEXT = 21,
+    WALZHIK_FILE_BYTES = 22,
+    WALZHIK_FILE_NAME = 23,
+    WALZHIK_FILE_UNIT = 24,
+    WALZHIK_FILE_CLOSING = 25,
+    WALZHIK_FILE_HEADER = 26
 };
 
 /* An answer: number 0, place 0, and the count of rows (build, coefficients), positions (curve), rings (the index calls), series
@@ -140,6 +146,55 @@ walzhik_reply walzhik_tucson_read(const uint8_t *text, size_t text_len, uint8_t 
 walzhik_reply walzhik_tucson_write(const uint8_t *names, size_t names_len, const int32_t *years, size_t years_len,
                                    const uint32_t *counts, size_t counts_len, const int32_t *widths, size_t widths_len,
                                    uint8_t *text, size_t text_len);
+
+/* A laboratory's file in the strict form, for walzhik_tucson_read. A line is taken as an editor shows it, and must then stand in the
+ * strict columns: nothing moves a digit to another column, nothing joins or cuts numbers, nothing is put in, and every line that is
+ * changed or left out is told by a note. Lines count from 1, by byte 10.
+ *   text     the file, as it is
+ *   header   how many lines at the top are a header, 0 to 99; WALZHIK_NO_HEADER: one of the data bank's form is found where it stands
+ *   unit     100 or 1000, for hundredths or thousandths of a millimetre, where a series closes with -999; WALZHIK_NO_UNIT: none is said
+ *   out      the strict text
+ *   lines    for each line of the strict text the number of that line in the file
+ *   notes    two cells for each note, its number and its line, by rising line, then number, none twice
+ * An answer: number 0, place 0, and how many bytes, lines and notes there are (2 notes cells). A refusal: three zeros. Cells behind
+ * an answer keep what they held; refusals write nothing. For a file of n bytes 2 n bytes of out, n / 10 cells of lines and
+ * 2 n + 4 cells of notes are always enough; with 79 bytes, one cell and 22 cells for each byte 10 of the file and for two more, and 4
+ * cells of notes besides, the call need not measure first what it takes, and is quicker.
+ * Notes, of what was taken off, left out or put for something else:
+ *    1  the mark EF BB BF at the start of the file        7  a site name behind the tenth field
+ *    2  byte 26 and what stands behind it                 8  the last line had no byte 10
+ *    3  byte 13 before byte 10                            9  a header's line
+ *    4  tabs, as blanks up to the next multiple of 8     10  bytes over 127 in the name, as ?
+ *    5  trailing blanks                                  11  -999, as the closing of the unit that is said
+ *    6  a blank line
+ * and remarks, which change nothing:
+ *   12  a series' first or last width is 0, or the series has no width
+ *   13  a line of a series in thousandths whose last width is 999
+ *   14  the last line of a series in another unit than the first series
+ * Numbers of a refusal, tested in this order, each for all lines from the top, with their places:
+ *   26  header is over 100 (0);  24  unit is none of 0, 100 and 1000 (0)
+ *   21  more than 4294967295 bytes (WALZHIK_LARGEST_PLACE); line: a zero byte, byte 13 without byte 10, EF BB BF inside, anything but
+ *       bytes 26, 32, 9, 10 and 13 behind byte 26; UTF-16 (1)
+ *   26  fewer lines than header says (0); line: one of the header's can be read as a strict line
+ *   11  line: no strict line;  22  line: bytes over 127 which leave open what its columns are, or whose name is that of the line before
+ *   23  line: the year runs into the name
+ *   24  a series' last line: -999 and no unit is said, or another unit's closing than is said;  25  line: 999 before the closing 999
+ *   11, 12, 13  line: as walzhik_tucson_read has them
+ *    1  out (0), lines (1) or notes (2) is too short
+ * The call needs at most 4096 bytes of stack. */
+#define WALZHIK_NO_HEADER 100
+#define WALZHIK_NO_UNIT 0
+
+typedef struct {
+    uint64_t bytes;
+    uint64_t lines;
+    uint64_t notes;
+    uint32_t number;
+    uint32_t place;
+} walzhik_cleaned;
+
+walzhik_cleaned walzhik_tucson_clean(const uint8_t *text, size_t text_len, uint32_t header, uint32_t unit, uint8_t *out,
+                                     size_t out_len, size_t *lines, size_t lines_len, size_t *notes, size_t notes_len);
 
 /* When the curve reaches a width: the least position of the span, in 256ths of a ring, whose value for one wood part is 256 width
  * or more, by the values that walzhik_curve gives. All positions count, ends included, and none before the answer reaches the
@@ -270,6 +325,15 @@ static inline walzhik_reply walzhik_tucson_write_lent(const uint8_t *names, size
                                 WALZHIK_LEND_(uint8_t, text));
 }
 #define walzhik_tucson_write walzhik_tucson_write_lent
+
+static inline walzhik_cleaned walzhik_tucson_clean_lent(const uint8_t *text, size_t text_len, uint32_t header, uint32_t unit,
+                                                        uint8_t *out, size_t out_len, size_t *lines, size_t lines_len,
+                                                        size_t *notes, size_t notes_len)
+{
+    return walzhik_tucson_clean(WALZHIK_LEND_(const uint8_t, text), header, unit, WALZHIK_LEND_(uint8_t, out),
+                                WALZHIK_LEND_(size_t, lines), WALZHIK_LEND_(size_t, notes));
+}
+#define walzhik_tucson_clean walzhik_tucson_clean_lent
 
 static inline walzhik_reach walzhik_earlywood_reach_lent(const int32_t *breaks, size_t breaks_len,
                                                          const int32_t *degrees, size_t degrees_len,

@@ -34,6 +34,22 @@ pub mod raw {
         pub place: u32,
     }
 
+    /// What the call for laboratories' files gives; after a refusal all but number and place is 0.
+    #[repr(C)]
+    #[derive(Clone, Copy, Debug, PartialEq)]
+    pub struct Cleaned {
+        /// Of the strict text.
+        pub bytes: u64,
+        /// Of the strict text.
+        pub lines: u64,
+        /// Two cells each.
+        pub notes: u64,
+        /// 0 for an answer, else the reason.
+        pub number: u32,
+        /// What is at fault; 0 for an answer.
+        pub place: u32,
+    }
+
     /// What a piece call gives; after a refusal all but number and place is 0.
     #[repr(C)]
     #[derive(Clone, Copy, Debug, PartialEq)]
@@ -79,6 +95,11 @@ pub mod raw {
             names: *const u8, names_len: usize, years: *const i32, years_len: usize, counts: *const u32, counts_len: usize,
             widths: *const i32, widths_len: usize, text: *mut u8, text_len: usize,
         ) -> Reply;
+        /// A laboratory's file in the strict form.
+        pub fn walzhik_tucson_clean(
+            text: *const u8, text_len: usize, header: u32, unit: u32, out: *mut u8, out_len: usize, lines: *mut usize,
+            lines_len: usize, notes: *mut usize, notes_len: usize,
+        ) -> Cleaned;
         /// The first position where the earlywood's curve reaches a width.
         pub fn walzhik_earlywood_reach(
             breaks: *const i32, breaks_len: usize, degrees: *const i32, degrees_len: usize,
@@ -130,6 +151,18 @@ pub mod raw {
             den: *mut i64, den_len: usize, values: *mut i32, values_len: usize,
             indices: *mut i64, indices_len: usize,
         ) -> Reply;
+        /// The lines of the table of indices, with the earlywood's curve.
+        pub fn walzhik_earlywood_ring_lines(
+            name: *const u8, name_len: usize, first: i32, widths: *const i32, widths_len: usize,
+            values: *const i32, values_len: usize, indices: *const i64, indices_len: usize,
+            out: *mut u8, out_len: usize,
+        ) -> Reply;
+        /// The lines of the table of indices, with the latewood's curve.
+        pub fn walzhik_latewood_ring_lines(
+            name: *const u8, name_len: usize, first: i32, widths: *const i32, widths_len: usize,
+            values: *const i32, values_len: usize, indices: *const i64, indices_len: usize,
+            out: *mut u8, out_len: usize,
+        ) -> Reply;
     }
 }
 
@@ -178,6 +211,18 @@ pub enum Reason {
     NoCoefficients,
     /// A fraction of the undoing that is too large.
     TooLargeToUndo,
+    /// A file that is no text, or one of too many bytes.
+    FileText,
+    /// A line whose bytes over 127 leave open what it says.
+    FileBytes,
+    /// A line whose year runs into its name.
+    FileName,
+    /// A series that closes in no unit or in another one than is said.
+    FileUnit,
+    /// 999 before the closing 999.
+    FileClosing,
+    /// A header that the file does not have.
+    FileHeader,
     /// A number that this file does not know.
     Unknown,
 }
@@ -218,6 +263,12 @@ impl Refusal {
             (18, _) => Reason::Ordinate,
             (19, _) => Reason::NoCoefficients,
             (20, _) => Reason::TooLargeToUndo,
+            (21, _) => Reason::FileText,
+            (22, _) => Reason::FileBytes,
+            (23, _) => Reason::FileName,
+            (24, _) => Reason::FileUnit,
+            (25, _) => Reason::FileClosing,
+            (26, _) => Reason::FileHeader,
             _ => Reason::Unknown,
         }
     }
@@ -380,6 +431,29 @@ pub fn indices(
     Ok(indices)
 }
 
+/// The most bytes that a line of the table of indices has.
+const LINE_BYTES: usize = 87;
+
+/// The lines of the table of indices, NAME,YEAR,WIDTH,CURVE,INDEX each: of rings from the first one's year on, with the curve of a wood.
+pub fn ring_lines(
+    part: WoodPart, name: &[u8], first: i32, widths: &[i32], values: &[Pair], indices: &[i64],
+) -> Result<Vec<u8>, Refusal> {
+    let call = match part {
+        WoodPart::Earlywood => raw::walzhik_earlywood_ring_lines,
+        WoodPart::Latewood => raw::walzhik_latewood_ring_lines,
+    };
+    let values = side_by_side(values);
+    let mut out = vec![0; LINE_BYTES * widths.len()];
+    let reply = unsafe {
+        call(
+            name.as_ptr(), name.len(), first, widths.as_ptr(), widths.len(), values.as_ptr(), values.len(),
+            indices.as_ptr(), indices.len(), out.as_mut_ptr(), out.len(),
+        )
+    };
+    out.truncate(counted(reply)?);
+    Ok(out)
+}
+
 /// The least position, in 256ths of a ring, whose value is 256 times the width or more.
 pub fn reach(
     part: WoodPart, breaks: &[i32], degrees: &[i32], orders: &[i32], coefs: &[Pair], width: i32,
@@ -514,4 +588,58 @@ pub fn tucson_write(series: &[Series], most: usize) -> Result<Vec<u8>, Refusal> 
     };
     text.truncate(counted(reply)?);
     Ok(text)
+}
+
+const NO_HEADER: u32 = 100;
+const NO_UNIT: u32 = 0;
+const LEAST_LINE: usize = 10;
+const NOTE: usize = 2;
+
+/// The unit in which a laboratory measures, where its file does not say it.
+#[derive(Clone, Copy, Debug, PartialEq)]
+pub enum Unit {
+    /// 0.01 mm; the closing is 999.
+    Hundredths = 100,
+    /// 0.001 mm; the closing is -9999.
+    Thousandths = 1000,
+}
+
+/// What was changed, left out or remarked at a line of a file.
+#[derive(Clone, Copy, Debug, PartialEq)]
+pub struct Note {
+    /// 1 to 14, as include/walzhik.h lists them.
+    pub number: usize,
+    /// The line of the file, from 1.
+    pub line: usize,
+}
+
+/// A laboratory's file in the strict form.
+#[derive(Clone, Debug, PartialEq)]
+pub struct Cleaned {
+    /// The strict text, which `tucson_read` reads.
+    pub text: Vec<u8>,
+    /// For each line of the text its number in the file, from 1.
+    pub lines: Vec<usize>,
+    /// By rising line, then number, none twice.
+    pub notes: Vec<Note>,
+}
+
+/// A laboratory's file in the strict form. Its header has so many lines, 0 to 99, or is found where none is named; the unit is that of
+/// series which close with -999. The buffers take what becomes of any file of its length.
+pub fn tucson_clean(file: &[u8], header: Option<u32>, unit: Option<Unit>) -> Result<Cleaned, Refusal> {
+    let header = header.map_or(NO_HEADER, |lines| if lines == NO_HEADER { lines + 1 } else { lines });
+    let mut text = vec![0; 2 * file.len()];
+    let mut lines = vec![0; file.len() / LEAST_LINE];
+    let mut notes = vec![0; NOTE * (file.len() + 2)];
+    let cleaned = unsafe {
+        raw::walzhik_tucson_clean(
+            file.as_ptr(), file.len(), header, unit.map_or(NO_UNIT, |said| said as u32), text.as_mut_ptr(), text.len(),
+            lines.as_mut_ptr(), lines.len(), notes.as_mut_ptr(), notes.len(),
+        )
+    };
+    text.truncate(cleaned.bytes as usize);
+    lines.truncate(cleaned.lines as usize);
+    let told = notes.chunks_exact(NOTE).take(cleaned.notes as usize);
+    let notes = told.map(|note| Note { number: note[0], line: note[1] }).collect();
+    unless_refused(Cleaned { text, lines, notes }, cleaned.number, cleaned.place)
 }

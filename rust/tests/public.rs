@@ -1,7 +1,8 @@
 //! The crate as its users have it: refusals are errors, series and weights can be printed and copied, weights end where the part does.
 
 use std::error::Error;
-use walzhik::{build, curve, tucson_read, tucson_write, Fraction, Pair, Reason, Refusal, Series};
+use walzhik::{build, curve, ring_lines, tucson_clean, tucson_read, tucson_write};
+use walzhik::{Cleaned, Fraction, Note, Pair, Reason, Refusal, Series, Unit, WoodPart};
 
 /// What a caller with errors of many kinds writes.
 fn rows_of(degrees: &[i32]) -> Result<usize, Box<dyn Error>> {
@@ -56,4 +57,46 @@ fn empty_lists_are_lists() {
     assert_eq!(curve(&[0, 1], &[1], &[], &[pair, pair], &[]), Ok(vec![]));
     assert_eq!(curve(&[], &[], &[], &[], &[]).unwrap_err().reason(), Reason::ListLengths);
     assert_eq!(tucson_read(b""), Ok(vec![]));
+}
+
+#[test]
+fn a_laboratorys_file_is_read_as_it_is_shown() {
+    let file = b"\r\nFEW\t1998    12     9  \nFEW     2000     7  -999";
+    let cleaned: Cleaned = tucson_clean(file, None, Some(Unit::Thousandths)).unwrap();
+    let text = b"FEW     1998    12     9\nFEW     2000     7 -9999\n";
+    assert_eq!(cleaned.text, text);
+    assert_eq!(cleaned.lines, [2, 3]);
+    let told = [(3, 1), (6, 1), (4, 2), (5, 2), (8, 3), (11, 3)];
+    assert_eq!(cleaned.notes, told.map(|(number, line)| Note { number, line }));
+    assert_eq!(tucson_read(&cleaned.text).unwrap()[0].widths, [12, 9, 7]);
+    assert_eq!(tucson_clean(text, None, None).unwrap(), Cleaned { text: text.to_vec(), lines: vec![1, 2], notes: vec![] });
+    assert_eq!(tucson_clean(b"", None, None).unwrap(), Cleaned { text: vec![], lines: vec![], notes: vec![] });
+}
+
+#[test]
+fn what_a_file_is_refused_for() {
+    let closing = b"FEW     1998    12   999   999\n";
+    let said = b"FEW     1998    12 -9999\n";
+    let refused = |file: &[u8], header, unit| tucson_clean(file, header, unit).unwrap_err();
+    assert_eq!(refused(b"FEW\0", None, None).reason(), Reason::FileText);
+    assert_eq!(refused(b"F\xfcW     1998\t 12 -9999\n", None, None).reason(), Reason::FileBytes);
+    assert_eq!(refused(b"FEW    -1998    12 -9999\n", None, None).reason(), Reason::FileName);
+    assert_eq!(refused(said, None, Some(Unit::Hundredths)).reason(), Reason::FileUnit);
+    assert_eq!(refused(closing, None, None), Refusal { number: 25, place: 1 });
+    assert_eq!(refused(closing, None, None).reason(), Reason::FileClosing);
+    for lines in [2, 99, 100, 101, u32::MAX] {
+        assert_eq!(refused(said, Some(lines), None), Refusal { number: 26, place: 0 });
+    }
+    assert_eq!(refused(said, Some(1), None).reason(), Reason::FileHeader);
+    assert_eq!(refused(b"FEW 1998 12 -9999\n", None, None).reason(), Reason::TucsonLine);
+}
+
+#[test]
+fn lines_of_the_table_have_the_curve_of_a_wood() {
+    let values = [Pair { earlywood: 207872, latewood: -16 }, Pair { earlywood: 256, latewood: 1 }];
+    let lines = |part, name: &[u8]| ring_lines(part, name, -1, &[812, 0], &values, &[1000, -1]);
+    assert_eq!(lines(WoodPart::Earlywood, b"A,B     ").unwrap(), b"\"A,B\",-1,0.812,0.812000,1000\n\"A,B\",0,0.000,0.001000,\n");
+    assert_eq!(lines(WoodPart::Latewood, b"  OAK   ").unwrap(), b"OAK,-1,0.812,-0.000062,1000\nOAK,0,0.000,0.000004,\n");
+    assert_eq!(lines(WoodPart::Latewood, b"OAK").unwrap_err().number, 2);
+    assert_eq!(lines(WoodPart::Latewood, b"        ").unwrap_err().number, 11);
 }
