@@ -1,5 +1,5 @@
 """Puts the engine into the installed package: the shared object linked from the proved archives, the headers that
-declare it and the proved program. All else of the installation stands in pyproject.toml.
+declare it, the proved program and the record of what was proved. All else of the installation stands in pyproject.toml.
 """
 
 import shutil
@@ -14,6 +14,7 @@ HERE = Path(__file__).resolve().parent
 sys.path.insert(0, str(HERE / "src" / "walzhik"))
 
 import _build  # noqa: E402
+import _proof  # noqa: E402
 
 
 class BuildWithEngine(build_py):
@@ -30,6 +31,9 @@ class BuildWithEngine(build_py):
         _build.link(_build.archives(root), native / _build.LIBRARY)
         for path in [*_build.headers(root / "include"), *needed[len(_build.archives(root)) :]]:
             shutil.copy(path, native / path.name)
+        _build.declare(native, native)
+        held = [(_build.LIBRARY, _proof.ALL_CALLS), *((name, f"target/bin/{name}") for name in _build.PROGRAMS)]
+        (native / f"walzhik{_proof.ENDING}").write_text(_proof.record(root, "walzhik", native, held).text(), "utf-8")
 
 
 class WheelOfThisMachine(bdist_wheel):

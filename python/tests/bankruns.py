@@ -11,6 +11,7 @@ import socket
 import subprocess
 import sys
 from pathlib import Path
+from time import monotonic, sleep
 from types import TracebackType
 from typing import Any
 
@@ -57,8 +58,9 @@ main(sys.argv[3:])
 
 
 def environment() -> dict[str, str]:
-    """The environment of a process with the package."""
-    return os.environ | {"PYTHONPATH": str(ROOT / "python" / "src"), "WALZHIK_ROOT": str(ROOT)}
+    """The environment of a process with the package, which says nothing of threads."""
+    plain = {name: value for name, value in os.environ.items() if name not in THREADS}
+    return plain | {"PYTHONPATH": str(ROOT / "python" / "src"), "WALZHIK_ROOT": str(ROOT)}
 
 
 def started(*arguments: object, before: tuple[str, ...] = (), **given: Any) -> subprocess.CompletedProcess[str]:
@@ -145,12 +147,11 @@ class Cluster:
         return process
 
     def wait(self, count: int) -> None:
-        """Wait until so many workers are there."""
-        from distributed import Client
-
-        client = Client(self.address, timeout=60, set_as_default=False)  # type: ignore[no-untyped-call]
-        client.wait_for_workers(count, timeout=60)
-        client.close()
+        """Wait until so many workers have come, by what the scheduler says of it."""
+        end = monotonic() + MOST_SECONDS
+        while self.log(self.scheduler).count("Register worker") < count:
+            assert monotonic() < end and self.scheduler.poll() is None, self.log(self.scheduler)
+            sleep(0.02)
 
     def __enter__(self) -> Cluster:
         return self

@@ -18,6 +18,8 @@ from hypothesis import settings
 ROOT = Path(__file__).resolve().parents[2]
 sys.path[:0] = [str(ROOT / "tests" / "reference"), str(ROOT / "tests")]
 os.environ.setdefault("WALZHIK_ROOT", str(ROOT))
+# As the command does for its own process, before a test loads the numerical libraries: so workers can be copies of it.
+os.environ.update(dict.fromkeys(("OMP_NUM_THREADS", "OPENBLAS_NUM_THREADS", "MKL_NUM_THREADS"), "1"))
 
 # Where the tests are started in the background, interrupts are ignored, and so they would be by all that the tests start:
 # with a handler here, what is started has the default.
@@ -26,6 +28,14 @@ if signal.getsignal(signal.SIGINT) == signal.SIG_IGN:
 
 settings.register_profile("gate", derandomize=True, deadline=None, database=None)
 settings.load_profile("gate")
+
+
+@pytest.fixture(scope="session")
+def rings_program(tmp_path_factory: pytest.TempPathFactory) -> Path:
+    """The proved program `rings`, built once for all processes of this run."""
+    from building import built_once, proved_programs
+
+    return proved_programs(built_once(tmp_path_factory.getbasetemp())) / "rings"
 
 
 class Ended(NamedTuple):

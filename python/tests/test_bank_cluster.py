@@ -9,12 +9,16 @@ import re
 import shutil
 import socket
 import subprocess
-from collections.abc import Iterator
+import sys
+from collections.abc import Callable, Iterator
 from concurrent.futures import ThreadPoolExecutor
 from pathlib import Path
+from time import monotonic, sleep
 
 import pytest
-from bankruns import FILES, Cluster, bank, disturbed, left, started, undisturbed  # noqa: F401
+from bankruns import FILES, MOST_SECONDS, Cluster, environment
+from bankruns import bank, disturbed, left, python, started, undisturbed  # noqa: F401
+from conftest import ROOT, Run
 
 from walzhik.bank.address import address
 from walzhik.bank.inputs import found
@@ -94,6 +98,52 @@ def test_a_worker_without_the_package(bank: Path, undisturbed: Path, tmp_path: P
     cluster.wait(2)
     ended = started(bank, tmp_path / "out", "--scheduler", cluster.address)
     assert ended.returncode == REFUSED, ended.stderr
+    assert left(tmp_path / "out") == left(undisturbed)
+
+
+def test_a_worker_without_the_package_comes_late(
+    bank: Path, undisturbed: Path, tmp_path: Path, cluster: Cluster
+) -> None:
+    """It joins while a worker that can do tasks is at the first of them, which ends when the other has been left out."""
+    gate = tmp_path / "gate"
+    text = "import time\nfrom pathlib import Path\nfrom walzhik.bank import outputs, task\n\n"
+    text += f"def waiting(*given):\n    Path({str(tmp_path / 'begun')!r}).touch()\n"
+    text += f"    while not Path({str(gate)!r}).exists():\n        time.sleep(0.02)\n    return outputs.put(*given)\n\n"
+    text += "task.put = waiting\n"
+    cluster.worker(*preload(tmp_path, text))
+    cluster.wait(1)
+    called = [sys.executable, "-m", "walzhik", "bank", str(bank), str(tmp_path / "out"), "--scheduler", cluster.address]
+    with (tmp_path / "said").open("wb") as said:
+        running = subprocess.Popen(called, cwd=ROOT, env=environment(), stderr=said)
+        try:
+            until(lambda: (tmp_path / "begun").exists(), running)
+            cluster.worker(has_package=False)
+            until(lambda: "is left out" in (tmp_path / "said").read_text(), running)
+            gate.touch()
+            assert running.wait(MOST_SECONDS) == REFUSED
+        finally:
+            running.kill()
+            running.wait()
+    words = (tmp_path / "said").read_text()
+    assert words.count("is left out. ModuleNotFoundError: No module named 'walzhik'") == 1, words
+    assert left(tmp_path / "out") == left(undisturbed)
+
+
+def until(is_so: Callable[[], bool], running: subprocess.Popen[bytes]) -> None:
+    """Wait for what must come while a run is under way."""
+    end = monotonic() + MOST_SECONDS
+    while not is_so():
+        assert running.poll() is None and monotonic() < end, "it does not come"
+        sleep(0.02)
+
+
+def test_a_worker_whose_errors_can_not_be_sent(bank: Path, undisturbed: Path, tmp_path: Path, cluster: Cluster) -> None:
+    text = "from walzhik.bank import task\n\ndef deeper(*given):\n    return deeper(*given)\n\ntask.put = deeper\n"
+    cluster.worker(*preload(tmp_path, text))
+    cluster.wait(1)
+    ended = disturbed(FILES + 1, "", bank, tmp_path / "out", "--scheduler", cluster.address)
+    assert ended.returncode == BROKEN_OFF and "RecursionError" in ended.stderr and "No worker is left" in ended.stderr
+    assert started(bank, tmp_path / "out").returncode == REFUSED
     assert left(tmp_path / "out") == left(undisturbed)
 
 
@@ -197,12 +247,18 @@ def test_addresses(tmp_path: Path) -> None:
         address("tls://10.0.0.1:8786", (os.devnull, *files[1:]), False)
 
 
-def test_usage_of_a_cluster(bank: Path, tmp_path: Path) -> None:
+def test_usage_of_a_cluster(bank: Path, tmp_path: Path, run: Run) -> None:
     for arguments, words in {
-        ("--scheduler", "tcp://127.0.0.1:1"): "There is no scheduler at tcp://127.0.0.1:1",
         ("--scheduler", "127.0.0.1"): "--scheduler 127.0.0.1: give host and port",
         ("--scheduler", "tcp://127.0.0.1:1", "--workers", 2): "Give --workers or --scheduler",
         ("--ship",): "go with --scheduler",
     }.items():
-        ended = started(bank, tmp_path / "out", *arguments)
-        assert ended.returncode == UNUSABLE and words in ended.stderr, ended.stderr
+        ended = run("bank", bank, tmp_path / "out", *arguments)
+        assert ended.status == UNUSABLE and words in ended.err, ended.err
+
+
+def test_no_scheduler(bank: Path, tmp_path: Path) -> None:
+    soon = "import sys\nfrom walzhik.bank import cluster\nfrom walzhik.cli import main\n"
+    soon += "cluster.CONNECTING_SECONDS = 1\nmain(sys.argv[1:])\n"
+    ended = python("-c", soon, "bank", bank, tmp_path / "out", "--scheduler", "tcp://127.0.0.1:1")
+    assert ended.returncode == UNUSABLE and "There is no scheduler at tcp://127.0.0.1:1" in ended.stderr, ended.stderr

@@ -12,12 +12,13 @@ import signal
 import socket
 import subprocess
 import sys
-from collections import Counter
+from collections import Counter, deque
 from html.parser import HTMLParser
 from pathlib import Path
 
 import pytest
-from bankruns import environment, python, refusals, report, started
+from bankruns import environment, python, refusals, report
+from conftest import Run
 from hypothesis import given
 from hypothesis import strategies as st
 
@@ -30,7 +31,10 @@ from walzhik.bank.page import About, page
 from walzhik.bank.progress import Progress
 from walzhik.bank.records import Record, Row
 from walzhik.bank.report import Summary, kind, rows_of
+from walzhik.bank.run import Asked
+from walzhik.bank.run import run as run_all
 from walzhik.bank.task import Reply, Task, WrongCopy, run
+from walzhik.bank.task import run as run_task
 from walzhik.failures import Unusable
 from walzhik.threads import ONE_THREAD
 from walzhik.tucson import Series
@@ -271,6 +275,23 @@ def test_series_of_one_name_are_refused(task: Task) -> None:
     assert rows[1].refusal == "2 series of the file are named FEW. Give each its own name."
 
 
+@pytest.mark.parametrize("shape", ["auto", "falling", "hump", "free"])
+def test_fits_are_asked_for_as_the_command_fit_takes_them(task: Task, run: Run, shape: str) -> None:
+    rising = [700 + 30 * min(ring, 25) - 10 * max(0, ring - 25) for ring in range(80)]
+    Path(task.input.source).write_bytes(tucson.write([Series("A", 1901, rising), Series("B", 1960, rising)]))
+    options = Options(shape=shape, scars=(1940,))  # type: ignore[arg-type]
+    record = recorded(run_task(task._replace(options=options)))
+    folder = Path(task.output).parent / "sheets"
+    said = run("fit", task.input.source, "--shape", shape, "--scar", "1940", "-o", f"{folder}/")
+    assert said.status == 0
+    for name in ("A", "B"):
+        made = (Path(task.output) / f"x.sheets/{name}.sheet").read_bytes()
+        assert made == (folder / f"{name}.sheet").read_bytes()
+    parts = {row.name: row.shape.split(", ") for row in record.rows}
+    assert len(parts["A"]) == 2 and len(parts["B"]) == 1  # the scar is outside the rings of B
+    assert shape == "auto" or {word for words in parts.values() for word in words} <= {shape, "falling"}
+
+
 def test_names_of_series_make_safe_files(task: Task) -> None:
     Path(task.input.source).write_bytes(tucson.write([Series("../A/b", 1998, [12, 9, 7]), Series("..", 1998, [5, 6])]))
     outputs = recorded(run(task)).outputs
@@ -416,6 +437,62 @@ def test_a_worker_that_cannot_start_ends_the_run(task: Task, monkeypatch: pytest
     workers.close()
 
 
+class Noting:
+    """Workers that do a task when they are asked for its reply, and note in which order tasks were given."""
+
+    killed = 0
+
+    def __init__(self) -> None:
+        self.given: list[str] = []
+        self.held: deque[Task] = deque()
+
+    def has_room(self) -> bool:
+        return len(self.held) < 2
+
+    def is_busy(self) -> bool:
+        return bool(self.held)
+
+    def give(self, task: Task) -> None:
+        self.given.append(task.input.path)
+        self.held.append(task)
+
+    def take(self, seconds: float) -> Reply | None:
+        return run(self.held.popleft())
+
+    def close(self) -> None:
+        pass
+
+
+def test_large_files_are_begun_first(tmp_path: Path, monkeypatch: pytest.MonkeyPatch) -> None:
+    for name, number in ONE_THREAD.items():
+        monkeypatch.setenv(name, number)
+    sizes = {"a.rwl": 3, "b.rwl": 40, "c/d.rwl": 9, "e.rwl": 1}
+    for name, times in sizes.items():
+        texts = [tucson.write([Series(f"S{place}", 1900, list(range(900, 780, -10)))]) for place in range(times)]
+        put(tmp_path / "in" / name, b"".join(texts))
+    packed = b"".join(tucson.write([Series(f"S{place}", 1900, list(range(900, 780, -10)))]) for place in range(200))
+    put(tmp_path / "in" / "f.rwl.gz", gzip.compress(packed, mtime=0))  # its bytes are few, but what comes out is not
+    workers = Noting()
+    summary = run_all(Asked([str(tmp_path / "in")], tmp_path / "out", Options(), is_quiet=True), lambda *_: workers)
+    assert summary.refused == 0 and workers.given == ["f.rwl.gz", "b.rwl", "c/d.rwl", "a.rwl", "e.rwl"]
+
+
+def test_nothing_waits_behind_a_large_file(task: Task, monkeypatch: pytest.MonkeyPatch) -> None:
+    class Unsent:
+        def send(self, task: Task) -> None:
+            pass
+
+    monkeypatch.setattr(local, "started", lambda: local.Worker(None, Unsent(), deque()))  # type: ignore[arg-type]
+    workers = local.LocalWorkers(2)
+    sizes = [10 * local.AT_HAND_BYTES, *[10] * 9]
+    given = 0
+    while workers.has_room():
+        workers.give(task._replace(input=Input(f"{given}.rwl", task.input.source, "", sizes[given])))
+        given += 1
+    held = [[each.input.path for each in one.held] for one in workers._workers]
+    assert held == [["0.rwl"], [f"{place}.rwl" for place in range(1, 1 + local.AT_HAND)]]
+
+
 # The report.
 
 
@@ -456,11 +533,11 @@ class Tags(HTMLParser):
         assert self.open.pop() == tag
 
 
-def test_the_page_is_safe_and_tells(tmp_path: Path) -> None:
+def test_the_page_is_safe_and_tells(tmp_path: Path, run: Run) -> None:
     put(tmp_path / "in" / EVIL.replace("/", "\\"), tucson.write([Series("<b>&x", 1900, list(range(500, 560)))]))
     put(tmp_path / "in" / os.fsdecode(b"\xff\n.rwl"), b"<i>nothing\n")
-    ended = started(tmp_path / "in", tmp_path / "out")
-    assert ended.returncode == 1, ended.stderr
+    ended = run("bank", tmp_path / "in", tmp_path / "out")
+    assert ended.status == 1, ended.err
     text = (tmp_path / "out/report.html").read_text("utf-8")
     tags = Tags()
     tags.feed(text)
@@ -499,16 +576,16 @@ def test_the_report_takes_any_text() -> None:
     assert rows_of(record) == '"a,""b"".rwl",,,,0,,,,,,"one, two",x y,1.0000\n'
 
 
-def test_nothing_to_do(tmp_path: Path) -> None:
-    ended = started(tmp_path, tmp_path.parent / f"{tmp_path.name}-out")
-    assert ended.returncode == 2 and ended.stderr == "There is no file that ends in .rwl, .fh, .rwl.gz or .fh.gz.\n"
+def test_nothing_to_do(tmp_path: Path, run: Run) -> None:
+    ended = run("bank", tmp_path, tmp_path.parent / f"{tmp_path.name}-out")
+    assert ended.status == 2 and ended.err == "There is no file that ends in .rwl, .fh, .rwl.gz or .fh.gz.\n"
     os.mkfifo(tmp_path / "pipe.rwl")
-    ended = started(tmp_path, tmp_path.parent / f"{tmp_path.name}-out")
-    assert ended.returncode == 2
+    ended = run("bank", tmp_path, tmp_path.parent / f"{tmp_path.name}-out")
+    assert ended.status == 2
     assert refusals(tmp_path.parent / f"{tmp_path.name}-out") == {("pipe.rwl", ""): "It is no plain file."}
 
 
-def test_usage(tmp_path: Path) -> None:
+def test_usage(tmp_path: Path, run: Run) -> None:
     for arguments, words in {
         ("--curve", "examples/sheets/roof.sheet", "--fit"): "Give --curve, or fit",
         ("--earlywood", "*E"): "go with --curve",
@@ -516,9 +593,12 @@ def test_usage(tmp_path: Path) -> None:
         ("--breaks", "0,10"): "Give --breaks, --degrees and --orders together",
         ("--workers", "0"): "Invalid value for '--workers'",
         ("--hundredths", "--thousandths"): "not both",
+        ("--first", "1", "--each-first", "1"): "not both",
+        ("--curve", "examples/sheets/growth.sheet", "--shape", "hump"): "--shape and --scar go without it",
+        ("--breaks", "0,10", "--degrees", "1", "--scar", "5"): "--scar goes without --breaks",
     }.items():
-        ended = started("examples/tucson", tmp_path / "out", *arguments)
-        assert ended.returncode == (1 if "refused" in words else 2) and words in ended.stderr, ended.stderr
+        ended = run("bank", "examples/tucson", tmp_path / "out", *arguments)
+        assert ended.status == (1 if "refused" in words else 2) and words in ended.err, ended.err
     assert not (tmp_path / "out").exists()
 
 

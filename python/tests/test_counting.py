@@ -70,6 +70,7 @@ def test_pictures_tell_how_rings_are_counted(run: Run, falling: Path) -> None:
         (("view", OAK, "--first", "1", "--each-first", "1"), "not both"),
         (("plot", ROOF, "--first", "1", "-o", "x.svg"), "no Tucson file"),
         (("view", "--each-first", "1"), "no Tucson file"),
+        (("bank", OAK, "out", "--first", "1", "--each-first", "1"), "not both"),
     ],
 )
 def test_wrong_usage(run: Run, arguments: tuple[str, ...], words: str) -> None:
@@ -77,19 +78,22 @@ def test_wrong_usage(run: Run, arguments: tuple[str, ...], words: str) -> None:
     assert ended.status == UNUSABLE and words in ended.err
 
 
-def test_a_data_bank_counts_each_series_by_itself(run: Run, falling: Path) -> None:
+@pytest.mark.parametrize("option", ["--first", "--each-first"])
+def test_a_data_bank_counts_each_file_as_indices_does(run: Run, falling: Path, option: str) -> None:
     whole = line_sheet(falling.parent, [1, 60], [(590, 590), (1180, 1180)])
     out = falling.parent / "bank"
-    assert run("bank", falling, out, "--curve", whole, "--each-first", "1", "--quiet").status == 0
-    wanted = run("indices", falling, "--curve", whole, "--each-first", "1").out
+    ended = run("bank", falling, out, "--curve", whole, option, "1")
+    assert ended.status == 0 and f"Rings are counted by {option}" in ended.err
+    assert ("in each file by itself" in ended.err) == (option == "--first")
+    wanted = run("indices", falling, "--curve", whole, option, "1").out
     assert [path.read_text() for path in out.rglob("*.indices.csv")] == [wanted]
-    ended = run("bank", falling, falling.parent / "other", "--curve", whole, "--first", "1")
-    assert ended.status == UNUSABLE and "--first" in ended.err
 
 
-def test_the_screen_refuses_what_it_can_not_count(run: Run, falling: Path) -> None:
-    ended = run("view", falling, "--first", "1")
-    assert ended.status == UNUSABLE and "--each-first" in ended.err
+def test_the_earliest_of_a_file_is_the_earliest_of_those_taken(run: Run, falling: Path) -> None:
+    out = falling.parent / "bank"
+    assert run("bank", falling, out, "--series", "E", "--first", "1", "--quiet").status == 0
+    [sheet] = out.rglob("E.sheet")
+    assert read(sheet.read_bytes()).breaks[0] == 1
 
 
 def test_no_series_have_no_starts() -> None:

@@ -18,11 +18,16 @@ from conftest import ROOT
 from walzhik import __version__
 
 SHEET = "examples/sheets/w1.sheet"
+LIBRARIES = sorted(path.stem for path in (ROOT / "include").glob("*.h"))
+CHECK = " ".join(["check sheet tucson", *LIBRARIES])  # one call for all that is needed
 KIT = """#!/usr/bin/env bash
 echo "$*" >> "{notes}"
 sleep {seconds}
 case $1 in
-check) mkdir -p target/bin && cp "{root}"/target/bin/{{sheet,tucson}} target/bin/ ;;
+check)
+    mkdir -p target/bin
+    for name in $(sed 's/:.*//' crates.txt); do echo "rt: $name proved (1 s)"; done
+    for name in "{root}"/target/bin/*; do cp "$name" target/bin/; done ;;
 staticlib) mkdir -p target/staticlib && cp "{root}/target/staticlib/lib$2.a" target/staticlib/ ;;
 esac
 """
@@ -40,7 +45,7 @@ class Checkout:
         self.root, self.tools, self.notes = folder / "checkout", folder / "tools", folder / "notes"
         self.tools.mkdir()
         self.notes.touch()
-        for name in ("include", "python/src", "examples/sheets"):
+        for name in ("include", "python/src", "examples/sheets", ".ci"):
             shutil.copytree(ROOT / name, self.root / name, ignore=shutil.ignore_patterns("__pycache__"))
         shutil.copy(ROOT / "walzhik", self.root)
         (self.root / "crates").mkdir()
@@ -73,15 +78,31 @@ def checkout(tmp_path: Path) -> Checkout:
 def test_the_first_run_sets_up_and_says_so(checkout: Checkout) -> None:
     status, out, err = checkout.run("explain", SHEET)
     assert status == 0 and out.startswith("Accepted: ")
-    libraries = sorted(path.stem for path in (ROOT / "include").glob("*.h"))
-    assert checkout.asked() == ["check sheet tucson", *(f"staticlib {name}" for name in libraries)]
-    for words in (
-        "proving and building the programs",
-        "proving and building the library walzhik",
-        "linking the shared object",
-    ):
-        assert words in err
-    assert checkout.run("explain", SHEET) == (0, out, "") and len(checkout.asked()) == 1 + len(libraries)
+    assert checkout.asked() == [CHECK, *(f"staticlib {name}" for name in LIBRARIES)]
+    assert "proving and building the programs and the libraries" in err and "linking the shared object" in err
+    assert checkout.run("explain", SHEET) == (0, out, "") and len(checkout.asked()) == 1 + len(LIBRARIES)
+
+
+def test_it_shows_how_far_it_is(checkout: Checkout) -> None:
+    """Crates proved of how many, seconds left by the table; the kit's own lines are in the log alone."""
+    (checkout.root / "crates.txt").write_text("base:\nabove: base\nsheet: above\ntucson: base\nother: base\n")
+    (checkout.root / ".ci/times").write_text("# seconds\nwhole 40\nbase 0\nabove 100\nsheet 100\n")
+    _, _, err = checkout.run("explain", SHEET)
+    assert (
+        "walzhik: 1 of 4 crates proved, about 40 s left\n" in err and "walzhik: 4 of 4 crates proved, about 0 s" in err
+    )
+    assert "rt: " not in err and "rt: above proved (1 s)\n" in (checkout.root / "target/lib/log").read_text()
+    shutil.rmtree(checkout.root / "target")
+    (checkout.root / ".ci/times").unlink()
+    assert "walzhik: 4 of 4 crates proved\n" in checkout.run("explain", SHEET)[2]
+
+
+def test_a_program_of_the_table_of_crates_is_built_too(checkout: Checkout) -> None:
+    (checkout.root / "crates.txt").write_text("rings: sheet\n")
+    script(checkout.tools / "rt", f'#!/bin/sh\necho "$RT_JOBS $*" >>"{checkout.notes}"\n')
+    status, _, err = checkout.run("explain", SHEET)
+    assert status == 2 and checkout.asked()[0] == "4 " + CHECK.replace("tucson", "tucson rings")
+    assert "is not there. Remove" in err
 
 
 def test_a_newer_archive_is_linked_again(checkout: Checkout) -> None:
@@ -110,8 +131,8 @@ def test_two_at_once_set_up_once(tmp_path: Path) -> None:
     started = [checkout.start("explain", SHEET) for _ in range(3)]
     ended = [(process.communicate()[0], process.returncode) for process in started]
     assert len({out for out, _ in ended}) == 1 and {status for _, status in ended} == {0}
-    assert checkout.asked().count("check sheet tucson") == 1
-    left = sorted(path.name for path in (checkout.root / "target/lib").iterdir())
+    assert checkout.asked().count(CHECK) == 1
+    left = sorted(path.name for path in (checkout.root / "target/lib").glob("[!_]*"))
     assert left == ["built", "libwalzhik.so", "lock", "log"]
 
 
@@ -129,10 +150,10 @@ def test_it_runs_from_any_folder_and_through_a_link(checkout: Checkout, tmp_path
 def test_without_the_kit_it_says_what_to_do(checkout: Checkout) -> None:
     script(checkout.tools / "rt", "#!/bin/sh\necho 'curve is not proved'\nexit 1\n")
     status, out, err = checkout.run("explain", SHEET)
-    assert (status, out) == (2, "") and "curve is not proved" in err and "rt check sheet tucson failed" in err
+    assert (status, out) == (2, "") and "curve is not proved" in err and f"rt {CHECK} failed" in err
     script(checkout.tools / "rt", "#!/bin/sh\necho 'rt: sheet proved'\n")
     status, out, err = checkout.run("explain", SHEET)
-    assert (status, out) == (2, "") and "walzhik:   sheet proved" in err and "is not there. Remove" in err
+    assert (status, out) == (2, "") and "is not there. Remove" in err
     launcher = (checkout.root / "walzhik").read_text().replace("command -v rt", "command -v no-such-kit")
     (checkout.root / "walzhik").write_text(launcher)
     status, out, err = checkout.run("explain", SHEET)
@@ -162,6 +183,18 @@ def test_missing_packages_are_installed_where_it_may(checkout: Checkout, tmp_pat
         "python3-matplotlib python3-cffi python3-click python3-tqdm"
     )
     assert f"with: {update} && {install} (WALZHIK_INSTALL=no forbids it)\n" in err
+
+
+def test_what_apt_says_is_shown_where_it_fails(checkout: Checkout, tmp_path: Path) -> None:
+    without_modules(checkout, tmp_path / "modules")
+    script(checkout.tools / "id", "#!/bin/sh\necho 0\n")
+    noisy = (checkout.tools / "apt-get").read_text() + "echo 'Unpacking all of it'\n"
+    script(checkout.tools / "apt-get", noisy)
+    assert "Unpacking" not in checkout.run("explain", SHEET)[2]
+    shutil.rmtree(tmp_path / "modules")
+    script(checkout.tools / "apt-get", "#!/bin/sh\necho 'no such package'\nexit 100\n")
+    status, out, err = checkout.run("explain", SHEET)
+    assert (status, out) == (2, "") and "no such package" in err and "apt-get could not install them" in err
 
 
 @pytest.mark.parametrize("said", ["no", "NO", "0"])

@@ -44,10 +44,13 @@ def test_a_space_by_sheet_and_by_lists(run: Run, tmp_path: Path, dropped: tuple[
     ("arguments", "words"),
     [
         (("fit", OAK, "--series", "ROOF04E", "--strict", "--hundredths"), "go without it"),
-        (("indices", OAK, "--fit", "--strict", "--split-gaps"), "go without it"),
+        (("indices", OAK, "--fit", "--strict", "--header", "0"), "go without it"),
         (("explain", OAK, "--strict", "--thousandths"), "go without it"),
         (("plot", ROOF, "--hundredths", "-o", "a.svg"), "none is given"),
-        (("view", "--split-gaps"), "none is given"),
+        (("view", "--header", "0"), "none is given"),
+        (("view", "--quiet"), "none is given"),
+        (("explain", ROOF, "--header", "2"), "none is given"),
+        (("explain", ROOF, "--hundredths"), "none is given"),
         (("coefficients", "-", "--space", "-"), "once only"),
     ],
 )

@@ -104,6 +104,29 @@ def test_an_input_is_not_overwritten(
     assert {each: (folder / each).read_bytes() for each in GIVEN} == before
 
 
+@pytest.mark.parametrize("end", ["", os.sep, os.sep * 2])
+@pytest.mark.parametrize("call", [("clean", "a.rwl"), ("indices", "a.rwl", "--fit", "--format", "csv")])
+def test_a_folder_s_name_is_no_output(run: Run, folder: Path, call: tuple[str, ...], end: str) -> None:
+    before = (folder / "a.rwl").read_bytes()
+    name, given, *options = call
+    output = f"{folder}/a.rwl{end}" if end else ""
+    ended = run(name, f"{folder}/{given}", *options, "-o", output)
+    assert ended.status == UNUSABLE and "a file's name is needed" in ended.err
+    assert (folder / "a.rwl").read_bytes() == before
+
+
+def test_a_full_device_behind_help_is_told() -> None:
+    with open("/dev/full", "wb") as full:
+        ended = subprocess.run(
+            [sys.executable, "-m", "walzhik", "--help"],
+            stdout=full,
+            stderr=subprocess.PIPE,
+            env={**os.environ, "PYTHONPATH": str(ROOT / "python" / "src")},
+            check=False,
+        )
+    assert ended.returncode == UNUSABLE and ended.stderr == b"No space left on device\n"
+
+
 def test_a_link_to_nothing_is_followed(tmp_path: Path) -> None:
     (tmp_path / "link").symlink_to("not_there.rwl")
     assert same_as(str(tmp_path / "link"), [str(tmp_path / "not_there.rwl")]) is not None

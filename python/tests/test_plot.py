@@ -184,12 +184,18 @@ def test_the_same_bytes_again(ending: plot.Ending) -> None:
 
 
 def run(capfd: pytest.CaptureFixture[str], *arguments: object) -> tuple[int, str]:
-    """The status, and what is said apart from how rings are counted, which test_counting.py looks at."""
+    """The status, and what is said apart from how rings are counted, which test_counting.py looks at, and the remark on the units
+    of the example, for which there is test_reading.py."""
     with pytest.raises(SystemExit) as ended:
         cli.main(["plot", *map(str, arguments)])
     assert isinstance(ended.value.code, int)
     told = capfd.readouterr().err.splitlines(keepends=True)
-    return ended.value.code, "".join(line for line in told if not line.startswith("Rings are "))
+    said = [
+        line
+        for line in told
+        if not line.startswith("Rings are ") and ": a series ends here in another unit" not in line
+    ]
+    return ended.value.code, "".join(said)
 
 
 ROOF, RWL = EXAMPLES / "sheets" / "roof.sheet", EXAMPLES / "tucson" / "oak.rwl"

@@ -5,6 +5,8 @@ from __future__ import annotations
 
 import array
 import pickle
+import shutil
+from pathlib import Path
 from typing import Any
 
 import numpy as np
@@ -258,3 +260,20 @@ def test_a_long_series_goes_to_the_engine_in_several_calls() -> None:
     assert values[4096] == curve.values([UNIT * 4099])[0, 0]
     with pytest.raises(Refused, match="no=14,4500: .*ring 4503"):
         curve.indices(np.where(widths == 4501, 100_000, widths), 3)
+
+
+def test_kept_declarations_are_those_of_the_headers(tmp_path: Path) -> None:
+    """A start takes them where they are kept, and reads the headers where those have others."""
+    folder = _engine.root() / "include"
+    _build.declare(folder, tmp_path)
+    [kept] = tmp_path.glob("*.py")
+    text = "\n".join(_build.declarations(header.read_text("ascii")) for header in _build.headers(folder))
+    library = str(_engine.root() / "target/lib" / _build.LIBRARY)
+    taken, read = _engine._declared(text, tmp_path), _engine._declared(text, tmp_path / "none")
+    assert type(taken) is not type(read) and kept.stem == _build.declared_module(text)
+    assert taken.sizeof("walzhik_reply") == read.sizeof("walzhik_reply")
+    assert dir(taken.dlopen(library)) == dir(read.dlopen(library))
+    assert type(_engine._declared(text.replace("walzhik_reply", "other_reply"), tmp_path)) is type(read)
+    kept.write_text("import _no_such_cffi\n")
+    shutil.rmtree(tmp_path / "__pycache__", ignore_errors=True)
+    assert type(_engine._declared(text, tmp_path)) is type(read)

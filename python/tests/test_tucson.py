@@ -51,7 +51,7 @@ def test_paths_and_bytes_are_sources() -> None:
     )
 
 
-def test_the_tolerant_front_is_used_unless_strict() -> None:
+def test_a_laboratorys_file_is_read_unless_strict() -> None:
     windows = b"FEW     1998    12     9\r\nFEW     2000     7 -9999\r\n"
     assert plain(tucson.read(windows)) == [("FEW", 1998, [12, 9, 7])]
     with pytest.raises(Refused, match="no=11,1: .*carriage return"):

@@ -22,7 +22,9 @@ from random_spaces import space_lists
 from random import Random
 
 from walzhik import Curve, Refused, Space, sheet, tucson
+from walzhik.counting import Counting
 from walzhik.failures import Refusal, Unusable
+from walzhik.promises import promises, safe_lines, shape_lines, wood_lines
 from walzhik.view.carry import carried, handle_places
 from walzhik.view.design import Design
 from walzhik.view.given import Given, start
@@ -37,7 +39,7 @@ TOKEN = "token"
 def roof() -> Given:
     series = {each.name: each for each in tucson.read(OAK)}
     lists = sheet.read(ROOF.read_bytes())
-    return start(series, lists, {"earlywood": "ROOF04E", "latewood": "ROOF04L"}, None, ["oak.rwl", "roof.sheet"])
+    return start(series, lists, {"earlywood": "ROOF04E", "latewood": "ROOF04L"}, Counting(), ["oak.rwl", "roof.sheet"])
 
 
 def whole(breaks: list[int], degrees: list[int], orders: list[int], coefficients: list[int]) -> Design:
@@ -100,7 +102,8 @@ def test_low_places_are_marked() -> None:
     design = whole([0, 4], [1], [], [-1000, 1000])
     made = shown(design, None, {})
     assert made["curves"][0]["low"] == [[0.0, 2.0]]
-    assert [promise["holds"] for promise in made["promises"]] == [True, True, True, False, False, True]
+    assert [promise["holds"] for promise in made["promises"][:5]] == [True, True, True, False, False]
+    assert all(promise["holds"] for promise in made["promises"][5:])
     assert "Coefficient 0 is -1000" in made["promises"][3]["words"]
 
 
@@ -110,6 +113,15 @@ def test_promises_of_orders_and_coefficients() -> None:
     plain = shown(whole([0, 10, 30], [3, 3], [1], [5] * 6), None, {})["promises"]
     assert all(promise["holds"] for promise in plain)
     assert plain[0]["words"].startswith("n = 6 ") and "of at most 48" in plain[1]["words"]
+
+
+def test_the_panel_says_what_explain_says() -> None:
+    """The lines of explain that do not stand there already, of the sheet as the page has it."""
+    for design in (whole([0, 10, 30], [3, 3], [2], [5] * 5), whole([0, 10, 30], [2, 3], [1], [9, 8, 7, 5, 5])):
+        words = [promise["words"] for promise in shown(design, None, {})["promises"]]
+        lists = design.sheet(())
+        assert words[5:] == shape_lines(lists) + wood_lines(lists)
+        assert set(promises(lists)) - set(safe_lines(lists)) == set(words[5:])
 
 
 # Refusals.
@@ -344,7 +356,7 @@ def test_a_fit_takes_the_coefficients_of_the_design_before(client: FlaskClient) 
 def test_a_template_of_too_many_rings_is_told() -> None:
     long = tucson.Series("LONG", 0, np.full(2_500, 900, dtype=np.int32))
     lists = sheet.Sheet([0, 2000, 3000], [1, 1], [-1], [(9, 9)] * 4)
-    made = app_of(start({"LONG": long}, lists, {}, None, ["long.rwl", "a.sheet"]), 80, TOKEN).test_client()
+    made = app_of(start({"LONG": long}, lists, {}, Counting(), ["long.rwl", "a.sheet"]), 80, TOKEN).test_client()
     told = answer(made, "fit", design=begun(made), is_template=True)
     assert told.status_code == 200 and "scar" in told.get_json()["refusal"]["words"]
 
@@ -439,7 +451,7 @@ def whole_ring_client(*, sheet_name: str | None = None) -> FlaskClient:
     series = {each.name: each for each in tucson.read(OAK)}
     lists = sheet.Sheet([1703, 1802], [1], [], [(900, 900), (800, 800)]) if sheet_name else None
     names = ["oak.rwl"] + ([sheet_name] if sheet_name else [])
-    return app_of(start(series, lists, {}, None, names), 80, TOKEN).test_client()
+    return app_of(start(series, lists, {}, Counting(), names), 80, TOKEN).test_client()
 
 
 def saved_name(made: Any) -> str:
@@ -463,7 +475,7 @@ def test_indices_are_never_named_as_the_measured_file(sheet_name: str | None, na
 
 def test_the_indices_of_a_file_with_one_series() -> None:
     [one] = [each for each in tucson.read(OAK) if each.name == "ROOF04E"]
-    client = app_of(start({one.name: one}, None, {}, None, ["oak.rwl"]), 80, TOKEN).test_client()
+    client = app_of(start({one.name: one}, None, {}, Counting(), ["oak.rwl"]), 80, TOKEN).test_client()
     assert saved_name(answer(client, "download/rwl", design=begun(client))) == "oak_indices.rwl"
 
 
@@ -550,15 +562,70 @@ def test_the_other_series_are_those_that_are_not_chosen() -> None:
     ]
     assert made["left"] == 0
     many = {f"S{place}": tucson.Series(f"S{place}", 0, np.full(9, 900, np.int32)) for place in range(70)}
-    crowd = app_of(start(many, None, {}, None, ["many.rwl"]), 80, TOKEN).test_client()
+    crowd = app_of(start(many, None, {}, Counting(), ["many.rwl"]), 80, TOKEN).test_client()
     made = answer(crowd, "others", design=begun(crowd)).get_json()
     assert (len(made["others"]), made["left"]) == (50, 19)
+
+
+def falling() -> dict[str, tucson.Series]:
+    """Two series that fall by 10 a year from 1805 and from 1801."""
+    early = tucson.Series("E", 1805, np.arange(950, 550, -10, dtype=np.int32))
+    late = tucson.Series("L", 1801, np.arange(800, 400, -10, dtype=np.int32))
+    return {each.name: each for each in (early, late)}
+
+
+@pytest.mark.parametrize(
+    ("named", "counting", "breaks", "starts"),
+    [
+        ({}, Counting(), (1805, 1844), {"E": 1805, "L": 1801}),
+        ({}, Counting(first=1), (5, 44), {"E": 5, "L": 1}),
+        ({}, Counting(each_first=1), (1, 40), {"E": 1, "L": 1}),
+        ({"ring": "E"}, Counting(first=1), (1, 40), {"E": 1, "L": -3}),
+        ({"earlywood": "E", "latewood": "L"}, Counting(first=1), (1, 44), {"E": 5, "L": 1}),
+        ({"earlywood": "E", "latewood": "L"}, Counting(each_first=7), (7, 46), {"E": 7, "L": 7}),
+    ],
+)
+def test_rings_are_counted_as_the_commands_count_them(
+    named: dict[str, str], counting: Counting, breaks: tuple[int, int], starts: dict[str, int]
+) -> None:
+    series = falling()
+    client = app_of(start(series, None, named, counting, ["falling.rwl"]), 80, TOKEN).test_client()
+    design = begun(client)
+    assert (design["breaks"][0], design["breaks"][-1]) == breaks
+    beside = answer(client, "curve", design=design, before=None).get_json()["series"]
+    others = answer(client, "others", design=design).get_json()["others"]
+    assert {each["name"]: each["first"] for each in [*beside, *others]} == starts
+    again = answer(client, "fit", design=design, before=None, is_template=True).get_json()["design"]
+    assert (again["breaks"], again["first"], again["earliest"]) == (
+        design["breaks"],
+        design["first"],
+        design["earliest"],
+    )
+
+
+@pytest.mark.parametrize("option", ["--first", "--each-first"])
+def test_the_table_is_that_of_the_command_with_the_same_option(run: Run, tmp_path: Path, option: str) -> None:
+    series = falling()
+    file = tmp_path / "falling.rwl"
+    file.write_bytes(tucson.write(series.values()))
+    counting = Counting(first=1) if option == "--first" else Counting(each_first=1)
+    named = {"earlywood": "E", "latewood": "L"}
+    client = app_of(start(series, None, named, counting, ["falling.rwl"]), 80, TOKEN).test_client()
+    design = begun(client)
+    (tmp_path / "made.sheet").write_bytes(answer(client, "download/sheet", design=design, before=None).data)
+    parts = ("--earlywood", "E", "--latewood", "L")
+    fitted = run("fit", file, *parts, option, "1")
+    assert fitted.out.encode() == (tmp_path / "made.sheet").read_bytes()
+    divided = run("indices", file, "--curve", tmp_path / "made.sheet", *parts, option, "1")
+    assert answer(client, "download/csv", design=design, before=None).data == divided.out.encode()
+    opened = answer(client, "open", design=design, text=fitted.out).get_json()["design"]
+    assert (opened["first"], opened["earliest"]) == (design["first"], design["earliest"])
 
 
 def test_a_name_that_a_spreadsheet_would_compute_is_told() -> None:
     names = ["=A1", "+B", "-C", "@D", "E=F"]
     series = {name: tucson.Series(name, 1900, np.full(30, 900, np.int32)) for name in names}
-    made = start(series, None, {}, None, ["odd.rwl"]).as_json()["series"]
+    made = start(series, None, {}, Counting(), ["odd.rwl"]).as_json()["series"]
     assert [each["care"] is None for each in made] == [False] * 4 + [True]
     assert all(each["name"] in each["care"] for each in made[:4])
 
@@ -581,6 +648,7 @@ def test_a_name_that_a_spreadsheet_would_compute_is_told() -> None:
         {"series": {"earlywood": 4}},
         {"series": []},
         {"first": 1.5},
+        {"earliest": "1801"},
         {"at": "often"},
         {"at": []},
         {"positions": [1.5]},
@@ -614,28 +682,30 @@ def test_only_json_is_taken(client: FlaskClient) -> None:
 
 def test_without_a_sheet_a_template_is_fitted() -> None:
     series = {each.name: each for each in tucson.read(OAK)}
-    ring = start(series, None, {}, None, ["oak.rwl"]).design
+    ring = start(series, None, {}, Counting(), ["oak.rwl"]).design
     assert ring.is_whole_ring and ring.series == {"ring": "ROOF04E"} and ring.breaks == [1703, 1733, 1802]
-    parts = start(series, None, {"earlywood": "ROOF04E", "latewood": "ROOF04L"}, 1, ["oak.rwl"]).design
+    parts = start(
+        series, None, {"earlywood": "ROOF04E", "latewood": "ROOF04L"}, Counting(each_first=1), ["oak.rwl"]
+    ).design
     assert not parts.is_whole_ring and parts.breaks[0] == 1 and parts.pairs[0][0] != parts.pairs[0][1]
-    alone = start(series, None, {"earlywood": "ROOF04E"}, None, ["oak.rwl"])
+    alone = start(series, None, {"earlywood": "ROOF04E"}, Counting(), ["oak.rwl"])
     assert "latewood" in alone.words and "copy" in alone.words
 
 
 def test_without_files_there_is_a_curve() -> None:
-    assert shown(start({}, None, {}, None, []).design, None, {})["refusal"] is None
+    assert shown(start({}, None, {}, Counting(), []).design, None, {})["refusal"] is None
 
 
 def test_a_sheet_of_wood_parts_asks_for_them() -> None:
     series = {each.name: each for each in tucson.read(OAK)}
     with pytest.raises(Unusable, match="--earlywood"):
-        start(series, sheet.read(ROOF.read_bytes()), {"ring": "ROOF04E"}, None, [])
+        start(series, sheet.read(ROOF.read_bytes()), {"ring": "ROOF04E"}, Counting(), [])
 
 
 def test_too_many_rings_have_no_start() -> None:
     long = tucson.Series("LONG", 0, np.full(2_500, 900, dtype=np.int32))
     with pytest.raises(Refusal, match="scar"):
-        start({"LONG": long}, None, {}, None, [])
+        start({"LONG": long}, None, {}, Counting(), [])
 
 
 # The page's own files.

@@ -17,7 +17,7 @@ from hypothesis import strategies as st
 from walzhik import tucson, widths
 from walzhik.errors import Refused
 from walzhik.formats import Form
-from walzhik.tolerant import Unreadable
+from walzhik.widths import Unreadable
 from walzhik.tucson import Series
 from walzhik.widths import Asked
 
@@ -121,7 +121,7 @@ def test_round_trips_of_the_examples(path: Path, run: Run, tmp_path: Path) -> No
     steps = [path, *(tmp_path / name for name in ("a.fh", "b.csv", "c.tsv", "d.fh", "e.rwl"))]
     for before, after in zip(steps, steps[1:]):
         ended = run("convert", before, after)
-        assert (ended.status, ended.err) == (0, "")
+        assert ended.status == 0 and all(": a series " in line for line in ended.err.splitlines())
     assert (tmp_path / "e.rwl").read_bytes() == tucson.write(tucson.read(path))
     assert (tmp_path / "d.fh").read_bytes() == (tmp_path / "a.fh").read_bytes()
 
@@ -254,6 +254,7 @@ def test_what_is_told_of_heidelberg_files() -> None:
         (b"year,A\n1998,-1\n", 2, "is below 0"),
         (b"year,A\n1998,NA\n", 2, "'NA' is no width"),
         (b"year,A\n1998,1e3\n", 2, "'1e3' is no width"),
+        (b"year,A\n1998,4294968.5\n", 2, "'4294968.5' is no width"),
         (b"year;A\n1998;1,5\n1999;1.500\n", 3, "both a comma and a point"),
         (b"year,A\nMCM,1\n", 2, "is no whole number"),
         (b"year,A,A\n1998,1,1\n", 1, "comes more than once"),
@@ -277,6 +278,32 @@ def test_units_and_rounding_of_tables() -> None:
     assert made.series[0].widths.tolist() == [1235, 1234] and "Lines 2 to 3: a width was rounded" in str(
         made.changes[0]
     )
+
+
+def test_lines_of_a_change_are_told_where_columns_differ_in_length() -> None:
+    made = widths.read(b"year,A,B\n1998,1.2345,1.2345\n1999,1.2345,\n2000,1.2345,\n", "csv", Asked(rounds=True))
+    assert [(change.line, change.last) for change in made.changes] == [(2, 4)]
+    made = widths.read(b"year,A,B\n1998,1.2345,\n1999,1.5,1.5\n2000,,1.2345\n", "csv", Asked(rounds=True))
+    assert [(change.line, change.last) for change in made.changes] == [(2, 2), (4, 4)]
+
+
+@pytest.mark.parametrize(
+    "cut, widths_read", [(b"year,A\n1998,1\n1999,1.23", [1000, 1230]), (b"year,A\r1998,1.2", [1200])]
+)
+def test_a_table_that_may_be_cut_off_within_its_last_width_is_told(cut: bytes, widths_read: list[int]) -> None:
+    made = widths.read(cut, "csv")
+    assert made.series[0].widths.tolist() == widths_read
+    assert [str(change) for change in made.changes] == [
+        f"Line {len(widths_read) + 1}: no line end stands behind the last row; see that it is whole."
+    ]
+    assert not widths.read(cut + b"4\n", "csv").changes
+
+
+def test_a_numbered_name_is_no_other_series_name() -> None:
+    text = b"year,LONGNAME9,X,LONGNAM1,Y,LONGNAM1\n1998,1,2,3,4,5\n"
+    made = widths.read(text, "csv", Asked(rename=True))
+    assert [each.name for each in made.series] == ["LONGNAM1", "X", "LONGNAM2", "Y", "LONGNAM3"]
+    assert len(made.changes) == 3
 
 
 def test_the_engine_refuses_what_it_can_t_hold() -> None:

@@ -11,12 +11,12 @@ from pathlib import Path
 import pytest
 from conftest import ROOT
 
-from walzhik import Curve, Refused, Space, errors, explain, sheet, sheet_reasons, tucson
+from walzhik import Curve, Refused, Space, errors, explain, file_reasons, notes, sheet, sheet_reasons, tucson
 from walzhik.recover import recover
 
 # What only C and Rust callers can meet: buffers that are too short, lists of series that don't fit, more rings than a
-# call takes, and 9, which is proved never to come.
-NEVER = {(1, "buffer"), (1, "bytes"), (2, "rings"), (2, "series"), (9, "shape")}
+# call takes; a file of more than 4 GiB; and 9, which is proved never to come.
+NEVER = {(1, "buffer"), (1, "bytes"), (2, "rings"), (2, "series"), (9, "shape"), (21, "size")}
 GOOD = b"breaks=0,1,3\ndegrees=2,2\norders=1\ncoefs=0:0,100:100,0:0,0:0\nat=256\n"
 ONE_BY_ONE = b"A       1997    12\nA       1998     9 -9999\n"
 FEW = b"FEW     1998    12     9\nFEW     2000     7 -9999\n"
@@ -34,6 +34,10 @@ def damaged(old: bytes, new: bytes) -> Callable[[], object]:
 def text(old: bytes, new: bytes) -> Callable[[], object]:
     assert old in FEW
     return lambda: tucson.read(FEW.replace(old, new), strict=True)
+
+
+def file(data: bytes, **options: object) -> Callable[[], object]:
+    return lambda: tucson.clean(data, **options)  # type: ignore[arg-type]
 
 
 def written(*series: tuple[str, int, list[int]]) -> Callable[[], object]:
@@ -118,6 +122,75 @@ CASES: list[tuple[int, str, Callable[[], object], str]] = [
         lambda: tucson.read(b"A       1998 10000   999\n", strict=True),
         "closes series .* but 1998 has 10000",
     ),
+    (
+        11,
+        "shown",
+        file(FEW.replace(b"    12", b"   12")),
+        "Line 1 has 23 columns: .* shown as 'FEW     1998   12     9'",
+    ),
+    (11, "tabs", file(b"FEW\t1998\t12\t9\n"), "With each tab up to a multiple of eight columns it is shown as 'FEW "),
+    (11, "words", file(b"The roof\n" + FEW), "Line 1 is shown as 'The roof', which is neither a line of widths nor"),
+    (11, "words", file(b"The town hall's roof\n" + FEW), "Line 1 is shown as 'The town hall's roof', which is neither"),
+    (11, "inner", file(FEW.replace(b"     9", b"  -999")), "Line 1 has -999 for 1999, as a closing, but"),
+    (12, "gap", file(FEW.replace(b"2000", b"2010")), "is 2000: it has no widths for 2000 to 2009"),
+    (
+        12,
+        "closed",
+        file(FEW.replace(b"2000", b"2010").replace(b"     9", b"   999")),
+        "behind 999 at the end of line 1",
+    ),
+    (
+        12,
+        "zero",
+        file(b"A         -1     7\nA          1     7 -9999\n"),
+        "Line 2 starts in 1, right behind the year -1",
+    ),
+    (
+        13,
+        "following",
+        file(FEW.replace(b"FEW     2", b"FEN     2")),
+        "and line 2 goes on .* under another name, 'FEN     '",
+    ),
+    (13, "following", text(b"FEW     2", b"FEN     2"), "and line 2 goes on with its next year, 2000"),
+    (21, "utf-16", file(b"\xff\xfeF\0"), "starts with the bytes FF FE"),
+    (21, "zero", file(FEW + b"\0"), "Line 3 holds a zero byte, in column 1"),
+    (21, "mark", file(FEW + b"\xef\xbb\xbf" + FEW), "Line 3 holds a byte order mark"),
+    (21, "carriage", file(FEW.replace(b"\n", b"\r")), "Line 1 holds a carriage return .byte 13., in column 25"),
+    (21, "end", file(FEW + b"\x1a" + FEW), "Line 3 holds Ctrl-Z .* but 'FEW     1998    12     9' follows"),
+    (
+        22,
+        "columns",
+        file(b"\xc5" + FEW.replace(b"    12", b"   1.2")),
+        "byte 197 .C5. in column 1, .* neither with one",
+    ),
+    (
+        22,
+        "two",
+        file("\U0001d538\U0001d5391703  1415  1339 -9999\n".encode()),
+        "byte 240 .F0. in column 1, .* both with one",
+    ),
+    (22, "tab", file(b"\xc5\t1998    12 -9999\n"), "byte 197 .C5. in column 1, .* and a tab"),
+    (22, "same", file(b"A\xc5      1998    12\nA\xc4      2000     7 -9999\n"), "'A.xc5      ' and 'A.xc4      '"),
+    (
+        22,
+        "same",
+        file(b"A\xc5      1998    12\nA?      2000     7 -9999\n"),
+        "'A.xc5      ' and 'A.      ': byte 197 .C5. in",
+    ),
+    (23, "minus", file(b"ABC01  -1012    12 -9999\n"), "'ABC01  -1012' in columns 1 to 12: the minus in column 8"),
+    (23, "digits", file(b"ABC01  11012    12 -9999\n"), "the name's last digit, in column 8, runs into the year 1012"),
+    (23, "shifted", file(b"FJ -725 1483 -9999\n"), "the name 'FJ -725 ' and the year 1483: .* shifted"),
+    (24, "unknown", file(FEW.replace(b"-9999", b" -999")), "Line 2 closes series 'FEW     ' with -999"),
+    (24, "other", file(FEW, unit="hundredths"), "with -9999, for thousandths, but hundredths are said"),
+    (
+        25,
+        "inner",
+        file(b"A       1998   999    12   999\n"),
+        "Line 1 has 999 for 1998 in series 'A       ', before its end",
+    ),
+    (26, "range", file(FEW, header=100), "A header of 100 lines is named: a header has 0 to 99"),
+    (26, "lines", file(FEW, header=3), "A header of 3 lines is named, but the file has 2 lines"),
+    (26, "strict", file(FEW, header=1), "Line 1 is within the header of 1 line that is named"),
     (11, "series-name", written(("  ", 1998, [1])), "Series 0, '        ': a name is printable ASCII"),
     (
         11,
@@ -180,13 +253,14 @@ def test_every_case_of_the_table_is_met(monkeypatch: pytest.MonkeyPatch) -> None
         said.add((number, case))
         return plain(number, case, **told)
 
-    for module in (errors, sheet_reasons):
+    for module in (errors, sheet_reasons, file_reasons, notes):
         monkeypatch.setattr(module, "say", noted)
     for _, _, call, _ in CASES:
         with pytest.raises(Refused):
             call()
     for path in ROOT.glob("examples/refusals/*.rwl"):
         explain.explain_tucson(path.read_bytes())
+    notes.sentences([notes.Note(number, 1) for number in range(1, 15)])
     assert set(errors.table()) - said == NEVER
 
 
@@ -197,7 +271,7 @@ def examples() -> list[Path]:
 @pytest.mark.parametrize("path", examples(), ids=lambda path: path.name)
 def test_examples_are_explained(path: Path) -> None:
     made = explain.explain_tucson if path.suffix == ".rwl" else explain.explain_sheet
-    said = made(path.read_bytes())
+    said = explain.with_promises(made(path.read_bytes()), path.read_bytes())
     assert said.words + "\n" == path.with_suffix(".explained").read_text(encoding="ascii")
     assert said.is_accepted != path.name.startswith("refused")
 

@@ -19,7 +19,7 @@ from importlib import import_module
 from typing import TYPE_CHECKING
 
 if TYPE_CHECKING:
-    from . import explain, fit, plot, recover, sheet, tucson, widths
+    from . import explain, fit, notes, plot, recover, sheet, tucson, widths
     from ._engine import __version__
     from .curve import Curve, Piece
     from .errors import Refused
@@ -37,7 +37,7 @@ HOMES = {
 }
 
 
-MODULES = ("explain", "fit", "plot", "recover", "sheet", "tucson", "widths")
+MODULES = ("explain", "fit", "notes", "plot", "recover", "sheet", "tucson", "widths")
 
 
 def __dir__() -> list[str]:

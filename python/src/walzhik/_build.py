@@ -1,6 +1,6 @@
 """Makes the shared object that the package loads, and reads the declarations and constants that go with it from the C
 headers. It stands apart because the launcher and the package's installation run it before anything else of the package
-can be imported: it needs Python's standard library alone.
+can be imported: it needs Python's standard library alone, and cffi where it keeps the declarations.
 """
 
 from __future__ import annotations
@@ -11,6 +11,7 @@ import subprocess
 import sys
 import tempfile
 from collections.abc import Iterable, Sequence
+from hashlib import sha256
 from pathlib import Path
 
 LIBRARY = "libwalzhik.so"
@@ -79,13 +80,29 @@ def headers(folder: Path) -> list[Path]:
     return ordered
 
 
+def declared_module(text: str) -> str:
+    """The name of the module that keeps declarations, by their text: other declarations have another one."""
+    return f"_declared_{sha256(text.encode('ascii')).hexdigest()[:16]}"
+
+
+def declare(folder: Path, into: Path) -> None:
+    """Keep the declarations of the headers in a folder as cffi has read them, so that a start parses no C."""
+    import cffi
+    from cffi.recompiler import make_py_source
+
+    text = "\n".join(declarations(header.read_text(encoding="ascii")) for header in headers(folder))
+    read = cffi.FFI()
+    read.cdef(text)
+    make_py_source(read, declared_module(text), str(into / f"{declared_module(text)}.py"))
+
+
 def archives(root: Path) -> list[Path]:
     """The archives of a checkout that the headers in include/ name."""
     return [root / "target" / "staticlib" / f"lib{header.stem}.a" for header in headers(root / "include")]
 
 
-def link(libraries: Sequence[Path], into: Path) -> None:
-    """Link archives to one shared object, which appears whole or not at all.
+def link(libraries: Sequence[Path], into: Path, soname: str = "") -> None:
+    """Link archives to one shared object, which appears whole or not at all; programs look for it by its soname, if it has one.
 
     Raises
     ------
@@ -99,7 +116,8 @@ def link(libraries: Sequence[Path], into: Path) -> None:
     os.close(handle)
     try:
         whole = ["-Wl,--whole-archive", *map(str, libraries), "-Wl,--no-whole-archive"]
-        subprocess.run(["cc", "-shared", "-o", made, *whole, "-Wl,-z,now", "-Wl,--no-undefined"], check=True)
+        named = [f"-Wl,-soname,{soname}"] if soname else []
+        subprocess.run(["cc", "-shared", "-o", made, *whole, *named, "-Wl,-z,now", "-Wl,--no-undefined"], check=True)
         os.chmod(made, SHARED_MODE)
         os.replace(made, into)
     except BaseException:
@@ -119,6 +137,7 @@ def main(arguments: Sequence[str]) -> int:
     try:
         if is_stale(library, archives(root)):
             link(archives(root), library)
+            declare(root / "include", library.parent)
     except (OSError, subprocess.CalledProcessError) as error:
         print(f"The shared object {library} can't be made: {error}", file=sys.stderr)
         return 2

@@ -5,19 +5,20 @@ all modules.
 
 from __future__ import annotations
 
-import os
 import threading
 from functools import lru_cache
-from pathlib import Path
+from importlib.util import module_from_spec, spec_from_file_location
 from typing import TYPE_CHECKING, Any
 
 import cffi
 import numpy as np
 
 from . import _build
+from ._place import INSTALLED, root
 
 if TYPE_CHECKING:
     from collections.abc import Sequence
+    from pathlib import Path
 
     from numpy.typing import NDArray
 
@@ -25,17 +26,10 @@ if TYPE_CHECKING:
 
 MOST_POSITIONS = 4_096  # of one call
 LEAST_WORD, MOST_WORD = -(2**31), 2**31 - 1
-INSTALLED = Path(__file__).resolve().parent / "_native"
 
 
 class Unavailable(ImportError):
     """The engine is not built where the package looks for it."""
-
-
-def root() -> Path:
-    """The checkout that the package stands in, or that the environment variable WALZHIK_ROOT names."""
-    named = os.environ.get("WALZHIK_ROOT")
-    return Path(named) if named else Path(__file__).resolve().parents[3]
 
 
 def found(installed: str, built: str) -> Path:
@@ -59,21 +53,36 @@ def program(name: str) -> Path:
     return found(name, f"target/bin/{name}")
 
 
+def _declared(text: str, folder: Path) -> Any:
+    """The declarations as they are kept beside the shared object, or read now where they are not."""
+    name = _build.declared_module(text)
+    kept = spec_from_file_location(name, folder / f"{name}.py")
+    if kept is not None and kept.loader is not None and (folder / f"{name}.py").exists():
+        module = module_from_spec(kept)
+        try:
+            kept.loader.exec_module(module)
+            return module.ffi
+        except ImportError:  # kept by another cffi
+            pass
+    read = cffi.FFI()
+    read.cdef(text)
+    return read
+
+
 @lru_cache(maxsize=None)
 def _loaded() -> tuple[Any, Any, dict[str, int]]:
     library = found(_build.LIBRARY, f"target/lib/{_build.LIBRARY}")
     folder = INSTALLED if library.parent == INSTALLED else root() / "include"
-    declared, numbers = cffi.FFI(), {}
-    for header in _build.headers(folder):
-        text = header.read_text(encoding="ascii")
-        declared.cdef(_build.declarations(text))
-        numbers.update(_build.constants(text))
+    texts = [header.read_text(encoding="ascii") for header in _build.headers(folder)]
+    declared = _declared("\n".join(map(_build.declarations, texts)), library.parent)
+    numbers = {name: number for text in texts for name, number in _build.constants(text).items()}
     return declared, declared.dlopen(str(library)), numbers
 
 
 ffi, library, _CONSTANTS = _loaded()
 CELLS = _CONSTANTS["WALZHIK_CELLS"]
 LARGEST_PLACE = _CONSTANTS["WALZHIK_LARGEST_PLACE"]
+NO_HEADER, NO_UNIT = _CONSTANTS["WALZHIK_NO_HEADER"], _CONSTANTS["WALZHIK_NO_UNIT"]
 __version__ = ".".join(str(_CONSTANTS[name]) for name in _build.VERSION_PARTS)
 SIDE = int(CELLS**0.5)  # the weights are a square table
 
@@ -85,17 +94,22 @@ class Lent(threading.local):
     ----------
     numerators, denominators : ndarray of int64, shape (SIDE, SIDE)
         The weights of the last part that a call has built.
-    values : ndarray of int32, shape (MOST_POSITIONS, 2)
-        The values at the rings of an index call.
+    text : ndarray of uint8
+        What the last call has printed.
     """
 
     def __init__(self) -> None:
         self.numerators: NDArray[np.int64] = np.zeros((SIDE, SIDE), dtype=np.int64)
         self.denominators: NDArray[np.int64] = np.ones((SIDE, SIDE), dtype=np.int64)
-        self.values: NDArray[np.int32] = np.zeros((MOST_POSITIONS, 2), dtype=np.int32)
+        self.text: NDArray[np.uint8] = np.empty(0, dtype=np.uint8)
         weights = (ffi.from_buffer("int64_t[]", self.numerators), ffi.from_buffer("int64_t[]", self.denominators))
         self.weights = (weights[0], CELLS, weights[1], CELLS)
-        self.values_lent = ffi.from_buffer("int32_t[]", self.values)
+
+    def room(self, size: int) -> NDArray[np.uint8]:
+        """The buffer for what a call prints, with so many bytes at least."""
+        if self.text.size < size:
+            self.text = np.empty(size, dtype=np.uint8)
+        return self.text
 
 
 lent = Lent()

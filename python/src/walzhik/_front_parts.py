@@ -11,7 +11,7 @@ from typing import Literal, NamedTuple
 
 import numpy as np
 
-from ._tolerant_report import Change, Changes, Unreadable
+from ._changes import Change, Changes, Unreadable
 from .quoting import quoted
 from .tucson import Series
 from .tucson_reasons import NAME_COLUMNS
@@ -19,7 +19,8 @@ from .tucson_reasons import NAME_COLUMNS
 Scale = Literal["mm", "tenths", "hundredths", "thousandths"]
 YearZero = Literal["yes", "no"]
 DECIMALS: dict[Scale, int] = {"mm": 3, "tenths": 2, "hundredths": 1, "thousandths": 0}  # that a thousandth has
-MOST_DIGITS = 9  # before the point, and of a year: so that all fits the engine's numbers, which then refuses
+MOST_DIGITS = 9  # of a year: so that it fits the engine's numbers, which then refuses
+MOST_WIDTH_DIGITS = 6  # before the point: so that thousandths of them fit too
 WIDTH = re.compile(r"([0-9]+)(?:\.([0-9]+))?", re.ASCII)
 YEAR = re.compile(rf"-?[0-9]{{1,{MOST_DIGITS}}}", re.ASCII)
 
@@ -92,7 +93,7 @@ def thousandths(text: str, unit: Scale, asked: Asked, line: int, changes: Change
     if text.startswith("-"):
         raise Unreadable(line, f"the width {shown} is below 0.", "Put in the width, or 0 for an absent ring.")
     found = WIDTH.fullmatch(text)
-    if found is None or len(found[1]) > MOST_DIGITS:
+    if found is None or len(found[1]) > MOST_WIDTH_DIGITS:
         raise Unreadable(
             line, f"{shown} is no width.", "Write it with the digits 0 to 9, and a point where it has one."
         )
@@ -159,14 +160,15 @@ def fitting_names(found: Sequence[tuple[int, bytes]], is_renamed: bool, changes:
             raise Unreadable(line, words, "Give the series a name of letters and digits.")
     times = Counter(names)
     kept = {name for name in names if times[name] == 1 and len(name) <= NAME_COLUMNS}
+    taken = set(kept)
     return [
-        name if name in kept else _numbered(line, name, kept, is_renamed, changes)
+        name if name in kept else _numbered(line, name, taken, is_renamed, changes)
         for (line, _), name in zip(found, names)
     ]
 
 
-def _numbered(line: int, name: str, kept: set[str], is_renamed: bool, changes: Changes) -> str:
-    """A name that is not kept, cut and numbered; `kept` takes it in."""
+def _numbered(line: int, name: str, taken: set[str], is_renamed: bool, changes: Changes) -> str:
+    """A name that is not kept, cut and numbered; `taken` takes it in."""
     shown = quoted(name.encode("ascii"))
     if not is_renamed:
         why = f"is longer than {NAME_COLUMNS} columns" if len(name) > NAME_COLUMNS else "comes more than once"
@@ -174,9 +176,9 @@ def _numbered(line: int, name: str, kept: set[str], is_renamed: bool, changes: C
             line, f"the name {shown} {why}.", "Give the series another name, or let it be numbered (--rename)."
         )
     number, made = 0, ""
-    while not made or made in kept:
+    while not made or made in taken:
         number += 1
         made = name[: NAME_COLUMNS - len(str(number))].rstrip(" ") + str(number)
-    kept.add(made)
+    taken.add(made)
     changes.add(line, f"the name {shown} became {quoted(made.encode('ascii'))}")
     return made

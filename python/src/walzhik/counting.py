@@ -7,10 +7,38 @@ from __future__ import annotations
 
 from collections.abc import Sequence
 from dataclasses import dataclass
-from typing import TYPE_CHECKING
+from typing import TYPE_CHECKING, NamedTuple
 
 if TYPE_CHECKING:
     from .tucson import Series
+
+
+class Origin(NamedTuple):
+    """Where rings are counted from, once it is known which series is the earliest.
+
+    Attributes
+    ----------
+    ring : int or None
+        None where rings are years.
+    year : int or None
+        The year that is this ring for all series; None where it is the ring of each series' own first width.
+
+    Examples
+    --------
+    >>> from walzhik.tucson import Series
+    >>> series = Series("A", 1805, [900, 800])
+    >>> Origin().ring_of(series), Origin(1, 1801).ring_of(series), Origin(1).ring_of(series)
+    (1805, 5, 1)
+    """
+
+    ring: int | None = None
+    year: int | None = None
+
+    def ring_of(self, series: Series) -> int:
+        """The ring of a series' first width."""
+        if self.ring is None:
+            return series.first
+        return self.ring if self.year is None else self.ring + series.first - self.year
 
 
 @dataclass(frozen=True)
@@ -52,14 +80,16 @@ class Counting:
         """Whether rings are years."""
         return self.first is None and self.each_first is None
 
+    def origin(self, series: Sequence[Series]) -> Origin:
+        """Where the rings of the series are counted from, which are all that are worked on together."""
+        if self.first is None:
+            return Origin(self.each_first)
+        return Origin(self.first, min((each.first for each in series), default=0))
+
     def starts(self, series: Sequence[Series]) -> list[int]:
         """The ring of the first width of each of the series, which are all that are worked on together."""
-        if self.each_first is not None:
-            return [self.each_first for _ in series]
-        if self.first is None:
-            return [each.first for each in series]
-        earliest = min((each.first for each in series), default=0)
-        return [self.first + each.first - earliest for each in series]
+        origin = self.origin(series)
+        return [origin.ring_of(each) for each in series]
 
     def words(self, series: Sequence[Series]) -> str:
         """A line that says which meaning is used, with the year that a number stands for.

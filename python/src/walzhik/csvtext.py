@@ -1,14 +1,13 @@
-"""Numbers and names as the commands' CSV tables have them. Values become decimals by whole numbers alone, so that what
-the engine gives is printed and not worked out again.
+"""Numbers and names as the tables of `curve`, `reach` and the data bank's report have them. Values become decimals by
+whole numbers alone, so that what the engine gives is printed and not worked out again. The table of indices is not
+printed here: the engine's own calls do it (`walzhik.dividing`).
 """
 
 from __future__ import annotations
 
-from typing import TYPE_CHECKING, Any
+from typing import TYPE_CHECKING
 
 import numpy as np
-
-from .reasons import PER_MM
 
 if TYPE_CHECKING:
     from numpy.typing import NDArray
@@ -48,30 +47,7 @@ def quoted_field(text: str) -> str:
     >>> print(quoted_field("ROOF04E"), quoted_field('A,"B'))
     ROOF04E "A,""B"
     """
-    if any(sign in text for sign in ',"\r\n') or text != text.strip():
+    if "," in text or '"' in text or "\r" in text or "\n" in text or text != text.strip():
         doubled = text.replace('"', '""')
         return f'"{doubled}"'
     return text
-
-
-def ring_rows(name: str, first: int, widths: Any, values: NDArray[np.int32], indices: NDArray[np.int64]) -> str:
-    """The lines ``series,year,width_mm,curve_mm,index`` of a series; the index of an absent ring is empty.
-
-    Examples
-    --------
-    >>> values, indices = np.array([256000, 256000], dtype=np.int32), np.array([900, -1])
-    >>> print(ring_rows("A", 1998, [900, 0], values, indices), end="")
-    A,1998,0.900,1.000000,900
-    A,1999,0.000,1.000000,
-    """
-    count = len(indices)
-    # Floats of so few digits print as the decimals that they stand for.
-    columns: list[Any] = [
-        range(first, first + count),
-        (np.asarray(widths) / PER_MM).tolist(),
-        (millionths(values) / MILLION).tolist(),
-    ]
-    columns.append(["" if index < 0 else index for index in indices.tolist()])
-    numbers = [number for row in zip(*columns) for number in row]
-    field = quoted_field(name).replace("%", "%%")
-    return (f"{field},%d,%.3f,%.6f,%s\n" * count) % tuple(numbers)

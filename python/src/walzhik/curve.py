@@ -47,6 +47,29 @@ class Piece(NamedTuple):
     end: float
 
 
+class Divided(NamedTuple):
+    """Consecutive rings divided by a curve, as the index call leaves them.
+
+    Attributes
+    ----------
+    pairs : ndarray of int32, shape (rings, 2)
+        Both curves at each ring, in 256ths of a thousandth of a millimetre.
+    indices : ndarray of int64
+        As `Curve.indices` gives them.
+    side : int
+        The column of the wood part that has divided: 0 for earlywood, 1 for latewood.
+    """
+
+    pairs: NDArray[np.int32]
+    indices: NDArray[np.int64]
+    side: int
+
+    @property
+    def values(self) -> NDArray[np.int32]:
+        """The curve of the wood part at each ring."""
+        return self.pairs[:, self.side]
+
+
 class Curve:
     """Two growth curves over one space, of earlywood and of latewood, or one of the whole ring.
 
@@ -79,7 +102,6 @@ class Curve:
     """
 
     def __init__(self, space: Space, coefficients: Wholes | Sequence[Sequence[int]]) -> None:
-        self.space = space
         given = wholes(np.asarray(coefficients), "coefficients")
         if given.ndim == 1:
             given = np.repeat(given[:, np.newaxis], len(WOOD), axis=1)
@@ -87,10 +109,21 @@ class Curve:
             raise TypeError(
                 f"coefficients: one number or one pair a row is needed, not an array of shape {given.shape}"
             )
-        self.coefficients: NDArray[np.int32] = kept(given, "coefficients")
-        self.is_whole_ring = bool((given[:, 0] == given[:, 1]).all())
-        self._lent = (*space._lent, pointer(self.coefficients), self.coefficients.size)
+        self._take(space, kept(given, "coefficients"), bool((given[:, 0] == given[:, 1]).all()))
         self._ask(coefficients)
+
+    def _take(self, space: Space, pairs: NDArray[np.int32], is_whole_ring: bool) -> None:
+        """Keep the lists, and what is lent to each call."""
+        self.space, self.coefficients, self.is_whole_ring = space, pairs, is_whole_ring
+        self._lent = (*space._lent, pointer(pairs), pairs.size)
+
+    @classmethod
+    def unasked(cls, space: Space, coefficients: NDArray[np.int64]) -> Curve:
+        """A curve of the whole ring that is asked for values or indices at once: that call says whether the engine takes
+        the coefficients, and no other is made for it."""
+        made = cls.__new__(cls)
+        made._take(space, kept(np.repeat(coefficients, len(WOOD)).reshape(-1, len(WOOD)), "coefficients"), True)
+        return made
 
     def _ask(self, given: Wholes | Sequence[Sequence[int]]) -> None:
         """Let the engine say whether it takes the coefficients, whose own numbers a refusal tells."""
@@ -183,14 +216,12 @@ class Curve:
         >>> Curve(Space([0, 2], [1], []), [1000, 3000]).indices([1000, 1000, 0], 0)
         array([1000,  500,   -1])
         """
-        return self.rings(widths, first, wood)[1]
+        return self.divided(widths, first, wood).indices
 
     def rings(
         self, widths: Wholes, first: int, wood: Wood | None = None
     ) -> tuple[NDArray[np.int32], NDArray[np.int64]]:
         """The curve's value at each ring, in 256ths of a thousandth, and the index, as `indices` gives it.
-
-        A call of the engine takes 4,096 rings; a longer series is put to it in several.
 
         Examples
         --------
@@ -198,20 +229,34 @@ class Curve:
         >>> Curve(Space([0, 2], [1], []), [1000, 3000]).rings([1000, 1000, 0], 0)
         (array([256000, 512000, 768000], dtype=int32), array([1000,  500,   -1]))
         """
-        side, measured = self.side(wood), listed(widths, "widths")
-        start, indices = whole(first, "first"), np.empty(measured.size, dtype=np.int64)
-        values = np.empty(measured.size, dtype=np.int32)
+        made = self.divided(widths, first, wood)
+        return made.values.copy(), made.indices
+
+    def divided(self, widths: Wholes, first: int, wood: Wood | None = None) -> Divided:
+        """The rings with both curves, as `walzhik.dividing` prints them.
+
+        A call of the engine takes 4,096 rings; a longer series is put to it in several.
+        """
+        side, measured, start = self.side(wood), listed(widths, "widths"), whole(first, "first")
+        pairs = np.empty((measured.size, len(WOOD)), dtype=np.int32)
+        indices = np.empty(measured.size, dtype=np.int64)
         for at in range(0, max(measured.size, 1), MOST_POSITIONS):
             piece = slice(at, at + MOST_POSITIONS)
-            reply = self._divided(side, whole(start + at, "first"), measured[piece], indices[piece])
-            values[piece] = lent.values[: measured[piece].size, side]
+            reply = self._divided(side, whole(start + at, "first"), measured[piece], pairs[piece], indices[piece])
             if reply.number:
-                told = {"widths": list(widths), "first": first, "wood": wood or WHOLE_RING, "values": values.tolist()}
-                raise self._refused(reply, at, **told)
-        return values, indices
+                told = {"widths": list(widths), "first": first, "wood": wood or WHOLE_RING}
+                raise self._refused(reply, at, values=pairs[:, side].tolist(), **told)
+        return Divided(pairs, indices, side)
 
-    def _divided(self, side: int, first: int, widths: NDArray[np.int32], indices: NDArray[np.int64]) -> Any:
-        """One call for indices; the values are lent."""
+    def _divided(
+        self,
+        side: int,
+        first: int,
+        widths: NDArray[np.int32],
+        pairs: NDArray[np.int32],
+        indices: NDArray[np.int64],
+    ) -> Any:
+        """One call for indices."""
         call = library.walzhik_latewood_indices if side else library.walzhik_earlywood_indices
         return call(
             *self._lent,
@@ -219,8 +264,8 @@ class Curve:
             pointer(widths),
             widths.size,
             *lent.weights,
-            lent.values_lent,
-            lent.values.size,
+            pointer(pairs),
+            pairs.size,
             pointer(indices, "int64_t[]"),
             indices.size,
         )

@@ -18,7 +18,9 @@ from .tucson_reasons import HUNDREDTHS, closings
 
 if TYPE_CHECKING:
     from .curve import Curve
-    from .tolerant import Cleaned
+
+
+COUNT_ON = "By proof you can count on this:"
 
 
 class Explained(NamedTuple):
@@ -102,11 +104,14 @@ def with_promises(said: Explained, text: bytes) -> Explained:
     Examples
     --------
     >>> text = b"breaks=0,60\\ndegrees=1\\norders=\\ncoefs=2400:700,900:300\\nat=\\n"
-    >>> "Raising coefficients lowers no value." in with_promises(explain_sheet(text), text).words.splitlines()
+    >>> lines = with_promises(explain_sheet(text), text).words.splitlines()
+    >>> "- Raising coefficients lowers no value." in lines[lines.index(COUNT_ON) :]
     True
     """
     lists = sheet.lists_of(text) if said.is_accepted else None
-    return said if lists is None else Explained("\n".join([said.words, *promises(lists)]), True)
+    if lists is None:
+        return said
+    return Explained("\n".join([said.words, COUNT_ON, *(f"- {line}" for line in promises(lists))]), True)
 
 
 def explain_printed(text: bytes, printed: bytes) -> Explained:
@@ -154,16 +159,14 @@ def explain_tucson(text: bytes) -> Explained:
         return refused(error)
 
 
-def explain_cleaned(cleaned: Cleaned) -> Explained:
-    """What a text that was cleaned holds, by the proved reader; a refusal names the line of the file as it was before.
+def refused_file(error: Refused) -> Explained:
+    """A refusal of a laboratory's file, with what to do as a third line.
 
     Examples
     --------
-    >>> print(explain_cleaned(tucson.clean(b"\\nFEW     1998    12     9\\r\\n")).words)
-    Refused: no=13,2.
-    Line 2 ends series 'FEW     ' with 9: its last field must be 999 or -9999.
+    >>> print(refused_file(Refused(24, 1, "Line 1 closes with -999.", "Say the unit.")).words)
+    Refused: no=24,1.
+    Line 1 closes with -999.
+    Say the unit.
     """
-    try:
-        return summary_of_series(cleaned.text, tucson.read_cleaned(cleaned))
-    except Refused as error:
-        return refused(error)
+    return Explained(f"{refused(error).words}\n{error.remedy}".rstrip("\n"), False)

@@ -13,8 +13,7 @@ import click
 from ._engine import Unavailable
 from .errors import Refused
 from .sheet import NoPrintout
-from .tolerant import Unreadable
-from .widths import Unwritable
+from .widths import Unreadable, Unwritable
 
 REFUSED, UNUSABLE = 1, 2
 
@@ -64,7 +63,7 @@ def told(error: Exception, about: str = "") -> Failure | None:
     if isinstance(error, (Unavailable, NoPrintout)):
         return Unusable(f"{head}{error}")
     if isinstance(error, OSError):
-        return Unusable(f"{error.filename or about}: {error.strerror or error}")
+        return Unusable(": ".join(str(each) for each in (error.filename or about, error.strerror or error) if each))
     return None
 
 

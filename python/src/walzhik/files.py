@@ -4,6 +4,7 @@ every command needs it and none may do it in a way of its own.
 
 from __future__ import annotations
 
+import errno
 import os
 import signal
 import stat
@@ -11,6 +12,8 @@ import sys
 from collections.abc import Iterable, Iterator
 from contextlib import contextmanager, suppress
 from pathlib import Path
+from shutil import copyfileobj
+from tempfile import SpooledTemporaryFile
 from types import TracebackType
 from typing import IO, Any
 
@@ -19,6 +22,8 @@ ALL_MAY = 0o666  # before the user's mask
 SHELL_SIGNAL = 128  # what a shell adds to a signal's number in a status
 PREFIX, SUFFIX = ".walzhik-", ".part"  # of temporary names, by which those of killed writers are found again
 NAME_BYTES = 8
+AT_ONCE = 2**20  # bytes that are written in one go
+MOST_HELD = 16 * AT_ONCE  # that wait for standard output in memory
 NEW = os.O_CREAT | os.O_EXCL | os.O_WRONLY | os.O_CLOEXEC
 
 
@@ -88,7 +93,7 @@ class Part:
     >>> import tempfile
     >>> folder = Path(tempfile.mkdtemp())
     >>> part = Part(folder / "a")
-    >>> part.write(b"whole")
+    >>> _ = part.file.write(b"whole")
     >>> part.finish()
     >>> (folder / "a").exists()
     False
@@ -99,14 +104,9 @@ class Part:
 
     def __init__(self, path: Path) -> None:
         self.path, self._is_kept = path, False
-        self.made = os.path.join(os.path.dirname(path), f"{PREFIX}{os.urandom(NAME_BYTES).hex()}{SUFFIX}")
+        self.made = beside(path)
         with named(path):
             self.file: IO[bytes] = os.fdopen(os.open(self.made, NEW, ALL_MAY), "wb")
-
-    def write(self, data: bytes) -> None:
-        """Write bytes to it."""
-        with named(self.path):
-            self.file.write(data)
 
     def finish(self, *, is_synced: bool = False) -> None:
         """End the writing; with `is_synced` the bytes are on the disk then."""
@@ -130,6 +130,40 @@ class Part:
             self.file.close()
         with suppress(FileNotFoundError):  # swept, as one of a writer that was taken for lost
             os.unlink(self.made)
+
+
+def beside(path: str | Path) -> str:
+    """A temporary name in the folder of a path."""
+    return f"{os.path.dirname(path) or os.curdir}/{PREFIX}{os.urandom(NAME_BYTES).hex()}{SUFFIX}"
+
+
+def put_aside(path: str, data: bytes) -> str:
+    """Write bytes under a temporary name beside a path, and give that name; on an error nothing is left of it.
+
+    Examples
+    --------
+    >>> import tempfile
+    >>> folder = tempfile.mkdtemp()
+    >>> made = put_aside(f"{folder}/a", b"whole")
+    >>> os.replace(made, f"{folder}/a")
+    >>> Path(f"{folder}/a").read_bytes()
+    b'whole'
+    """
+    made = beside(path)
+    with named(path):
+        handle = os.open(made, NEW, ALL_MAY)
+        try:
+            try:
+                rest = memoryview(data)
+                while rest:
+                    rest = rest[os.write(handle, rest) :]
+            finally:
+                os.close(handle)
+        except BaseException:
+            with suppress(FileNotFoundError):
+                os.unlink(made)
+            raise
+    return made
 
 
 @contextmanager
@@ -182,7 +216,8 @@ def write_whole(name: str, data: bytes) -> None:
     """Write a file whole or not at all; standard output for ``-``.
 
     The bytes go to a temporary file in the same folder, which then takes the file's name. What is no plain file, as a
-    device or a pipe, is written to directly.
+    device or a pipe, is written to directly. A name that ends as a folder's does is refused, as the system does: without
+    its end it may be that of an input.
 
     Examples
     --------
@@ -195,6 +230,8 @@ def write_whole(name: str, data: bytes) -> None:
     if name == STANDARD:
         write_out(data)
         return
+    if not name or name.endswith(os.sep):
+        raise IsADirectoryError(errno.EISDIR, "a file's name is needed, and this is none", name or "''")
     path = Path(os.path.realpath(name))
     with named(name):
         if path.exists() and not path.is_file():
@@ -204,6 +241,40 @@ def write_whole(name: str, data: bytes) -> None:
             if path.exists():
                 os.fchmod(file.fileno(), path.stat().st_mode)
             file.write(data)
+
+
+def write_pieces(name: str, pieces: Iterable[bytes]) -> None:
+    """As `write_whole`, for what comes piece by piece and is not held all at once; nothing is written where a piece fails.
+
+    Examples
+    --------
+    >>> import tempfile
+    >>> folder = tempfile.mkdtemp()
+    >>> write_pieces(f"{folder}/a", (b"whole" for _ in range(2)))
+    >>> Path(f"{folder}/a").read_bytes()
+    b'wholewhole'
+    """
+    path = Path(os.path.realpath(name))
+    if name == STANDARD or (path.exists() and not path.is_file()):
+        _pass_on(name, pieces)
+        return
+    with named(name), written(path) as file:
+        if path.exists():
+            os.fchmod(file.fileno(), path.stat().st_mode)
+        file.writelines(pieces)
+
+
+def _pass_on(name: str, pieces: Iterable[bytes]) -> None:
+    """Write to standard output, a device or a pipe once all pieces are made: until then they wait in a file."""
+    with SpooledTemporaryFile(MOST_HELD) as held:
+        held.writelines(pieces)
+        held.seek(0)
+        if name == STANDARD:
+            while data := held.read(AT_ONCE):
+                write_out(data)
+            return
+        with named(name), open(name, "wb") as file:
+            copyfileobj(held, file, AT_ONCE)
 
 
 def write_out(data: bytes) -> None:

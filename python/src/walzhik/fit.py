@@ -6,17 +6,16 @@ the engine's to say.
 from __future__ import annotations
 
 from dataclasses import dataclass
-from functools import cached_property
 from typing import TYPE_CHECKING, NamedTuple
 
 import numpy as np
 
 from ._engine import listed
-from .curve import Curve
+from .curve import Curve, Divided
 from .fit_design import Design, bernstein, design, segments_at
 from .fit_shape import LEAST_COEFFICIENT, SHAPES, Shape, Unsolved, free, is_determined, shaped
 from .fit_template import TEMPLATES, Unfittable, template
-from .reasons import PER_MM, UNIT, WOOD, count
+from .reasons import PER_MM, UNIT, count
 from .space import Space
 
 if TYPE_CHECKING:
@@ -58,6 +57,8 @@ class Fit:
         The number of the first ring.
     shapes : tuple of {"falling", "hump", "free"}
         Of each part between scars.
+    divided : Divided
+        The rings divided by the engine's curve.
     """
 
     curve: Curve
@@ -65,6 +66,7 @@ class Fit:
     widths: NDArray[np.int32]
     first: int
     shapes: tuple[Shape, ...]
+    divided: Divided
 
     @property
     def never_rises(self) -> bool:
@@ -78,14 +80,14 @@ class Fit:
         rows: list[int] = np.flatnonzero(self.coefficients == LEAST_COEFFICIENT).tolist()
         return rows
 
-    @cached_property
+    @property
     def rings(self) -> tuple[NDArray[np.int32], NDArray[np.int64]]:
         """The engine's curve at each ring and the index, as `Curve.rings` gives them."""
-        return self.curve.rings(self.widths, self.first)
+        return self.divided.values, self.divided.indices
 
     def values(self) -> NDArray[np.int32]:
         """The engine's curve at each ring, in 256ths of a thousandth of a millimetre."""
-        return self.rings[0]
+        return self.divided.values
 
     def closeness(self) -> Closeness:
         """How close the engine's curve is to the present widths."""
@@ -116,11 +118,12 @@ def closeness(widths: NDArray[np.int32], values: NDArray[np.int32]) -> Closeness
     Closeness(mean_square=0.5, share_explained=0.5)
     """
     present = widths != 0
-    measured = widths[present] / PER_MM
+    held = widths[present]
+    measured = held / PER_MM
     left = measured - values[present] / (UNIT * PER_MM)
     about = measured - measured.sum() / measured.size
     squares, total = float(left @ left), float(about @ about)
-    is_level = np.unique(widths[present]).size == 1  # by the whole numbers: floats leave a remainder
+    is_level = bool((held == held[0]).all())  # by the whole numbers: floats leave a remainder
     return Closeness(squares / measured.size, None if is_level else 1 - squares / total)
 
 
@@ -165,9 +168,10 @@ def fit(space: Space, widths: Wholes, first: int, shape: Shape = "auto") -> Fit:
     except Unsolved as error:
         raise Unfittable(str(error)) from error
     coefficients = np.floor(found + (1 / 2 + NEAR_HALF)).astype(np.int64)
-    curve = Curve(space, coefficients)
+    curve = Curve.unasked(space, coefficients)
+    divided = curve.divided(measured, first)
     shapes = tuple(_shape_of(coefficients[part.rows], shape) for part in whole.parts)
-    return Fit(curve, curve.coefficients[:, 0], measured, first, shapes)
+    return Fit(curve, curve.coefficients[:, 0], measured, first, shapes, divided)
 
 
 def _shaped(whole: Design, widths: NDArray[np.int32], shape: Shape) -> NDArray[np.float64]:
@@ -196,8 +200,7 @@ def _shape_of(coefficients: NDArray[np.int64], shape: Shape) -> Shape:
 
 def _ask_rings(space: Space, widths: NDArray[np.int32], first: int) -> None:
     """Let the engine say whether all rings lie within the space, and whether the widths are widths."""
-    flat = Curve(space, np.full((space.n, len(WOOD)), LEAST_COEFFICIENT, dtype=np.int32))
-    flat.indices(widths, first)
+    Curve.unasked(space, np.full(space.n, LEAST_COEFFICIENT)).indices(widths, first)
 
 
 def _undetermined(space: Space, widths: NDArray[np.int32], first: int) -> str:

@@ -19,9 +19,11 @@ def figures(close: Closeness) -> str:
     --------
     >>> figures(Closeness(0.0625, 0.87))
     'root mean square 0.250 mm, 87.0 % of the variance explained'
+    >>> figures(Closeness(0.0625, -2e-16))
+    'root mean square 0.250 mm, 0.0 % of the variance explained'
     """
     share = close.share_explained
-    explained = "all widths are equal" if share is None else f"{PER_CENT * share:.1f} % of the variance explained"
+    explained = "all widths are equal" if share is None else f"{PER_CENT * share:z.1f} % of the variance explained"
     return f"root mean square {sqrt(close.mean_square):.3f} mm, {explained}"
 
 

@@ -10,10 +10,10 @@ import re
 from collections.abc import Iterator, Sequence
 from dataclasses import dataclass, field
 
+from ._changes import Changes, Unreadable
 from ._front_parts import Asked, Drawn, Found, Scale, drawn, placed, thousandths, year_of
-from ._tolerant_report import Changes, Line, Unreadable
+from ._text_lines import Line, text_lines, without_marks
 from .quoting import quoted
-from .tolerant import text_lines, without_marks
 from .tucson import Series
 
 HEADER, DATA = b"HEADER:", b"DATA:"
@@ -52,15 +52,8 @@ def key_name(key: str) -> str:
 
 
 def draw(text: bytes, asked: Asked = Asked()) -> Drawn:
-    r"""The series of a Heidelberg text. Unproved: the engine has to write and read them before they are used.
+    r"""The series of a Heidelberg text, or `Unreadable` with the line. Unproved: the engine has to write and read them before they are used.
 
-    Raises
-    ------
-    Unreadable
-        With the line, what is wrong, and what to do.
-
-    Examples
-    --------
     >>> made = draw(b"HEADER:\nKeyCode=FEW\nDateBegin=1998\nLength=2\nUnit=1/100 mm\nDATA:Tree\n   123   119     0\n")
     >>> made.series
     [Series(name='FEW', first=1998, widths=array([1230, 1190], dtype=int32))]

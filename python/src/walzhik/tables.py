@@ -12,14 +12,15 @@ import io
 from collections.abc import Sequence
 from typing import NamedTuple
 
+from ._changes import Changes, Unreadable
 from ._front_parts import YEAR, Asked, Drawn, Found, drawn, placed, thousandths, year_of
-from ._tolerant_report import Changes, Unreadable
+from ._text_lines import without_marks
 from .quoting import quoted
 from .reasons import PER_MM
-from .tolerant import without_marks
 from .tucson import Series
 
 SEPARATORS = (";", "\t", ",")
+UNENDED = "no line end stands behind the last row; see that it is whole"
 CONSECUTIVE = "Put a row for each year, by rising year; cells outside a series stay empty."
 
 
@@ -31,15 +32,8 @@ class Row(NamedTuple):
 
 
 def draw(text: bytes, asked: Asked = Asked()) -> Drawn:
-    r"""The series of a table. Unproved: the engine has to write and read them before they are used.
+    r"""The series of a table, or `Unreadable` with the line. Unproved: the engine has to write and read them before they are used.
 
-    Raises
-    ------
-    Unreadable
-        With the line, what is wrong, and what to do.
-
-    Examples
-    --------
     >>> draw(b"year;A;B\n1998;1,23;\n1999;0;0,5\n").series  # doctest: +NORMALIZE_WHITESPACE
     [Series(name='A', first=1998, widths=array([1230,    0], dtype=int32)),
      Series(name='B', first=1999, widths=array([500], dtype=int32))]
@@ -48,6 +42,8 @@ def draw(text: bytes, asked: Asked = Asked()) -> Drawn:
     decoded = _decoded(without_marks(text, changes))
     separator = separator_of(decoded)
     header, *rows = _rows(decoded, separator, changes)
+    if not decoded.endswith(("\n", "\r")):
+        changes.add([header, *rows][-1].line, UNENDED)
     years = _years(rows, asked, changes)
     rows = _with_points(rows, separator)
     names = header.cells[1:]

@@ -1,5 +1,4 @@
-"""Tucson decadal files: reading and writing by the engine's proved calls. The tolerant front, which is not proved,
-stands in `walzhik.tolerant`; what it makes of a text is read here by the strict reader like any other text.
+"""Tucson decadal files: a laboratory's file in the strict form, reading and writing, each by a proved call of the engine.
 """
 
 from __future__ import annotations
@@ -8,15 +7,16 @@ import os
 from collections.abc import Iterable, Iterator, Sequence
 from dataclasses import dataclass
 from pathlib import Path
-from typing import TYPE_CHECKING, Literal
+from typing import TYPE_CHECKING, Literal, NamedTuple
 
 import numpy as np
 
-from . import tucson_reasons
-from ._engine import library, listed, pointer, wholes
+from . import file_reasons, tucson_reasons
+from ._engine import NO_HEADER, NO_UNIT, library, listed, pointer, whole, wholes
 from .errors import Refused
-from .reasons import MOST_WIDTH, PER_MM
+from .notes import Note
 from .quoting import quoted
+from .reasons import MOST_WIDTH, PER_MM
 from .tucson_reasons import BAD_LINE, FIELD_COLUMNS, HEAD, NAME_COLUMNS
 
 if TYPE_CHECKING:
@@ -24,10 +24,11 @@ if TYPE_CHECKING:
     from numpy.typing import NDArray
 
     from ._engine import Wholes
-    from .tolerant import Cleaned
 
 Unit = Literal["hundredths", "thousandths"]
+UNITS = {"hundredths": 100, "thousandths": 1000}  # as the call has them: parts of a millimetre
 LEAST_SERIES_BYTES = HEAD + FIELD_COLUMNS + 1  # one line with one field and its end
+MORE_BYTES = file_reasons.TAB - 1  # that a tab may become
 
 
 @dataclass(eq=False)
@@ -120,15 +121,88 @@ def _series(
         yield Series(name, year, kept[end - count : end])
 
 
-def clean(text: bytes, *, unit: Unit | None = None, split_gaps: bool = False) -> Cleaned:
-    """A laboratory's text in the strict form, with the list of what was changed; see `walzhik.tolerant.clean`."""
-    from . import tolerant
+class Cleaned(NamedTuple):
+    """What `clean` gives.
 
-    return tolerant.clean(text, unit=unit, split_gaps=split_gaps)
+    Attributes
+    ----------
+    text : bytes
+        The strict text, which the proved reader accepts.
+    lines : tuple of int
+        For each line of `text` its line in the file, from 1.
+    notes : tuple of Note
+        What was changed, left out, or is to be looked at, by rising line; `walzhik.notes` has the words.
+    """
+
+    text: bytes
+    lines: tuple[int, ...]
+    notes: tuple[Note, ...]
+
+
+def clean(text: bytes, header: int | None = None, unit: Unit | None = None) -> Cleaned:
+    r"""A laboratory's text in the strict form, by the proved call: its lines as an editor shows them.
+
+    Parameters
+    ----------
+    text : bytes
+        The file.
+    header : int, optional
+        How many lines its header has, 0 to 99. Without it only the data bank's three header lines are taken for one.
+    unit : {"hundredths", "thousandths"}, optional
+        What widths closed by -999 are; without it such a series is refused.
+
+    Raises
+    ------
+    Refused
+        With number 11, 12, 13 or 21 to 26 and the line of the file.
+    TypeError, ValueError
+        If the text is no bytes, the header no whole number, or there is no such unit.
+
+    Examples
+    --------
+    >>> made = clean(b"FEW     1998    12     9  \nFEW     2000     7 -9999")
+    >>> made.text, made.lines
+    (b'FEW     1998    12     9\nFEW     2000     7 -9999\n', (1, 2))
+    >>> made.notes
+    (Note(number=5, line=1), Note(number=8, line=2))
+    """
+    if not isinstance(text, (bytes, bytearray)):
+        raise TypeError(f"text: the file's bytes are needed, not {type(text).__name__}")
+    if unit is not None and unit not in UNITS:
+        raise ValueError(f"unit: hundredths or thousandths is needed, not {unit!r}")
+    ends = text.count(b"\n") + 1
+    made = np.empty(len(text) + MORE_BYTES * text.count(b"\t") + 1, dtype=np.uint8)
+    lines, notes = np.empty(ends, dtype=np.uintp), np.empty((len(text) + 2, 2), dtype=np.uintp)
+    reply = library.walzhik_tucson_clean(
+        pointer(np.frombuffer(text, dtype=np.uint8), "uint8_t[]"),
+        len(text),
+        _header_lines(header),
+        NO_UNIT if unit is None else UNITS[unit],
+        pointer(made, "uint8_t[]"),
+        made.size,
+        pointer(lines, "size_t[]"),
+        lines.size,
+        pointer(notes, "size_t[]"),
+        notes.size,
+    )
+    if reply.number:
+        raise file_reasons.refused(file_reasons.Given(text, header, unit), reply.number, reply.place)
+    strict = made[: reply.bytes].tobytes()
+    del made  # before the lists of a large file are made
+    found = map(Note, *notes[: reply.notes].T.tolist()) if reply.notes else ()
+    return Cleaned(strict, tuple(lines[: reply.lines].tolist()), tuple(found))
+
+
+def _header_lines(header: int | None) -> int:
+    """How many lines of a header are named, as the call has it: what it has no number for becomes one that it refuses."""
+    if header is None:
+        return NO_HEADER
+    lines = whole(header, "header")
+    return lines if 0 <= lines < NO_HEADER else NO_HEADER + 1
 
 
 def read(
-    source: bytes | str | os.PathLike[str], *, strict: bool = False, unit: Unit | None = None, split_gaps: bool = False
+    source: bytes | str | os.PathLike[str], *, strict: bool = False, header: int | None = None, unit: Unit | None = None
 ) -> list[Series]:
     """The series of a Tucson file.
 
@@ -137,19 +211,18 @@ def read(
     source : bytes, or a path
         The file's bytes or where it is.
     strict : bool
-        Whether the text must be in the strict form as it is; otherwise the tolerant front, which is not proved, cleans
-        it first.
+        Whether the text must be in the strict form as it is; otherwise `clean` brings it into that form first.
+    header : int, optional
+        How many lines its header has, for `clean`.
     unit : {"hundredths", "thousandths"}, optional
-        What widths closed by -999 are; without it such a series is refused.
-    split_gaps : bool
-        Whether a series with missing years becomes several.
+        What widths closed by -999 are, for `clean`.
 
     Raises
     ------
     Refused
-        If the proved reader refuses the text.
-    walzhik.tolerant.Unreadable
-        If the tolerant front can't place something in it.
+        If a proved call refuses the text.
+    ValueError
+        If a header or a unit is named for a strict text, which would do nothing.
 
     Examples
     --------
@@ -157,27 +230,10 @@ def read(
     >>> series.name, series.first, series.widths.tolist()
     ('FEW', 1998, [12, 9, 7])
     """
+    if strict and (header is not None or unit is not None):
+        raise ValueError("a strict text is taken as it is: header and unit go without strict")
     text = source if isinstance(source, bytes) else Path(source).read_bytes()
-    return read_strict(text) if strict else read_cleaned(clean(text, unit=unit, split_gaps=split_gaps))
-
-
-def read_cleaned(cleaned: Cleaned) -> list[Series]:
-    """The series of a text that was cleaned, by the proved reader; a refusal names the line of the file as it was
-    before.
-
-    Examples
-    --------
-    >>> read_cleaned(clean(b"\\nFEW     1998    12     9\\n"))
-    Traceback (most recent call last):
-    ...
-    walzhik.errors.Refused: no=13,2: Line 2 ends series 'FEW     ' with 9: its last field must be 999 or -9999.
-    """
-    try:
-        return read_strict(cleaned.text)
-    except Refused as error:
-        line = cleaned.lines[error.place - 1]
-        words = error.words.replace(f"Line {error.place} ", f"Line {line} ", 1)
-        raise Refused(error.number, line, words, error.remedy) from None
+    return read_strict(text if strict else clean(text, header, unit).text)
 
 
 def write(series: Iterable[Series]) -> bytes:

@@ -86,6 +86,18 @@ def closing_fault(series: SeriesSoFar, place: int) -> Refused | None:
     return None
 
 
+def end_fault(series: SeriesSoFar, place: int, after: bytes, line: int) -> Refused | None:
+    """What is wrong with a series' end, with the line behind it and its number where that line is the damaged one: it has the
+    next year under another name; or None."""
+    fault = closing_fault(series, place)
+    year = after[NAME_COLUMNS:HEAD]
+    if fault is None or series.fields[-1] == HUNDREDTHS or not NUMBER.fullmatch(year) or int(year) != series.next_year:
+        return fault
+    told: dict[str, object] = {"field": series.fields[-1], "line": line, "year": int(year)}
+    told |= {"name": quoted(series.name), "other": quoted(after[:NAME_COLUMNS])}
+    return Refused.because(BAD_CLOSING, place, "following", **told)
+
+
 def line_fault(lines: list[bytes], place: int, is_ended: bool, series: SeriesSoFar) -> Refused | None:
     """What is wrong with a line, the series before it carried on; None where nothing is."""
     body = lines[place - 1]
@@ -105,7 +117,7 @@ def line_fault(lines: list[bytes], place: int, is_ended: bool, series: SeriesSoF
         fault = year_fault(series, year, place)
     series.fields += fields
     if is_last and not fault:
-        fault = closing_fault(series, place)
+        fault = end_fault(series, place, lines[place] if place < len(lines) else b"", place + 1)
         series.name = b""
     return fault
 

@@ -20,7 +20,7 @@ from .inputs import shown
 from .outputs import Halt
 from .reading import Damaged, Unsteady, read
 from .records import Record
-from .task import Reply, Task, WrongCopy, run, seen
+from .task import Reply, Task, WrongCopy, run_apart, seen
 from .workers import Returned
 
 CONNECTING_SECONDS = 10  # also how long a lost scheduler may take to come back
@@ -115,7 +115,7 @@ class ClusterWorkers:
         worker, hand = min(self._hands.items(), key=lambda each: len(each[1].held) / each[1].threads)
         hand.held.append(task)
         self._sent += len(task.data or b"")
-        self._submit(run, Given(worker, task), task)
+        self._submit(run_apart, Given(worker, task), task)
 
     def take(self, seconds: float) -> Reply | None:
         """The next reply, or None where none comes within so many seconds.
@@ -308,7 +308,7 @@ class ClusterWorkers:
             is_changed = True
         if is_changed:
             told = "It changed while it was read. Run again when nothing writes to it."
-            self._returned.replies.append(Reply(Record(task.input.path, refusal=told).line()))
+            self._returned.replies.append(Reply.of(Record(task.input.path, refusal=told)))
         else:
             self._returned.again.append(task)
             self._leave_out(worker, words)

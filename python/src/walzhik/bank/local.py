@@ -1,5 +1,5 @@
-"""The workers of this machine: as many processes as are asked for, each with one task at work and one at hand. What a
-killed worker held is done again by others. They are not one of the pools that there are because Python's own give up all
+"""The workers of this machine: as many processes as are asked for, each with one task at work and, while these are small,
+a few at hand. What a killed worker held is done again by others. They are not one of the pools that there are because Python's own give up all
 tasks when a process is killed, and Dask's LocalCluster is slower to start and for each file.
 """
 
@@ -25,7 +25,8 @@ from .outputs import Halt
 from .task import Reply, Task
 from .workers import Returned
 
-AT_HAND = 2  # tasks that a worker is given at most: the second so that it need not wait for one
+AT_HAND = 4  # tasks that a worker is given at most: more than one so that it need not wait for the next
+AT_HAND_BYTES = 2**16  # of their inputs, from which on it is given no other: that would wait behind a large one
 PACKAGE = Path(__file__).resolve().parents[2]
 ENDING_SECONDS = 5
 STEP_SECONDS = 0.01
@@ -50,6 +51,11 @@ class Worker(NamedTuple):
     process: Process
     connection: Connection
     held: deque[Task]
+
+    def is_free(self) -> bool:
+        """Whether it can be given another task."""
+        size = sum(task.input.size for task in self.held)
+        return not self.held or (len(self.held) < AT_HAND and size < AT_HAND_BYTES)
 
 
 class LocalWorkers:
@@ -84,7 +90,7 @@ class LocalWorkers:
 
     def has_room(self) -> bool:
         """Whether another task can be given."""
-        return not self._returned.again and any(len(each.held) < AT_HAND for each in self._workers)
+        return not self._returned.again and any(each.is_free() for each in self._workers)
 
     def is_busy(self) -> bool:
         """Whether a reply is still to come."""
@@ -92,8 +98,8 @@ class LocalWorkers:
         return bool(returned.replies or returned.again or any(each.held for each in self._workers))
 
     def give(self, task: Task) -> None:
-        """Give a task to the worker that holds fewest."""
-        chosen = min(self._workers, key=lambda each: len(each.held))
+        """Give a task to the free worker that holds fewest."""
+        chosen = min(self._workers, key=lambda each: (not each.is_free(), len(each.held)))
         chosen.held.append(task)
         try:
             chosen.connection.send(task)
@@ -113,7 +119,7 @@ class LocalWorkers:
             for place, each in enumerate(self._workers):
                 if each.connection in ready:
                     self._receive(place, each)
-            while self._returned.again and any(len(each.held) < AT_HAND for each in self._workers):
+            while self._returned.again and any(each.is_free() for each in self._workers):
                 self.give(self._returned.again.popleft())
         return self._returned.replies.popleft() if self._returned.replies else None
 

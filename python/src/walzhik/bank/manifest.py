@@ -131,15 +131,14 @@ class Manifest(Known):
         super().close()
         super().__init__(self.output)
 
-    def add(self, record: Record) -> None:
-        """Put a record into the journal."""
-        line = record.line()
+    def add(self, path: str, line: bytes) -> None:
+        """Put the record of a path, as a line, into the journal."""
         with named(self.output / JOURNAL):
             place = self._journal.seek(0, os.SEEK_END)
             rest = memoryview(line)
             while rest:
                 rest = rest[self._journal.write(rest) :]
-        self._places[record.path] = (JOURNAL, place)
+        self._places[path] = (JOURNAL, place)
 
     def finish(self) -> None:
         """Take the journal away: all that it says is in the manifest."""

@@ -12,8 +12,11 @@ from typing import Literal, NamedTuple
 
 from .. import _build
 from .._engine import found
-from ..commands.indices import Names
+from ..choosing import Names
+from ..counting import Counting
 from ..curve import Curve
+from ..fit import Shape
+from ..fit_series import Asked as AskedFits
 from ..formats import Form
 from ..sheet import Sheet
 from ..space import Space
@@ -34,9 +37,15 @@ class Options(NamedTuple):
         Breakpoints, degrees, orders and pairs of the curve that divides all series; None for fits.
     names : tuple of three lists of patterns
         The series, those of the earlywood and those of the latewood that are asked for; all where none is.
-    first : int or None
-        The ring of each first width; None where rings are years.
-    strict, split_gaps : bool
+    first, each_first : int or None
+        As `walzhik.counting.Counting` has them, for the series of a file that are taken; None where rings are years.
+    shape : {"auto", "falling", "hump", "free"}
+        Of the fits.
+    scars : list of int
+        The last ring before each scar of the templates, where a series has rings on both sides of it.
+    strict : bool
+    header : int or None
+        How many lines the header of each Tucson file has; None where the call finds it.
     unit : {"hundredths", "thousandths"} or None
     form : {"tucson", "fh", "csv"} or None
         What every file is; None for what its ending says.
@@ -49,8 +58,11 @@ class Options(NamedTuple):
     sheet: tuple[list[int], list[int], list[int], list[tuple[int, int]]] | None = None
     names: Names = Names((), (), ())
     first: int | None = None
+    each_first: int | None = None
+    shape: Shape = "auto"
+    scars: tuple[int, ...] = ()
     strict: bool = False
-    split_gaps: bool = False
+    header: int | None = None
     unit: Unit | None = None
     form: Form | None = None
     asked: Asked = Asked()
@@ -82,9 +94,13 @@ class Options(NamedTuple):
                 )
         return ", ".join(said) or "none"
 
-    def given_space(self) -> Space | None:
-        """The space of the fits, where it is given."""
-        return None if self.space is None else Space(*self.space)
+    def counting(self) -> Counting:
+        """How the rings of a file are counted."""
+        return Counting(self.first, self.each_first)
+
+    def fits(self) -> AskedFits:
+        """What is asked of the fits."""
+        return AskedFits(None if self.space is None else Space(*self.space), self.shape, self.scars)
 
     def given_curve(self) -> Curve | None:
         """The curve that divides all series, where it is given."""

@@ -11,7 +11,7 @@ from contextlib import contextmanager, suppress
 from hashlib import sha256
 from pathlib import Path
 
-from ..files import Part, named
+from ..files import named, put_aside
 from . import lock
 from .inputs import shown, stem
 from .places import INDICES, SHEET, SHEETS
@@ -59,21 +59,23 @@ def put(record: Record, outputs: dict[str, bytes], output: Path, number: str) ->
 
 def keep(outputs: dict[str, bytes], output: Path, number: str, path: str) -> None:
     """Write outputs under temporary names, then give all of them their own while the run's number is held."""
-    parts: list[Part] = []
+    aside: dict[str, str] = {}  # the temporary name of each that has not its own yet
     try:
         for place, data in outputs.items():
-            parts.append(begun(output / place))
-            parts[-1].write(data)
-            parts[-1].finish()
+            name = f"{output}/{place}"
+            aside[name] = begun(name, data)
         with lock.held(output, number):
-            for part in parts:
-                part.keep()
+            for name in list(aside):
+                with named(name):
+                    os.replace(aside[name], name)
+                del aside[name]
             for place in standing(path, output):
                 if place not in outputs:
                     take_away(output / place)
     finally:
-        for part in parts:
-            part.drop()
+        for made in aside.values():
+            with suppress(FileNotFoundError):  # swept, as one of a writer that was taken for lost
+                os.unlink(made)
 
 
 def clear(path: str, output: Path, number: str) -> int:
@@ -87,11 +89,12 @@ def clear(path: str, output: Path, number: str) -> int:
 
 def standing(path: str, output: Path) -> Iterator[str]:
     """The outputs of a file that stand in the output folder, whoever wrote them, by their paths below it."""
+    front = stem(path)
     for ending in ("csv", "rwl"):
-        if (output / f"{stem(path)}{INDICES}{ending}").is_file():
-            yield f"{stem(path)}{INDICES}{ending}"
-    folder = f"{stem(path)}{SHEETS}"
-    with suppress(FileNotFoundError, NotADirectoryError), os.scandir(output / folder) as entries:
+        if os.path.isfile(f"{output}/{front}{INDICES}{ending}"):
+            yield f"{front}{INDICES}{ending}"
+    folder = f"{front}{SHEETS}"
+    with suppress(FileNotFoundError, NotADirectoryError), os.scandir(f"{output}/{folder}") as entries:
         for name in sorted(entry.name for entry in entries):
             if name.endswith(SHEET):
                 yield f"{folder}/{name}"
@@ -107,14 +110,16 @@ def are_as_left(outputs: dict[str, str], output: Path, path: str) -> bool:
         return False
 
 
-def begun(path: Path) -> Part:
-    """A new file, and its folder where that is missing: asked for in this order, since it is mostly there."""
+def begun(path: str, data: bytes) -> str:
+    """The temporary name of a new file, and its folder where that is missing: asked for in this order, since it is mostly
+    there."""
     try:
-        return Part(path)
+        return put_aside(path, data)
     except FileNotFoundError:
-        with named(path.parent):
-            path.parent.mkdir(parents=True, exist_ok=True)
-        return Part(path)
+        folder = os.path.dirname(path)
+        with named(folder):
+            os.makedirs(folder, exist_ok=True)
+        return put_aside(path, data)
 
 
 def take_away(path: Path) -> None:

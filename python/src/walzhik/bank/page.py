@@ -7,6 +7,7 @@ from __future__ import annotations
 from collections.abc import Sequence
 from datetime import datetime
 from functools import lru_cache
+from importlib.util import find_spec
 from typing import TYPE_CHECKING, NamedTuple
 
 from .._engine import __version__
@@ -17,7 +18,7 @@ from .report import Summary, counted
 from .sketch import Picture
 
 if TYPE_CHECKING:
-    from jinja2 import Environment
+    from jinja2 import Template
 
 TEMPLATE = "report.html.jinja"
 SHOWN_HASH = 12  # digits
@@ -44,19 +45,23 @@ class About(NamedTuple):
         return told + [("input", each) for each in self.inputs]
 
 
-@lru_cache(maxsize=None)
-def environment() -> Environment:
-    """Jinja with the package's templates; what is put into them is escaped.
+def ask_for_jinja() -> None:
+    """Whether there can be a page.
 
     Raises
     ------
     Unusable
         If Jinja is not installed.
     """
-    try:
-        from jinja2 import Environment, PackageLoader, StrictUndefined
-    except ImportError as error:
-        raise Unusable("The data bank's report needs the Debian package python3-jinja2.") from error
+    if find_spec("jinja2") is None:
+        raise Unusable("The data bank's report needs the Debian package python3-jinja2.")
+
+
+@lru_cache(maxsize=None)
+def template() -> Template:
+    """The page's template, compiled; what is put into it is escaped."""
+    from jinja2 import Environment, PackageLoader, StrictUndefined
+
     made = Environment(
         loader=PackageLoader("walzhik.bank", "."),
         autoescape=True,
@@ -66,15 +71,11 @@ def environment() -> Environment:
     )
     made.filters["counted"] = counted
     made.filters["points"] = lambda points: " ".join(f"{x},{y}" for x, y in points)
-    return made
+    return made.get_template(TEMPLATE)
 
 
 def page(summary: Summary, about: About, pictures: Sequence[Picture]) -> str:
     """The page."""
     bars = sketch.bars(summary.lengths) if summary.lengths else []
     most = max((count for _, _, count in sketch.bins(summary.lengths)), default=0) if bars else 0
-    return (
-        environment()
-        .get_template(TEMPLATE)
-        .render(summary=summary, about=about, pictures=pictures, bars=bars, most=most, sketch=sketch)
-    )
+    return template().render(summary=summary, about=about, pictures=pictures, bars=bars, most=most, sketch=sketch)

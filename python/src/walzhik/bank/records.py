@@ -7,6 +7,9 @@ from __future__ import annotations
 import json
 from typing import NamedTuple
 
+PARTS = ", "  # between the shapes of a curve's parts
+ENCODER = json.JSONEncoder(separators=(",", ":"))
+
 
 class Row(NamedTuple):
     """A series in the report.
@@ -66,7 +69,7 @@ class Record(NamedTuple):
     number : int or None
         The engine's, of a refusal that is its own.
     changes : list of str
-        What the tolerant front changed.
+        What was noted or changed when it was read.
     rows : list of Row
         In order of the series' names.
     seconds : float or None
@@ -92,7 +95,7 @@ class Record(NamedTuple):
         >>> Record.read(record.line()) == record
         True
         """
-        return json.dumps(self._asdict(), separators=(",", ":")).encode("ascii") + b"\n"
+        return ENCODER.encode(self._asdict()).encode("ascii") + b"\n"
 
     def without_seconds(self) -> Record:
         """The record as every run gives it, whatever it runs on."""

@@ -13,7 +13,7 @@ from typing import IO, NamedTuple
 
 from ..csvtext import quoted_field
 from .inputs import shown
-from .records import Record, Row
+from .records import PARTS, Record, Row
 
 HEADER = "file,series,first,last,rings,n,shape,deviation_mm,explained,number,refusal,changes,seconds\n"
 SHOWN_REFUSALS, SHOWN_SLOWEST, SHOWN_PICTURES, MOST_REASONS = 200, 10, 12, 500
@@ -49,8 +49,10 @@ class Summary:
     pruned : int
         How many outputs were taken away that no record names.
     series, refused_series, rings : int
+    scarred_series : int
+        Those whose fitted curve has several parts.
     changed_files : int
-        Those that the tolerant front changed.
+        Those of which something was noted or changed when they were read.
     lengths : Counter
         How many series have so many rings.
     reasons : Counter
@@ -65,7 +67,7 @@ class Summary:
     def __init__(self) -> None:
         self.files = self.refused_files = self.unread_files = self.changed_files = 0
         self.kept_files = self.cleared_files = self.gone_files = self.pruned = 0
-        self.series = self.refused_series = self.rings = 0
+        self.series = self.refused_series = self.scarred_series = self.rings = 0
         self.lengths: Counter[int] = Counter()
         self.reasons: Counter[str] = Counter()
         self.refusals: list[Told] = []
@@ -95,6 +97,7 @@ class Summary:
             self._refuse(Told(shown(path), row.name, row.refusal))
             return
         self.rings += row.rings
+        self.scarred_series += PARTS in row.shape
         place = self._draw.randrange(self.series - self.refused_series)
         if len(self.pictures) < SHOWN_PICTURES:
             self.pictures.append((path, row.name))
@@ -168,8 +171,8 @@ def kind(words: str) -> str:
     --------
     >>> kind("Series A: no fit. It has 1 ring: a curve needs at least 2.")
     'Series ..: no fit. It has .. ring: a curve needs at least ...'
-    >>> kind("Line 14: it holds a tab that does not stand between two whole fields. Put the name ..")
-    'Line ..: it holds a tab that does not stand between two whole fields.'
+    >>> kind("refused, no=12,2. Line 2 starts in 1860, but the next year of series 'ROOF05  ' is 1850. Find the missing ..")
+    'Line .. starts in .., but the next year of series .. is ...'
     """
     plain = re.sub(r"^refused, no=[0-9]+,[0-9]+[.] ", "", words)
     plain = re.sub(r"^Series .*?: ", "Series ..: ", plain)
@@ -205,36 +208,42 @@ def rows_of(record: Record) -> str:
     a.rwl,,1900,1929,30,,,,,,,Line 1: tabs.,0.0100
     a.rwl,A,1900,1929,30,4,falling,0.25,0.5,,,,0.0020
     """
-    path = shown(record.path)
+    path = quoted_field(shown(record.path))
     firsts = [row.first for row in record.rows if row.first is not None]
     lasts = [row.last for row in record.rows if row.last is not None]
     rings = sum(row.rings for row in record.rows)
     changes = " ".join(record.changes)
     span = (min(firsts, default=None), max(lasts, default=None))
-    lines = [line(path, "", *span, rings, None, "", None, None, record.number, record.refusal, changes, record.seconds)]
+    refusal = quoted_field(record.refusal)
+    lines = [
+        f"{path},,{whole(span[0])},{whole(span[1])},{rings},,,,,{whole(record.number)},{refusal},"
+        f"{quoted_field(changes)},{seconds(record.seconds)}\n"
+    ]
     for row in record.rows:
-        fit = (row.n, row.shape, row.deviation, row.explained)
+        fit = f"{whole(row.n)},{quoted_field(row.shape)},{decimal(row.deviation)},{decimal(row.explained)}"
         lines.append(
-            line(path, row.name, row.first, row.last, row.rings, *fit, row.number, row.refusal, "", row.seconds)
+            f"{path},{quoted_field(row.name)},{whole(row.first)},{whole(row.last)},{row.rings},{fit},"
+            f"{whole(row.number)},{quoted_field(row.refusal)},,{seconds(row.seconds)}\n"
         )
     return "".join(lines)
 
 
-def line(*fields: str | int | float | None) -> str:
-    """A line of the table; the last field is seconds.
+def whole(value: int | None) -> str:
+    """A whole number as a field of the table."""
+    return "" if value is None else str(value)
+
+
+def decimal(value: float | None) -> str:
+    """A number as a field of the table, without an exponent.
 
     Examples
     --------
-    >>> line("a,b", None, 3, 0.00001, 0.1)
-    '"a,b",,3,0.00001,0.1000\\n'
+    >>> decimal(0.00001), decimal(2.0), decimal(-1e-9), decimal(None)
+    ('0.00001', '2', '0', '')
     """
-    return ",".join([*map(field, fields[:-1]), "" if fields[-1] is None else f"{fields[-1]:.4f}"]) + "\n"
+    return "" if value is None else f"{value:z.6f}".rstrip("0").rstrip(".")
 
 
-def field(value: str | int | float | None) -> str:
-    """A value as a field of the table, a number without an exponent."""
-    if value is None:
-        return ""
-    if isinstance(value, float):
-        return f"{value:.6f}".rstrip("0").rstrip(".")
-    return quoted_field(value) if isinstance(value, str) else str(value)
+def seconds(value: float | None) -> str:
+    """Seconds as a field of the table."""
+    return "" if value is None else f"{value:.4f}"

@@ -19,7 +19,7 @@ from .inputs import Input, found, stem
 from .manifest import Manifest
 from .options import Options, version
 from .outputs import Halt, put
-from .page import environment
+from .page import ask_for_jinja, template
 from .progress import Progress
 from .reading import Damaged, Unsteady, read
 from .records import Record
@@ -113,7 +113,7 @@ def run(asked: Asked, workers: Callable[[Task, Callable[[str], None]], Workers])
     Broken
         If the run ends before all is done; the message says why and what is missing.
     """
-    environment()  # so that no run is done in vain
+    ask_for_jinja()  # so that no run is done in vain
     with interruptible() as interrupt:
         inputs, notes = found(asked.given, str(asked.output))
         if not inputs:
@@ -160,7 +160,7 @@ class Run:
         stems = {stem(each.path) for each in taken}
         for each in self._inputs:
             if each.complaint:
-                self._note(Reply(Record(each.path, refusal=each.complaint).line()), stem(each.path) not in stems)
+                self._note(Reply.of(Record(each.path, refusal=each.complaint)), stem(each.path) not in stems)
         probe = self._probe(taken)
         if probe is None:  # there is none, or none can be read
             for each in taken:
@@ -183,6 +183,7 @@ class Run:
         given any more."""
         for each in taken:
             while not workers.has_room() and not self._interrupt.is_asked:
+                template()  # compiled, the first time, while the workers work
                 self._receive(workers)
             if self._interrupt.is_asked:
                 break
@@ -202,15 +203,14 @@ class Run:
     def _note(self, reply: Reply, is_owner: bool = True) -> None:
         """Put what a file came to into the journal. A refused file has no outputs then, whoever refused it, unless they
         are another's."""
-        record = Record.read(reply.line)
-        before = self._manifest.line_of(record.path)
+        before = self._manifest.line_of(reply.path)
         if reply.line == before:
-            self._progress.kept += bool(record.digest)
+            self._progress.kept += reply.is_read
         else:
-            if is_owner and (record.refusal or self._asked.sends == "contents"):
-                record = put(record, reply.outputs, self._output, self._manifest.number)
-            self._progress.cleared += bool(record.refusal and before and Record.read(before).outputs)
-            self._manifest.add(record)
+            if is_owner and (reply.is_refused or self._asked.sends == "contents"):
+                reply = Reply.of(put(Record.read(reply.line), reply.outputs, self._output, self._manifest.number))
+            self._progress.cleared += bool(reply.is_refused and before and Record.read(before).outputs)
+            self._manifest.add(reply.path, reply.line)
         self._progress.advance()
 
     def _task(self, each: Input) -> Task:
@@ -245,13 +245,13 @@ class Run:
         try:
             content = read(each.source)
         except (Unsteady, Damaged) as error:
-            return Reply(Record(each.path, refusal=str(error)).line())
+            return Reply.of(Record(each.path, refusal=str(error)))
         if self._asked.sends == "digests":
             return task._replace(digest=content.digest)
         if len(content.data) > MOST_SENT_BYTES:
-            return Reply(Record(each.path, refusal=TOO_LARGE).line())
+            return Reply.of(Record(each.path, refusal=TOO_LARGE))
         before = Record.read(task.before.encode("ascii")) if task.before else Record(each.path)
         now = Record(each.path, content.digest, task.options.key(), task.version)
         if is_done(before, now, self._output):
-            return Reply(before.line())
+            return Reply.of(before)
         return task._replace(before="", digest=content.digest, data=content.data)

@@ -24,6 +24,10 @@ class WrongCopy(Exception):
     """This machine has another file under the input's path; the message names both."""
 
 
+class Fault(Exception):
+    """A worker fails in a way that it should not; the message says how."""
+
+
 class Task(NamedTuple):
     """A file to do.
 
@@ -60,14 +64,26 @@ class Reply(NamedTuple):
 
     Attributes
     ----------
+    path : str
+        The input's, as its record has it.
     line : bytes
         The record.
+    is_refused, is_read : bool
+        Whether nothing of the file was worked out, and whether its bytes could be had.
     outputs : dict
         The bytes of each output by its path, where they are sent back.
     """
 
+    path: str
     line: bytes
+    is_refused: bool
+    is_read: bool
     outputs: dict[str, bytes] = {}
+
+    @classmethod
+    def of(cls, record: Record, outputs: dict[str, bytes] = {}) -> Reply:
+        """The reply of a record: what is asked of it at once, beside its line."""
+        return cls(record.path, record.line(), bool(record.refusal), bool(record.digest), outputs)
 
 
 def run(task: Task) -> Reply:
@@ -88,7 +104,7 @@ def run(task: Task) -> Reply:
         content = content_of(task)
         record = Record(task.input.path, content.digest, task.options.key(), task.version)
         if task.data is None and is_done(before, record, Path(task.output)):
-            return Reply(before.line())
+            return Reply.of(before)
         record, outputs = settled(record, task, content.data)
     except (Unsteady, Damaged) as error:
         record = Record(task.input.path, refusal=str(error))
@@ -100,7 +116,19 @@ def run(task: Task) -> Reply:
     if task.data is None:
         record = put(record, outputs, Path(task.output), task.number)
         outputs = {}
-    return Reply(record._replace(seconds=perf_counter() - begun).line(), outputs)
+    return Reply.of(record._replace(seconds=perf_counter() - begun), outputs)
+
+
+def run_apart(task: Task) -> Reply:
+    """As `run`, on a worker of a cluster: what it fails with otherwise comes back as a plain Fault, because Dask loses an
+    error that it can't send, and with it the task."""
+    try:
+        return run(task)
+    except (Halt, WrongCopy):
+        raise
+    except Exception as error:
+        words = f"{type(error).__name__}: {error}"
+    raise Fault(words)  # apart from the error, which has all that led to it
 
 
 def content_of(task: Task) -> Content:

@@ -6,39 +6,37 @@ from __future__ import annotations
 
 from collections import Counter
 from collections.abc import Iterable, Sequence
-from fnmatch import fnmatchcase
 from time import perf_counter
 from typing import NamedTuple
 from urllib.parse import quote
 
 import numpy as np
 
-from .. import sheet, tucson, widths
-from ..commands._fits import fitted_series, template_for
-from ..commands._series import listed
-from ..commands._tucson_files import UNIT_OF_TABLES
-from ..commands.indices import HEADER, Indexed, Names, as_table, as_tucson, wood_of
+from .. import notes, sheet, tucson, widths
+from ..choosing import Names, fits, listed, without_blanks, wood_of
 from ..curve import Curve
+from ..dividing import HEADER, Indexed, as_tucson, computed_words, divided, ring_lines
 from ..errors import Refused
 from ..failures import Failure, Refusal, telling
-from ..fit import closeness
+from ..fit import Fit, closeness
+from ..fit_series import Asked, own_fit
 from ..formats import form_of
-from ..space import Space
 from ..tucson import Series
+from ..widths import UNIT_OF_TABLES
 from .inputs import GZIP, stem
 from .options import Options
 from .places import INDICES, SHEET, SHEETS
-from .records import Record, Row
-from .shape import shapes
+from .records import PARTS, Record, Row
 
 SHOWN_DIGITS = 6  # of closeness, so that a last bit never shows
 
 
 class Done(NamedTuple):
-    """A series with its curve, values and indices."""
+    """A series with its values and indices, by a given curve or by a fit."""
 
     indexed: Indexed
     curve: Curve
+    fit: Fit | None
 
 
 def number_of(failure: Failure) -> int | None:
@@ -49,51 +47,52 @@ def number_of(failure: Failure) -> int | None:
 def worked_out(record: Record, options: Options, text: bytes) -> tuple[Record, dict[str, bytes]]:
     """The record of a text with its outputs."""
     series, changes = series_of(record.path, text, options)
-    record = record._replace(changes=changes)
+    series = without_blanks(series)
     names = named_by(options.names, series)
     chosen = [each for each in series if each.name in names.all()] if options.names.all() else series
+    record = record._replace(changes=changes + computed_names(chosen, options.ending))
     if not chosen:
         none = f"None of its series is asked for: there are {listed(series)}." if series else "It holds no series."
         return record._replace(refusal=none), {}
     rows, texts, outputs = [], [], {}
     times = Counter(each.name for each in chosen)
-    curve, space = options.given_curve(), options.given_space()
-    for each in chosen:
+    curve, asked = options.given_curve(), options.fits()
+    for each, start in zip(chosen, options.counting().starts(chosen)):
         begun = perf_counter()
         try:
             refuse_shared(each, times)
-            done = divided(each, names, curve, space, options.first)
+            done = by_fit(each, start, asked) if curve is None else by_curve(each, start, names, curve)
             texts.append(text_of(done.indexed, options.ending))
-            if curve is None:
-                outputs[sheet_path(record.path, each.name)] = sheet_of(done.curve)
-            row = row_of(done, is_fitted=curve is None)
+            if done.fit is not None:
+                outputs[sheet_path(record.path, each.name)] = sheet.sheet_of(done.curve).text()
+            row = row_of(done)
         except Failure as failure:
             row = Row(each.name, len(each), None, failure.message, each.first, number=number_of(failure))
         rows.append(row._replace(seconds=perf_counter() - begun))
     if texts:
-        head = HEADER.encode("ascii") if options.ending == "csv" else b""
+        head = HEADER if options.ending == "csv" else b""
         outputs[f"{stem(record.path)}{INDICES}{options.ending}"] = head + b"".join(texts)
     return record._replace(rows=sorted(rows, key=lambda row: row.name)), outputs
 
 
-def row_of(done: Done, is_fitted: bool) -> Row:
+def row_of(done: Done) -> Row:
     """The row of a series that went well."""
-    series, values, _ = done.indexed
+    series, rings = done.indexed
     row = Row(series.name, len(series), done.curve.space.n, "", series.first)
     widths = np.asarray(series.widths)
     if not widths.any():
         return row
-    close = closeness(widths, values)
+    close = closeness(widths, rings.values)
     share = None if close.share_explained is None else round(close.share_explained, SHOWN_DIGITS)
     return row._replace(
-        shape=shapes(done.curve) if is_fitted else "",
+        shape="" if done.fit is None else PARTS.join(done.fit.shapes),
         deviation=round(close.mean_square**0.5, SHOWN_DIGITS),
         explained=share,
     )
 
 
 def series_of(path: str, text: bytes, options: Options) -> tuple[list[Series], list[str]]:
-    """The series of a text, and what its front changed: the one place where the bank reads a laboratory's file."""
+    """The series of a text, and what was noted or changed: the one place where the bank reads a laboratory's file."""
     form = options.form or form_of(path.lower().removesuffix(GZIP), b"")
     with telling(""):
         if form != "tucson":
@@ -105,8 +104,14 @@ def series_of(path: str, text: bytes, options: Options) -> tuple[list[Series], l
             return made.series, [str(change) for change in made.changes]
         if options.strict:
             return tucson.read_strict(text), []
-        front = tucson.clean(text, unit=options.unit, split_gaps=options.split_gaps)
-        return tucson.read_cleaned(front), [str(change) for change in front.changes]
+        front = tucson.clean(text, options.header, options.unit)
+        return tucson.read_strict(front.text), notes.sentences(front.notes)
+
+
+def computed_names(chosen: Iterable[Series], ending: str) -> list[str]:
+    """What is told of names that a spreadsheet would compute in the table."""
+    told = [computed_words(each.name) for each in chosen] if ending == "csv" else []
+    return [words for words in told if words is not None]
 
 
 def named_by(patterns: Names, series: Sequence[Series]) -> Names:
@@ -119,7 +124,7 @@ def named_by(patterns: Names, series: Sequence[Series]) -> Names:
     """
 
     def fitting(wanted: Iterable[str]) -> tuple[str, ...]:
-        return tuple(each.name for each in series if any(fnmatchcase(each.name, pattern) for pattern in wanted))
+        return tuple(each.name for each in series if any(fits(each.name, pattern) for pattern in wanted))
 
     return Names(*(fitting(wanted) for wanted in patterns))
 
@@ -130,28 +135,27 @@ def refuse_shared(series: Series, times: Counter[str]) -> None:
         raise Refusal(f"{times[series.name]} series of the file are named {series.name}. Give each its own name.")
 
 
-def divided(series: Series, names: Names, curve: Curve | None, space: Space | None, first: int | None) -> Done:
-    """A series divided by the given curve, or by one that is fitted to it."""
-    start = series.first if first is None else first
-    if curve is None:
-        curve = fitted_series(series, space or template_for([series], first), start).curve
-        wood = None
-    else:
-        wood = wood_of(series.name, names, "The sheet", curve)
+def by_fit(series: Series, start: int, asked: Asked) -> Done:
+    """A series divided by a curve that is fitted to it."""
+    made = own_fit(series, start, asked)
     with telling(f"Series {series.name}"):
-        return Done(Indexed(series, *curve.rings(series.widths, start, wood)), curve)
+        return Done(Indexed(series, made.divided), made.curve, made)
+
+
+def by_curve(series: Series, start: int, names: Names, curve: Curve) -> Done:
+    """A series divided by a given curve."""
+    wood = wood_of(series.name, names, "The sheet", curve)
+    return Done(divided(series, curve, start, wood), curve, None)
 
 
 def text_of(indexed: Indexed, ending: str) -> bytes:
     """A series' lines of the output, as the command `indices` writes them."""
-    return as_table([indexed])[len(HEADER) :] if ending == "csv" else as_tucson([indexed])
+    if ending != "csv":
+        return as_tucson([indexed])
+    with telling(f"Series {indexed.series.name}"):
+        return ring_lines(*indexed)
 
 
 def sheet_path(path: str, name: str) -> str:
     """Where the sheet of a series stands below the output folder."""
     return f"{stem(path)}{SHEETS}/{quote(name, safe='')}{SHEET}"
-
-
-def sheet_of(curve: Curve) -> bytes:
-    """A fitted curve as a sheet."""
-    return sheet.sheet_of(curve).text()

@@ -14,6 +14,8 @@ from .options import version
 from .outputs import Halt
 from .task import Reply, WrongCopy, run
 
+NEW_OBJECTS = 20_000  # after which the garbage collector looks for circles: a file leaves none, and holds fewer
+
 
 def load() -> None:
     """Load what a task needs, so that no file's seconds are those of loading it, and let the garbage collector leave that
@@ -21,6 +23,7 @@ def load() -> None:
     import_module("scipy.optimize")
     version()
     gc.freeze()
+    gc.set_threshold(NEW_OBJECTS)
 
 
 def main(descriptor: int) -> None:

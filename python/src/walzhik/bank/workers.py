@@ -40,7 +40,7 @@ class Workers(Protocol):
 def lost(task: Task, tries: int) -> Reply:
     """What a task came to whose workers were all killed."""
     words = f"{tries} workers were killed while they had it. It may need more memory than there is."
-    return Reply(Record(task.input.path, refusal=words).line())
+    return Reply.of(Record(task.input.path, refusal=words))
 
 
 class Returned:

@@ -8,16 +8,15 @@ import sys
 from collections import Counter
 from collections.abc import Callable, Iterable, Sequence
 from pathlib import Path
-from typing import Any, NamedTuple, TypeVar
+from typing import Any, TypeVar
 from urllib.parse import quote
 
 import click
 
-from ..counting import Counting
-from ..failures import Failure, Refusal, Unusable, telling
+from ..failures import Failure, Refusal, Unusable
 from ..files import write_whole
-from ..fit import SHAPES, Closeness, Fit, Shape, Unfittable, fit, template
-from ..fit_scar import Hint, hint
+from ..fit import SHAPES, Closeness, Shape
+from ..fit_series import Asked, Fitted, fitted_one
 from ..fit_words import CHOICE, figures, least_words, promise, shape_words
 from ..reasons import SCAR
 from ..sheet import sheet_of
@@ -25,29 +24,11 @@ from ..space import Space
 from ..tucson import Series
 from ._numbers import WHOLE
 from ._outputs import keep_inputs
-from ._series import listed
 
 Decorated = TypeVar("Decorated", bound=Callable[..., Any])
 SHOWN_FITS = 12
 SHOWN_PROGRESS = 500  # series, from which on a bar shows how far it is
 SHEET = ".sheet"
-
-
-class Asked(NamedTuple):
-    """What is asked of fits: a space for all, or a template for each with scars; and the shape."""
-
-    space: Space | None
-    shape: Shape = "auto"
-    scars: tuple[int, ...] = ()
-
-
-class Fitted(NamedTuple):
-    """A series with its fit, how close that is, and where it lacks a scar."""
-
-    series: Series
-    fit: Fit
-    close: Closeness
-    hint: Hint | None
 
 
 def shape_options(function: Decorated) -> Decorated:
@@ -71,43 +52,6 @@ def asked_of(space: Space | None, shape: Shape | None, scars: Sequence[int], is_
     if space is not None and scars:
         raise Unusable(f"--scar goes without --breaks: name the scar by its order, {SCAR}, among --orders.")
     return Asked(space, shape or "auto", tuple(sorted(set(scars))))
-
-
-def template_for(chosen: list[Series], first: int | None, scars: Sequence[int] = ()) -> Space:
-    """The template over all rings of the series that share a sheet, the earliest of which starts with ring `first`."""
-    return template_over(chosen, Counting(first).starts(chosen), scars)
-
-
-def template_over(chosen: list[Series], starts: Sequence[int], scars: Sequence[int] = ()) -> Space:
-    """The template over all rings of the series that share a sheet, by the ring that each starts with."""
-    begin = min(starts)
-    end = max(start + len(series) for series, start in zip(chosen, starts))
-    try:
-        return template(end - begin, begin, scars)
-    except Unfittable as error:
-        raise Refusal(f"Series {listed(chosen)}: no template. {error}") from error
-
-
-def fitted_series(series: Series, space: Space, first: int, shape: Shape = "auto") -> Fit:
-    """A series' fit, or why there is none."""
-    with telling(f"Series {series.name}"):
-        try:
-            return fit(space, series.widths, first, shape)
-        except Unfittable as error:
-            raise Refusal(f"Series {series.name}: no fit. {error}") from error
-
-
-def fitted_one(series: Series, start: int, asked: Asked) -> Fitted:
-    """A series' fit over a space of its own or the given one; scars outside its rings are not its own."""
-    inside = [ring for ring in asked.scars if start < ring < start + len(series) - 1]
-    space = asked.space or template_over([series], [start], inside)
-    return described(series, fitted_series(series, space, start, asked.shape), asked)
-
-
-def described(series: Series, made: Fit, asked: Asked) -> Fitted:
-    """A fit with what is said of it; scars are hinted at where a template without any was taken."""
-    wanted = asked.space is None and not asked.scars and asked.shape != "free"
-    return Fitted(series, made, made.closeness(), hint(made) if wanted else None)
 
 
 def fitted_all(chosen: Sequence[Series], starts: Sequence[int], asked: Asked) -> list[Fitted | None]:

@@ -8,14 +8,15 @@ from typing import TYPE_CHECKING, NamedTuple
 import click
 
 from .. import plot
+from ..choosing import listed, named
 from ..counting import Counting
 from ..curve import Curve, Wood
 from ..failures import Unusable, telling
+from ..fit_series import Asked, described, fitted_series, template_over
 from ..plot import MOST_SERIES, Measured
 from ..plot_widths import widths_picture
 from ..tucson import Series
-from ._fits import Asked, described, fitted_series, say_fits, say_space, template_over
-from ._series import listed, named
+from ._fits import say_fits, say_space
 from .fit import chosen_series
 
 if TYPE_CHECKING:

@@ -19,14 +19,17 @@ from ..bank.report import Summary, counted
 from ..bank.run import Asked, run
 from ..bank.task import Task
 from ..bank.workers import Workers
+from ..choosing import Names
+from ..counting import Counting
 from ..failures import Unusable, telling
+from ..fit import Shape
 from ..space import Space
+from ._fits import asked_of, shape_options
 from ._lists import WholeNumbers, space_of
-from ._numbers import WHOLE
-from ._series import reading_options
+from ._numbers import counting_of, counting_options
+from ._series import file_options
 from ._sheets import read_sheet
 from ._tucson_files import reading_asked
-from .indices import Names
 
 NUMBERS = WholeNumbers()
 DONE, REFUSED, UNREAD = 0, 1, 2
@@ -89,8 +92,22 @@ def say(words: str) -> None:
         click.echo(words, err=True)
 
 
-def tell(summary: Summary, output: str, is_quiet: bool) -> None:
-    """What the run came to, on standard error: quietly, only what was refused."""
+def counting_words(counting: Counting) -> str:
+    """A line that says how rings are counted: in a data bank each file by itself.
+
+    Examples
+    --------
+    >>> print(counting_words(Counting(first=1)))
+    Rings are counted by --first, in each file by itself: the first year of the earliest of its series is ring 1.
+    """
+    if counting.first is None:
+        return counting.words([])
+    words = "Rings are counted by --first, in each file by itself: the first year of the earliest of its series"
+    return f"{words} is ring {counting.first}."
+
+
+def tell(summary: Summary, output: str, options: Options, is_quiet: bool) -> None:
+    """What the run came to, on standard error: quietly, only what was refused or left out."""
     for told in summary.refusals[:SHOWN_REFUSALS]:
         say(f"{told.path}: {told.words}")
     if summary.refused > SHOWN_REFUSALS:
@@ -98,7 +115,10 @@ def tell(summary: Summary, output: str, is_quiet: bool) -> None:
         say(f"{more} more in {Path(output) / 'report.csv'}.")
     for words in summary.asides():
         say(words)
+    if options.scars and not summary.scarred_series:
+        say(f"--scar {options.scars[0]}: no series that was fitted has rings on both sides of it.")
     if not is_quiet:
+        say(counting_words(options.counting()))
         say(f"{summary.words()} {Path(output) / 'report.html'} tells more.")
 
 
@@ -122,13 +142,12 @@ def tell_dry(asked: Asked) -> int:
 @click.option("--series", multiple=True, metavar="PATTERN", help="Series to take, as OAK*; all without it.")
 @click.option("--earlywood", multiple=True, metavar="PATTERN", help="With --curve: series of the earlywood, as *E.")
 @click.option("--latewood", multiple=True, metavar="PATTERN", help="With --curve: series of the latewood, as *L.")
-@click.option(
-    "--each-first", "first", type=WHOLE, metavar="RING", help="The ring of each series' own first width; else years."
-)
+@counting_options
 @click.option("--breaks", type=NUMBERS, help="Breakpoints of all fits. Without them each series has a template.")
 @click.option("--degrees", type=NUMBERS, help="The degree of each stretch.")
 @click.option("--orders", type=NUMBERS, help="The order of each join; -1 is a scar.")
-@reading_options
+@shape_options
+@file_options
 @click.option("--format", "ending", type=click.Choice(["csv", "rwl"]), default="csv", help="How indices are written.")
 @click.option("--workers", type=click.IntRange(1), metavar="N", help="Processes on this machine; all cores without it.")
 @click.option("--scheduler", metavar="ADDRESS", help="A Dask cluster's scheduler, as tls://host:8786.")
@@ -149,9 +168,12 @@ def command(
     earlywood: tuple[str, ...],
     latewood: tuple[str, ...],
     first: int | None,
+    each_first: int | None,
     breaks: list[int] | None,
     degrees: list[int] | None,
     orders: list[int] | None,
+    shape: Shape | None,
+    scars: tuple[int, ...],
     ending: Literal["csv", "rwl"],
     workers: int | None,
     scheduler: str | None,
@@ -177,6 +199,10 @@ def command(
     was interrupted goes on where it stopped: give the same command again. A PATTERN has * for any letters and ? for
     one.
 
+    Rings are years, unless --first RING says which ring the first width of the earliest series is, of those that are
+    taken of a file and in each file by itself, or --each-first RING which ring each series' own first width is. A scar
+    is set in every series that has rings on both sides of it.
+
     With --scheduler the same is done by a Dask cluster: docs/CLUSTER.md says how to start one, with certificates.
 
     \b
@@ -188,10 +214,11 @@ def command(
     """
     names = Names(series, earlywood, latewood)
     space = space_of(breaks, degrees, orders)
-    if curve is not None and (is_fit or space is not None):
-        raise Unusable("Give --curve, or fit: --fit, --breaks, --degrees and --orders go without --curve.")
+    if curve is not None and (is_fit or space is not None or shape is not None or scars):
+        raise Unusable("Give --curve, or fit: --fit, --breaks, --degrees, --orders, --shape and --scar go without it.")
     if curve is None and (earlywood or latewood):
         raise Unusable("--earlywood and --latewood go with --curve: a series that is fitted has a curve of its own.")
+    fits, counting = asked_of(space, shape, scars), counting_of(first, each_first)
     reading = reading_asked(**asked_reading)
     where = scheduler_of(workers, scheduler, (tls_ca, tls_cert, tls_key), no_tls, ship)
     options = Options(
@@ -199,9 +226,12 @@ def command(
         space=lists_of_space(space),
         sheet=None if curve is None else lists_of_sheet(curve, names),
         names=names,
-        first=first,
+        first=counting.first,
+        each_first=counting.each_first,
+        shape=fits.shape,
+        scars=fits.scars,
         strict=reading.strict,
-        split_gaps=reading.split_gaps,
+        header=reading.header,
         unit=reading.unit,
         form=reading.form,
         asked=reading.asked,
@@ -211,5 +241,5 @@ def command(
     if is_dry:
         return tell_dry(asked)
     summary = run(asked, lambda probe, say: made_workers(probe, say, workers, where))
-    tell(summary, output, is_quiet)
+    tell(summary, output, options, is_quiet)
     return UNREAD if summary.unread_files else REFUSED if summary.refused else DONE

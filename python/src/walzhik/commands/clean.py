@@ -1,4 +1,4 @@
-"""The command `clean`: a laboratory's Tucson files in the strict form, with every change told."""
+"""The command `clean`: a laboratory's Tucson files in the strict form, with every note told."""
 
 from __future__ import annotations
 
@@ -8,7 +8,15 @@ import click
 
 from ..files import write_whole
 from ._outputs import format_option, keep_inputs, written_format
-from ._tucson_files import cleaned, from_option, front_options, other_options, reading_asked, refuse_shared_names
+from ._tucson_files import (
+    cleaned,
+    from_option,
+    front_options,
+    other_options,
+    quiet_option,
+    reading_asked,
+    refuse_shared_names,
+)
 
 FORMATS = ("rwl",)
 
@@ -20,26 +28,29 @@ FORMATS = ("rwl",)
 @from_option
 @front_options
 @other_options
+@quiet_option
 def command(files: tuple[str, ...], written: str | None, output: str, **asked: Any) -> None:
     """Bring Tucson files into the strict form that the proved reader takes; - is standard input. Heidelberg files (.fh) and
     tables (.csv, .tsv) are taken as well.
 
-    It changes line ends of Windows, a byte order mark, the data bank's three header lines, blank lines, trailing blanks, Ctrl-Z at the
-    end, a missing last line end, tabs between whole fields, and a byte of a name that is not ASCII (to ?). Each change is told on
-    standard error with its line. What it would have to guess is refused, with what to do: missing years, a year of five columns, a name
-    that comes again, 999 within hundredths, the closing -999.
+    A line is taken as an editor shows it, and must then stand in the strict columns: nothing moves a digit to another column, and
+    nothing is put in. Left out or changed are line ends of Windows, a byte order mark, Ctrl-Z at the end, tabs (as blanks), trailing
+    blanks, blank lines, a site name behind ten fields, the data bank's three header lines or those that --header names, and what is
+    not ASCII in a name (to ?). Each is told on standard error with its line, and so is what a date may hang on. Anything else is refused,
+    with what is shown there and what to do: missing years, a year that runs into the name, a closing whose unit nobody knows.
 
-    This front is tested, not proved. The proved reader reads the result before anything is written. Several files become one.
+    This is proved: every name, year and width that is read stands in the file in the columns in which it is shown, and every line
+    that is left out is told. Several files become one.
 
     \b
     ./walzhik clean oak_from_windows.rwl -o oak.rwl
-    ./walzhik clean old.rwl --hundredths --split-gaps -o strict.rwl
+    ./walzhik clean old.rwl --hundredths --header 2 -o strict.rwl
 
     Exit status: 0 done, 1 refused, 2 wrong usage, or a file can't be read or written.
     """
     keep_inputs(output, files)
     written_format(output, written, FORMATS)
     reading = reading_asked(strict=False, **asked)
-    texts = [cleaned(name, reading) for name in files]
+    texts = [cleaned(name, reading, is_full=True) for name in files]
     refuse_shared_names([(name, series) for name, (_, series) in zip(files, texts)])
     write_whole(output, b"".join(text for text, _ in texts))

@@ -6,31 +6,29 @@ from typing import Any
 
 import click
 
+from ..choosing import listed, named
 from ..counting import Counting
 from ..failures import REFUSED, Unusable
 from ..files import STANDARD, write_whole
 from ..fit import Shape
+from ..fit_series import Asked, described, fitted_series, template_over
 from ..sheet import Sheet
 from ..tucson import Series
 from ._fits import (
-    Asked,
     asked_of,
-    described,
     fitted_all,
-    fitted_series,
     is_folder,
     keep_from_sheets,
     say_fits,
     say_space,
     say_templates,
     shape_options,
-    template_over,
     write_sheets,
 )
 from ._lists import WholeNumbers, space_of
 from ._numbers import counting_of, counting_options
 from ._outputs import format_option, keep_inputs, written_format
-from ._series import listed, named, read_series, reading_options
+from ._series import read_series, reading_options
 
 NUMBERS = WholeNumbers()
 FORMATS = ("sheet",)

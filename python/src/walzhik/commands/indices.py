@@ -7,66 +7,41 @@ from collections.abc import Iterable, Sequence
 from typing import Any, NamedTuple
 
 import click
-import numpy as np
 
-from .. import tucson
-from ..csvtext import ring_rows
+from ..choosing import SHOWN_NAMES, Names, chosen_series, fitting, listed, named_by, wood_of
 from ..curve import Curve, Wood
-from ..failures import REFUSED, Refusal, Unusable, telling
-from ..files import STANDARD, write_whole
+from ..dividing import Indexed, as_tucson, computed_words, divided, table_pieces
+from ..failures import REFUSED, Unusable, telling
+from ..files import STANDARD, write_pieces
 from ..fit import Shape
-from ..reasons import WOOD
-from ..space import Space
+from ..fit_series import Fitted
 from ..tucson import Series
 from ._fits import (
-    Fitted,
     asked_of,
     fitted_all,
-    fitted_series,
     keep_from_sheets,
     say_fits,
     say_templates,
     shape_options,
-    template_for,
     write_sheets,
 )
 from ._lists import WholeNumbers, space_of
 from ._numbers import counting_of, counting_options
 from ._outputs import format_option, keep_inputs, written_format
-from ._series import fitting, listed, named, read_series, reading_options
+from ._series import read_series, reading_options
 from ._sheets import read_sheet
 
 NUMBERS = WholeNumbers()
-HEADER = "series,year,width_mm,curve_mm,index\n"
 TUCSON = "rwl"
 FORMATS = ("csv", TUCSON)
 
 
-class Names(NamedTuple):
-    """The series that are named, by how."""
-
-    series: tuple[str, ...]
-    earlywood: tuple[str, ...]
-    latewood: tuple[str, ...]
-
-    def all(self) -> tuple[str, ...]:
-        return self.series + self.earlywood + self.latewood
-
-
 class Job(NamedTuple):
-    """A series with the curve that divides it, where it is given and not fitted."""
+    """A series with the curve that divides it."""
 
     series: Series
-    curve: Curve | None = None
-    wood: Wood | None = None
-
-
-class Indexed(NamedTuple):
-    """A series with its values and indices."""
-
-    series: Series
-    values: np.ndarray[tuple[int], np.dtype[np.int32]]
-    indices: np.ndarray[tuple[int], np.dtype[np.int64]]
+    curve: Curve
+    wood: Wood | None
 
 
 def by_name(given: Sequence[str], series: Sequence[Series]) -> tuple[str | None, dict[str, str]]:
@@ -100,32 +75,6 @@ def curves_of(given: Sequence[str], series: Sequence[Series], strict: bool) -> d
     return {name: (path, read[path]) for name, path in paths.items()}
 
 
-def wood_of(name: str, names: Names, path: str, curve: Curve) -> Wood | None:
-    """The wood part whose curve divides a series; None for a curve of the whole ring."""
-    parts = [part for part, listed_names in zip(WOOD, names[1:]) if name in listed_names]
-    if len(parts) > 1:
-        raise Unusable(f"Series {name} is named as earlywood and as latewood.")
-    if curve.is_whole_ring:
-        return None
-    if not parts:
-        raise Unusable(
-            f"{path} has a curve for each wood part: name the series of a wood part, "
-            "with --earlywood NAME or --latewood NAME."
-        )
-    return "earlywood" if parts[0] == WOOD[0] else "latewood"
-
-
-def named_by(patterns: Names, series: Sequence[Series]) -> Names:
-    """The names that patterns fit, each of which must fit one."""
-    return Names(*(tuple(each.name for pattern in wanted for each in fitting(series, pattern)) for wanted in patterns))
-
-
-def chosen_series(series: list[Series], names: Names) -> list[Series]:
-    """The named series, in the files' order; all where none is named."""
-    wanted = {named(series, name).name for name in names.all()}
-    return [each for each in series if each.name in wanted] if wanted else series
-
-
 def jobs_by_sheets(series: list[Series], given: Sequence[str], names: Names, strict: bool) -> list[Job]:
     """Each chosen series with the curve of its sheet."""
     curves = curves_of(given, series, strict)
@@ -145,16 +94,6 @@ def jobs_by_sheets(series: list[Series], given: Sequence[str], names: Names, str
     return jobs
 
 
-def indexed(job: Job, space: Space | None, first: int | None) -> Indexed:
-    """A series' values and indices, by its curve or by one fitted to it; `first` is the ring of its first width."""
-    series, start = job.series, job.series.first if first is None else first
-    curve = job.curve
-    if curve is None:
-        curve = fitted_series(series, space or template_for([series], first), start).curve
-    with telling(f"Series {series.name}"):
-        return Indexed(series, *curve.rings(series.widths, start, job.wood))
-
-
 def by_fits(tried: Sequence[Fitted | None], sheets: str | None, is_template: bool) -> list[Indexed]:
     """The series that could be fitted, divided by their curves; what is said of them, and their sheets."""
     made = [each for each in tried if each is not None]
@@ -164,28 +103,16 @@ def by_fits(tried: Sequence[Fitted | None], sheets: str | None, is_template: boo
         say_fits(made)
     if sheets is not None:
         write_sheets(sheets, made)
-    return [Indexed(each.series, *each.fit.rings) for each in made]
+    return [Indexed(each.series, each.fit.divided) for each in made]
 
 
-def as_tucson(done: Iterable[Indexed]) -> bytes:
-    """The indices as a Tucson text: 0 for an absent ring, so no other ring may have 0."""
-    made = []
-    for series, _, indices in done:
-        for place in np.flatnonzero(indices == 0).tolist():
-            year = series.first + place
-            raise Refusal(
-                f"Series {series.name}, {year}: the index is 0, which a Tucson text has for an absent ring. "
-                "Write CSV instead."
-            )
-        made.append(Series(series.name, series.first, np.maximum(indices, 0)))
-    with telling("The indices as a Tucson text"):
-        return tucson.write(made)
-
-
-def as_table(done: Iterable[Indexed]) -> bytes:
-    """The indices as CSV."""
-    rows = [ring_rows(each.series.name, each.series.first, each.series.widths, *each[1:]) for each in done]
-    return "".join([HEADER, *rows]).encode("ascii")
+def warn_of_computed(taken: Iterable[Series]) -> None:
+    """Tell of names that a spreadsheet would compute: the first of many."""
+    told = [words for words in (computed_words(each.name) for each in taken) if words is not None]
+    for words in told[:SHOWN_NAMES]:
+        click.echo(words, err=True)
+    if len(told) > SHOWN_NAMES:
+        click.echo(f"The same holds for {len(told) - SHOWN_NAMES:,} series more.", err=True)
 
 
 @click.command()
@@ -274,19 +201,21 @@ def command(
     made_format = written_format(output, written, FORMATS)
     counting, found = counting_of(first, each_first), read_series(files, **reading)
     names = named_by(Names(series, earlywood, latewood), found)
-    jobs = (
-        [Job(each) for each in chosen_series(found, names)]
-        if is_fit
-        else jobs_by_sheets(found, curves, names, reading["strict"])
-    )
-    taken = [job.series for job in jobs]
+    jobs = [] if is_fit else jobs_by_sheets(found, curves, names, reading["strict"])
+    taken = chosen_series(found, names) if is_fit else [job.series for job in jobs]
     click.echo(counting.words(taken), err=True)
     if sheets is not None:
         keep_from_sheets(sheets, taken, files)
     starts = counting.starts(taken)
+    done: Iterable[Indexed]
     if is_fit:
-        done = by_fits(fitted_all(taken, starts, asked), sheets, space is None)
+        done = fits = by_fits(fitted_all(taken, starts, asked), sheets, space is None)
     else:
-        done = [indexed(job, space, start) for job, start in zip(jobs, starts)]
-    write_whole(output, as_tucson(done) if made_format == TUCSON else as_table(done))
-    return 0 if len(done) == len(jobs) else REFUSED
+        done = (divided(job.series, job.curve, start, job.wood) for job, start in zip(jobs, starts))
+    if made_format == TUCSON:
+        pieces: Iterable[bytes] = [as_tucson(done)]
+    else:
+        warn_of_computed(taken)
+        pieces = table_pieces(done)
+    write_pieces(output, pieces)
+    return REFUSED if is_fit and len(fits) < len(taken) else 0

@@ -9,20 +9,20 @@ from typing import TYPE_CHECKING, Any, get_args
 import click
 
 from .. import plot
-from ..counting import Counting
-from ..curve import Curve, Wood
+from ..curve import Wood
 from ..failures import Unusable, telling
 from ..files import STANDARD, read_whole, write_whole
 from ..fit import Shape
 from ..formats import BY_ENDING, LOOKED_AT, SHEET_LINE, ending, kind_of
-from ..plot import ENDINGS, MOST_SERIES, Ending, Measured
-from ..tucson import Series
+from ..plot import ENDINGS, Ending, Measured
+from ..plot_series import counted, measured_series, parts_of
 from ._fits import asked_of, shape_options
 from ._numbers import counting_of, counting_options
 from ._outputs import keep_inputs
 from ._plot_series import Looks, fitted_picture, measured_picture
-from ._series import fitting, listed, read_series, reading_options
+from ._series import read_series, reading_options
 from ._sheets import read_sheet
+from ._tucson_files import is_asked
 
 if TYPE_CHECKING:
     from matplotlib.figure import Figure
@@ -72,43 +72,6 @@ def ending_of(output: str, chosen: str | None) -> Ending:
         if asked == each:
             return each
     raise Unusable(f"{output}: the picture's name must end in .svg, .png or .pdf, or --format say which it is.")
-
-
-def parts_of(curve: Curve, wood: str, names: dict[Wood, tuple[str, ...]]) -> list[Wood | None]:
-    """The curves to draw: the whole ring's, the named part's, those whose series are named, or both."""
-    if wood != "both":
-        return [part for part in get_args(Wood) if part == wood]
-    if curve.is_whole_ring:
-        return [None]
-    return [part for part in names if names[part]] or list(names)
-
-
-def measured_series(
-    series: list[Series], curve: Curve, names: dict[Wood, tuple[str, ...]], others: Sequence[str]
-) -> list[tuple[Series, Wood | None]]:
-    """The series to draw, each with the wood part whose curve divides it."""
-    parts: list[tuple[Series, Wood | None]] = [
-        (each, None if curve.is_whole_ring else part)
-        for part in names
-        for name in names[part]
-        for each in fitting(series, name)
-    ]
-    if others and not curve.is_whole_ring:
-        raise Unusable("The sheet has a curve for each wood part: name the series with --earlywood or --latewood.")
-    parts += [(each, None) for name in others for each in fitting(series, name)]
-    if not parts and not curve.is_whole_ring:
-        told = "The sheet has a curve for each wood part: name the series of each, with --earlywood NAME and --latewood NAME."
-        raise Unusable(f"{told} There are {listed(series) or 'none'}.")
-    chosen = parts or [(each, None) for each in series]
-    if len(chosen) > MOST_SERIES:
-        raise Unusable(f"{len(chosen):,} series can't be told apart: name at most {MOST_SERIES} with --series.")
-    return chosen
-
-
-def counted(chosen: list[tuple[Series, Wood | None]], counting: Counting) -> list[Measured]:
-    """The series to draw, with the ring of each first width."""
-    starts = counting.starts([each for each, _ in chosen])
-    return [Measured(each.name, start, each.widths, part) for (each, part), start in zip(chosen, starts)]
 
 
 def readable(text: str) -> str:
@@ -227,7 +190,7 @@ def sheet_picture(
     """The picture of a sheet's curve, with the widths of Tucson files."""
     if not tucson_files and any((series, *names.values())):
         raise Unusable("Series are named, but no Tucson file is given.")
-    if not tucson_files and any(reading.values()):
+    if not tucson_files and is_asked(reading):
         raise Unusable("An option says how Tucson files are read, but none is given.")
     lists = read_sheet(name, strict=reading["strict"])
     with telling(name):

@@ -8,27 +8,16 @@ from typing import Any
 
 import click
 
-from ..counting import Counting
+from ..choosing import named
 from ..failures import Unusable
 from ..files import STANDARD
-from ..tucson import Series
 from ._numbers import Whole, counting_of, counting_options
-from ._series import named, read_series, reading_options
+from ._series import read_series, reading_options
 from ._sheets import read_sheet
+from ._tucson_files import is_asked
 
 MOST_PORT = 65_535
 PACKAGES = "python3-flask python3-waitress"
-
-
-def shared_start(series: list[Series], counting: Counting) -> int | None:
-    """The ring of the first width of every series of the file, None for years: the screen counts each by itself."""
-    starts = set(counting.starts(series))
-    if counting.first is not None and len(starts) > 1:
-        raise Unusable(
-            f"The series of the file start in different years, so that --first {counting.first} is no one ring for "
-            "the first width of all. The screen counts each series by itself: --each-first RING, or years without it."
-        )
-    return None if counting.is_by_years or not starts else starts.pop()
 
 
 @click.command()
@@ -66,7 +55,7 @@ def command(
                    --earlywood ROOF04E --latewood ROOF04L
     """
     try:
-        from ..view.given import start
+        from ..view.given import counted_series, start
         from ..view.server import Screen
     except ModuleNotFoundError as error:
         raise Unusable(f"The screen needs Debian's packages: sudo apt-get install {PACKAGES}") from error
@@ -76,7 +65,7 @@ def command(
         raise Unusable("Give --series, or --earlywood and --latewood.")
     if asked and file is None:
         raise Unusable("A series is named, but no Tucson file is given.")
-    if file is None and any(reading.values()):
+    if file is None and is_asked(reading):
         raise Unusable("An option says how a Tucson file is read, but none is given.")
     if STANDARD == file == curve:
         raise Unusable("Standard input (-) can be named once only.")
@@ -84,15 +73,15 @@ def command(
     if file is None and not counting.is_by_years:
         raise Unusable("--first and --each-first count the rings of series, but no Tucson file is given.")
     found = read_series([file] if file is not None else [], **reading)
-    ring = shared_start(found, counting)
     begun = None
     if curve is not None:
         begun = read_sheet(curve, strict=reading["strict"])
     names = [PurePath(name).name for name in (file, curve) if name is not None]
     chosen = {wood: named(found, name).name for wood, name in asked.items()}
+    by_name = {each.name: each for each in found}
     if found:
-        click.echo(counting.words(found), err=True)
-    screen = Screen(start({each.name: each for each in found}, begun, chosen, ring, names), port)
+        click.echo(counting.words(counted_series(by_name, chosen)), err=True)
+    screen = Screen(start(by_name, begun, chosen, counting, names), port)
     click.echo(f"The screen is at {screen.address} (end with Ctrl-C).")
     screen.run()
     return 0

@@ -8,7 +8,7 @@ from collections.abc import Sequence
 from io import BytesIO
 from zipfile import ZIP_DEFLATED, ZipFile, ZipInfo
 
-from ..commands.indices import Indexed, as_table
+from ..dividing import Indexed, as_table
 from ..failures import Refusal, Unusable, telling
 from .design import Design, Malformed
 from .downloads import INDICES, Download, divided, safe, sheet_text

@@ -8,11 +8,11 @@ from collections.abc import Sequence
 from dataclasses import dataclass, field
 from typing import Any, Literal, cast, get_args
 
+from ..counting import Origin
 from ..curve import Curve, Wood
 from ..reasons import UNIT, WOOD
 from ..sheet import Sheet
 from ..space import Space
-from ..tucson import Series
 
 RING = "ring"  # the name of a curve of the whole ring where a wood part's name would stand
 Positions = Literal["none", "rings", "given"]
@@ -37,7 +37,10 @@ class Design:
     series : dict
         The name of the series beside the curve of ``ring``, ``earlywood`` or ``latewood``.
     first : int, optional
-        The ring of each series' first width; rings are years where it is left out.
+        The ring of the first width; rings are years where it is left out.
+    earliest : int, optional
+        The first year of the earliest series, which is ring `first` for all of them; where it is left out, `first` is the
+        ring of each series' own first width.
     at : {"none", "rings", "given"}
         The positions that the sheet lists.
     positions : list of int, optional
@@ -53,11 +56,17 @@ class Design:
     first: int | None = None
     at: Positions = "none"
     positions: list[int] | None = None
+    earliest: int | None = None
 
     @property
     def woods(self) -> list[str]:
         """The curves that are shown: ``ring``, or both wood parts."""
         return [RING] if self.is_whole_ring else list(WOOD)
+
+    @property
+    def origin(self) -> Origin:
+        """Where the rings of series are counted from."""
+        return Origin(self.first, self.earliest)
 
     @property
     def lists(self) -> tuple[list[int], list[int], list[int]]:
@@ -109,11 +118,6 @@ def ring_positions(breaks: Sequence[int]) -> list[int]:
     return [UNIT * ring for ring in range(first, last + 1, step)]
 
 
-def ring_of(series: Series, first: int | None) -> int:
-    """The ring of a series' first width: its year where no ring is named."""
-    return series.first if first is None else first
-
-
 def wood_of(name: str) -> Wood | None:
     """The wood part of a curve's name; None for the whole ring."""
     return None if name == RING else cast(Wood, name)
@@ -124,6 +128,14 @@ def whole_numbers(sent: object, name: str) -> list[int]:
     if not isinstance(sent, list) or not all(type(number) is int for number in sent):
         raise Malformed(f"{name} is no list of whole numbers.")
     return sent
+
+
+def whole_or_none(sent: dict[str, Any], name: str) -> int | None:
+    """A whole number of what was sent, or None where it is left out."""
+    number = sent.get(name)
+    if number is None or type(number) is int:
+        return number
+    raise Malformed(f"{name} is no whole number.")
 
 
 def pairs_of(sent: object) -> list[tuple[int, int]]:
@@ -163,9 +175,8 @@ def design_of(sent: object) -> Design:
     if not isinstance(sent, dict):
         raise Malformed("A design is needed.")
     lists = [whole_numbers(sent.get(name), name) for name in ("breaks", "degrees", "orders")]
-    pairs, first, at = pairs_of(sent.get("pairs")), sent.get("first"), sent.get("at")
-    if not (first is None or type(first) is int):
-        raise Malformed("first is no whole number.")
+    pairs, at = pairs_of(sent.get("pairs")), sent.get("at")
+    first, earliest = whole_or_none(sent, "first"), whole_or_none(sent, "earliest")
     if not isinstance(at, str) or at not in get_args(Positions):
         raise Malformed("at is not none, rings or given.")
     is_whole_ring = sent.get("is_whole_ring")
@@ -176,4 +187,6 @@ def design_of(sent: object) -> Design:
     listed = sent.get("positions")
     positions = None if listed is None else whole_numbers(listed, "positions")
     series = series_of(sent.get("series"))
-    return Design(lists[0], lists[1], lists[2], pairs, is_whole_ring, series, first, cast(Positions, at), positions)
+    made = Design(lists[0], lists[1], lists[2], pairs, is_whole_ring, series, first, cast(Positions, at), positions)
+    made.earliest = earliest
+    return made

@@ -10,12 +10,13 @@ from threading import Lock
 from typing import NamedTuple
 
 from .. import plot, sheet
-from ..commands.indices import Indexed, Job, Names, as_table, as_tucson, chosen_series, indexed, wood_of
-from ..commands.plot import counted, measured_series, parts_of
-from ..counting import Counting
+from ..choosing import Names, chosen_series, wood_of
 from ..curve import Curve, Wood
+from ..dividing import Indexed, as_table, as_tucson
+from ..dividing import divided as divided_by
 from ..failures import Unusable
-from ..plot import Ending
+from ..plot import Ending, Measured
+from ..plot_series import measured_series, parts_of
 from ..reasons import WOOD
 from .design import RING, Design
 from .given import Given
@@ -86,11 +87,10 @@ def divided(design: Design, given: Given) -> list[Indexed]:
     if not any(names_of(design)):
         raise Unusable("No series is chosen: there are no rings to divide by the curve.")
     curve, names = design.curve(), names_of(design)
-    jobs = [
-        Job(each, curve, wood_of(each.name, names, "The design", curve))
+    return [
+        divided_by(each, curve, design.origin.ring_of(each), wood_of(each.name, names, "The design", curve))
         for each in chosen_series(list(given.series.values()), names)
     ]
-    return [indexed(job, None, design.first) for job in jobs]
 
 
 def picture(design: Design, given: Given, ending: Ending) -> bytes:
@@ -100,7 +100,7 @@ def picture(design: Design, given: Given, ending: Ending) -> bytes:
     by_part: dict[Wood, tuple[str, ...]] = {"earlywood": names.earlywood, "latewood": names.latewood}
     series = list(given.series.values())
     taken = measured_series(series, curve, by_part, names.series) if any(names) else []
-    measured = counted(taken, Counting(each_first=design.first))
+    measured = [Measured(each.name, design.origin.ring_of(each), each.widths, part) for each, part in taken]
     with DRAWING:
         made = plot.picture(
             curve,

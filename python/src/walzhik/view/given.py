@@ -8,12 +8,14 @@ from collections.abc import Mapping, Sequence
 from dataclasses import dataclass, field
 from typing import Any
 
+from ..counting import Counting, Origin
+from ..dividing import computed_words
 from ..failures import Refusal, Unusable
 from ..fit import Unfittable, fit, template
 from ..reasons import DEGREES, MOST_BREAKPOINT, MOST_COEFFICIENT, MOST_ORDER, SCAR, WOOD
 from ..sheet import Sheet
 from ..tucson import Series
-from .design import RING, Design, ring_of
+from .design import RING, Design
 from .shapes import shapes
 
 START = Sheet([0, 20, 60, 100], [3, 2, 1], [1, 0], [(n, n) for n in (1500, 2600, 2400, 1500, 1000, 800)])
@@ -23,26 +25,6 @@ LIMITS = {
     "breakpoint": MOST_BREAKPOINT,
     "coefficient": MOST_COEFFICIENT,
 }
-
-
-COMPUTED = "=+-@"  # what a formula of a spreadsheet begins with
-
-
-def computed_words(name: str) -> str | None:
-    """What to say of a series' name that a spreadsheet would compute; None for any other.
-
-    Examples
-    --------
-    >>> computed_words("=A1+A2")
-    'Series =A1+A2 begins with =, and a spreadsheet would compute such a name. Give it another one before its table goes there.'
-    >>> computed_words("ROOF04E")
-    """
-    if not name.startswith(tuple(COMPUTED)):
-        return None
-    return (
-        f"Series {name} begins with {name[0]}, and a spreadsheet would compute such a name. "
-        "Give it another one before its table goes there."
-    )
 
 
 @dataclass
@@ -60,6 +42,8 @@ class Given:
         What the page begins with.
     words : str
         What is to be said of it.
+    earliest : int, optional
+        The first year of the earliest series that is named, or of all where none is.
     """
 
     series: Mapping[str, Series]
@@ -67,6 +51,7 @@ class Given:
     design: Design
     at: Sequence[int] = field(default_factory=list)
     words: str = ""
+    earliest: int | None = None
 
     @property
     def sheet_name(self) -> str | None:
@@ -83,6 +68,7 @@ class Given:
             "names": self.names,
             "words": self.words,
             "series": series,
+            "earliest": self.earliest,
             "design": self.design.as_json(),
             "positions": len(self.at),
             "limits": LIMITS,
@@ -102,14 +88,14 @@ def chosen_series(series: Mapping[str, Series], named: Mapping[str, str], is_who
     return dict(named)
 
 
-def fitted(series: Mapping[str, Series], chosen: Mapping[str, str], first: int | None) -> Design:
+def fitted(series: Mapping[str, Series], chosen: Mapping[str, str], origin: Origin) -> Design:
     """A design by the template over the chosen series, with coefficients fitted to each."""
     used = [series[name] for name in chosen.values()]
-    begin = min(ring_of(each, first) for each in used)
-    rings = max(ring_of(each, first) + len(each) for each in used) - begin
+    begin = min(origin.ring_of(each) for each in used)
+    rings = max(origin.ring_of(each) + len(each) for each in used) - begin
     try:
         space = template(rings, begin)
-        sides = {wood: fit(space, series[name].widths, ring_of(series[name], first)) for wood, name in chosen.items()}
+        sides = {wood: fit(space, series[name].widths, origin.ring_of(series[name])) for wood, name in chosen.items()}
     except Unfittable as error:
         raise Refusal(
             f"Series {', '.join(chosen.values())}: no curve to begin with. {error} Give a sheet with --curve."
@@ -117,9 +103,9 @@ def fitted(series: Mapping[str, Series], chosen: Mapping[str, str], first: int |
     columns = [(sides.get(wood) or next(iter(sides.values()))).coefficients.tolist() for wood in WOOD]
     lists, pairs = space.lists(), list(zip(*columns))
     is_whole_ring = set(chosen) == {RING}
-    return Design(
-        list(lists.breaks), list(lists.degrees), list(lists.orders), pairs, is_whole_ring, dict(chosen), first
-    )
+    design = Design(list(lists.breaks), list(lists.degrees), list(lists.orders), pairs, is_whole_ring, dict(chosen))
+    design.first, design.earliest = origin
+    return design
 
 
 def copied_words(design: Design) -> str:
@@ -130,18 +116,26 @@ def copied_words(design: Design) -> str:
     return f"No series of the {alone[0]} is named: its curve begins as a copy of the other one."
 
 
+def counted_series(series: Mapping[str, Series], named: Mapping[str, str]) -> list[Series]:
+    """The series whose earliest one rings are counted from: those that are named, or all where none is."""
+    return [series[name] for name in named.values()] or list(series.values())
+
+
 def start(
-    series: Mapping[str, Series], sheet: Sheet | None, named: Mapping[str, str], first: int | None, names: list[str]
+    series: Mapping[str, Series], sheet: Sheet | None, named: Mapping[str, str], counting: Counting, names: list[str]
 ) -> Given:
     """What the page begins with: the sheet's curve, or one fitted to the series, or a small one."""
+    among = counted_series(series, named)
+    origin, earliest = counting.origin(among), min((each.first for each in among), default=None)
     if sheet is None and series:
         is_whole_ring = not (set(named) & set(WOOD))
-        design = fitted(series, chosen_series(series, named, is_whole_ring), first)
-        return Given(series, names, design, words=copied_words(design))
+        design = fitted(series, chosen_series(series, named, is_whole_ring), origin)
+        return Given(series, names, design, words=copied_words(design), earliest=earliest)
     begun = sheet or START
     is_whole_ring = all(early == late for early, late in begun.pairs) and not (set(named) & set(WOOD))
     chosen = chosen_series(series, named, is_whole_ring)
     lists = [list(numbers) for numbers in (begun.breaks, begun.degrees, begun.orders)]
-    design = Design(lists[0], lists[1], lists[2], list(begun.pairs), is_whole_ring, chosen, first)
+    design = Design(lists[0], lists[1], lists[2], list(begun.pairs), is_whole_ring, chosen)
+    design.first, design.earliest = origin
     design.at = "given" if begun.at else "none"
-    return Given(series, names, design, begun.at)
+    return Given(series, names, design, begun.at, earliest=earliest)

@@ -8,6 +8,8 @@ import hmac
 import secrets
 from collections.abc import Mapping
 
+from .._place import called
+
 TOKEN_BYTES = 16
 HOST = "127.0.0.1"
 OWN_SITES = ("same-origin", "none")  # of Sec-Fetch-Site: the page itself, or an address that was typed
@@ -45,5 +47,5 @@ def refused(headers: Mapping[str, str], path: str, port: int, token: str) -> str
         return "Another site's page can't ask this server."
     given = path.split("/")[1] if path.startswith("/") else ""
     if not hmac.compare_digest(given.encode("utf-8"), token.encode("ascii")):
-        return "The address lacks the token: take the whole address that ./walzhik view has printed."
+        return f"The address lacks the token: take the whole address that {called()} view has printed."
     return None

@@ -15,7 +15,7 @@ from ..errors import Refused
 from ..fit import closeness
 from ..reasons import UNIT
 from ..tucson import Series
-from .design import Design, ring_of, wood_of
+from .design import Design, wood_of
 from .faults import INDEX, OUTSIDE, told
 
 if TYPE_CHECKING:
@@ -93,7 +93,7 @@ def measured(design: Design, curve: Curve | None, series: Mapping[str, Series]) 
         if wood not in design.series:
             continue
         each = series[design.series[wood]]
-        start = ring_of(each, design.first)
+        start = design.origin.ring_of(each)
         made: dict[str, Any] = {"name": each.name, "wood": wood, "first": start, "year": each.first}
         made |= {"widths": np.asarray(each.widths).tolist(), "indices": None, "values": None, "closeness": None}
         made |= {"refusal": None, "faults": []} if curve is None else divided(curve, each, start, wood)

@@ -32,6 +32,7 @@ def opened(design: Design, text: bytes) -> dict[str, Any]:
     read = read_tidied(tidy)
     is_whole_ring = design.is_whole_ring and all(early == late for early, late in read.pairs)
     made = Design(list(read.breaks), list(read.degrees), list(read.orders), list(read.pairs), is_whole_ring)
-    made.series, made.first, made.positions = design.series, design.first, list(read.at)
+    made.series, made.positions = design.series, list(read.at)
+    made.first, made.earliest = design.first, design.earliest
     made.at = "given" if read.at else "none"
     return {"refusal": None, "design": made.as_json(), "words": " ".join(tidy.changes)}

@@ -8,7 +8,7 @@ from typing import Any
 import numpy as np
 
 from ..tucson import Series
-from .design import Design, ring_of
+from .design import Design
 
 MOST_OTHERS = 50
 
@@ -18,7 +18,7 @@ def others(design: Design, series: Mapping[str, Series]) -> dict[str, Any]:
     chosen = {design.series.get(wood) for wood in design.woods}
     rest = [each for each in series.values() if each.name not in chosen]
     shown = [
-        {"name": each.name, "first": ring_of(each, design.first), "widths": np.asarray(each.widths).tolist()}
+        {"name": each.name, "first": design.origin.ring_of(each), "widths": np.asarray(each.widths).tolist()}
         for each in rest[:MOST_OTHERS]
     ]
     return {"others": shown, "left": max(0, len(rest) - MOST_OTHERS)}

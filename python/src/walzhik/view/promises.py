@@ -1,5 +1,6 @@
 """What the engine promises of a curve, in sentences for the page: the count of coefficients, the limits and how near
-they are, which spaces are never refused, and when the curve stays above zero. The theorems stand in docs/THEOREMS.md.
+they are, which spaces are never refused, when the curve stays above zero, and what `explain` says of the sheet. The theorems
+stand in docs/THEOREMS.md.
 """
 
 from __future__ import annotations
@@ -8,6 +9,7 @@ from typing import TYPE_CHECKING, NamedTuple
 
 import numpy as np
 
+from ..promises import shape_lines, wood_lines
 from ..reasons import MOST_PART_STRETCHES, MOST_SPAN, MOST_STRETCHES, count, parts, rows_sum
 
 if TYPE_CHECKING:
@@ -77,12 +79,13 @@ def low_promise(values: NDArray[np.int32]) -> Promise:
 
 def promises(design: Design, curve: Curve, values: NDArray[np.int32]) -> list[dict[str, object]]:
     """All sentences for a curve, with its values at the positions looked at."""
+    lists = design.sheet(())
     made = [
         rows_promise(curve),
         limits_promise(curve),
         size_promise(curve),
         above_zero_promise(design, curve),
         low_promise(values),
-        Promise("Every value is within 4/256 of a thousandth of a millimetre of the exact curve.", True),
+        *(Promise(words, True) for words in [*shape_lines(lists), *wood_lines(lists)]),
     ]
     return [promise._asdict() for promise in made]

@@ -13,7 +13,7 @@ from ..fit_words import CHOICE, figures, least_words, promise, shape_words
 from ..reasons import WOOD
 from ..tucson import Series
 from .carry import carried
-from .design import RING, Design, ring_of
+from .design import RING, Design
 from .given import fitted
 from .shown import with_pairs
 
@@ -53,7 +53,7 @@ def proposed(
         raise Unfittable("No series is chosen: a fit needs measured widths.")
     design, curve = with_pairs(design, before)
     if is_template:
-        begun = fitted(series, chosen, design.first)
+        begun = fitted(series, chosen, design.origin)
         design.breaks, design.degrees, design.orders = begun.lists
         design.pairs = carried(curve, begun.space())
     space = design.space()
@@ -62,7 +62,7 @@ def proposed(
     fits: list[Fit] = []
     for wood, name in chosen.items():
         each = series[name]
-        made = fit(space, each.widths, ring_of(each, design.first), shape)
+        made = fit(space, each.widths, design.origin.ring_of(each), shape)
         fits.append(made)
         said.append(f"Series {name}: {figures(made.closeness())}, {shape_words(made.shapes)}.")
         lacking = hint(made) if is_template else None

@@ -10,7 +10,7 @@ function words({ name, widths, closeness }) {
   const { rings, root_mean_square, share } = closeness;
   const present = widths.filter((width) => width !== 0).length;
   const of = rings < present ? ` over ${rings} of ${present} rings` : "";
-  const explained = share === null ? "all widths are equal" : `${(PERCENT * share).toFixed(1)} % explained`;
+  const explained = share === null ? "all widths are equal" : `${(PERCENT * share).toFixed(1).replace(/^-0\.0$/, "0.0")} % explained`;
   return `${name}: root mean square ${root_mean_square.toFixed(DECIMALS)} mm, ${explained}${of}.`;
 }
 

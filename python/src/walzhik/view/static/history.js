@@ -1,8 +1,8 @@
 // Undo and redo: the designs before and after the present one. A drag is one step, however often the hand moved.
 
 // What of a design a sheet and its indices depend on.
-const essence = ({ breaks, degrees, orders, pairs, is_whole_ring, series, first, at }) =>
-  JSON.stringify([breaks, degrees, orders, pairs, is_whole_ring, series, first, at]);
+const essence = ({ breaks, degrees, orders, pairs, is_whole_ring, series, first, earliest, at }) =>
+  JSON.stringify([breaks, degrees, orders, pairs, is_whole_ring, series, first, earliest, at]);
 
 export class History {
   constructor(design) {

@@ -38,7 +38,7 @@ const lasting = (design) => change(design, true);
 const newest = new Newest("curve", onAnswer, onFailure);
 const stretches = new Stretches(start.limits, lasting);
 const coefficients = new Coefficients(lasting);
-const choices = new Series(start.series, { change: lasting, whole: takeWhole, step: goOn });
+const choices = new Series(start.series, start.earliest, { change: lasting, whole: takeWhole, step: goOn });
 const picture = new Picture(start.limits, {
   move: ({ kind, place, group }, value, isLasting) =>
     change(kind === "break" ? withBreak(present(), place, value) : withCoefficient(present(), place, group, value), isLasting),

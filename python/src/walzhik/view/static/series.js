@@ -5,11 +5,13 @@ import { button, field, fill, found, make, number, rebuilt, select, setUsable, w
 import { notWhole, showRefusal, typedWhole } from "./refusals.js";
 
 const NONE = "none"; // before the series' own numbers in a select
+const EACH = "each", EARLIEST = "earliest"; // whose first width has the ring that is typed
 
 export class Series {
-  // `on` is told of a change of the design, and of a step to another series.
-  constructor(all, on) {
-    Object.assign(this, { all, on, design: null });
+  // `earliest` is the year that rings can be counted from for all series; `on` is told of a change of the design, and of a step to
+  // another series.
+  constructor(all, earliest, on) {
+    Object.assign(this, { all, earliest, on, design: null });
   }
 
   chooser(wood) {
@@ -34,6 +36,15 @@ export class Series {
     return made;
   }
 
+  // Whose first width that is: each series' own, or that of the earliest one, from which the others keep their distance in years.
+  countedFrom() {
+    const options = [[EACH, "each series by itself"], [EARLIEST, `all by the earliest, from ${this.earliest}`]];
+    const made = select("counted", null, options, EACH);
+    made.addEventListener("change", () =>
+      this.on.change({ ...this.design, earliest: made.value === EARLIEST ? this.earliest : null }));
+    return made;
+  }
+
   // From the whole ring to its parts, and back: by the curve of the part that is named.
   ways() {
     if (this.design.is_whole_ring) {
@@ -55,6 +66,7 @@ export class Series {
     const fields = woods(this.design).map((wood) => field(`series, ${woodWords[wood]}`, this.chooser(wood)));
     fields.push(make("p", { id: "care", class: "care-words" }));
     fields.push(field("first width is ring", this.firstRing()));
+    if (this.all.length > 1) fields.push(field("counted", this.countedFrom()));
     fields.push(make("span", { class: "field bar" }, ...this.ways()));
     fields.push(make("span", { class: "field bar" }, ...this.steps()));
     found("series").replaceChildren(...fields);
@@ -70,6 +82,7 @@ export class Series {
       found(`series-${wood}`).value = place < 0 ? NONE : String(place);
     }
     fill("first", design.first ?? "");
+    if (found("counted")) found("counted").value = (design.earliest ?? null) === null ? EACH : EARLIEST;
     found("care").textContent = this.cares().join(" ");
     if (!found("next")) return;
     setUsable("previous", before !== null);

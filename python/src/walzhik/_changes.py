@@ -1,17 +1,9 @@
-"""What the tolerant front hands out: lines with their numbers in the file, the list of changes, and the complaint about what
-cannot be placed. It stands apart because both halves of the front, lines and series, report in the same way."""
+"""What is told of a file that was read: changes by their lines, and the complaint about what a front cannot place. It stands apart
+because the proved call's notes and the fronts for Heidelberg files and tables are told in the same way."""
 
 from __future__ import annotations
 
 from dataclasses import dataclass
-from typing import NamedTuple
-
-
-class Line(NamedTuple):
-    """A line without its line end, and its number in the file, from 1."""
-
-    number: int
-    body: bytes
 
 
 @dataclass(frozen=True)
@@ -45,7 +37,7 @@ class Change:
 
 
 class Unreadable(Exception):
-    """What the tolerant front must not guess.
+    """What a front for Heidelberg files or tables must not guess.
 
     Attributes
     ----------
@@ -80,9 +72,10 @@ class Changes:
         self._lines.setdefault(words, []).append(line)
 
     def listed(self) -> list[Change]:
-        """All changes by rising line."""
+        """All changes by rising line; a table's columns tell theirs one after the other."""
         runs: list[Change] = []
-        for words, lines in self._lines.items():
+        for words, told in self._lines.items():
+            lines = sorted(set(told))
             first = before = lines[0]
             for line in lines[1:]:
                 if line > before + 1:
