@@ -4,6 +4,7 @@
 
 largest_place <- 2^32 - 1
 counted_from_zero <- c("breakpoint", "stretch", "join", "entry", "ring of the series", "ordinate", "number", "series")
+first_remark <- 12 # the number from which on a note tells of no change, but of what a date may hang on
 entry_numbers <- c(7, 14) # their place is an entry of the list that is handed on in blocks
 
 # A sentence of the table with what it tells put in the place of the names in braces.
@@ -27,11 +28,16 @@ words_for <- function(number, place, given) {
     return(list(words = sprintf("There are no words for it here; the manual lists number %s.", as_text(number)), remedy = ""))
   }
   shown <- place + (row[["counts"]] %in% counted_from_zero)
-  list(words = filled(row[["words"]], c(found$told, place = as_text(shown))), remedy = row[["remedy"]])
+  told <- c(found$told, place = as_text(shown))
+  words <- filled(row[["words"]], told)
+  if (is.null(found$then)) return(list(words = words, remedy = row[["remedy"]]))
+  further <- refusal_words[[paste(number, found$then)]]
+  list(words = paste(words, filled(further[["words"]], list(text = found$shown))), remedy = further[["remedy"]])
 }
 
 refusal_condition <- function(number, place, given, call) {
   said <- words_for(number, place, given)
+  if (!is.null(given$lines)) said$words <- paste0("Line ", as_text(given$lines[place + 1]), ": ", said$words)
   series <- given$series
   message <- if (is.null(series)) said$words else paste0("Series ", series, ": ", said$words)
   if (nzchar(said$remedy)) message <- paste0(message, "\n", said$remedy)
@@ -87,6 +93,24 @@ asked_in_blocks <- function(entries, given, ask) {
 
 usage <- function(...) {
   stop(structure(class = c("walzhik_usage", "error", "condition"), list(message = paste0(...), call = user_call())))
+}
+
+# What was changed or left out in a file, as one message: changes by rising line, then a sentence for each kind of remark. `notes` is a
+# data frame of lines, first and last, words, and numbers where the engine has told them.
+show_notes <- function(notes) {
+  if (nrow(notes) == 0) return(invisible())
+  is_remark <- !is.na(notes$number) & notes$number >= first_remark
+  kinds <- split(notes, ifelse(is_remark, notes$number, -nrow(notes):-1))
+  told <- vapply(kinds[order(as.numeric(names(kinds)))], note_sentence, "")
+  message(structure(class = c("walzhik_notes", "message", "condition"),
+                    list(message = paste0(told, "\n", collapse = ""), call = user_call(), notes = notes)))
+}
+
+# A sentence for one or more runs of lines with the same words.
+note_sentence <- function(notes) {
+  runs <- ifelse(notes$line == notes$last, ring_names(notes$line), paste(ring_names(notes$line), "to", ring_names(notes$last)))
+  is_one <- nrow(notes) == 1 && notes$line == notes$last
+  paste0(if (is_one) "Line " else "Lines ", paste(runs, collapse = ", "), ": ", notes$words[1], ".")
 }
 
 # Arguments that a method does not have are told, not passed over.

@@ -128,7 +128,7 @@ describe_shapes <- function(shapes) {
 }
 
 describe_fit <- function(fit) {
-  shared <- if (is.na(fit$explained)) "" else sprintf(", %.1f %% explained", 100 * fit$explained)
+  shared <- if (is.na(fit$explained)) "" else sprintf(", %.1f %% explained", round(100 * fit$explained, 1) + 0)
   parts <- if (length(fit$shapes) > 1) " (in each part)" else ""
   proved <- if (fit$never_rises) paste0("; by proof it never rises", parts, " and stays above zero") else ""
   least <- if (length(fit$least_rows) > 0) {

@@ -173,9 +173,12 @@ ordinate_fault <- function(given, place) {
         ordinates_needed = count_of(sum(given$degrees) + length(given$degrees), "ordinate"))
 }
 
-# The damaged Tucson text, or the series that could not be written.
+# The laboratory's file, the damaged strict text, or the series that could not be written.
 tucson_fault <- function(number) {
-  function(given, place) if (is.null(given$text)) series_fault(given, place) else line_fault(given$text, number, place)
+  function(given, place) {
+    if (!is.null(given$file)) return(file_faults[[as.character(number)]](given, place))
+    if (is.null(given$text)) series_fault(given, place) else line_fault(given$text, number, place)
+  }
 }
 
 faults <- list("2" = function(given, place) if (is.null(given$breaks)) found("series") else length_fault(given, place),
@@ -183,4 +186,5 @@ faults <- list("2" = function(given, place) if (is.null(given$breaks)) found("se
                "8" = fraction_fault, "9" = join_fault("shape"), "11" = tucson_fault(11), "12" = tucson_fault(12),
                "13" = tucson_fault(13), "14" = index_fault, "15" = part_fault, "16" = reach_fault, "17" = piece_fault,
                "18" = ordinate_fault, "19" = function(given, place) condition_fault(given, place),
-               "20" = join_fault("fraction"))
+               "20" = join_fault("fraction"), "21" = tucson_fault(21), "22" = tucson_fault(22), "23" = tucson_fault(23),
+               "24" = tucson_fault(24), "25" = tucson_fault(25), "26" = tucson_fault(26))

@@ -5,9 +5,11 @@ name_columns <- 8L
 head_columns <- 12L # name and year
 field_columns <- 6L
 most_fields <- 10L
+fields_end <- head_columns + most_fields * field_columns
 decade <- 10L
 hundredths_closing <- 999L
 thousandths_closing <- -9999L
+closings <- c(hundredths = hundredths_closing, thousandths = thousandths_closing)
 most_hundredths <- 9999L
 least_year <- -999L
 most_year <- 9999L
@@ -21,12 +23,12 @@ carriage_return <- as.raw(13)
 shown_bytes <- 40L # of a text that a message quotes
 
 # The bytes between quotation marks in ASCII, cut where they are long.
-quoted <- function(bytes) {
-  cut <- head(bytes, shown_bytes)
+quoted <- function(bytes, most = shown_bytes) {
+  cut <- head(bytes, most)
   codes <- as.integer(cut)
   plain <- cut >= blank & cut <= last_printable & cut != backslash
   shown <- ifelse(plain, intToUtf8(pmax(codes, 1), multiple = TRUE), sprintf("\\x%02x", codes))
-  paste0("'", paste(shown, collapse = ""), if (length(bytes) > shown_bytes) "...", "'")
+  paste0("'", paste(shown, collapse = ""), if (length(bytes) > most) "...", "'")
 }
 
 # The number that stands at the right of these bytes, or NA.
@@ -50,6 +52,11 @@ line_bytes <- function(text, lines, place) {
   if (place < 1 || place > nrow(lines)) return(raw())
   text[seq_len(lines$last[place] - lines$start[place] + 1) + lines$start[place] - 1]
 }
+
+# The bytes behind the one at `from`, up to the one at `to`.
+slice <- function(bytes, from, to) bytes[seq_along(bytes) > from & seq_along(bytes) <= to]
+
+tail_of <- function(fields) fields[length(fields)]
 
 fields_of <- function(body) {
   starts <- head_columns + field_columns * (seq_len((length(body) - head_columns) %/% field_columns) - 1)
@@ -78,9 +85,7 @@ column_fault <- function(body, ended) {
   if (!ended) found("end")
 }
 
-field_fault <- function(body, last) {
-  year <- year_of(body)
-  fields <- fields_of(body)
+field_fault <- function(year, fields, last) {
   room <- decade - year %% decade
   if (length(fields) > room) {
     return(found("decade", year = year, fields = length(fields), end = year + room - 1, most = room))
@@ -103,9 +108,19 @@ closing_fault <- function(text, lines, place) {
   name <- name_of(line_bytes(text, lines, place))
   first <- place
   while (first > 1 && identical(name_of(line_bytes(text, lines, first - 1)), name)) first <- first - 1
-  bodies <- lapply(first:place, function(line) line_bytes(text, lines, line))
+  closing_of(lapply(first:place, function(line) line_bytes(text, lines, line)), line_bytes(text, lines, place + 1), place + 1)
+}
+
+# What is wrong with the closing of a series, by its lines and the line behind them: that is the damaged one where it has the next year
+# under another name.
+closing_of <- function(bodies, after, line) {
+  name <- name_of(bodies[[1]])
   fields <- unlist(lapply(bodies, fields_of))
-  closing <- fields[length(fields)]
+  following <- number_in(slice(after, name_columns, head_columns))
+  if (tail_of(fields) != hundredths_closing && following %in% (year_of(bodies[[1]]) + length(fields))) {
+    return(found("following", name = quoted(name), field = tail_of(fields), line = line, year = following, other = quoted(name_of(after))))
+  }
+  closing <- tail_of(fields)
   if (closing != hundredths_closing) return(found("closing", name = quoted(name), field = closing))
   over <- which(head(fields, -1) > most_hundredths)[1]
   found("hundredths", name = quoted(name), year = year_of(bodies[[1]]) + over - 1, width = fields[over])
@@ -118,7 +133,7 @@ line_fault <- function(text, number, place) {
   if (number == bad_closing) return(closing_fault(text, lines, place))
   fault <- column_fault(body, lines$ended[place])
   if (!is.null(fault)) return(fault)
-  field_fault(body, !identical(name_of(line_bytes(text, lines, place + 1)), name_of(body)))
+  field_fault(year_of(body), fields_of(body), !identical(name_of(line_bytes(text, lines, place + 1)), name_of(body)))
 }
 
 # The series, counted from 0, that could not be written.

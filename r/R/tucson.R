@@ -34,15 +34,50 @@ connection_bytes <- function(connection) {
   }
 }
 
-read_tucson <- function(file) {
+tucson_units <- c(hundredths = 100L, thousandths = 1000L) # as the call has them: parts of a millimetre
+no_unit <- 0L
+no_header <- 100L
+
+read_tucson <- function(file, strict = FALSE, header = NULL, unit = NULL) {
+  one_flag(strict, "strict")
+  said_unit(unit, names(tucson_units))
+  if (!is.null(header)) header <- one_whole(header, "header", "lines")
+  if (strict && !(is.null(header) && is.null(unit))) {
+    usage("strict = TRUE takes a file as it is: header and unit go without it.")
+  }
   text <- bytes_of(file)
+  if (!strict) text <- strict_text(text, header, unit)
   read <- asked(.Call(C_tucson_read, text), list(text = text))
+  if (length(read$name) == 0) unreadable(1, "the file holds no series.", "See that it is the right file, and whole.")
   names <- sub(" +$", "", read$name)
   twice <- names[duplicated(names)]
   if (length(twice) > 0) {
     usage("Two series have the name ", twice[1], ", and a data frame takes each name once: give one of them another name.")
   }
   rwl_frame(names, read$first, read$count, read$widths)
+}
+
+# A laboratory's file in the strict form, by the proved call; what it changed, left out or remarks on is told.
+strict_text <- function(file, header, unit) {
+  lines <- if (is.null(header)) no_header else if (header < 0 || header >= no_header) no_header + 1L else header
+  parts <- if (is.null(unit)) no_unit else tucson_units[[unit]]
+  made <- asked(.Call(C_tucson_clean, file, lines, parts), list(file = file, header = header, unit = unit))
+  show_notes(tucson_notes(made$notes))
+  made$text
+}
+
+# The call's notes, a number and a line each, in words.
+tucson_notes <- function(cells) {
+  notes <- new_notes()
+  is_number <- seq_along(cells) %% 2 == 1
+  number <- cells[is_number]
+  line <- cells[!is_number]
+  numbers <- unique(number)
+  words <- vapply(numbers, function(number) refusal_words[[paste0("0 note-", number)]][["words"]], "")
+  for (place in seq_along(numbers)) tell(notes, line[number == numbers[place]], words[place])
+  listed <- listed_notes(notes)
+  listed$number <- numbers[match(listed$words, words)]
+  listed
 }
 
 # The data frame of series that have been read; years run from the first to the last that any series has.
@@ -60,19 +95,27 @@ rwl_frame <- function(names, first, count, widths) {
 }
 
 write_tucson <- function(rwl, file = NULL) {
-  series <- series_of(rwl)
-  check_writable(series)
-  given <- list(names = padded_names(vapply(series, `[[`, "", "name")), years = integers_of(series, "first"),
-                counts = vapply(series, function(each) length(each$widths), 0L), widths = integers_of(series, "widths"))
-  text <- asked(.Call(C_tucson_write, given$names, given$years, given$counts, given$widths), given)$text
+  text <- series_text(series_of(rwl))
   if (is.null(file)) return(text)
   write_whole(text, file)
   invisible(file)
 }
 
+# The text of series by the proved writer.
+series_text <- function(series) {
+  check_writable(series)
+  given <- list(names = padded_names(vapply(series, `[[`, "", "name")), years = integers_of(series, "first"),
+                counts = vapply(series, function(each) length(each$widths), 0L), widths = integers_of(series, "widths"))
+  asked(.Call(C_tucson_write, given$names, given$years, given$counts, given$widths), given)$text
+}
+
 integers_of <- function(series, field) as.integer(unlist(lapply(series, `[[`, field)))
 
 check_writable <- function(series) {
+  names <- sub(" +$", "", vapply(series, `[[`, "", "name"))
+  if (anyDuplicated(names)) {
+    usage("Two series have the name ", names[duplicated(names)][1], " where blanks at the end are left out, as a file does.")
+  }
   for (each in series) {
     if (length(each$widths) == 0) usage("Series ", each$name, " has no widths: leave its column out.")
     gap <- which(is.na(each$widths))[1]
@@ -94,12 +137,17 @@ padded_names <- function(names) {
   as.raw(unlist(padded))
 }
 
-# The file whole or not at all: a temporary file in the same folder takes its place.
+devices <- "^/(dev|proc)/(?!shm/)"
+
+# The file whole or not at all: a temporary file in the same folder takes its place. It must not take that of a device.
 write_whole <- function(bytes, file, temporary = tempfile(".walzhik", dirname(file))) {
   if (!is.character(file) || length(file) != 1 || is.na(file)) usage("file is the name of a file.")
   folder <- dirname(file)
   if (!dir.exists(folder)) usage("There is no folder ", folder, ".")
   if (dir.exists(file)) usage(file, " is a folder.")
+  if (grepl(devices, normalizePath(file, mustWork = FALSE), perl = TRUE)) {
+    usage(file, " is no plain file. Without a file the text is given back as bytes, which writeBin() takes.")
+  }
   on.exit(unlink(temporary))
   written <- tryCatch({
     writeBin(bytes, temporary)

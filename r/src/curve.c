@@ -12,14 +12,6 @@ static int is_latewood(SEXP flag)
     return LOGICAL(flag)[0];
 }
 
-static int32_t one_number(SEXP vector)
-{
-    list32 list = list_of(vector);
-    if (list.length != 1)
-        Rf_error("an entry point of the package was given a list in the place of one number");
-    return list.entries[0];
-}
-
 /* A list of the reply and one value more, which the caller protects. */
 static SEXP answered(SEXP reply, const char *name, SEXP value)
 {

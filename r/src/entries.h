@@ -12,6 +12,7 @@ SEXP curve(SEXP breaks, SEXP degrees, SEXP orders, SEXP coefs, SEXP positions);
 SEXP indices(SEXP breaks, SEXP degrees, SEXP orders, SEXP coefs, SEXP first, SEXP widths, SEXP latewood);
 SEXP reach(SEXP breaks, SEXP degrees, SEXP orders, SEXP coefs, SEXP width, SEXP latewood);
 SEXP piece(SEXP breaks, SEXP degrees, SEXP orders, SEXP coefs, SEXP segment, SEXP latewood);
+SEXP tucson_clean(SEXP text, SEXP header, SEXP unit);
 SEXP tucson_read(SEXP text);
 SEXP tucson_write(SEXP names, SEXP years, SEXP counts, SEXP widths);
 

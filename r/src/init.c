@@ -14,6 +14,7 @@ static const R_CallMethodDef entries[] = {
     ENTRY(indices, 7),
     ENTRY(reach, 6),
     ENTRY(piece, 6),
+    ENTRY(tucson_clean, 3),
     ENTRY(tucson_read, 1),
     ENTRY(tucson_write, 4),
     {NULL, NULL, 0},

@@ -18,6 +18,14 @@ list32 list_of(SEXP vector)
     return list;
 }
 
+int32_t one_number(SEXP vector)
+{
+    list32 list = list_of(vector);
+    if (list.length != 1)
+        Rf_error("an entry point of the package was given a list in the place of one number");
+    return list.entries[0];
+}
+
 space_lists lists_of(SEXP breaks, SEXP degrees, SEXP orders)
 {
     space_lists lists = {list_of(breaks), list_of(degrees), list_of(orders)};

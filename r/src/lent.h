@@ -28,6 +28,7 @@ typedef struct {
 } weight_buffers;
 
 list32 list_of(SEXP vector);
+int32_t one_number(SEXP vector);
 space_lists lists_of(SEXP breaks, SEXP degrees, SEXP orders);
 weight_buffers lent_weights(void);
 void *lent(size_t count, size_t size);

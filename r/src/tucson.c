@@ -1,4 +1,5 @@
-/* Tucson decadal files: a text as names, first years, counts and widths, and back. Texts may be longer than 2^31 bytes. */
+/* Tucson decadal files: a laboratory's file in the strict form, a text as names, first years, counts and widths, and back. Texts may be
+ * longer than 2^31 bytes. */
 #include "entries.h"
 #include "lent.h"
 
@@ -9,6 +10,9 @@ enum { NAME_BYTES = 8, LEAST_SERIES_BYTES = 19, LEAST_WIDTH_BYTES = 6 };
 
 /* What a line of a written text takes: name, year and line end, six columns a field; a decade has ten. */
 enum { LINE_BYTES = 13, FIELD_BYTES = 6, DECADE = 10 };
+
+/* Room for a laboratory's file, by the header: so many bytes and cells of notes a byte of it, and so many bytes a line. */
+enum { CLEAN_BYTES = 2, LEAST_LINE_BYTES = 10, NOTE_CELLS = 2, MORE_NOTE_CELLS = 4 };
 
 static const uint8_t no_bytes = 0;
 
@@ -78,6 +82,40 @@ SEXP tucson_read(SEXP text)
     values[2] = PROTECT(integers(lists.years, series));
     values[3] = PROTECT(count_doubles(lists.counts, series, &widths));
     values[4] = PROTECT(integers(lists.widths, widths));
+    SEXP list = named_list(COUNT(names), names, values);
+    UNPROTECT(COUNT(names));
+    return list;
+}
+
+/* Cells as doubles, which hold every line of a file. */
+static SEXP doubles(const size_t *cells, R_xlen_t count)
+{
+    SEXP vector = PROTECT(Rf_allocVector(REALSXP, count));
+    for (R_xlen_t cell = 0; cell < count; cell++) {
+        REAL(vector)[cell] = (double)cells[cell];
+        look_up((size_t)cell);
+    }
+    UNPROTECT(1);
+    return vector;
+}
+
+SEXP tucson_clean(SEXP text, SEXP header, SEXP unit)
+{
+    static const char *const names[] = {"reply", "text", "lines", "notes"};
+    const uint8_t *bytes = bytes_of(text);
+    size_t length = (size_t)XLENGTH(text), most_bytes = CLEAN_BYTES * length, most_lines = length / LEAST_LINE_BYTES,
+           most_cells = NOTE_CELLS * length + MORE_NOTE_CELLS;
+    uint8_t *out = lent(most_bytes, sizeof(uint8_t));
+    size_t *lines = lent(most_lines, sizeof(size_t)), *notes = lent(most_cells, sizeof(size_t));
+    walzhik_cleaned made = walzhik_tucson_clean(bytes, length, (uint32_t)one_number(header), (uint32_t)one_number(unit), out, most_bytes,
+                                                lines, most_lines, notes, most_cells);
+    SEXP values[COUNT(names)];
+    values[0] = PROTECT(reply_of((double)made.lines, made.number, made.place));
+    values[1] = PROTECT(Rf_allocVector(RAWSXP, (R_xlen_t)made.bytes));
+    if (made.bytes > 0)
+        memcpy(RAW(values[1]), out, (size_t)made.bytes);
+    values[2] = PROTECT(doubles(lines, (R_xlen_t)made.lines));
+    values[3] = PROTECT(doubles(notes, NOTE_CELLS * (R_xlen_t)made.notes));
     SEXP list = named_list(COUNT(names), names, values);
     UNPROTECT(COUNT(names));
     return list;

@@ -8,7 +8,7 @@ bytes_from <- function(digits) {
 
 numbers_from <- function(text) if (nzchar(text)) as.numeric(strsplit(text, ",")[[1]]) else numeric()
 
-in_digits <- c("text", "names")
+in_digits <- c("text", "names", "made")
 in_letters <- "wood"
 
 # The words of a line by their names.
@@ -47,5 +47,8 @@ expect_usage <- function(call, words) {
 }
 
 example_file <- function(name) system.file("extdata", name, package = "walzhik", mustWork = TRUE)
+
+# An example without what is told of it: the oak's file has series in both units, which is a remark.
+read_example <- function(name) suppressMessages(read_tucson(example_file(name)), "walzhik_notes")
 
 w1 <- function() curve_space(c(0, 1, 3), c(2, 2), 1)

@@ -1,6 +1,6 @@
 # How rings are counted, as the command counts them, and matched by year where a fit has counted them.
 
-pine <- function() read_tucson(example_file("pine.rwl"))
+pine <- function() read_example("pine.rwl")
 
 first_years <- function(rwl) vapply(rwl, function(column) as.integer(rownames(rwl)[which(!is.na(column))[1]]), 0L)
 
@@ -18,7 +18,7 @@ test_that("first is the ring of the earliest series' first width, and each_first
 })
 
 test_that("a part of the years gets the indices of the whole", {
-  oak <- read_tucson(example_file("oak.rwl"))
+  oak <- read_example("oak.rwl")
   rows <- as.character(1760:1790)
   for (fits in list(fit_curve(oak), fit_curve(oak, first = 1), fit_curve(oak, each_first = 4))) {
     expect_identical(ring_indices(oak[rows, ], fits), ring_indices(oak, fits)[rows, ])
@@ -27,7 +27,7 @@ test_that("a part of the years gets the indices of the whole", {
 })
 
 test_that("years that a fit does not have are refused", {
-  oak <- read_tucson(example_file("oak.rwl"))
+  oak <- read_example("oak.rwl")
   fits <- fit_curve(oak, first = 1)
   later <- oak
   rownames(later) <- 1 + as.integer(rownames(oak))

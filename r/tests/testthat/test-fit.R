@@ -71,7 +71,7 @@ test_that("a constant series is fitted, with nothing to explain", {
 })
 
 test_that("rings are counted from where the fit says, in the indices too", {
-  rwl <- read_tucson(example_file("pine.rwl"))
+  rwl <- read_example("pine.rwl")
   fits <- fit_curve(rwl, curve_space(c(1, 80), 2), first = 1)
   expect_identical(ring_indices(rwl, fits), ring_indices(rwl, unclass(fits), first = 1))
   aged <- fit_curve(rwl, curve_space(c(1, 60), 2), each_first = 1)
@@ -105,7 +105,7 @@ test_that("a template begins anew after a scar, and is the engine's wherever it 
 })
 
 test_that("the command's fits of the examples are these too", {
-  coefs <- function(name) lapply(unclass(fit_curve(read_tucson(example_file(name)))), function(fit) fit$coefficients[, 1])
+  coefs <- function(name) lapply(unclass(fit_curve(read_example(name))), function(fit) fit$coefficients[, 1])
   expect_equal(coefs("oak.rwl"), list(ROOF04E = c(2462, 2462, 1658, 1170, 612),
                                       ROOF04L = c(425, 1128, 604, 421, 247)), ignore_attr = c("rwl", "first"))
   expect_equal(coefs("pine.rwl"), list(WAL01A = c(2008, 1159, 1159), WAL01B = c(1593, 1557, 1143),
@@ -113,10 +113,11 @@ test_that("the command's fits of the examples are these too", {
 })
 
 test_that("fits are printed, and a part of them is fits", {
-  fits <- fit_curve(read_tucson(example_file("oak.rwl")))
+  fits <- fit_curve(read_example("oak.rwl"))
   expect_output(print(fits), "2 fitted curves\n  ROOF04E: 2 stretches from ring 1703 to ring 1802, n = 5\n    Fitted to 99 rings")
   expect_output(print(fits), "root mean square 0.334 mm, 70.7 % explained, falling; by proof it never rises and stays above zero")
   expect_output(print(fits["ROOF04L"]), "explained, hump$")
+  expect_match(describe_fit(replace(fits$ROOF04E$fit, "explained", -2e-16)), ", 0.0 % explained", fixed = TRUE)
   expect_s3_class(fits["ROOF04L"], "walzhik_fits")
   expect_identical(names(attr(fits["ROOF04L"], "rwl")), "ROOF04L")
   expect_output(print(fits$ROOF04E), "Curve of the whole ring: .*Fitted to 99 rings")

@@ -11,6 +11,8 @@ ok_rwl <- data.frame(A = seq(2, 1.05, by = -0.05), row.names = 1901:1920)
 ok_space <- curve_space(c(1901, 1920), 2)
 ok_curve <- growth_curve(ok_space, c(2000, 1500, 1000))
 ok_fits <- fit_curve(ok_rwl)
+ok_text <- write_tucson(ok_rwl)
+ok_fh <- write_widths(ok_rwl, to = "fh")
 
 garbage_calls <- list(
   breaks = function(x) curve_space(x, 1), degrees = function(x) curve_space(0:1, x), orders = function(x) curve_space(0:2, c(1, 1), x),
@@ -25,6 +27,13 @@ garbage_calls <- list(
   index_rwl = function(x) ring_indices(x, ok_fits), curves = function(x) ring_indices(ok_rwl, x),
   wood = function(x) ring_indices(ok_rwl, ok_fits, wood = x), absent = function(x) detrend_curve(ok_rwl, absent = x),
   detrend = function(x) detrend_curve(x), read = function(x) read_tucson(x), write = function(x) write_tucson(x),
+  strict = function(x) read_tucson(ok_text, strict = x), header = function(x) read_tucson(ok_text, header = x),
+  unit = function(x) read_tucson(ok_text, unit = x), read_from = function(x) read_widths(ok_text, from = x),
+  read_table = function(x) read_widths(x, from = "csv"), read_fh = function(x) read_widths(x, from = "fh"),
+  first_year = function(x) read_widths(ok_fh, first = x), year_zero = function(x) read_widths(ok_fh, year_zero = x),
+  fh_unit = function(x) read_widths(ok_fh, unit = x), rename = function(x) read_widths(ok_fh, rename = x),
+  round = function(x) read_widths(ok_fh, round = x), write_x = function(x) write_widths(x, to = "csv"),
+  write_file = function(x) write_widths(ok_rwl, x), write_to = function(x) write_widths(ok_rwl, to = x),
   file = function(x) write_tucson(ok_rwl, x), newdata = function(x) predict(ok_fits, x), at = function(x) predict(ok_curve, x),
   column = function(x) {
     rwl <- ok_rwl
@@ -33,7 +42,7 @@ garbage_calls <- list(
   })
 
 is_of_the_package <- function(condition) {
-  is.null(condition) || inherits(condition, c("walzhik_usage", "walzhik_refused", "walzhik_unfitted"))
+  is.null(condition) || inherits(condition, c("walzhik_usage", "walzhik_refused", "walzhik_unreadable", "walzhik_unfitted", "walzhik_notes"))
 }
 
 test_that("wrong kinds in every place give the package's own conditions", {

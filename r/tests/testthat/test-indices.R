@@ -1,7 +1,7 @@
 # Ring indices in dplR's shape: the names, years and dimensions of the widths, index/1000, NA for absent rings and outside.
 
 test_that("indices have the shape of the widths", {
-  rwl <- read_tucson(example_file("pine.rwl"))
+  rwl <- read_example("pine.rwl")
   fits <- fit_curve(rwl)
   rwi <- ring_indices(rwl, fits)
   expect_identical(class(rwi), c("rwi", "data.frame"))
@@ -12,7 +12,7 @@ test_that("indices have the shape of the widths", {
 })
 
 test_that("each index is the floor of the width over the curve's value, in thousandths", {
-  rwl <- read_tucson(example_file("oak.rwl"))
+  rwl <- read_example("oak.rwl")
   space <- curve_space(c(1703, 1740, 1802), c(3, 2), 1)
   pair <- growth_curve(space, cbind(c(3000, 2500, 2000, 1500, 700), c(700, 600, 500, 400, 300)))
   wood <- c(ROOF04E = "earlywood", ROOF04L = "latewood")
@@ -28,7 +28,7 @@ test_that("each index is the floor of the width over the curve's value, in thous
 })
 
 test_that("rings may be counted from the pith", {
-  rwl <- read_tucson(example_file("pine.rwl"))
+  rwl <- read_example("pine.rwl")
   aged <- growth_curve(curve_space(c(1, 50), 1), c(1500, 900))
   expect_refused(ring_indices(rwl, aged), 7, 0)
   rwi <- ring_indices(rwl, aged, each_first = 1)
@@ -68,7 +68,7 @@ test_that("rings far along keep their rows, however their numbers are printed", 
 })
 
 test_that("curves are found by the series' names", {
-  rwl <- read_tucson(example_file("oak.rwl"))
+  rwl <- read_example("oak.rwl")
   fits <- fit_curve(rwl)
   expect_identical(ring_indices(rwl, fits[2:1]), ring_indices(rwl, fits))
   expect_usage(ring_indices(rwl, fits[1]), "curves has no entry for series ROOF04L")

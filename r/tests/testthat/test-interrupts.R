@@ -29,17 +29,21 @@ test_that("a pending interrupt is seen in the package's C part", {
 test_that("reading is interrupted, and then reads the same", {
   skip_on_os("windows")
   text <- readBin(example_file("pine.rwl"), "raw", 1e4)
-  before <- read_tucson(text)
+  before <- read_tucson(text, strict = TRUE)
   expect_identical(interrupted({
     interrupt_me()
     .Call(C_tucson_read, text)
   }), "interrupted")
-  expect_identical(read_tucson(text), before)
+  expect_identical(interrupted({
+    interrupt_me()
+    .Call(C_tucson_clean, text, no_header, no_unit)
+  }), "interrupted")
+  expect_identical(read_tucson(text, strict = TRUE), before)
 })
 
 test_that("a job over many series is interrupted", {
   skip_on_os("windows")
-  rwl <- read_tucson(example_file("pine.rwl"))
+  rwl <- read_example("pine.rwl")
   fits <- fit_curve(rwl)
   turns <- 0
   expect_identical(interrupted(repeat {

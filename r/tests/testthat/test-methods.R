@@ -1,6 +1,6 @@
 # What R's own generics say of curves and fits, named by rings or years.
 
-oak <- read_tucson(example_file("oak.rwl"))
+oak <- read_example("oak.rwl")
 fits <- fit_curve(oak)
 
 test_that("predict takes newdata, and names its rows by rings", {

@@ -33,7 +33,7 @@ test_that("a long span is drawn by enough positions, all within it", {
 })
 
 test_that("curves and fits are drawn, and the layout is put back", {
-  rwl <- read_tucson(example_file("pine.rwl"))
+  rwl <- read_example("pine.rwl")
   fits <- fit_curve(rwl)
   pair <- growth_curve(w1(), cbind(1:4, 5:8))
   with_device({
@@ -48,7 +48,7 @@ test_that("curves and fits are drawn, and the layout is put back", {
 })
 
 test_that("what can't be drawn is told", {
-  fits <- fit_curve(read_tucson(example_file("oak.rwl")))
+  fits <- fit_curve(read_example("oak.rwl"))
   many <- fits[rep(1, 10)]
   names(many) <- LETTERS[1:10]
   with_device({
@@ -59,7 +59,7 @@ test_that("what can't be drawn is told", {
 })
 
 test_that("a device that is too small is told, and left as it was", {
-  fits <- fit_curve(read_tucson(example_file("oak.rwl")))
+  fits <- fit_curve(read_example("oak.rwl"))
   nine <- structure(rep(unclass(fits)[1], 9), names = LETTERS[1:9], class = "walzhik_fits")
   grDevices::pdf(NULL, width = 3, height = 3)
   on.exit(grDevices::dev.off())
@@ -69,7 +69,7 @@ test_that("a device that is too small is told, and left as it was", {
 })
 
 test_that("widths and indices are drawn as bars and as lines, with the words and colours that are asked for", {
-  rwl <- read_tucson(example_file("pine.rwl"))
+  rwl <- read_example("pine.rwl")
   rwi <- detrend_curve(rwl)
   with_device({
     for (type in c("segments", "spaghetti")) {
@@ -87,7 +87,7 @@ test_that("widths and indices are drawn as bars and as lines, with the words and
 })
 
 test_that("fits are drawn by the rings that they count, without a copy of the widths", {
-  fits <- fit_curve(read_tucson(example_file("oak.rwl")), first = 1)
+  fits <- fit_curve(read_example("oak.rwl"), first = 1)
   with_device({
     plot(fits["ROOF04E"])
     expect_identical(plot(fits), fits)

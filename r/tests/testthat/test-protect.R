@@ -16,6 +16,9 @@ calls <- list(
   indices = function() .Call(C_indices, c(0L, 1L, 3L), c(2L, 2L), 1L, 1:8, 0L, 0:3, TRUE),
   reach = function() .Call(C_reach, c(0L, 1L, 3L), c(2L, 2L), 1L, 1:8, 3L, FALSE),
   piece = function() .Call(C_piece, c(0L, 1L, 3L), c(2L, 2L), 1L, 1:8, 1L, FALSE),
+  tucson_clean = function() .Call(C_tucson_clean, charToRaw("A\t1900     7 -9999 \r\n\nB       1901     8     0 -9999"), 100L, 0L),
+  clean_refused = function() .Call(C_tucson_clean, charToRaw("A       1900     7  -999\n"), 100L, 0L),
+  clean_nothing = function() .Call(C_tucson_clean, raw(), 100L, 0L),
   tucson_read = function() .Call(C_tucson_read, charToRaw("A       1900     7 -9999\nB       1901     8     9 -9999\n")),
   tucson_write = function() .Call(C_tucson_write, charToRaw("A       B       "), c(1900L, 1901L), 1:2, 7:9))
 

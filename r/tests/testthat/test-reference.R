@@ -81,11 +81,23 @@ test_that("coefficients are those of the rational program", {
   }
 })
 
+test_that("laboratories' files are cleaned as the rational program cleans them", {
+  for (case in cases_of("tucson_clean")) {
+    made <- .Call(C_tucson_clean, case$text, whole(case$header), whole(case$unit))
+    expect_equal(unname(made$reply), case$reply)
+    expect_identical(made[c("text", "lines", "notes")], list(text = case$made, lines = case$lines, notes = case$notes))
+    unit <- names(tucson_units)[match(case$unit, tucson_units)]
+    if (case$reply[2] == 0 || case$header > 100 || !(case$unit %in% c(0, tucson_units))) next
+    expect_refused(read_tucson(case$text, header = if (case$header != 100) case$header, unit = if (!is.na(unit)) unit),
+                   case$reply[2], case$reply[3])
+  }
+})
+
 test_that("Tucson texts are read as the rational program reads them", {
   for (case in cases_of("tucson_read")) {
     read <- .Call(C_tucson_read, case$text)
     if (!expect_reply(read, case, list(text = case$text))) {
-      expect_refused(read_tucson(case$text), case$reply[2], case$reply[3])
+      expect_refused(read_tucson(case$text, strict = TRUE), case$reply[2], case$reply[3])
       next
     }
     expect_identical(charToRaw(paste(read$name, collapse = "")), case$names)

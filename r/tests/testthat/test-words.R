@@ -58,14 +58,14 @@ test_that("refused Tucson texts are explained as by the command", {
   expect_gt(length(files), 5)
   for (file in files) {
     expected <- explained(file)
-    condition <- expect_refused(read_tucson(file), expected$reply[1], expected$reply[2])
+    condition <- expect_refused(read_tucson(file, strict = TRUE), expected$reply[1], expected$reply[2])
     expect_identical(condition$words, expected$words)
   }
 })
 
 test_that("a text's faults have words for each column", {
   line <- "ABC01   1998    12 -9999\n"
-  told <- function(text) expect_refused(read_tucson(charToRaw(text)), 11, 1)$words
+  told <- function(text) expect_refused(read_tucson(charToRaw(text), strict = TRUE), 11, 1)$words
   expect_match(told(sub("\n", "\r\n", line)), "carriage return")
   expect_match(told(sub("ABC01", "     ", line)), "'        ' for a name")
   expect_match(told(sub("1998", "19 8", line)), "'19 8' for a year")
@@ -74,7 +74,7 @@ test_that("a text's faults have words for each column", {
   expect_match(told("ABC01   1998 -9999    12\n"), "closing -9999 for 1998")
   nul <- charToRaw(line)
   nul[1] <- as.raw(0)
-  expect_match(expect_refused(read_tucson(nul), 11, 1)$words, "'\\x00BC01   ' for a name", fixed = TRUE)
+  expect_match(expect_refused(read_tucson(nul, strict = TRUE), 11, 1)$words, "'\\x00BC01   ' for a name", fixed = TRUE)
 })
 
 test_that("what is refused in writing is told of the series", {
