@@ -4,7 +4,8 @@ usage: explain.py [--count N] [--seed S]
 
 For random sheets and those in examples/ the words must name the entry that the number and the place
 name and the rule that it breaks, in ASCII and in two lines; a line has a fault
-in words exactly where the model finds it bad. Random Tucson texts must be told
+in words exactly where the model finds it bad. What can be counted on of an
+accepted sheet must have the model's figures, and hold of the model's values. Random Tucson texts must be told
 with the model's series, or with the number and line that the model refuses them
 with, in words that name the line. Each kind of fault must have come up.
 """
@@ -22,10 +23,13 @@ sys.dont_write_bytecode = True
 
 import tucson
 from generate import sheets
-from limits import MOST_SHEET_BYTES
+from limits import DISCONTINUITY, MOST_SHEET_BYTES, UNIT
 from random_tucson import random_text
 from sheet import LINES, Refusal, read_sheet, sheet
-from walzhik.explain import explain_printed, explain_tucson
+from reading import part_values
+from space import Space
+from walzhik_reference import build_rows, by_column, most_weights
+from walzhik.explain import COUNT_ON, explain_printed, explain_tucson, with_promises
 from walzhik.sheet_reasons import text_fault
 
 GATE_COUNT = 2_000
@@ -78,6 +82,66 @@ def bad_lines(text):
             yield True
 
 
+def figures(space, columns):
+    """The figures of what can be counted on: the most years, the move by one thousandth, the closeness."""
+    starts, acting = space.first_columns(), {}
+    for segment in range(len(space.degrees)):
+        for column in columns[starts[segment]:starts[segment + 1]]:
+            for row, _ in column:
+                acting.setdefault(row, []).append(segment)
+    years = {row: space.breaks[max(stretches) + 1] - space.breaks[min(stretches)] for row, stretches in acting.items()}
+    most = [most_weights(space, columns, segment) for segment in range(len(space.degrees))]
+    closeness = max(weights + degree for weights, degree in zip(most, space.degrees)) / 2
+    return years, (UNIT + max(most) - 1) / UNIT, closeness
+
+
+# Which way the words say that a curve does not go, as what two values that follow each other must be.
+NEVER = {"rises": lambda one, other: other <= one, "falls": lambda one, other: other >= one}
+
+
+def direction_fault(line, space, values, seen):
+    """A curve that is said never to rise, or to fall, does not."""
+    name, way, scars = re.match(r"- The (\w+) never (rises|falls)( except at a scar)?:", line).groups()
+    side = 1 if name == "latewood" else 0
+    scarred = {UNIT * point for point, order in zip(space.breaks[1:], space.orders) if scars and order == DISCONTINUITY}
+    seen[f"never {way}{scars or ''}"] += 1
+    pairs = [(one, other) for one, other in zip(values, values[1:]) if not any(one[0] <= scar < other[0] for scar in scarred)]
+    return next((f"{line!r} of {pair}" for pair in pairs if not NEVER[way](pair[0][1][side], pair[1][1][side])), None)
+
+
+def promises_fault(text, lines, seen):
+    """What is wrong with what can be counted on of an accepted sheet, or None."""
+    breaks, degrees, orders, coefs, at = read_sheet(text)
+    space = Space(breaks, degrees, orders)
+    columns = by_column(space, build_rows(space))
+    years, move, closeness = figures(space, columns)
+    told = re.fullmatch(r"- A coefficient .* The widest, of row (\d+), acts on (\d+|[\d,]+) years?, from ring (-?\d+) to ring (-?\d+)\.", lines[1])
+    if lines[0] != COUNT_ON or not told or not all(line.startswith("- ") and line.isascii() for line in lines[1:]):
+        return f"no list: {lines!r}"
+    row, widest, first, last = (int(part.replace(",", "")) for part in told.groups())
+    if years[row] != max(years.values()) or not widest == last - first == years[row]:
+        return f"{lines[1]!r}, the model has {years}"
+    wanted = [f"- Coefficients that are off by one thousandth move no value by more than {move:.4f} thousandths.",
+              "- Raising coefficients lowers no value.",
+              f"- Every value is within {closeness:g}/256 of a thousandth of a millimetre of the exact curve."]
+    if lines[2:5] != wanted:
+        return f"{lines[2:5]}, the model has {wanted}"
+    positions = sorted(set(at))
+    sides = [part_values(space, columns, coefs[side::2], positions) for side in (0, 1)]
+    values = list(zip(positions, zip(*sides)))
+    for line in lines[5:]:
+        if " never " in line and "refused" not in line:
+            fault = direction_fault(line, space, values, seen)
+            if fault:
+                return fault
+        if "above zero everywhere" in line and any(min(pair) <= 0 for _, pair in values):
+            return f"{line!r}, but a value is low"
+        if "above the earlywood" in line and any(late > early for _, (early, late) in values):
+            return f"{line!r}, but a value is"
+    seen["promised"] += 1
+    return None
+
+
 def words_fault(text, seen):
     """What is wrong with the words for a sheet, or None."""
     printed = sheet(text)
@@ -91,7 +155,9 @@ def words_fault(text, seen):
             return f"faults found in lines: {found}"
     if not printed.startswith(b"no="):
         seen["accepted"] += 1
-        return None if is_accepted and lines[0].startswith("Accepted: ") else f"accepted, but {words!r}"
+        if not is_accepted or not lines[0].startswith("Accepted: "):
+            return f"accepted, but {words!r}"
+        return promises_fault(text, with_promises(explain_printed(text, printed), text).words.split("\n")[2:], seen)
     number, place = (int(part) for part in printed[3:].split(b","))
     patterns = PLACES_OF_TEN[place:place + 1] if number == 10 else PATTERNS[number]
     entry = "" if number == 10 else entry_at(text, number, place)
@@ -131,7 +197,7 @@ def tucson_fault(text, seen):
 
 
 def wanted():
-    return {"accepted", *(f"{number}, kind {kind}" for number, kinds in PATTERNS.items() for kind in range(len(kinds))),
+    return {"accepted", "promised", "never rises", "never falls", *(f"{number}, kind {kind}" for number, kinds in PATTERNS.items() for kind in range(len(kinds))),
             *(f"10, kind {place}" for place in range(7)), "Tucson read", *(f"Tucson {number}" for number in (11, 12, 13))}
 
 

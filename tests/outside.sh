@@ -15,8 +15,8 @@ seen() {
 # Every list and buffer of a call line, on both sides.
 try() {
     seen "$1" "$2" -1 after && { echo "seen, though nothing is read outside: $2"; failed=1; }
-    # each word with a list or a buffer; the first ring, the width and the segment are neither
-    arguments=$(grep -oE '[a-z]+=' <<<"$2" | grep -cvE '^(first|width|segment)=')
+    # each word with a list or a buffer; the first ring, the width, the segment, the header and the unit are neither
+    arguments=$(grep -oE '[a-z]+=' <<<"$2" | grep -cvE '^(first|width|segment|header|unit)=')
     for ((argument = 0; argument < arguments; argument++)); do
         for side in before after; do
             tried=$((tried + 1))
@@ -33,11 +33,13 @@ try "$driver" "earlywood_indices $rings"
 try "$driver" "latewood_indices $rings"
 space="$lists coefs=0,0,100,100,0,0,0,0"
 for part in earlywood latewood; do
+    try "$driver" "${part}_ring_lines name=79,65,75,32,32,32,32,32 first=1900 widths=5,7 values=4,5,6,7 indices=1,2 out=99:1"
     try "$driver" "${part}_reach $space width=5 num=5184:7 den=5184:9"
     try "$driver" "${part}_piece $space segment=1 num=5184:7 den=5184:9"
 done
 try "$driver" "coefficients $lists ordinates=0,300,200,200,0,0 num=5184:7 den=5184:9 coef_num=6:5 coef_den=6:3"
 try "$tucson" 'read text=65,66,67 names=8:1 years=1:2 counts=1:3 widths=4:5'
+try "$tucson" 'clean text=65,66,67 header=100 unit=0 out=7:1 lines=2:2 notes=4:3'
 try "$tucson" 'write names=65,66,67 years=1900 counts=2 widths=5,7 text=40:1'
 [ "$failed" -eq 0 ] && echo "outside: $tried reads outside, all seen"
 exit "$failed"

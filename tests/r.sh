@@ -102,10 +102,10 @@ tarball_checks() {
     grep -hE '^\[ FAIL [0-9]+' walzhik.Rcheck/tests/testthat.Rout | tail -n 1
 }
 
-# The random series and Python's answers to them, which R's tests read, are those that Python gives now.
-series_in_step() {
-    PYTHONPATH=python/src /usr/bin/python3 tests/r_series.py
+# The random series, the files of widths and Python's answers to them, which R's tests read, are those that Python gives now.
+in_step() {
+    PYTHONPATH=python/src /usr/bin/python3 tests/r_series.py && PYTHONPATH=python/src /usr/bin/python3 tests/r_widths.py
 }
 
 install_missing || exit 2
-series_in_step && without_archives && relinks && as_the_readme_says && with_vignette && tarball_checks
+in_step && without_archives && relinks && as_the_readme_says && with_vignette && tarball_checks

@@ -12,11 +12,13 @@ from random import Random
 sys.path.insert(0, str(Path(__file__).resolve().parent))
 
 from compare_indices import random_rings  # noqa: E402
+from cleaning import cleaned  # noqa: E402
 from generate import random_call  # noqa: E402
 from indices import indices_outcome  # noqa: E402
 from limits import CELLS, PARTS, UNIT  # noqa: E402
 from pieces import piece_outcome  # noqa: E402
 from protocol import Lent  # noqa: E402
+from random_files import random_file  # noqa: E402
 from random_ordinates import random_ordinates  # noqa: E402
 from random_pieces import random_piece  # noqa: E402
 from random_reach import random_reach  # noqa: E402
@@ -140,6 +142,19 @@ def read_case(rng):
     return reply[1], line_of(text=text.hex(), reply=reply, **series_words(series))
 
 
+def clean_case(rng):
+    text, header, unit = random_file(rng)
+    if not holds([header], [unit]):
+        return None
+    try:
+        made, lines, noted = cleaned(text, header, unit)
+        reply = (len(lines), 0, 0)
+    except Refusal as refusal:
+        made, lines, noted, reply = b"", [], [], (0, refusal.number, refusal.place)
+    return reply[1], line_of(text=text.hex(), header=[header], unit=[unit], reply=reply, made=made.hex(), lines=lines,
+                             notes=[cell for line, note in noted for cell in (note, line)])
+
+
 def write_case(rng):
     names, years, counts, widths = random_lists(rng)
     if not holds(years, counts, widths) or sum(counts) != len(widths) or not len(names) == 8 * len(years) == 8 * len(counts):
@@ -162,6 +177,7 @@ KINDS = {
     "reach": (reach_case, CURVE_NUMBERS | {16}),
     "piece": (piece_case, CURVE_NUMBERS | {17}),
     "coefficients": (coefficient_case, SPACE_NUMBERS | {18, 19, 20}),
+    "tucson_clean": (clean_case, {11, 12, 13, 21, 22, 23, 24, 25, 26}),
     "tucson_read": (read_case, {11, 12, 13}),
     "tucson_write": (write_case, {11}),
 }

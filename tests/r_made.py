@@ -36,6 +36,9 @@ templates <- list(
 ARGUMENTS = {
     "(--first RING)": "(first = RING)",
     "(--nearest)": "(./walzhik coefficients --nearest)",
+    "(--header N)": "(header = N)",
+    "(--hundredths or --thousandths)": "(unit)",
+    "(--strict)": "(strict = TRUE)",
     "degrees= lists": "degrees lists",
     "breaks= lists": "breaks lists",
     "orders= {orders}": "orders {orders}",

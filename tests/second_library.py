@@ -1,4 +1,4 @@
-"""Checks that the second library uses of the engine what its curve call promises, and nothing else.
+"""Checks that the second library uses of the engine what its curve call promises, and for the table of indices texts and names.
 
 usage: second_library.py [--root FOLDER]
 
@@ -26,6 +26,7 @@ DEFINITIONS_AND_LAWS = (
     r"build_space\.specs\.Machine",
     r"curve_ordinates\.specs\.Wood",
 )
+TEXTS_AND_BUFFERS = (r"base_(text|print)\.(specs|proofs)", r"tucson_putting\.(specs|proofs)", r"tucson_series\.proofs\.Tests")
 
 
 class Uses(NamedTuple):
@@ -57,8 +58,37 @@ ALLOWED = {
         ),
         (*DEFINITIONS_AND_LAWS, r"curve\.specs", r"indices_positions\.(specs|proofs)", r"indices_rings\.specs"),
     ),
+    "table_numbers": Uses(
+        frozenset({"base_division::magnitude", "base_division::round_div", "base_print::digit_count"}),
+        (*DEFINITIONS_AND_LAWS, *TEXTS_AND_BUFFERS),
+    ),
+    "table_name": Uses(
+        frozenset({"base_print::put", "base_print::put_text", "tucson_columns::trim_blanks"}),
+        (*DEFINITIONS_AND_LAWS, *TEXTS_AND_BUFFERS),
+    ),
+    "table_line": Uses(
+        frozenset(
+            {
+                "table_numbers::millionths",
+                "table_numbers::whole_size",
+                "table_numbers::thousandths_size",
+                "table_numbers::millionths_size",
+                "table_numbers::put_byte",
+                "table_numbers::put_whole",
+                "table_numbers::put_thousandths",
+                "table_numbers::put_millionths",
+            }
+        ),
+        (*DEFINITIONS_AND_LAWS, *TEXTS_AND_BUFFERS),
+    ),
+    "table_lines": Uses(
+        frozenset(
+            {"table_line::numbers_size", "table_line::put_numbers", "table_name::put_name", "tucson_lines::is_name"}
+        ),
+        (*DEFINITIONS_AND_LAWS, *TEXTS_AND_BUFFERS, r"table_name\.specs"),
+    ),
     "walzhik_indices": Uses(
-        frozenset({"indices::indices", "walzhik_reply::reply_of"}),
+        frozenset({"indices::indices", "table_lines::ring_lines", "walzhik_reply::reply_of"}),
         (*DEFINITIONS_AND_LAWS, r"indices\.specs", r"walzhik_reply\.specs"),
     ),
 }

@@ -1,5 +1,5 @@
 """Holds every place that states the version against the one in include/walzhik.h: the changelog's newest entry, the Rust crate, the R
-package, the Python package and what the command prints.
+package, the Python package, the Debian packages and what the command prints, which names the commit and the kit too.
 
 usage: version.py
 """
@@ -29,6 +29,14 @@ def printed(*command):
     return found[0] if found else f"none (status {said.returncode}: {said.stderr.strip()})"
 
 
+def names_commit_and_kit():
+    """Whether ./walzhik --version names this commit, and a kit."""
+    said = subprocess.run(["./walzhik", "--version"], cwd=ROOT, capture_output=True, text=True, check=False).stdout
+    head = subprocess.run(["git", "rev-parse", "HEAD"], cwd=ROOT, capture_output=True, text=True, check=False).stdout.strip()
+    kit = subprocess.run(["rt", "version"], cwd=ROOT, capture_output=True, text=True, check=False).stdout.strip()
+    return bool(head and kit) and f", commit {head}" in said and said.endswith(f", kit {kit}\n")
+
+
 def text_of_header():
     """What a C program has for WALZHIK_VERSION: the compiler's own words for the macro, put together."""
     said = subprocess.run(["cc", "-E", "-P", "-I", str(ROOT / "include"), "-"], input='#include "walzhik.h"\nWALZHIK_VERSION\n',
@@ -45,6 +53,8 @@ def main():
         "r/DESCRIPTION": written("r/DESCRIPTION", r"^Version: (\S+)$"),
         "./walzhik --version": printed("./walzhik", "--version"),
         "python/setup.py": printed(PYTHON, "python/setup.py", "--version"),
+        "debian/changelog": written("debian/changelog", r"^walzhik \((\S+)\)"),
+        "the command's line": version if names_commit_and_kit() else "no commit or kit",
     }
     wrong = {place: other for place, other in stated.items() if other != version}
     for place, other in wrong.items():

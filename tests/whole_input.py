@@ -1,8 +1,8 @@
 """Checks that what reads standard input takes all of it or says that it could not.
 
-usage: whole_input.py SHEET TUCSON RINGS_C TUCSON_C
+usage: whole_input.py SHEET TUCSON RINGS RINGS_C TUCSON_C
 
-The arguments are the programs sheet and tucson and the examples rings.c and tucson.c. A failed read, at once or after part of a
+The arguments are the programs sheet, tucson and rings and the examples rings.c and tucson.c. A failed read, at once or after part of a
 text, must be said on standard error with the system's reason, with nothing on standard output: what came before it could pass
 for a shorter text. Long texts must go through the examples whole.
 """
@@ -103,13 +103,15 @@ def long_texts(rings: Path, tucson: Path) -> Iterator[str]:
 
 def main() -> int:
     parser = argparse.ArgumentParser(description="check that standard input is taken whole")
-    for name in ("sheet", "tucson", "rings_c", "tucson_c"):
+    for name in ("sheet", "tucson", "rings", "rings_c", "tucson_c"):
         parser.add_argument(name, type=Path)
     chosen = parser.parse_args()
     sheet = (ROOT / "examples" / "sheets" / "w1.sheet").read_bytes()
+    table = (ROOT / "examples" / "rings" / "roof.txt").read_bytes()
     found = [
         *failed_reads(chosen.sheet, 0, sheet),
         *failed_reads(chosen.tucson, 0, series(0).encode()),
+        *failed_reads(chosen.rings, 0, table),
         *failed_reads(chosen.rings_c, 1, series(0).encode()),
         *failed_reads(chosen.tucson_c, 1, series(0).encode()),
         *long_texts(chosen.rings_c, chosen.tucson_c),
@@ -117,7 +119,7 @@ def main() -> int:
     for fault in found:
         print(f"whole input: {fault}")
     if not found:
-        print("whole input: 8 failed reads are said, two long texts go through whole")
+        print("whole input: 10 failed reads are said, two long texts go through whole")
     return 1 if found else 0
 
 

@@ -132,6 +132,18 @@ class Page:
         commands = re.findall(r"([MLQC])([^MLQC]*)", found or "")
         return [(letter, [float(number) for number in NUMBER.findall(body)]) for letter, body in commands]
 
+    def widths(self, wood: str) -> str:
+        """The path of the measured widths beside a curve."""
+        return str(
+            self.script(
+                "return document.querySelector(arguments[0])?.getAttribute('d')", f"path.rings.{wood}:not(.index)"
+            )
+        )
+
+    def chosen(self, control: str) -> str:
+        """The value of a select."""
+        return str(self.script("return document.getElementById(arguments[0]).value", control))
+
     def low(self, wood: str) -> str:
         return str(
             self.script("return document.querySelector(`path[data-low=\"${arguments[0]}\"]`).getAttribute('d')", wood)

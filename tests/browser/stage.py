@@ -57,6 +57,14 @@ def crowd(folder: Path) -> Arguments:
     return named_file(folder, "crowd.rwl", "FIRST", "SECOND", "THIRD", "FOURTH", "FIFTH")
 
 
+def falling(folder: Path) -> Arguments:
+    """A file of two series that start in different years, with rings counted from the earlier one."""
+    early = tucson.Series("LATER", 1805, list(range(950, 550, -10)))
+    late = tucson.Series("EARLIER", 1801, list(range(800, 400, -10)))
+    (folder / "falling.rwl").write_bytes(tucson.write([early, late]))
+    return [str(folder / "falling.rwl"), "--first", "1"]
+
+
 def pairs(folder: Path) -> Arguments:
     """A file of two pairs of wood parts, and one series beside them."""
     return named_file(folder, "pairs.rwl", "A9E", "A9L", "B10E", "B10L", "ALONE")

@@ -6,6 +6,7 @@ import numpy as np
 
 from walzhik import Curve, Space, tucson
 from walzhik.fit import SHAPES, fit
+from walzhik.promises import shape_lines, wood_lines
 
 from .curves import agrees, curve_of
 from .page import Page
@@ -142,3 +143,21 @@ def test_the_former_curve_is_a_ghost(page: Page) -> None:
     assert page.path("earlywood", "ghost") == before, "the ghost is not the former curve"
     page.click("#ghost")
     assert page.script("return getComputedStyle(document.querySelector('path.ghost')).display") == "none"
+
+
+def test_what_can_be_counted_on_follows_the_sheet(page: Page) -> None:
+    """The panel has the lines of `explain`, of the sheet as it is now."""
+    follows(page)
+    page.choose("order-2", "-1")
+    page.until(lambda: len(page.lists().pairs) == 10, "the scar did not bring a coefficient")
+    follows(page)
+    before = page.lists().pairs[0]
+    page.key("coefficient-0-earlywood", "ArrowUp")
+    page.until(lambda: page.lists().pairs[0] != before, "the coefficient is not changed")
+    follows(page)
+
+
+def follows(page: Page) -> None:
+    """Each line stands in the panel."""
+    lines = [*shape_lines(page.lists()), *wood_lines(page.lists())]
+    page.until(lambda: all(line in page.text("promises") for line in lines), f"the panel does not say all of {lines}")

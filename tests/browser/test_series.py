@@ -9,7 +9,7 @@ from walzhik import sheet, tucson
 
 from .curves import agrees
 from .page import Page
-from .stage import HURTING, OAK, ROOT, computed, crowd, hurting, on, pairs
+from .stage import HURTING, OAK, ROOT, computed, crowd, falling, hurting, on, pairs
 
 
 @on(hurting)
@@ -84,6 +84,30 @@ def test_all_designs_are_saved(page: Page) -> None:
         assert sheet.read(packed.read("FIFTH.sheet")).pairs[0] == (4321, 4321)
         assert len(packed.read("crowd_indices.csv").splitlines()) == 501
     assert "designs: 5" in page.text("status")
+
+
+@on(falling)
+def test_rings_are_counted_from_the_earliest_or_each_series_by_itself(page: Page) -> None:
+    assert page.value("first") == 1 and page.chosen("counted") == "earliest"
+    assert page.lists().breaks[0] == 5, "the later series does not keep its distance"
+    assert page.widths("ring").startswith("M5 950")
+    page.press("next")
+    page.until(lambda: page.widths("ring").startswith("M1 800"), "the earlier series is not ring 1")
+    assert page.lists().breaks[0] == 1
+    page.press("previous")
+    page.until(lambda: page.lists().breaks[0] == 5, "the later series is not there again")
+    page.choose("counted", "each")
+    page.until(lambda: page.widths("ring").startswith("M1 950"), "it is not counted by itself")
+    page.press("template")
+    page.until(lambda: page.lists().breaks[0] == 1, "the template does not follow")
+    agrees(page, "ring")
+    assert page.saved("csv", "falling_LATER_indices.csv").splitlines()[1].startswith(b"LATER,1805,0.950,")
+    page.press("undo", "undo")
+    page.until(lambda: page.chosen("counted") == "earliest", "it is not undone")
+    page.type("first", "11")
+    page.until(lambda: page.widths("ring").startswith("M15 950"), "another ring is not counted from")
+    page.reload()
+    page.until(lambda: page.widths("ring").startswith("M15 950"), "the counting is lost by a reload")
 
 
 @on(pairs)

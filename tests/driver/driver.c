@@ -108,6 +108,28 @@ static void run_indices(const char *line, index_call *call)
     end_all(held, ALL);
 }
 
+/* The call for a wood part's lines of the table, both of one type. */
+typedef walzhik_reply lines_call(const uint8_t *, size_t, int32_t, const int32_t *, size_t, const int32_t *, size_t,
+                                 const int64_t *, size_t, uint8_t *, size_t);
+
+static void run_ring_lines(const char *line, lines_call *call)
+{
+    enum { NAME, WIDTHS, VALUES, INDICES, OUT, ALL };
+    cells held[ALL];
+    held[NAME] = read_list(&line, "name", UNSIGNED_8);
+    after_name(&line, "first");
+    int32_t first = (int32_t)read_number(&line);
+    held[WIDTHS] = read_list(&line, "widths", SIGNED_32);
+    held[VALUES] = read_list(&line, "values", SIGNED_32);
+    held[INDICES] = read_list(&line, "indices", SIGNED_64);
+    held[OUT] = read_buffer(&line, "out", UNSIGNED_8);
+
+    print_reply(call(in(&held[NAME]), held[NAME].length, first, in(&held[WIDTHS]), held[WIDTHS].length, in(&held[VALUES]),
+                     held[VALUES].length, in(&held[INDICES]), held[INDICES].length, in(&held[OUT]), held[OUT].length));
+    print_changed(&held[OUT]);
+    end_all(held, ALL);
+}
+
 /* The reach call of a wood part, both of one type. */
 typedef walzhik_reach reach_call(const int32_t *, size_t, const int32_t *, size_t, const int32_t *, size_t, const int32_t *,
                                  size_t, int32_t, int64_t *, size_t, int64_t *, size_t);
@@ -201,6 +223,10 @@ static void run_line(const char *line)
         run_indices(rest, walzhik_earlywood_indices);
     else if ((rest = after_word(line, "latewood_indices ")) != NULL)
         run_indices(rest, walzhik_latewood_indices);
+    else if ((rest = after_word(line, "earlywood_ring_lines ")) != NULL)
+        run_ring_lines(rest, walzhik_earlywood_ring_lines);
+    else if ((rest = after_word(line, "latewood_ring_lines ")) != NULL)
+        run_ring_lines(rest, walzhik_latewood_ring_lines);
     else if ((rest = after_word(line, "earlywood_reach ")) != NULL)
         run_reach(rest, walzhik_earlywood_reach);
     else if ((rest = after_word(line, "latewood_reach ")) != NULL)

@@ -34,7 +34,13 @@ static void check_empty_calls(void)
           walzhik_earlywood_indices(NO_SPACE, NO_LIST, 0, NO_LIST, NO_WEIGHTS, NO_LIST, NO_LIST).number, is_short);
     check("latewood_indices",
           walzhik_latewood_indices(NO_SPACE, NO_LIST, 0, NO_LIST, NO_WEIGHTS, NO_LIST, NO_LIST).number, is_short);
+    check("earlywood_ring_lines", walzhik_earlywood_ring_lines(NO_LIST, 0, NO_LIST, NO_LIST, NO_LIST, NO_LIST).number,
+          WALZHIK_LENGTHS);
+    check("latewood_ring_lines", walzhik_latewood_ring_lines(NO_LIST, 0, NO_LIST, NO_LIST, NO_LIST, NO_LIST).number,
+          WALZHIK_LENGTHS);
     check("tucson_read", walzhik_tucson_read(NO_LIST, NO_LIST, NO_LIST, NO_LIST, NO_LIST).number, WALZHIK_ANSWER);
+    check("tucson_clean", walzhik_tucson_clean(NO_LIST, WALZHIK_NO_HEADER, WALZHIK_NO_UNIT, NO_LIST, NO_LIST, NO_LIST).number,
+          WALZHIK_ANSWER);
     check("tucson_write", walzhik_tucson_write(NO_LIST, NO_LIST, NO_LIST, NO_LIST, NO_LIST).number, WALZHIK_ANSWER);
 }
 

@@ -25,7 +25,7 @@ enum { GUARDS = 64, DECIMAL = 10, GUARD_BYTE = 0x5A, GUARD_STEP = 7 };
 
 static size_t guards = GUARDS;
 
-typedef enum { UNSIGNED_8, UNSIGNED_32, SIGNED_32, SIGNED_64 } cell_type;
+typedef enum { UNSIGNED_8, UNSIGNED_32, SIGNED_32, SIGNED_64, SIZE } cell_type;
 
 /* The cells of a list or of a lent buffer between their guards, and a copy of all from before the call. */
 typedef struct {
@@ -45,7 +45,16 @@ static inline void give_up(const char *why, const char *text)
 
 static inline size_t size_of(cell_type type)
 {
-    return type == UNSIGNED_8 ? sizeof(uint8_t) : type == SIGNED_64 ? sizeof(int64_t) : sizeof(uint32_t);
+    switch (type) {
+    case UNSIGNED_8:
+        return sizeof(uint8_t);
+    case SIGNED_64:
+        return sizeof(int64_t);
+    case SIZE:
+        return sizeof(size_t);
+    default:
+        return sizeof(uint32_t);
+    }
 }
 
 /* Single cells, counted from the first one behind the guards. */
@@ -67,7 +76,7 @@ static inline int64_t cell_of(const cells *held, const unsigned char *block, siz
     const unsigned char *cell = block + (guards + i) * size;
     if (held->type == UNSIGNED_8)
         return *cell;
-    if (held->type == SIGNED_64) {
+    if (size == sizeof number) {
         memcpy(&number, cell, size);
         return number;
     }

@@ -169,6 +169,22 @@ walzhik_reply walzhik_tucson_read(const uint8_t *text, size_t text_len, uint8_t 
     return (walzhik_reply){0, 0, 0};
 }
 
+walzhik_cleaned walzhik_tucson_clean(const uint8_t *text, size_t text_len, uint32_t header, uint32_t unit, uint8_t *out,
+                                     size_t out_len, size_t *lines, size_t lines_len, size_t *notes, size_t notes_len)
+{
+    ask("tucson_clean", text);
+    ask("tucson_clean", out);
+    ask("tucson_clean", lines);
+    ask("tucson_clean", notes);
+    (void)text_len;
+    (void)header;
+    (void)unit;
+    (void)out_len;
+    (void)lines_len;
+    (void)notes_len;
+    return (walzhik_cleaned){0, 0, 0, 0, 0};
+}
+
 walzhik_reply walzhik_tucson_write(const uint8_t *names, size_t names_len, const int32_t *years, size_t years_len,
                                    const uint32_t *counts, size_t counts_len, const int32_t *widths, size_t widths_len,
                                    uint8_t *text, size_t text_len)
@@ -238,4 +254,38 @@ walzhik_reply walzhik_latewood_indices(const int32_t *breaks, size_t breaks_len,
     (void)values_len;
     (void)indices_len;
     return (walzhik_reply){0, breaks_len == 0, 0};
+}
+
+walzhik_reply walzhik_earlywood_ring_lines(const uint8_t *name, size_t name_len, int32_t first, const int32_t *widths,
+                                           size_t widths_len, const int32_t *values, size_t values_len,
+                                           const int64_t *indices, size_t indices_len, uint8_t *out, size_t out_len)
+{
+    ask("earlywood_ring_lines", name);
+    ask("earlywood_ring_lines", widths);
+    ask("earlywood_ring_lines", values);
+    ask("earlywood_ring_lines", indices);
+    ask("earlywood_ring_lines", out);
+    (void)first;
+    (void)widths_len;
+    (void)values_len;
+    (void)indices_len;
+    (void)out_len;
+    return (walzhik_reply){0, name_len == 0 ? WALZHIK_LENGTHS : 0, 0};
+}
+
+walzhik_reply walzhik_latewood_ring_lines(const uint8_t *name, size_t name_len, int32_t first, const int32_t *widths,
+                                          size_t widths_len, const int32_t *values, size_t values_len,
+                                          const int64_t *indices, size_t indices_len, uint8_t *out, size_t out_len)
+{
+    ask("latewood_ring_lines", name);
+    ask("latewood_ring_lines", widths);
+    ask("latewood_ring_lines", values);
+    ask("latewood_ring_lines", indices);
+    ask("latewood_ring_lines", out);
+    (void)first;
+    (void)widths_len;
+    (void)values_len;
+    (void)indices_len;
+    (void)out_len;
+    return (walzhik_reply){0, name_len == 0 ? WALZHIK_LENGTHS : 0, 0};
 }

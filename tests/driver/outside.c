@@ -89,6 +89,34 @@ walzhik_reply walzhik_latewood_indices(const int32_t *breaks, size_t breaks_len,
                          num, num_len, den, den_len, values, values_len, indices, indices_len);
 }
 
+static walzhik_reply look_at_lines(const uint8_t *name, size_t name_len, const int32_t *widths, size_t widths_len,
+                                   const int32_t *values, size_t values_len, const int64_t *indices, size_t indices_len,
+                                   uint8_t *out, size_t out_len)
+{
+    look_outside(0, name, name_len, sizeof *name);
+    look_outside(1, widths, widths_len, sizeof *widths);
+    look_outside(2, values, values_len, sizeof *values);
+    look_outside(3, indices, indices_len, sizeof *indices);
+    look_outside(4, out, out_len, sizeof *out);
+    return (walzhik_reply){0, 0, 0};
+}
+
+walzhik_reply walzhik_earlywood_ring_lines(const uint8_t *name, size_t name_len, int32_t first, const int32_t *widths,
+                                           size_t widths_len, const int32_t *values, size_t values_len,
+                                           const int64_t *indices, size_t indices_len, uint8_t *out, size_t out_len)
+{
+    (void)first;
+    return look_at_lines(name, name_len, widths, widths_len, values, values_len, indices, indices_len, out, out_len);
+}
+
+walzhik_reply walzhik_latewood_ring_lines(const uint8_t *name, size_t name_len, int32_t first, const int32_t *widths,
+                                          size_t widths_len, const int32_t *values, size_t values_len,
+                                          const int64_t *indices, size_t indices_len, uint8_t *out, size_t out_len)
+{
+    (void)first;
+    return look_at_lines(name, name_len, widths, widths_len, values, values_len, indices, indices_len, out, out_len);
+}
+
 walzhik_reply walzhik_tucson_read(const uint8_t *text, size_t text_len, uint8_t *names, size_t names_len, int32_t *years,
                                   size_t years_len, uint32_t *counts, size_t counts_len, int32_t *widths, size_t widths_len)
 {
@@ -98,6 +126,18 @@ walzhik_reply walzhik_tucson_read(const uint8_t *text, size_t text_len, uint8_t 
     look_outside(3, counts, counts_len, sizeof *counts);
     look_outside(4, widths, widths_len, sizeof *widths);
     return (walzhik_reply){0, 0, 0};
+}
+
+walzhik_cleaned walzhik_tucson_clean(const uint8_t *text, size_t text_len, uint32_t header, uint32_t unit, uint8_t *out,
+                                     size_t out_len, size_t *lines, size_t lines_len, size_t *notes, size_t notes_len)
+{
+    (void)header;
+    (void)unit;
+    look_outside(0, text, text_len, sizeof *text);
+    look_outside(1, out, out_len, sizeof *out);
+    look_outside(2, lines, lines_len, sizeof *lines);
+    look_outside(3, notes, notes_len, sizeof *notes);
+    return (walzhik_cleaned){0, 0, 0, 0, 0};
 }
 
 walzhik_reply walzhik_tucson_write(const uint8_t *names, size_t names_len, const int32_t *years, size_t years_len,

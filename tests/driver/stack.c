@@ -24,7 +24,8 @@ enum { POSITIONS = 4096, PARTS = 2, STACK = 1 << 20, PAINT = 0xA5 };
 
 /* The most bytes that a call may need. The index calls hold the rings' positions, the call for coefficients the numbers of the
  * rows before and after a step. */
-enum { SPACE_LIMIT = 16384, INDICES_LIMIT = 32768, COEFFICIENTS_LIMIT = 32768, TUCSON_LIMIT = 1024 };
+enum { SPACE_LIMIT = 16384, INDICES_LIMIT = 32768, COEFFICIENTS_LIMIT = 32768 };
+enum { TUCSON_LIMIT = 1024, CLEAN_LIMIT = 4096, LINES_LIMIT = 1024 };
 
 /* A space, and what the calls on it take. */
 static size_t segments, columns, rows;
@@ -46,6 +47,20 @@ static uint8_t names[NAME * SERIES], written[TEXT];
 static int32_t years[SERIES], measured_widths[WIDTHS];
 static uint32_t counts[SERIES];
 static walzhik_reply reply;
+
+/* A file with what asks the most of the call: a mark, a header of the data bank's form, tabs, bytes over 127, a site name, a closing of
+ * no unit and byte 26. */
+static const char file[] = "\xEF\xBB\xBF"
+                           "ABC    1 Hillside                   QUSP\r\n"
+                           "ABC    2 Somewhere    Oak          300M\r\n"
+                           "ABC    3 Somebody\r\n\r\n"
+                           "AB\xC4 01  1990     1     2     3     4     5     6     7     8     9    10   AB123C\r\n"
+                           "AB\xC4 01  2000  9999  -999 \r\n"
+                           "AB\xC3\x84 02  2000  9999  -999 \r\n"
+                           "ABC02\t1990     1     2     3\t   5  -999\x1A\r\n";
+enum { FILE_BYTES = sizeof file - 1 };
+static uint8_t strict[2 * FILE_BYTES];
+static size_t numbers[FILE_BYTES / 10], notes[2 * FILE_BYTES + 4];
 
 /* So many segments, cut into parts; the ordinates are those of a constant curve. */
 static void make_space(size_t count)
@@ -93,6 +108,26 @@ static void *latewood(void *unused)
     return unused;
 }
 
+/* Lines with long names and numbers, with room and without. */
+enum { LINE = 87, LINES = BEAM + 1 };
+static uint8_t table[LINE * LINES];
+static int32_t line_widths[LINES];
+static int64_t line_indices[LINES];
+static const uint8_t quoted[] = "\"\"\"\"\"\"\"\"";
+#define INDEXED quoted, 8, INT32_MIN, line_widths, LINES, values, PARTS * LINES, line_indices, LINES
+
+static void *lines(void *unused)
+{
+    for (size_t i = 0; i < LINES; i++) {
+        line_widths[i] = INT32_MIN;
+        line_indices[i] = INT64_MIN;
+    }
+    walzhik_reply refused = walzhik_earlywood_ring_lines(INDEXED, table, LINE);
+    reply = walzhik_latewood_ring_lines(INDEXED, table, sizeof table);
+    reply.number |= refused.number != WALZHIK_SHORT_BUFFER;
+    return unused;
+}
+
 /* A width that no value reaches: 16, after the whole search. */
 static const int32_t never = 1;
 
@@ -122,6 +157,14 @@ static void *tucson_read(void *unused)
 {
     reply = walzhik_tucson_read((const uint8_t *)text, TEXT, names, NAME * SERIES, years, SERIES, counts, SERIES,
                                 measured_widths, WIDTHS);
+    return unused;
+}
+
+static void *tucson_clean(void *unused)
+{
+    walzhik_cleaned cleaned = walzhik_tucson_clean((const uint8_t *)file, FILE_BYTES, WALZHIK_NO_HEADER, 1000, strict,
+                                                   2 * FILE_BYTES, numbers, FILE_BYTES / 10, notes, 2 * FILE_BYTES + 4);
+    reply = (walzhik_reply){cleaned.notes, cleaned.number, cleaned.place};
     return unused;
 }
 
@@ -176,6 +219,7 @@ static int measured_on(size_t count)
     failed |= measured("curve", curve, SPACE_LIMIT);
     failed |= measured("earlywood indices", earlywood, INDICES_LIMIT);
     failed |= measured("latewood indices", latewood, INDICES_LIMIT);
+    failed |= measured("lines", lines, LINES_LIMIT);
     failed |= measured("reach", reach, SPACE_LIMIT);
     failed |= measured("piece", drawn, SPACE_LIMIT);
     failed |= measured("coefficients", coefficients, COEFFICIENTS_LIMIT);
@@ -188,5 +232,6 @@ int main(void)
     /* tucson_write writes what tucson_read has left, so in this order */
     failed |= measured("tucson_read", tucson_read, TUCSON_LIMIT);
     failed |= measured("tucson_write", tucson_write, TUCSON_LIMIT);
+    failed |= measured("tucson_clean", tucson_clean, CLEAN_LIMIT);
     return failed;
 }

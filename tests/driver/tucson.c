@@ -1,8 +1,10 @@
-/* Runs the two calls for Tucson files from text and prints every lent cell as
+/* Runs the three calls for Tucson files from text and prints every lent cell as
  * text: `read text=.. names=.. years=.. counts=.. widths=..` with the text's
  * bytes as a list and four lent buffers, `write names=.. years=.. counts=..
- * widths=.. text=..` with four lists and one buffer. lent.h says how lists and
- * buffers are written and held. */
+ * widths=.. text=..` with four lists and one buffer, `clean text=.. header=..
+ * unit=.. out=.. lines=.. notes=..` with the text's bytes as a list, two numbers
+ * and three lent buffers. lent.h says how lists and buffers are written and
+ * held. */
 
 #include "lent.h"
 
@@ -41,6 +43,36 @@ static void run_write(const char *line)
     end_all(held, ALL);
 }
 
+static uint32_t read_unsigned(const char **line, const char *name)
+{
+    after_name(line, name);
+    long long number = read_number(line);
+    if (number < 0 || number > UINT32_MAX)
+        give_up("no unsigned number of 32 bits", name);
+    return (uint32_t)number;
+}
+
+static void run_clean(const char *line)
+{
+    enum { TEXT, OUT, LINES, NOTES, ALL };
+    cells held[ALL];
+    held[TEXT] = read_list(&line, "text", UNSIGNED_8);
+    uint32_t header = read_unsigned(&line, "header");
+    uint32_t unit = read_unsigned(&line, "unit");
+    held[OUT] = read_buffer(&line, "out", UNSIGNED_8);
+    held[LINES] = read_buffer(&line, "lines", SIZE);
+    held[NOTES] = read_buffer(&line, "notes", SIZE);
+
+    walzhik_cleaned cleaned = walzhik_tucson_clean(in(&held[TEXT]), held[TEXT].length, header, unit, in(&held[OUT]),
+                                                   held[OUT].length, in(&held[LINES]), held[LINES].length, in(&held[NOTES]),
+                                                   held[NOTES].length);
+    printf("bytes=%" PRIu64 " lines=%" PRIu64 " notes=%" PRIu64 " number=%" PRIu32 " place=%" PRIu32, cleaned.bytes,
+           cleaned.lines, cleaned.notes, cleaned.number, cleaned.place);
+    for (size_t i = OUT; i < ALL; i++)
+        print_changed(&held[i]);
+    end_all(held, ALL);
+}
+
 static void run_line(const char *line)
 {
     const char *rest;
@@ -48,6 +80,8 @@ static void run_line(const char *line)
         run_read(rest);
     else if ((rest = after_word(line, "write ")) != NULL)
         run_write(rest);
+    else if ((rest = after_word(line, "clean ")) != NULL)
+        run_clean(rest);
     else
         give_up("expected the name of a call", line);
 }

@@ -4,6 +4,8 @@ They stand apart so that no other file of the reference model holds a bare
 number, and a change of a limit is a change of one line.
 """
 
+from fractions import Fraction
+
 SIDE = 72                    # rows and columns of the table that the buffers hold
 CELLS = SIDE * SIDE          # cells of one weight buffer that a call may write
 
@@ -42,5 +44,16 @@ MOST_HUNDREDTHS, MOST_THOUSANDTHS = 9_999, 99_999
 LEAST_YEAR, MOST_YEAR = -999, 9_999
 MOST_TUCSON_BYTES = 1_048_576  # that the filter holds
 
+# Files as laboratories have them (§ 16).
+TAB_COLUMNS = 8
+MOST_HEADER, NO_HEADER = 99, 100
+HUNDREDTHS, THOUSANDTHS, NO_UNIT = 100, 1_000, 0
+UNKNOWN_CLOSING = -999       # of which nobody knows the unit
+MOST_FILE_BYTES = 2 ** 32 - 1
+
 INDEX_SCALE = 256_000        # 256 for the values' units, 1,000 for three decimals
 ABSENT_INDEX = -1            # of a ring of width 0
+
+# The table of indices (§ 17).
+WIDTH_DECIMALS, CURVE_DECIMALS = 3, 6
+MILLIONTHS_OF_VALUE = Fraction(125, 32)

@@ -2,11 +2,12 @@
 
 usage: memberscheck.py [--count N] [--seed S]
 
-The engine has all of it as theorems; this is the rational program's own trial,
-by reading, apart from any proof: raised and moved coefficients, which rows act
+The engine has all of it as theorems, but the mirror and the two units at order 2,
+which are tried alone; this is the rational program's own trial, by reading, apart
+from any proof: raised and moved coefficients, which rows act
 on which segment, values at the ends, a beam and its parts, moved and scaled
-breakpoints, equal coefficients and straight lines, indices beside the exact
-curve, and the numbers of each call with their places. Bounds that can't be less
+breakpoints, equal coefficients and straight lines, minimal support, pieces between
+the positions, indices beside the exact curve, and the numbers of each call with their places. Bounds that can't be less
 are reached by stated examples. Exits non-zero on any difference.
 """
 
@@ -21,7 +22,7 @@ from limits import BREAKPOINT_LIMIT, COEFFICIENT_LIMIT, DISCONTINUITY, INDEX_SCA
 from numberscheck import check_numbers
 from promisescheck import SAFE_ORDER, falling_list, part_rows, read_positions
 from random_spaces import part_list, space_lists
-from reading import part_values, segment_of
+from reading import part_values, segment_of, segment_ordinates
 from recovery import recover
 from selfcheck import Tally
 from space import Refusal, Space
@@ -32,10 +33,15 @@ RARE = 50                    # one space of each kind in so many, at least
 TRIED = 8                    # positions whose exact curve is worked out
 MOVES = (0, 1, 2, 1_000)     # how far coefficients are off
 FACTORS = (1, 1, 2, 3, 7)    # of breakpoints
+SHARES = 997                 # of a segment, between the positions
+FEW_ROWS = 24                # of spaces whose rows' supports are tried
+PRIME = 2 ** 61 - 1          # larger than every denominator
 
 # Where the bound on moved values is reached: the space, its list, the position, the values before and after one more.
 REACHED = [(Space([0, 1, 3], [2, 2], [1]), [8, 2, 7, 3], 256, 938, 1195),
            (Space([0, 3, 10], [3, 3], [2]), [26, 7, 14, 12, 8], 768, 2659, 2917)]
+# Where a list that does not rise gives values that rise by two units.
+TWO_UNITS = Space([0, 299, 300, 1_112], [3, 3, 3], [2, 2]), [-201_281] * 3 + [-201_282] * 3
 
 
 class Curve(NamedTuple):
@@ -165,8 +171,14 @@ def line_ordinates(space, start, slope):
             for j, degree in enumerate(space.degrees) for t in range(degree + 1)]
 
 
+def middle_node(space, join):
+    """The node of the middle row at a join of order 2."""
+    (p, q), (a, b) = space.degrees[join:join + 2], (space.length(join), space.length(join + 1))
+    return space.breaks[join + 1] + Fraction(p * (p - 1) * b * b - q * (q - 1) * a * a, p * q * ((p - 1) * b + (q - 1) * a))
+
+
 def try_line(tally, rng, curve):
-    """One list, with nodes that rise inside a part; at orders up to 1 each node is an ordinate's place."""
+    """One list, with nodes that rise inside a part; each is an ordinate's place, but the middle one at a join of order 2."""
     space, places = curve.space, line_ordinates(curve.space, 0, 1)
     try:
         _, nodes = recover(space, places)
@@ -177,10 +189,116 @@ def try_line(tally, rng, curve):
         part = nodes[row:row + count]
         tally.check(all(one < other for one, other in zip(part, part[1:])), "nodes", space, nodes)
         row += count
-    if max(space.orders, default=DISCONTINUITY) <= SAFE_ORDER:
-        tally.check(set(nodes) <= set(places), "nodes are places", space, nodes)
+    middle = {starts + space.degrees[join] - 1: middle_node(space, join)
+              for join, (starts, order) in enumerate(zip(first_rows(space), space.orders)) if order > SAFE_ORDER}
+    for row, node in enumerate(nodes):
+        tally.check(node == middle[row] if row in middle else node in places, "node", space, row, node)
     for column, place in zip(curve.columns, places):
         tally.check(sum(weight * nodes[row] for row, weight in column) == place, "line", space)
+
+
+# Minimal support.
+
+def rank(rows):
+    """The rank of rows of whole numbers modulo a prime, which is no more than that of the fractions."""
+    found, rows = 0, [[entry % PRIME for entry in row] for row in rows]
+    while rows:
+        row = rows.pop()
+        place = next((column for column, entry in enumerate(row) if entry), None)
+        if place is not None:
+            found, inverse = found + 1, pow(row[place], -1, PRIME)
+            rows = [[(entry - other[place] * inverse * mine) % PRIME for entry, mine in zip(other, row)] if other[place] else other
+                    for other in rows]
+    return found
+
+
+def try_minimal(tally, rng, curve, kinds):
+    """Where a row has no weight, the others vanish together only if each of them is left out: a curve that lives there is a multiple."""
+    if len(curve.rows) > FEW_ROWS:
+        return
+    own = rng.randrange(len(curve.rows))
+    free = [column for column, weights in enumerate(curve.columns) if own not in dict(weights)]
+    others = [[dict(curve.columns[column]).get(row, Fraction(0)) for column in free] for row in range(len(curve.rows)) if row != own]
+    whole = [[entry.numerator * pow(entry.denominator, -1, PRIME) for entry in row] for row in others]
+    tally.check(rank(whole) == len(whole), "minimal support", curve.space, own)
+    kinds["minimal support"] += 1
+
+
+# Pieces between the positions.
+
+def at_share(ordinates, share):
+    """The polynomial of these ordinates at a share of its segment, by the triangle, exactly."""
+    while len(ordinates) > 1:
+        ordinates = [(1 - share) * one + share * other for one, other in zip(ordinates, ordinates[1:])]
+    return ordinates[0]
+
+
+def try_between(tally, rng, curve):
+    coefs, segment = part_list(rng, len(curve.rows)), rng.randrange(len(curve.space.degrees))
+    first = curve.space.first_columns()[segment]
+    columns = curve.columns[first:first + curve.space.degrees[segment] + 1]
+    exact = [sum(UNIT * coefs[row] * weight for row, weight in column) for column in columns]
+    drawn = segment_ordinates(curve.space, curve.columns, coefs, segment)
+    share = Fraction(rng.randint(0, SHARES), SHARES)
+    off = at_share(drawn, share) - at_share(exact, share)
+    tally.check(abs(off) <= Fraction(curve.most(segment), 2), "between positions", curve.space, coefs, segment, share)
+
+
+# At order 2: the exact ordinates are proved to fall; the two units are tried, not proved.
+
+def try_two_units(tally, rng, curve, kinds):
+    """A list that does not rise gives exact ordinates that do not, and values that rise by at most two units, across discontinuities too."""
+    coefs = falling_list(rng, len(curve.rows))
+    exact = [sum(coefs[row] * weight for row, weight in column) for column in curve.columns]
+    tally.check(all(other <= one for one, other in zip(exact, exact[1:])), "exact ordinates fall", curve.space, coefs)
+    values = curve.values(coefs)
+    least = values[0]
+    for value in values:
+        tally.check(value <= least + 2, "rises by two units at most", curve.space, value, least)
+        kinds["a value that rises"] += value > least
+        least = min(least, value)
+
+
+def check_two_units(tally):
+    """Two units can't be less."""
+    space, coefs = TWO_UNITS
+    one, other = part_values(space, by_column(space, build_rows(space)), coefs, [76_288, 76_672])
+    tally.check((one, other) == (-51_528_006, -51_528_004), "two units", one, other)
+
+
+# The mirror: tried, not proved.
+
+def mirrored(space):
+    """All breakpoints with the other sign, and all lists reversed."""
+    return Space([-point for point in reversed(space.breaks)], space.degrees[::-1], space.orders[::-1])
+
+
+def try_mirror(tally, rng, curve, kinds):
+    """The mirrored space has the mirrored weights and values, but at discontinuities, where both are accepted."""
+    space, coefs = curve.space, part_list(rng, len(curve.rows))
+    try:
+        rows = build_rows(mirrored(space))
+    except Refusal:
+        kinds["a mirror that is refused"] += 1
+        return
+    last = len(curve.columns) - 1
+    back = [{last - column: weight for column, weight in row.items()} for row in reversed(curve.rows)]
+    tally.check(rows == back, "mirrored weights", space)
+    cuts = {UNIT * point for point, order in zip(space.breaks[1:], space.orders) if order == DISCONTINUITY}
+    positions = [position for position in curve.positions if position not in cuts]
+    values = part_values(mirrored(space), by_column(mirrored(space), rows), coefs[::-1], [-position for position in positions])
+    tally.check(values == curve.values(coefs, positions), "mirrored values", space, coefs)
+    kinds["mirrored"] += 1
+
+
+def check_mirror(tally):
+    """A space that 8 refuses while its mirror is accepted."""
+    space = Space([0, 1, 1291], [3, 3], [2])
+    try:
+        build_rows(space)
+        tally.check(False, "a space that is refused", space)
+    except Refusal as refusal:
+        tally.check(refusal.number == 8 and len(build_rows(mirrored(space))) == 5, "a mirror that is accepted", refusal)
 
 
 # Indices.
@@ -208,10 +326,10 @@ def try_space(tally, rng, kinds):
     except Refusal:
         kinds["refused"] += 1
         return
-    for trial in (try_raised, try_moved, try_ends, try_equal, try_parts, try_line):
+    for trial in (try_raised, try_moved, try_ends, try_equal, try_parts, try_line, try_between):
         trial(tally, rng, curve)
     try_support(tally, curve)
-    for trial in (try_one_changed, try_scaled, try_indices):
+    for trial in (try_one_changed, try_scaled, try_minimal, try_two_units, try_mirror, try_indices):
         trial(tally, rng, curve, kinds)
     kinds.update({"beam": len(space.parts()) > 1, "order 2": 2 in space.orders})
 
@@ -234,11 +352,12 @@ def main():
     seed = SystemRandom().randrange(2 ** 32) if chosen.seed is None else chosen.seed
     print(f"memberscheck: seed {seed}")
     tally, rng, kinds = Tally(), Random(seed), Counter()
-    check_reached(tally)
+    for check in (check_reached, check_two_units, check_mirror):
+        check(tally)
     for _ in range(chosen.count):
         try_space(tally, rng, kinds)
         try_falling(tally, rng)
-    for kind in ("beam", "order 2", "scaled", "a value elsewhere", "a value that it moves", "an index that is close"):
+    for kind in ("beam", "order 2", "scaled", "a value elsewhere", "a value that it moves", "an index that is close", "minimal support", "mirrored"):
         tally.check(kinds[kind] > chosen.count // RARE, "this kind came up", kind, kinds[kind])
     tally.check(kinds["an index one away"] > 0, "an index that differs from the exact one came up")
     check_numbers(tally, rng, chosen.count)

@@ -4,9 +4,9 @@ usage: selfcheck.py [--count N] [--seed S]
 
 First W1 to W10 with all that is stated of them and the sheet's number 10, then
 the sparse form of random calls against full buffers, then random spaces with
-all that the demands promise, then Tucson texts and lists, coefficients from
-ordinates, widths that a curve reaches, and pieces. Exits non-zero on any
-difference.
+all that the demands promise, then Tucson texts and lists, laboratories' files,
+lines of the table and the program rings, coefficients from ordinates, widths
+that a curve reaches, and pieces. Exits non-zero on any difference.
 """
 
 import argparse
@@ -17,6 +17,7 @@ from random import SystemRandom
 
 from cases import (CASES, ODD_CASES, PLAIN_SUMS, SIZE_CASES, W1_PRINTOUT, W1_SHEET,
                    case_call, case_sheet, short_calls, stated_lines)
+from cleaningcheck import check_cleaning
 from generate import calls
 from limits import CELLS, LARGEST_PLACE, MOST_LIST_ENTRIES, MOST_SHEET_BYTES, SIDE, UNIT
 from piecescheck import check_pieces
@@ -27,6 +28,7 @@ from reachcheck import check_reach
 from reading import rounded
 from recoverycheck import check_recovery
 from spacecheck import check_spaces
+from tablecheck import check_table
 from tucsoncheck import check_tucson
 from walzhik_reference import build, build_outcome, curve, sheet
 
@@ -193,6 +195,8 @@ def main():
     check_protocol(tally, seed, EXPANDED)
     check_spaces(tally, seed, chosen.count)
     check_tucson(tally, seed, chosen.count)
+    check_cleaning(tally, seed, chosen.count)
+    check_table(tally, seed, chosen.count)
     check_recovery(tally, seed, chosen.count // RECOVERY_SHARE)
     check_reach(tally, seed, REACHED)
     check_pieces(tally, seed, PIECES)

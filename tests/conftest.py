@@ -1,0 +1,56 @@
+"""What the tests share: the archives, drivers and programs, and which tests go first."""
+
+from __future__ import annotations
+
+from pathlib import Path
+
+import pytest
+from building import CURVES, INDICES, ROOT, Built, built_once, ended, proved_programs
+
+# The command sets the package up where that is not done.
+SET_UP = ["./walzhik", "explain", "examples/sheets/w1.sheet"]
+
+# Scripts that the tests start as programs, and data beside them: pytest takes up test_*.py alone.
+collect_ignore_glob = ["reference/*", "outside/*", "driver/*"]
+
+
+def pytest_collection_modifyitems(items: list[pytest.Item]) -> None:
+    """The long tests go first, so that no processor waits for one of them at the end."""
+    items.sort(key=lambda item: item.get_closest_marker("long") is None)
+
+
+def pytest_configure(config: pytest.Config) -> None:
+    """The one mark of these tests; and the package, which the tests of the screen import."""
+    config.addinivalue_line("markers", "long: takes longer than ten seconds, and is started first")
+    if not (ROOT / "target/lib/libwalzhik.so").exists():
+        ended(SET_UP)
+
+
+@pytest.fixture(scope="session")
+def built(tmp_path_factory: pytest.TempPathFactory) -> Built:
+    """The folder of all that is built, one for all processes of this run, with the archives and programs in target/."""
+    return built_once(tmp_path_factory.getbasetemp())
+
+
+@pytest.fixture(scope="session")
+def programs(built: Built) -> Path:
+    """The folder of the proved programs."""
+    return proved_programs(built)
+
+
+@pytest.fixture(scope="session")
+def driver(built: Built) -> Path:
+    """The driver of all calls on lists."""
+    return built.c("driver", "tests/driver/driver.c", CURVES, INDICES)
+
+
+@pytest.fixture(scope="session")
+def tucson_driver(built: Built) -> Path:
+    """The driver of the calls for Tucson files."""
+    return built.c("tucson", "tests/driver/tucson.c", CURVES)
+
+
+@pytest.fixture(scope="session")
+def package(built: Built) -> None:
+    """The Python package over the archives, as the command sets it up."""
+    built.once("package", lambda _: ended(SET_UP))

@@ -1,0 +1,41 @@
+"""The pages, comments and tables of the tree say what is there."""
+
+from __future__ import annotations
+
+import pytest
+from building import ended, python
+
+CHECKS = {
+    "names": ["tests/names.py"],
+    "wrong-names": ["tests/names.py", "--self-test"],
+    "quotations": ["tests/quotations.py"],
+    "wrong-quotations": ["tests/quotations.py", "--self-test"],
+    "wrong-pages": ["tests/pages.py", "--self-test"],
+    "statements": ["tests/statements.py"],
+    "wrong-statements": ["tests/statements.py", "--self-test"],
+    "must-fail-table": ["tests/must_fail_table.py"],
+    "r-made": ["tests/r_made.py"],
+}
+
+
+@pytest.mark.parametrize("check", CHECKS)
+def test_text(check: str) -> None:
+    """Names, quotations, links and tables, and that a wrong one is found."""
+    python(*CHECKS[check])
+
+
+def test_layout_of_the_crates() -> None:
+    """Every file of the crates is in the kit's layout."""
+    ended(["rt", "fmt", "--check"])
+
+
+@pytest.mark.parametrize("script", ["version", "manual"])
+def test_package_pages(script: str, package: None) -> None:
+    """The version is one; the manual's explanations and pictures are what the command gives."""
+    python(f"tests/{script}.py")
+
+
+@pytest.mark.long
+def test_commands_of_the_pages(package: None) -> None:
+    """Links and files of the pages are there, and their commands run."""
+    python("tests/pages.py")
