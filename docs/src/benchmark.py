@@ -1,12 +1,14 @@
-"""Times the daily job, 2,000 series of 200 rings in one file: reading, fitting the template and writing indices by the
-command, against the same job with NumPy and SciPy alone; and index calls from arrays to arrays against the same calls
-from C. docs/PERFORMANCE.md has its figures. Both sides of a ratio are timed in one run, in turns, by processor time.
+"""Times the daily job, 2,000 series of 200 rings in one file: reading, fitting and writing the table of indices by the
+command, with one and the same fit, a template's plain one and the default, against the same job with NumPy and SciPy
+alone; the table by a given curve; and index calls from arrays to arrays against the same calls from C.
+docs/PERFORMANCE.md has its figures. Both sides of a ratio are timed in one run, in turns, by processor time.
 
     PYTHONPATH=python/src /usr/bin/python3 docs/src/benchmark.py
     PYTHONPATH=python/src /usr/bin/python3 docs/src/benchmark.py quick    # a few series: that all of it still runs
 """
 
 import contextlib
+import csv
 import io
 import statistics
 import subprocess
@@ -19,8 +21,9 @@ import numpy as np
 from scipy.interpolate import BSpline
 from scipy.optimize import nnls
 
-from walzhik import Curve, Space, tucson
+from walzhik import Curve, Space, sheet, tucson
 from walzhik.cli import cli
+from walzhik.dividing import as_table, divided
 from walzhik.fit import fit, template
 
 ROOT = Path(__file__).resolve().parent.parent.parent
@@ -31,7 +34,12 @@ CALLS = 2_000  # index calls of one timing
 NAME, HEAD, FIELD = 8, 12, 6  # columns of a Tucson line
 HUNDREDTHS = 999  # the closing field of a series in hundredths
 FORMER, FORMER_DEGREES = (0, 10, 30, 80), (3, 3, 2, 2)  # release 2.0's template: starts and degrees
-DEGREE, INNER = 3, (10, 30, 80, 130)  # of the B-splines: cubic, with as many coefficients as the template
+DEGREE, INNER = 3, (10, 30, 80, 130)  # of the B-splines: cubic, with as many coefficients as release 2.0's template
+# What the command is asked for: the very fit of the B-splines, plain least squares over the template, or what it does unasked.
+SAME = "--fit --shape free --each-first 0 --breaks 0,10,30,80,130,199 --degrees 3,3,3,3,3 --orders 2,2,2,2".split()
+FITS = {"one and the same fit": SAME, "plain fits of templates": ["--fit", "--shape", "free"], "the default": ["--fit"]}
+NEAR = 0.0006  # millimetres: the command rounds coefficients to whole thousandths
+CURVE = b"breaks=1000,2000\ndegrees=1\norders=\ncoefs=1500:1500,700:700\nat=\n"  # over all years of the series
 
 
 def made_up_series():
@@ -45,10 +53,10 @@ def made_up_series():
         yield tucson.Series(f"S{number:04}", int(random.integers(1_000, 1_800)), widths)
 
 
-def by_command(path, out):
+def by_command(path, out, asked):
     """The whole job by the command."""
     with contextlib.redirect_stderr(io.StringIO()):
-        cli.main(["indices", str(path), "--fit", "-o", str(out)], standalone_mode=False)
+        cli.main(["indices", str(path), *asked, "-o", str(out)], standalone_mode=False)
 
 
 def plain_read(path):
@@ -94,10 +102,32 @@ def timed(call, *arguments):
     return time.process_time() - start
 
 
-def in_turns(first, second):
-    """The median times of two calls, taken in turns, in seconds."""
-    times = [(timed(*first), timed(*second)) for _ in range(ROUNDS)]
-    return [statistics.median(each) for each in zip(*times)]
+def in_turns(*calls):
+    """The least times of calls, taken in turns, in seconds: other work on the machine only adds."""
+    times = [[timed(*call) for call in calls] for _ in range(ROUNDS)]
+    return [min(each) for each in zip(*times)]
+
+
+def check_same(one, other):
+    """End badly unless two tables have the same rings and widths, and curves that differ by rounding alone."""
+    with open(one, newline="", encoding="ascii") as left, open(other, newline="", encoding="ascii") as right:
+        for mine, plain in zip(csv.reader(left), csv.reader(right), strict=True):
+            if mine[:3] != plain[:3] or mine[3] != plain[3] and abs(float(mine[3]) - float(plain[3])) > NEAR:
+                sys.exit(f"two fits: {mine} and {plain}")
+
+
+def jobs(folder, path):
+    """The job with each of the command's fits against NumPy and SciPy alone, and with a given curve."""
+    curve, one, other = folder / "a.sheet", folder / "a.csv", folder / "b.csv"
+    curve.write_bytes(CURVE)
+    by_command(path, one, SAME)
+    by_numpy(path, other)
+    check_same(one, other)
+    asked = {**FITS, "a given curve": ["--curve", str(curve)]}
+    *command, plain = in_turns(*((by_command, path, one, each) for each in asked.values()), (by_numpy, path, other))
+    print(f"{SERIES:,} series of {RINGS} rings: NumPy and SciPy alone {plain:.2f} s")
+    for what, seconds in zip(asked, command):
+        print(f"  the command, {what}: {seconds:.2f} s, ratio {seconds / plain:.2f}")
 
 
 def former_fit(series):
@@ -124,11 +154,16 @@ def steps_of(path):
     text = path.read_bytes()
     cleaned = tucson.clean(text)
     read = tucson.read_strict(cleaned.text)
-    return {
-        "the tolerant front": timed(tucson.clean, text),
-        "the strict reader": timed(tucson.read_strict, cleaned.text),
-        "fitting": timed(lambda: [fit(template(RINGS, each.first), each.widths, each.first) for each in read]),
+    curve = sheet.read(CURVE).curve()
+    done = [divided(each, curve, each.first) for each in read]
+    steps = {
+        "the cleaning call": lambda: tucson.clean(text),
+        "the strict reader": lambda: tucson.read_strict(cleaned.text),
+        "the index calls": lambda: [divided(each, curve, each.first) for each in read],
+        "the lines of the table": lambda: as_table(done),
+        "fitting by default": lambda: [fit(template(RINGS, each.first), each.widths, each.first) for each in read],
     }
+    return dict(zip(steps, in_turns(*((step,) for step in steps.values()))))
 
 
 def compiled(folder):
@@ -169,9 +204,7 @@ def main():
         path = folder / "many.rwl"
         series = list(made_up_series())
         path.write_bytes(tucson.write(series))
-        command, plain = in_turns((by_command, path, folder / "a.csv"), (by_numpy, path, folder / "b.csv"))
-        times = f"the command {command:.2f} s, NumPy and SciPy alone {plain:.2f} s, ratio {command / plain:.2f}"
-        print(f"{SERIES:,} series of {RINGS} rings: {times}")
+        jobs(folder, path)
         for step, seconds in steps_of(path).items():
             print(f"  of it {step}: {seconds:.2f} s")
         now, former = fit_times(path)

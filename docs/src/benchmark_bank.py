@@ -6,7 +6,9 @@ Dask's pools, in turns, in one run.
 Kinds: `bank` is the command; `plain` a script with multiprocessing.Pool that writes the same indices, sheets and report.csv, without hashes, a page or
 care for kills; `futures` and `dask` are the command's run with concurrent.futures or Dask's LocalCluster in place of its own workers. For
 each it prints the time on the clock, files a second, the processor time of all its processes, the most memory of the first process and of its largest
-child, all of the median round by the clock. The outputs of all runs are compared byte for byte.
+child, all of the median round by the clock; then, round by round, the plain script's time over the bank's, by the clock and by the processor: 1 is as
+fast, more is faster. Within a round the kinds run one right after the other, the first one being another in each round, so that a busy machine is busy for both.
+The outputs of all runs are compared byte for byte.
 """
 
 from __future__ import annotations
@@ -19,7 +21,7 @@ import sys
 import tempfile
 import time
 from pathlib import Path
-from statistics import median_low
+from statistics import median, median_low
 from typing import Any
 
 ROOT = Path(__file__).resolve().parents[2]
@@ -58,7 +60,8 @@ def print_all(source: Path, folder: Path, files: int, asked: argparse.Namespace)
     left = set()
     for round_ in range(asked.rounds):
         for workers in asked.workers:
-            for kind in asked.kinds:
+            turn = round_ % len(asked.kinds)
+            for kind in [*asked.kinds[turn:], *asked.kinds[:turn]]:
                 output = folder / f"out{files}.{kind}.{workers}.{round_}"
                 found.setdefault((kind, workers), []).append(measured(kind, source, output, workers))
                 left.add(digest(output))
@@ -66,7 +69,18 @@ def print_all(source: Path, folder: Path, files: int, asked: argparse.Namespace)
         clock, cpu, first, child = median_low(rounds)
         told = f"{clock:.2f} {files / clock:.0f} {cpu:.2f} {first / PER_MB:.1f} {child / PER_MB:.1f}"
         print(f"{files} {kind} {workers} {told}", flush=True)
+    for workers in asked.workers:
+        if {"bank", "plain"} <= set(asked.kinds):
+            print_ratios(files, workers, found["plain", workers], found["bank", workers])
     print(f"{files} files: the outputs are {'equal' if len(left) == 1 else 'NOT EQUAL'}", flush=True)
+
+
+def print_ratios(files: int, workers: int, plain: list[tuple[float, ...]], bank: list[tuple[float, ...]]) -> None:
+    """The plain script's times over the bank's: the middle round, and the least and the greatest."""
+    for at, name in enumerate(("clock", "cpu")):
+        ratios = sorted(one[at] / other[at] for one, other in zip(plain, bank))
+        told = f"{median(ratios):.2f} (from {ratios[0]:.2f} to {ratios[-1]:.2f})"
+        print(f"{files} files, {workers} workers: plain over bank by {name} {told}", flush=True)
 
 
 def measured(kind: str, source: Path, output: Path, workers: int) -> tuple[float, ...]:
@@ -122,8 +136,7 @@ def plain_file(given: tuple[Path, Path, Path]) -> list[str]:
     import gzip
 
     from walzhik import tucson
-    from walzhik.bank.shape import shapes
-    from walzhik.csvtext import ring_rows
+    from walzhik.dividing import HEADER, ring_lines
     from walzhik.fit import closeness, fit, template
     from walzhik.sheet import Sheet
 
@@ -132,21 +145,21 @@ def plain_file(given: tuple[Path, Path, Path]) -> list[str]:
     data = gzip.decompress(path.read_bytes()) if path.suffix == ".gz" else path.read_bytes()
     stem = str(output / place).partition(".rwl")[0]
     os.makedirs(f"{stem}.sheets", exist_ok=True)
-    rows, lines = ["series,year,width_mm,curve_mm,index\n"], []
-    read = tucson.read_cleaned(tucson.clean(data))
+    rows, lines = [HEADER], []
+    read = tucson.read(data)
     for series in read:
         since = time.perf_counter()
-        curve = fit(template(len(series), series.first), series.widths, series.first).curve
-        values, indices = curve.rings(series.widths, series.first, None)
-        rows.append(ring_rows(series.name, series.first, series.widths, values, indices))
+        made = fit(template(len(series), series.first), series.widths, series.first)
+        curve = made.curve
+        rows.append(ring_lines(series, made.divided))
         lists, sides = curve.space.lists(), curve.coefficients.tolist()
         sheet = Sheet(lists.breaks, lists.degrees, lists.orders, [(early, late) for early, late in sides])
         Path(f"{stem}.sheets/{series.name}.sheet").write_bytes(sheet.text())
-        close = closeness(series.widths, values)
+        close = closeness(series.widths, made.values())
         figures = f"{number(close.mean_square**0.5)},{number(close.share_explained or 0)}"
-        told = f"{series.first},{series.last},{len(series)},{curve.space.n},{shapes(curve)},{figures}"
+        told = f"{series.first},{series.last},{len(series)},{curve.space.n},{', '.join(made.shapes)},{figures}"
         lines.append(f"{place},{series.name},{told},,,,{time.perf_counter() - since:.4f}")
-    Path(f"{stem}.indices.csv").write_text("".join(rows))
+    Path(f"{stem}.indices.csv").write_bytes(b"".join(rows))
     span = f"{min(each.first for each in read)},{max(each.last for each in read)},{sum(map(len, read))}"
     return [f"{place},,{span},,,,,,,,{time.perf_counter() - begun:.4f}", *lines]
 
