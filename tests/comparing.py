@@ -20,7 +20,8 @@ sys.path.insert(0, str(Path(__file__).resolve().parent / "reference"))
 SECONDS = 300             # for one run
 BATCH = 500               # calls given to one run of the driver
 JOBS = 4                  # programs at a time
-VALGRIND = ["valgrind", "--quiet", "--error-exitcode=9"]
+SUPPRESSED = Path(__file__).resolve().parent / "driver" / "valgrind.supp"
+VALGRIND = ["valgrind", "--quiet", "--error-exitcode=9", f"--suppressions={SUPPRESSED}"]
 ENOUGH = 2_000            # cases from which all that is reachable must have come up
 BEFORE, AFTER = 40, 80    # characters shown around a difference
 SHOWN = 400               # bytes of each text that a difference shows

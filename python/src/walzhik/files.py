@@ -212,6 +212,12 @@ def sweep(folder: Path) -> int:
     return count
 
 
+def _is_file_name(name: str) -> None:
+    """Refuse a name that is none, or ends as a folder's does: without its end it may be that of an input."""
+    if not name or name.endswith(os.sep):
+        raise IsADirectoryError(errno.EISDIR, "a file's name is needed, and this is none", name or "''")
+
+
 def write_whole(name: str, data: bytes) -> None:
     """Write a file whole or not at all; standard output for ``-``.
 
@@ -230,8 +236,7 @@ def write_whole(name: str, data: bytes) -> None:
     if name == STANDARD:
         write_out(data)
         return
-    if not name or name.endswith(os.sep):
-        raise IsADirectoryError(errno.EISDIR, "a file's name is needed, and this is none", name or "''")
+    _is_file_name(name)
     path = Path(os.path.realpath(name))
     with named(name):
         if path.exists() and not path.is_file():
@@ -254,6 +259,7 @@ def write_pieces(name: str, pieces: Iterable[bytes]) -> None:
     >>> Path(f"{folder}/a").read_bytes()
     b'wholewhole'
     """
+    _is_file_name(name)
     path = Path(os.path.realpath(name))
     if name == STANDARD or (path.exists() and not path.is_file()):
         _pass_on(name, pieces)
