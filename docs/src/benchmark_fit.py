@@ -1,6 +1,6 @@
 """How well fits find growth curves that are known: simulated cores of several kinds, fitted by the default, by the
-default of release 2.0, by a negative exponential and by a smoothing spline. docs/PERFORMANCE.md has its table and how
-it was made. It ends with status 1 where an aim is missed.
+default of release 2.0, by a negative exponential and by a smoothing spline. docs/PERFORMANCE.md has its table.
+It ends with status 1 where an aim is missed.
 
     PYTHONPATH=python/src /usr/bin/python3 docs/src/benchmark_fit.py             # 500 cores of each kind
     PYTHONPATH=python/src /usr/bin/python3 docs/src/benchmark_fit.py quick       # 60 of each, with wider aims
