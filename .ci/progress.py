@@ -17,7 +17,7 @@ ROOT = Path(__file__).resolve().parents[1]
 TABLE = ROOT / ".ci/times"
 WHOLE = "whole"  # the row of the table for one call of what the set-up needs, in seconds of a clock
 LEAST = 0.5  # seconds of a crate that takes none by the kit's clock
-PROVED = re.compile(r"^rt: (\w+) proved(?: \((\d+) s\))?")
+PROVED = re.compile(r"^rt: (\w+) proved(?: \((\d+) s\))?", re.MULTILINE)
 STEPS = 10  # lines for a whole call, where they go to a file
 CALIBRATED = 0.1  # the share from which on this machine's own pace counts
 
@@ -84,12 +84,11 @@ def show(names: Sequence[str]) -> None:
 
 
 def make_table(whole: str) -> None:
-    """Write the table from the logs of a tree whose crates have all been proved."""
-    rows = []
-    for name in dependencies():
-        log = ROOT / "target/log" / f"{name}.out"
-        said = PROVED.findall("\n".join(log.read_text("utf-8").splitlines()[-1:])) if log.exists() else []
-        rows += [f"{crate} {seconds}\n" for crate, seconds in said if seconds]
+    """Write the table from the logs of a tree whose crates have all been proved, by the set-up and by calls of the kit after it."""
+    logs = [ROOT / "target/lib/log", *(ROOT / "target/log" / f"{name}.out" for name in dependencies())]
+    said = PROVED.findall("\n".join(log.read_text("utf-8") for log in logs if log.exists()))
+    found = {crate: seconds for crate, seconds in said if seconds}
+    rows = [f"{name} {found[name]}\n" for name in dependencies() if name in found]
     head = "# Seconds that the kit took for each crate, and for one call of what the set-up needs: made by .ci/progress.py --table SECONDS\n"
     TABLE.write_text(f"{head}{WHOLE} {float(whole):.0f}\n{''.join(rows)}", encoding="ascii")
 

@@ -3,6 +3,7 @@
 from __future__ import annotations
 
 from pathlib import Path
+from typing import Any
 
 import pytest
 from building import CURVES, INDICES, ROOT, Built, built_once, ended, proved_programs
@@ -14,14 +15,39 @@ SET_UP = ["./walzhik", "explain", "examples/sheets/w1.sheet"]
 collect_ignore_glob = ["reference/*", "outside/*", "driver/*"]
 
 
+AT_ONCE = 3  # tests that one process knows of: the one that runs and the next ones
+
+
+def seconds_of(item: pytest.Item) -> float:
+    """About how long a test takes, by its mark; nothing without one."""
+    mark = item.get_closest_marker("long")
+    return float(mark.args[0]) if mark else 0
+
+
 def pytest_collection_modifyitems(items: list[pytest.Item]) -> None:
-    """The long tests go first, so that no processor waits for one of them at the end."""
-    items.sort(key=lambda item: item.get_closest_marker("long") is None)
+    """The longest tests go first, so that no processor waits for one of them at the end."""
+    items.sort(key=seconds_of, reverse=True)
+
+
+@pytest.hookimpl(optionalhook=True)
+def pytest_xdist_make_scheduler(config: pytest.Config, log: Any) -> Any:
+    """Each process is given few tests at a time: xdist's own choice gives the first process a quarter of them, all long ones."""
+    from xdist.scheduler import LoadScheduling
+
+    class FewAtOnce(LoadScheduling):  # type: ignore[misc]
+        """Tests in their order, to whichever process is ready for one."""
+
+        def _send_tests(self, node: Any, num: int) -> None:
+            super()._send_tests(node, max(0, min(num, AT_ONCE - len(self.node2pending[node]))))
+
+    return FewAtOnce(config, log)
 
 
 def pytest_configure(config: pytest.Config) -> None:
     """The one mark of these tests; and the package, which the tests of the screen import."""
-    config.addinivalue_line("markers", "long: takes longer than ten seconds, and is started first")
+    config.addinivalue_line(
+        "markers", "long(seconds): takes longer than ten seconds, about so many, and is started early"
+    )
     if not (ROOT / "target/lib/libwalzhik.so").exists():
         ended(SET_UP)
 

@@ -28,7 +28,7 @@ def compared(script: str, driver: Path, count: int, valgrind: int, under: bool) 
     python(f"tests/{script}", driver, *chosen)
 
 
-@pytest.mark.long
+@pytest.mark.long(30)
 @pytest.mark.parametrize("under", [False, True], ids=["all", "valgrind"])
 @pytest.mark.parametrize("call", CALLS)
 def test_call(call: str, under: bool, driver: Path) -> None:
@@ -36,7 +36,7 @@ def test_call(call: str, under: bool, driver: Path) -> None:
     compared(CALLS[call][0], driver, *CALLS[call][1:], under)
 
 
-@pytest.mark.long
+@pytest.mark.long(30)
 @pytest.mark.parametrize("under", [False, True], ids=["all", "valgrind"])
 @pytest.mark.parametrize("call", TUCSON)
 def test_tucson_call(call: str, under: bool, tucson_driver: Path) -> None:
@@ -44,7 +44,7 @@ def test_tucson_call(call: str, under: bool, tucson_driver: Path) -> None:
     compared(TUCSON[call][0], tucson_driver, *TUCSON[call][1:], under)
 
 
-@pytest.mark.long
+@pytest.mark.long(15)
 def test_cases_of_laboratories_files(tucson_driver: Path) -> None:
     """Cases with known answers, and the buffers that are always enough."""
     python("tests/clean_cases.py", tucson_driver)

@@ -15,7 +15,7 @@ def test_reading_a_tucson_text(tucson_driver: Path) -> None:
     python("tests/reading_cost.py", tucson_driver)
 
 
-@pytest.mark.long
+@pytest.mark.long(20)
 def test_cleaning_a_file(tucson_driver: Path) -> None:
     """Linear in the file; a strict text of long series takes at most twice its reading."""
     python("tests/cleaning_cost.py", tucson_driver)
@@ -31,13 +31,13 @@ def test_sorting_the_low_lines(programs: Path) -> None:
     python("tests/low_order.py", programs / "sheet")
 
 
-@pytest.mark.long
+@pytest.mark.long(20)
 def test_against_the_plain_program(built: Built) -> None:
     """Builds and curves against a plain program in one run."""
     python("tests/speed.py", built.rust("benchmark", "docs/src/benchmark.rs"))
 
 
-@pytest.mark.long
+@pytest.mark.long(20)
 @pytest.mark.parametrize("script", ["benchmark", "benchmark_fit"])
 def test_benchmark_runs(script: str, package: None) -> None:
     """The daily job and the fits on a few cores: that they run, not how fast."""

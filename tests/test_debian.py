@@ -51,7 +51,7 @@ def older(built: Built, programs: Path, package: None) -> list[Path]:
     return sorted(built.once("older", lambda path: build(path, OLDER)).glob("*.deb"))
 
 
-@pytest.mark.long
+@pytest.mark.long(60)
 def test_lintian(debs: list[Path]) -> None:
     """Nothing is said of the packages that debian/ does not answer."""
     assert [path.name.partition("_")[0] for path in debs] == sorted(PACKAGES)
@@ -91,7 +91,7 @@ def proof_sees_a_change(root: Root) -> None:
     assert "/usr/bin/walzhik-sheet differs" in said and said.endswith("status 1\n")
 
 
-@pytest.mark.long
+@pytest.mark.long(150)
 def test_installed(debs: list[Path], older: list[Path], tmp_path: Path) -> None:
     """An older version is upgraded, every package is used without kit, compiler and network, and nothing is left of them."""
     with fresh_root(tmp_path / "root", depends(debs)) as root:

@@ -53,7 +53,7 @@ def test_printouts(built: Built, programs: Path) -> None:
     ended(["tests/examples.sh", *curves, programs / "sheet", programs / "tucson"])
 
 
-@pytest.mark.long
+@pytest.mark.long(105)
 def test_r(built: Built) -> None:
     """The R package, by R's own check, with its tests, help pages, vignette and the README's lines."""
     ended(["tests/r.sh"])

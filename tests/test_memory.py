@@ -6,7 +6,7 @@ import pytest
 from building import CURVES, INDICES, Built, ended
 
 
-@pytest.mark.long
+@pytest.mark.long(100)
 def test_reads_outside_are_seen(built: Built) -> None:
     """The drivers' guards find every read outside lent memory."""
     outside = "tests/driver/outside.c"

@@ -35,7 +35,7 @@ def test_package_pages(script: str, package: None) -> None:
     python(f"tests/{script}.py")
 
 
-@pytest.mark.long
+@pytest.mark.long(110)
 def test_commands_of_the_pages(package: None) -> None:
     """Links and files of the pages are there, and their commands run."""
     python("tests/pages.py")

@@ -14,7 +14,7 @@ PROGRAMS = {
 }
 
 
-@pytest.mark.long
+@pytest.mark.long(30)
 @pytest.mark.parametrize("program", PROGRAMS)
 def test_program(program: str, programs: Path) -> None:
     """Random texts, good and damaged."""

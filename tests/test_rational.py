@@ -8,7 +8,7 @@ from building import python
 CHECKS = {"selfcheck": 1_000, "promisescheck": 2_000, "memberscheck": 2_000}
 
 
-@pytest.mark.long
+@pytest.mark.long(30)
 @pytest.mark.parametrize("check", CHECKS)
 def test_rational_program(check: str) -> None:
     """Cases, demands and theorems in plain fractions."""
