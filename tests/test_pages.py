@@ -15,6 +15,7 @@ CHECKS = {
     "wrong-statements": ["tests/statements.py", "--self-test"],
     "must-fail-table": ["tests/must_fail_table.py"],
     "r-made": ["tests/r_made.py"],
+    "floors": ["docs/src/picture_floors.py", "--check"],
 }
 
 

@@ -13,7 +13,7 @@ LAID_OUT = [
     *sorted(str(path) for path in (ROOT / "tests").glob("test_*.py")),
     *(
         f"docs/src/{name}.py"
-        for name in ("benchmark", "benchmark_bank", "benchmark_fit", "picture_fit", "screen_times")
+        for name in ("benchmark", "benchmark_bank", "benchmark_fit", "picture_fit", "picture_floors", "screen_times")
     ),
 ]
 
