@@ -1,0 +1,3 @@
+-- Cases is the files of small laboratories with their answers, Files those with which theorems are shown with numbers.
+pub mod Cases
+pub mod Files
