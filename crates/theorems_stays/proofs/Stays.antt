@@ -153,7 +153,7 @@ text-whole t s =
 
 -- ---- every line is kept as it is
 
-strict-data : (i : ℕ) (t : Text) → isStrict t ≡ true → 1 ≤ i → isData 0 i (withEnd t) ≡ true
+pub strict-data : (i : ℕ) (t : Text) → isStrict t ≡ true → 1 ≤ i → isData 0 i (withEnd t) ≡ true
 unfolding isData
 strict-data i t e h = ap₂ (λ (a b : Bool). not a && b) (strict-not-blank t e) (lt-ltb 0 i h)
 

@@ -194,7 +194,7 @@ refute : (x : Bool) → (x ≡ true → ⊥) → x ≡ false
 refute true h = absurd (h refl)
 refute false h = refl
 
-closing-known : (unit : ℕ) → same (closingOf unit) unknownUnit ≡ false
+pub closing-known : (unit : ℕ) → same (closingOf unit) unknownUnit ≡ false
 unfolding closingOf
 closing-known unit = go (eqb unit hundredthsSaid)
   where
