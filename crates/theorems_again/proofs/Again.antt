@@ -3,32 +3,32 @@
 use mathlib.Core.Path.{_≡_, refl, sym, _∙_, ap, ap₂}
 use mathlib.Core.Bool.{Bool, true, false, cond, _&&_}
 use mathlib.Core.List.{List, [], _∷_, _++_, append-nil}
-use mathlib.Core.Option.{Option, some, none}
+use mathlib.Core.Option.{Option, none}
 use Prim.Native.Nat.{ℕ, suc, _≤_}
 use native.Mathlib.Omega.{arith}
 use borrow.Author.Tests.{le-leb}
 use lib.Dec.{leb}
 use lib.ListN.{length}
-use Rattle.base_outcome.specs.Outcome.{Outcome, answer, largestPlace, refuse, _then_}
+use Rattle.base_outcome.specs.Outcome.{answer, largestPlace, refuse, _then_}
 use Rattle.base_outcome.specs.Tests.{refuseFirst}
 use Rattle.base_outcome.proofs.Outcome.{then-answers}
 use Rattle.base_text.specs.Bytes.{Text}
 use Rattle.spec_tucson.specs.Line.{linesOf}
 use Rattle.spec_tucson.specs.Series.{Series}
-use Rattle.spec_tucson.specs.FileText.{isMarked, textOf, endsEarly, textFault}
+use Rattle.spec_tucson.specs.FileText.{isMarked, textOf, endsEarly}
 use Rattle.spec_tucson.specs.StrictLine.{Kept}
 use Rattle.spec_tucson.specs.KeptLines.{headerOf, keptLines}
 use Rattle.spec_tucson.specs.CleanSeries.{Fault, yearFault, seriesFault, refuseFault, closedLines, strictText, readKept}
 use Rattle.spec_tucson.specs.CleanNotes.{notesOf}
 use Rattle.spec_tucson.specs.CleanCall.{Cleaned, isHeaderOption, isUnitOption, checkedLines, markNote, allEnded, endNote, atStart, allNotes, cleanedBelow, fileLimit, cleanedFile, cleaned}
-use Rattle.theorems_clean.proofs.Answers.{Answered, answered}
+use Rattle.theorems_clean.proofs.Answers.{answered}
 use Rattle.theorems_clean.proofs.StrictLines.{AllStrict, closed-strict, withEnds, strict-lines}
 use Rattle.theorems_clean.proofs.Sources.{kept-sources, sources-strict}
 use Rattle.theorems_clean.proofs.Lines.{numbers, closed-numbers}
-use Rattle.theorems_again.specs.Again.{counted, remarksAlone, inFile, NoHeader, notNamed, without, SameUnit, notSaid, said, AnsweredAgain, CleanedAgain}
+use Rattle.theorems_again.specs.Again.{counted, remarksAlone, inFile, NoHeader, notNamed, without, SameUnit, notSaid, said, CleanedAgain}
 use Rattle.theorems_again.proofs.Texts.{text-unmarked, text-same, text-not-early, text-sound}
 use Rattle.theorems_again.proofs.Renumbered.{renumbered, renumbered-text, renumbered-numbers, no-header, all-kept, renumbered-reads}
-use Rattle.theorems_again.proofs.Closings.{secondLines, closed-again, series-fit, second-series}
+use Rattle.theorems_again.proofs.Closings.{closed-again, series-fit, second-series}
 use Rattle.theorems_again.proofs.Years.{neither, second-years}
 use Rattle.theorems_again.proofs.Remarks.{remarksFrom, first-remarks, second-notes, same-remarks}
 

@@ -1,6 +1,6 @@
 -- The lines of an answer have the closings that the unit gives: a second call with the same unit, or none said, changes none of them.
 use mathlib.Core.Path.{_≡_, refl, sym, _∙_, ap, ap₂}
-use mathlib.Core.Bool.{Bool, true, false, cond, _&&_, _||_, not}
+use mathlib.Core.Bool.{Bool, true, false, cond}
 use mathlib.Core.List.{List, [], _∷_, dropLast}
 use mathlib.Core.Option.{Option, some, none}
 use Prim.Native.Nat.{ℕ, suc}
@@ -13,7 +13,7 @@ use Rattle.base_text.specs.Bytes.{Text}
 use Rattle.spec_tucson.specs.Line.{Line, same, thousandths}
 use Rattle.spec_tucson.specs.Series.{hundredths}
 use Rattle.spec_tucson.specs.TextReading.{lastField}
-use Rattle.spec_tucson.specs.StrictLine.{isSome, isStrict, Kept, nameOf}
+use Rattle.spec_tucson.specs.StrictLine.{isSome, isStrict, Kept}
 use Rattle.spec_tucson.specs.KeptLines.{sameText}
 use Rattle.spec_tucson.specs.CleanSeries.{continues, fieldsIn, fieldsOf, unknownUnit, unitNotSaid, hundredthsSaid, closingOf, isUnitFault, closingAfter, any999, widthFields, seen999}
 use Rattle.spec_tucson.specs.CleanSeries.{Fault, fault, ifHundredths, closingFault, orFault, seriesFault, reclosed, closedLines, withEnd}

@@ -1,12 +1,10 @@
 -- The remarks of both calls: of the first they are those among its notes, of the second all its notes, and line by line they are the same.
 use mathlib.Core.Path.{_≡_, refl, sym, _∙_, ap, ap₂, subst}
-use mathlib.Core.Bool.{Bool, true, false, cond, _&&_, _||_, not}
+use mathlib.Core.Bool.{Bool, true, false, cond, _&&_, not}
 use mathlib.Core.List.{List, [], _∷_, _++_, dropLast, append-assoc}
-use mathlib.Core.Option.{Option, some, none}
+use mathlib.Core.Option.{Option, some}
 use Prim.Native.Nat.{ℕ, suc, _+_, _-_, _≤_}
 use native.Mathlib.Omega.{arith}
-use borrow.Author.Tests.{not-true, not-false}
-use lib.Dec.{eqb}
 use lib.IntN.{ℤ}
 use lib.ListN.{length, drop}
 use lib.Seq.{drop-drop}
@@ -29,7 +27,7 @@ use Rattle.theorems_clean.proofs.StrictShown.{strict-is-read}
 use Rattle.theorems_clean.proofs.Sources.{kept-none}
 use Rattle.theorems_clean.proofs.Lines.{numbers}
 use Rattle.theorems_lost.proofs.Accounts.{otherNotes, notes-other, notes-data}
-use Rattle.theorems_told.proofs.Changes.{last-or-not, Flags, blockOf, same-flags}
+use Rattle.theorems_told.proofs.Changes.{last-or-not, blockOf, same-flags}
 use Rattle.theorems_stays.proofs.Stays.{strict-data}
 use Rattle.theorems_again.specs.Again.{isRemark, remarksAlone, firstNumber, numberAt, inFile}
 use Rattle.theorems_again.proofs.Renumbered.{asLine, renumbered}

@@ -1,12 +1,11 @@
 -- The lines of an answer as the lines of a file of their own: numbered from 1, each shown as it is. The second call keeps them all.
-use mathlib.Core.Path.{_≡_, refl, sym, _∙_, ap, ap₂}
+use mathlib.Core.Path.{_≡_, refl, _∙_, ap, ap₂}
 use mathlib.Core.Bool.{Bool, true, false, cond, _&&_, not}
 use mathlib.Core.List.{List, [], _∷_, _++_}
 use mathlib.Core.Option.{Option, some, none}
 use Prim.Native.Nat.{ℕ, suc, _+_, _-_, _≤_}
 use native.Mathlib.Omega.{arith}
 use borrow.Author.Tests.{le-ltb}
-use lib.Dec.{ltb}
 use lib.ListN.{length, take}
 use Rattle.base_exact.proofs.Decide.{and-false}
 use Rattle.base_outcome.specs.Outcome.{Outcome, answer, refuse, _then_, with-answer}
@@ -17,7 +16,7 @@ use Rattle.spec_tucson.specs.TextReading.{Begun, Step, opened, closed, readLine
 use Rattle.spec_tucson.specs.Shown.{shown}
 use Rattle.spec_tucson.specs.StrictLine.{isStrict, strictLine, Kept, nameBytes, nameOf}
 use Rattle.spec_tucson.specs.KeptLines.{sameText, Numbered, numbered, isHeaderLine, unblank, readsStrictly, captions, guessedHeader, strictInHeader, unlessStrict, namedHeader, headerOf}
-use Rattle.spec_tucson.specs.KeptLines.{isMisnamed, isData, keptThen, keptLines}
+use Rattle.spec_tucson.specs.KeptLines.{isMisnamed, keptThen, keptLines}
 use Rattle.spec_tucson.specs.CleanSeries.{continues, withEnd, strictText, readKept}
 use Rattle.theorems_clean.proofs.StrictLines.{AllStrict, withEnds}
 use Rattle.theorems_clean.proofs.StrictShown.{strict-fields-shown, strict-is-read, strict-not-blank, strict-reads-strictly}

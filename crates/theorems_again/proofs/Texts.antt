@@ -1,9 +1,9 @@
 -- The text of strict lines is a file without a mark, without byte 26 and without a byte at fault: it is its own text.
-use mathlib.Core.Path.{_≡_, refl, sym, _∙_, ap, ap₂}
+use mathlib.Core.Path.{_≡_, refl, _∙_, ap, ap₂}
 use mathlib.Core.Bool.{Bool, true, false, cond, _&&_, _||_, not}
-use mathlib.Core.List.{List, [], _∷_, _++_}
-use mathlib.Core.Option.{Option, some, none}
-use Prim.Native.Nat.{ℕ, suc, _<_, _≤_}
+use mathlib.Core.List.{List, [], _∷_}
+use mathlib.Core.Option.{some, none}
+use Prim.Native.Nat.{ℕ, _<_, _≤_}
 use native.Mathlib.Omega.{arith}
 use borrow.Author.Tests.{le-ltb}
 use lib.Dec.{eqb, ltb}
@@ -11,7 +11,7 @@ use lib.ListN.{length, take, drop}
 use lib.Seq.{take-all}
 use Rattle.base_text.specs.Bytes.{Text, newline, indexOf, beginsWith}
 use Rattle.base_text.proofs.Lacking.{lacks, byte, lacks-append, lacks-first}
-use Rattle.spec_tucson.specs.FileText.{carriageReturn, substitute, isMarked, unmarked, textOf, endsEarly, allPadding, isFault, lineAfter, faultLine, isWide, textFault}
+use Rattle.spec_tucson.specs.FileText.{carriageReturn, substitute, isMarked, unmarked, textOf, endsEarly, isFault, lineAfter, faultLine, isWide, textFault}
 use Rattle.spec_tucson.specs.StrictLine.{isStrict, Kept}
 use Rattle.spec_tucson.specs.CleanSeries.{withEnd, strictText}
 use Rattle.tucson_strict.proofs.Strict.{strict-ascii}

@@ -39,7 +39,7 @@ numberAt i ls = firstNumber (drop (i - 1) ls)
 -- The notes on lines of the answer, each at the line of the file that these numbers have for it.
 abbrev pub inFile : List ℕ → List ℕ → List ℕ
 inFile lines [] = []
-inFile lines (n ∷ []) = []
+inFile lines (n ∷ []) = n ∷ []
 inFile lines (n ∷ i ∷ ns) = n ∷ numberAt i lines ∷ inFile lines ns
 
 -- ---- the second call
@@ -62,7 +62,7 @@ pub record AnsweredAgain (c : Cleaned) (header unit : ℕ) : Type 0 where
   pub lines : second .lines ≡ counted 1 (c .lines)
   pub notes : inFile (c .lines) (second .notes) ≡ remarksAlone (c .notes)
 
--- An answer that is not too long for a file, as its tabs may make it, is answered again.
+-- A cleaned file is answered again. Blanks for tabs can make an answer longer than any file that the call takes, so its length is asked.
 abbrev pub CleanedAgain : Type 0
 CleanedAgain =
     (t : Text) (header unit : ℕ) (c : Cleaned) → cleaned t header unit ≡ answer c → length (c .text) ≤ fileLimit →
