@@ -14,11 +14,11 @@ use Rattle.base_outcome.proofs.Outcome.{answer-unique, answer-not-refusal}
 use Rattle.base_text.specs.Bytes.{Text}
 use Rattle.spec_tucson.specs.Shown.{shown, isBlankLine}
 use Rattle.spec_tucson.specs.KeptLines.{isHeaderLine, Numbered, numbered, unblank, readsStrictly, captions, guessedHeader, strictInHeader, unlessStrict, namedHeader, headerLimit, headerOf}
-use Rattle.theorems_clean.specs.Cleaning.{At, here, later}
+use Rattle.theorems_clean.specs.Places.{At, here, later}
 
 -- ---- the numbers rise
 
-abbrev Ascends : ℕ → List Numbered → Type 0
+abbrev pub Ascends : ℕ → List Numbered → Type 0
 Ascends n [] = Unit {0}
 Ascends n (x ∷ xs) = (n ≤ x .line) × Ascends (suc (x .line)) xs
 
@@ -26,7 +26,7 @@ ascends-lower : (n : ℕ) (xs : List Numbered) → Ascends (suc n) xs → Ascend
 ascends-lower n [] h = tt
 ascends-lower n (x ∷ xs) h = (omega (arith, h .0), h .1)
 
-unblank-ascends : (rs : List Text) (i : ℕ) → Ascends i (unblank i rs)
+pub unblank-ascends : (rs : List Text) (i : ℕ) → Ascends i (unblank i rs)
 unfolding unblank
 unblank-ascends [] i = tt
 unblank-ascends (r ∷ rs) i = go (isBlankLine r) (unblank-ascends rs (suc i))
@@ -45,7 +45,7 @@ no-strict h x xs e f = go (leb (x .line) h)
     go true = ap (λ (s : Bool). cond s (some (x .line)) (strictInHeader h xs)) e ∙ f
     go false = refl
 
-none-above : (h n : ℕ) (xs : List Numbered) → h < n → Ascends n xs → strictInHeader h xs ≡ none
+pub none-above : (h n : ℕ) (xs : List Numbered) → h < n → Ascends n xs → strictInHeader h xs ≡ none
 unfolding strictInHeader
 none-above h n [] l a = refl
 none-above h n (x ∷ xs) l a = ap (λ (b : Bool). cond b (cond (readsStrictly (x .raw)) (some (x .line)) (strictInHeader h xs)) none) (lt-leb (x .line) h (omega (arith, a .0)))

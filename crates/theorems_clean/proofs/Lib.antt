@@ -1,6 +1,6 @@
--- The proofs of the statements in specs/. Answers is what an answer tells; StrictLines, WrittenForm, ShownBytes, StrictShown and ReadLines are laws of
--- strict lines; Sources, Lines, Shown, Headers, Accounts, Padding, Stays, Changes, Told, Cuts and Widths prove the statements; Cases and Instances are
--- the files of small laboratories, computed, and the theorems with numbers.
+-- The proof of the statement in specs/, and laws that other theorems on laboratories' files rest on. Answers is what an answer tells; StrictLines,
+-- Accepted, WrittenForm, ShownBytes, StrictShown and ReadLines are laws of strict lines, Sources, Lines and Headers of the lines that are kept;
+-- Shown proves the statement, and Instances is it with numbers.
 pub mod Answers
 pub mod StrictLines
 pub mod Accepted
@@ -10,14 +10,6 @@ pub mod Sources
 pub mod Lines
 pub mod Shown
 pub mod Headers
-pub mod Accounts
 pub mod ReadLines
 pub mod StrictShown
-pub mod Stays
-pub mod Padding
-pub mod Changes
-pub mod Told
-pub mod Cuts
-pub mod Widths
-pub mod Cases
 pub mod Instances

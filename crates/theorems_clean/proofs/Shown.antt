@@ -21,7 +21,8 @@ use Rattle.spec_tucson.proofs.Lines.{same-is}
 use Rattle.tucson_lines.proofs.GoodLines.{columns-parts}
 use Rattle.tucson_lines.proofs.LineNumerals.{behind, fields-behind, last-behind}
 use Rattle.tucson_strict.proofs.Strict.{fitting}
-use Rattle.theorems_clean.specs.Cleaning.{At, here, later, Reads, Stands, read, reclosed as closedAnew, AnswersAreShown}
+use Rattle.theorems_clean.specs.Places.{At, here, later}
+use Rattle.theorems_clean.specs.Shown.{Reads, Stands, read, reclosed as closedAnew, AnswersAreShown}
 use Rattle.theorems_clean.proofs.Answers.{answered}
 use Rattle.theorems_clean.proofs.StrictLines.{strict-line, withEnds, strict-lines, closed-strict}
 use Rattle.theorems_clean.proofs.WrittenForm.{columns-form}

@@ -18,7 +18,7 @@ use Rattle.spec_tucson.specs.Shown.{hasTab}
 use Rattle.spec_tucson.specs.StrictLine.{isHigh, anyHigh, questionMark, bytesMasked, inRange, followOf, withMasked, charactersFrom, charactersMasked, isStrict, ifStrict, onlyOne}
 use Rattle.spec_tucson.specs.StrictLine.{masked, orRefused, strictBytes, shownFields, strictLine}
 use Rattle.tucson_strict.proofs.Strict.{strict-size, strict-lacks, high-append, strict-ascii}
-use Rattle.theorems_clean.specs.Cleaning.{Masks, byBytes, byCharacters, Reads, asShown, withName}
+use Rattle.theorems_clean.specs.Shown.{Masks, byBytes, byCharacters, Reads, asShown, withName}
 
 -- the test for ?
 abbrev isMark : ℕ → Bool

@@ -1,22 +1,18 @@
 -- Each line that is kept stands in the file: its number, its raw line, and the strict line that this is.
-use mathlib.Core.Path.{_≡_, refl, sym, _∙_, ap, subst}
+use mathlib.Core.Path.{_≡_, refl, sym, _∙_, subst}
 use mathlib.Core.Bool.{Bool, true, false}
 use mathlib.Core.List.{List, [], _∷_}
-use mathlib.Core.Option.{Option, none}
+use mathlib.Core.Option.{Option}
 use Prim.Native.Nat.{ℕ, suc, _+_}
 use native.Mathlib.Omega.{arith}
 use Rattle.base_outcome.specs.Outcome.{answer}
 use Rattle.base_outcome.proofs.Outcome.{answer-unique}
 use Rattle.base_text.specs.Bytes.{Text}
-use Rattle.spec_tucson.specs.TextReading.{readText}
 use Rattle.spec_tucson.specs.StrictLine.{strictLine, Kept}
 use Rattle.spec_tucson.specs.KeptLines.{isData, keptLines}
-use Rattle.spec_tucson.specs.CleanSeries.{closedLines}
 use Rattle.spec_tucson.proofs.Kept.{kept-other, kept-data}
-use Rattle.theorems_clean.specs.Cleaning.{At, here, later, ReaderAccepts}
-use Rattle.theorems_clean.proofs.Answers.{answered}
-use Rattle.theorems_clean.proofs.StrictLines.{AllStrict, closed-strict}
-use Rattle.theorems_clean.proofs.Accepted.{text-reads}
+use Rattle.theorems_clean.specs.Places.{At, here, later}
+use Rattle.theorems_clean.proofs.StrictLines.{AllStrict}
 use Rattle.theorems_clean.proofs.ShownBytes.{strict-reads}
 
 -- Something holds of each of the lines.
@@ -56,11 +52,3 @@ kept-sources (r ∷ rs) h i b ks e = go (isData h i r) refl (λ c js. kept-sourc
 pub sources-strict : (rs : List Text) (i : ℕ) (ks : List Kept) → Each (Source rs i) ks → AllStrict ks
 sources-strict rs i [] h = tt
 sources-strict rs i (k ∷ ks) h = (strict-reads (k .line) (k .raw) (k .text) (h .0 .is) .strict, sources-strict rs i ks (h .1))
-
--- ---- the strict reader accepts what is answered
-
-pub reader-accepts : ReaderAccepts
-reader-accepts t header unit c e =
-    let a = answered t header unit c e in
-    let strict = sources-strict _ 1 (a .kept) (kept-sources _ (a .last) 1 none (a .kept) (a .kept-are)) in
-    (a .series, ap readText (a .text-is) ∙ text-reads (closedLines unit (a .kept)) (a .series) (closed-strict unit (a .kept) strict) (a .reads))

@@ -1,4 +1,3 @@
--- The statements of the theorems on the call that brings a laboratory's file into the strict form, each a type that cites definitions only;
--- the proofs are in proofs/.
-pub mod Cleaning
-pub mod Widths
+-- The statements of the theorems, each a type that cites definitions only; the proofs are in proofs/.
+pub mod Places
+pub mod Shown

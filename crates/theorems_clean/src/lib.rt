@@ -1,1 +1,1 @@
-// What is proved of a laboratory's file in the strict form, in specs/ and proofs/. This crate has no code.
+// What is read of a laboratory's file is what is shown, in specs/ and proofs/, and laws of strict lines. This crate has no code.
