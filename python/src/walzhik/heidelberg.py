@@ -13,8 +13,8 @@ from dataclasses import dataclass, field
 from ._changes import Changes, Unreadable
 from ._front_parts import Asked, Drawn, Found, Scale, drawn, placed, thousandths, year_of
 from ._text_lines import Line, text_lines, without_marks
-from .quoting import quoted
 from .tucson import Series
+from .words.quoting import quoted
 
 HEADER, DATA = b"HEADER:", b"DATA:"
 KINDS = (b"tree", b"single")  # of data with one value a year
