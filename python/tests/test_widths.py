@@ -155,6 +155,7 @@ GOOD = b"HEADER:\nKeyCode=OAK1\nDateBegin=1998\nDateEnd=2000\nLength=3\nUnit=1/1
         (b"Unit=1/100 mm", b"Unit=inch", 6, "Unit is 'inch'"),
         (b"Length=3", b"Length=4\nx=1", 4, "DateEnd is 2000, but 4 years from 1998 on do not end there"),
         (b"DateEnd=2000\nLength=3", b"Length=4", 4, "Length is 4, but 3 values follow"),
+        (b"   123   119   101", b"   123", 5, "Length is 3, but 1 value follows."),
         (b"DateEnd=2000\nLength=3", b"Length=2", 7, "the value 101 stands past Length, which is 2"),
         (b"DateEnd=2000", b"DateEnd=2001", 4, "DateEnd is 2001"),
         (b"Tree", b"Double", 7, "of the kind 'Double'"),

@@ -199,7 +199,18 @@ CASES: list[tuple[int, str, Callable[[], object], str]] = [
         written(("A", 1998, [1]), ("A", 2000, [1])),
         "Series 1, 'A       ', has the name of the series before",
     ),
-    (11, "series-year", written(("A", 10_000, [1])), "Series 0, 'A       ', from 10000 to 10000: a line's year"),
+    (
+        11,
+        "series-year",
+        written(("A", 10_000, [1])),
+        "Series 0, 'A       ', from 10000 to 10000, with its closing in 10001",
+    ),
+    (
+        11,
+        "series-year",
+        written(("A", 9_999, [1])),
+        "from 9999 to 9999, with its closing in 10000: a line's year is from -999",
+    ),
     (11, "series-width", written(("A", 1998, [1, 100_000])), "Series 0, 'A       ', has 100000 for 1999"),
     (14, "width", lambda: line().indices([1, 100_000], 0), "Width 1 of the series, ring 1, is 100000"),
     (

@@ -154,7 +154,7 @@ of_series <- function(given, place) {
   widths <- given$widths[sum(given$counts[seq_len(place)]) + seq_len(count)]
   bad <- which(widths < 0 | widths > most_width)[1]
   list(name = quoted(name), is_name = is_name(name), is_same = place > 0 && identical(name, name_at(place - 1)), first = first,
-       last = first + count - 1, width = widths[bad], year = first + bad - 1)
+       last = first + count - 1, closing = first + count, width = widths[bad], year = first + bad - 1)
 }
 
 series_facts <- list("2" = function(given, place) list(), "11" = of_series)

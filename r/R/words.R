@@ -114,7 +114,7 @@ refusal_words <- list(
     words = "Series {place}, {name}, has {width} for {year}: a width is from 0 to 99,999.",
     remedy = "Correct the width."),
   "11 series-year" = c(given = "series", when = "", counts = "series",
-    words = "Series {place}, {name}, from {first} to {last}: a line's year is from -999 to 9999.",
+    words = "Series {place}, {name}, from {first} to {last}, with its closing in {closing}: a line's year is from -999 to 9999, that of the closing too.",
     remedy = "Correct the first year."),
   "12 zero" = c(given = "file", when = "next = 0, year = 1", counts = "line",
     words = "Line {place} starts in 1, right behind the year -1 of series {name}: its calendar has no year 0, but a Tucson file counts one.",

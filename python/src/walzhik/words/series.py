@@ -34,8 +34,9 @@ def refused(series: Sequence[Named], number: int, place: int) -> Refused:
 def of_series(series: Sequence[Named], place: int) -> Told:
     """What is told of the series at a place, counted from 0."""
     one = series[place]
+    closing = one.first + len(one.widths)  # its year, behind that of the last width
     told: Told = {"name": quoted(one.columns), "is_name": is_name(one.columns), "first": one.first}
-    told |= {"is_same": place > 0 and one.columns == series[place - 1].columns, "last": one.first + len(one.widths) - 1}
+    told |= {"is_same": place > 0 and one.columns == series[place - 1].columns, "last": closing - 1, "closing": closing}
     over = next((at for at, width in enumerate(one.widths) if not 0 <= width <= MOST_WIDTH), None)
     if over is None:
         return told | {"width": None, "year": None}
