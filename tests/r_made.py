@@ -129,6 +129,18 @@ def stray(files):
     return [path for folder in sorted(folders) if folder.exists() for path in folder.iterdir() if path not in files]
 
 
+def in_step(kept, text, script):
+    """The status of a script that keeps one file of answers of Python's: it is made with --write, otherwise compared."""
+    if sys.argv[1:] == ["--write"]:
+        kept.parent.mkdir(exist_ok=True)
+        kept.write_text(text, encoding="ascii")
+        return 0
+    if kept.exists() and kept.read_text(encoding="ascii") == text:
+        return 0
+    print(f"not in step: {kept.relative_to(ROOT)}; make it with: PYTHONPATH=python/src python3 tests/{script} --write")
+    return 1
+
+
 def main():
     files = made()
     if sys.argv[1:] == ["--write"]:
