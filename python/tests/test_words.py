@@ -294,7 +294,7 @@ def test_a_number_without_words_keeps_number_and_place() -> None:
     assert sheet.refused(GOOD, 99, 7).number == 99
 
 
-def test_the_table_has_five_columns_and_whole_sentences() -> None:
+def test_the_table_has_whole_sentences() -> None:
     for (number, case), row in table().items():
         if row.counts == "fragment":
             assert not row.remedy, (number, case)
