@@ -1,6 +1,6 @@
 # What the ordinates miss at the join that number 19 names: the first derivative that differs on its two sides, and by how much.
-# The difference is an exact fraction as long as R's doubles hold its parts; they may not at order 2, the last, where the engine's number
-# alone then says that there is one.
+# The difference is an exact fraction as long as R's doubles hold its parts. Whether there is one they always tell: both sides are
+# multiples of a falling factorial, which doubles hold within the engine's limits.
 
 most_exact <- 2^53
 differ <- c("values", "slopes", "bends")
@@ -36,14 +36,13 @@ missed <- function(given, join) {
   left <- given$ordinates[(first + 1):middle]
   right <- given$ordinates[middle + seq_len(degrees[join + 2] + 1)]
   lengths <- as.numeric(diff(given$breaks))[join + 1:2]
-  said <- function(order, by) {
-    sprintf("the %s on its two sides differ by %s thousandths of a millimetre%s", differ[order + 1], by, by_rings[order + 1])
-  }
   for (order in seq_len(given$orders[join + 1] + 1) - 1) {
     before <- (-1)^order * start_derivative(rev(left), order) * lengths[2]^order
     after <- start_derivative(right, order) * lengths[1]^order
-    if (before != after) return(said(order, difference_text(after - before, unit * prod(lengths)^order)))
-    if (abs(after) >= most_exact) return(said(order, "less than 1"))
+    if (before != after) {
+      by <- difference_text(after - before, unit * prod(lengths)^order)
+      return(sprintf("the %s on its two sides differ by %s thousandths of a millimetre%s", differ[order + 1], by, by_rings[order + 1]))
+    }
   }
   NA
 }
