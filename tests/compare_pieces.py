@@ -11,8 +11,8 @@ which --case runs again.
 
 import sys
 
-from comparing import arguments, compare_calls, kind_of
-from space_calls import SpaceCall, read_space_line
+from comparing import kind_of
+from space_calls import compare_space_calls
 
 from pieces import MOST_DRAWN_DEGREE, bits, piece_outcome
 from protocol import listed, weight_words
@@ -35,15 +35,5 @@ def result(call):
     return " ".join(words), reply.number, None
 
 
-def asked(call):
-    return SpaceCall("piece", "segment", call, result)
-
-
-def main():
-    chosen = arguments("the piece calls", GATE_COUNT)
-    return compare_calls("compare_pieces", chosen, lambda rng: asked(random_piece(rng)),
-                         lambda line: asked(read_space_line(line, PieceCall, "segment")), REACHABLE)
-
-
 if __name__ == "__main__":
-    sys.exit(main())
+    sys.exit(compare_space_calls("piece", "segment", PieceCall, random_piece, result, GATE_COUNT, REACHABLE))

@@ -10,8 +10,8 @@ with its call line, which --case runs again.
 
 import sys
 
-from comparing import arguments, compare_calls, kind_of
-from space_calls import SpaceCall, read_space_line
+from comparing import kind_of
+from space_calls import compare_space_calls
 
 from limits import DISCONTINUITY, UNIT
 from protocol import weight_words
@@ -42,15 +42,5 @@ def result(call):
     return " ".join(words), reply.number, kind(call, outcome)
 
 
-def asked(call):
-    return SpaceCall("reach", "width", call, result)
-
-
-def main():
-    chosen = arguments("the reach calls", GATE_COUNT)
-    return compare_calls("compare_reach", chosen, lambda rng: asked(random_reach(rng)),
-                         lambda line: asked(read_space_line(line, ReachCall, "width")), REACHABLE)
-
-
 if __name__ == "__main__":
-    sys.exit(main())
+    sys.exit(compare_space_calls("reach", "width", ReachCall, random_reach, result, GATE_COUNT, REACHABLE))

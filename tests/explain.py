@@ -28,9 +28,10 @@ from random_tucson import random_text
 from sheet import LINES, Refusal, read_sheet, sheet
 from reading import part_values
 from space import Space
-from walzhik_reference import build_rows, by_column, most_weights
 from walzhik.explain import COUNT_ON, explain_printed, explain_tucson, with_promises
-from walzhik.sheet_reasons import text_fault
+from walzhik.words.sheet import facts_of
+from walzhik.words.table import chosen
+from walzhik_reference import build_rows, by_column, most_weights
 
 GATE_COUNT = 2_000
 LONGEST = 420                # characters of a line of words
@@ -150,7 +151,7 @@ def words_fault(text, seen):
     if not words.isascii() or len(lines) != 2 or max(map(len, lines)) > LONGEST:
         return f"not two short lines of ASCII: {words!r}"
     if len(text) <= MOST_SHEET_BYTES and len(text.split(b"\n")) > len(LINES):
-        found = [text_fault(text, place + 1) is not None for place in range(len(LINES))]
+        found = [chosen(10, "sheet", {"place": place + 1, **facts_of(text, place + 1)}) is not None for place in range(len(LINES))]
         if found != list(bad_lines(text)):
             return f"faults found in lines: {found}"
     if not printed.startswith(b"no="):

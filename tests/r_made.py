@@ -17,10 +17,10 @@ sys.path.insert(0, str(ROOT / "tests" / "reference"))
 from r_cases import case_files  # noqa: E402
 
 PACKAGE = ROOT / "r"
-WORDS = ROOT / "python" / "src" / "walzhik" / "words.tsv"
+WORDS = ROOT / "python" / "src" / "walzhik" / "words" / "words.tsv"
 WORDS_HEAD = """\
-# The words of every refusal, by number and case. Made by tests/r_made.py from python/src/walzhik/words.tsv, which the command
-# shares: change that table and make this file again.
+# The words of every refusal, by number and case: for what a call was given, and under which conditions. Made by tests/r_made.py from
+# python/src/walzhik/words/words.tsv, which the command shares: change that table and make this file again.
 
 refusal_words <- list(
 """
@@ -60,7 +60,9 @@ ARGUMENTS = {
     "Tell the maintainers, with the sheet": "Tell the maintainers, with the call",
 }
 OF_THE_COMMAND = ("(--", "= lists", "at= ", "counted from 0")
-OF_SHEETS = "10"  # a sheet's text, which R does not read
+WORD_CASES = ROOT / "python" / "tests" / "words" / "cases.tsv"
+IN_R = {"lists", "series", "text", "file", "file-then", "note"}  # what R gives the engine; it reads no sheets
+COLUMNS = ["number", "case", "given", "when", "counts", "words", "remedy"]
 
 
 def r_text(text):
@@ -80,13 +82,14 @@ def in_r(sentence):
 
 def words_file():
     header, *rows = (line.split("\t") for line in WORDS.read_text(encoding="utf-8").splitlines())
-    if header != ["number", "case", "counts", "words", "remedy"]:
-        raise SystemExit(f"{WORDS}: other columns than number, case, counts, words, remedy")
+    if header != COLUMNS:
+        raise SystemExit(f"{WORDS}: other columns than {', '.join(COLUMNS)}")
     entries = []
-    for number, case, counts, words, remedy in rows:
-        if number != OF_SHEETS:
-            words, remedy = in_r(words), in_r(remedy)
-        told = f"counts = {r_text(counts)},\n    words = {r_text(words)},\n    remedy = {r_text(remedy)}"
+    for number, case, given, when, counts, words, remedy in rows:
+        if IN_R.isdisjoint(given.split()):
+            continue
+        chosen = f"given = {r_text(given)}, when = {r_text(when)}, counts = {r_text(counts)}"
+        told = f"{chosen},\n    words = {r_text(in_r(words))},\n    remedy = {r_text(in_r(remedy))}"
         entries.append(f"  {r_text(f'{number} {case}')} = c({told})")
     return (WORDS_HEAD + ",\n".join(entries) + "\n)\n").encode("ascii")
 
@@ -103,7 +106,8 @@ def templates_file():
 
 def copies():
     """Where each example goes: the Tucson files of the help pages, and the refusals with their explanations for the tests, but for
-    those of a sheet's text (number 10), which R does not read."""
+    those of a sheet's text (number 10), which R does not read; and the cases of the choice of words."""
+    yield PACKAGE / "tests" / "testthat" / "words" / "cases.tsv", WORD_CASES.read_bytes()
     for path in sorted((ROOT / "examples" / "tucson").glob("*.rwl")):
         yield PACKAGE / "inst" / "extdata" / path.name, path.read_bytes()
     for path in sorted((ROOT / "examples" / "refusals").iterdir()):
@@ -123,6 +127,18 @@ def stray(files):
     """Files in the folders of made files that nothing makes any more."""
     folders = {path.parent for path in files} - {PACKAGE / "R"}
     return [path for folder in sorted(folders) if folder.exists() for path in folder.iterdir() if path not in files]
+
+
+def in_step(kept, text, script):
+    """The status of a script that keeps one file of answers of Python's: it is made with --write, otherwise compared."""
+    if sys.argv[1:] == ["--write"]:
+        kept.parent.mkdir(exist_ok=True)
+        kept.write_text(text, encoding="ascii")
+        return 0
+    if kept.exists() and kept.read_text(encoding="ascii") == text:
+        return 0
+    print(f"not in step: {kept.relative_to(ROOT)}; make it with: PYTHONPATH=python/src python3 tests/{script} --write")
+    return 1
 
 
 def main():

@@ -14,6 +14,9 @@ import numpy as np
 
 from walzhik.fit import SHAPES, fit, template
 
+sys.path.insert(0, str(Path(__file__).resolve().parent))
+from r_made import in_step  # noqa: E402
+
 KEPT = Path(__file__).resolve().parent.parent / "r" / "tests" / "testthat" / "fits" / "series.txt"
 COUNT, SEED = 200, 51
 FEWEST_RINGS, MOST_RINGS = 12, 300
@@ -47,15 +50,5 @@ def text():
     return "".join(f"{line_of(place, random)}\n" for place in range(COUNT))
 
 
-def main():
-    if sys.argv[1:] == ["--write"]:
-        KEPT.write_text(text(), encoding="ascii")
-        return 0
-    if KEPT.exists() and KEPT.read_text(encoding="ascii") == text():
-        return 0
-    print("not in step: r/tests/testthat/fits/series.txt; make it with: PYTHONPATH=python/src python3 tests/r_series.py --write")
-    return 1
-
-
 if __name__ == "__main__":
-    sys.exit(main())
+    sys.exit(in_step(KEPT, text(), Path(__file__).name))

@@ -19,13 +19,15 @@ from walzhik.tucson import Series
 from walzhik.widths import Asked
 
 sys.path.insert(0, str(Path(__file__).resolve().parent))
+from damage import damaged  # noqa: E402
 from r_made import ARGUMENTS as OF_WORDS  # noqa: E402
+from r_made import in_step  # noqa: E402
 
 ROOT = Path(__file__).resolve().parent.parent
 KEPT = ROOT / "r" / "tests" / "testthat" / "widths" / "files.txt"
 SEED, DAMAGED = 53, 500
 DIALECTS = 400  # random files of laboratories
-DAMAGES = ("lost", "put in", "cut", "line lost", "line doubled", "swapped", "blanked")
+PUT_IN = b'0123456789 ,;.-x\n\r\t\xff"='
 # The options of the command, and what R has for them.
 ARGUMENTS = {
     "--year-zero yes": "year_zero = TRUE",
@@ -109,23 +111,6 @@ OPTIONS = [
 ]
 
 
-def damaged(draw, text):
-    """The text with a byte or a line lost, doubled, swapped or changed, or cut off."""
-    kind, lines = draw.choice(DAMAGES), text.splitlines(keepends=True)
-    at, line, other = draw.randrange(len(text)), draw.randrange(len(lines)), draw.randrange(len(lines))
-    swapped = list(lines)
-    swapped[line], swapped[other] = lines[other], lines[line]
-    return {
-        "lost": text[:at] + text[at + 1:],
-        "put in": text[:at] + bytes([draw.choice(b'0123456789 ,;.-x\n\r\t\xff"=')]) + text[at:],
-        "cut": text[:at],
-        "line lost": b"".join(lines[:line] + lines[line + 1:]),
-        "line doubled": b"".join(lines[:line + 1] + lines[line:]),
-        "swapped": b"".join(swapped),
-        "blanked": text[:at] + b" " + text[at + 1:],
-    }[kind]
-
-
 def random_series(draw):
     found, about = {}, draw.choice([-12, 1, 990, 1890])
     for _ in range(draw.randint(1, 3)):
@@ -150,7 +135,7 @@ def laboratory(draw):
     if draw.random() < 0.1:
         text = text.replace(b"A", draw.choice([b"\xc3\xa4", b"\xe4"]))
     asked = {name: value for name, value in {"unit": draw.choice(["hundredths", "thousandths"]), "header": draw.choice([0, 1, 3])}.items() if draw.random() < 0.15}
-    return (damaged(draw, text) if draw.random() < 0.6 else text), asked
+    return (damaged(draw, text, PUT_IN)[0] if draw.random() < 0.6 else text), asked
 
 
 def files():
@@ -168,7 +153,7 @@ def files():
         form = "fh" if number % 2 else "csv"
         series = random_series(draw)
         text = widths.text_of(series, form, "\t" if number % 4 == 0 and not any(";" in each.name for each in series) else ",")
-        yield (text if number % 5 == 0 else damaged(draw, text)), form, Asked()
+        yield (text if number % 5 == 0 else damaged(draw, text, PUT_IN)[0]), form, Asked()
 
 
 def in_r(sentence):
@@ -206,16 +191,5 @@ def text():
     return "".join(f"{line}\n" for line in lines)
 
 
-def main():
-    if sys.argv[1:] == ["--write"]:
-        KEPT.parent.mkdir(exist_ok=True)
-        KEPT.write_text(text(), encoding="ascii")
-        return 0
-    if KEPT.exists() and KEPT.read_text(encoding="ascii") == text():
-        return 0
-    print("not in step: r/tests/testthat/widths/files.txt; make it with: PYTHONPATH=python/src python3 tests/r_widths.py --write")
-    return 1
-
-
 if __name__ == "__main__":
-    sys.exit(main())
+    sys.exit(in_step(KEPT, text(), Path(__file__).name))

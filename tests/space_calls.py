@@ -2,10 +2,14 @@
 
 A call line is the call's name with the words of a curve line
 (tests/reference/protocol.py), the number's word in the place of `at=`, and no
-values. `SpaceCall` wraps a random call for tests/comparing.py.
+values. `SpaceCall` wraps a random call for tests/comparing.py, and `compare_space_calls`
+is the program that compares them.
 """
 
-from comparing import kind_of
+import sys
+from pathlib import Path
+
+from comparing import arguments, compare_calls, kind_of
 from protocol import SPACE_WORDS, line_of, read_line
 
 LISTS = (*SPACE_WORDS, "coefs")
@@ -37,3 +41,13 @@ class SpaceCall:
     def expected(self):
         line, number, kind = self.result(self.call)
         return line, kind or kind_of(number)
+
+
+def compare_space_calls(name, number, make, draw, result, count, reachable):
+    """The status of comparing so many random calls of a name, whose own number has this name, or the case that is given."""
+    def asked(call):
+        return SpaceCall(name, number, call, result)
+
+    script = Path(sys.argv[0]).stem
+    return compare_calls(script, arguments(f"the {name} calls", count), lambda rng: asked(draw(rng)),
+                         lambda line: asked(read_space_line(line, make, number)), reachable)

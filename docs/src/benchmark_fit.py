@@ -22,7 +22,7 @@ from scipy.optimize import OptimizeWarning, curve_fit, nnls
 from walzhik import Space
 from walzhik.fit import design, fit, template
 from walzhik.fit_scar import hint
-from walzhik.reasons import PER_MM, UNIT
+from walzhik.limits import PER_MM, UNIT
 
 Floats = NDArray[np.float64]
 Widths = NDArray[np.int64]

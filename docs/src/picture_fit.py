@@ -12,8 +12,8 @@ import numpy as np
 from benchmark_fit import by_default, by_former, core
 from matplotlib.figure import Figure
 
+from walzhik.limits import PER_MM
 from walzhik.plot import BLACK, BLUE, CURVE_HEIGHT, GREY, LINE_ALPHA, PAD, PALE, THIN, VERMILION, WIDE, _style, rendered
-from walzhik.reasons import PER_MM
 
 SEED, FAMILY = 12, "exponential"
 SHOWN = 110  # rings

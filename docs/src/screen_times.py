@@ -19,7 +19,7 @@ from browser.page import Page, browser
 from browser.stage import ROOT, served
 from walzhik import Space, sheet, tucson
 from walzhik.fit import template
-from walzhik.reasons import MOST_PART_STRETCHES, MOST_STRETCHES, SCAR
+from walzhik.limits import MOST_PART_STRETCHES, MOST_STRETCHES, SCAR
 from walzhik.view.design import Design
 from walzhik.view.shown import shown
 

@@ -16,7 +16,7 @@ from scipy.optimize import nnls
 from walzhik import Curve, Refused, Space
 from walzhik.fit import SHAPES, Unfittable, bernstein, closeness, design, fit, segments_at, template
 from walzhik.fit_shape import is_determined
-from walzhik.reasons import UNIT
+from walzhik.limits import UNIT
 from walzhik.recover import nearest, recover
 
 

@@ -14,7 +14,7 @@ from walzhik.fit import SHAPES, Fit, Unfittable, design, fit, template
 from walzhik.fit_design import Part
 from walzhik.fit_scar import Hint, hint
 from walzhik.fit_shape import LEAST_COEFFICIENT, Measured, System, falling, shaped, system
-from walzhik.reasons import UNIT
+from walzhik.limits import UNIT
 from walzhik.tucson import Series
 from walzhik.view.design import Design as Page
 from walzhik.view.propose import proposed

@@ -11,7 +11,7 @@ import pytest
 from conftest import ROOT
 
 from walzhik import _build
-from walzhik.errors import table
+from walzhik.words.table import table
 
 CC = ("cc", "-std=c11", "-Wall", "-Wextra", "-Werror", f"-I{ROOT / 'include'}")
 DRIVER = ROOT / "tests" / "driver"

@@ -9,12 +9,14 @@ from pathlib import Path
 from conftest import ROOT
 
 PACKAGE = ROOT / "python" / "src" / "walzhik"
-# From the lowest. A folder stands for all of its modules; what is named nowhere is of the library, between the first two
-# of these and the parts that are made of it.
+# From the lowest. A folder stands for all of its modules that are not named; what is named nowhere is of the library, between
+# the first two of these and the parts that are made of it.
+LIBRARY = ("words/fits",)
+LOWEST = ("words/__init__", "words/numbers", "words/quoting", "words/table")
 LAYERS = (
-    ("_build", "_place", "_proof", "errors", "files", "formats", "quoting", "threads"),
-    ("_engine", "reasons", "space", "curve", "recover", "sheet_reasons", "sheet", "tucson_reasons"),
-    ("library",),
+    (*LOWEST, "_build", "_place", "_proof", "errors", "files", "formats", "limits", "threads"),
+    ("_engine", "words", "space", "curve", "recover", "sheet"),
+    LIBRARY,
     ("bank", "view"),
     ("commands",),
     ("__init__", "cli", "__main__"),
@@ -24,8 +26,9 @@ BESIDE = ("__init__",)  # what anybody may take from the package itself: its ver
 
 def layer(module: str) -> int:
     """The place of a module's layer, by its name or that of its folder."""
-    part = module.split("/")[0]
-    return next((place for place, names in enumerate(LAYERS) if part in names), LAYERS.index(("library",)))
+    library = LAYERS.index(LIBRARY)
+    of_names = {name: place for place, names in enumerate(LAYERS) for name in names}
+    return of_names.get(module, of_names.get(module.split("/")[0], library))
 
 
 def module_at(way: Path) -> str:

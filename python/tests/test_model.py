@@ -5,7 +5,7 @@ random calls of every kind, answered and refused, must give the same numbers, or
 from __future__ import annotations
 
 from collections import Counter
-from collections.abc import Callable
+from collections.abc import Callable, Iterator
 from random import Random
 from typing import Any
 
@@ -120,15 +120,26 @@ def test_indices() -> None:
     assert {0, 2, 3, 4, 5, 6, 7, 8, 14, 15} <= set(seen)
 
 
-def test_reach() -> None:
-    seen: Counter[int] = Counter()
-    for call in random_cases(random_reach):
+def curve_cases(
+    draw: Callable[[Random], Any], model: Callable[..., Any], ask: Callable[[Curve, Any], Any], number: str
+) -> Iterator[tuple[tuple[int, int] | None, Any, Any]]:
+    """Random calls of a curve with a number of their own: the model's refusal, its outcome, and what the package gives."""
+    for call in random_cases(draw):
         lists = (call.breaks, call.degrees, call.orders)
         if len(call.coefs) % 2:
             continue
-        outcome = reach_outcome(call.part, lists, call.coefs, call.width, CELLS, CELLS)
+        outcome = model(call.part, lists, call.coefs, getattr(call, number), CELLS, CELLS)
         refused = first_refusal(*steps(lists, call.coefs), outcome.curve.reply)
-        got = answered(lambda: made(lists, call.coefs).reach(call.width, call.part))
+        yield refused, outcome, answered(lambda: ask(made(lists, call.coefs), call))
+
+
+def test_reach() -> None:
+    seen: Counter[int] = Counter()
+
+    def reached(curve: Curve, call: Any) -> Any:
+        return curve.reach(call.width, call.part)
+
+    for refused, outcome, got in curve_cases(random_reach, reach_outcome, reached, "width"):
         seen[refused[0] if refused else 0] += 1
         assert got == (refused if refused else outcome.position)
     assert {0, 16} <= set(seen)
@@ -136,13 +147,11 @@ def test_reach() -> None:
 
 def test_pieces() -> None:
     seen: Counter[int] = Counter()
-    for call in random_cases(random_piece):
-        lists = (call.breaks, call.degrees, call.orders)
-        if len(call.coefs) % 2:
-            continue
-        outcome = piece_outcome(call.part, lists, call.coefs, call.segment, CELLS, CELLS)
-        refused = first_refusal(*steps(lists, call.coefs), outcome.curve.reply)
-        got = answered(lambda: made(lists, call.coefs).piece(call.segment, call.part))
+
+    def drawn(curve: Curve, call: Any) -> Any:
+        return curve.piece(call.segment, call.part)
+
+    for refused, outcome, got in curve_cases(random_piece, piece_outcome, drawn, "segment"):
         seen[refused[0] if refused else 0] += 1
         if refused:
             assert got == refused

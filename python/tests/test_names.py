@@ -93,3 +93,10 @@ def test_names_that_differ_in_blanks_alone(run: Run, tmp_path: Path) -> None:
     data = rwl(tmp_path, Series("A", 1900, [900, 800, 700]), Series(" A", 1900, [900, 800, 700]))
     ended = run("indices", data, "--fit", "--strict")
     assert ended.status == UNUSABLE and "Two series are named A" in ended.err
+
+
+@pytest.mark.parametrize("command", ["clean", "explain", "fit"])
+def test_a_files_name_that_is_no_text_is_shown_by_its_bytes(run: Run, tmp_path: Path, command: str) -> None:
+    """Bytes that are no UTF-8 are shown as they are typed, not as Python holds them."""
+    ended = run(command, tmp_path / "oak\udcff.rwl")
+    assert ended.status == UNUSABLE and ended.err == f"{tmp_path}/oak\\xff.rwl: No such file or directory\n"

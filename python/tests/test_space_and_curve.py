@@ -16,7 +16,7 @@ from hypothesis import strategies as st
 
 from walzhik import Curve, Refused, Space, _build, _engine
 from walzhik.fit import fit
-from walzhik.reasons import UNIT
+from walzhik.limits import UNIT
 from walzhik.recover import recover
 from walzhik.tucson import Series, read, write
 

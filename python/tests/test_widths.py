@@ -11,6 +11,7 @@ from pathlib import Path
 import pytest
 from commandline import OAK, REFUSED, UNUSABLE
 from conftest import ROOT, Run
+from damage import damaged
 from hypothesis import given
 from hypothesis import strategies as st
 
@@ -155,6 +156,7 @@ GOOD = b"HEADER:\nKeyCode=OAK1\nDateBegin=1998\nDateEnd=2000\nLength=3\nUnit=1/1
         (b"Unit=1/100 mm", b"Unit=inch", 6, "Unit is 'inch'"),
         (b"Length=3", b"Length=4\nx=1", 4, "DateEnd is 2000, but 4 years from 1998 on do not end there"),
         (b"DateEnd=2000\nLength=3", b"Length=4", 4, "Length is 4, but 3 values follow"),
+        (b"   123   119   101", b"   123", 5, "Length is 3, but 1 value follows."),
         (b"DateEnd=2000\nLength=3", b"Length=2", 7, "the value 101 stands past Length, which is 2"),
         (b"DateEnd=2000", b"DateEnd=2001", 4, "DateEnd is 2001"),
         (b"Tree", b"Double", 7, "of the kind 'Double'"),
@@ -316,25 +318,7 @@ def test_the_engine_refuses_what_it_can_t_hold() -> None:
 # Damage.
 
 
-KINDS = ("lost", "put in", "cut", "line lost", "line doubled", "swapped", "blanked")
-
-
-def damaged(draw: random.Random, text: bytes) -> tuple[bytes, str]:
-    """The text with a byte or a line lost, doubled, swapped or changed, or cut off, and which of these."""
-    kind, lines = draw.choice(KINDS), text.splitlines(keepends=True)
-    at, line, other = draw.randrange(len(text)), draw.randrange(len(lines)), draw.randrange(len(lines))
-    swapped = list(lines)
-    swapped[line], swapped[other] = lines[other], lines[line]
-    made = {
-        "lost": text[:at] + text[at + 1 :],
-        "put in": text[:at] + bytes([draw.choice(b'0123456789 ,;.-x\n\xff"=')]) + text[at:],
-        "cut": text[:at],
-        "line lost": b"".join(lines[:line] + lines[line + 1 :]),
-        "line doubled": b"".join(lines[: line + 1] + lines[line:]),
-        "swapped": b"".join(swapped),
-        "blanked": text[:at] + b" " + text[at + 1 :],
-    }
-    return made[kind], kind
+PUT_IN = b'0123456789 ,;.-x\n\xff"='
 
 
 def differing(series: Series, other: Series) -> int:
@@ -364,7 +348,7 @@ def test_damaged_files_never_shift_a_year() -> None:
             for place, count in enumerate(draw.choices(range(3, 34), k=draw.randint(1, 3)))
         ]
         form: Form = "fh" if number % 2 else "csv"
-        text, kind = damaged(draw, widths.text_of(truth, form))
+        text, kind = damaged(draw, widths.text_of(truth, form), PUT_IN)
         try:
             made = widths.read(text, form).series
         except (Unreadable, Refused):

@@ -5,14 +5,15 @@ entry it is about. The examples in examples/ are explained as it stands beside t
 from __future__ import annotations
 
 import re
-from collections.abc import Callable
+from collections.abc import Callable, Mapping
 from pathlib import Path
 
 import pytest
 from conftest import ROOT
 
-from walzhik import Curve, Refused, Space, errors, explain, file_reasons, notes, sheet, sheet_reasons, tucson
+from walzhik import Curve, Refused, Space, explain, notes, sheet, tucson
 from walzhik.recover import recover
+from walzhik.words.table import Words, table
 
 # What only C and Rust callers can meet: buffers that are too short, lists of series that don't fit, more rings than a
 # call takes; a file of more than 4 GiB; and 9, which is proved never to come.
@@ -198,7 +199,18 @@ CASES: list[tuple[int, str, Callable[[], object], str]] = [
         written(("A", 1998, [1]), ("A", 2000, [1])),
         "Series 1, 'A       ', has the name of the series before",
     ),
-    (11, "series-year", written(("A", 10_000, [1])), "Series 0, 'A       ', from 10000 to 10000: a line's year"),
+    (
+        11,
+        "series-year",
+        written(("A", 10_000, [1])),
+        "Series 0, 'A       ', from 10000 to 10000, with its closing in 10001",
+    ),
+    (
+        11,
+        "series-year",
+        written(("A", 9_999, [1])),
+        "from 9999 to 9999, with its closing in 10000: a line's year is from -999",
+    ),
     (11, "series-width", written(("A", 1998, [1, 100_000])), "Series 0, 'A       ', has 100000 for 1999"),
     (14, "width", lambda: line().indices([1, 100_000], 0), "Width 1 of the series, ring 1, is 100000"),
     (
@@ -247,21 +259,22 @@ def test_case(number: int, case: str, call: Callable[[], object], words: str) ->
 
 def test_every_case_of_the_table_is_met(monkeypatch: pytest.MonkeyPatch) -> None:
     said: set[tuple[int, str]] = set()
-    plain = errors.say
+    plain = Words.told
 
-    def noted(number: int, case: str, /, **told: object) -> str:
-        said.add((number, case))
-        return plain(number, case, **told)
+    def noted(row: Words, facts: Mapping[str, object]) -> str:
+        said.add((row.number, row.case))
+        return plain(row, facts)
 
-    for module in (errors, sheet_reasons, file_reasons, notes):
-        monkeypatch.setattr(module, "say", noted)
-    for _, _, call, _ in CASES:
+    monkeypatch.setattr(Words, "told", noted)
+    for number, case, call, _ in CASES:
+        said.discard((number, case))
         with pytest.raises(Refused):
             call()
+        assert (number, case) in said
     for path in ROOT.glob("examples/refusals/*.rwl"):
         explain.explain_tucson(path.read_bytes())
     notes.sentences([notes.Note(number, 1) for number in range(1, 15)])
-    assert set(errors.table()) - said == NEVER
+    assert set(table()) - said == NEVER
 
 
 def examples() -> list[Path]:
@@ -281,8 +294,8 @@ def test_a_number_without_words_keeps_number_and_place() -> None:
     assert sheet.refused(GOOD, 99, 7).number == 99
 
 
-def test_the_table_has_five_columns_and_whole_sentences() -> None:
-    for (number, case), row in errors.table().items():
+def test_the_table_has_whole_sentences() -> None:
+    for (number, case), row in table().items():
         if row.counts == "fragment":
             assert not row.remedy, (number, case)
         else:

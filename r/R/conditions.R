@@ -19,20 +19,20 @@ filled <- function(sentence, told) {
 
 as_text <- function(x) if (is.numeric(x)) format(x, decimal.mark = ".", scientific = FALSE, trim = TRUE) else as.character(x)
 
-# The words and the remedy of a refusal. Where no case of the table fits, number and place still stand.
+# The words and the remedy of a refusal, and of a further row where there is one. Where no row of the table fits, number and place still
+# stand.
 words_for <- function(number, place, given) {
-  find <- faults[[as.character(number)]]
-  found <- if (!is.null(find)) find(given, place)
-  row <- if (!is.null(found)) refusal_words[[paste(number, found$case)]]
+  facts <- facts_of(number, place, given)
+  asked <- c(facts, list(place = place))
+  row <- if (!is.null(facts)) chosen(number, kind_of(given), asked)
   if (is.null(row)) {
     return(list(words = sprintf("There are no words for it here; the manual lists number %s.", as_text(number)), remedy = ""))
   }
-  shown <- place + (row[["counts"]] %in% counted_from_zero)
-  told <- c(found$told, place = as_text(shown))
-  words <- filled(row[["words"]], told)
-  if (is.null(found$then)) return(list(words = words, remedy = row[["remedy"]]))
-  further <- refusal_words[[paste(number, found$then)]]
-  list(words = paste(words, filled(further[["words"]], list(text = found$shown))), remedy = further[["remedy"]])
+  told <- c(facts, list(place = place + (row[["counts"]] %in% counted_from_zero)))
+  then <- chosen(number, paste0(kind_of(given), "-then"), asked)
+  rows <- c(list(row), if (!is.null(then)) list(then))
+  said <- vapply(rows, function(each) filled(each[["words"]], told), "")
+  list(words = paste(said, collapse = " "), remedy = rows[[length(rows)]][["remedy"]])
 }
 
 refusal_condition <- function(number, place, given, call) {

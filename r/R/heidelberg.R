@@ -83,7 +83,8 @@ heidelberg_series <- function(block, asked, notes) {
   values <- heidelberg_values(block)
   count <- length(values$text)
   if (count < years$length) {
-    unreadable(key_line(block, "length"), paste0("Length is ", with_commas(years$length), ", but ", with_commas(count), " values follow."),
+    follow <- if (count == 1) "1 value follows" else paste(with_commas(count), "values follow")
+    unreadable(key_line(block, "length"), paste0("Length is ", with_commas(years$length), ", but ", follow, "."),
                "Put in what is missing, or correct Length.")
   }
   past <- seq_len(count) > years$length

@@ -1,8 +1,7 @@
-# The words' cases for a laboratory's file that the call has refused: number and line are the call's, and what is shown there is found
-# here, in the steps of the command. Nothing here decides whether a file is good; where it finds no such fault there are no words.
+# The facts of a laboratory's file that the call has refused, for the words: number and line are the call's, and what is shown there is
+# found here. Nothing here decides whether a file is good.
 
 tab_columns <- 8L # up to a multiple of which a tab goes
-unknown_closing <- -999L
 shown_line <- 80L # bytes of a line of widths that a message quotes
 
 # A file's text without a mark at its start, up to the first Ctrl-Z.
@@ -22,8 +21,6 @@ in_columns <- function(bytes) {
 }
 
 without_blanks <- function(bytes) bytes[seq_len(max(0, which(bytes != blank)))]
-
-is_strict_line <- function(body) is.null(column_fault(body, TRUE))
 
 # The line with ? for each byte that is not ASCII and, where it is UTF-8, with ? for each character.
 in_question_marks <- function(body) {
@@ -59,24 +56,25 @@ beside <- function(lines, place, step) {
   }
 }
 
-text_fault <- function(given, place) {
+# 21: the two bytes of UTF-16, or the first byte at fault of the line.
+of_text <- function(given, place) {
   file <- given$file
-  if (place == largest_place) return(found("size"))
+  told <- function(bytes = NA, byte = NA, column = NA, follows = NA) list(bytes = bytes, byte = byte, column = column, follows = follows)
+  if (place == largest_place) return(told())
   if (starts_with(file, as.raw(c(0xff, 0xfe))) || starts_with(file, as.raw(c(0xfe, 0xff)))) {
-    return(found("utf-16", bytes = toupper(paste(file[1:2], collapse = " "))))
+    return(told(toupper(paste(file[1:2], collapse = " "))))
   }
   if (starts_with(file, byte_order_mark)) file <- file[-seq_along(byte_order_mark)]
   lines <- line_table(file)
   body <- line_bytes(file, lines, place)
   leads <- which(body == byte_order_mark[1])
   ends_plain <- place <= nrow(lines) && lines$ended[place] && length(body) > 0 && body[length(body)] == carriage_return
-  at <- c(zero = which(body == 0)[1],
-          mark = leads[body[leads + 1] == byte_order_mark[2] & body[leads + 2] == byte_order_mark[3]][1],
-          carriage = which(head(body, if (ends_plain) -1 else length(body)) == carriage_return)[1],
-          end = which(body == control_z)[1])
-  if (all(is.na(at))) return(NULL)
-  case <- names(at)[which.min(at)]
-  found(case, column = min(at, na.rm = TRUE), follows = if (case == "end") following_end(file, lines$start[place] + at[["end"]]))
+  at <- c(which(body == 0)[1], leads[body[leads + 1] == byte_order_mark[2] & body[leads + 2] == byte_order_mark[3]][1],
+          which(head(body, if (ends_plain) -1 else length(body)) == carriage_return)[1], which(body == control_z)[1])
+  if (all(is.na(at))) return(told())
+  column <- min(at, na.rm = TRUE)
+  told(byte = as.integer(body[column]), column = column,
+       follows = if (body[column] == control_z) following_end(file, lines$start[place] + column) else NA)
 }
 
 # The line that follows Ctrl-Z, between quotation marks.
@@ -88,50 +86,41 @@ following_end <- function(file, from) {
   quoted(if (is.na(end)) rest else rest[seq_len(end - 1)])
 }
 
-header_fault <- function(given, place) {
-  if (is.null(given$header)) return(NULL)
+# 26: how many lines of a header are named, how many the file has, and the line at the place.
+of_header <- function(given, place) {
   lines <- file_lines(given$file)
-  header <- count_of(given$header, "line")
-  if (place > 0) return(found("strict", header = header, text = quoted(lines$at(place)$body, shown_line)))
-  if (given$header < 0 || given$header >= no_header) return(found("range", header = given$header))
-  found("lines", header = header, lines = count_of(lines$count, "line"))
+  header <- if (is.null(given$header)) NA else given$header
+  list(named = header, header = if (is.na(header)) NA else count_of(header, "line"), lines = count_of(lines$count, "line"),
+       text = if (place > 0) quoted(lines$at(place)$body, shown_line) else NA)
 }
 
-# 11: the fault of a line's columns and how it is shown, or the fault of its fields.
-shown_fault <- function(given, place) {
+# 11: a line's columns and fields, and how it is shown.
+of_shown <- function(given, place) {
   lines <- file_lines(given$file)
   line <- lines$at(place)
   if (is.null(line)) return(NULL)
-  text <- quoted(line$body, shown_line)
-  fault <- column_fault(line$body, TRUE)
-  if (is.null(fault)) return(shown_field_fault(line$body, beside(lines, place, 1)))
   rest <- by_byte(slice(line$body, name_columns, length(line$body)))
   is_year <- grepl("^ *(0|-?[1-9][0-9]*)$", substr(rest, 1, head_columns - name_columns))
-  if (rest == "" || (grepl("[A-Za-z\u0080-\u00ff]", rest) && !is_year)) return(found("words", text = text))
-  raw <- line$raw
-  last <- max(0, which(!(raw %in% c(blank, tab, carriage_return))))
-  c(fault, list(then = if (any(raw[seq_len(last)] == tab)) "tabs" else "shown", shown = text))
+  last <- max(0, which(!(line$raw %in% c(blank, tab, carriage_return))))
+  following <- beside(lines, place, 1)
+  c(list(text = quoted(line$body, shown_line), has_tab = any(line$raw[seq_len(last)] == tab),
+         is_prose = rest == "" || (grepl("[A-Za-z\u0080-\u00ff]", rest) && !is_year)),
+    of_line(line$body, TRUE, is.null(following) || !identical(name_of(following$body), name_of(line$body))))
 }
 
-# The fault of a line's fields, given the line that follows.
-shown_field_fault <- function(body, following) {
-  year <- year_of(body)
-  fields <- fields_of(body)
-  at <- match(unknown_closing, fields)
-  if (!is.na(at) && is.null(field_fault(year, fields[seq_len(at - 1)], FALSE))) return(found("inner", year = year + at - 1))
-  field_fault(year, fields, is.null(following) || !identical(name_of(following$body), name_of(body)))
-}
-
-# 22: the first byte that is not ASCII, and why it can't be shown as ?.
-bytes_fault <- function(given, place) {
+# 22: the first byte that is not ASCII, in how many ways the line is in order with ? for such bytes, and the line before it where that
+# shows the same name.
+of_bytes <- function(given, place) {
   lines <- file_lines(given$file)
   line <- lines$at(place)
   if (is.null(line)) return(NULL)
-  fitting <- sum(vapply(in_question_marks(line$columns), is_strict_line, NA))
-  has_tab <- any(line$raw == tab)
-  if (is_ascii(line$columns) || (fitting == 1 && !has_tab)) return(same_name_fault(beside(lines, place, -1), line))
-  do.call(found, c(if (has_tab) "tab" else if (fitting > 0) "two" else "columns", list(text = quoted(line$columns, shown_line)),
-                   first_byte(line$columns)))
+  before <- beside(lines, place, -1)
+  is_same <- !is.null(before) && identical(name_of(before$body), name_of(line$body))
+  found <- c(first_byte(line$columns), if (is_same) first_byte(name_bytes(before)), list(byte = NA, column = NA))[1:2]
+  c(found, list(is_ascii = is_ascii(line$columns), has_tab = any(line$raw == tab), text = quoted(line$columns, shown_line),
+                ways = sum(vapply(in_question_marks(line$columns), is_strict_line, NA)), name = quoted(name_of(line$body)),
+                name_text = quoted(name_bytes(line)), line = if (is_same) before$number else NA,
+                other = if (is_same) quoted(name_bytes(before)) else NA))
 }
 
 # The first byte that is not ASCII and its column, as words tell them.
@@ -141,18 +130,9 @@ first_byte <- function(bytes) {
 }
 
 # What the file has for the name of a line.
-name_bytes <- function(line) line$columns[seq_len(length(line$columns) - length(line$body) + name_columns)]
+name_bytes <- function(line) line$columns[seq_len(min(length(line$columns), length(line$columns) - length(line$body) + name_columns))]
 
-# 22: two lines whose names are shown alike, and are not the same bytes.
-same_name_fault <- function(before, line) {
-  if (is.null(before) || !identical(name_of(before$body), name_of(line$body))) return(NULL)
-  byte <- c(first_byte(name_bytes(line)), first_byte(name_bytes(before)))[1:2]
-  if (is.null(byte$byte)) return(NULL)
-  do.call(found, c("same", byte, list(name = quoted(name_of(line$body)), line = before$number, other = quoted(name_bytes(before)),
-                                      text = quoted(name_bytes(line)))))
-}
-
-# The lines of a series, from its first to the one at a place.
+# The lines of a series, from its first to the one at a place; none where that has not the columns of one.
 series_up_to <- function(lines, place) {
   line <- lines$at(place)
   if (is.null(line) || !is_strict_line(line$body)) return(list())
@@ -164,62 +144,31 @@ series_up_to <- function(lines, place) {
   }
 }
 
-# The line at a place where it has its columns.
-strict_at <- function(given, place) {
-  line <- file_lines(given$file)$at(place)
-  if (!is.null(line) && is_strict_line(line$body)) line$body
-}
-
-run_in_fault <- function(given, place) {
-  body <- strict_at(given, place)
-  if (is.null(body)) return(NULL)
-  told <- list(shown = quoted(body[seq_len(head_columns)]), year = year_of(body), name = quoted(name_of(body)))
+# 23, 24, 25: name and year of a line, what runs into the year, its closing, and the year that has 999.
+of_series_line <- function(given, place) {
+  body <- file_lines(given$file)$at(place)$body
+  if (is.null(body) || !is_strict_line(body)) return(NULL)
+  fields <- fields_of(body)
   text <- rawToChar(body[seq_len(head_columns)])
-  last <- substr(text, name_columns, name_columns)
-  if (last %in% c("-", "?")) {
-    sign <- if (last == "-") "minus" else "?, which stands for what is not ASCII and may be a minus,"
-    return(do.call(found, c("minus", told, sign = sign)))
-  }
-  do.call(found, c(if (grepl("^.{6}[-? ][0-9]{5}$", text)) "digits" else "shifted", told))
+  sign <- c("-" = "minus", "?" = "?, which stands for what is not ASCII and may be a minus,")[substr(text, name_columns, name_columns)]
+  list(shown = quoted(body[seq_len(head_columns)]), first = year_of(body), name = quoted(name_of(body)), sign = unname(sign),
+       has_five = grepl("^.{6}[-? ][0-9]{5}$", text), closing = tail_of(fields), said = given$unit,
+       closed = c(names(closings)[match(tail_of(fields), closings)], "")[1], year = year_of(body) + match(hundredths_closing, fields) - 1)
 }
 
-unit_fault <- function(given, place) {
-  body <- strict_at(given, place)
-  if (is.null(body)) return(NULL)
-  closing <- tail_of(fields_of(body))
-  if (closing == unknown_closing) return(found("unknown", name = quoted(name_of(body))))
-  found("other", name = quoted(name_of(body)), closing = closing, closed = c(names(closings)[match(closing, closings)], "")[1], said = given$unit)
-}
-
-inner_fault <- function(given, place) {
-  body <- strict_at(given, place)
-  at <- if (!is.null(body)) match(hundredths_closing, fields_of(body)) else NA
-  if (is.na(at)) NULL else found("inner", year = year_of(body) + at - 1, name = quoted(name_of(body)))
-}
-
-# 12: years left out, a year 0 that the file does not count, or a line that starts elsewhere.
-years_fault <- function(given, place) {
+of_years <- function(given, place) {
   lines <- series_up_to(file_lines(given$file), place)
-  if (length(lines) < 2) return(NULL)
-  before <- lines[[length(lines) - 1]]$body
-  body <- lines[[length(lines)]]$body
-  following <- year_of(before) + length(fields_of(before))
-  year <- year_of(body)
-  name <- quoted(name_of(body))
-  if (following == 0 && year == 1) return(found("zero", name = name))
-  if (year <= following) return(year_fault(before, body))
-  missing <- if (year - 1 == following) as_text(following) else paste(as_text(following), "to", as_text(year - 1))
-  found(if (tail_of(fields_of(before)) == hundredths_closing) "closed" else "gap", name = name, year = year, `next` = following,
-        missing = missing, line = lines[[length(lines) - 1]]$number)
+  last <- length(lines)
+  if (last > 1) of_year(lines[[last - 1]]$body, lines[[last]]$body, lines[[last - 1]]$number)
 }
 
-# 13: a series without its closing, or with one that its widths do not fit; the next line where that is the damaged one.
-end_fault <- function(given, place) {
+of_end <- function(given, place) {
   lines <- file_lines(given$file)
   series <- lapply(series_up_to(lines, place), `[[`, "body")
   following <- beside(lines, place, 1)
-  if (length(series) > 0) closing_of(series, if (is.null(following)) raw() else following$body, following$number)
+  if (length(series) == 0) return(NULL)
+  if (is.null(following)) of_closing(series, raw(), NA) else of_closing(series, following$body, following$number)
 }
 
-file_faults <- list("11" = shown_fault, "12" = years_fault, "13" = end_fault, "21" = text_fault, "22" = bytes_fault,
-                    "23" = run_in_fault, "24" = unit_fault, "25" = inner_fault, "26" = header_fault)
+file_facts <- list("11" = of_shown, "12" = of_years, "13" = of_end, "21" = of_text, "22" = of_bytes, "23" = of_series_line,
+                   "24" = of_series_line, "25" = of_series_line, "26" = of_header)

@@ -1,5 +1,6 @@
 # What the ordinates miss at the join that number 19 names: the first derivative that differs on its two sides, and by how much.
-# The difference is an exact fraction as long as R's doubles hold its parts.
+# The difference is an exact fraction as long as R's doubles hold its parts. Whether there is one they always tell: both sides are
+# multiples of a falling factorial, which doubles hold within the engine's limits.
 
 most_exact <- 2^53
 differ <- c("values", "slopes", "bends")
@@ -35,18 +36,13 @@ missed <- function(given, join) {
   left <- given$ordinates[(first + 1):middle]
   right <- given$ordinates[middle + seq_len(degrees[join + 2] + 1)]
   lengths <- as.numeric(diff(given$breaks))[join + 1:2]
-  for (order in 0:given$orders[join + 1]) {
+  for (order in seq_len(given$orders[join + 1] + 1) - 1) {
     before <- (-1)^order * start_derivative(rev(left), order) * lengths[2]^order
     after <- start_derivative(right, order) * lengths[1]^order
     if (before != after) {
       by <- difference_text(after - before, unit * prod(lengths)^order)
-      return(sprintf("the %s on its two sides differ by %s thousandths of a millimetre%s", differ[order + 1], by,
-                     by_rings[order + 1]))
+      return(sprintf("the %s on its two sides differ by %s thousandths of a millimetre%s", differ[order + 1], by, by_rings[order + 1]))
     }
   }
-  "the joins before it leave no room for it"
-}
-
-condition_fault <- function(given, place) {
-  found("condition", ring = given$breaks[place + 2], order = given$orders[place + 1], miss = missed(given, place))
+  NA
 }

@@ -1,5 +1,5 @@
-# The words' cases for Tucson texts and series: which column, field or year of the line that the engine names is at fault. The
-# line was refused by the engine; here it is only looked at.
+# The facts of Tucson texts and series, for the words: the columns, fields and years of the line that the engine names. The line was
+# refused by the engine; here it is only looked at.
 
 name_columns <- 8L
 head_columns <- 12L # name and year
@@ -11,10 +11,6 @@ hundredths_closing <- 999L
 thousandths_closing <- -9999L
 closings <- c(hundredths = hundredths_closing, thousandths = thousandths_closing)
 most_hundredths <- 9999L
-least_year <- -999L
-most_year <- 9999L
-bad_year <- 12
-bad_closing <- 13
 blank <- as.raw(32)
 last_printable <- as.raw(126)
 backslash <- as.raw(92)
@@ -69,85 +65,96 @@ name_of <- function(body) head(body, name_columns)
 
 is_name <- function(bytes) all(bytes >= blank & bytes <= last_printable) && any(bytes != blank)
 
-column_fault <- function(body, ended) {
+is_strict_line <- function(body) {
+  fields <- (length(body) - head_columns) / field_columns
+  fields %in% seq_len(most_fields) && is_name(name_of(body)) && !is.na(year_of(body)) && !anyNA(fields_of(body))
+}
+
+# 11: the columns of a line, and its fields where the columns are in order. Of the fields the first that is no width is told; the
+# closing of a series is none where the line is its last.
+of_line <- function(body, is_ended, is_last) {
   columns <- length(body)
-  spare <- (columns - head_columns) %% field_columns
-  fields <- (columns - head_columns) %/% field_columns
-  if (columns > 0 && body[columns] == carriage_return) return(found("carriage"))
-  if (spare != 0 || fields < 1 || fields > most_fields) return(found("columns", columns = columns))
-  if (!is_name(name_of(body))) return(found("name", text = quoted(name_of(body))))
-  if (is.na(year_of(body))) return(found("year", text = quoted(body[(name_columns + 1):head_columns])))
-  bad <- which(is.na(fields_of(body)))[1]
-  if (!is.na(bad)) {
-    start <- head_columns + field_columns * (bad - 1)
-    return(found("field", text = quoted(body[start + seq_len(field_columns)]), start = start + 1, end = start + field_columns))
-  }
-  if (!ended) found("end")
+  fields <- (columns - head_columns) / field_columns
+  year <- slice(body, name_columns, head_columns)
+  bad <- which(is.na(if (columns > head_columns) fields_of(body)))[1]
+  start <- head_columns + field_columns * (if (is.na(bad)) 0 else bad - 1)
+  c(list(is_ended = is_ended, has_return = columns > 0 && body[columns] == carriage_return, columns = columns,
+         fields = if (fields > 0 && fields %% 1 == 0) fields else 0, is_strict = is_strict_line(body), is_name = is_name(name_of(body)),
+         name_text = quoted(name_of(body)), first = number_in(year), year_text = quoted(year), bad_field = bad,
+         field_text = quoted(slice(body, start, start + field_columns)), start = start + 1, end = start + field_columns),
+    of_fields(body, is_last))
 }
 
-field_fault <- function(year, fields, last) {
+# How many fields a line's decade has room for, and its first field that is no width.
+of_fields <- function(body, is_last) {
+  if (!is_strict_line(body)) return(list(most = NA, decade_end = NA, before = NA, width = NA, year = NA))
+  year <- year_of(body)
+  fields <- fields_of(body)
   room <- decade - year %% decade
-  if (length(fields) > room) {
-    return(found("decade", year = year, fields = length(fields), end = year + room - 1, most = room))
-  }
-  closing <- fields == thousandths_closing
-  allowed <- closing & last & seq_along(fields) == length(fields)
-  bad <- which((closing & !allowed) | (!closing & (fields < 0 | fields > most_width)))[1]
-  if (is.na(bad)) return(NULL)
-  if (closing[bad]) found("closing", year = year + bad - 1) else found("width", width = fields[bad], year = year + bad - 1)
+  is_closing <- is_last & seq_along(fields) == length(fields) & fields == thousandths_closing
+  bad <- which(!is_closing & (fields < 0 | fields > most_width))[1]
+  list(most = room, decade_end = year + room - 1, before = bad - 1, width = fields[bad], year = year + bad - 1)
 }
 
-year_fault <- function(before, body) {
+# 12: the year of a later line, and that after the line before it.
+of_year <- function(before, body, line) {
   following <- year_of(before) + length(fields_of(before))
   year <- year_of(body)
-  if (year != following) found("next", year = year, name = quoted(name_of(body)), `next` = following)
-  else found("decade", year = year)
+  list(year = year, `next` = following, name = quoted(name_of(body)), field = tail_of(fields_of(before)), line = line,
+       missing = if (year - 1 == following) as_text(following) else paste(as_text(following), "to", as_text(year - 1)))
 }
 
-closing_fault <- function(text, lines, place) {
+# 13: the last field of a series, its first width that is too large for hundredths, and the line behind the series, which is the damaged
+# one where it has the next year under another name.
+of_closing <- function(bodies, after, line) {
+  fields <- unlist(lapply(bodies, fields_of))
+  first <- year_of(bodies[[1]])
+  over <- which(head(fields, -1) > most_hundredths)[1]
+  list(name = quoted(name_of(bodies[[1]])), field = tail_of(fields), `next` = first + length(fields), line = line,
+       year_after = number_in(slice(after, name_columns, head_columns)), other = quoted(name_of(after)), width = fields[over],
+       year = first + over - 1)
+}
+
+# The lines of a strict text's series, up to the one at a place.
+series_lines <- function(text, lines, place) {
   name <- name_of(line_bytes(text, lines, place))
   first <- place
   while (first > 1 && identical(name_of(line_bytes(text, lines, first - 1)), name)) first <- first - 1
-  closing_of(lapply(first:place, function(line) line_bytes(text, lines, line)), line_bytes(text, lines, place + 1), place + 1)
+  lapply(first:place, function(line) line_bytes(text, lines, line))
 }
 
-# What is wrong with the closing of a series, by its lines and the line behind them: that is the damaged one where it has the next year
-# under another name.
-closing_of <- function(bodies, after, line) {
-  name <- name_of(bodies[[1]])
-  fields <- unlist(lapply(bodies, fields_of))
-  following <- number_in(slice(after, name_columns, head_columns))
-  if (tail_of(fields) != hundredths_closing && following %in% (year_of(bodies[[1]]) + length(fields))) {
-    return(found("following", name = quoted(name), field = tail_of(fields), line = line, year = following, other = quoted(name_of(after))))
+# The facts by number, of the strict text's line at a place where there is such a line.
+of_text_line <- function(find) {
+  function(given, place) {
+    lines <- line_table(given$text)
+    if (place >= 1 && place <= nrow(lines)) find(given$text, lines, place)
   }
-  closing <- tail_of(fields)
-  if (closing != hundredths_closing) return(found("closing", name = quoted(name), field = closing))
-  over <- which(head(fields, -1) > most_hundredths)[1]
-  found("hundredths", name = quoted(name), year = year_of(bodies[[1]]) + over - 1, width = fields[over])
 }
 
-line_fault <- function(text, number, place) {
-  lines <- line_table(text)
-  body <- line_bytes(text, lines, place)
-  if (number == bad_year) return(year_fault(line_bytes(text, lines, place - 1), body))
-  if (number == bad_closing) return(closing_fault(text, lines, place))
-  fault <- column_fault(body, lines$ended[place])
-  if (!is.null(fault)) return(fault)
-  field_fault(year_of(body), fields_of(body), !identical(name_of(line_bytes(text, lines, place + 1)), name_of(body)))
-}
+text_facts <- list(
+  "11" = of_text_line(function(text, lines, place) {
+    body <- line_bytes(text, lines, place)
+    of_line(body, lines$ended[place], !identical(name_of(line_bytes(text, lines, place + 1)), name_of(body)))
+  }),
+  "12" = of_text_line(function(text, lines, place) {
+    bodies <- series_lines(text, lines, place)
+    if (length(bodies) > 1) of_year(bodies[[length(bodies) - 1]], bodies[[length(bodies)]], place - 1)
+  }),
+  "13" = of_text_line(function(text, lines, place) {
+    of_closing(series_lines(text, lines, place), line_bytes(text, lines, place + 1), place + 1)
+  })
+)
 
-# The series, counted from 0, that could not be written.
-series_fault <- function(given, place) {
-  name <- given$names[name_columns * place + seq_len(name_columns)]
-  before <- if (place > 0) given$names[name_columns * (place - 1) + seq_len(name_columns)]
-  first <- given$years[place + 1]
+# What is told of the series, counted from 0, that could not be written.
+of_series <- function(given, place) {
+  name_at <- function(place) given$names[name_columns * place + seq_len(name_columns)]
+  name <- name_at(place)
+  first <- as.numeric(given$years[place + 1])
   count <- given$counts[place + 1]
-  if (!is_name(name)) return(found("series-name", name = quoted(name)))
-  if (identical(name, before)) return(found("series-same", name = quoted(name)))
   widths <- given$widths[sum(given$counts[seq_len(place)]) + seq_len(count)]
   bad <- which(widths < 0 | widths > most_width)[1]
-  if (!is.na(bad)) return(found("series-width", name = quoted(name), width = widths[bad], year = first + bad - 1))
-  if (first < least_year || first + count > most_year) {
-    found("series-year", name = quoted(name), first = first, last = first + count - 1)
-  }
+  list(name = quoted(name), is_name = is_name(name), is_same = place > 0 && identical(name, name_at(place - 1)), first = first,
+       last = first + count - 1, closing = first + count, width = widths[bad], year = first + bad - 1)
 }
+
+series_facts <- list("2" = function(given, place) list(), "11" = of_series)

@@ -139,19 +139,35 @@ padded_names <- function(names) {
 
 devices <- "^/(dev|proc)/(?!shm/)"
 
-# The file whole or not at all: a temporary file in the same folder takes its place. It must not take that of a device.
-write_whole <- function(bytes, file, temporary = tempfile(".walzhik", dirname(file))) {
+most_links <- 40L
+
+# Where a file's symbolic links lead, be there something or not.
+behind_links <- function(file) {
+  path <- file
+  for (link in seq_len(most_links)) {
+    to <- Sys.readlink(path)
+    if (is.na(to) || to == "") return(path)
+    path <- if (startsWith(to, "/")) to else file.path(dirname(path), to)
+  }
+  usage(file, " is a symbolic link that leads nowhere.")
+}
+
+# The file whole or not at all: a temporary file in the same folder takes its place and has its mode. A symbolic link stays, and what it
+# leads to is written. It must not take the place of a device.
+write_whole <- function(bytes, file, temporary = tempfile(".walzhik", dirname(behind_links(file)))) {
   if (!is.character(file) || length(file) != 1 || is.na(file)) usage("file is the name of a file.")
-  folder <- dirname(file)
+  path <- behind_links(file)
+  folder <- dirname(path)
   if (!dir.exists(folder)) usage("There is no folder ", folder, ".")
   if (dir.exists(file)) usage(file, " is a folder.")
-  if (grepl(devices, normalizePath(file, mustWork = FALSE), perl = TRUE)) {
+  if (grepl(devices, normalizePath(path, mustWork = FALSE), perl = TRUE)) {
     usage(file, " is no plain file. Without a file the text is given back as bytes, which writeBin() takes.")
   }
   on.exit(unlink(temporary))
   written <- tryCatch({
     writeBin(bytes, temporary)
-    file.size(temporary) == length(bytes) && file.rename(temporary, file)
+    if (file.exists(path)) Sys.chmod(temporary, file.mode(path), use_umask = FALSE)
+    file.size(temporary) == length(bytes) && file.rename(temporary, path)
   }, error = function(fault) FALSE, warning = function(fault) FALSE)
   if (!isTRUE(written)) usage(file, " can't be written.")
 }

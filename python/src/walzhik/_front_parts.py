@@ -12,9 +12,9 @@ from typing import Literal, NamedTuple
 import numpy as np
 
 from ._changes import Change, Changes, Unreadable
-from .quoting import quoted
+from .limits import NAME_COLUMNS
 from .tucson import Series
-from .tucson_reasons import NAME_COLUMNS
+from .words.quoting import quoted
 
 Scale = Literal["mm", "tenths", "hundredths", "thousandths"]
 YearZero = Literal["yes", "no"]

@@ -8,7 +8,7 @@ from typing import TYPE_CHECKING, NamedTuple
 
 import numpy as np
 
-from .reasons import PER_MM, SCAR, UNIT, WOOD
+from .limits import PER_MM, SCAR, UNIT, WOOD
 
 if TYPE_CHECKING:
     from numpy.typing import NDArray

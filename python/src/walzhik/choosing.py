@@ -12,7 +12,7 @@ from typing import NamedTuple
 
 from .curve import Curve, Wood
 from .failures import Unusable
-from .reasons import WOOD
+from .limits import WOOD
 from .tucson import Series
 
 SHOWN_NAMES = 12

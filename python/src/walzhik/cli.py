@@ -17,6 +17,7 @@ import click
 from . import commands
 from ._place import CHECKED_OUT, INSTALLED, called, checkout
 from .threads import keep_to_one
+from .words.quoting import escape_names
 
 DONE, UNUSABLE = 0, 2
 INTERRUPTED = 130
@@ -142,6 +143,7 @@ def cli() -> None:
 def main(arguments: list[str] | None = None) -> Any:
     """Run the command and end with its status."""
     keep_to_one()
+    escape_names(sys.stdout, sys.stderr)
     cli.help = as_called(cli.help or "")
     try:
         status = cli.main(args=arguments, prog_name=called(), standalone_mode=False)

@@ -11,7 +11,8 @@ from typing import TYPE_CHECKING, Any, Literal, NamedTuple
 import numpy as np
 
 from ._engine import LARGEST_PLACE, MOST_POSITIONS, kept, lent, library, listed, pointer, whole, wholes
-from .reasons import UNIT, WOOD, refusal
+from .limits import UNIT, WOOD
+from .words.lists import refusal
 
 if TYPE_CHECKING:
     from numpy.typing import NDArray

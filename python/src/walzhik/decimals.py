@@ -8,7 +8,7 @@ from __future__ import annotations
 import re
 from fractions import Fraction
 
-from .quoting import quoted
+from .words.quoting import quoted
 
 MOST_CHARACTERS = 40
 BLANKS = " \t"

@@ -14,9 +14,9 @@ from ._engine import lent, library, listed, pointer, whole
 from .curve import Curve, Divided, Wood
 from .errors import Refused
 from .failures import Refusal, telling
-from .quoting import quoted
+from .limits import BAD_LINE, NAME_COLUMNS
 from .tucson import Series
-from .tucson_reasons import BAD_LINE, NAME_COLUMNS
+from .words.quoting import quoted
 
 HEADER = b"series,year,width_mm,curve_mm,index\n"
 MOST_LINE = 87  # bytes of a ring's line, as include/walzhik_indices.h says

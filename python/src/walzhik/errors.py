@@ -1,57 +1,10 @@
-"""Refusals as an exception, and the one table of words that the package, the command, the manual and the R package
-share. The engine decides that something is refused, with a number and a place; here it only gets its words.
+"""Refusals as an exception. The engine decides that something is refused, with a number and a place; here it only gets its
+words, from the table that all share.
 """
 
 from __future__ import annotations
 
-from collections.abc import Mapping
-from functools import lru_cache
-from importlib.resources import files
-from typing import NamedTuple
-
-
-class Words(NamedTuple):
-    """A row of words.tsv: what is said of one case of a refusal.
-
-    Attributes
-    ----------
-    counts : str
-        What the place counts: breakpoint, stretch, join, line, ring of the series and so on; ``fragment`` for a row
-        that is a piece of another row's sentence.
-    words : str
-        The sentence, with names in braces for what it tells.
-    remedy : str
-        What to do.
-    """
-
-    counts: str
-    words: str
-    remedy: str
-
-
-@lru_cache(maxsize=None)
-def table() -> Mapping[tuple[int, str], Words]:
-    """The table of words, by number and case.
-
-    Examples
-    --------
-    >>> table()[4, "degree"].counts
-    'stretch'
-    """
-    lines = files(__package__).joinpath("words.tsv").read_text(encoding="utf-8").splitlines()[1:]
-    rows = (line.split("\t") for line in lines)
-    return {(int(number), case): Words(counts, words, remedy) for number, case, counts, words, remedy in rows}
-
-
-def say(number: int, case: str, /, **told: object) -> str:
-    """The words of a case, with what they tell put in.
-
-    Examples
-    --------
-    >>> say(16, "width", start=0, end=150, width="4.000", wood="earlywood")
-    'No position from ring 0 to ring 150 reaches 4.000 mm in the earlywood.'
-    """
-    return table()[number, case].words.format_map({key: str(value) for key, value in told.items()})
+from .words.table import Facts, chosen, say, table
 
 
 class Refused(Exception):
@@ -89,7 +42,7 @@ class Refused(Exception):
 
     @classmethod
     def because(cls, number: int, place: int, case: str, /, **told: object) -> Refused:
-        """The refusal with the words of its case.
+        """The refusal with the words of a case that is known.
 
         Examples
         --------
@@ -97,6 +50,24 @@ class Refused(Exception):
         no=1,0: Buffer 0 is too short for what the call writes.
         """
         return cls(number, place, say(number, case, place=place, **told), table()[number, case].remedy)
+
+    @classmethod
+    def by_facts(cls, number: int, place: int, given: str, facts: Facts | None) -> Refused:
+        """The refusal with the words of the first row whose conditions hold for the facts of what was given, and of a
+        further row where there is one; without words where there are no facts or no row fits.
+
+        Examples
+        --------
+        >>> print(Refused.by_facts(4, 0, "lists", {"start": 0, "end": 1, "degree": 6}))
+        no=4,0: Stretch 0, from ring 0 to ring 1, has degree 6: each degree is from 1 to 5.
+        """
+        told: Facts = {"place": place, **(facts or {})}
+        row = chosen(number, given, told) if facts is not None else None
+        if row is None:
+            return cls.without_words(number, place)
+        then = chosen(number, f"{given}-then", told)
+        words = row.told(told)
+        return cls(number, place, f"{words} {then.told(told)}" if then else words, (then or row).remedy)
 
     @classmethod
     def without_words(cls, number: int, place: int) -> Refused:

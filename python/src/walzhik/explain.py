@@ -10,11 +10,12 @@ import numpy as np
 
 from . import sheet, tucson
 from .errors import Refused
+from .limits import HUNDREDTHS, PER_MM, SCAR, WOOD
 from .promises import promises
-from .reasons import PER_MM, SCAR, WOOD, count, millimetres
-from .quoting import quoted
 from .sheet_front import Tidied, as_before
-from .tucson_reasons import HUNDREDTHS, closings
+from .words.numbers import count, millimetres
+from .words.quoting import quoted
+from .words.strict import closings
 
 if TYPE_CHECKING:
     from .curve import Curve

@@ -15,8 +15,9 @@ from .curve import Curve, Divided
 from .fit_design import Design, bernstein, design, segments_at
 from .fit_shape import LEAST_COEFFICIENT, SHAPES, Shape, Unsolved, free, is_determined, shaped
 from .fit_template import TEMPLATES, Unfittable, template
-from .reasons import PER_MM, UNIT, count
+from .limits import PER_MM, UNIT
 from .space import Space
+from .words.numbers import count
 
 if TYPE_CHECKING:
     from numpy.typing import NDArray

@@ -10,8 +10,9 @@ from typing import TYPE_CHECKING, NamedTuple
 
 import numpy as np
 
-from .reasons import MOST_BREAKPOINT, SCAR, Lists
+from .limits import MOST_BREAKPOINT, SCAR
 from .space import Space
+from .words.lists import Lists
 
 if TYPE_CHECKING:
     from numpy.typing import NDArray

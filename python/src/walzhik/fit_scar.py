@@ -13,7 +13,8 @@ from .errors import Refused
 from .fit import Fit, fit
 from .fit_shape import FLOOR
 from .fit_template import Unfittable, template
-from .reasons import UNIT, count
+from .limits import UNIT
+from .words.numbers import count
 
 if TYPE_CHECKING:
     from numpy.typing import NDArray

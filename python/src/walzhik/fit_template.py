@@ -6,8 +6,9 @@ from __future__ import annotations
 
 from collections.abc import Sequence
 
-from .reasons import MOST_SPAN, SCAR, count
+from .limits import MOST_SPAN, SCAR
 from .space import Space
+from .words.numbers import count
 
 MOST_TEMPLATE_RINGS = MOST_SPAN + 1  # with the rings at both ends of the span
 # Where the stretches of a template start, counted from the first ring, and their degrees, by the least number of rings.

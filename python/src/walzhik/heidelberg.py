@@ -13,8 +13,8 @@ from dataclasses import dataclass, field
 from ._changes import Changes, Unreadable
 from ._front_parts import Asked, Drawn, Found, Scale, drawn, placed, thousandths, year_of
 from ._text_lines import Line, text_lines, without_marks
-from .quoting import quoted
 from .tucson import Series
+from .words.quoting import quoted
 
 HEADER, DATA = b"HEADER:", b"DATA:"
 KINDS = (b"tree", b"single")  # of data with one value a year
@@ -128,7 +128,8 @@ def series_of(block: Block, asked: Asked, changes: Changes) -> Found:
     first, length = years_of(block, asked, changes)
     values = list(values_of(block))
     if len(values) < length:
-        words = f"Length is {length:,}, but {len(values):,} values follow."
+        follow = "1 value follows" if len(values) == 1 else f"{len(values):,} values follow"
+        words = f"Length is {length:,}, but {follow}."
         raise Unreadable(block.at("length"), words, "Put in what is missing, or correct Length.")
     for line, text in values[length:]:
         if text.strip("0"):

@@ -9,8 +9,8 @@ from typing import NamedTuple
 
 from ._changes import Change, Changes
 from ._place import called
-from .errors import say
-from .reasons import count
+from .words.numbers import count
+from .words.table import say
 
 ACCEPTED = 0  # the number of an answer, under which words.tsv has the notes
 FIRST_REMARK = 12  # from which on a note tells of no change, but of what a date may hang on

@@ -13,7 +13,7 @@ from typing import TYPE_CHECKING, Any, Literal, NamedTuple
 import numpy as np
 
 from ._outline import drawn_parts, extent, millimetres, outline, part_name
-from .reasons import PER_MM, SCAR, UNIT, WOOD
+from .limits import PER_MM, SCAR, UNIT, WOOD
 
 if TYPE_CHECKING:
     from matplotlib.axes import Axes

@@ -8,9 +8,23 @@ from typing import TYPE_CHECKING, cast
 
 import numpy as np
 
-from .plot import CURVE_HEIGHT, HEADROOM, NARROW, NARROW_HEIGHT, PAD, PALE, THIN, WIDE, Measured
-from .plot import _draw_widths, _label, _Legend, _series_colours, _style
-from .reasons import PER_MM
+from .limits import PER_MM
+from .plot import (
+    CURVE_HEIGHT,
+    HEADROOM,
+    NARROW,
+    NARROW_HEIGHT,
+    PAD,
+    PALE,
+    THIN,
+    WIDE,
+    Measured,
+    _Legend,
+    _draw_widths,
+    _label,
+    _series_colours,
+    _style,
+)
 
 if TYPE_CHECKING:
     from matplotlib.figure import Figure

@@ -8,7 +8,9 @@ from collections.abc import Sequence
 from typing import NamedTuple
 
 from . import sheet
-from .reasons import MOST_WIDTH, PER_MM, SCAR, UNIT, WOOD, Lists, count, parts, rows_sum
+from .limits import MOST_WIDTH, PER_MM, SCAR, UNIT, WOOD
+from .words.lists import Lists, parts, rows_sum
+from .words.numbers import count
 
 SAFE_ORDER = 1  # up to which falling lists give falling curves
 

@@ -11,7 +11,8 @@ import numpy as np
 
 from ._engine import lent, library, listed, pointer
 from .errors import Refused
-from .reasons import UNIT, refusal
+from .limits import UNIT
+from .words.lists import refusal
 
 if TYPE_CHECKING:
     from numpy.typing import NDArray

@@ -13,9 +13,10 @@ from typing import NamedTuple
 from ._engine import program
 from .curve import Curve
 from .errors import Refused
-from .reasons import Lists, refusal
-from .sheet_reasons import BAD_TEXT, NAMES, text_fault
 from .space import Space
+from .words import sheet as sheet_words
+from .words.lists import Lists, refusal
+from .words.sheet import BAD_TEXT, NAMES
 
 
 class Printout(NamedTuple):
@@ -169,7 +170,7 @@ def lists_of(text: bytes) -> Sheet | None:
 def refused(text: bytes, number: int, place: int) -> Refused:
     """A refusal of the program, with its words from the sheet's text."""
     if number == BAD_TEXT:
-        return text_fault(text, place) or Refused.without_words(number, place)
+        return sheet_words.refused(text, place)
     lists = lists_of(text)
     if lists is None:
         return Refused.without_words(number, place)

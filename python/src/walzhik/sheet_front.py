@@ -10,7 +10,7 @@ from typing import NamedTuple
 
 from .errors import Refused
 from .sheet import Sheet, read
-from .sheet_reasons import BAD_TEXT, NAMES
+from .words.sheet import BAD_TEXT, NAMES
 
 MARK = b"\xef\xbb\xbf"
 AROUND = re.compile(rb"[ \t]*([=,:])[ \t]*")

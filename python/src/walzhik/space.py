@@ -11,8 +11,7 @@ from typing import TYPE_CHECKING, Any, NamedTuple
 import numpy as np
 
 from ._engine import kept, lent, library, listed, pointer
-from .reasons import Lists, refusal
-from .reasons import parts as parts_of
+from .words.lists import Lists, parts as parts_of, refusal
 
 if TYPE_CHECKING:
     from numpy.typing import NDArray

@@ -15,9 +15,9 @@ from typing import NamedTuple
 from ._changes import Changes, Unreadable
 from ._front_parts import YEAR, Asked, Drawn, Found, drawn, placed, thousandths, year_of
 from ._text_lines import without_marks
-from .quoting import quoted
-from .reasons import PER_MM
+from .limits import PER_MM
 from .tucson import Series
+from .words.quoting import quoted
 
 SEPARATORS = (";", "\t", ",")
 UNENDED = "no line end stands behind the last row; see that it is whole"

@@ -11,13 +11,10 @@ from typing import TYPE_CHECKING, Literal, NamedTuple
 
 import numpy as np
 
-from . import file_reasons, tucson_reasons
 from ._engine import NO_HEADER, NO_UNIT, library, listed, pointer, whole, wholes
-from .errors import Refused
+from .limits import BAD_LINE, FIELD_COLUMNS, HEAD, NAME_COLUMNS, PER_MM, TAB
 from .notes import Note
-from .quoting import quoted
-from .reasons import MOST_WIDTH, PER_MM
-from .tucson_reasons import BAD_LINE, FIELD_COLUMNS, HEAD, NAME_COLUMNS
+from .words import file as file_words, series as series_words, strict as strict_words
 
 if TYPE_CHECKING:
     import pandas
@@ -28,7 +25,7 @@ if TYPE_CHECKING:
 Unit = Literal["hundredths", "thousandths"]
 UNITS = {"hundredths": 100, "thousandths": 1000}  # as the call has them: parts of a millimetre
 LEAST_SERIES_BYTES = HEAD + FIELD_COLUMNS + 1  # one line with one field and its end
-MORE_BYTES = file_reasons.TAB - 1  # that a tab may become
+MORE_BYTES = TAB - 1  # that a tab may become
 
 
 @dataclass(eq=False)
@@ -105,7 +102,7 @@ def read_strict(text: bytes) -> list[Series]:
         fields,
     )
     if reply.number:
-        raise tucson_reasons.refused(text, reply.number, reply.place)
+        raise strict_words.refused(text, reply.number, reply.place)
     return list(_series(names, years, counts[: reply.count], widths))
 
 
@@ -186,7 +183,7 @@ def clean(text: bytes, header: int | None = None, unit: Unit | None = None) -> C
         notes.size,
     )
     if reply.number:
-        raise file_reasons.refused(file_reasons.Given(text, header, unit), reply.number, reply.place)
+        raise file_words.refused(file_words.Given(text, header, unit), reply.number, reply.place)
     strict = made[: reply.bytes].tobytes()
     del made  # before the lists of a large file are made
     found = map(Note, *notes[: reply.notes].T.tolist()) if reply.notes else ()
@@ -253,7 +250,7 @@ def write(series: Iterable[Series]) -> bytes:
     given = list(series)
     for place, each in enumerate(given):
         if len(each.columns) != NAME_COLUMNS:  # the call takes 8 bytes a name, so a longer one can't be put to it
-            raise Refused.because(BAD_LINE, place, "series-name", name=quoted(each.columns))
+            raise series_words.refused(given, BAD_LINE, place)
     names = np.frombuffer(b"".join(each.columns for each in given), dtype=np.uint8)
     years = wholes([each.first for each in given], "first")
     counts = np.array([len(each) for each in given], dtype=np.uint32)
@@ -273,29 +270,13 @@ def write(series: Iterable[Series]) -> bytes:
         text.size,
     )
     if reply.number:
-        raise _unwritable(given, reply.number, reply.place)
+        raise series_words.refused(given, reply.number, reply.place)
     return text[: reply.count].tobytes()
 
 
 def _most_bytes(given: Sequence[Series]) -> int:
     """Room for the text: a field of each width and closing, and a line for each, as if each stood alone."""
     return sum((len(each) + 1) * LEAST_SERIES_BYTES for each in given)
-
-
-def _unwritable(given: Sequence[Series], number: int, place: int) -> Refused:
-    """Why a series can't be written, in words."""
-    if number != BAD_LINE:
-        return Refused.because(number, place, "series") if number == 2 else Refused.without_words(number, place)
-    series = given[place]
-    name = quoted(series.columns)
-    if not series.name.isascii() or not series.name.isprintable() or not series.name.strip(" "):
-        return Refused.because(number, place, "series-name", name=name)
-    if place and series.columns == given[place - 1].columns:
-        return Refused.because(number, place, "series-same", name=name)
-    for at, width in enumerate(series.widths):
-        if not 0 <= width <= MOST_WIDTH:
-            return Refused.because(number, place, "series-width", name=name, width=width, year=series.first + at)
-    return Refused.because(number, place, "series-year", name=name, first=series.first, last=series.last)
 
 
 def to_frame(series: Iterable[Series]) -> pandas.DataFrame:

@@ -12,13 +12,12 @@ from collections.abc import Sequence
 from typing import NamedTuple
 
 from . import heidelberg, tables, tucson
-from ._changes import Change
-from ._changes import Unreadable as Unreadable
+from ._changes import Change, Unreadable as Unreadable
 from ._front_parts import Asked, Drawn
 from .errors import Refused
 from .formats import Form
-from .quoting import quoted
 from .tucson import Series
+from .words.quoting import quoted
 
 __all__ = ["Asked", "Read", "UNIT_OF_TABLES", "Unwritable", "read", "text_of"]
 UNIT_OF_TABLES = "--hundredths and --thousandths are for Tucson files. --unit says what the widths of a table are."

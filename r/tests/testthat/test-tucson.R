@@ -189,6 +189,22 @@ test_that("no file takes the place of a device", {
   expect_identical(Sys.readlink(link), "/dev/null")
 })
 
+test_that("a symbolic link stays, and what it leads to is written with its mode", {
+  folder <- tempfile()
+  dir.create(folder)
+  file.create(file.path(folder, "there"))
+  Sys.chmod(file.path(folder, "there"), "640", use_umask = FALSE)
+  file.symlink(c("there", "not_there", "b", "a"), file.path(folder, c("link", "new", "a", "b")))
+  for (name in c("link", "new")) {
+    expect_silent(write_tucson(read_example("few.rwl"), file.path(folder, name)))
+    expect_identical(Sys.readlink(file.path(folder, name)), c(link = "there", new = "not_there")[[name]])
+    expect_gt(file.size(file.path(folder, name)), 0)
+  }
+  expect_identical(format(file.mode(file.path(folder, "there"))), "640")
+  expect_usage(write_tucson(read_example("few.rwl"), file.path(folder, "a")), "leads nowhere")
+  expect_setequal(list.files(folder, all.files = TRUE, no.. = TRUE), c("there", "not_there", "link", "new", "a", "b"))
+})
+
 test_that("a full device is told, and nothing is left", {
   skip_if_not(file.exists("/dev/full"))
   folder <- tempfile()

@@ -114,7 +114,7 @@ def version() -> str:
     import scipy
 
     package = Path(__file__).resolve().parents[1]
-    files = sorted([*package.rglob("*.py"), package / "words.tsv"])
+    files = sorted([*package.rglob("*.py"), package / "words" / "words.tsv"])
     made = sha256(f"{numpy.__version__} {scipy.__version__}".encode("ascii"))
     for path in [*files, found(_build.LIBRARY, f"target/lib/{_build.LIBRARY}")]:
         made.update(sha256(path.read_bytes()).digest())

@@ -17,11 +17,11 @@ from ..failures import Failure, Refusal, Unusable
 from ..files import write_whole
 from ..fit import SHAPES, Closeness, Shape
 from ..fit_series import Asked, Fitted, fitted_one
-from ..fit_words import CHOICE, figures, least_words, promise, shape_words
-from ..reasons import SCAR
+from ..limits import SCAR
 from ..sheet import sheet_of
 from ..space import Space
 from ..tucson import Series
+from ..words.fits import CHOICE, figures, least_words, promise, shape_words
 from ._numbers import WHOLE
 from ._outputs import keep_inputs
 

@@ -6,6 +6,8 @@ from collections import Counter
 from collections.abc import Callable, Sequence
 from typing import Any, TypeVar
 
+import click
+
 from ..choosing import without_blanks
 from ..failures import Unusable
 from ..tucson import Series
@@ -31,6 +33,21 @@ def file_options(function: Decorated) -> Decorated:
 def reading_options(function: Decorated) -> Decorated:
     """The options that say how files of widths are read, for `read_series`."""
     return file_options(quiet_option(function))
+
+
+def wood_options(series: str) -> Callable[[Decorated], Decorated]:
+    """The options that name the series of a command which takes several, with what is said of --series."""
+
+    def optional(function: Decorated) -> Decorated:
+        for name, words in (
+            ("--latewood", "A series of the latewood; may come again."),
+            ("--earlywood", "A series of the earlywood; may come again."),
+            ("--series", series),
+        ):
+            function = click.option(name, multiple=True, metavar="NAME", help=words)(function)
+        return function
+
+    return optional
 
 
 def read_series(files: Sequence[str], **asked: Any) -> list[Series]:

@@ -14,10 +14,10 @@ from .. import notes, tucson, widths
 from ..failures import Refusal, Unusable, telling
 from ..files import read_whole
 from ..formats import FORMS, Form, form_of
-from ..quoting import quoted
+from ..limits import NAME_COLUMNS
 from ..tucson import Cleaned, Series, Unit
-from ..tucson_reasons import NAME_COLUMNS
 from ..widths import UNIT_OF_TABLES, Asked, Unreadable
+from ..words.quoting import quoted
 from ._numbers import Whole
 
 Decorated = TypeVar("Decorated", bound=Callable[..., Any])

@@ -16,11 +16,11 @@ from ..decimals import NoNumber, exact
 from ..errors import Refused
 from ..failures import Refusal, Unusable, telling
 from ..files import STANDARD, read_whole, write_whole
-from ..quoting import quoted
-from ..reasons import PER_MM, UNIT, WOOD
+from ..limits import PER_MM, UNIT, WOOD
 from ..recover import nearest, recover
 from ..sheet import Sheet
 from ..space import Space
+from ..words.quoting import quoted
 from ._lists import WholeNumbers, space_of
 from ._outputs import format_option, keep_inputs, written_format
 from ._sheets import read_sheet

@@ -10,7 +10,7 @@ from ..curve import Curve
 from ..decimals import NoNumber, exact
 from ..failures import Unusable, telling
 from ..files import STANDARD, write_whole
-from ..reasons import UNIT, WOOD
+from ..limits import UNIT, WOOD
 from ._outputs import format_option, keep_inputs, written_format
 from ._sheets import read_sheet
 

@@ -28,7 +28,7 @@ from ._fits import (
 from ._lists import WholeNumbers, space_of
 from ._numbers import counting_of, counting_options
 from ._outputs import format_option, keep_inputs, written_format
-from ._series import read_series, reading_options
+from ._series import read_series, reading_options, wood_options
 from ._sheets import read_sheet
 
 NUMBERS = WholeNumbers()
@@ -125,14 +125,7 @@ def warn_of_computed(taken: Iterable[Series]) -> None:
     help="The sheet; NAME=SHEET, again and again, for each series its own.",
 )
 @click.option("--fit", "is_fit", is_flag=True, help="In place of --curve: fit each series by a curve of its own.")
-@click.option(
-    "--series",
-    multiple=True,
-    metavar="NAME",
-    help="A series to take, with a curve of the whole ring, or a pattern as 'DTR*'; may come again.",
-)
-@click.option("--earlywood", multiple=True, metavar="NAME", help="A series of the earlywood; may come again.")
-@click.option("--latewood", multiple=True, metavar="NAME", help="A series of the latewood; may come again.")
+@wood_options("A series to take, with a curve of the whole ring, or a pattern as 'DTR*'; may come again.")
 @counting_options
 @click.option(
     "--breaks",

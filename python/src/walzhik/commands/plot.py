@@ -20,7 +20,7 @@ from ._fits import asked_of, shape_options
 from ._numbers import counting_of, counting_options
 from ._outputs import keep_inputs
 from ._plot_series import Looks, fitted_picture, measured_picture
-from ._series import read_series, reading_options
+from ._series import read_series, reading_options, wood_options
 from ._sheets import read_sheet
 from ._tucson_files import is_asked
 
@@ -90,14 +90,7 @@ def readable(text: str) -> str:
 @click.option("--curve", metavar="SHEET", help="The sheet, where it is not among the files.")
 @click.option("--fit", "is_fit", is_flag=True, help="In place of a sheet: fit a curve to the series, and draw both.")
 @shape_options
-@click.option(
-    "--series",
-    multiple=True,
-    metavar="NAME",
-    help="A series to draw with a curve of the whole ring, or a pattern as 'DTR*'.",
-)
-@click.option("--earlywood", multiple=True, metavar="NAME", help="A series of the earlywood; may come again.")
-@click.option("--latewood", multiple=True, metavar="NAME", help="A series of the latewood; may come again.")
+@wood_options("A series to draw with a curve of the whole ring, or a pattern as 'DTR*'.")
 @click.option(
     "--wood", type=click.Choice([*get_args(Wood), "both"]), default="both", help="Draw one wood part's curve alone."
 )

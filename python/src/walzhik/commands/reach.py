@@ -11,7 +11,7 @@ from ..decimals import NoNumber, exact
 from ..errors import Refused
 from ..failures import REFUSED, Refusal, Unusable, telling, told
 from ..files import STANDARD, write_whole
-from ..reasons import PER_MM, UNIT, WOOD
+from ..limits import PER_MM, UNIT, WOOD
 from ._outputs import format_option, keep_inputs, written_format
 from ._sheets import read_sheet
 from .curve import ring_text

@@ -11,7 +11,7 @@ import numpy as np
 
 from ..errors import Refused
 from ..fit import LEAST_COEFFICIENT, bernstein
-from ..reasons import DEGREES, MOST_COEFFICIENT, UNIT
+from ..limits import DEGREES, MOST_COEFFICIENT, UNIT
 from ..recover import recover
 
 if TYPE_CHECKING:

@@ -10,7 +10,7 @@ from typing import Any, Literal, cast, get_args
 
 from ..counting import Origin
 from ..curve import Curve, Wood
-from ..reasons import UNIT, WOOD
+from ..limits import UNIT, WOOD
 from ..sheet import Sheet
 from ..space import Space
 

@@ -12,12 +12,11 @@ from typing import NamedTuple
 from .. import plot, sheet
 from ..choosing import Names, chosen_series, wood_of
 from ..curve import Curve, Wood
-from ..dividing import Indexed, as_table, as_tucson
-from ..dividing import divided as divided_by
+from ..dividing import Indexed, as_table, as_tucson, divided as divided_by
 from ..failures import Unusable
+from ..limits import WOOD
 from ..plot import Ending, Measured
 from ..plot_series import measured_series, parts_of
-from ..reasons import WOOD
 from .design import RING, Design
 from .given import Given
 

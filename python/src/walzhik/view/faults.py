@@ -8,7 +8,7 @@ from typing import Any
 
 from .._engine import LARGEST_PLACE
 from ..errors import Refused
-from ..reasons import WOOD
+from ..limits import WOOD
 from .design import RING, Design
 
 LISTS, COEFFICIENTS, FIT, OPEN = "lists", "coefficients", "fit", "open"

@@ -12,7 +12,7 @@ from ..counting import Counting, Origin
 from ..dividing import computed_words
 from ..failures import Refusal, Unusable
 from ..fit import Unfittable, fit, template
-from ..reasons import DEGREES, MOST_BREAKPOINT, MOST_COEFFICIENT, MOST_ORDER, SCAR, WOOD
+from ..limits import DEGREES, MOST_BREAKPOINT, MOST_COEFFICIENT, MOST_ORDER, SCAR, WOOD
 from ..sheet import Sheet
 from ..tucson import Series
 from .design import RING, Design

@@ -13,7 +13,7 @@ import numpy as np
 from .._engine import MOST_POSITIONS
 from ..errors import Refused
 from ..fit import closeness
-from ..reasons import UNIT
+from ..limits import UNIT
 from ..tucson import Series
 from .design import Design, wood_of
 from .faults import INDEX, OUTSIDE, told

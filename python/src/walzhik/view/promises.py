@@ -9,8 +9,10 @@ from typing import TYPE_CHECKING, NamedTuple
 
 import numpy as np
 
+from ..limits import MOST_PART_STRETCHES, MOST_SPAN, MOST_STRETCHES
 from ..promises import shape_lines, wood_lines
-from ..reasons import MOST_PART_STRETCHES, MOST_SPAN, MOST_STRETCHES, count, parts, rows_sum
+from ..words.lists import parts, rows_sum
+from ..words.numbers import count
 
 if TYPE_CHECKING:
     from numpy.typing import NDArray

@@ -9,9 +9,9 @@ from typing import Any
 
 from ..fit import Fit, Shape, Unfittable, fit
 from ..fit_scar import hint
-from ..fit_words import CHOICE, figures, least_words, promise, shape_words
-from ..reasons import WOOD
+from ..limits import WOOD
 from ..tucson import Series
+from ..words.fits import CHOICE, figures, least_words, promise, shape_words
 from .carry import carried
 from .design import RING, Design
 from .given import fitted

@@ -12,8 +12,9 @@ import numpy as np
 
 from .._engine import MOST_POSITIONS
 from ..errors import Refused
-from ..reasons import SCAR, UNIT, WOOD, Lists, rows_sum
+from ..limits import SCAR, UNIT, WOOD
 from ..tucson import Series
+from ..words.lists import Lists, rows_sum
 from .carry import carried, handle_places
 from .design import Design, wood_of
 from .faults import control, told

@@ -5,8 +5,8 @@ from __future__ import annotations
 from collections.abc import Sequence
 from math import sqrt
 
-from .fit import LEAST_COEFFICIENT, Closeness, Fit, Shape
-from .reasons import PER_MM
+from ..fit import LEAST_COEFFICIENT, Closeness, Fit, Shape
+from ..limits import PER_MM
 
 PER_CENT = 100
 CHOICE = "A fit is a choice, and is not proved."
