@@ -36,6 +36,7 @@ STEPS = [f"step_{step}" for step in range(1, 5)] + [f"order_{order}" for order i
 DRAWN = {name: (f"sheets/{name}.sheet", {}, NARROW) for name in STEPS}
 DRAWN |= {name: (f"sheets/{name}.sheet", {}, []) for name in ("low", "beam")}
 DRAWN |= {"roof": ("sheets/roof.sheet", ROOF, []), "oak_fit": ("day/oak_fit.sheet", {WHOLE: "ROOF04E"}, [])}
+FLOORS = "floors"    # the picture of CONTRIBUTING.md, which docs/src/picture_floors.py draws and checks
 DEFAULTS = "fit_defaults"    # the picture of two defaults, which docs/src/picture_fit.py draws
 OAK = "examples/tucson/oak.rwl"
 CLOSE = 1e-5                 # of a scale's length: what a picture's numbers are rounded to, and less
@@ -201,7 +202,7 @@ def pictures(write):
         hold(PICTURES / f"{name}.svg", *how, write)
     hold_defaults(PICTURES / f"{DEFAULTS}.svg", write)
     for kept in PICTURES.glob("*"):
-        if kept.stem not in (*DRAWN, DEFAULTS):
+        if kept.stem not in (*DRAWN, DEFAULTS, FLOORS):
             fault(f"a picture that nothing draws: {kept.name}")
 
 
@@ -237,7 +238,7 @@ def links(text):
             fault(f"a link that leads nowhere: {link}")
         linked.add(Path(path).name)
     for shown in [*EXAMPLES.glob("*/refused*"), *PICTURES.glob("*")]:
-        if shown.suffix in (".sheet", ".rwl", ".c", ".svg") and shown.name not in linked:
+        if shown.suffix in (".sheet", ".rwl", ".c", ".svg") and shown.name not in linked and shown.stem != FLOORS:
             fault(f"not in the manual: {shown.name}")
 
 
