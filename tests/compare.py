@@ -18,7 +18,7 @@ import sys
 import time
 from collections import Counter
 
-from comparing import ENOUGH, arguments, bad_end, command_of, driven, line_difference
+from comparing import ENOUGH, arguments, bad_end, command_of, driven, line_difference, status_of
 
 from cases import fixed_calls
 from generate import calls
@@ -150,10 +150,7 @@ def main():
     print_summary(seen, time.monotonic() - start)
     print_joins(joins)
     missing = never_seen(seen, joins) if compared(seen) >= ENOUGH else []
-    if missing:
-        print(f"compare: never seen: {missing}")
-    print(f"compare: {compared(seen)} passed, {len(missing)} failed")
-    return 1 if missing else 0
+    return status_of("compare", compared(seen), missing)
 
 
 if __name__ == "__main__":

@@ -14,7 +14,7 @@ import time
 from collections import Counter
 from pathlib import Path
 
-from comparing import ENOUGH, arguments, compare_texts, failed
+from comparing import ENOUGH, arguments, compare_texts, failed, status_of
 
 from cases import CASES, W1_PRINTOUT, W1_SHEET, case_sheet
 from generate import sheets
@@ -62,10 +62,7 @@ def main():
     print_summary(seen, time.monotonic() - start)
     total = sum(seen.values())
     missing = missing_replies(seen) if total >= ENOUGH else []
-    if missing:
-        print(f"compare_sheets: never seen: {', '.join(missing)}")
-    print(f"compare_sheets: {total} passed, {len(missing)} failed")
-    return 1 if missing else 0
+    return status_of("compare_sheets", total, missing)
 
 
 if __name__ == "__main__":

@@ -149,6 +149,14 @@ def failed(name, found, seen, seed):
     return 1
 
 
+def status_of(name, passed, missing):
+    """The status of a comparison that has found no difference, once it is said what never came up."""
+    if missing:
+        print(f"{name}: never seen: {', '.join(map(str, missing))}")
+    print(f"{name}: {passed} passed, {len(missing)} failed")
+    return 1 if missing else 0
+
+
 def finished(name, seen, reachable, marked=()):
     """Counts what came up; of enough cases all that is reachable must have."""
     for counts in (seen, marked):
@@ -156,7 +164,4 @@ def finished(name, seen, reachable, marked=()):
         for kind in sorted(counts):
             print(f"  {kind:{width}} {counts[kind]:6}")
     missing = sorted(set(reachable) - set(seen) - set(marked)) if sum(seen.values()) >= ENOUGH else []
-    if missing:
-        print(f"{name}: never seen: {missing}")
-    print(f"{name}: {sum(seen.values())} passed, {len(missing)} failed")
-    return 1 if missing else 0
+    return status_of(name, sum(seen.values()), missing)

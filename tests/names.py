@@ -214,22 +214,26 @@ def self_test(crates: set[str], words: set[str]) -> int:
     return 1 if missed or right else 0
 
 
+def status_of(faults: list[str], summary: str) -> int:
+    """The status of a test of pages or sources, once its faults and what it has read are said."""
+    for fault in faults:
+        print(fault)
+    print(f"{summary}, {len(faults)} faults")
+    return 1 if faults else 0
+
+
 def main() -> int:
     crates, words = crate_names(), words_of_the_tree()
     if sys.argv[1:] == ["--self-test"]:
         return self_test(crates, words)
-    count = 0
-    for page in pages():
-        for fault in page_faults(page.name, page.read_text(encoding="utf-8"), crates, words):
-            print(f"{page.relative_to(ROOT)}: {fault}")
-            count += 1
     sources = sorted(path for path in CRATES.rglob("*") if path.suffix in (".antt", ".rt"))
-    for path in sources:
-        for fault in comment_faults(path.relative_to(CRATES).parts[0], path.read_text(encoding="utf-8"), crates, words):
-            print(f"{path.relative_to(ROOT)}: {fault}")
-            count += 1
-    print(f"names: {len(pages())} pages, {len(sources)} sources, {count} faults")
-    return 1 if count else 0
+    faults = []
+    for path in [*pages(), *sources]:
+        text = path.read_text(encoding="utf-8")
+        found = (comment_faults(path.relative_to(CRATES).parts[0], text, crates, words) if path.is_relative_to(CRATES)
+                 else page_faults(path.name, text, crates, words))
+        faults += [f"{path.relative_to(ROOT)}: {fault}" for fault in found]
+    return status_of(faults, f"names: {len(pages())} pages, {len(sources)} sources")
 
 
 if __name__ == "__main__":

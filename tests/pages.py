@@ -14,6 +14,8 @@ import sys
 import tempfile
 from pathlib import Path
 
+from names import status_of
+
 ROOT = Path(__file__).resolve().parent.parent
 SHOWN = ("README.md", "docs/LIBRARY.md")
 # Folders whose files a page may name; what is made (target/) is not looked for.
@@ -138,10 +140,7 @@ def main():
         if not commands:
             faults.append(f"{name}: no command is shown")
         faults += run_commands(name, commands)
-    for fault in faults:
-        print(fault)
-    print(f"pages: {len(tracked_pages())} pages, {shown} commands, {len(faults)} faults")
-    return 1 if faults else 0
+    return status_of(faults, f"pages: {len(tracked_pages())} pages, {shown} commands")
 
 
 if __name__ == "__main__":

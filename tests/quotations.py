@@ -13,7 +13,7 @@ import sys
 from collections.abc import Iterator
 from pathlib import Path
 
-from names import CRATES, ROOT, crate_names
+from names import CRATES, ROOT, crate_names, status_of
 
 HEAD = "before § 1"
 SECTION = re.compile(r"(before )?§ (\d+)")
@@ -157,10 +157,7 @@ def main() -> int:
         for line, comment in comments(path.read_text(encoding="utf-8")):
             count += len(re.findall(r'"[^"]*"', comment))
             faults += [f"{path.relative_to(ROOT)}:{line}: {fault}" for fault in quotation_faults(comment, texts)]
-    for fault in faults:
-        print(fault)
-    print(f"quotations: {count} in comments, {len(texts)} sections, {len(faults)} faults")
-    return 1 if faults else 0
+    return status_of(faults, f"quotations: {count} in comments, {len(texts)} sections")
 
 
 if __name__ == "__main__":

@@ -13,6 +13,8 @@ import re
 import sys
 from pathlib import Path
 
+from names import status_of
+
 ROOT = Path(__file__).resolve().parent.parent
 CRATES = ROOT / "crates"
 PAGE = ROOT / "docs" / "THEOREMS.md"
@@ -119,10 +121,7 @@ def main():
     if sys.argv[1:] == ["--self-test"]:
         return self_test()
     found, count = faults(page)
-    for fault in found:
-        print(f"statements: {fault}")
-    print(f"statements: {count} theorems, {len(found)} faults")
-    return 1 if found else 0
+    return status_of([f"statements: {fault}" for fault in found], f"statements: {count} theorems")
 
 
 if __name__ == "__main__":
