@@ -101,10 +101,10 @@ module _ (text : Text) (past i : ℕ) (line : Text) (w : past + i < length text)
       let d = line-behind skipped b ends (omega (arith, w)) in
       let t = strict-front p rest is-plain is-seen (omega (arith, size, name)) _ (d .text) (sym (ap (strictLine _) raw-is) ∙ d .strict) in
       let seam : getD (d .text) i 0 ≡ byte =
-          ap (λ (u : Text). getD u i 0) (t .is ∙ append-assoc front (byte ∷ []) (t .rest))
-          ∙ ap (λ (m : ℕ). getD (front ++ (byte ∷ t .rest)) m 0) (sym front-size)
-          ∙ getD-append-seam front byte (t .rest) 0 in
+      ap (λ (u : Text). getD u i 0) (t .is ∙ append-assoc front (byte ∷ []) (t .rest))
+      ∙ ap (λ (m : ℕ). getD (front ++ (byte ∷ t .rest)) m 0) (sym front-size)
+      ∙ getD-append-seam front byte (t .rest) 0 in
       ap (continues k) (d .is)
       ∙ ap (λ (u : Text). sameText u (nameOf (d .text))) named
       ∙ names-differ i (take nameColumns line) (nameOf (d .text))
-          (λ e. other (sym seam ∙ sym (getD-take nameColumns (d .text) i 0 name) ∙ sym e ∙ getD-take nameColumns line i 0 name))
+      (λ e. other (sym seam ∙ sym (getD-take nameColumns (d .text) i 0 name) ∙ sym e ∙ getD-take nameColumns line i 0 name))
