@@ -25,7 +25,7 @@ SMALL, TIMES = 20_000, 10
 MOST_GROWTH = 11
 LONG, SHORT = tuple(range(990)), (7,)
 # the widths and the closing of each series, and the most readings that cleaning takes
-STRICT = {"thousandths": (LONG, -9_999, 2), "hundredths": (LONG, 999, 2), "short series": (SHORT, -9_999, 3.3)}
+STRICT = {"thousandths": (LONG, -9_999, 1.5), "hundredths": (LONG, 999, 1.5), "short series": (SHORT, -9_999, 2)}
 LINE = b"ABC01   1990    12    13 -9999"
 OTHER = b"ABC02   1990    12    13 -9999"
 NUMBER = re.compile(r"number=(\d+)|reply=\d+,(\d+)")

@@ -17,7 +17,7 @@ def test_reading_a_tucson_text(tucson_driver: Path) -> None:
 
 @pytest.mark.long(20)
 def test_cleaning_a_file(tucson_driver: Path) -> None:
-    """Linear in the file; a strict text of long series takes at most twice its reading."""
+    """Linear in the file; a strict text takes at most twice its reading."""
     python("tests/cleaning_cost.py", tucson_driver)
 
 

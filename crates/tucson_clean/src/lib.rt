@@ -51,22 +51,20 @@ const LINE_CELLS: usize = 22;
 
 const FILE_CELLS: usize = 4;
 
-// The lines of a text, counted.
+// The lines of a text, counted by their ends.
 fn count_lines(body: &[u8]) -> Tail
     ensures { λ r. ⌜ TailIs (now (body .entry)) r ⌝ }
 {
-    let mut from = 0;
-    let mut count = 0;
-    let mut ended = true;
-    while from < body.len() {
-        let end = base_text::fields::find(body, from, body.len(), b'\n');
-        ended = end < body.len();
-        count += 1;
-        from = end + 1;
+    let count = tucson_file::ends(body);
+    if tucson_file::is_ended(body) {
+        return Tail {
+            count: count,
+            ended: true,
+        };
     }
     Tail {
-        count: count,
-        ended: ended,
+        count: count + 1,
+        ended: false,
     }
 }
 

@@ -1,2 +1,3 @@
 -- Laws of a file's bytes that the proofs of tucson_file share.
 pub mod Faults
+pub mod LineEnds

@@ -8,7 +8,7 @@ ghost use Rattle.base_outcome.specs.Machine.{found};
 ghost use Rattle.base_text.specs.Bytes.{Range, indexOf};
 ghost use Rattle.spec_tucson.specs.FileText.{substitute, isMarked, unmarked, allPadding, isWide, textFault};
 ghost use Rattle.spec_tucson.specs.FileText;
-ghost use Rattle.tucson_file.specs.Machine.{faultAt, isSpecial, anySpecial, FaultAsks, StartIs};
+ghost use Rattle.tucson_file.specs.Machine.{faultAt, isSpecial, anySpecial, FaultAsks, StartIs, endOf, endCount, lastEnds, EndsAsk, EndsTold};
 use base_outcome::Found;
 
 const TAB: u8 = 9;
@@ -20,6 +20,9 @@ const RETURN: u8 = 13;
 pub const SUBSTITUTE: u8 = 26;
 
 const BLANK: u8 = 32;
+
+// The bytes of a text whose ends of lines are counted at once.
+const BLOCK: usize = 240;
 
 // The first byte of a mark.
 const MARK: u8 = 239;
@@ -206,4 +209,52 @@ pub fn stop(text: &[u8], from: usize) -> usize
         return text.len();
     }
     base_text::fields::find(text, from, text.len(), SUBSTITUTE)
+}
+
+// 1 for a byte that ends a line, 0 for another one.
+fn is_end(byte: u8) -> u8
+    ensures { λ r. ⌜ r ≡ endOf byte ⌝ }
+{
+    if byte == NEWLINE {
+        return 1;
+    }
+    0
+}
+
+// How many bytes of the part end a line. It is so short that a byte counts them: so many at once take few instructions.
+fn block_ends(text: &[u8], from: usize, to: usize) -> u8
+    requires { ⌜ EndsAsk (now text) from to ⌝ }
+    ensures { λ r. ⌜ EndsTold (now (text .entry)) from to r ⌝ }
+{
+    let mut count = 0;
+    let mut i = from;
+    while i < to {
+        count = count + is_end(text[i]);
+        i += 1;
+    }
+    count
+}
+
+// How many bytes of the text end a line.
+pub fn ends(text: &[u8]) -> usize
+    ensures { λ r. ⌜ r ≡ endCount (now (text .entry)) ⌝ }
+    ensures { λ r. ⌜ r ≤ length (now (text .entry)) ⌝ }
+{
+    let mut count = 0;
+    let mut from = 0;
+    while text.len() - from > BLOCK {
+        count += block_ends(text, from, from + BLOCK) as usize;
+        from += BLOCK;
+    }
+    count + block_ends(text, from, text.len()) as usize
+}
+
+// Whether the last byte of the text ends a line, or there is none.
+pub fn is_ended(text: &[u8]) -> bool
+    ensures { λ r. ⌜ r ≡ lastEnds (now (text .entry)) ⌝ }
+{
+    if text.len() == 0 {
+        return true;
+    }
+    text[text.len() - 1] == NEWLINE
 }

@@ -30,11 +30,12 @@ numberIn (some z) = z
 unfoldable pub beforeIn : ℕ → ℕ → Text → ℤ
 beforeIn count n line = cond (ltb count 2) (pos 0) (numberIn (inColumns (slice (n - 2 * fieldColumns) (n - 2 * fieldColumns + fieldColumns) line)))
 
--- A line of n bytes has so many fields.
-pub record BeforeAsks (line : Text) (count n : ℕ) : Type 0 where
+-- A line of n bytes has so many fields, and this is the first.
+pub record BeforeAsks (line : Text) (count n : ℕ) (first : ℤ) : Type 0 where
   pub within : n ≤ length line
   pub some-field : 1 ≤ count
   pub columns-are : n ≡ 12 + count * fieldColumns
+  pub first-is : first ≡ numberIn (inColumns (slice 12 (12 + fieldColumns) line))
 
 -- What is told of some fields.
 pub record SumsUp (fs : List ℤ) (f : machine-fields.Fields) : Type 0 where

@@ -88,13 +88,16 @@ fn field(line: &[u8], from: usize) -> i32
     }
 }
 
-// The field before the last of a line with so many fields, which ends at this index; 0 where there is one alone.
-fn field_before(line: &[u8], count: usize, n: usize) -> i32
-    requires { ⌜ BeforeAsks (now line) count n ⌝ }
+// The field before the last of a line with so many fields and this first one, which ends at this index; 0 where there is one alone.
+fn field_before(line: &[u8], count: usize, n: usize, first: i32) -> i32
+    requires { ⌜ BeforeAsks (now line) count n first ⌝ }
     ensures { λ r. ⌜ r ≡ beforeIn count n (now (line .entry)) ⌝ }
 {
     if count < 2 {
         return 0;
+    }
+    if count == 2 {
+        return first;
     }
     field(line, n - 2 * tucson_lines::FIELD)
 }
@@ -107,7 +110,7 @@ pub fn summed(line: &[u8], n: usize) -> Fields
     let count = (n - tucson_lines::HEAD) / tucson_lines::FIELD;
     let first = field(line, tucson_lines::HEAD);
     let last = field(line, n - tucson_lines::FIELD);
-    let before = field_before(line, count, n);
+    let before = field_before(line, count, n, first);
     Fields {
         count: count,
         first: first,
@@ -255,6 +258,25 @@ pub fn put_marks(cells: &mut [usize], at: usize, line: usize, marks: Marks) -> u
     put_form_marks(cells, next, line, marks)
 }
 
+// The bytes of a line, one copy where there is room for them all.
+fn put_bytes(out: &mut [u8], at: usize, line: &[u8]) -> usize
+    requires { ⌜ at < 2 ^ 62 ⌝ }
+    ensures { λ r. ⌜ Puts (length (now (line .entry))) at (now (line .entry)) (now (out .entry)) (now (out .exit)) r ⌝ }
+{
+    if out.len() < at {
+        return base_print::put_text(out, at, line);
+    }
+    if out.len() - at < line.len() {
+        return base_print::put_text(out, at, line);
+    }
+    let mut i = 0;
+    while i < line.len() {
+        out[at + i] = line[i];
+        i += 1;
+    }
+    at + line.len()
+}
+
 // The closing of the unit that the caller says.
 fn put_closing(out: &mut [u8], at: usize, unit: u32) -> usize
     requires { ⌜ at < 2 ^ 62 ⌝ }
@@ -284,6 +306,6 @@ pub fn put_strict(
         let b = put_closing(out, a, unit);
         return base_print::put(out, b, b'\n');
     }
-    let c = base_print::put_text(out, at, &line[0..n]);
+    let c = put_bytes(out, at, &line[0..n]);
     base_print::put(out, c, b'\n')
 }

@@ -8,15 +8,16 @@ use lib.ListN.{length, take}
 use lib.Seq.{length-take-le}
 use Rattle.base_outcome.specs.Outcome.{answer, refuse}
 use Rattle.base_text.specs.Bytes.{Text}
-use Rattle.spec_tucson.specs.Shown.{shown, hasTab}
+use Rattle.spec_tucson.specs.Shown.{expanded, shown, hasTab}
 use Rattle.spec_tucson.specs.StrictLine.{lineColumns, anyHigh, isStrict, bytesMasked, masked, strictBytes, shownFields, strictLine}
 use Rattle.tucson_columns.specs.Machine.{cells}
 use Rattle.tucson_strict.proofs.Strict.{strict-ascii, strict-long, strict-size}
 use Rattle.tucson_masks.proofs.Masks.{masked-long, masked-ascii}
 use Rattle.tucson_shown.specs.declared.Front.{Front}
 use Rattle.tucson_shown.specs.declared.Front.the-variants.{Fits, Long}
-use Rattle.tucson_shown.specs.Machine.{LineTold, FieldsAre, FieldsLong, FrontTold}
-use Rattle.tucson_shown.proofs.Fields.{without-none}
+use Rattle.tucson_shown.specs.Machine.{LineTold, PlainLine, FieldsAre, FieldsLong, FrontTold}
+use Rattle.tucson_shown.proofs.Fields.{without-none, plain-fields}
+use Rattle.tucson_shown.proofs.Untabbed.{strict-untabbed}
 
 module _ (raw : Text) where
   pub told-strict : isStrict (shownFields raw) ≡ true → (place : ℕ) → strictLine place raw ≡ answer (shownFields raw)
@@ -87,3 +88,13 @@ module _ (raw bytes line : Text) (m : ℕ) (site : Bool) (size : length bytes �
       line-told m (omega (arith, strict-size (take m bytes) s, length-take-le m bytes (omega (arith, fields .fits))))
       (λ place. told-strict raw (ap isStrict (sym fields-are) ∙ s) place
       ∙ ap (λ (u : Text). answer u) (sym (e ∙ masked-ascii (take m bytes) (strict-ascii (take m bytes) s) ∙ fields-are)))
+
+-- a strict line as it stands
+pub plain-told : (raw t bytes line : Text) (n : ℕ) → length bytes ≡ cells → length line ≡ cells → shown raw ≡ expanded 0 t → PlainLine t n bytes line
+    → LineTold raw n n false bytes line
+plain-told raw t bytes line n size room e p =
+    let fields : FieldsAre (shown raw) n false bytes =
+    subst (λ (u : Text). FieldsAre u n false bytes) (sym e) (plain-fields t bytes n (strict-untabbed t (p .is-strict)) (p .long) (p .short) (p .are)) in
+    let are = fields-are raw bytes line n false size room fields in
+    line-told raw bytes line n false size room fields n (p .short)
+    (λ place. told-strict raw (ap isStrict (sym are ∙ p .are) ∙ p .is-strict) place ∙ ap (λ (u : Text). answer u) (sym are ∙ p .are ∙ sym (p .is-line)))

@@ -1,5 +1,5 @@
 -- The machine's form of a strict line: two arrays with the bytes at their fronts, and the cases of the enum that is answered.
-use mathlib.Core.Bool.{Bool, false}
+use mathlib.Core.Bool.{Bool, true, false}
 use mathlib.Core.Path.{_≡_}
 use Prim.Native.Nat.{ℕ, _+_, _-_, _<_, _≤_}
 use lib.ListN.{length, take}
@@ -7,7 +7,7 @@ use lib.Seq.{slice}
 use Rattle.base_outcome.specs.Outcome.{answer, refuse}
 use Rattle.base_text.specs.Bytes.{Text, Range}
 use Rattle.spec_tucson.specs.Shown.{shown}
-use Rattle.spec_tucson.specs.StrictLine.{hasSite, withoutSite, shownFields, strictLine, lineColumns}
+use Rattle.spec_tucson.specs.StrictLine.{isStrict, hasSite, withoutSite, shownFields, strictLine, lineColumns}
 use Rattle.tucson_lines.specs.Machine.{LineEnd}
 use Rattle.tucson_columns.specs.Machine.{cells}
 use Rattle.tucson_shown.specs.declared.Front.{Front}
@@ -36,6 +36,23 @@ StrictTold raw strict-cases.NotAscii bytes line = (place : ℕ) → strictLine p
 pub record CopyAsks (text : Text) (from to : ℕ) (bytes : Text) : Type 0 where
   pub range : Range text from to
   pub room : to - from ≤ length bytes
+
+-- A part of a text, and two arrays.
+pub record PlainAsks (text : Text) (from to : ℕ) (bytes line : Text) : Type 0 where
+  pub range : Range text from to
+  pub size : length bytes ≡ cells
+  pub room : length line ≡ cells
+
+-- These n bytes are a strict line as they stand, and are at the fronts of both arrays.
+pub record PlainLine (t : Text) (n : ℕ) (bytes line : Text) : Type 0 where
+  pub long : length t ≡ n
+  pub short : n ≤ lineColumns
+  pub is-strict : isStrict t ≡ true
+  pub are : take n bytes ≡ t
+  pub is-line : take n line ≡ t
+
+abbrev pub PlainTold : Text → ℕ → Bool → Text → Text → Type 0
+PlainTold t n r bytes line = r ≡ true → PlainLine t n bytes line
 
 -- A part of a text, and an array for what is shown of it.
 pub record ShowAsks (text : Text) (from to : ℕ) (bytes : Text) : Type 0 where

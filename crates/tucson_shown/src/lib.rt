@@ -2,13 +2,14 @@
 ghost use mathlib.Core.Bool.{_||_};
 ghost use mathlib.Core.Path.{_≡_};
 ghost use Prim.Native.Nat.{_+_, _-_, _<_};
-ghost use lib.ListN.{take};
+ghost use lib.ListN.{length, take};
 ghost use lib.Seq.{slice};
 ghost use Rattle.base_text.specs.Bytes.{Range};
 ghost use Rattle.spec_tucson.specs.Shown.{expanded, anyTab, shown, isBlankLine, hasReturn, hasTab, hasTrailing};
 ghost use Rattle.spec_tucson.specs.KeptLines.{isHeaderLine};
 ghost use Rattle.tucson_lines.specs.Machine.{LineEnd};
-ghost use Rattle.tucson_shown.specs.Machine.{StrictTold, CopyAsks, ShowAsks, FrontTold, FitAsks, StrictAsks};
+ghost use Rattle.tucson_columns.specs.Machine.{cells};
+ghost use Rattle.tucson_shown.specs.Machine.{StrictTold, CopyAsks, PlainAsks, PlainTold, ShowAsks, FrontTold, FitAsks, StrictAsks};
 
 // The most bytes that are shown of a strict line: eight characters of four bytes in its name, and 64 columns behind that.
 pub const SHOWN: usize = 96;
@@ -117,6 +118,35 @@ fn copy(text: &[u8], from: usize, to: usize, bytes: &mut [u8])
     }
 }
 
+// The same, for an array of cells. So many bytes of the text take fewer instructions than the bytes of the part alone.
+fn copy_cells(text: &[u8], from: usize, to: usize, bytes: &mut [u8])
+    requires { ⌜ CopyAsks (now text) from to (now bytes) × (length (now bytes) ≡ cells) ⌝ }
+    ensures { λ r. ⌜ take (to - from) (now (bytes .exit)) ≡ slice from to (now (text .entry)) ⌝ }
+{
+    if text.len() - from >= SHOWN {
+        copy(text, from, from + SHOWN, bytes);
+        return;
+    }
+    copy(text, from, to, bytes);
+}
+
+// The part, at the fronts of two arrays, if it is a strict line as it stands; most are.
+fn is_plain(text: &[u8], from: usize, to: usize, bytes: &mut [u8], line: &mut [u8]) -> bool
+    requires { ⌜ PlainAsks (now text) from to (now bytes) (now line) ⌝ }
+    ensures { λ r. ⌜ PlainTold (slice from to (now (text .entry))) (to - from) r (now (bytes .exit)) (now (line .exit)) ⌝ }
+{
+    let n = to - from;
+    if n > LINE {
+        return false;
+    }
+    copy_cells(text, from, to, bytes);
+    if !tucson_strict::is_strict(bytes, n) {
+        return false;
+    }
+    copy_cells(text, from, to, line);
+    true
+}
+
 // What is shown of the part without a site name, at the front of an array: its tabs as blanks.
 fn show_columns(text: &[u8], from: usize, to: usize, bytes: &mut [u8]) -> Front
     requires { ⌜ ShowAsks (now text) from to (now bytes) ⌝ }
@@ -187,6 +217,9 @@ fn strict_fields(text: &[u8], from: usize, end: usize, bytes: &mut [u8], line: &
     ensures { λ r. ⌜ StrictTold (slice from (end + 1) (now (text .entry))) r (now (bytes .exit)) (now (line .exit)) ⌝ }
 {
     let to = tucson_columns::shown_to(text, from, end);
+    if is_plain(text, from, to, bytes, line) {
+        return Strict::Line(to - from, to - from, false);
+    }
     let front = show(text, from, to, bytes);
     match front {
         Front::Fits(count, site) => {

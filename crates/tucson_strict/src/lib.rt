@@ -11,6 +11,7 @@ ghost use Rattle.spec_tucson.specs.Line.{fieldNumerals};
 ghost use Rattle.spec_tucson.specs.StrictLine.{isSome, isStrict, anyHigh};
 ghost use Rattle.tucson_lines.specs.Machine.{FieldsWithin};
 ghost use Rattle.tucson_columns.specs.Machine.{cells};
+ghost use Rattle.tucson_strict.specs.Machine.{NegativeTold};
 use base_text::numeral::Field;
 
 // The columns of a line with ten fields.
@@ -40,7 +41,25 @@ fn all_digits(text: &[u8], from: usize, to: usize) -> bool
     true
 }
 
-// Whether the part is a number; most are, and need no value, since they begin with a digit other than 0.
+// Whether the part begins with a minus and a digit other than 0, and has no more digits than a number.
+fn is_negative(text: &[u8], from: usize, to: usize) -> bool
+    requires { ⌜ Range (now text) from to × (from < to) ⌝ }
+    ensures { λ r. ⌜ NegativeTold (now (text .entry)) from to r ⌝ }
+{
+    if text[from] != b'-' {
+        return false;
+    }
+    let size = to - from;
+    if size < 2 {
+        return false;
+    }
+    if size > MOST_DIGITS {
+        return false;
+    }
+    text[from + 1] > b'0'
+}
+
+// Whether the part is a number; most are, and need no value, since their first digit is not 0.
 fn is_number(text: &[u8], from: usize, to: usize) -> bool
     requires { ⌜ Range (now text) from to × (from < to) ⌝ }
     ensures { λ r. ⌜ r ≡ isSome (numeral (slice from to (now (text .entry)))) ⌝ }
@@ -49,6 +68,9 @@ fn is_number(text: &[u8], from: usize, to: usize) -> bool
         if to - from <= MOST_DIGITS {
             return all_digits(text, from, to);
         }
+    }
+    if is_negative(text, from, to) {
+        return all_digits(text, from + 1, to);
     }
     let field = base_text::numeral::numeral(text, from, to);
     match field {

@@ -2,7 +2,9 @@
 pub mod Kept
 pub mod Tracking
 pub mod Skips
+pub mod PlainFronts
 pub mod NextLines
+pub mod OtherNames
 pub mod Looking
 pub mod Entering
 pub mod LineMarks

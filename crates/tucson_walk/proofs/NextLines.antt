@@ -110,12 +110,12 @@ module _ {text : Text} {past at : ℕ} (s : Skipped text past at) {h i : ℕ} {k
         go false z = ap (continues k) (d .is) ∙ z
 
 -- nothing is found
+pub nothing-named : {text : Text} {past : ℕ} {line bytes : Text} {at : ℕ} → at ≤ length text + 1
+    → ((h i : ℕ) (k : Kept) (ks : List Kept) → KeptBehind text h i k past ks → nameOf (k .text) ≡ take nameColumns line → continues k ks ≡ false)
+    → Follows text past line bytes (record { found = false; past = at; size = 0 })
+nothing-named w f = record { within = w; further = λ e. clash cc; stands = λ e. clash cc; told = f }
+
 pub nothing-follows : {text : Text} {past : ℕ} {line bytes : Text} {at : ℕ} → at ≤ length text + 1
     → ((h i : ℕ) (k : Kept) (ks : List Kept) → KeptBehind text h i k past ks → continues k ks ≡ false)
     → Follows text past line bytes (record { found = false; past = at; size = 0 })
-nothing-follows w f = record {
-  within = w;
-  further = λ e. clash cc;
-  stands = λ e. clash cc;
-  told = λ h i k ks b name. f h i k ks b;
-}
+nothing-follows w f = nothing-named w (λ h i k ks b name. f h i k ks b)

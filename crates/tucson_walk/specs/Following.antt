@@ -51,6 +51,11 @@ pub record Follows (text : Text) (past : ℕ) (line bytes : Text) (r : Following
   pub told : (h i : ℕ) (k : Kept) (ks : List Kept) → KeptBehind text h i k past ks → nameOf (k .text) ≡ take nameColumns line
       → NextBy (r .found) text h k ks (r .past) (r .size) bytes
 
+-- Where this is told, the series of a line with the name at the front of `line` does not go on.
+abbrev pub DiffersTold : Text → ℕ → Text → Bool → Type 0
+DiffersTold text past line differs = differs ≡ true → (h i : ℕ) (k : Kept) (ks : List Kept) → KeptBehind text h i k past ks
+    → nameOf (k .text) ≡ take nameColumns line → continues k ks ≡ false
+
 -- An index of a text, and a line with a name.
 pub record FollowAsks (text : Text) (past : ℕ) (line : Text) : Type 0 where
   pub within : past ≤ length text + 1

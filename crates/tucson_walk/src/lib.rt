@@ -11,7 +11,7 @@ ghost use Rattle.spec_tucson.specs.KeptLines.{sameText};
 ghost use Rattle.spec_tucson.specs.CleanNotes.{atLine};
 ghost use Rattle.tucson_lines.specs.Machine.{LineEnd};
 ghost use Rattle.tucson_walk.specs.Skipping.{SkipTold};
-ghost use Rattle.tucson_walk.specs.Following.{FollowAsks, Follows, LastAhead, AheadAsks, AheadTold};
+ghost use Rattle.tucson_walk.specs.Following.{FollowAsks, DiffersTold, Follows, LastAhead, AheadAsks, AheadTold};
 ghost use Rattle.tucson_walk.specs.Walking.{EnterTold, LeaveTold, reclosing, marksOf, otherNotes, OtherAsks, KeptAsks, PutsKept, TakeAsks, TakeTold, TurnAsks, TurnTold, WalkAsks, WalkTold};
 use tucson_notes::Ahead;
 use tucson_notes::Fields;
@@ -80,11 +80,43 @@ fn same_name(line: &[u8], next: &[u8]) -> bool
     tucson_names::same_text(&line[..NAME], &next[..NAME])
 }
 
+// Whether the line from this index on has another name, by its first byte that differs: a plain one behind plain ones, and no blank.
+fn differs(text: &[u8], past: usize, line: &[u8]) -> bool
+    requires { ⌜ FollowAsks (now text) past (now line) ⌝ }
+    ensures { λ r. ⌜ DiffersTold (now (text .entry)) past (now (line .entry)) r ⌝ }
+{
+    let mut i = 0;
+    while i < NAME {
+        let at = past + i;
+        if at >= text.len() {
+            return false;
+        }
+        if text[at] < b' ' {
+            return false;
+        }
+        if text[at] > b'~' {
+            return false;
+        }
+        if text[at] != line[i] {
+            return text[at] > b' ';
+        }
+        i += 1;
+    }
+    false
+}
+
 // The line from this index on that goes on with the series of the line with this name, at the front of an array.
 fn follow(text: &[u8], past: usize, line: &[u8], next: &mut [u8; 96]) -> Following
     requires { ⌜ FollowAsks (now text) past (now line) ⌝ }
     ensures { λ r. ⌜ Follows (now (text .entry)) past (now (line .entry)) (now (next .exit)) r ⌝ }
 {
+    if differs(text, past, line) {
+        return Following {
+            found: false,
+            past: past,
+            size: 0,
+        };
+    }
     let unblank = skip_blank(text, past);
     let at = unblank.at;
     let end = unblank.end;

@@ -23,7 +23,7 @@ returns-2 c =
     let p1 = p2 .before .before .before .before in
     let s = c .before .before .before .before .before .before .before .before .before .before .before .before in
     puts-as (own-closing (s .args .line .now) (s .args .n) (s .args .unit) (s .args .reclosed) (search needs))
-    (puts-within (let k = s .args .n - 0 in omega (arith, length-take-le k (s .args .line .now) (omega (arith, s .pre .within)), s .pre .short)) (puts-then (p1 .put-text2 .ensures) (p2 .put2 .ensures)))
+    (puts-within (let k = s .args .n - 0 in omega (arith, length-take-le k (s .args .line .now) (omega (arith, s .pre .within)), s .pre .short)) (puts-then (p1 .put-bytes .ensures) (p2 .put2 .ensures)))
 
 pub put-strict-spec : {M : Type 1} → statement M
 put-strict-spec =

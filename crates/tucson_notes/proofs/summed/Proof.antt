@@ -6,13 +6,16 @@ use mathlib.Core.Logic.{_⊎_, inl, inr}
 use Prim.Native.Nat.{ℕ, _+_, _-_, _*_, _/_, _<_, _≤_}
 use native.Mathlib.Omega.{arith}
 use borrow.Author.Tests.{lt-ltb, le-ltb}
+use lib.IntN.{ℤ}
 use lib.ListN.{length, take}
+use lib.Seq.{slice}
 use Rattle.base_exact.proofs.Decide.{le-or-lt}
 use Rattle.base_text.specs.Bytes.{Text}
+use Rattle.spec_tucson.specs.Columns.{inColumns}
 use Rattle.spec_tucson.specs.Line.{fieldColumns, fieldCount}
 use Rattle.spec_tucson.specs.TextReading.{lastField}
 use Rattle.spec_tucson.specs.CleanSeries.{fieldsOf}
-use Rattle.tucson_notes.specs.Machine.{beforeIn, BeforeAsks}
+use Rattle.tucson_notes.specs.Machine.{numberIn, beforeIn, BeforeAsks}
 use Rattle.base_exact.proofs.Word.{toZ-ofZ}
 use mir.Syntax.{w32}
 use mir.Val.{SFits}
@@ -40,8 +43,8 @@ module _ (s : tie.Start) where
   some : 1 ≤ fieldCount (take n line)
   some = strict-size (take n line) (s .pre .strict) .some-field
 
-  asks : BeforeAsks line ((n - 12) / fieldColumns) n
-  asks = record { some-field = omega (arith, counted, some); columns-are = omega (arith, counted, columns); within = within }
+  asks : {first : ℤ} → first ≡ numberIn (inColumns (slice 12 (12 + fieldColumns) line)) → BeforeAsks line ((n - 12) / fieldColumns) n first
+  asks e = record { some-field = omega (arith, counted, some); columns-are = omega (arith, counted, columns); within = within; first-is = e }
 
   before : beforeIn ((n - 12) / fieldColumns) n line ≡ lastField (dropLast (fieldsOf (take n line)))
   unfolding beforeIn
@@ -64,7 +67,10 @@ sub-field : tie.Need-sub-field
 sub-field c = omega (arith, columns (c .before .before))
 
 field-before-requires : tie.Need-field-before-requires
-field-before-requires c κs = asks (c .before .before .before)
+field-before-requires c κs =
+    let d = c .before in
+    let f : SFits w32 (d .field .result) = record { sfits = d .field .ok } in
+    asks (d .before .before) (simp toZ-ofZ (d .field .ensures))
 
 returns : tie.Need-returns
 returns c =
