@@ -1,0 +1,75 @@
+-- The theorems with numbers: a file with three bytes 10, and a ring whose name has eight quotation marks and whose numbers are the least of
+-- their types: 78 bytes.
+use mathlib.Core.List.{[], _∷_}
+use mathlib.Core.Path.{_≡_, refl}
+use Prim.Native.Nat.{ℕ, zero, suc, _^_, _≤_}
+use native.Mathlib.Omega.{arith}
+use lib.IntN.{pos, negℤ, natAbs}
+use lib.ListN.{length, getD}
+use Rattle.base_exact.specs.Floor.{nearest}
+use Rattle.base_exact.specs.Tabulate.{tab}
+use Rattle.base_outcome.specs.Outcome.{refuse, _then_}
+use Rattle.base_text.specs.Numeral.{digitsUpTo, digits, decimal}
+use Rattle.spec_spline.specs.Reading.{latewood}
+use Rattle.spec_tucson.specs.Shown.{trimmed}
+use Rattle.spec_tucson.specs.CleanCall.{cleaned, ifRoom}
+use Rattle.spec_table.specs.Decimals.{lastDigits, withDecimals, millionths, indexText}
+use Rattle.spec_table.specs.RingLines.{withoutLeading, bareName, holdsQuoted, doubled, quotedName, numbersText, ringLine, linesOfRings, IndexedSeries, ringLines}
+use Rattle.spec_table.specs.RingLinesCall.{ringLinesOutcome}
+use Rattle.theorems_files.proofs.Cases.{cleaning}
+use Rattle.theorems_files.proofs.Files.{file, answers, file-cleaned}
+use Rattle.theorems_room.specs.Room.{lineEnds, Within}
+use Rattle.theorems_room.specs.TableRoom.{CallTypes}
+use Rattle.theorems_room.proofs.ByLines.{room-by-lines, never-short-by-lines}
+use Rattle.theorems_room.proofs.ByRings.{room-by-rings, never-short-by-rings}
+
+-- ---- a file
+
+three-ends : lineEnds file ≡ 3
+unfolding cleaning lineEnds
+three-ends = refl
+
+file-room : Within answers 395 5 114
+unfolding cleaning lineEnds
+file-room = room-by-lines file 100 1000 answers file-cleaned
+
+file-has-room : (cleaned file 100 1000 then ifRoom 395 5 114) ≡ cleaned file 100 1000
+file-has-room = never-short-by-lines file 100 1000 395 5 114 (omega (arith, three-ends)) (omega (arith, three-ends)) (omega (arith, three-ends))
+
+-- ---- a ring
+
+abbrev least : IndexedSeries
+least = record {
+  name = 34 ∷ 34 ∷ 34 ∷ 34 ∷ 34 ∷ 34 ∷ 34 ∷ 34 ∷ [];
+  firstYear = negℤ (pos 2147483648);
+  widths = negℤ (pos 2147483648) ∷ [];
+  values = pos 0 ∷ negℤ (pos 2147483648) ∷ [];
+  indices = negℤ (pos 9223372036854775808) ∷ [];
+}
+
+least-has-78 : length (ringLines latewood least) ≡ 78
+unfolding digitsUpTo digits decimal lastDigits withDecimals nearest millionths indexText trimmed withoutLeading bareName
+    holdsQuoted doubled quotedName tab numbersText ringLine linesOfRings ringLines
+least-has-78 = refl
+
+least-types : CallTypes least
+least-types = record { year = omega arith; rings = omega arith; widths = widths-small; values = values-small; indices = indices-small }
+  where
+    widths-small : (j : ℕ) → natAbs (getD (least .widths) j (pos 0)) ≤ 2 ^ 31
+    widths-small zero = omega arith
+    widths-small (suc j) = omega arith
+
+    values-small : (j : ℕ) → natAbs (getD (least .values) j (pos 0)) ≤ 2 ^ 31
+    values-small zero = omega arith
+    values-small (suc zero) = omega arith
+    values-small (suc (suc j)) = omega arith
+
+    indices-small : (j : ℕ) → natAbs (getD (least .indices) j (pos 0)) ≤ 2 ^ 63
+    indices-small zero = omega arith
+    indices-small (suc j) = omega arith
+
+least-room : length (ringLines latewood least) ≤ 87
+least-room = room-by-rings latewood least refl least-types
+
+least-has-room : ringLinesOutcome latewood least 87 ≡ refuse 1 0 → ⊥
+least-has-room = never-short-by-rings latewood least 87 least-types (omega arith)
