@@ -5,6 +5,7 @@ of a cluster; it holds one file at a time.
 from __future__ import annotations
 
 import socket
+from functools import lru_cache
 from pathlib import Path
 from time import perf_counter
 from typing import NamedTuple
@@ -178,14 +179,26 @@ def ask_worker(task: Task) -> None:
     if not is_one_thread():
         told_so = " ".join(f"{name}={number}" for name, number in ONE_THREAD.items())
         raise Halt(f"A worker's numerical libraries may use several threads. Start it with {told_so}.")
-    if task.data is not None:
-        return
+    if task.data is None:
+        see_output(task.output, task.number)
+
+
+@lru_cache(maxsize=1)
+def see_output(output: str, number: str) -> None:
+    """Whether this worker sees the output folder of a run: asked once, since the run's number is held again whenever outputs
+    get their names.
+
+    Raises
+    ------
+    Halt
+        If it does not.
+    """
     try:
-        with lock.held(Path(task.output), task.number):
+        with lock.held(Path(output), number):
             pass
     except (OSError, lock.Outlived):
         raise Halt(
-            f"A worker does not see the output folder {shown(task.output)} of this command. Every machine must have "
+            f"A worker does not see the output folder {shown(output)} of this command. Every machine must have "
             "it, and the inputs, under the same path; --ship sends the files instead."
         ) from None
 
