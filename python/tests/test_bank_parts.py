@@ -479,7 +479,7 @@ def test_large_files_are_begun_first(tmp_path: Path, monkeypatch: pytest.MonkeyP
 
 def test_nothing_waits_behind_a_large_file(task: Task, monkeypatch: pytest.MonkeyPatch) -> None:
     class Unsent:
-        def send(self, task: Task) -> None:
+        def send_bytes(self, task: bytes) -> None:
             pass
 
     monkeypatch.setattr(local, "started", lambda: local.Worker(None, Unsent(), deque()))  # type: ignore[arg-type]

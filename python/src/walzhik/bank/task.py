@@ -100,11 +100,11 @@ def run(task: Task) -> Reply:
     begun = perf_counter()
     ask_worker(task)
     before = Record.read(task.before.encode("ascii")) if task.before else Record(task.input.path)
-    outputs: dict[str, bytes] = {}
+    output, outputs = Path(task.output), dict[str, bytes]()
     try:
         content = content_of(task)
         record = Record(task.input.path, content.digest, task.options.key(), task.version)
-        if task.data is None and is_done(before, record, Path(task.output)):
+        if task.data is None and is_done(before, record, output):
             return Reply.of(before)
         record, outputs = settled(record, task, content.data)
     except (Unsteady, Damaged) as error:
@@ -115,7 +115,7 @@ def run(task: Task) -> Reply:
         fault = f"A fault of the program itself, {type(error).__name__}: {error}."
         record = Record(task.input.path, refusal=f"{fault} Please send the file to the maintainers.")
     if task.data is None:
-        record = put(record, outputs, Path(task.output), task.number)
+        record = put(record, outputs, output, task.number)
         outputs = {}
     return Reply.of(record._replace(seconds=perf_counter() - begun), outputs)
 
