@@ -135,7 +135,8 @@ def plain_file(given: tuple[Path, Path, Path]) -> list[str]:
     """One file: read, fitted, divided, written; its lines of the report."""
     import gzip
 
-    from walzhik import tucson
+    from walzhik import notes, tucson
+    from walzhik.csvtext import quoted_field
     from walzhik.dividing import HEADER, ring_lines
     from walzhik.fit import closeness, fit, template
     from walzhik.sheet import Sheet
@@ -146,7 +147,8 @@ def plain_file(given: tuple[Path, Path, Path]) -> list[str]:
     stem = str(output / place).partition(".rwl")[0]
     os.makedirs(f"{stem}.sheets", exist_ok=True)
     rows, lines = [HEADER], []
-    read = tucson.read(data)
+    cleaned = tucson.clean(data)
+    read = tucson.read_strict(cleaned.text)
     for series in read:
         since = time.perf_counter()
         made = fit(template(len(series), series.first), series.widths, series.first)
@@ -161,7 +163,8 @@ def plain_file(given: tuple[Path, Path, Path]) -> list[str]:
         lines.append(f"{place},{series.name},{told},,,,{time.perf_counter() - since:.4f}")
     Path(f"{stem}.indices.csv").write_bytes(b"".join(rows))
     span = f"{min(each.first for each in read)},{max(each.last for each in read)},{sum(map(len, read))}"
-    return [f"{place},,{span},,,,,,,,{time.perf_counter() - begun:.4f}", *lines]
+    changes = quoted_field(" ".join(notes.sentences(cleaned.notes)))
+    return [f"{place},,{span},,,,,,,{changes},{time.perf_counter() - begun:.4f}", *lines]
 
 
 def number(value: float) -> str:

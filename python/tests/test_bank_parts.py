@@ -36,6 +36,7 @@ from walzhik.bank.run import run as run_all
 from walzhik.bank.task import Reply, Task, WrongCopy, run
 from walzhik.bank.task import run as run_task
 from walzhik.failures import Unusable
+from walzhik.files import sweep
 from walzhik.threads import ONE_THREAD
 from walzhik.tucson import Series
 
@@ -348,6 +349,61 @@ def test_words_hold_no_temporary_names(task: Task) -> None:
     )
 
 
+def test_a_new_folder_of_sheets_gets_its_name_as_a_whole(task: Task, monkeypatch: pytest.MonkeyPatch) -> None:
+    named: list[str] = []
+    plain = os.replace
+
+    def noted(made: str, name: str) -> None:
+        named.append(name)
+        plain(made, name)
+
+    monkeypatch.setattr("walzhik.bank.outputs.os.replace", noted)
+    outputs = recorded(run(task)).outputs
+    assert named == [f"{task.output}/x.sheets", f"{task.output}/x.indices.csv"]
+    (Path(task.output) / "x.sheets/FEW.sheet").write_bytes(b"spoiled")
+    named.clear()
+    assert recorded(run(task)).outputs == outputs
+    assert named == [f"{task.output}/x.sheets/FEW.sheet", f"{task.output}/x.indices.csv"]
+    assert not list(Path(task.output).rglob(".walzhik-*.part"))
+
+
+def test_a_folder_that_comes_meanwhile_is_written_into(task: Task, monkeypatch: pytest.MonkeyPatch) -> None:
+    """As where a worker that was taken for lost names its outputs first."""
+    plain = lock.held
+
+    def late(output: Path, number: str) -> object:
+        put(output / "x.sheets/FEW.sheet", b"of the other")
+        put(output / "x.sheets/OLD.sheet", b"of an earlier run")
+        return plain(output, number)
+
+    assert recorded(run(task)).outputs  # the output folder is seen from here on
+    for path in sorted(Path(task.output).glob("x.*/*")) + sorted(Path(task.output).glob("x.*")):
+        path.rmdir() if path.is_dir() else path.unlink()
+    monkeypatch.setattr("walzhik.bank.lock.held", late)
+    record = recorded(run(task))
+    assert sorted(record.outputs) == ["x.indices.csv", "x.sheets/FEW.sheet"]
+    for path_, made in record.outputs.items():
+        assert reading.digest_of((Path(task.output) / path_).read_bytes()) == made
+    assert [path.name for path in (Path(task.output) / "x.sheets").iterdir()] == ["FEW.sheet"]
+    assert not list(Path(task.output).rglob(".walzhik-*.part"))
+
+
+def test_a_full_disk_leaves_no_part_of_a_folder(task: Task, monkeypatch: pytest.MonkeyPatch) -> None:
+    def full(*_: object) -> int:
+        raise OSError(errno.ENOSPC, os.strerror(errno.ENOSPC))
+
+    monkeypatch.setattr("walzhik.files.os.write", full)
+    with pytest.raises(Halt, match="x.sheets/FEW.sheet: No space left on device"):
+        run(task)
+    assert [path.name for path in Path(task.output).iterdir()] == ["run.lock"]
+
+
+def test_folders_of_killed_writers_are_swept(tmp_path: Path) -> None:
+    half, kept = put(tmp_path / "a/.walzhik-1f.part/A.sheet"), put(tmp_path / "a/x.sheets/A.sheet")
+    assert sweep(tmp_path) == 1
+    assert not half.parent.exists() and kept.exists()
+
+
 def test_too_many_open_files_are_not_the_files_fault(task: Task, monkeypatch: pytest.MonkeyPatch) -> None:
     assert recorded(run(task)).outputs
 
@@ -479,7 +535,7 @@ def test_large_files_are_begun_first(tmp_path: Path, monkeypatch: pytest.MonkeyP
 
 def test_nothing_waits_behind_a_large_file(task: Task, monkeypatch: pytest.MonkeyPatch) -> None:
     class Unsent:
-        def send(self, task: Task) -> None:
+        def send_bytes(self, task: bytes) -> None:
             pass
 
     monkeypatch.setattr(local, "started", lambda: local.Worker(None, Unsent(), deque()))  # type: ignore[arg-type]

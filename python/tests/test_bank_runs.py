@@ -101,6 +101,8 @@ def test_a_killed_run_goes_on(bank: Path, undisturbed: Path, tmp_path: Path) -> 
     with (tmp_path / "journal.jsonl").open("ab") as journal:
         journal.write(b'{"path":"site000/w00')  # half a line, as a full disk or a power cut leaves it
     (tmp_path / "site000" / ".walzhik-x1.part").write_bytes(b"half")
+    (tmp_path / "site000" / ".walzhik-x2.part").mkdir()
+    (tmp_path / "site000" / ".walzhik-x2.part" / "A.sheet").write_bytes(b"half")
     before = {path: path.stat().st_ino for path in tmp_path.rglob("*.indices.csv")}
     assert started(bank, tmp_path).returncode == REFUSED_STATUS
     assert left(tmp_path) == left(undisturbed)

@@ -38,7 +38,8 @@ def without_blanks(series: Iterable[Series]) -> list[Series]:
     >>> [each.name for each in without_blanks([Series(" A 1", 1900, [900])])]
     ['A 1']
     """
-    return [replace(each, name=each.name.strip(" ")) for each in series]
+    bare = ((each, each.name.strip(" ")) for each in series)
+    return [each if each.name == name else replace(each, name=name) for each, name in bare]
 
 
 def listed(series: Iterable[Series]) -> str:

@@ -15,6 +15,7 @@ from typing import IO, Any
 import click
 
 from . import commands
+from ._loading import loading
 from ._place import CHECKED_OUT, INSTALLED, called, checkout
 from .threads import keep_to_one
 from .words.quoting import escape_names
@@ -72,7 +73,8 @@ class Commands(click.MultiCommand):
         if cmd_name not in self.list_commands(ctx):
             return None
         try:
-            command: click.Command = importlib.import_module(f"{commands.__name__}.{cmd_name}").command
+            with loading():
+                command: click.Command = importlib.import_module(f"{commands.__name__}.{cmd_name}").command
         except ImportError as error:
             raise Missing(str(error)) from error
         if signal.getsignal(signal.SIGINT) == signal.SIG_DFL:  # all modules are there: from here on `main` catches it

@@ -9,10 +9,10 @@ import os
 import signal
 import stat
 import sys
-from collections.abc import Iterable, Iterator
+from collections.abc import Iterable, Iterator, Mapping
 from contextlib import contextmanager, suppress
 from pathlib import Path
-from shutil import copyfileobj
+from shutil import copyfileobj, rmtree
 from tempfile import SpooledTemporaryFile
 from types import TracebackType
 from typing import IO, Any
@@ -153,17 +153,50 @@ def put_aside(path: str, data: bytes) -> str:
     with named(path):
         handle = os.open(made, NEW, ALL_MAY)
         try:
-            try:
-                rest = memoryview(data)
-                while rest:
-                    rest = rest[os.write(handle, rest) :]
-            finally:
-                os.close(handle)
+            write_all(handle, data)
         except BaseException:
             with suppress(FileNotFoundError):
                 os.unlink(made)
             raise
     return made
+
+
+def put_folder_aside(path: str, files: Mapping[str, bytes]) -> str:
+    """Write files by their names into a new folder with a temporary name beside a path, and give that name; on an error
+    nothing is left of it.
+
+    Examples
+    --------
+    >>> import tempfile
+    >>> folder = tempfile.mkdtemp()
+    >>> made = put_folder_aside(f"{folder}/a", {"b": b"whole"})
+    >>> os.rename(made, f"{folder}/a")
+    >>> Path(f"{folder}/a/b").read_bytes()
+    b'whole'
+    """
+    made = beside(path)
+    with named(path):
+        os.mkdir(made)
+    try:
+        for name, data in files.items():
+            try:
+                write_all(os.open(f"{made}/{name}", NEW, ALL_MAY), data)
+            except OSError as error:
+                raise type(error)(error.errno, error.strerror or str(error), f"{path}/{name}") from error
+    except BaseException:
+        rmtree(made, ignore_errors=True)
+        raise
+    return made
+
+
+def write_all(handle: int, data: bytes) -> None:
+    """Write all bytes to an open file, and close it."""
+    try:
+        done = os.write(handle, data)
+        while done < len(data):
+            done += os.write(handle, memoryview(data)[done:])
+    finally:
+        os.close(handle)
 
 
 @contextmanager
@@ -192,7 +225,7 @@ def written(path: Path, *, is_synced: bool = False) -> Iterator[IO[bytes]]:
 
 
 def sweep(folder: Path) -> int:
-    """Take away what killed writers have left below a folder, and say how many files that were.
+    """Take away what killed writers have left below a folder, files or folders of them, and say how many that were.
 
     Examples
     --------
@@ -203,13 +236,21 @@ def sweep(folder: Path) -> int:
     1
     """
     count = 0
-    for place, _, names in os.walk(folder):
-        for name in names:
-            if name.startswith(PREFIX) and name.endswith(SUFFIX):
-                with suppress(FileNotFoundError):
-                    os.unlink(os.path.join(place, name))
-                    count += 1
+    for place, folders, names in os.walk(folder):
+        for name in filter(is_temporary, names):
+            with suppress(FileNotFoundError):
+                os.unlink(os.path.join(place, name))
+                count += 1
+        for name in list(filter(is_temporary, folders)):
+            folders.remove(name)
+            rmtree(os.path.join(place, name), ignore_errors=True)
+            count += 1
     return count
+
+
+def is_temporary(name: str) -> bool:
+    """Whether a name is one of those that files and folders have while they are written."""
+    return name.startswith(PREFIX) and name.endswith(SUFFIX)
 
 
 def _is_file_name(name: str) -> None:

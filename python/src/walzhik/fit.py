@@ -37,6 +37,7 @@ __all__ = [
     "closeness",
     "design",
     "fit",
+    "fit_within",
     "segments_at",
     "template",
 ]
@@ -158,8 +159,14 @@ def fit(space: Space, widths: Wholes, first: int, shape: Shape = "auto") -> Fit:
     >>> fitted.coefficients, fitted.closeness()
     (array([4000, 1000], dtype=int32), Closeness(mean_square=0.0, share_explained=1.0))
     """
+    _ask_rings(space, listed(widths, "widths"), first)
+    return fit_within(space, widths, first, shape)
+
+
+def fit_within(space: Space, widths: Wholes, first: int, shape: Shape = "auto") -> Fit:
+    """As `fit`, of rings that the space was made for and widths as the proved reader gives them: the engine is asked about
+    them only when they are divided by the curve."""
     measured = listed(widths, "widths")
-    _ask_rings(space, measured, first)
     whole = design(space, first, measured.size)
     is_present = measured != 0
     if not (whole.is_determined if is_present.all() else is_determined(whole.matrix, is_present)):

@@ -9,7 +9,7 @@ from typing import NamedTuple
 
 from .choosing import listed
 from .failures import Refusal, telling
-from .fit import Closeness, Fit, Shape, Unfittable, fit, template
+from .fit import Closeness, Fit, Shape, Unfittable, fit, fit_within, template
 from .fit_scar import Hint, hint
 from .space import Space
 from .tucson import Series
@@ -42,11 +42,11 @@ def template_over(chosen: Sequence[Series], starts: Sequence[int], scars: Sequen
         raise Refusal(f"Series {listed(chosen)}: no template. {error}") from error
 
 
-def fitted_series(series: Series, space: Space, first: int, shape: Shape = "auto") -> Fit:
-    """A series' fit, or why there is none."""
+def fitted_series(series: Series, space: Space, first: int, shape: Shape = "auto", *, is_own: bool = False) -> Fit:
+    """A series' fit, or why there is none; with `is_own` the space is a template over the rings of this series."""
     with telling(f"Series {series.name}"):
         try:
-            return fit(space, series.widths, first, shape)
+            return (fit_within if is_own else fit)(space, series.widths, first, shape)
         except Unfittable as error:
             raise Refusal(f"Series {series.name}: no fit. {error}") from error
 
@@ -54,8 +54,9 @@ def fitted_series(series: Series, space: Space, first: int, shape: Shape = "auto
 def own_fit(series: Series, start: int, asked: Asked) -> Fit:
     """A series' fit over a template of its own or the given space; scars outside its rings are not its own."""
     inside = [ring for ring in asked.scars if start < ring < start + len(series) - 1]
-    space = asked.space or template_over([series], [start], inside)
-    return fitted_series(series, space, start, asked.shape)
+    if asked.space is not None:
+        return fitted_series(series, asked.space, start, asked.shape)
+    return fitted_series(series, template_over([series], [start], inside), start, asked.shape, is_own=True)
 
 
 def fitted_one(series: Series, start: int, asked: Asked) -> Fitted:

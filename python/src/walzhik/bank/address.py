@@ -5,7 +5,6 @@ port, so an address that others can reach is taken with certificates, or when it
 from __future__ import annotations
 
 import re
-import ssl
 from ipaddress import ip_address
 from typing import NamedTuple
 
@@ -80,6 +79,8 @@ def checked(authority: str | None, certificate: str | None, key: str | None) -> 
             open(path, "rb").close()
         except OSError as error:
             raise Unusable(f"{path}: {error.strerror or error}") from error
+    import ssl
+
     context = ssl.create_default_context()
     try:
         context.load_verify_locations(authority)

@@ -6,6 +6,8 @@ tasks when a process is killed, and Dask's LocalCluster is slower to start and f
 from __future__ import annotations
 
 import os
+import pickle
+import select
 import signal
 import socket
 import subprocess
@@ -13,7 +15,7 @@ import sys
 import threading
 import traceback
 from collections import deque
-from multiprocessing.connection import Connection, wait
+from multiprocessing.connection import Connection
 from pathlib import Path
 from time import monotonic, sleep
 from typing import NamedTuple, Protocol
@@ -29,8 +31,9 @@ AT_HAND = 4  # tasks that a worker is given at most: more than one so that it ne
 AT_HAND_BYTES = 2**16  # of their inputs, from which on it is given no other: that would wait behind a large one
 PACKAGE = Path(__file__).resolve().parents[2]
 ENDING_SECONDS = 5
-STEP_SECONDS = 0.01
+FIRST_STEP_SECONDS, MOST_STEP_SECONDS = 0.0005, 0.05  # between looks at a process that is to end, twice as long each
 MOST_DESCRIPTORS = 65_536
+MILLISECONDS = 1000  # of a second
 
 
 class Process(Protocol):
@@ -102,7 +105,7 @@ class LocalWorkers:
         chosen = min(self._workers, key=lambda each: (not each.is_free(), len(each.held)))
         chosen.held.append(task)
         try:
-            chosen.connection.send(task)
+            chosen.connection.send_bytes(pickle.dumps(task))
         except (BrokenPipeError, ConnectionResetError):
             pass  # it was killed: `take` finds that
 
@@ -115,17 +118,25 @@ class LocalWorkers:
             If a worker can't go on, and none could.
         """
         if not self._returned.replies:
-            ready = wait([each.connection for each in self._workers if each.held], seconds)
+            ready = self._ready(seconds)
             for place, each in enumerate(self._workers):
-                if each.connection in ready:
+                if each.held and each.connection.fileno() in ready:
                     self._receive(place, each)
             while self._returned.again and any(each.is_free() for each in self._workers):
                 self.give(self._returned.again.popleft())
         return self._returned.replies.popleft() if self._returned.replies else None
 
+    def _ready(self, seconds: float) -> set[int]:
+        """The descriptors of connections on which a reply has come, or which were closed, within so many seconds."""
+        asked = select.poll()
+        for each in self._workers:
+            if each.held:
+                asked.register(each.connection.fileno(), select.POLLIN)
+        return {descriptor for descriptor, _ in asked.poll(seconds * MILLISECONDS)}
+
     def _receive(self, place: int, of: Worker) -> None:
         try:
-            reply = of.connection.recv()
+            reply = pickle.loads(of.connection.recv_bytes())
         except (EOFError, ConnectionResetError):
             self._workers[place] = self._replaced(of)
             return
@@ -212,6 +223,7 @@ class Copy:
     def wait(self, timeout: float | None = None) -> int:
         """The status as `subprocess` gives it, when the process has ended."""
         until = None if timeout is None else monotonic() + timeout
+        step = FIRST_STEP_SECONDS
         while self._status is None:
             found, status = os.waitpid(self.pid, 0 if until is None else os.WNOHANG)
             if found:
@@ -219,7 +231,8 @@ class Copy:
             elif until is not None and monotonic() >= until:
                 raise subprocess.TimeoutExpired(str(self.pid), timeout or 0)
             else:
-                sleep(STEP_SECONDS)
+                sleep(step)
+                step = min(2 * step, MOST_STEP_SECONDS)
         return self._status
 
     def kill(self) -> None:

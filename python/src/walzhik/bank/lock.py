@@ -72,7 +72,7 @@ def held(output: Path, number: str) -> Iterator[None]:
     walzhik.bank.lock.Outlived
     """
     try:
-        handle = os.open(output / LOCK, os.O_RDONLY | os.O_CLOEXEC)
+        handle = os.open(f"{output}/{LOCK}", os.O_RDONLY | os.O_CLOEXEC)
     except FileNotFoundError as error:
         raise Outlived from error
     try:

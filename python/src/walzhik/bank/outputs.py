@@ -10,13 +10,15 @@ from collections.abc import Iterator
 from contextlib import contextmanager, suppress
 from hashlib import sha256
 from pathlib import Path
+from shutil import rmtree
 
-from ..files import named, put_aside
+from ..files import named, put_aside, put_folder_aside
 from . import lock
 from .inputs import shown, stem
 from .places import INDICES, SHEET, SHEETS
 from .records import Record
 
+Piece = bytes | dict[str, bytes]  # a file, or a folder of files by their names
 OF_ONE_FILE = (errno.EISDIR, errno.ENOTDIR, errno.EEXIST, errno.ENAMETOOLONG, errno.ENOTEMPTY)  # not of the whole disk
 
 
@@ -61,21 +63,56 @@ def keep(outputs: dict[str, bytes], output: Path, number: str, path: str) -> Non
     """Write outputs under temporary names, then give all of them their own while the run's number is held."""
     aside: dict[str, str] = {}  # the temporary name of each that has not its own yet
     try:
-        for place, data in outputs.items():
-            name = f"{output}/{place}"
-            aside[name] = begun(name, data)
+        for name, piece in pieces(outputs, output, path).items():
+            aside[name] = begun(name, piece)
         with lock.held(output, number):
             for name in list(aside):
-                with named(name):
-                    os.replace(aside[name], name)
+                give_name(aside[name], name)
                 del aside[name]
             for place in standing(path, output):
                 if place not in outputs:
                     take_away(output / place)
     finally:
         for made in aside.values():
-            with suppress(FileNotFoundError):  # swept, as one of a writer that was taken for lost
-                os.unlink(made)
+            drop(made)
+
+
+def pieces(outputs: dict[str, bytes], output: Path, path: str) -> dict[str, Piece]:
+    """What gets a name in one step, by that name: a folder of sheets that is not there yet as a whole, else each output."""
+    folder = f"{stem(path)}{SHEETS}"
+    is_new = not os.path.lexists(f"{output}/{folder}")
+    found: dict[str, Piece] = {}
+    sheets: dict[str, bytes] = {}
+    for place, data in outputs.items():
+        if is_new and place.endswith(SHEET):
+            found[f"{output}/{folder}"] = sheets
+            sheets[place.rpartition("/")[2]] = data
+        else:
+            found[f"{output}/{place}"] = data
+    return found
+
+
+def give_name(made: str, name: str) -> None:
+    """Give what was written aside its name. Where a folder has come meanwhile, its files go there one by one: a worker that
+    was taken for lost may have written them too."""
+    with named(name):
+        try:
+            os.replace(made, name)
+        except OSError as error:
+            if error.errno not in (errno.ENOTEMPTY, errno.EEXIST):
+                raise
+            for each in os.listdir(made):
+                os.replace(f"{made}/{each}", f"{name}/{each}")
+            os.rmdir(made)
+
+
+def drop(made: str) -> None:
+    """Leave nothing of what was written aside; it may have been swept, as that of a writer that was taken for lost."""
+    with suppress(FileNotFoundError):
+        if os.path.isdir(made):
+            rmtree(made, ignore_errors=True)
+        else:
+            os.unlink(made)
 
 
 def clear(path: str, output: Path, number: str) -> int:
@@ -110,16 +147,16 @@ def are_as_left(outputs: dict[str, str], output: Path, path: str) -> bool:
         return False
 
 
-def begun(path: str, data: bytes) -> str:
-    """The temporary name of a new file, and its folder where that is missing: asked for in this order, since it is mostly
-    there."""
+def begun(path: str, piece: Piece) -> str:
+    """The temporary name of a new file or a new folder of files, and the folder around it where that is missing: asked for
+    in this order, since it is mostly there."""
     try:
-        return put_aside(path, data)
+        return put_aside(path, piece) if isinstance(piece, bytes) else put_folder_aside(path, piece)
     except FileNotFoundError:
         folder = os.path.dirname(path)
         with named(folder):
             os.makedirs(folder, exist_ok=True)
-        return put_aside(path, data)
+        return put_aside(path, piece) if isinstance(piece, bytes) else put_folder_aside(path, piece)
 
 
 def take_away(path: Path) -> None:

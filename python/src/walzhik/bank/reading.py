@@ -83,7 +83,8 @@ def state(found: os.stat_result) -> tuple[int, ...]:
 
 
 def _all_of(file: io.BufferedReader) -> bytes:
-    raw = file.read(MOST_BYTES + 1)
+    """All bytes of a file, and one more where it grows meanwhile: room is made for so many, not for the most."""
+    raw = file.read(min(os.fstat(file.fileno()).st_size, MOST_BYTES) + 1)
     if len(raw) > MOST_BYTES:
         raise Damaged(f"It has more than {SAID}. Split it.")
     return raw

@@ -31,7 +31,7 @@ class Row(NamedTuple):
     number : int or None
         The engine's, of a refusal that is its own.
     seconds : float or None
-        None where a finished run did it before.
+        None where a finished run did it before. The last field, as `Record.without_seconds` has it.
     """
 
     name: str
@@ -99,7 +99,7 @@ class Record(NamedTuple):
 
     def without_seconds(self) -> Record:
         """The record as every run gives it, whatever it runs on."""
-        return self._replace(rows=[row._replace(seconds=None) for row in self.rows], seconds=None)
+        return self._replace(rows=[Row(*row[:-1]) for row in self.rows], seconds=None)
 
     @classmethod
     def read(cls, line: bytes) -> Record:

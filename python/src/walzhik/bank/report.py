@@ -210,8 +210,8 @@ def rows_of(record: Record) -> str:
     """
     path = quoted_field(shown(record.path))
     firsts = [row.first for row in record.rows if row.first is not None]
-    lasts = [row.last for row in record.rows if row.last is not None]
-    rings = sum(row.rings for row in record.rows)
+    lasts = [row.first + row.rings - 1 for row in record.rows if row.first is not None]
+    rings = sum([row.rings for row in record.rows])
     changes = " ".join(record.changes)
     span = (min(firsts, default=None), max(lasts, default=None))
     refusal = quoted_field(record.refusal)

@@ -167,11 +167,14 @@ class Run:
                 self._note(self._refused(each))
             return
         made = workers(probe, self._progress.warn)
+        is_whole = False
         try:
             self._hand_out(taken, made)
+            is_whole = not (made.killed or made.is_busy())
         finally:
             made.close()
-            sweep(self._output)
+            if not is_whole:  # who ended a task has left nothing
+                sweep(self._output)
         if made.killed:
             whose = "was lost; what it" if made.killed == 1 else "were lost; what they"
             self._progress.say(f"{counted(made.killed, 'worker')} {whose} had was done again.")

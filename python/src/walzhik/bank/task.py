@@ -5,6 +5,7 @@ of a cluster; it holds one file at a time.
 from __future__ import annotations
 
 import socket
+from functools import lru_cache
 from pathlib import Path
 from time import perf_counter
 from typing import NamedTuple
@@ -99,11 +100,11 @@ def run(task: Task) -> Reply:
     begun = perf_counter()
     ask_worker(task)
     before = Record.read(task.before.encode("ascii")) if task.before else Record(task.input.path)
-    outputs: dict[str, bytes] = {}
+    output, outputs = Path(task.output), dict[str, bytes]()
     try:
         content = content_of(task)
         record = Record(task.input.path, content.digest, task.options.key(), task.version)
-        if task.data is None and is_done(before, record, Path(task.output)):
+        if task.data is None and is_done(before, record, output):
             return Reply.of(before)
         record, outputs = settled(record, task, content.data)
     except (Unsteady, Damaged) as error:
@@ -114,7 +115,7 @@ def run(task: Task) -> Reply:
         fault = f"A fault of the program itself, {type(error).__name__}: {error}."
         record = Record(task.input.path, refusal=f"{fault} Please send the file to the maintainers.")
     if task.data is None:
-        record = put(record, outputs, Path(task.output), task.number)
+        record = put(record, outputs, output, task.number)
         outputs = {}
     return Reply.of(record._replace(seconds=perf_counter() - begun), outputs)
 
@@ -178,14 +179,26 @@ def ask_worker(task: Task) -> None:
     if not is_one_thread():
         told_so = " ".join(f"{name}={number}" for name, number in ONE_THREAD.items())
         raise Halt(f"A worker's numerical libraries may use several threads. Start it with {told_so}.")
-    if task.data is not None:
-        return
+    if task.data is None:
+        see_output(task.output, task.number)
+
+
+@lru_cache(maxsize=1)
+def see_output(output: str, number: str) -> None:
+    """Whether this worker sees the output folder of a run: asked once, since the run's number is held again whenever outputs
+    get their names.
+
+    Raises
+    ------
+    Halt
+        If it does not.
+    """
     try:
-        with lock.held(Path(task.output), task.number):
+        with lock.held(Path(output), number):
             pass
     except (OSError, lock.Outlived):
         raise Halt(
-            f"A worker does not see the output folder {shown(task.output)} of this command. Every machine must have "
+            f"A worker does not see the output folder {shown(output)} of this command. Every machine must have "
             "it, and the inputs, under the same path; --ship sends the files instead."
         ) from None
 

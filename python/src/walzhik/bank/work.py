@@ -48,8 +48,10 @@ def worked_out(record: Record, options: Options, text: bytes) -> tuple[Record, d
     """The record of a text with its outputs."""
     series, changes = series_of(record.path, text, options)
     series = without_blanks(series)
-    names = named_by(options.names, series)
-    chosen = [each for each in series if each.name in names.all()] if options.names.all() else series
+    names, chosen = options.names, series
+    if names.all():
+        names = named_by(names, series)
+        chosen = [each for each in series if each.name in names.all()]
     record = record._replace(changes=changes + computed_names(chosen, options.ending))
     if not chosen:
         none = f"None of its series is asked for: there are {listed(series)}." if series else "It holds no series."
@@ -57,6 +59,7 @@ def worked_out(record: Record, options: Options, text: bytes) -> tuple[Record, d
     rows, texts, outputs = [], [], {}
     times = Counter(each.name for each in chosen)
     curve, asked = options.given_curve(), options.fits()
+    front = stem(record.path)
     for each, start in zip(chosen, options.counting().starts(chosen)):
         begun = perf_counter()
         try:
@@ -64,31 +67,28 @@ def worked_out(record: Record, options: Options, text: bytes) -> tuple[Record, d
             done = by_fit(each, start, asked) if curve is None else by_curve(each, start, names, curve)
             texts.append(text_of(done.indexed, options.ending))
             if done.fit is not None:
-                outputs[sheet_path(record.path, each.name)] = sheet.sheet_of(done.curve).text()
+                outputs[f"{front}{SHEETS}/{quote(each.name, safe='')}{SHEET}"] = sheet.sheet_of(done.curve).text()
             row = row_of(done)
         except Failure as failure:
             row = Row(each.name, len(each), None, failure.message, each.first, number=number_of(failure))
         rows.append(row._replace(seconds=perf_counter() - begun))
     if texts:
         head = HEADER if options.ending == "csv" else b""
-        outputs[f"{stem(record.path)}{INDICES}{options.ending}"] = head + b"".join(texts)
+        outputs[f"{front}{INDICES}{options.ending}"] = b"".join([head, *texts])
     return record._replace(rows=sorted(rows, key=lambda row: row.name)), outputs
 
 
 def row_of(done: Done) -> Row:
     """The row of a series that went well."""
     series, rings = done.indexed
-    row = Row(series.name, len(series), done.curve.space.n, "", series.first)
-    widths = np.asarray(series.widths)
+    widths, n = np.asarray(series.widths), done.curve.space.n
     if not widths.any():
-        return row
+        return Row(series.name, len(series), n, "", series.first)
     close = closeness(widths, rings.values)
     share = None if close.share_explained is None else round(close.share_explained, SHOWN_DIGITS)
-    return row._replace(
-        shape="" if done.fit is None else PARTS.join(done.fit.shapes),
-        deviation=round(close.mean_square**0.5, SHOWN_DIGITS),
-        explained=share,
-    )
+    shape = "" if done.fit is None else PARTS.join(done.fit.shapes)
+    deviation = round(close.mean_square**0.5, SHOWN_DIGITS)
+    return Row(series.name, len(series), n, "", series.first, shape, deviation, share)
 
 
 def series_of(path: str, text: bytes, options: Options) -> tuple[list[Series], list[str]]:
@@ -138,8 +138,7 @@ def refuse_shared(series: Series, times: Counter[str]) -> None:
 def by_fit(series: Series, start: int, asked: Asked) -> Done:
     """A series divided by a curve that is fitted to it."""
     made = own_fit(series, start, asked)
-    with telling(f"Series {series.name}"):
-        return Done(Indexed(series, made.divided), made.curve, made)
+    return Done(Indexed(series, made.divided), made.curve, made)
 
 
 def by_curve(series: Series, start: int, names: Names, curve: Curve) -> Done:
@@ -154,8 +153,3 @@ def text_of(indexed: Indexed, ending: str) -> bytes:
         return as_tucson([indexed])
     with telling(f"Series {indexed.series.name}"):
         return ring_lines(*indexed)
-
-
-def sheet_path(path: str, name: str) -> str:
-    """Where the sheet of a series stands below the output folder."""
-    return f"{stem(path)}{SHEETS}/{quote(name, safe='')}{SHEET}"

@@ -5,11 +5,13 @@ when nobody is left to send it anything.
 from __future__ import annotations
 
 import gc
+import pickle
 import signal
 import sys
 from importlib import import_module
 from multiprocessing.connection import Connection
 
+from .._loading import loading
 from .options import version
 from .outputs import Halt
 from .task import Reply, WrongCopy, run
@@ -20,9 +22,9 @@ NEW_OBJECTS = 20_000  # after which the garbage collector looks for circles: a f
 def load() -> None:
     """Load what a task needs, so that no file's seconds are those of loading it, and let the garbage collector leave that
     alone from now on."""
-    import_module("scipy.optimize")
-    version()
-    gc.freeze()
+    with loading():
+        import_module("scipy.optimize")
+        version()
     gc.set_threshold(NEW_OBJECTS)
 
 
@@ -33,7 +35,7 @@ def main(descriptor: int) -> None:
     connection = Connection(descriptor)
     while True:
         try:
-            task = connection.recv()
+            task = pickle.loads(connection.recv_bytes())
         except (EOFError, ConnectionResetError):
             return
         try:
@@ -41,7 +43,7 @@ def main(descriptor: int) -> None:
         except (Halt, WrongCopy) as error:
             reply = error
         try:
-            connection.send(reply)
+            connection.send_bytes(pickle.dumps(reply))
         except (BrokenPipeError, ConnectionResetError):
             return
 

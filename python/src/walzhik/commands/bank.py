@@ -11,7 +11,6 @@ from typing import Any, Literal
 import click
 
 from ..bank.address import Address, address
-from ..bank.cluster import ClusterWorkers
 from ..bank.dry import dry_run
 from ..bank.local import LocalWorkers
 from ..bank.options import Options
@@ -65,6 +64,8 @@ def lists_of_sheet(path: str, names: Names) -> tuple[list[int], list[int], list[
 def made_workers(probe: Task, say: Callable[[str], None], workers: int | None, scheduler: Address | None) -> Workers:
     """The workers that are asked for."""
     if scheduler is not None:
+        from ..bank.cluster import ClusterWorkers
+
         return ClusterWorkers(scheduler, probe, say)
     return LocalWorkers(workers or cores())
 
