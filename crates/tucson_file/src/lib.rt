@@ -8,7 +8,8 @@ ghost use Rattle.base_outcome.specs.Machine.{found};
 ghost use Rattle.base_text.specs.Bytes.{Range, indexOf};
 ghost use Rattle.spec_tucson.specs.FileText.{substitute, isMarked, unmarked, allPadding, isWide, textFault};
 ghost use Rattle.spec_tucson.specs.FileText;
-ghost use Rattle.tucson_file.specs.Machine.{faultAt, isSpecial, anySpecial, FaultAsks, StartIs, endOf, endCount, lastEnds, EndsAsk, EndsTold};
+ghost use Rattle.tucson_file.specs.Machine.{faultAt, isSpecial, anySpecial, FaultAsks, StartIs};
+ghost use Rattle.tucson_file.specs.Machine.{endOf, endCount, lastEnds, EndsAsk, EndsTold};
 use base_outcome::Found;
 
 const TAB: u8 = 9;

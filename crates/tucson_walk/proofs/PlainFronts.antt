@@ -15,7 +15,8 @@ use Rattle.spec_tucson.specs.Columns.{blank}
 use Rattle.spec_tucson.specs.FileText.{tab, carriageReturn}
 use Rattle.spec_tucson.specs.Line.{lastPrintable}
 use Rattle.spec_tucson.specs.Shown.{beforeCut, unended, endsInReturn, withoutReturn, expanded, unlessTrailing, trimmed, lineBytes, inItsColumns, shown, isBlankLine, hasTab}
-use Rattle.spec_tucson.specs.StrictLine.{hasSite, withoutSite, lineColumns, isHigh, anyHigh, bytesMasked, questionMark, withMasked, charactersFrom, isStrict, ifStrict, onlyOne, masked, orRefused, strictBytes, shownFields, strictLine}
+use Rattle.spec_tucson.specs.StrictLine.{hasSite, withoutSite, lineColumns, isHigh, anyHigh, bytesMasked, questionMark, withMasked, charactersFrom}
+use Rattle.spec_tucson.specs.StrictLine.{isStrict, ifStrict, onlyOne, masked, orRefused, strictBytes, shownFields, strictLine}
 use Rattle.spec_tucson.specs.KeptLines.{sameText}
 
 -- Plain bytes.
