@@ -48,6 +48,4 @@ returns-3 c =
     ∙ sym (answer-fits (q l) (small-fits (q l) (omega (arith, num-is (c .before .before .before .before))) (omega (arith, den-is (c .before)))))
 
 pub checked-spec : {M : Type 1} → statement M
-checked-spec =
-    tie.close
-    (tie.spec (λ c κs. search needs) (λ c κs. search needs) returns (λ c κs. search needs) returns-2 returns-3)
+checked-spec = tie.close (tie.spec (λ c κs. search needs) (λ c κs. search needs) returns (λ c κs. search needs) returns-2 returns-3)

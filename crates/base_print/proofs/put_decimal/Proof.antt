@@ -37,4 +37,6 @@ returns-2 c =
     puts-as (ap digits size ∙ sym (decimal-natural (s .args .z) (ltZ-false _ _ natural))) (puts-within (omega arith) (c .before .before .put-digits2 .ensures))
 
 pub put-decimal-spec : {M : Type 1} → statement M
-put-decimal-spec = tie.close (tie.spec (λ c κs. search needs) (λ c κs. search needs) (λ c κs. search needs) (λ c. search needs) returns (λ c κs. search needs) (λ c. search needs) returns-2)
+put-decimal-spec =
+    tie.close (tie.spec (λ c κs. search needs) (λ c κs. search needs) (λ c κs. search needs) (λ c. search needs) returns
+    (λ c κs. search needs) (λ c. search needs) returns-2)

@@ -25,9 +25,6 @@ Inv-loop out₀ at n count rest₀ i₀ out rest i = Inv out₀ at n count out r
 abbrev μ-loop : tie.MeasureT-loop
 μ-loop out₀ at n count rest₀ i₀ out rest i = i
 
-digit-count-requires : tie.Need-digit-count-requires Inv-loop μ-loop
-digit-count-requires c κs = tt
-
 loop-holds : tie.Need-loop-holds Inv-loop μ-loop
 loop-holds c =
     let n = c .before .before .args .n in
@@ -77,5 +74,5 @@ returns c =
     }
 
 pub put-digits-spec : {M : Type 1} → statement M
-put-digits-spec = tie.close (tie.spec Inv-loop μ-loop digit-count-requires loop-holds (λ c. omega arith) (λ c. omega arith) (λ c. omega arith)
+put-digits-spec = tie.close (tie.spec Inv-loop μ-loop (λ c κs. tt) loop-holds (λ c. omega arith) (λ c. omega arith) (λ c. omega arith)
     (λ c. omega arith) (λ c κs. omega arith) (λ c. omega arith) loop-again (λ c. omega arith) same-length returns)

@@ -32,9 +32,6 @@ loop-again c =
       put = rw (add-one, take-suc text (l .i) 0 (omega arith)) (puts-within (omega arith) (puts-then (l .inv .put) (c .before .before .put .ensures)));
     }
 
-same-length : tie.Need-same-length Inv-loop μ-loop
-same-length c = puts-length (c .before .loop .inv .put)
-
 returns : tie.Need-returns Inv-loop μ-loop
 returns c =
     let l = c .before .loop in
@@ -42,4 +39,6 @@ returns c =
     rw (take-all (l .i) text (omega arith)) at (puts-within (l .inv .within) (l .inv .put))
 
 pub put-text-spec : {M : Type 1} → statement M
-put-text-spec = tie.close (tie.spec Inv-loop μ-loop loop-holds (λ c. omega arith) (λ c κs. omega arith) (λ c. omega arith) (λ c. omega arith) loop-again same-length returns)
+put-text-spec =
+    tie.close (tie.spec Inv-loop μ-loop loop-holds (λ c. omega arith) (λ c κs. omega arith) (λ c. omega arith) (λ c. omega arith) loop-again
+    (λ c. puts-length (c .before .loop .inv .put)) returns)

@@ -39,9 +39,6 @@ loop-again c =
       long = simp length-set (v .long);
     }
 
-same-length : tie.Need-same-length Inv-loop μ-loop
-same-length c = c .before .loop .inv .long
-
 returns : tie.Need-returns Inv-loop μ-loop
 returns c =
     let s = c .before .before .args in
@@ -51,4 +48,6 @@ returns c =
     (simp toZ-ofZ at (v .is)) ∙ ap (λ (k : ℕ). filled (s .from) k (s .value) (s .cells .now)) e
 
 pub fill-spec : {M : Type 1} → statement M
-fill-spec = tie.close (tie.spec Inv-loop μ-loop loop-holds (λ c. omega arith) (λ c. omega arith) (λ c. omega arith) (λ c. omega arith) loop-again same-length returns)
+fill-spec =
+    tie.close (tie.spec Inv-loop μ-loop loop-holds (λ c. omega arith) (λ c. omega arith) (λ c. omega arith) (λ c. omega arith) loop-again
+    (λ c. c .before .loop .inv .long) returns)

@@ -94,14 +94,5 @@ returns-2 c =
 
 pub entry-spec : {M : Type 1} → statement M
 entry-spec =
-    tie.close
-    (tie.spec
-    (λ c κs. search needs)
-    mul-result
-    returns
-    (λ c. search needs)
-    (λ c. search needs)
-    (λ c κs. search needs)
-    mul-result-2
-    sub-result
-    returns-2)
+    tie.close (tie.spec (λ c κs. search needs) mul-result returns (λ c. search needs) (λ c. search needs) (λ c κs. search needs)
+    mul-result-2 sub-result returns-2)

@@ -208,20 +208,8 @@ add-rows-2 c = let x = sides (c .before .before .before) in omega (arith, more-i
 sub-rows : tie.Need-sub-rows Inv-loop μ-loop
 sub-rows c = let x = sides (c .before .before .before) in omega (arith, here x .enough)
 
-same-length : tie.Need-same-length Inv-loop μ-loop
-same-length c = num-same (c .before .before .before)
-
-same-length-2 : tie.Need-same-length-2 Inv-loop μ-loop
-same-length-2 c = den-same (c .before .before .before)
-
 returns : tie.Need-returns Inv-loop μ-loop
 returns c = refused (c .before .before .before) refusals.TooLarge (c .enum-told2 .given .1) (λ z. let x : _≡_ {A = ℕ} 0 1 = cc in omega arith) (λ q. named-eight) (c .before .before .place .ensures)
-
-same-length-3 : tie.Need-same-length-3 Inv-loop μ-loop
-same-length-3 c = num-same (c .before .before .before)
-
-same-length-4 : tie.Need-same-length-4 Inv-loop μ-loop
-same-length-4 c = den-same (c .before .before .before)
 
 returns-2 : tie.Need-returns-2 Inv-loop μ-loop
 returns-2 c = refused (c .before .before .before) refusals.Shape (c .enum-told3 .given .1) (λ z. let x : _≡_ {A = ℕ} 0 1 = cc in omega arith) (λ q. named-nine) (c .before .before .place .ensures)
@@ -247,12 +235,6 @@ loop-again c =
       state = goes-on _ _ _ (v .begun .holds .num-long) (v .begun .holds .den-long) (v .state) (here x .before-last) (leaves-none _ (left d) (c .enum-told .given .1));
     }
 
-same-length-5 : tie.Need-same-length-5 Inv-loop μ-loop
-same-length-5 c = c .before .loop .inv .num-long
-
-same-length-6 : tie.Need-same-length-6 Inv-loop μ-loop
-same-length-6 c = c .before .loop .inv .den-long
-
 -- every join: the rows are counted
 returns-3 : tie.Need-returns-3 Inv-loop μ-loop
 unfolding weights joinSteps
@@ -270,34 +252,8 @@ returns-3 c =
 
 pub join-steps-spec : {M : Type 1} → statement M
 join-steps-spec =
-    tie.close
-    (tie.spec
-    Inv-loop
-    μ-loop
-    degree-at-requires
-    add-rows
-    loop-holds
-    condition-count-requires
-    add-degree-at
-    degree-at-requires-2
-    add-more
-    join-at-requires
-    join-step-requires
-    (λ c κs. search needs)
-    (λ c. search needs)
-    add-rows-2
-    sub-rows
-    (λ c. search needs)
-    same-length
-    same-length-2
-    returns
-    (λ c. search needs)
-    same-length-3
-    same-length-4
-    returns-2
-    add-j
-    loop-less
-    loop-again
-    same-length-5
-    same-length-6
-    returns-3)
+    tie.close (tie.spec Inv-loop μ-loop degree-at-requires add-rows loop-holds condition-count-requires add-degree-at degree-at-requires-2
+    add-more join-at-requires join-step-requires (λ c κs. search needs) (λ c. search needs) add-rows-2 sub-rows (λ c. search needs)
+    (λ c. num-same (c .before .before .before)) (λ c. den-same (c .before .before .before)) returns (λ c. search needs)
+    (λ c. num-same (c .before .before .before)) (λ c. den-same (c .before .before .before)) returns-2 add-j loop-less loop-again
+    (λ c. c .before .loop .inv .num-long) (λ c. c .before .loop .inv .den-long) returns-3)

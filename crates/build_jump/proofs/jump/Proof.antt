@@ -56,9 +56,6 @@ loop-holds c = record {
   rest = λ s j t i h. ap (λ q. addProducts j (row t (c .args .at)) q (conditions s j (c .args .k))) (sym (value-int (pos 0)));
 }
 
-column-requires : tie.Need-column-requires Inv-loop μ-loop
-column-requires c κs = (c .before .before .pre .join-fits, omega arith)
-
 read-requires : tie.Need-read-requires Inv-loop μ-loop
 read-requires c κs = let h = c .before .before .before .pre .held in omega (arith, h .num-long, h .den-long)
 
@@ -175,24 +172,7 @@ returns-2 c s j t i h =
 
 pub jump-spec : {M : Type 1} → statement M
 jump-spec =
-    tie.close
-    (tie.spec
-    Inv-loop
-    μ-loop
-    (λ c. omega arith)
-    (λ c. omega arith)
-    loop-holds
-    column-requires
-    (λ c. omega arith)
-    (λ c. omega arith)
-    read-requires
-    (λ c. omega arith)
-    (λ c. omega arith)
-    add-product-requires
-    (λ c. search needs)
-    (λ c. search needs)
-    returns
-    (λ c. omega arith)
-    (λ c. omega arith)
-    loop-again
+    tie.close (tie.spec Inv-loop μ-loop (λ c. omega arith) (λ c. omega arith) loop-holds
+    (λ c κs. (c .before .before .pre .join-fits, omega arith)) (λ c. omega arith) (λ c. omega arith) read-requires (λ c. omega arith)
+    (λ c. omega arith) add-product-requires (λ c. search needs) (λ c. search needs) returns (λ c. omega arith) (λ c. omega arith) loop-again
     returns-2)

@@ -187,12 +187,6 @@ loop-again c =
           turn (l .num) (l .den) (a .i) (l .c) (a .w) t j v (q .0 .0) (omega arith) (omega arith) (o .answers ∙ ap answer (k .0)) (o .lowest ∙ ap fraction (k .0)) (l .inv .made t j v h e);
     })
 
-same-length-3 : tie.Need-same-length-3 Inv-loop μ-loop
-same-length-3 c = c .before .loop .inv .num-written .long
-
-same-length-4 : tie.Need-same-length-4 Inv-loop μ-loop
-same-length-4 c = c .before .loop .inv .den-written .long
-
 returns-2 : tie.Need-returns-2 Inv-loop μ-loop
 returns-2 c t j v h e inside wide =
     let s = c .before .before in
@@ -210,6 +204,8 @@ returns-2 c t j v h e inside wide =
     )
 
 pub mix-row-spec : {M : Type 1} → statement M
-mix-row-spec = tie.close (tie.spec Inv-loop μ-loop loop-holds (λ c. omega arith) (λ c. omega arith) (λ c. omega arith) (λ c κs. omega arith)
+mix-row-spec =
+    tie.close (tie.spec Inv-loop μ-loop loop-holds (λ c. omega arith) (λ c. omega arith) (λ c. omega arith) (λ c κs. omega arith)
     (λ c κs. omega arith) new-entry-requires (λ c. search needs) (λ c. omega arith) (λ c. omega arith) (λ c. omega arith) (λ c. omega arith)
-    (λ c. search needs) same-length same-length-2 returns (λ c. omega arith) (λ c. omega arith) loop-again same-length-3 same-length-4 returns-2)
+    (λ c. search needs) same-length same-length-2 returns (λ c. omega arith) (λ c. omega arith) loop-again
+    (λ c. c .before .loop .inv .num-written .long) (λ c. c .before .loop .inv .den-written .long) returns-2)

@@ -280,41 +280,12 @@ loop-again c =
           (m .mix-row .result) (m .mix-row .last .0) (m .mix-row .last .1 .0) _ refl (not-false _ (c .if1 .left)) (leaves m t j qs h shaped e);
     }
 
-same-length-3 : tie.Need-same-length-3 Inv-loop μ-loop
-same-length-3 c = c .before .loop .inv .num-long
-
-same-length-4 : tie.Need-same-length-4 Inv-loop μ-loop
-same-length-4 c = c .before .loop .inv .den-long
-
 returns-2 : tie.Need-returns-2 Inv-loop μ-loop
 returns-2 c t j qs h shaped e = finished (c .before .before .args .l) (omega arith) (c .before .loop .inv .state t j qs h shaped e)
 
 pub mix-rows-spec : {M : Type 1} → statement M
 mix-rows-spec =
-    tie.close
-    (tie.spec
-    Inv-loop
-    μ-loop
-    loop-holds
-    (λ c. omega arith)
-    (λ c. omega arith)
-    (λ c. omega arith)
-    (λ c. omega arith)
-    (λ c. omega arith)
-    (λ c. omega arith)
-    (λ c. omega arith)
-    (λ c. omega arith)
-    (λ c. omega arith)
-    (λ c. omega arith)
-    (λ c. omega arith)
-    complement-requires
-    mix-row-requires
-    same-length
-    same-length-2
-    returns
-    (λ c. omega arith)
-    (λ c. omega arith)
-    loop-again
-    same-length-3
-    same-length-4
-    returns-2)
+    tie.close (tie.spec Inv-loop μ-loop loop-holds (λ c. omega arith) (λ c. omega arith) (λ c. omega arith) (λ c. omega arith)
+    (λ c. omega arith) (λ c. omega arith) (λ c. omega arith) (λ c. omega arith) (λ c. omega arith) (λ c. omega arith) (λ c. omega arith)
+    complement-requires mix-row-requires same-length same-length-2 returns (λ c. omega arith) (λ c. omega arith) loop-again
+    (λ c. c .before .loop .inv .num-long) (λ c. c .before .loop .inv .den-long) returns-2)

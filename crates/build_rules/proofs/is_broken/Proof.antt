@@ -73,20 +73,6 @@ returns-5 c =
 
 pub is-broken-spec : {M : Type 1} → statement M
 is-broken-spec =
-    tie.close
-    (tie.spec
-    (λ c. search needs)
-    break-is-bad-requires
-    (λ c. search needs)
-    span-is-too-long-requires
-    (λ c. search needs)
-    degree-is-bad-requires
-    (λ c. search needs)
-    order-is-bad-requires
-    (λ c. search needs)
-    part-is-too-long-requires
-    returns
-    returns-2
-    returns-3
-    returns-4
-    returns-5)
+    tie.close (tie.spec (λ c. search needs) break-is-bad-requires (λ c. search needs) span-is-too-long-requires (λ c. search needs)
+    degree-is-bad-requires (λ c. search needs) order-is-bad-requires (λ c. search needs) part-is-too-long-requires returns returns-2
+    returns-3 returns-4 returns-5)

@@ -98,16 +98,5 @@ returns-2 c =
 
 pub span-is-too-long-spec : {M : Type 1} → statement M
 span-is-too-long-spec =
-    tie.close
-    (tie.spec
-    (λ c κs. search needs)
-    returns
-    (λ c κs. search needs)
-    (λ c. search needs)
-    (λ c. search needs)
-    cast-first
-    mul-last
-    shared-slice-copy-out-last
-    cast-last
-    sub-result
-    returns-2)
+    tie.close (tie.spec (λ c κs. search needs) returns (λ c κs. search needs) (λ c. search needs) (λ c. search needs) cast-first mul-last
+    shared-slice-copy-out-last cast-last sub-result returns-2)

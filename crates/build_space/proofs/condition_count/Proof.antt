@@ -34,5 +34,4 @@ returns : tie.Need-returns
 returns c = let f = order-fits c in let g = count-fits (c .before) in simp toZ-ofZ
 
 pub condition-count-spec : {M : Type 1} → statement M
-condition-count-spec =
-    tie.close (tie.spec (λ c. search needs) (λ c. search needs) add-result cast-result returns)
+condition-count-spec = tie.close (tie.spec (λ c. search needs) (λ c. search needs) add-result cast-result returns)

@@ -23,9 +23,6 @@ loop-holds c = (omega arith, sym (conditions-before-zero _))
 abbrev joins : tie.After-condition-count Inv-loop μ-loop → Space
 joins c = space [] [] (c .before .before .before .args .orders .now)
 
-condition-count-requires : tie.Need-condition-count-requires Inv-loop μ-loop
-condition-count-requires c κs = (omega arith, c .before .before .pre .1 .1)
-
 add-count : tie.Need-add-count Inv-loop μ-loop
 add-count c = omega (
   arith,
@@ -51,14 +48,5 @@ returns c = c .before .loop .inv .1 ∙ ap (conditionsBefore (space [] [] (c .be
 
 pub conditions-before-spec : {M : Type 1} → statement M
 conditions-before-spec =
-    tie.close
-    (tie.spec
-    Inv-loop
-    μ-loop
-    loop-holds
-    condition-count-requires
-    add-count
-    (λ c. omega arith)
-    (λ c. omega arith)
-    loop-again
-    returns)
+    tie.close (tie.spec Inv-loop μ-loop loop-holds (λ c κs. (omega arith, c .before .before .pre .1 .1)) add-count (λ c. omega arith)
+    (λ c. omega arith) loop-again returns)

@@ -36,22 +36,11 @@ returns c = sym (ends-unique _ _ _ (record { above = omega arith; boundary = who
 returns-2 : tie.Need-returns-2 Inv-loop μ-loop
 returns-2 c = sym (ends-unique _ _ _ (record {
   above = omega arith;
-  boundary =
-      record { within = omega arith; starts = λ _. starts (c .before) (c .if2 .taken) };
+  boundary = record { within = omega arith; starts = λ _. starts (c .before) (c .if2 .taken) };
   between = λ k a b. c .before .before .before .loop .inv .1 k b a;
 }))
 
 pub part-end-spec : {M : Type 1} → statement M
 part-end-spec =
-    tie.close
-    (tie.spec
-    Inv-loop
-    μ-loop
-    (λ c. omega arith)
-    loop-holds
-    (λ c κs. omega arith)
-    (λ c. omega arith)
-    (λ c. omega arith)
-    loop-again
-    returns
-    returns-2)
+    tie.close (tie.spec Inv-loop μ-loop (λ c. omega arith) loop-holds (λ c κs. omega arith) (λ c. omega arith) (λ c. omega arith) loop-again
+    returns returns-2)

@@ -30,5 +30,4 @@ returns : tie.Need-returns
 returns c = ap₂ _-_ (columns c) (conditions c)
 
 pub row-count-spec : {M : Type 1} → statement M
-row-count-spec =
-    tie.close (tie.spec (λ c κs. search needs) (λ c κs. search needs) sub-result returns)
+row-count-spec = tie.close (tie.spec (λ c κs. search needs) (λ c κs. search needs) sub-result returns)

@@ -51,13 +51,5 @@ returns c = let f = start-fits (c .before) in let g = end-fits c in let h = fits
 
 pub segment-length-spec : {M : Type 1} → statement M
 segment-length-spec =
-    tie.close
-    (tie.spec
-    (λ c. search needs)
-    (λ c. search needs)
-    (λ c. search needs)
-    (λ c. search needs)
-    (λ c. search needs)
-    sub-result
-    cast-result
-    returns)
+    tie.close (tie.spec (λ c. search needs) (λ c. search needs) (λ c. search needs) (λ c. search needs) (λ c. search needs) sub-result
+    cast-result returns)

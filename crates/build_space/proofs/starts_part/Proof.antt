@@ -13,5 +13,4 @@ returns-2 : tie.Need-returns-2
 returns-2 c = c .is-discontinuity .ensures ∙ starts-part-later _ _ (c .before .if1 .left)
 
 pub starts-part-spec : {M : Type 1} → statement M
-starts-part-spec =
-    tie.close (tie.spec returns (λ c. search needs) (λ c κs. search needs) returns-2)
+starts-part-spec = tie.close (tie.spec returns (λ c. search needs) (λ c κs. search needs) returns-2)

@@ -58,16 +58,5 @@ returns-4 c qs j is size =
 
 pub span-spec : {M : Type 1} → statement M
 span-spec =
-    tie.close
-    (tie.spec
-    (λ c κs. search needs)
-    (λ c. search needs)
-    (λ c. search needs)
-    (λ c κs. search needs)
-    (λ c. search needs)
-    (λ c. search needs)
-    zero-between-requires
-    returns
-    returns-2
-    returns-3
-    returns-4)
+    tie.close (tie.spec (λ c κs. search needs) (λ c. search needs) (λ c. search needs) (λ c κs. search needs) (λ c. search needs)
+    (λ c. search needs) zero-between-requires returns returns-2 returns-3 returns-4)

@@ -30,15 +30,6 @@ abbrev μ-loop : tie.MeasureT-loop
 loop-holds : tie.Need-loop-holds Inv-loop μ-loop
 loop-holds c = (omega arith, gathered-none _ _ _ _)
 
-mul-at : tie.Need-mul-at Inv-loop μ-loop
-mul-at c = omega (arith, c .before .before .pre .rows .weights .few)
-
-add-at : tie.Need-add-at Inv-loop μ-loop
-add-at c = omega (arith, c .before .before .pre .rows .weights .few)
-
-mul-x : tie.Need-mul-x Inv-loop μ-loop
-mul-x c = omega (arith, c .before .before .pre .rows .weights .few)
-
 shared-slice-copy-out-x : tie.Need-shared-slice-copy-out-x Inv-loop μ-loop
 shared-slice-copy-out-x c = let w = c .before .before .pre .rows .weights in omega (arith, w .few, w .holds .num-long)
 
@@ -186,24 +177,7 @@ returns c t h =
 
 pub column-terms-spec : {M : Type 1} → statement M
 column-terms-spec =
-    tie.close
-    (tie.spec
-    Inv-loop
-    μ-loop
-    loop-holds
-    mul-at
-    add-at
-    mul-x
-    shared-slice-copy-out-x
-    mul-entry
-    add-entry
-    mul-a
-    shared-slice-copy-out-a
-    cast-a
-    mul-d
-    shared-slice-copy-out-d
-    with-term-requires
-    add-i
-    (λ c. omega arith)
-    loop-again
-    returns)
+    tie.close (tie.spec Inv-loop μ-loop loop-holds (λ c. omega (arith, c .before .before .pre .rows .weights .few))
+    (λ c. omega (arith, c .before .before .pre .rows .weights .few)) (λ c. omega (arith, c .before .before .pre .rows .weights .few))
+    shared-slice-copy-out-x mul-entry add-entry mul-a shared-slice-copy-out-a cast-a mul-d shared-slice-copy-out-d with-term-requires add-i
+    (λ c. omega arith) loop-again returns)

@@ -72,6 +72,4 @@ returns-3 c =
     simp toZ-ofZ ((simp toZ-ofZ at (c .at-most2 .ensures)) ∙ sym above)
 
 pub limited-spec : {M : Type 1} → statement M
-limited-spec =
-    tie.close
-    (tie.spec returns mul-low mul-high (λ c κs. search needs) returns-2 (λ c κs. search needs) returns-3)
+limited-spec = tie.close (tie.spec returns mul-low mul-high (λ c κs. search needs) returns-2 (λ c κs. search needs) returns-3)

@@ -120,12 +120,4 @@ returns c =
 
 pub with-term-spec : {M : Type 1} → statement M
 with-term-spec =
-    tie.close
-    (tie.spec
-    mul-round-div
-    mul-round-div-2
-    round-div-requires
-    (λ c κs. search needs)
-    (λ c κs. search needs)
-    add-t8
-    returns)
+    tie.close (tie.spec mul-round-div mul-round-div-2 round-div-requires (λ c κs. search needs) (λ c κs. search needs) add-t8 returns)

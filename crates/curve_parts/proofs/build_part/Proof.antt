@@ -145,39 +145,8 @@ returns-2 c =
 
 pub build-part-spec : {M : Type 1} → statement M
 build-part-spec =
-    tie.close
-    (tie.spec
-    add-build
-    (λ c. search needs)
-    sub-build
-    part-build-start
-    part-build-end
-    (λ c. search needs)
-    sub-build-2
-    part-build-start-2
-    part-build-end-2
-    sub-build-3
-    (λ c. search needs)
-    sub-build-4
-    part-build-start-3
-    part-build-end-3
-    (λ c κs. search needs)
-    (λ c. search needs)
-    (λ c. search needs)
-    (λ c. search needs)
-    add-own
-    mul-own-2
-    (λ c. search needs)
-    (λ c. search needs)
-    (λ c. search needs)
-    part-own-end
-    ordinates-requires
-    ordinates-requires-2
-    (λ c. search needs)
-    (λ c. search needs)
-    returns
-    (λ c. search needs)
-    (λ c. search needs)
-    (λ c. search needs)
-    (λ c. search needs)
-    returns-2)
+    tie.close (tie.spec add-build (λ c. search needs) sub-build part-build-start part-build-end (λ c. search needs) sub-build-2
+    part-build-start-2 part-build-end-2 sub-build-3 (λ c. search needs) sub-build-4 part-build-start-3 part-build-end-3
+    (λ c κs. search needs) (λ c. search needs) (λ c. search needs) (λ c. search needs) add-own mul-own-2 (λ c. search needs)
+    (λ c. search needs) (λ c. search needs) part-own-end ordinates-requires ordinates-requires-2 (λ c. search needs) (λ c. search needs)
+    returns (λ c. search needs) (λ c. search needs) (λ c. search needs) (λ c. search needs) returns-2)

@@ -60,9 +60,6 @@ loop-holds c = record {
 taken : (c : tie.In-loop Inv-loop μ-loop) → c .before .loop .a < length (c .before .before .args .degrees .now)
 taken c = omega arith
 
-part-end-requires : tie.Need-part-end-requires Inv-loop μ-loop
-part-end-requires c κs = (taken c, sym (c .before .before .pre .legal .order-count))
-
 -- the part's end
 module _ (c : tie.After-part-end Inv-loop μ-loop) where
   abbrev start : tie.Start Inv-loop μ-loop
@@ -237,9 +234,6 @@ add-place c =
     let m = c .before .before .before .before .before .before .before in
     omega (arith, taken (at m .before), begun m .pre .legal .few)
 
-place-requires : tie.Need-place-requires Inv-loop μ-loop
-place-requires c κs = tt
-
 same-length : tie.Need-same-length Inv-loop μ-loop
 same-length c = num-kept (c .before .before .before .before .before .before .before .before)
 
@@ -274,54 +268,14 @@ loop-again c =
       front = more m (c .before .built .given .1);
     }
 
-same-length-5 : tie.Need-same-length-5 Inv-loop μ-loop
-same-length-5 c = c .before .loop .inv .num-long
-
-same-length-6 : tie.Need-same-length-6 Inv-loop μ-loop
-same-length-6 c = c .before .loop .inv .den-long
-
-same-length-7 : tie.Need-same-length-7 Inv-loop μ-loop
-same-length-7 c = c .before .loop .inv .early-long
-
-same-length-8 : tie.Need-same-length-8 Inv-loop μ-loop
-same-length-8 c = c .before .loop .inv .late-long
-
 returns-2 : tie.Need-returns-2 Inv-loop μ-loop
 returns-2 c = let s = c .before .before in front-whole (lists s) (s .pre .legal) _ _ (c .before .loop .inv .front) (omega arith)
 
 pub build-parts-spec : {M : Type 1} → statement M
 build-parts-spec =
-    tie.close
-    (tie.spec
-    Inv-loop
-    μ-loop
-    loop-holds
-    part-end-requires
-    first-column-requires
-    mul-build-part
-    sub-build-part
-    part-build-part-start
-    part-build-part-end
-    mul-build-part-2
-    sub-build-part-2
-    part-build-part-start-2
-    part-build-part-end-2
-    build-part-requires
-    (λ c. search needs)
-    add-row
-    (λ c. search needs)
-    (λ c. omega arith)
-    add-place
-    place-requires
-    same-length
-    same-length-2
-    same-length-3
-    same-length-4
-    returns
-    loop-less
-    loop-again
-    same-length-5
-    same-length-6
-    same-length-7
-    same-length-8
-    returns-2)
+    tie.close (tie.spec Inv-loop μ-loop loop-holds (λ c κs. (taken c, sym (c .before .before .pre .legal .order-count)))
+    first-column-requires mul-build-part sub-build-part part-build-part-start part-build-part-end mul-build-part-2 sub-build-part-2
+    part-build-part-start-2 part-build-part-end-2 build-part-requires (λ c. search needs) add-row (λ c. search needs) (λ c. omega arith)
+    add-place (λ c κs. tt) same-length same-length-2 same-length-3 same-length-4 returns loop-less loop-again
+    (λ c. c .before .loop .inv .num-long) (λ c. c .before .loop .inv .den-long) (λ c. c .before .loop .inv .early-long)
+    (λ c. c .before .loop .inv .late-long) returns-2)

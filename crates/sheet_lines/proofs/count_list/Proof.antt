@@ -105,9 +105,6 @@ returns-4 c = sym (last (c .before .before .before) (not-false _ (c .before .bef
 add-start : tie.Need-add-start Inv-loop μ-loop
 add-start c = omega (arith, stops (c .before .before .before), c .before .before .before .before .before .before .before .before .good)
 
-loop-less : tie.Need-loop-less Inv-loop μ-loop
-loop-less c = omega (arith, stops (c .before .before .before))
-
 loop-again : tie.Need-loop-again Inv-loop μ-loop
 loop-again c =
     let f = c .before .before .before in
@@ -116,18 +113,5 @@ loop-again c =
 
 pub count-list-spec : {M : Type 1} → statement M
 count-list-spec =
-    tie.close
-    (tie.spec
-    Inv-loop
-    μ-loop
-    returns
-    loop-holds
-    (λ c κs. omega arith)
-    is-entry-requires
-    returns-2
-    returns-3
-    (λ c. omega arith)
-    returns-4
-    add-start
-    loop-less
-    loop-again)
+    tie.close (tie.spec Inv-loop μ-loop returns loop-holds (λ c κs. omega arith) is-entry-requires returns-2 returns-3 (λ c. omega arith)
+    returns-4 add-start (λ c. omega (arith, stops (c .before .before .before))) loop-again)

@@ -47,9 +47,6 @@ returns c =
     let f = c .before in
     sym (ap isSome (pair-uncut (text f) (from f) (to f) (stop f) (range f) (f .find .ensures) (c .if1 .taken)))
 
-is-numeral-requires : tie.Need-is-numeral-requires
-is-numeral-requires c κs = front (c .before)
-
 returns-2 : tie.Need-returns-2
 returns-2 c =
     let f = c .before .before .before in
@@ -71,4 +68,5 @@ returns-3 c =
     ∙ sym (ap isSome (sides f (e .before .before .if1 .left)) ∙ one-good (numeral (slice (from f) (stop f) (text f))) _ (sym (e .before .is-numeral .ensures) ∙ not-false _ (e .if2 .left)))
 
 pub is-pair-spec : {M : Type 1} → statement M
-is-pair-spec = tie.close (tie.spec (λ c κs. search needs) returns is-numeral-requires returns-2 add-is-numeral is-numeral-requires-2 returns-3)
+is-pair-spec =
+    tie.close (tie.spec (λ c κs. search needs) returns (λ c κs. front (c .before)) returns-2 add-is-numeral is-numeral-requires-2 returns-3)

@@ -34,4 +34,5 @@ returns-2 c =
     omega (arith, index-end (s .args .byte) (s .args .text .now) (s .args .to), ap (λ (n : ℕ). indexOf (s .args .byte) (slice n (s .args .to) (s .args .text .now))) e)
 
 pub find-spec : {M : Type 1} → statement M
-find-spec = tie.close (tie.spec Inv-loop μ-loop loop-holds (λ c. omega arith) returns (λ c. omega arith) (λ c. omega arith) loop-again returns-2)
+find-spec =
+    tie.close (tie.spec Inv-loop μ-loop loop-holds (λ c. omega arith) returns (λ c. omega arith) (λ c. omega arith) loop-again returns-2)

@@ -78,9 +78,6 @@ returns-2 c =
     (ap field (minus-zero (text s) (from s) (to s) (before s) (within s) (d .before .before .before .if2 .taken) (natural d)
     (omega (arith, small d, d .digits-value .ensures))))
 
-cast-t12 : tie.Need-cast-t12
-cast-t12 c = omega (arith, small (c .before))
-
 sub-t13 : tie.Need-sub-t13
 sub-t13 c =
     simp (toZ-pos w32 (c .before .digits-value .result) (omega (arith, small (c .before))))
@@ -110,9 +107,6 @@ returns-4 c =
 digits-value-requires-2 : tie.Need-digits-value-requires-2
 digits-value-requires-2 c κs = record { range = search needs; natural = sym (c .before .is-natural2 .ensures) ∙ c .if5 .taken }
 
-cast-t16 : tie.Need-cast-t16
-cast-t16 c = omega (arith, small2 c)
-
 returns-5 : tie.Need-returns-5
 unfolding field
 returns-5 c =
@@ -132,21 +126,6 @@ returns-6 c =
 
 pub numeral-spec : {M : Type 1} → statement M
 numeral-spec =
-    tie.close
-    (tie.spec
-    returns
-    (λ c. search needs)
-    (λ c. search needs)
-    (λ c κs. search needs)
-    (λ c. search needs)
-    digits-value-requires
-    returns-2
-    cast-t12
-    sub-t13
-    returns-3
-    returns-4
-    (λ c κs. search needs)
-    digits-value-requires-2
-    cast-t16
-    returns-5
-    returns-6)
+    tie.close (tie.spec returns (λ c. search needs) (λ c. search needs) (λ c κs. search needs) (λ c. search needs) digits-value-requires
+    returns-2 (λ c. omega (arith, small (c .before))) sub-t13 returns-3 returns-4 (λ c κs. search needs) digits-value-requires-2
+    (λ c. omega (arith, small2 c)) returns-5 returns-6)

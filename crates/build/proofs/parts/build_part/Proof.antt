@@ -99,23 +99,6 @@ returns c =
 
 pub build-part-spec : {M : Type 1} → statement M
 build-part-spec =
-    tie.close
-    (tie.spec
-    add-build-legal
-    (λ c. search needs)
-    sub-build-legal
-    part-build-legal-start
-    part-build-legal-end
-    (λ c. search needs)
-    sub-build-legal-2
-    part-build-legal-start-2
-    part-build-legal-end-2
-    sub-build-legal-3
-    (λ c. search needs)
-    sub-build-legal-4
-    part-build-legal-start-3
-    part-build-legal-end-3
-    build-legal-requires
-    (λ c. search needs)
-    (λ c. search needs)
-    returns)
+    tie.close (tie.spec add-build-legal (λ c. search needs) sub-build-legal part-build-legal-start part-build-legal-end (λ c. search needs)
+    sub-build-legal-2 part-build-legal-start-2 part-build-legal-end-2 sub-build-legal-3 (λ c. search needs) sub-build-legal-4
+    part-build-legal-start-3 part-build-legal-end-3 build-legal-requires (λ c. search needs) (λ c. search needs) returns)
