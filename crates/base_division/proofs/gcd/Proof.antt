@@ -13,9 +13,6 @@ Inv-loop a b x₀ y₀ x y = gcd x y ≡ gcd a b
 abbrev μ-loop : tie.MeasureT-loop
 μ-loop a b x₀ y₀ x y = y
 
-loop-holds : tie.Need-loop-holds Inv-loop μ-loop
-loop-holds c = refl
-
 loop-again : tie.Need-loop-again Inv-loop μ-loop
 loop-again c = sym (gcd-step (c .before .loop .x) (c .before .loop .y) (c .loop-test .taken)) ∙ c .before .loop .inv
 
@@ -24,5 +21,5 @@ returns c = let e : c .before .loop .y ≡ 0 = omega arith in sym (gcd-zero (c .
 
 pub gcd-spec : {M : Type 1} → statement M
 gcd-spec =
-    tie.close (tie.spec Inv-loop μ-loop loop-holds (λ c. omega arith) (λ c. mod-lt (c .before .loop .x) (c .loop-test .taken)) loop-again
+    tie.close (tie.spec Inv-loop μ-loop (λ c. refl) (λ c. omega arith) (λ c. mod-lt (c .before .loop .x) (c .loop-test .taken)) loop-again
     returns)

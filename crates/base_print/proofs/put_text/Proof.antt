@@ -20,9 +20,6 @@ Inv-loop out₀ at text next₀ i₀ out next i = Inv out₀ at text out next i
 abbrev μ-loop : tie.MeasureT-loop
 μ-loop out₀ at text next₀ i₀ out next i = length text - i
 
-loop-holds : tie.Need-loop-holds Inv-loop μ-loop
-loop-holds c = record { within = omega arith; put = puts-none _ _ }
-
 loop-again : tie.Need-loop-again Inv-loop μ-loop
 loop-again c =
     let l = c .before .before .before .before .before .before .loop in
@@ -40,5 +37,5 @@ returns c =
 
 pub put-text-spec : {M : Type 1} → statement M
 put-text-spec =
-    tie.close (tie.spec Inv-loop μ-loop loop-holds (λ c. omega arith) (λ c κs. omega arith) (λ c. omega arith) (λ c. omega arith) loop-again
-    (λ c. puts-length (c .before .loop .inv .put)) returns)
+    tie.close (tie.spec Inv-loop μ-loop (λ c. record { within = omega arith; put = puts-none _ _ }) (λ c. omega arith) (λ c κs. omega arith)
+    (λ c. omega arith) (λ c. omega arith) loop-again (λ c. puts-length (c .before .loop .inv .put)) returns)

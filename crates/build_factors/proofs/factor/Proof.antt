@@ -68,8 +68,7 @@ returns c j =
     let b = c .before in
     next-answered (total (start b)) (factor-value b) (quotientFactor j (total (start b)) (step (start b))) _ _
     (factor-inside j (total (start b)) (step (start b)) (sum-small b) (factor-kept b .small) (sym (test-is b) ∙ c .if1 .taken))
-    (sum-kept (b .before .before .before .before .before .before) .fraction-is)
-    (factor-kept b .fraction-is)
+    (let s = b .before .before .before .before .before .before in sum-kept s .fraction-is) (factor-kept b .fraction-is)
 
 returns-2 : tie.Need-returns-2
 unfolding refusalOf

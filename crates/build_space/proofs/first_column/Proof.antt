@@ -16,9 +16,6 @@ Inv-loop degrees i column₀ k₀ column k = (k ≤ i) × (column ≡ firstColum
 abbrev μ-loop : tie.MeasureT-loop
 μ-loop degrees i column₀ k₀ column k = i - k
 
-loop-holds : tie.Need-loop-holds Inv-loop μ-loop
-loop-holds c = (omega arith, sym (first-column-zero _))
-
 -- the space that the degrees alone make
 abbrev columns : tie.After-degree-at Inv-loop μ-loop → Space
 columns c = space [] (c .before .before .before .args .degrees .now) []
@@ -37,5 +34,6 @@ returns c = c .before .loop .inv .1 ∙ ap (firstColumn (space [] (c .before .be
 
 pub first-column-spec : {M : Type 1} → statement M
 first-column-spec =
-    tie.close (tie.spec Inv-loop μ-loop loop-holds (λ c κs. (omega arith, c .before .before .pre .1 .1)) (λ c. omega (arith, degree-fits c))
+    tie.close (tie.spec Inv-loop μ-loop (λ c. (omega arith, sym (first-column-zero _)))
+    (λ c κs. (omega arith, c .before .before .pre .1 .1)) (λ c. omega (arith, degree-fits c))
     (λ c. omega (arith, degree-fits c, column-fits c)) (λ c. omega arith) (λ c. omega arith) loop-again returns)
