@@ -74,8 +74,8 @@ scale-requires c κs =
 
 scale-requires-2 : tie.Need-scale-requires-2
 scale-requires-2 c κs =
-    let l = left-length (c .before .before .before .before .before) in
-    let r = right-length (c .before .before .before .before .before) in
+    let s = c .before .before .before .before .before in let l = left-length s in
+    let r = right-length s in
     let f = l .fits in
     let g = r .fits in
     simp toZ-ofZ (search needs)

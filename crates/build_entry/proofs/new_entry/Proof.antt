@@ -62,8 +62,7 @@ zero-part f s e = value-zero f (s .den-pos) (ofZ-inj w64 (f .num) (pos 0) (sfits
 returns : tie.Need-returns
 returns c j v e =
     let s = c .before .before .before .before .before .before in
-    sym (zero-entry j (value (s .args .w)) v
-    (zero-part (s .args .x) (s .pre .first-entry) (c .before .before .before .if1 .taken))
+    sym (zero-entry j (value (s .args .w)) v (zero-part (s .args .x) (s .pre .first-entry) (c .before .before .before .if1 .taken))
     (zero-part (s .args .y) (s .pre .second-entry) (c .if2 .taken)))
 
 -- a zero and an entry

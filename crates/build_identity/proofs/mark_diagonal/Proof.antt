@@ -21,9 +21,6 @@ Inv-loop num₀ n i₀ num i = Inv num₀ num n i
 abbrev μ-loop : tie.MeasureT-loop
 μ-loop num₀ n i₀ num i = n - i
 
-loop-holds : tie.Need-loop-holds Inv-loop μ-loop
-loop-holds c = record { within = omega arith; num-is = marked-none _; num-long = refl }
-
 loop-again : tie.Need-loop-again Inv-loop μ-loop
 loop-again c =
     let l = c .before .loop in
@@ -43,5 +40,5 @@ returns c =
 
 pub mark-diagonal-spec : {M : Type 1} → statement M
 mark-diagonal-spec =
-    tie.close (tie.spec Inv-loop μ-loop loop-holds (λ c. omega arith) (λ c. omega arith) (λ c. omega arith) (λ c. omega arith)
-    (λ c. omega arith) loop-again (λ c. c .before .loop .inv .num-long) returns)
+    tie.close (tie.spec Inv-loop μ-loop (λ c. record { within = omega arith; num-is = marked-none _; num-long = refl }) (λ c. omega arith)
+    (λ c. omega arith) (λ c. omega arith) (λ c. omega arith) (λ c. omega arith) loop-again (λ c. c .before .loop .inv .num-long) returns)

@@ -49,9 +49,7 @@ returns c =
 
 returns-2 : tie.Need-returns-2
 unfolding broken
-returns-2 c =
-    let s = c .before .before .before in
-    c .span-is-too-long .ensures ∙ test s (c .before .enum-told2 .given .1)
+returns-2 c = let s = c .before .before .before in c .span-is-too-long .ensures ∙ test s (c .before .enum-told2 .given .1)
 
 returns-3 : tie.Need-returns-3
 unfolding broken
