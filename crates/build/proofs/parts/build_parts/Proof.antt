@@ -133,7 +133,7 @@ add-rows c =
 
 add-place : tie.Need-add-place Inv-loop μ-loop
 add-place c =
-    let d = ended (c .before .before .before .before .before) in
+    let m = c .before .before .before .before .before in let d = ended m in
     omega (arith, taken (d .before), d .before .before .before .pre .legal .few)
 
 returns : tie.Need-returns Inv-loop μ-loop
@@ -151,7 +151,7 @@ returns c =
 
 loop-less : tie.Need-loop-less Inv-loop μ-loop
 loop-less c =
-    let d = ended (c .before .before .before .before .before) in
+    let m = c .before .before .before .before .before in let d = ended m in
     let l = part-ends (beam d) (first d) (taken (d .before)) in
     omega (arith, end-is d, l .above, taken (d .before))
 
@@ -168,5 +168,6 @@ pub build-parts-spec : {M : Type 1} → statement M
 build-parts-spec =
     tie.close (tie.spec Inv-loop μ-loop loop-holds (λ c κs. (taken c, sym (c .before .before .pre .legal .order-count))) build-part-requires
     (λ c. search needs) add-rows (λ c. search needs) (λ c. omega arith) add-place (λ c κs. tt)
-    (λ c. num-kept (c .before .before .before .before .before .before)) (λ c. den-kept (c .before .before .before .before .before .before))
-    returns loop-less loop-again (λ c. c .before .loop .inv .num-long) (λ c. c .before .loop .inv .den-long) returns-2)
+    (λ c. let m = c .before .before .before .before .before .before in num-kept m)
+    (λ c. let m = c .before .before .before .before .before .before in den-kept m) returns loop-less
+    loop-again (λ c. c .before .loop .inv .num-long) (λ c. c .before .loop .inv .den-long) returns-2)
