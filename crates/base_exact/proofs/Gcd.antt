@@ -59,12 +59,6 @@ gcd-scale (suc k) a b = gcd-mul k a b
 pub gcd-greatest : (k a b : ℕ) → Div k a b → (m : ℕ) × (gcd a b ≡ k * m)
 gcd-greatest k a b r = (gcd (r .left) (r .right), ap₂ gcd (r .left-is) (r .right-is) ∙ gcd-scale k (r .left) (r .right))
 
--- a number with no factor in common with b that divides b c divides c
-pub coprime-divides : (a b c m : ℕ) → gcd a b ≡ 1 → b * c ≡ a * m → (n : ℕ) × (c ≡ a * n)
-coprime-divides a b c m h e =
-    let g = gcd-greatest a (c * a) (c * b) (record { left = c; right = m; left-is = mul-comm c a; right-is = mul-comm c b ∙ e }) in
-    (g .0, sym (mul-one c) ∙ ap (λ t. c * t) (sym h) ∙ sym (gcd-scale c a b) ∙ g .1)
-
 -- ---- lowest terms: two pairs without a common factor and with equal cross products are the same pair
 pub lowest-unique : (a b c d : ℕ) → gcd a b ≡ 1 → gcd c d ≡ 1 → a * d ≡ c * b → (a ≡ c) × (b ≡ d)
 lowest-unique a b c d h k e = (tops b d bottoms h k e, bottoms)

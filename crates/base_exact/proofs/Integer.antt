@@ -194,9 +194,6 @@ pub <-≤ : (x y : ℤ) → x <ℤ y → x ≤ℤ y
 pub <-suc : (x y : ℤ) → x <ℤ y → (x +ℤ pos 1) ≤ℤ y
 <-suc x y h = ≤-in _ _ (omega (arith, <-out x y h, bal-+ x (pos 1)))
 
-pub suc-< : (x y : ℤ) → (x +ℤ pos 1) ≤ℤ y → x <ℤ y
-suc-< x y h = <-in x y (omega (arith, ≤-out _ _ h, bal-+ x (pos 1)))
-
 -- x < y + 1 is x ≤ y
 pub <-suc-≤ : (x y : ℤ) → x <ℤ (y +ℤ pos 1) → x ≤ℤ y
 <-suc-≤ x y h = ≤-in x y (omega (arith, <-out _ _ h, bal-+ y (pos 1)))

@@ -245,9 +245,6 @@ pub +-mono-< : {a b c d : ℚ} → a <ᵠ b → c ≤ᵠ d → a +ᵠ c <ᵠ b +
 pub neg-mono : {a b : ℚ} → a ≤ᵠ b → -ᵠ b ≤ᵠ -ᵠ a
 neg-mono {a} {b} h = le-by (le-nn h) (ring ℚ-ring (a ∷ b ∷ []) (search reads) (search reads) refl)
 
-pub neg-mono-< : {a b : ℚ} → a <ᵠ b → -ᵠ b <ᵠ -ᵠ a
-neg-mono-< {a} {b} h = lt-by (lt-pos h) (ring ℚ-ring (a ∷ b ∷ []) (search reads) (search reads) refl)
-
 -- a factor that is not negative
 pub *-mono : {a b c : ℚ} → Nn c → a ≤ᵠ b → a *ᵠ c ≤ᵠ b *ᵠ c
 *-mono {a} {b} {c} h k = le-by (nn-mul (le-nn k) h) (ring ℚ-ring (a ∷ b ∷ c ∷ []) (search reads) (search reads) refl)
@@ -375,13 +372,6 @@ pub abs-le : {q b : ℚ} → q ≤ᵠ b → -ᵠ q ≤ᵠ b → absᵠ q ≤ᵠ 
 abs-le {q} {b} h k = go (abs-cases q)
   where
     go : (absᵠ q ≡ q) ⊎ (absᵠ q ≡ -ᵠ q) → absᵠ q ≤ᵠ b
-    go (inl e) = rw e h
-    go (inr e) = rw e k
-
-pub abs-lt : {q b : ℚ} → q <ᵠ b → -ᵠ q <ᵠ b → absᵠ q <ᵠ b
-abs-lt {q} {b} h k = go (abs-cases q)
-  where
-    go : (absᵠ q ≡ q) ⊎ (absᵠ q ≡ -ᵠ q) → absᵠ q <ᵠ b
     go (inl e) = rw e h
     go (inr e) = rw e k
 

@@ -259,9 +259,6 @@ mk-reduced n d h e = (
   mk-den n d h ∙ ap (λ g. d / g) e ∙ div-one d,
 )
 
-pub mk-self : (q : ℚ) (h : 0 < den q) → mk (q .num) (den q) h ≡ q
-mk-self q h = is-unique (mk-is (q .num) (den q) h) (self q) refl
-
 pub is-mk : {q : ℚ} {a : ℤ} {b : ℕ} (h : 0 < b) → q is a over b → mk a b h ≡ q
 is-mk {q} {a} {b} h r = is-unique (mk-is a b h) r refl
 
@@ -274,12 +271,6 @@ is-least {q} {a} {b} h = subst (λ (p : ℚ). (natAbs (p .num) ≤ natAbs a) × 
 
 pub mk-eq : (n m : ℤ) (d e : ℕ) (h : 0 < d) (k : 0 < e) → n *ℤ pos e ≡ m *ℤ pos d → mk n d h ≡ mk m e k
 mk-eq n m d e h k c = is-unique (mk-is n d h) (mk-is m e k) c
-
-pub mk-scale : (k : ℕ) (n : ℤ) (d : ℕ) (h : 0 < d) (l : 0 < k * d) → mk (pos k *ℤ n) (k * d) l ≡ mk n d h
-mk-scale k n d h l = mk-eq (pos k *ℤ n) n (k * d) d l h (alg (pos k) n (pos d))
-  where
-    alg : (k n d : ℤ) → k *ℤ n *ℤ d ≡ n *ℤ (k *ℤ d)
-    alg k n d = ring ℤ-ring (k ∷ n ∷ d ∷ []) (search reads) (search reads) refl
 
 pub int-num : (z : ℤ) → int z .num ≡ z
 unfolding int
@@ -303,9 +294,6 @@ pub ℚ-discrete : Discrete ℚ
     go : Dec (p .num *ℤ pos (den q) ≡ q .num *ℤ pos (den p)) → Dec (p ≡ q)
     go (yes e) = yes (q-ext p q e)
     go (no f) = no (λ e. f (ap (λ t. t .num *ℤ pos (den q)) e ∙ ap (λ t. q .num *ℤ pos (den t)) (sym e)))
-
-pub ℚ-set : IsSet ℚ
-ℚ-set = hedberg ℚ-discrete
 
 -- ---- the integers among the rational numbers
 pub int-neg : (z : ℤ) → int (negℤ z) ≡ -ᵠ int z

@@ -119,14 +119,10 @@ sum-mono-at (suc n) k {f} {g} l h s = go (λ l. sum-mono-at n k {f = f} {g = g} 
   where
     go : (k < n → sum n f <ᵠ sum n g) → (suc k ≡ suc n) ⊎ (suc k < suc n) → sum n f +ᵠ f n <ᵠ sum n g +ᵠ g n
     go ih (inl e) =
-        lt-by
-        (pos-add (lt-pos (subst (λ t. f t <ᵠ g t) (let t : k ≡ n = omega arith in t) s))
+        lt-by (pos-add (lt-pos (subst (λ t. f t <ᵠ g t) (let t : k ≡ n = omega arith in t) s))
         (le-nn (sum-mono n {f = f} {g = g} (λ i l. h i (omega arith)))))
         (ring ℚ-ring (sum n f ∷ f n ∷ sum n g ∷ g n ∷ []) (search reads) (search reads) refl)
     go ih (inr m) = +-mono-< (ih (omega arith)) (h n (omega arith))
-
-pub sum-mono-< : (n : ℕ) {f g : ℕ → ℚ} → 0 < n → ((i : ℕ) → i < n → f i <ᵠ g i) → sum n f <ᵠ sum n g
-sum-mono-< n p h = sum-mono-at n 0 p (λ i l. <-≤ (h i l)) (h 0 p)
 
 -- a place is at most the sum where no place is negative
 pub sum-place-le : (n k : ℕ) {f : ℕ → ℚ} → k < n → ((i : ℕ) → i < n → Nn (f i)) → f k ≤ᵠ sum n f

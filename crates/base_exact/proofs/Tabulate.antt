@@ -31,9 +31,6 @@ module _ {A : Type 0} where
   tab-ext zero h = refl
   tab-ext (suc n) h = ap₂ _∷_ (h 0 (omega arith)) (tab-ext n (λ i l. h (suc i) (omega arith)))
 
-  pub tab-inj : (n : ℕ) (f g : ℕ → A) (k : ℕ) → tab n f ≡ tab n g → k < n → f k ≡ g k
-  tab-inj n f g k e h = sym (tab-getD n f k (f k) h) ∙ ap (λ l. getD l k (f k)) e ∙ tab-getD n g k (f k) h
-
   -- a longer table: one place more at the end, or n places more
   pub tab-snoc : (n : ℕ) (f : ℕ → A) → tab (suc n) f ≡ tab n f ++ (f n ∷ [])
   unfolding tab
@@ -63,9 +60,6 @@ module _ {A : Type 0} where
   tab-self (a ∷ l) d = ap (λ t. a ∷ t) (tab-self l d)
 
   -- ---- a table in front of other cells
-  pub take-tab : (n : ℕ) (f : ℕ → A) (r : List A) → take n (tab n f ++ r) ≡ tab n f
-  take-tab n f r = take-at (tab n f) r n (tab-length n f)
-
   pub drop-tab : (n : ℕ) (f : ℕ → A) (r : List A) → drop n (tab n f ++ r) ≡ r
   drop-tab n f r = drop-at (tab n f) r n (tab-length n f)
 
@@ -81,12 +75,6 @@ module _ {A : Type 0} where
       ap (λ j. getD (tab n f ++ drop n l) j d) (let e : k ≡ length (tab n f) + (k - n) = omega (arith, tab-length n f) in e)
       ∙ getD-append-add (tab n f) (drop n l) (k - n) d ∙ getD-drop n l (k - n) d
       ∙ ap (λ j. getD l j d) (let e : n + (k - n) ≡ k = omega arith in e)
-
-  pub drop-past-tab : (n : ℕ) (f : ℕ → A) (l : List A) (k : ℕ) → n ≤ k → drop k (tab n f ++ drop n l) ≡ drop k l
-  drop-past-tab n f l k h =
-      ap (λ j. drop j (tab n f ++ drop n l)) (let e : k ≡ length (tab n f) + (k - n) = omega (arith, tab-length n f) in e)
-      ∙ drop-append-add (tab n f) (drop n l) (k - n) ∙ drop-drop (k - n) n l
-      ∙ ap (λ j. drop j l) (let e : n + (k - n) ≡ k = omega arith in e)
 
   -- ---- a loop's stores: none yet, one more behind the table, one inside it
   pub tab-none : (f : ℕ → A) (d : List A) → d ≡ tab 0 f ++ drop 0 d
@@ -135,9 +123,6 @@ module _ {A : Type 0} where
   tab-set (suc n) f zero v h = ap₂ _∷_ (sym (updated-same f 0 v)) (tab-ext n (λ i l. sym (updated-other f 0 v (suc i) (omega arith))))
   tab-set (suc n) f (suc k) v h = ap₂ _∷_ (sym (updated-other f (suc k) v 0 (omega arith)))
       (tab-set n (λ i. f (suc i)) k v (omega arith) ∙ tab-ext n (λ i l. updated-suc f k v i))
-
-  pub set-tab : (n : ℕ) (f : ℕ → A) (r : List A) (k : ℕ) (v : A) → k < n → set (tab n f ++ r) k v ≡ tab n (updated f k v) ++ r
-  set-tab n f r k v h = set-append-left (tab n f) r k v (rw (tab-length n f) h) ∙ ap (λ t. t ++ r) (tab-set n f k v h)
 
 -- one store takes a rule to another that gives the stored value there and agrees with it elsewhere
 pub tab-store : {A : Type 0} (n : ℕ) {f g : ℕ → A} (k : ℕ) {v : A} → k < n → g k ≡ v → ((i : ℕ) → i < n → i ≢ k → f i ≡ g i) → set (tab n f) k v ≡ tab n g

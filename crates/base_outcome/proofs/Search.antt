@@ -131,8 +131,7 @@ module _ (test : ℕ → Bool) where
           (record {
             below = omega (arith, s .below);
             meets = s .meets;
-            after =
-                λ k a l. below-suc (λ k. i < k → test k ≡ false) (λ k l a. s .after k a l) (λ a. t) k l a;
+            after = λ k a l. below-suc (λ k. i < k → test k ≡ false) (λ k l a. s .after k a l) (λ a. t) k l a;
           }) (last-kept n t ∙ e)
       go (nowhere h e) false t = nowhere (below-suc (λ k. test k ≡ false) h t) (last-kept n t ∙ e)
 

@@ -1,7 +1,6 @@
 -- Digits of a part of a text, one step at a time, and the size of a number of at most seven digits.
 use mathlib.Core.Path.{_≡_, refl, sym, _∙_, ap}
-use mathlib.Core.Bool.{Bool, true, false, _&&_, not, and-false}
-use mathlib.Core.Bool.{and-true as and-true-right}
+use mathlib.Core.Bool.{Bool, true, false, _&&_, not, and-false, and-true as and-true-right}
 use mathlib.Core.List.{[], _∷_}
 use Prim.Native.Nat.{ℕ, _+_, _*_, _-_, _^_, _<_, _≤_}
 use native.Mathlib.Nat.{mul-le-mul-right, pow-le-pow-right, pow-succ'}
@@ -26,9 +25,7 @@ digit-high : (c : ℕ) → 57 < c → isDigit c ≡ false
 digit-high c h = rw (le-leb 48 c (omega arith), le-ltb c 58 (omega arith))
 
 pub digit-bounds : (c : ℕ) → isDigit c ≡ true → (48 ≤ c) × (c ≤ 57)
-digit-bounds c e =
-    let both = and-true (leb 48 c) (ltb c 58) e in
-    (leb-true 48 c (both .0), omega (arith, ltb-true c 58 (both .1)))
+digit-bounds c e = let both = and-true (leb 48 c) (ltb c 58) e in (leb-true 48 c (both .0), omega (arith, ltb-true c 58 (both .1)))
 
 -- ---- one step through a part
 module _ (text : Text) (i to : ℕ) (before : i < to) (within : to ≤ length text) where

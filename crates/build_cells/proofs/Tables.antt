@@ -44,8 +44,7 @@ module _ (f : ℕ) (t rs : Table) (i : ℕ) (order : f ≤ i) (inside : i ≤ le
 -- the rows up to l made new and row l left out: the table that a step leaves
 pub renewed-without : (f : ℕ) (t rs : Table) (l : ℕ) → f ≤ l → l < length t → length rs ≡ l - f → take l (renewed f t rs l) ++ drop (suc l) (renewed f t rs l) ≡ renewed f t rs (suc l)
 renewed-without f t rs l h k size =
-    ap₂ _++_
-    (ap (take l) split ∙ take-at (take f t ++ rs) (row t l ∷ drop (suc l) t) l long)
+    ap₂ _++_ (ap (take l) split ∙ take-at (take f t ++ rs) (row t l ∷ drop (suc l) t) l long)
     (
     ap (drop (suc l)) split
     ∙ ap (λ n. drop n ((take f t ++ rs) ++ (row t l ∷ drop (suc l) t))) (let e : suc l ≡ length (take f t ++ rs) + 1 = omega (arith, long) in e)

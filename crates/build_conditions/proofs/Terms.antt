@@ -88,17 +88,11 @@ common-divisor s j k =
 
 -- Entry t of the left side.
 abbrev pub leftTerm : Space → ℕ → ℕ → ℕ → Entry
-leftTerm s j k t = record {
-  column = firstColumn s j + (degree s j - k + t);
-  condition = pos (leftQuotient s j k) *ℤ signedBinomial k t;
-}
+leftTerm s j k t = record { column = firstColumn s j + (degree s j - k + t); condition = pos (leftQuotient s j k) *ℤ signedBinomial k t }
 
 -- Entry t of the right side.
 abbrev pub rightTerm : Space → ℕ → ℕ → ℕ → Entry
-rightTerm s j k t = record {
-  column = firstColumn s (suc j) + t;
-  condition = negℤ (pos (rightQuotient s j k) *ℤ signedBinomial k t);
-}
+rightTerm s j k t = record { column = firstColumn s (suc j) + t; condition = negℤ (pos (rightQuotient s j k) *ℤ signedBinomial k t) }
 
 -- A divisor of a divides a product with a at that factor.
 product-quotient : (g a c : ℕ) → g ∣ a → a * c / g ≡ a / g * c

@@ -65,14 +65,6 @@ module _ (b d o : List ℤ) where
   starts-at-discontinuity-partial zero = refl
   starts-at-discontinuity-partial (suc i) = refl
 
-  pub starts-by-partial : (x : ℤ) → startsBy (space b [] o) x ≡ startsBy (space b d o) x
-  unfolding startsBy startsAtDiscontinuity
-  starts-by-partial x = fun-ext (λ i. ap (λ c. cond c (ltZ (fine (break (space b d o) i)) x) (leZ (fine (break (space b d o) i)) x)) (starts-without-degrees i))
-    where
-      starts-without-degrees : (i : ℕ) → startsAtDiscontinuity (space b [] o) i ≡ startsAtDiscontinuity (space b d o) i
-      starts-without-degrees zero = refl
-      starts-without-degrees (suc i) = refl
-
 -- the number of rows needs the degrees and the orders
 pub row-count-partial : (b d o : List ℤ) → rowCount (space [] d o) ≡ rowCount (space b d o)
 row-count-partial b d o = ap₂ _-_ (sym (column-count-partial [] d o) ∙ column-count-partial b d o)

@@ -104,8 +104,7 @@ module _ (s : Space) (legal : ListsLegal (s .breaks) (s .degrees) (s .orders)) w
           → Fronted s a (f .state .table) (coefficient wood coefs) column os₀ os
           → mid ≡ ordinates part u (own wood) ++ drop (columnCount part) (take n (drop column os))
           → Fronted s (partEnd s a) (beside (firstColumn s a) (columnCount part) (f .state .table) u) (coefficient wood coefs)
-          (column + n) os₀
-          (take column os ++ (mid ++ drop n (drop column os)))
+          (column + n) os₀ (take column os ++ (mid ++ drop n (drop column os)))
       grown wood os₀ {os} {mid} n u n-is os-is mid-is =
           ap₂ (λ xs ys. xs ++ (mid ++ ys)) before-is after-is
           ∙ ap (λ ys. before ++ (ys ++ drop (column + n) os₀)) mid-all

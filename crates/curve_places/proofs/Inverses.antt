@@ -26,10 +26,6 @@ by-length-filled f b d h =
     tab-rest 48 (length d) h (λ i l. sym (cond-true (f (pos (fineWidth (space b d []) i))) (pos 0) (lt-ltb i (length d) l)))
     (λ i l. cond-false (f (pos (fineWidth (space b d []) i))) (pos 0) (le-ltb i (length d) l))
 
-pub by-length-long : (f : ℤ → ℤ) (s : Space) → length (byLength f s) ≡ 48
-unfolding byLength
-by-length-long f s = tab-length 48 _
-
 module _ (b d o : List ℤ) (h : ListsLegal b d o) (i : ℕ) (l : i < length d) where
   pub by-length-at : (f : ℤ → ℤ) → getD (byLength f (space b d [])) i (pos 0) ≡ f (pos (fineWidth (space b d o) i))
   unfolding byLength

@@ -81,8 +81,4 @@ module _ (c : Call) (l : Lent) where
   leaves-built long h passes (Refused code place) p =
       let t = refused-inverts (λ _. rowCount (c .lists)) (weights (c .lists)) (p .answers) in
       let e = call-stopped c l long h passes t in
-      record {
-        told = e;
-        numerators-are = numerators-left p t e refl;
-        denominators-are = denominators-left p t e refl;
-      }
+      record { told = e; numerators-are = numerators-left p t e refl; denominators-are = denominators-left p t e refl }

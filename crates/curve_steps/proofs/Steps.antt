@@ -6,7 +6,6 @@ use mathlib.Core.List.{[], _∷_}
 use Prim.Native.Nat.{ℕ, zero, suc, _+_, _*_, _<_, _≤_}
 use native.Mathlib.Omega.{arith}
 use lib.IntN.{ℤ, pos, _+ℤ_, _-ℤ_, _*ℤ_, negℤ}
-use lib.Dec.{T}
 use lib.Signed.{_≤ℤ_, nonNeg, yes-nonNeg}
 use Rattle.base_exact.specs.Floor.{nearest}
 use Rattle.base_exact.proofs.Integer as Z

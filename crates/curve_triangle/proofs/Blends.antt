@@ -7,8 +7,7 @@ use lib.IntN.{ℤ, pos, negℤ, natAbs, _+ℤ_, _-ℤ_, _*ℤ_}
 use lib.Signed.{_≤ℤ_}
 use Rattle.base_exact.specs.Floor.{nearest}
 use Rattle.base_exact.proofs.Ring.{ring, reads}
-use Rattle.base_exact.proofs.Integer.{ℤ-ring, +-comm}
-use Rattle.base_exact.proofs.Integer.{abs-le-in, abs-le-out, abs-sub}
+use Rattle.base_exact.proofs.Integer.{ℤ-ring, +-comm, abs-le-in, abs-le-out, abs-sub}
 use Rattle.base_exact.proofs.Floor.{nearest-add}
 use Rattle.base_exact.proofs.Word.{pos-of}
 use Rattle.spec_spline.specs.Reading.{blend, rounded}

@@ -26,13 +26,12 @@ use Rattle.theorems_values.proofs.LegalCall.{answered-calls-are-legal, legal-ca
 use Rattle.base_outcome.specs.declared.Answer.{Answer}
 use Rattle.spec_calls.specs.Indices.{ringPositions, ringWidth, isRefused, badRing, indexOf, ringIndices, ringsRead, ringsIndexed}
 use Rattle.spec_calls.specs.Indices.{indicesReturned, indicesAfter}
-use Rattle.theorems_indices.proofs.Cells.{value-cell}
+use Rattle.theorems_indices.proofs.Cells.{value-cell, exact-length}
 use Rattle.base_outcome.specs.Machine.{reply}
 use Rattle.indices.specs.Machine.{cellsIndexed, Indexed}
 use Rattle.indices_positions.specs.Words.{wordPositions, ringsTaken}
 use Rattle.indices_rings.specs.Cells.{badCell, cellIndex}
 use Rattle.base_outcome.specs.declared.Answer.the-variants.{Refused}
-use Rattle.theorems_indices.proofs.Cells.{exact-length}
 use Rattle.indices_positions.proofs.Positions.{words-length, outcome-same}
 
 -- ---- code 14 and the indices by the cells
@@ -96,8 +95,7 @@ module _ (s : Space) (wood : Wood) (widths : List ℤ) {o : Outcome CurveResult}
   unfolding numeratorsAfter denominatorsAfter valuesAfter
   ends-unchanged e = ends-refused e
       (sym (ap (λ x. curveNumerators s x num) e ∙ cond-false (numerators [] num) num refl))
-      (sym (ap (λ x. curveDenominators s x den) e ∙ cond-false (denominators [] den) den refl))
-      (sym (ap (λ x. valuesAfter x vs) e))
+      (sym (ap (λ x. curveDenominators s x den) e ∙ cond-false (denominators [] den) den refl)) (sym (ap (λ x. valuesAfter x vs) e))
 
   -- an answer of the curve call: code 14 or the indices, by the cells after it
   pub ends-indexed : {r : CurveResult} {a : Answer} {num′ den′ vs′ is′ : List ℤ} → o ≡ answer r → length (r .values) ≡ length widths
@@ -131,8 +129,7 @@ pub record Given : Type 0 where
 
 -- What reading the rings ends with.
 abbrev pub outcomeOf : Given → Outcome CurveResult
-outcomeOf g =
-    ringsRead (g .lists) (g .coefs) (g .firstRing) (g .widths) (g .numLength) (g .denLength) (g .valuesLength) (g .indicesLength)
+outcomeOf g = ringsRead (g .lists) (g .coefs) (g .firstRing) (g .widths) (g .numLength) (g .denLength) (g .valuesLength) (g .indicesLength)
 
 module _ (given : Given) where
   abbrev s : Space

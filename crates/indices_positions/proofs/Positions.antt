@@ -12,7 +12,6 @@ use lib.Dec.{ltb, eqb}
 use lib.IntN.{ℤ, pos, negsuc, negℤ, _+ℤ_, _*ℤ_}
 use lib.ListN.{length, getD}
 use lib.Signed.{leZ, ltZ, _<ℤ_, _≤ℤ_}
-use Rattle.base_exact.specs.Tabulate.{tab}
 use Rattle.base_exact.proofs.Decide.{le-or-lt, cond-true, cond-false, or-false}
 use Rattle.base_exact.proofs.Integer.{up, dn, bal-*, bal-neg, ≤-in, ≤-out, <-in, <-out, ≤-or->, ≤-<-trans, <-≤-trans}
 use Rattle.base_exact.proofs.Tabulate.{tab-length, tab-getD, tab-ext}
@@ -23,7 +22,6 @@ use Rattle.spec_spline.specs.Space.{Space, segments, break, badBreak, breakLimi
 use Rattle.base_outcome.specs.Tests.{between, refuseFirst}
 use Rattle.spec_spline.specs.Reading.{fine}
 use Rattle.spec_spline.specs.CurveCall.{CurveResult, positionLimit, badCoefficient, badPosition, legalEntries, curveChecked, curveRead, curveOutcome}
-use Rattle.base_outcome.proofs.Outcome.{then-refuses}
 use Rattle.base_outcome.proofs.Search.{first-ext, first-none-inverts}
 use Rattle.spec_spline.proofs.Space.{between-inverts}
 use Rattle.spec_spline.proofs.Build.{long-enough}

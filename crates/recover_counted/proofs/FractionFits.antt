@@ -47,12 +47,6 @@ sized-fits j q {p} e = go (fits q) refl e
     go true h e = ap fits (sym (answer-unique {a = q} refl e)) ∙ h
     go false h e = absurd (answer-not-refusal e refl)
 
-pub then-sized : (j : ℕ) (o : Outcome ℚ) (g : ℚ → ℚ) (f : Fraction) → counted (o then λ p. fitted j (g p)) ≡ Fits f → FractionFits f
-then-sized j o g f e =
-    let a = fits-answered (o then λ p. fitted j (g p)) f e in
-    let c = then-inverts o (λ p. fitted j (g p)) (a .answers) in
-    lowest-sized (a .lowest) (sized-fits j (g (c .middle)) (c .after))
-
 -- a new coefficient fits
 coefficient-fits : (j : ℕ) (w c b : ℚ) {d : ℚ} → undoneCoefficient j w c b ≡ answer d → fits d ≡ true
 unfolding undoneCoefficient

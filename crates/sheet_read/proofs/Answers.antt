@@ -19,8 +19,7 @@ use Rattle.base_text.specs.Numeral.{numeral}
 use Rattle.spec_sheet.specs.SheetReading.{pair, Lists, Line, listOf, lineOf, bodyOf, cutLine, line, readLine, breaksKey, degreesKey}
 use Rattle.spec_sheet.specs.SheetReading.{ordersKey, coefsKey, atKey, ended, fiveLines, listLimit, textLimit, read}
 use Rattle.sheet_lines.specs.Machine.{ListAt}
-use Rattle.sheet_read.specs.Machine.{numeralsOf, numerals, reply}
-use Rattle.sheet_read.specs.Machine.{ListFits, ListPut, EndsAs}
+use Rattle.sheet_read.specs.Machine.{numeralsOf, numerals, reply, ListFits, ListPut, EndsAs}
 use Rattle.spec_sheet.specs.ReadSheet.{overwritten, Lengths, lengths, counted, after, readEnd}
 use Rattle.sheet_read.specs.declared.Lists.{Lists as Answer}
 use Rattle.sheet_read.specs.declared.Lists.the-variants.{Read, Refused}
@@ -64,8 +63,7 @@ numerals-at {text} {zs} {start} {end} at =
     record {
       range = at .range;
       are = plain-numerals (slice start end text) zs (at .list);
-      few =
-          list-few numeral (slice start end text) zs (at .list);
+      few = list-few numeral (slice start end text) zs (at .list);
     }
 
 -- two numbers for each pair

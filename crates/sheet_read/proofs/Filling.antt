@@ -34,8 +34,7 @@ unfolding numeralsOf
 numerals-empty text to = ap numeralsOf (slice-empty to text)
 
 pub filled-start : (t : Text) → 0 < length t → (zs before : List ℤ) → numeralsOf t ≡ some zs → length zs ≤ length before → Filled zs t before before 0
-filled-start t h zs before e room =
-    record { up-to = omega arith; room = room; others = sym (numerals-fields t h) ∙ e; written = refl }
+filled-start t h zs before e room = record { up-to = omega arith; room = room; others = sym (numerals-fields t h) ∙ e; written = refl }
 
 pub prepended-some : {A : Type 0} (a : Option A) (o : Option (List A)) (l : List A) → prepended a o ≡ some l
     → (x : A) × (ys : List A) × (a ≡ some x) × (o ≡ some ys) × (l ≡ x ∷ ys)

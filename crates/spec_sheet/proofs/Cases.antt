@@ -3,7 +3,6 @@
 use mathlib.Core.List.{List, [], _∷_, _++_}
 use mathlib.Core.Path.{_≡_, refl, ap, _∙_}
 use Prim.Native.Nat.{ℕ}
-use native.Mathlib.Omega.{arith}
 use lib.IntN.{ℤ, pos, negsuc}
 use Rattle.base_exact.proofs.Decide.{clash}
 use Rattle.base_outcome.specs.Outcome.{Outcome, answer, refusal, capped, with-answer}
@@ -27,8 +26,7 @@ module _ (xs : List ℤ) (n : ℕ) (ws : List Weight) (vs : List ℤ) where
   unfolding outcomeText answerText
   shown-prints (answer r) e =
       let same : shown (r .table) (r .values) ≡ record { rows = n; weights = ws; values = forBoth vs } = cc in
-      ap
-      (λ (a : Answered). countLine (a .rows)
+      ap (λ (a : Answered). countLine (a .rows)
       ++ (weightLines (a .weights) ++ (valueLines xs (a .values) ++ lowLines (sorted (lowPositions xs (a .values)))))) same
   shown-prints (refusal code place) e = clash cc
 

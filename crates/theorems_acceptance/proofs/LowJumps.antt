@@ -54,8 +54,7 @@ module _ {s : Space} {join k : ℕ} {t : Table} (A : At s join k) (R : Reached s
   left-start : k ≤ 1 → Unit t (firstColumn s join + (degree s join - k + 0)) f
   unfolding f
   left-start w = unit join (degree s join - k + 0) (left-segment A) (omega (arith, room A)) f
-      (start-low (spanning A))
-      (start-high-low (spanning A) w)
+      (start-low (spanning A)) (start-high-low (spanning A) w)
 
   left-end : k ≡ 1 → Unit t (firstColumn s join + (degree s join - k + 1)) (suc f)
   unfolding f

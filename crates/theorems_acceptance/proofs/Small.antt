@@ -24,9 +24,6 @@ pub record Small (n : ℕ) (q : ℚ) : Type 0 where
   pub numerator : natAbs (q .num) ≤ n
   pub denominator : den q ≤ n
 
-pub small-more : {m n : ℕ} {q : ℚ} → m ≤ n → Small m q → Small n q
-small-more h s = record { numerator = omega (arith, s .numerator); denominator = omega (arith, s .denominator) }
-
 -- ---- the size test
 
 pub fits-small : (n : ℕ) (q : ℚ) → suc n ≡ limit → fits q ≡ true → Small n q

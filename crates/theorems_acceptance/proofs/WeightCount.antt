@@ -50,8 +50,7 @@ module _ (test : ℕ → Bool) (low high : ℕ) (yes : (i : ℕ) → low ≤ i �
 support-count : (t : Table) (c low high : ℕ) → Support (λ i. cell t i c) low high → low ≤ high → weightCount t c ≡ suc high - low
 support-count t c low high S o =
     counted-whole (hasWeight t c) low high (λ i a b. ap not (nonzero-test (pos-nonzero (S .positive i a b)))) (λ i a. ap not (zero-test (S .below i a)))
-    (λ i a. ap not (zero-test (S .above i a)))
-    (length t) (inside (le-or-lt (length t) high)) o
+    (λ i a. ap not (zero-test (S .above i a))) (length t) (inside (le-or-lt (length t) high)) o
   where
     inside : (length t ≤ high) ⊎ (high < length t) → high < length t
     inside (inl h) = absurd (pos-nonzero (S .positive high o (omega arith)) (cell-past t high c h))

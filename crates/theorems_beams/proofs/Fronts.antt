@@ -112,9 +112,6 @@ front-rows s (suc a) A =
 pub part-rows : (s : Space) (F : OrdersFit s) (a : ℕ) → Starts s a → Starts s (partEnd s a) → rowsBefore s (partEnd s a) ≡ rowsBefore s a + rowCount (partAt s a)
 part-rows s F a A B = sym (front-rows s (partEnd s a) B) ∙ front-rows-more s F a A
 
-pub last-part-rows : (s : Space) → Lengths s → OrdersFit s → (a : ℕ) → Starts s a → partEnd s a ≡ segments s → rowCount s ≡ rowsBefore s a + rowCount (partAt s a)
-last-part-rows s L F a A e = ap rowCount (sym (section-all s L)) ∙ ap (λ m. rowCount (section s 0 m)) (sym e) ∙ front-rows-more s F a A
-
 -- a front has no more rows than the beam
 pub front-rows-within : (s : Space) → Lengths s → OrdersFit s → (b : ℕ) → Boundary s b → rowCount (section s 0 b) ≤ rowCount s
 front-rows-within s L F b B = go (le-or-lt (segments s) b)

@@ -106,8 +106,7 @@ pub joins-table : (s : Space) (ordinates : List ℤ) (n : ℕ) {r : Combination}
 unfolding recoverJoins joinSteps repeat
 joins-table s ordinates n {r} e =
     repeat-keeps (λ j b. repeat j (λ j. orderSteps s j (conditionCount s j)) (identity (columnCount s)) ≡ answer (b .table)) n
-    (λ j. recoverOrders s j (conditionCount s j))
-    (record { table = identity (columnCount s); coefficients = map int ordinates }) refl
+    (λ j. recoverOrders s j (conditionCount s j)) (record { table = identity (columnCount s); coefficients = map int ordinates }) refl
     (λ j b c m Q q. repeat-more j (λ j. orderSteps s j (conditionCount s j)) (identity (columnCount s)) Q ∙ orders-table s j (conditionCount s j) b q) r e
 
 -- and so are its refusals
@@ -124,8 +123,7 @@ orders-first s j n r {code} {place} told e = go (repeat-refuses n (λ k. recover
 pub eight-and-nine-are-the-builds : EightAndNineAreTheBuilds
 unfolding recovered recoverJoins weights joinSteps
 eight-and-nine-are-the-builds s ordinates code place told e =
-    go
-    (repeat-refuses (segments s - 1) (λ j. recoverOrders s j (conditionCount s j))
+    go (repeat-refuses (segments s - 1) (λ j. recoverOrders s j (conditionCount s j))
     (record { table = identity (columnCount s); coefficients = map int ordinates }) e)
   where
     go : Halted (segments s - 1) (λ j. recoverOrders s j (conditionCount s j))

@@ -212,8 +212,7 @@ module _ (width j : ℕ) (κ : List Entry) (r r′ : Combination) (count : lengt
   unfolding w
   null =
       null-space (P .own .js) (P .own .ws) f l (length (r .table)) J (jumps-inverts j κ (r .table) (P .own .has-jumps) .1) (span-below (P .own))
-      (step-spans (P .own))
-      (step-factors (P .own)) zero-sum
+      (step-spans (P .own)) (step-factors (P .own)) zero-sum
 
   annihilated : sum (length (r .table)) (λ i. old i *ᵠ J i) ≡ int (pos 0)
   annihilated = sum-of-jumps j κ (r .table) (r .coefficients) (P .own .js) (P .own .has-jumps) ∙ P .balance

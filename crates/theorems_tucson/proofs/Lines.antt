@@ -104,8 +104,7 @@ columns-are body n e = omega (arith, e)
 columns-fit-yes : (body : Text) (n : ℕ) → length body ≡ headColumns + n * fieldColumns → 1 ≤ n → n ≤ decade → columnsFit body ≡ true
 unfolding columnsFit
 columns-fit-yes body n e h k =
-    rw (columns-are body n e)
-    (rw (eq-eqb (length body) (headColumns + n * fieldColumns) e, le-leb 1 n h, le-leb n decade k))
+    rw (columns-are body n e) (rw (eq-eqb (length body) (headColumns + n * fieldColumns) e, le-leb 1 n h, le-leb n decade k))
 
 module _ (l : Line) (f : LineHeld l) where
   name-length : length (l .name) ≡ nameColumns

@@ -38,9 +38,7 @@ record OfLine (line code place : ℕ) : Type 0 where
   is : capped line ≡ place
 
 refused-with : {A : Type 0} {o : Outcome A} {code place : ℕ} (n line : ℕ) → 11 ≤ n → n ≤ 13 → o ≡ refuse n line → o ≡ refusal code place → OfLine line code place
-refused-with n line l m e f =
-    let same = refusal-code e f in
-    record { least = omega arith; most = omega arith; is = refusal-place e f }
+refused-with n line l m e f = let same = refusal-code e f in record { least = omega arith; most = omega arith; is = refusal-place e f }
 
 module _ (line : ℕ) (b : Option Begun) (more : Bool) (code place : ℕ) where
   closing-refuses : (c : Begun) (l : Line) → closing line c l ≡ refusal code place → OfLine line code place

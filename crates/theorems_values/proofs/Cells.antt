@@ -120,5 +120,4 @@ cells-are-close s coefs positions numLength denLength valuesLength l before k h 
     (value-close l k h wood)
 
 pub cells-past-are-kept : CellsPastAreKept
-cells-past-are-kept s coefs positions numLength denLength valuesLength l before e =
-    (cells-length l before e, cells-past-kept l before)
+cells-past-are-kept s coefs positions numLength denLength valuesLength l before e = (cells-length l before e, cells-past-kept l before)

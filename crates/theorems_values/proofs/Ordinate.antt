@@ -118,8 +118,7 @@ module _ (t : Table) (a : ℕ → ℤ) (c : ℕ) where
     ordinate-within = subst (Within (halves (howMany (length t) (hasWeight t c))) (exactOrdinate t a c)) ordinate-is
         (lowered-within (nn-halves (howMany (length t) (hasWeight t c))) (exact-at-most (high .value) (le-greatest (hasWeight t c) a (length t) (high .is-best)))
         (raised-within (nn-halves (howMany (length t) (hasWeight t c))) (exact-at-least (low .value) (least-le (hasWeight t c) a (length t) (low .is-best)))
-        (sum-within t a c (length t))
-        (raise (termSum t a c (length t)) (fine (low .value)))) (lower _ (fine (high .value))))
+        (sum-within t a c (length t)) (raise (termSum t a c (length t)) (fine (low .value)))) (lower _ (fine (high .value))))
 
     -- and the ordinate is between 256 times any bounds of the coefficients with weight
     pub ordinate-between : (l u : ℤ) → ((i : ℕ) → i < length t → hasWeight t c i ≡ true → l ≤ℤ a i) → ((i : ℕ) → i < length t → hasWeight t c i ≡ true → a i ≤ℤ u)

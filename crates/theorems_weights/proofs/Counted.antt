@@ -182,16 +182,7 @@ judged-refuses (t ∷ xs) a {code} {place} h = go (passes t) refl h (λ e. judge
       code-is = F .code-is;
       place-is = F .place-is;
     }
-    go false p e ih = record {
-      before = [];
-      failing = t;
-      after = xs;
-      parts = refl;
-      passed = refl;
-      fails = p;
-      code-is = cc;
-      place-is = cc;
-    }
+    go false p e ih = record { before = []; failing = t; after = xs; parts = refl; passed = refl; fails = p; code-is = cc; place-is = cc }
 
 -- ---- one step by itself
 

@@ -167,8 +167,7 @@ module _ (c : ℕ) (cs : Text) (e : anySpecial (c ∷ cs) ≡ false) where
 pub plain-fault : (line : ℕ) (t : Text) → anySpecial t ≡ false → faultLine line t ≡ none
 unfolding faultLine
 plain-fault line [] e = refl
-plain-fault line (c ∷ cs) e =
-    rw (high c cs e .0, no-fault c cs e) (plain-fault (lineAfter c line) cs (parts c cs e .1))
+plain-fault line (c ∷ cs) e = rw (high c cs e .0, no-fault c cs e) (plain-fault (lineAfter c line) cs (parts c cs e .1))
 
 -- and no byte 26
 pub plain-index : (t : Text) → anySpecial t ≡ false → indexOf substitute t ≡ length t

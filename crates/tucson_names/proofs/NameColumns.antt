@@ -103,8 +103,7 @@ behind-no i t h e =
 pub year-by-bytes : (t : Text)
     → yearInName t ≡ (isSign (getD t 7 0) || (digitsIn 8 5 t && (isSign (getD t 6 0) || eqb (getD t 6 0) blank)))
 unfolding yearInName
-year-by-bytes t =
-    ap₂ (λ (c d : ℕ). isSign c || (digitsIn 8 5 t && (isSign d || eqb d blank))) (column-at 7 t) (column-at 6 t)
+year-by-bytes t = ap₂ (λ (c d : ℕ). isSign c || (digitsIn 8 5 t && (isSign d || eqb d blank))) (column-at 7 t) (column-at 6 t)
 
 pub number-by-bytes : (t : Text) → endsInNumber t ≡ (isDigit (getD t 7 0) && digitsBehind 8 t)
 unfolding endsInNumber
@@ -113,8 +112,7 @@ number-by-bytes t = ap (λ (c : ℕ). isDigit c && digitsBehind 8 t) (column-at 
 pub shifted-by-bytes : (t : Text)
     → isShifted t ≡ (eqb (getD t 0 0) blank || (endsInNumber t || (eqb (length t) 18 && anyBlank (trimmed (nameOf t)))))
 unfolding isShifted
-shifted-by-bytes t =
-    ap (λ (c : ℕ). eqb c blank || (endsInNumber t || (eqb (length t) 18 && anyBlank (trimmed (nameOf t))))) (column-at 0 t)
+shifted-by-bytes t = ap (λ (c : ℕ). eqb c blank || (endsInNumber t || (eqb (length t) 18 && anyBlank (trimmed (nameOf t))))) (column-at 0 t)
 
 -- ---- a blank inside
 

@@ -191,13 +191,7 @@ module _ (given : Given) where
       )
 
       pub write-ready : WriteAsks text names years counts widths
-      write-ready = record {
-        good = rw e;
-        names-fit = rw e long-names;
-        years-fit = rw e hy;
-        counts-fit = rw e hc;
-        widths-fit = rw e hw;
-      }
+      write-ready = record { good = rw e; names-fit = rw e long-names; years-fit = rw e hy; counts-fit = rw e hc; widths-fit = rw e hw }
 
       pub read-answers : {series : ℕ} → length ss ≡ series → {ns : List ℕ} {ys : List ℤ} {cs : List ℕ} {ws : List ℤ}
           → Written text names years counts widths ns ys cs ws → Ends (answer-cases.Count series) ns ys cs ws

@@ -108,8 +108,7 @@ module _ {text : Text} {from lines series total : ℕ} {begun : Bool} {next : �
 
     pub scans-refused : {code : ℕ} → Told lines b step (passed-cases.Refused code) → scanned-cases.Refused code (capped lines) ≡ scanTold 0 0 (readText text)
     unfolding scanTold
-    scans-refused {code} h =
-        sym (so-far ∙ ap ended-by (refused-step lines b step code h))
+    scans-refused {code} h = sym (so-far ∙ ap ended-by (refused-step lines b step code h))
 
     pub scans-next : {more : Bool} {n : ℕ} {y : ℤ} {all : Bool} → Told lines b step (passed-cases.On more n y all) → Ahead text from end more n
         → Scans text (end + 1) (lines + 1) (series + cond more 0 1) (total + n) more y all

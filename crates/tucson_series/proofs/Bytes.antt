@@ -74,6 +74,5 @@ all-counted (y ∷ years) names (n ∷ counts) widths k before f e =
       widths-fit = omega (arith, f .widths-fit, length-drop n widths);
     } in
     more-counted y years n counts (series name y ws) (seriesOf (drop nameColumns names) years counts (drop n widths))
-    (ap (closingFits y) (sym size) ∙ dated)
-    (series-length name (w .named) y ws (w .measured) dated ∙ ap (seriesBytes y) size)
+    (ap (closingFits y) (sym size) ∙ dated) (series-length name (w .named) y ws (w .measured) dated ∙ ap (seriesBytes y) size)
     (all-counted years (drop nameColumns names) counts (drop n widths) (suc k) name rest (parts .1))

@@ -54,10 +54,8 @@ module _ (t : Text) (short : length t ≤ textLimit) where
             let n = years-count ss in
             roomy-reads t names years counts widths ss e
             (room-yes ss (length names) (length years) (length counts) (length widths)
-            (omega (arith, cells .names-are, f .names-fit))
-            (omega (arith, cells .years-are))
-            (omega (arith, cells .counts-are, f .counts-fit))
-            (omega (arith, cells .widths-are)))
+            (omega (arith, cells .names-are, f .names-fit)) (omega (arith, cells .years-are))
+            (omega (arith, cells .counts-are, f .counts-fit)) (omega (arith, cells .widths-are)))
         go (refusal code place) e = then-refuses _ e
 
     -- so a refusal is printed as it is

@@ -88,7 +88,7 @@ checked-requires c κs =
 returns : tie.Need-returns
 unfolding value
 returns c =
-    let s = start (c .before .before .before .before .before) in
+    let m = c .before .before .before .before .before in let s = start m in
     let an = a-num s in
     let ad = a-den s in
     let bn = b-num s in

@@ -44,9 +44,6 @@ module _ (c : tie.Else1) where
   above-fits : SFits w64 (quotZ (c .before .args .a) (c .before .args .d))
   above-fits = sfits-le (quot-mag (c .before .args .a) (c .before .args .d) above (c .before .pre)) (c .before .fits .a)
 
-sub-result : tie.Need-sub-result
-sub-result c = let f = c .before .fits .a in simp toZ-ofZ (turned-fits c)
-
 div-result : tie.Need-div-result
 div-result c =
     let f = c .before .fits .a in
@@ -63,10 +60,7 @@ sub-result-2 c =
     simp toZ-ofZ (floor-fits c)
 
 div-result-2 : tie.Need-div-result-2
-div-result-2 c =
-    let f = c .before .fits .a in
-    let g = c .before .fits .d in
-    (divisor _ (c .before .pre), simp toZ-ofZ (above-fits c))
+div-result-2 c = let f = c .before .fits .a in let g = c .before .fits .d in (divisor _ (c .before .pre), simp toZ-ofZ (above-fits c))
 
 returns : tie.Need-returns
 returns c =
@@ -85,4 +79,6 @@ returns-2 c =
     simp toZ-ofZ (quot-floor _ _ (above c) (c .before .pre))
 
 pub floor-div-spec : {M : Type 1} → statement M
-floor-div-spec = tie.close (tie.spec sub-result div-result sub-result-2 div-result-2 returns returns-2)
+floor-div-spec =
+    tie.close (tie.spec (λ c. let f = c .before .fits .a in simp toZ-ofZ (turned-fits c)) div-result sub-result-2 div-result-2 returns
+    returns-2)

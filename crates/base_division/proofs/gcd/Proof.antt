@@ -13,12 +13,6 @@ Inv-loop a b x₀ y₀ x y = gcd x y ≡ gcd a b
 abbrev μ-loop : tie.MeasureT-loop
 μ-loop a b x₀ y₀ x y = y
 
-loop-holds : tie.Need-loop-holds Inv-loop μ-loop
-loop-holds c = refl
-
-loop-less : tie.Need-loop-less Inv-loop μ-loop
-loop-less c = mod-lt (c .before .loop .x) (c .loop-test .taken)
-
 loop-again : tie.Need-loop-again Inv-loop μ-loop
 loop-again c = sym (gcd-step (c .before .loop .x) (c .before .loop .y) (c .loop-test .taken)) ∙ c .before .loop .inv
 
@@ -26,4 +20,6 @@ returns : tie.Need-returns Inv-loop μ-loop
 returns c = let e : c .before .loop .y ≡ 0 = omega arith in sym (gcd-zero (c .before .loop .x)) ∙ ap (gcd (c .before .loop .x)) (sym e) ∙ c .before .loop .inv
 
 pub gcd-spec : {M : Type 1} → statement M
-gcd-spec = tie.close (tie.spec Inv-loop μ-loop loop-holds (λ c. omega arith) loop-less loop-again returns)
+gcd-spec =
+    tie.close (tie.spec Inv-loop μ-loop (λ c. refl) (λ c. omega arith) (λ c. mod-lt (c .before .loop .x) (c .loop-test .taken)) loop-again
+    returns)

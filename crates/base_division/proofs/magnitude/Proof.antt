@@ -23,9 +23,6 @@ fits c = rw (turned c) (record { sfits = c .before .fits .a .sfits })
 above : (c : tie.Else1) → pos 0 ≤ℤ c .before .args .a
 above c = let f = c .before .fits .a in ltZ-false _ _ (simp toZ-ofZ at (c .if1 .left))
 
-sub-result : tie.Need-sub-result
-sub-result c = let f = c .before .fits .a in simp toZ-ofZ (fits c)
-
 cast-result : tie.Need-cast-result
 cast-result c =
     let f = c .before .fits .a in
@@ -33,19 +30,15 @@ cast-result c =
     simp toZ-ofZ (simp (turned c) (tt, omega (arith, c .before .fits .a .sfits)))
 
 add-result : tie.Need-add-result
-add-result c =
-    let f = c .before .fits .a in
-    let g = fits c in
-    simp toZ-ofZ (simp (turned c) (omega (arith, c .before .fits .a .sfits)))
+add-result c = let f = c .before .fits .a in let g = fits c in simp toZ-ofZ (simp (turned c) (omega (arith, c .before .fits .a .sfits)))
 
 cast-result-2 : tie.Need-cast-result-2
 cast-result-2 c = let f = c .before .fits .a in simp toZ-ofZ (yes-nonNeg (above c), omega (arith, natAbs-le (c .before .args .a) (c .before .fits .a .sfits)))
 
 returns : tie.Need-returns
-returns c =
-    let f = c .before .fits .a in
-    let g = fits c in
-    simp toZ-ofZ (simp (turned c, abs-neg-mag (c .before .args .a) (below c)))
+returns c = let f = c .before .fits .a in let g = fits c in simp toZ-ofZ (simp (turned c, abs-neg-mag (c .before .args .a) (below c)))
 
 pub magnitude-spec : {M : Type 1} → statement M
-magnitude-spec = tie.close (tie.spec sub-result cast-result add-result cast-result-2 returns (λ c. search needs))
+magnitude-spec =
+    tie.close (tie.spec (λ c. let f = c .before .fits .a in simp toZ-ofZ (fits c)) cast-result add-result cast-result-2 returns
+    (λ c. search needs))

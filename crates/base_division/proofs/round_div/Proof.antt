@@ -40,18 +40,6 @@ module _ (c : tie.Start) where
   divisor-positive : pos 0 <ℤ (d +ℤ d)
   divisor-positive = +-mono-< (pos 0) d (pos 0) d positive (<-≤ (pos 0) d positive)
 
-add-floor-div : tie.Need-add-floor-div
-add-floor-div c = let f = c .fits .a in simp toZ-ofZ (double-fits c)
-
-add-floor-div-2 : tie.Need-add-floor-div-2
-add-floor-div-2 c = let f = c .fits .a in let g = c .fits .d in let h = double-fits c in simp toZ-ofZ (dividend-fits c)
-
-add-floor-div-3 : tie.Need-add-floor-div-3
-add-floor-div-3 c = let g = c .fits .d in simp toZ-ofZ (divisor-fits c)
-
-floor-div-requires : tie.Need-floor-div-requires
-floor-div-requires c κs = let g = c .fits .d in let k = divisor-fits c in simp toZ-ofZ (divisor-positive c)
-
 returns : tie.Need-returns
 returns c =
     let s = c .before in
@@ -64,4 +52,8 @@ returns c =
     simp toZ-ofZ ((simp toZ-ofZ at (c .floor-div .ensures)) ∙ floor-nearest (s .args .a) (s .args .d) (positive s))
 
 pub round-div-spec : {M : Type 1} → statement M
-round-div-spec = tie.close (tie.spec add-floor-div add-floor-div-2 add-floor-div-3 floor-div-requires returns)
+round-div-spec =
+    tie.close (tie.spec (λ c. let f = c .fits .a in simp toZ-ofZ (double-fits c))
+    (λ c. let f = c .fits .a in let g = c .fits .d in let h = double-fits c in simp toZ-ofZ (dividend-fits c))
+    (λ c. let g = c .fits .d in simp toZ-ofZ (divisor-fits c))
+    (λ c κs. let g = c .fits .d in let k = divisor-fits c in simp toZ-ofZ (divisor-positive c)) returns)

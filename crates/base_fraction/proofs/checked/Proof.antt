@@ -28,7 +28,7 @@ num-is c =
     let f : SFits w64 (l .lowest .result .num) = record { sfits = c .before .struct-told .given .0 .1 } in
     (simp toZ-ofZ at (c .magnitude .ensures)) ∙ ap (λ t. natAbs (t .num)) (lowest-is l)
 
-den-is : (c : tie.After-magnitude2) → c .magnitude2 .result ≡ den (q (c .before .before .before .before .before))
+den-is : (c : tie.After-magnitude2) → let l = c .before .before .before .before .before in c .magnitude2 .result ≡ den (q l)
 unfolding fraction
 den-is c =
     let l = c .before .before .before .before .before in
@@ -39,7 +39,7 @@ returns : tie.Need-returns
 returns c = let p = q (c .before .before .before) in sym (answer-large p (num-large p (omega (arith, num-is (c .before)))))
 
 returns-2 : tie.Need-returns-2
-returns-2 c = let p = q (c .before .before .before .before .before .before) in sym (answer-large p (den-large p (omega (arith, den-is (c .before)))))
+returns-2 c = let l = c .before .before .before .before .before .before in let p = q l in sym (answer-large p (den-large p (omega (arith, den-is (c .before)))))
 
 returns-3 : tie.Need-returns-3
 returns-3 c =
@@ -48,6 +48,4 @@ returns-3 c =
     ∙ sym (answer-fits (q l) (small-fits (q l) (omega (arith, num-is (c .before .before .before .before))) (omega (arith, den-is (c .before)))))
 
 pub checked-spec : {M : Type 1} → statement M
-checked-spec =
-    tie.close
-    (tie.spec (λ c κs. search needs) (λ c κs. search needs) returns (λ c κs. search needs) returns-2 returns-3)
+checked-spec = tie.close (tie.spec (λ c κs. search needs) (λ c κs. search needs) returns (λ c κs. search needs) returns-2 returns-3)

@@ -66,9 +66,6 @@ module _ (c : tie.After-gcd) where
   lowest-terms : record { num = quotZ n (pos g); den = quotZ d (pos g) } ≡ fraction (ratio n d)
   lowest-terms = fraction-ratio n d g (c .before .before .pre) g-is
 
-cast-g : tie.Need-cast-g
-cast-g c = record { sfits = g-small c }
-
 div-t7 : tie.Need-div-t7
 div-t7 c = let f = c .before .before .fits .n in (g-pos c, simp (toZ-ofZ, toZ-pos w64 (c .gcd .result) (g-small c)) (num-fits c))
 
@@ -84,4 +81,5 @@ returns c =
     simp (toZ-ofZ, toZ-pos w64 (c .gcd .result) (g-small c)) (lowest-terms c)
 
 pub lowest-spec : {M : Type 1} → statement M
-lowest-spec = tie.close (tie.spec (λ c κs. search needs) cast-gcd (λ c κs. search needs) cast-g div-t7 div-t8 returns)
+lowest-spec =
+    tie.close (tie.spec (λ c κs. search needs) cast-gcd (λ c κs. search needs) (λ c. record { sfits = g-small c }) div-t7 div-t8 returns)

@@ -15,15 +15,12 @@ Inv-loop n count₀ rest₀ count rest = length (digits n) + 1 ≡ count + lengt
 abbrev μ-loop : tie.MeasureT-loop
 μ-loop n count₀ rest₀ count rest = rest
 
-add-count : tie.Need-add-count Inv-loop μ-loop
-add-count c = omega (arith, digits-length-le 19 (c .before .before .args .n) (omega arith))
-
-loop-again : tie.Need-loop-again Inv-loop μ-loop
-loop-again c = omega (arith, digits-length-large (c .before .loop .rest) (c .loop-test .taken))
-
 returns : tie.Need-returns Inv-loop μ-loop
 returns c =
     omega (arith, digits-length-small (c .before .loop .rest) (c .loop-test .left), digits-length-le 19 (c .before .before .args .n) (omega arith))
 
 pub digit-count-spec : {M : Type 1} → statement M
-digit-count-spec = tie.close (tie.spec Inv-loop μ-loop (λ c. omega arith) add-count (λ c. omega arith) loop-again returns)
+digit-count-spec =
+    tie.close (tie.spec Inv-loop μ-loop (λ c. omega arith)
+    (λ c. omega (arith, digits-length-le 19 (c .before .before .args .n) (omega arith))) (λ c. omega arith)
+    (λ c. omega (arith, digits-length-large (c .before .loop .rest) (c .loop-test .taken))) returns)

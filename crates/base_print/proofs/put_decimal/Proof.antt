@@ -18,23 +18,25 @@ use Rattle.base_print.proofs.put_decimal.Tie as tie
 
 returns : tie.Need-returns
 returns c =
-    let s = c .before .before .before .before .before .before .before .before .before .before .before in
+    let d = c .before .before .before .before .before .before in
+    let m = d .before .before .before in
+    let s = m .before .before in
     let f : SFits w64 (s .args .z) = s .fits .z in
-    let below : ltZ (s .args .z) (pos 0) ≡ true = simp toZ-ofZ at (c .before .before .before .before .before .before .before .before .if1 .taken) in
-    let size : c .before .before .before .before .before .before .before .before .before .magnitude .result ≡ natAbs (s .args .z) =
-    simp toZ-ofZ at (c .before .before .before .before .before .before .before .before .before .magnitude .ensures) in
+    let below : ltZ (s .args .z) (pos 0) ≡ true = simp toZ-ofZ at (d .before .before .if1 .taken) in
+    let size : m .magnitude .result ≡ natAbs (s .args .z) = simp toZ-ofZ at (m .magnitude .ensures) in
     puts-as (ap (λ k. minus ∷ digits k) size ∙ sym (decimal-negative (s .args .z) (ltZ-true _ _ below)))
-    (puts-within (omega arith)
-    (puts-then (c .before .before .before .before .before .before .put .ensures) (c .before .before .put-digits .ensures)))
+    (puts-within (omega arith) (puts-then (d .put .ensures) (c .before .before .put-digits .ensures)))
 
 returns-2 : tie.Need-returns-2
 returns-2 c =
-    let s = c .before .before .before .before .before .before .before in
+    let m = c .before .before .before .before .before in
+    let s = m .before .before in
     let f : SFits w64 (s .args .z) = s .fits .z in
     let natural : ltZ (s .args .z) (pos 0) ≡ false = simp toZ-ofZ at (c .before .before .before .before .if1 .left) in
-    let size : c .before .before .before .before .before .magnitude .result ≡ natAbs (s .args .z) =
-    simp toZ-ofZ at (c .before .before .before .before .before .magnitude .ensures) in
+    let size : m .magnitude .result ≡ natAbs (s .args .z) = simp toZ-ofZ at (m .magnitude .ensures) in
     puts-as (ap digits size ∙ sym (decimal-natural (s .args .z) (ltZ-false _ _ natural))) (puts-within (omega arith) (c .before .before .put-digits2 .ensures))
 
 pub put-decimal-spec : {M : Type 1} → statement M
-put-decimal-spec = tie.close (tie.spec (λ c κs. search needs) (λ c κs. search needs) (λ c κs. search needs) (λ c. search needs) returns (λ c κs. search needs) (λ c. search needs) returns-2)
+put-decimal-spec =
+    tie.close (tie.spec (λ c κs. search needs) (λ c κs. search needs) (λ c κs. search needs) (λ c. search needs) returns
+    (λ c κs. search needs) (λ c. search needs) returns-2)

@@ -25,9 +25,6 @@ Inv-loop out₀ at n count rest₀ i₀ out rest i = Inv out₀ at n count out r
 abbrev μ-loop : tie.MeasureT-loop
 μ-loop out₀ at n count rest₀ i₀ out rest i = i
 
-digit-count-requires : tie.Need-digit-count-requires Inv-loop μ-loop
-digit-count-requires c κs = tt
-
 loop-holds : tie.Need-loop-holds Inv-loop μ-loop
 loop-holds c =
     let n = c .before .before .args .n in
@@ -57,9 +54,6 @@ loop-again c =
           ∙ written-prepend (a .at + (l .i - 1)) (lastDigit (l .rest)) (v .behind) (a .out .now);
     }
 
-same-length : tie.Need-same-length Inv-loop μ-loop
-same-length c = ap length (c .before .loop .inv .out-is) ∙ written-length _ _ _
-
 returns : tie.Need-returns Inv-loop μ-loop
 unfolding lastDigits
 returns c =
@@ -77,5 +71,7 @@ returns c =
     }
 
 pub put-digits-spec : {M : Type 1} → statement M
-put-digits-spec = tie.close (tie.spec Inv-loop μ-loop digit-count-requires loop-holds (λ c. omega arith) (λ c. omega arith) (λ c. omega arith)
-    (λ c. omega arith) (λ c κs. omega arith) (λ c. omega arith) loop-again (λ c. omega arith) same-length returns)
+put-digits-spec =
+    tie.close (tie.spec Inv-loop μ-loop (λ c κs. tt) loop-holds (λ c. omega arith) (λ c. omega arith) (λ c. omega arith) (λ c. omega arith)
+    (λ c κs. omega arith) (λ c. omega arith) loop-again (λ c. omega arith)
+    (λ c. ap length (c .before .loop .inv .out-is) ∙ written-length _ _ _) returns)

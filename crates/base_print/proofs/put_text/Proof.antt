@@ -20,9 +20,6 @@ Inv-loop out₀ at text next₀ i₀ out next i = Inv out₀ at text out next i
 abbrev μ-loop : tie.MeasureT-loop
 μ-loop out₀ at text next₀ i₀ out next i = length text - i
 
-loop-holds : tie.Need-loop-holds Inv-loop μ-loop
-loop-holds c = record { within = omega arith; put = puts-none _ _ }
-
 loop-again : tie.Need-loop-again Inv-loop μ-loop
 loop-again c =
     let l = c .before .before .before .before .before .before .loop in
@@ -32,9 +29,6 @@ loop-again c =
       put = rw (add-one, take-suc text (l .i) 0 (omega arith)) (puts-within (omega arith) (puts-then (l .inv .put) (c .before .before .put .ensures)));
     }
 
-same-length : tie.Need-same-length Inv-loop μ-loop
-same-length c = puts-length (c .before .loop .inv .put)
-
 returns : tie.Need-returns Inv-loop μ-loop
 returns c =
     let l = c .before .loop in
@@ -42,4 +36,6 @@ returns c =
     rw (take-all (l .i) text (omega arith)) at (puts-within (l .inv .within) (l .inv .put))
 
 pub put-text-spec : {M : Type 1} → statement M
-put-text-spec = tie.close (tie.spec Inv-loop μ-loop loop-holds (λ c. omega arith) (λ c κs. omega arith) (λ c. omega arith) (λ c. omega arith) loop-again same-length returns)
+put-text-spec =
+    tie.close (tie.spec Inv-loop μ-loop (λ c. record { within = omega arith; put = puts-none _ _ }) (λ c. omega arith) (λ c κs. omega arith)
+    (λ c. omega arith) (λ c. omega arith) loop-again (λ c. puts-length (c .before .loop .inv .put)) returns)

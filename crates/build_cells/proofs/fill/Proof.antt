@@ -25,9 +25,6 @@ Inv-loop cells₀ value from to k₀ cells k = Inv cells₀ cells (toZ w64 value
 abbrev μ-loop : tie.MeasureT-loop
 μ-loop cells₀ value from to k₀ cells k = to - k
 
-loop-holds : tie.Need-loop-holds Inv-loop μ-loop
-loop-holds c = record { passed = omega arith; within = c .pre .0; is = filled-none _ _ _; long = refl }
-
 loop-again : tie.Need-loop-again Inv-loop μ-loop
 loop-again c =
     let l = c .before .loop in
@@ -39,9 +36,6 @@ loop-again c =
       long = simp length-set (v .long);
     }
 
-same-length : tie.Need-same-length Inv-loop μ-loop
-same-length c = c .before .loop .inv .long
-
 returns : tie.Need-returns Inv-loop μ-loop
 returns c =
     let s = c .before .before .args in
@@ -51,4 +45,6 @@ returns c =
     (simp toZ-ofZ at (v .is)) ∙ ap (λ (k : ℕ). filled (s .from) k (s .value) (s .cells .now)) e
 
 pub fill-spec : {M : Type 1} → statement M
-fill-spec = tie.close (tie.spec Inv-loop μ-loop loop-holds (λ c. omega arith) (λ c. omega arith) (λ c. omega arith) (λ c. omega arith) loop-again same-length returns)
+fill-spec =
+    tie.close (tie.spec Inv-loop μ-loop (λ c. record { passed = omega arith; within = c .pre .0; is = filled-none _ _ _; long = refl })
+    (λ c. omega arith) (λ c. omega arith) (λ c. omega arith) (λ c. omega arith) loop-again (λ c. c .before .loop .inv .long) returns)

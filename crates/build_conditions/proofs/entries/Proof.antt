@@ -47,9 +47,6 @@ Inv-loop k s values₀ count e₀ values e = (e ≤ 2 * k + 2) × (values ≡ fi
 abbrev μ-loop : tie.MeasureT-loop
 μ-loop k s values₀ count e₀ values e = 2 * k + 2 - e
 
-loop-holds : tie.Need-loop-holds Inv-loop μ-loop
-loop-holds c = (omega arith, tab-none _ _)
-
 entry-requires : tie.Need-entry-requires Inv-loop μ-loop
 entry-requires c κs =
     let b = c .before .before in
@@ -79,18 +76,5 @@ returns c = λ s j i.
 
 pub entries-spec : {M : Type 1} → statement M
 entries-spec =
-    tie.close
-    (tie.spec
-    Inv-loop
-    μ-loop
-    (λ c κs. search needs)
-    (λ c. omega arith)
-    (λ c. omega arith)
-    loop-holds
-    entry-requires
-    (λ c. omega arith)
-    (λ c. omega arith)
-    (λ c. omega arith)
-    (λ c. omega arith)
-    loop-again
-    returns)
+    tie.close (tie.spec Inv-loop μ-loop (λ c κs. search needs) (λ c. omega arith) (λ c. omega arith) (λ c. (omega arith, tab-none _ _))
+    entry-requires (λ c. omega arith) (λ c. omega arith) (λ c. omega arith) (λ c. omega arith) loop-again returns)

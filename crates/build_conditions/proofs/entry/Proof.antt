@@ -35,9 +35,6 @@ module _ (c : tie.After-struct-told) where
       let s = c .before .before .before .before in
       sfits-abs (omega (arith, term-abs left b (s .args .k) (s .args .e) (s .pre .left-small) (s .pre .order) (c .before .before .signed-binomial .ensures)))
 
-mul-result : tie.Need-mul-result
-mul-result c = let f = left-fits c in let g = b-fits c in simp toZ-ofZ (term-fits c)
-
 returns : tie.Need-returns
 returns c =
     let a = c .before .before .before .before .args in
@@ -70,9 +67,6 @@ module _ (c : tie.After-struct-told2) where
   negated-fits : SFits w64 (pos 0 -ℤ right *ℤ d)
   negated-fits = sfits-abs (omega (arith, size, abs-sub (pos 0) (right *ℤ d)))
 
-mul-result-2 : tie.Need-mul-result-2
-mul-result-2 c = let f = right-fits c in let g = d-fits c in simp toZ-ofZ (product-fits c)
-
 sub-result : tie.Need-sub-result
 sub-result c =
     let f = right-fits c in
@@ -94,14 +88,6 @@ returns-2 c =
 
 pub entry-spec : {M : Type 1} → statement M
 entry-spec =
-    tie.close
-    (tie.spec
-    (λ c κs. search needs)
-    mul-result
-    returns
-    (λ c. search needs)
-    (λ c. search needs)
-    (λ c κs. search needs)
-    mul-result-2
-    sub-result
-    returns-2)
+    tie.close (tie.spec (λ c κs. search needs) (λ c. let f = left-fits c in let g = b-fits c in simp toZ-ofZ (term-fits c)) returns
+    (λ c. search needs) (λ c. search needs) (λ c κs. search needs)
+    (λ c. let f = right-fits c in let g = d-fits c in simp toZ-ofZ (product-fits c)) sub-result returns-2)

@@ -74,8 +74,8 @@ scale-requires c κs =
 
 scale-requires-2 : tie.Need-scale-requires-2
 scale-requires-2 c κs =
-    let l = left-length (c .before .before .before .before .before) in
-    let r = right-length (c .before .before .before .before .before) in
+    let s = c .before .before .before .before .before in let l = left-length s in
+    let r = right-length s in
     let f = l .fits in
     let g = r .fits in
     simp toZ-ofZ (search needs)
@@ -143,9 +143,6 @@ module _ (c : tie.After-gcd) where
   right-quotient : SFits w64 (quotZ (c .before .scale2 .result) (pos g))
   right-quotient = quot-fits w64 (c .before .scale2 .result) g g-pos (right-word (c .before))
 
-cast-divisor : tie.Need-cast-divisor
-cast-divisor c = record { sfits = g-small c }
-
 div-t11 : tie.Need-div-t11
 div-t11 c = let f = left-word (c .before) in (omega (arith, g-pos c), simp (toZ-ofZ, toZ-pos w64 (c .gcd .result) (g-small c)) (left-quotient c))
 
@@ -171,14 +168,5 @@ returns c = λ s j i.
 
 pub scales-spec : {M : Type 1} → statement M
 scales-spec =
-    tie.close
-    (tie.spec
-    scale-requires
-    scale-requires-2
-    cast-gcd
-    cast-gcd-2
-    (λ c κs. search needs)
-    cast-divisor
-    div-t11
-    div-t12
-    returns)
+    tie.close (tie.spec scale-requires scale-requires-2 cast-gcd cast-gcd-2 (λ c κs. search needs) (λ c. record { sfits = g-small c })
+    div-t11 div-t12 returns)

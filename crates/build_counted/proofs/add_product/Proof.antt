@@ -67,4 +67,5 @@ returns-4 c j =
     sym (large-then (count j (term p)) (λ q. count j (value (start p .args .sum) +ᵠ q)) (sym (product-is p j) ∙ c .enum-told .given .1))
 
 pub add-product-spec : {M : Type 1} → statement M
-add-product-spec = tie.close (tie.spec returns (λ c κs. search needs) returns-2 (λ c. search needs) sum-requires (λ c. search needs) returns-3 returns-4)
+add-product-spec =
+    tie.close (tie.spec returns (λ c κs. search needs) returns-2 (λ c. search needs) sum-requires (λ c. search needs) returns-3 returns-4)

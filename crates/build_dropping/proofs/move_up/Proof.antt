@@ -53,12 +53,6 @@ loop-again c =
       den-long = simp length-set (v .den-long);
     }
 
-same-length : tie.Need-same-length Inv-loop μ-loop
-same-length c = c .before .loop .inv .num-long
-
-same-length-2 : tie.Need-same-length-2 Inv-loop μ-loop
-same-length-2 c = c .before .loop .inv .den-long
-
 returns : tie.Need-returns Inv-loop μ-loop
 returns c =
     let s = c .before .before .args in
@@ -69,6 +63,7 @@ returns c =
     )
 
 pub move-up-spec : {M : Type 1} → statement M
-move-up-spec = tie.close (tie.spec Inv-loop μ-loop loop-holds (λ c. omega arith) (λ c. omega arith) (λ c. omega arith) (λ c. omega arith) (λ c. omega arith)
-    (λ c. omega arith) (λ c. omega arith) (λ c. omega arith) (λ c. omega arith) (λ c. omega arith)
-    (λ c. omega arith) loop-again same-length same-length-2 returns)
+move-up-spec =
+    tie.close (tie.spec Inv-loop μ-loop loop-holds (λ c. omega arith) (λ c. omega arith) (λ c. omega arith) (λ c. omega arith)
+    (λ c. omega arith) (λ c. omega arith) (λ c. omega arith) (λ c. omega arith) (λ c. omega arith) (λ c. omega arith) (λ c. omega arith)
+    loop-again (λ c. c .before .loop .inv .num-long) (λ c. c .before .loop .inv .den-long) returns)

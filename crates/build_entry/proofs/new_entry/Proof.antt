@@ -62,8 +62,7 @@ zero-part f s e = value-zero f (s .den-pos) (ofZ-inj w64 (f .num) (pos 0) (sfits
 returns : tie.Need-returns
 returns c j v e =
     let s = c .before .before .before .before .before .before in
-    sym (zero-entry j (value (s .args .w)) v
-    (zero-part (s .args .x) (s .pre .first-entry) (c .before .before .before .if1 .taken))
+    sym (zero-entry j (value (s .args .w)) v (zero-part (s .args .x) (s .pre .first-entry) (c .before .before .before .if1 .taken))
     (zero-part (s .args .y) (s .pre .second-entry) (c .if2 .taken)))
 
 -- a zero and an entry
@@ -117,6 +116,5 @@ returns-6 c j v e =
 
 pub new-entry-spec : {M : Type 1} → statement M
 new-entry-spec =
-    tie.close
-    (tie.spec returns (λ c κs. search needs) returns-2 (λ c κs. search needs) returns-3 (λ c κs. search needs) (λ c. search needs) (λ c. search needs)
-    (λ c κs. search needs) (λ c. search needs) (λ c. search needs) sum-requires returns-4 returns-5 returns-6)
+    tie.close (tie.spec returns (λ c κs. search needs) returns-2 (λ c κs. search needs) returns-3 (λ c κs. search needs) (λ c. search needs)
+    (λ c. search needs) (λ c κs. search needs) (λ c. search needs) (λ c. search needs) sum-requires returns-4 returns-5 returns-6)

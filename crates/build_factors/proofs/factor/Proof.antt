@@ -47,9 +47,6 @@ module _ (c : tie.After-quotient) where
 quotient-kept : (c : tie.After-quotient2) → Kept (total (before-sum (c .before .before)) /ᵠ step (before-sum (c .before .before))) (c .quotient2 .given .0 .0)
 quotient-kept c = kept (total (before-sum (c .before .before)) /ᵠ step (before-sum (c .before .before))) (c .quotient2 .given .0 .0) (sym (quotient-is (c .before .before)) ∙ c .quotient2 .given .1)
 
-strictly-between-requires : tie.Need-strictly-between-requires
-strictly-between-requires c κs = quotient-kept (c .before) .fitted .den-pos
-
 module _ (c : tie.After-strictly-between) where
   abbrev start : tie.Start
   start = before-sum (c .before .before .before .before)
@@ -71,8 +68,7 @@ returns c j =
     let b = c .before in
     next-answered (total (start b)) (factor-value b) (quotientFactor j (total (start b)) (step (start b))) _ _
     (factor-inside j (total (start b)) (step (start b)) (sum-small b) (factor-kept b .small) (sym (test-is b) ∙ c .if1 .taken))
-    (sum-kept (b .before .before .before .before .before .before) .fraction-is)
-    (factor-kept b .fraction-is)
+    (let s = b .before .before .before .before .before .before in sum-kept s .fraction-is) (factor-kept b .fraction-is)
 
 returns-2 : tie.Need-returns-2
 unfolding refusalOf
@@ -104,19 +100,6 @@ returns-4 c j =
 
 pub factor-spec : {M : Type 1} → statement M
 factor-spec =
-    tie.close
-    (tie.spec
-    (λ c κs. search needs)
-    (λ c. search needs)
-    (λ c κs. search needs)
-    (λ c. search needs)
-    quotient-requires
-    (λ c. search needs)
-    (λ c κs. search needs)
-    (λ c. search needs)
-    strictly-between-requires
-    returns
-    (λ c κs. search needs)
-    returns-2
-    returns-3
-    returns-4)
+    tie.close (tie.spec (λ c κs. search needs) (λ c. search needs) (λ c κs. search needs) (λ c. search needs) quotient-requires
+    (λ c. search needs) (λ c κs. search needs) (λ c. search needs) (λ c κs. quotient-kept (c .before) .fitted .den-pos) returns
+    (λ c κs. search needs) returns-2 returns-3 returns-4)

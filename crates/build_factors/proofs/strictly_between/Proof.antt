@@ -17,5 +17,4 @@ returns-2 : tie.Need-returns-2
 returns-2 c = ap (λ (b : Bool). b && ltᵠ (value (c .before .before .args .w)) (int (pos 1))) (sym (sym (c .before .is-positive .ensures) ∙ c .if1 .left))
 
 pub strictly-between-spec : {M : Type 1} → statement M
-strictly-between-spec =
-    tie.close (tie.spec (λ c κs. search needs) (λ c κs. search needs) returns returns-2)
+strictly-between-spec = tie.close (tie.spec (λ c κs. search needs) (λ c κs. search needs) returns returns-2)

@@ -18,4 +18,5 @@ returns c =
 
 pub clear-rows-spec : {M : Type 1} → statement M
 clear-rows-spec =
-    tie.close (tie.spec (λ c κs. search needs) (λ c. search needs) (λ c. search needs) returns (λ c. omega arith) (λ c κs. search needs) (λ c. search needs) (λ c. search needs) (λ c. search needs))
+    tie.close (tie.spec (λ c κs. search needs) (λ c. search needs) (λ c. search needs) returns (λ c. omega arith) (λ c κs. search needs)
+    (λ c. search needs) (λ c. search needs) (λ c. search needs))

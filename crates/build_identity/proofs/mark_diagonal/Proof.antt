@@ -21,9 +21,6 @@ Inv-loop num₀ n i₀ num i = Inv num₀ num n i
 abbrev μ-loop : tie.MeasureT-loop
 μ-loop num₀ n i₀ num i = n - i
 
-loop-holds : tie.Need-loop-holds Inv-loop μ-loop
-loop-holds c = record { within = omega arith; num-is = marked-none _; num-long = refl }
-
 loop-again : tie.Need-loop-again Inv-loop μ-loop
 loop-again c =
     let l = c .before .loop in
@@ -34,9 +31,6 @@ loop-again c =
       num-long = simp length-set (v .num-long);
     }
 
-same-length : tie.Need-same-length Inv-loop μ-loop
-same-length c = c .before .loop .inv .num-long
-
 returns : tie.Need-returns Inv-loop μ-loop
 returns c =
     let s = c .before .before .args in
@@ -45,4 +39,6 @@ returns c =
     v .num-is ∙ ap (λ (k : ℕ). marked k (s .num .now)) e
 
 pub mark-diagonal-spec : {M : Type 1} → statement M
-mark-diagonal-spec = tie.close (tie.spec Inv-loop μ-loop loop-holds (λ c. omega arith) (λ c. omega arith) (λ c. omega arith) (λ c. omega arith) (λ c. omega arith) loop-again same-length returns)
+mark-diagonal-spec =
+    tie.close (tie.spec Inv-loop μ-loop (λ c. record { within = omega arith; num-is = marked-none _; num-long = refl }) (λ c. omega arith)
+    (λ c. omega arith) (λ c. omega arith) (λ c. omega arith) (λ c. omega arith) loop-again (λ c. c .before .loop .inv .num-long) returns)

@@ -26,9 +26,6 @@ begun c =
     beginning _ _ _ (start c .pre .part) _ _
     (c .before .before .before .first-column .ensures ∙ column-count-partial _ (start c .args .degrees .now) _) (c .degree-at .ensures)
 
-add-identity-over : tie.Need-add-identity-over
-add-identity-over c = omega (arith, begun c .rows-few, begun c .columns-fit)
-
 identity-over-requires : tie.Need-identity-over-requires
 identity-over-requires c κs =
     let p = start c .pre in
@@ -77,19 +74,6 @@ returns-2 c =
 
 pub build-legal-spec : {M : Type 1} → statement M
 build-legal-spec =
-    tie.close
-    (tie.spec
-    (λ c κs. search needs)
-    (λ c κs. search needs)
-    add-identity-over
-    identity-over-requires
-    join-steps-requires
-    (λ c. search needs)
-    (λ c. search needs)
-    (λ c κs. search needs)
-    (λ c. search needs)
-    (λ c. search needs)
-    returns
-    (λ c. search needs)
-    (λ c. search needs)
-    returns-2)
+    tie.close (tie.spec (λ c κs. search needs) (λ c κs. search needs) (λ c. omega (arith, begun c .rows-few, begun c .columns-fit))
+    identity-over-requires join-steps-requires (λ c. search needs) (λ c. search needs) (λ c κs. search needs) (λ c. search needs)
+    (λ c. search needs) returns (λ c. search needs) (λ c. search needs) returns-2)

@@ -9,12 +9,6 @@ use Rattle.build_conditions.specs.Sides.{SideIs}
 use Rattle.build_joins.proofs.join_at.Statement.{statement}
 use Rattle.build_joins.proofs.join_at.Tie as tie
 
-side-at-requires : tie.Need-side-at-requires
-side-at-requires c κs = let p = c .pre in record { orders = p .orders; legal = p .legal; below = omega arith }
-
-side-at-requires-2 : tie.Need-side-at-requires-2
-side-at-requires-2 c κs = c .before .pre
-
 returns : tie.Need-returns
 returns c =
     let s = c .before .before in
@@ -24,4 +18,6 @@ returns c =
     }
 
 pub join-at-spec : {M : Type 1} → statement M
-join-at-spec = tie.close (tie.spec side-at-requires (λ c. search needs) side-at-requires-2 returns)
+join-at-spec =
+    tie.close (tie.spec (λ c κs. let p = c .pre in record { orders = p .orders; legal = p .legal; below = omega arith }) (λ c. search needs)
+    (λ c κs. c .before .pre) returns)

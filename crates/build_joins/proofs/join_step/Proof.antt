@@ -67,4 +67,6 @@ returns c s j t is h shaped =
     (c .before .before .order-steps .ensures s j (more a t h shaped) is (holds a t h shaped) (proper a t h shaped .shaped)))
 
 pub join-step-spec : {M : Type 1} → statement M
-join-step-spec = tie.close (tie.spec (λ c. search needs) (λ c κs. search needs) (λ c. search needs) order-steps-requires (λ c. search needs) (λ c. search needs) returns)
+join-step-spec =
+    tie.close (tie.spec (λ c. search needs) (λ c κs. search needs) (λ c. search needs) order-steps-requires (λ c. search needs)
+    (λ c. search needs) returns)

@@ -97,8 +97,7 @@ module _ (c : tie.After-den Inv-loop μ-loop) where
 
   left : Leaves (orderSteps (s sides) (j sides) (conditionCount (s sides) (j sides))
       (grown (s sides) (j sides) (start sides .args .columns) (inv sides .state .reached))) (c .before .before .join-step .result) (at-loop sides .loop .num)
-      (at-loop sides .loop .den)
-      (c .before .before .join-step .last .0) (c .before .before .join-step .last .1 .0)
+      (at-loop sides .loop .den) (c .before .before .join-step .last .0) (c .before .before .join-step .last .1 .0)
   left =
       subst (λ n. Leaves (orderSteps (s sides) (j sides) n (grown (s sides) (j sides) (start sides .args .columns) (inv sides .state .reached)))
       (c .before .before .join-step .result) (at-loop sides .loop .num) (at-loop sides .loop .den) (c .before .before .join-step .last .0)
@@ -125,9 +124,6 @@ module _ (c : tie.After-den Inv-loop μ-loop) where
 
   den-same : length (c .before .before .join-step .last .1 .0) ≡ length (start sides .args .den .now)
   den-same = c .before .before .join-step .kept .1 .0 ∙ at-loop sides .loop .inv .den-long
-
-degree-at-requires : tie.Need-degree-at-requires Inv-loop μ-loop
-degree-at-requires c κs = (omega (arith, c .pre .part .lists .order-count), c .pre .part .lists .degrees-legal)
 
 add-rows : tie.Need-add-rows Inv-loop μ-loop
 add-rows c =
@@ -162,20 +158,14 @@ loop-holds c =
       };
     }
 
-condition-count-requires : tie.Need-condition-count-requires Inv-loop μ-loop
-condition-count-requires c κs = (turn c .taken, c .before .before .before .pre .part .lists .orders-legal)
-
-add-degree-at : tie.Need-add-degree-at Inv-loop μ-loop
-add-degree-at c = let t = turn (c .before) in omega (arith, t .taken, t .count, t .few)
-
 degree-at-requires-2 : tie.Need-degree-at-requires-2 Inv-loop μ-loop
 degree-at-requires-2 c κs = let t = turn (c .before) in (omega (arith, t .taken, t .count), c .before .before .before .before .pre .part .lists .degrees-legal)
 
 add-more : tie.Need-add-more Inv-loop μ-loop
-add-more c = let t = turn (c .before .before) in omega (
+add-more c = let t = turn (c .before .before) in let p = c .before .before .before .before .before .pre .part in omega (
   arith,
   c .degree-at2 .ensures,
-  legal-degree-high _ _ _ (c .before .before .before .before .before .pre .part .lists) (c .before .before .before .loop .j + 1)
+  legal-degree-high _ _ _ (p .lists) (c .before .before .before .loop .j + 1)
       (omega (arith, t .taken, t .count)),
 )
 
@@ -202,35 +192,11 @@ join-step-requires c κs =
       growth = record { low = here d .low; wide = here d .wide };
     }
 
-add-rows-2 : tie.Need-add-rows-2 Inv-loop μ-loop
-add-rows-2 c = let x = sides (c .before .before .before) in omega (arith, more-is x, here x .low)
-
-sub-rows : tie.Need-sub-rows Inv-loop μ-loop
-sub-rows c = let x = sides (c .before .before .before) in omega (arith, here x .enough)
-
-same-length : tie.Need-same-length Inv-loop μ-loop
-same-length c = num-same (c .before .before .before)
-
-same-length-2 : tie.Need-same-length-2 Inv-loop μ-loop
-same-length-2 c = den-same (c .before .before .before)
-
 returns : tie.Need-returns Inv-loop μ-loop
 returns c = refused (c .before .before .before) refusals.TooLarge (c .enum-told2 .given .1) (λ z. let x : _≡_ {A = ℕ} 0 1 = cc in omega arith) (λ q. named-eight) (c .before .before .place .ensures)
 
-same-length-3 : tie.Need-same-length-3 Inv-loop μ-loop
-same-length-3 c = num-same (c .before .before .before)
-
-same-length-4 : tie.Need-same-length-4 Inv-loop μ-loop
-same-length-4 c = den-same (c .before .before .before)
-
 returns-2 : tie.Need-returns-2 Inv-loop μ-loop
 returns-2 c = refused (c .before .before .before) refusals.Shape (c .enum-told3 .given .1) (λ z. let x : _≡_ {A = ℕ} 0 1 = cc in omega arith) (λ q. named-nine) (c .before .before .place .ensures)
-
-add-j : tie.Need-add-j Inv-loop μ-loop
-add-j c = omega (arith, here (sides (c .before .before .before)) .small)
-
-loop-less : tie.Need-loop-less Inv-loop μ-loop
-loop-less c = let t = turn (sides (c .before .before .before) .before .before .before) in omega (arith, t .taken)
 
 loop-again : tie.Need-loop-again Inv-loop μ-loop
 loop-again c =
@@ -246,12 +212,6 @@ loop-again c =
       begun = v .begun;
       state = goes-on _ _ _ (v .begun .holds .num-long) (v .begun .holds .den-long) (v .state) (here x .before-last) (leaves-none _ (left d) (c .enum-told .given .1));
     }
-
-same-length-5 : tie.Need-same-length-5 Inv-loop μ-loop
-same-length-5 c = c .before .loop .inv .num-long
-
-same-length-6 : tie.Need-same-length-6 Inv-loop μ-loop
-same-length-6 c = c .before .loop .inv .den-long
 
 -- every join: the rows are counted
 returns-3 : tie.Need-returns-3 Inv-loop μ-loop
@@ -270,34 +230,14 @@ returns-3 c =
 
 pub join-steps-spec : {M : Type 1} → statement M
 join-steps-spec =
-    tie.close
-    (tie.spec
-    Inv-loop
-    μ-loop
-    degree-at-requires
-    add-rows
-    loop-holds
-    condition-count-requires
-    add-degree-at
-    degree-at-requires-2
-    add-more
-    join-at-requires
-    join-step-requires
-    (λ c κs. search needs)
-    (λ c. search needs)
-    add-rows-2
-    sub-rows
-    (λ c. search needs)
-    same-length
-    same-length-2
-    returns
-    (λ c. search needs)
-    same-length-3
-    same-length-4
-    returns-2
-    add-j
-    loop-less
-    loop-again
-    same-length-5
-    same-length-6
-    returns-3)
+    tie.close (tie.spec Inv-loop μ-loop (λ c κs. (omega (arith, c .pre .part .lists .order-count), c .pre .part .lists .degrees-legal))
+    add-rows loop-holds (λ c κs. (turn c .taken, c .before .before .before .pre .part .lists .orders-legal))
+    (λ c. let t = turn (c .before) in omega (arith, t .taken, t .count, t .few)) degree-at-requires-2 add-more join-at-requires
+    join-step-requires (λ c κs. search needs) (λ c. search needs)
+    (λ c. let x = sides (c .before .before .before) in omega (arith, more-is x, here x .low))
+    (λ c. let x = sides (c .before .before .before) in omega (arith, here x .enough)) (λ c. search needs)
+    (λ c. num-same (c .before .before .before)) (λ c. den-same (c .before .before .before)) returns (λ c. search needs)
+    (λ c. num-same (c .before .before .before)) (λ c. den-same (c .before .before .before)) returns-2
+    (λ c. omega (arith, here (sides (c .before .before .before)) .small))
+    (λ c. let t = turn (sides (c .before .before .before) .before .before .before) in omega (arith, t .taken)) loop-again
+    (λ c. c .before .loop .inv .num-long) (λ c. c .before .loop .inv .den-long) returns-3)

@@ -56,12 +56,6 @@ loop-holds c = record {
   rest = λ s j t i h. ap (λ q. addProducts j (row t (c .args .at)) q (conditions s j (c .args .k))) (sym (value-int (pos 0)));
 }
 
-column-requires : tie.Need-column-requires Inv-loop μ-loop
-column-requires c κs = (c .before .before .pre .join-fits, omega arith)
-
-read-requires : tie.Need-read-requires Inv-loop μ-loop
-read-requires c κs = let h = c .before .before .before .pre .held in omega (arith, h .num-long, h .den-long)
-
 -- the product's two factors, in the definition's terms
 module _ (c : tie.After-condition Inv-loop μ-loop) where
   abbrev start : tie.Start Inv-loop μ-loop
@@ -132,7 +126,7 @@ module _ (c : tie.After-add-product Inv-loop μ-loop) (s : Space) (j : ℕ) (t :
   -- the jump, from this entry on
   jump-from : addProducts j cells (int (pos 0)) κ ≡ addProducts j cells (value (sum (c .before))) (this (c .before) s j i ∷ drop (suc (place (c .before))) κ)
   jump-from =
-      c .before .before .before .before .before .loop .inv .rest s j t i h
+      let l = c .before .before .before .before .before .loop in l .inv .rest s j t i h
       ∙ ap (addProducts j cells (value (sum (c .before)))) (drop-cons κ (place (c .before)) noEntry
       (omega (arith, conditions-length s j (start (c .before) .args .k), c .before .before .before .before .loop-test .taken)))
 
@@ -175,24 +169,7 @@ returns-2 c s j t i h =
 
 pub jump-spec : {M : Type 1} → statement M
 jump-spec =
-    tie.close
-    (tie.spec
-    Inv-loop
-    μ-loop
-    (λ c. omega arith)
-    (λ c. omega arith)
-    loop-holds
-    column-requires
-    (λ c. omega arith)
-    (λ c. omega arith)
-    read-requires
-    (λ c. omega arith)
-    (λ c. omega arith)
-    add-product-requires
-    (λ c. search needs)
-    (λ c. search needs)
-    returns
-    (λ c. omega arith)
-    (λ c. omega arith)
-    loop-again
-    returns-2)
+    tie.close (tie.spec Inv-loop μ-loop (λ c. omega arith) (λ c. omega arith) loop-holds
+    (λ c κs. (c .before .before .pre .join-fits, omega arith)) (λ c. omega arith) (λ c. omega arith)
+    (λ c κs. let h = c .before .before .before .pre .held in omega (arith, h .num-long, h .den-long)) (λ c. omega arith) (λ c. omega arith)
+    add-product-requires (λ c. search needs) (λ c. search needs) returns (λ c. omega arith) (λ c. omega arith) loop-again returns-2)

@@ -50,9 +50,6 @@ Inv-loop num den rows join k entries js₀ i₀ js i = Inv num den rows join k j
 abbrev μ-loop : tie.MeasureT-loop
 μ-loop num den rows join k entries js₀ i₀ js i = rows - i
 
-entries-requires : tie.Need-entries-requires Inv-loop μ-loop
-entries-requires c κs = c .pre .0 .1
-
 loop-holds : tie.Need-loop-holds Inv-loop μ-loop
 loop-holds c = record {
   within = omega arith;
@@ -112,23 +109,6 @@ returns-2 c s j t i h size =
 
 pub jumps-spec : {M : Type 1} → statement M
 jumps-spec =
-    tie.close
-    (tie.spec
-    Inv-loop
-    μ-loop
-    entries-requires
-    (λ c κs. search needs)
-    loop-holds
-    jump-requires
-    (λ c. search needs)
-    (λ c. omega arith)
-    (λ c. omega arith)
-    (λ c. omega arith)
-    (λ c. omega arith)
-    (λ c. search needs)
-    (λ c κs. search needs)
-    returns
-    (λ c. omega arith)
-    (λ c. omega arith)
-    loop-again
-    returns-2)
+    tie.close (tie.spec Inv-loop μ-loop (λ c κs. c .pre .0 .1) (λ c κs. search needs) loop-holds jump-requires (λ c. search needs)
+    (λ c. omega arith) (λ c. omega arith) (λ c. omega arith) (λ c. omega arith) (λ c. search needs) (λ c κs. search needs) returns
+    (λ c. omega arith) (λ c. omega arith) loop-again returns-2)

@@ -27,12 +27,4 @@ returns-2 : tie.Need-returns-2
 returns-2 c = sym (parts-pass (lists (c .before .before .before)) (sym (c .before .before .first-bad .ensures) ∙ c .enum-told .given .1))
 
 pub check-parts-spec : {M : Type 1} → statement M
-check-parts-spec =
-    tie.close
-    (tie.spec
-    first-bad-requires
-    (λ c. search needs)
-    (λ c κs. search needs)
-    (λ c. search needs)
-    returns
-    returns-2)
+check-parts-spec = tie.close (tie.spec first-bad-requires (λ c. search needs) (λ c κs. search needs) (λ c. search needs) returns returns-2)

@@ -41,13 +41,5 @@ returns-2 c =
 
 pub check-spans-spec : {M : Type 1} → statement M
 check-spans-spec =
-    tie.close
-    (tie.spec
-    first-bad-requires
-    (λ c. search needs)
-    part-end-requires
-    (λ c κs. search needs)
-    (λ c. search needs)
-    (λ c κs. search needs)
-    returns
-    returns-2)
+    tie.close (tie.spec first-bad-requires (λ c. search needs) part-end-requires (λ c κs. search needs) (λ c. search needs)
+    (λ c κs. search needs) returns returns-2)

@@ -149,19 +149,13 @@ new-entry-requires c κs =
       second-entry = subst FractionFits (sym (y-is c t h)) (fits-sized _ (h .fit _ _));
     }
 
-same-length : tie.Need-same-length Inv-loop μ-loop
-same-length c = at-loop (c .before .before .before) .loop .inv .num-written .long
-
-same-length-2 : tie.Need-same-length-2 Inv-loop μ-loop
-same-length-2 c = at-loop (c .before .before .before) .loop .inv .den-written .long
-
 returns : tie.Need-returns Inv-loop μ-loop
 returns c t j v h e inside wide =
     let n = c .before .before in
     let r = n .before in
     let a = start r .args in
     let l = at-loop r .loop in
-    let m = room (r .before .before .before .before .before .before) in
+    let b = r .before .before .before .before .before .before in let m = room b in
     let o = large-refused _ (sym (outcome n t j v h e) ∙ c .enum-told .given .1) in
     let stops = collect-stops (length (row t (a .i))) (l .c) (entries (a .w) v t (a .i) j) (mixed (a .w) v t (a .i)) (omega arith) (λ d k. l .inv .made t j v h e d k .answers) (o .refuses) in
     subst (λ (out : Outcome (List ℚ)). LeavesIf (with-answer (set t (a .i)) out) false (a .num .now) (a .den .now) (l .num) (l .den)) (sym stops)
@@ -173,7 +167,7 @@ loop-again c =
     let r = n .before in
     let a = start r .args in
     let l = at-loop r .loop in
-    let m = room (r .before .before .before .before .before .before) in
+    let b = r .before .before .before .before .before .before in let m = room b in
     let q = c .before .before .before .made .given in
     let x : SFits w64 (q .0 .0 .num) = record { sfits = c .struct-told2 .given .0 .1 } in
     let y : SFits w64 (q .0 .0 .den) = record { sfits = c .struct-told2 .given .1 .0 .1 } in
@@ -186,12 +180,6 @@ loop-again c =
           let k = newEntry-answers j _ v _ _ (o .answers) in
           turn (l .num) (l .den) (a .i) (l .c) (a .w) t j v (q .0 .0) (omega arith) (omega arith) (o .answers ∙ ap answer (k .0)) (o .lowest ∙ ap fraction (k .0)) (l .inv .made t j v h e);
     })
-
-same-length-3 : tie.Need-same-length-3 Inv-loop μ-loop
-same-length-3 c = c .before .loop .inv .num-written .long
-
-same-length-4 : tie.Need-same-length-4 Inv-loop μ-loop
-same-length-4 c = c .before .loop .inv .den-written .long
 
 returns-2 : tie.Need-returns-2 Inv-loop μ-loop
 returns-2 c t j v h e inside wide =
@@ -210,6 +198,9 @@ returns-2 c t j v h e inside wide =
     )
 
 pub mix-row-spec : {M : Type 1} → statement M
-mix-row-spec = tie.close (tie.spec Inv-loop μ-loop loop-holds (λ c. omega arith) (λ c. omega arith) (λ c. omega arith) (λ c κs. omega arith)
+mix-row-spec =
+    tie.close (tie.spec Inv-loop μ-loop loop-holds (λ c. omega arith) (λ c. omega arith) (λ c. omega arith) (λ c κs. omega arith)
     (λ c κs. omega arith) new-entry-requires (λ c. search needs) (λ c. omega arith) (λ c. omega arith) (λ c. omega arith) (λ c. omega arith)
-    (λ c. search needs) same-length same-length-2 returns (λ c. omega arith) (λ c. omega arith) loop-again same-length-3 same-length-4 returns-2)
+    (λ c. search needs) (λ c. at-loop (c .before .before .before) .loop .inv .num-written .long)
+    (λ c. at-loop (c .before .before .before) .loop .inv .den-written .long) returns (λ c. omega arith) (λ c. omega arith) loop-again
+    (λ c. c .before .loop .inv .num-written .long) (λ c. c .before .loop .inv .den-written .long) returns-2)

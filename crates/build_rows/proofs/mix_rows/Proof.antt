@@ -151,6 +151,10 @@ record Room (f l rows columns i : ℕ) : Type 0 where
 room : (r : tie.In-loop Inv-loop μ-loop) → Room (r .before .before .args .f) (r .before .before .args .l) (r .before .before .args .rows) (r .before .before .args .columns) (r .before .loop .i)
 room r = record { order = omega arith; taken = omega arith; rows-fit = omega arith; room = omega arith; columns-fit = omega arith }
 
+-- the turn of a row that is mixed
+abbrev turn : tie.After-mix-row Inv-loop μ-loop → tie.In-loop Inv-loop μ-loop
+turn m = m .before .before .before .before .before .before .before .before
+
 -- the four numbers that are read
 module _ (c : tie.After-vd Inv-loop μ-loop) where
   abbrev here : tie.At-loop Inv-loop μ-loop
@@ -180,7 +184,7 @@ module _ (m : tie.After-mix-row Inv-loop μ-loop) (t : Table) (j : ℕ) (qs : Li
   order = at-loop m .loop .inv .passed
 
   inside : at-loop m .loop .i + 1 < start m .args .rows
-  inside = let r = room (m .before .before .before .before .before .before .before .before) in omega arith
+  inside = let r = room (turn m) in omega arith
 
   -- the two factors that are read
   w-is : value (record {
@@ -192,7 +196,7 @@ module _ (m : tie.After-mix-row Inv-loop μ-loop) (t : Table) (j : ℕ) (qs : Li
       let n = wn-fits (m .before .before .before .before) in
       let d = wd-fits (m .before .before .before .before) in
       simp toZ-ofZ (ap value (fraction-at qs _ e (at-loop m .loop .i - start m .args .f)
-      (let r = room (m .before .before .before .before .before .before .before .before) in omega arith)) ∙ value-fraction _)
+      (let r = room (turn m) in omega arith)) ∙ value-fraction _)
 
   u-is : value (m .before .before .before .complement .result) ≡ int (pos 1) -ᵠ entry qs (suc (at-loop m .loop .i - start m .args .f))
   u-is =
@@ -200,7 +204,7 @@ module _ (m : tie.After-mix-row Inv-loop μ-loop) (t : Table) (j : ℕ) (qs : Li
       let d = vd-fits (m .before .before .before .before) in
       m .before .before .before .complement .ensures .0
       ∙ ap (λ x. int (pos 1) -ᵠ x) (simp toZ-ofZ (ap value (fraction-at qs _ e (at-loop m .loop .i - start m .args .f + 1)
-      (let r = room (m .before .before .before .before .before .before .before .before) in omega arith)) ∙ value-fraction _
+      (let r = room (turn m) in omega arith)) ∙ value-fraction _
       ∙ ap (entry qs) (add-one (at-loop m .loop .i - start m .args .f))))
 
   leaves : LeavesIf (with-answer (set (current h shaped order inside st) (at-loop m .loop .i))
@@ -252,23 +256,17 @@ mix-row-requires c κs =
       (_, holds (k .holds) (k .shaped) (v .passed) (omega arith) (v .state (k .table) 0 (u .of) (k .holds) (k .shaped) (u .is))),
     )
 
-same-length : tie.Need-same-length Inv-loop μ-loop
-same-length c = let m = c .before .before .before in m .mix-row .kept .0 ∙ at-loop m .loop .inv .num-long
-
-same-length-2 : tie.Need-same-length-2 Inv-loop μ-loop
-same-length-2 c = let m = c .before .before .before in m .mix-row .kept .1 .0 ∙ at-loop m .loop .inv .den-long
-
 returns : tie.Need-returns Inv-loop μ-loop
 returns c t j qs h shaped e =
     let m = c .before .before .before in
     ends h shaped (order m t j qs h shaped e) (inside m t j qs h shaped e) (st m t j qs h shaped e) (start m .args .l)
-    (m .before .before .before .before .before .before .before .before .loop-test .taken)
+    (turn m .loop-test .taken)
     (m .mix-row .result) (m .mix-row .last .0) (m .mix-row .last .1 .0) _ refl (not-true _ (c .if1 .taken)) (leaves m t j qs h shaped e)
 
 loop-again : tie.Need-loop-again Inv-loop μ-loop
 loop-again c =
     let m = c .before .before .before in
-    let b = room (m .before .before .before .before .before .before .before .before) in
+    let b = room (turn m) in
     let v = at-loop m .loop .inv in
     record {
       passed = omega arith;
@@ -280,41 +278,13 @@ loop-again c =
           (m .mix-row .result) (m .mix-row .last .0) (m .mix-row .last .1 .0) _ refl (not-false _ (c .if1 .left)) (leaves m t j qs h shaped e);
     }
 
-same-length-3 : tie.Need-same-length-3 Inv-loop μ-loop
-same-length-3 c = c .before .loop .inv .num-long
-
-same-length-4 : tie.Need-same-length-4 Inv-loop μ-loop
-same-length-4 c = c .before .loop .inv .den-long
-
 returns-2 : tie.Need-returns-2 Inv-loop μ-loop
 returns-2 c t j qs h shaped e = finished (c .before .before .args .l) (omega arith) (c .before .loop .inv .state t j qs h shaped e)
 
 pub mix-rows-spec : {M : Type 1} → statement M
 mix-rows-spec =
-    tie.close
-    (tie.spec
-    Inv-loop
-    μ-loop
-    loop-holds
-    (λ c. omega arith)
-    (λ c. omega arith)
-    (λ c. omega arith)
-    (λ c. omega arith)
-    (λ c. omega arith)
-    (λ c. omega arith)
-    (λ c. omega arith)
-    (λ c. omega arith)
-    (λ c. omega arith)
-    (λ c. omega arith)
-    (λ c. omega arith)
-    complement-requires
-    mix-row-requires
-    same-length
-    same-length-2
-    returns
-    (λ c. omega arith)
-    (λ c. omega arith)
-    loop-again
-    same-length-3
-    same-length-4
-    returns-2)
+    tie.close (tie.spec Inv-loop μ-loop loop-holds (λ c. omega arith) (λ c. omega arith) (λ c. omega arith) (λ c. omega arith)
+    (λ c. omega arith) (λ c. omega arith) (λ c. omega arith) (λ c. omega arith) (λ c. omega arith) (λ c. omega arith) (λ c. omega arith)
+    complement-requires mix-row-requires (λ c. let m = c .before .before .before in m .mix-row .kept .0 ∙ at-loop m .loop .inv .num-long)
+    (λ c. let m = c .before .before .before in m .mix-row .kept .1 .0 ∙ at-loop m .loop .inv .den-long) returns (λ c. omega arith)
+    (λ c. omega arith) loop-again (λ c. c .before .loop .inv .num-long) (λ c. c .before .loop .inv .den-long) returns-2)

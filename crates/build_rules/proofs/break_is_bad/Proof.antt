@@ -13,14 +13,8 @@ use Rattle.build_rules.proofs.break_is_bad.Tie as tie
 x-fits : (c : tie.After-x) → SFits w32 (getD (c .before .args .breaks .now) (c .before .args .i) (pos 0))
 x-fits c = record { sfits = c .x .given }
 
-before-fits : (c : tie.After-before2) → SFits w32 (getD (c .before .before .before .before .before .args .breaks .now) (c .before .before .before .before .before .args .i - 1) (pos 0))
+before-fits : (c : tie.After-before2) → let s = c .before .before .before .before .before in SFits w32 (getD (s .args .breaks .now) (s .args .i - 1) (pos 0))
 before-fits c = record { sfits = c .before2 .given }
-
-returns : tie.Need-returns
-returns c = let f = x-fits (c .before) in bad-break-low _ _ (simp toZ-ofZ at (c .if1 .taken))
-
-returns-2 : tie.Need-returns-2
-returns-2 c = let f = x-fits (c .before .before) in bad-break-high _ _ (simp toZ-ofZ at (c .if2 .taken))
 
 returns-3 : tie.Need-returns-3
 returns-3 c =
@@ -35,15 +29,7 @@ returns-4 c =
 
 pub break-is-bad-spec : {M : Type 1} → statement M
 break-is-bad-spec =
-    tie.close
-    (tie.spec
-    (λ c. search needs)
-    (λ c. search needs)
-    (λ c. search needs)
-    returns
-    returns-2
-    returns-3
-    (λ c. search needs)
-    (λ c. search needs)
-    (λ c. search needs)
-    returns-4)
+    tie.close (tie.spec (λ c. search needs) (λ c. search needs) (λ c. search needs)
+    (λ c. let f = x-fits (c .before) in bad-break-low _ _ (simp toZ-ofZ at (c .if1 .taken)))
+    (λ c. let f = x-fits (c .before .before) in bad-break-high _ _ (simp toZ-ofZ at (c .if2 .taken))) returns-3 (λ c. search needs)
+    (λ c. search needs) (λ c. search needs) returns-4)

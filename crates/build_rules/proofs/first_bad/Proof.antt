@@ -16,28 +16,13 @@ Inv-loop rule breaks degrees orders n i₀ i = (i ≤ n) × ((k : ℕ) → k < i
 abbrev μ-loop : tie.MeasureT-loop
 μ-loop rule breaks degrees orders n i₀ i = n - i
 
-loop-holds : tie.Need-loop-holds Inv-loop μ-loop
-loop-holds c = (omega arith, below-none _)
-
 loop-again : tie.Need-loop-again Inv-loop μ-loop
 loop-again c = (omega arith, below-more _ _ (c .before .before .before .loop .inv .1) (sym (c .before .is-broken .ensures) ∙ c .if2 .left))
-
-returns : tie.Need-returns Inv-loop μ-loop
-returns c = found-none _ _ (λ k l. c .before .loop .inv .1 k (omega arith))
 
 returns-2 : tie.Need-returns-2 Inv-loop μ-loop
 returns-2 c = found-at _ _ _ (omega arith) (sym (c .before .is-broken .ensures) ∙ c .if2 .taken) (c .before .before .before .loop .inv .1)
 
 pub first-bad-spec : {M : Type 1} → statement M
 first-bad-spec =
-    tie.close
-    (tie.spec
-    Inv-loop
-    μ-loop
-    loop-holds
-    (λ c κs. omega arith)
-    (λ c. omega arith)
-    (λ c. omega arith)
-    loop-again
-    returns
-    returns-2)
+    tie.close (tie.spec Inv-loop μ-loop (λ c. (omega arith, below-none _)) (λ c κs. omega arith) (λ c. omega arith) (λ c. omega arith)
+    loop-again (λ c. found-none _ _ (λ k l. c .before .loop .inv .1 k (omega arith))) returns-2)

@@ -49,9 +49,7 @@ returns c =
 
 returns-2 : tie.Need-returns-2
 unfolding broken
-returns-2 c =
-    let s = c .before .before .before in
-    c .span-is-too-long .ensures ∙ test s (c .before .enum-told2 .given .1)
+returns-2 c = let s = c .before .before .before in c .span-is-too-long .ensures ∙ test s (c .before .enum-told2 .given .1)
 
 returns-3 : tie.Need-returns-3
 unfolding broken
@@ -73,20 +71,6 @@ returns-5 c =
 
 pub is-broken-spec : {M : Type 1} → statement M
 is-broken-spec =
-    tie.close
-    (tie.spec
-    (λ c. search needs)
-    break-is-bad-requires
-    (λ c. search needs)
-    span-is-too-long-requires
-    (λ c. search needs)
-    degree-is-bad-requires
-    (λ c. search needs)
-    order-is-bad-requires
-    (λ c. search needs)
-    part-is-too-long-requires
-    returns
-    returns-2
-    returns-3
-    returns-4
-    returns-5)
+    tie.close (tie.spec (λ c. search needs) break-is-bad-requires (λ c. search needs) span-is-too-long-requires (λ c. search needs)
+    degree-is-bad-requires (λ c. search needs) order-is-bad-requires (λ c. search needs) part-is-too-long-requires returns returns-2
+    returns-3 returns-4 returns-5)

@@ -16,14 +16,8 @@ r-fits c = record { sfits = c .r .given }
 p-fits : (c : tie.After-p) → SFits w32 (getD (c .before .before .before .before .args .degrees .now) (c .before .before .before .before .args .i) (pos 0))
 p-fits c = record { sfits = c .p .given }
 
-q-fits : (c : tie.After-q) → SFits w32 (getD (c .before .before .before .before .before .before .args .degrees .now) (c .before .before .before .before .before .before .args .i + 1) (pos 0))
+q-fits : (c : tie.After-q) → let s = c .before .before .before .before .before .before in SFits w32 (getD (s .args .degrees .now) (s .args .i + 1) (pos 0))
 q-fits c = record { sfits = c .q .given }
-
-returns : tie.Need-returns
-returns c = let f = r-fits (c .before) in bad-order-low _ _ (simp toZ-ofZ at (c .if1 .taken))
-
-returns-2 : tie.Need-returns-2
-returns-2 c = let f = r-fits (c .before .before) in bad-order-high _ _ (simp toZ-ofZ at (c .if2 .taken))
 
 returns-3 : tie.Need-returns-3
 returns-3 c =
@@ -33,23 +27,14 @@ returns-3 c =
 
 returns-4 : tie.Need-returns-4
 returns-4 c =
-    let f = r-fits (c .before .before .before .before .before) in
+    let d = c .before .before .before .before .before in let f = r-fits d in
     let g = p-fits (c .before .before) in
     let h = q-fits c in
     simp toZ-ofZ (order-right _ _ (simp toZ-ofZ at (c .before .before .before .before .if1 .left)) (simp toZ-ofZ at (c .before .before .before .if2 .left)) (simp toZ-ofZ at (c .before .if3 .left)))
 
 pub order-is-bad-spec : {M : Type 1} → statement M
 order-is-bad-spec =
-    tie.close
-    (tie.spec
-    (λ c. search needs)
-    (λ c. search needs)
-    returns
-    returns-2
-    (λ c. search needs)
-    (λ c. search needs)
-    returns-3
-    (λ c. search needs)
-    (λ c. search needs)
-    (λ c. search needs)
-    returns-4)
+    tie.close (tie.spec (λ c. search needs) (λ c. search needs)
+    (λ c. let f = r-fits (c .before) in bad-order-low _ _ (simp toZ-ofZ at (c .if1 .taken)))
+    (λ c. let f = r-fits (c .before .before) in bad-order-high _ _ (simp toZ-ofZ at (c .if2 .taken))) (λ c. search needs)
+    (λ c. search needs) returns-3 (λ c. search needs) (λ c. search needs) (λ c. search needs) returns-4)

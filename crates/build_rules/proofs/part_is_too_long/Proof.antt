@@ -20,9 +20,6 @@ use Rattle.build_rules.proofs.part_is_too_long.Tie as tie
 starts : (c : tie.After-starts-part) {b : Bool} → c .starts-part .result ≡ b → startsPart (space [] (c .before .args .degrees .now) (c .before .args .orders .now)) (c .before .args .i) ≡ b
 starts c e = sym (starts-part-partial [] (c .before .args .degrees .now) (c .before .args .orders .now) (c .before .args .i)) ∙ sym (c .starts-part .ensures) ∙ e
 
-returns : tie.Need-returns
-returns c = no-part-not-long _ _ (starts (c .before) (not-true _ (c .if1 .taken)))
-
 sub-result : tie.Need-sub-result
 sub-result c = let s = c .before .before .before in omega (arith, c .part-end .ensures, part-ends (space [] (s .args .degrees .now) (s .args .orders .now)) (s .args .i) (s .pre .0) .above)
 
@@ -32,4 +29,6 @@ returns-2 c =
     ap (λ (e : ℕ). ltb 12 (e - d .before .args .i)) (c .part-end .ensures) ∙ sym (part-test _ _ (starts d (not-false _ (c .before .if1 .left))))
 
 pub part-is-too-long-spec : {M : Type 1} → statement M
-part-is-too-long-spec = tie.close (tie.spec (λ c κs. search needs) returns (λ c κs. search needs) sub-result returns-2)
+part-is-too-long-spec =
+    tie.close (tie.spec (λ c κs. search needs) (λ c. no-part-not-long _ _ (starts (c .before) (not-true _ (c .if1 .taken))))
+    (λ c κs. search needs) sub-result returns-2)

@@ -29,9 +29,6 @@ lists s = space (s .args .breaks .now) (s .args .degrees .now) (s .args .orders 
 starts : (c : tie.After-starts-part) {b : Bool} → c .starts-part .result ≡ b → startsPart (lists (c .before)) (c .before .args .i) ≡ b
 starts c e = sym (starts-part-partial (c .before .args .breaks .now) (c .before .args .degrees .now) (c .before .args .orders .now) (c .before .args .i)) ∙ sym (c .starts-part .ensures) ∙ e
 
-returns : tie.Need-returns
-returns c = no-part-no-span _ _ (starts (c .before) (not-true _ (c .if1 .taken)))
-
 -- the part's end, and that there is a breakpoint
 module _ (c : tie.After-part-end) where
   abbrev start : tie.Start
@@ -45,15 +42,6 @@ module _ (c : tie.After-part-end) where
 
 first-fits-at : (c : tie.After-first) → SFits w32 (getD (start (c .before) .args .breaks .now) (start (c .before) .args .i) (pos 0))
 first-fits-at c = record { sfits = c .first .given }
-
-cast-first : tie.Need-cast-first
-cast-first c = let f = first-fits-at c in simp toZ-ofZ (sfits-widen f)
-
-mul-last : tie.Need-mul-last
-mul-last c = let l = end-within (c .before) in search needs
-
-shared-slice-copy-out-last : tie.Need-shared-slice-copy-out-last
-shared-slice-copy-out-last c = let l = end-within (c .before) in search needs
 
 module _ (c : tie.After-last) where
   abbrev ended : tie.After-part-end
@@ -73,9 +61,6 @@ module _ (c : tie.After-last) where
 
   span-fits : SFits w64 (last -ℤ first)
   span-fits = sfits-abs (omega (arith, abs-sub last first, abs-sfits first-fits, abs-sfits last-fits))
-
-cast-last : tie.Need-cast-last
-cast-last c = let g = last-fits c in simp toZ-ofZ (sfits-widen g)
 
 sub-result : tie.Need-sub-result
 sub-result c =
@@ -98,16 +83,7 @@ returns-2 c =
 
 pub span-is-too-long-spec : {M : Type 1} → statement M
 span-is-too-long-spec =
-    tie.close
-    (tie.spec
-    (λ c κs. search needs)
-    returns
-    (λ c κs. search needs)
-    (λ c. search needs)
-    (λ c. search needs)
-    cast-first
-    mul-last
-    shared-slice-copy-out-last
-    cast-last
-    sub-result
-    returns-2)
+    tie.close (tie.spec (λ c κs. search needs) (λ c. no-part-no-span _ _ (starts (c .before) (not-true _ (c .if1 .taken))))
+    (λ c κs. search needs) (λ c. search needs) (λ c. search needs) (λ c. let f = first-fits-at c in simp toZ-ofZ (sfits-widen f))
+    (λ c. let l = end-within (c .before) in search needs) (λ c. let l = end-within (c .before) in search needs)
+    (λ c. let g = last-fits c in simp toZ-ofZ (sfits-widen g)) sub-result returns-2)

@@ -39,9 +39,6 @@ square-fits c =
     let b = c .before .before in
     sfits-abs (omega (arith, abs-mul-le (b .args .x) (b .args .x) 2000 2000 (b .pre .short) (b .pre .short)))
 
-mul-result : tie.Need-mul-result
-mul-result c = let f = c .before .before .fits .x in simp toZ-ofZ (square-fits c)
-
 returns-3 : tie.Need-returns-3
 returns-3 c =
     let b = c .before .before in
@@ -51,4 +48,4 @@ returns-3 c =
     simp toZ-ofZ (square (b .args .x) (b .pre .low) ∙ ap pos (sym (ap (λ n. natAbs (b .args .x) ^ n) e ∙ pow-two (natAbs (b .args .x)))))
 
 pub power-spec : {M : Type 1} → statement M
-power-spec = tie.close (tie.spec returns returns-2 mul-result returns-3)
+power-spec = tie.close (tie.spec returns returns-2 (λ c. let f = c .before .before .fits .x in simp toZ-ofZ (square-fits c)) returns-3)

@@ -27,11 +27,8 @@ module _ (c : tie.After-power) where
       let b = c .before .before in
       rw is (sfits-abs (omega (arith, scale-le (b .args .p) (b .args .k) (natAbs (b .args .other)) (b .pre .degree) (b .pre .order) (b .pre .short))))
 
-mul-result : tie.Need-mul-result
-mul-result c = let f = falling-fits c in let g = power-fits c in simp toZ-ofZ (fits c)
-
-returns : tie.Need-returns
-returns c = let f = falling-fits c in let g = power-fits c in let h = fits c in simp toZ-ofZ (is c)
-
 pub scale-spec : {M : Type 1} → statement M
-scale-spec = tie.close (tie.spec (λ c κs. search needs) (λ c κs. search needs) mul-result returns)
+scale-spec =
+    tie.close (tie.spec (λ c κs. search needs) (λ c κs. search needs)
+    (λ c. let f = falling-fits c in let g = power-fits c in simp toZ-ofZ (fits c))
+    (λ c. let f = falling-fits c in let g = power-fits c in let h = fits c in simp toZ-ofZ (is c)))

@@ -37,11 +37,7 @@ module _ (c : tie.Else1) where
   negated-fits : SFits w64 (pos 0 -ℤ c .before .binomial .result)
   negated-fits = let b = c .before .before in rw negated (sfits-abs (omega (arith, signed-binomial-le (b .args .k) (b .args .t) (b .pre .1))))
 
-sub-result : tie.Need-sub-result
-sub-result c = let f = result-fits c in simp toZ-ofZ (negated-fits c)
-
-returns-2 : tie.Need-returns-2
-returns-2 c = let f = result-fits c in let g = negated-fits c in simp toZ-ofZ (negated c)
-
 pub signed-binomial-spec : {M : Type 1} → statement M
-signed-binomial-spec = tie.close (tie.spec (λ c κs. search needs) (λ c. search needs) sub-result returns returns-2)
+signed-binomial-spec =
+    tie.close (tie.spec (λ c κs. search needs) (λ c. search needs) (λ c. let f = result-fits c in simp toZ-ofZ (negated-fits c)) returns
+    (λ c. let f = result-fits c in let g = negated-fits c in simp toZ-ofZ (negated c)))

@@ -19,9 +19,6 @@ order-fits c = record { sfits = c .result .given }
 count-fits : (c : tie.Start) → SFits w32 (getD (c .args .orders .now) (c .args .i) (pos 0) +ℤ pos 1)
 count-fits c = sfits-abs (omega (arith, condition-count-high (space [] [] (c .args .orders .now)) (c .pre .1) (c .args .i) (c .pre .0)))
 
-add-result : tie.Need-add-result
-add-result c = let f = order-fits c in simp toZ-ofZ (count-fits (c .before))
-
 cast-result : tie.Need-cast-result
 cast-result c =
     let f = order-fits c in
@@ -30,9 +27,7 @@ cast-result c =
     let s = space [] [] (c .before .args .orders .now) in
     simp toZ-ofZ (rw (condition-count-is s (c .before .pre .1) i (c .before .pre .0)) (tt, omega (arith, condition-count-high s (c .before .pre .1) i (c .before .pre .0))))
 
-returns : tie.Need-returns
-returns c = let f = order-fits c in let g = count-fits (c .before) in simp toZ-ofZ
-
 pub condition-count-spec : {M : Type 1} → statement M
 condition-count-spec =
-    tie.close (tie.spec (λ c. search needs) (λ c. search needs) add-result cast-result returns)
+    tie.close (tie.spec (λ c. search needs) (λ c. search needs) (λ c. let f = order-fits c in simp toZ-ofZ (count-fits (c .before)))
+    cast-result (λ c. let f = order-fits c in let g = count-fits (c .before) in simp toZ-ofZ))

@@ -16,15 +16,9 @@ Inv-loop orders i count₀ k₀ count k = (k ≤ i) × (count ≡ conditionsBefo
 abbrev μ-loop : tie.MeasureT-loop
 μ-loop orders i count₀ k₀ count k = i - k
 
-loop-holds : tie.Need-loop-holds Inv-loop μ-loop
-loop-holds c = (omega arith, sym (conditions-before-zero _))
-
 -- the space that the orders alone make
 abbrev joins : tie.After-condition-count Inv-loop μ-loop → Space
 joins c = space [] [] (c .before .before .before .args .orders .now)
-
-condition-count-requires : tie.Need-condition-count-requires Inv-loop μ-loop
-condition-count-requires c κs = (omega arith, c .before .before .pre .1 .1)
 
 add-count : tie.Need-add-count Inv-loop μ-loop
 add-count c = omega (
@@ -51,14 +45,5 @@ returns c = c .before .loop .inv .1 ∙ ap (conditionsBefore (space [] [] (c .be
 
 pub conditions-before-spec : {M : Type 1} → statement M
 conditions-before-spec =
-    tie.close
-    (tie.spec
-    Inv-loop
-    μ-loop
-    loop-holds
-    condition-count-requires
-    add-count
-    (λ c. omega arith)
-    (λ c. omega arith)
-    loop-again
-    returns)
+    tie.close (tie.spec Inv-loop μ-loop (λ c. (omega arith, sym (conditions-before-zero _)))
+    (λ c κs. (omega arith, c .before .before .pre .1 .1)) add-count (λ c. omega arith) (λ c. omega arith) loop-again returns)

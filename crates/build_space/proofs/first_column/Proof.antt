@@ -16,9 +16,6 @@ Inv-loop degrees i column₀ k₀ column k = (k ≤ i) × (column ≡ firstColum
 abbrev μ-loop : tie.MeasureT-loop
 μ-loop degrees i column₀ k₀ column k = i - k
 
-loop-holds : tie.Need-loop-holds Inv-loop μ-loop
-loop-holds c = (omega arith, sym (first-column-zero _))
-
 -- the space that the degrees alone make
 abbrev columns : tie.After-degree-at Inv-loop μ-loop → Space
 columns c = space [] (c .before .before .before .args .degrees .now) []
@@ -29,15 +26,6 @@ degree-fits c = omega (arith, c .degree-at .ensures, degree-high (columns c) (c 
 column-fits : (c : tie.After-degree-at Inv-loop μ-loop) → c .before .before .loop .column ≤ 288
 column-fits c = omega (arith, first-column-high (columns c) (c .before .before .before .pre .1 .1) (c .before .before .loop .k) (omega arith))
 
-degree-at-requires : tie.Need-degree-at-requires Inv-loop μ-loop
-degree-at-requires c κs = (omega arith, c .before .before .pre .1 .1)
-
-add-column : tie.Need-add-column Inv-loop μ-loop
-add-column c = omega (arith, degree-fits c)
-
-add-column-2 : tie.Need-add-column-2 Inv-loop μ-loop
-add-column-2 c = omega (arith, degree-fits c, column-fits c)
-
 loop-again : tie.Need-loop-again Inv-loop μ-loop
 loop-again c = (omega arith, omega (arith, c .degree-at .ensures, first-column-next (columns c) (c .before .before .loop .k), ap (firstColumn (columns c)) (add-one (c .before .before .loop .k))))
 
@@ -46,15 +34,6 @@ returns c = c .before .loop .inv .1 ∙ ap (firstColumn (space [] (c .before .be
 
 pub first-column-spec : {M : Type 1} → statement M
 first-column-spec =
-    tie.close
-    (tie.spec
-    Inv-loop
-    μ-loop
-    loop-holds
-    degree-at-requires
-    add-column
-    add-column-2
-    (λ c. omega arith)
-    (λ c. omega arith)
-    loop-again
-    returns)
+    tie.close (tie.spec Inv-loop μ-loop (λ c. (omega arith, sym (first-column-zero _)))
+    (λ c κs. (omega arith, c .before .before .pre .1 .1)) (λ c. omega (arith, degree-fits c))
+    (λ c. omega (arith, degree-fits c, column-fits c)) (λ c. omega arith) (λ c. omega arith) loop-again returns)

@@ -18,9 +18,6 @@ Inv-loop degrees orders i m k₀ k = ((i < k) × (k ≤ m)) × ((l : ℕ) → l 
 abbrev μ-loop : tie.MeasureT-loop
 μ-loop degrees orders i m k₀ k = m - k
 
-loop-holds : tie.Need-loop-holds Inv-loop μ-loop
-loop-holds c = ((omega arith, omega arith), λ l a b. absurd (omega arith))
-
 -- the segment reached, with the degrees
 starts : (c : tie.After-starts-part Inv-loop μ-loop) {b : Bool} → c .starts-part .result ≡ b
     → startsPart (space [] (c .before .before .before .args .degrees .now) (c .before .before .before .args .orders .now)) (c .before .before .loop .k) ≡ b
@@ -36,22 +33,11 @@ returns c = sym (ends-unique _ _ _ (record { above = omega arith; boundary = who
 returns-2 : tie.Need-returns-2 Inv-loop μ-loop
 returns-2 c = sym (ends-unique _ _ _ (record {
   above = omega arith;
-  boundary =
-      record { within = omega arith; starts = λ _. starts (c .before) (c .if2 .taken) };
+  boundary = record { within = omega arith; starts = λ _. starts (c .before) (c .if2 .taken) };
   between = λ k a b. c .before .before .before .loop .inv .1 k b a;
 }))
 
 pub part-end-spec : {M : Type 1} → statement M
 part-end-spec =
-    tie.close
-    (tie.spec
-    Inv-loop
-    μ-loop
-    (λ c. omega arith)
-    loop-holds
-    (λ c κs. omega arith)
-    (λ c. omega arith)
-    (λ c. omega arith)
-    loop-again
-    returns
-    returns-2)
+    tie.close (tie.spec Inv-loop μ-loop (λ c. omega arith) (λ c. ((omega arith, omega arith), λ l a b. absurd (omega arith)))
+    (λ c κs. omega arith) (λ c. omega arith) (λ c. omega arith) loop-again returns returns-2)

@@ -23,12 +23,8 @@ module _ (c : tie.After-conditions-before) where
   conditions = c .conditions-before .ensures ∙ conditions-before-partial [] (joined .degrees) (joined .orders) (length (joined .orders))
       ∙ ap (conditionsBefore joined) (let e : length (joined .orders) ≡ length (joined .degrees) - 1 = omega (arith, c .before .before .pre .count) in e)
 
-sub-result : tie.Need-sub-result
-sub-result c = omega (arith, columns c, conditions c, row-count-sum (joined c) (c .before .before .pre))
-
-returns : tie.Need-returns
-returns c = ap₂ _-_ (columns c) (conditions c)
-
 pub row-count-spec : {M : Type 1} → statement M
 row-count-spec =
-    tie.close (tie.spec (λ c κs. search needs) (λ c κs. search needs) sub-result returns)
+    tie.close (tie.spec (λ c κs. search needs) (λ c κs. search needs)
+    (λ c. omega (arith, columns c, conditions c, row-count-sum (joined c) (c .before .before .pre)))
+    (λ c. ap₂ _-_ (columns c) (conditions c)))

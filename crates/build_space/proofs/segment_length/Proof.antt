@@ -40,9 +40,6 @@ fits-32 c = sfits-abs (omega (arith, difference-size c))
 fits-64 : (c : tie.Start) → SFits w64 (difference c)
 fits-64 c = sfits-abs (omega (arith, difference-size c))
 
-sub-result : tie.Need-sub-result
-sub-result c = let f = start-fits (c .before) in let g = end-fits c in simp toZ-ofZ (fits-32 (c .before .before))
-
 cast-result : tie.Need-cast-result
 cast-result c = let f = start-fits (c .before) in let g = end-fits c in let h = fits-32 (c .before .before) in simp toZ-ofZ (fits-64 (c .before .before))
 
@@ -51,13 +48,5 @@ returns c = let f = start-fits (c .before) in let g = end-fits c in let h = fits
 
 pub segment-length-spec : {M : Type 1} → statement M
 segment-length-spec =
-    tie.close
-    (tie.spec
-    (λ c. search needs)
-    (λ c. search needs)
-    (λ c. search needs)
-    (λ c. search needs)
-    (λ c. search needs)
-    sub-result
-    cast-result
-    returns)
+    tie.close (tie.spec (λ c. search needs) (λ c. search needs) (λ c. search needs) (λ c. search needs) (λ c. search needs)
+    (λ c. let f = start-fits (c .before) in let g = end-fits c in simp toZ-ofZ (fits-32 (c .before .before))) cast-result returns)

@@ -6,12 +6,7 @@ use Rattle.build_space.proofs.Tests.{starts-part-zero, starts-part-late
 use Rattle.build_space.proofs.starts_part.Statement.{statement}
 use Rattle.build_space.proofs.starts_part.Tie as tie
 
-returns : tie.Need-returns
-returns c = starts-part-zero _ _ (c .if1 .taken)
-
-returns-2 : tie.Need-returns-2
-returns-2 c = c .is-discontinuity .ensures ∙ starts-part-later _ _ (c .before .if1 .left)
-
 pub starts-part-spec : {M : Type 1} → statement M
 starts-part-spec =
-    tie.close (tie.spec returns (λ c. search needs) (λ c κs. search needs) returns-2)
+    tie.close (tie.spec (λ c. starts-part-zero _ _ (c .if1 .taken)) (λ c. search needs) (λ c κs. search needs)
+    (λ c. c .is-discontinuity .ensures ∙ starts-part-later _ _ (c .before .if1 .left)))

@@ -23,9 +23,6 @@ Inv-loop js rows i₀ i = (i ≤ rows) × ((k : ℕ) → k < i → getD js k (po
 abbrev μ-loop : tie.MeasureT-loop
 μ-loop js rows i₀ i = rows - i
 
-loop-holds : tie.Need-loop-holds Inv-loop μ-loop
-loop-holds c = (omega arith, λ k h. absurd (omega arith))
-
 loop-again : tie.Need-loop-again Inv-loop μ-loop
 loop-again c =
     (omega arith, below-more _ _ (c .before .before .before .loop .inv .1) (ofZ-inj w64 _ (pos 0) (record { sfits = c .before .if22 .given }) (search needs) (c .if2 .left)))
@@ -48,15 +45,5 @@ returns-2 c qs e =
 
 pub first-jump-spec : {M : Type 1} → statement M
 first-jump-spec =
-    tie.close
-    (tie.spec
-    Inv-loop
-    μ-loop
-    loop-holds
-    (λ c. omega arith)
-    (λ c. omega arith)
-    (λ c. omega arith)
-    (λ c. omega arith)
-    loop-again
-    returns
-    returns-2)
+    tie.close (tie.spec Inv-loop μ-loop (λ c. (omega arith, λ k h. absurd (omega arith))) (λ c. omega arith) (λ c. omega arith)
+    (λ c. omega arith) (λ c. omega arith) loop-again returns returns-2)

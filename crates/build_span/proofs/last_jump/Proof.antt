@@ -24,17 +24,11 @@ Inv-loop js rows i₀ i = (i ≤ rows) × ((k : ℕ) → i ≤ k → k < rows �
 abbrev μ-loop : tie.MeasureT-loop
 μ-loop js rows i₀ i = i
 
-loop-holds : tie.Need-loop-holds Inv-loop μ-loop
-loop-holds c = (omega arith, λ k h l. absurd (omega arith))
-
 -- one row further down
 from-before : (c : tie.Else2 Inv-loop μ-loop) (k : ℕ) → (c .before .before .before .loop .i - 1 ≡ k) ⊎ (c .before .before .before .loop .i - 1 < k)
     → k < c .before .before .before .before .args .rows → getD (c .before .before .before .before .args .js .now) k (pos 0) ≡ pos 0
 from-before c k (inl e) h = rw (sym e) (ofZ-inj w64 _ (pos 0) (record { sfits = c .before .if22 .given }) (search needs) (c .if2 .left))
 from-before c k (inr l) h = c .before .before .before .loop .inv .1 k (omega arith) h
-
-loop-again : tie.Need-loop-again Inv-loop μ-loop
-loop-again c = (omega arith, λ k l h. from-before c k (eq-or-lt-of-le l) h)
 
 returns : tie.Need-returns Inv-loop μ-loop
 unfolding found
@@ -58,15 +52,5 @@ returns-2 c =
 
 pub last-jump-spec : {M : Type 1} → statement M
 last-jump-spec =
-    tie.close
-    (tie.spec
-    Inv-loop
-    μ-loop
-    loop-holds
-    (λ c. omega arith)
-    (λ c. omega arith)
-    (λ c. omega arith)
-    (λ c. omega arith)
-    loop-again
-    returns
-    returns-2)
+    tie.close (tie.spec Inv-loop μ-loop (λ c. (omega arith, λ k h l. absurd (omega arith))) (λ c. omega arith) (λ c. omega arith)
+    (λ c. omega arith) (λ c. omega arith) (λ c. (omega arith, λ k l h. from-before c k (eq-or-lt-of-le l) h)) returns returns-2)

@@ -20,21 +20,23 @@ zero-between-requires c κs = let l = c .before .before .before .before .before 
     omega (arith, l .last-jump .ensures .1 (c .before .before .before .last .given .0 .0) (c .before .before .before .last .given .1))
 
 -- what the first search found, in the definition's terms
-module _ (c : tie.After-first) (qs : List ℚ) (is : c .before .before .before .before .before .args .t1 ≡ fractions qs) (size : length qs ≡ c .before .before .before .before .before .args .rows) where
+module _ (c : tie.After-first) (qs : List ℚ) (is : let s = c .before .before .before .before .before in s .args .t1 ≡ fractions qs)
+    (size : let s = c .before .before .before .before .before in length qs ≡ s .args .rows) where
   first-is : first (length qs) (jumpsAt qs) ≡ some (c .first .given .0 .0)
   first-is = ap (λ n. first n (jumpsAt qs)) size ∙ found-some-inverts _ (sym (c .before .before .first-jump .ensures qs (ap (λ x. x .num) is)) ∙ c .first .given .1)
 
 -- and the last
-module _ (c : tie.After-last) (qs : List ℚ) (is : c .before .before .before .before .before .before .before .before .before .before .before .args .t1 ≡ fractions qs)
-    (size : length qs ≡ c .before .before .before .before .before .before .before .before .before .before .before .args .rows) where
+module _ (c : tie.After-last) (qs : List ℚ)
+    (is : let s = c .before .before .before .before .before .before .before .before .before .before .before in s .args .t1 ≡ fractions qs)
+    (size : let s = c .before .before .before .before .before .before .before .before .before .before .before in length qs ≡ s .args .rows) where
   last-is : last (length qs) (jumpsAt qs) ≡ some (c .last .given .0 .0)
   last-is = ap (λ n. last n (jumpsAt qs)) size ∙ found-some-inverts _ (sym (c .before .before .last-jump .ensures .0 qs (ap (λ x. x .num) is)) ∙ c .last .given .1)
 
 returns : tie.Need-returns
 unfolding jumpSpan
 returns c qs j is size =
-    let l = c .before .before .before .before .before in
-    sym (ap jumpSpan (span-broken j qs (first-is (l .before .before .before .before .before .before) qs is size) (last-is l qs is size)
+    let l = c .before .before .before .before .before in let k = l .before .before .before .before .before .before in
+    sym (ap jumpSpan (span-broken j qs (first-is k qs is size) (last-is l qs is size)
     (sym (c .before .zero-between .ensures qs (ap (λ x. x .num) is)) ∙ c .if1 .taken)))
 
 returns-2 : tie.Need-returns-2
@@ -52,22 +54,11 @@ returns-3 c qs j is size =
 returns-4 : tie.Need-returns-4
 unfolding jumpSpan
 returns-4 c qs j is size =
-    let l = c .before .before .before .before .before in
-    sym (ap jumpSpan (span-whole j qs (first-is (l .before .before .before .before .before .before) qs is size) (last-is l qs is size)
+    let l = c .before .before .before .before .before in let k = l .before .before .before .before .before .before in
+    sym (ap jumpSpan (span-whole j qs (first-is k qs is size) (last-is l qs is size)
     (sym (c .before .zero-between .ensures qs (ap (λ x. x .num) is)) ∙ c .if1 .left)))
 
 pub span-spec : {M : Type 1} → statement M
 span-spec =
-    tie.close
-    (tie.spec
-    (λ c κs. search needs)
-    (λ c. search needs)
-    (λ c. search needs)
-    (λ c κs. search needs)
-    (λ c. search needs)
-    (λ c. search needs)
-    zero-between-requires
-    returns
-    returns-2
-    returns-3
-    returns-4)
+    tie.close (tie.spec (λ c κs. search needs) (λ c. search needs) (λ c. search needs) (λ c κs. search needs) (λ c. search needs)
+    (λ c. search needs) zero-between-requires returns returns-2 returns-3 returns-4)

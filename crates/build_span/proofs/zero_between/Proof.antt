@@ -27,9 +27,6 @@ Inv-loop js f l i₀ i = (f ≤ i) × ((k : ℕ) → f ≤ k → k < i → getD 
 abbrev μ-loop : tie.MeasureT-loop
 μ-loop js f l i₀ i = l - i
 
-loop-holds : tie.Need-loop-holds Inv-loop μ-loop
-loop-holds c = (omega arith, λ k h l. absurd (omega arith))
-
 -- whether the jump at distance d from f is zero
 abbrev zeroAt : List ℚ → ℕ → ℕ → Bool
 zeroAt qs f d = isZero (entry qs (f + d))
@@ -49,9 +46,6 @@ up-to-next : (c : tie.Else1 Inv-loop μ-loop) (k : ℕ) → c .before .before .b
 up-to-next c k h (inl e) = λ z. c .if1 .left (ap (ofZ w64) (rw e at z))
 up-to-next c k h (inr l) = c .before .before .before .loop .inv .1 k h l
 
-loop-again : tie.Need-loop-again Inv-loop μ-loop
-loop-again c = (omega arith, λ k h l. up-to-next c k h (eq-or-lt-of-le (omega arith)))
-
 returns-2 : tie.Need-returns-2 Inv-loop μ-loop
 returns-2 c qs e =
     let a = c .before .before .args in
@@ -60,15 +54,5 @@ returns-2 c qs e =
 
 pub zero-between-spec : {M : Type 1} → statement M
 zero-between-spec =
-    tie.close
-    (tie.spec
-    Inv-loop
-    μ-loop
-    loop-holds
-    (λ c. omega arith)
-    (λ c. omega arith)
-    returns
-    (λ c. omega arith)
-    (λ c. omega arith)
-    loop-again
-    returns-2)
+    tie.close (tie.spec Inv-loop μ-loop (λ c. (omega arith, λ k h l. absurd (omega arith))) (λ c. omega arith) (λ c. omega arith) returns
+    (λ c. omega arith) (λ c. omega arith) (λ c. (omega arith, λ k h l. up-to-next c k h (eq-or-lt-of-le (omega arith)))) returns-2)

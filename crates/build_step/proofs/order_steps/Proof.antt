@@ -99,29 +99,11 @@ loop-again c =
       state = λ s j t is h shaped. goes-on _ _ _ (h .num-long) (h .den-long) (st d s j t is h shaped) (taken d s j t is h shaped) (leaves-none _ (left d s j t is h shaped) (c .enum-told .given .1));
     }
 
-same-length : tie.Need-same-length Inv-loop μ-loop
-same-length c = let d = c .before .before in d .before .before .step .kept .0 ∙ at-loop d .loop .inv .num-long
-
-same-length-2 : tie.Need-same-length-2 Inv-loop μ-loop
-same-length-2 c = let d = c .before .before in d .before .before .step .kept .1 .0 ∙ at-loop d .loop .inv .den-long
-
 returns : tie.Need-returns Inv-loop μ-loop
 returns c s j t is h shaped = refused (c .before .before) s j t is h shaped refusals.TooLarge (c .enum-told2 .given .1) (λ z. let x : _≡_ {A = ℕ} 0 1 = cc in omega arith)
 
-same-length-3 : tie.Need-same-length-3 Inv-loop μ-loop
-same-length-3 c = let d = c .before .before in d .before .before .step .kept .0 ∙ at-loop d .loop .inv .num-long
-
-same-length-4 : tie.Need-same-length-4 Inv-loop μ-loop
-same-length-4 c = let d = c .before .before in d .before .before .step .kept .1 .0 ∙ at-loop d .loop .inv .den-long
-
 returns-2 : tie.Need-returns-2 Inv-loop μ-loop
 returns-2 c s j t is h shaped = refused (c .before .before) s j t is h shaped refusals.Shape (c .enum-told3 .given .1) (λ z. let x : _≡_ {A = ℕ} 0 1 = cc in omega arith)
-
-same-length-5 : tie.Need-same-length-5 Inv-loop μ-loop
-same-length-5 c = c .before .loop .inv .num-long
-
-same-length-6 : tie.Need-same-length-6 Inv-loop μ-loop
-same-length-6 c = c .before .loop .inv .den-long
 
 returns-3 : tie.Need-returns-3 Inv-loop μ-loop
 unfolding orderSteps
@@ -131,25 +113,10 @@ returns-3 c s j t is h shaped =
 
 pub order-steps-spec : {M : Type 1} → statement M
 order-steps-spec =
-    tie.close
-    (tie.spec
-    Inv-loop
-    μ-loop
-    loop-holds
-    (λ c. omega arith)
-    step-requires
-    (λ c. search needs)
-    (λ c. omega arith)
-    (λ c. omega arith)
-    loop-again
-    (λ c. search needs)
-    same-length
-    same-length-2
-    returns
-    (λ c. search needs)
-    same-length-3
-    same-length-4
-    returns-2
-    same-length-5
-    same-length-6
-    returns-3)
+    tie.close (tie.spec Inv-loop μ-loop loop-holds (λ c. omega arith) step-requires (λ c. search needs) (λ c. omega arith)
+    (λ c. omega arith) loop-again (λ c. search needs)
+    (λ c. let d = c .before .before in d .before .before .step .kept .0 ∙ at-loop d .loop .inv .num-long)
+    (λ c. let d = c .before .before in d .before .before .step .kept .1 .0 ∙ at-loop d .loop .inv .den-long) returns (λ c. search needs)
+    (λ c. let d = c .before .before in d .before .before .step .kept .0 ∙ at-loop d .loop .inv .num-long)
+    (λ c. let d = c .before .before in d .before .before .step .kept .1 .0 ∙ at-loop d .loop .inv .den-long) returns-2
+    (λ c. c .before .loop .inv .num-long) (λ c. c .before .loop .inv .den-long) returns-3)

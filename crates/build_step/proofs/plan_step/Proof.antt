@@ -32,8 +32,7 @@ returns c qs j e size =
     plans-shapeless j qs _
     (span-refused _ (sym (c .before .before .before .span .ensures qs j e size) ∙ c .before .enum-told .given .1)) (c .no-factors .ensures .0)
 
-returns-2 : tie.Need-returns-2
-returns-2 c qs j e size = plans-over j qs _ (span-is (c .before .before) qs j e size) (c .factors .ensures qs j e)
-
 pub plan-step-spec : {M : Type 1} → statement M
-plan-step-spec = tie.close (tie.spec (λ c κs. search needs) (λ c. search needs) (λ c κs. search needs) (λ c. search needs) factors-requires returns returns-2)
+plan-step-spec =
+    tie.close (tie.spec (λ c κs. search needs) (λ c. search needs) (λ c κs. search needs) (λ c. search needs) factors-requires returns
+    (λ c qs j e size. plans-over j qs _ (span-is (c .before .before) qs j e size) (c .factors .ensures qs j e)))

@@ -162,26 +162,6 @@ returns-5 c s j t is h shaped =
 
 pub step-spec : {M : Type 1} → statement M
 step-spec =
-    tie.close
-    (tie.spec
-    jumps-requires
-    (λ c. search needs)
-    (λ c. search needs)
-    returns
-    plan-step-requires
-    (λ c. search needs)
-    (λ c. search needs)
-    (λ c. search needs)
-    renew-rows-requires
-    (λ c. search needs)
-    (λ c. search needs)
-    returns-2
-    (λ c. search needs)
-    (λ c. search needs)
-    returns-3
-    (λ c. search needs)
-    (λ c. search needs)
-    returns-4
-    (λ c. search needs)
-    (λ c. search needs)
-    returns-5)
+    tie.close (tie.spec jumps-requires (λ c. search needs) (λ c. search needs) returns plan-step-requires (λ c. search needs)
+    (λ c. search needs) (λ c. search needs) renew-rows-requires (λ c. search needs) (λ c. search needs) returns-2 (λ c. search needs)
+    (λ c. search needs) returns-3 (λ c. search needs) (λ c. search needs) returns-4 (λ c. search needs) (λ c. search needs) returns-5)

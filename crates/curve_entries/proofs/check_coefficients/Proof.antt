@@ -65,15 +65,5 @@ returns-3 c =
 
 pub check-coefficients-spec : {M : Type 1} → statement M
 check-coefficients-spec =
-    tie.close
-    (tie.spec
-    (λ c κs. search needs)
-    mul-if1
-    returns
-    (λ c. search needs)
-    (λ c κs. search needs)
-    (λ c. search needs)
-    (λ c κs. search needs)
-    (λ c. search needs)
-    returns-2
-    returns-3)
+    tie.close (tie.spec (λ c κs. search needs) mul-if1 returns (λ c. search needs) (λ c κs. search needs) (λ c. search needs)
+    (λ c κs. search needs) (λ c. search needs) returns-2 returns-3)

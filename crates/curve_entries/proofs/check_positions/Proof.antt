@@ -78,16 +78,5 @@ returns-2 c =
 
 pub check-positions-spec : {M : Type 1} → statement M
 check-positions-spec =
-    tie.close
-    (tie.spec
-    (λ c. search needs)
-    mul-low
-    (λ c. search needs)
-    (λ c. search needs)
-    mul-high-2
-    (λ c κs. search needs)
-    (λ c. search needs)
-    (λ c κs. search needs)
-    (λ c. search needs)
-    returns
-    returns-2)
+    tie.close (tie.spec (λ c. search needs) mul-low (λ c. search needs) (λ c. search needs) mul-high-2 (λ c κs. search needs)
+    (λ c. search needs) (λ c κs. search needs) (λ c. search needs) returns returns-2)

@@ -21,9 +21,6 @@ Inv-loop list low high n i₀ i = (i ≤ n) × ((k : ℕ) → k < i → outside 
 abbrev μ-loop : tie.MeasureT-loop
 μ-loop list low high n i₀ i = n - i
 
-loop-holds : tie.Need-loop-holds Inv-loop μ-loop
-loop-holds c = (omega arith, below-none _)
-
 -- the bounds read back from their words
 module _ (s : tie.Start Inv-loop μ-loop) where
   as-passed : (k : ℕ) → outside (s .args .list .now) (toZ w32 (ofZ w32 (s .args .low))) (toZ w32 (ofZ w32 (s .args .high))) k
@@ -73,16 +70,5 @@ returns-3 c =
 
 pub first-outside-spec : {M : Type 1} → statement M
 first-outside-spec =
-    tie.close
-    (tie.spec
-    Inv-loop
-    μ-loop
-    loop-holds
-    (λ c. omega arith)
-    (λ c. omega arith)
-    (λ c. omega arith)
-    (λ c. omega arith)
-    loop-again
-    returns
-    returns-2
-    returns-3)
+    tie.close (tie.spec Inv-loop μ-loop (λ c. (omega arith, below-none _)) (λ c. omega arith) (λ c. omega arith) (λ c. omega arith)
+    (λ c. omega arith) loop-again returns returns-2 returns-3)

@@ -45,9 +45,6 @@ returns-2 c =
     sym (refusal-refused _ (curve-positions (whole s) (s .args .coefs .now) (s .args .positions .now)
     (sym (c .before .before .lengths-fit .ensures) ∙ not-false _ (c .before .if1 .left)) (omega arith)))
 
-check-entries-requires : tie.Need-check-entries-requires
-check-entries-requires c κs = lists c
-
 returns-3 : tie.Need-returns-3
 returns-3 c =
     let s = c .before .before .before .before .before .before .before in
@@ -65,14 +62,5 @@ returns-4 c =
 
 pub check-spec : {M : Type 1} → statement M
 check-spec =
-    tie.close
-    (tie.spec
-    (λ c κs. search needs)
-    returns
-    returns-2
-    (λ c κs. search needs)
-    (λ c. search needs)
-    (λ c. search needs)
-    check-entries-requires
-    returns-3
-    returns-4)
+    tie.close (tie.spec (λ c κs. search needs) returns returns-2 (λ c κs. search needs) (λ c. search needs) (λ c. search needs)
+    (λ c κs. lists c) returns-3 returns-4)

@@ -27,42 +27,12 @@ Inv-loop num den coefs index n c all₀ i₀ all i = (i ≤ n) × Gathered num d
 abbrev μ-loop : tie.MeasureT-loop
 μ-loop num den coefs index n c all₀ i₀ all i = n - i
 
-loop-holds : tie.Need-loop-holds Inv-loop μ-loop
-loop-holds c = (omega arith, gathered-none _ _ _ _)
-
-mul-at : tie.Need-mul-at Inv-loop μ-loop
-mul-at c = omega (arith, c .before .before .pre .rows .weights .few)
-
-add-at : tie.Need-add-at Inv-loop μ-loop
-add-at c = omega (arith, c .before .before .pre .rows .weights .few)
-
-mul-x : tie.Need-mul-x Inv-loop μ-loop
-mul-x c = omega (arith, c .before .before .pre .rows .weights .few)
-
-shared-slice-copy-out-x : tie.Need-shared-slice-copy-out-x Inv-loop μ-loop
-shared-slice-copy-out-x c = let w = c .before .before .pre .rows .weights in omega (arith, w .few, w .holds .num-long)
-
-mul-entry : tie.Need-mul-entry Inv-loop μ-loop
-mul-entry c = omega (arith, c .before .before .before .before .pre .rows .weights .few)
-
-add-entry : tie.Need-add-entry Inv-loop μ-loop
-add-entry c = omega (arith, c .before .before .before .before .pre .rows .weights .few)
-
-mul-a : tie.Need-mul-a Inv-loop μ-loop
-mul-a c = omega (arith, c .before .before .before .before .pre .rows .weights .few)
-
-shared-slice-copy-out-a : tie.Need-shared-slice-copy-out-a Inv-loop μ-loop
-shared-slice-copy-out-a c = omega (arith, c .before .before .before .before .pre .rows .coefficients .count)
-
 cast-a : tie.Need-cast-a Inv-loop μ-loop
 cast-a c =
     let l = c .before .before .before .before in
     let s = l .before in
     let f : SFits w32 (entries (s .args .coefs .now) (s .args .index) (l .loop .i)) = record { sfits = c .a .given } in
     simp toZ-ofZ (sfits-widen f)
-
-mul-d : tie.Need-mul-d Inv-loop μ-loop
-mul-d c = omega (arith, c .before .before .before .before .before .pre .rows .weights .few)
 
 shared-slice-copy-out-d : tie.Need-shared-slice-copy-out-d Inv-loop μ-loop
 shared-slice-copy-out-d c =
@@ -142,9 +112,6 @@ with-term-requires c κs =
       sum-short = omega (arith, l .before .loop .inv .1 .small, start l .pre .rows .weights .few);
     })
 
-add-i : tie.Need-add-i Inv-loop μ-loop
-add-i c = omega (arith, c .before .before .before .before .pre .rows .weights .few)
-
 -- a row with weight on the column
 more : (c : tie.After-with-term Inv-loop μ-loop) → let l = c .before .before .before .before .before in
     GatheredTo l (c .with-term .result) (row l + 1)
@@ -155,8 +122,7 @@ more c =
     let g = x-fits (c .before .before .before .before) in
     let h = d-fits (c .before) in
     gathered-more _ _ _ _ (row l) (row-within l) (start l .pre .column-within) (l .before .loop .all) (l .before .loop .inv .1)
-    (c .with-term .result)
-    (λ z. c .before .before .before .if1 .taken (ap (ofZ w64) z)) (simp toZ-ofZ at (c .with-term .ensures))
+    (c .with-term .result) (λ z. c .before .before .before .if1 .taken (ap (ofZ w64) z)) (simp toZ-ofZ at (c .with-term .ensures))
 
 -- a row without
 skip : (c : tie.Else1 Inv-loop μ-loop) → let l = c .before .before in GatheredTo l (l .before .loop .all) (row l + 1)
@@ -186,24 +152,13 @@ returns c t h =
 
 pub column-terms-spec : {M : Type 1} → statement M
 column-terms-spec =
-    tie.close
-    (tie.spec
-    Inv-loop
-    μ-loop
-    loop-holds
-    mul-at
-    add-at
-    mul-x
-    shared-slice-copy-out-x
-    mul-entry
-    add-entry
-    mul-a
-    shared-slice-copy-out-a
-    cast-a
-    mul-d
-    shared-slice-copy-out-d
-    with-term-requires
-    add-i
-    (λ c. omega arith)
-    loop-again
-    returns)
+    tie.close (tie.spec Inv-loop μ-loop (λ c. (omega arith, gathered-none _ _ _ _))
+    (λ c. omega (arith, c .before .before .pre .rows .weights .few)) (λ c. omega (arith, c .before .before .pre .rows .weights .few))
+    (λ c. omega (arith, c .before .before .pre .rows .weights .few))
+    (λ c. let w = c .before .before .pre .rows .weights in omega (arith, w .few, w .holds .num-long))
+    (λ c. omega (arith, c .before .before .before .before .pre .rows .weights .few))
+    (λ c. omega (arith, c .before .before .before .before .pre .rows .weights .few))
+    (λ c. omega (arith, c .before .before .before .before .pre .rows .weights .few))
+    (λ c. omega (arith, c .before .before .before .before .pre .rows .coefficients .count)) cast-a
+    (λ c. let s = c .before .before .before .before .before in omega (arith, s .pre .rows .weights .few)) shared-slice-copy-out-d with-term-requires
+    (λ c. omega (arith, c .before .before .before .before .pre .rows .weights .few)) (λ c. omega arith) loop-again returns)

@@ -35,15 +35,14 @@ returns c =
     simp toZ-ofZ (sym (limits-unknown (t .some) (t .sum) (t .least) (t .greatest) (not-true _ (c .if1 .taken))))
 
 mul-low : tie.Need-mul-low
-mul-low c =
-    let f = least-fits (c .before .before .before .before .before) in simp toZ-ofZ (low-fits (c .before .before .before .before .before))
+mul-low c = let s = c .before .before .before .before .before in let f = least-fits s in simp toZ-ofZ (low-fits s)
 
 mul-high : tie.Need-mul-high
 mul-high c = let s = c .before .before .before .before .before .before .before in let f = greatest-fits s in simp toZ-ofZ (high-fits s)
 
 returns-2 : tie.Need-returns-2
 returns-2 c =
-    let k = c .before .before .before .before .before .before .before in
+    let d = c .before .before .before .before .before .before in let k = d .before in
     let s = k .before .before in
     let e = sum-fits (k .before) in
     let f = least-fits s in
@@ -52,13 +51,13 @@ returns-2 c =
     let l = high-fits s in
     let r : SFits w64 (c .at-most .result) = record { sfits = c .at-most .ok } in
     let t = s .args .terms in
-    let some = not-false _ (c .before .before .before .before .before .before .if1 .left) in
+    let some = not-false _ (d .if1 .left) in
     let below = limits-below (t .some) (t .sum) (t .least) (t .greatest) some (simp toZ-ofZ at (c .before .if2 .taken)) in
     simp toZ-ofZ ((simp toZ-ofZ at (c .at-most .ensures)) ∙ sym below)
 
 returns-3 : tie.Need-returns-3
 returns-3 c =
-    let k = c .before .before .before .before .before .before .before in
+    let d = c .before .before .before .before .before .before in let k = d .before in
     let s = k .before .before in
     let e = sum-fits (k .before) in
     let f = least-fits s in
@@ -67,11 +66,9 @@ returns-3 c =
     let l = high-fits s in
     let r : SFits w64 (c .at-most2 .result) = record { sfits = c .at-most2 .ok } in
     let t = s .args .terms in
-    let some = not-false _ (c .before .before .before .before .before .before .if1 .left) in
+    let some = not-false _ (d .if1 .left) in
     let above = limits-above (t .some) (t .sum) (t .least) (t .greatest) some (simp toZ-ofZ at (c .before .if2 .left)) in
     simp toZ-ofZ ((simp toZ-ofZ at (c .at-most2 .ensures)) ∙ sym above)
 
 pub limited-spec : {M : Type 1} → statement M
-limited-spec =
-    tie.close
-    (tie.spec returns mul-low mul-high (λ c κs. search needs) returns-2 (λ c κs. search needs) returns-3)
+limited-spec = tie.close (tie.spec returns mul-low mul-high (λ c κs. search needs) returns-2 (λ c κs. search needs) returns-3)

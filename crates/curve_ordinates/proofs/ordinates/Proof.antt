@@ -34,9 +34,6 @@ Inv-loop num den coefs n os₀ index c₀ os c =
 abbrev μ-loop : tie.MeasureT-loop
 μ-loop num den coefs n os₀ index c₀ os c = length os₀ - c
 
-loop-holds : tie.Need-loop-holds Inv-loop μ-loop
-loop-holds c = (omega arith, (omega arith, λ t h m. tab-none _ _))
-
 column-terms-requires : tie.Need-column-terms-requires Inv-loop μ-loop
 column-terms-requires c κs =
     let i = c .before .before in
@@ -109,9 +106,6 @@ module _ (c : tie.After-limited Inv-loop μ-loop) where
       ∙ ap (λ (n : ℕ). within (termsOf t (own summed) (column summed) n)) (sym m)
       ∙ limits-terms t (own summed) (column summed)
 
-cast-o : tie.Need-cast-o Inv-loop μ-loop
-cast-o c = rw (toZ-ofZ w64 _ (record { sfits = c .limited .ok })) (number-fits c)
-
 loop-again : tie.Need-loop-again Inv-loop μ-loop
 loop-again c =
     let i = c .before .before .before in
@@ -124,9 +118,6 @@ loop-again c =
             ∙ tab-more (ordinate t (own (summed c))) j os (omega arith),
       ),
     )
-
-same-length : tie.Need-same-length Inv-loop μ-loop
-same-length c = c .before .loop .inv .1 .0
 
 returns : tie.Need-returns Inv-loop μ-loop
 returns c t h m =
@@ -142,19 +133,6 @@ returns c t h m =
 
 pub ordinates-spec : {M : Type 1} → statement M
 ordinates-spec =
-    tie.close
-    (tie.spec
-    Inv-loop
-    μ-loop
-    (λ c κs. search needs)
-    loop-holds
-    column-terms-requires
-    limited-requires
-    cast-o
-    (λ c. omega arith)
-    (λ c. omega arith)
-    (λ c. omega arith)
-    (λ c. omega arith)
-    loop-again
-    same-length
-    returns)
+    tie.close (tie.spec Inv-loop μ-loop (λ c κs. search needs) (λ c. (omega arith, (omega arith, λ t h m. tab-none _ _)))
+    column-terms-requires limited-requires (λ c. rw (toZ-ofZ w64 _ (record { sfits = c .limited .ok })) (number-fits c)) (λ c. omega arith)
+    (λ c. omega arith) (λ c. omega arith) (λ c. omega arith) loop-again (λ c. c .before .loop .inv .1 .0) returns)

@@ -43,12 +43,6 @@ module _ (s : tie.Start) where
       term-abs (s .args .a) (s .args .num) (natAbs (s .args .den)) (pos-of (s .args .den) (s .pre .den-positive) .1)
       (s .pre .coefficient-small) (s .pre .unit)
 
-mul-round-div : tie.Need-mul-round-div
-mul-round-div c = let f = c .fits .a in simp toZ-ofZ (scaled-fits c)
-
-mul-round-div-2 : tie.Need-mul-round-div-2
-mul-round-div-2 c = let f = c .fits .a in let g = c .fits .num in let h = scaled-fits c in simp toZ-ofZ (product-fits c)
-
 round-div-requires : tie.Need-round-div-requires
 round-div-requires c κs =
     let f = c .fits .a in
@@ -98,12 +92,12 @@ greatest-fits c = record { sfits = c .struct-told2 .given .1 .1 .1 .0 .1 }
 
 returns : tie.Need-returns
 returns c =
-    let d = c .before .before .before .before .before .before in
+    let b = c .before .before .before .before .before in let d = b .before in
     let s = d .before in
     let l = c .before .before .before .before .lesser in
     let g = c .before .before .greater in
     let known = s .args .before .some in
-    let least = least-fits (c .before .before .before .before .before) in
+    let least = least-fits b in
     let greatest = greatest-fits (c .before .before .before) in
     let e = before-fits d in
     let f = result-fits d in
@@ -120,12 +114,6 @@ returns c =
 
 pub with-term-spec : {M : Type 1} → statement M
 with-term-spec =
-    tie.close
-    (tie.spec
-    mul-round-div
-    mul-round-div-2
-    round-div-requires
-    (λ c κs. search needs)
-    (λ c κs. search needs)
-    add-t8
-    returns)
+    tie.close (tie.spec (λ c. let f = c .fits .a in simp toZ-ofZ (scaled-fits c))
+    (λ c. let f = c .fits .a in let g = c .fits .num in let h = scaled-fits c in simp toZ-ofZ (product-fits c)) round-div-requires
+    (λ c κs. search needs) (λ c κs. search needs) add-t8 returns)

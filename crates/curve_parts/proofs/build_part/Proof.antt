@@ -36,18 +36,6 @@ module _ (c : tie.Start) where
     few = l .few;
   }
 
-add-build : tie.Need-add-build
-add-build c = let l = lies c in omega (arith, l .some, l .within, l .break-count, l .order-count, l .few)
-
-sub-build : tie.Need-sub-build
-sub-build c = let l = lies c in omega (arith, l .some, l .within, l .break-count, l .order-count, l .few)
-
-part-build-start : tie.Need-part-build-start
-part-build-start c = let l = lies c in omega (arith, l .some, l .within, l .break-count, l .order-count, l .few)
-
-part-build-end : tie.Need-part-build-end
-part-build-end c = let l = lies c in omega (arith, l .some, l .within, l .break-count, l .order-count, l .few)
-
 sub-build-2 : tie.Need-sub-build-2
 sub-build-2 c = let l = lies (c .before) in omega (arith, l .some, l .within, l .break-count, l .order-count, l .few)
 
@@ -112,15 +100,6 @@ module _ (c : tie.After-built2) where
       rows
   own-rows = record { weights = weighed; coefficients = own-coefficients }
 
-add-own : tie.Need-add-own
-add-own c = let k = c .before in omega (arith, rows-within k, rows-few k, entry k .pre .coefficients .count)
-
-mul-own-2 : tie.Need-mul-own-2
-mul-own-2 c = let k = c .before in omega (arith, rows-within k, rows-few k, entry k .pre .coefficients .count)
-
-part-own-end : tie.Need-part-own-end
-part-own-end c = let k = c .before in omega (arith, rows-within k, rows-few k, entry k .pre .coefficients .count)
-
 ordinates-requires : tie.Need-ordinates-requires
 ordinates-requires c κs = let k = c .before .before .before .before .before in
     record { rows = own-rows k; columns-few = columns-fit (done k) (entry k .pre .early-long) }
@@ -137,47 +116,23 @@ returns c =
 
 returns-2 : tie.Need-returns-2
 returns-2 c =
-    let k = c .before .before .before .before .before .before .before .before .before .before .before .before in
+    let o = c .before .before .before .before .before .before in let k = o .before .before .before .before .before .before in
     let s = entry k in
     leaves-rows (lists s) _ _ (s .pre .part) _ _ _ _ (s .pre .room) _ (done k .build .ensures) (k .built2 .given .1)
     (s .args .coefs .now) (s .args .row) (s .pre .early-long) (s .pre .late-long)
-    (c .before .before .before .before .before .before .ordinates .ensures) (c .before .ordinates2 .ensures)
+    (o .ordinates .ensures) (c .before .ordinates2 .ensures)
 
 pub build-part-spec : {M : Type 1} → statement M
 build-part-spec =
-    tie.close
-    (tie.spec
-    add-build
-    (λ c. search needs)
-    sub-build
-    part-build-start
-    part-build-end
-    (λ c. search needs)
-    sub-build-2
-    part-build-start-2
-    part-build-end-2
-    sub-build-3
-    (λ c. search needs)
-    sub-build-4
-    part-build-start-3
-    part-build-end-3
-    (λ c κs. search needs)
-    (λ c. search needs)
-    (λ c. search needs)
-    (λ c. search needs)
-    add-own
-    mul-own-2
-    (λ c. search needs)
-    (λ c. search needs)
-    (λ c. search needs)
-    part-own-end
-    ordinates-requires
-    ordinates-requires-2
-    (λ c. search needs)
-    (λ c. search needs)
-    returns
-    (λ c. search needs)
-    (λ c. search needs)
-    (λ c. search needs)
-    (λ c. search needs)
-    returns-2)
+    tie.close (tie.spec (λ c. let l = lies c in omega (arith, l .some, l .within, l .break-count, l .order-count, l .few))
+    (λ c. search needs) (λ c. let l = lies c in omega (arith, l .some, l .within, l .break-count, l .order-count, l .few))
+    (λ c. let l = lies c in omega (arith, l .some, l .within, l .break-count, l .order-count, l .few))
+    (λ c. let l = lies c in omega (arith, l .some, l .within, l .break-count, l .order-count, l .few)) (λ c. search needs) sub-build-2
+    part-build-start-2 part-build-end-2 sub-build-3 (λ c. search needs) sub-build-4 part-build-start-3 part-build-end-3
+    (λ c κs. search needs) (λ c. search needs) (λ c. search needs) (λ c. search needs)
+    (λ c. let k = c .before in omega (arith, rows-within k, rows-few k, entry k .pre .coefficients .count))
+    (λ c. let k = c .before in omega (arith, rows-within k, rows-few k, entry k .pre .coefficients .count)) (λ c. search needs)
+    (λ c. search needs) (λ c. search needs)
+    (λ c. let k = c .before in omega (arith, rows-within k, rows-few k, entry k .pre .coefficients .count)) ordinates-requires
+    ordinates-requires-2 (λ c. search needs) (λ c. search needs) returns (λ c. search needs) (λ c. search needs) (λ c. search needs)
+    (λ c. search needs) returns-2)

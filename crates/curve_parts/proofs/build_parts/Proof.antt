@@ -60,9 +60,6 @@ loop-holds c = record {
 taken : (c : tie.In-loop Inv-loop μ-loop) → c .before .loop .a < length (c .before .before .args .degrees .now)
 taken c = omega arith
 
-part-end-requires : tie.Need-part-end-requires Inv-loop μ-loop
-part-end-requires c κs = (taken c, sym (c .before .before .pre .legal .order-count))
-
 -- the part's end
 module _ (c : tie.After-part-end Inv-loop μ-loop) where
   abbrev start : tie.Start Inv-loop μ-loop
@@ -79,9 +76,6 @@ module _ (c : tie.After-part-end Inv-loop μ-loop) where
 
   end-within : c .part-end .result ≤ length (start .args .degrees .now)
   end-within = omega (arith, end-is, part-ends (lists start) first (taken (c .before)) .boundary .within)
-
-first-column-requires : tie.Need-first-column-requires Inv-loop μ-loop
-first-column-requires c κs = let legal = start c .pre .legal in (end-within c, (legal .few, legal .degrees-legal))
 
 -- the part's columns
 module _ (c : tie.After-first-column Inv-loop μ-loop) where
@@ -128,30 +122,6 @@ module _ (c : tie.After-first-column Inv-loop μ-loop) where
   late-room : c .first-column .result ≤ length (held .late)
   late-room = omega (arith, columns-within, turn .loop .inv .late-long, entry .pre .late-long)
 
-mul-build-part : tie.Need-mul-build-part Inv-loop μ-loop
-mul-build-part c = let f = c .before .before in omega (arith, size f, columns-few f, early-room f)
-
-sub-build-part : tie.Need-sub-build-part Inv-loop μ-loop
-sub-build-part c = let f = c .before .before in omega (arith, size f, columns-few f, early-room f)
-
-part-build-part-start : tie.Need-part-build-part-start Inv-loop μ-loop
-part-build-part-start c = let f = c .before .before in omega (arith, size f, columns-few f, early-room f)
-
-part-build-part-end : tie.Need-part-build-part-end Inv-loop μ-loop
-part-build-part-end c = let f = c .before .before in omega (arith, size f, columns-few f, early-room f)
-
-mul-build-part-2 : tie.Need-mul-build-part-2 Inv-loop μ-loop
-mul-build-part-2 c = let f = c .before .before .before in omega (arith, size f, columns-few f, late-room f)
-
-sub-build-part-2 : tie.Need-sub-build-part-2 Inv-loop μ-loop
-sub-build-part-2 c = let f = c .before .before .before in omega (arith, size f, columns-few f, late-room f)
-
-part-build-part-start-2 : tie.Need-part-build-part-start-2 Inv-loop μ-loop
-part-build-part-start-2 c = let f = c .before .before .before in omega (arith, size f, columns-few f, late-room f)
-
-part-build-part-end-2 : tie.Need-part-build-part-end-2 Inv-loop μ-loop
-part-build-part-end-2 c = let f = c .before .before .before in omega (arith, size f, columns-few f, late-room f)
-
 -- the cells lent for them
 middle-length : (xs : List ℤ) (a e : ℕ) {n : ℕ} → e ≤ length xs → a + n ≡ e → length (take (e - a) (drop a xs)) ≡ n
 middle-length xs a e h k = length-take-le (e - a) (drop a xs) (rw (length-drop a xs) (omega arith)) ∙ omega arith
@@ -194,9 +164,7 @@ module _ (c : tie.After-build-part Inv-loop μ-loop) where
 
   -- the two buffers, and the cells lent for the part
   abbrev left : Lent
-  left =
-      let l = c .build-part .last .1 .1 .1 .1 .1 .1 .1 in
-      lent (l .0) (l .1 .0) (l .1 .1 .0) (l .1 .1 .1 .0)
+  left = let l = c .build-part .last .1 .1 .1 .1 .1 .1 .1 in lent (l .0) (l .1 .0) (l .1 .1 .0) (l .1 .1 .1 .0)
 
   abbrev after : Lent
   after = lent (left .num) (left .den)
@@ -237,21 +205,6 @@ add-place c =
     let m = c .before .before .before .before .before .before .before in
     omega (arith, taken (at m .before), begun m .pre .legal .few)
 
-place-requires : tie.Need-place-requires Inv-loop μ-loop
-place-requires c κs = tt
-
-same-length : tie.Need-same-length Inv-loop μ-loop
-same-length c = num-kept (c .before .before .before .before .before .before .before .before)
-
-same-length-2 : tie.Need-same-length-2 Inv-loop μ-loop
-same-length-2 c = den-kept (c .before .before .before .before .before .before .before .before)
-
-same-length-3 : tie.Need-same-length-3 Inv-loop μ-loop
-same-length-3 c = early-kept (c .before .before .before .before .before .before .before .before)
-
-same-length-4 : tie.Need-same-length-4 Inv-loop μ-loop
-same-length-4 c = late-kept (c .before .before .before .before .before .before .before .before)
-
 returns : tie.Need-returns Inv-loop μ-loop
 returns c =
     let m = c .before .before .before .before .before .before .before .before in
@@ -274,54 +227,25 @@ loop-again c =
       front = more m (c .before .built .given .1);
     }
 
-same-length-5 : tie.Need-same-length-5 Inv-loop μ-loop
-same-length-5 c = c .before .loop .inv .num-long
-
-same-length-6 : tie.Need-same-length-6 Inv-loop μ-loop
-same-length-6 c = c .before .loop .inv .den-long
-
-same-length-7 : tie.Need-same-length-7 Inv-loop μ-loop
-same-length-7 c = c .before .loop .inv .early-long
-
-same-length-8 : tie.Need-same-length-8 Inv-loop μ-loop
-same-length-8 c = c .before .loop .inv .late-long
-
 returns-2 : tie.Need-returns-2 Inv-loop μ-loop
 returns-2 c = let s = c .before .before in front-whole (lists s) (s .pre .legal) _ _ (c .before .loop .inv .front) (omega arith)
 
 pub build-parts-spec : {M : Type 1} → statement M
 build-parts-spec =
-    tie.close
-    (tie.spec
-    Inv-loop
-    μ-loop
-    loop-holds
-    part-end-requires
-    first-column-requires
-    mul-build-part
-    sub-build-part
-    part-build-part-start
-    part-build-part-end
-    mul-build-part-2
-    sub-build-part-2
-    part-build-part-start-2
-    part-build-part-end-2
-    build-part-requires
-    (λ c. search needs)
-    add-row
-    (λ c. search needs)
-    (λ c. omega arith)
-    add-place
-    place-requires
-    same-length
-    same-length-2
-    same-length-3
-    same-length-4
-    returns
-    loop-less
-    loop-again
-    same-length-5
-    same-length-6
-    same-length-7
-    same-length-8
-    returns-2)
+    tie.close (tie.spec Inv-loop μ-loop loop-holds (λ c κs. (taken c, sym (c .before .before .pre .legal .order-count)))
+    (λ c κs. let legal = start c .pre .legal in (end-within c, (legal .few, legal .degrees-legal)))
+    (λ c. let f = c .before .before in omega (arith, size f, columns-few f, early-room f))
+    (λ c. let f = c .before .before in omega (arith, size f, columns-few f, early-room f))
+    (λ c. let f = c .before .before in omega (arith, size f, columns-few f, early-room f))
+    (λ c. let f = c .before .before in omega (arith, size f, columns-few f, early-room f))
+    (λ c. let f = c .before .before .before in omega (arith, size f, columns-few f, late-room f))
+    (λ c. let f = c .before .before .before in omega (arith, size f, columns-few f, late-room f))
+    (λ c. let f = c .before .before .before in omega (arith, size f, columns-few f, late-room f))
+    (λ c. let f = c .before .before .before in omega (arith, size f, columns-few f, late-room f)) build-part-requires (λ c. search needs)
+    add-row (λ c. search needs) (λ c. omega arith) add-place (λ c κs. tt)
+    (λ c. let m = c .before .before .before .before .before .before .before .before in num-kept m)
+    (λ c. let m = c .before .before .before .before .before .before .before .before in den-kept m)
+    (λ c. let m = c .before .before .before .before .before .before .before .before in early-kept m)
+    (λ c. let m = c .before .before .before .before .before .before .before .before in late-kept m) returns loop-less loop-again
+    (λ c. c .before .loop .inv .num-long) (λ c. c .before .loop .inv .den-long) (λ c. c .before .loop .inv .early-long)
+    (λ c. c .before .loop .inv .late-long) returns-2)

@@ -40,9 +40,7 @@ module _ (d : tie.After-build-curves) where
 
   -- what the call ends with for a wood part
   abbrev outcome : Wood → Outcome Piece
-  outcome wood =
-      let a = start .args in
-      pieceOutcome lists wood (a .coefs .now) (a .segment) (length (a .num .now)) (length (a .den .now))
+  outcome wood = let a = start .args in pieceOutcome lists wood (a .coefs .now) (a .segment) (length (a .num .now)) (length (a .den .now))
 
 -- after an answer
 module _ (t : tie.After-enum-told) where
@@ -51,12 +49,6 @@ module _ (t : tie.After-enum-told) where
 
   held : Told done (Count (t .enum-told .given .0 .0))
   held = subst (Told done) (t .enum-told .given .1) (done .build-curves .ensures .told)
-
-draw-requires : tie.Need-draw-requires
-draw-requires c κs = record { legal = held (c .before .before .before) .legal; long = search needs }
-
-draw-requires-2 : tie.Need-draw-requires-2
-draw-requires-2 c κs = record { legal = held (c .before .before .before) .legal; long = search needs }
 
 returns : tie.Need-returns
 returns c =
@@ -94,28 +86,8 @@ returns-3 c =
 
 pub piece-spec : {M : Type 1} → statement M
 piece-spec =
-    tie.close
-    (tie.spec
-    (λ c. search needs)
-    (λ c. search needs)
-    (λ c. search needs)
-    (λ c. search needs)
-    (λ c. search needs)
-    (λ c κs. search needs)
-    (λ c. search needs)
-    (λ c. search needs)
-    (λ c. search needs)
-    (λ c. search needs)
-    draw-requires
-    (λ c. search needs)
-    (λ c. search needs)
-    draw-requires-2
-    (λ c. search needs)
-    (λ c. search needs)
-    returns
-    (λ c. search needs)
-    (λ c. search needs)
-    returns-2
-    (λ c. search needs)
-    (λ c. search needs)
-    returns-3)
+    tie.close (tie.spec (λ c. search needs) (λ c. search needs) (λ c. search needs) (λ c. search needs) (λ c. search needs)
+    (λ c κs. search needs) (λ c. search needs) (λ c. search needs) (λ c. search needs) (λ c. search needs)
+    (λ c κs. record { legal = held (c .before .before .before) .legal; long = search needs }) (λ c. search needs) (λ c. search needs)
+    (λ c κs. record { legal = held (c .before .before .before) .legal; long = search needs }) (λ c. search needs) (λ c. search needs)
+    returns (λ c. search needs) (λ c. search needs) returns-2 (λ c. search needs) (λ c. search needs) returns-3)

@@ -32,11 +32,8 @@ module _ (c : tie.After-segment-length) where
   fine-fits : SFits w64 (pos (256 * rings (c .before)))
   fine-fits = sfits-abs (omega (arith, rings-few (c .before)))
 
-mul-result : tie.Need-mul-result
-mul-result c = rw (length-is c) (fine-fits c)
-
 returns : tie.Need-returns
 returns c = ap (λ (z : ℤ). toZ w64 (ofZ w64 (pos 256 *ℤ z))) (length-is c) ∙ toZ-ofZ w64 _ (fine-fits c)
 
 pub fine-width-spec : {M : Type 1} → statement M
-fine-width-spec = tie.close (tie.spec (λ c κs. search needs) mul-result returns)
+fine-width-spec = tie.close (tie.spec (λ c κs. search needs) (λ c. rw (length-is c) (fine-fits c)) returns)

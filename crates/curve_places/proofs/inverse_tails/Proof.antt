@@ -30,9 +30,6 @@ Inv-loop breaks degrees tails₀ k₀ tails k =
 abbrev μ-loop : tie.MeasureT-loop
 μ-loop breaks degrees tails₀ k₀ tails k = length degrees - k
 
-loop-holds : tie.Need-loop-holds Inv-loop μ-loop
-loop-holds c = (omega arith, tab-none _ _)
-
 fine-width-requires : tie.Need-fine-width-requires Inv-loop μ-loop
 fine-width-requires c κs =
     let h = c .before .before .pre .legal in
@@ -52,15 +49,6 @@ tail-of-requires : tie.Need-tail-of-requires Inv-loop μ-loop
 tail-of-requires c κs =
     let s = start c in
     rw (width-is c) (length-is (s .args .breaks .now) (s .args .degrees .now) (s .pre .orders) (s .pre .legal) (turn c .loop .k) (omega arith))
-
-mul-tails : tie.Need-mul-tails Inv-loop μ-loop
-mul-tails c = let s = start (c .before) in omega (arith, s .pre .legal .few)
-
-array-set-from-tails : tie.Need-array-set-from-tails Inv-loop μ-loop
-array-set-from-tails c = let s = start (c .before) in omega (arith, s .pre .legal .few)
-
-add-k : tie.Need-add-k Inv-loop μ-loop
-add-k c = let s = start (c .before) in omega (arith, s .pre .legal .few)
 
 loop-again : tie.Need-loop-again Inv-loop μ-loop
 loop-again c =
@@ -85,5 +73,7 @@ returns c =
 
 pub inverse-tails-spec : {M : Type 1} → statement M
 inverse-tails-spec =
-    tie.close (tie.spec Inv-loop μ-loop loop-holds fine-width-requires tail-of-requires mul-tails array-set-from-tails add-k (λ c. omega arith) loop-again
-    returns)
+    tie.close (tie.spec Inv-loop μ-loop (λ c. (omega arith, tab-none _ _)) fine-width-requires tail-of-requires
+    (λ c. let s = start (c .before) in omega (arith, s .pre .legal .few))
+    (λ c. let s = start (c .before) in omega (arith, s .pre .legal .few))
+    (λ c. let s = start (c .before) in omega (arith, s .pre .legal .few)) (λ c. omega arith) loop-again returns)

@@ -21,9 +21,6 @@ Inv-loop ordinates c p o₀ k₀ o k = (k ≤ p + 1) × (o ≡ tab k (λ j. getD
 abbrev μ-loop : tie.MeasureT-loop
 μ-loop ordinates c p o₀ k₀ o k = p + 1 - k
 
-loop-holds : tie.Need-loop-holds Inv-loop μ-loop
-loop-holds c = (omega arith, tab-none _ _)
-
 -- the number that is copied
 module _ (c : tie.After-x Inv-loop μ-loop) where
   abbrev number : ℤ
@@ -31,9 +28,6 @@ module _ (c : tie.After-x Inv-loop μ-loop) where
 
   number-fits : SFits w32 number
   number-fits = record { sfits = c .x .given }
-
-cast-x : tie.Need-cast-x Inv-loop μ-loop
-cast-x c = let f = number-fits c in simp toZ-ofZ (sfits-widen (number-fits c))
 
 loop-again : tie.Need-loop-again Inv-loop μ-loop
 loop-again c =
@@ -56,18 +50,6 @@ returns c =
 
 pub local-ordinates-spec : {M : Type 1} → statement M
 local-ordinates-spec =
-    tie.close
-    (tie.spec
-    Inv-loop
-    μ-loop
-    loop-holds
-    (λ c. omega arith)
-    (λ c. omega arith)
-    (λ c. omega arith)
-    cast-x
-    (λ c. omega arith)
-    (λ c. omega arith)
-    (λ c. omega arith)
-    (λ c. omega arith)
-    loop-again
-    returns)
+    tie.close (tie.spec Inv-loop μ-loop (λ c. (omega arith, tab-none _ _)) (λ c. omega arith) (λ c. omega arith) (λ c. omega arith)
+    (λ c. let f = number-fits c in simp toZ-ofZ (sfits-widen (number-fits c))) (λ c. omega arith) (λ c. omega arith) (λ c. omega arith)
+    (λ c. omega arith) loop-again returns)

@@ -34,15 +34,6 @@ module _ (s : tie.Start) where
   offset-fits : SFits w64 (s .args .x -ℤ pos 256 *ℤ break)
   offset-fits = sfits-abs (omega (arith, start-small, abs-sfits (s .fits .x), abs-sub (s .args .x) (pos 256 *ℤ break)))
 
-cast-start : tie.Need-cast-start
-cast-start c = let f = break-fits-32 (c .before) in simp toZ-ofZ (break-fits (c .before))
-
-cast-result : tie.Need-cast-result
-cast-result c = let f = c .before .fits .x in simp toZ-ofZ (x-fits (c .before))
-
-mul-result : tie.Need-mul-result
-mul-result c = let s = c .before in let f = break-fits-32 s in let g = break-fits s in simp toZ-ofZ (start-fits s)
-
 sub-result : tie.Need-sub-result
 sub-result c =
     let s = c .before in
@@ -67,12 +58,7 @@ returns c =
 
 pub offset-spec : {M : Type 1} → statement M
 offset-spec =
-    tie.close
-    (tie.spec
-    (λ c. search needs)
-    (λ c. search needs)
-    cast-start
-    cast-result
-    mul-result
-    sub-result
-    returns)
+    tie.close (tie.spec (λ c. search needs) (λ c. search needs)
+    (λ c. let f = break-fits-32 (c .before) in simp toZ-ofZ (break-fits (c .before)))
+    (λ c. let f = c .before .fits .x in simp toZ-ofZ (x-fits (c .before)))
+    (λ c. let s = c .before in let f = break-fits-32 s in let g = break-fits s in simp toZ-ofZ (start-fits s)) sub-result returns)

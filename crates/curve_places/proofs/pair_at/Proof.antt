@@ -66,12 +66,6 @@ module _ (c : tie.After-struct-told3) where
     ordinates = h;
   }
 
-value-of-requires : tie.Need-value-of-requires
-value-of-requires c κs = let t = c .before in asked t 1 (c .if1 .taken) _ (start t .pre .early-ordinates)
-
-value-of-requires-2 : tie.Need-value-of-requires-2
-value-of-requires-2 c κs = let t = c .before .before in asked t 1 (c .before .if1 .taken) _ (start t .pre .late-ordinates)
-
 returns : tie.Need-returns
 returns c =
     let t = c .before .before .before in
@@ -80,12 +74,6 @@ returns c =
       early-is = toZ-ofZ w32 _ (record { sfits = c .before .value-of .ok }) ∙ there t 1 e _ _ (c .before .value-of .ensures);
       late-is = toZ-ofZ w32 _ (record { sfits = c .value-of2 .ok }) ∙ there t 1 e _ _ (c .value-of2 .ensures);
     }
-
-value-by-requires : tie.Need-value-by-requires
-value-by-requires c κs = let t = c .before in asked t _ refl _ (start t .pre .early-ordinates)
-
-value-by-requires-2 : tie.Need-value-by-requires-2
-value-by-requires-2 c κs = let t = c .before .before in asked t _ refl _ (start t .pre .late-ordinates)
 
 returns-2 : tie.Need-returns-2
 returns-2 c =
@@ -97,5 +85,7 @@ returns-2 c =
 
 pub pair-at-spec : {M : Type 1} → statement M
 pair-at-spec =
-    tie.close
-    (tie.spec (λ c κs. search needs) value-of-requires value-of-requires-2 returns value-by-requires value-by-requires-2 returns-2)
+    tie.close (tie.spec (λ c κs. search needs) (λ c κs. let t = c .before in asked t 1 (c .if1 .taken) _ (start t .pre .early-ordinates))
+    (λ c κs. let t = c .before .before in asked t 1 (c .before .if1 .taken) _ (start t .pre .late-ordinates)) returns
+    (λ c κs. let t = c .before in asked t _ refl _ (start t .pre .early-ordinates))
+    (λ c κs. let t = c .before .before in asked t _ refl _ (start t .pre .late-ordinates)) returns-2)

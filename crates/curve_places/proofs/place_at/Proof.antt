@@ -38,9 +38,6 @@ module _ (c : tie.Start) where
   offset-is : Offset (offset (space (c .args .breaks .now) [] []) i (c .args .x)) (pos (fineWidth (space (c .args .breaks .now) [] []) i))
   offset-is = offset-within (c .args .breaks .now) (c .args .degrees .now) orders legal (c .args .x) (c .pre .within) i found
 
-degree-at-requires : tie.Need-degree-at-requires
-degree-at-requires c κs = let s = c .before in (within s, legal s .degrees-legal)
-
 offset-requires : tie.Need-offset-requires
 offset-requires c κs =
     let s = c .before .before in
@@ -50,9 +47,6 @@ fine-width-requires : tie.Need-fine-width-requires
 fine-width-requires c κs =
     let s = c .before .before .before in
     record { within = omega (arith, within s, legal s .break-count); legal = legal s .breaks-legal }
-
-mul-c : tie.Need-mul-c
-mul-c c = let s = c .before .before .before .before in omega (arith, within s, legal s .few)
 
 shared-slice-read-c : tie.Need-shared-slice-read-c
 shared-slice-read-c c =
@@ -103,4 +97,6 @@ returns c =
     }
 
 pub place-at-spec : {M : Type 1} → statement M
-place-at-spec = tie.close (tie.spec degree-at-requires offset-requires fine-width-requires mul-c shared-slice-read-c returns)
+place-at-spec =
+    tie.close (tie.spec (λ c κs. let s = c .before in (within s, legal s .degrees-legal)) offset-requires fine-width-requires
+    (λ c. let s = c .before .before .before .before in omega (arith, within s, legal s .few)) shared-slice-read-c returns)

@@ -91,11 +91,10 @@ module _ (c : tie.After-struct-told4) where
     ordinates = h;
   }
 
-value-by-requires : tie.Need-value-by-requires
-value-by-requires c κs = asked c _ (start c .pre .ordinates)
-
 returns : tie.Need-returns
 returns c = toZ-ofZ w32 _ (record { sfits = c .value-by .ok }) ∙ there (c .before) _ _ (c .value-by .ensures)
 
 pub value-at-spec : {M : Type 1} → statement M
-value-at-spec = tie.close (tie.spec (λ c κs. search needs) (λ c κs. search needs) rate-of-requires value-by-requires returns)
+value-at-spec =
+    tie.close (tie.spec (λ c κs. search needs) (λ c κs. search needs) rate-of-requires (λ c κs. asked c _ (start c .pre .ordinates))
+    returns)

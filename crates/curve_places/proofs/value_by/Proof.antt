@@ -40,24 +40,6 @@ module _ (s : tie.Start) where
       ∙ is u d (passed u d rated)
       ∙ ap (λ (n : ℕ). triangle (natAbs d) u (λ k. getD (s .args .ordinates .now) (s .args .c + k) (pos 0)) n 0) (sym e)
 
-value-of-requires : tie.Need-value-of-requires
-value-of-requires c κs = asked (c .before) 1 (c .match .keys1)
-
-value-of-requires-2 : tie.Need-value-of-requires-2
-value-of-requires-2 c κs = asked (c .before) 2 (c .match .keys2)
-
-value-of-requires-3 : tie.Need-value-of-requires-3
-value-of-requires-3 c κs = asked (c .before) 3 (c .match .keys3)
-
-value-of-requires-4 : tie.Need-value-of-requires-4
-value-of-requires-4 c κs = asked (c .before) 4 (c .match .keys4)
-
-value-of-requires-5 : tie.Need-value-of-requires-5
-value-of-requires-5 c κs = asked (c .before) 5 (c .match .keys5)
-
-value-of-requires-6 : tie.Need-value-of-requires-6
-value-of-requires-6 c κs = asked (c .before) _ refl
-
 returns : tie.Need-returns
 returns c u d rated =
     arm (c .before .before) 1 _ (c .before .match .keys1) (record { sfits = c .value-of .ok }) (c .value-of .ensures) u d rated
@@ -83,17 +65,7 @@ returns-6 c u d rated = arm (c .before .before) _ _ refl (record { sfits = c .va
 
 pub value-by-spec : {M : Type 1} → statement M
 value-by-spec =
-    tie.close
-    (tie.spec
-    value-of-requires
-    value-of-requires-2
-    value-of-requires-3
-    value-of-requires-4
-    value-of-requires-5
-    value-of-requires-6
-    returns
-    returns-2
-    returns-3
-    returns-4
-    returns-5
+    tie.close (tie.spec (λ c κs. asked (c .before) 1 (c .match .keys1)) (λ c κs. asked (c .before) 2 (c .match .keys2))
+    (λ c κs. asked (c .before) 3 (c .match .keys3)) (λ c κs. asked (c .before) 4 (c .match .keys4))
+    (λ c κs. asked (c .before) 5 (c .match .keys5)) (λ c κs. asked (c .before) _ refl) returns returns-2 returns-3 returns-4 returns-5
     returns-6)

@@ -41,9 +41,6 @@ module _ (c : tie.After-triangle) where
   value-fits : SFits w32 (c .triangle .result)
   value-fits = sfits-abs (omega (arith, c .triangle .ensures .small))
 
-cast-result : tie.Need-cast-result
-cast-result c = rw (toZ-ofZ w64 _ (record { sfits = c .triangle .ok })) (value-fits c)
-
 returns : tie.Need-returns
 returns c u d rated =
     ap (λ (z : ℤ). toZ w32 (ofZ w32 z)) (toZ-ofZ w64 (c .triangle .result) (record { sfits = c .triangle .ok }))
@@ -51,4 +48,6 @@ returns c u d rated =
     ∙ value-is c u d rated
 
 pub value-of-spec : {M : Type 1} → statement M
-value-of-spec = tie.close (tie.spec (λ c κs. search needs) triangle-requires cast-result returns)
+value-of-spec =
+    tie.close (tie.spec (λ c κs. search needs) triangle-requires
+    (λ c. rw (toZ-ofZ w64 _ (record { sfits = c .triangle .ok })) (value-fits c)) returns)

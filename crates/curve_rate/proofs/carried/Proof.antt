@@ -17,9 +17,6 @@ product-fits : (c : tie.Start) → SFits w64 (c .args .rise *ℤ c .args .low)
 product-fits c =
     sfits-abs (omega (arith, abs-mul-le (c .args .rise) (c .args .low) 536870912 536870912 (c .pre .rise-small) (c .pre .low-small)))
 
-mul-result : tie.Need-mul-result
-mul-result c = let f = c .fits .rise in let g = c .fits .low in simp toZ-ofZ (product-fits c)
-
 returns : tie.Need-returns
 returns c =
     let f = c .fits .rise in
@@ -29,4 +26,6 @@ returns c =
     simp (toZ-ofZ, floorDiv-shrZ) refl
 
 pub carried-spec : {M : Type 1} → statement M
-carried-spec = tie.close (tie.spec mul-result (λ c. search needs) (λ c. search needs) returns)
+carried-spec =
+    tie.close (tie.spec (λ c. let f = c .fits .rise in let g = c .fits .low in simp toZ-ofZ (product-fits c)) (λ c. search needs)
+    (λ c. search needs) returns)

@@ -83,9 +83,6 @@ module _ (c : tie.After-carried) where
       (subst (λ (z : ℤ). Rated z (low u whole tail) (c .before .args .u) d) (sym high-is)
       (rate-is u whole tail (sizes start) d o inverted))
 
-mul-total : tie.Need-mul-total
-mul-total c = let f = c .before .fits .u in let g = c .before .fits .whole in simp toZ-ofZ (product-fits c)
-
 add-total : tie.Need-add-total
 add-total c =
     let f = c .before .fits .u in
@@ -127,4 +124,7 @@ returns c d o inverted =
     simp toZ-ofZ (rw (toZ-ofZ w64 _ (low-fits c)) (rated c d o inverted))
 
 pub rate-of-spec : {M : Type 1} → statement M
-rate-of-spec = tie.close (tie.spec carried-requires mul-total add-total (λ c. search needs) (λ c. search needs) mul-low sub-low returns)
+rate-of-spec =
+    tie.close (tie.spec carried-requires
+    (λ c. let f = c .before .fits .u in let g = c .before .fits .whole in simp toZ-ofZ (product-fits c)) add-total (λ c. search needs)
+    (λ c. search needs) mul-low sub-low returns)

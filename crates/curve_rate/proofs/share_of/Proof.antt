@@ -20,10 +20,7 @@ carried-requires : tie.Need-carried-requires
 carried-requires c κs =
     let f = c .fits .rise in
     let g = c .fits .low in
-    simp toZ-ofZ (record {
-      rise-small = c .pre .rise-small;
-      low-small = c .pre .rate .rated .low-small;
-    })
+    simp toZ-ofZ (record { rise-small = c .pre .rise-small; low-small = c .pre .rate .rated .low-small })
 
 module _ (c : tie.After-carried) where
   abbrev start : tie.Start
@@ -62,9 +59,6 @@ module _ (c : tie.After-carried) where
   shifted-fits half h =
       rw (floorDiv-shrZ (whole +ℤ c .carried .result +ℤ pos half) 8589934592) at (floor-fits 8589934592 (half-fits half h))
 
-mul-result : tie.Need-mul-result
-mul-result c = let f = c .before .fits .rise in let g = c .before .fits .high in simp toZ-ofZ (whole-fits c)
-
 add-result : tie.Need-add-result
 add-result c =
     let f = c .before .fits .rise in
@@ -99,5 +93,6 @@ returns c u d rated =
 
 pub share-of-spec : {M : Type 1} → statement M
 share-of-spec =
-    tie.close
-    (tie.spec carried-requires mul-result add-result add-result-2 (λ c. search needs) (λ c. search needs) returns)
+    tie.close (tie.spec carried-requires
+    (λ c. let f = c .before .fits .rise in let g = c .before .fits .high in simp toZ-ofZ (whole-fits c)) add-result add-result-2
+    (λ c. search needs) (λ c. search needs) returns)

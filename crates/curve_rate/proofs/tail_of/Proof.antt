@@ -50,21 +50,13 @@ module _ (c : tie.After-whole-of) where
   above = *-pos left (pos 536870912) (left-inside .above) (≤-in (pos 0) (pos 536870912) (omega arith))
 
   product-fits : SFits w64 product
-  product-fits =
-      sfits-abs (omega (arith, abs-mul-le left (pos 536870912) 512000 536870912 (offset-abs left d left-inside) (omega arith)))
+  product-fits = sfits-abs (omega (arith, abs-mul-le left (pos 536870912) 512000 536870912 (offset-abs left d left-inside) (omega arith)))
 
   quotient-fits : SFits w64 (quotZ product d)
   quotient-fits = sfits-le (quot-mag product d above (c .before .pre .long)) product-fits
 
-mul-rest : tie.Need-mul-rest
-mul-rest c = let f = c .before .fits .d in let g = whole c in simp toZ-ofZ (back-fits c)
-
-sub-rest : tie.Need-sub-rest
-sub-rest c = let f = c .before .fits .d in let g = whole c in let k = back-fits c in simp toZ-ofZ (left-fits c)
-
 mul-result : tie.Need-mul-result
-mul-result c =
-    let f = c .before .fits .d in let g = whole c in let k = back-fits c in let l = left-fits c in simp toZ-ofZ (product-fits c)
+mul-result c = let f = c .before .fits .d in let g = whole c in let k = back-fits c in let l = left-fits c in simp toZ-ofZ (product-fits c)
 
 div-result : tie.Need-div-result
 div-result c =
@@ -89,4 +81,6 @@ returns c =
     (whole-is c))
 
 pub tail-of-spec : {M : Type 1} → statement M
-tail-of-spec = tie.close (tie.spec (λ c κs. search needs) mul-rest sub-rest mul-result div-result returns)
+tail-of-spec =
+    tie.close (tie.spec (λ c κs. search needs) (λ c. let f = c .before .fits .d in let g = whole c in simp toZ-ofZ (back-fits c))
+    (λ c. let f = c .before .fits .d in let g = whole c in let k = back-fits c in simp toZ-ofZ (left-fits c)) mul-result div-result returns)

@@ -20,9 +20,6 @@ unit-above = ≤-in (pos 0) (pos 4611686018427387904) (omega arith)
 quotient-fits : (c : tie.Start) → SFits w64 (quotZ (pos 4611686018427387904) (c .args .d))
 quotient-fits c = sfits-le (quot-mag (pos 4611686018427387904) (c .args .d) unit-above (c .pre .long)) unit-fits
 
-div-result : tie.Need-div-result
-div-result c = let h = c .fits .d in (ofZ-pos w64 _ (c .pre .long), simp toZ-ofZ (quotient-fits c))
-
 returns : tie.Need-returns
 unfolding wholeOf
 returns c =
@@ -31,4 +28,4 @@ returns c =
     simp toZ-ofZ (quot-floor (pos 4611686018427387904) (c .args .d) unit-above (c .pre .long))
 
 pub whole-of-spec : {M : Type 1} → statement M
-whole-of-spec = tie.close (tie.spec div-result returns)
+whole-of-spec = tie.close (tie.spec (λ c. let h = c .fits .d in (ofZ-pos w64 _ (c .pre .long), simp toZ-ofZ (quotient-fits c))) returns)

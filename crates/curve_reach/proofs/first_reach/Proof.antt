@@ -29,12 +29,6 @@ module _ (s : tie.Start) where
   target-fits : SFits w64 (pos 256 *ℤ s .args .width)
   target-fits = sfits-abs (omega (arith, abs-mul-le (pos 256) (s .args .width) 256 2147483648 (omega arith) (abs-sfits (s .fits .width))))
 
-cast-target : tie.Need-cast-target
-cast-target c = let f = c .fits .width in simp toZ-ofZ (width-fits c)
-
-mul-target : tie.Need-mul-target
-mul-target c = let f = c .fits .width in let g = width-fits c in simp toZ-ofZ (target-fits c)
-
 -- what the search has found, for the width read back from its word
 module _ (c : tie.After-search) where
   abbrev start : tie.Start
@@ -63,5 +57,6 @@ returns-2 c = let s = c .before .before in nowhere-reached (beam s) (searched s)
 
 pub first-reach-spec : {M : Type 1} → statement M
 first-reach-spec =
-    tie.close
-    (tie.spec cast-target mul-target (λ c κs. search needs) (λ c. search needs) (λ c. search needs) returns returns-2)
+    tie.close (tie.spec (λ c. let f = c .fits .width in simp toZ-ofZ (width-fits c))
+    (λ c. let f = c .fits .width in let g = width-fits c in simp toZ-ofZ (target-fits c)) (λ c κs. search needs) (λ c. search needs)
+    (λ c. search needs) returns returns-2)

@@ -43,5 +43,4 @@ returns-2 c =
 
 pub part-reach-spec : {M : Type 1} → statement M
 part-reach-spec =
-    tie.close
-    (tie.spec (λ c. search needs) (λ c κs. search needs) (λ c. search needs) (λ c κs. search needs) returns returns-2)
+    tie.close (tie.spec (λ c. search needs) (λ c κs. search needs) (λ c. search needs) (λ c κs. search needs) returns returns-2)

@@ -31,9 +31,6 @@ module _ (s : tie.Start) where
   offset-small : s .args .u < 2147483648
   offset-small = omega (arith, s .pre .short)
 
-mul-result : tie.Need-mul-result
-mul-result c = let f = break-fits (c .before) in simp toZ-ofZ (start-fits (c .before))
-
 add-result : tie.Need-add-result
 add-result c =
     let s = c .before in
@@ -50,5 +47,5 @@ returns c =
 
 pub position-at-spec : {M : Type 1} → statement M
 position-at-spec =
-    tie.close
-    (tie.spec (λ c. search needs) (λ c. search needs) mul-result (λ c. search needs) add-result returns)
+    tie.close (tie.spec (λ c. search needs) (λ c. search needs)
+    (λ c. let f = break-fits (c .before) in simp toZ-ofZ (start-fits (c .before))) (λ c. search needs) add-result returns)

@@ -46,12 +46,6 @@ module _ (s : tie.Start Inv-loop μ-loop) where
   checks : Checked beam
   checks = checked-inverts beam (legal-checked _ _ _ legal) .1
 
-loop-holds : tie.Need-loop-holds Inv-loop μ-loop
-loop-holds c = before-first (beam c) (c .args .ordinates .now) _ (checks c)
-
-degree-at-requires : tie.Need-degree-at-requires Inv-loop μ-loop
-degree-at-requires c κs = (omega arith, c .before .before .pre .legal .degrees-legal)
-
 fine-width-requires : tie.Need-fine-width-requires Inv-loop μ-loop
 fine-width-requires c κs =
     let s = c .before .before .before in record { within = omega (arith, legal s .break-count); legal = legal s .breaks-legal }
@@ -90,12 +84,6 @@ module _ (c : tie.After-fine-width Inv-loop μ-loop) where
 cast-d : tie.Need-cast-d Inv-loop μ-loop
 cast-d c = subst (λ z. T (nonNeg z) × Fits w64 (natAbs z)) (sym (width-word c)) (tt, omega (arith, width-high c))
 
-add-start-offset : tie.Need-add-start-offset Inv-loop μ-loop
-add-start-offset c = omega (arith, below c, legal (start c) .few)
-
-start-offset-requires : tie.Need-start-offset-requires Inv-loop μ-loop
-start-offset-requires c κs = record { order-count = legal (start c) .order-count; within = omega (arith, below c) }
-
 module _ (c : tie.After-start-offset Inv-loop μ-loop) where
   abbrev at : tie.After-fine-width Inv-loop μ-loop
   at = c .before
@@ -128,9 +116,6 @@ module _ (c : tie.After-start-offset Inv-loop μ-loop) where
   column-within =
       let l = legal (start at) in
       omega (arith, inv .column-is, degree-is at, legal-columns-within _ _ _ l (i at) (below at), legal-column-count-high _ _ _ l)
-
-add-first-offset : tie.Need-add-first-offset Inv-loop μ-loop
-add-first-offset c = omega (arith, d-is c, width-high (at c), next-low c)
 
 first-offset-requires : tie.Need-first-offset-requires Inv-loop μ-loop
 first-offset-requires c κs =
@@ -174,9 +159,6 @@ module _ (c : tie.After-first-offset Inv-loop μ-loop) where
       found-in (beam entry) ordinates word (checks entry) (inv here) (below (at here)) (degree-is (at here)) (d-is here) (next-is here)
       (c .first-offset .ensures) h
 
-add-if1 : tie.Need-add-if1 Inv-loop μ-loop
-add-if1 c = let b = c .before in omega (arith, d-is b, width-high (at b), next-low b)
-
 position-at-requires : tie.Need-position-at-requires Inv-loop μ-loop
 position-at-requires c κs =
     let b = here (c .before) in
@@ -195,18 +177,6 @@ returns c =
     ∙ ap (λ t. found (beam s) (first (positionCount (beam s)) (reachesHeld (beam s) (s .args .ordinates .now) t)))
     (toZ-ofZ w64 _ (s .fits .target))
 
-add-column : tie.Need-add-column Inv-loop μ-loop
-add-column c = let b = here (c .before) in omega (arith, degree-high (at b))
-
-add-column-2 : tie.Need-add-column-2 Inv-loop μ-loop
-add-column-2 c = let b = here (c .before) in omega (arith, column-within b)
-
-add-i : tie.Need-add-i Inv-loop μ-loop
-add-i c = let b = here (c .before) in omega (arith, below (at b), legal (start (at b)) .few)
-
-loop-again : tie.Need-loop-again Inv-loop μ-loop
-loop-again c = next-segment (c .before) (omega arith)
-
 returns-2 : tie.Need-returns-2 Inv-loop μ-loop
 returns-2 c =
     let s = c .before .before in
@@ -216,24 +186,12 @@ returns-2 c =
 
 pub search-spec : {M : Type 1} → statement M
 search-spec =
-    tie.close
-    (tie.spec
-    Inv-loop
-    μ-loop
-    loop-holds
-    degree-at-requires
-    fine-width-requires
-    cast-d
-    add-start-offset
-    start-offset-requires
-    add-first-offset
-    first-offset-requires
-    add-if1
-    position-at-requires
-    returns
-    add-column
-    add-column-2
-    add-i
-    (λ c. omega arith)
-    loop-again
-    returns-2)
+    tie.close (tie.spec Inv-loop μ-loop (λ c. before-first (beam c) (c .args .ordinates .now) _ (checks c))
+    (λ c κs. (omega arith, c .before .before .pre .legal .degrees-legal)) fine-width-requires cast-d
+    (λ c. omega (arith, below c, legal (start c) .few))
+    (λ c κs. record { order-count = legal (start c) .order-count; within = omega (arith, below c) })
+    (λ c. omega (arith, d-is c, width-high (at c), next-low c)) first-offset-requires
+    (λ c. let b = c .before in omega (arith, d-is b, width-high (at b), next-low b)) position-at-requires returns
+    (λ c. let b = here (c .before) in omega (arith, degree-high (at b))) (λ c. let b = here (c .before) in omega (arith, column-within b))
+    (λ c. let b = here (c .before) in omega (arith, below (at b), legal (start (at b)) .few)) (λ c. omega arith)
+    (λ c. next-segment (c .before) (omega arith)) returns-2)

@@ -12,9 +12,6 @@ use Rattle.curve_search.proofs.Offsets.{start-at-end, start-of-first, s
 use Rattle.curve_search.proofs.start_offset.Statement.{statement}
 use Rattle.curve_search.proofs.start_offset.Tie as tie
 
-returns : tie.Need-returns
-returns c = sym (start-at-end _ (c .before .args .i) (omega arith))
-
 first : (s : Space) (i : ℕ) → i ≡ 0 → i < segments s → 0 ≡ startOffset s i
 first s i e h = sym (ap (startOffset s) e ∙ start-of-first s (omega arith))
 
@@ -38,13 +35,7 @@ module _ (c : tie.After-is-discontinuity) where
       ap (λ t. cond t 1 0) (sym e ∙ c .is-discontinuity .ensures)
       ∙ sym (ap (startOffset s) (let z : i ≡ suc (i - 1) = omega arith in z) ∙ start-of-later s (i - 1) (omega (arith, start .pre .within)))
 
-returns-3 : tie.Need-returns-3
-returns-3 c = after-join (c .before) (c .if3 .taken)
-
-returns-4 : tie.Need-returns-4
-returns-4 c = after-join (c .before) (c .if3 .left)
-
 pub start-offset-spec : {M : Type 1} → statement M
 start-offset-spec =
-    tie.close
-    (tie.spec returns returns-2 (λ c. search needs) (λ c κs. search needs) returns-3 returns-4)
+    tie.close (tie.spec (λ c. sym (start-at-end _ (c .before .args .i) (omega arith))) returns-2 (λ c. search needs) (λ c κs. search needs)
+    (λ c. after-join (c .before) (c .if3 .taken)) (λ c. after-join (c .before) (c .if3 .left)))

@@ -30,9 +30,6 @@ module _ (c : tie.After-start) where
       let at = c .before .pre in
       sfits-abs (omega (arith, abs-mul-le (pos 256) break 256 10000 (omega arith) (at .legal .size (c .before .args .i) (at .within))))
 
-mul-start-2 : tie.Need-mul-start-2
-mul-start-2 c = let f = break-fits c in simp toZ-ofZ (start-fits c)
-
 module _ (c : tie.After-starts-at-discontinuity) where
   abbrev at-start : tie.After-start
   at-start = c .before
@@ -79,4 +76,5 @@ returns-2 c =
 
 pub first-position-spec : {M : Type 1} → statement M
 first-position-spec =
-    tie.close (tie.spec (λ c. search needs) (λ c. search needs) mul-start-2 (λ c κs. search needs) add-result returns returns-2)
+    tie.close (tie.spec (λ c. search needs) (λ c. search needs) (λ c. let f = break-fits c in simp toZ-ofZ (start-fits c))
+    (λ c κs. search needs) add-result returns returns-2)

@@ -23,26 +23,10 @@ Inv-loop breaks degrees orders firsts₀ i₀ firsts i =
 abbrev μ-loop : tie.MeasureT-loop
 μ-loop breaks degrees orders firsts₀ i₀ firsts i = length degrees - i
 
-loop-holds : tie.Need-loop-holds Inv-loop μ-loop
-loop-holds c = (omega arith, tab-none _ _)
-
 first-position-requires : tie.Need-first-position-requires Inv-loop μ-loop
 first-position-requires c κs =
     let s = c .before .before in
-    record {
-      within = omega (arith, s .pre .break-count);
-      legal = s .pre .breaks-legal;
-      join-within = omega (arith, s .pre .order-count);
-    }
-
-mul-firsts : tie.Need-mul-firsts Inv-loop μ-loop
-mul-firsts c = let s = c .before .before .before in omega (arith, s .pre .few)
-
-array-set-from-firsts : tie.Need-array-set-from-firsts Inv-loop μ-loop
-array-set-from-firsts c = let s = c .before .before .before in omega (arith, s .pre .few)
-
-add-i : tie.Need-add-i Inv-loop μ-loop
-add-i c = let s = c .before .before .before in omega (arith, s .pre .few)
+    record { within = omega (arith, s .pre .break-count); legal = s .pre .breaks-legal; join-within = omega (arith, s .pre .order-count) }
 
 loop-again : tie.Need-loop-again Inv-loop μ-loop
 loop-again c =
@@ -68,5 +52,7 @@ returns c =
 
 pub first-positions-spec : {M : Type 1} → statement M
 first-positions-spec =
-    tie.close (tie.spec Inv-loop μ-loop loop-holds first-position-requires mul-firsts array-set-from-firsts add-i (λ c. omega arith) loop-again
-    returns)
+    tie.close (tie.spec Inv-loop μ-loop (λ c. (omega arith, tab-none _ _)) first-position-requires
+    (λ c. let s = c .before .before .before in omega (arith, s .pre .few))
+    (λ c. let s = c .before .before .before in omega (arith, s .pre .few))
+    (λ c. let s = c .before .before .before in omega (arith, s .pre .few)) (λ c. omega arith) loop-again returns)

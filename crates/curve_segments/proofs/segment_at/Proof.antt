@@ -70,4 +70,6 @@ returns c =
     ∙ ap (λ z. lastOf (s .args .firsts .now) z (s .args .m)) (toZ-ofZ w32 _ (s .fits .x))
 
 pub segment-at-spec : {M : Type 1} → statement M
-segment-at-spec = tie.close (tie.spec Inv-loop μ-loop loop-holds (λ c. omega arith) (λ c. omega arith) (λ c. omega arith) (λ c. omega arith) loop-again returns)
+segment-at-spec =
+    tie.close (tie.spec Inv-loop μ-loop loop-holds (λ c. omega arith) (λ c. omega arith) (λ c. omega arith) (λ c. omega arith) loop-again
+    returns)

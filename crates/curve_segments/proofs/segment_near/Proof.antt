@@ -80,5 +80,5 @@ returns-3 c b d o legal is count =
 
 pub segment-near-spec : {M : Type 1} → statement M
 segment-near-spec =
-    tie.close (tie.spec (λ c. search needs) (λ c. search needs) (λ c. search needs) returns (λ c. search needs) (λ c. search needs) returns-2
-    (λ c κs. search needs) returns-3)
+    tie.close (tie.spec (λ c. search needs) (λ c. search needs) (λ c. search needs) returns (λ c. search needs) (λ c. search needs)
+    returns-2 (λ c κs. search needs) returns-3)

@@ -3,7 +3,6 @@ use borrow.Author.Needs.{needs}
 use native.Mathlib.Omega.{arith}
 use mathlib.Core.Path.{_≡_, refl, sym, _∙_}
 use Prim.Native.Nat.{_/_, _≤_}
-use lib.ListN.{length}
 use Rattle.base_outcome.specs.Machine.{legality}
 use Rattle.base_outcome.specs.declared.Legality.the-variants.{Legal}
 use Rattle.base_outcome.proofs.Machine.{refused-refuses}
@@ -92,18 +91,5 @@ returns-5 c =
 
 pub build-curves-spec : {M : Type 1} → statement M
 build-curves-spec =
-    tie.close
-    (tie.spec
-    returns
-    returns-2
-    returns-3
-    (λ c κs. search needs)
-    (λ c. search needs)
-    (λ c. search needs)
-    build-parts-requires
-    returns-4
-    (λ c. search needs)
-    (λ c. search needs)
-    (λ c. search needs)
-    (λ c. search needs)
-    returns-5)
+    tie.close (tie.spec returns returns-2 returns-3 (λ c κs. search needs) (λ c. search needs) (λ c. search needs) build-parts-requires
+    returns-4 (λ c. search needs) (λ c. search needs) (λ c. search needs) (λ c. search needs) returns-5)

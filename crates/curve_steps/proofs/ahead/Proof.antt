@@ -11,8 +11,6 @@ mul-room c =
     let s = c .before in
     omega (arith, room-small (s .args .gap - s .args .p) (s .args .d) {a = 512000000} (omega (arith, s .pre .gap-small)) (s .pre .short))
 
-returns-3 : tie.Need-returns-3
-returns-3 c = passed-cost _ _
-
 pub ahead-spec : {M : Type 1} → statement M
-ahead-spec = tie.close (tie.spec (λ c. search needs) (λ c. search needs) mul-room (λ c. search needs) (λ c. search needs) returns-3)
+ahead-spec =
+    tie.close (tie.spec (λ c. search needs) (λ c. search needs) mul-room (λ c. search needs) (λ c. search needs) (λ c. passed-cost _ _))

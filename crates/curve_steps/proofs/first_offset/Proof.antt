@@ -47,5 +47,4 @@ returns-2 c =
     }
 
 pub first-offset-spec : {M : Type 1} → statement M
-first-offset-spec =
-    tie.close (tie.spec (λ c κs. search needs) step-through-requires returns returns-2)
+first-offset-spec = tie.close (tie.spec (λ c κs. search needs) step-through-requires returns returns-2)

@@ -22,9 +22,6 @@ Inv-loop ordinates c p target k₀ k = (k ≤ p + 1) × ((j : ℕ) → j < k →
 abbrev μ-loop : tie.MeasureT-loop
 μ-loop ordinates c p target k₀ k = p + 1 - k
 
-loop-holds : tie.Need-loop-holds Inv-loop μ-loop
-loop-holds c = (omega arith, λ j h. absurd (omega arith))
-
 -- the test of ordinate k, with the numbers read back from their words
 module _ (s : tie.Start Inv-loop μ-loop) where
   abbrev test : ℕ → Bool
@@ -50,9 +47,6 @@ module _ (c : tie.After-o Inv-loop μ-loop) where
       → test start k ≡ b
   tested e = let f = o-fits in let g = sfits-widen f in let h = start .fits .target in simp toZ-ofZ at e
 
-cast-o : tie.Need-cast-o Inv-loop μ-loop
-cast-o c = let f = o-fits c in simp toZ-ofZ (sfits-widen f)
-
 loop-again : tie.Need-loop-again Inv-loop μ-loop
 loop-again c = (
   omega arith,
@@ -73,17 +67,6 @@ returns-2 c =
 
 pub one-reaches-spec : {M : Type 1} → statement M
 one-reaches-spec =
-    tie.close
-    (tie.spec
-    Inv-loop
-    μ-loop
-    loop-holds
-    (λ c. omega arith)
-    (λ c. omega arith)
-    (λ c. omega arith)
-    cast-o
-    (λ c. omega arith)
-    (λ c. omega arith)
-    loop-again
-    returns
+    tie.close (tie.spec Inv-loop μ-loop (λ c. (omega arith, λ j h. absurd (omega arith))) (λ c. omega arith) (λ c. omega arith)
+    (λ c. omega arith) (λ c. let f = o-fits c in simp toZ-ofZ (sfits-widen f)) (λ c. omega arith) (λ c. omega arith) loop-again returns
     returns-2)

@@ -73,5 +73,4 @@ returns-2 c =
     record { at-least = omega arith; small = s .pre .rise-small; covers = ltZ-false _ _ left }
 
 pub steeper-spec : {M : Type 1} → statement M
-steeper-spec =
-    tie.close (tie.spec (λ c. search needs) add-reached sub-result cast-result returns returns-2)
+steeper-spec = tie.close (tie.spec (λ c. search needs) add-reached sub-result cast-result returns returns-2)

@@ -19,9 +19,6 @@ Inv-loop ordinates c p rise₀ k₀ rise k = (k ≤ p) × Steepest ordinates c k
 abbrev μ-loop : tie.MeasureT-loop
 μ-loop ordinates c p rise₀ k₀ rise k = p - k
 
-loop-holds : tie.Need-loop-holds Inv-loop μ-loop
-loop-holds c = (omega arith, steepest-none _ _)
-
 -- the two ordinates fit their words
 module _ (c : tie.After-high Inv-loop μ-loop) where
   abbrev start : tie.Start Inv-loop μ-loop
@@ -41,12 +38,6 @@ module _ (c : tie.After-high Inv-loop μ-loop) where
 
   high-fits : SFits w32 high
   high-fits = record { sfits = c .high .given }
-
-cast-steeper : tie.Need-cast-steeper Inv-loop μ-loop
-cast-steeper c = let f = low-fits c in simp toZ-ofZ (sfits-widen f)
-
-cast-steeper-2 : tie.Need-cast-steeper-2 Inv-loop μ-loop
-cast-steeper-2 c = let f = high-fits c in simp toZ-ofZ (sfits-widen f)
 
 steeper-requires : tie.Need-steeper-requires Inv-loop μ-loop
 steeper-requires c κs =
@@ -80,22 +71,6 @@ returns c =
 
 pub steepest-spec : {M : Type 1} → statement M
 steepest-spec =
-    tie.close
-    (tie.spec
-    Inv-loop
-    μ-loop
-    loop-holds
-    (λ c. omega arith)
-    (λ c. omega arith)
-    (λ c. omega arith)
-    (λ c. omega arith)
-    (λ c. omega arith)
-    (λ c. omega arith)
-    (λ c. omega arith)
-    cast-steeper
-    cast-steeper-2
-    steeper-requires
-    (λ c. omega arith)
-    (λ c. omega arith)
-    loop-again
-    returns)
+    tie.close (tie.spec Inv-loop μ-loop (λ c. (omega arith, steepest-none _ _)) (λ c. omega arith) (λ c. omega arith) (λ c. omega arith)
+    (λ c. omega arith) (λ c. omega arith) (λ c. omega arith) (λ c. omega arith) (λ c. let f = low-fits c in simp toZ-ofZ (sfits-widen f))
+    (λ c. let f = high-fits c in simp toZ-ofZ (sfits-widen f)) steeper-requires (λ c. omega arith) (λ c. omega arith) loop-again returns)

@@ -27,15 +27,6 @@ Inv-loop ordinates c p d start end target cost u₀ u =
 abbrev μ-loop : tie.MeasureT-loop
 μ-loop ordinates c p d start end target cost u₀ u = end - u
 
-steepest-requires : tie.Need-steepest-requires Inv-loop μ-loop
-steepest-requires c κs = c .pre .segment .columns
-
-mul-cost : tie.Need-mul-cost Inv-loop μ-loop
-mul-cost c = omega (arith, mul-le-mul (c .before .pre .segment .degree-low) (c .steepest .ensures .small))
-
-loop-holds : tie.Need-loop-holds Inv-loop μ-loop
-loop-holds c = (omega arith, λ w h k l. absurd (omega arith))
-
 value-on-requires : tie.Need-value-on-requires Inv-loop μ-loop
 value-on-requires c κs =
     let s = c .before .before .before in record { segment = s .pre .segment; within = omega (arith, s .pre .end-within) }
@@ -85,9 +76,6 @@ module _ (c : tie.Else2 Inv-loop μ-loop) where
 
   gap-positive : pos 0 ≤ℤ gap
   gap-positive = Z.nonNeg-le _ (Z.le-sub _ _ (Z.<-≤ _ _ below-result))
-
-sub-ahead : tie.Need-sub-ahead Inv-loop μ-loop
-sub-ahead c = let f = start (read c) .fits .target in let g = result-fits (read c) in simp toZ-ofZ (gap-fits c)
 
 cast-ahead : tie.Need-cast-ahead Inv-loop μ-loop
 cast-ahead c =
@@ -140,12 +128,6 @@ module _ (c : tie.After-ahead Inv-loop μ-loop) where
       go (inl m) = none-passed w m (omega arith) (omega (arith, start at .pre .end-within))
       go (inr m) = before-is (at .before .before) w h m l
 
-add-u : tie.Need-add-u Inv-loop μ-loop
-add-u c = omega (arith, few c)
-
-add-u-2 : tie.Need-add-u-2 Inv-loop μ-loop
-add-u-2 c = let s = start (at c) in omega (arith, few c, s .pre .end-within, s .pre .segment .short)
-
 loop-again : tie.Need-loop-again Inv-loop μ-loop
 loop-again c = let f = start (at c) .fits .target in (omega (arith, at c .before .before .loop .inv .0), simp toZ-ofZ (none-before c))
 
@@ -165,20 +147,9 @@ returns-2 c =
 
 pub step-through-spec : {M : Type 1} → statement M
 step-through-spec =
-    tie.close
-    (tie.spec
-    Inv-loop
-    μ-loop
-    steepest-requires
-    mul-cost
-    loop-holds
-    value-on-requires
-    sub-ahead
-    cast-ahead
-    ahead-requires
-    add-u
-    add-u-2
-    (λ c. omega arith)
-    loop-again
-    returns
-    returns-2)
+    tie.close (tie.spec Inv-loop μ-loop (λ c κs. c .pre .segment .columns)
+    (λ c. omega (arith, mul-le-mul (c .before .pre .segment .degree-low) (c .steepest .ensures .small)))
+    (λ c. (omega arith, λ w h k l. absurd (omega arith))) value-on-requires
+    (λ c. let f = start (read c) .fits .target in let g = result-fits (read c) in simp toZ-ofZ (gap-fits c)) cast-ahead ahead-requires
+    (λ c. omega (arith, few c)) (λ c. let s = start (at c) in omega (arith, few c, s .pre .end-within, s .pre .segment .short))
+    (λ c. omega arith) loop-again returns returns-2)

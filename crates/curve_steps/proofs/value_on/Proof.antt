@@ -65,9 +65,6 @@ module _ (c : tie.After-value-at) where
       let s = start .pre .segment in
       value-small (a .ordinates .now) (a .c) (a .p) (a .d) (a .u) (s .long) (start .pre .within) (s .columns .ordinates .bounded)
 
-cast-result : tie.Need-cast-result
-cast-result c = let f = result-fits c in simp toZ-ofZ (sfits-widen f)
-
 returns : tie.Need-returns
 returns c = let f = result-fits c in let g = sfits-widen f in simp toZ-ofZ (record {
   is = result-is c;
@@ -75,4 +72,6 @@ returns c = let f = result-fits c in let g = sfits-widen f in simp toZ-ofZ (reco
 })
 
 pub value-on-spec : {M : Type 1} → statement M
-value-on-spec = tie.close (tie.spec (λ c. search needs) (λ c. search needs) value-at-requires cast-result returns)
+value-on-spec =
+    tie.close (tie.spec (λ c. search needs) (λ c. search needs) value-at-requires
+    (λ c. let f = result-fits c in simp toZ-ofZ (sfits-widen f)) returns)

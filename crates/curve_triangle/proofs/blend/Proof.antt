@@ -21,9 +21,6 @@ module _ (c : tie.Start) where
   rise-fits : SFits w64 (c .args .h -ℤ c .args .g)
   rise-fits = sfits-abs (omega (arith, rise-size))
 
-sub-share-of : tie.Need-sub-share-of
-sub-share-of c = let f = c .fits .h in let g = c .fits .g in simp toZ-ofZ (rise-fits c)
-
 share-of-requires : tie.Need-share-of-requires
 share-of-requires c κs =
     let f = c .fits .h in
@@ -61,11 +58,10 @@ module _ (c : tie.After-share-of) where
   sum-fits : SFits w64 (start .args .g +ℤ c .share-of .result)
   sum-fits = sfits-abs (omega (arith, abs))
 
-add-result : tie.Need-add-result
-add-result c = let f = c .before .fits .g in let k = share c in simp toZ-ofZ (sum-fits c)
-
 returns : tie.Need-returns
 returns c = let f = c .before .fits .g in let k = share c in let l = sum-fits c in simp toZ-ofZ (record { is = is c; small = abs c })
 
 pub blend-spec : {M : Type 1} → statement M
-blend-spec = tie.close (tie.spec sub-share-of share-of-requires add-result returns)
+blend-spec =
+    tie.close (tie.spec (λ c. let f = c .fits .h in let g = c .fits .g in simp toZ-ofZ (rise-fits c)) share-of-requires
+    (λ c. let f = c .before .fits .g in let k = share c in simp toZ-ofZ (sum-fits c)) returns)

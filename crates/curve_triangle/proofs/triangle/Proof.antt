@@ -80,4 +80,6 @@ returns c = record {
 }
 
 pub triangle-spec : {M : Type 1} → statement M
-triangle-spec = tie.close (tie.spec Inv-loop μ-loop loop-holds stage-requires (λ c. omega arith) (λ c. omega arith) loop-again (λ c. search needs) returns)
+triangle-spec =
+    tie.close (tie.spec Inv-loop μ-loop loop-holds stage-requires (λ c. omega arith) (λ c. omega arith) loop-again (λ c. search needs)
+    returns)

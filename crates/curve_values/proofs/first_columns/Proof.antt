@@ -21,12 +21,6 @@ Inv-loop degrees columns₀ column₀ i₀ columns column i = let s = space [] d
 abbrev μ-loop : tie.MeasureT-loop
 μ-loop degrees columns₀ column₀ i₀ columns column i = length degrees - i
 
-loop-holds : tie.Need-loop-holds Inv-loop μ-loop
-loop-holds c = (omega arith, (sym (first-column-zero _), tab-none _ _))
-
-degree-at-requires : tie.Need-degree-at-requires Inv-loop μ-loop
-degree-at-requires c κs = (omega arith, c .before .before .pre .legal)
-
 module _ (c : tie.After-degree-at Inv-loop μ-loop) where
   abbrev lists : Space
   lists = space [] (c .before .before .before .args .degrees .now) []
@@ -39,12 +33,6 @@ module _ (c : tie.After-degree-at Inv-loop μ-loop) where
 
   column-fits : c .before .before .loop .column ≤ 288
   column-fits = omega (arith, first-column-high lists (c .before .before .before .pre .legal) i (omega arith))
-
-add-column : tie.Need-add-column Inv-loop μ-loop
-add-column c = omega (arith, degree-fits c)
-
-add-column-2 : tie.Need-add-column-2 Inv-loop μ-loop
-add-column-2 c = omega (arith, degree-fits c, column-fits c)
 
 loop-again : tie.Need-loop-again Inv-loop μ-loop
 loop-again c =
@@ -68,17 +56,6 @@ returns c =
 
 pub first-columns-spec : {M : Type 1} → statement M
 first-columns-spec =
-    tie.close
-    (tie.spec
-    Inv-loop
-    μ-loop
-    loop-holds
-    (λ c. omega arith)
-    (λ c. omega arith)
-    degree-at-requires
-    add-column
-    add-column-2
-    (λ c. omega arith)
-    (λ c. omega arith)
-    loop-again
-    returns)
+    tie.close (tie.spec Inv-loop μ-loop (λ c. (omega arith, (sym (first-column-zero _), tab-none _ _))) (λ c. omega arith)
+    (λ c. omega arith) (λ c κs. (omega arith, c .before .before .pre .legal)) (λ c. omega (arith, degree-fits c))
+    (λ c. omega (arith, degree-fits c, column-fits c)) (λ c. omega arith) (λ c. omega arith) loop-again returns)

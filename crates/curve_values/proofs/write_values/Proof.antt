@@ -46,18 +46,6 @@ Inv-loop breaks degrees orders earlywood latewood positions values₀ columns fi
 abbrev μ-loop : tie.MeasureT-loop
 μ-loop breaks degrees orders earlywood latewood positions values₀ columns firsts wholes tails at₀ k₀ values at k = length positions - k
 
-first-columns-requires : tie.Need-first-columns-requires Inv-loop μ-loop
-first-columns-requires c κs = record { few = c .pre .legal .few; legal = c .pre .legal .degrees-legal }
-
-first-positions-requires : tie.Need-first-positions-requires Inv-loop μ-loop
-first-positions-requires c κs = c .before .pre .legal
-
-inverse-wholes-requires : tie.Need-inverse-wholes-requires Inv-loop μ-loop
-inverse-wholes-requires c κs = let s = c .before .before in record { orders = s .args .orders .now; legal = s .pre .legal }
-
-inverse-tails-requires : tie.Need-inverse-tails-requires Inv-loop μ-loop
-inverse-tails-requires c κs = let s = c .before .before .before in record { orders = s .args .orders .now; legal = s .pre .legal }
-
 loop-holds : tie.Need-loop-holds Inv-loop μ-loop
 loop-holds c = record {
   some = omega arith;
@@ -166,18 +154,6 @@ module _ (c : tie.After-place-at Inv-loop μ-loop) where
       ∙ by-length-at _ _ _ legal segment inside f
       ∙ ap f (sym width-there)
 
-mul-whole : tie.Need-mul-whole Inv-loop μ-loop
-mul-whole c = omega (arith, inside c, legal c .few)
-
-array-copy-out-whole : tie.Need-array-copy-out-whole Inv-loop μ-loop
-array-copy-out-whole c = omega (arith, inside c, legal c .few)
-
-mul-tail : tie.Need-mul-tail Inv-loop μ-loop
-mul-tail c = let p = c .before in omega (arith, inside p, legal p .few)
-
-array-copy-out-tail : tie.Need-array-copy-out-tail Inv-loop μ-loop
-array-copy-out-tail c = let p = c .before in omega (arith, inside p, legal p .few)
-
 pair-at-requires : tie.Need-pair-at-requires Inv-loop μ-loop
 pair-at-requires c κs =
     let p = c .before .before in
@@ -229,30 +205,6 @@ module _ (c : tie.After-struct-told2 Inv-loop μ-loop) where
       ∙ c .before .before .pair-at .ensures .late-is
       ∙ value-there placed (entry .args .latewood .now)
 
-mul-early : tie.Need-mul-early Inv-loop μ-loop
-mul-early c = omega (arith, room (at c), entry c .good)
-
-mul-early-2 : tie.Need-mul-early-2 Inv-loop μ-loop
-mul-early-2 c = omega (arith, room (at c), entry c .good)
-
-slice-set-from-early : tie.Need-slice-set-from-early Inv-loop μ-loop
-slice-set-from-early c = omega (arith, room (at c), turn (at c) .loop .inv .kept)
-
-mul-late : tie.Need-mul-late Inv-loop μ-loop
-mul-late c = omega (arith, room (at c), entry c .good)
-
-add-late : tie.Need-add-late Inv-loop μ-loop
-add-late c = omega (arith, room (at c), entry c .good)
-
-mul-late-2 : tie.Need-mul-late-2 Inv-loop μ-loop
-mul-late-2 c = omega (arith, room (at c), entry c .good)
-
-slice-set-from-late : tie.Need-slice-set-from-late Inv-loop μ-loop
-slice-set-from-late c = rw length-set (omega (arith, room (at c), turn (at c) .loop .inv .kept))
-
-add-k : tie.Need-add-k Inv-loop μ-loop
-add-k c = omega (arith, room (at c), entry c .good)
-
 loop-again : tie.Need-loop-again Inv-loop μ-loop
 unfolding pairs
 loop-again c =
@@ -274,9 +226,6 @@ loop-again c =
           ∙ pairs-more (pairs s) j (s .args .values .now) (room a);
     }
 
-same-length : tie.Need-same-length Inv-loop μ-loop
-same-length c = c .before .loop .inv .kept
-
 returns : tie.Need-returns Inv-loop μ-loop
 returns c =
     let l = c .before .loop in
@@ -291,35 +240,14 @@ returns c =
 
 pub write-values-spec : {M : Type 1} → statement M
 write-values-spec =
-    tie.close
-    (tie.spec
-    Inv-loop
-    μ-loop
-    first-columns-requires
-    first-positions-requires
-    inverse-wholes-requires
-    inverse-tails-requires
-    loop-holds
-    (λ c. omega arith)
-    (λ c. omega arith)
-    (λ c. search needs)
-    segment-near-requires
-    (λ c. search needs)
-    place-at-requires
-    mul-whole
-    array-copy-out-whole
-    mul-tail
-    array-copy-out-tail
-    pair-at-requires
-    mul-early
-    mul-early-2
-    slice-set-from-early
-    mul-late
-    add-late
-    mul-late-2
-    slice-set-from-late
-    add-k
-    (λ c. omega arith)
-    loop-again
-    same-length
-    returns)
+    tie.close (tie.spec Inv-loop μ-loop (λ c κs. record { few = c .pre .legal .few; legal = c .pre .legal .degrees-legal })
+    (λ c κs. c .before .pre .legal) (λ c κs. let s = c .before .before in record { orders = s .args .orders .now; legal = s .pre .legal })
+    (λ c κs. let s = c .before .before .before in record { orders = s .args .orders .now; legal = s .pre .legal }) loop-holds
+    (λ c. omega arith) (λ c. omega arith) (λ c. search needs) segment-near-requires (λ c. search needs) place-at-requires
+    (λ c. omega (arith, inside c, legal c .few)) (λ c. omega (arith, inside c, legal c .few))
+    (λ c. let p = c .before in omega (arith, inside p, legal p .few)) (λ c. let p = c .before in omega (arith, inside p, legal p .few))
+    pair-at-requires (λ c. omega (arith, room (at c), entry c .good)) (λ c. omega (arith, room (at c), entry c .good))
+    (λ c. omega (arith, room (at c), turn (at c) .loop .inv .kept)) (λ c. omega (arith, room (at c), entry c .good))
+    (λ c. omega (arith, room (at c), entry c .good)) (λ c. omega (arith, room (at c), entry c .good))
+    (λ c. rw length-set (omega (arith, room (at c), turn (at c) .loop .inv .kept))) (λ c. omega (arith, room (at c), entry c .good))
+    (λ c. omega arith) loop-again (λ c. c .before .loop .inv .kept) returns)

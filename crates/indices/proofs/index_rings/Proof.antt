@@ -25,9 +25,6 @@ use Rattle.indices.proofs.index_rings.Tie as tie
 offset-small : (c : tie.After-wood-index) → c .wood-index .result < 2
 offset-small c = rw (c .wood-index .ensures) (woodIndex-below (woodOf (c .before .args .wood)))
 
-first-bad-ring-requires : tie.Need-first-bad-ring-requires
-first-bad-ring-requires c κs = record { valued = c .before .pre .valued; offset-low = offset-small c }
-
 -- the first ring that is refused
 module _ (c : tie.After-known-told) where
   abbrev searched : tie.After-first-bad-ring
@@ -45,9 +42,6 @@ module _ (c : tie.After-known-told) where
 
   place-below : place < length (start .args .widths .now)
   place-below = first-some-inverts _ _ refused-at .below
-
-cast-t9 : tie.Need-cast-t9
-cast-t9 c = record { fits = omega (arith, place-below c, start c .pre .few) }
 
 -- no ring is refused
 module _ (c : tie.After-enum-told) where
@@ -102,14 +96,6 @@ returns-2 c =
 
 pub index-rings-spec : {M : Type 1} → statement M
 index-rings-spec =
-    tie.close
-    (tie.spec
-    (λ c κs. search needs)
-    first-bad-ring-requires
-    (λ c. search needs)
-    cast-t9
-    (λ c. search needs)
-    write-indices-requires
-    returns
-    (λ c. search needs)
-    returns-2)
+    tie.close (tie.spec (λ c κs. search needs) (λ c κs. record { valued = c .before .pre .valued; offset-low = offset-small c })
+    (λ c. search needs) (λ c. record { fits = omega (arith, place-below c, start c .pre .few) }) (λ c. search needs) write-indices-requires
+    returns (λ c. search needs) returns-2)

@@ -86,12 +86,6 @@ returns-4 c =
 room : {r : ℕ} (n : ℕ) → r ≡ ringsTaken n → length (take r (replicate 4097 (pos 0))) ≡ r
 room {r} n e = length-take-le r (replicate 4097 (pos 0)) (omega arith)
 
-slice-aggregate-read-rings : tie.Need-slice-aggregate-read-rings
-slice-aggregate-read-rings c = sym (room _ (c .before .rings-taken .ensures))
-
-read-rings-requires : tie.Need-read-rings-requires
-read-rings-requires c κs = omega (arith, room _ (c .before .before .before .before .rings-taken .ensures))
-
 -- the curve call
 module _ (k : tie.After-read-rings) where
   abbrev long : tie.Else4
@@ -196,25 +190,8 @@ returns-6 c =
 
 pub indices-spec : {M : Type 1} → statement M
 indices-spec =
-    tie.close
-    (tie.spec
-    returns
-    returns-2
-    returns-3
-    returns-4
-    (λ c κs. search needs)
-    (λ c. search needs)
-    slice-aggregate-read-rings
-    read-rings-requires
-    (λ c. search needs)
-    (λ c. search needs)
-    index-rings-requires
-    (λ c. search needs)
-    (λ c. search needs)
-    (λ c. search needs)
-    returns-5
-    (λ c. search needs)
-    (λ c. search needs)
-    (λ c. search needs)
-    (λ c. search needs)
-    returns-6)
+    tie.close (tie.spec returns returns-2 returns-3 returns-4 (λ c κs. search needs) (λ c. search needs)
+    (λ c. sym (room _ (c .before .rings-taken .ensures)))
+    (λ c κs. omega (arith, room _ (c .before .before .before .before .rings-taken .ensures))) (λ c. search needs) (λ c. search needs)
+    index-rings-requires (λ c. search needs) (λ c. search needs) (λ c. search needs) returns-5 (λ c. search needs) (λ c. search needs)
+    (λ c. search needs) (λ c. search needs) returns-6)

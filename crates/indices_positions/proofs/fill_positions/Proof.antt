@@ -25,9 +25,6 @@ Inv-loop first positions₀ i₀ positions i =
 abbrev μ-loop : tie.MeasureT-loop
 μ-loop first positions₀ i₀ positions i = length positions₀ - i
 
-loop-holds : tie.Need-loop-holds Inv-loop μ-loop
-loop-holds c = (omega arith, (omega arith, tab-none _ _))
-
 -- a ring's number, and its position
 module _ (c : tie.In-loop Inv-loop μ-loop) where
   abbrev start : tie.Start Inv-loop μ-loop
@@ -59,21 +56,6 @@ module _ (c : tie.In-loop Inv-loop μ-loop) where
   position-fits : SFits w64 (fine ring)
   position-fits = sfits-abs (omega (arith, few, abs-mul (pos 256) ring, abs-add (start .args .first) (pos i), abs-sfits (start .fits .first)))
 
-cast-ring : tie.Need-cast-ring Inv-loop μ-loop
-cast-ring c = let f = start c .fits .first in simp toZ-ofZ (sfits-widen f)
-
-cast-ring-2 : tie.Need-cast-ring-2 Inv-loop μ-loop
-cast-ring-2 c = index-fits c
-
-add-ring : tie.Need-add-ring Inv-loop μ-loop
-add-ring c = rw (ring-is c) (ring-fits c)
-
-mul-nearest-word : tie.Need-mul-nearest-word Inv-loop μ-loop
-mul-nearest-word c = rw (position-is c) (position-fits c)
-
-nearest-word-requires : tie.Need-nearest-word-requires Inv-loop μ-loop
-nearest-word-requires c κs = tt
-
 -- the first ring's number read back from its word
 read-back : (s : tie.Start Inv-loop μ-loop) (k : ℕ) → wordPosition (toZ w32 (ofZ w32 (s .args .first))) k ≡ wordPosition (s .args .first) k
 read-back s k = ap (λ (z : ℤ). wordPosition z k) (toZ-ofZ w32 (s .args .first) (s .fits .first))
@@ -102,9 +84,6 @@ loop-again c =
       ),
     )
 
-same-length : tie.Need-same-length Inv-loop μ-loop
-same-length c = c .before .loop .inv .1 .0
-
 -- a table as long as the list before it leaves nothing of it
 filled : (p : List ℤ) {f g : ℕ → ℤ} → ((k : ℕ) → f k ≡ g k) → tab (length p) f ++ drop (length p) p ≡ tab (length p) g
 filled p {f} {g} h = ap₂ (λ (t r : List ℤ). t ++ r) (tab-ext (length p) (λ k _. h k)) (drop-length p) ∙ append-nil (tab (length p) g)
@@ -120,20 +99,7 @@ returns c =
 
 pub fill-positions-spec : {M : Type 1} → statement M
 fill-positions-spec =
-    tie.close
-    (tie.spec
-    Inv-loop
-    μ-loop
-    loop-holds
-    cast-ring
-    cast-ring-2
-    add-ring
-    mul-nearest-word
-    nearest-word-requires
-    (λ c. omega arith)
-    (λ c. omega arith)
-    (λ c. omega arith)
-    (λ c. omega arith)
-    loop-again
-    same-length
-    returns)
+    tie.close (tie.spec Inv-loop μ-loop (λ c. (omega arith, (omega arith, tab-none _ _)))
+    (λ c. let f = start c .fits .first in simp toZ-ofZ (sfits-widen f)) (λ c. index-fits c) (λ c. rw (ring-is c) (ring-fits c))
+    (λ c. rw (position-is c) (position-fits c)) (λ c κs. tt) (λ c. omega arith) (λ c. omega arith) (λ c. omega arith) (λ c. omega arith)
+    loop-again (λ c. c .before .loop .inv .1 .0) returns)

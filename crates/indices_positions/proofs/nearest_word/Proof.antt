@@ -17,9 +17,6 @@ module _ (c : tie.Else2) where
   z-fits : SFits w32 (c .before .before .args .z)
   z-fits = let f = c .before .before .fits .z in word-fits _ (simp toZ-ofZ at (c .before .if1 .left)) (simp toZ-ofZ at (c .if2 .left))
 
-cast-result-3 : tie.Need-cast-result-3
-cast-result-3 c = let f = c .before .before .fits .z in simp toZ-ofZ (z-fits c)
-
 returns-3 : tie.Need-returns-3
 returns-3 c =
     let f = c .before .before .fits .z in
@@ -28,4 +25,5 @@ returns-3 c =
 
 pub nearest-word-spec : {M : Type 1} → statement M
 nearest-word-spec =
-    tie.close (tie.spec (λ c. search needs) returns (λ c. search needs) returns-2 cast-result-3 returns-3)
+    tie.close (tie.spec (λ c. search needs) returns (λ c. search needs) returns-2
+    (λ c. let f = c .before .before .fits .z in simp toZ-ofZ (z-fits c)) returns-3)

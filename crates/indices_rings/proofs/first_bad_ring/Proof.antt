@@ -21,12 +21,6 @@ Inv-loop widths values offset n i₀ i = Passed widths values offset n i
 abbrev μ-loop : tie.MeasureT-loop
 μ-loop widths values offset n i₀ i = n - i
 
-loop-holds : tie.Need-loop-holds Inv-loop μ-loop
-loop-holds c = record { within = omega arith; good = below-none _ }
-
-ring-is-bad-requires : tie.Need-ring-is-bad-requires Inv-loop μ-loop
-ring-is-bad-requires c κs = record { within = omega arith; valued = omega arith }
-
 loop-again : tie.Need-loop-again Inv-loop μ-loop
 loop-again c = record {
   within = omega arith;
@@ -41,14 +35,5 @@ returns-2 c = found-at _ _ _ (omega arith) (sym (c .before .ring-is-bad .ensures
 
 pub first-bad-ring-spec : {M : Type 1} → statement M
 first-bad-ring-spec =
-    tie.close
-    (tie.spec
-    Inv-loop
-    μ-loop
-    loop-holds
-    ring-is-bad-requires
-    (λ c. omega arith)
-    (λ c. omega arith)
-    loop-again
-    returns
-    returns-2)
+    tie.close (tie.spec Inv-loop μ-loop (λ c. record { within = omega arith; good = below-none _ })
+    (λ c κs. record { within = omega arith; valued = omega arith }) (λ c. omega arith) (λ c. omega arith) loop-again returns returns-2)

@@ -60,18 +60,6 @@ module _ (c : tie.After-value) where
   quotient-fits : SFits w64 (quotZ (indexScale *ℤ width) value)
   quotient-fits = sfits-le (quot-mag (indexScale *ℤ width) value dividend-above value-positive) dividend-fits
 
-cast-dividend : tie.Need-cast-dividend
-cast-dividend c = let f = width-small c in simp toZ-ofZ (sfits-widen f)
-
-mul-dividend : tie.Need-mul-dividend
-mul-dividend c =
-    let f = width-small c in
-    let g = sfits-widen f in
-    simp toZ-ofZ (dividend-fits c)
-
-cast-result : tie.Need-cast-result
-cast-result c = let f = value-small c in simp toZ-ofZ (sfits-widen f)
-
 div-result : tie.Need-div-result
 div-result c =
     let f = width-small c in
@@ -94,17 +82,7 @@ returns-2 c =
 
 pub index-spec : {M : Type 1} → statement M
 index-spec =
-    tie.close
-    (tie.spec
-    (λ c. search needs)
-    (λ c. search needs)
-    returns
-    (λ c. search needs)
-    (λ c. search needs)
-    (λ c. search needs)
-    (λ c. search needs)
-    cast-dividend
-    mul-dividend
-    cast-result
-    div-result
-    returns-2)
+    tie.close (tie.spec (λ c. search needs) (λ c. search needs) returns (λ c. search needs) (λ c. search needs) (λ c. search needs)
+    (λ c. search needs) (λ c. let f = width-small c in simp toZ-ofZ (sfits-widen f))
+    (λ c. let f = width-small c in let g = sfits-widen f in simp toZ-ofZ (dividend-fits c))
+    (λ c. let f = value-small c in simp toZ-ofZ (sfits-widen f)) div-result returns-2)

@@ -10,11 +10,10 @@ use Rattle.base_outcome.specs.Outcome.{Outcome, answer, with-answer}
 use Rattle.spec_spline.specs.Space.{Space, checked, rowCount}
 use Rattle.spec_spline.specs.Table.{tableCells, numerators, denominators}
 use Rattle.build_space.specs.Machine.{space}
-use Rattle.base_outcome.specs.Machine.{legality}
+use Rattle.base_outcome.specs.Machine.{legality, reply}
 use Rattle.build_space.specs.Legal.{ListsLegal}
 use Rattle.base_outcome.proofs.Machine.{legal-answers, refused-refuses}
 use Rattle.build_space.proofs.Legal.{legality-legal, legal-checked}
-use Rattle.base_outcome.specs.Machine.{reply}
 use Rattle.base_outcome.specs.declared.Answer.{Answer}
 use Rattle.spec_calls.specs.Recovery.{Combination}
 use Rattle.spec_calls.specs.RecoveryCall.{weightsAfter, answersAfter, numeratorOf, denominatorOf}
@@ -80,9 +79,6 @@ module _ (c : tie.Else4) where
 legal : (c : tie.After-enum-told) → let a = begun (c .before .before .before) .args in ListsLegal (a .breaks .now) (a .degrees .now) (a .orders .now)
 legal c = legality-legal _ _ _ (sym (c .before .before .check .ensures) ∙ c .enum-told .given .1)
 
-check-ordinates-requires : tie.Need-check-ordinates-requires
-check-ordinates-requires c κs = (legal c .few, legal c .degrees-legal)
-
 -- the check of the ordinates, of the whole space
 entries-told : (c : tie.After-check-ordinates) → let s = begun (c .before .before .before .before) in c .check-ordinates .result ≡ legality (ordinatesChecked (lists s) (s .args .ordinates .now))
 entries-told c = let a = begun (c .before .before .before .before) .args in c .check-ordinates .ensures
@@ -135,23 +131,6 @@ returns-7 c =
 
 pub coefficients-spec : {M : Type 1} → statement M
 coefficients-spec =
-    tie.close
-    (tie.spec
-    returns
-    returns-2
-    returns-3
-    returns-4
-    (λ c κs. search needs)
-    (λ c. search needs)
-    (λ c. search needs)
-    check-ordinates-requires
-    (λ c. search needs)
-    (λ c. search needs)
-    recover-parts-requires
-    returns-5
-    returns-6
-    (λ c. search needs)
-    (λ c. search needs)
-    (λ c. search needs)
-    (λ c. search needs)
-    returns-7)
+    tie.close (tie.spec returns returns-2 returns-3 returns-4 (λ c κs. search needs) (λ c. search needs) (λ c. search needs)
+    (λ c κs. (legal c .few, legal c .degrees-legal)) (λ c. search needs) (λ c. search needs) recover-parts-requires returns-5 returns-6
+    (λ c. search needs) (λ c. search needs) (λ c. search needs) (λ c. search needs) returns-7)

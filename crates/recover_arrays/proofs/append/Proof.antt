@@ -45,9 +45,6 @@ loop-holds c = record { within = omega arith; is = λ ps e size. e ∙ ap fracti
 ordinate-fits : (c : tie.After-o Inv-loop μ-loop) → SFits w32 (getD (c .before .before .before .args .ordinates .now) (c .before .before .before .args .column + c .before .before .loop .i) (pos 0))
 ordinate-fits c = record { sfits = c .o .given }
 
-cast-o : tie.Need-cast-o Inv-loop μ-loop
-cast-o c = let f = ordinate-fits c in simp toZ-ofZ (sfits-widen f)
-
 loop-again : tie.Need-loop-again Inv-loop μ-loop
 loop-again c =
     let l = c .before .before .loop in
@@ -83,21 +80,6 @@ returns c ps e size =
 
 pub append-spec : {M : Type 1} → statement M
 append-spec =
-    tie.close
-    (tie.spec
-    Inv-loop
-    μ-loop
-    loop-holds
-    (λ c. omega arith)
-    (λ c. omega arith)
-    (λ c. omega arith)
-    (λ c. omega arith)
-    cast-o
-    (λ c. omega arith)
-    (λ c. omega arith)
-    (λ c. omega arith)
-    (λ c. omega arith)
-    (λ c. omega arith)
-    (λ c. omega arith)
-    loop-again
-    returns)
+    tie.close (tie.spec Inv-loop μ-loop loop-holds (λ c. omega arith) (λ c. omega arith) (λ c. omega arith) (λ c. omega arith)
+    (λ c. let f = ordinate-fits c in simp toZ-ofZ (sfits-widen f)) (λ c. omega arith) (λ c. omega arith) (λ c. omega arith)
+    (λ c. omega arith) (λ c. omega arith) (λ c. omega arith) loop-again returns)

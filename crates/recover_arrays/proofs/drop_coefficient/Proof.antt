@@ -62,18 +62,6 @@ module _ (k : tie.After-kept-row Inv-loop μ-loop) where
       go (yes h) = omega (arith, k .kept-row .ensures .0 h)
       go (no h) = let e = k .kept-row .ensures .1 (omega arith) in omega (arith, e)
 
-mul-n : tie.Need-mul-n Inv-loop μ-loop
-mul-n c = omega (arith, row-low c)
-
-element-copy-out-n : tie.Need-element-copy-out-n Inv-loop μ-loop
-element-copy-out-n c = omega (arith, row-low c)
-
-mul-d : tie.Need-mul-d Inv-loop μ-loop
-mul-d c = omega (arith, row-low (c .before))
-
-element-copy-out-d : tie.Need-element-copy-out-d Inv-loop μ-loop
-element-copy-out-d c = omega (arith, row-low (c .before))
-
 loop-again : tie.Need-loop-again Inv-loop μ-loop
 loop-again c =
     let k = c .before .before in
@@ -103,23 +91,7 @@ returns c ps e size =
 
 pub drop-coefficient-spec : {M : Type 1} → statement M
 drop-coefficient-spec =
-    tie.close
-    (tie.spec
-    Inv-loop
-    μ-loop
-    (λ c κs. search needs)
-    loop-holds
-    (λ c. omega arith)
-    (λ c κs. omega arith)
-    mul-n
-    element-copy-out-n
-    mul-d
-    element-copy-out-d
-    (λ c. omega arith)
-    (λ c. omega arith)
-    (λ c. omega arith)
-    (λ c. omega arith)
-    (λ c. omega arith)
-    (λ c. omega arith)
-    loop-again
-    returns)
+    tie.close (tie.spec Inv-loop μ-loop (λ c κs. search needs) loop-holds (λ c. omega arith) (λ c κs. omega arith)
+    (λ c. omega (arith, row-low c)) (λ c. omega (arith, row-low c)) (λ c. omega (arith, row-low (c .before)))
+    (λ c. omega (arith, row-low (c .before))) (λ c. omega arith) (λ c. omega arith) (λ c. omega arith) (λ c. omega arith) (λ c. omega arith)
+    (λ c. omega arith) loop-again returns)

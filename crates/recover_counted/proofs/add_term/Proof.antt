@@ -88,6 +88,4 @@ returns-3 c =
     )
 
 pub add-term-spec : {M : Type 1} → statement M
-add-term-spec =
-    tie.close
-    (tie.spec returns (λ c κs. search needs) (λ c. search needs) sum-requires (λ c. search needs) returns-2 returns-3)
+add-term-spec = tie.close (tie.spec returns (λ c κs. search needs) (λ c. search needs) sum-requires (λ c. search needs) returns-2 returns-3)

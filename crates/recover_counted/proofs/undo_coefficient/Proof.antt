@@ -83,10 +83,7 @@ module _ (m : tie.After-sum) where
   after-share j v a b e h = fits-then (fitted j ((int (pos 1) -ᵠ v) *ᵠ b)) (subtracted j v a) (share at-share) (sym (share-is (at-product at-share) j v b e h) ∙ at-share .share .given .1)
 
 sub-t12 : tie.Need-sub-t12
-sub-t12 c =
-    let s = c .before .before .before in
-    let f = num-fits (share-sized s) in
-    simp toZ-ofZ (negated-fits s)
+sub-t12 c = let s = c .before .before .before in let f = num-fits (share-sized s) in simp toZ-ofZ (negated-fits s)
 
 sum-requires : tie.Need-sum-requires
 sum-requires c κs =
@@ -128,17 +125,5 @@ returns-3 c j v a b e h k =
 
 pub undo-coefficient-spec : {M : Type 1} → statement M
 undo-coefficient-spec =
-    tie.close
-    (tie.spec
-    (λ c κs. search needs)
-    (λ c κs. search needs)
-    (λ c. search needs)
-    (λ c. search needs)
-    sub-t12
-    sum-requires
-    (λ c. search needs)
-    (λ c. search needs)
-    quotient-requires
-    returns
-    returns-2
-    returns-3)
+    tie.close (tie.spec (λ c κs. search needs) (λ c κs. search needs) (λ c. search needs) (λ c. search needs) sub-t12 sum-requires
+    (λ c. search needs) (λ c. search needs) quotient-requires returns returns-2 returns-3)

@@ -115,13 +115,5 @@ returns c s j t ps is h shaped e size fit =
 
 pub recover-join-spec : {M : Type 1} → statement M
 recover-join-spec =
-    tie.close
-    (tie.spec
-    (λ c. search needs)
-    (λ c κs. search needs)
-    append-requires
-    (λ c. search needs)
-    recover-orders-requires
-    (λ c. search needs)
-    (λ c. search needs)
-    returns)
+    tie.close (tie.spec (λ c. search needs) (λ c κs. search needs) append-requires (λ c. search needs) recover-orders-requires
+    (λ c. search needs) (λ c. search needs) returns)

@@ -165,12 +165,6 @@ module _ (c : tie.After-join-at Inv-loop μ-loop) where
   sound : Sound (inv .state .reached) (at-loop c .loop .rows) (start c .args .columns)
   sound = subst (λ (n : ℕ). Sound (inv .state .reached) n (start c .args .columns)) (omega (arith, inv .rows-are)) (inv .state .sound)
 
-condition-count-requires : tie.Need-condition-count-requires Inv-loop μ-loop
-condition-count-requires c κs = (turn c .taken, c .before .before .before .before .before .pre .part .lists .orders-legal)
-
-add-degree-at : tie.Need-add-degree-at Inv-loop μ-loop
-add-degree-at c = let t = turn (c .before) in omega (arith, t .taken, t .count, t .few)
-
 degree-at-requires-2 : tie.Need-degree-at-requires-2 Inv-loop μ-loop
 degree-at-requires-2 c κs =
     let t = turn (c .before) in
@@ -250,26 +244,8 @@ module _ (c : tie.After-recover-join Inv-loop μ-loop) where
 abbrev called : tie.After-present Inv-loop μ-loop → tie.After-recover-join Inv-loop μ-loop
 called c = c .before .before .before .before .before .before
 
-add-rows-2 : tie.Need-add-rows-2 Inv-loop μ-loop
-add-rows-2 c = let x = sides (called c) in omega (arith, more-is x, here x .low)
-
-sub-rows : tie.Need-sub-rows Inv-loop μ-loop
-sub-rows c = let x = sides (called c) in omega (arith, here x .enough)
-
-same-length : tie.Need-same-length Inv-loop μ-loop
-same-length c = num-same (c .before .before .before .before .before .before .before)
-
-same-length-2 : tie.Need-same-length-2 Inv-loop μ-loop
-same-length-2 c = den-same (c .before .before .before .before .before .before .before)
-
 returns : tie.Need-returns Inv-loop μ-loop
 returns c = let r = c .before .before in let p = r .before .before in refused (p .before .before .before) (r .refusal .given .1) (p .place .ensures) (c .no-fractions2 .ensures)
-
-add-j : tie.Need-add-j Inv-loop μ-loop
-add-j c = omega (arith, here (sides (called c)) .small)
-
-loop-less : tie.Need-loop-less Inv-loop μ-loop
-loop-less c = let t = turn (sides (called c) .before .before .before) in omega (arith, t .taken)
 
 loop-again : tie.Need-loop-again Inv-loop μ-loop
 loop-again c =
@@ -289,12 +265,6 @@ loop-again c =
       state = goes-on _ _ _ (v .begun .holds .num-long) (v .begun .holds .den-long) (v .state) (here x .before-last) d;
       is = ap (λ (y : RowCoefficients). y .of) (d .told-is);
     }
-
-same-length-3 : tie.Need-same-length-3 Inv-loop μ-loop
-same-length-3 c = c .before .loop .inv .num-long
-
-same-length-4 : tie.Need-same-length-4 Inv-loop μ-loop
-same-length-4 c = c .before .loop .inv .den-long
 
 -- every join: the rows are counted, and all coefficients have come in
 returns-2 : tie.Need-returns-2 Inv-loop μ-loop
@@ -319,33 +289,13 @@ returns-2 c =
 
 pub recover-joins-spec : {M : Type 1} → statement M
 recover-joins-spec =
-    tie.close
-    (tie.spec
-    Inv-loop
-    μ-loop
-    degree-at-requires
-    add-rows
-    (λ c κs. search needs)
-    append-requires
-    loop-holds
-    condition-count-requires
-    add-degree-at
-    degree-at-requires-2
-    add-more
-    join-at-requires
-    recover-join-requires
-    (λ c κs. search needs)
-    (λ c. search needs)
-    add-rows-2
-    sub-rows
-    (λ c. search needs)
-    (λ c κs. search needs)
-    same-length
-    same-length-2
-    returns
-    add-j
-    loop-less
-    loop-again
-    same-length-3
-    same-length-4
-    returns-2)
+    tie.close (tie.spec Inv-loop μ-loop degree-at-requires add-rows (λ c κs. search needs) append-requires loop-holds
+    (λ c κs. (turn c .taken, c .before .before .before .before .before .pre .part .lists .orders-legal))
+    (λ c. let t = turn (c .before) in omega (arith, t .taken, t .count, t .few)) degree-at-requires-2 add-more join-at-requires
+    recover-join-requires (λ c κs. search needs) (λ c. search needs)
+    (λ c. let x = sides (called c) in omega (arith, more-is x, here x .low))
+    (λ c. let x = sides (called c) in omega (arith, here x .enough)) (λ c. search needs) (λ c κs. search needs)
+    (λ c. num-same (c .before .before .before .before .before .before .before))
+    (λ c. den-same (c .before .before .before .before .before .before .before)) returns (λ c. omega (arith, here (sides (called c)) .small))
+    (λ c. let t = turn (sides (called c) .before .before .before) in omega (arith, t .taken)) loop-again
+    (λ c. c .before .loop .inv .num-long) (λ c. c .before .loop .inv .den-long) returns-2)

@@ -132,20 +132,8 @@ loop-again c =
       at = λ s j t ps is h shaped e size f. after m s j t ps is h shaped e size f (c .before .enum-told .given .1);
     }
 
-same-length : tie.Need-same-length Inv-loop μ-loop
-same-length c = num-kept (c .before .before .before .before .before .before)
-
-same-length-2 : tie.Need-same-length-2 Inv-loop μ-loop
-same-length-2 c = den-kept (c .before .before .before .before .before .before)
-
 returns : tie.Need-returns Inv-loop μ-loop
 returns c s j t ps is h shaped e size f = let r = c .before .before in refused (r .before .before .before .before) s j t ps is h shaped e size f (r .refusal .given .1) (c .refuse .ensures)
-
-same-length-3 : tie.Need-same-length-3 Inv-loop μ-loop
-same-length-3 c = c .before .loop .inv .num-long
-
-same-length-4 : tie.Need-same-length-4 Inv-loop μ-loop
-same-length-4 c = c .before .loop .inv .den-long
 
 returns-2 : tie.Need-returns-2 Inv-loop μ-loop
 unfolding recoverOrders
@@ -156,22 +144,7 @@ returns-2 c s j t ps is h shaped e size f =
 
 pub recover-orders-spec : {M : Type 1} → statement M
 recover-orders-spec =
-    tie.close
-    (tie.spec
-    Inv-loop
-    μ-loop
-    loop-holds
-    (λ c. omega arith)
-    recover-step-requires
-    (λ c. search needs)
-    (λ c. omega arith)
-    (λ c. omega arith)
-    loop-again
-    (λ c. search needs)
-    (λ c κs. search needs)
-    same-length
-    same-length-2
-    returns
-    same-length-3
-    same-length-4
-    returns-2)
+    tie.close (tie.spec Inv-loop μ-loop loop-holds (λ c. omega arith) recover-step-requires (λ c. search needs) (λ c. omega arith)
+    (λ c. omega arith) loop-again (λ c. search needs) (λ c κs. search needs)
+    (λ c. num-kept (c .before .before .before .before .before .before)) (λ c. den-kept (c .before .before .before .before .before .before))
+    returns (λ c. c .before .loop .inv .num-long) (λ c. c .before .loop .inv .den-long) returns-2)

@@ -26,9 +26,6 @@ begun c =
     beginning _ _ _ (start c .pre .part) _ _
     (c .before .before .before .first-column .ensures ∙ column-count-partial _ (start c .args .degrees .now) _) (c .degree-at .ensures)
 
-add-identity : tie.Need-add-identity
-add-identity c = omega (arith, begun c .rows-few, begun c .columns-fit)
-
 identity-requires : tie.Need-identity-requires
 identity-requires c κs =
     let room = start c .pre .room in
@@ -57,13 +54,5 @@ returns c =
 
 pub recover-part-spec : {M : Type 1} → statement M
 recover-part-spec =
-    tie.close
-    (tie.spec
-    (λ c κs. search needs)
-    (λ c κs. search needs)
-    add-identity
-    identity-requires
-    recover-joins-requires
-    (λ c. search needs)
-    (λ c. search needs)
-    returns)
+    tie.close (tie.spec (λ c κs. search needs) (λ c κs. search needs) (λ c. omega (arith, begun c .rows-few, begun c .columns-fit))
+    identity-requires recover-joins-requires (λ c. search needs) (λ c. search needs) returns)

@@ -235,31 +235,7 @@ returns-5 c s j t ps is h shaped e n =
 
 pub recover-step-spec : {M : Type 1} → statement M
 recover-step-spec =
-    tie.close
-    (tie.spec
-    jumps-requires
-    (λ c κs. search needs)
-    (λ c. search needs)
-    (λ c. search needs)
-    returns
-    plan-step-requires
-    (λ c. search needs)
-    (λ c κs. search needs)
-    (λ c. search needs)
-    (λ c κs. search needs)
-    (λ c. search needs)
-    renew-rows-requires
-    (λ c κs. search needs)
-    (λ c. search needs)
-    (λ c. search needs)
-    returns-2
-    undo-requires
-    (λ c. search needs)
-    (λ c. search needs)
-    returns-3
-    (λ c. search needs)
-    (λ c. search needs)
-    returns-4
-    (λ c. search needs)
-    (λ c. search needs)
-    returns-5)
+    tie.close (tie.spec jumps-requires (λ c κs. search needs) (λ c. search needs) (λ c. search needs) returns plan-step-requires
+    (λ c. search needs) (λ c κs. search needs) (λ c. search needs) (λ c κs. search needs) (λ c. search needs) renew-rows-requires
+    (λ c κs. search needs) (λ c. search needs) (λ c. search needs) returns-2 undo-requires (λ c. search needs) (λ c. search needs) returns-3
+    (λ c. search needs) (λ c. search needs) returns-4 (λ c. search needs) (λ c. search needs) returns-5)

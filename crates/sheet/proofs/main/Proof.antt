@@ -19,71 +19,9 @@ fits c = within (c .before .sheet .ensures .few) (c .out2 .given)
 zeros-are : (n : ℕ) → n ≡ length {A = ℕ} (replicate n 0)
 zeros-are n = sym (length-replicate {0} {A = ℕ} n 0)
 
-slice-aggregate-read-input : tie.Need-slice-aggregate-read-input
-slice-aggregate-read-input c = zeros-are (textLimit + 1)
-
-read-input-requires : tie.Need-read-input-requires
-read-input-requires c κs = tt
-
-slice-aggregate-fail : tie.Need-slice-aggregate-fail
-slice-aggregate-fail c = refl
-
-fail-requires : tie.Need-fail-requires
-fail-requires c κs = tt
-
-returns : tie.Need-returns
-returns c = tt
-
-array-share-prefix-input : tie.Need-array-share-prefix-input
-array-share-prefix-input c = c .before .before .read-input .ensures .0
-
-slice-aggregate-sheet : tie.Need-slice-aggregate-sheet
-slice-aggregate-sheet c = c .before .before .before .read-input .ensures .1
-
-slice-aggregate-sheet-2 : tie.Need-slice-aggregate-sheet-2
-slice-aggregate-sheet-2 c = zeros-are printoutLimit
-
-sheet-requires : tie.Need-sheet-requires
-sheet-requires c κs = tt
-
-array-share-prefix-out : tie.Need-array-share-prefix-out
-array-share-prefix-out c = fits c
-
-slice-aggregate-write-all : tie.Need-slice-aggregate-write-all
-slice-aggregate-write-all c = sym (length-take-le (c .before .before .sheet .result) _ (fits (c .before)))
-
-write-all-requires : tie.Need-write-all-requires
-write-all-requires c κs = tt
-
-slice-aggregate-fail-2 : tie.Need-slice-aggregate-fail-2
-slice-aggregate-fail-2 c = refl
-
-fail-requires-2 : tie.Need-fail-requires-2
-fail-requires-2 c κs = tt
-
-returns-2 : tie.Need-returns-2
-returns-2 c = tt
-
-returns-3 : tie.Need-returns-3
-returns-3 c = tt
-
 pub main-spec : {M : Type 1} → statement M
 main-spec =
-    tie.close
-    (tie.spec
-    slice-aggregate-read-input
-    read-input-requires
-    slice-aggregate-fail
-    fail-requires
-    returns
-    array-share-prefix-input
-    slice-aggregate-sheet
-    slice-aggregate-sheet-2
-    sheet-requires
-    array-share-prefix-out
-    slice-aggregate-write-all
-    write-all-requires
-    slice-aggregate-fail-2
-    fail-requires-2
-    returns-2
-    returns-3)
+    tie.close (tie.spec (λ c. zeros-are (textLimit + 1)) (λ c κs. tt) (λ c. refl) (λ c κs. tt) (λ c. tt)
+    (λ c. c .before .before .read-input .ensures .0) (λ c. c .before .before .before .read-input .ensures .1) (λ c. zeros-are printoutLimit)
+    (λ c κs. tt) (λ c. fits c) (λ c. sym (length-take-le (c .before .before .sheet .result) _ (fits (c .before)))) (λ c κs. tt) (λ c. refl)
+    (λ c κs. tt) (λ c. tt) (λ c. tt))

@@ -62,14 +62,5 @@ returns-2 c =
 
 pub build-rows-spec : {M : Type 1} → statement M
 build-rows-spec =
-    tie.close
-    (tie.spec
-    build-part-requires
-    (λ c. search needs)
-    (λ c. search needs)
-    (λ c. search needs)
-    (λ c. search needs)
-    returns
-    (λ c. search needs)
-    (λ c. search needs)
-    returns-2)
+    tie.close (tie.spec build-part-requires (λ c. search needs) (λ c. search needs) (λ c. search needs) (λ c. search needs) returns
+    (λ c. search needs) (λ c. search needs) returns-2)

@@ -46,16 +46,5 @@ put-parts-requires c κs =
 
 pub put-beam-spec : {M : Type 1} → statement M
 put-beam-spec =
-    tie.close
-    (tie.spec
-    part-end-requires
-    put-weights-requires
-    (λ c. search needs)
-    (λ c. search needs)
-    (λ c. search needs)
-    returns
-    put-parts-requires
-    (λ c. search needs)
-    (λ c. search needs)
-    (λ c. search needs)
-    (λ c. search needs))
+    tie.close (tie.spec part-end-requires put-weights-requires (λ c. search needs) (λ c. search needs) (λ c. search needs) returns
+    put-parts-requires (λ c. search needs) (λ c. search needs) (λ c. search needs) (λ c. search needs))

@@ -36,17 +36,8 @@ module _ (c : tie.In-loop Inv-loop μ-loop) where
   abbrev turn : ℕ
   turn = c .before .loop .a
 
-loop-holds : tie.Need-loop-holds Inv-loop μ-loop
-loop-holds c = before-first _ _ _ _ _
-
-part-end-requires : tie.Need-part-end-requires Inv-loop μ-loop
-part-end-requires c κs = let l = beam-lengths (beam c) (accepted c) in omega (arith, l .order-count)
-
 first-column-requires : tie.Need-first-column-requires Inv-loop μ-loop
-first-column-requires c κs =
-    let k = c .before in
-    let l = beam-legal (beam k) (accepted k) in
-    (omega arith, (l .few, l .degrees-legal))
+first-column-requires c κs = let k = c .before in let l = beam-legal (beam k) (accepted k) in (omega arith, (l .few, l .degrees-legal))
 
 -- where its part ends
 end-is : (k : tie.After-part-end Inv-loop μ-loop) → k .part-end .result ≡ partEnd (beam (k .before)) (turn (k .before))
@@ -133,33 +124,12 @@ loop-again c =
     (end-is (k .before .before .before .before)) (column-is (k .before .before .before))
     (built .rows-are) (built .num-is) (built .den-is) (c .before .before .put-weights .ensures)
 
-same-length : tie.Need-same-length Inv-loop μ-loop
-same-length c = c .before .loop .inv .num-long
-
-same-length-2 : tie.Need-same-length-2 Inv-loop μ-loop
-same-length-2 c = c .before .loop .inv .den-long
-
-same-length-3 : tie.Need-same-length-3 Inv-loop μ-loop
-same-length-3 c = puts-length (c .before .loop .inv .put)
-
 returns : tie.Need-returns Inv-loop μ-loop
 returns c = before-end (c .before .before .before .pre .accepted) (c .before .loop .inv) (omega arith)
 
 pub put-parts-spec : {M : Type 1} → statement M
 put-parts-spec =
-    tie.close
-    (tie.spec
-    Inv-loop
-    μ-loop
-    loop-holds
-    part-end-requires
-    first-column-requires
-    build-rows-requires
-    put-weights-requires
-    add-row
-    loop-less
-    loop-again
-    same-length
-    same-length-2
-    same-length-3
-    returns)
+    tie.close (tie.spec Inv-loop μ-loop (λ c. before-first _ _ _ _ _)
+    (λ c κs. let l = beam-lengths (beam c) (accepted c) in omega (arith, l .order-count)) first-column-requires build-rows-requires
+    put-weights-requires add-row loop-less loop-again (λ c. c .before .loop .inv .num-long) (λ c. c .before .loop .inv .den-long)
+    (λ c. puts-length (c .before .loop .inv .put)) returns)

@@ -61,7 +61,7 @@ module _ (c : tie.After-is-entry Inv-loop μ-loop) where
   stop = c .before .find .result
 
   abbrev whole : Count
-  whole = count (listOf (entryOf kind) (slice (c .before .before .before .before .before .args .from) to text))
+  whole = let s = c .before .before .before .before .before in count (listOf (entryOf kind) (slice (s .args .from) to text))
 
   range : Range text start to
   range = omega arith
@@ -93,9 +93,6 @@ module _ (c : tie.After-is-entry Inv-loop μ-loop) where
     more : (stop ≡ to → ⊥) → whole ≡ tally (n + 1) (entries (entryOf kind) (fields (slice (stop + 1) to text)))
     more k = with-fields (field-more (byte comma) text start to stop range (c .before .find .ensures) k) ∙ tally-next (entryOf kind) n _ _ good
 
-returns-2 : tie.Need-returns-2 Inv-loop μ-loop
-returns-2 c = sym (bad (c .before) (not-true _ (c .if2 .taken)))
-
 returns-3 : tie.Need-returns-3 Inv-loop μ-loop
 returns-3 c = sym (full (c .before .before) (not-false _ (c .before .if2 .left)) (omega (arith, c .if3 .taken)))
 
@@ -103,10 +100,7 @@ returns-4 : tie.Need-returns-4 Inv-loop μ-loop
 returns-4 c = sym (last (c .before .before .before) (not-false _ (c .before .before .if2 .left)) (c .before .if3 .left) (c .if4 .taken))
 
 add-start : tie.Need-add-start Inv-loop μ-loop
-add-start c = omega (arith, stops (c .before .before .before), c .before .before .before .before .before .before .before .before .good)
-
-loop-less : tie.Need-loop-less Inv-loop μ-loop
-loop-less c = omega (arith, stops (c .before .before .before))
+add-start c = let t = c .before .before .before .before .before .before .before .before in omega (arith, stops (c .before .before .before), t .good)
 
 loop-again : tie.Need-loop-again Inv-loop μ-loop
 loop-again c =
@@ -116,18 +110,6 @@ loop-again c =
 
 pub count-list-spec : {M : Type 1} → statement M
 count-list-spec =
-    tie.close
-    (tie.spec
-    Inv-loop
-    μ-loop
-    returns
-    loop-holds
-    (λ c κs. omega arith)
-    is-entry-requires
-    returns-2
-    returns-3
-    (λ c. omega arith)
-    returns-4
-    add-start
-    loop-less
-    loop-again)
+    tie.close (tie.spec Inv-loop μ-loop returns loop-holds (λ c κs. omega arith) is-entry-requires
+    (λ c. sym (bad (c .before) (not-true _ (c .if2 .taken)))) returns-3 (λ c. omega arith) returns-4 add-start
+    (λ c. omega (arith, stops (c .before .before .before))) loop-again)

@@ -43,25 +43,12 @@ module _ (c : tie.After-find) where
     sides = pair-cut text from to stop range (c .find .ensures) h
 
 returns : tie.Need-returns
-returns c =
-    let f = c .before in
-    sym (ap isSome (pair-uncut (text f) (from f) (to f) (stop f) (range f) (f .find .ensures) (c .if1 .taken)))
-
-is-numeral-requires : tie.Need-is-numeral-requires
-is-numeral-requires c κs = front (c .before)
+returns c = let f = c .before in sym (ap isSome (pair-uncut (text f) (from f) (to f) (stop f) (range f) (f .find .ensures) (c .if1 .taken)))
 
 returns-2 : tie.Need-returns-2
 returns-2 c =
     let f = c .before .before .before in
     sym (ap isSome (sides f (c .before .before .if1 .left)) ∙ one-bad (numeral (slice (from f) (stop f) (text f))) _ (sym (c .before .is-numeral .ensures) ∙ not-true _ (c .if2 .taken)))
-
-add-is-numeral : tie.Need-add-is-numeral
-add-is-numeral c =
-    let f = c .before .before .before in
-    omega (arith, back f (c .before .before .if1 .left) .ordered)
-
-is-numeral-requires-2 : tie.Need-is-numeral-requires-2
-is-numeral-requires-2 c κs = back (c .before .before .before) (c .before .before .if1 .left)
 
 returns-3 : tie.Need-returns-3
 returns-3 c =
@@ -71,4 +58,7 @@ returns-3 c =
     ∙ sym (ap isSome (sides f (e .before .before .if1 .left)) ∙ one-good (numeral (slice (from f) (stop f) (text f))) _ (sym (e .before .is-numeral .ensures) ∙ not-false _ (e .if2 .left)))
 
 pub is-pair-spec : {M : Type 1} → statement M
-is-pair-spec = tie.close (tie.spec (λ c κs. search needs) returns is-numeral-requires returns-2 add-is-numeral is-numeral-requires-2 returns-3)
+is-pair-spec =
+    tie.close (tie.spec (λ c κs. search needs) returns (λ c κs. front (c .before)) returns-2
+    (λ c. let f = c .before .before .before in omega (arith, back f (c .before .before .if1 .left) .ordered))
+    (λ c κs. back (c .before .before .before) (c .before .before .if1 .left)) returns-3)

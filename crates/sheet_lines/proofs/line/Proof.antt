@@ -76,4 +76,6 @@ returns-4 c =
     (keyed k) (good .0) (good .1)
 
 pub line-spec : {M : Type 1} → statement M
-line-spec = tie.close (tie.spec (λ c κs. search needs) returns begins-requires returns-2 (λ c. search needs) count-list-requires (λ c. search needs) (λ c. search needs) returns-3 returns-4)
+line-spec =
+    tie.close (tie.spec (λ c κs. search needs) returns begins-requires returns-2 (λ c. search needs) count-list-requires (λ c. search needs)
+    (λ c. search needs) returns-3 returns-4)

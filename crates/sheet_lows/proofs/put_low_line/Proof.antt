@@ -25,4 +25,6 @@ returns c =
     (puts-then (simp toZ-ofZ at (b .put-decimal .ensures)) (d .put .ensures)))
 
 pub put-low-line-spec : {M : Type 1} → statement M
-put-low-line-spec = tie.close (tie.spec (λ c. search needs) (λ c κs. search needs) cast-put-decimal (λ c κs. search needs) (λ c κs. search needs) (λ c. search needs) returns)
+put-low-line-spec =
+    tie.close (tie.spec (λ c. search needs) (λ c κs. search needs) cast-put-decimal (λ c κs. search needs) (λ c κs. search needs)
+    (λ c. search needs) returns)

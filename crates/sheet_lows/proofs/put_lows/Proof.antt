@@ -53,12 +53,6 @@ module _ (k : tie.After-sort) where
   few : length (take count (k .sort .last .0)) ≤ length positions
   few = omega (arith, length-take-le count (k .sort .last .0) fits, collected .low-positions .ensures .0, lowPositions-few positions values)
 
-array-share-prefix-lows : tie.Need-array-share-prefix-lows
-array-share-prefix-lows c = fits (c .before)
-
-slice-aggregate-put-low-lines : tie.Need-slice-aggregate-put-low-lines
-slice-aggregate-put-low-lines c = let k = c .before .before in sym (length-take-le (count k) _ (fits k))
-
 put-low-lines-requires : tie.Need-put-low-lines-requires
 put-low-lines-requires c κs = omega (arith, few (c .before .before), c .before .before .before .before .before .before .before .before .pre)
 
@@ -70,13 +64,5 @@ returns c =
 
 pub put-lows-spec : {M : Type 1} → statement M
 put-lows-spec =
-    tie.close
-    (tie.spec
-    (λ c. search needs)
-    (λ c κs. search needs)
-    (λ c κs. search needs)
-    array-share-prefix-lows
-    slice-aggregate-put-low-lines
-    put-low-lines-requires
-    (λ c. search needs)
-    returns)
+    tie.close (tie.spec (λ c. search needs) (λ c κs. search needs) (λ c κs. search needs) (λ c. fits (c .before))
+    (λ c. let k = c .before .before in sym (length-take-le (count k) _ (fits k))) put-low-lines-requires (λ c. search needs) returns)

@@ -114,23 +114,14 @@ module _ (c : tie.After-numeral Inv-loop μ-loop) where
         filled-next zs (slice (stop + 1) to text) before list n z (filled .room)
         (store _ (field-more isSeparator text start to stop range (c .before .separator .ensures) h))
 
-same-length : tie.Need-same-length Inv-loop μ-loop
-same-length c = absurd (not-bad (c .before .before) (c .enum-told .given .1))
-
 returns-2 : tie.Need-returns-2 Inv-loop μ-loop
 returns-2 c = absurd (not-bad (c .before .before) (c .enum-told .given .1))
 
 mul-z : tie.Need-mul-z Inv-loop μ-loop
 mul-z c = omega (arith, below (c .before .before .before) _ (c .before .field .given .1), room (c .before .before .before))
 
-slice-set-from-z : tie.Need-slice-set-from-z Inv-loop μ-loop
-slice-set-from-z c = below (c .before .before .before) _ (c .before .field .given .1)
-
 add-n : tie.Need-add-n Inv-loop μ-loop
 add-n c = omega (arith, below (c .before .before .before) _ (c .before .field .given .1), room (c .before .before .before))
-
-same-length-2 : tie.Need-same-length-2 Inv-loop μ-loop
-same-length-2 c = simp length-set (filled-length _ _ _ _ _ (filled (c .before .before .before .before)))
 
 returns-3 : tie.Need-returns-3 Inv-loop μ-loop
 returns-3 c =
@@ -142,9 +133,6 @@ returns-3 c =
 add-start : tie.Need-add-start Inv-loop μ-loop
 add-start c = omega (arith, stops (c .before .before .before .before), c .before .before .before .before .before .before .before .before .before .good .0)
 
-loop-less : tie.Need-loop-less Inv-loop μ-loop
-loop-less c = omega (arith, stops (c .before .before .before .before))
-
 loop-again : tie.Need-loop-again Inv-loop μ-loop
 loop-again c =
     let f = c .before .before .field in
@@ -155,23 +143,8 @@ loop-again c =
 
 pub fill-spec : {M : Type 1} → statement M
 fill-spec =
-    tie.close
-    (tie.spec
-    Inv-loop
-    μ-loop
-    returns
-    loop-holds
-    (λ c κs. omega arith)
-    numeral-requires
-    (λ c. search needs)
-    same-length
-    returns-2
-    (λ c. search needs)
-    mul-z
-    slice-set-from-z
-    add-n
-    same-length-2
-    returns-3
-    add-start
-    loop-less
-    loop-again)
+    tie.close (tie.spec Inv-loop μ-loop returns loop-holds (λ c κs. omega arith) numeral-requires (λ c. search needs)
+    (λ c. absurd (not-bad (c .before .before) (c .enum-told .given .1))) returns-2 (λ c. search needs) mul-z
+    (λ c. below (c .before .before .before) _ (c .before .field .given .1)) add-n
+    (λ c. simp length-set (filled-length _ _ _ _ _ (filled (c .before .before .before .before)))) returns-3 add-start
+    (λ c. omega (arith, stops (c .before .before .before .before))) loop-again)

@@ -31,9 +31,6 @@ module _ (c : tie.After-known-told2) where
       let s = c .before .before .before .scan in
       scanned-lists text (s .result) (s .ensures) _ _ _ _ _ _ _ _ _ _ (c .before .scanned2 .given .1)
 
-fill-requires : tie.Need-fill-requires
-fill-requires c κs = let k = c .before in fill-ready (numerals-at (good k .2 .breaks)) (c .fill-arg .given .0 .1)
-
 fill-requires-2 : tie.Need-fill-requires-2
 fill-requires-2 c κs = let k = c .before .before .before in fill-ready (numerals-at (good k .2 .degrees)) (c .fill-arg2 .given .0 .1)
 
@@ -62,20 +59,10 @@ returns-2 c =
     (fills (numerals-at (at .breaks)) (c .before .before .before .before .before .before .before .before .fill .ensures))
     (fills (numerals-at (at .degrees)) (c .before .before .before .before .before .before .fill2 .ensures))
     (fills (numerals-at (at .orders)) (c .before .before .before .before .fill3 .ensures))
-    (fills (pairs-at (at .coefs)) (c .before .before .fill4 .ensures))
-    (fills (numerals-at (at .positions)) (c .fill5 .ensures))
+    (fills (pairs-at (at .coefs)) (c .before .before .fill4 .ensures)) (fills (numerals-at (at .positions)) (c .fill5 .ensures))
 
 pub read-spec : {M : Type 1} → statement M
 read-spec =
-    tie.close
-    (tie.spec
-    (λ c κs. search needs)
-    (λ c. search needs)
-    (λ c. search needs)
-    fill-requires
-    fill-requires-2
-    fill-requires-3
-    fill-requires-4
-    fill-requires-5
-    returns
-    returns-2)
+    tie.close (tie.spec (λ c κs. search needs) (λ c. search needs) (λ c. search needs)
+    (λ c κs. let k = c .before in fill-ready (numerals-at (good k .2 .breaks)) (c .fill-arg .given .0 .1)) fill-requires-2 fill-requires-3
+    fill-requires-4 fill-requires-5 returns returns-2)

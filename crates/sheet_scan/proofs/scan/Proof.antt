@@ -47,12 +47,6 @@ module _ (c : tie.After-known-told) where
   abbrev make-1 : NumeralLine → NumeralLine → PairLine → NumeralLine → Lists
   make-1 = lists (one .line)
 
-add-line : tie.Need-add-line
-add-line c = omega (arith, one c .spans .ended, short-1 c)
-
-line-requires-2 : tie.Need-line-requires-2
-line-requires-2 c κs = omega (arith, one (c .before) .spans .ended)
-
 returns-3 : tie.Need-returns-3
 unfolding capped
 returns-3 c =
@@ -78,12 +72,6 @@ module _ (c : tie.After-known-told2) where
 
   abbrev make-2 : NumeralLine → PairLine → NumeralLine → Lists
   make-2 = make-1 known-1 (two .line)
-
-add-line-2 : tie.Need-add-line-2
-add-line-2 c = omega (arith, two c .spans .ended, short-2 c)
-
-line-requires-3 : tie.Need-line-requires-3
-line-requires-3 c κs = omega (arith, two (c .before) .spans .ended)
 
 returns-4 : tie.Need-returns-4
 unfolding capped
@@ -111,12 +99,6 @@ module _ (c : tie.After-known-told3) where
   abbrev make-3 : PairLine → NumeralLine → Lists
   make-3 = make-2 known-2 (three .line)
 
-add-line-3 : tie.Need-add-line-3
-add-line-3 c = omega (arith, three c .spans .ended, short-3 c)
-
-line-requires-4 : tie.Need-line-requires-4
-line-requires-4 c κs = omega (arith, three (c .before) .spans .ended)
-
 returns-5 : tie.Need-returns-5
 unfolding capped
 returns-5 c =
@@ -143,12 +125,6 @@ module _ (c : tie.After-known-told4) where
   abbrev make-4 : NumeralLine → Lists
   make-4 = make-3 known-3 (four .line)
 
-add-line-4 : tie.Need-add-line-4
-add-line-4 c = omega (arith, four c .spans .ended, short-4 c)
-
-line-requires-5 : tie.Need-line-requires-5
-line-requires-5 c κs = omega (arith, four (c .before) .spans .ended)
-
 returns-6 : tie.Need-returns-6
 unfolding capped
 returns-6 c =
@@ -172,9 +148,6 @@ module _ (c : tie.After-known-told5) where
       let l = c .before .before .before in
       next-line pair numeral text-5 5 atKey (λ l. after-five (make-3 (known-3 known-4) l)) _ _ (four known-4) (l .line5 .result) (l .line5 .ensures) _ _ (c .before .p .given .1)
 
-add-if2 : tie.Need-add-if2
-add-if2 c = omega (arith, five c .spans .ended, short-5 c)
-
 returns-7 : tie.Need-returns-7
 unfolding capped
 returns-7 c = let k = c .before in scan-refused (text-5 k) 6 (last-more (text-5 k) (make-4 (known-4 k)) _ _ (five k) (λ e. omega (arith, e, c .if2 .taken)))
@@ -196,38 +169,11 @@ returns-8 c =
 
 pub scan-spec : {M : Type 1} → statement M
 scan-spec =
-    tie.close
-    (tie.spec
-    returns
-    (λ c. search needs)
-    (λ c κs. search needs)
-    (λ c. search needs)
-    (λ c. search needs)
-    returns-2
-    add-line
-    (λ c. search needs)
-    line-requires-2
-    (λ c. search needs)
-    (λ c. search needs)
-    returns-3
-    add-line-2
-    (λ c. search needs)
-    line-requires-3
-    (λ c. search needs)
-    (λ c. search needs)
-    returns-4
-    add-line-3
-    (λ c. search needs)
-    line-requires-4
-    (λ c. search needs)
-    (λ c. search needs)
-    returns-5
-    add-line-4
-    (λ c. search needs)
-    line-requires-5
-    (λ c. search needs)
-    (λ c. search needs)
-    returns-6
-    add-if2
-    returns-7
-    returns-8)
+    tie.close (tie.spec returns (λ c. search needs) (λ c κs. search needs) (λ c. search needs) (λ c. search needs) returns-2
+    (λ c. omega (arith, one c .spans .ended, short-1 c)) (λ c. search needs) (λ c κs. omega (arith, one (c .before) .spans .ended))
+    (λ c. search needs) (λ c. search needs) returns-3 (λ c. omega (arith, two c .spans .ended, short-2 c)) (λ c. search needs)
+    (λ c κs. omega (arith, two (c .before) .spans .ended)) (λ c. search needs) (λ c. search needs) returns-4
+    (λ c. omega (arith, three c .spans .ended, short-3 c)) (λ c. search needs) (λ c κs. omega (arith, three (c .before) .spans .ended))
+    (λ c. search needs) (λ c. search needs) returns-5 (λ c. omega (arith, four c .spans .ended, short-4 c)) (λ c. search needs)
+    (λ c κs. omega (arith, four (c .before) .spans .ended)) (λ c. search needs) (λ c. search needs) returns-6
+    (λ c. omega (arith, five c .spans .ended, short-5 c)) returns-7 returns-8)

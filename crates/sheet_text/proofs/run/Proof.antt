@@ -39,15 +39,6 @@ module _ (a : tie.After-answer2) where
         count-positions (lists returned) (returned .curve .result) (returned .curve .ensures .0) count (a .answer2 .given .1),
       )
 
-mul-cells : tie.Need-mul-cells
-mul-cells c = omega (arith, fits (c .before), few (c .before), c .before .before .before .values2 .given)
-
-array-share-prefix-values : tie.Need-array-share-prefix-values
-array-share-prefix-values c = fits (c .before .before .before)
-
-slice-aggregate-put-answer-3 : tie.Need-slice-aggregate-put-answer-3
-slice-aggregate-put-answer-3 c = let a = c .before .before .before .before in sym (length-take-le (2 * count a) _ (fits a))
-
 put-answer-requires : tie.Need-put-answer-requires
 unfolding called
 put-answer-requires c κs =
@@ -82,22 +73,9 @@ returns-2 c =
 
 pub run-spec : {M : Type 1} → statement M
 run-spec =
-    tie.close
-    (tie.spec
-    (λ c. search needs)
-    (λ c. search needs)
-    (λ c. search needs)
-    (λ c κs. search needs)
-    (λ c. search needs)
-    (λ c κs. search needs)
-    (λ c. search needs)
-    mul-cells
-    (λ c. search needs)
-    (λ c. search needs)
-    array-share-prefix-values
-    slice-aggregate-put-answer-3
-    put-answer-requires
-    (λ c. search needs)
-    returns
-    (λ c. search needs)
-    returns-2)
+    tie.close (tie.spec (λ c. search needs) (λ c. search needs) (λ c. search needs) (λ c κs. search needs) (λ c. search needs)
+    (λ c κs. search needs) (λ c. search needs)
+    (λ c. omega (arith, fits (c .before), few (c .before), c .before .before .before .values2 .given)) (λ c. search needs)
+    (λ c. search needs) (λ c. fits (c .before .before .before))
+    (λ c. let a = c .before .before .before .before in sym (length-take-le (2 * count a) _ (fits a))) put-answer-requires
+    (λ c. search needs) returns (λ c. search needs) returns-2)

@@ -44,32 +44,11 @@ module _ (a : tie.After-lists2) where
   positions-fit : counts .positions ≤ length (done .read .last .1 .1 .1 .1 .1 .0)
   positions-fit = part-fits (λ l. l .positions) (listed .is) _ (done .read .ensures .positions-are) (ap (λ n. n .positions) (listed .counts))
 
-array-share-prefix-breaks : tie.Need-array-share-prefix-breaks
-array-share-prefix-breaks c = breaks-fit (c .before)
-
-slice-aggregate-run : tie.Need-slice-aggregate-run
-slice-aggregate-run c = let a = c .before .before in sym (length-take-le (counts a .breaks) _ (breaks-fit a))
-
-array-share-prefix-degrees : tie.Need-array-share-prefix-degrees
-array-share-prefix-degrees c = degrees-fit (c .before .before)
-
-slice-aggregate-run-2 : tie.Need-slice-aggregate-run-2
-slice-aggregate-run-2 c = let a = c .before .before .before in sym (length-take-le (counts a .degrees) _ (degrees-fit a))
-
-array-share-prefix-orders : tie.Need-array-share-prefix-orders
-array-share-prefix-orders c = orders-fit (c .before .before .before)
-
 slice-aggregate-run-3 : tie.Need-slice-aggregate-run-3
 slice-aggregate-run-3 c = let a = c .before .before .before .before in sym (length-take-le (counts a .orders) _ (orders-fit a))
 
-array-share-prefix-coefs : tie.Need-array-share-prefix-coefs
-array-share-prefix-coefs c = coefs-fit (c .before .before .before .before)
-
 slice-aggregate-run-4 : tie.Need-slice-aggregate-run-4
 slice-aggregate-run-4 c = let a = c .before .before .before .before .before in sym (length-take-le (counts a .coefs) _ (coefs-fit a))
-
-array-share-prefix-positions : tie.Need-array-share-prefix-positions
-array-share-prefix-positions c = positions-fit (c .before .before .before .before .before)
 
 slice-aggregate-run-5 : tie.Need-slice-aggregate-run-5
 slice-aggregate-run-5 c = let a = c .before .before .before .before .before .before in sym (length-take-le (counts a .positions) _ (positions-fit a))
@@ -108,24 +87,9 @@ returns-2 c =
 
 pub sheet-spec : {M : Type 1} → statement M
 sheet-spec =
-    tie.close
-    (tie.spec
-    (λ c κs. search needs)
-    (λ c. search needs)
-    (λ c κs. search needs)
-    (λ c. search needs)
-    array-share-prefix-breaks
-    slice-aggregate-run
-    array-share-prefix-degrees
-    slice-aggregate-run-2
-    array-share-prefix-orders
-    slice-aggregate-run-3
-    array-share-prefix-coefs
-    slice-aggregate-run-4
-    array-share-prefix-positions
-    slice-aggregate-run-5
-    run-requires
-    (λ c. search needs)
-    returns
-    (λ c. search needs)
-    returns-2)
+    tie.close (tie.spec (λ c κs. search needs) (λ c. search needs) (λ c κs. search needs) (λ c. search needs) (λ c. breaks-fit (c .before))
+    (λ c. let a = c .before .before in sym (length-take-le (counts a .breaks) _ (breaks-fit a))) (λ c. degrees-fit (c .before .before))
+    (λ c. let a = c .before .before .before in sym (length-take-le (counts a .degrees) _ (degrees-fit a)))
+    (λ c. orders-fit (c .before .before .before)) slice-aggregate-run-3 (λ c. coefs-fit (c .before .before .before .before))
+    slice-aggregate-run-4 (λ c. positions-fit (c .before .before .before .before .before)) slice-aggregate-run-5 run-requires
+    (λ c. search needs) returns (λ c. search needs) returns-2)

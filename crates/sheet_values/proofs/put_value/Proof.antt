@@ -52,5 +52,6 @@ returns c =
 
 pub put-value-spec : {M : Type 1} → statement M
 put-value-spec =
-    tie.close (tie.spec (λ c. search needs) (λ c κs. search needs) cast-put-decimal (λ c κs. search needs) (λ c κs. search needs) cast-put-decimal-2
-    (λ c κs. search needs) (λ c κs. search needs) cast-put-decimal-3 (λ c κs. search needs) (λ c κs. search needs) (λ c. search needs) returns)
+    tie.close (tie.spec (λ c. search needs) (λ c κs. search needs) cast-put-decimal (λ c κs. search needs) (λ c κs. search needs)
+    cast-put-decimal-2 (λ c κs. search needs) (λ c κs. search needs) cast-put-decimal-3 (λ c κs. search needs) (λ c κs. search needs)
+    (λ c. search needs) returns)

@@ -27,4 +27,6 @@ returns-2 c =
     (puts-within (omega arith) (puts-then (place .put-place .ensures) (simp toZ-ofZ at (c .before .before .put-fraction .ensures))))
 
 pub put-cell-spec : {M : Type 1} → statement M
-put-cell-spec = tie.close (tie.spec returns (λ c. omega arith) (λ c. omega arith) (λ c κs. search needs) (λ c κs. search needs) (λ c. search needs) returns-2)
+put-cell-spec =
+    tie.close (tie.spec returns (λ c. omega arith) (λ c. omega arith) (λ c κs. search needs) (λ c κs. search needs) (λ c. search needs)
+    returns-2)

@@ -43,9 +43,6 @@ loop-again c =
           (puts-within (omega arith) (puts-then (l .inv .put) (simp toZ-ofZ at (c .before .before .put-cell .ensures))));
     }
 
-same-length : tie.Need-same-length Inv-loop μ-loop
-same-length c = puts-length (c .before .loop .inv .put)
-
 returns : tie.Need-returns Inv-loop μ-loop
 returns c =
     let l = c .before .loop in
@@ -55,4 +52,5 @@ returns c =
 pub put-weights-spec : {M : Type 1} → statement M
 put-weights-spec =
     tie.close (tie.spec Inv-loop μ-loop (λ c. omega arith) loop-holds (λ c. omega arith) (λ c. omega arith) (λ c. omega arith)
-    (λ c. omega arith) (λ c κs. omega arith) (λ c. omega arith) (λ c. omega arith) loop-again same-length returns)
+    (λ c. omega arith) (λ c κs. omega arith) (λ c. omega arith) (λ c. omega arith) loop-again (λ c. puts-length (c .before .loop .inv .put))
+    returns)

@@ -16,9 +16,6 @@ Inv-loop text from any₀ i₀ any i = (i ≤ length text) × (anySpecial (drop 
 abbrev μ-loop : tie.MeasureT-loop
 μ-loop text from any₀ i₀ any i = length text - i
 
-loop-holds : tie.Need-loop-holds Inv-loop μ-loop
-loop-holds c = (c .before .pre, refl)
-
 loop-again : tie.Need-loop-again Inv-loop μ-loop
 loop-again c =
     let l = c .before .before .before .before .loop in
@@ -38,15 +35,5 @@ returns c =
 
 pub any-special-spec : {M : Type 1} → statement M
 any-special-spec =
-    tie.close
-    (tie.spec
-    Inv-loop
-    μ-loop
-    loop-holds
-    (λ c. search needs)
-    (λ c κs. search needs)
-    (λ c κs. search needs)
-    (λ c. search needs)
-    (λ c. search needs)
-    loop-again
-    returns)
+    tie.close (tie.spec Inv-loop μ-loop (λ c. (c .before .pre, refl)) (λ c. search needs) (λ c κs. search needs) (λ c κs. search needs)
+    (λ c. search needs) (λ c. search needs) loop-again returns)

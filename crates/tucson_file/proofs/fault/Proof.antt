@@ -35,11 +35,10 @@ returns-2 c =
     sym (fault-is x
     ∙ ap found (plain-fault 1 (drop (x .start .result) t) (sym (c .before .any-special .ensures) ∙ not-true _ (c .if2 .taken))))
 
-fault-line-requires : tie.Need-fault-line-requires
-fault-line-requires c κs = record { within = c .before .before .start .ensures .within }
-
 returns-3 : tie.Need-returns-3
 returns-3 c = let x = c .before .before .before in c .fault-line .ensures ∙ sym (fault-is x)
 
 pub fault-spec : {M : Type 1} → statement M
-fault-spec = tie.close (tie.spec (λ c κs. search needs) returns (λ c κs. search needs) (λ c κs. c .start .ensures .within) returns-2 fault-line-requires returns-3)
+fault-spec =
+    tie.close (tie.spec (λ c κs. search needs) returns (λ c κs. search needs) (λ c κs. c .start .ensures .within) returns-2
+    (λ c κs. record { within = c .before .before .start .ensures .within }) returns-3)

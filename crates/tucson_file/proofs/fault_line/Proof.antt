@@ -54,9 +54,6 @@ returns-3 c =
     ap found (sym (l .loop .inv .rest
     ∙ fault-here t (l .loop .i) (l .loop .line) (omega arith) (ne-eqb (getD t (l .loop .i) 0) 26 (omega arith)) (sym (c .before .is-fault .ensures) ∙ c .if3 .taken)))
 
-line-after-requires : tie.Need-line-after-requires Inv-loop μ-loop
-line-after-requires c κs = let l = c .before .before .before .before .before in omega (arith, l .loop .inv .near)
-
 loop-again : tie.Need-loop-again Inv-loop μ-loop
 loop-again c =
     let f = c .before in
@@ -80,20 +77,6 @@ returns-4 c =
 
 pub fault-line-spec : {M : Type 1} → statement M
 fault-line-spec =
-    tie.close
-    (tie.spec
-    Inv-loop
-    μ-loop
-    loop-holds
-    (λ c. search needs)
-    (λ c. search needs)
-    (λ c κs. search needs)
-    returns
-    returns-2
-    (λ c κs. search needs)
-    returns-3
-    line-after-requires
-    (λ c. search needs)
-    (λ c. search needs)
-    loop-again
-    returns-4)
+    tie.close (tie.spec Inv-loop μ-loop loop-holds (λ c. search needs) (λ c. search needs) (λ c κs. search needs) returns returns-2
+    (λ c κs. search needs) returns-3 (λ c κs. let l = c .before .before .before .before .before in omega (arith, l .loop .inv .near))
+    (λ c. search needs) (λ c. search needs) loop-again returns-4)

@@ -1,7 +1,6 @@
 -- The three bytes of a mark.
 use borrow.Author.Needs.{needs}
 use mathlib.Core.Path.{_∙_, ap, sym}
-use lib.ListN.{length, take}
 use lib.Seq.{take-length}
 use Rattle.base_text.specs.Bytes.{beginsWith}
 use Rattle.spec_tucson.specs.FileText.{byteOrderMark, isMarked}

@@ -9,8 +9,5 @@ use Rattle.tucson_file.proofs.line_after.Tie as tie
 returns : tie.Need-returns
 returns c = rw (eq-eqb (c .before .args .byte) 10 (omega arith)) (add-one (c .before .args .line))
 
-returns-2 : tie.Need-returns-2
-returns-2 c = rw (ne-eqb (c .before .args .byte) 10 (omega arith))
-
 pub line-after-spec : {M : Type 1} → statement M
-line-after-spec = tie.close (tie.spec (λ c. search needs) returns returns-2)
+line-after-spec = tie.close (tie.spec (λ c. search needs) returns (λ c. rw (ne-eqb (c .before .args .byte) 10 (omega arith))))

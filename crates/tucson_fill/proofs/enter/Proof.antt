@@ -5,9 +5,6 @@ use borrow.Author.Needs.{needs}
 use Rattle.tucson_fill.proofs.enter.Statement.{statement}
 use Rattle.tucson_fill.proofs.enter.Tie as tie
 
-copy-name-requires : tie.Need-copy-name-requires
-copy-name-requires c κs = c .before .before .before .before .pre .name
-
 returns : tie.Need-returns
 returns c =
     let s = c .before .before .before .before .before .before .before in
@@ -16,16 +13,5 @@ returns c =
 
 pub enter-spec : {M : Type 1} → statement M
 enter-spec =
-    tie.close
-    (tie.spec
-    (λ c. search needs)
-    copy-name-requires
-    (λ c. search needs)
-    (λ c. search needs)
-    (λ c. search needs)
-    (λ c. search needs)
-    (λ c. search needs)
-    (λ c. search needs)
-    (λ c. search needs)
-    (λ c. search needs)
-    returns)
+    tie.close (tie.spec (λ c. search needs) (λ c κs. c .before .before .before .before .pre .name) (λ c. search needs) (λ c. search needs)
+    (λ c. search needs) (λ c. search needs) (λ c. search needs) (λ c. search needs) (λ c. search needs) (λ c. search needs) returns)

@@ -72,14 +72,8 @@ module _ (c : tie.After-numeral Inv-loop μ-loop) where
       field-numeral text (l .start) (s .args .to) (s .args .n - l .i) left longer (l .inv .numerals)
       (field-none _ (sym (c .numeral .ensures) ∙ e))
 
-same-length : tie.Need-same-length Inv-loop μ-loop
-same-length c = absurd (not-bad (c .before .before) (c .enum-told .given .1))
-
 returns : tie.Need-returns Inv-loop μ-loop
 returns c = absurd (not-bad (c .before .before) (c .enum-told .given .1))
-
-mul-z : tie.Need-mul-z Inv-loop μ-loop
-mul-z c = omega (arith, c .before .before .before .before .before .before .before .good)
 
 loop-again : tie.Need-loop-again Inv-loop μ-loop
 loop-again c =
@@ -103,9 +97,6 @@ loop-again c =
           ∙ ap (λ (m : ℕ). sets (set (l .widths) (a .at + l .i) z) (a .at + (l .i + 1)) (NumeralsOf m t)) e;
     })
 
-same-length-2 : tie.Need-same-length-2 Inv-loop μ-loop
-same-length-2 c = c .before .loop .inv .kept
-
 returns-2 : tie.Need-returns-2 Inv-loop μ-loop
 returns-2 c =
     let l = c .before .loop in
@@ -116,23 +107,7 @@ returns-2 c =
 
 pub fill-spec : {M : Type 1} → statement M
 fill-spec =
-    tie.close
-    (tie.spec
-    Inv-loop
-    μ-loop
-    loop-holds
-    (λ c. omega arith)
-    (λ c κs. omega arith)
-    (λ c. search needs)
-    same-length
-    returns
-    (λ c. search needs)
-    (λ c. omega arith)
-    mul-z
-    (λ c. omega arith)
-    (λ c. omega arith)
-    (λ c. omega arith)
-    (λ c. omega arith)
-    loop-again
-    same-length-2
-    returns-2)
+    tie.close (tie.spec Inv-loop μ-loop loop-holds (λ c. omega arith) (λ c κs. omega arith) (λ c. search needs)
+    (λ c. absurd (not-bad (c .before .before) (c .enum-told .given .1))) returns (λ c. search needs) (λ c. omega arith)
+    (λ c. omega (arith, c .before .before .before .before .before .before .before .good)) (λ c. omega arith) (λ c. omega arith)
+    (λ c. omega arith) (λ c. omega arith) loop-again (λ c. c .before .loop .inv .kept) returns-2)

@@ -47,23 +47,11 @@ loop-holds c = record { above = omega arith; within = c .pre .rising; kept = ref
 mul-w : tie.Need-mul-w Inv-loop μ-loop
 mul-w c = let i = c .before .loop .inv in omega (arith, c .before .before .pre .within, c .before .before .good)
 
-slice-copy-out-w : tie.Need-slice-copy-out-w Inv-loop μ-loop
-slice-copy-out-w c = omega (arith, c .before .before .pre .within)
-
-mul-widths : tie.Need-mul-widths Inv-loop μ-loop
-mul-widths c = let f = fits c in simp toZ-ofZ (tenfold-fits _ (here c))
-
 mul-t7 : tie.Need-mul-t7 Inv-loop μ-loop
 mul-t7 c = let i = c .before .before .loop .inv in omega (arith, c .before .before .before .pre .within, c .before .before .before .good)
 
-slice-set-from-widths : tie.Need-slice-set-from-widths Inv-loop μ-loop
-slice-set-from-widths c = omega (arith, c .before .before .before .pre .within)
-
 add-i : tie.Need-add-i Inv-loop μ-loop
 add-i c = let i = c .before .before .loop .inv in omega (arith, c .before .before .before .pre .within, c .before .before .before .good)
-
-loop-less : tie.Need-loop-less Inv-loop μ-loop
-loop-less c = omega (arith, c .before .loop-test .taken)
 
 loop-again : tie.Need-loop-again Inv-loop μ-loop
 loop-again c =
@@ -81,9 +69,6 @@ loop-again c =
       left = l .inv .left ∙ scale-next (l .widths) (l .i) (s .args .to) h room;
     })
 
-same-length : tie.Need-same-length Inv-loop μ-loop
-same-length c = c .before .loop .inv .kept
-
 returns : tie.Need-returns Inv-loop μ-loop
 returns c =
     let l = c .before .loop in
@@ -96,18 +81,6 @@ returns c =
 
 pub scale-spec : {M : Type 1} → statement M
 scale-spec =
-    tie.close
-    (tie.spec
-    Inv-loop
-    μ-loop
-    loop-holds
-    mul-w
-    slice-copy-out-w
-    mul-widths
-    mul-t7
-    slice-set-from-widths
-    add-i
-    loop-less
-    loop-again
-    same-length
-    returns)
+    tie.close (tie.spec Inv-loop μ-loop loop-holds mul-w (λ c. omega (arith, c .before .before .pre .within))
+    (λ c. let f = fits c in simp toZ-ofZ (tenfold-fits _ (here c))) mul-t7 (λ c. omega (arith, c .before .before .before .pre .within))
+    add-i (λ c. omega (arith, c .before .loop-test .taken)) loop-again (λ c. c .before .loop .inv .kept) returns)

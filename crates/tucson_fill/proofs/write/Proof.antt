@@ -34,12 +34,6 @@ Inv-loop text names₀ years₀ counts₀ widths₀ from₀ series₀ start₀ a
 abbrev μ-loop : tie.MeasureT-loop
 μ-loop text names₀ years₀ counts₀ widths₀ from₀ series₀ start₀ at₀ begun₀ first₀ names years counts widths from series start at begun first = length text - from
 
-loop-holds : tie.Need-loop-holds Inv-loop μ-loop
-loop-holds c = let s = c .before .before .before in writes-start _ (s .pre)
-
-find-requires : tie.Need-find-requires Inv-loop μ-loop
-find-requires c κs = let i = c .before .loop .inv in omega (arith, i .within)
-
 -- where the line ends
 module _ (c : tie.After-find Inv-loop μ-loop) where
   abbrev l : tie.At-loop Inv-loop μ-loop
@@ -63,27 +57,12 @@ module _ (c : tie.After-find Inv-loop μ-loop) where
   line-end : LineEnd text from end
   line-end = record { within = l .loop .inv .within; is = c .find .ensures }
 
-line-requires : tie.Need-line-requires Inv-loop μ-loop
-line-requires c κs = line-end c
-
 -- no line is refused
 not-bad : (c : tie.After-line Inv-loop μ-loop) → c .line .result ≡ Bad → ⊥
 not-bad c e =
     let f = c .before in
     let g = l f .loop in
     never-bad (g .inv) (line-end f) (f .before .loop-test .taken) (line-none _ (sym (c .line .ensures) ∙ e))
-
-same-length : tie.Need-same-length Inv-loop μ-loop
-same-length c = absurd (not-bad (c .before .before) (c .enum-told .given .1))
-
-same-length-2 : tie.Need-same-length-2 Inv-loop μ-loop
-same-length-2 c = absurd (not-bad (c .before .before) (c .enum-told .given .1))
-
-same-length-3 : tie.Need-same-length-3 Inv-loop μ-loop
-same-length-3 c = absurd (not-bad (c .before .before) (c .enum-told .given .1))
-
-same-length-4 : tie.Need-same-length-4 Inv-loop μ-loop
-same-length-4 c = absurd (not-bad (c .before .before) (c .enum-told .given .1))
 
 returns : tie.Need-returns Inv-loop μ-loop
 returns c = absurd (not-bad (c .before .before) (c .enum-told .given .1))
@@ -151,9 +130,6 @@ module _ (c : tie.Else1 Inv-loop μ-loop) where
 goes-on-requires : tie.Need-goes-on-requires Inv-loop μ-loop
 goes-on-requires c κs = let h = good c in record { longer = omega (arith, h .size); ended = omega (arith, h .ended); named = h .named }
 
-add-fill : tie.Need-add-fill Inv-loop μ-loop
-add-fill c = let h = good (y1 c) in omega (arith, s (f (y1 c)) .good)
-
 fill-requires : tie.Need-fill-requires Inv-loop μ-loop
 fill-requires c κs = let k = c .before in let y = y1 k in more-ready (l (f y) .loop .inv) (line-end (f y)) (f y .before .loop-test .taken) (told y) (goes k)
 
@@ -169,9 +145,6 @@ add-at c =
       s (f y) .good,
     )
 
-add-from : tie.Need-add-from Inv-loop μ-loop
-add-from c = let y = y1 (c .before .before .before) in let h = good y in omega (arith, s (f y) .good)
-
 loop-less : tie.Need-loop-less Inv-loop μ-loop
 loop-less c = let y = y1 (c .before .before .before) in let h = good y in let e = f y .before .loop-test .taken in omega arith
 
@@ -182,17 +155,8 @@ loop-again c =
     let h = first-fits y in
     simp toZ-ofZ (writes-more (l (f y) .loop .inv) (line-end (f y)) (f y .before .loop-test .taken) (told y) (goes k) (c .before .fill .ensures) (first-now y))
 
-add-fill-2 : tie.Need-add-fill-2 Inv-loop μ-loop
-add-fill-2 c = let h = good (y2 c) in omega (arith, s (f (y2 c)) .good)
-
-sub-fill : tie.Need-sub-fill Inv-loop μ-loop
-sub-fill c = let h = good (y2 c) in omega (arith, count (y2 c))
-
 fill-requires-2 : tie.Need-fill-requires-2 Inv-loop μ-loop
 fill-requires-2 c κs = let k = c .before in let y = y2 k in last-ready (l (f y) .loop .inv) (line-end (f y)) (f y .before .loop-test .taken) (told y) (stops k)
-
-sub-at : tie.Need-sub-at Inv-loop μ-loop
-sub-at c = let y = y2 (c .before .before .before) in let h = good y in omega (arith, count y)
 
 add-at-2 : tie.Need-add-at-2 Inv-loop μ-loop
 add-at-2 c =
@@ -298,42 +262,15 @@ returns-2 c =
 
 pub write-spec : {M : Type 1} → statement M
 write-spec =
-    tie.close
-    (tie.spec
-    Inv-loop
-    μ-loop
-    loop-holds
-    find-requires
-    line-requires
-    (λ c. search needs)
-    same-length
-    same-length-2
-    same-length-3
-    same-length-4
-    returns
-    (λ c. search needs)
-    (λ c κs. search needs)
-    goes-on-requires
-    add-fill
-    fill-requires
-    add-at
-    add-from
-    loop-less
-    loop-again
-    add-fill-2
-    sub-fill
-    fill-requires-2
-    sub-at
-    add-at-2
-    convert-requires
-    sub-enter
-    enter-requires
-    add-series
-    add-from-2
-    loop-less-2
-    loop-again-2
-    same-length-5
-    same-length-6
-    same-length-7
-    same-length-8
+    tie.close (tie.spec Inv-loop μ-loop (λ c. let s = c .before .before .before in writes-start _ (s .pre))
+    (λ c κs. let i = c .before .loop .inv in omega (arith, i .within)) (λ c κs. line-end c) (λ c. search needs)
+    (λ c. absurd (not-bad (c .before .before) (c .enum-told .given .1)))
+    (λ c. absurd (not-bad (c .before .before) (c .enum-told .given .1)))
+    (λ c. absurd (not-bad (c .before .before) (c .enum-told .given .1)))
+    (λ c. absurd (not-bad (c .before .before) (c .enum-told .given .1))) returns (λ c. search needs) (λ c κs. search needs) goes-on-requires
+    (λ c. let h = good (y1 c) in omega (arith, s (f (y1 c)) .good)) fill-requires add-at
+    (λ c. let y = y1 (c .before .before .before) in let h = good y in omega (arith, s (f y) .good)) loop-less loop-again
+    (λ c. let h = good (y2 c) in omega (arith, s (f (y2 c)) .good)) (λ c. let h = good (y2 c) in omega (arith, count (y2 c)))
+    fill-requires-2 (λ c. let y = y2 (c .before .before .before) in let h = good y in omega (arith, count y)) add-at-2 convert-requires
+    sub-enter enter-requires add-series add-from-2 loop-less-2 loop-again-2 same-length-5 same-length-6 same-length-7 same-length-8
     returns-2)

@@ -7,11 +7,8 @@ use Rattle.tucson_names.proofs.NameColumns.{digit-top}
 use Rattle.tucson_names.proofs.is_digit.Statement.{statement}
 use Rattle.tucson_names.proofs.is_digit.Tie as tie
 
-returns : tie.Need-returns
-returns c = rw (lt-leb digitZero _ (c .if1 .taken))
-
 returns-2 : tie.Need-returns-2
 returns-2 c = rw (le-leb digitZero _ (c .if1 .left)) (digit-top (c .before .args .c))
 
 pub is-digit-spec : {M : Type 1} → statement M
-is-digit-spec = tie.close (tie.spec returns returns-2)
+is-digit-spec = tie.close (tie.spec (λ c. rw (lt-leb digitZero _ (c .if1 .taken))) returns-2)

@@ -31,5 +31,4 @@ returns-2 c =
     c .before .digit-count .ensures .0 ∙ ap (λ k. length (digits k)) size ∙ sym (ap length (decimal-natural (s .args .z) (ltZ-false _ _ natural)))
 
 pub decimal-length-spec : {M : Type 1} → statement M
-decimal-length-spec =
-    tie.close (tie.spec (λ c κs. search needs) (λ c κs. search needs) (λ c. search needs) returns returns-2)
+decimal-length-spec = tie.close (tie.spec (λ c κs. search needs) (λ c κs. search needs) (λ c. search needs) returns returns-2)

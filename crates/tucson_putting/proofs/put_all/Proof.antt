@@ -83,23 +83,10 @@ module _ (l : tie.At-loop Inv-loop μ-loop) where
     writable = writable-next (l .loop .k) (i .before) here later (ap (firstUnwritable (l .loop .k) (i .before)) (sym step) ∙ i .allowed)
 
 add-end : tie.Need-add-end Inv-loop μ-loop
-add-end c =
-    let w = c .before .loop .inv .walked in
-    omega (arith, name-within w (omega arith), widths-within w (omega arith))
-
-mul-to : tie.Need-mul-to Inv-loop μ-loop
-mul-to c = omega (arith, c .before .loop .inv .walked .counted)
-
-shared-slice-read-to : tie.Need-shared-slice-read-to Inv-loop μ-loop
-shared-slice-read-to c = omega (arith, c .before .before .loop .inv .walked .counted)
-
-cast-to : tie.Need-cast-to Inv-loop μ-loop
-cast-to c = omega (arith, c .shared-slice-known3 .given (c .before .before .loop .k))
+add-end c = let w = c .before .loop .inv .walked in omega (arith, name-within w (omega arith), widths-within w (omega arith))
 
 add-to : tie.Need-add-to Inv-loop μ-loop
-add-to c =
-    let w = c .before .before .loop .inv .walked in
-    omega (arith, name-within w (omega arith), widths-within w (omega arith))
+add-to c = let w = c .before .before .loop .inv .walked in omega (arith, name-within w (omega arith), widths-within w (omega arith))
 
 part-put-series-end : tie.Need-part-put-series-end Inv-loop μ-loop
 part-put-series-end c =
@@ -162,9 +149,6 @@ loop-again c =
       wrote = wrote-then (i t .wrote) (rw (name-is, widths-are) at (simp toZ-ofZ at (c .before .before .put-series .ensures)));
     }
 
-same-length : tie.Need-same-length Inv-loop μ-loop
-same-length c = wrote-length (c .before .loop .inv .wrote)
-
 returns : tie.Need-returns Inv-loop μ-loop
 returns c =
     let j = c .before .loop .inv in
@@ -173,28 +157,8 @@ returns c =
 
 pub put-all-spec : {M : Type 1} → statement M
 put-all-spec =
-    tie.close
-    (tie.spec
-    Inv-loop
-    μ-loop
-    loop-holds
-    add-end
-    mul-to
-    shared-slice-read-to
-    cast-to
-    add-to
-    (λ c. omega arith)
-    (λ c. omega arith)
-    part-put-series-end
-    (λ c. omega arith)
-    (λ c. omega arith)
-    mul-put-series-2
-    (λ c. omega arith)
-    (λ c. omega arith)
-    part-put-series-end-2
-    put-series-requires
-    (λ c. omega arith)
-    (λ c. omega arith)
-    loop-again
-    same-length
-    returns)
+    tie.close (tie.spec Inv-loop μ-loop loop-holds add-end (λ c. omega (arith, c .before .loop .inv .walked .counted))
+    (λ c. omega (arith, c .before .before .loop .inv .walked .counted))
+    (λ c. omega (arith, c .shared-slice-known3 .given (c .before .before .loop .k))) add-to (λ c. omega arith) (λ c. omega arith)
+    part-put-series-end (λ c. omega arith) (λ c. omega arith) mul-put-series-2 (λ c. omega arith) (λ c. omega arith) part-put-series-end-2
+    put-series-requires (λ c. omega arith) (λ c. omega arith) loop-again (λ c. wrote-length (c .before .loop .inv .wrote)) returns)

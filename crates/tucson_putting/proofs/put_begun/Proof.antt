@@ -11,9 +11,6 @@ use Rattle.tucson_putting.proofs.Wrote.{wrote-then, wrote-length, puts-
 use Rattle.tucson_putting.proofs.put_begun.Statement.{statement}
 use Rattle.tucson_putting.proofs.put_begun.Tie as tie
 
-put-text-requires : tie.Need-put-text-requires
-put-text-requires c κs = omega (arith, c .before .before .before .pre .fits)
-
 put-columns-requires : tie.Need-put-columns-requires
 put-columns-requires c κs =
     let s = c .before .before .before .before .before .before .before in
@@ -55,5 +52,5 @@ returns c =
 
 pub put-begun-spec : {M : Type 1} → statement M
 put-begun-spec =
-    tie.close
-    (tie.spec put-text-requires put-columns-requires put-fields-requires (λ c. search needs) returns)
+    tie.close (tie.spec (λ c κs. omega (arith, c .before .before .before .pre .fits)) put-columns-requires put-fields-requires
+    (λ c. search needs) returns)

@@ -23,9 +23,6 @@ Inv-loop text₀ at count next₀ i₀ text next i = Inv text₀ at count text n
 abbrev μ-loop : tie.MeasureT-loop
 μ-loop text₀ at count next₀ i₀ text next i = count - i
 
-loop-holds : tie.Need-loop-holds Inv-loop μ-loop
-loop-holds c = record { within = omega arith; wrote = wrote-none _ _ }
-
 put-requires : tie.Need-put-requires Inv-loop μ-loop
 put-requires c κs = let l = c .before .before .loop in omega (arith, l .inv .wrote .behind, blanks-all (l .i), c .before .before .before .before .pre)
 
@@ -37,9 +34,6 @@ loop-again c =
       wrote = wrote-as (blanks-more (l .i)) (wrote-then (l .inv .wrote) (puts-wrote (c .before .before .put .ensures)));
     }
 
-same-length : tie.Need-same-length Inv-loop μ-loop
-same-length c = wrote-length (c .before .loop .inv .wrote)
-
 returns : tie.Need-returns Inv-loop μ-loop
 returns c =
     let l = c .before .loop in
@@ -48,14 +42,5 @@ returns c =
 
 pub put-blanks-spec : {M : Type 1} → statement M
 put-blanks-spec =
-    tie.close
-    (tie.spec
-    Inv-loop
-    μ-loop
-    loop-holds
-    put-requires
-    (λ c. omega arith)
-    (λ c. omega arith)
-    loop-again
-    same-length
-    returns)
+    tie.close (tie.spec Inv-loop μ-loop (λ c. record { within = omega arith; wrote = wrote-none _ _ }) put-requires (λ c. omega arith)
+    (λ c. omega arith) loop-again (λ c. wrote-length (c .before .loop .inv .wrote)) returns)

@@ -20,12 +20,6 @@ length-is c =
     let g : SFits w64 (c .before .before .args .z) = sfits-widen f in
     simp toZ-ofZ at (c .decimal-length .ensures)
 
-cast-number : tie.Need-cast-number
-cast-number c = let f : SFits w32 (c .before .args .z) = c .before .fits .z in simp toZ-ofZ (sfits-widen f)
-
-sub-put-blanks : tie.Need-sub-put-blanks
-sub-put-blanks c = omega (arith, length-is (c .before), c .before .before .before .pre .short)
-
 put-blanks-requires : tie.Need-put-blanks-requires
 put-blanks-requires c κs = omega (arith, length-is (c .before), c .before .before .before .pre .short, c .before .before .before .pre .fits)
 
@@ -48,12 +42,6 @@ returns c =
 
 pub put-columns-spec : {M : Type 1} → statement M
 put-columns-spec =
-    tie.close
-    (tie.spec
-    cast-number
-    (λ c κs. search needs)
-    sub-put-blanks
-    put-blanks-requires
-    put-decimal-requires
-    (λ c. search needs)
-    returns)
+    tie.close (tie.spec (λ c. let f : SFits w32 (c .before .args .z) = c .before .fits .z in simp toZ-ofZ (sfits-widen f))
+    (λ c κs. search needs) (λ c. omega (arith, length-is (c .before), c .before .before .before .pre .short)) put-blanks-requires
+    put-decimal-requires (λ c. search needs) returns)

@@ -51,9 +51,6 @@ loop-again c =
       wrote = wrote-as (sym (fields-more ws (l .i) (omega arith))) (wrote-then (l .inv .wrote) (simp toZ-ofZ at (c .before .before .put-columns .ensures)));
     }
 
-same-length : tie.Need-same-length Inv-loop μ-loop
-same-length c = wrote-length (c .before .loop .inv .wrote)
-
 returns : tie.Need-returns Inv-loop μ-loop
 returns c =
     let l = c .before .loop in
@@ -61,16 +58,5 @@ returns c =
 
 pub put-fields-spec : {M : Type 1} → statement M
 put-fields-spec =
-    tie.close
-    (tie.spec
-    Inv-loop
-    μ-loop
-    loop-holds
-    (λ c. omega arith)
-    (λ c. omega arith)
-    put-columns-requires
-    (λ c. omega arith)
-    (λ c. omega arith)
-    loop-again
-    same-length
-    returns)
+    tie.close (tie.spec Inv-loop μ-loop loop-holds (λ c. omega arith) (λ c. omega arith) put-columns-requires (λ c. omega arith)
+    (λ c. omega arith) loop-again (λ c. wrote-length (c .before .loop .inv .wrote)) returns)

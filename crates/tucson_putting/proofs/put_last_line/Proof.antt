@@ -42,5 +42,4 @@ returns c =
     (wrote-then begun (wrote-then (closing .put-columns .ensures) (puts-wrote (c .before .before .put .ensures))))
 
 pub put-last-line-spec : {M : Type 1} → statement M
-put-last-line-spec =
-    tie.close (tie.spec put-begun-requires put-columns-requires put-requires (λ c. search needs) returns)
+put-last-line-spec = tie.close (tie.spec put-begun-requires put-columns-requires put-requires (λ c. search needs) returns)

@@ -88,24 +88,6 @@ module _ (l : tie.At-loop Inv-loop μ-loop) where
         length-append (i .soFar) (rest name ws (l .loop .left) (l .loop .from)),
       )
 
-sub-loop : tie.Need-sub-loop Inv-loop μ-loop
-sub-loop c = c .loop .inv .within
-
-add-to : tie.Need-add-to Inv-loop μ-loop
-add-to c = omega (arith, c .before .loop .inv .within)
-
-add-to-2 : tie.Need-add-to-2 Inv-loop μ-loop
-add-to-2 c = omega (arith, c .before .loop .inv .within)
-
-year-at-requires : tie.Need-year-at-requires Inv-loop μ-loop
-year-at-requires c κs = c .before .loop .inv .few
-
-mul-put-line : tie.Need-mul-put-line Inv-loop μ-loop
-mul-put-line c = omega (arith, c .before .before .before .loop .inv .within)
-
-part-put-line-end : tie.Need-part-put-line-end Inv-loop μ-loop
-part-put-line-end c = omega (arith, c .before .before .before .loop .inv .within)
-
 put-line-requires : tie.Need-put-line-requires Inv-loop μ-loop
 put-line-requires c κs =
     let t = c .before .before .before .before in
@@ -154,21 +136,6 @@ loop-again c =
       wrote = wrote-then (i .wrote) (rw (y .ensures, part-is (l .from) (to t) (ws t) (omega arith)) at put);
     }
 
-year-at-requires-2 : tie.Need-year-at-requires-2 Inv-loop μ-loop
-year-at-requires-2 c κs = c .before .loop .inv .few
-
-mul-put-last-line : tie.Need-mul-put-last-line Inv-loop μ-loop
-mul-put-last-line c = omega (arith, c .before .before .before .loop .inv .within)
-
-sub-put-last-line : tie.Need-sub-put-last-line Inv-loop μ-loop
-sub-put-last-line c = omega (arith, c .before .before .before .loop .inv .within)
-
-part-put-last-line-start : tie.Need-part-put-last-line-start Inv-loop μ-loop
-part-put-last-line-start c = omega (arith, c .before .before .before .loop .inv .within)
-
-part-put-last-line-end : tie.Need-part-put-last-line-end Inv-loop μ-loop
-part-put-last-line-end c = omega (arith, c .before .before .before .loop .inv .within)
-
 put-last-line-requires : tie.Need-put-last-line-requires Inv-loop μ-loop
 put-last-line-requires c κs =
     let t = c .before .before .before .before in
@@ -211,30 +178,10 @@ returns c =
 
 pub put-series-spec : {M : Type 1} → statement M
 put-series-spec =
-    tie.close
-    (tie.spec
-    Inv-loop
-    μ-loop
-    years-left-requires
-    loop-holds
-    sub-loop
-    add-to
-    add-to-2
-    year-at-requires
-    mul-put-line
-    (λ c. omega arith)
-    (λ c. omega arith)
-    part-put-line-end
-    put-line-requires
-    (λ c. omega arith)
-    sub-left-2
-    loop-less
-    loop-again
-    year-at-requires-2
-    mul-put-last-line
-    sub-put-last-line
-    part-put-last-line-start
-    part-put-last-line-end
-    put-last-line-requires
-    same-length
-    returns)
+    tie.close (tie.spec Inv-loop μ-loop years-left-requires loop-holds (λ c. c .loop .inv .within)
+    (λ c. omega (arith, c .before .loop .inv .within)) (λ c. omega (arith, c .before .loop .inv .within))
+    (λ c κs. c .before .loop .inv .few) (λ c. omega (arith, c .before .before .before .loop .inv .within)) (λ c. omega arith)
+    (λ c. omega arith) (λ c. omega (arith, c .before .before .before .loop .inv .within)) put-line-requires (λ c. omega arith) sub-left-2
+    loop-less loop-again (λ c κs. c .before .loop .inv .few) (λ c. omega (arith, c .before .before .before .loop .inv .within))
+    (λ c. omega (arith, c .before .before .before .loop .inv .within)) (λ c. omega (arith, c .before .before .before .loop .inv .within))
+    (λ c. omega (arith, c .before .before .before .loop .inv .within)) put-last-line-requires same-length returns)

@@ -82,4 +82,6 @@ returns-3 c =
     }
 
 pub extend-spec : {M : Type 1} → statement M
-extend-spec = tie.close (tie.spec (λ c κs. search needs) returns (λ c κs. search needs) returns-2 (λ c κs. search needs) (λ c κs. search needs) (λ c. search needs) add-t13 returns-3)
+extend-spec =
+    tie.close (tie.spec (λ c κs. search needs) returns (λ c κs. search needs) returns-2 (λ c κs. search needs) (λ c κs. search needs)
+    (λ c. search needs) add-t13 returns-3)

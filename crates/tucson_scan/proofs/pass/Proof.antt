@@ -114,9 +114,6 @@ returns c =
       advances = ahead g true r (c .before .if1 .taken) (passed .within);
     }
 
-close-requires : tie.Need-close-requires
-close-requires c κs = let k = c .before .before in omega (arith, count k, good k .some-field)
-
 returns-2 : tie.Need-returns-2
 returns-2 c =
     let a = c .before .before in
@@ -138,4 +135,5 @@ returns-3 c =
 
 pub pass-spec : {M : Type 1} → statement M
 pass-spec =
-    tie.close (tie.spec (λ c κs. search needs) (λ c. search needs) (λ c. search needs) goes-on-requires extend-requires returns close-requires returns-2 returns-3)
+    tie.close (tie.spec (λ c κs. search needs) (λ c. search needs) (λ c. search needs) goes-on-requires extend-requires returns
+    (λ c κs. let k = c .before .before in omega (arith, count k, good k .some-field)) returns-2 returns-3)

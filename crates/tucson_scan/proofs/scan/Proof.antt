@@ -29,12 +29,6 @@ Inv-loop text from₀ lines₀ series₀ total₀ begun₀ next₀ small₀ from
 abbrev μ-loop : tie.MeasureT-loop
 μ-loop text from₀ lines₀ series₀ total₀ begun₀ next₀ small₀ from lines series total begun next small = length text - from
 
-loop-holds : tie.Need-loop-holds Inv-loop μ-loop
-loop-holds c = scans-start (c .before .args .text .now) _
-
-find-requires : tie.Need-find-requires Inv-loop μ-loop
-find-requires c κs = let i = c .before .loop .inv in omega (arith, i .within)
-
 -- a line
 module _ (c : tie.After-find Inv-loop μ-loop) where
   abbrev s : tie.Start Inv-loop μ-loop
@@ -51,9 +45,6 @@ module _ (c : tie.After-find Inv-loop μ-loop) where
 
   line-end : LineEnd text from end
   line-end = record { within = c .before .before .loop .inv .within; is = c .find .ensures }
-
-pass-requires : tie.Need-pass-requires Inv-loop μ-loop
-pass-requires c κs = line-end c
 
 -- what is told of it
 module _ (c : tie.After-pass Inv-loop μ-loop) where
@@ -106,8 +97,7 @@ module _ (c : tie.After-whole Inv-loop μ-loop) where
       let told = step-told p (c .before .before .passed2 .given .1) in
       simp toZ-ofZ (subst
       (λ (k : ℕ). Scans (text (f p)) (end (f p) + 1) (l p .loop .lines + 1) (l p .loop .series + k) (l p .loop .total + n) more year all)
-      (sym (c .whole .ensures))
-      (scans-next (inv p) (line-end (f p)) (f p .before .loop-test .taken) told ahead))
+      (sym (c .whole .ensures)) (scans-next (inv p) (line-end (f p)) (f p .before .loop-test .taken) told ahead))
 
 returns : tie.Need-returns Inv-loop μ-loop
 returns c =
@@ -116,45 +106,12 @@ returns c =
     let h = scans-refused (inv p) (line-end k) (k .before .loop-test .taken) (step-told p (c .before .before .passed .given .1)) in
     ap (Refused (c .before .before .passed .given .0 .0)) (c .place .ensures) ∙ h
 
-add-series : tie.Need-add-series Inv-loop μ-loop
-add-series c = omega (arith, scans c .few-series, scans c .within, s (f (p c)) .good)
-
-add-total : tie.Need-add-total Inv-loop μ-loop
-add-total c = omega (arith, scans c .few-widths, scans c .within, s (f (p c)) .good)
-
-add-from : tie.Need-add-from Inv-loop μ-loop
-add-from c = omega (arith, scans c .within, s (f (p c)) .good)
-
-add-lines : tie.Need-add-lines Inv-loop μ-loop
-add-lines c = omega (arith, scans c .few-lines, scans c .within, s (f (p c)) .good)
-
-loop-less : tie.Need-loop-less Inv-loop μ-loop
-loop-less c = let e = f (p c) .before .loop-test .taken in omega (arith, ahead c .longer, ahead c .ended)
-
-loop-again : tie.Need-loop-again Inv-loop μ-loop
-loop-again c = scans c
-
-returns-2 : tie.Need-returns-2 Inv-loop μ-loop
-returns-2 c = scans-end (c .before .loop .inv) (c .loop-test .left)
-
 pub scan-spec : {M : Type 1} → statement M
 scan-spec =
-    tie.close
-    (tie.spec
-    Inv-loop
-    μ-loop
-    loop-holds
-    find-requires
-    pass-requires
-    (λ c. search needs)
-    (λ c κs. search needs)
-    returns
-    (λ c. search needs)
-    (λ c κs. search needs)
-    add-series
-    add-total
-    add-from
-    add-lines
-    loop-less
-    loop-again
-    returns-2)
+    tie.close (tie.spec Inv-loop μ-loop (λ c. scans-start (c .before .args .text .now) _)
+    (λ c κs. let i = c .before .loop .inv in omega (arith, i .within)) (λ c κs. line-end c) (λ c. search needs) (λ c κs. search needs)
+    returns (λ c. search needs) (λ c κs. search needs) (λ c. omega (arith, scans c .few-series, scans c .within, s (f (p c)) .good))
+    (λ c. omega (arith, scans c .few-widths, scans c .within, s (f (p c)) .good)) (λ c. omega (arith, scans c .within, s (f (p c)) .good))
+    (λ c. omega (arith, scans c .few-lines, scans c .within, s (f (p c)) .good))
+    (λ c. let e = f (p c) .before .loop-test .taken in omega (arith, ahead c .longer, ahead c .ended)) (λ c. scans c)
+    (λ c. scans-end (c .before .loop .inv) (c .loop-test .left)))

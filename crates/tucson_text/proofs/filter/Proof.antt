@@ -7,8 +7,7 @@ use borrow.Author.Tests.{le-leb, lt-leb}
 use lib.ListN.{length}
 use Rattle.base_exact.proofs.Decide.{cond-true, cond-false}
 use Rattle.base_text.specs.Bytes.{Text}
-use Rattle.base_print.specs.Refusal.{refusalLineLimit}
-use Rattle.base_print.specs.Refusal.{refusalLine}
+use Rattle.base_print.specs.Refusal.{refusalLineLimit, refusalLine}
 use Rattle.base_print.proofs.Buffer.{prints-as, written-length}
 use Rattle.spec_tucson.specs.TextReading.{readText}
 use Rattle.spec_tucson.specs.Filter.{textLimit, outcomeText, filtered}
@@ -33,9 +32,7 @@ returns c =
     prints-as (too-long _ (c .before .before .if1 .taken)) room p
 
 returns-2 : tie.Need-returns-2
-returns-2 c =
-    let p = c .rewrite .ensures in
-    prints-as (held _ (c .before .before .if1 .left)) (p .few) p
+returns-2 c = let p = c .rewrite .ensures in prints-as (held _ (c .before .before .if1 .left)) (p .few) p
 
 pub filter-spec : {M : Type 1} → statement M
 filter-spec = tie.close (tie.spec (λ c κs. search needs) returns (λ c κs. search needs) returns-2)

@@ -10,8 +10,7 @@ use lib.Seq.{length-take-le}
 use Rattle.base_outcome.specs.Outcome.{answer, refusal}
 use Rattle.base_outcome.proofs.Outcome.{answer-unique, answer-not-refusal}
 use Rattle.base_text.specs.Bytes.{Text}
-use Rattle.base_print.specs.Refusal.{refusalLineLimit}
-use Rattle.base_print.specs.Refusal.{refusalLine}
+use Rattle.base_print.specs.Refusal.{refusalLineLimit, refusalLine}
 use Rattle.base_print.specs.Buffer.{written}
 use Rattle.base_print.proofs.Buffer.{prints-as, written-length}
 use Rattle.spec_tucson.specs.Line.{nameColumns}
@@ -53,30 +52,6 @@ widths-are = length-replicate {0} {A = ℤ} widthCells (pos 0)
 
 cells : Cells names years counts widths
 cells = record { names-are = names-are; years-are = years-are; counts-are = counts-are; widths-are = widths-are }
-
-slice-aggregate-read : tie.Need-slice-aggregate-read
-slice-aggregate-read c = sym names-are
-
-slice-aggregate-read-2 : tie.Need-slice-aggregate-read-2
-slice-aggregate-read-2 c = sym years-are
-
-slice-aggregate-read-3 : tie.Need-slice-aggregate-read-3
-slice-aggregate-read-3 c = sym counts-are
-
-slice-aggregate-read-4 : tie.Need-slice-aggregate-read-4
-slice-aggregate-read-4 c = sym widths-are
-
-read-requires : tie.Need-read-requires
-read-requires c κs = tt
-
-enum-known-series : tie.Need-enum-known-series
-enum-known-series c = c .match .keys1
-
-refusal-requires : tie.Need-refusal-requires
-refusal-requires c κs = tt
-
-enum-known-series-2 : tie.Need-enum-known-series-2
-enum-known-series-2 c = c .match .keys2
 
 -- ---- what the read call has left
 
@@ -155,32 +130,11 @@ widths-fit a m e = within (no-more e (few-widths a)) (a .before .before .widths2
 mul-fits : {count : ℕ} → count ≤ seriesCells → count * 8 ≤ nameBytes
 mul-fits h = omega arith
 
-mul-bytes : tie.Need-mul-bytes
-mul-bytes c = let h = mul-fits (few (c .before)) in omega (arith, h)
-
-array-share-prefix-counts : tie.Need-array-share-prefix-counts
-array-share-prefix-counts c = counts-fit (c .before)
-
-slice-aggregate-sum : tie.Need-slice-aggregate-sum
-slice-aggregate-sum c = let a = c .before .before in sym (length-take-le (n a) (counts-read (done a)) (counts-fit a))
-
-sum-requires : tie.Need-sum-requires
-sum-requires c κs = below-limit (few-widths (c .before .before))
-
-array-share-prefix-names : tie.Need-array-share-prefix-names
-array-share-prefix-names c = names-fit (c .before .before .before)
-
 slice-aggregate-write : tie.Need-slice-aggregate-write
 slice-aggregate-write c = let a = c .before .before .before .before in sym (length-take-le (n a * 8) (names-read (done a)) (names-fit a))
 
-array-share-prefix-years : tie.Need-array-share-prefix-years
-array-share-prefix-years c = years-fit (c .before .before .before .before)
-
 slice-aggregate-write-2 : tie.Need-slice-aggregate-write-2
 slice-aggregate-write-2 c = let a = c .before .before .before .before .before in sym (length-take-le (n a) (years-read (done a)) (years-fit a))
-
-array-share-prefix-counts-2 : tie.Need-array-share-prefix-counts-2
-array-share-prefix-counts-2 c = counts-fit (c .before .before .before .before .before)
 
 slice-aggregate-write-3 : tie.Need-slice-aggregate-write-3
 slice-aggregate-write-3 c = let a = c .before .before .before .before .before .before in sym (length-take-le (n a) (counts-read (done a)) (counts-fit a))
@@ -195,18 +149,6 @@ slice-aggregate-write-4 c =
     let a = c .before .before .before .before .before .before .before in
     let m = c .before .before .before .before .sum in
     sym (length-take-le (m .result) (widths-read (done a)) (widths-fit a (m .result) (m .ensures)))
-
-write-requires : tie.Need-write-requires
-write-requires c κs = tt
-
-enum-known-text : tie.Need-enum-known-text
-enum-known-text c = c .match2 .keys1
-
-refusal-requires-2 : tie.Need-refusal-requires-2
-refusal-requires-2 c κs = tt
-
-enum-known-text-2 : tie.Need-enum-known-text-2
-enum-known-text-2 c = c .match2 .keys2
 
 -- ---- what the function ensures
 
@@ -268,32 +210,10 @@ returns-3 c =
 
 pub rewrite-spec : {M : Type 1} → statement M
 rewrite-spec =
-    tie.close
-    (tie.spec
-    slice-aggregate-read
-    slice-aggregate-read-2
-    slice-aggregate-read-3
-    slice-aggregate-read-4
-    read-requires
-    enum-known-series
-    refusal-requires
-    enum-known-series-2
-    mul-bytes
-    array-share-prefix-counts
-    slice-aggregate-sum
-    sum-requires
-    array-share-prefix-names
-    slice-aggregate-write
-    array-share-prefix-years
-    slice-aggregate-write-2
-    array-share-prefix-counts-2
-    slice-aggregate-write-3
-    array-share-prefix-widths
-    slice-aggregate-write-4
-    write-requires
-    enum-known-text
-    refusal-requires-2
-    enum-known-text-2
-    returns
-    returns-2
-    returns-3)
+    tie.close (tie.spec (λ c. sym names-are) (λ c. sym years-are) (λ c. sym counts-are) (λ c. sym widths-are) (λ c κs. tt)
+    (λ c. c .match .keys1) (λ c κs. tt) (λ c. c .match .keys2) (λ c. let h = mul-fits (few (c .before)) in omega (arith, h))
+    (λ c. counts-fit (c .before)) (λ c. let a = c .before .before in sym (length-take-le (n a) (counts-read (done a)) (counts-fit a)))
+    (λ c κs. below-limit (few-widths (c .before .before))) (λ c. names-fit (c .before .before .before)) slice-aggregate-write
+    (λ c. years-fit (c .before .before .before .before)) slice-aggregate-write-2
+    (λ c. counts-fit (c .before .before .before .before .before)) slice-aggregate-write-3 array-share-prefix-widths slice-aggregate-write-4
+    (λ c κs. tt) (λ c. c .match2 .keys1) (λ c κs. tt) (λ c. c .match2 .keys2) returns returns-2 returns-3)

@@ -14,9 +14,6 @@ Inv-loop counts all₀ k₀ all k = (k ≤ length counts) × (all + total (drop 
 abbrev μ-loop : tie.MeasureT-loop
 μ-loop counts all₀ k₀ all k = length counts - k
 
-cast-all : tie.Need-cast-all Inv-loop μ-loop
-cast-all c = omega (arith, c .shared-slice-known .given (c .before .before .loop .k))
-
 add-all : tie.Need-add-all Inv-loop μ-loop
 add-all c =
     let s = c .before .before .before in
@@ -37,16 +34,6 @@ returns c =
 
 pub sum-spec : {M : Type 1} → statement M
 sum-spec =
-    tie.close
-    (tie.spec
-    Inv-loop
-    μ-loop
-    (λ c. omega arith)
-    (λ c. omega arith)
-    (λ c. omega arith)
-    cast-all
-    add-all
-    (λ c. omega arith)
-    (λ c. omega arith)
-    loop-again
+    tie.close (tie.spec Inv-loop μ-loop (λ c. omega arith) (λ c. omega arith) (λ c. omega arith)
+    (λ c. omega (arith, c .shared-slice-known .given (c .before .before .loop .k))) add-all (λ c. omega arith) (λ c. omega arith) loop-again
     returns)

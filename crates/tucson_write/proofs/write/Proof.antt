@@ -64,12 +64,6 @@ returns c =
     let g = given (c .before .before .before .before .before) in
     ends-refused g (lists-misfit g (sym (c .before .lists-fit .ensures) ∙ not-true _ (c .if1 .taken)))
 
-first-unwritable-requires : tie.Need-first-unwritable-requires
-first-unwritable-requires c κs = sym (c .before .lists-fit .ensures) ∙ not-false _ (c .if1 .left)
-
-text-fits-requires : tie.Need-text-fits-requires
-text-fits-requires c κs = record { counted = lists (e c) .counts-fit; closed = counted c .closed }
-
 returns-2 : tie.Need-returns-2
 returns-2 c =
     let r = c .before in
@@ -79,11 +73,7 @@ returns-2 c =
 put-all-requires : tie.Need-put-all-requires
 put-all-requires c κs =
     let r = c .before .before in
-    record {
-      lists = fit (e (t r));
-      writable = all-writable (t r);
-      fits = leb-true _ _ (room-test r ∙ not-false _ (c .before .if2 .left));
-    }
+    record { lists = fit (e (t r)); writable = all-writable (t r); fits = leb-true _ _ (room-test r ∙ not-false _ (c .before .if2 .left)) }
 
 returns-3 : tie.Need-returns-3
 returns-3 c =
@@ -92,9 +82,6 @@ returns-3 c =
     let at = found-some-inverts _ (sym (f .first-unwritable .ensures) ∙ c .before .before .found .given .1) in
     let r = ends-refused (g k) (series-unwritable (g k) (fit k) _ at) in
     (ap (λ (p : ℕ). reply (Refused 11 p)) (c .place .ensures) ∙ r .0, r .1)
-
-same-length : tie.Need-same-length
-same-length c = wrote-length (c .before .before .put-all .ensures)
 
 returns-4 : tie.Need-returns-4
 returns-4 c =
@@ -105,17 +92,7 @@ returns-4 c =
 
 pub write-spec : {M : Type 1} → statement M
 write-spec =
-    tie.close
-    (tie.spec
-    (λ c κs. search needs)
-    returns
-    first-unwritable-requires
-    (λ c. search needs)
-    (λ c κs. search needs)
-    (λ c. search needs)
-    text-fits-requires
-    returns-2
-    put-all-requires
-    returns-3
-    same-length
-    returns-4)
+    tie.close (tie.spec (λ c κs. search needs) returns (λ c κs. sym (c .before .lists-fit .ensures) ∙ not-false _ (c .if1 .left))
+    (λ c. search needs) (λ c κs. search needs) (λ c. search needs)
+    (λ c κs. record { counted = lists (e c) .counts-fit; closed = counted c .closed }) returns-2 put-all-requires returns-3
+    (λ c. wrote-length (c .before .before .put-all .ensures)) returns-4)

@@ -15,12 +15,4 @@ unfolding reply
 returns-2 c = refusal-replied (c .refused .result) _ _ _ (c .refused .ensures) (sym (ap reply (c .before .before .answer2 .given .1)))
 
 pub reply-of-spec : {M : Type 1} → statement M
-reply-of-spec =
-    tie.close
-    (tie.spec
-    (λ c. search needs)
-    (λ c κs. search needs)
-    (λ c. search needs)
-    (λ c κs. search needs)
-    returns
-    returns-2)
+reply-of-spec = tie.close (tie.spec (λ c. search needs) (λ c κs. search needs) (λ c. search needs) (λ c κs. search needs) returns returns-2)

@@ -3,8 +3,5 @@ use Rattle.base_fraction.proofs.Fractions.{none-num, none-den}
 use Rattle.base_fraction.proofs.arrays.no_fractions.Statement.{statement}
 use Rattle.base_fraction.proofs.arrays.no_fractions.Tie as tie
 
-returns : tie.Need-returns
-returns c = λ i. record { num = none-num i; den = none-den i }
-
 pub no-fractions-spec : {M : Type 1} → statement M
-no-fractions-spec = tie.close (tie.spec returns)
+no-fractions-spec = tie.close (tie.spec (λ c. λ i. record { num = none-num i; den = none-den i }))

@@ -43,5 +43,6 @@ returns-3 : tie.Need-returns-3 Inv-loop μ-loop
 returns-3 c = sym (c .before .loop .inv .2 ∙ key-end (c .before .before .args .key .now) (c .before .loop .i) _ (omega arith))
 
 pub begins-spec : {M : Type 1} → statement M
-begins-spec = tie.close (tie.spec Inv-loop μ-loop loop-holds (λ c. omega arith) returns (λ c. omega arith) (λ c. omega arith) (λ c. omega arith) returns-2
-    (λ c. omega arith) (λ c. omega arith) loop-again returns-3)
+begins-spec =
+    tie.close (tie.spec Inv-loop μ-loop loop-holds (λ c. omega arith) returns (λ c. omega arith) (λ c. omega arith) (λ c. omega arith)
+    returns-2 (λ c. omega arith) (λ c. omega arith) loop-again returns-3)

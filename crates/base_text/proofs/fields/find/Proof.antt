@@ -14,9 +14,6 @@ Inv-loop text from to byte i₀ i = (i ≤ to) × (from + indexOf byte (slice fr
 abbrev μ-loop : tie.MeasureT-loop
 μ-loop text from to byte i₀ i = to - i
 
-loop-holds : tie.Need-loop-holds Inv-loop μ-loop
-loop-holds c = (c .pre .ordered, refl)
-
 returns : tie.Need-returns Inv-loop μ-loop
 returns c =
     let s = c .before .before .before .before in
@@ -34,4 +31,6 @@ returns-2 c =
     omega (arith, index-end (s .args .byte) (s .args .text .now) (s .args .to), ap (λ (n : ℕ). indexOf (s .args .byte) (slice n (s .args .to) (s .args .text .now))) e)
 
 pub find-spec : {M : Type 1} → statement M
-find-spec = tie.close (tie.spec Inv-loop μ-loop loop-holds (λ c. omega arith) returns (λ c. omega arith) (λ c. omega arith) loop-again returns-2)
+find-spec =
+    tie.close (tie.spec Inv-loop μ-loop (λ c. (c .pre .ordered, refl)) (λ c. omega arith) returns (λ c. omega arith) (λ c. omega arith)
+    loop-again returns-2)

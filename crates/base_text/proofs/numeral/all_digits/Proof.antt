@@ -14,9 +14,6 @@ Inv-loop text from to i₀ i = (i ≤ to) × (allDigits (slice from to text) ≡
 abbrev μ-loop : tie.MeasureT-loop
 μ-loop text from to i₀ i = to - i
 
-loop-holds : tie.Need-loop-holds Inv-loop μ-loop
-loop-holds c = (c .pre .ordered, refl)
-
 returns : tie.Need-returns Inv-loop μ-loop
 returns c =
     let s = c .before .before .before .before in
@@ -43,5 +40,5 @@ returns-3 c =
 
 pub all-digits-spec : {M : Type 1} → statement M
 all-digits-spec =
-    tie.close (tie.spec Inv-loop μ-loop loop-holds (λ c. omega arith) returns (λ c. omega arith) returns-2 (λ c. omega arith) (λ c. omega arith) loop-again
-    returns-3)
+    tie.close (tie.spec Inv-loop μ-loop (λ c. (c .pre .ordered, refl)) (λ c. omega arith) returns (λ c. omega arith) returns-2
+    (λ c. omega arith) (λ c. omega arith) loop-again returns-3)

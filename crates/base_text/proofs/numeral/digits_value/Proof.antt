@@ -49,18 +49,6 @@ module _ (c : tie.In-loop Inv-loop μ-loop) where
   small : next < 10000000
   small = omega (arith, value, value-grows next (slice (i + 1) to text), natural-small _ (c .before .before .pre .natural))
 
-mul-v : tie.Need-mul-v Inv-loop μ-loop
-mul-v c = omega (arith, small c)
-
-sub-v : tie.Need-sub-v Inv-loop μ-loop
-sub-v c = omega (arith, digit (c .before))
-
-cast-v : tie.Need-cast-v Inv-loop μ-loop
-cast-v c = omega (arith, digit (c .before))
-
-add-v : tie.Need-add-v Inv-loop μ-loop
-add-v c = omega (arith, small (c .before))
-
 loop-again : tie.Need-loop-again Inv-loop μ-loop
 loop-again c =
     let t = c .before in
@@ -79,4 +67,7 @@ returns c =
     ∙ value-end _ (s .args .text .now) (s .args .to))
 
 pub digits-value-spec : {M : Type 1} → statement M
-digits-value-spec = tie.close (tie.spec Inv-loop μ-loop loop-holds mul-v (λ c. omega arith) sub-v cast-v add-v (λ c. omega arith) (λ c. omega arith) loop-again returns)
+digits-value-spec =
+    tie.close (tie.spec Inv-loop μ-loop loop-holds (λ c. omega (arith, small c)) (λ c. omega arith) (λ c. omega (arith, digit (c .before)))
+    (λ c. omega (arith, digit (c .before))) (λ c. omega (arith, small (c .before))) (λ c. omega arith) (λ c. omega arith) loop-again
+    returns)

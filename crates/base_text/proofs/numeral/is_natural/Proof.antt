@@ -14,22 +14,19 @@ use Rattle.base_text.proofs.numeral.is_natural.Tie as tie
 returns : tie.Need-returns
 returns c =
     let s = c .before .before in
-    sym
-    (natural-short (slice (s .args .from) (s .args .to) (s .args .text .now))
+    sym (natural-short (slice (s .args .from) (s .args .to) (s .args .text .now))
     (omega (arith, length-slice (s .args .from) (s .args .to) (s .args .text .now) (s .pre .within))))
 
 returns-2 : tie.Need-returns-2
 returns-2 c =
     let s = c .before .before .before in
-    sym
-    (natural-long (slice (s .args .from) (s .args .to) (s .args .text .now))
+    sym (natural-long (slice (s .args .from) (s .args .to) (s .args .text .now))
     (omega (arith, length-slice (s .args .from) (s .args .to) (s .args .text .now) (s .pre .within))))
 
 returns-3 : tie.Need-returns-3
 returns-3 c =
     let s = c .before .before .before .before .before .before in
-    sym
-    (natural-spare (slice (s .args .from) (s .args .to) (s .args .text .now))
+    sym (natural-spare (slice (s .args .from) (s .args .to) (s .args .text .now))
     (spare-first (s .args .text .now) (s .args .from) (s .args .to) (omega arith) (s .pre .within) ∙ eq-eqb _ _ (c .if4 .taken)))
 
 returns-4 : tie.Need-returns-4

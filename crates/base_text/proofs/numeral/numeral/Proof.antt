@@ -66,20 +66,13 @@ returns c =
     let a = c .before .before .args in
     sym (ap field (ap (λ (n : ℕ). Numeral.numeral (slice n (a .to) (a .text .now))) (c .if1 .taken) ∙ numeral-empty (a .text .now) (a .to)))
 
-digits-value-requires : tie.Need-digits-value-requires
-digits-value-requires c κs = record { range = search needs; natural = sym (c .before .is-natural .ensures) ∙ c .if3 .taken }
-
 returns-2 : tie.Need-returns-2
 unfolding field
 returns-2 c =
     let d = c .before in
     let s = start d in
-    sym
-    (ap field (minus-zero (text s) (from s) (to s) (before s) (within s) (d .before .before .before .if2 .taken) (natural d)
+    sym (ap field (minus-zero (text s) (from s) (to s) (before s) (within s) (d .before .before .before .if2 .taken) (natural d)
     (omega (arith, small d, d .digits-value .ensures))))
-
-cast-t12 : tie.Need-cast-t12
-cast-t12 c = omega (arith, small (c .before))
 
 sub-t13 : tie.Need-sub-t13
 sub-t13 c =
@@ -107,12 +100,6 @@ returns-4 c =
     (ap field (minus-bad (text s) (from s) (to s) (before s) (within s) (c .before .before .if2 .taken) (sym (c .before .is-natural .ensures)
     ∙ c .if3 .left)))
 
-digits-value-requires-2 : tie.Need-digits-value-requires-2
-digits-value-requires-2 c κs = record { range = search needs; natural = sym (c .before .is-natural2 .ensures) ∙ c .if5 .taken }
-
-cast-t16 : tie.Need-cast-t16
-cast-t16 c = omega (arith, small2 c)
-
 returns-5 : tie.Need-returns-5
 unfolding field
 returns-5 c =
@@ -132,21 +119,8 @@ returns-6 c =
 
 pub numeral-spec : {M : Type 1} → statement M
 numeral-spec =
-    tie.close
-    (tie.spec
-    returns
-    (λ c. search needs)
-    (λ c. search needs)
-    (λ c κs. search needs)
-    (λ c. search needs)
-    digits-value-requires
-    returns-2
-    cast-t12
-    sub-t13
-    returns-3
-    returns-4
-    (λ c κs. search needs)
-    digits-value-requires-2
-    cast-t16
-    returns-5
-    returns-6)
+    tie.close (tie.spec returns (λ c. search needs) (λ c. search needs) (λ c κs. search needs) (λ c. search needs)
+    (λ c κs. record { range = search needs; natural = sym (c .before .is-natural .ensures) ∙ c .if3 .taken }) returns-2
+    (λ c. omega (arith, small (c .before))) sub-t13 returns-3 returns-4 (λ c κs. search needs)
+    (λ c κs. record { range = search needs; natural = sym (c .before .is-natural2 .ensures) ∙ c .if5 .taken })
+    (λ c. omega (arith, small2 c)) returns-5 returns-6)

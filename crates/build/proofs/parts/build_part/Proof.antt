@@ -46,27 +46,6 @@ module _ (c : tie.Start) where
       (take (c .args .b - 1 - c .args .a) (drop (c .args .a) (c .args .orders .now))) ≡ partAt lists (c .args .a)
   part-is = sliced lists (c .args .a) (c .args .b) (lies .some) ∙ ap (λ (e : ℕ). section lists (c .args .a) (e - c .args .a)) (c .pre .part .ends)
 
-add-build-legal : tie.Need-add-build-legal
-add-build-legal c = let l = lies c in omega (arith, l .within, l .few)
-
-sub-build-legal : tie.Need-sub-build-legal
-sub-build-legal c = let l = lies c in omega (arith, l .some, l .within, l .break-count, l .order-count)
-
-part-build-legal-start : tie.Need-part-build-legal-start
-part-build-legal-start c = let l = lies c in omega (arith, l .some, l .within, l .break-count, l .order-count)
-
-part-build-legal-end : tie.Need-part-build-legal-end
-part-build-legal-end c = let l = lies c in omega (arith, l .some, l .within, l .break-count, l .order-count)
-
-sub-build-legal-2 : tie.Need-sub-build-legal-2
-sub-build-legal-2 c = let l = lies (c .before) in omega (arith, l .some, l .within, l .break-count, l .order-count)
-
-part-build-legal-start-2 : tie.Need-part-build-legal-start-2
-part-build-legal-start-2 c = let l = lies (c .before) in omega (arith, l .some, l .within, l .break-count, l .order-count)
-
-part-build-legal-end-2 : tie.Need-part-build-legal-end-2
-part-build-legal-end-2 c = let l = lies (c .before) in omega (arith, l .some, l .within, l .break-count, l .order-count)
-
 sub-build-legal-3 : tie.Need-sub-build-legal-3
 sub-build-legal-3 c = let l = lies (c .before .before) in omega (arith, l .some, l .within, l .break-count, l .order-count)
 
@@ -99,23 +78,12 @@ returns c =
 
 pub build-part-spec : {M : Type 1} → statement M
 build-part-spec =
-    tie.close
-    (tie.spec
-    add-build-legal
-    (λ c. search needs)
-    sub-build-legal
-    part-build-legal-start
-    part-build-legal-end
-    (λ c. search needs)
-    sub-build-legal-2
-    part-build-legal-start-2
-    part-build-legal-end-2
-    sub-build-legal-3
-    (λ c. search needs)
-    sub-build-legal-4
-    part-build-legal-start-3
-    part-build-legal-end-3
-    build-legal-requires
-    (λ c. search needs)
-    (λ c. search needs)
-    returns)
+    tie.close (tie.spec (λ c. let l = lies c in omega (arith, l .within, l .few)) (λ c. search needs)
+    (λ c. let l = lies c in omega (arith, l .some, l .within, l .break-count, l .order-count))
+    (λ c. let l = lies c in omega (arith, l .some, l .within, l .break-count, l .order-count))
+    (λ c. let l = lies c in omega (arith, l .some, l .within, l .break-count, l .order-count)) (λ c. search needs)
+    (λ c. let l = lies (c .before) in omega (arith, l .some, l .within, l .break-count, l .order-count))
+    (λ c. let l = lies (c .before) in omega (arith, l .some, l .within, l .break-count, l .order-count))
+    (λ c. let l = lies (c .before) in omega (arith, l .some, l .within, l .break-count, l .order-count)) sub-build-legal-3
+    (λ c. search needs) sub-build-legal-4 part-build-legal-start-3 part-build-legal-end-3 build-legal-requires (λ c. search needs)
+    (λ c. search needs) returns)

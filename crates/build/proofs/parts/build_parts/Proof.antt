@@ -55,9 +55,6 @@ loop-holds c = record {
 taken : (c : tie.In-loop Inv-loop μ-loop) → c .before .loop .a < length (c .before .before .args .degrees .now)
 taken c = omega arith
 
-part-end-requires : tie.Need-part-end-requires Inv-loop μ-loop
-part-end-requires c κs = (taken c, sym (c .before .before .pre .legal .order-count))
-
 -- the part's end
 module _ (c : tie.After-part-end Inv-loop μ-loop) where
   abbrev first : ℕ
@@ -136,17 +133,8 @@ add-rows c =
 
 add-place : tie.Need-add-place Inv-loop μ-loop
 add-place c =
-    let d = ended (c .before .before .before .before .before) in
+    let m = c .before .before .before .before .before in let d = ended m in
     omega (arith, taken (d .before), d .before .before .before .pre .legal .few)
-
-place-requires : tie.Need-place-requires Inv-loop μ-loop
-place-requires c κs = tt
-
-same-length : tie.Need-same-length Inv-loop μ-loop
-same-length c = num-kept (c .before .before .before .before .before .before)
-
-same-length-2 : tie.Need-same-length-2 Inv-loop μ-loop
-same-length-2 c = den-kept (c .before .before .before .before .before .before)
 
 returns : tie.Need-returns Inv-loop μ-loop
 returns c =
@@ -163,7 +151,7 @@ returns c =
 
 loop-less : tie.Need-loop-less Inv-loop μ-loop
 loop-less c =
-    let d = ended (c .before .before .before .before .before) in
+    let m = c .before .before .before .before .before in let d = ended m in
     let l = part-ends (beam d) (first d) (taken (d .before)) in
     omega (arith, end-is d, l .above, taken (d .before))
 
@@ -173,35 +161,13 @@ loop-again c =
     let told = c .before .built .given .1 in
     record { num-long = num-kept m; den-long = den-kept m; state = more m told; few = rows-few m told; clear = rest-clear m told }
 
-same-length-3 : tie.Need-same-length-3 Inv-loop μ-loop
-same-length-3 c = c .before .loop .inv .num-long
-
-same-length-4 : tie.Need-same-length-4 Inv-loop μ-loop
-same-length-4 c = c .before .loop .inv .den-long
-
 returns-2 : tie.Need-returns-2 Inv-loop μ-loop
 returns-2 c = parts-done _ _ _ (c .before .before .pre .legal) (c .before .loop .inv .state) (omega arith)
 
 pub build-parts-spec : {M : Type 1} → statement M
 build-parts-spec =
-    tie.close
-    (tie.spec
-    Inv-loop
-    μ-loop
-    loop-holds
-    part-end-requires
-    build-part-requires
-    (λ c. search needs)
-    add-rows
-    (λ c. search needs)
-    (λ c. omega arith)
-    add-place
-    place-requires
-    same-length
-    same-length-2
-    returns
-    loop-less
-    loop-again
-    same-length-3
-    same-length-4
-    returns-2)
+    tie.close (tie.spec Inv-loop μ-loop loop-holds (λ c κs. (taken c, sym (c .before .before .pre .legal .order-count))) build-part-requires
+    (λ c. search needs) add-rows (λ c. search needs) (λ c. omega arith) add-place (λ c κs. tt)
+    (λ c. let m = c .before .before .before .before .before .before in num-kept m)
+    (λ c. let m = c .before .before .before .before .before .before in den-kept m) returns loop-less
+    loop-again (λ c. c .before .loop .inv .num-long) (λ c. c .before .loop .inv .den-long) returns-2)

@@ -113,27 +113,6 @@ module _ (c : tie.After-first-column2) where
   columns-are : c .first-column2 .result - c .before .first-column .result ≡ columnCount (section lists (start .args .a) (start .args .b - start .args .a))
   columns-are = omega (arith, from-is, to-is, ap (firstColumn lists) whole, section-columnCount lists (start .args .a) (start .args .b - start .args .a) (omega (arith, whole, lies .within)))
 
-add-recover-part : tie.Need-add-recover-part
-add-recover-part c = let l = lies c in omega (arith, l .within, l .few)
-
-sub-recover-part : tie.Need-sub-recover-part
-sub-recover-part c = let l = lies c in omega (arith, l .some, l .within, l .break-count, l .order-count)
-
-part-recover-part-start : tie.Need-part-recover-part-start
-part-recover-part-start c = let l = lies c in omega (arith, l .some, l .within, l .break-count, l .order-count)
-
-part-recover-part-end : tie.Need-part-recover-part-end
-part-recover-part-end c = let l = lies c in omega (arith, l .some, l .within, l .break-count, l .order-count)
-
-sub-recover-part-2 : tie.Need-sub-recover-part-2
-sub-recover-part-2 c = let l = lies (c .before) in omega (arith, l .some, l .within, l .break-count, l .order-count)
-
-part-recover-part-start-2 : tie.Need-part-recover-part-start-2
-part-recover-part-start-2 c = let l = lies (c .before) in omega (arith, l .some, l .within, l .break-count, l .order-count)
-
-part-recover-part-end-2 : tie.Need-part-recover-part-end-2
-part-recover-part-end-2 c = let l = lies (c .before) in omega (arith, l .some, l .within, l .break-count, l .order-count)
-
 sub-recover-part-3 : tie.Need-sub-recover-part-3
 sub-recover-part-3 c = let l = lies (c .before .before) in omega (arith, l .some, l .within, l .break-count, l .order-count)
 
@@ -145,18 +124,6 @@ part-recover-part-start-3 c = let l = lies (c .before .before) in omega (arith, 
 
 part-recover-part-end-3 : tie.Need-part-recover-part-end-3
 part-recover-part-end-3 c = let l = lies (c .before .before) in omega (arith, l .some, l .within, l .break-count, l .order-count)
-
-mul-recover-part-4 : tie.Need-mul-recover-part-4
-mul-recover-part-4 c = let l = lies (c .before .before .before) in omega (arith, l .ordered, l .inside, l .columns)
-
-sub-recover-part-5 : tie.Need-sub-recover-part-5
-sub-recover-part-5 c = let l = lies (c .before .before .before) in omega (arith, l .ordered)
-
-part-recover-part-start-4 : tie.Need-part-recover-part-start-4
-part-recover-part-start-4 c = let l = lies (c .before .before .before) in omega (arith, l .ordered, l .inside)
-
-part-recover-part-end-4 : tie.Need-part-recover-part-end-4
-part-recover-part-end-4 c = let l = lies (c .before .before .before) in omega (arith, l .ordered, l .inside)
 
 recover-part-requires : tie.Need-recover-part-requires
 recover-part-requires c κs =
@@ -193,29 +160,16 @@ returns c =
 
 pub recover-at-spec : {M : Type 1} → statement M
 recover-at-spec =
-    tie.close
-    (tie.spec
-    (λ c κs. search needs)
-    first-column-requires-2
-    add-recover-part
-    (λ c. search needs)
-    sub-recover-part
-    part-recover-part-start
-    part-recover-part-end
-    (λ c. search needs)
-    sub-recover-part-2
-    part-recover-part-start-2
-    part-recover-part-end-2
-    sub-recover-part-3
-    (λ c. search needs)
-    sub-recover-part-4
-    part-recover-part-start-3
-    part-recover-part-end-3
-    mul-recover-part-4
-    sub-recover-part-5
-    part-recover-part-start-4
-    part-recover-part-end-4
-    recover-part-requires
-    (λ c. search needs)
-    (λ c. search needs)
-    returns)
+    tie.close (tie.spec (λ c κs. search needs) first-column-requires-2 (λ c. let l = lies c in omega (arith, l .within, l .few))
+    (λ c. search needs) (λ c. let l = lies c in omega (arith, l .some, l .within, l .break-count, l .order-count))
+    (λ c. let l = lies c in omega (arith, l .some, l .within, l .break-count, l .order-count))
+    (λ c. let l = lies c in omega (arith, l .some, l .within, l .break-count, l .order-count)) (λ c. search needs)
+    (λ c. let l = lies (c .before) in omega (arith, l .some, l .within, l .break-count, l .order-count))
+    (λ c. let l = lies (c .before) in omega (arith, l .some, l .within, l .break-count, l .order-count))
+    (λ c. let l = lies (c .before) in omega (arith, l .some, l .within, l .break-count, l .order-count)) sub-recover-part-3
+    (λ c. search needs) sub-recover-part-4 part-recover-part-start-3 part-recover-part-end-3
+    (λ c. let l = lies (c .before .before .before) in omega (arith, l .ordered, l .inside, l .columns))
+    (λ c. let l = lies (c .before .before .before) in omega (arith, l .ordered))
+    (λ c. let l = lies (c .before .before .before) in omega (arith, l .ordered, l .inside))
+    (λ c. let l = lies (c .before .before .before) in omega (arith, l .ordered, l .inside)) recover-part-requires (λ c. search needs)
+    (λ c. search needs) returns)

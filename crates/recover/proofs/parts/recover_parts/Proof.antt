@@ -56,9 +56,6 @@ loop-holds c = record {
 taken : (c : tie.In-loop Inv-loop μ-loop) → c .before .loop .a < length (c .before .before .args .degrees .now)
 taken c = omega arith
 
-part-end-requires : tie.Need-part-end-requires Inv-loop μ-loop
-part-end-requires c κs = (taken c, sym (c .before .before .pre .legal .order-count))
-
 -- the part's end
 module _ (c : tie.After-part-end Inv-loop μ-loop) where
   abbrev first : ℕ
@@ -173,9 +170,6 @@ add-place c =
     let g = c .before .before .before .before .before .before .before .before .before .before .known-told .given in
     omega (arith, turn m, start m .pre .legal .few, g .1)
 
-place-requires : tie.Need-place-requires Inv-loop μ-loop
-place-requires c κs = tt
-
 -- ---- the part is refused
 module _ (c : tie.After-place Inv-loop μ-loop) where
   abbrev refused-at : tie.After-recover-at Inv-loop μ-loop
@@ -186,12 +180,6 @@ same-length c = c .before .before .before .before .before .before .before .befor
 
 same-length-2 : tie.Need-same-length-2 Inv-loop μ-loop
 same-length-2 c = c .before .before .before .before .before .before .before .before .clear .kept .1 .0 ∙ den-same (refused-at c)
-
-same-length-3 : tie.Need-same-length-3 Inv-loop μ-loop
-same-length-3 c = c .before .before .before .clear2 .kept .0 ∙ at (refused-at c) .loop .inv .coef-num-long
-
-same-length-4 : tie.Need-same-length-4 Inv-loop μ-loop
-same-length-4 c = c .before .before .before .clear2 .kept .1 .0 ∙ at (refused-at c) .loop .inv .coef-den-long
 
 returns : tie.Need-returns Inv-loop μ-loop
 returns c =
@@ -287,18 +275,6 @@ clear-requires-3 c κs =
       (omega (arith, p .coef-num-long, v .coef-num-long), omega (arith, p .coef-den-long, v .coef-den-long)),
     )
 
-same-length-5 : tie.Need-same-length-5 Inv-loop μ-loop
-same-length-5 c = last-at c .loop .inv .num-long
-
-same-length-6 : tie.Need-same-length-6 Inv-loop μ-loop
-same-length-6 c = last-at c .loop .inv .den-long
-
-same-length-7 : tie.Need-same-length-7 Inv-loop μ-loop
-same-length-7 c = c .before .before .clear3 .kept .0 ∙ last-at c .loop .inv .coef-num-long
-
-same-length-8 : tie.Need-same-length-8 Inv-loop μ-loop
-same-length-8 c = c .before .before .clear3 .kept .1 .0 ∙ last-at c .loop .inv .coef-den-long
-
 returns-2 : tie.Need-returns-2 Inv-loop μ-loop
 returns-2 c =
     let a = last-at c in
@@ -308,32 +284,10 @@ returns-2 c =
 
 pub recover-parts-spec : {M : Type 1} → statement M
 recover-parts-spec =
-    tie.close
-    (tie.spec
-    Inv-loop
-    μ-loop
-    loop-holds
-    part-end-requires
-    recover-at-requires
-    (λ c. search needs)
-    clear-requires
-    clear-requires-2
-    (λ c. omega arith)
-    add-place
-    place-requires
-    same-length
-    same-length-2
-    same-length-3
-    same-length-4
-    returns
-    (λ c. search needs)
-    write-requires
-    add-rows
-    loop-less
-    loop-again
-    clear-requires-3
-    same-length-5
-    same-length-6
-    same-length-7
-    same-length-8
-    returns-2)
+    tie.close (tie.spec Inv-loop μ-loop loop-holds (λ c κs. (taken c, sym (c .before .before .pre .legal .order-count))) recover-at-requires
+    (λ c. search needs) clear-requires clear-requires-2 (λ c. omega arith) add-place (λ c κs. tt) same-length same-length-2
+    (λ c. c .before .before .before .clear2 .kept .0 ∙ at (refused-at c) .loop .inv .coef-num-long)
+    (λ c. c .before .before .before .clear2 .kept .1 .0 ∙ at (refused-at c) .loop .inv .coef-den-long) returns (λ c. search needs)
+    write-requires add-rows loop-less loop-again clear-requires-3 (λ c. last-at c .loop .inv .num-long)
+    (λ c. last-at c .loop .inv .den-long) (λ c. c .before .before .clear3 .kept .0 ∙ last-at c .loop .inv .coef-num-long)
+    (λ c. c .before .before .clear3 .kept .1 .0 ∙ last-at c .loop .inv .coef-den-long) returns-2)

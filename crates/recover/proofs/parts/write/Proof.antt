@@ -79,21 +79,6 @@ loop-holds c = record {
   state = λ done ps num den e m n p q k l. record { num-is = p ∙ first-is numeratorOf (c .args .from) done ps num m; den-is = q ∙ first-is denominatorOf (c .args .from) done ps den m };
 }
 
-add-k : tie.Need-add-k Inv-loop μ-loop
-add-k c = let h = inside c in omega (arith, h .0)
-
-mul-p : tie.Need-mul-p Inv-loop μ-loop
-mul-p c = let h = inside c in omega (arith, h .0)
-
-slice-set-from-p : tie.Need-slice-set-from-p Inv-loop μ-loop
-slice-set-from-p c = inside c .0
-
-mul-d : tie.Need-mul-d Inv-loop μ-loop
-mul-d c = let h = inside c in omega (arith, h .0)
-
-slice-set-from-d : tie.Need-slice-set-from-d Inv-loop μ-loop
-slice-set-from-d c = inside c .1
-
 loop-again : tie.Need-loop-again Inv-loop μ-loop
 loop-again c =
     let q = c .before .before in
@@ -118,12 +103,6 @@ loop-again c =
           };
     }
 
-same-length : tie.Need-same-length Inv-loop μ-loop
-same-length c = c .before .loop .inv .num-long
-
-same-length-2 : tie.Need-same-length-2 Inv-loop μ-loop
-same-length-2 c = c .before .loop .inv .den-long
-
 returns : tie.Need-returns Inv-loop μ-loop
 returns c done ps num den e m n p q k l =
     let a = c .before .before .args in
@@ -137,20 +116,6 @@ returns c done ps num den e m n p q k l =
 
 pub write-spec : {M : Type 1} → statement M
 write-spec =
-    tie.close
-    (tie.spec
-    Inv-loop
-    μ-loop
-    loop-holds
-    (λ c κs. omega arith)
-    add-k
-    mul-p
-    slice-set-from-p
-    mul-d
-    slice-set-from-d
-    (λ c. omega arith)
-    (λ c. omega arith)
-    loop-again
-    same-length
-    same-length-2
-    returns)
+    tie.close (tie.spec Inv-loop μ-loop loop-holds (λ c κs. omega arith) (λ c. let h = inside c in omega (arith, h .0))
+    (λ c. let h = inside c in omega (arith, h .0)) (λ c. inside c .0) (λ c. let h = inside c in omega (arith, h .0)) (λ c. inside c .1)
+    (λ c. omega arith) (λ c. omega arith) loop-again (λ c. c .before .loop .inv .num-long) (λ c. c .before .loop .inv .den-long) returns)

@@ -15,9 +15,6 @@ Inv-loop counts sum left₀ k₀ left k = (k ≤ length counts) × (total counts
 abbrev μ-loop : tie.MeasureT-loop
 μ-loop counts sum left₀ k₀ left k = length counts - k
 
-cast-count : tie.Need-cast-count Inv-loop μ-loop
-cast-count c = omega (arith, c .shared-slice-known .given (c .before .before .loop .k))
-
 returns : tie.Need-returns Inv-loop μ-loop
 returns c =
     let s = c .before .before .before .before in
@@ -39,16 +36,6 @@ returns-2 c =
 
 pub adds-up-spec : {M : Type 1} → statement M
 adds-up-spec =
-    tie.close
-    (tie.spec
-    Inv-loop
-    μ-loop
-    (λ c. omega arith)
-    (λ c. omega arith)
-    (λ c. omega arith)
-    cast-count
-    returns
-    (λ c. omega arith)
-    (λ c. omega arith)
-    loop-again
+    tie.close (tie.spec Inv-loop μ-loop (λ c. omega arith) (λ c. omega arith) (λ c. omega arith)
+    (λ c. omega (arith, c .shared-slice-known .given (c .before .before .loop .k))) returns (λ c. omega arith) (λ c. omega arith) loop-again
     returns-2)

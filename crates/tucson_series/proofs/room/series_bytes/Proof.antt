@@ -17,24 +17,6 @@ few c = closing-parts (c .before .args .year) (c .before .args .count) (c .befor
 years-left-requires : tie.Need-years-left-requires
 years-left-requires c κs = let f : SFits w32 (c .args .year) = c .fits .year in simp toZ-ofZ (closing-parts (c .args .year) (c .args .count) (c .pre) .dated)
 
-add-lines : tie.Need-add-lines
-add-lines c = omega (arith, few c)
-
-add-lines-2 : tie.Need-add-lines-2
-add-lines-2 c = omega (arith, few c)
-
-add-result : tie.Need-add-result
-add-result c = omega (arith, few c)
-
-mul-result : tie.Need-mul-result
-mul-result c = omega (arith, few c)
-
-mul-result-2 : tie.Need-mul-result-2
-mul-result-2 c = omega (arith, few c)
-
-add-result-2 : tie.Need-add-result-2
-add-result-2 c = omega (arith, few c)
-
 returns : tie.Need-returns
 unfolding seriesBytes
 returns c =
@@ -45,15 +27,5 @@ returns c =
 
 pub series-bytes-spec : {M : Type 1} → statement M
 series-bytes-spec =
-    tie.close
-    (tie.spec
-    years-left-requires
-    (λ c. search needs)
-    (λ c. search needs)
-    add-lines
-    add-lines-2
-    add-result
-    mul-result
-    mul-result-2
-    add-result-2
-    returns)
+    tie.close (tie.spec years-left-requires (λ c. search needs) (λ c. search needs) (λ c. omega (arith, few c)) (λ c. omega (arith, few c))
+    (λ c. omega (arith, few c)) (λ c. omega (arith, few c)) (λ c. omega (arith, few c)) (λ c. omega (arith, few c)) returns)

@@ -29,9 +29,6 @@ abbrev μ-loop : tie.MeasureT-loop
 loop-holds : tie.Need-loop-holds Inv-loop μ-loop
 loop-holds c = record { within = omega arith; room-is = omega arith; fit = c .before .pre .closed }
 
-cast-series-bytes : tie.Need-cast-series-bytes Inv-loop μ-loop
-cast-series-bytes c = omega (arith, c .shared-slice-known2 .given (c .before .before .before .loop .k))
-
 series-bytes-requires : tie.Need-series-bytes-requires Inv-loop μ-loop
 series-bytes-requires c κs =
     let s = c .before .before .before .before .before in
@@ -83,19 +80,6 @@ returns-2 c =
 
 pub text-fits-spec : {M : Type 1} → statement M
 text-fits-spec =
-    tie.close
-    (tie.spec
-    Inv-loop
-    μ-loop
-    loop-holds
-    (λ c. omega arith)
-    (λ c. omega arith)
-    (λ c. omega arith)
-    (λ c. omega arith)
-    cast-series-bytes
-    series-bytes-requires
-    returns
-    (λ c. omega arith)
-    (λ c. omega arith)
-    loop-again
-    returns-2)
+    tie.close (tie.spec Inv-loop μ-loop loop-holds (λ c. omega arith) (λ c. omega arith) (λ c. omega arith) (λ c. omega arith)
+    (λ c. omega (arith, c .shared-slice-known2 .given (c .before .before .before .loop .k))) series-bytes-requires returns
+    (λ c. omega arith) (λ c. omega arith) loop-again returns-2)

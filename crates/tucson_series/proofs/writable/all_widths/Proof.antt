@@ -18,9 +18,6 @@ Inv-loop widths i₀ i = (i ≤ length widths) × (allWidths widths ≡ allWidth
 abbrev μ-loop : tie.MeasureT-loop
 μ-loop widths i₀ i = length widths - i
 
-loop-holds : tie.Need-loop-holds Inv-loop μ-loop
-loop-holds c = (omega arith, refl)
-
 returns : tie.Need-returns Inv-loop μ-loop
 returns c =
     let l = c .before .before .before .loop in
@@ -49,16 +46,5 @@ returns-3 c =
 
 pub all-widths-spec : {M : Type 1} → statement M
 all-widths-spec =
-    tie.close
-    (tie.spec
-    Inv-loop
-    μ-loop
-    loop-holds
-    (λ c. omega arith)
-    (λ c. omega arith)
-    returns
-    returns-2
-    (λ c. omega arith)
-    (λ c. omega arith)
-    loop-again
-    returns-3)
+    tie.close (tie.spec Inv-loop μ-loop (λ c. (omega arith, refl)) (λ c. omega arith) (λ c. omega arith) returns returns-2
+    (λ c. omega arith) (λ c. omega arith) loop-again returns-3)

@@ -40,26 +40,14 @@ loop-holds c =
     let fit = fits-parts (a .names .now) (a .years .now) (a .counts .now) (a .widths .now) (c .before .before .pre) in
     record { walked = walk-begins fit; ordered = omega arith; same = refl }
 
-mul-to : tie.Need-mul-to Inv-loop μ-loop
-mul-to c = omega (arith, c .before .loop .inv .walked .passed, c .before .loop .inv .walked .counted)
-
 shared-slice-read-to : tie.Need-shared-slice-read-to Inv-loop μ-loop
 shared-slice-read-to c = omega (arith, c .before .before .loop .inv .walked .passed, c .before .before .loop .inv .walked .counted)
-
-cast-to : tie.Need-cast-to Inv-loop μ-loop
-cast-to c = omega (arith, c .shared-slice-known3 .given (c .before .before .loop .k))
 
 add-to : tie.Need-add-to Inv-loop μ-loop
 add-to c =
     let a = c .before .before .before .before .before .args in
     let l = c .before .before .loop in
     omega (arith, widths-within (l .inv .walked) (omega (arith, l .inv .walked .passed)))
-
-mul-is-writable : tie.Need-mul-is-writable Inv-loop μ-loop
-mul-is-writable c = omega (arith, c .before .before .loop .inv .walked .passed)
-
-shared-slice-copy-out-is-writable : tie.Need-shared-slice-copy-out-is-writable Inv-loop μ-loop
-shared-slice-copy-out-is-writable c = omega (arith, c .before .before .loop .inv .walked .passed)
 
 mul-is-writable-2 : tie.Need-mul-is-writable-2 Inv-loop μ-loop
 mul-is-writable-2 c =
@@ -84,12 +72,6 @@ add-at c =
     let a = c .before .before .before .before .before .before .before .before .before .args in
     let l = c .before .before .before .before .before .before .loop in
     omega (arith, name-within (l .inv .walked) (omega (arith, l .inv .walked .passed)))
-
-add-k : tie.Need-add-k Inv-loop μ-loop
-add-k c = omega (arith, c .before .before .before .before .before .before .loop .inv .walked .passed)
-
-loop-less : tie.Need-loop-less Inv-loop μ-loop
-loop-less c = omega (arith, c .before .before .before .before .before .before .loop .inv .walked .passed)
 
 loop-again : tie.Need-loop-again Inv-loop μ-loop
 loop-again c =
@@ -139,25 +121,10 @@ returns-2 c =
 
 pub first-unwritable-spec : {M : Type 1} → statement M
 first-unwritable-spec =
-    tie.close
-    (tie.spec
-    Inv-loop
-    μ-loop
-    loop-holds
-    mul-to
-    shared-slice-read-to
-    cast-to
-    add-to
-    mul-is-writable
-    shared-slice-copy-out-is-writable
-    mul-is-writable-2
-    (λ c. omega arith)
-    (λ c. omega arith)
-    part-is-writable-end
-    is-writable-requires
-    add-at
-    add-k
-    loop-less
-    loop-again
-    returns
-    returns-2)
+    tie.close (tie.spec Inv-loop μ-loop loop-holds
+    (λ c. omega (arith, c .before .loop .inv .walked .passed, c .before .loop .inv .walked .counted)) shared-slice-read-to
+    (λ c. omega (arith, c .shared-slice-known3 .given (c .before .before .loop .k))) add-to
+    (λ c. omega (arith, c .before .before .loop .inv .walked .passed)) (λ c. omega (arith, c .before .before .loop .inv .walked .passed))
+    mul-is-writable-2 (λ c. omega arith) (λ c. omega arith) part-is-writable-end is-writable-requires add-at
+    (λ c. omega (arith, c .before .before .before .before .before .before .loop .inv .walked .passed))
+    (λ c. omega (arith, c .before .before .before .before .before .before .loop .inv .walked .passed)) loop-again returns returns-2)

@@ -29,5 +29,4 @@ returns-3 c =
     ))
 
 pub is-name-spec : {M : Type 1} → statement M
-is-name-spec =
-    tie.close (tie.spec returns (λ c κs. search needs) returns-2 (λ c κs. search needs) returns-3)
+is-name-spec = tie.close (tie.spec returns (λ c κs. search needs) returns-2 (λ c κs. search needs) returns-3)

@@ -16,10 +16,7 @@ cast-result c =
     simp toZ-ofZ (years-natural (c .args .year) (c .pre))
 
 returns : tie.Need-returns
-returns c =
-    let f : SFits w32 (c .args .year) = c .fits .year in
-    let g = years-fit-word (c .args .year) (c .pre) in
-    simp toZ-ofZ
+returns c = let f : SFits w32 (c .args .year) = c .fits .year in let g = years-fit-word (c .args .year) (c .pre) in simp toZ-ofZ
 
 pub years-left-spec : {M : Type 1} → statement M
 years-left-spec = tie.close (tie.spec sub-result cast-result returns)
