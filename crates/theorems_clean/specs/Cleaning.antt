@@ -19,6 +19,7 @@ use Rattle.spec_tucson.specs.StrictLine.{anyHigh, bytesMasked, charactersMasked
 use Rattle.spec_tucson.specs.KeptLines.{noHeaderNamed, readsStrictly}
 use Rattle.spec_tucson.specs.CleanSeries.{unknownUnit, unitNotSaid, closingOf}
 use Rattle.spec_tucson.specs.CleanCall.{Cleaned, cleaned}
+use Rattle.spec_tucson.specs.Notes as kinds
 
 -- x stands at this index of the list.
 pub data At {A : Type 0} (x : A) : ℕ → List A → Type 0 where
@@ -62,8 +63,8 @@ AnswersAreShown =
 
 -- A raw line that is left out: it is blank, or it is a header's and no strict line, and both are told.
 pub data LeftOut (line : ℕ) (raw : Text) (notes : List ℕ) : Type 0 where
-  blank : isBlankLine raw ≡ true → Noted 6 line notes → LeftOut line raw notes
-  header : readsStrictly raw ≡ false → Noted 9 line notes → LeftOut line raw notes
+  blank : isBlankLine raw ≡ true → Noted kinds.blank line notes → LeftOut line raw notes
+  header : readsStrictly raw ≡ false → Noted kinds.header line notes → LeftOut line raw notes
 
 -- Each line of the text is a line of the answer, or it is left out and told.
 pub data Accounted (line : ℕ) (raw : Text) (lines notes : List ℕ) : Type 0 where
@@ -93,7 +94,8 @@ PaddingBehind =
 
 -- The notes of a change of a line: a byte 13, a tab, trailing blanks, a site name, no end, a name that is not ASCII, a closing.
 abbrev pub isChange : ℕ → Bool
-isChange n = eqb n 3 || (eqb n 4 || (eqb n 5 || (eqb n 7 || (eqb n 8 || (eqb n 10 || eqb n 11)))))
+isChange n = eqb n kinds.returned || (eqb n kinds.tabbed ||
+    (eqb n kinds.trailing || (eqb n kinds.site || (eqb n kinds.unended || (eqb n kinds.high || eqb n kinds.reclosed)))))
 
 -- No such note stands at the line.
 abbrev pub Unchanged : ℕ → List ℕ → Type 0
@@ -108,7 +110,7 @@ ChangesAreTold =
 
 -- The notes of a text that is not its whole file: a mark, a byte 26.
 abbrev pub isCutting : ℕ → Bool
-isCutting n = eqb n 1 || eqb n 2
+isCutting n = eqb n kinds.marked || eqb n kinds.cut
 
 -- The text is its file, byte for byte, exactly where none of these stands anywhere; so its lines are those of the file.
 abbrev pub CutsAreTold : Type 0

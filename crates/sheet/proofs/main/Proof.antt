@@ -4,7 +4,7 @@ use mathlib.Core.Path.{_≡_, refl, sym}
 use Prim.Native.Nat.{ℕ, _+_, _≤_}
 use lib.ListN.{length, replicate, length-replicate}
 use lib.Seq.{length-take-le}
-use Rattle.spec_sheet.specs.SheetReading.{textLimit}
+use Rattle.spec_sheet.specs.SheetReading.{sheetLimit}
 use Rattle.sheet_text.specs.Limit.{printoutLimit}
 use Rattle.sheet.proofs.main.Statement.{statement}
 use Rattle.sheet.proofs.main.Tie as tie
@@ -20,7 +20,7 @@ zeros-are : (n : ℕ) → n ≡ length {A = ℕ} (replicate n 0)
 zeros-are n = sym (length-replicate {0} {A = ℕ} n 0)
 
 slice-aggregate-read-input : tie.Need-slice-aggregate-read-input
-slice-aggregate-read-input c = zeros-are (textLimit + 1)
+slice-aggregate-read-input c = zeros-are (sheetLimit + 1)
 
 read-input-requires : tie.Need-read-input-requires
 read-input-requires c κs = tt
