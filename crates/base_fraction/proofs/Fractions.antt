@@ -15,7 +15,7 @@ use Rattle.base_exact.proofs.Tabulate.{tab-getD, tab-ext, tab-const, tab-store}
 use Rattle.base_exact.proofs.Rational.{int-num, int-den, zero-is, zero-num}
 use Rattle.base_exact.proofs.Order.{zero-test, nonzero-test}
 use Rattle.base_fraction.specs.Machine.{fraction, value}
-use Rattle.base_fraction.specs.Fractions.{capacity, fractionAt, fractions}
+use Rattle.base_fraction.specs.Fractions.{rowCells, fractionAt, fractions}
 use Rattle.base_fraction.specs.declared.Fraction.{Fraction}
 use Rattle.base_fraction.specs.declared.arrays.Fractions.{Fractions}
 use Rattle.base_fraction.proofs.Value.{value-fraction}
@@ -37,16 +37,16 @@ module _ (qs : List ℚ) (q : ℚ) where
 -- ---- the arrays
 
 module _ (qs : List ℚ) where
-  num-at : (i : ℕ) → i < capacity → getD (fractions qs .num) i (pos 0) ≡ (fractionAt qs i) .num
+  num-at : (i : ℕ) → i < rowCells → getD (fractions qs .num) i (pos 0) ≡ (fractionAt qs i) .num
   unfolding fractions
-  num-at i h = tab-getD capacity (λ i. (fractionAt qs i) .num) i (pos 0) h
+  num-at i h = tab-getD rowCells (λ i. (fractionAt qs i) .num) i (pos 0) h
 
-  den-at : (i : ℕ) → i < capacity → getD (fractions qs .den) i (pos 0) ≡ pos (den (fractionAt qs i))
+  den-at : (i : ℕ) → i < rowCells → getD (fractions qs .den) i (pos 0) ≡ pos (den (fractionAt qs i))
   unfolding fractions
-  den-at i h = tab-getD capacity (λ i. pos (den (fractionAt qs i))) i (pos 0) h
+  den-at i h = tab-getD rowCells (λ i. pos (den (fractionAt qs i))) i (pos 0) h
 
   -- arrays that are known by an equation, read at an index
-  pub fraction-at : (js : Fractions) → js ≡ fractions qs → (i : ℕ) → i < capacity
+  pub fraction-at : (js : Fractions) → js ≡ fractions qs → (i : ℕ) → i < rowCells
       → record { num = getD (js .num) i (pos 0); den = getD (js .den) i (pos 0) } ≡ fraction (fractionAt qs i)
   unfolding fraction
   fraction-at js is i h =
@@ -55,50 +55,50 @@ module _ (qs : List ℚ) where
 
   -- a numerator that is read tells whether the fraction is zero
   module _ {js : List ℤ} (is : js ≡ fractions qs .num) where
-    num-read : (i : ℕ) → i < capacity → getD js i (pos 0) ≡ (fractionAt qs i) .num
+    num-read : (i : ℕ) → i < rowCells → getD js i (pos 0) ≡ (fractionAt qs i) .num
     num-read i h = ap (λ (ns : List ℤ). getD ns i (pos 0)) is ∙ num-at i h
 
-    pub zero-read : (i : ℕ) → i < capacity → getD js i (pos 0) ≡ pos 0 → isZero (fractionAt qs i) ≡ true
+    pub zero-read : (i : ℕ) → i < rowCells → getD js i (pos 0) ≡ pos 0 → isZero (fractionAt qs i) ≡ true
     zero-read i h e = zero-test (zero-is (fractionAt qs i) (sym (num-read i h) ∙ e))
 
-    pub nonzero-read : (i : ℕ) → i < capacity → getD js i (pos 0) ≢ pos 0 → isZero (fractionAt qs i) ≡ false
+    pub nonzero-read : (i : ℕ) → i < rowCells → getD js i (pos 0) ≢ pos 0 → isZero (fractionAt qs i) ≡ false
     nonzero-read i h e = nonzero-test (λ z. e (num-read i h ∙ zero-num z))
 
 -- equal arrays hold the same fractions, and the same fractions are in equal arrays
-pub entries-same : (us vs : List ℚ) → fractions us ≡ fractions vs → (i : ℕ) → i < capacity → fractionAt us i ≡ fractionAt vs i
+pub entries-same : (us vs : List ℚ) → fractions us ≡ fractions vs → (i : ℕ) → i < rowCells → fractionAt us i ≡ fractionAt vs i
 entries-same us vs e i h =
     sym (value-fraction (fractionAt us i)) ∙ ap value (sym (fraction-at us (fractions vs) (sym e) i h) ∙ fraction-at vs (fractions vs) refl i h)
     ∙ value-fraction (fractionAt vs i)
 
-pub fractions-ext : (ps qs : List ℚ) → ((k : ℕ) → k < capacity → fractionAt ps k ≡ fractionAt qs k) → fractions ps ≡ fractions qs
+pub fractions-ext : (ps qs : List ℚ) → ((k : ℕ) → k < rowCells → fractionAt ps k ≡ fractionAt qs k) → fractions ps ≡ fractions qs
 unfolding fractions
 fractions-ext ps qs same = λ k. record {
-  num = tab-ext capacity (λ i h. ap (λ (q : ℚ). q .num) (same i h)) k;
-  den = tab-ext capacity (λ i h. ap (λ (q : ℚ). pos (den q)) (same i h)) k;
+  num = tab-ext rowCells (λ i h. ap (λ (q : ℚ). q .num) (same i h)) k;
+  den = tab-ext rowCells (λ i h. ap (λ (q : ℚ). pos (den q)) (same i h)) k;
 }
 
 -- ---- arrays that are made
 
-pub none-num : replicate capacity (pos 0) ≡ fractions [] .num
+pub none-num : replicate rowCells (pos 0) ≡ fractions [] .num
 unfolding fractions
-none-num = sym (tab-ext capacity (λ i h. int-num (pos 0)) ∙ tab-const capacity (pos 0))
+none-num = sym (tab-ext rowCells (λ i h. int-num (pos 0)) ∙ tab-const rowCells (pos 0))
 
-pub none-den : replicate capacity (pos 1) ≡ fractions [] .den
+pub none-den : replicate rowCells (pos 1) ≡ fractions [] .den
 unfolding fractions
-none-den = sym (tab-ext capacity (λ i h. ap pos (int-den (pos 0))) ∙ tab-const capacity (pos 1))
+none-den = sym (tab-ext rowCells (λ i h. ap pos (int-den (pos 0))) ∙ tab-const rowCells (pos 1))
 
 -- one store takes a list to another that has the fraction there and agrees with it elsewhere
-module _ (ps qs : List ℚ) (q : ℚ) (i : ℕ) (room : i < capacity) (here : fractionAt qs i ≡ q)
-    (other : (k : ℕ) → k < capacity → k ≢ i → fractionAt ps k ≡ fractionAt qs k) where
+module _ (ps qs : List ℚ) (q : ℚ) (i : ℕ) (room : i < rowCells) (here : fractionAt qs i ≡ q)
+    (other : (k : ℕ) → k < rowCells → k ≢ i → fractionAt ps k ≡ fractionAt qs k) where
   store-num : set (fractions ps .num) i (q .num) ≡ fractions qs .num
   unfolding fractions
   store-num =
-      tab-store capacity {g = λ k. (fractionAt qs k) .num} i room (ap (λ (p : ℚ). p .num) here) (λ k l h. ap (λ (p : ℚ). p .num) (other k l h))
+      tab-store rowCells {g = λ k. (fractionAt qs k) .num} i room (ap (λ (p : ℚ). p .num) here) (λ k l h. ap (λ (p : ℚ). p .num) (other k l h))
 
   store-den : set (fractions ps .den) i (pos (den q)) ≡ fractions qs .den
   unfolding fractions
   store-den =
-      tab-store capacity {g = λ k. pos (den (fractionAt qs k))} i room (ap (λ (p : ℚ). pos (den p)) here)
+      tab-store rowCells {g = λ k. pos (den (fractionAt qs k))} i room (ap (λ (p : ℚ). pos (den p)) here)
       (λ k l h. ap (λ (p : ℚ). pos (den p)) (other k l h))
 
   pub fractions-store : (js : Fractions) (f : Fraction) → js ≡ fractions ps → f ≡ fraction q
@@ -109,7 +109,7 @@ module _ (ps qs : List ℚ) (q : ℚ) (i : ℕ) (room : i < capacity) (here : fr
       ∙ (λ k. record { num = store-num k; den = store-den k })
 
 -- one fraction more behind the others
-pub fractions-more : (qs : List ℚ) (q : ℚ) (i : ℕ) (js : Fractions) (f : Fraction) → length qs ≡ i → i < capacity → js ≡ fractions qs
+pub fractions-more : (qs : List ℚ) (q : ℚ) (i : ℕ) (js : Fractions) (f : Fraction) → length qs ≡ i → i < rowCells → js ≡ fractions qs
     → f ≡ fraction q → record { num = set (js .num) i (f .num); den = set (js .den) i (f .den) } ≡ fractions (qs ++ (q ∷ []))
 fractions-more qs q i js f size room is lowest =
     fractions-store qs (qs ++ (q ∷ [])) q i room (entry-new qs q i size) (λ k l h. entry-kept qs q k (λ e. h (e ∙ size))) js f is lowest
@@ -139,4 +139,4 @@ one-fraction js is =
     den-same (suc i) = refl
 
     dens : fractions [] .den ≡ fractions (int (pos 1) ∷ []) .den
-    dens = tab-ext capacity (λ i h. den-same i)
+    dens = tab-ext rowCells (λ i h. den-same i)

@@ -7,9 +7,9 @@ use Rattle.base_exact.specs.Rational.{ℚ, den, int}
 use Rattle.base_exact.specs.Tabulate.{tab}
 use Rattle.base_fraction.specs.declared.arrays.Fractions.{Fractions}
 
--- An array has a place for each row of a table.
-abbrev pub capacity : ℕ
-capacity = 72
+-- A row of the buffers has 72 cells (§ 2), and an array of fractions a place for each row of a table.
+abbrev pub rowCells : ℕ
+rowCells = 72
 
 -- The fraction at index i of a list: 0 past its end.
 abbrev pub fractionAt : List ℚ → ℕ → ℚ
@@ -17,4 +17,4 @@ fractionAt qs i = getD qs i (int (pos 0))
 
 -- The numerators and the denominators of a list of fractions, 0/1 past its end.
 unfoldable pub fractions : List ℚ → Fractions
-fractions qs = record { num = tab capacity (λ i. (fractionAt qs i) .num); den = tab capacity (λ i. pos (den (fractionAt qs i))) }
+fractions qs = record { num = tab rowCells (λ i. (fractionAt qs i) .num); den = tab rowCells (λ i. pos (den (fractionAt qs i))) }

@@ -4,29 +4,29 @@ ghost use mathlib.Core.List.{List, []};
 ghost use Prim.Native.Nat.{_<_};
 ghost use Rattle.base_exact.specs.Rational.{ℚ};
 ghost use Rattle.base_fraction.specs.Machine.{fraction};
-ghost use Rattle.base_fraction.specs.Fractions.{capacity, fractionAt, fractions};
+ghost use Rattle.base_fraction.specs.Fractions.{rowCells, fractionAt, fractions};
 use crate::Fraction;
 
-// How many fractions an array holds: `capacity` of specs/Fractions.
-pub const CAPACITY: usize = 72;
+// How many fractions an array holds: `rowCells` of specs/Fractions.
+pub const ROW_CELLS: usize = 72;
 
 pub struct Fractions {
-    pub num: [i64; CAPACITY],
-    pub den: [i64; CAPACITY],
+    pub num: [i64; ROW_CELLS],
+    pub den: [i64; ROW_CELLS],
 }
 
 pub fn no_fractions() -> Fractions
     ensures { λ r. ⌜ r ≡ fractions [] ⌝ }
 {
     Fractions {
-        num: [0; CAPACITY],
-        den: [1; CAPACITY],
+        num: [0; ROW_CELLS],
+        den: [1; ROW_CELLS],
     }
 }
 
 // The fraction at index i.
 pub fn fraction_at(qs: Fractions, i: usize) -> Fraction
-    requires { ⌜ i < capacity ⌝ }
+    requires { ⌜ i < rowCells ⌝ }
     ensures { λ r. ⌜ ((of : List ℚ) → qs ≡ fractions of → r ≡ fraction (fractionAt of i)) ⌝ }
 {
     let n = qs.num[i];

@@ -1,5 +1,8 @@
 // What the calls end with: an answer, or a refusal with code and place; the cap on places; and what a search for an index finds.
 // The definitions are apart from those of the curves, since Tucson files end in the same way.
+pub mod codes;
+pub mod limits;
+
 ghost use mathlib.Core.Path.{_≡_};
 ghost use Rattle.base_outcome.specs.Outcome.{capped};
 

@@ -4,6 +4,7 @@ ghost use Rattle.spec_spline.specs.Build.{buildEnd};
 ghost use Rattle.build_space.specs.Machine.{space};
 ghost use Rattle.base_outcome.specs.Machine.{reply};
 use base_outcome::Answer;
+use base_outcome::codes;
 
 pub mod parts;
 
@@ -21,10 +22,10 @@ pub fn build(
         (reply r ≡ e .answers) × ((now (num .exit) ≡ e .numerators) × (now (den .exit) ≡ e .denominators))) ⌝ }
 {
     if num.len() < build_cells::TABLE_CELLS {
-        return Answer::Refused(1, 0);
+        return Answer::Refused(codes::SHORT_BUFFER, 0);
     }
     if den.len() < build_cells::TABLE_CELLS {
-        return Answer::Refused(1, 1);
+        return Answer::Refused(codes::SHORT_BUFFER, 1);
     }
     let legality = build_limits::check(breaks, degrees, orders);
     match legality {

@@ -7,10 +7,10 @@ ghost use Rattle.build_cells.specs.Region.{filled};
 use base_fraction::Fraction;
 
 // Cells of a row.
-pub const ROW_CELLS: usize = base_fraction::arrays::CAPACITY;
+pub const ROW_CELLS: usize = base_fraction::arrays::ROW_CELLS;
 
 // Cells of a table.
-pub const TABLE_CELLS: usize = 5184;
+pub const TABLE_CELLS: usize = ROW_CELLS * ROW_CELLS;
 
 // One number in the cells of a buffer from the one index up to the other. A loop for each buffer: the compiler makes wide stores
 // of a loop that writes one number to one place after another, and of two such rows of places in one loop it makes slower ones.

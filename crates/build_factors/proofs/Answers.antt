@@ -17,7 +17,7 @@ use Rattle.base_fraction.specs.Fractions.{fractions}
 use Rattle.base_fraction.specs.declared.arrays.Fractions.{Fractions}
 use Rattle.build_factors.specs.Machine.{refusalOf}
 use Rattle.build_factors.specs.Jumps.{AllFit, Spanned}
-use Rattle.build_factors.specs.declared.Refusal.the-variants as refusals
+use Rattle.build_factors.specs.declared.StepRefusal.the-variants as refusals
 
 -- Jumps that fit and whose span is answered: what the factors ask.
 pub spanned : (j : ℕ) (qs : List ℚ) {js : Fractions} {f l : ℕ} → js ≡ fractions qs → AllFit qs → length qs ≤ rowCells → span j qs ≡ answer (record { f = f; l = l }) → Spanned js f l

@@ -19,8 +19,8 @@ use Rattle.base_fraction.specs.declared.arrays.Fractions.{Fractions}
 use Rattle.base_fraction.proofs.Fractions.{fractions-zero}
 use Rattle.build_factors.specs.Machine.{nextFactor, refusalOf, Plans}
 use Rattle.build_factors.specs.declared.RowFactors.{RowFactors}
-use Rattle.build_factors.specs.declared.Refusal.{Refusal}
-use Rattle.build_factors.specs.declared.Refusal.the-variants as refusals
+use Rattle.build_factors.specs.declared.StepRefusal.{StepRefusal}
+use Rattle.build_factors.specs.declared.StepRefusal.the-variants as refusals
 use Rattle.build_factors.specs.declared.NextFactor.{NextFactor}
 
 -- 0/1 is the fraction 0
@@ -71,13 +71,13 @@ next-none s (answer w) r e h = record { factor = w; answers = refl; sum-is = ap 
 next-none s (refusal code place) r e h = absurd (refusal-some code (sym (ap (λ (x : NextFactor). x .refusal) e) ∙ h))
 
 -- A refusal: the outcome is refused, with a number of that name.
-pub record Ended {A : Type 0} (o : Outcome A) (reason : Refusal) : Type 0 where
+pub record Ended {A : Type 0} (o : Outcome A) (reason : StepRefusal) : Type 0 where
   pub code : ℕ
   pub place : ℕ
   pub refuses : o ≡ refusal code place
   pub named : refusalOf code ≡ reason
 
-pub next-ended : (s : ℚ) (o : Outcome ℚ) (r : NextFactor) (reason : Refusal) → r ≡ nextFactor s o → r .refusal ≡ reason → reason ≢ refusals.None → Ended o reason
+pub next-ended : (s : ℚ) (o : Outcome ℚ) (r : NextFactor) (reason : StepRefusal) → r ≡ nextFactor s o → r .refusal ≡ reason → reason ≢ refusals.None → Ended o reason
 unfolding nextFactor
 next-ended s (answer w) r reason e h n = absurd (n (sym h ∙ ap (λ (x : NextFactor). x .refusal) e))
 next-ended s (refusal code place) r reason e h n = record { code = code; place = place; refuses = refl; named = sym (ap (λ (x : NextFactor). x .refusal) e) ∙ h }
@@ -94,7 +94,7 @@ module _ (j : ℕ) (qs : List ℚ) (f l : ℕ) where
   abbrev plan-of : Outcome (List ℚ) → Outcome Planned
   plan-of o = (o then λ us. answer (with-ends us)) then λ ws. answer (record { jumps = qs; span = record { f = f; l = l }; factors = ws })
 
-  pub factors-refused : {code place : ℕ} {reason : Refusal} (r : RowFactors) → between-factors ≡ refusal code place → refusalOf code ≡ reason
+  pub factors-refused : {code place : ℕ} {reason : StepRefusal} (r : RowFactors) → between-factors ≡ refusal code place → refusalOf code ≡ reason
       → r .refusal ≡ reason → Plans (planOver j qs (record { f = f; l = l })) r
   unfolding factors planOver
   factors-refused r e named h = subst (λ (o : Outcome (List ℚ)). Plans (plan-of o) r) (sym e) (h ∙ sym named)

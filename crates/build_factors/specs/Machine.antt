@@ -6,17 +6,18 @@ use lib.Dec.{eqb}
 use lib.IntN.{pos}
 use Rattle.base_exact.specs.Rational.{ℚ, int}
 use Rattle.base_fraction.specs.Machine.{fraction}
+use Rattle.base_outcome.specs.Codes as codes
 use Rattle.base_outcome.specs.Outcome.{Outcome, answer, refusal}
 use Rattle.spec_spline.specs.Step.{Planned}
 use Rattle.base_fraction.specs.Fractions.{fractions}
-use Rattle.build_factors.specs.declared.Refusal.{Refusal}
-use Rattle.build_factors.specs.declared.Refusal.the-variants as refusals
+use Rattle.build_factors.specs.declared.StepRefusal.{StepRefusal}
+use Rattle.build_factors.specs.declared.StepRefusal.the-variants as refusals
 use Rattle.build_factors.specs.declared.NextFactor.{NextFactor}
 use Rattle.build_factors.specs.declared.RowFactors.{RowFactors}
 
 -- Code 8 or 9.
-unfoldable pub refusalOf : ℕ → Refusal
-refusalOf code = cond (eqb code 8) refusals.TooLarge refusals.Shape
+unfoldable pub refusalOf : ℕ → StepRefusal
+refusalOf code = cond (eqb code codes.tooLarge) refusals.TooLarge refusals.Shape
 
 -- The next factor with the partial sum that it comes from.
 unfoldable pub nextFactor : ℚ → Outcome ℚ → NextFactor

@@ -17,7 +17,7 @@ use base_fraction::arrays;
 use base_fraction::arrays::Fractions;
 
 // Why a step was not done, if it was not: code 8 or code 9.
-pub enum Refusal {
+pub enum StepRefusal {
     None,
     TooLarge,
     Shape,
@@ -25,13 +25,13 @@ pub enum Refusal {
 
 // The rows f to l and their factors, from index 0 on; after a refusal only the refusal counts.
 pub struct RowFactors {
-    pub refusal: Refusal,
+    pub refusal: StepRefusal,
     pub f: usize,
     pub l: usize,
     pub of: Fractions,
 }
 
-pub fn no_factors(refusal: Refusal) -> RowFactors
+pub fn no_factors(refusal: StepRefusal) -> RowFactors
     ensures { λ r. ⌜ (r .refusal ≡ refusal) × ((r .f ≡ 0) × ((r .l ≡ 0) × (r .of ≡ fractions []))) ⌝ }
 {
     RowFactors {
@@ -44,12 +44,12 @@ pub fn no_factors(refusal: Refusal) -> RowFactors
 
 // A factor w = S / jump with its partial sum S.
 pub struct NextFactor {
-    pub refusal: Refusal,
+    pub refusal: StepRefusal,
     pub sum: Fraction,
     pub w: Fraction,
 }
 
-fn no_factor(refusal: Refusal) -> NextFactor
+fn no_factor(refusal: StepRefusal) -> NextFactor
     ensures { λ r. ⌜ (r .refusal ≡ refusal) × ((r .sum .num ≡ pos 0)
         × ((r .sum .den ≡ pos 1) × ((r .w .num ≡ pos 0) × (r .w .den ≡ pos 1)))) ⌝ }
 {
@@ -78,20 +78,20 @@ fn factor(before: Fraction, jump: Fraction) -> NextFactor
 {
     let sum = base_arithmetic::sum(before, jump);
     match sum {
-        Counted::TooLarge => no_factor(Refusal::TooLarge),
+        Counted::TooLarge => no_factor(StepRefusal::TooLarge),
         Counted::Fits(s) => {
             let quotient = base_arithmetic::quotient(s, jump);
             match quotient {
-                Counted::TooLarge => no_factor(Refusal::TooLarge),
+                Counted::TooLarge => no_factor(StepRefusal::TooLarge),
                 Counted::Fits(w) => {
                     if strictly_between(w) {
                         return NextFactor {
-                            refusal: Refusal::None,
+                            refusal: StepRefusal::None,
                             sum: s,
                             w: w,
                         };
                     }
-                    no_factor(Refusal::Shape)
+                    no_factor(StepRefusal::Shape)
                 }
             }
         }
@@ -115,7 +115,7 @@ pub fn factors(js: Fractions, f: usize, l: usize) -> RowFactors
         let next = factor(sum, Fraction { num: jn, den: jd });
         let refusal = next.refusal;
         match refusal {
-            Refusal::None => {
+            StepRefusal::None => {
                 sum = next.sum;
                 let w = next.w;
                 let n = w.num;
@@ -124,17 +124,17 @@ pub fn factors(js: Fractions, f: usize, l: usize) -> RowFactors
                 ws.num[at] = n;
                 ws.den[at] = d;
             }
-            Refusal::TooLarge => {
-                return no_factors(Refusal::TooLarge);
+            StepRefusal::TooLarge => {
+                return no_factors(StepRefusal::TooLarge);
             }
-            Refusal::Shape => {
-                return no_factors(Refusal::Shape);
+            StepRefusal::Shape => {
+                return no_factors(StepRefusal::Shape);
             }
         }
         i += 1;
     }
     RowFactors {
-        refusal: Refusal::None,
+        refusal: StepRefusal::None,
         f: f,
         l: l,
         of: ws,

@@ -9,7 +9,7 @@ ghost use Rattle.build_cells.specs.Held.{ClearFrom};
 ghost use Rattle.build_cells.specs.Region.{filled, marked, diagonalStep};
 
 // From one place of the diagonal to the next: a row and a cell.
-const DIAGONAL_STEP: usize = 73;
+const DIAGONAL_STEP: usize = build_cells::ROW_CELLS + 1;
 
 // 0/1 in the first rows. Of all rows the compiler knows the count of cells, and makes longer runs of wide stores.
 fn clear_rows(num: &mut [i64], den: &mut [i64], rows: usize)

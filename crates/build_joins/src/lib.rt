@@ -11,9 +11,10 @@ ghost use Rattle.build_step.specs.Leaves.{Leaves};
 ghost use Rattle.build_joins.specs.Leaves.{JoinsLeave, Ends, grown};
 ghost use Rattle.build_joins.specs.Asks.{JoinAsks, SideAsks, JoinsAsk, LegalAsks};
 use base_outcome::Answer;
+use base_outcome::codes;
 use build_conditions::Join;
 use build_conditions::Side;
-use build_factors::Refusal;
+use build_factors::StepRefusal;
 
 // The n orders at one join, after the rows of the segment on its right have come in; `rows` is the number of rows before.
 fn join_step(
@@ -23,7 +24,7 @@ fn join_step(
     n: usize,
     rows: usize,
     columns: usize,
-) -> Refusal
+) -> StepRefusal
     requires { ⌜ JoinAsks join n (now num) (now den) rows columns ⌝ }
     ensures { λ r. ⌜ ((s : Space) (j : ℕ) (t : Table) → JoinIs join s j → Holds (now (num .entry)) (now (den .entry)) t
         → Shaped t rows columns
@@ -86,14 +87,14 @@ fn join_steps(
         let refusal = join_step(num, den, join, n, rows, columns);
         let place = base_outcome::place(j);
         match refusal {
-            Refusal::None => {
+            StepRefusal::None => {
                 rows = rows + more - n;
             }
-            Refusal::TooLarge => {
-                return Answer::Refused(8, place);
+            StepRefusal::TooLarge => {
+                return Answer::Refused(codes::TOO_LARGE, place);
             }
-            Refusal::Shape => {
-                return Answer::Refused(9, place);
+            StepRefusal::Shape => {
+                return Answer::Refused(codes::JUMPS, place);
             }
         }
         j += 1;

@@ -8,6 +8,7 @@ ghost use Rattle.build_space.specs.Machine.{space};
 ghost use Rattle.build_limits.specs.Checks.{breaksChecked, spansChecked, degreesChecked, ordersChecked, partsChecked};
 use base_outcome::Found;
 use base_outcome::Legality;
+use base_outcome::codes;
 use build_rules::Rule;
 
 pub fn lengths_fit(breaks: &[i32], degrees: &[i32], orders: &[i32]) -> bool
@@ -17,7 +18,7 @@ pub fn lengths_fit(breaks: &[i32], degrees: &[i32], orders: &[i32]) -> bool
     if m < 1 {
         return false;
     }
-    if m > build_space::MAX_SEGMENTS {
+    if m > build_space::SEGMENT_LIMIT {
         return false;
     }
     if breaks.len() != m + 1 {
@@ -33,7 +34,7 @@ fn check_parts(breaks: &[i32], degrees: &[i32], orders: &[i32]) -> Legality
 {
     let bad = build_rules::first_bad(Rule::Segments, breaks, degrees, orders, degrees.len());
     match bad {
-        Found::At(i) => Legality::Refused(15, base_outcome::place(i)),
+        Found::At(i) => Legality::Refused(codes::LONG_PART, base_outcome::place(i)),
         Found::Nothing => Legality::Legal,
     }
 }
@@ -45,7 +46,7 @@ fn check_orders(breaks: &[i32], degrees: &[i32], orders: &[i32]) -> Legality
 {
     let bad = build_rules::first_bad(Rule::Order, breaks, degrees, orders, orders.len());
     match bad {
-        Found::At(i) => Legality::Refused(5, base_outcome::place(i)),
+        Found::At(i) => Legality::Refused(codes::ORDER, base_outcome::place(i)),
         Found::Nothing => check_parts(breaks, degrees, orders),
     }
 }
@@ -57,7 +58,7 @@ fn check_degrees(breaks: &[i32], degrees: &[i32], orders: &[i32]) -> Legality
 {
     let bad = build_rules::first_bad(Rule::Degree, breaks, degrees, orders, degrees.len());
     match bad {
-        Found::At(i) => Legality::Refused(4, base_outcome::place(i)),
+        Found::At(i) => Legality::Refused(codes::DEGREE, base_outcome::place(i)),
         Found::Nothing => check_orders(breaks, degrees, orders),
     }
 }
@@ -71,7 +72,7 @@ fn check_spans(breaks: &[i32], degrees: &[i32], orders: &[i32]) -> Legality
     match bad {
         Found::At(i) => {
             let end = build_space::part_end(degrees, orders, i);
-            Legality::Refused(3, base_outcome::place(end))
+            Legality::Refused(codes::BREAKPOINT, base_outcome::place(end))
         }
         Found::Nothing => check_degrees(breaks, degrees, orders),
     }
@@ -84,7 +85,7 @@ fn check_breaks(breaks: &[i32], degrees: &[i32], orders: &[i32]) -> Legality
 {
     let bad = build_rules::first_bad(Rule::Breakpoint, breaks, degrees, orders, breaks.len());
     match bad {
-        Found::At(i) => Legality::Refused(3, base_outcome::place(i)),
+        Found::At(i) => Legality::Refused(codes::BREAKPOINT, base_outcome::place(i)),
         Found::Nothing => check_spans(breaks, degrees, orders),
     }
 }
@@ -96,6 +97,6 @@ pub fn check(breaks: &[i32], degrees: &[i32], orders: &[i32]) -> Legality
     if lengths_fit(breaks, degrees, orders) {
         check_breaks(breaks, degrees, orders)
     } else {
-        Legality::Refused(2, 0)
+        Legality::Refused(codes::LENGTHS, 0)
     }
 }

@@ -10,15 +10,15 @@ ghost use Rattle.build_space.specs.Machine.{space};
 ghost use Rattle.build_rules.specs.Rules.{broken, entries};
 use base_outcome::Found;
 
-const MAX_PART_SEGMENTS: usize = 12;
+const PART_SEGMENT_LIMIT: usize = 12;
 
 const BREAK_LIMIT: i32 = 10000;
 
 const SPAN_LIMIT: i64 = 2000;
 
-const MAX_DEGREE: i32 = 5;
+const DEGREE_LIMIT: i32 = 5;
 
-const MAX_ORDER: i32 = 2;
+const ORDER_LIMIT: i32 = 2;
 
 // What is asked of a breakpoint, of the span of a part, of a degree, of an order and of the number of segments in a part.
 pub enum Rule {
@@ -70,7 +70,7 @@ fn degree_is_bad(degrees: &[i32], i: usize) -> bool
     if p < 1 {
         return true;
     }
-    p > MAX_DEGREE
+    p > DEGREE_LIMIT
 }
 
 fn order_is_bad(degrees: &[i32], orders: &[i32], i: usize) -> bool
@@ -81,7 +81,7 @@ fn order_is_bad(degrees: &[i32], orders: &[i32], i: usize) -> bool
     if r < -1 {
         return true;
     }
-    if r > MAX_ORDER {
+    if r > ORDER_LIMIT {
         return true;
     }
     let p = degrees[i];
@@ -101,7 +101,7 @@ fn part_is_too_long(degrees: &[i32], orders: &[i32], i: usize) -> bool
         return false;
     }
     let end = build_space::part_end(degrees, orders, i);
-    end - i > MAX_PART_SEGMENTS
+    end - i > PART_SEGMENT_LIMIT
 }
 
 // Whether entry i breaks the rule.

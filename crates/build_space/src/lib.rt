@@ -9,7 +9,7 @@ ghost use Rattle.spec_spline.specs.Space.{conditionsBefore, rowCount};
 ghost use Rattle.build_space.specs.Machine.{space};
 ghost use Rattle.build_space.specs.Legal.{BreaksLegal, DegreesLegal, OrdersLegal, JoinsLegal};
 
-pub const MAX_SEGMENTS: usize = 48;
+pub const SEGMENT_LIMIT: usize = 48;
 
 const DISCONTINUITY: i32 = -1;
 

@@ -21,7 +21,7 @@ pub enum JumpSpan {
 }
 
 // The first row below `rows` with a jump other than zero, by the numerators.
-fn first_jump(js: &[i64; base_fraction::arrays::CAPACITY], rows: usize) -> Found
+fn first_jump(js: &[i64; base_fraction::arrays::ROW_CELLS], rows: usize) -> Found
     requires { ⌜ rows ≤ rowCells ⌝ }
     ensures { λ r. ⌜ ((qs : List ℚ) → now (js .entry) ≡ fractions qs .num → r ≡ found (Search.first rows (Step.jumpsAt qs))) ⌝ }
 {
@@ -39,7 +39,7 @@ fn first_jump(js: &[i64; base_fraction::arrays::CAPACITY], rows: usize) -> Found
 }
 
 // The last row below `rows` with a jump other than zero.
-fn last_jump(js: &[i64; base_fraction::arrays::CAPACITY], rows: usize) -> Found
+fn last_jump(js: &[i64; base_fraction::arrays::ROW_CELLS], rows: usize) -> Found
     requires { ⌜ rows ≤ rowCells ⌝ }
     ensures { λ r. ⌜ ((qs : List ℚ) → now (js .entry) ≡ fractions qs .num → r ≡ found (Search.last rows (Step.jumpsAt qs))) ⌝ }
     ensures { λ r. ⌜ ((i : ℕ) → r ≡ At i → i < rows) ⌝ }
@@ -58,7 +58,7 @@ fn last_jump(js: &[i64; base_fraction::arrays::CAPACITY], rows: usize) -> Found
 }
 
 // Whether a jump from row f up to row l is zero.
-fn zero_between(js: &[i64; base_fraction::arrays::CAPACITY], f: usize, l: usize) -> bool
+fn zero_between(js: &[i64; base_fraction::arrays::ROW_CELLS], f: usize, l: usize) -> bool
     requires { ⌜ l ≤ rowCells ⌝ }
     ensures { λ r. ⌜ ((qs : List ℚ) → now (js .entry) ≡ fractions qs .num → r ≡ Step.zeroBetween qs f l) ⌝ }
 {

@@ -17,8 +17,8 @@ use Rattle.spec_spline.proofs.Refusals.{newRows-refuse-8}
 use Rattle.build_cells.specs.Held.{Holds, Shaped}
 use Rattle.build_cells.proofs.Tables.{renewed-without}
 use Rattle.build_cells.proofs.Buffer.{holds-left, numerators-again, denominators-again}
-use Rattle.build_factors.specs.declared.Refusal.{Refusal}
-use Rattle.build_factors.specs.declared.Refusal.the-variants as refusals
+use Rattle.build_factors.specs.declared.StepRefusal.{StepRefusal}
+use Rattle.build_factors.specs.declared.StepRefusal.the-variants as refusals
 use Rattle.build_factors.proofs.Quotients.{refusal-some, Ended}
 use Rattle.build_factors.proofs.Answers.{eight-named}
 use Rattle.build_cells.specs.Left.{LeavesIf}
@@ -29,11 +29,11 @@ use Rattle.build_step.proofs.Stepped.{renewed-fits, renewed-shaped, new
 
 -- ---- what the machine's answer tells
 
-module _ {num den num′ den′ : List ℤ} (o : Outcome Table) {r : Refusal} (left : Leaves o r num den num′ den′) where
+module _ {num den num′ den′ : List ℤ} (o : Outcome Table) {r : StepRefusal} (left : Leaves o r num den num′ den′) where
   pub leaves-none : r ≡ refusals.None → Done (λ t. t) toldStep num den num′ den′ o r
   leaves-none e = left-done (λ t. t) toldStep num den num′ den′ o r (λ code place z h. refusal-some code (sym h ∙ e)) left
 
-  pub leaves-some : {reason : Refusal} → r ≡ reason → reason ≢ refusals.None → Halted (λ t. t) toldStep num den num′ den′ o r
+  pub leaves-some : {reason : StepRefusal} → r ≡ reason → reason ≢ refusals.None → Halted (λ t. t) toldStep num den num′ den′ o r
   leaves-some e n = left-halted (λ t. t) toldStep num den num′ den′ o r (λ t z h. n (sym e ∙ h)) left
 
 -- ---- the second half of a step, from what the new rows leave
@@ -88,7 +88,7 @@ module _ (j : ℕ) (t : Table) (ws : List ℚ) (g : Span) where
 -- ---- a step, from its halves
 
 module _ (j : ℕ) (κ : List Entry) (t : Table) where
-  pub step-ended : (num den : List ℤ) {reason : Refusal} → Ended (planned j κ t) reason → Leaves (step j κ t) reason num den num den
+  pub step-ended : (num den : List ℤ) {reason : StepRefusal} → Ended (planned j κ t) reason → Leaves (step j κ t) reason num den num den
   step-ended num den e = left-refusal (λ t. t) toldStep num den num den (step-planned j κ t ∙ then-refuses _ (e .refuses)) (sym (e .named)) (kept-same num) (kept-same den)
 
   module _ {p : Planned} (e : planned j κ t ≡ answer p) (num den num′ den′ : List ℤ) where

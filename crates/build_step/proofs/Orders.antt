@@ -12,7 +12,7 @@ use Rattle.spec_spline.specs.Step.{step}
 use Rattle.spec_spline.specs.Build.{orderSteps}
 use Rattle.spec_spline.proofs.Refusals.{EightOrNine, step-refuses}
 use Rattle.build_factors.specs.Machine.{refusalOf}
-use Rattle.build_factors.specs.declared.Refusal.the-variants as refusals
+use Rattle.build_factors.specs.declared.StepRefusal.the-variants as refusals
 use Rattle.build_factors.proofs.Answers.{eight-named, nine-named}
 use Rattle.build_step.proofs.Stepped.{Proper, step-one-less}
 use Rattle.build_step.proofs.Repeated.{Turns}

@@ -17,8 +17,8 @@ use Rattle.build_counted.proofs.Counted.{Refused}
 use Rattle.build_factors.specs.Jumps.{AllFit}
 use Rattle.build_factors.specs.Machine.{Plans}
 use Rattle.build_factors.specs.declared.RowFactors.{RowFactors}
-use Rattle.build_factors.specs.declared.Refusal.{Refusal}
-use Rattle.build_factors.specs.declared.Refusal.the-variants as refusals
+use Rattle.build_factors.specs.declared.StepRefusal.{StepRefusal}
+use Rattle.build_factors.specs.declared.StepRefusal.the-variants as refusals
 use Rattle.build_factors.proofs.Quotients.{refusal-some, Ended}
 use Rattle.build_factors.proofs.Answers.{eight-named, nine-named}
 use Rattle.build_rows.specs.Rows.{UnitFactors}
@@ -98,7 +98,7 @@ module _ (j : ℕ) (κ : List Entry) (t : Table) where
         go (refusal code place) e z = absurd (refusal-some code (sym z ∙ h))
 
     -- a refusal
-    pub plan-ended : (reason : Refusal) → r .refusal ≡ reason → reason ≢ refusals.None → Ended (planned j κ t) reason
+    pub plan-ended : (reason : StepRefusal) → r .refusal ≡ reason → reason ≢ refusals.None → Ended (planned j κ t) reason
     plan-ended reason h n = go (planFrom j js) from-jumps plans
       where
         go : (o : Outcome Planned) → planned j κ t ≡ o → Plans o r → Ended (planned j κ t) reason

@@ -19,8 +19,8 @@ ghost use Rattle.build_step.specs.Asks.{PlanAsks, RenewAsks, StepAsks, S
 ghost use Rattle.build_step.specs.Leaves.{Leaves};
 use base_fraction::arrays::Fractions;
 use build_conditions::Join;
-use build_factors::Refusal;
 use build_factors::RowFactors;
+use build_factors::StepRefusal;
 use build_span::JumpSpan;
 
 // The first half of a step, from its jumps: the rows that they span and the factors of these rows.
@@ -30,7 +30,7 @@ pub fn plan_step(js: Fractions, rows: usize) -> RowFactors
 {
     let span = build_span::span(js, rows);
     match span {
-        JumpSpan::Nothing => build_factors::no_factors(Refusal::Shape),
+        JumpSpan::Nothing => build_factors::no_factors(StepRefusal::Shape),
         JumpSpan::Rows(f, l) => build_factors::factors(js, f, l),
     }
 }
@@ -68,7 +68,7 @@ fn step(
     k: usize,
     rows: usize,
     columns: usize,
-) -> Refusal
+) -> StepRefusal
     requires { ⌜ StepAsks join k (now num) (now den) rows columns ⌝ }
     ensures { λ r. ⌜ ((s : Space) (j : ℕ) (t : Table) → JoinIs join s j → Holds (now (num .entry)) (now (den .entry)) t
         → Shaped t rows columns
@@ -77,19 +77,19 @@ fn step(
 {
     let js = build_jumps::jumps(num, den, rows, join, k);
     if !js.fit {
-        return Refusal::TooLarge;
+        return StepRefusal::TooLarge;
     }
     let plan = plan_step(js.of, rows);
     let refusal = plan.refusal;
     match refusal {
-        Refusal::TooLarge => Refusal::TooLarge,
-        Refusal::Shape => Refusal::Shape,
-        Refusal::None => {
+        StepRefusal::TooLarge => StepRefusal::TooLarge,
+        StepRefusal::Shape => StepRefusal::Shape,
+        StepRefusal::None => {
             let done = renew_rows(num, den, plan.of, plan.f, plan.l, rows, columns);
             if !done {
-                return Refusal::TooLarge;
+                return StepRefusal::TooLarge;
             }
-            Refusal::None
+            StepRefusal::None
         }
     }
 }
@@ -102,7 +102,7 @@ pub fn order_steps(
     n: usize,
     rows: usize,
     columns: usize,
-) -> Refusal
+) -> StepRefusal
     requires { ⌜ StepsAsk join n (now num) (now den) rows columns ⌝ }
     ensures { λ r. ⌜ ((s : Space) (j : ℕ) (t : Table) → JoinIs join s j → Holds (now (num .entry)) (now (den .entry)) t
         → Shaped t rows columns
@@ -112,16 +112,16 @@ pub fn order_steps(
     while k < n {
         let refusal = step(num, den, join, k, rows - k, columns);
         match refusal {
-            Refusal::None => {
+            StepRefusal::None => {
                 k += 1;
             }
-            Refusal::TooLarge => {
-                return Refusal::TooLarge;
+            StepRefusal::TooLarge => {
+                return StepRefusal::TooLarge;
             }
-            Refusal::Shape => {
-                return Refusal::Shape;
+            StepRefusal::Shape => {
+                return StepRefusal::Shape;
             }
         }
     }
-    Refusal::None
+    StepRefusal::None
 }

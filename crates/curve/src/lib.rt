@@ -23,8 +23,8 @@ pub fn curve(
         (reply r ≡ e .answers) × ((now (num .exit) ≡ e .numerators)
         × ((now (den .exit) ≡ e .denominators) × (now (values .exit) ≡ e .values)))) ⌝ }
 {
-    let mut early = [0; curve_places::MAX_COLUMNS];
-    let mut late = [0; curve_places::MAX_COLUMNS];
+    let mut early = [0; curve_places::COLUMN_LIMIT];
+    let mut late = [0; curve_places::COLUMN_LIMIT];
     let built = curve_start::build_curves(
         breaks,
         degrees,

@@ -5,6 +5,7 @@ use mathlib.Core.List.{List}
 use Prim.Native.Nat.{ℕ, _<_}
 use lib.IntN.{ℤ}
 use lib.ListN.{length}
+use Rattle.base_outcome.specs.Codes as codes
 use Rattle.base_outcome.specs.Outcome.{refusal, largestPlace, capped}
 use Rattle.spec_spline.specs.Space.{Space}
 use Rattle.spec_spline.specs.Reading.{Wood}
@@ -15,20 +16,20 @@ use Rattle.spec_calls.specs.Pieces.{pieceEnd}
 -- The curve without positions: 1 at one of the two weight buffers, the space's own numbers, 6 for the count of coefficients or at one of
 -- them.
 pub data AloneRefusal (s : Space) (coefs : List ℤ) : ℕ → ℕ → Type 0 where
-  shortBuffer : (i : ℕ) → i < 2 → AloneRefusal s coefs 1 i
+  shortBuffer : (i : ℕ) → i < 2 → AloneRefusal s coefs codes.shortBuffer i
   ofSpace : {code place : ℕ} → SpaceRefusal s code place → AloneRefusal s coefs code place
-  coefficientCount : AloneRefusal s coefs 6 largestPlace
-  atCoefficient : (i : ℕ) → i < length coefs → AloneRefusal s coefs 6 (capped i)
+  coefficientCount : AloneRefusal s coefs codes.coefficient largestPlace
+  atCoefficient : (i : ℕ) → i < length coefs → AloneRefusal s coefs codes.coefficient (capped i)
 
 -- A reach call: those, and 16 at 0.
 pub data ReachRefusal (s : Space) (coefs : List ℤ) : ℕ → ℕ → Type 0 where
   ofCurve : {code place : ℕ} → AloneRefusal s coefs code place → ReachRefusal s coefs code place
-  unreached : ReachRefusal s coefs 16 0
+  unreached : ReachRefusal s coefs codes.neverReached 0
 
 -- A piece call: those, and 17 at the segment named.
 pub data PieceRefusal (s : Space) (coefs : List ℤ) (k : ℕ) : ℕ → ℕ → Type 0 where
   ofCurve : {code place : ℕ} → AloneRefusal s coefs code place → PieceRefusal s coefs k code place
-  undrawable : PieceRefusal s coefs k 17 (capped k)
+  undrawable : PieceRefusal s coefs k codes.notDrawn (capped k)
 
 abbrev pub ReachNumbers : Type 0
 ReachNumbers = (s : Space) (wood : Wood) (coefs : List ℤ) (width : ℤ) (num den : List ℤ) (code place : ℕ)

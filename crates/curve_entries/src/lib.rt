@@ -11,8 +11,11 @@ ghost use Rattle.spec_spline.specs.Reading.{fine};
 ghost use Rattle.curve_entries.specs.Limits.{coefficientsChecked, outside, positionsChecked, SpanAsks};
 use base_outcome::Found;
 use base_outcome::Legality;
+use base_outcome::codes;
+use base_outcome::limits;
 
-const COEFFICIENT_LIMIT: i32 = 1000000;
+// Coefficients run from minus this to this.
+pub const COEFFICIENT_LIMIT: i32 = 1000000;
 
 // The first entry below the one bound or above the other.
 pub fn first_outside(list: &[i32], low: i32, high: i32) -> Found
@@ -43,11 +46,11 @@ pub fn check_coefficients(degrees: &[i32], orders: &[i32], coefs: &[i32]) -> Leg
 {
     let n = build_space::row_count(degrees, orders);
     if coefs.len() != 2 * n {
-        return Legality::Refused(6, base_outcome::LARGEST_PLACE);
+        return Legality::Refused(codes::COEFFICIENT, base_outcome::LARGEST_PLACE);
     }
     let bad = first_outside(coefs, 0 - COEFFICIENT_LIMIT, COEFFICIENT_LIMIT);
     match bad {
-        Found::At(i) => Legality::Refused(6, base_outcome::place(i)),
+        Found::At(i) => Legality::Refused(codes::COEFFICIENT, base_outcome::place(i)),
         Found::Nothing => Legality::Legal,
     }
 }
@@ -58,11 +61,11 @@ pub fn check_positions(breaks: &[i32], m: usize, positions: &[i32]) -> Legality
     ensures { λ r. ⌜ r ≡ legality (positionsChecked (now (positions .entry)) (fine (getD (now (breaks .entry)) 0 (pos 0)))
         (fine (getD (now (breaks .entry)) m (pos 0)))) ⌝ }
 {
-    let low = 256 * breaks[0];
-    let high = 256 * breaks[m];
+    let low = limits::FINENESS * breaks[0];
+    let high = limits::FINENESS * breaks[m];
     let bad = first_outside(positions, low, high);
     match bad {
-        Found::At(i) => Legality::Refused(7, base_outcome::place(i)),
+        Found::At(i) => Legality::Refused(codes::POSITION, base_outcome::place(i)),
         Found::Nothing => Legality::Legal,
     }
 }

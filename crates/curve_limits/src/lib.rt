@@ -6,8 +6,8 @@ ghost use Rattle.build_space.specs.Legal.{ListsLegal};
 ghost use Rattle.base_outcome.specs.Outcome.{answer};
 ghost use Rattle.spec_spline.specs.CurveCall.{legalEntries, curveChecked};
 use base_outcome::Legality;
-
-const MAX_POSITIONS: usize = 4096;
+use base_outcome::codes;
+use base_outcome::limits;
 
 // Codes 6 and 7 of a legal space.
 fn check_entries(
@@ -41,10 +41,10 @@ pub fn check(
         (now (coefs .entry)) (now (positions .entry))) ⌝ }
 {
     if !build_limits::lengths_fit(breaks, degrees, orders) {
-        return Legality::Refused(2, 0);
+        return Legality::Refused(codes::LENGTHS, 0);
     }
-    if positions.len() > MAX_POSITIONS {
-        return Legality::Refused(2, 1);
+    if positions.len() > limits::POSITION_LIMIT {
+        return Legality::Refused(codes::LENGTHS, 1);
     }
     let lists = build_limits::check(breaks, degrees, orders);
     match lists {

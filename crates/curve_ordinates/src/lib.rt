@@ -11,6 +11,7 @@ ghost use Rattle.build_cells.specs.Held.{Holds};
 ghost use Rattle.curve_ordinates.specs.Ordinates.{given, termsOf, Added, entries};
 ghost use Rattle.curve_ordinates.specs.Ordinates.{TermAsks, LimitsSmall, ColumnAsks, OrdinatesAsk};
 ghost use Rattle.curve_ordinates.specs.Wood.{woodOf};
+use base_outcome::limits;
 
 // A wood part.
 pub enum Wood {
@@ -55,7 +56,7 @@ fn with_term(before: Terms, a: i64, num: i64, den: i64) -> Terms
     requires { ⌜ TermAsks (before .sum) a num den ⌝ }
     ensures { λ r. ⌜ Added before a num den r ⌝ }
 {
-    let term = base_division::round_div(256 * a * num, den);
+    let term = base_division::round_div(limits::WIDE_FINENESS * a * num, den);
     let least = lesser(before.some, before.least, a);
     let greatest = greater(before.some, before.greatest, a);
     Terms {
@@ -85,8 +86,8 @@ fn limited(terms: Terms) -> i64
     if !terms.some {
         return sum;
     }
-    let low = 256 * terms.least;
-    let high = 256 * terms.greatest;
+    let low = limits::WIDE_FINENESS * terms.least;
+    let high = limits::WIDE_FINENESS * terms.greatest;
     if sum < low {
         return at_most(high, low);
     }

@@ -22,8 +22,8 @@ use Rattle.spec_calls.specs.CurveAlone.{curveAlone}
 use Rattle.spec_calls.specs.Pieces.{isDrawable, drawableDegree, pieceOf, pieceOutcome}
 use Rattle.curve_pieces.specs.Machine.{Shows, Replies, drawn, refused, pieceHeld, drawnHeld}
 use Rattle.curve_pieces.specs.declared.Drawing.{Drawing}
-use Rattle.curve_pieces.specs.declared.Answer.{Answer}
-use Rattle.curve_pieces.specs.declared.Answer.the-variants.{Drawn, Refused}
+use Rattle.curve_pieces.specs.declared.PieceAnswer.{PieceAnswer}
+use Rattle.curve_pieces.specs.declared.PieceAnswer.the-variants.{Drawn, Refused}
 
 -- ---- code 17
 
@@ -93,7 +93,7 @@ module _ (s : Space) (wood : Wood) (coefs : List ℤ) (k numLength denLength : �
       subst (Replies (Refused code place)) (sym
       (then-refuses (λ r. cond (isDrawable s k) (answer (pieceOf s (r .table) wood coefs k)) (refuse 17 k)) e)) refused
 
-  pub piece-drawn : {a : Answer} {os : List ℤ} (rest : List ℤ) (c : CurveResult) → curveAlone s coefs numLength denLength ≡ answer c
+  pub piece-drawn : {a : PieceAnswer} {os : List ℤ} (rest : List ℤ) (c : CurveResult) → curveAlone s coefs numLength denLength ≡ answer c
       → os ≡ ordinates s (c .table) (coefficient wood coefs) ++ rest
       → Replies a (drawnHeld s os k) → Replies a (pieceOutcome s wood coefs k numLength denLength)
   unfolding pieceOutcome

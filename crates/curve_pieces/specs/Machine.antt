@@ -7,6 +7,7 @@ use Prim.Native.Nat.{ℕ, suc, _+_, _<_, _≤_}
 use lib.IntN.{ℤ, pos}
 use lib.ListN.{length, getD}
 use Rattle.base_exact.specs.Tabulate.{tab}
+use Rattle.base_outcome.specs.Codes as codes
 use Rattle.base_outcome.specs.Outcome.{Outcome, answer, refusal, refuse}
 use Rattle.spec_spline.specs.Space.{Space, break, degree, firstColumn}
 use Rattle.spec_spline.specs.Reading.{fineness}
@@ -15,8 +16,8 @@ use Rattle.curve_places.specs.Offsets.{columnLimit}
 use Rattle.curve_drawing.specs.Floats.{Is, Each, floats}
 use Rattle.spec_calls.specs.Pieces.{drawableDegree, Piece, isDrawable}
 use Rattle.curve_pieces.specs.declared.Drawing.{Drawing}
-use Rattle.curve_pieces.specs.declared.Answer.{Answer}
-use Rattle.curve_pieces.specs.declared.Answer.the-variants.{Drawn, Refused}
+use Rattle.curve_pieces.specs.declared.PieceAnswer.{PieceAnswer}
+use Rattle.curve_pieces.specs.declared.PieceAnswer.the-variants.{Drawn, Refused}
 
 -- The machine's piece is the definition's, "all as 64-bit floats, exactly" (§ 11): an end is the breakpoint itself, and an ordinate
 -- times 256 is the whole number from step 1 of § 6.
@@ -26,7 +27,7 @@ pub record Shows (r : Drawing) (p : Piece) : Type 0 where
   pub end : Is (r .ends .end) (p .end) 1
 
 -- The answer is the outcome: the piece, or the code and place of a refusal.
-pub data Replies : Answer → Outcome Piece → Type 0 where
+pub data Replies : PieceAnswer → Outcome Piece → Type 0 where
   drawn : {r : Drawing} {p : Piece} → Shows r p → Replies (Drawn r) (answer p)
   refused : {code place : ℕ} → Replies (Refused code place) (refusal code place)
 
@@ -42,7 +43,7 @@ pieceHeld s os k = record {
 
 -- The same, or 17.
 abbrev pub drawnHeld : Space → List ℤ → ℕ → Outcome Piece
-drawnHeld s os k = cond (isDrawable s k) (answer (pieceHeld s os k)) (refuse 17 k)
+drawnHeld s os k = cond (isDrawable s k) (answer (pieceHeld s os k)) (refuse codes.notDrawn k)
 
 -- ---- what the functions of a piece ask
 

@@ -9,6 +9,7 @@ use lib.ListN.{getD}
 use Rattle.base_exact.specs.Rational.{ℚ, int, _+ᵠ_, _*ᵠ_, _/ᵠ_}
 use Rattle.base_exact.specs.Order.{_≤ᵠ_}
 use Rattle.base_exact.specs.Sum.{sum}
+use Rattle.base_outcome.specs.Codes as codes
 use Rattle.base_outcome.specs.Outcome.{answer, refusal}
 use Rattle.spec_spline.specs.Space.{Space, break, degree}
 use Rattle.spec_spline.specs.Table.{Table}
@@ -59,4 +60,4 @@ PiecesStartAtTheValue = (s : Space) (wood : Wood) (coefs : List ℤ) (k numLengt
 -- Code 9 never comes, whatever the call is given.
 abbrev pub PiecesNeverGiveNine : Type 0
 PiecesNeverGiveNine = (s : Space) (wood : Wood) (coefs : List ℤ) (k : ℕ) (num den : List ℤ) (place : ℕ)
-    → pieceEnd s wood coefs k num den .answers ≡ refusal 9 place → ⊥
+    → pieceEnd s wood coefs k num den .answers ≡ refusal codes.jumps place → ⊥

@@ -5,6 +5,7 @@ ghost use Rattle.build_space.specs.Machine.{space};
 ghost use Rattle.curve_ordinates.specs.Wood.{woodOf};
 ghost use Rattle.spec_calls.specs.Pieces.{pieceEnd};
 ghost use Rattle.curve_pieces.specs.Machine.{Shows, pieceHeld, drawnHeld, Replies, PieceAsks, DrawAsks};
+use base_outcome::codes;
 use curve_drawing::Curve;
 use curve_ordinates::Wood;
 
@@ -21,13 +22,13 @@ pub struct Drawing {
 }
 
 // What the call answers: the piece, or a refusal's code and place.
-pub enum Answer {
+pub enum PieceAnswer {
     Drawn(Drawing),
     Refused(u8, u32),
 }
 
 // The screen draws lines, quadratics and cubics.
-const MAX_DRAWN_DEGREE: usize = 3;
+const DRAWABLE_DEGREE: usize = 3;
 
 // The piece of segment k, whose degree the screen draws.
 fn piece_at(breaks: &[i32], degrees: &[i32], orders: &[i32], ordinates: &[i32], k: usize) -> Drawing
@@ -45,20 +46,26 @@ fn piece_at(breaks: &[i32], degrees: &[i32], orders: &[i32], ordinates: &[i32], 
 }
 
 // The piece of the named segment, or code 17.
-fn draw(breaks: &[i32], degrees: &[i32], orders: &[i32], ordinates: &[i32], segment: u32) -> Answer
+fn draw(
+    breaks: &[i32],
+    degrees: &[i32],
+    orders: &[i32],
+    ordinates: &[i32],
+    segment: u32,
+) -> PieceAnswer
     requires { ⌜ DrawAsks (space (now breaks) (now degrees) (now orders)) (now ordinates) ⌝ }
     ensures { λ r. ⌜ Replies r (drawnHeld (space (now (breaks .entry)) (now (degrees .entry)) (now (orders .entry)))
         (now (ordinates .entry)) segment) ⌝ }
 {
     let k = segment as usize;
     if k >= degrees.len() {
-        return Answer::Refused(17, segment);
+        return PieceAnswer::Refused(codes::NOT_DRAWN, segment);
     }
-    if build_space::degree_at(degrees, k) > MAX_DRAWN_DEGREE {
-        return Answer::Refused(17, segment);
+    if build_space::degree_at(degrees, k) > DRAWABLE_DEGREE {
+        return PieceAnswer::Refused(codes::NOT_DRAWN, segment);
     }
     let piece = piece_at(breaks, degrees, orders, ordinates, k);
-    Answer::Drawn(piece)
+    PieceAnswer::Drawn(piece)
 }
 
 // Builds the weights, and answers the piece of the wood part's curve over the named segment. Lists and buffers may have any
@@ -72,13 +79,13 @@ pub fn piece(
     segment: u32,
     num: &mut [i64],
     den: &mut [i64],
-) -> Answer
+) -> PieceAnswer
     ensures { λ r. ⌜ (let e = pieceEnd (space (now (breaks .entry)) (now (degrees .entry)) (now (orders .entry))) (woodOf wood)
         (now (coefs .entry)) segment (now (num .entry)) (now (den .entry)) in
         Replies r (e .answers) × ((now (num .exit) ≡ e .numerators) × (now (den .exit) ≡ e .denominators))) ⌝ }
 {
-    let mut early = [0; curve_places::MAX_COLUMNS];
-    let mut late = [0; curve_places::MAX_COLUMNS];
+    let mut early = [0; curve_places::COLUMN_LIMIT];
+    let mut late = [0; curve_places::COLUMN_LIMIT];
     let built = curve_start::build_curves(
         breaks,
         degrees,
@@ -92,7 +99,7 @@ pub fn piece(
         &mut late,
     );
     match built {
-        base_outcome::Answer::Refused(code, place) => Answer::Refused(code, place),
+        base_outcome::Answer::Refused(code, place) => PieceAnswer::Refused(code, place),
         base_outcome::Answer::Count(_) => match wood {
             Wood::Earlywood => draw(breaks, degrees, orders, &early, segment),
             Wood::Latewood => draw(breaks, degrees, orders, &late, segment),

@@ -1,4 +1,4 @@
--- The laws behind the value at one position: the ordinates of its segment, the inverses of the lengths, and its place.
+-- The laws behind the value at one position: the ordinates of its segment, the inverses of the lengths, and its location.
 pub mod Local
 pub mod Inverses
 pub mod Position

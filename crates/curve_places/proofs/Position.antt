@@ -1,5 +1,5 @@
 -- A position within the span of legal lists: the segment that holds it, its offset there and the segment's columns, which are
--- its place; and the value at a place.
+-- its location; and the value at a location.
 use mathlib.Core.Path.{_≡_, refl, sym, _∙_, ap, subst}
 use mathlib.Core.Bool.{Bool, true, _&&_}
 use mathlib.Core.List.{List, [], _++_}
@@ -25,8 +25,8 @@ use Rattle.build_space.proofs.Legal.{legal-checked, legal-width-high, legal-deg
 use Rattle.build_space.proofs.Partial.{first-column-partial}
 use Rattle.curve_rate.specs.Rate.{Offset}
 use Rattle.curve_places.specs.Offsets.{columnsOf, localOf, Within}
-use Rattle.curve_places.specs.Place.{placeOf, valueOf}
-use Rattle.curve_places.specs.declared.Place.{Place}
+use Rattle.curve_places.specs.Location.{locationOf, valueOf}
+use Rattle.curve_places.specs.declared.Location.{Location}
 use Rattle.curve_triangle.proofs.Stages.{triangle-ext}
 use Rattle.curve_places.proofs.Local.{local-at}
 
@@ -79,23 +79,23 @@ module _ (b d o : List ℤ) (h : ListsLegal b d o) (i : ℕ) (l : i < length d) 
   pub degree-within : degree (space [] d []) i ≤ 5
   degree-within = legal-degree-high b d o h i l
 
--- ---- the place
+-- ---- the location
 
 module _ (b d o : List ℤ) (x : ℤ) (i : ℕ) (at : i ≡ segmentAt (space b d o) x) where
-  pub place-is : {c p : ℕ} {u e : ℤ} → c ≡ firstColumn (space [] d []) i → p ≡ degree (space [] d []) i → u ≡ offset (space b [] []) i x
+  pub location-is : {c p : ℕ} {u e : ℤ} → c ≡ firstColumn (space [] d []) i → p ≡ degree (space [] d []) i → u ≡ offset (space b [] []) i x
       → e ≡ pos (fineWidth (space b [] []) i)
-      → record { column = c; degree = p; offset = u; width = e } ≡ placeOf (space b d o) x
-  unfolding placeOf
-  place-is c-is p-is u-is e-is = λ z. record {
+      → record { column = c; degree = p; offset = u; width = e } ≡ locationOf (space b d o) x
+  unfolding locationOf
+  location-is c-is p-is u-is e-is = λ z. record {
     column = (c-is ∙ first-column-partial b d o i ∙ ap (firstColumn (space b d o)) at) z;
     degree = (p-is ∙ ap (degree (space b d o)) at) z;
     offset = (u-is ∙ ap (λ n. offset (space b d o) n x) at) z;
     width = (e-is ∙ ap (λ n. pos (fineWidth (space b d o) n)) at) z;
   }
 
-pub place-width : (s : Space) (x : ℤ) → placeOf s x .width ≡ pos (fineWidth s (segmentAt s x))
-unfolding placeOf
-place-width s x = refl
+pub location-width : (s : Space) (x : ℤ) → locationOf s x .width ≡ pos (fineWidth s (segmentAt s x))
+unfolding locationOf
+location-width s x = refl
 
 -- ---- the value
 
@@ -107,13 +107,13 @@ value-local os c p u d l =
     (omega arith)
 
 -- in the arm of its degree
-pub value-arm : (os : List ℤ) (place : Place) (p : ℕ) (r : ℤ) → place .degree ≡ p
-    → r ≡ triangle (natAbs (place .width)) (place .offset) (λ k. getD os (place .column + k) (pos 0)) p 0 → r ≡ valueOf os place
+pub value-arm : (os : List ℤ) (location : Location) (p : ℕ) (r : ℤ) → location .degree ≡ p
+    → r ≡ triangle (natAbs (location .width)) (location .offset) (λ k. getD os (location .column + k) (pos 0)) p 0 → r ≡ valueOf os location
 unfolding valueOf
-value-arm os place p r e h =
-    h ∙ ap (λ (n : ℕ). triangle (natAbs (place .width)) (place .offset) (λ k. getD os (place .column + k) (pos 0)) n 0) (sym e)
+value-arm os location p r e h =
+    h ∙ ap (λ (n : ℕ). triangle (natAbs (location .width)) (location .offset) (λ k. getD os (location .column + k) (pos 0)) n 0) (sym e)
 
--- at a position's place it is the definition's
-pub value-blended : (s : Space) (os : List ℤ) (x : ℤ) → valueOf os (placeOf s x) ≡ blended s os (segmentAt s x) x
-unfolding valueOf placeOf blended
+-- at a position's location it is the definition's
+pub value-blended : (s : Space) (os : List ℤ) (x : ℤ) → valueOf os (locationOf s x) ≡ blended s os (segmentAt s x) x
+unfolding valueOf locationOf blended
 value-blended s os x = refl

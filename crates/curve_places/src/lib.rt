@@ -1,4 +1,4 @@
-// The values at one position: its place and its rate, found once for both woods, and for each wood the segment's ordinates and
+// The values at one position: its location and its rate, found once for both woods, and for each wood the segment's ordinates and
 // the de Casteljau triangle on them. A rate takes the inverse of the segment's length, worked out once a call.
 ghost use mathlib.Core.Path.{_≡_};
 ghost use mathlib.Core.List.{[]};
@@ -9,11 +9,12 @@ ghost use Rattle.build_space.specs.Machine.{space};
 ghost use Rattle.spec_spline.specs.Reading;
 ghost use Rattle.curve_places.specs.Offsets.{localOf, BreakAt};
 ghost use Rattle.curve_places.specs.Inverses.{wholesOf, tailsOf, InversesAsk};
-ghost use Rattle.curve_places.specs.Place.{valueOf, PlaceAsks, PlaceIs, ValueAsks, ValueIs, ValueAtAsks, PairAsks, PairIs};
+ghost use Rattle.curve_places.specs.Location.{valueOf, LocationAsks, LocationIs, ValueAsks, ValueIs, ValueAtAsks, PairAsks, PairIs};
+use base_outcome::limits;
 
 // Where a position lies: its segment's first column and degree, how far past the segment's start it is and how long the
 // segment is, both in 256ths of a ring.
-pub struct Place {
+pub struct Location {
     pub column: usize,
     pub degree: usize,
     pub offset: i64,
@@ -26,8 +27,8 @@ pub struct Pair {
     pub late: i32,
 }
 
-// Six columns for each of 48 segments.
-pub const MAX_COLUMNS: usize = 288;
+// Six columns for each of the most segments.
+pub const COLUMN_LIMIT: usize = 6 * build_space::SEGMENT_LIMIT;
 
 // The p + 1 ordinates from column c on, 0 past them.
 fn local_ordinates(ordinates: &[i32], c: usize, p: usize) -> [i64; 6]
@@ -50,15 +51,15 @@ pub fn fine_width(breaks: &[i32], i: usize) -> i64
     ensures { λ r. ⌜ r ≡ pos (Reading.fineWidth (space (now (breaks .entry)) [] []) i) ⌝ }
 {
     let length = build_space::segment_length(breaks, i);
-    256 * length
+    limits::WIDE_FINENESS * length
 }
 
 // The inverses of the lengths of the segments, rounded down.
-pub fn inverse_wholes(breaks: &[i32], degrees: &[i32]) -> [i64; build_space::MAX_SEGMENTS]
+pub fn inverse_wholes(breaks: &[i32], degrees: &[i32]) -> [i64; build_space::SEGMENT_LIMIT]
     requires { ⌜ InversesAsk (now breaks) (now degrees) ⌝ }
     ensures { λ r. ⌜ r ≡ wholesOf (space (now (breaks .entry)) (now (degrees .entry)) []) ⌝ }
 {
-    let mut wholes = [0; build_space::MAX_SEGMENTS];
+    let mut wholes = [0; build_space::SEGMENT_LIMIT];
     let mut k = 0;
     while k < degrees.len() {
         let d = fine_width(breaks, k);
@@ -70,11 +71,11 @@ pub fn inverse_wholes(breaks: &[i32], degrees: &[i32]) -> [i64; build_space::MAX
 }
 
 // What these lack, in 2^29ths.
-pub fn inverse_tails(breaks: &[i32], degrees: &[i32]) -> [i64; build_space::MAX_SEGMENTS]
+pub fn inverse_tails(breaks: &[i32], degrees: &[i32]) -> [i64; build_space::SEGMENT_LIMIT]
     requires { ⌜ InversesAsk (now breaks) (now degrees) ⌝ }
     ensures { λ r. ⌜ r ≡ tailsOf (space (now (breaks .entry)) (now (degrees .entry)) []) ⌝ }
 {
-    let mut tails = [0; build_space::MAX_SEGMENTS];
+    let mut tails = [0; build_space::SEGMENT_LIMIT];
     let mut k = 0;
     while k < degrees.len() {
         let d = fine_width(breaks, k);
@@ -91,19 +92,19 @@ fn offset(breaks: &[i32], i: usize, x: i32) -> i64
     ensures { λ r. ⌜ r ≡ Reading.offset (space (now (breaks .entry)) [] []) i x ⌝ }
 {
     let start = breaks[i] as i64;
-    x as i64 - 256 * start
+    x as i64 - limits::WIDE_FINENESS * start
 }
 
-// The place of position x, which lies in segment i.
-pub fn place_at(breaks: &[i32], degrees: &[i32], columns: &[usize], i: usize, x: i32) -> Place
-    requires { ⌜ PlaceAsks (now breaks) (now degrees) (now columns) i x ⌝ }
-    ensures { λ r. ⌜ PlaceIs (now (breaks .entry)) (now (degrees .entry)) i x r ⌝ }
+// The location of position x, which lies in segment i.
+pub fn location_at(breaks: &[i32], degrees: &[i32], columns: &[usize], i: usize, x: i32) -> Location
+    requires { ⌜ LocationAsks (now breaks) (now degrees) (now columns) i x ⌝ }
+    ensures { λ r. ⌜ LocationIs (now (breaks .entry)) (now (degrees .entry)) i x r ⌝ }
 {
     let p = build_space::degree_at(degrees, i);
     let u = offset(breaks, i, x);
     let d = fine_width(breaks, i);
     let c = columns[i];
-    Place {
+    Location {
         column: c,
         degree: p,
         offset: u,
@@ -137,27 +138,39 @@ fn value_by(ordinates: &[i32], c: usize, p: usize, high: i64, low: i64) -> i32
     }
 }
 
-// The value at a place of the curve with these ordinates.
-pub fn value_at(ordinates: &[i32], place: Place) -> i32
-    requires { ⌜ ValueAtAsks (now ordinates) place ⌝ }
-    ensures { λ r. ⌜ r ≡ valueOf (now (ordinates .entry)) place ⌝ }
+// The value at a location of the curve with these ordinates.
+pub fn value_at(ordinates: &[i32], location: Location) -> i32
+    requires { ⌜ ValueAtAsks (now ordinates) location ⌝ }
+    ensures { λ r. ⌜ r ≡ valueOf (now (ordinates .entry)) location ⌝ }
 {
-    let d = place.width;
+    let d = location.width;
     let whole = curve_rate::whole_of(d);
     let tail = curve_rate::tail_of(d);
-    let rate = curve_rate::rate_of(place.offset, whole, tail);
-    value_by(ordinates, place.column, place.degree, rate.high, rate.low)
+    let rate = curve_rate::rate_of(location.offset, whole, tail);
+    value_by(
+        ordinates,
+        location.column,
+        location.degree,
+        rate.high,
+        rate.low,
+    )
 }
 
-// The values of both woods at a place, by one rate, from the inverse of the segment's length. The one blend of degree 1 is made
+// The values of both woods at a location, by one rate, from the inverse of the segment's length. The one blend of degree 1 is made
 // here, without a call.
-pub fn pair_at(earlywood: &[i32], latewood: &[i32], place: Place, whole: i64, tail: i64) -> Pair
-    requires { ⌜ PairAsks (now earlywood) (now latewood) place whole tail ⌝ }
-    ensures { λ r. ⌜ PairIs (now (earlywood .entry)) (now (latewood .entry)) place r ⌝ }
+pub fn pair_at(
+    earlywood: &[i32],
+    latewood: &[i32],
+    location: Location,
+    whole: i64,
+    tail: i64,
+) -> Pair
+    requires { ⌜ PairAsks (now earlywood) (now latewood) location whole tail ⌝ }
+    ensures { λ r. ⌜ PairIs (now (earlywood .entry)) (now (latewood .entry)) location r ⌝ }
 {
-    let c = place.column;
-    let p = place.degree;
-    let rate = curve_rate::rate_of(place.offset, whole, tail);
+    let c = location.column;
+    let p = location.degree;
+    let rate = curve_rate::rate_of(location.offset, whole, tail);
     let h = rate.high;
     let l = rate.low;
     if p == 1 {

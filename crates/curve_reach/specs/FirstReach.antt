@@ -5,6 +5,7 @@ use mathlib.Core.List.{List}
 use Prim.Native.Nat.{ℕ}
 use lib.IntN.{ℤ}
 use lib.Signed.{_<ℤ_, _≤ℤ_}
+use Rattle.base_outcome.specs.Codes as codes
 use Rattle.base_outcome.specs.Outcome.{answer, refusal}
 use Rattle.spec_spline.specs.Space.{Space, segments, break}
 use Rattle.spec_spline.specs.Reading.{Wood, fine, valueAt}
@@ -30,9 +31,9 @@ pub record NeverReached (s : Space) (wood : Wood) (coefs : List ℤ) (width : �
 
 abbrev pub SixteenIsNever : Type 0
 SixteenIsNever = (s : Space) (wood : Wood) (coefs : List ℤ) (width : ℤ) (numLength denLength place : ℕ)
-    → reachOutcome s wood coefs width numLength denLength ≡ refusal 16 place → NeverReached s wood coefs width
+    → reachOutcome s wood coefs width numLength denLength ≡ refusal codes.neverReached place → NeverReached s wood coefs width
 
 -- Code 9 never comes, whatever the call is given.
 abbrev pub ReachNeverGivesNine : Type 0
 ReachNeverGivesNine = (s : Space) (wood : Wood) (coefs : List ℤ) (width : ℤ) (num den : List ℤ) (place : ℕ)
-    → reachEnd s wood coefs width num den .answers ≡ refusal 9 place → ⊥
+    → reachEnd s wood coefs width num den .answers ≡ refusal codes.jumps place → ⊥

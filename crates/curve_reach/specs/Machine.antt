@@ -3,11 +3,11 @@ use mathlib.Core.List.{List}
 use lib.IntN.{ℤ}
 use Rattle.base_outcome.specs.Outcome.{Outcome, answer, refusal}
 use Rattle.spec_spline.specs.Reading.{Wood, earlywood, latewood}
-use Rattle.curve_reach.specs.declared.Answer.{Answer}
-use Rattle.curve_reach.specs.declared.Answer.the-variants.{Reached, Refused}
+use Rattle.curve_reach.specs.declared.ReachAnswer.{ReachAnswer}
+use Rattle.curve_reach.specs.declared.ReachAnswer.the-variants.{Reached, Refused}
 
 -- The position, or the code and place of a refusal.
-unfoldable pub reply : Answer → Outcome ℤ
+unfoldable pub reply : ReachAnswer → Outcome ℤ
 reply (Reached x) = answer x
 reply (Refused code place) = refusal code place
 

@@ -11,11 +11,13 @@ ghost use Rattle.curve_search.specs.Asks.{SearchAsks};
 ghost use Rattle.spec_calls.specs.Reach.{reachedAt, reachEnd};
 ghost use Rattle.curve_reach.specs.Machine.{reply, chosen};
 ghost use Rattle.curve_reach.specs.Asks.{ReachAsks};
+use base_outcome::codes;
+use base_outcome::limits;
 use curve_ordinates::Wood;
-use curve_search::Found;
+use curve_search::FirstPosition;
 
 // What the call answers: the position, or a refusal's code and place.
-pub enum Answer {
+pub enum ReachAnswer {
     Reached(i32),
     Refused(u8, u32),
 }
@@ -27,16 +29,16 @@ fn first_reach(
     orders: &[i32],
     ordinates: &[i32],
     width: i32,
-) -> Answer
+) -> ReachAnswer
     requires { ⌜ SearchAsks (space (now breaks) (now degrees) (now orders)) (now ordinates) ⌝ }
     ensures { λ r. ⌜ (let s = space (now (breaks .entry)) (now (degrees .entry)) (now (orders .entry)) in
         reply r ≡ reachedAt s (Search.first (positionCount s) (reachesHeld s (now (ordinates .entry)) (fine width)))) ⌝ }
 {
-    let target = 256 * width as i64;
+    let target = limits::WIDE_FINENESS * width as i64;
     let found = curve_search::search(breaks, degrees, orders, ordinates, target);
     match found {
-        Found::At(x) => Answer::Reached(x),
-        Found::Nowhere => Answer::Refused(16, 0),
+        FirstPosition::At(x) => ReachAnswer::Reached(x),
+        FirstPosition::Nowhere => ReachAnswer::Refused(codes::NEVER_REACHED, 0),
     }
 }
 
@@ -49,7 +51,7 @@ fn part_reach(
     early: &[i32],
     late: &[i32],
     width: i32,
-) -> Answer
+) -> ReachAnswer
     requires { ⌜ ReachAsks (space (now breaks) (now degrees) (now orders)) (now early) (now late) ⌝ }
     ensures { λ r. ⌜ (let s = space (now (breaks .entry)) (now (degrees .entry)) (now (orders .entry)) in
         reply r ≡ reachedAt s (Search.first (positionCount s) (reachesHeld s (chosen (woodOf wood) (now (early .entry)) (now (late .entry)))
@@ -72,13 +74,13 @@ pub fn reach(
     width: i32,
     num: &mut [i64],
     den: &mut [i64],
-) -> Answer
+) -> ReachAnswer
     ensures { λ r. ⌜ (let e = reachEnd (space (now (breaks .entry)) (now (degrees .entry)) (now (orders .entry))) (woodOf wood)
         (now (coefs .entry)) width (now (num .entry)) (now (den .entry)) in
         (reply r ≡ e .answers) × ((now (num .exit) ≡ e .numerators) × (now (den .exit) ≡ e .denominators))) ⌝ }
 {
-    let mut early = [0; curve_places::MAX_COLUMNS];
-    let mut late = [0; curve_places::MAX_COLUMNS];
+    let mut early = [0; curve_places::COLUMN_LIMIT];
+    let mut late = [0; curve_places::COLUMN_LIMIT];
     let built = curve_start::build_curves(
         breaks,
         degrees,
@@ -92,7 +94,7 @@ pub fn reach(
         &mut late,
     );
     match built {
-        base_outcome::Answer::Refused(code, place) => Answer::Refused(code, place),
+        base_outcome::Answer::Refused(code, place) => ReachAnswer::Refused(code, place),
         base_outcome::Answer::Count(_) => part_reach(
             wood,
             breaks,

@@ -24,7 +24,7 @@ use Rattle.build_space.proofs.Partial.{starts-at-discontinuity-partial}
 use Rattle.spec_calls.specs.Positions.{positionCount, position}
 use Rattle.curve_search.specs.Machine.{startOffset, endOffset, heldValue, reachesHeld, found}
 use Rattle.curve_steps.specs.Machine.{valueOn, LeastFrom}
-use Rattle.curve_search.specs.declared.Found.the-variants.{At, Nowhere}
+use Rattle.curve_search.specs.declared.FirstPosition.the-variants.{At, Nowhere}
 use Rattle.curve_steps.proofs.Distances.{past}
 use Rattle.curve_search.proofs.Positions.{position-before-end, indexOf, position-of-index, index-in-span, position-rises}
 use Rattle.curve_search.proofs.Offsets.{at, start-at-end, start-of-first, next-start, not-past, segment-of-offset, offset-is}

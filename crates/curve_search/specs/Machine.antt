@@ -9,8 +9,8 @@ use lib.Signed.{leZ}
 use Rattle.spec_spline.specs.Space.{Space, segments}
 use Rattle.spec_spline.specs.Reading.{startsAtDiscontinuity, segmentAt, fineWidth, blended}
 use Rattle.spec_calls.specs.Positions.{position}
-use Rattle.curve_search.specs.declared.Found.{Found}
-use Rattle.curve_search.specs.declared.Found.the-variants.{At, Nowhere}
+use Rattle.curve_search.specs.declared.FirstPosition.{FirstPosition}
+use Rattle.curve_search.specs.declared.FirstPosition.the-variants.{At, Nowhere}
 
 -- ---- the offsets of a segment
 
@@ -34,6 +34,6 @@ abbrev pub reachesHeld : Space → List ℤ → ℤ → ℕ → Bool
 reachesHeld s os target i = leZ target (heldValue s os (position s i))
 
 -- What is found, as a position.
-unfoldable pub found : Space → Option ℕ → Found
+unfoldable pub found : Space → Option ℕ → FirstPosition
 found s none = Nowhere
 found s (some i) = At (position s i)

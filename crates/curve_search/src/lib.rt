@@ -9,6 +9,7 @@ ghost use Rattle.build_space.specs.Machine.{space};
 ghost use Rattle.spec_calls.specs.Positions.{positionCount};
 ghost use Rattle.curve_search.specs.Machine;
 ghost use Rattle.curve_search.specs.Asks.{SearchAsks, BoundaryAsks, PositionAsks};
+use base_outcome::limits;
 
 // The end of the span is the last segment's: the first offset past its own.
 const PAST_THE_END: usize = 1;
@@ -17,7 +18,7 @@ const PAST_THE_END: usize = 1;
 const PAST_A_DISCONTINUITY: usize = 1;
 
 // The first position that reaches the target, if any does.
-pub enum Found {
+pub enum FirstPosition {
     At(i32),
     Nowhere,
 }
@@ -45,7 +46,7 @@ fn position_at(breaks: &[i32], i: usize, u: usize) -> i32
     ensures { λ r. ⌜ r ≡ fine (break (space (now (breaks .entry)) [] []) i) +ℤ pos u ⌝ }
 {
     let start = breaks[i];
-    256 * start + u as i32
+    limits::FINENESS * start + u as i32
 }
 
 // The first position of the span that reaches the target.
@@ -55,7 +56,7 @@ pub fn search(
     orders: &[i32],
     ordinates: &[i32],
     target: i64,
-) -> Found
+) -> FirstPosition
     requires { ⌜ SearchAsks (space (now breaks) (now degrees) (now orders)) (now ordinates) ⌝ }
     ensures { λ r. ⌜ (let s = space (now (breaks .entry)) (now (degrees .entry)) (now (orders .entry)) in
         r ≡ Machine.found s (first (positionCount s) (Machine.reachesHeld s (now (ordinates .entry)) target))) ⌝ }
@@ -69,11 +70,11 @@ pub fn search(
         let next = start_offset(degrees, orders, i + 1);
         let u = curve_steps::first_offset(ordinates, column, p, d, start, d + next, target);
         if u < d + next {
-            return Found::At(position_at(breaks, i, u));
+            return FirstPosition::At(position_at(breaks, i, u));
         }
         column += p + 1;
         start = next;
         i += 1;
     }
-    Found::Nowhere
+    FirstPosition::Nowhere
 }

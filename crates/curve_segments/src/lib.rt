@@ -11,6 +11,7 @@ ghost use Rattle.build_space.specs.Legal.{ListsLegal};
 ghost use Rattle.base_outcome.specs.Search;
 ghost use Rattle.spec_spline.specs.Reading;
 ghost use Rattle.curve_segments.specs.Segments.{firstPosition, firstPositionsOf, StartAt};
+use base_outcome::limits;
 
 // Whether segment i starts at a discontinuity.
 fn starts_at_discontinuity(orders: &[i32], i: usize) -> bool
@@ -28,7 +29,7 @@ fn first_position(breaks: &[i32], orders: &[i32], i: usize) -> i32
     requires { ⌜ StartAt (now breaks) (now orders) i ⌝ }
     ensures { λ r. ⌜ r ≡ firstPosition (space (now (breaks .entry)) [] (now (orders .entry))) i ⌝ }
 {
-    let start = 256 * breaks[i];
+    let start = limits::FINENESS * breaks[i];
     if starts_at_discontinuity(orders, i) {
         return start + 1;
     }
@@ -40,11 +41,11 @@ pub fn first_positions(
     breaks: &[i32],
     degrees: &[i32],
     orders: &[i32],
-) -> [i32; build_space::MAX_SEGMENTS]
+) -> [i32; build_space::SEGMENT_LIMIT]
     requires { ⌜ ListsLegal (now breaks) (now degrees) (now orders) ⌝ }
     ensures { λ r. ⌜ r ≡ firstPositionsOf (space (now (breaks .entry)) (now (degrees .entry)) (now (orders .entry))) ⌝ }
 {
-    let mut firsts = [0; build_space::MAX_SEGMENTS];
+    let mut firsts = [0; build_space::SEGMENT_LIMIT];
     let mut i = 0;
     while i < degrees.len() {
         let first = first_position(breaks, orders, i);

@@ -4,6 +4,7 @@ ghost use Rattle.build_space.specs.Machine.{space};
 ghost use Rattle.curve_parts.specs.Parts.{lent};
 ghost use Rattle.curve_start.specs.Machine.{ColumnRoom, call, CurvesLeave};
 use base_outcome::Answer;
+use base_outcome::codes;
 
 // Makes the tests of a curve call at these positions with `room` cells for values, builds the weights, and writes the ordinates of
 // all columns for each wood part. The count of rows, or a refusal's code and place.
@@ -26,13 +27,13 @@ pub fn build_curves(
         (lent (now (num .exit)) (now (den .exit)) (now (early .exit)) (now (late .exit))) ⌝ }
 {
     if num.len() < build_cells::TABLE_CELLS {
-        return Answer::Refused(1, 0);
+        return Answer::Refused(codes::SHORT_BUFFER, 0);
     }
     if den.len() < build_cells::TABLE_CELLS {
-        return Answer::Refused(1, 1);
+        return Answer::Refused(codes::SHORT_BUFFER, 1);
     }
     if room / 2 < positions.len() {
-        return Answer::Refused(1, 2);
+        return Answer::Refused(codes::SHORT_BUFFER, 2);
     }
     let checked = curve_limits::check(breaks, degrees, orders, coefs, positions);
     match checked {

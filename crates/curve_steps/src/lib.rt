@@ -78,13 +78,13 @@ fn value_on(ordinates: &[i32], c: usize, p: usize, d: usize, u: usize) -> i64
     requires { ⌜ OffsetAsks (now ordinates) c p d u ⌝ }
     ensures { λ r. ⌜ Machine.ValueOnIs (now (ordinates .entry)) c p d u r ⌝ }
 {
-    let place = curve_places::Place {
+    let location = curve_places::Location {
         column: c,
         degree: p,
         offset: u as i64,
         width: d as i64,
     };
-    curve_places::value_at(ordinates, place) as i64
+    curve_places::value_at(ordinates, location) as i64
 }
 
 // The first offset from `start` on at which such a value reaches the target; one from `end` on where none before it does. Each

@@ -7,11 +7,11 @@ ghost use Rattle.curve_places.specs.Offsets.{columnsOf};
 ghost use Rattle.curve_values.specs.Pairs.{pairsWritten, FewDegrees, ValuesAsk};
 
 // The first columns of the segments.
-fn first_columns(degrees: &[i32]) -> [usize; build_space::MAX_SEGMENTS]
+fn first_columns(degrees: &[i32]) -> [usize; build_space::SEGMENT_LIMIT]
     requires { ⌜ FewDegrees (now degrees) ⌝ }
     ensures { λ r. ⌜ r ≡ columnsOf (space [] (now (degrees .entry)) []) ⌝ }
 {
-    let mut columns = [0; build_space::MAX_SEGMENTS];
+    let mut columns = [0; build_space::SEGMENT_LIMIT];
     let mut column = 0;
     let mut i = 0;
     while i < degrees.len() {
@@ -45,10 +45,10 @@ pub fn write_values(
     while k < positions.len() {
         let x = positions[k];
         at = curve_segments::segment_near(&firsts, degrees.len(), x, at);
-        let place = curve_places::place_at(breaks, degrees, &columns, at, x);
+        let location = curve_places::location_at(breaks, degrees, &columns, at, x);
         let whole = wholes[at];
         let tail = tails[at];
-        let pair = curve_places::pair_at(earlywood, latewood, place, whole, tail);
+        let pair = curve_places::pair_at(earlywood, latewood, location, whole, tail);
         let early = pair.early;
         let late = pair.late;
         values[2 * k] = early;

@@ -5,6 +5,7 @@ use Prim.Native.Nat.{ℕ, _*_, _≤_}
 use lib.IntN.{ℤ}
 use lib.ListN.{length}
 use Rattle.base_exact.specs.Tabulate.{tab}
+use Rattle.base_outcome.specs.Codes as codes
 use Rattle.base_outcome.specs.Outcome.{Outcome, answer}
 use Rattle.base_outcome.specs.Search.{first}
 use Rattle.base_outcome.specs.Tests.{refuseFirst}
@@ -16,7 +17,7 @@ use Rattle.indices_rings.specs.Cells.{badCell, cellIndex}
 
 -- Code 14 at the first ring that it refuses, or the indices.
 unfoldable pub cellsIndexed : List ℤ → List ℤ → ℕ → Outcome (List ℤ)
-cellsIndexed widths cells offset = refuseFirst 14 (first (length widths) (badCell widths cells offset))
+cellsIndexed widths cells offset = refuseFirst codes.ring (first (length widths) (badCell widths cells offset))
     (answer (tab (length widths) (cellIndex widths cells offset)))
 
 -- ---- what is asked, and what is left

@@ -13,7 +13,7 @@ ghost use Rattle.indices_positions.specs.Words.{ringsTaken, wordPositions};
 ghost use Rattle.indices.specs.Machine.{cellsIndexed, IndexAsks, Indexed, CurveLeaves};
 
 // One more than the curve call takes: it refuses these as it would refuse more.
-const MOST_RINGS: usize = 4097;
+const MOST_RINGS: usize = base_outcome::limits::POSITION_LIMIT + 1;
 
 // As many rings as are read.
 fn rings_taken(n: usize) -> usize
@@ -67,7 +67,10 @@ fn index_rings(
     let offset = wood_index(wood);
     let bad = indices_rings::first_bad_ring(widths, values, offset);
     match bad {
-        base_outcome::Found::At(i) => base_outcome::Answer::Refused(14, i as u32),
+        base_outcome::Found::At(i) => base_outcome::Answer::Refused(
+            base_outcome::codes::RING,
+            i as u32,
+        ),
         base_outcome::Found::Nothing => {
             indices_rings::write_indices(widths, values, offset, indices);
             base_outcome::Answer::Count(widths.len())
@@ -105,16 +108,16 @@ pub fn indices(
         × ((now (den .exit) ≡ e .denominators) × ((now (values .exit) ≡ e .values) × (now (indices .exit) ≡ e .indices))))) ⌝ }
 {
     if num.len() < build_cells::TABLE_CELLS {
-        return base_outcome::Answer::Refused(1, 0);
+        return base_outcome::Answer::Refused(base_outcome::codes::SHORT_BUFFER, 0);
     }
     if den.len() < build_cells::TABLE_CELLS {
-        return base_outcome::Answer::Refused(1, 1);
+        return base_outcome::Answer::Refused(base_outcome::codes::SHORT_BUFFER, 1);
     }
     if values.len() / 2 < widths.len() {
-        return base_outcome::Answer::Refused(1, 2);
+        return base_outcome::Answer::Refused(base_outcome::codes::SHORT_BUFFER, 2);
     }
     if indices.len() < widths.len() {
-        return base_outcome::Answer::Refused(1, 3);
+        return base_outcome::Answer::Refused(base_outcome::codes::SHORT_BUFFER, 3);
     }
     let mut positions = [0; MOST_RINGS];
     let n = rings_taken(widths.len());

@@ -5,8 +5,6 @@ ghost use lib.ListN.{length};
 ghost use Rattle.spec_spline.specs.CurveCall.{positionLimit};
 ghost use Rattle.indices_positions.specs.Words.{nearestWord, wordPositions};
 
-const FINENESS: i64 = 256;
-
 const WORD_LEAST: i64 = -2147483648;
 
 const WORD_GREATEST: i64 = 2147483647;
@@ -32,7 +30,7 @@ pub fn fill_positions(first: i32, positions: &mut [i32])
     let mut i = 0;
     while i < positions.len() {
         let ring = first as i64 + i as i64;
-        let x = nearest_word(FINENESS * ring);
+        let x = nearest_word(base_outcome::limits::WIDE_FINENESS * ring);
         positions[i] = x;
         i += 1;
     }

@@ -7,10 +7,8 @@ ghost use Rattle.base_outcome.specs.Search;
 ghost use Rattle.base_outcome.specs.Machine.{found};
 ghost use Rattle.indices_rings.specs.Cells.{badCell, cellIndex, RingAt, GoodRing, RingsAt, GoodRings};
 
-const WIDTH_LIMIT: i32 = 99999;
-
-// 256 for the values' units, 1,000 for three decimals.
-const INDEX_SCALE: i64 = 256000;
+// The values' units, and 1,000 for three decimals.
+const INDEX_SCALE: i64 = base_outcome::limits::WIDE_FINENESS * 1000;
 
 // Code 14 of one ring.
 fn ring_is_bad(widths: &[i32], values: &[i32], offset: usize, i: usize) -> bool
@@ -21,7 +19,7 @@ fn ring_is_bad(widths: &[i32], values: &[i32], offset: usize, i: usize) -> bool
     if width < 0 {
         return true;
     }
-    if width > WIDTH_LIMIT {
+    if width > base_outcome::limits::WIDTH_LIMIT {
         return true;
     }
     if width == 0 {

@@ -5,6 +5,7 @@ ghost use Rattle.base_outcome.specs.Machine.{reply};
 ghost use Rattle.spec_calls.specs.RecoveryCall.{recoveryEnd};
 use base_outcome::Answer;
 use base_outcome::Legality;
+use base_outcome::codes;
 
 mod parts;
 
@@ -28,16 +29,16 @@ pub fn coefficients(
         × (now («coef_den» .exit) ≡ e .coefficientDenominators))))) ⌝ }
 {
     if num.len() < build_cells::TABLE_CELLS {
-        return Answer::Refused(1, 0);
+        return Answer::Refused(codes::SHORT_BUFFER, 0);
     }
     if den.len() < build_cells::TABLE_CELLS {
-        return Answer::Refused(1, 1);
+        return Answer::Refused(codes::SHORT_BUFFER, 1);
     }
     if coef_num.len() < ordinates.len() {
-        return Answer::Refused(1, 3);
+        return Answer::Refused(codes::SHORT_BUFFER, 3);
     }
     if coef_den.len() < ordinates.len() {
-        return Answer::Refused(1, 4);
+        return Answer::Refused(codes::SHORT_BUFFER, 4);
     }
     let lists = build_limits::check(breaks, degrees, orders);
     match lists {

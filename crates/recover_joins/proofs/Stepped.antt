@@ -21,7 +21,7 @@ use Rattle.build_step.proofs.Leaving.{renewed-refuses}
 use Rattle.spec_calls.specs.Recovery.{Combination, balanced, undone, recoverStep, undoing}
 use Rattle.recover_joins.specs.Leaves.{coefficientsOf, toldCoefficients, Leaves}
 use Rattle.recover_joins.specs.declared.RowCoefficients.{RowCoefficients}
-use Rattle.recover_joins.specs.declared.Refusal.the-variants as refusals
+use Rattle.recover_joins.specs.declared.UndoRefusal.the-variants as refusals
 
 module _ (j : ℕ) (κ : List Entry) (t : Table) (ps : List ℚ) where
   -- what follows the first half of the step

@@ -13,7 +13,7 @@ use Rattle.base_outcome.specs.declared.Answer.the-variants.{Count, Refused}
 use Rattle.spec_calls.specs.Recovery.{Combination}
 use Rattle.recover_joins.specs.declared.Joined.{Joined}
 use Rattle.recover_joins.specs.declared.RowCoefficients.{RowCoefficients}
-use Rattle.recover_joins.specs.declared.Refusal.the-variants as refusals
+use Rattle.recover_joins.specs.declared.UndoRefusal.the-variants as refusals
 
 -- The coefficients, or the refusal's code.
 abbrev pub coefficientsOf : Outcome (List ℚ) → RowCoefficients

@@ -13,25 +13,26 @@ ghost use Rattle.build_cells.specs.Held.{Holds, Shaped};
 ghost use Rattle.build_conditions.specs.Sides.{JoinIs};
 ghost use Rattle.build_factors.specs.Jumps.{AllFit};
 ghost use Rattle.spec_calls.specs.Recovery;
-ghost use Rattle.recover_joins.specs.declared.Refusal.the-variants as refusals;
+ghost use Rattle.recover_joins.specs.declared.UndoRefusal.the-variants as refusals;
 ghost use Rattle.recover_joins.specs.Leaves.{coefficientsOf, grownCombination, Leaves, JoinsLeave};
 ghost use Rattle.spec_calls.specs.Recovery.{undoing};
 ghost use Rattle.recover_joins.specs.Asks.{UndoAsks, StepAsks, OrdersAsk, JoinAsks, JoinsAsk, PartAsks};
 use base_fraction::arrays;
 use base_fraction::arrays::Fractions;
 use base_outcome::Answer;
+use base_outcome::codes;
 use build_conditions::Join;
 use recover_balance::Balance;
 
 // The code of a refusal, if there is one.
-pub enum Refusal {
+pub enum UndoRefusal {
     None,
     Refused(u8),
 }
 
 // The coefficients of the rows, if no step was refused.
 pub struct RowCoefficients {
-    pub refusal: Refusal,
+    pub refusal: UndoRefusal,
     pub of: Fractions,
 }
 
@@ -45,7 +46,7 @@ fn refuse(code: u8) -> RowCoefficients
     ensures { λ r. ⌜ r ≡ record { refusal = refusals.Refused code; of = fractions [] } ⌝ }
 {
     RowCoefficients {
-        refusal: Refusal::Refused(code),
+        refusal: UndoRefusal::Refused(code),
         of: arrays::no_fractions(),
     }
 }
@@ -66,16 +67,16 @@ fn undo(
 {
     let sum = recover_balance::balanced(js, cs, rows);
     match sum {
-        Balance::TooLarge => refuse(20),
-        Balance::NotZero => refuse(19),
+        Balance::TooLarge => refuse(codes::TOO_LARGE_TO_UNDO),
+        Balance::NotZero => refuse(codes::NO_COEFFICIENTS),
         Balance::Zero => {
             let undone = recover_rows::undo_rows(cs, ws, f, l);
             if !undone.fit {
-                return refuse(20);
+                return refuse(codes::TOO_LARGE_TO_UNDO);
             }
             let left = recover_arrays::drop_coefficient(undone.coefficients, l, rows);
             RowCoefficients {
-                refusal: Refusal::None,
+                refusal: UndoRefusal::None,
                 of: left,
             }
         }
@@ -100,19 +101,19 @@ fn recover_step(
 {
     let js = build_jumps::jumps(num, den, rows, join, k);
     if !js.fit {
-        return refuse(8);
+        return refuse(codes::TOO_LARGE);
     }
     let plan = build_step::plan_step(js.of, rows);
     let refusal = plan.refusal;
     match refusal {
-        build_factors::Refusal::TooLarge => refuse(8),
-        build_factors::Refusal::Shape => refuse(9),
-        build_factors::Refusal::None => {
+        build_factors::StepRefusal::TooLarge => refuse(codes::TOO_LARGE),
+        build_factors::StepRefusal::Shape => refuse(codes::JUMPS),
+        build_factors::StepRefusal::None => {
             let f = plan.f;
             let l = plan.l;
             let done = build_step::renew_rows(num, den, plan.of, f, l, rows, columns);
             if !done {
-                return refuse(8);
+                return refuse(codes::TOO_LARGE);
             }
             undo(js.of, plan.of, f, l, cs, rows)
         }
@@ -141,17 +142,17 @@ fn recover_orders(
         let next = recover_step(num, den, join, k, rows - k, columns, present);
         let refusal = next.refusal;
         match refusal {
-            Refusal::None => {
+            UndoRefusal::None => {
                 present = next.of;
                 k += 1;
             }
-            Refusal::Refused(code) => {
+            UndoRefusal::Refused(code) => {
                 return refuse(code);
             }
         }
     }
     RowCoefficients {
-        refusal: Refusal::None,
+        refusal: UndoRefusal::None,
         of: present,
     }
 }
@@ -208,11 +209,11 @@ fn recover_joins(
         let place = base_outcome::place(j);
         let refusal = next.refusal;
         match refusal {
-            Refusal::None => {
+            UndoRefusal::None => {
                 present = next.of;
                 rows = rows + more - n;
             }
-            Refusal::Refused(code) => {
+            UndoRefusal::Refused(code) => {
                 return Joined {
                     built: Answer::Refused(code, place),
                     of: arrays::no_fractions(),

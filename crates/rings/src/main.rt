@@ -3,11 +3,12 @@ ghost use Prim.Native.Nat.{_≤_};
 ghost use lib.ListN.{length};
 ghost use Rattle.curve_ordinates.specs.Wood.{woodOf};
 ghost use Rattle.rings_pieces.specs.Piece.{Held, widthCells};
+use base_outcome::limits;
 use curve_ordinates::Wood;
-use rings_read::Judged;
+use rings_read::Readiness;
 
 // One byte more than the longest input, so that a longer one is seen to be too long.
-const INPUT_BYTES: usize = 1048577;
+const INPUT_BYTES: usize = limits::TEXT_LIMIT + 1;
 
 // The most bytes of the line of a refusal.
 const REFUSAL_BYTES: usize = 45;
@@ -68,10 +69,10 @@ fn write_ready(
     orders: &[i32],
     coefs: &[i32],
     n: usize,
-    names: &[u8; rings_read::NAMES],
-    years: &[i32; rings_read::SERIES],
-    counts: &[u32; rings_read::SERIES],
-    widths: &[i32; rings_read::WIDTHS],
+    names: &[u8; tucson_text::NAMES],
+    years: &[i32; tucson_text::SERIES],
+    counts: &[u32; tucson_text::SERIES],
+    widths: &[i32; tucson_text::WIDTHS],
 ) -> bool
     requires { ⌜ Held (now input) (woodOf wood) (now breaks) (now degrees) (now orders) (now coefs) n (now names) (now years)
         (now counts) (now widths) ⌝ }
@@ -111,10 +112,10 @@ fn write_table(input: &[u8]) -> bool {
     let mut degrees = [0i32; sheet_lines::LIST_LIMIT];
     let mut orders = [0i32; sheet_lines::LIST_LIMIT];
     let mut coefs = [0i32; sheet_read::COEFFICIENT_NUMBERS];
-    let mut names = [0u8; rings_read::NAMES];
-    let mut years = [0i32; rings_read::SERIES];
-    let mut counts = [0u32; rings_read::SERIES];
-    let mut widths = [0i32; rings_read::WIDTHS];
+    let mut names = [0u8; tucson_text::NAMES];
+    let mut years = [0i32; tucson_text::SERIES];
+    let mut counts = [0u32; tucson_text::SERIES];
+    let mut widths = [0i32; tucson_text::WIDTHS];
     let judged = rings_read::judge(
         input,
         &mut breaks,
@@ -127,8 +128,8 @@ fn write_table(input: &[u8]) -> bool {
         &mut widths,
     );
     match judged {
-        Judged::Refused(code, place) => write_refusal(code, place),
-        Judged::Ready(wood, b, d, o, c, n) => {
+        Readiness::Refused(code, place) => write_refusal(code, place),
+        Readiness::Ready(wood, b, d, o, c, n) => {
             if !write_header() {
                 return false;
             }

@@ -7,10 +7,8 @@ ghost use Rattle.spec_rings.specs.Ready;
 ghost use Rattle.spec_rings.specs.Rings.{headerLine};
 ghost use Rattle.rings_read.specs.Machine.{Front};
 ghost use Rattle.rings_pieces.specs.Piece.{pieceOf, PieceAsks};
+use base_outcome::limits;
 use curve_ordinates::Wood;
-
-// The bytes of a name.
-const NAME: usize = 8;
 
 // The bytes of the first line.
 pub const HEADER_BYTES: usize = 36;
@@ -44,8 +42,8 @@ pub fn put_piece(
         (now counts) (now widths) k start (now out) ⌝ }
     ensures { λ r. ⌜ Front (pieceOf (Ready.ready (now (input .entry))) k) r (now (out .exit)) ⌝ }
 {
-    let at = k * NAME;
-    let behind = at + NAME;
+    let at = k * limits::NAME_COLUMNS;
+    let behind = at + limits::NAME_COLUMNS;
     let end = start + counts[k] as usize;
     rings_text::put_series(
         wood,

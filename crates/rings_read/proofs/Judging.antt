@@ -33,7 +33,7 @@ use Rattle.spec_rings.specs.Ready.{textLimit, sheetRead, seriesRead, sheetCurve
 use Rattle.rings_input.specs.Machine.{HeadedAs}
 use Rattle.rings_input.specs.declared.FirstLine.the-variants as lines
 use Rattle.rings_read.specs.Machine.{Front, ListsHeld, FileHeld, SheetHeld, SeriesHeld, fileJudged, JudgedAs}
-use Rattle.rings_read.specs.declared.Judged.the-variants as judgements
+use Rattle.rings_read.specs.declared.Readiness.the-variants as judgements
 
 -- ---- the file and the curve
 module _ (o : Outcome (List Series)) (q : Outcome CurveResult) (ns : List ℕ) (ys : List ℤ) (cs : List ℕ) (ws : List ℤ) where

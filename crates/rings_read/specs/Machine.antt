@@ -4,6 +4,7 @@ use mathlib.Core.Path.{_≡_}
 use Prim.Native.Nat.{ℕ, _*_, _≤_}
 use lib.IntN.{ℤ}
 use lib.ListN.{length, take}
+use Rattle.base_outcome.specs.Codes as codes
 use Rattle.base_outcome.specs.Outcome.{Outcome, answer, refusal, _then_}
 use Rattle.base_outcome.specs.declared.Answer.{Answer}
 use Rattle.base_outcome.specs.declared.Answer.the-variants as answers
@@ -20,8 +21,8 @@ use Rattle.sheet_read.specs.declared.Lists.{Lists as SheetAnswer}
 use Rattle.sheet_read.specs.declared.Lists.the-variants as sheets
 use Rattle.curve_ordinates.specs.Wood.{woodOf}
 use Rattle.spec_rings.specs.Ready.{textLimit, Ready, seriesRead}
-use Rattle.rings_read.specs.declared.Judged.{Judged}
-use Rattle.rings_read.specs.declared.Judged.the-variants as judgements
+use Rattle.rings_read.specs.declared.Readiness.{Readiness}
+use Rattle.rings_read.specs.declared.Readiness.the-variants as judgements
 
 -- The list stands at the front of the buffer, in its first n cells.
 pub record Front {A : Type 0} (list : List A) (n : ℕ) (buffer : List A) : Type 0 where
@@ -48,7 +49,7 @@ abbrev pub SheetHeld : Outcome Lists → SheetAnswer → List ℤ → List ℤ �
 SheetHeld (answer l) (sheets.Read b d o c p) breaks degrees orders coefs = ListsHeld l b d o c breaks degrees orders coefs
 SheetHeld (answer l) (sheets.Refused place) breaks degrees orders coefs = ⊥
 SheetHeld (refusal code place) (sheets.Read b d o c p) breaks degrees orders coefs = ⊥
-SheetHeld (refusal code place) (sheets.Refused at) breaks degrees orders coefs = (code ≡ 10) × (place ≡ at)
+SheetHeld (refusal code place) (sheets.Refused at) breaks degrees orders coefs = (code ≡ codes.sheetLine) × (place ≡ at)
 
 -- The file's series are held, or its refusal is answered.
 abbrev pub SeriesHeld : Outcome (List Series) → Answer → List ℕ → List ℤ → List ℕ → List ℤ → Type 0
@@ -70,7 +71,7 @@ pub record FrontsAsk (text : Text) (b : ℕ) (breaks : List ℤ) (d : ℕ) (degr
   pub coefs-fit : c ≤ length coefs
 
 -- What is ready is held by the eight buffers, or the refusal is answered.
-abbrev pub JudgedAs : Outcome Ready → Judged → List ℤ → List ℤ → List ℤ → List ℤ → List ℕ → List ℤ → List ℕ → List ℤ → Type 0
+abbrev pub JudgedAs : Outcome Ready → Readiness → List ℤ → List ℤ → List ℤ → List ℤ → List ℕ → List ℤ → List ℕ → List ℤ → Type 0
 JudgedAs (answer r) (judgements.Ready wood b d o c n) breaks degrees orders coefs names years counts widths =
     (r .wood ≡ woodOf wood) × ((ListsHeld (r .lists) b d o c breaks degrees orders coefs) × (FileHeld (r .series) n names years counts widths))
 JudgedAs (answer r) (judgements.Refused code place) breaks degrees orders coefs names years counts widths = ⊥

@@ -12,31 +12,17 @@ ghost use Rattle.spec_rings.specs.Ready;
 ghost use Rattle.rings_read.specs.Machine.{SheetHeld, SeriesHeld, fileJudged, FrontsAsk, JudgedAs};
 use base_outcome::Answer;
 use base_outcome::Legality;
+use base_outcome::codes;
+use base_outcome::limits;
 use curve_ordinates::Wood;
 use rings_input::FirstLine;
 use sheet_read::Lists;
-
-// The most bytes of an input.
-pub const TEXT_LIMIT: usize = 1048576;
-
-// The most series of such a text, as in the program `tucson`.
-pub const SERIES: usize = 55188;
-
-// Their names, eight bytes each.
-pub const NAMES: usize = 441504;
-
-// The most widths.
-pub const WIDTHS: usize = 174762;
-
-const SHORT_BUFFER: u8 = 1;
-
-const BAD_SHEET: u8 = 10;
 
 // The lines of a sheet.
 const SHEET_LINES: usize = 5;
 
 // A wood, the lengths of breakpoints, degrees, orders and coefficients, and the count of series; or a refusal.
-pub enum Judged {
+pub enum Readiness {
     Ready(Wood, usize, usize, usize, usize, usize),
     Refused(u8, u32),
 }
@@ -80,10 +66,10 @@ fn read_sheet(
 // The series of the file at the fronts of the buffers.
 fn read_series(
     text: &[u8],
-    names: &mut [u8; NAMES],
-    years: &mut [i32; SERIES],
-    counts: &mut [u32; SERIES],
-    widths: &mut [i32; WIDTHS],
+    names: &mut [u8; tucson_text::NAMES],
+    years: &mut [i32; tucson_text::SERIES],
+    counts: &mut [u32; tucson_text::SERIES],
+    widths: &mut [i32; tucson_text::WIDTHS],
 ) -> Answer
     requires { ⌜ length (now text) ≤ Ready.textLimit ⌝ }
     ensures { λ r. ⌜ SeriesHeld (Ready.seriesRead (now (text .entry))) r (now (names .exit)) (now (years .exit)) (now (counts .exit))
@@ -133,10 +119,10 @@ fn judge_file(
     o: usize,
     coefs: &[i32],
     c: usize,
-    names: &mut [u8; NAMES],
-    years: &mut [i32; SERIES],
-    counts: &mut [u32; SERIES],
-    widths: &mut [i32; WIDTHS],
+    names: &mut [u8; tucson_text::NAMES],
+    years: &mut [i32; tucson_text::SERIES],
+    counts: &mut [u32; tucson_text::SERIES],
+    widths: &mut [i32; tucson_text::WIDTHS],
 ) -> Answer
     requires { ⌜ FrontsAsk (now text) b (now breaks) d (now degrees) o (now orders) c (now coefs) ⌝ }
     ensures { λ r. ⌜ SeriesHeld (fileJudged (now (text .entry)) (space (take b (now (breaks .entry))) (take d (now (degrees .entry)))
@@ -164,25 +150,25 @@ pub fn judge(
     degrees: &mut [i32; sheet_lines::LIST_LIMIT],
     orders: &mut [i32; sheet_lines::LIST_LIMIT],
     coefs: &mut [i32; sheet_read::COEFFICIENT_NUMBERS],
-    names: &mut [u8; NAMES],
-    years: &mut [i32; SERIES],
-    counts: &mut [u32; SERIES],
-    widths: &mut [i32; WIDTHS],
-) -> Judged
+    names: &mut [u8; tucson_text::NAMES],
+    years: &mut [i32; tucson_text::SERIES],
+    counts: &mut [u32; tucson_text::SERIES],
+    widths: &mut [i32; tucson_text::WIDTHS],
+) -> Readiness
     ensures { λ r. ⌜ JudgedAs (Ready.ready (now (input .entry))) r (now (breaks .exit)) (now (degrees .exit)) (now (orders .exit))
         (now (coefs .exit)) (now (names .exit)) (now (years .exit)) (now (counts .exit)) (now (widths .exit)) ⌝ }
 {
-    if input.len() > TEXT_LIMIT {
-        return Judged::Refused(SHORT_BUFFER, 0);
+    if input.len() > limits::TEXT_LIMIT {
+        return Readiness::Refused(codes::SHORT_BUFFER, 0);
     }
     let line = rings_input::first_line(input);
     match line {
-        FirstLine::Other => Judged::Refused(BAD_SHEET, 1),
+        FirstLine::Other => Readiness::Refused(codes::SHEET_LINE, 1),
         FirstLine::Names(wood, from) => {
             let to = rings_input::lines_end(input, from, SHEET_LINES);
             let lists = read_sheet(&input[from..to], breaks, degrees, orders, coefs);
             match lists {
-                Lists::Refused(place) => Judged::Refused(BAD_SHEET, place),
+                Lists::Refused(place) => Readiness::Refused(codes::SHEET_LINE, place),
                 Lists::Read(b, d, o, c, _) => {
                     let series = judge_file(
                         &input[to..],
@@ -200,8 +186,8 @@ pub fn judge(
                         widths,
                     );
                     match series {
-                        Answer::Refused(code, place) => Judged::Refused(code, place),
-                        Answer::Count(n) => Judged::Ready(wood, b, d, o, c, n),
+                        Answer::Refused(code, place) => Readiness::Refused(code, place),
+                        Answer::Count(n) => Readiness::Ready(wood, b, d, o, c, n),
                     }
                 }
             }

@@ -11,18 +11,15 @@ ghost use Rattle.rings_text.specs.Printed.{FaultAsks, LinesAsk, SeriesAs
 ghost use Rattle.build_space.specs.Machine.{space};
 ghost use Rattle.curve_ordinates.specs.Wood.{woodOf};
 use base_outcome::Answer;
+use base_outcome::codes;
+use base_outcome::limits;
 use curve_ordinates::Wood;
 
 // The most rings that an index call takes.
-const MOST_RINGS: u32 = 4096;
+const MOST_RINGS: u32 = limits::POSITION_LIMIT as u32;
 
-const TOO_MANY: u8 = 2;
-
-// The cells of their indices.
-const INDEX_CELLS: usize = 4096;
-
-// The cells of their values, two each.
-const VALUE_CELLS: usize = 8192;
+// The cells of the values of as many rings, two each.
+const VALUE_CELLS: usize = 2 * limits::POSITION_LIMIT;
 
 // The most bytes of a series' lines.
 pub const SERIES_BYTES: usize = 483328;
@@ -31,7 +28,7 @@ pub const SERIES_BYTES: usize = 483328;
 fn fault_ring(code: u8, place: u32) -> u32
     ensures { λ r. ⌜ r ≡ faultyRing code place ⌝ }
 {
-    if code == TOO_MANY {
+    if code == codes::LENGTHS {
         return MOST_RINGS;
     }
     place
@@ -110,7 +107,7 @@ fn put_indexed(
     let mut num = [0; build_cells::TABLE_CELLS];
     let mut den = [1; build_cells::TABLE_CELLS];
     let mut values = [0; VALUE_CELLS];
-    let mut ring_indices = [0; INDEX_CELLS];
+    let mut ring_indices = [0; limits::POSITION_LIMIT];
     let n = widths.len();
     let answer = indices::indices(
         wood,
@@ -162,9 +159,9 @@ pub fn put_series(
     ensures { λ r. ⌜ Front (seriesText (woodOf wood) (space (now (breaks .entry)) (now (degrees .entry)) (now (orders .entry)))
         (now (coefs .entry)) (record { name = now (name .entry); firstYear = first; widths = now (widths .entry) })) r (now (out .exit)) ⌝ }
 {
-    if widths.len() > INDEX_CELLS {
-        let year = year_of(first, INDEX_CELLS);
-        return put_fault(name, year, TOO_MANY, out);
+    if widths.len() > limits::POSITION_LIMIT {
+        let year = year_of(first, limits::POSITION_LIMIT);
+        return put_fault(name, year, codes::LENGTHS, out);
     }
     put_indexed(
         wood,

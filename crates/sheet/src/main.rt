@@ -1,7 +1,8 @@
 // Reads a sheet from standard input and writes its printout to standard output.
+use base_outcome::limits;
 
 // One byte more than the longest sheet, so that a longer text is seen to be too long.
-const INPUT_BYTES: usize = 65537;
+const INPUT_BYTES: usize = limits::SHEET_LIMIT + 1;
 
 // The most bytes that a printout has (`printoutLimit`), so none is cut.
 const OUTPUT_BYTES: usize = 2189079;

@@ -7,7 +7,7 @@ ghost use Rattle.sheet_weights.specs.Printed.{weightLineLimit};
 ghost use Rattle.sheet_beam.specs.Beam.{rowLimit, weightsText, Filled, PartAsks, PartBuilt, PartsAsk};
 
 // Builds the part from segment a up to segment b of an accepted beam, and answers its row count.
-fn build_rows(
+fn part_rows(
     breaks: &[i32],
     degrees: &[i32],
     orders: &[i32],
@@ -57,7 +57,7 @@ fn put_parts(
     while a < degrees.len() {
         let b = build_space::part_end(degrees, orders, a);
         let column = build_space::first_column(degrees, a);
-        let n = build_rows(breaks, degrees, orders, a, b, num, den);
+        let n = part_rows(breaks, degrees, orders, a, b, num, den);
         next = sheet_weights::put_weights(out, next, row, column, n, num, den);
         row += n;
         a = b;

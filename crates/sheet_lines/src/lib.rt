@@ -8,10 +8,11 @@ ghost use Rattle.base_text.specs.Numeral;
 ghost use Rattle.spec_sheet.specs.SheetReading;
 ghost use Rattle.spec_sheet.specs.SheetReading.{listOf};
 ghost use Rattle.sheet_lines.specs.Machine.{entryOf, isSome, count, LineAt};
+use base_outcome::limits;
 use base_text::numeral::Field;
 
 // The most entries of a list.
-pub const LIST_LIMIT: usize = 4096;
+pub const LIST_LIMIT: usize = limits::POSITION_LIMIT;
 
 // What the entries of a list are: numbers, or pairs earlywood:latewood.
 pub enum Entry {

@@ -9,9 +9,7 @@ ghost use Rattle.base_sorting.specs.Sorted.{sorted};
 ghost use Rattle.spec_sheet.specs.Printout.{isLow, lowLine, lowLines, lowPositions};
 ghost use Rattle.spec_sheet.specs.Pairs.{paired, ValuesAsk};
 ghost use Rattle.sheet_lows.specs.Printed.{lowLineLimit};
-
-// The most positions of a call.
-const POSITIONS: usize = 4096;
+use base_outcome::limits;
 
 // low=position
 fn put_low_line(out: &mut [u8], at: usize, x: i32) -> usize
@@ -71,7 +69,7 @@ pub fn put_lows(out: &mut [u8], at: usize, positions: &[i32], values: &[i32]) ->
         (lowLines (sorted (lowPositions (now (positions .entry)) (paired (now (values .entry)))))) (now (out .entry)) (now (out .exit))
         r ⌝ }
 {
-    let mut lows = [0; POSITIONS];
+    let mut lows = [0; limits::POSITION_LIMIT];
     let count = low_positions(positions, values, &mut lows);
     base_sorting::sort(&mut lows, count);
     put_low_lines(out, at, &lows[..count])

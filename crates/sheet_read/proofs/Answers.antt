@@ -17,7 +17,7 @@ use Rattle.spec_spline.proofs.Legal.{cond-refuse-inverts}
 use Rattle.base_text.specs.Bytes.{Text, newline, Cut, cut, stripped, Range}
 use Rattle.base_text.specs.Numeral.{numeral}
 use Rattle.spec_sheet.specs.SheetReading.{pair, Lists, Line, listOf, lineOf, bodyOf, cutLine, line, readLine, breaksKey, degreesKey}
-use Rattle.spec_sheet.specs.SheetReading.{ordersKey, coefsKey, atKey, ended, fiveLines, listLimit, textLimit, read}
+use Rattle.spec_sheet.specs.SheetReading.{ordersKey, coefsKey, atKey, ended, fiveLines, listLimit, sheetLimit, read}
 use Rattle.sheet_lines.specs.Machine.{ListAt}
 use Rattle.sheet_read.specs.Machine.{numeralsOf, numerals, reply, ListFits, ListPut, EndsAs}
 use Rattle.spec_sheet.specs.ReadSheet.{overwritten, Lengths, lengths, counted, after, readEnd}
@@ -153,7 +153,7 @@ ended-positions (c ∷ cs) m l e = absurd (answer-not-refusal e refl)
 pub positions-few : (text : Text) (l : Lists) → read text ≡ answer l → length (l .positions) ≤ listLimit
 unfolding read fiveLines
 positions-few text l e =
-    let f = cond-refuse-inverts (ltb textLimit (length text)) 10 0 (fiveLines text) e .1 in
+    let f = cond-refuse-inverts (ltb sheetLimit (length text)) 10 0 (fiveLines text) e .1 in
     let b = then-inverts (readLine 1 numeral breaksKey text) _ f in
     let d = then-inverts (readLine 2 numeral degreesKey (b .middle .rest)) _ (b .after) in
     let o = then-inverts (readLine 3 numeral ordersKey (d .middle .rest)) _ (d .after) in

@@ -8,6 +8,7 @@ use lib.Dec.{eqb}
 use lib.IntN.{ℤ}
 use lib.ListN.{length}
 use lib.Seq.{slice}
+use Rattle.base_outcome.specs.Codes as codes
 use Rattle.base_outcome.specs.Outcome.{Outcome, answer, refusal}
 use Rattle.base_text.specs.Bytes.{Text, comma, colon, fieldsBetween, Range}
 use Rattle.base_text.specs.Numeral.{numeral}
@@ -52,7 +53,7 @@ pub record ListPut (text : Text) (from to : ℕ) (before now : List ℤ) (n : �
 -- 10, place the line: "the sheet's text is malformed" (§ 3).
 unfoldable pub reply : Answer → Outcome Lengths
 reply (answer-cases.Read b d o c p) = answer (record { breaks = b; degrees = d; orders = o; coefs = c; positions = p })
-reply (answer-cases.Refused place) = refusal 10 place
+reply (answer-cases.Refused place) = refusal codes.sheetLine place
 
 -- The answer and the buffers are those.
 pub record EndsAs (e : ReadEnd) (r : Answer) (breaks degrees orders coefs positions : List ℤ) : Type 0 where

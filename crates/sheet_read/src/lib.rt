@@ -7,10 +7,10 @@ ghost use Rattle.base_text.specs.Bytes.{Range, indexWhere};
 ghost use Rattle.sheet_read.specs.Machine.{isSeparator, ListFits, ListPut, EndsAs};
 ghost use Rattle.spec_sheet.specs.ReadSheet.{readEnd};
 use base_text::numeral::Field;
-use sheet_scan::Places;
+use sheet_scan::ListSpans;
 
 // The most numbers of the list of coefficients, two a pair.
-pub const COEFFICIENT_NUMBERS: usize = 8192;
+pub const COEFFICIENT_NUMBERS: usize = 2 * sheet_lines::LIST_LIMIT;
 
 // How many numbers the five lists have, two for each pair of coefficients, or the place of code 10.
 pub enum Lists {
@@ -73,8 +73,8 @@ pub fn read(
 {
     let scanned = sheet_scan::scan(text);
     match scanned {
-        Places::Refused(place) => Lists::Refused(place),
-        Places::Lists(b, b_end, d, d_end, o, o_end, c, c_end, p, p_end) => Lists::Read(
+        ListSpans::Refused(place) => Lists::Refused(place),
+        ListSpans::Lists(b, b_end, d, d_end, o, o_end, c, c_end, p, p_end) => Lists::Read(
             fill(text, b, b_end, breaks),
             fill(text, d, d_end, degrees),
             fill(text, o, o_end, orders),

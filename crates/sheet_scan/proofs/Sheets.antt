@@ -13,15 +13,15 @@ use Rattle.base_outcome.specs.Outcome.{Outcome, answer, refusal, refuse, _then_
 use Rattle.spec_spline.specs.Reading.{Pair}
 use Rattle.base_text.specs.Bytes.{Text}
 use Rattle.base_text.specs.Numeral.{numeral}
-use Rattle.spec_sheet.specs.SheetReading.{textLimit, pair, Line, line, readLine, breaksKey, degreesKey, ordersKey, coefsKey, atKey, Lists}
+use Rattle.spec_sheet.specs.SheetReading.{sheetLimit, pair, Line, line, readLine, breaksKey, degreesKey, ordersKey, coefsKey, atKey, Lists}
 use Rattle.spec_sheet.specs.SheetReading.{ended, fiveLines, read}
 use Rattle.spec_sheet.proofs.FiveLines.{NumeralLine, PairLine, read-short, line-answers, line-refuses, lists, after-one, after-five}
 use Rattle.sheet_lines.specs.Machine.{Spans, LineAt}
 use Rattle.sheet_scan.specs.Machine.{ListsAt, Scanned}
 use Rattle.sheet_lines.specs.declared.LineSpan.{LineSpan}
 use Rattle.sheet_lines.specs.declared.LineSpan.the-variants as span-cases
-use Rattle.sheet_scan.specs.declared.Places.{Places}
-use Rattle.sheet_scan.specs.declared.Places.the-variants as places-cases
+use Rattle.sheet_scan.specs.declared.ListSpans.{ListSpans}
+use Rattle.sheet_scan.specs.declared.ListSpans.the-variants as spans-cases
 
 -- ---- what the answer for a line says of it
 module _ {A : Type 0} (entry : Text → Option A) (text : Text) where
@@ -65,7 +65,7 @@ module _ {A : Type 0} (entry : Text → Option A) (text : Text) (place : ℕ) (k
       so-far ∙ ap (λ (o : Outcome (Line A)). o then next) (line-refuses entry place key left (ap (line entry key) same ∙ bad))
 
 -- ---- the first line
-module _ (text : Text) (short : length text ≤ textLimit) (r : LineSpan) (found : LineAt numeral text (line numeral breaksKey text) r) where
+module _ (text : Text) (short : length text ≤ sheetLimit) (r : LineSpan) (found : LineAt numeral text (line numeral breaksKey text) r) where
   so-far-none : read text ≡ (readLine 1 numeral breaksKey text then after-one lists)
   unfolding fiveLines
   so-far-none = read-short text short
@@ -99,28 +99,28 @@ module _ (text : Text) (make : NumeralLine → Lists) (s t : ℕ) (prev : Reache
       ∙ ap (λ (rest : Text). ended rest (make (prev .line))) (prev .spans .rest ∙ drop-cons text (t + 1) 0 more)
 
 -- ---- the answer for the text
-pub scan-refused : (text : Text) (place : ℕ) → read text ≡ refusal 10 place → Scanned text (read text) (places-cases.Refused place)
+pub scan-refused : (text : Text) (place : ℕ) → read text ≡ refusal 10 place → Scanned text (read text) (spans-cases.Refused place)
 scan-refused text place e = rw e (refl, refl)
 
 pub scan-lists : (text : Text) {l : Lists} {b b-end d d-end o o-end c c-end p p-end : ℕ} → read text ≡ answer l
-    → ListsAt text l b b-end d d-end o o-end c c-end p p-end → Scanned text (read text) (places-cases.Lists b b-end d d-end o o-end c c-end p p-end)
+    → ListsAt text l b b-end d d-end o o-end c c-end p p-end → Scanned text (read text) (spans-cases.Lists b b-end d d-end o o-end c c-end p p-end)
 scan-lists text e at = rw e at
 
-refusal-scanned : (text : Text) (o : Outcome Lists) (place : ℕ) → Scanned text o (places-cases.Refused place) → o ≡ refusal 10 place
+refusal-scanned : (text : Text) (o : Outcome Lists) (place : ℕ) → Scanned text o (spans-cases.Refused place) → o ≡ refusal 10 place
 refusal-scanned text (answer l) place h = absurd h
 refusal-scanned text (refusal code at) place h = ap₂ refusal (h .0) (h .1)
 
 lists-scanned : (text : Text) (outcome : Outcome Lists) (b b-end d d-end o o-end c c-end p p-end : ℕ)
-    → Scanned text outcome (places-cases.Lists b b-end d d-end o o-end c c-end p p-end)
+    → Scanned text outcome (spans-cases.Lists b b-end d d-end o o-end c c-end p p-end)
     → (l : Lists) × (outcome ≡ answer l) × ListsAt text l b b-end d d-end o o-end c c-end p p-end
 lists-scanned text (answer l) b b-end d d-end o o-end c c-end p p-end h = (l, refl, h)
 lists-scanned text (refusal code at) b b-end d d-end o o-end c c-end p p-end h = absurd h
 
-module _ (text : Text) (r : Places) (scanned : Scanned text (read text) r) where
-  pub scanned-refusal : (place : ℕ) → r ≡ places-cases.Refused place → read text ≡ refusal 10 place
+module _ (text : Text) (r : ListSpans) (scanned : Scanned text (read text) r) where
+  pub scanned-refusal : (place : ℕ) → r ≡ spans-cases.Refused place → read text ≡ refusal 10 place
   scanned-refusal place e = refusal-scanned text (read text) place (subst (Scanned text (read text)) e scanned)
 
-  pub scanned-lists : (b b-end d d-end o o-end c c-end p p-end : ℕ) → r ≡ places-cases.Lists b b-end d d-end o o-end c c-end p p-end
+  pub scanned-lists : (b b-end d d-end o o-end c c-end p p-end : ℕ) → r ≡ spans-cases.Lists b b-end d d-end o o-end c c-end p p-end
       → (l : Lists) × (read text ≡ answer l) × ListsAt text l b b-end d d-end o o-end c c-end p p-end
   scanned-lists b b-end d d-end o o-end c c-end p p-end e =
       lists-scanned text (read text) b b-end d d-end o o-end c c-end p p-end (subst (Scanned text (read text)) e scanned)

@@ -11,9 +11,11 @@ ghost use Rattle.spec_sheet.specs.Pairs.{paired};
 ghost use Rattle.spec_sheet.specs.Sheet.{calledText, printout};
 ghost use Rattle.sheet_beam.specs.Beam.{tableOf};
 ghost use Rattle.sheet_text.specs.Limit.{printoutLimit, AnswerAsks};
+use base_outcome::codes;
+use base_outcome::limits;
 
 // The cells of the values' buffer, two for each of the most positions of a call.
-const VALUE_CELLS: usize = 8192;
+const VALUE_CELLS: usize = 2 * limits::POSITION_LIMIT;
 
 // The printout of an answer, from the buffer's start on: the count line, the w lines of the accepted beam whose last part is in
 // the two buffers, and the lines of the positions and their values, two a position.
@@ -108,7 +110,7 @@ pub fn sheet(input: &[u8], out: &mut [u8]) -> usize
         &mut positions,
     );
     match lists {
-        sheet_read::Lists::Refused(place) => base_print::refusal(10, place, out),
+        sheet_read::Lists::Refused(place) => base_print::refusal(codes::SHEET_LINE, place, out),
         sheet_read::Lists::Read(b, d, o, c, p) => run(
             &breaks[..b],
             &degrees[..d],

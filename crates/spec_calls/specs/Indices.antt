@@ -10,10 +10,12 @@ use lib.ListN.{length, getD, drop}
 use lib.Signed.{leZ, ltZ}
 use Rattle.base_exact.specs.Floor.{floorDiv}
 use Rattle.base_exact.specs.Tabulate.{tab}
+use Rattle.base_outcome.specs.Codes as codes
 use Rattle.base_outcome.specs.Outcome.{Outcome, answer, refusal, refuse, _then_}
 use Rattle.base_outcome.specs.Search.{first}
 use Rattle.spec_spline.specs.Space.{Space}
 use Rattle.base_outcome.specs.Tests.{between, refuseFirst}
+pub use Rattle.base_outcome.specs.Limits.{widthLimit}
 use Rattle.spec_spline.specs.Reading.{Wood, earlywood, latewood, Pair, fine}
 use Rattle.spec_spline.specs.CurveCall.{CurveResult, allLongEnough, curveOutcome, curveNumerators, curveDenominators, valuesAfter}
 
@@ -41,10 +43,6 @@ abbrev pub ringValue : Wood → List Pair → ℕ → ℤ
 ringValue wood values i = ofWood wood (getD values i noPair)
 
 -- ---- code 14
-
--- "a width below 0 or over 99,999" (§ 3).
-abbrev pub widthLimit : ℕ
-widthLimit = 99999
 
 -- "an absent ring, width 0" (§ 9).
 abbrev pub isAbsent : ℤ → Bool
@@ -80,12 +78,12 @@ unfoldable pub ringsRead : Space → List ℤ → ℤ → List ℤ → ℕ → �
 ringsRead s coefs firstRing widths numLength denLength valuesLength indicesLength =
     let positions = ringPositions firstRing (length widths) in
     allLongEnough positions numLength denLength valuesLength
-    (cond (ltb indicesLength (length widths)) (refuse 1 3)
+    (cond (ltb indicesLength (length widths)) (refuse codes.shortBuffer 3)
     (curveOutcome s coefs positions numLength denLength valuesLength))
 
 -- "then 14, one pass over all rings before the first index is written" (§ 9), or the indices.
 unfoldable pub ringsIndexed : Wood → List ℤ → CurveResult → Outcome (List ℤ)
-ringsIndexed wood widths r = refuseFirst 14 (first (length widths) (badRing wood widths (r .values)))
+ringsIndexed wood widths r = refuseFirst codes.ring (first (length widths) (badRing wood widths (r .values)))
     (answer (ringIndices wood widths (r .values)))
 
 -- It "answers with the count of rings" (§ 9).

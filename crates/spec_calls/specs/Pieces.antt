@@ -7,6 +7,7 @@ use lib.Dec.{leb, ltb}
 use lib.IntN.{ℤ}
 use lib.ListN.{length}
 use Rattle.base_exact.specs.Tabulate.{tab}
+use Rattle.base_outcome.specs.Codes as codes
 use Rattle.base_outcome.specs.Outcome.{Outcome, answer, refuse, _then_}
 use Rattle.spec_spline.specs.Space.{Space, segments, break, degree, firstColumn}
 use Rattle.spec_spline.specs.Table.{Table}
@@ -41,7 +42,8 @@ pieceOf s t wood coefs k = record {
 -- "the number named" (§ 3).
 unfoldable pub pieceOutcome : Space → Wood → List ℤ → ℕ → ℕ → ℕ → Outcome Piece
 pieceOutcome s wood coefs k numLength denLength =
-    curveAlone s coefs numLength denLength then λ r. cond (isDrawable s k) (answer (pieceOf s (r .table) wood coefs k)) (refuse 17 k)
+    curveAlone s coefs numLength denLength then λ r.
+    cond (isDrawable s k) (answer (pieceOf s (r .table) wood coefs k)) (refuse codes.notDrawn k)
 
 -- What the call ends with: the answer and both weight buffers.
 pub record PieceEnd : Type 0 where

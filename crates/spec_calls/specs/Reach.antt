@@ -6,6 +6,7 @@ use Prim.Native.Nat.{ℕ}
 use lib.IntN.{ℤ}
 use lib.ListN.{length}
 use lib.Signed.{leZ}
+use Rattle.base_outcome.specs.Codes as codes
 use Rattle.base_outcome.specs.Outcome.{Outcome, answer, refuse, _then_}
 use Rattle.base_outcome.specs.Search.{first}
 use Rattle.spec_spline.specs.Space.{Space}
@@ -22,7 +23,7 @@ reaches s t wood coefs width i = leZ (fine width) (valueAt s t wood coefs (posit
 -- "the least position", and "16 where there is none" (§ 10), place 0.
 abbrev pub reachedAt : Space → Option ℕ → Outcome ℤ
 reachedAt s (some i) = answer (position s i)
-reachedAt s none = refuse 16 0
+reachedAt s none = refuse codes.neverReached 0
 
 -- What the call ends with, given the lengths of the two buffers: 16 comes after all numbers of the curve (§ 3).
 unfoldable pub reachOutcome : Space → Wood → List ℤ → ℤ → ℕ → ℕ → Outcome ℤ

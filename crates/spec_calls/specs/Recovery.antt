@@ -8,6 +8,7 @@ use lib.ListN.{length, take, drop}
 use Rattle.base_exact.specs.Rational.{ℚ, int, _+ᵠ_, _*ᵠ_, _-ᵠ_, _/ᵠ_}
 use Rattle.base_exact.specs.Order.{isZero}
 use Rattle.base_fraction.specs.Size.{fits}
+use Rattle.base_outcome.specs.Codes as codes
 use Rattle.base_outcome.specs.Outcome.{Outcome, answer, refuse, _then_, repeat}
 use Rattle.spec_spline.specs.Space.{Space, segments, columnCount, conditionCount}
 use Rattle.spec_spline.specs.Conditions.{Entry, conditions}
@@ -16,7 +17,7 @@ use Rattle.spec_spline.specs.Step.{Span, jumpsAt, Planned, planned, rowsRenewed
 
 -- A fraction of the undoing: 20 where it is "too large in the sense of § 5" (§ 12).
 unfoldable pub fitted : ℕ → ℚ → Outcome ℚ
-fitted j q = cond (fits q) (answer q) (refuse 20 j)
+fitted j q = cond (fits q) (answer q) (refuse codes.tooLargeToUndo j)
 
 -- "the products of present number and jump over the rows with a non-zero jump, rows rising, and their partial sums" (§ 12), of the
 -- first n rows.
@@ -27,7 +28,7 @@ jumpSum j js cs (suc n) = jumpSum j js cs n then λ s. cond (jumpsAt js n) (fitt
 
 -- "19 where that sum is not zero" (§ 12).
 unfoldable pub balanced : ℕ → List ℚ → List ℚ → Outcome (Unit {0})
-balanced j js cs = jumpSum j js cs (length js) then λ s. cond (isZero s) (answer tt) (refuse 19 j)
+balanced j js cs = jumpSum j js cs (length js) then λ s. cond (isZero s) (answer tt) (refuse codes.noCoefficients j)
 
 -- "the share (1 - w(i))·(new number of row i - 1), the difference (number of row i) - share, and the quotient difference / w(i),
 -- each 20 where too large, is the new number of row i" (§ 12): of a row with factor w and present number c, given the new number of

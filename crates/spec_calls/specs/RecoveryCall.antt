@@ -7,6 +7,7 @@ use lib.IntN.{ℤ, pos, negℤ}
 use lib.ListN.{length, getD, drop}
 use Rattle.base_exact.specs.Rational.{ℚ, den}
 use Rattle.base_exact.specs.Tabulate.{tab}
+use Rattle.base_outcome.specs.Codes as codes
 use Rattle.base_outcome.specs.Outcome.{Outcome, answer, refusal, refuse, largestPlace, _then_, with-answer}
 use Rattle.base_outcome.specs.Search.{first}
 use Rattle.spec_spline.specs.Space.{Space, checked, columnCount, rowCount}
@@ -28,14 +29,15 @@ badOrdinate ordinates i = not (between (negℤ (pos ordinateLimit)) (pos ordinat
 abbrev pub legalOrdinates : {A : Type 0} → Space → List ℤ → Outcome A → Outcome A
 legalOrdinates s ordinates rest =
     cond (eqb (length ordinates) (columnCount s))
-    (refuseFirst 18 (first (length ordinates) (badOrdinate ordinates)) rest)
-    (refuse 18 largestPlace)
+    (refuseFirst codes.ordinate (first (length ordinates) (badOrdinate ordinates)) rest)
+    (refuse codes.ordinate largestPlace)
 
 -- Code 1, or the value given: "places 0, 1, 3, 4; 3 and 4 compare with the count of ordinates as given" (§ 12).
 abbrev pub allLongEnough : {A : Type 0} → List ℤ → ℕ → ℕ → ℕ → ℕ → Outcome A → Outcome A
 allLongEnough ordinates numLength denLength coefNumLength coefDenLength rest =
     longEnough numLength denLength
-    (cond (ltb coefNumLength (length ordinates)) (refuse 1 3) (cond (ltb coefDenLength (length ordinates)) (refuse 1 4) rest))
+    (cond (ltb coefNumLength (length ordinates)) (refuse codes.shortBuffer 3)
+    (cond (ltb coefDenLength (length ordinates)) (refuse codes.shortBuffer 4) rest))
 
 -- What the call ends with, given the lengths of the four buffers.
 unfoldable pub recoveryOutcome : Space → List ℤ → ℕ → ℕ → ℕ → ℕ → Outcome Combination
@@ -45,7 +47,7 @@ recoveryOutcome s ordinates numLength denLength coefNumLength coefDenLength =
 
 -- "After 8, 9, 19 and 20 the 5,184 cells of both weight buffers are 0/1" (§ 3).
 abbrev pub clearsAll : ℕ → Bool
-clearsAll code = clears code || eqb code 19 || eqb code 20
+clearsAll code = clears code || eqb code codes.noCoefficients || eqb code codes.tooLargeToUndo
 
 -- A weight buffer after the call: the last part's weights as `laid` lays a table in it, cleared, or as it was.
 abbrev pub weightsAfter : (Table → List ℤ → List ℤ) → Space → Outcome Combination → List ℤ → List ℤ

@@ -7,6 +7,7 @@ use Prim.Native.Nat.{ℕ, zero, suc, _+_}
 use lib.Dec.{ltb}
 use lib.IntN.{ℤ}
 use lib.ListN.{length}
+use Rattle.base_outcome.specs.Codes as codes
 use Rattle.base_outcome.specs.Outcome.{Outcome, answer, refusal, refuse, _then_}
 use Rattle.spec_spline.specs.Space.{Space}
 use Rattle.spec_spline.specs.Table.{tableCells}
@@ -19,10 +20,8 @@ use Rattle.spec_sheet.specs.Sheet.{argumentsOf, spaceOf}
 use Rattle.spec_tucson.specs.Series.{Series}
 use Rattle.spec_tucson.specs.TextReading.{readText}
 use Rattle.spec_rings.specs.Parts.{Headed, headed, sheetLines, sheetPart, seriesPart}
-
 -- The most bytes that the program holds: 1 comes for "more than 1,048,576 bytes" (§ 18).
-abbrev pub textLimit : ℕ
-textLimit = 1048576
+pub use Rattle.spec_tucson.specs.Filter.{textLimit}
 
 -- The refusal at a place that is moved.
 abbrev pub moved : {A : Type 0} → (ℕ → ℕ) → Outcome A → Outcome A
@@ -66,9 +65,9 @@ readyOf h =
 
 -- 10, place 1, or what stands behind the first line.
 abbrev pub readyIf : Option Headed → Outcome Ready
-readyIf none = refuse 10 1
+readyIf none = refuse codes.sheetLine 1
 readyIf (some h) = readyOf h
 
 -- What is ready for an input, or its first refusal: 1 first. "Tested in this order" (§ 18).
 unfoldable pub ready : Text → Outcome Ready
-ready t = cond (ltb textLimit (length t)) (refuse 1 0) (readyIf (headed t))
+ready t = cond (ltb textLimit (length t)) (refuse codes.shortBuffer 0) (readyIf (headed t))

@@ -5,6 +5,7 @@ use Prim.Native.Nat.{ℕ, _*_}
 use lib.Dec.{eqb}
 use lib.IntN.{ℤ, pos, _+ℤ_}
 use lib.ListN.{length}
+use Rattle.base_outcome.specs.Codes as codes
 use Rattle.base_outcome.specs.Outcome.{Outcome, answer, refusal}
 use Rattle.spec_spline.specs.Space.{Space}
 use Rattle.spec_spline.specs.Table.{tableCells}
@@ -34,7 +35,7 @@ seriesValues space coefs s =
 
 -- The first ring at fault: "the 4,097th for 2" (§ 18), else the call's place.
 unfoldable pub faultyRing : ℕ → ℕ → ℕ
-faultyRing code place = cond (eqb code 2) positionLimit place
+faultyRing code place = cond (eqb code codes.lengths) positionLimit place
 
 -- "the one line NAME,YEAR,,,no=NUMBER with the year of the first ring at fault" (§ 18).
 unfoldable pub faultLine : Text → ℤ → ℕ → Text

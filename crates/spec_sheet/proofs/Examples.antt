@@ -11,7 +11,7 @@ use Rattle.base_outcome.specs.Outcome.{answer, refusal, capped}
 use Rattle.spec_spline.specs.Reading.{Pair, sideBySide}
 use Rattle.base_text.specs.Bytes.{Text, newline, bytes, lines, cut, fieldsBetween, stripped}
 use Rattle.base_text.specs.Numeral.{allDigits, digitsValue, isNatural, numeral, digitsUpTo, digits, decimal, numeralLimit}
-use Rattle.spec_sheet.specs.SheetReading.{pair, entries, listOf, line, readLine, fiveLines, read, Lists, textLimit}
+use Rattle.spec_sheet.specs.SheetReading.{pair, entries, listOf, line, readLine, fiveLines, read, Lists, sheetLimit}
 use Rattle.spec_sheet.specs.SheetText.{pairText, commaJoined, listText, lineText, sheetText, WritableNumerals, WritablePairs}
 use Rattle.spec_sheet.proofs.RoundTrip.{sheet-reads-back}
 
@@ -110,7 +110,7 @@ text1 : sheetText lists1 ≡ w1
 unfolding sheetText lineText listText pairText commaJoined decimal digits digitsUpTo bytes lines
 text1 = refl
 
-short1 : length (sheetText lists1) ≤ textLimit
+short1 : length (sheetText lists1) ≤ sheetLimit
 unfolding bytes lines
 short1 = omega (arith, ap length text1)
 

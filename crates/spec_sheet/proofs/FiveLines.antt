@@ -11,7 +11,7 @@ use Rattle.base_outcome.specs.Outcome.{Outcome, answer, refuse, _then_}
 use Rattle.spec_spline.specs.Reading.{Pair}
 use Rattle.base_text.specs.Bytes.{Text, fields}
 use Rattle.base_text.specs.Numeral.{numeral}
-use Rattle.spec_sheet.specs.SheetReading.{textLimit, pair, entries, limitedList, listOf, Line, line, readLine, degreesKey, ordersKey, coefsKey, atKey, Lists, ended, fiveLines, read}
+use Rattle.spec_sheet.specs.SheetReading.{sheetLimit, pair, entries, limitedList, listOf, Line, line, readLine, degreesKey, ordersKey, coefsKey, atKey, Lists, ended, fiveLines, read}
 
 -- ---- a list that is not empty
 module _ {A : Type 0} (entry : Text → Option A) where
@@ -21,13 +21,13 @@ module _ {A : Type 0} (entry : Text → Option A) where
   list-fields (c ∷ cs) h = refl
 
 -- ---- the length of the text
-pub read-long : (text : Text) → textLimit < length text → read text ≡ refuse 10 0
+pub read-long : (text : Text) → sheetLimit < length text → read text ≡ refuse 10 0
 unfolding read
-read-long text h = rw (lt-ltb textLimit (length text) h)
+read-long text h = rw (lt-ltb sheetLimit (length text) h)
 
-pub read-short : (text : Text) → length text ≤ textLimit → read text ≡ fiveLines text
+pub read-short : (text : Text) → length text ≤ sheetLimit → read text ≡ fiveLines text
 unfolding read
-read-short text h = rw (le-ltb textLimit (length text) h)
+read-short text h = rw (le-ltb sheetLimit (length text) h)
 
 -- ---- the lines
 module _ {A : Type 0} (entry : Text → Option A) (place : ℕ) (key t : Text) where

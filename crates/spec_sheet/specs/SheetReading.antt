@@ -8,18 +8,20 @@ use Prim.Native.Nat.{ℕ}
 use lib.Dec.{leb, ltb}
 use lib.IntN.{ℤ}
 use lib.ListN.{length}
+use Rattle.base_outcome.specs.Codes as codes
 use Rattle.base_outcome.specs.Outcome.{Outcome, answer, refuse, _then_}
 use Rattle.spec_spline.specs.Reading.{Pair}
+use Rattle.spec_spline.specs.CurveCall.{positionLimit}
 use Rattle.base_text.specs.Bytes.{Text, newline, colon, Cut, cut, fields, stripped}
 use Rattle.base_text.specs.Numeral.{numeral}
 
 -- "at most 4,096 entries a list" (§ 13). A pair "counts as one" (§ 13).
 abbrev pub listLimit : ℕ
-listLimit = 4096
+listLimit = positionLimit
 
 -- The bytes that a text may have: 10 comes "for more than 65,536 bytes" (§ 13).
-abbrev pub textLimit : ℕ
-textLimit = 65536
+abbrev pub sheetLimit : ℕ
+sheetLimit = 65536
 
 -- ---- pairs
 
@@ -82,7 +84,7 @@ line entry key text = cutLine entry key (cut newline text)
 
 -- The place is "the first bad or missing line" (§ 13), from 1.
 unfoldable pub readLine : {A : Type 0} → ℕ → (Text → Option A) → Text → Text → Outcome (Line A)
-readLine place entry key text = elim (line entry key text) [ none ↦ refuse 10 place | some l ↦ answer l ]
+readLine place entry key text = elim (line entry key text) [ none ↦ refuse codes.sheetLine place | some l ↦ answer l ]
 
 -- breaks=, degrees=, orders=, coefs=, at=
 abbrev pub breaksKey : Text
@@ -111,7 +113,7 @@ pub record Lists : Type 0 where
 -- "6 for anything after a good line five" (§ 13).
 abbrev pub ended : Text → Lists → Outcome Lists
 ended [] lists = answer lists
-ended (c ∷ cs) lists = refuse 10 6
+ended (c ∷ cs) lists = refuse codes.sheetLine 6
 
 -- The five lines in their order.
 unfoldable pub fiveLines : Text → Outcome Lists
@@ -125,4 +127,4 @@ fiveLines text =
 
 -- 10: "place 0 for more than 65,536 bytes, tested first" (§ 13).
 unfoldable pub read : Text → Outcome Lists
-read text = cond (ltb textLimit (length text)) (refuse 10 0) (fiveLines text)
+read text = cond (ltb sheetLimit (length text)) (refuse codes.sheetLine 0) (fiveLines text)

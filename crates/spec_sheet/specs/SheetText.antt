@@ -9,7 +9,7 @@ use Rattle.base_outcome.specs.Outcome.{answer}
 use Rattle.spec_spline.specs.Reading.{Pair, sideBySide}
 use Rattle.base_text.specs.Bytes.{Text, newline, comma, colon}
 use Rattle.base_text.specs.Numeral.{decimal, numeralLimit}
-use Rattle.spec_sheet.specs.SheetReading.{listLimit, textLimit, breaksKey, degreesKey, ordersKey, coefsKey, atKey, Lists, read}
+use Rattle.spec_sheet.specs.SheetReading.{listLimit, sheetLimit, breaksKey, degreesKey, ordersKey, coefsKey, atKey, Lists, read}
 
 -- A pair as earlywood:latewood.
 unfoldable pub pairText : Pair → Text
@@ -56,4 +56,4 @@ abbrev pub SheetReadsBack : Type 0
 SheetReadsBack =
     (l : Lists) → WritableNumerals (l .breaks) → WritableNumerals (l .degrees) → WritableNumerals (l .orders) → WritablePairs (l .coefs)
     → WritableNumerals (l .positions) →
-    length (sheetText l) ≤ textLimit → read (sheetText l) ≡ answer l
+    length (sheetText l) ≤ sheetLimit → read (sheetText l) ≡ answer l

@@ -6,6 +6,7 @@ use Prim.Native.Nat.{ℕ, _-_}
 use lib.Dec.{eqb, ltb}
 use lib.IntN.{ℤ}
 use lib.ListN.{length, drop}
+use Rattle.base_outcome.specs.Codes as codes
 use Rattle.base_outcome.specs.Outcome.{Outcome, answer, refusal, refuse, _then_, with-answer, repeat}
 use Rattle.spec_spline.specs.Space.{Space, segments, lastPartStart, checked, firstColumn, columnCount, conditionCount, rowCount}
 use Rattle.spec_spline.specs.Space.{rowsBefore}
@@ -31,7 +32,9 @@ spaceWeights s = checked s then weights
 
 -- Code 1: the place of the first buffer with fewer than 5,184 cells.
 abbrev pub longEnough : {A : Type 0} → ℕ → ℕ → Outcome A → Outcome A
-longEnough numLength denLength rest = cond (ltb numLength tableCells) (refuse 1 0) (cond (ltb denLength tableCells) (refuse 1 1) rest)
+longEnough numLength denLength rest =
+    cond (ltb numLength tableCells) (refuse codes.shortBuffer 0)
+    (cond (ltb denLength tableCells) (refuse codes.shortBuffer 1) rest)
 
 -- What building ends with, given the buffers' lengths.
 unfoldable pub built : Space → ℕ → ℕ → Outcome Table
@@ -45,7 +48,7 @@ lastPart s t = let a = lastPartStart s in map (drop (firstColumn s a)) (drop (ro
 -- "After 8, 9, 19 and 20 the 5,184 cells of both weight buffers are 0/1" (§ 3): the buffers are cleared. Building gives 8 and 9
 -- alone.
 abbrev pub clears : ℕ → Bool
-clears code = eqb code 8 || eqb code 9
+clears code = eqb code codes.tooLarge || eqb code codes.jumps
 
 -- The numerators after the call, given the table that they are to hold: the table's, cleared after 8 or 9, unchanged after the other
 -- refusals.

@@ -7,6 +7,7 @@ use Prim.Native.Nat.{ℕ, _*_, _/_}
 use lib.Dec.{eqb, ltb}
 use lib.IntN.{ℤ, pos, negℤ}
 use lib.ListN.{length, getD, drop}
+use Rattle.base_outcome.specs.Codes as codes
 use Rattle.base_outcome.specs.Outcome.{Outcome, answer, refusal, refuse, largestPlace, _then_, with-answer}
 use Rattle.base_outcome.specs.Search.{first}
 use Rattle.spec_spline.specs.Space.{Space, segments, break, fitting, checkedEntries, rowCount}
@@ -36,23 +37,23 @@ badPosition s positions i = not (between (fine (break s 0)) (fine (break s (segm
 abbrev pub allLongEnough : {A : Type 0} → List ℤ → ℕ → ℕ → ℕ → Outcome A → Outcome A
 allLongEnough positions numLength denLength valuesLength rest =
     longEnough numLength denLength
-    (cond (ltb (valuesLength / 2) (length positions)) (refuse 1 2) rest)
+    (cond (ltb (valuesLength / 2) (length positions)) (refuse codes.shortBuffer 2) rest)
 
 -- Codes 6 and 7 of a legal space, or the value given: "the count of coefficients is not 2n; tested first" (§ 3), with the largest
 -- place; then the first bad coefficient, "each number of a pair by itself" (§ 3).
 abbrev pub legalEntries : {A : Type 0} → Space → List ℤ → List ℤ → Outcome A → Outcome A
 legalEntries s coefs positions rest =
     cond (eqb (length coefs) (2 * rowCount s))
-    (refuseFirst 6 (first (length coefs) (badCoefficient coefs))
-    (refuseFirst 7 (first (length positions) (badPosition s positions))
+    (refuseFirst codes.coefficient (first (length coefs) (badCoefficient coefs))
+    (refuseFirst codes.position (first (length positions) (badPosition s positions))
     rest))
-    (refuse 6 largestPlace)
+    (refuse codes.coefficient largestPlace)
 
 -- The space itself, or the first of the refusals 2 to 5, 15, 6 and 7.
 unfoldable pub curveChecked : Space → List ℤ → List ℤ → Outcome Space
 curveChecked s coefs positions =
     fitting s
-    (cond (ltb positionLimit (length positions)) (refuse 2 1)
+    (cond (ltb positionLimit (length positions)) (refuse codes.lengths 1)
     (checkedEntries s then λ legal. legalEntries legal coefs positions (answer legal)))
 
 -- What an answered call has worked out: the weights, and a pair of values for each position.

@@ -8,6 +8,7 @@ use lib.Dec.{eqb, leb, ltb}
 use lib.IntN.{ℤ, pos, _-ℤ_, _+ℤ_, natAbs, negℤ}
 use lib.ListN.{length, getD}
 use lib.Signed.{leZ, ltZ}
+use Rattle.base_outcome.specs.Codes as codes
 use Rattle.base_outcome.specs.Tests.{between, refuseFirst}
 use Rattle.base_outcome.specs.Outcome.{Outcome, answer, refuse}
 use Rattle.base_outcome.specs.Search.{first, last}
@@ -68,7 +69,8 @@ badBreak s (suc i) = not (between (negℤ (pos breakLimit)) (pos breakLimit) (br
 abbrev pub conditionCount : Space → ℕ → ℕ
 conditionCount s i = natAbs (order s i +ℤ pos 1)
 
--- Join i is "a discontinuity, a scar: no condition" (§ 1): its order is -1.
+-- Join i is "a discontinuity, a scar: no condition" (§ 1): its order is -1. The library tests no integers for equality, so this says
+-- that order + 1 has size 0, which -1 alone has.
 abbrev pub isDiscontinuity : Space → ℕ → Bool
 isDiscontinuity s i = eqb (conditionCount s i) 0
 
@@ -104,7 +106,7 @@ badOrder s i = not (between (negℤ (pos 1)) (pos 2) (order s i)) || leZ (degree
 
 -- Code 2, place 0, or the value given.
 abbrev pub fitting : {A : Type 0} → Space → Outcome A → Outcome A
-fitting s rest = cond (lengthsFit s) rest (refuse 2 0)
+fitting s rest = cond (lengthsFit s) rest (refuse codes.lengths 0)
 
 -- The end of the part that starts with the segment found.
 abbrev pub partEndAt : Space → Option ℕ → Option ℕ
@@ -115,11 +117,11 @@ partEndAt s (some i) = some (partEnd s i)
 -- table" (§ 3); of 3 all breakpoints first, then the first part whose span is too long.
 unfoldable pub checkedEntries : Space → Outcome Space
 checkedEntries s =
-    refuseFirst 3 (first (segments s + 1) (badBreak s))
-    (refuseFirst 3 (partEndAt s (first (segments s) (spanTooLong s)))
-    (refuseFirst 4 (first (segments s) (badDegree s))
-    (refuseFirst 5 (first (segments s - 1) (badOrder s))
-    (refuseFirst 15 (first (segments s) (tooManySegments s))
+    refuseFirst codes.breakpoint (first (segments s + 1) (badBreak s))
+    (refuseFirst codes.breakpoint (partEndAt s (first (segments s) (spanTooLong s)))
+    (refuseFirst codes.degree (first (segments s) (badDegree s))
+    (refuseFirst codes.order (first (segments s - 1) (badOrder s))
+    (refuseFirst codes.longPart (first (segments s) (tooManySegments s))
     (answer s)))))
 
 -- The space itself, or the first of the refusals 2 to 5 and 15.

@@ -10,6 +10,7 @@ use Rattle.base_exact.specs.Rational.{ℚ, int, _+ᵠ_, _*ᵠ_, _-ᵠ_, _/ᵠ_}
 use Rattle.base_exact.specs.Order.{isZero, ltᵠ}
 use Rattle.base_exact.specs.Sum.{sum}
 use Rattle.base_fraction.specs.Size.{fits}
+use Rattle.base_outcome.specs.Codes as codes
 use Rattle.base_outcome.specs.Outcome.{Outcome, answer, refuse, _then_, collect}
 use Rattle.base_outcome.specs.Search.{first, last, found}
 use Rattle.spec_spline.specs.Conditions.{Entry}
@@ -17,7 +18,7 @@ use Rattle.spec_spline.specs.Table.{Row, Table, entry, row}
 
 -- A counted fraction: code 8 where it is too large.
 unfoldable pub count : ℕ → ℚ → Outcome ℚ
-count j q = cond (fits q) (answer q) (refuse 8 j)
+count j q = cond (fits q) (answer q) (refuse codes.tooLarge j)
 
 -- The sum so far, and each product weight times condition with its partial sum, columns rising.
 unfoldable pub addProducts : ℕ → Row → ℚ → List Entry → Outcome ℚ
@@ -46,9 +47,9 @@ abbrev pub zeroBetween : List ℚ → ℕ → ℕ → Bool
 zeroBetween js f l = found (first (l - f) (λ d. isZero (entry js (f + d))))
 
 abbrev pub spanOf : ℕ → List ℚ → Option ℕ → Option ℕ → Outcome Span
-spanOf j js none l = refuse 9 j
-spanOf j js (some f) none = refuse 9 j
-spanOf j js (some f) (some l) = cond (zeroBetween js f l) (refuse 9 j) (answer (record { f = f; l = l }))
+spanOf j js none l = refuse codes.jumps j
+spanOf j js (some f) none = refuse codes.jumps j
+spanOf j js (some f) (some l) = cond (zeroBetween js f l) (refuse codes.jumps j) (answer (record { f = f; l = l }))
 
 -- "f and l are the first and the last row with a non-zero jump. Number 9 where there is none, or a zero jump between them." (§ 5)
 unfoldable pub span : ℕ → List ℚ → Outcome Span
@@ -64,7 +65,7 @@ unfoldable pub quotientFactor : ℕ → ℚ → ℚ → Outcome ℚ
 quotientFactor j s q =
     count j s then λ s.
     count j (s /ᵠ q) then λ w.
-    cond (ltᵠ (int (pos 0)) w && ltᵠ w (int (pos 1))) (answer w) (refuse 9 j)
+    cond (ltᵠ (int (pos 0)) w && ltᵠ w (int (pos 1))) (answer w) (refuse codes.jumps j)
 
 -- The factor of row i: w = S / jump i.
 abbrev pub factor : ℕ → List ℚ → ℕ → ℕ → Outcome ℚ

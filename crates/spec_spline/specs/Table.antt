@@ -7,6 +7,7 @@ use lib.IntN.{ℤ, pos}
 use lib.ListN.{getD, drop}
 use Rattle.base_exact.specs.Rational.{ℚ, den, int}
 use Rattle.base_exact.specs.Tabulate.{tab}
+pub use Rattle.base_fraction.specs.Fractions.{rowCells}
 
 abbrev pub Row : Type 0
 Row = List ℚ
@@ -30,10 +31,6 @@ cell t i j = entry (row t i) j
 -- The identity with n rows and n columns.
 unfoldable pub identity : ℕ → Table
 identity n = tab n (λ i. tab n (λ j. cond (eqb i j) (int (pos 1)) (int (pos 0))))
-
--- The buffers have 72 cells a row.
-abbrev pub rowCells : ℕ
-rowCells = 72
 
 -- "at least 5,184 = 72 · 72 cells" (§ 2).
 abbrev pub tableCells : ℕ

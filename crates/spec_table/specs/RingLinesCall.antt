@@ -4,6 +4,7 @@ use mathlib.Core.Bool.{Bool, cond, _&&_}
 use Prim.Native.Nat.{ℕ, _*_}
 use lib.Dec.{eqb, leb}
 use lib.ListN.{length}
+use Rattle.base_outcome.specs.Codes as codes
 use Rattle.base_outcome.specs.Outcome.{Outcome, answer, refuse, with-answer}
 use Rattle.base_text.specs.Bytes.{Text}
 use Rattle.spec_spline.specs.Reading.{Wood}
@@ -23,9 +24,9 @@ unfoldable pub ringLinesOutcome : Wood → IndexedSeries → ℕ → Outcome Tex
 ringLinesOutcome wood s room =
     cond (ringListsFit s)
     (cond (isName (s .name))
-    (cond (leb (length (ringLines wood s)) room) (answer (ringLines wood s)) (refuse 1 0))
-    (refuse 11 0))
-    (refuse 2 0)
+    (cond (leb (length (ringLines wood s)) room) (answer (ringLines wood s)) (refuse codes.shortBuffer 0))
+    (refuse codes.tucsonLine 0))
+    (refuse codes.lengths 0)
 
 -- What the call ends with: the answer and the lent buffer.
 pub record RingLinesEnd : Type 0 where

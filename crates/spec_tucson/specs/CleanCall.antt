@@ -6,6 +6,7 @@ use mathlib.Core.Option.{Option, some, none}
 use Prim.Native.Nat.{ℕ, suc, _+_, _/_}
 use lib.Dec.{eqb, leb}
 use lib.ListN.{length}
+use Rattle.base_outcome.specs.Codes as codes
 use Rattle.base_outcome.specs.Outcome.{Outcome, answer, refusal, largestPlace, refuse, _then_, with-answer}
 use Rattle.base_outcome.specs.Tests.{refuseFirst}
 use Rattle.base_text.specs.Bytes.{Text, newline}
@@ -16,6 +17,7 @@ use Rattle.spec_tucson.specs.Shown.{hasEnd}
 use Rattle.spec_tucson.specs.StrictLine.{Kept}
 use Rattle.spec_tucson.specs.KeptLines.{noHeaderNamed, headerOf, keptLines}
 use Rattle.spec_tucson.specs.CleanSeries.{unitNotSaid, hundredthsSaid, thousandthsSaid, yearFault, seriesFault, refuseFault, closedLines, strictText, readKept}
+use Rattle.spec_tucson.specs.Notes as kinds
 use Rattle.spec_tucson.specs.CleanNotes.{Before, atLine, notesOf}
 
 -- The strict text, the line of the file of each of its lines, and the notes, two cells each.
@@ -39,7 +41,7 @@ isUnitOption unit = eqb unit unitNotSaid || (eqb unit hundredthsSaid || eqb unit
 -- Codes 23, 24 and 25 and the strict reader's, or the lines with their closings.
 unfoldable pub checkedLines : ℕ → List Kept → Outcome (List Kept)
 checkedLines unit ks =
-    refuseFirst 23 (yearFault none ks)
+    refuseFirst codes.fileName (yearFault none ks)
     (refuseFault (seriesFault unit none ks)
     (readKept none (closedLines unit ks) then λ ss. answer (closedLines unit ks)))
 
@@ -47,7 +49,7 @@ checkedLines unit ks =
 
 -- Note 1, on line 1, where the file begins with a mark.
 unfoldable pub markNote : Text → List ℕ
-markNote t = cond (isMarked t) (1 ∷ 1 ∷ []) []
+markNote t = cond (isMarked t) (kinds.marked ∷ 1 ∷ []) []
 
 -- The last of the raw lines has its end, or there is none.
 unfoldable pub allEnded : List Text → Bool
@@ -57,7 +59,7 @@ allEnded (r ∷ s ∷ rs) = allEnded (s ∷ rs)
 
 -- Note 2 on a line of its own, where byte 26 stands at the beginning of a line.
 unfoldable pub endNote : Text → List ℕ
-endNote t = cond (endsEarly t && allEnded (linesOf (textOf t))) (2 ∷ suc (length (linesOf (textOf t))) ∷ []) []
+endNote t = cond (endsEarly t && allEnded (linesOf (textOf t))) (kinds.cut ∷ suc (length (linesOf (textOf t))) ∷ []) []
 
 -- Nothing stands before the first line.
 abbrev pub atStart : Before
@@ -82,25 +84,25 @@ fileLimit = largestPlace
 
 -- What is made of a file that is not too long, or its first refusal.
 unfoldable pub cleanedFile : Text → ℕ → ℕ → Outcome Cleaned
-cleanedFile t header unit = refuseFirst 21 (textFault t) (headerOf header (linesOf (textOf t)) then cleanedBelow t unit)
+cleanedFile t header unit = refuseFirst codes.fileText (textFault t) (headerOf header (linesOf (textOf t)) then cleanedBelow t unit)
 
 -- The file in the strict form, or its first refusal.
 unfoldable pub cleaned : Text → ℕ → ℕ → Outcome Cleaned
 cleaned t header unit =
     cond (isHeaderOption header)
     (cond (isUnitOption unit)
-    (cond (leb (length t) fileLimit) (cleanedFile t header unit) (refuse 21 largestPlace))
-    (refuse 24 0))
-    (refuse 26 0)
+    (cond (leb (length t) fileLimit) (cleanedFile t header unit) (refuse codes.fileText largestPlace))
+    (refuse codes.fileUnit 0))
+    (refuse codes.fileHeader 0)
 
 -- The first buffer that is too short for what it takes: a text, lines, notes.
 unfoldable pub ifRoom : ℕ → ℕ → ℕ → Cleaned → Outcome Cleaned
 ifRoom textLength linesLength notesLength c =
     cond (leb (length (c .text)) textLength)
     (cond (leb (length (c .lines)) linesLength)
-    (cond (leb (length (c .notes)) notesLength) (answer c) (refuse 1 2))
-    (refuse 1 1))
-    (refuse 1 0)
+    (cond (leb (length (c .notes)) notesLength) (answer c) (refuse codes.shortBuffer 2))
+    (refuse codes.shortBuffer 1))
+    (refuse codes.shortBuffer 0)
 
 -- How many bytes, lines and notes there are.
 pub record Counts : Type 0 where

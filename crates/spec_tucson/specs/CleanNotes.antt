@@ -15,6 +15,7 @@ use Rattle.spec_tucson.specs.Shown.{shown, isBlankLine, hasEnd, hasRetur
 use Rattle.spec_tucson.specs.StrictLine.{hasSite, anyHigh, shownFields, Kept}
 use Rattle.spec_tucson.specs.KeptLines.{isData}
 use Rattle.spec_tucson.specs.CleanSeries.{continues, followsIts, fieldsOf, isReclosed, closingAfter}
+use Rattle.spec_tucson.specs.Notes as kinds
 
 -- The number, where it applies.
 abbrev pub noteIf : Bool → ℕ → List ℕ → List ℕ
@@ -84,9 +85,9 @@ isOtherUnit firstClosing a = isLast a && not (same (a .closing) firstClosing)
 -- The remarks on a line with these fields, first of its series or not; the file's first series closes so.
 unfoldable pub remarks : ℤ → Bool → Ahead → List ℤ → List ℕ
 remarks firstClosing first a fs =
-    noteIf (isAbsentEnd first a (widthsIn a fs)) 12
-    (noteIf (isLikeClosing a (widthsIn a fs)) 13
-    (noteIf (isOtherUnit firstClosing a) 14 []))
+    noteIf (isAbsentEnd first a (widthsIn a fs)) kinds.absentEnd
+    (noteIf (isLikeClosing a (widthsIn a fs)) kinds.likeClosing
+    (noteIf (isOtherUnit firstClosing a) kinds.otherUnit []))
 
 -- ---- a line's notes
 
@@ -97,20 +98,21 @@ isCutLine early raw = early && not (hasEnd raw)
 -- The notes of a line that is kept.
 unfoldable pub keptNotes : ℕ → ℤ → Bool → Ahead → Kept → List ℕ
 keptNotes unit firstClosing first a k =
-    noteIf (hasTrailing (k .raw)) 5
-    (noteIf (hasSite (shown (k .raw))) 7
-    (noteIf (not (hasEnd (k .raw))) 8
-    (noteIf (anyHigh (shownFields (k .raw))) 10
-    (noteIf (isReclosed unit (not (isLast a)) (k .text)) 11
+    noteIf (hasTrailing (k .raw)) kinds.trailing
+    (noteIf (hasSite (shown (k .raw))) kinds.site
+    (noteIf (not (hasEnd (k .raw))) kinds.unended
+    (noteIf (anyHigh (shownFields (k .raw))) kinds.high
+    (noteIf (isReclosed unit (not (isLast a)) (k .text)) kinds.reclosed
     (remarks firstClosing first a (fieldsOf (k .text)))))))
 
 -- The notes of a header line.
 unfoldable pub headerNotes : Text → List ℕ
-headerNotes raw = noteIf (hasTrailing raw) 5 (noteIf (not (hasEnd raw)) 8 (9 ∷ []))
+headerNotes raw = noteIf (hasTrailing raw) kinds.trailing (noteIf (not (hasEnd raw)) kinds.unended (kinds.header ∷ []))
 
 -- The notes of a line, with these of what becomes of it.
 unfoldable pub lineNotes : Bool → Text → List ℕ → List ℕ
-lineNotes early raw others = noteIf (isCutLine early raw) 2 (noteIf (hasReturn raw) 3 (noteIf (hasTab raw) 4 others))
+lineNotes early raw others =
+    noteIf (isCutLine early raw) kinds.cut (noteIf (hasReturn raw) kinds.returned (noteIf (hasTab raw) kinds.tabbed others))
 
 -- Each number with the line, two cells a note.
 unfoldable pub atLine : ℕ → List ℕ → List ℕ
@@ -136,10 +138,10 @@ behind firstClosing k = record { kept = some k; closing = some firstClosing }
 unfoldable pub notesOf : ℕ → ℕ → Bool → ℕ → Before → List Text → List Kept → List ℕ
 notesOf unit h early i b [] ks = []
 notesOf unit h early i b (r ∷ rs) [] =
-    atLine i (lineNotes early r (cond (isBlankLine r) (6 ∷ []) (headerNotes r))) ++ notesOf unit h early (suc i) b rs []
+    atLine i (lineNotes early r (cond (isBlankLine r) (kinds.blank ∷ []) (headerNotes r))) ++ notesOf unit h early (suc i) b rs []
 notesOf unit h early i b (r ∷ rs) (k ∷ ks) =
     cond (isData h i r)
     (atLine i (lineNotes early r (keptNotes unit (closingOr (b .closing) (ahead unit (k ∷ ks) .closing))
     (not (followsIts (b .kept) k)) (ahead unit (k ∷ ks)) k))
     ++ notesOf unit h early (suc i) (behind (closingOr (b .closing) (ahead unit (k ∷ ks) .closing)) k) rs ks)
-    (atLine i (lineNotes early r (cond (isBlankLine r) (6 ∷ []) (headerNotes r))) ++ notesOf unit h early (suc i) b rs (k ∷ ks))
+    (atLine i (lineNotes early r (cond (isBlankLine r) (kinds.blank ∷ []) (headerNotes r))) ++ notesOf unit h early (suc i) b rs (k ∷ ks))

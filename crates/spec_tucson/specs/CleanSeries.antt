@@ -7,6 +7,7 @@ use Prim.Native.Nat.{ℕ, zero, suc, _+_, _-_, _*_}
 use lib.Dec.{eqb, leb, ltb}
 use lib.IntN.{ℤ, pos, negℤ}
 use lib.ListN.{length, take, drop}
+use Rattle.base_outcome.specs.Codes as codes
 use Rattle.base_outcome.specs.Outcome.{Outcome, answer, refuse, _then_, with-answer}
 use Rattle.base_text.specs.Bytes.{Text, newline, minus}
 use Rattle.base_text.specs.Numeral.{isDigit}
@@ -140,12 +141,12 @@ fault c l = record { code = c; line = l }
 
 abbrev pub ifHundredths : ℤ → Option ℕ → Option Fault
 ifHundredths c none = none
-ifHundredths c (some line) = cond (same c hundredths) (some (fault 25 line)) none
+ifHundredths c (some line) = cond (same c hundredths) (some (fault codes.fileClosing line)) none
 
 -- Codes 24 and 25 of a series with this last line and this first line with 999.
 unfoldable pub closingFault : ℕ → Option ℕ → Kept → Option Fault
 closingFault unit seen k =
-    cond (isUnitFault unit (lastField (fieldsOf (k .text)))) (some (fault 24 (k .line)))
+    cond (isUnitFault unit (lastField (fieldsOf (k .text)))) (some (fault codes.fileUnit (k .line)))
     (ifHundredths (closingAfter unit (lastField (fieldsOf (k .text)))) seen)
 
 abbrev pub orFault : Option Fault → Option Fault → Option Fault

@@ -5,6 +5,7 @@ use mathlib.Core.List.{List}
 use Prim.Native.Nat.{ℕ}
 use lib.Dec.{leb}
 use lib.ListN.{length}
+use Rattle.base_outcome.specs.Codes as codes
 use Rattle.base_outcome.specs.Outcome.{Outcome, answer, refusal}
 use Rattle.base_text.specs.Bytes.{Text}
 use Rattle.base_print.specs.Refusal.{refusalLine}
@@ -23,4 +24,4 @@ outcomeText (refusal code place) = refusalLine code place
 
 -- What the filter gives for a text. A longer one than it can hold is refused, never cut.
 unfoldable pub filtered : Text → Text
-filtered t = cond (leb (length t) textLimit) (outcomeText (readText t)) (refusalLine 1 0)
+filtered t = cond (leb (length t) textLimit) (outcomeText (readText t)) (refusalLine codes.shortBuffer 0)

@@ -6,6 +6,7 @@ use mathlib.Core.Option.{Option, some, none}
 use Prim.Native.Nat.{ℕ, zero, suc, _+_, _-_}
 use lib.Dec.{eqb, leb, ltb}
 use lib.ListN.{length, take, drop}
+use Rattle.base_outcome.specs.Codes as codes
 use Rattle.base_outcome.specs.Outcome.{Outcome, answer, refusal, refuse, _then_, with-answer}
 use Rattle.base_text.specs.Bytes.{Text, newline, digitZero}
 use Rattle.base_text.specs.Numeral.{isDigit}
@@ -86,11 +87,11 @@ strictInHeader h (n ∷ ns) = cond (leb (n .line) h) (cond (readsStrictly (n .ra
 
 abbrev pub unlessStrict : ℕ → Option ℕ → Outcome ℕ
 unlessStrict h none = answer h
-unlessStrict h (some line) = refuse 26 line
+unlessStrict h (some line) = refuse codes.fileHeader line
 
 -- The header that the caller names by its count of lines.
 unfoldable pub namedHeader : ℕ → List Text → Outcome ℕ
-namedHeader h raws = cond (ltb (length raws) h) (refuse 26 0) (unlessStrict h (strictInHeader h (unblank 1 raws)))
+namedHeader h raws = cond (ltb (length raws) h) (refuse codes.fileHeader 0) (unlessStrict h (strictInHeader h (unblank 1 raws)))
 
 -- The greatest count of lines that can be named; one more stands for none that is named.
 abbrev pub headerLimit : ℕ
@@ -116,7 +117,7 @@ isData h i raw = not (isBlankLine raw) && ltb h i
 
 -- The line in front of the later ones, unless its name is at fault.
 abbrev pub keptThen : Option Kept → Kept → (Option Kept → Outcome (List Kept)) → Outcome (List Kept)
-keptThen before k later = cond (isMisnamed before k) (refuse 22 (k .line)) (with-answer (λ ks. k ∷ ks) (later (some k)))
+keptThen before k later = cond (isMisnamed before k) (refuse codes.fileBytes (k .line)) (with-answer (λ ks. k ∷ ks) (later (some k)))
 
 -- The strict lines of these raw lines, the first of which has this number; below a header that ends with line h, behind this line.
 unfoldable pub keptLines : ℕ → ℕ → Option Kept → List Text → Outcome (List Kept)

@@ -14,5 +14,6 @@ pub mod Shown
 pub mod StrictLine
 pub mod KeptLines
 pub mod CleanSeries
+pub mod Notes
 pub mod CleanNotes
 pub mod CleanCall

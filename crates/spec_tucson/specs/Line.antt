@@ -9,6 +9,7 @@ use lib.IntN.{ℤ, pos, negsuc, negℤ}
 use lib.ListN.{length, take, drop}
 use lib.Signed.{leZ}
 use Rattle.base_outcome.specs.Tests.{between}
+pub use Rattle.base_outcome.specs.Limits.{widthLimit}
 use Rattle.base_text.specs.Bytes.{Text, newline, Cut, cut, onFirst}
 use Rattle.spec_tucson.specs.Columns.{blank, inColumns}
 
@@ -31,10 +32,6 @@ decade = 10
 -- The last printable byte of ASCII; the first is the blank.
 abbrev pub lastPrintable : ℕ
 lastPrintable = 126
-
--- The largest width in thousandths of a millimetre.
-abbrev pub widthLimit : ℕ
-widthLimit = 99999
 
 -- "-9999 for thousandths" (§ 14): the field that closes a series of thousandths.
 abbrev pub thousandths : ℤ
@@ -126,7 +123,7 @@ withinDecade l = leb (yearInDecade (l .year) + length (l .fields)) decade
 
 -- ---- the fields
 
--- The two numbers are the same.
+-- The two numbers are equal: neither is above the other. (The library tests no integers for equality.)
 abbrev pub same : ℤ → ℤ → Bool
 same a b = leZ a b && leZ b a
 

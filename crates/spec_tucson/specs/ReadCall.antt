@@ -7,6 +7,7 @@ use Prim.Native.Nat.{ℕ}
 use lib.Dec.{leb}
 use lib.IntN.{ℤ}
 use lib.ListN.{length, drop}
+use Rattle.base_outcome.specs.Codes as codes
 use Rattle.base_outcome.specs.Outcome.{Outcome, answer, refusal, refuse, _then_, with-answer}
 use Rattle.base_text.specs.Bytes.{Text}
 use Rattle.spec_tucson.specs.Series.{Series}
@@ -43,7 +44,7 @@ roomFor ss namesLength yearsLength countsLength widthsLength =
 -- What the read call ends with, given the lengths of the four buffers.
 unfoldable pub readOutcome : Text → ℕ → ℕ → ℕ → ℕ → Outcome (List Series)
 readOutcome t namesLength yearsLength countsLength widthsLength =
-    readText t then λ ss. cond (roomFor ss namesLength yearsLength countsLength widthsLength) (answer ss) (refuse 1 0)
+    readText t then λ ss. cond (roomFor ss namesLength yearsLength countsLength widthsLength) (answer ss) (refuse codes.shortBuffer 0)
 
 -- A buffer with a list at its front; the later cells keep what they held.
 abbrev pub overwritten : {A : Type 0} → List A → List A → List A

@@ -6,6 +6,7 @@ use mathlib.Core.Option.{Option, some, none}
 use Prim.Native.Nat.{ℕ, zero, suc, _+_, _-_, _*_}
 use lib.Dec.{eqb, leb}
 use lib.ListN.{length, take, drop}
+use Rattle.base_outcome.specs.Codes as codes
 use Rattle.base_outcome.specs.Outcome.{Outcome, answer, refuse, _then_, with-answer}
 use Rattle.base_text.specs.Bytes.{Text, newline, indexWhere}
 use Rattle.base_text.specs.Numeral.{isDigit}
@@ -145,14 +146,14 @@ unfoldable pub masked : Text → Option Text
 masked t = onlyOne (isStrict (bytesMasked t)) (bytesMasked t) (ifStrict (charactersMasked t))
 
 abbrev pub orRefused : ℕ → Option Text → Outcome Text
-orRefused place none = refuse 22 place
+orRefused place none = refuse codes.fileBytes place
 orRefused place (some t) = answer t
 
 -- The strict line that these shown bytes are, the site name taken off; there was a tab in them or not.
 unfoldable pub strictBytes : ℕ → Bool → Text → Outcome Text
 strictBytes place tabbed t =
-    cond (anyHigh t) (cond tabbed (refuse 22 place) (orRefused place (masked t)))
-    (cond (isStrict t) (answer t) (refuse 11 place))
+    cond (anyHigh t) (cond tabbed (refuse codes.fileBytes place) (orRefused place (masked t)))
+    (cond (isStrict t) (answer t) (refuse codes.tucsonLine place))
 
 -- What is shown of a raw line, without a site name.
 unfoldable pub shownFields : Text → Text

@@ -7,6 +7,7 @@ use Prim.Native.Nat.{ℕ, suc}
 use lib.Dec.{eqb}
 use lib.IntN.{ℤ, pos, _+ℤ_}
 use lib.ListN.{length, take}
+use Rattle.base_outcome.specs.Codes as codes
 use Rattle.base_outcome.specs.Outcome.{Outcome, answer, refuse, _then_, with-answer}
 use Rattle.base_text.specs.Bytes.{Text, beginsWith}
 use Rattle.spec_tucson.specs.Line.{Line, nameColumns, linesOf, yearInDecade, same, goodLine}
@@ -54,7 +55,7 @@ lastField (f ∷ g ∷ fs) = lastField (g ∷ fs)
 
 -- The whole series, if there are widths for it.
 abbrev pub wholeSeries : ℕ → Text → ℤ → Option (List ℤ) → Outcome Step
-wholeSeries place name year none = refuse 13 place
+wholeSeries place name year none = refuse codes.tucsonClosing place
 wholeSeries place name year (some ws) = answer (closed (record { name = name; firstYear = year; widths = ws }))
 
 -- Code 13 on a series' last line, or the series that its last field closes.
@@ -66,11 +67,11 @@ unfoldable pub lineStep : ℕ → Option Begun → Bool → Line → Outcome Ste
 lineStep place b more l =
     cond (yearFollows b l)
     (cond more (answer (opened (extended (begunBy b l) l))) (closing place (begunBy b l) l))
-    (refuse 12 place)
+    (refuse codes.tucsonYear place)
 
 -- Code 11, or what a good line leaves.
 abbrev pub ifGood : ℕ → Option Begun → Bool → Option Line → Outcome Step
-ifGood place b more none = refuse 11 place
+ifGood place b more none = refuse codes.tucsonLine place
 ifGood place b more (some l) = lineStep place b more l
 
 -- The tests of the line at this place, in the order of the codes, and what it leaves.

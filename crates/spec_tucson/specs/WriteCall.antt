@@ -7,6 +7,7 @@ use Prim.Native.Nat.{ℕ, _+_, _*_}
 use lib.Dec.{eqb, leb}
 use lib.IntN.{ℤ}
 use lib.ListN.{length, take, drop}
+use Rattle.base_outcome.specs.Codes as codes
 use Rattle.base_outcome.specs.Outcome.{Outcome, answer, refusal, refuse, with-answer}
 use Rattle.base_outcome.specs.Tests.{refuseFirst}
 use Rattle.base_text.specs.Bytes.{Text}
@@ -35,13 +36,13 @@ seriesOf names (y ∷ ys) (n ∷ ns) widths = record { name = take nameColumns n
 -- The text of the series, or 11 with the first that can't be written, or 1 where a buffer of this length is too short.
 unfoldable pub seriesOutcome : List Series → ℕ → Outcome Text
 seriesOutcome ss textLength =
-    refuseFirst 11 (unwritable ss)
-    (cond (leb (length (written ss)) textLength) (answer (written ss)) (refuse 1 0))
+    refuseFirst codes.tucsonLine (unwritable ss)
+    (cond (leb (length (written ss)) textLength) (answer (written ss)) (refuse codes.shortBuffer 0))
 
 -- What the write call ends with, given the length of the text's buffer.
 unfoldable pub writeOutcome : Text → List ℤ → List ℕ → List ℤ → ℕ → Outcome Text
 writeOutcome names years counts widths textLength =
-    cond (listsFit names years counts widths) (seriesOutcome (seriesOf names years counts widths) textLength) (refuse 2 0)
+    cond (listsFit names years counts widths) (seriesOutcome (seriesOf names years counts widths) textLength) (refuse codes.lengths 0)
 
 -- The text's buffer after the call: the text at its front after an answer, unchanged after a refusal.
 unfoldable pub textAfter : Outcome Text → Text → Text

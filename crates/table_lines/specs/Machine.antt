@@ -6,6 +6,7 @@ use Prim.Native.Nat.{ℕ, zero, suc, _+_, _*_, _≤_}
 use lib.Dec.{eqb, leb}
 use lib.IntN.{ℤ, pos, _+ℤ_}
 use lib.ListN.{length, getD}
+use Rattle.base_outcome.specs.Codes as codes
 use Rattle.base_outcome.specs.Outcome.{Outcome, answer, refuse, with-answer}
 use Rattle.base_text.specs.Bytes.{Text}
 use Rattle.spec_tucson.specs.Line.{nameColumns}
@@ -54,7 +55,7 @@ pub record RowsFit (r : Rows) (room : ℕ) : Type 0 where
 
 -- The lines where a buffer of this length has room for them, or 1.
 unfoldable pub rowsOutcome : Rows → ℕ → Outcome Text
-rowsOutcome r room = let t = rowsText r (length (r .widths)) in cond (leb (length t) room) (answer t) (refuse 1 0)
+rowsOutcome r room = let t = rowsText r (length (r .widths)) in cond (leb (length t) room) (answer t) (refuse codes.shortBuffer 0)
 
 -- What is left in the buffer, and the answer.
 pub record RowsEnd (r : Rows) (before after : Text) (answers : Outcome ℕ) : Type 0 where

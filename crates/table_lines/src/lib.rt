@@ -14,9 +14,6 @@ ghost use Rattle.curve_ordinates.specs.Wood.{woodOf};
 ghost use Rattle.tucson_putting.specs.Putting.{Wrote};
 ghost use Rattle.table_lines.specs.Machine.{rows, rowsText, RowsAsk, RowsFit, RowsEnd, lengthsFit};
 
-// The bytes of a name.
-const NAME_COLUMNS: usize = 8;
-
 // The year of the ring at a place of the list.
 fn year_at(first: i32, j: usize) -> i64
     requires { ⌜ j < 2 ^ 62 ⌝ }
@@ -131,7 +128,7 @@ fn write_rows(
         (now (out .entry)) (now (out .exit)) (reply r) ⌝ }
 {
     if !rows_fit(label, first, cell, widths, values, indices, out.len()) {
-        return base_outcome::Answer::Refused(1, 0);
+        return base_outcome::Answer::Refused(base_outcome::codes::SHORT_BUFFER, 0);
     }
     let count = put_rows(out, label, first, cell, widths, values, indices);
     base_outcome::Answer::Count(count)
@@ -141,7 +138,7 @@ fn write_rows(
 fn lists_fit(name: &[u8], widths: &[i32], values: &[i32], indices: &[i64]) -> bool
     ensures { λ r. ⌜ r ≡ lengthsFit (now (name .entry)) (now (widths .entry)) (now (values .entry)) (now (indices .entry)) ⌝ }
 {
-    if name.len() != NAME_COLUMNS {
+    if name.len() != base_outcome::limits::NAME_COLUMNS {
         return false;
     }
     if indices.len() != widths.len() {
@@ -181,10 +178,10 @@ pub fn ring_lines(
         (reply r ≡ e .answers) × (now (out .exit) ≡ e .text)) ⌝ }
 {
     if !lists_fit(name, widths, values, indices) {
-        return base_outcome::Answer::Refused(2, 0);
+        return base_outcome::Answer::Refused(base_outcome::codes::LENGTHS, 0);
     }
     if !tucson_lines::is_name(name, 0) {
-        return base_outcome::Answer::Refused(11, 0);
+        return base_outcome::Answer::Refused(base_outcome::codes::TUCSON_LINE, 0);
     }
     let cell = wood_cell(wood);
     let mut label = [0; table_name::NAME_LIMIT];

@@ -6,6 +6,7 @@ use Prim.Native.Nat.{ℕ, _-_, _<_, _≤_}
 use lib.IntN.{ℤ, pos, natAbs}
 use lib.Signed.{_≤ℤ_}
 use Rattle.base_exact.specs.Rational.{ℚ, den}
+use Rattle.base_outcome.specs.Codes as codes
 use Rattle.base_outcome.specs.Outcome.{answer, refusal, capped, _then_}
 use Rattle.spec_spline.specs.Space.{Space, segments, order, checked}
 use Rattle.spec_spline.specs.Conditions.{conditions}
@@ -46,16 +47,16 @@ CountedFractionsAreSmall = (s : Space) → checked s ≡ answer s → OrdersAtMo
 
 -- Code 9 never comes, whatever the lists.
 abbrev pub NineNeverComes : Type 0
-NineNeverComes = (s : Space) (place : ℕ) → spaceWeights s ≡ refusal 9 place → ⊥
+NineNeverComes = (s : Space) (place : ℕ) → spaceWeights s ≡ refusal codes.jumps place → ⊥
 
 -- Nor from building, whatever the buffers.
 abbrev pub BuildingNeverGivesNine : Type 0
-BuildingNeverGivesNine = (s : Space) (place numLength denLength : ℕ) → built s numLength denLength ≡ refusal 9 place → ⊥
+BuildingNeverGivesNine = (s : Space) (place numLength denLength : ℕ) → built s numLength denLength ≡ refusal codes.jumps place → ⊥
 
 -- Nor from a curve call, whatever it is given.
 abbrev pub CurvesNeverGiveNine : Type 0
 CurvesNeverGiveNine = (s : Space) (coefs positions : List ℤ) (place numLength denLength valuesLength : ℕ)
-    → curveOutcome s coefs positions numLength denLength valuesLength ≡ refusal 9 place → ⊥
+    → curveOutcome s coefs positions numLength denLength valuesLength ≡ refusal codes.jumps place → ⊥
 
 -- A step of order 2 that the build reaches, and that refuses with 8.
 pub record EightAtOrderTwo (s : Space) (place : ℕ) : Type 0 where
@@ -64,9 +65,9 @@ pub record EightAtOrderTwo (s : Space) (place : ℕ) : Type 0 where
   pub order-two : order s join ≡ pos 2
   pub table : Table
   pub reached : (joinSteps s join then orderSteps s join 2) ≡ answer table
-  pub refuses : step join (conditions s join 2) table ≡ refusal 8 place
+  pub refuses : step join (conditions s join 2) table ≡ refusal codes.tooLarge place
   pub place-is : place ≡ capped join
 
 -- Code 8 comes from such a step, and from no other.
 abbrev pub EightComesAtOrderTwo : Type 0
-EightComesAtOrderTwo = (s : Space) (place : ℕ) → spaceWeights s ≡ refusal 8 place → EightAtOrderTwo s place
+EightComesAtOrderTwo = (s : Space) (place : ℕ) → spaceWeights s ≡ refusal codes.tooLarge place → EightAtOrderTwo s place

@@ -7,6 +7,7 @@ use lib.Dec.{eqb}
 use lib.ListN.{length, drop}
 use Rattle.base_outcome.specs.Outcome.{answer}
 use Rattle.base_text.specs.Bytes.{Text}
+use Rattle.spec_tucson.specs.Notes as kinds
 use Rattle.spec_tucson.specs.KeptLines.{noHeaderNamed}
 use Rattle.spec_tucson.specs.CleanSeries.{unitNotSaid}
 use Rattle.spec_tucson.specs.CleanCall.{Cleaned, fileLimit, cleaned}
@@ -20,7 +21,7 @@ counted i (l ∷ ls) = i ∷ counted (suc i) ls
 
 -- The notes that change nothing.
 abbrev pub isRemark : ℕ → Bool
-isRemark n = eqb n 12 || (eqb n 13 || eqb n 14)
+isRemark n = eqb n kinds.absentEnd || (eqb n kinds.likeClosing || eqb n kinds.otherUnit)
 
 -- The remarks among the notes, two cells each.
 abbrev pub remarksAlone : List ℕ → List ℕ

@@ -8,6 +8,7 @@ use lib.ListN.{length}
 use Rattle.base_exact.specs.Rational.{ℚ, int}
 use Rattle.base_exact.specs.Order.{_≤ᵠ_}
 use Rattle.base_exact.specs.Sum.{sum}
+use Rattle.base_outcome.specs.Codes as codes
 use Rattle.base_outcome.specs.Outcome.{Outcome, answer, refusal}
 use Rattle.spec_spline.specs.Space.{Space, checked, columnCount, rowCount}
 use Rattle.spec_spline.specs.Table.{Row, Table, row, cell, rowCells, tableCells}
@@ -40,7 +41,7 @@ PublishedIsABasis = (s : Space) → LegalLists s → IsBasis s (extraction s)
 -- The weights are these rows, or code 8.
 pub data PublishedOrTooLarge (s : Space) (o : Outcome Table) : Type 0 where
   published : o ≡ answer (extraction s) → PublishedOrTooLarge s o
-  too-large : (place : ℕ) → o ≡ refusal 8 place → PublishedOrTooLarge s o
+  too-large : (place : ℕ) → o ≡ refusal codes.tooLarge place → PublishedOrTooLarge s o
 
 -- A legal space has the published weights, or is refused with 8: no other code is left.
 abbrev pub LegalIsPublishedOrTooLarge : Type 0
@@ -55,7 +56,7 @@ HoldsPublished s nums dens =
 pub data BuiltOrTooLarge (s : Space) (nums dens : List ℤ) : Type 0 where
   holds : buildEnd s nums dens .answers ≡ answer (rowCount s)
       → HoldsPublished s (buildEnd s nums dens .numerators) (buildEnd s nums dens .denominators) → BuiltOrTooLarge s nums dens
-  refused : (place : ℕ) → buildEnd s nums dens .answers ≡ refusal 8 place → BuiltOrTooLarge s nums dens
+  refused : (place : ℕ) → buildEnd s nums dens .answers ≡ refusal codes.tooLarge place → BuiltOrTooLarge s nums dens
 
 -- Building a legal space in buffers that are long enough ends in one of these two ways.
 abbrev pub LegalIsBuiltOrTooLarge : Type 0
@@ -64,4 +65,4 @@ LegalIsBuiltOrTooLarge = (s : Space) → LegalLists s → (nums dens : List ℤ)
 
 -- After 8 the published rows are a basis all the same.
 abbrev pub EightHasABasis : Type 0
-EightHasABasis = (s : Space) (place : ℕ) → spaceWeights s ≡ refusal 8 place → IsBasis s (extraction s)
+EightHasABasis = (s : Space) (place : ℕ) → spaceWeights s ≡ refusal codes.tooLarge place → IsBasis s (extraction s)

@@ -8,6 +8,7 @@ use Prim.Native.Nat.{ℕ, _<_, _≤_}
 use lib.IntN.{ℤ}
 use lib.ListN.{length}
 use Rattle.base_exact.specs.Rational.{ℚ, int}
+use Rattle.base_outcome.specs.Codes as codes
 use Rattle.base_outcome.specs.Outcome.{Outcome, answer, refusal}
 use Rattle.spec_spline.specs.Space.{Space, columnCount}
 use Rattle.spec_spline.specs.Table.{tableCells}
@@ -25,20 +26,20 @@ Reproduce s ordinates coefficients = combination (columnCount s) coefficients (e
 -- "after 19 none of any size is" (§ 12), in every legal space.
 abbrev pub NoneAfterNineteen : Type 0
 NoneAfterNineteen = (s : Space) → LegalLists s → (ordinates : List ℤ) → length ordinates ≡ columnCount s
-    → (place : ℕ) → recovered s ordinates ≡ refusal 19 place
+    → (place : ℕ) → recovered s ordinates ≡ refusal codes.noCoefficients place
     → (coefficients : List ℚ) → Reproduce s ordinates coefficients → ⊥
 
 -- Nor after a call that ends with 19, whatever lists and buffers it was lent.
 abbrev pub NoneAfterCallsWithNineteen : Type 0
 NoneAfterCallsWithNineteen = (s : Space) (ordinates num den coefNum coefDen : List ℤ) (place : ℕ)
-    → recoveryEnd s ordinates num den coefNum coefDen .answers ≡ refusal 19 place
+    → recoveryEnd s ordinates num den coefNum coefDen .answers ≡ refusal codes.noCoefficients place
     → (coefficients : List ℚ) → Reproduce s ordinates coefficients → ⊥
 
 -- An answer, code 8 or code 20.
 pub data AnsweredOrTooLarge {A : Type 0} (o : Outcome A) : Type 0 where
   answered : (a : A) → o ≡ answer a → AnsweredOrTooLarge o
-  weights-too-large : (place : ℕ) → o ≡ refusal 8 place → AnsweredOrTooLarge o
-  coefficients-too-large : (place : ℕ) → o ≡ refusal 20 place → AnsweredOrTooLarge o
+  weights-too-large : (place : ℕ) → o ≡ refusal codes.tooLarge place → AnsweredOrTooLarge o
+  coefficients-too-large : (place : ℕ) → o ≡ refusal codes.tooLargeToUndo place → AnsweredOrTooLarge o
 
 -- The ordinates of a curve that meets all join conditions of a legal space are refused for the size of a fraction alone.
 abbrev pub RefusedForSizeAlone : Type 0

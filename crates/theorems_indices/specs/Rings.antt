@@ -13,6 +13,7 @@ use lib.Signed.{_<ℤ_}
 use Rattle.base_exact.specs.Rational.{ℚ, int, _+ᵠ_, _-ᵠ_, _/ᵠ_}
 use Rattle.base_exact.specs.Order.{_≤ᵠ_, _<ᵠ_}
 use Rattle.base_exact.specs.Floor.{floorDiv}
+use Rattle.base_outcome.specs.Codes as codes
 use Rattle.base_outcome.specs.Outcome.{answer, refusal}
 use Rattle.base_outcome.specs.Search.{first}
 use Rattle.spec_spline.specs.Space.{Space}
@@ -51,7 +52,7 @@ CurveIsLegal c = Legal (c .space) (c .coefs) (ringPositions (c .firstRing) (ring
 -- the first index is written" (§ 9).
 abbrev pub LegalRingsEnd : Type 0
 LegalRingsEnd = (c : RingsCall) → CurveIsLegal c → ringCount c ≤ length (c .indices)
-    → indicesEnd c .answers ≡ refuseFirst 14 (first (ringCount c) (λ i. isRefused (ringWidth (c .widths) i) (valueCell c i)))
+    → indicesEnd c .answers ≡ refuseFirst codes.ring (first (ringCount c) (λ i. isRefused (ringWidth (c .widths) i) (valueCell c i)))
     (answer (ringCount c))
 
 -- All buffers but the indices are then as after the curve call's answer, also after 14: "after 14 the values too" (§ 3).
@@ -75,7 +76,7 @@ PositiveCoefficientsAreEnough = (c : RingsCall) → CurveIsLegal c → ringCount
 
 -- Code 9 never comes, whatever the call is given.
 abbrev pub RingsNeverGiveNine : Type 0
-RingsNeverGiveNine = (c : RingsCall) (place : ℕ) → indicesEnd c .answers ≡ refusal 9 place → ⊥
+RingsNeverGiveNine = (c : RingsCall) (place : ℕ) → indicesEnd c .answers ≡ refusal codes.jumps place → ⊥
 
 -- "No refusal touches indices." (§ 3)
 abbrev pub RefusalsKeepTheIndices : Type 0

@@ -5,6 +5,7 @@ use mathlib.Core.Path.{_≡_}
 use Prim.Native.Nat.{ℕ, suc, _<_}
 use Rattle.base_outcome.specs.Outcome.{answer}
 use Rattle.base_text.specs.Bytes.{Text}
+use Rattle.spec_tucson.specs.Notes as kinds
 use Rattle.spec_tucson.specs.Line.{linesOf}
 use Rattle.spec_tucson.specs.FileText.{unmarked, textOf, allPadding}
 use Rattle.spec_tucson.specs.Shown.{isBlankLine}
@@ -14,8 +15,8 @@ use Rattle.theorems_clean.specs.Places.{At, Noted}
 
 -- A raw line that is left out: it is blank, or it is a header's and no strict line, and both are told.
 pub data LeftOut (line : ℕ) (raw : Text) (notes : List ℕ) : Type 0 where
-  blank : isBlankLine raw ≡ true → Noted 6 line notes → LeftOut line raw notes
-  header : readsStrictly raw ≡ false → Noted 9 line notes → LeftOut line raw notes
+  blank : isBlankLine raw ≡ true → Noted kinds.blank line notes → LeftOut line raw notes
+  header : readsStrictly raw ≡ false → Noted kinds.header line notes → LeftOut line raw notes
 
 -- Each line of the text is a line of the answer, or it is left out and told.
 pub data Accounted (line : ℕ) (raw : Text) (lines notes : List ℕ) : Type 0 where

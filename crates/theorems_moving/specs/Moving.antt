@@ -7,6 +7,7 @@ use mathlib.Core.List.{List, map}
 use Prim.Native.Nat.{ℕ, _+_, _*_, _<_}
 use lib.IntN.{ℤ, pos, _+ℤ_, _*ℤ_}
 use lib.ListN.{length, getD}
+use Rattle.base_outcome.specs.Codes as codes
 use Rattle.base_outcome.specs.Outcome.{answer, refusal}
 use Rattle.spec_spline.specs.Space.{Space, lengthsFit, checked}
 use Rattle.spec_spline.specs.Build.{weights}
@@ -35,7 +36,7 @@ WeightsStay = (n : ℕ) → 0 < n → (z : ℤ) (s : Space) → lengthsFit s ≡
 -- Of a space whose lists are legal no number but 3 can come.
 abbrev pub OnlyThreeComes : Type 0
 OnlyThreeComes = (n : ℕ) → 0 < n → (z : ℤ) (s : Space) → checked s ≡ answer s
-    → (code place : ℕ) → checked (movedSpace n z s) ≡ refusal code place → code ≡ 3
+    → (code place : ℕ) → checked (movedSpace n z s) ≡ refusal code place → code ≡ codes.breakpoint
 
 -- The same values.
 abbrev pub ValuesStay : Type 0

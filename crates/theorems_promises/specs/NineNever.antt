@@ -4,10 +4,11 @@ use mathlib.Core.Path.{_≡_}
 use mathlib.Core.List.{List}
 use Prim.Native.Nat.{ℕ}
 use lib.IntN.{ℤ}
+use Rattle.base_outcome.specs.Codes as codes
 use Rattle.base_outcome.specs.Outcome.{refusal}
 use Rattle.spec_spline.specs.Space.{Space}
 use Rattle.spec_calls.specs.RecoveryCall.{recoveryEnd}
 
 abbrev pub RecoveryNeverGivesNine : Type 0
 RecoveryNeverGivesNine = (s : Space) (ordinates num den coefNum coefDen : List ℤ) (place : ℕ)
-    → recoveryEnd s ordinates num den coefNum coefDen .answers ≡ refusal 9 place → ⊥
+    → recoveryEnd s ordinates num den coefNum coefDen .answers ≡ refusal codes.jumps place → ⊥

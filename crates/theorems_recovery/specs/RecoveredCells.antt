@@ -6,6 +6,7 @@ use Prim.Native.Nat.{ℕ}
 use lib.IntN.{ℤ}
 use lib.ListN.{length}
 use Rattle.base_exact.specs.Rational.{ℚ, int}
+use Rattle.base_outcome.specs.Codes as codes
 use Rattle.base_outcome.specs.Outcome.{answer, refusal}
 use Rattle.spec_spline.specs.Space.{Space, columnCount}
 use Rattle.spec_spline.specs.Piecewise.{Accepted, combination}
@@ -37,4 +38,4 @@ pub record NoCoefficients (s : Space) (ordinates : List ℤ) : Type 0 where
 -- Every call that ends with 19.
 abbrev pub NineteenMeansNone : Type 0
 NineteenMeansNone = (s : Space) (ordinates num den coefNum coefDen : List ℤ) (place : ℕ)
-    → recoveryEnd s ordinates num den coefNum coefDen .answers ≡ refusal 19 place → NoCoefficients s ordinates
+    → recoveryEnd s ordinates num den coefNum coefDen .answers ≡ refusal codes.noCoefficients place → NoCoefficients s ordinates

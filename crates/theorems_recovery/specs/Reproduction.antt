@@ -8,6 +8,7 @@ use lib.IntN.{ℤ, pos}
 use lib.ListN.{length, getD}
 use Rattle.base_exact.specs.Rational.{ℚ, int, _*ᵠ_}
 use Rattle.base_exact.specs.Sum.{sum}
+use Rattle.base_outcome.specs.Codes as codes
 use Rattle.base_outcome.specs.Outcome.{Outcome, answer, refusal}
 use Rattle.spec_spline.specs.Space.{Space, segments, checked, degree, conditionCount, firstColumn, columnCount, rowCount}
 use Rattle.spec_spline.specs.Table.{entry}
@@ -47,13 +48,13 @@ pub record MissedCondition (s : Space) (ordinates : List ℤ) : Type 0 where
 -- After 19 the ordinates miss a join condition.
 abbrev pub NineteenMissesACondition : Type 0
 NineteenMissesACondition = (s : Space) → checked s ≡ answer s → (ordinates : List ℤ) → length ordinates ≡ columnCount s → (place : ℕ)
-    → recovered s ordinates ≡ refusal 19 place
+    → recovered s ordinates ≡ refusal codes.noCoefficients place
     → MissedCondition s ordinates
 
 -- "after 19 none of any size is" (§ 12).
 abbrev pub NineteenHasNoCoefficients : Type 0
 NineteenHasNoCoefficients = (s : Space) (a : Accepted s) (ordinates : List ℤ) → length ordinates ≡ columnCount s → (place : ℕ)
-    → recovered s ordinates ≡ refusal 19 place
+    → recovered s ordinates ≡ refusal codes.noCoefficients place
     → (coefficients : List ℚ) → combination (columnCount s) coefficients (a .table) ≡ map int ordinates → ⊥
 
 -- Coefficients that are 256 times whole numbers, given to the curve call, have exactly these ordinates in its exact curve.
@@ -73,7 +74,7 @@ EightAndNineAreTheBuilds = (s : Space) (ordinates : List ℤ) (code place : ℕ)
 -- What is recovered, or code 20.
 pub data RecoveredOrTooLarge (o : Outcome Combination) : Type 0 where
   recovers : (r : Combination) → o ≡ answer r → RecoveredOrTooLarge o
-  too-large : (place : ℕ) → o ≡ refusal 20 place → RecoveredOrTooLarge o
+  too-large : (place : ℕ) → o ≡ refusal codes.tooLargeToUndo place → RecoveredOrTooLarge o
 
 -- The ordinates of a piecewise curve that meets all join conditions of an accepted space are refused for their sizes alone.
 abbrev pub CurvesAreRecovered : Type 0

@@ -10,6 +10,7 @@ use lib.Signed.{_≤ℤ_, _<ℤ_}
 use Rattle.base_exact.specs.Rational.{int, _+ᵠ_, _-ᵠ_, _/ᵠ_}
 use Rattle.base_exact.specs.Order.{_<ᵠ_}
 use Rattle.base_exact.specs.Floor.{floor}
+use Rattle.base_outcome.specs.Codes as codes
 use Rattle.base_outcome.specs.Outcome.{answer, refusal}
 use Rattle.spec_spline.specs.Reading.{segmentAt}
 use Rattle.spec_spline.specs.ExactCurve.{leastOn}
@@ -55,5 +56,5 @@ IndexIsWithinOne = (c : RingsCall) (l : CurveIsLegal c) (n : ℕ) → indicesEnd
 -- ---- number 14
 
 abbrev pub FourteenIsLegal : Type 0
-FourteenIsLegal = (c : RingsCall) (place : ℕ) → indicesEnd c .answers ≡ refusal 14 place
+FourteenIsLegal = (c : RingsCall) (place : ℕ) → indicesEnd c .answers ≡ refusal codes.ring place
     → CurveIsLegal c × (ringCount c ≤ length (c .indices))

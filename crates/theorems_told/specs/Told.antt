@@ -6,6 +6,7 @@ use Prim.Native.Nat.{ℕ, suc}
 use lib.Dec.{eqb}
 use Rattle.base_outcome.specs.Outcome.{answer}
 use Rattle.base_text.specs.Bytes.{Text}
+use Rattle.spec_tucson.specs.Notes as kinds
 use Rattle.spec_tucson.specs.Line.{linesOf}
 use Rattle.spec_tucson.specs.FileText.{textOf}
 use Rattle.spec_tucson.specs.CleanCall.{Cleaned, cleaned}
@@ -13,7 +14,8 @@ use Rattle.theorems_clean.specs.Places.{At, Noted}
 
 -- The notes of a change of a line: a byte 13, a tab, trailing blanks, a site name, no end, a name that is not ASCII, a closing.
 abbrev pub isChange : ℕ → Bool
-isChange n = eqb n 3 || (eqb n 4 || (eqb n 5 || (eqb n 7 || (eqb n 8 || (eqb n 10 || eqb n 11)))))
+isChange n = eqb n kinds.returned || (eqb n kinds.tabbed ||
+    (eqb n kinds.trailing || (eqb n kinds.site || (eqb n kinds.unended || (eqb n kinds.high || eqb n kinds.reclosed)))))
 
 -- No such note stands at the line.
 abbrev pub Unchanged : ℕ → List ℕ → Type 0
@@ -28,7 +30,7 @@ ChangesAreTold =
 
 -- The notes of a text that is not its whole file: a mark, a byte 26.
 abbrev pub isCutting : ℕ → Bool
-isCutting n = eqb n 1 || eqb n 2
+isCutting n = eqb n kinds.marked || eqb n kinds.cut
 
 -- The text is its file, byte for byte, exactly where none of these stands anywhere; so its lines are those of the file.
 abbrev pub CutsAreTold : Type 0

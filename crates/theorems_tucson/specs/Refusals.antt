@@ -7,6 +7,7 @@ use mathlib.Core.Path.{_≡_}
 use Prim.Native.Nat.{ℕ, _≤_, _<_}
 use lib.IntN.{ℤ, pos, _+ℤ_}
 use lib.ListN.{length}
+use Rattle.base_outcome.specs.Codes as codes
 use Rattle.base_outcome.specs.Outcome.{answer, refusal, capped}
 use Rattle.base_text.specs.Bytes.{Text}
 use Rattle.spec_tucson.specs.Line.{Line, linesOf, goodLine}
@@ -16,8 +17,9 @@ use Rattle.spec_tucson.specs.WriteCall.{writeEnd}
 
 -- A refusal of the read call: 1 at place 0, or 11, 12 or 13 at a line of the text, from 1.
 pub data ReadRefusal (t : Text) : ℕ → ℕ → Type 0 where
-  shortBuffers : ReadRefusal t 1 0
-  atLine : {code : ℕ} (line : ℕ) → 11 ≤ code → code ≤ 13 → 1 ≤ line → line ≤ length (linesOf t) → ReadRefusal t code (capped line)
+  shortBuffers : ReadRefusal t codes.shortBuffer 0
+  atLine : {code : ℕ} (line : ℕ) → codes.tucsonLine ≤ code → code ≤ codes.tucsonClosing
+      → 1 ≤ line → line ≤ length (linesOf t) → ReadRefusal t code (capped line)
 
 -- The read call refuses so, and leaves all four buffers.
 abbrev pub ReadRefuses : Type 0
@@ -35,9 +37,9 @@ NextYearByLine =
 
 -- A refusal of the write call: 2 or 1 at place 0, or 11 at a series, from 0.
 pub data WriteRefusal (years : List ℤ) : ℕ → ℕ → Type 0 where
-  unfitting : WriteRefusal years 2 0
-  atSeries : (series : ℕ) → series < length years → WriteRefusal years 11 (capped series)
-  shortBuffer : WriteRefusal years 1 0
+  unfitting : WriteRefusal years codes.lengths 0
+  atSeries : (series : ℕ) → series < length years → WriteRefusal years codes.tucsonLine (capped series)
+  shortBuffer : WriteRefusal years codes.shortBuffer 0
 
 -- The write call refuses so, and leaves its buffer.
 abbrev pub WriteRefuses : Type 0

@@ -13,6 +13,7 @@ use Rattle.base_exact.specs.Rational.{ℚ, int, _+ᵠ_, _*ᵠ_, _-ᵠ_, _/ᵠ_}
 use Rattle.base_exact.specs.Order.{ltᵠ}
 use Rattle.base_exact.specs.Tabulate.{tab}
 use Rattle.base_fraction.specs.Size.{fits}
+use Rattle.base_outcome.specs.Codes as codes
 use Rattle.base_outcome.specs.Outcome.{answer, refusal, capped}
 use Rattle.base_outcome.specs.Search.{first, last, found}
 use Rattle.spec_spline.specs.Space.{Space, segments, columnCount, conditionCount, checked}
@@ -35,8 +36,8 @@ passes (shaped join b) = b
 
 -- The code that a failing test gives.
 abbrev pub codeOf : Test → ℕ
-codeOf (counted join q) = 8
-codeOf (shaped join b) = 9
+codeOf (counted join q) = codes.tooLarge
+codeOf (shaped join b) = codes.jumps
 
 -- Its place.
 abbrev pub joinOf : Test → ℕ
@@ -191,7 +192,7 @@ pub record FirstTooLarge (s : Space) (place : ℕ) : Type 0 where
 -- "Number 8 comes for the first counted fraction whose numerator's size or denominator, in lowest terms, is 2^31 or more, and for
 -- no other reason, with the join as its place." (§ 5)
 abbrev pub EightIsFirstTooLarge : Type 0
-EightIsFirstTooLarge = (s : Space) (place : ℕ) → spaceWeights s ≡ refusal 8 place → FirstTooLarge s place
+EightIsFirstTooLarge = (s : Space) (place : ℕ) → spaceWeights s ≡ refusal codes.tooLarge place → FirstTooLarge s place
 
 -- A test of the shape fails, and all tests before it pass.
 pub record FirstMisshapen (s : Space) (place : ℕ) : Type 0 where
@@ -204,4 +205,4 @@ pub record FirstMisshapen (s : Space) (place : ℕ) : Type 0 where
 
 -- Code 9 comes where the jumps lack the needed shape, and for no other reason.
 abbrev pub NineIsFirstMisshapen : Type 0
-NineIsFirstMisshapen = (s : Space) (place : ℕ) → spaceWeights s ≡ refusal 9 place → FirstMisshapen s place
+NineIsFirstMisshapen = (s : Space) (place : ℕ) → spaceWeights s ≡ refusal codes.jumps place → FirstMisshapen s place

@@ -10,11 +10,10 @@ ghost use Rattle.spec_tucson.specs.Line.{nameColumns};
 ghost use Rattle.spec_tucson.specs.Shown.{shown};
 ghost use Rattle.spec_tucson.specs.KeptLines.{sameText, column, anyWord, isHeaderLine};
 ghost use Rattle.tucson_caption.specs.Machine.{FrontAsks, FrontTold, ColumnAsks, PairAsks, HeaderAsks, nameFront, captionBy};
+use base_outcome::limits;
 
 // The columns that all lines of a header have in common.
 const COMMON: usize = 6;
-
-const NAME: usize = 8;
 
 // The last column that is looked at by its number; a tab ends there.
 const LAST: usize = 24;
@@ -55,7 +54,7 @@ fn words(text: &[u8], from: usize, end: usize, bytes: &mut [u8]) -> bool
     ensures { λ r. ⌜ r ≡ anyWord (drop nameColumns (shown (slice from (end + 1) (now (text .entry))))) ⌝ }
 {
     let to = tucson_columns::shown_to(text, from, end);
-    let head = tucson_columns::expand(text, from, to, 0, NAME, bytes);
+    let head = tucson_columns::expand(text, from, to, 0, limits::NAME_COLUMNS, bytes);
     let at = head.at;
     any_word(text, at, to)
 }
@@ -111,7 +110,7 @@ fn is_caption(bytes: &[u8], count: usize, spoken: bool) -> bool
     requires { ⌜ count ≤ length (now bytes) ⌝ }
     ensures { λ r. ⌜ r ≡ captionBy (take count (now (bytes .entry))) count spoken ⌝ }
 {
-    if count == NAME {
+    if count == limits::NAME_COLUMNS {
         return true;
     }
     if byte_in(bytes, count, 9) != b' ' {

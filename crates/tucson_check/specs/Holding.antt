@@ -6,6 +6,7 @@ use mathlib.Core.Path.{_≡_}
 use Prim.Native.Nat.{ℕ, _+_, _-_, _≤_}
 use lib.IntN.{pos}
 use lib.ListN.{length, take}
+use Rattle.base_outcome.specs.Codes as codes
 use Rattle.base_outcome.specs.Outcome.{Outcome, answer, refusal, capped, _then_}
 use Rattle.base_outcome.specs.declared.Legality.{Legality}
 use Rattle.base_outcome.specs.declared.Legality.the-variants as legalities
@@ -102,7 +103,7 @@ pub record HeldNow (unit : ℕ) (shown text : Text) (end : Legality) (later : Op
 -- What is held behind a line, or that its name is refused.
 abbrev pub NextTold : ℕ → Text → Text → Legality → (Option Kept → Outcome (List Kept)) → ℕ → Next → Type 0
 NextTold unit shown text end later number (next-cases.Held h) = HeldNow unit shown text end later h
-NextTold unit shown text end later number next-cases.Misnamed = end ≡ legalities.Refused 22 (capped number)
+NextTold unit shown text end later number next-cases.Misnamed = end ≡ legalities.Refused codes.fileBytes (capped number)
 
 abbrev pub FollowTold : ℕ → Held → Text → Text → Text → Text → ℕ → Next → Type 0
 FollowTold unit h oldShown old shown text number r = (end : Legality) (raw : Text) (later : Option Kept → Outcome (List Kept)) → shownFields raw ≡ shown

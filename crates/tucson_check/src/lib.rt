@@ -13,6 +13,8 @@ ghost use Rattle.spec_tucson.specs.CleanCall.{checkedLines};
 ghost use Rattle.tucson_lines.specs.Machine.{LineEnd};
 ghost use Rattle.tucson_check.specs.Holding.{unheld, NamesAsk, sameNameBytes, FollowAsks, FollowTold, TakeAsks, TakeTold, FinishAsks, FinishTold};
 use base_outcome::Legality;
+use base_outcome::codes;
+use base_outcome::limits;
 use tucson_judge::Judged;
 use tucson_judge::Mark;
 use tucson_judge::Reader;
@@ -41,11 +43,7 @@ pub enum Taken {
     Refused(u8),
 }
 
-const NAME: usize = 8;
-
-const MALFORMED: u8 = 11;
-
-const NOT_ASCII: u8 = 22;
+const NAME: usize = limits::NAME_COLUMNS;
 
 // Nothing is held, and nothing was found.
 fn nothing() -> Held
@@ -164,8 +162,8 @@ fn take_up(
     ensures { λ r. ⌜ TakeTold unit strict held «old_shown» old number shown line r ⌝ }
 {
     match strict {
-        Strict::Malformed => Taken::Refused(MALFORMED),
-        Strict::NotAscii => Taken::Refused(NOT_ASCII),
+        Strict::Malformed => Taken::Refused(codes::TUCSON_LINE),
+        Strict::NotAscii => Taken::Refused(codes::FILE_BYTES),
         Strict::Line(m, n, site) => {
             let p = held.shown;
             let q = held.size;
@@ -179,7 +177,7 @@ fn take_up(
                 unit,
             );
             match next {
-                Next::Misnamed => Taken::Refused(NOT_ASCII),
+                Next::Misnamed => Taken::Refused(codes::FILE_BYTES),
                 Next::Held(h) => Taken::Held(h),
             }
         }

@@ -10,7 +10,9 @@ ghost use Rattle.spec_tucson.specs.CleanCall.{isUnitOption, cleanedBelow, clean
 ghost use Rattle.tucson_clean.specs.Machine.{TailIs, BodyAt, CountedAt, AmpleTold, PutTold, MeasureTold, FillTold, Ends, counts};
 use base_outcome::Found;
 use base_outcome::Legality;
+use base_outcome::codes;
 use tucson_header::HeaderFound;
+use tucson_notes::kinds;
 use tucson_walk::Walked;
 
 // How many lines a text has, and whether byte 10 ends the last one.
@@ -24,14 +26,6 @@ pub enum Cleaned {
     Counts(usize, usize, usize),
     Refused(u8, u32),
 }
-
-const SHORT_BUFFER: u8 = 1;
-
-const FAULT: u8 = 21;
-
-const UNIT: u8 = 24;
-
-const HEADER: u8 = 26;
 
 // One more than the lines of a header that can be named.
 const NO_HEADER_NAMED: u32 = 100;
@@ -85,7 +79,7 @@ fn put_all(
         (now (notes .entry)) (now (notes .exit)) r ⌝ }
 {
     let marked = tucson_file::is_marked(text);
-    let at = tucson_notes::put_note(notes, 0, marked, 1, 1);
+    let at = tucson_notes::put_note(notes, 0, marked, kinds::MARKED, 1);
     let early = stop < text.len();
     let walked = tucson_walk::walk(
         &text[from..stop],
@@ -98,7 +92,7 @@ fn put_all(
         notes,
     );
     let cut = tucson_lines::both(early, tail.ended);
-    let cells = tucson_notes::put_note(notes, walked.cells, cut, 2, tail.count + 1);
+    let cells = tucson_notes::put_note(notes, walked.cells, cut, kinds::CUT, tail.count + 1);
     Walked {
         bytes: walked.bytes,
         lines: walked.lines,
@@ -159,13 +153,13 @@ fn fill_measured(
 {
     let need = measure(text, from, stop, tail, header, unit);
     if out.len() < need.bytes {
-        return Cleaned::Refused(SHORT_BUFFER, 0);
+        return Cleaned::Refused(codes::SHORT_BUFFER, 0);
     }
     if lines.len() < need.lines {
-        return Cleaned::Refused(SHORT_BUFFER, 1);
+        return Cleaned::Refused(codes::SHORT_BUFFER, 1);
     }
     if notes.len() < need.cells {
-        return Cleaned::Refused(SHORT_BUFFER, 2);
+        return Cleaned::Refused(codes::SHORT_BUFFER, 2);
     }
     let put = put_all(text, from, stop, tail, header, unit, out, lines, notes);
     Cleaned::Counts(put.bytes, put.lines, put.cells / 2)
@@ -234,7 +228,7 @@ fn clean_text(
     let stop = tucson_file::stop(text, from);
     let found = tucson_header::header(&text[from..stop], header);
     match found {
-        HeaderFound::Refused(place) => Cleaned::Refused(HEADER, place),
+        HeaderFound::Refused(place) => Cleaned::Refused(codes::FILE_HEADER, place),
         HeaderFound::Ends(last) => clean_below(text, from, stop, last, unit, out, lines, notes),
     }
 }
@@ -268,7 +262,7 @@ fn clean_file(
 {
     let found = tucson_file::fault(text);
     match found {
-        Found::At(line) => Cleaned::Refused(FAULT, base_outcome::place(line)),
+        Found::At(line) => Cleaned::Refused(codes::FILE_TEXT, base_outcome::place(line)),
         Found::Nothing => clean_text(text, header, unit, out, lines, notes),
     }
 }
@@ -289,13 +283,13 @@ pub fn clean(
         × ((now (lines .exit) ≡ e .lines) × (now (notes .exit) ≡ e .notes)))) ⌝ }
 {
     if header > NO_HEADER_NAMED {
-        return Cleaned::Refused(HEADER, 0);
+        return Cleaned::Refused(codes::FILE_HEADER, 0);
     }
     if !is_unit(unit) {
-        return Cleaned::Refused(UNIT, 0);
+        return Cleaned::Refused(codes::FILE_UNIT, 0);
     }
     if text.len() > FILE_LIMIT {
-        return Cleaned::Refused(FAULT, base_outcome::LARGEST_PLACE);
+        return Cleaned::Refused(codes::FILE_TEXT, base_outcome::LARGEST_PLACE);
     }
     clean_file(text, header, unit, out, lines, notes)
 }

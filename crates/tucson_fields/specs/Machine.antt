@@ -14,16 +14,16 @@ use Rattle.spec_tucson.specs.TextReading.{lastField}
 use Rattle.spec_tucson.specs.Writing.{allWidths}
 use Rattle.spec_tucson.specs.CleanSeries.{any999}
 use Rattle.tucson_fields.specs.declared.Facts.{Facts}
-use Rattle.tucson_fields.specs.declared.Front.{Front}
+use Rattle.tucson_fields.specs.declared.FrontFacts.{FrontFacts}
 
 -- What is kept of some fields.
-pub record FrontOf (ws : List ℤ) (r : Front) : Type 0 where
+pub record FrontOf (ws : List ℤ) (r : FrontFacts) : Type 0 where
   pub widths-are : allWidths ws ≡ r .widths
   pub small-are : allHundredths ws ≡ r .small
   pub nine-is : any999 ws ≡ r .nine
 
 -- What is kept of the first n fields of a line, where they are numbers.
-abbrev pub FrontTold : Text → ℕ → Front → Type 0
+abbrev pub FrontTold : Text → ℕ → FrontFacts → Type 0
 FrontTold t n r = (ws : List ℤ) → fieldNumerals n (slice 12 (length t) t) ≡ some ws → FrontOf ws r
 
 -- What is kept of a line's numbers.

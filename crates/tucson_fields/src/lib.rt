@@ -19,7 +19,7 @@ pub struct Facts {
 }
 
 // The same of the fields but the last alone.
-struct Front {
+struct FrontFacts {
     widths: bool,
     small: bool,
     nine: bool,
@@ -37,7 +37,7 @@ pub fn either(a: bool, b: bool) -> bool
 }
 
 // Looks through the first n fields.
-fn fields_before(line: &[u8], n: usize) -> Front
+fn fields_before(line: &[u8], n: usize) -> FrontFacts
     requires { ⌜ 12 + n * 6 ≤ length (now line) ⌝ }
     ensures { λ r. ⌜ FrontTold (now (line .entry)) n r ⌝ }
 {
@@ -50,7 +50,7 @@ fn fields_before(line: &[u8], n: usize) -> Front
         let field = tucson_lines::numeral(line, at, at + tucson_lines::FIELD);
         match field {
             Field::Bad => {
-                return Front {
+                return FrontFacts {
                     widths: false,
                     small: false,
                     nine: false,
@@ -65,7 +65,7 @@ fn fields_before(line: &[u8], n: usize) -> Front
             }
         }
     }
-    Front {
+    FrontFacts {
         widths: widths,
         small: small,
         nine: nine,

@@ -11,7 +11,8 @@ ghost use Rattle.tucson_fill.specs.Write.{Entered, Written};
 use base_text::numeral::Field;
 use tucson_lines::LineAnswer;
 
-const TEN: i32 = 10;
+// Thousandths in a hundredth.
+const PER_HUNDREDTH: i32 = 10;
 
 // Writes the numbers of n fields from the index on. Each is a number, so the bad case is never met.
 fn fill(text: &[u8], from: usize, to: usize, n: usize, widths: &mut [i32], at: usize)
@@ -56,7 +57,7 @@ fn scale(widths: &mut [i32], from: usize, to: usize)
     let mut i = from;
     while i < to {
         let w = widths[i];
-        widths[i] = w * TEN;
+        widths[i] = w * PER_HUNDREDTH;
         i += 1;
     }
 }

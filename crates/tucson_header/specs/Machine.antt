@@ -6,6 +6,7 @@ use mathlib.Core.Path.{_≡_}
 use Prim.Native.Nat.{ℕ, zero, suc, _+_, _<_, _≤_}
 use lib.ListN.{length, drop}
 use lib.Seq.{slice}
+use Rattle.base_outcome.specs.Codes as codes
 use Rattle.base_outcome.specs.Outcome.{Outcome, answer, refusal}
 use Rattle.base_outcome.specs.Search.{or-else}
 use Rattle.base_text.specs.Bytes.{Text}
@@ -21,7 +22,7 @@ use Rattle.tucson_header.specs.declared.Line.the-variants as line-cases
 -- The specification's words for what is found.
 unfoldable pub headerAnswer : HeaderFound → Outcome ℕ
 headerAnswer (header-cases.Ends h) = answer h
-headerAnswer (header-cases.Refused place) = refusal 26 place
+headerAnswer (header-cases.Refused place) = refusal codes.fileHeader place
 
 -- A line's number is no larger than what stands before it.
 pub record NumberFits (body : Text) (from number : ℕ) : Type 0 where

@@ -6,6 +6,7 @@ use mathlib.Core.Path.{_≡_}
 use Prim.Native.Nat.{ℕ, zero, suc, _<_, _≤_}
 use lib.IntN.{ℤ, natAbs}
 use lib.ListN.{length}
+use Rattle.base_outcome.specs.Codes as codes
 use Rattle.base_outcome.specs.Outcome.{capped}
 use Rattle.base_outcome.specs.Search.{or-else}
 use Rattle.base_outcome.specs.Machine.{legality}
@@ -44,7 +45,8 @@ markFound m = faultAt (m .code) (m .line)
 
 -- Codes 24 and 25 of a series whose last line has this number and this last field.
 unfoldable pub closingFaultOf : ℕ → Option ℕ → ℕ → ℤ → Option Fault
-closingFaultOf unit seen line last = cond (isUnitFault unit last) (some (fault 24 line)) (ifHundredths (closingAfter unit last) seen)
+closingFaultOf unit seen line last =
+    cond (isUnitFault unit last) (some (fault codes.fileUnit line)) (ifHundredths (closingAfter unit last) seen)
 
 -- The last field of a line, as the unit makes it where the series does not go on.
 unfoldable pub lastAfter : ℕ → Bool → ℤ → ℤ
@@ -102,7 +104,7 @@ ReaderNext unit f goes number r n = (k : Kept) (l : Line) (b : Option Begun) →
 
 -- The refusal of code 23, else that of 24 or 25, else the reader's end.
 abbrev pub pick : Option ℕ → Option Fault → Legality → Legality
-pick (some line) f rest = legalities.Refused 23 (capped line)
+pick (some line) f rest = legalities.Refused codes.fileName (capped line)
 pick none (some f) rest = legalities.Refused (f .code) (capped (f .line))
 pick none none rest = rest
 

@@ -6,12 +6,14 @@ ghost use mathlib.Core.Path.{_≡_};
 ghost use Prim.Native.Nat.{_+_, _≤_};
 ghost use lib.Dec.{leb};
 ghost use Rattle.base_outcome.specs.Search;
-ghost use Rattle.spec_tucson.specs.Line.{yearInDecade, isWidth, thousandths};
+ghost use Rattle.spec_tucson.specs.Line.{decade, yearInDecade, isWidth, thousandths};
 ghost use Rattle.spec_tucson.specs.Line;
 ghost use Rattle.spec_tucson.specs.Series.{hundredths};
 ghost use Rattle.spec_tucson.specs.CleanSeries.{closingOf, isUnitFault, closingAfter, orFault};
 ghost use Rattle.tucson_judge.specs.Judging.{lineFound, markFound, closingFaultOf, lastAfter, FactsFit, PassedOf, ReaderNext, JudgeAsks, LineAsks, JudgedNext, Concluded};
 use base_outcome::Legality;
+use base_outcome::codes;
+use base_outcome::limits;
 use tucson_fields::Facts;
 use tucson_scan::Passed;
 
@@ -40,21 +42,11 @@ pub struct Judged {
     pub reader: Reader,
 }
 
-const RUNS_IN: u8 = 23;
-
-const OTHER_UNIT: u8 = 24;
-
-const CLOSED_BEFORE: u8 = 25;
-
-const MALFORMED: u8 = 11;
-
 const UNKNOWN_UNIT: i32 = -999;
 
 const NOT_SAID: u32 = 0;
 
 const HUNDREDTHS_SAID: u32 = 100;
-
-const DECADE: usize = 10;
 
 // The one line, if there is one, or this line where the test holds.
 fn first_line(line: usize, here: bool, number: usize) -> usize
@@ -128,13 +120,13 @@ fn closing_mark(m: Mark, unit: u32, seen: usize, number: usize, last: i32) -> Ma
     }
     if is_unit_fault(unit, last) {
         return Mark {
-            code: OTHER_UNIT,
+            code: codes::FILE_UNIT,
             line: number,
         };
     }
     if tucson_lines::same(closing_after(unit, last), tucson_scan::HUNDREDTHS) {
         return Mark {
-            code: CLOSED_BEFORE,
+            code: codes::FILE_CLOSING,
             line: seen,
         };
     }
@@ -145,15 +137,15 @@ fn closing_mark(m: Mark, unit: u32, seen: usize, number: usize, last: i32) -> Ma
 
 // Whether a line with these numbers is good as its series' last.
 fn is_good(year: i32, count: usize, widths: bool, last: i32) -> bool
-    requires { ⌜ count ≤ 10 ⌝ }
-    ensures { λ r. ⌜ r ≡ (leb (yearInDecade year + count) 10 && (widths && (isWidth last || Line.same last thousandths))) ⌝ }
+    requires { ⌜ count ≤ decade ⌝ }
+    ensures { λ r. ⌜ r ≡ (leb (yearInDecade year + count) decade && (widths && (isWidth last || Line.same last thousandths))) ⌝ }
 {
     let ends = tucson_fields::either(
         tucson_lines::is_width(last),
         tucson_lines::same(last, tucson_lines::THOUSANDTHS),
     );
     tucson_lines::both(
-        tucson_lines::year_in_decade(year) + count <= DECADE,
+        tucson_lines::year_in_decade(year) + count <= limits::DECADE,
         tucson_lines::both(widths, ends),
     )
 }
@@ -164,7 +156,7 @@ fn pass(f: Facts, last: i32, goes: bool, r: Reader) -> Passed
     ensures { λ p. ⌜ PassedOf f last goes r p ⌝ }
 {
     if !is_good(f.year, f.count, f.widths, last) {
-        return Passed::Refused(MALFORMED);
+        return Passed::Refused(codes::TUCSON_LINE);
     }
     if goes {
         return tucson_scan::extend(r.begun, r.next, r.small, f.year, f.count, f.small, last);
@@ -243,7 +235,7 @@ pub fn conclude(j: Judged) -> Legality
     ensures { λ r. ⌜ Concluded j r ⌝ }
 {
     if j.year != 0 {
-        return Legality::Refused(RUNS_IN, base_outcome::place(j.year));
+        return Legality::Refused(codes::FILE_NAME, base_outcome::place(j.year));
     }
     let fault = j.fault;
     if fault.line != 0 {

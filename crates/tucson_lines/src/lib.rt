@@ -13,22 +13,23 @@ ghost use Rattle.spec_tucson.specs.Line.{isWidth, thousandths, lineInColumns, g
 ghost use Rattle.spec_tucson.specs.Line;
 ghost use Rattle.spec_tucson.specs.TextReading.{goesOn};
 ghost use Rattle.tucson_lines.specs.Machine.{widthsTold, numeralsTold, lineTold, LineEnd, FieldsWithin, ColumnsOf, NamedLine};
+use base_outcome::limits;
 use base_text::numeral::Field;
 
-pub const NAME: usize = 8;
+pub const NAME: usize = limits::NAME_COLUMNS;
 
-const YEAR: usize = 4;
+const YEAR: usize = limits::YEAR_COLUMNS;
 
-pub const FIELD: usize = 6;
+pub const FIELD: usize = limits::FIELD_COLUMNS;
 
 // The columns before the first field.
-pub const HEAD: usize = 12;
+pub const HEAD: usize = limits::HEAD_COLUMNS;
 
-const DECADE: usize = 10;
+const DECADE: usize = limits::DECADE;
 
-const DECADE_YEARS: u32 = 10;
+const DECADE_YEARS: u32 = limits::DECADE as u32;
 
-const WIDTH_LIMIT: i32 = 99999;
+const WIDTH_LIMIT: i32 = limits::WIDTH_LIMIT;
 
 pub const HUNDREDTHS_LIMIT: i32 = 9999;
 

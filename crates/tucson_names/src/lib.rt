@@ -7,15 +7,10 @@ ghost use Rattle.base_text.specs.Numeral.{isDigit};
 ghost use Rattle.spec_tucson.specs.KeptLines.{sameText};
 ghost use Rattle.spec_tucson.specs.CleanSeries.{isSign, digitsIn, yearInName, digitsBehind, endsInNumber, isShifted, runsIn};
 ghost use Rattle.tucson_names.specs.Machine.{blankInside};
-
-// The columns of the name.
-const NAME: usize = 8;
-
-// The columns of the name and the year.
-const HEAD: usize = 12;
+use base_outcome::limits;
 
 // The columns of a line with one field.
-const ONE_FIELD: usize = 18;
+const ONE_FIELD: usize = limits::HEAD_COLUMNS + limits::FIELD_COLUMNS;
 
 fn either(a: bool, b: bool) -> bool
     ensures { λ r. ⌜ r ≡ (a || b) ⌝ }
@@ -63,11 +58,18 @@ fn year_in_name(line: &[u8]) -> bool
     requires { ⌜ 12 ≤ length (now line) ⌝ }
     ensures { λ r. ⌜ r ≡ yearInName (now (line .entry)) ⌝ }
 {
-    if is_sign(line[NAME - 1]) {
+    if is_sign(line[limits::NAME_COLUMNS - 1]) {
         return true;
     }
-    if digits_in(line, NAME - 1, HEAD - NAME + 1) {
-        return either(is_sign(line[NAME - 2]), line[NAME - 2] == b' ');
+    if digits_in(
+        line,
+        limits::NAME_COLUMNS - 1,
+        limits::HEAD_COLUMNS - limits::NAME_COLUMNS + 1,
+    ) {
+        return either(
+            is_sign(line[limits::NAME_COLUMNS - 2]),
+            line[limits::NAME_COLUMNS - 2] == b' ',
+        );
     }
     false
 }
@@ -92,8 +94,8 @@ fn ends_in_number(line: &[u8]) -> bool
     requires { ⌜ 12 ≤ length (now line) ⌝ }
     ensures { λ r. ⌜ r ≡ endsInNumber (now (line .entry)) ⌝ }
 {
-    if is_digit(line[NAME - 1]) {
-        return digits_behind(line, NAME);
+    if is_digit(line[limits::NAME_COLUMNS - 1]) {
+        return digits_behind(line, limits::NAME_COLUMNS);
     }
     false
 }
@@ -105,7 +107,7 @@ fn blank_inside(line: &[u8]) -> bool
 {
     let mut seen = false;
     let mut i = 0;
-    while i < NAME {
+    while i < limits::NAME_COLUMNS {
         if line[i] == b' ' {
             seen = true;
         } else {

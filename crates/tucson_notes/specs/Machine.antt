@@ -20,6 +20,7 @@ use Rattle.tucson_notes.specs.declared.Ending as machine-ending
 use Rattle.tucson_notes.specs.declared.Fields as machine-fields
 use Rattle.tucson_notes.specs.declared.Ahead as machine-ahead
 use Rattle.tucson_notes.specs.declared.Marks as machine-marks
+use Rattle.spec_tucson.specs.Notes as kinds
 
 -- The number, 0 where there is none.
 unfoldable pub numberIn : Option ℤ → ℤ
@@ -83,11 +84,13 @@ pub record PutsRemarks (at line : ℕ) (firstClosing : ℤ) (first : Bool) (a : 
 
 -- The notes of what is not shown, with these behind them.
 unfoldable pub shownMarked : machine-marks.Marks → List ℕ → List ℕ
-shownMarked m ns = noteIf (m .cut) 2 (noteIf (m .returned) 3 (noteIf (m .tabbed) 4 (noteIf (m .trailing) 5 ns)))
+shownMarked m ns =
+    noteIf (m .cut) kinds.cut (noteIf (m .returned) kinds.returned (noteIf (m .tabbed) kinds.tabbed (noteIf (m .trailing) kinds.trailing ns)))
 
 -- The notes of what is changed in what is shown.
 unfoldable pub formMarked : machine-marks.Marks → List ℕ → List ℕ
-formMarked m ns = noteIf (m .site) 7 (noteIf (m .unended) 8 (noteIf (m .high) 10 (noteIf (m .reclosed) 11 ns)))
+formMarked m ns =
+    noteIf (m .site) kinds.site (noteIf (m .unended) kinds.unended (noteIf (m .high) kinds.high (noteIf (m .reclosed) kinds.reclosed ns)))
 
 -- The notes of what was changed, with these behind them.
 abbrev pub marked : machine-marks.Marks → List ℕ → List ℕ

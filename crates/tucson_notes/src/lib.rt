@@ -1,4 +1,6 @@
 // The notes of a line: cells of a list of notes, and what is remarked on a strict line by its fields and its series.
+pub mod kinds;
+
 ghost use mathlib.Core.Bool.{true, cond};
 ghost use mathlib.Core.List.{[], _∷_};
 ghost use mathlib.Core.Path.{_≡_};
@@ -220,11 +222,11 @@ pub fn put_remarks(
     ensures { λ r. ⌜ PutsRemarks at line «first_closing» first ahead fields (now (cells .entry)) (now (cells .exit)) r ⌝ }
 {
     let absent = is_absent_end(first, ahead, fields);
-    let a = put_note(cells, at, absent, 12, line);
+    let a = put_note(cells, at, absent, kinds::ABSENT_END, line);
     let like = is_like_closing(ahead, fields);
-    let b = put_note(cells, a, like, 13, line);
+    let b = put_note(cells, a, like, kinds::LIKE_CLOSING, line);
     let other = is_other_unit(first_closing, ahead);
-    put_note(cells, b, other, 14, line)
+    put_note(cells, b, other, kinds::OTHER_UNIT, line)
 }
 
 // The notes of what is not shown of a line.
@@ -232,10 +234,10 @@ fn put_shown_marks(cells: &mut [usize], at: usize, line: usize, marks: Marks) ->
     requires { ⌜ at < 2 ^ 62 ⌝ }
     ensures { λ r. ⌜ Puts 8 at (atLine line (shownMarked marks [])) (now (cells .entry)) (now (cells .exit)) r ⌝ }
 {
-    let a = put_note(cells, at, marks.cut, 2, line);
-    let b = put_note(cells, a, marks.returned, 3, line);
-    let c = put_note(cells, b, marks.tabbed, 4, line);
-    put_note(cells, c, marks.trailing, 5, line)
+    let a = put_note(cells, at, marks.cut, kinds::CUT, line);
+    let b = put_note(cells, a, marks.returned, kinds::RETURNED, line);
+    let c = put_note(cells, b, marks.tabbed, kinds::TABBED, line);
+    put_note(cells, c, marks.trailing, kinds::TRAILING, line)
 }
 
 // The notes of what is changed in what is shown.
@@ -243,10 +245,10 @@ fn put_form_marks(cells: &mut [usize], at: usize, line: usize, marks: Marks) -> 
     requires { ⌜ at < 2 ^ 62 ⌝ }
     ensures { λ r. ⌜ Puts 8 at (atLine line (formMarked marks [])) (now (cells .entry)) (now (cells .exit)) r ⌝ }
 {
-    let a = put_note(cells, at, marks.site, 7, line);
-    let b = put_note(cells, a, marks.unended, 8, line);
-    let c = put_note(cells, b, marks.high, 10, line);
-    put_note(cells, c, marks.reclosed, 11, line)
+    let a = put_note(cells, at, marks.site, kinds::SITE, line);
+    let b = put_note(cells, a, marks.unended, kinds::UNENDED, line);
+    let c = put_note(cells, b, marks.high, kinds::HIGH, line);
+    put_note(cells, c, marks.reclosed, kinds::RECLOSED, line)
 }
 
 // The notes of what was changed in a line.

@@ -10,14 +10,9 @@ ghost use Rattle.spec_tucson.specs.Writing.{fieldsText, lineText, linesText, se
 ghost use Rattle.spec_tucson.specs.WriteCall.{seriesOf};
 ghost use Rattle.tucson_series.specs.Sizes.{series, headBytes, lineBytes, mostLeft, yearAt};
 ghost use Rattle.tucson_putting.specs.Putting.{Wrote, NumberFits, FieldsFit, LineFits, SeriesFits, AllFit, line, begun};
-use tucson_series::lists::NAME_COLUMNS;
-use tucson_series::room::DECADE;
-use tucson_series::room::FIELD_COLUMNS;
+use base_outcome::limits;
 use tucson_series::writable::BLANK;
 use tucson_series::writable::GREATEST_YEAR;
-
-// The bytes of a year.
-const YEAR_COLUMNS: usize = 4;
 
 // The field that closes a series of thousandths.
 const THOUSANDTHS: i32 = -9999;
@@ -70,7 +65,7 @@ fn put_fields(text: &mut [u8], at: usize, widths: &[i32]) -> usize
     let mut next = at;
     let mut i = 0;
     while i < widths.len() {
-        next = put_columns(text, next, FIELD_COLUMNS, widths[i]);
+        next = put_columns(text, next, limits::FIELD_COLUMNS, widths[i]);
         i += 1;
     }
     next
@@ -82,7 +77,7 @@ fn put_begun(text: &mut [u8], at: usize, name: &[u8], year: i32, widths: &[i32])
     ensures { λ r. ⌜ Wrote at (begun (now (name .entry)) year (now (widths .entry))) (now (text .entry)) (now (text .exit)) r ⌝ }
 {
     let a = base_print::put_text(text, at, name);
-    let b = put_columns(text, a, YEAR_COLUMNS, year);
+    let b = put_columns(text, a, limits::YEAR_COLUMNS, year);
     put_fields(text, b, widths)
 }
 
@@ -102,7 +97,7 @@ fn put_last_line(text: &mut [u8], at: usize, name: &[u8], year: i32, widths: &[i
         (now (text .exit)) r ⌝ }
 {
     let a = put_begun(text, at, name, year, widths);
-    let b = put_columns(text, a, FIELD_COLUMNS, THOUSANDTHS);
+    let b = put_columns(text, a, limits::FIELD_COLUMNS, THOUSANDTHS);
     base_print::put(text, b, NEWLINE)
 }
 
@@ -124,8 +119,8 @@ fn put_series(text: &mut [u8], at: usize, name: &[u8], first: i32, widths: &[i32
     let mut next = at;
     let mut left = tucson_series::writable::years_left(first);
     let mut from = 0;
-    while widths.len() - from > left % DECADE {
-        let to = from + left % DECADE + 1;
+    while widths.len() - from > left % limits::DECADE {
+        let to = from + left % limits::DECADE + 1;
         let year = year_at(left);
         next = put_line(text, next, name, year, &widths[from..to]);
         left -= to - from;
@@ -152,7 +147,7 @@ pub fn put_all(
     let mut from = 0;
     let mut k = 0;
     while k < years.len() {
-        let end = at + NAME_COLUMNS;
+        let end = at + limits::NAME_COLUMNS;
         let to = from + counts[k] as usize;
         next = put_series(text, next, &names[at..end], years[k], &widths[from..to]);
         at = end;

@@ -4,9 +4,8 @@ ghost use mathlib.Core.Path.{_≡_};
 ghost use Rattle.spec_tucson.specs.ReadCall.{readEnd};
 ghost use Rattle.base_outcome.specs.Machine.{reply};
 use base_outcome::Answer;
+use base_outcome::codes;
 use tucson_scan::Scanned;
-
-const SHORT_BUFFER: u8 = 1;
 
 // Reads the series of a Tucson text: eight bytes of name, the first year and the number of widths of each, and all widths in
 // thousandths of a millimetre one series after another. The text and the buffers may have any length and content.
@@ -27,16 +26,16 @@ pub fn read(
         Scanned::Refused(code, place) => Answer::Refused(code, place),
         Scanned::Totals(series, total) => {
             if names.len() / tucson_lines::NAME < series {
-                return Answer::Refused(SHORT_BUFFER, 0);
+                return Answer::Refused(codes::SHORT_BUFFER, 0);
             }
             if years.len() < series {
-                return Answer::Refused(SHORT_BUFFER, 0);
+                return Answer::Refused(codes::SHORT_BUFFER, 0);
             }
             if counts.len() < series {
-                return Answer::Refused(SHORT_BUFFER, 0);
+                return Answer::Refused(codes::SHORT_BUFFER, 0);
             }
             if widths.len() < total {
-                return Answer::Refused(SHORT_BUFFER, 0);
+                return Answer::Refused(codes::SHORT_BUFFER, 0);
             }
             tucson_fill::write(text, names, years, counts, widths);
             Answer::Count(series)

@@ -7,6 +7,7 @@ ghost use Rattle.spec_tucson.specs.Line.{yearInDecade, same};
 ghost use Rattle.spec_tucson.specs.TextReading.{readText};
 ghost use Rattle.tucson_lines.specs.Machine.{LineEnd};
 ghost use Rattle.tucson_scan.specs.Scan.{scanTold, ExtendAsks, GoodPassed, LinePassed};
+use base_outcome::codes;
 use tucson_lines::LineAnswer;
 
 // How many series and widths a text has, or a refusal's code and place.
@@ -21,12 +22,6 @@ pub enum Passed {
     On(bool, usize, i32, bool),
     Refused(u8),
 }
-
-const MALFORMED: u8 = 11;
-
-const NOT_NEXT: u8 = 12;
-
-const NOT_CLOSED: u8 = 13;
 
 pub const HUNDREDTHS: i32 = 999;
 
@@ -57,10 +52,10 @@ pub fn extend(
     ensures { λ r. ⌜ GoodPassed true begun next small year n front last r ⌝ }
 {
     if !tucson_lines::is_width(last) {
-        return Passed::Refused(MALFORMED);
+        return Passed::Refused(codes::TUCSON_LINE);
     }
     if !follows(begun, next, year) {
-        return Passed::Refused(NOT_NEXT);
+        return Passed::Refused(codes::TUCSON_YEAR);
     }
     let before = tucson_lines::both(small, front);
     let all = tucson_lines::both(before, last <= tucson_lines::HUNDREDTHS_LIMIT);
@@ -81,7 +76,7 @@ pub fn close(
     ensures { λ r. ⌜ GoodPassed false begun next small year n front last r ⌝ }
 {
     if !follows(begun, next, year) {
-        return Passed::Refused(NOT_NEXT);
+        return Passed::Refused(codes::TUCSON_YEAR);
     }
     if tucson_lines::same(last, tucson_lines::THOUSANDTHS) {
         return Passed::On(false, n - 1, 0, true);
@@ -90,7 +85,7 @@ pub fn close(
     if tucson_lines::both(tucson_lines::same(last, HUNDREDTHS), all) {
         return Passed::On(false, n - 1, 0, true);
     }
-    Passed::Refused(NOT_CLOSED)
+    Passed::Refused(codes::TUCSON_CLOSING)
 }
 
 // Tests the line from the one index up to the other.
@@ -100,7 +95,7 @@ fn pass(text: &[u8], from: usize, end: usize, begun: bool, next: i32, small: boo
 {
     let line = tucson_lines::line(text, from, end);
     match line {
-        LineAnswer::Bad => Passed::Refused(MALFORMED),
+        LineAnswer::Bad => Passed::Refused(codes::TUCSON_LINE),
         LineAnswer::Good(year, n, front, last) => {
             if tucson_lines::goes_on(text, from, end) {
                 return extend(begun, next, small, year, n, front, last);

@@ -2,9 +2,7 @@
 ghost use mathlib.Core.Path.{_≡_};
 ghost use lib.Dec.{eqb};
 ghost use Rattle.spec_tucson.specs.WriteCall.{total, listsFit};
-
-// The bytes of a name.
-pub const NAME_COLUMNS: usize = 8;
+use base_outcome::limits;
 
 // Whether the counts add up to this number. What is left of it falls from count to count, so that no sum can overflow.
 fn adds_up(counts: &[u32], sum: usize) -> bool
@@ -27,10 +25,10 @@ fn adds_up(counts: &[u32], sum: usize) -> bool
 pub fn lists_fit(names: &[u8], years: &[i32], counts: &[u32], widths: &[i32]) -> bool
     ensures { λ r. ⌜ r ≡ listsFit (now (names .entry)) (now (years .entry)) (now (counts .entry)) (now (widths .entry)) ⌝ }
 {
-    if names.len() / NAME_COLUMNS != years.len() {
+    if names.len() / limits::NAME_COLUMNS != years.len() {
         return false;
     }
-    if names.len() % NAME_COLUMNS != 0 {
+    if names.len() % limits::NAME_COLUMNS != 0 {
         return false;
     }
     if counts.len() != years.len() {

@@ -4,24 +4,19 @@ ghost use mathlib.Core.Bool.{true};
 ghost use lib.Dec.{leb};
 ghost use Rattle.tucson_series.specs.Sizes.{closingFits, seriesBytes, textBytes, ClosedSeries};
 use crate::writable;
-
-// A decade: ten years, the first of which ends in 0 (§ 14).
-pub const DECADE: usize = 10;
-
-// The bytes of a field.
-pub const FIELD_COLUMNS: usize = 6;
+use base_outcome::limits;
 
 // The bytes of a line beside its fields: name, year and byte 10.
-const LINE_BYTES: usize = 13;
+const LINE_BYTES: usize = limits::HEAD_COLUMNS + 1;
 
 // The bytes of a series: so many widths from this year on, and the closing.
 fn series_bytes(year: i32, count: usize) -> usize
     requires { ⌜ closingFits year count ≡ true ⌝ }
     ensures { λ r. ⌜ r ≡ seriesBytes year count ⌝ }
 {
-    let line_room = writable::years_left(year) % DECADE;
-    let lines = (DECADE - 1 - line_room + count) / DECADE + 1;
-    (count + 1) * FIELD_COLUMNS + lines * LINE_BYTES
+    let line_room = writable::years_left(year) % limits::DECADE;
+    let lines = (limits::DECADE - 1 - line_room + count) / limits::DECADE + 1;
+    (count + 1) * limits::FIELD_COLUMNS + lines * LINE_BYTES
 }
 
 // Whether the series are no longer than this. What is left of it falls from series to series, so that no sum can overflow.

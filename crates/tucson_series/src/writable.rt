@@ -9,14 +9,12 @@ ghost use Rattle.spec_tucson.specs.Line.{nameColumns, allPrintable, allBlank, i
 ghost use Rattle.spec_tucson.specs.Writing.{leastYear, greatestYear, allWidths, isWritable, unwritable};
 ghost use Rattle.spec_tucson.specs.WriteCall.{listsFit, seriesOf};
 ghost use Rattle.tucson_series.specs.Sizes.{series, yearsLeft, closingFits, NameBehind};
-use crate::lists::NAME_COLUMNS;
+use base_outcome::limits;
 
 // The byte of an empty column, the first that is printable.
 pub const BLANK: u8 = 32;
 
 const LAST_PRINTABLE: u8 = 126;
-
-const WIDTH_LIMIT: i32 = 99999;
 
 const LEAST_YEAR: i32 = -999;
 
@@ -59,7 +57,7 @@ fn all_blank(name: &[u8]) -> bool
 fn is_name(name: &[u8]) -> bool
     ensures { λ r. ⌜ r ≡ isName (now (name .entry)) ⌝ }
 {
-    if name.len() != NAME_COLUMNS {
+    if name.len() != limits::NAME_COLUMNS {
         return false;
     }
     if !all_printable(name) {
@@ -78,7 +76,7 @@ fn all_widths(widths: &[i32]) -> bool
         if width < 0 {
             return false;
         }
-        if width > WIDTH_LIMIT {
+        if width > limits::WIDTH_LIMIT {
             return false;
         }
         i += 1;
@@ -114,7 +112,7 @@ fn is_writable(names: &[u8], before: usize, at: usize, year: i32, widths: &[i32]
     ensures { λ r. ⌜ r ≡ isWritable (slice before at (now (names .entry)))
         (series (slice at (at + nameColumns) (now (names .entry))) year (now (widths .entry))) ⌝ }
 {
-    let end = at + NAME_COLUMNS;
+    let end = at + limits::NAME_COLUMNS;
     let name = &names[at..end];
     if !is_name(name) {
         return false;
@@ -152,7 +150,7 @@ pub fn first_unwritable(
             break base_outcome::Found::At(k);
         }
         before = at;
-        at += NAME_COLUMNS;
+        at += limits::NAME_COLUMNS;
         from = to;
         k += 1;
     };

@@ -4,6 +4,7 @@ use mathlib.Core.Path.{_≡_}
 use Prim.Native.Nat.{ℕ, _+_, _-_, _<_, _≤_}
 use lib.ListN.{length, take}
 use lib.Seq.{slice}
+use Rattle.base_outcome.specs.Codes as codes
 use Rattle.base_outcome.specs.Outcome.{answer, refuse}
 use Rattle.base_text.specs.Bytes.{Text, Range}
 use Rattle.spec_tucson.specs.Shown.{shown}
@@ -27,8 +28,8 @@ pub record LineTold (raw : Text) (m n : ℕ) (site : Bool) (bytes line : Text) :
 -- What is told of a raw line.
 abbrev pub StrictTold : Text → Strict → Text → Text → Type 0
 StrictTold raw (strict-cases.Line m n site) bytes line = LineTold raw m n site bytes line
-StrictTold raw strict-cases.Malformed bytes line = (place : ℕ) → strictLine place raw ≡ refuse 11 place
-StrictTold raw strict-cases.NotAscii bytes line = (place : ℕ) → strictLine place raw ≡ refuse 22 place
+StrictTold raw strict-cases.Malformed bytes line = (place : ℕ) → strictLine place raw ≡ refuse codes.tucsonLine place
+StrictTold raw strict-cases.NotAscii bytes line = (place : ℕ) → strictLine place raw ≡ refuse codes.fileBytes place
 
 -- ---- what is shown without a site name
 

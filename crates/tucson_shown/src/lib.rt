@@ -10,6 +10,7 @@ ghost use Rattle.spec_tucson.specs.KeptLines.{isHeaderLine};
 ghost use Rattle.tucson_lines.specs.Machine.{LineEnd};
 ghost use Rattle.tucson_columns.specs.Machine.{cells};
 ghost use Rattle.tucson_shown.specs.Machine.{StrictTold, CopyAsks, PlainAsks, PlainTold, ShowAsks, FrontTold, FitAsks, StrictAsks};
+use base_outcome::limits;
 
 // The most bytes that are shown of a strict line: eight characters of four bytes in its name, and 64 columns behind that.
 pub const SHOWN: usize = 96;
@@ -27,9 +28,6 @@ enum Front {
     Fits(usize, bool),
     Long,
 }
-
-// The columns of a line with ten fields.
-const LINE: usize = 72;
 
 const TAB: u8 = 9;
 
@@ -152,15 +150,18 @@ fn show_columns(text: &[u8], from: usize, to: usize, bytes: &mut [u8]) -> Front
     requires { ⌜ ShowAsks (now text) from to (now bytes) ⌝ }
     ensures { λ r. ⌜ FrontTold (expanded 0 (slice from to (now (text .entry)))) r (now (bytes .exit)) ⌝ }
 {
-    let front = tucson_columns::expand(text, from, to, 0, LINE, bytes);
+    let front = tucson_columns::expand(text, from, to, 0, limits::LINE_COLUMNS, bytes);
     let at = front.at;
     if at == to {
         return Front::Fits(front.count, false);
     }
     if tucson_site::has_site(text, at, to) {
-        return Front::Fits(tucson_columns::trim_blanks(bytes, LINE), true);
+        return Front::Fits(
+            tucson_columns::trim_blanks(bytes, limits::LINE_COLUMNS),
+            true,
+        );
     }
-    let whole = tucson_columns::expand(text, at, to, LINE, SHOWN, bytes);
+    let whole = tucson_columns::expand(text, at, to, limits::LINE_COLUMNS, SHOWN, bytes);
     if whole.at == to {
         return Front::Fits(whole.count, false);
     }
@@ -172,7 +173,7 @@ fn show(text: &[u8], from: usize, to: usize, bytes: &mut [u8]) -> Front
     requires { ⌜ ShowAsks (now text) from to (now bytes) ⌝ }
     ensures { λ r. ⌜ FrontTold (expanded 0 (slice from to (now (text .entry)))) r (now (bytes .exit)) ⌝ }
 {
-    if to - from <= LINE {
+    if to - from <= limits::LINE_COLUMNS {
         if !any_tab(text, from, to) {
             copy(text, from, to, bytes);
             return Front::Fits(to - from, false);

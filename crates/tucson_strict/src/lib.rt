@@ -12,10 +12,11 @@ ghost use Rattle.spec_tucson.specs.StrictLine.{isSome, isStrict, anyHigh};
 ghost use Rattle.tucson_lines.specs.Machine.{FieldsWithin};
 ghost use Rattle.tucson_columns.specs.Machine.{cells};
 ghost use Rattle.tucson_strict.specs.Machine.{NegativeTold};
+use base_outcome::limits;
 use base_text::numeral::Field;
 
 // The columns of a line with ten fields.
-const LINE: usize = 72;
+const LINE: usize = limits::LINE_COLUMNS;
 
 // The most digits of a numeral.
 const MOST_DIGITS: usize = 7;

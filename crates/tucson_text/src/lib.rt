@@ -6,20 +6,17 @@ ghost use Rattle.base_print.specs.Buffer.{Prints};
 ghost use Rattle.spec_tucson.specs.TextReading.{readText};
 ghost use Rattle.spec_tucson.specs.WriteCall.{total};
 ghost use Rattle.spec_tucson.specs.Filter.{textLimit, outcomeText, filtered};
+use base_outcome::codes;
+use base_outcome::limits;
 
-// The most bytes of a text.
-pub const TEXT_LIMIT: usize = 1048576;
+// The most series of a text: each has at least a line of one field and byte 10.
+pub const SERIES: usize = limits::TEXT_LIMIT / (limits::HEAD_COLUMNS + limits::FIELD_COLUMNS + 1);
 
-// The most series of such a text: each has at least a line of 19 bytes.
-const SERIES: usize = 55188;
+// The bytes of their names.
+pub const NAMES: usize = limits::NAME_COLUMNS * SERIES;
 
-// Their names, eight bytes each.
-const NAMES: usize = 441504;
-
-// The most widths: each has six columns.
-const WIDTHS: usize = 174762;
-
-const SHORT_BUFFER: u8 = 1;
+// The most widths: each has the columns of a field.
+pub const WIDTHS: usize = limits::TEXT_LIMIT / limits::FIELD_COLUMNS;
 
 // The sum of the counts.
 fn sum(counts: &[u32]) -> usize
@@ -37,7 +34,7 @@ fn sum(counts: &[u32]) -> usize
 
 // The series of a text that is not too long, read and written again, or the line of its refusal. What is read can always be
 // written, so the second refusal is never met.
-fn rewrite(input: &[u8], out: &mut [u8; TEXT_LIMIT]) -> usize
+fn rewrite(input: &[u8], out: &mut [u8; limits::TEXT_LIMIT]) -> usize
     requires { ⌜ length (now input) ≤ textLimit ⌝ }
     ensures { λ r. ⌜ Prints (length (now (out .exit))) (outcomeText (readText (now (input .entry)))) (now (out .entry))
         (now (out .exit)) r ⌝ }
@@ -69,11 +66,11 @@ fn rewrite(input: &[u8], out: &mut [u8; TEXT_LIMIT]) -> usize
 
 // The whole program: what the filter gives for a text, at the front of the lent buffer, which takes it whole. The answer is its
 // length.
-pub fn filter(input: &[u8], out: &mut [u8; TEXT_LIMIT]) -> usize
+pub fn filter(input: &[u8], out: &mut [u8; limits::TEXT_LIMIT]) -> usize
     ensures { λ r. ⌜ Prints (length (now (out .exit))) (filtered (now (input .entry))) (now (out .entry)) (now (out .exit)) r ⌝ }
 {
-    if input.len() > TEXT_LIMIT {
-        return base_print::refusal(SHORT_BUFFER, 0, out);
+    if input.len() > limits::TEXT_LIMIT {
+        return base_print::refusal(codes::SHORT_BUFFER, 0, out);
     }
     rewrite(input, out)
 }

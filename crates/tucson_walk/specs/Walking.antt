@@ -29,6 +29,7 @@ use Rattle.tucson_walk.specs.declared.Walked.{Walked}
 use Rattle.tucson_walk.specs.declared.Turn.{Turn}
 use Rattle.tucson_walk.specs.Following.{KeptBehind, StandsIn}
 use Rattle.tucson_walk.specs.Tracking.{Tracks}
+use Rattle.spec_tucson.specs.Notes as kinds
 
 -- ---- the series
 
@@ -79,7 +80,7 @@ marksOf early raw site high reclosed = record {
 
 -- The notes of a line that is left out.
 abbrev pub otherNotes : Bool → Text → List ℕ
-otherNotes early raw = lineNotes early raw (cond (isBlankLine raw) (6 ∷ []) (headerNotes raw))
+otherNotes early raw = lineNotes early raw (cond (isBlankLine raw) (kinds.blank ∷ []) (headerNotes raw))
 
 -- A line of the text, and an index that is far from its limit.
 pub record OtherAsks (text : Text) (from end at : ℕ) : Type 0 where

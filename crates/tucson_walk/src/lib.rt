@@ -13,9 +13,11 @@ ghost use Rattle.tucson_lines.specs.Machine.{LineEnd};
 ghost use Rattle.tucson_walk.specs.Skipping.{SkipTold};
 ghost use Rattle.tucson_walk.specs.Following.{FollowAsks, DiffersTold, Follows, LastAhead, AheadAsks, AheadTold};
 ghost use Rattle.tucson_walk.specs.Walking.{EnterTold, LeaveTold, reclosing, marksOf, otherNotes, OtherAsks, KeptAsks, PutsKept, TakeAsks, TakeTold, TurnAsks, TurnTold, WalkAsks, WalkTold};
+use base_outcome::limits;
 use tucson_notes::Ahead;
 use tucson_notes::Fields;
 use tucson_notes::Marks;
+use tucson_notes::kinds;
 use tucson_shown::Strict;
 
 // The line behind another one in its series: whether there is one, where the lines behind it begin, and how many bytes it has.
@@ -52,7 +54,7 @@ pub struct Turn {
     pub walked: Walked,
 }
 
-const NAME: usize = 8;
+const NAME: usize = limits::NAME_COLUMNS;
 
 const UNKNOWN_UNIT: i32 = -999;
 
@@ -286,10 +288,10 @@ fn put_other(
             reclosed: false,
         };
         let next = tucson_notes::put_marks(notes, at, number, blank);
-        return tucson_notes::put_note(notes, next, true, 6, number);
+        return tucson_notes::put_note(notes, next, true, kinds::BLANK, number);
     }
     let behind = tucson_notes::put_marks(notes, at, number, marks);
-    tucson_notes::put_note(notes, behind, true, 9, number)
+    tucson_notes::put_note(notes, behind, true, kinds::HEADER, number)
 }
 
 // A strict line that is kept, its number and its notes.

@@ -14,8 +14,8 @@ use Rattle.spec_calls.specs.Pieces as pieces
 use Rattle.curve_pieces.specs.Machine.{Shows, Replies, drawn, refused}
 use Rattle.curve_pieces.specs.declared.Ends.{Ends}
 use Rattle.curve_pieces.specs.declared.Drawing.{Drawing}
-use Rattle.curve_pieces.specs.declared.Answer.{Answer}
-use Rattle.curve_pieces.specs.declared.Answer.the-variants.{Drawn, Refused}
+use Rattle.curve_pieces.specs.declared.PieceAnswer.{PieceAnswer}
+use Rattle.curve_pieces.specs.declared.PieceAnswer.the-variants.{Drawn, Refused}
 use Rattle.walzhik.specs.declared.Piece.{Piece}
 use Rattle.walzhik.specs.Piece.{room, Sent}
 
@@ -104,12 +104,12 @@ module _ (w : Drawing) (p : pieces.Piece) {r : Piece} where
       subst (λ t. Sent t (answer p)) (sym e)
       (cubic-sent (w .ends) p a b c d (subst (λ q. Shows (record { curve = q; ends = w .ends }) p) k s))
 
-pub drawn-sent : (r : Piece) {a : Answer} {o : Outcome pieces.Piece} → Replies a o → (w : Drawing) → a ≡ Drawn w
+pub drawn-sent : (r : Piece) {a : PieceAnswer} {o : Outcome pieces.Piece} → Replies a o → (w : Drawing) → a ≡ Drawn w
     → ((p : pieces.Piece) → Shows w p → Sent r (answer p)) → Sent r o
 drawn-sent r (drawn {r = v} {p = p} s) w k h = h p (subst (λ x. Shows x p) (let z : v ≡ w = cc in z) s)
 drawn-sent r refused w k h = absurd (let z : _≡_ {A = ℕ} 0 1 = cc in omega arith)
 
-pub refused-sent : (r : Piece) {a : Answer} {o : Outcome pieces.Piece} → Replies a o → (code place : ℕ) → a ≡ Refused code place
+pub refused-sent : (r : Piece) {a : PieceAnswer} {o : Outcome pieces.Piece} → Replies a o → (code place : ℕ) → a ≡ Refused code place
     → Sent r (refusal code place) → Sent r o
 refused-sent r (drawn s) code place k h = absurd (let z : _≡_ {A = ℕ} 0 1 = cc in omega arith)
 refused-sent r (refused {code = m} {place = q}) code place k h =

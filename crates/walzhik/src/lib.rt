@@ -214,12 +214,12 @@ fn reach_struct(position: i32, code: u32, at: u32) -> Reach
 }
 
 // The struct of what a reach call answers.
-fn reach_of(answer: curve_reach::Answer) -> Reach
+fn reach_of(answer: curve_reach::ReachAnswer) -> Reach
     ensures { λ r. ⌜ r ≡ reached (reply answer) ⌝ }
 {
     match answer {
-        curve_reach::Answer::Reached(x) => reach_struct(x, 0, 0),
-        curve_reach::Answer::Refused(code, place) => reach_struct(0, code as u32, place),
+        curve_reach::ReachAnswer::Reached(x) => reach_struct(x, 0, 0),
+        curve_reach::ReachAnswer::Refused(code, place) => reach_struct(0, code as u32, place),
     }
 }
 
@@ -337,12 +337,12 @@ fn not_sent(code: u8, place: u32) -> Piece
 }
 
 // The struct of what a piece call answers.
-fn piece_of(answer: curve_pieces::Answer) -> Piece
+fn piece_of(answer: curve_pieces::PieceAnswer) -> Piece
     ensures { λ r. ⌜ ((o : Outcome pieces.Piece) → Replies answer o → Sent r o) ⌝ }
 {
     match answer {
-        curve_pieces::Answer::Drawn(drawing) => sent(drawing),
-        curve_pieces::Answer::Refused(code, place) => not_sent(code, place),
+        curve_pieces::PieceAnswer::Drawn(drawing) => sent(drawing),
+        curve_pieces::PieceAnswer::Refused(code, place) => not_sent(code, place),
     }
 }
 

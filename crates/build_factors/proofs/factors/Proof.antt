@@ -27,8 +27,8 @@ use Rattle.base_fraction.specs.Fractions.{fractions}
 use Rattle.base_fraction.specs.declared.arrays.Fractions.{Fractions}
 use Rattle.base_fraction.proofs.Fractions.{fraction-at, fractions-more, one-fraction}
 use Rattle.build_factors.specs.Machine.{nextFactor}
-use Rattle.build_factors.specs.declared.Refusal.{Refusal}
-use Rattle.build_factors.specs.declared.Refusal.the-variants as refusals
+use Rattle.build_factors.specs.declared.StepRefusal.{StepRefusal}
+use Rattle.build_factors.specs.declared.StepRefusal.the-variants as refusals
 use Rattle.build_factors.proofs.Quotients.{Next, next-none, Ended, next-ended, factors-refused, factors-answered}
 use Rattle.build_factors.proofs.factors.Statement.{statement}
 use Rattle.build_factors.proofs.factors.Tie as tie
@@ -132,7 +132,7 @@ module _ (c : tie.After-factor Inv-loop μ-loop) (qs : List ℚ) (j : ℕ) (e : 
   answered h = next-none (partialSum qs first row) (factor j qs first row) (c .factor .result) next-is h
 
   -- a refusal ends the collection
-  ended : (reason : Refusal) → c .factor .result .refusal ≡ reason → reason ≢ refusals.None → Ended (factor j qs first row) reason
+  ended : (reason : StepRefusal) → c .factor .result .refusal ≡ reason → reason ≢ refusals.None → Ended (factor j qs first row) reason
   ended reason h n = next-ended (partialSum qs first row) (factor j qs first row) (c .factor .result) reason next-is h n
 
   stopped : {code place : ℕ} → factor j qs first row ≡ refusal code place → collect (start (c .before) .args .l - first - 1) (λ d. factor j qs first (first + 1 + d)) ≡ refusal code place

@@ -19,8 +19,8 @@ use Rattle.spec_spline.proofs.Space.{firstColumn-mono}
 use Rattle.build_space.proofs.Bounds.{first-column-zero, first-column-next, conditions-before-zero}
 use Rattle.build_space.proofs.Legal.{legal-degree-high, legal-row-count-sum}
 use Rattle.build_factors.specs.Machine.{refusalOf}
-use Rattle.build_factors.specs.declared.Refusal.{Refusal}
-use Rattle.build_factors.specs.declared.Refusal.the-variants as refusals
+use Rattle.build_factors.specs.declared.StepRefusal.{StepRefusal}
+use Rattle.build_factors.specs.declared.StepRefusal.the-variants as refusals
 use Rattle.build_step.specs.Leaves.{Leaves}
 use Rattle.build_joins.specs.Leaves.{JoinsLeave, toldJoins, Start, grown}
 use Rattle.base_outcome.specs.declared.Answer.the-variants.{Count, Refused}
@@ -107,7 +107,7 @@ module _ (c : tie.After-den Inv-loop μ-loop) where
       (holds _ _ _ (inv sides .begun .holds .num-long) (inv sides .begun .holds .den-long) (inv sides .state)) (proper sides .shaped))
 
   -- a refusal with this name and number
-  refused : (reason : Refusal) {code : ℕ} {place : ℕ} → c .before .before .join-step .result ≡ reason → (reason ≡ refusals.None → ⊥)
+  refused : (reason : StepRefusal) {code : ℕ} {place : ℕ} → c .before .before .join-step .result ≡ reason → (reason ≡ refusals.None → ⊥)
       → ((q : ℕ) → (q ≡ 8) ⊎ (q ≡ 9) → refusalOf q ≡ reason → q ≡ code) → place ≡ capped (j sides)
       → JoinsLeave (weights (s sides)) (rowCount (s sides)) (Refused code place) (start sides .args .num .now) (start sides .args .den .now)
       (c .before .before .join-step .last .0) (c .before .before .join-step .last .1 .0)

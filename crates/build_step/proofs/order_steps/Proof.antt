@@ -16,8 +16,8 @@ use Rattle.spec_spline.specs.Build.{orderSteps}
 use Rattle.build_cells.specs.Held.{Holds, Shaped}
 use Rattle.build_conditions.specs.Sides.{JoinIs}
 use Rattle.build_conditions.specs.declared.Join.{Join}
-use Rattle.build_factors.specs.declared.Refusal.{Refusal}
-use Rattle.build_factors.specs.declared.Refusal.the-variants as refusals
+use Rattle.build_factors.specs.declared.StepRefusal.{StepRefusal}
+use Rattle.build_factors.specs.declared.StepRefusal.the-variants as refusals
 use Rattle.build_step.specs.Leaves.{Leaves, toldStep}
 use Rattle.build_step.proofs.Stepped.{Proper}
 use Rattle.build_step.proofs.Leaving.{leaves-none, leaves-some}
@@ -59,7 +59,7 @@ module _ (c : tie.After-den Inv-loop μ-loop) (s : Space) (j : ℕ) (t : Table) 
   taken : at-loop c .loop .k < start c .args .n
   taken = c .before .before .before .before .before .loop-test .taken
 
-  refused : (reason : Refusal) → c .before .before .step .result ≡ reason → (reason ≡ refusals.None → ⊥)
+  refused : (reason : StepRefusal) → c .before .before .step .result ≡ reason → (reason ≡ refusals.None → ⊥)
       → Leaves (orderSteps s j (start c .args .n) t) reason (start c .args .num .now) (start c .args .den .now) (c .before .before .step .last .0) (c .before .before .step .last .1 .0)
   unfolding orderSteps
   refused reason e n = let x = leaves-some _ left e n in ends _ _ _ (h .num-long) (h .den-long) st taken toldStep x (sym e ∙ x .told-is)

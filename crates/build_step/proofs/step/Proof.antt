@@ -17,8 +17,8 @@ use Rattle.build_conditions.specs.Sides.{JoinIs}
 use Rattle.build_jumps.specs.Machine.{rowJumps}
 use Rattle.build_jumps.proofs.Answers.{InArrays, jumps-in-arrays, jumps-refused}
 use Rattle.build_factors.specs.Machine.{Plans}
-use Rattle.build_factors.specs.declared.Refusal.{Refusal}
-use Rattle.build_factors.specs.declared.Refusal.the-variants as refusals
+use Rattle.build_factors.specs.declared.StepRefusal.{StepRefusal}
+use Rattle.build_factors.specs.declared.StepRefusal.the-variants as refusals
 use Rattle.build_rows.specs.Rows.{UnitFactors}
 use Rattle.build_cells.specs.Left.{LeavesIf}
 use Rattle.build_step.specs.Leaves.{Leaves}
@@ -70,7 +70,7 @@ module _ (c : tie.After-plan-step) where
     plans : Plans (planFrom (g .j) (js .of)) (c .plan-step .result)
     plans = c .plan-step .ensures (js .of) (g .j) (js .is) (jumps-length (g .j) _ (g .t) (js .answers) ∙ g .shaped .row-count)
 
-    ended : (reason : Refusal) → c .plan-step .result .refusal ≡ reason → (reason ≡ refusals.None → ⊥)
+    ended : (reason : StepRefusal) → c .plan-step .result .refusal ≡ reason → (reason ≡ refusals.None → ⊥)
         → Leaves (step (g .j) (κ first g) (g .t)) reason (num first) (den first) (num first) (den first)
     ended reason e n = step-ended (g .j) _ (g .t) _ _ (plan-ended (g .j) _ (g .t) (js .answers) _ plans reason e n)
 

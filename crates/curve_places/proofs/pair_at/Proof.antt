@@ -1,4 +1,4 @@
--- `curve_places::pair_at` meets its contract: both triangles of the place's ordinates by the place's rate.
+-- `curve_places::pair_at` meets its contract: both triangles of the location's ordinates by the location's rate.
 -- Assumes nothing.
 use borrow.Author.Needs.{needs}
 use native.Mathlib.Omega.{arith}
@@ -10,9 +10,9 @@ use mir.Syntax.{w32, w64}
 use mir.Val.{SFits, ofZ, toZ}
 use mir.ValLaws.{toZ-ofZ}
 use Rattle.curve_places.specs.Offsets.{BeamOrdinates}
-use Rattle.curve_places.specs.Place.{valueOf, ValueAsks, ValueIs}
+use Rattle.curve_places.specs.Location.{valueOf, ValueAsks, ValueIs}
 use Rattle.curve_rate.specs.Rate.{Rated}
-use Rattle.curve_places.specs.declared.Place.{Place}
+use Rattle.curve_places.specs.declared.Location.{Location}
 use Rattle.curve_places.proofs.Position.{value-arm}
 use Rattle.curve_places.proofs.pair_at.Statement.{statement}
 use Rattle.curve_places.proofs.pair_at.Tie as tie
@@ -25,8 +25,8 @@ module _ (c : tie.After-struct-told3) where
   abbrev start : tie.Start
   start = c .before .before .before .before
 
-  abbrev place : Place
-  place = start .args .place
+  abbrev location : Location
+  location = start .args .location
 
   abbrev high : ℤ
   high = c .before .before .rate-of .result .high
@@ -34,7 +34,7 @@ module _ (c : tie.After-struct-told3) where
   abbrev low : ℤ
   low = c .before .before .rate-of .result .low
 
-  offset-fits : SFits w64 (place .offset)
+  offset-fits : SFits w64 (location .offset)
   offset-fits = record { sfits = c .before .before .before .struct-told .given .1 .1 .0 .1 }
 
   high-fits : SFits w64 high
@@ -43,8 +43,8 @@ module _ (c : tie.After-struct-told3) where
   low-fits : SFits w64 low
   low-fits = record { sfits = c .struct-told3 .given .1 .0 .1 }
 
-  -- the rate of the place, as its two numbers are passed on
-  rated : Rated (word high) (word low) (place .offset) (place .width)
+  -- the rate of the location, as its two numbers are passed on
+  rated : Rated (word high) (word low) (location .offset) (location .width)
   rated =
       let f = offset-fits in
       let g = start .fits .whole in
@@ -54,11 +54,11 @@ module _ (c : tie.After-struct-told3) where
       simp toZ-ofZ ((simp toZ-ofZ at (c .before .before .rate-of .ensures)) _ (start .pre .sound .inside) (start .pre .inverted))
 
   -- the value there, in the arm of degree p
-  there : (p : ℕ) → place .degree ≡ p → (os : List ℤ) (r : ℤ) → ValueIs os (place .column) p (word high) (word low) r → r ≡ valueOf os place
-  there p e os r h = value-arm os place p r e (h _ _ rated)
+  there : (p : ℕ) → location .degree ≡ p → (os : List ℤ) (r : ℤ) → ValueIs os (location .column) p (word high) (word low) r → r ≡ valueOf os location
+  there p e os r h = value-arm os location p r e (h _ _ rated)
 
   -- what the ordinates of a wood part are asked
-  asked : (p : ℕ) → place .degree ≡ p → (os : List ℤ) → BeamOrdinates os → ValueAsks os (place .column) p (word high) (word low)
+  asked : (p : ℕ) → location .degree ≡ p → (os : List ℤ) → BeamOrdinates os → ValueAsks os (location .column) p (word high) (word low)
   asked p e os h = record {
     degree-low = omega (arith, start .pre .sound .low, e);
     columns-within = omega (arith, start .pre .sound .within, e);

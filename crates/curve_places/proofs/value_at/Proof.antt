@@ -1,4 +1,4 @@
--- `curve_places::value_at` meets its contract: the triangle of the place's ordinates by the place's rate.
+-- `curve_places::value_at` meets its contract: the triangle of the location's ordinates by the location's rate.
 -- Assumes nothing.
 use borrow.Author.Needs.{needs}
 use mathlib.Core.List.{List}
@@ -8,9 +8,9 @@ use mir.Syntax.{w32, w64}
 use mir.Val.{SFits, ofZ, toZ}
 use mir.ValLaws.{toZ-ofZ}
 use Rattle.curve_places.specs.Offsets.{BeamOrdinates}
-use Rattle.curve_places.specs.Place.{valueOf, ValueAsks, ValueIs}
+use Rattle.curve_places.specs.Location.{valueOf, ValueAsks, ValueIs}
 use Rattle.curve_rate.specs.Rate.{Inverted, Rated}
-use Rattle.curve_places.specs.declared.Place.{Place}
+use Rattle.curve_places.specs.declared.Location.{Location}
 use Rattle.curve_places.proofs.Position.{value-arm}
 use Rattle.curve_places.proofs.value_at.Statement.{statement}
 use Rattle.curve_places.proofs.value_at.Tie as tie
@@ -23,10 +23,10 @@ module _ (c : tie.After-struct-told2) where
   abbrev begin : tie.Start
   begin = c .before .before .before .before
 
-  offset-fits : SFits w64 (begin .args .place .offset)
+  offset-fits : SFits w64 (begin .args .location .offset)
   offset-fits = record { sfits = c .struct-told2 .given .1 .1 .0 .1 }
 
-  width-fits : SFits w64 (begin .args .place .width)
+  width-fits : SFits w64 (begin .args .location .width)
   width-fits = record { sfits = c .before .before .before .struct-told .given .1 .1 .1 .0 .1 }
 
   whole-fits : SFits w64 (c .before .before .whole-of .result)
@@ -36,7 +36,7 @@ module _ (c : tie.After-struct-told2) where
   tail-fits = record { sfits = c .before .tail-of .ok }
 
   -- the inverse of the segment's length
-  inverted : Inverted (c .before .before .whole-of .result) (c .before .tail-of .result) (begin .args .place .width)
+  inverted : Inverted (c .before .before .whole-of .result) (c .before .tail-of .result) (begin .args .location .width)
   inverted =
       let f = width-fits in
       record { whole-is = simp toZ-ofZ at (c .before .before .whole-of .ensures); tail-is = simp toZ-ofZ at (c .before .tail-of .ensures) }
@@ -52,8 +52,8 @@ module _ (c : tie.After-struct-told4) where
   abbrev start : tie.Start
   start = begin (c .before .before .before)
 
-  abbrev place : Place
-  place = start .args .place
+  abbrev location : Location
+  location = start .args .location
 
   abbrev high : ℤ
   high = c .before .before .rate-of .result .high
@@ -67,8 +67,8 @@ module _ (c : tie.After-struct-told4) where
   low-fits : SFits w64 low
   low-fits = record { sfits = c .struct-told4 .given .1 .0 .1 }
 
-  -- the rate of the place, as its two numbers are passed on
-  rated : Rated (word high) (word low) (place .offset) (place .width)
+  -- the rate of the location, as its two numbers are passed on
+  rated : Rated (word high) (word low) (location .offset) (location .width)
   rated =
       let t = c .before .before .before in
       let f = offset-fits t in
@@ -79,11 +79,11 @@ module _ (c : tie.After-struct-told4) where
       simp toZ-ofZ ((simp toZ-ofZ at (c .before .before .rate-of .ensures)) _ (start .pre .sound .inside) (inverted t))
 
   -- the value there
-  there : (os : List ℤ) (r : ℤ) → ValueIs os (place .column) (place .degree) (word high) (word low) r → r ≡ valueOf os place
-  there os r h = value-arm os place (place .degree) r refl (h _ _ rated)
+  there : (os : List ℤ) (r : ℤ) → ValueIs os (location .column) (location .degree) (word high) (word low) r → r ≡ valueOf os location
+  there os r h = value-arm os location (location .degree) r refl (h _ _ rated)
 
   -- what the ordinates of a wood part are asked
-  asked : (os : List ℤ) → BeamOrdinates os → ValueAsks os (place .column) (place .degree) (word high) (word low)
+  asked : (os : List ℤ) → BeamOrdinates os → ValueAsks os (location .column) (location .degree) (word high) (word low)
   asked os h = record {
     degree-low = start .pre .sound .low;
     columns-within = start .pre .sound .within;

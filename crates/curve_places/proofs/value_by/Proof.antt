@@ -8,7 +8,7 @@ use mir.Syntax.{w32, w64}
 use mir.Val.{SFits, ofZ, toZ}
 use mir.ValLaws.{toZ-ofZ}
 use Rattle.spec_spline.specs.Reading.{triangle}
-use Rattle.curve_places.specs.Place.{ValueAsks, ValueIs}
+use Rattle.curve_places.specs.Location.{ValueAsks, ValueIs}
 use Rattle.curve_rate.specs.Rate.{Rated}
 use Rattle.curve_places.proofs.value_by.Statement.{statement}
 use Rattle.curve_places.proofs.value_by.Tie as tie

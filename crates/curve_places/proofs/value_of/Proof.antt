@@ -10,7 +10,7 @@ use mir.Val.{SFits, ofZ, toZ}
 use mir.ValLaws.{toZ-ofZ}
 use Rattle.base_exact.proofs.Word.{sfits-abs}
 use Rattle.spec_spline.specs.Reading.{triangle}
-use Rattle.curve_places.specs.Place.{ValueIs}
+use Rattle.curve_places.specs.Location.{ValueIs}
 use Rattle.curve_places.proofs.Local.{local-bounded}
 use Rattle.curve_places.proofs.Position.{value-local}
 use Rattle.curve_places.proofs.value_of.Statement.{statement}

@@ -22,7 +22,7 @@ use Rattle.build_space.proofs.Legal.{legal-checked, legal-width-low, legal-widt
 use Rattle.build_space.proofs.Legal.{legal-column-count-high}
 use Rattle.spec_calls.specs.Positions.{positionCount}
 use Rattle.curve_search.specs.Machine.{startOffset, found, reachesHeld}
-use Rattle.curve_search.specs.declared.Found.the-variants.{At}
+use Rattle.curve_search.specs.declared.FirstPosition.the-variants.{At}
 use Rattle.curve_search.proofs.Offsets.{start-at-most-one}
 use Rattle.curve_search.proofs.Searching.{Before, before-first, before-next, found-in, found-past, start-partial}
 use Rattle.curve_search.proofs.search.Statement.{statement}

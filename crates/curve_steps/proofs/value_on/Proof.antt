@@ -1,4 +1,4 @@
--- `curve_steps::value_on` meets its contract: the triangle at that place. Assumes nothing.
+-- `curve_steps::value_on` meets its contract: the triangle at that location. Assumes nothing.
 use borrow.Author.Needs.{needs}
 use native.Mathlib.Omega.{arith}
 use mathlib.Core.Path.{_≡_, sym, _∙_, subst}
@@ -10,13 +10,13 @@ use mir.ValLaws.{toZ-ofZ, toZ-pos}
 use Rattle.base_exact.proofs.Integer as Z
 use Rattle.base_exact.proofs.Word.{sfits-widen}
 use Rattle.curve_ordinates.specs.Ordinates.{ordinateLimit}
-use Rattle.curve_places.specs.Place.{Sound, valueOf}
+use Rattle.curve_places.specs.Location.{Sound, valueOf}
 use Rattle.curve_steps.specs.Machine.{valueOn}
 use Rattle.curve_steps.proofs.Passing.{value-small}
 use Rattle.curve_steps.proofs.value_on.Statement.{statement}
 use Rattle.curve_steps.proofs.value_on.Tie as tie
 
--- the place of offset u
+-- the location of offset u
 module _ (s : tie.Start) where
   value-is : (o w : ℤ) → let a = s .args in o ≡ pos (a .u) → w ≡ pos (a .d)
       → valueOf (a .ordinates .now) (record { column = a .c; degree = a .p; offset = o; width = w })

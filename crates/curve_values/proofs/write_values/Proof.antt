@@ -20,11 +20,11 @@ use Rattle.build_space.specs.Legal.{ListsLegal}
 use Rattle.curve_places.specs.Offsets.{Within}
 use Rattle.curve_rate.specs.Rate.{wholeOf, tailOf}
 use Rattle.curve_places.specs.Inverses.{byLength}
-use Rattle.curve_places.specs.Place.{placeOf, valueOf}
-use Rattle.curve_places.specs.declared.Place.{Place}
+use Rattle.curve_places.specs.Location.{locationOf, valueOf}
+use Rattle.curve_places.specs.declared.Location.{Location}
 use Rattle.curve_segments.proofs.First.{firsts-long}
 use Rattle.curve_places.proofs.Inverses.{by-length-at}
-use Rattle.curve_places.proofs.Position.{segment-within, place-width, value-blended}
+use Rattle.curve_places.proofs.Position.{segment-within, location-width, value-blended}
 use Rattle.curve_values.specs.Pairs.{pairOf}
 use Rattle.curve_values.proofs.write_values.Statement.{statement}
 use Rattle.curve_values.proofs.write_values.Tie as tie
@@ -103,8 +103,8 @@ module _ (c : tie.After-segment-near Inv-loop μ-loop) where
   found : c .segment-near .result ≡ segmentAt (lists read) (x read)
   found = found-there ∙ ap (segmentAt (lists read)) (x-is read)
 
-place-at-requires : tie.Need-place-at-requires Inv-loop μ-loop
-place-at-requires c κs =
+location-at-requires : tie.Need-location-at-requires Inv-loop μ-loop
+location-at-requires c κs =
     let n = c .before in
     let r = read n in
     let s = start r in
@@ -116,8 +116,8 @@ place-at-requires c κs =
       columns-are = placed-first r .before .first-columns .ensures;
     }
 
--- the place of the position, and where its pair goes
-module _ (c : tie.After-place-at Inv-loop μ-loop) where
+-- the location of the position, and where its pair goes
+module _ (c : tie.After-location-at Inv-loop μ-loop) where
   abbrev near : tie.After-segment-near Inv-loop μ-loop
   near = c .before .before
 
@@ -134,21 +134,21 @@ module _ (c : tie.After-place-at Inv-loop μ-loop) where
   inside = segment-within _ _ _ legal (x here) (within here) segment (found near)
 
   -- the value that some ordinates have there
-  value-there : (os : List ℤ) → valueOf os (c .place-at .result) ≡ blended (lists here) os (segmentAt (lists here) (x here)) (x here)
+  value-there : (os : List ℤ) → valueOf os (c .location-at .result) ≡ blended (lists here) os (segmentAt (lists here) (x here)) (x here)
   value-there os =
-      ap (valueOf os) (c .place-at .ensures .is (start here .args .orders .now) (found-there near))
-      ∙ ap (λ (z : ℤ). valueOf os (placeOf (lists here) z)) (x-is here)
+      ap (valueOf os) (c .location-at .ensures .is (start here .args .orders .now) (found-there near))
+      ∙ ap (λ (z : ℤ). valueOf os (locationOf (lists here) z)) (x-is here)
       ∙ value-blended (lists here) os (x here)
 
   -- the segment's length, and its number in an array of inverses
-  width-there : c .place-at .result .width ≡ pos (fineWidth (lists here) segment)
+  width-there : c .location-at .result .width ≡ pos (fineWidth (lists here) segment)
   width-there =
-      ap (λ (p : Place). p .width) (c .place-at .ensures .is (start here .args .orders .now) (found-there near))
-      ∙ place-width (lists here) _
+      ap (λ (p : Location). p .width) (c .location-at .ensures .is (start here .args .orders .now) (found-there near))
+      ∙ location-width (lists here) _
       ∙ ap (λ (i : ℕ). pos (fineWidth (lists here) i)) (sym (found-there near))
 
   number-there : (f : ℤ → ℤ) (l : List ℤ) → l ≡ byLength f (space (start here .args .breaks .now) (start here .args .degrees .now) [])
-      → getD l segment (pos 0) ≡ f (c .place-at .result .width)
+      → getD l segment (pos 0) ≡ f (c .location-at .result .width)
   number-there f l e =
       ap (λ (ns : List ℤ). getD ns (near .segment-near .result) (pos 0)) e
       ∙ by-length-at _ _ _ legal segment inside f
@@ -160,7 +160,7 @@ pair-at-requires c κs =
     let s = start (here p) in
     let t = turn (here p) .before in
     record {
-      sound = p .place-at .ensures .sound;
+      sound = p .location-at .ensures .sound;
       inverted = record {
         whole-is = toZ-ofZ w64 _ (record { sfits = c .before .whole .given }) ∙ number-there p wholeOf _ (t .before .inverse-wholes .ensures);
         tail-is = toZ-ofZ w64 _ (record { sfits = c .tail .given }) ∙ number-there p tailOf _ (t .inverse-tails .ensures);
@@ -176,7 +176,7 @@ pairs s =
     pairAtEntry (space (a .breaks .now) (a .degrees .now) (a .orders .now)) (a .earlywood .now) (a .latewood .now) (a .positions .now)
 
 module _ (c : tie.After-struct-told2 Inv-loop μ-loop) where
-  abbrev placed : tie.After-place-at Inv-loop μ-loop
+  abbrev placed : tie.After-location-at Inv-loop μ-loop
   placed = c .before .before .before .before .before
 
   abbrev at : tie.After-x Inv-loop μ-loop
@@ -243,7 +243,7 @@ write-values-spec =
     tie.close (tie.spec Inv-loop μ-loop (λ c κs. record { few = c .pre .legal .few; legal = c .pre .legal .degrees-legal })
     (λ c κs. c .before .pre .legal) (λ c κs. let s = c .before .before in record { orders = s .args .orders .now; legal = s .pre .legal })
     (λ c κs. let s = c .before .before .before in record { orders = s .args .orders .now; legal = s .pre .legal }) loop-holds
-    (λ c. omega arith) (λ c. omega arith) (λ c. search needs) segment-near-requires (λ c. search needs) place-at-requires
+    (λ c. omega arith) (λ c. omega arith) (λ c. search needs) segment-near-requires (λ c. search needs) location-at-requires
     (λ c. omega (arith, inside c, legal c .few)) (λ c. omega (arith, inside c, legal c .few))
     (λ c. let p = c .before in omega (arith, inside p, legal p .few)) (λ c. let p = c .before in omega (arith, inside p, legal p .few))
     pair-at-requires (λ c. omega (arith, room (at c), entry c .good)) (λ c. omega (arith, room (at c), entry c .good))

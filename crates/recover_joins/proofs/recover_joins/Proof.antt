@@ -30,7 +30,7 @@ use Rattle.spec_calls.specs.Recovery.{recoverOrders, recoverJoins, recovered}
 use Rattle.theorems_recovery.proofs.Refusals.{orders-stop}
 use Rattle.recover_joins.specs.Leaves.{toldJoins, Leaves, JoinsLeave, grownCombination}
 use Rattle.recover_joins.specs.declared.RowCoefficients.{RowCoefficients}
-use Rattle.recover_joins.specs.declared.Refusal.the-variants as refusals
+use Rattle.recover_joins.specs.declared.UndoRefusal.the-variants as refusals
 use Rattle.recover_joins.proofs.Orders.{leaves-none, leaves-some, code-told, Sound}
 use Rattle.recover_joins.proofs.Turns.{map-append, columns-fit, columns-count, join-turns}
 use Rattle.recover_joins.proofs.recover_joins.Statement.{statement}

@@ -22,7 +22,7 @@ use Rattle.build_step.proofs.Repeated.{State, holds, goes-on, ends, all-done}
 use Rattle.spec_calls.specs.Recovery.{Combination, recoverStep, recoverOrders}
 use Rattle.recover_joins.specs.Leaves.{toldCoefficients, Leaves}
 use Rattle.recover_joins.specs.declared.RowCoefficients.{RowCoefficients}
-use Rattle.recover_joins.specs.declared.Refusal.the-variants as refusals
+use Rattle.recover_joins.specs.declared.UndoRefusal.the-variants as refusals
 use Rattle.recover_joins.proofs.Orders.{leaves-none, leaves-some, code-told, Sound}
 use Rattle.recover_joins.proofs.Turns.{order-turns}
 use Rattle.recover_joins.proofs.recover_orders.Statement.{statement}

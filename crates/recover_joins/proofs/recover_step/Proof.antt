@@ -25,8 +25,8 @@ use Rattle.build_jumps.specs.Machine.{rowJumps}
 use Rattle.build_jumps.proofs.Answers.{InArrays, jumps-in-arrays, jumps-refused}
 use Rattle.build_factors.specs.Machine.{refusalOf, Plans}
 use Rattle.build_factors.proofs.Quotients.{Ended}
-use Rattle.build_factors.specs.declared.Refusal.{Refusal}
-use Rattle.build_factors.specs.declared.Refusal.the-variants as build-refusals
+use Rattle.build_factors.specs.declared.StepRefusal.{StepRefusal}
+use Rattle.build_factors.specs.declared.StepRefusal.the-variants as build-refusals
 use Rattle.build_rows.specs.Rows.{UnitFactors}
 use Rattle.build_cells.specs.Left.{LeavesIf}
 use Rattle.build_cells.proofs.Left.{kept-same}
@@ -36,7 +36,7 @@ use Rattle.recover_rows.specs.Machine.{NonZero}
 use Rattle.spec_calls.specs.Recovery.{recoverStep, undoing}
 use Rattle.recover_joins.specs.Leaves.{coefficientsOf, Leaves}
 use Rattle.recover_joins.specs.declared.RowCoefficients.{RowCoefficients}
-use Rattle.recover_joins.specs.declared.Refusal.the-variants as refusals
+use Rattle.recover_joins.specs.declared.UndoRefusal.the-variants as refusals
 use Rattle.recover_joins.proofs.Stepped.{leaves-unplanned, leaves-unmade, leaves-made}
 use Rattle.recover_joins.proofs.Undone.{factors-nonzero}
 use Rattle.recover_joins.proofs.recover_step.Statement.{statement}
@@ -75,7 +75,7 @@ module _ (c : tie.After-jumps) (g : Given c) where
   jumped e = jumps-in-arrays _ _ jumps-are e
 
   -- a first half that is refused with this name and code
-  ended : {reason : Refusal} {code : ℕ} {r : RowCoefficients} → Ended (planned (g .j) κ (g .t)) reason
+  ended : {reason : StepRefusal} {code : ℕ} {r : RowCoefficients} → Ended (planned (g .j) κ (g .t)) reason
       → ((q : ℕ) → (q ≡ 8) ⊎ (q ≡ 9) → refusalOf q ≡ reason → q ≡ code)
       → r ≡ record { refusal = refusals.Refused code; of = fractions [] }
       → Leaves (recoverStep (g .j) κ (record { table = g .t; coefficients = g .ps })) r (num c) (den c) (num c) (den c)
@@ -99,7 +99,7 @@ module _ (c : tie.After-plan-step) where
     plans : Plans (planFrom (g .j) (js .of)) (c .plan-step .result)
     plans = c .plan-step .ensures (js .of) (g .j) (js .is) jump-count
 
-    refused : {reason : Refusal} → c .plan-step .result .refusal ≡ reason → (reason ≡ build-refusals.None → ⊥)
+    refused : {reason : StepRefusal} → c .plan-step .result .refusal ≡ reason → (reason ≡ build-refusals.None → ⊥)
         → Ended (planned (g .j) (κ first g) (g .t)) reason
     refused {reason} e n = plan-ended (g .j) _ (g .t) (js .answers) _ plans reason e n
 

@@ -2,7 +2,7 @@
 use borrow.Author.Needs.{needs}
 use mathlib.Core.Path.{ap}
 use Rattle.base_fraction.specs.declared.arrays.Fractions.{Fractions}
-use Rattle.recover_joins.specs.declared.Refusal.the-variants as refusals
+use Rattle.recover_joins.specs.declared.UndoRefusal.the-variants as refusals
 use Rattle.recover_joins.proofs.refuse.Statement.{statement}
 use Rattle.recover_joins.proofs.refuse.Tie as tie
 

@@ -21,7 +21,7 @@ use Rattle.spec_calls.specs.Recovery.{balanced, undoneRows, undone, undoing}
 use Rattle.theorems_recovery.proofs.Answers.{rows-undone, undone-refuses-20}
 use Rattle.recover_joins.specs.Leaves.{coefficientsOf}
 use Rattle.recover_joins.specs.declared.RowCoefficients.{RowCoefficients}
-use Rattle.recover_joins.specs.declared.Refusal.the-variants as refusals
+use Rattle.recover_joins.specs.declared.UndoRefusal.the-variants as refusals
 use Rattle.recover_joins.proofs.Refusals.{told-zero, told-not, told-large}
 use Rattle.recover_joins.proofs.Undone.{undone-in-arrays, undone-refused, renewed-without}
 use Rattle.recover_joins.proofs.undo.Statement.{statement}

@@ -12,8 +12,8 @@ use Rattle.curve_ordinates.specs.Wood.{woodOf}
 use Rattle.curve_ordinates.specs.declared.Wood as machine
 use Rattle.spec_rings.specs.Ready.{Ready, ready}
 use Rattle.rings_read.specs.Machine.{ListsHeld, FileHeld, JudgedAs}
-use Rattle.rings_read.specs.declared.Judged.{Judged}
-use Rattle.rings_read.specs.declared.Judged.the-variants as judgements
+use Rattle.rings_read.specs.declared.Readiness.{Readiness}
+use Rattle.rings_read.specs.declared.Readiness.the-variants as judgements
 use Rattle.rings.proofs.write_table.Statement.{statement}
 use Rattle.rings.proofs.write_table.Tie as tie
 
@@ -81,7 +81,7 @@ module _ (a : tie.After-judged2) where
   widths = done .judge .last .1 .1 .1 .1 .1 .1 .1 .1 .0
 
   judged : JudgedAs (ready input) (judgements.Ready wood b d o c n) breaks degrees orders coefs names years counts widths
-  judged = subst (λ (j : Judged). JudgedAs (ready input) j breaks degrees orders coefs names years counts widths) (a .judged2 .given .1) (done .judge .ensures)
+  judged = subst (λ (j : Readiness). JudgedAs (ready input) j breaks degrees orders coefs names years counts widths) (a .judged2 .given .1) (done .judge .ensures)
 
   made : Made (ready input) wood b d o c n breaks degrees orders coefs names years counts widths
   made = made-of (ready input) wood b d o c n breaks degrees orders coefs names years counts widths judged

@@ -4,7 +4,7 @@ use mathlib.Core.Path.{_≡_, refl, sym}
 use Prim.Native.Nat.{ℕ, _+_, _≤_}
 use lib.ListN.{length, replicate, length-replicate}
 use lib.Seq.{length-take-le}
-use Rattle.spec_sheet.specs.SheetReading.{textLimit}
+use Rattle.spec_sheet.specs.SheetReading.{sheetLimit}
 use Rattle.sheet_text.specs.Limit.{printoutLimit}
 use Rattle.sheet.proofs.main.Statement.{statement}
 use Rattle.sheet.proofs.main.Tie as tie

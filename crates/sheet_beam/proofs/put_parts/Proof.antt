@@ -49,8 +49,8 @@ column-is k =
     let x = start (k .before .before) .args in
     k .first-column .ensures ∙ first-column-partial (x .breaks .now) (x .degrees .now) (x .orders .now) (turn (k .before .before))
 
-build-rows-requires : tie.Need-build-rows-requires Inv-loop μ-loop
-build-rows-requires c κs =
+part-rows-requires : tie.Need-part-rows-requires Inv-loop μ-loop
+part-rows-requires c κs =
     let k = c .before .before .before in
     let i = k .before .before .loop .inv in
     let p = start (k .before) .pre in
@@ -63,7 +63,7 @@ build-rows-requires c κs =
     }
 
 -- where it is built
-module _ (k : tie.After-build-rows Inv-loop μ-loop) where
+module _ (k : tie.After-part-rows Inv-loop μ-loop) where
   abbrev inside : tie.In-loop Inv-loop μ-loop
   inside = k .before .before .before .before .before
 
@@ -75,11 +75,11 @@ module _ (k : tie.After-build-rows Inv-loop μ-loop) where
   below : turn inside < length (start inside .args .degrees .now)
   below = omega arith
 
-  rows-fit : k .build-rows .result ≤ 72
+  rows-fit : k .part-rows .result ≤ 72
   rows-fit =
       omega (
         arith,
-        k .build-rows .ensures .rows-are,
+        k .part-rows .ensures .rows-are,
         part-rows-fit (beam inside) (accepted inside) (turn inside) (starts (accepted inside) before below),
       )
 
@@ -97,8 +97,8 @@ put-weights-requires c κs =
       column-is (k .before .before .before),
       legal-first-column-high _ _ _ (beam-legal (beam i) (accepted i)) (turn i) (omega (arith, below k)),
       rows-fit k,
-      ap length (k .build-rows .ensures .num-is),
-      ap length (k .build-rows .ensures .den-is),
+      ap length (k .part-rows .ensures .num-is),
+      ap length (k .part-rows .ensures .den-is),
       numerators-long (beam i) (accepted i) (turn i) A (i .before .loop .num) (omega (arith, p .num-long, before k .num-long)),
       denominators-long (beam i) (accepted i) (turn i) A (i .before .loop .den) (omega (arith, p .den-long, before k .den-long)),
       before k .num-long,
@@ -119,7 +119,7 @@ loop-again c =
     let k = c .before .before .before .before .before .before .before .before in
     let i = inside k in
     let p = start i .pre in
-    let built = k .build-rows .ensures in
+    let built = k .part-rows .ensures in
     before-next (p .accepted) (before k) (below k) (omega (arith, p .num-long)) (omega (arith, p .den-long))
     (end-is (k .before .before .before .before)) (column-is (k .before .before .before))
     (built .rows-are) (built .num-is) (built .den-is) (c .before .before .put-weights .ensures)
@@ -130,6 +130,6 @@ returns c = before-end (c .before .before .before .pre .accepted) (c .before .lo
 pub put-parts-spec : {M : Type 1} → statement M
 put-parts-spec =
     tie.close (tie.spec Inv-loop μ-loop (λ c. before-first _ _ _ _ _)
-    (λ c κs. let l = beam-lengths (beam c) (accepted c) in omega (arith, l .order-count)) first-column-requires build-rows-requires
+    (λ c κs. let l = beam-lengths (beam c) (accepted c) in omega (arith, l .order-count)) first-column-requires part-rows-requires
     put-weights-requires add-row loop-less loop-again (λ c. c .before .loop .inv .num-long) (λ c. c .before .loop .inv .den-long)
     (λ c. puts-length (c .before .loop .inv .put)) returns)

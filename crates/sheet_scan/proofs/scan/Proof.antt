@@ -6,7 +6,7 @@ use lib.ListN.{length}
 use Rattle.base_outcome.specs.Outcome.{capped}
 use Rattle.base_text.specs.Bytes.{Text}
 use Rattle.base_text.specs.Numeral.{numeral}
-use Rattle.spec_sheet.specs.SheetReading.{textLimit, pair, degreesKey, ordersKey, coefsKey, atKey, Lists}
+use Rattle.spec_sheet.specs.SheetReading.{sheetLimit, pair, degreesKey, ordersKey, coefsKey, atKey, Lists}
 use Rattle.spec_sheet.proofs.FiveLines.{NumeralLine, PairLine, read-long, after-one, after-two, after-three, after-four, after-five, lists}
 use Rattle.sheet_scan.proofs.Sheets.{Reached, first-line, first-bad, next-line, next-bad, last-line, last-more, scan-refused, scan-lists}
 use Rattle.sheet_scan.proofs.scan.Statement.{statement}
@@ -21,7 +21,7 @@ module _ (l : tie.After-line) where
   abbrev text : Text
   text = l .before .before .before .before .args .text .now
 
-  abbrev short : length text ≤ textLimit
+  abbrev short : length text ≤ sheetLimit
   short = l .before .before .if1 .left
 
 returns-2 : tie.Need-returns-2
@@ -38,7 +38,7 @@ module _ (c : tie.After-known-told) where
   abbrev text-1 : Text
   text-1 = text line-1
 
-  abbrev short-1 : length text-1 ≤ textLimit
+  abbrev short-1 : length text-1 ≤ sheetLimit
   short-1 = short line-1
 
   one : Reached numeral text-1 (after-one lists) (c .before .b .given .0 .0) (c .before .b .given .0 .1 .0)
@@ -62,7 +62,7 @@ module _ (c : tie.After-known-told2) where
   abbrev text-2 : Text
   text-2 = text-1 known-1
 
-  abbrev short-2 : length text-2 ≤ textLimit
+  abbrev short-2 : length text-2 ≤ sheetLimit
   short-2 = short-1 known-1
 
   two : Reached numeral text-2 (after-two (make-1 known-1)) (c .before .d .given .0 .0) (c .before .d .given .0 .1 .0)
@@ -88,7 +88,7 @@ module _ (c : tie.After-known-told3) where
   abbrev text-3 : Text
   text-3 = text-2 known-2
 
-  abbrev short-3 : length text-3 ≤ textLimit
+  abbrev short-3 : length text-3 ≤ sheetLimit
   short-3 = short-2 known-2
 
   three : Reached numeral text-3 (after-three (make-2 known-2)) (c .before .o .given .0 .0) (c .before .o .given .0 .1 .0)
@@ -114,7 +114,7 @@ module _ (c : tie.After-known-told4) where
   abbrev text-4 : Text
   text-4 = text-3 known-3
 
-  abbrev short-4 : length text-4 ≤ textLimit
+  abbrev short-4 : length text-4 ≤ sheetLimit
   short-4 = short-3 known-3
 
   four : Reached pair text-4 (after-four (make-3 known-3)) (c .before .c .given .0 .0) (c .before .c .given .0 .1 .0)
@@ -140,7 +140,7 @@ module _ (c : tie.After-known-told5) where
   abbrev text-5 : Text
   text-5 = text-4 known-4
 
-  abbrev short-5 : length text-5 ≤ textLimit
+  abbrev short-5 : length text-5 ≤ sheetLimit
   short-5 = short-4 known-4
 
   five : Reached numeral text-5 (after-five (make-4 known-4)) (c .before .p .given .0 .0) (c .before .p .given .0 .1 .0)

@@ -1,4 +1,4 @@
--- The place of a position, which both wood parts share, and the value that a list of ordinates has there.
+-- The location of a position, which both wood parts share, and the value that a list of ordinates has there.
 use mathlib.Core.List.{List, []}
 use mathlib.Core.Path.{_≡_}
 use Prim.Native.Nat.{ℕ, _+_, _<_, _≤_}
@@ -11,11 +11,11 @@ use Rattle.build_space.specs.Legal.{ListsLegal}
 use Rattle.curve_rate.specs.Rate.{Offset, Inverted, Rated, SomeRate}
 use Rattle.curve_places.specs.Offsets.{columnLimit, columnsOf, BeamOrdinates, Within}
 use Rattle.curve_places.specs.declared.Pair.{Pair}
-use Rattle.curve_places.specs.declared.Place.{Place}
+use Rattle.curve_places.specs.declared.Location.{Location}
 
--- The place of position x.
-unfoldable pub placeOf : splines.Space → ℤ → Place
-placeOf s x = let i = reading.segmentAt s x in record {
+-- The location of position x.
+unfoldable pub locationOf : splines.Space → ℤ → Location
+locationOf s x = let i = reading.segmentAt s x in record {
   column = splines.firstColumn s i;
   degree = splines.degree s i;
   offset = reading.offset s i x;
@@ -23,19 +23,19 @@ placeOf s x = let i = reading.segmentAt s x in record {
 }
 
 -- At most six columns, all within an array of 288, and an offset within the segment.
-pub record Sound (p : Place) : Type 0 where
+pub record Sound (p : Location) : Type 0 where
   pub low : p .degree ≤ splines.degreeLimit
   pub within : p .column + p .degree < columnLimit
   pub inside : Offset (p .offset) (p .width)
 
--- The triangle of the ordinates from the place's column on.
-unfoldable pub valueOf : List ℤ → Place → ℤ
+-- The triangle of the ordinates from the location's column on.
+unfoldable pub valueOf : List ℤ → Location → ℤ
 valueOf os p = reading.triangle (natAbs (p .width)) (p .offset) (λ k. getD os (p .column + k) (pos 0)) (p .degree) 0
 
 -- ---- what is asked
 
 -- Position x in segment i of legal lists, with the first columns of their segments.
-pub record PlaceAsks (breaks degrees : List ℤ) (columns : List ℕ) (i : ℕ) (x : ℤ) : Type 0 where
+pub record LocationAsks (breaks degrees : List ℤ) (columns : List ℕ) (i : ℕ) (x : ℤ) : Type 0 where
   pub orders : List ℤ
   pub legal : ListsLegal breaks degrees orders
   pub within : Within (space breaks degrees orders) x
@@ -49,13 +49,13 @@ pub record ValueAsks (os : List ℤ) (c p : ℕ) (high low : ℤ) : Type 0 where
   pub rate : SomeRate high low
   pub ordinates : BeamOrdinates os
 
--- A place, and the ordinates of one wood part.
-pub record ValueAtAsks (os : List ℤ) (p : Place) : Type 0 where
+-- A location, and the ordinates of one wood part.
+pub record ValueAtAsks (os : List ℤ) (p : Location) : Type 0 where
   pub sound : Sound p
   pub ordinates : BeamOrdinates os
 
--- A place, the ordinates of both, and the inverse of the length.
-pub record PairAsks (earlywood latewood : List ℤ) (p : Place) (whole tail : ℤ) : Type 0 where
+-- A location, the ordinates of both, and the inverse of the length.
+pub record PairAsks (earlywood latewood : List ℤ) (p : Location) (whole tail : ℤ) : Type 0 where
   pub sound : Sound p
   pub inverted : Inverted whole tail (p .width)
   pub early-ordinates : BeamOrdinates earlywood
@@ -63,9 +63,9 @@ pub record PairAsks (earlywood latewood : List ℤ) (p : Place) (whole tail : �
 
 -- ---- what is left
 
--- The place of position x in segment i, whatever the orders are by which it lies there.
-pub record PlaceIs (breaks degrees : List ℤ) (i : ℕ) (x : ℤ) (r : Place) : Type 0 where
-  pub is : (o : List ℤ) → i ≡ reading.segmentAt (space breaks degrees o) x → r ≡ placeOf (space breaks degrees o) x
+-- The location of position x in segment i, whatever the orders are by which it lies there.
+pub record LocationIs (breaks degrees : List ℤ) (i : ℕ) (x : ℤ) (r : Location) : Type 0 where
+  pub is : (o : List ℤ) → i ≡ reading.segmentAt (space breaks degrees o) x → r ≡ locationOf (space breaks degrees o) x
   pub sound : Sound r
 
 -- The triangle of these ordinates, for every offset of this rate.
@@ -73,6 +73,6 @@ abbrev pub ValueIs : List ℤ → ℕ → ℕ → ℤ → ℤ → ℤ → Type 0
 ValueIs os c p high low r = (u d : ℤ) → Rated high low u d → r ≡ reading.triangle (natAbs d) u (λ k. getD os (c + k) (pos 0)) p 0
 
 -- The value of each wood part.
-pub record PairIs (earlywood latewood : List ℤ) (p : Place) (r : Pair) : Type 0 where
+pub record PairIs (earlywood latewood : List ℤ) (p : Location) (r : Pair) : Type 0 where
   pub early-is : r .early ≡ valueOf earlywood p
   pub late-is : r .late ≡ valueOf latewood p

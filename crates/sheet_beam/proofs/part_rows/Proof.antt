@@ -1,4 +1,4 @@
--- `build_rows` meets its contract: a part of an accepted beam is accepted, so it is not refused.
+-- `part_rows` meets its contract: a part of an accepted beam is accepted, so it is not refused.
 use borrow.Author.Needs.{needs}
 use mathlib.Core.Path.{subst}
 use mathlib.Core.List.{List}
@@ -11,8 +11,8 @@ use Rattle.theorems_beams.specs.Sections.{section, partAt}
 use Rattle.build_space.specs.Machine.{space}
 use Rattle.build_joins.specs.Leaves.{Ends}
 use Rattle.sheet_beam.proofs.Beam.{beam-legal, rows-told, never-refused}
-use Rattle.sheet_beam.proofs.build_rows.Statement.{statement}
-use Rattle.sheet_beam.proofs.build_rows.Tie as tie
+use Rattle.sheet_beam.proofs.part_rows.Statement.{statement}
+use Rattle.sheet_beam.proofs.part_rows.Tie as tie
 
 -- where it has returned
 module _ (k : tie.After-build-part) where
@@ -60,7 +60,7 @@ returns-2 c =
     let p = start k .pre in
     absurd (never-refused (beam k) (p .accepted) _ (p .starts) (k .build-part .result) _ _ (left k .answers) (c .before .built2 .given .1))
 
-pub build-rows-spec : {M : Type 1} → statement M
-build-rows-spec =
+pub part-rows-spec : {M : Type 1} → statement M
+part-rows-spec =
     tie.close (tie.spec build-part-requires (λ c. search needs) (λ c. search needs) (λ c. search needs) (λ c. search needs) returns
     (λ c. search needs) (λ c. search needs) returns-2)

@@ -1,4 +1,4 @@
--- `curve_places::place_at` meets its contract: the columns of the segment that holds the position, and the offset in it.
+-- `curve_places::location_at` meets its contract: the columns of the segment that holds the position, and the offset in it.
 -- Assumes nothing.
 use native.Mathlib.Omega.{arith}
 use mathlib.Core.List.{List, []}
@@ -15,9 +15,9 @@ use Rattle.build_space.specs.Machine.{space}
 use Rattle.build_space.specs.Legal.{ListsLegal}
 use Rattle.curve_rate.specs.Rate.{Offset}
 use Rattle.curve_places.proofs.Position.{segment-within, offset-within, column-at, columns-within, degree-within, columns-long}
-use Rattle.curve_places.proofs.Position.{place-is}
-use Rattle.curve_places.proofs.place_at.Statement.{statement}
-use Rattle.curve_places.proofs.place_at.Tie as tie
+use Rattle.curve_places.proofs.Position.{location-is}
+use Rattle.curve_places.proofs.location_at.Statement.{statement}
+use Rattle.curve_places.proofs.location_at.Tie as tie
 
 module _ (c : tie.Start) where
   abbrev i : ℕ
@@ -91,12 +91,12 @@ returns c =
     let s = start e in
     let a = s .args in
     record {
-      is = λ o at. place-is (a .breaks .now) (a .degrees .now) o (a .x) (i s) at (column-is e) (e .before .before .degree-at .ensures)
+      is = λ o at. location-is (a .breaks .now) (a .degrees .now) o (a .x) (i s) at (column-is e) (e .before .before .degree-at .ensures)
           (u-is e) (d-is e);
       sound = record { low = p-small e; within = column-within e; inside = rw (u-is e, d-is e) (offset-is s) };
     }
 
-pub place-at-spec : {M : Type 1} → statement M
-place-at-spec =
+pub location-at-spec : {M : Type 1} → statement M
+location-at-spec =
     tie.close (tie.spec (λ c κs. let s = c .before in (within s, legal s .degrees-legal)) offset-requires fine-width-requires
     (λ c. let s = c .before .before .before .before in omega (arith, within s, legal s .few)) shared-slice-read-c returns)
