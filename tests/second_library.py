@@ -45,18 +45,16 @@ class Uses(NamedTuple):
 
 
 ALLOWED = {
-    "indices_positions": Uses(frozenset(), DEFINITIONS_AND_LAWS),
     "indices_rings": Uses(frozenset(), DEFINITIONS_AND_LAWS),
     "indices": Uses(
         frozenset(
             {
                 "curve::curve",
-                "indices_positions::fill_positions",
                 "indices_rings::first_bad_ring",
                 "indices_rings::write_indices",
             }
         ),
-        (*DEFINITIONS_AND_LAWS, r"curve\.specs", r"indices_positions\.(specs|proofs)", r"indices_rings\.specs"),
+        (*DEFINITIONS_AND_LAWS, r"curve\.specs", r"indices_rings\.specs"),
     ),
     "table_numbers": Uses(
         frozenset({"base_division::magnitude", "base_division::round_div", "base_print::digit_count"}),

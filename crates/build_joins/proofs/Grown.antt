@@ -13,7 +13,7 @@ use Rattle.base_exact.proofs.Tabulate.{tab-ext}
 use Rattle.spec_spline.specs.Table.{Table, row, entry, cell, identity, rowCells, tableCells, numerators, denominators}
 use Rattle.spec_spline.proofs.Table.{cell-past, identity-rows, identity-wide, identity-on, identity-off, identity-low}
 use Rattle.build_cells.specs.Held.{Holds}
-use Rattle.build_identity.proofs.Added.{units-length, unit-row, denominators-kept}
+use Rattle.build_table.proofs.Added.{units-length, unit-row, denominators-kept}
 use Rattle.build_cells.proofs.Buffer.{holds-left}
 use Rattle.build_step.proofs.Stepped.{Proper, append-fits, take-fits, drop-fits, identity-fits}
 

@@ -33,7 +33,7 @@ fn join_step(
 {
     let right = join.right;
     let more = right.degree + 1;
-    build_identity::add_rows(num, rows, right.column, more);
+    build_table::add_rows(num, rows, right.column, more);
     build_step::order_steps(num, den, join, n, rows + more, columns)
 }
 
@@ -116,7 +116,7 @@ pub fn build_legal(
         Ends (Build.weights s) (rowCount s) r (now (num .entry)) (now (den .entry)) (now (num .exit)) (now (den .exit))) ⌝ }
 {
     let columns = build_space::first_column(degrees, degrees.len());
-    build_identity::identity_over(num, den, build_space::degree_at(degrees, 0) + 1, used);
+    build_table::identity_over(num, den, build_space::degree_at(degrees, 0) + 1, used);
     let built = join_steps(breaks, degrees, orders, num, den, columns);
     match built {
         Answer::Count(n) => Answer::Count(n),

@@ -1,2 +1,3 @@
 -- The crate's hand-written modules.
+pub mod Mixed
 pub mod Mixing

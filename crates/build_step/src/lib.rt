@@ -56,7 +56,7 @@ pub fn renew_rows(
     if !done {
         return false;
     }
-    build_dropping::drop_row(num, den, l, rows);
+    build_table::drop_row(num, den, l, rows);
     true
 }
 

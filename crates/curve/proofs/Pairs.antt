@@ -7,7 +7,7 @@ use Rattle.spec_spline.specs.Space.{Space}
 use Rattle.spec_spline.specs.Table.{Table}
 use Rattle.spec_spline.specs.Reading.{earlywood, latewood, coefficient, segmentAt, valueAt, pairAt, values}
 use Rattle.curve_start.proofs.Fronted.{fronted, blended-fronted}
-use Rattle.curve_values.specs.Pairs.{pairOf}
+use Rattle.curve.specs.Pairs.{pairOf}
 
 pub pairs-fronted : (s : Space) (t : Table) (n : ℕ) (coefs positions : List ℤ)
     → map (pairOf s (fronted s t n (coefficient earlywood coefs)) (fronted s t n (coefficient latewood coefs))) positions

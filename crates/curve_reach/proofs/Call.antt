@@ -19,9 +19,9 @@ use Rattle.curve_start.proofs.Fronted.{fronted, blended-fronted}
 use Rattle.spec_calls.specs.Positions.{positionCount, position}
 use Rattle.spec_calls.specs.Reach.{reaches, reachedAt, reachOutcome}
 use Rattle.curve_reach.specs.Machine.{reply}
-use Rattle.curve_search.specs.Machine.{heldValue, reachesHeld, found}
+use Rattle.curve_reach_search.specs.Machine.{heldValue, reachesHeld, found}
 use Rattle.curve_reach.specs.declared.ReachAnswer.the-variants.{Refused}
-use Rattle.curve_search.specs.declared.FirstPosition.the-variants.{At, Nowhere}
+use Rattle.curve_reach_search.specs.declared.FirstPosition.the-variants.{At, Nowhere}
 
 -- ---- what is found
 

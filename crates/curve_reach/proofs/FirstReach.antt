@@ -27,7 +27,7 @@ use Rattle.curve_start.proofs.Accepted.{accepted-by}
 use Rattle.spec_calls.specs.Positions.{positionCount, position}
 use Rattle.spec_calls.specs.Reach.{reaches, reachedAt, reachOutcome}
 use Rattle.curve_reach.specs.FirstReach.{FirstAt, AnswersAreFirst, NeverReached, SixteenIsNever, ReachNeverGivesNine}
-use Rattle.curve_search.proofs.Positions.{position-after-start, position-before-end, indexOf, position-of-index, index-below, index-in-span}
+use Rattle.curve_reach_search.proofs.Positions.{position-after-start, position-before-end, indexOf, position-of-index, index-below, index-in-span}
 use Rattle.curve_reach.proofs.Codes.{curve-codes}
 
 module _ (s : Space) (wood : Wood) (coefs : List ℤ) (width : ℤ) (a : Accepted s) where

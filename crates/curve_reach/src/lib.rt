@@ -6,15 +6,15 @@ ghost use Rattle.spec_spline.specs.Reading.{fine};
 ghost use Rattle.build_space.specs.Machine.{space};
 ghost use Rattle.curve_ordinates.specs.Wood.{woodOf};
 ghost use Rattle.spec_calls.specs.Positions.{positionCount};
-ghost use Rattle.curve_search.specs.Machine.{reachesHeld};
-ghost use Rattle.curve_search.specs.Asks.{SearchAsks};
+ghost use Rattle.curve_reach_search.specs.Machine.{reachesHeld};
+ghost use Rattle.curve_reach_search.specs.Asks.{SearchAsks};
 ghost use Rattle.spec_calls.specs.Reach.{reachedAt, reachEnd};
 ghost use Rattle.curve_reach.specs.Machine.{reply, chosen};
 ghost use Rattle.curve_reach.specs.Asks.{ReachAsks};
 use base_outcome::codes;
 use base_outcome::limits;
 use curve_ordinates::Wood;
-use curve_search::FirstPosition;
+use curve_reach_search::FirstPosition;
 
 // What the call answers: the position, or a refusal's code and place.
 pub enum ReachAnswer {
@@ -35,7 +35,7 @@ fn first_reach(
         reply r ≡ reachedAt s (Search.first (positionCount s) (reachesHeld s (now (ordinates .entry)) (fine width)))) ⌝ }
 {
     let target = limits::WIDE_FINENESS * width as i64;
-    let found = curve_search::search(breaks, degrees, orders, ordinates, target);
+    let found = curve_reach_search::search(breaks, degrees, orders, ordinates, target);
     match found {
         FirstPosition::At(x) => ReachAnswer::Reached(x),
         FirstPosition::Nowhere => ReachAnswer::Refused(codes::NEVER_REACHED, 0),

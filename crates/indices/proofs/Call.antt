@@ -29,10 +29,10 @@ use Rattle.spec_calls.specs.Indices.{indicesReturned, indicesAfter}
 use Rattle.theorems_indices.proofs.Cells.{value-cell, exact-length}
 use Rattle.base_outcome.specs.Machine.{reply}
 use Rattle.indices.specs.Machine.{cellsIndexed, Indexed}
-use Rattle.indices_positions.specs.Words.{wordPositions, ringsTaken}
+use Rattle.indices.specs.Words.{wordPositions, ringsTaken}
 use Rattle.indices_rings.specs.Cells.{badCell, cellIndex}
 use Rattle.base_outcome.specs.declared.Answer.the-variants.{Refused}
-use Rattle.indices_positions.proofs.Positions.{words-length, outcome-same}
+use Rattle.indices.proofs.Positions.{words-length, outcome-same}
 
 -- ---- code 14 and the indices by the cells
 

@@ -1,2 +1,4 @@
 -- The laws of the call.
+pub mod Words
+pub mod Positions
 pub mod Call

@@ -3,14 +3,45 @@
 ghost use mathlib.Core.Path.{_≡_};
 ghost use Prim.Native.Nat.{_+_, _≤_};
 ghost use lib.ListN.{length};
+ghost use Rattle.spec_spline.specs.CurveCall.{positionLimit, curveEnd};
+ghost use Rattle.indices.specs.Words.{nearestWord, wordPositions, ringsTaken};
 ghost use Rattle.base_outcome.specs.Machine.{reply};
 ghost use Rattle.spec_spline.specs.Reading.{woodIndex};
-ghost use Rattle.spec_spline.specs.CurveCall.{positionLimit, curveEnd};
 ghost use Rattle.build_space.specs.Machine.{space};
 ghost use Rattle.curve_ordinates.specs.Wood.{woodOf};
 ghost use Rattle.spec_calls.specs.Indices.{indicesEnd};
-ghost use Rattle.indices_positions.specs.Words.{ringsTaken, wordPositions};
 ghost use Rattle.indices.specs.Machine.{cellsIndexed, IndexAsks, Indexed, CurveLeaves};
+
+const WORD_LEAST: i64 = -2147483648;
+
+const WORD_GREATEST: i64 = 2147483647;
+
+// The 32-bit number nearest to z.
+fn nearest_word(z: i64) -> i32
+    ensures { λ r. ⌜ r ≡ nearestWord z ⌝ }
+{
+    if z < WORD_LEAST {
+        return WORD_LEAST as i32;
+    }
+    if z > WORD_GREATEST {
+        return WORD_GREATEST as i32;
+    }
+    z as i32
+}
+
+// The positions of consecutive rings, each brought into 32 bits.
+fn fill_positions(first: i32, positions: &mut [i32])
+    requires { ⌜ length (now positions) ≤ positionLimit + 1 ⌝ }
+    ensures { λ _. ⌜ now (positions .exit) ≡ wordPositions first (length (now (positions .entry))) ⌝ }
+{
+    let mut i = 0;
+    while i < positions.len() {
+        let ring = first as i64 + i as i64;
+        let x = nearest_word(base_outcome::limits::WIDE_FINENESS * ring);
+        positions[i] = x;
+        i += 1;
+    }
+}
 
 // One more than the curve call takes: it refuses these as it would refuse more.
 const MOST_RINGS: usize = base_outcome::limits::POSITION_LIMIT + 1;
@@ -39,7 +70,7 @@ fn read_rings(
         (wordPositions first (length (now (positions .entry)))) (now (num .entry)) (now (den .entry)) (now (values .entry)))
         r (now (num .exit)) (now (den .exit)) (now (values .exit)) ⌝ }
 {
-    indices_positions::fill_positions(first, positions);
+    fill_positions(first, positions);
     curve::curve(breaks, degrees, orders, coefs, positions, num, den, values)
 }
 

@@ -177,7 +177,7 @@ fn recover_join(
 {
     let right = join.right;
     let more = right.degree + 1;
-    build_identity::add_rows(num, rows, right.column, more);
+    build_table::add_rows(num, rows, right.column, more);
     let present = recover_arrays::append(cs, rows, ordinates, right.column, more);
     recover_orders(num, den, join, n, rows + more, columns, present)
 }
@@ -243,6 +243,6 @@ pub fn recover_part(
         (now (den .entry)) (now (num .exit)) (now (den .exit)) ⌝ }
 {
     let columns = build_space::first_column(degrees, degrees.len());
-    build_identity::identity(num, den, build_space::degree_at(degrees, 0) + 1);
+    build_table::identity(num, den, build_space::degree_at(degrees, 0) + 1);
     recover_joins(breaks, degrees, orders, ordinates, num, den, columns)
 }

@@ -1,4 +1,6 @@
-// Reading the five lines: first all of them are looked through (sheet_scan), and only then are the lists written.
+// Reading the five lines: first all of them are looked through (sheet_read), and only then are the lists written.
+ghost use Rattle.spec_sheet.specs.SheetReading;
+ghost use Rattle.sheet_read.specs.Scanned.{Scanned};
 ghost use mathlib.Core.Path.{_≡_};
 ghost use Prim.Native.Nat.{_+_};
 ghost use lib.ListN.{length};
@@ -6,8 +8,46 @@ ghost use lib.Seq.{slice};
 ghost use Rattle.base_text.specs.Bytes.{Range, indexWhere};
 ghost use Rattle.sheet_read.specs.Machine.{isSeparator, ListFits, ListPut, EndsAs};
 ghost use Rattle.spec_sheet.specs.ReadSheet.{readEnd};
+use base_outcome::limits;
 use base_text::numeral::Field;
-use sheet_scan::ListSpans;
+use sheet_lines::Entry;
+use sheet_lines::LineSpan;
+
+// Where the five lists begin and end, or the place of code 10.
+pub enum ListSpans {
+    Lists(usize, usize, usize, usize, usize, usize, usize, usize, usize, usize),
+    Refused(u32),
+}
+
+// Looks through the whole text.
+fn scan(text: &[u8]) -> ListSpans
+    ensures { λ r. ⌜ Scanned (now (text .entry)) (SheetReading.read (now (text .entry))) r ⌝ }
+{
+    if text.len() > limits::SHEET_LIMIT {
+        return ListSpans::Refused(0);
+    }
+    let LineSpan::List(b, b_end) = sheet_lines::line(text, 0, b"breaks=", Entry::Numeral) else {
+        return ListSpans::Refused(1);
+    };
+    let LineSpan::List(d, d_end) = sheet_lines::line(text, b_end + 1, b"degrees=", Entry::Numeral)
+    else {
+        return ListSpans::Refused(2);
+    };
+    let LineSpan::List(o, o_end) = sheet_lines::line(text, d_end + 1, b"orders=", Entry::Numeral)
+    else {
+        return ListSpans::Refused(3);
+    };
+    let LineSpan::List(c, c_end) = sheet_lines::line(text, o_end + 1, b"coefs=", Entry::Pair) else {
+        return ListSpans::Refused(4);
+    };
+    let LineSpan::List(p, p_end) = sheet_lines::line(text, c_end + 1, b"at=", Entry::Numeral) else {
+        return ListSpans::Refused(5);
+    };
+    if p_end + 1 != text.len() {
+        return ListSpans::Refused(6);
+    }
+    ListSpans::Lists(b, b_end, d, d_end, o, o_end, c, c_end, p, p_end)
+}
 
 // The most numbers of the list of coefficients, two a pair.
 pub const COEFFICIENT_NUMBERS: usize = 2 * sheet_lines::LIST_LIMIT;
@@ -71,7 +111,7 @@ pub fn read(
         (now (coefs .entry)) (now (positions .entry)))
         r (now (breaks .exit)) (now (degrees .exit)) (now (orders .exit)) (now (coefs .exit)) (now (positions .exit)) ⌝ }
 {
-    let scanned = sheet_scan::scan(text);
+    let scanned = scan(text);
     match scanned {
         ListSpans::Refused(place) => Lists::Refused(place),
         ListSpans::Lists(b, b_end, d, d_end, o, o_end, c, c_end, p, p_end) => Lists::Read(

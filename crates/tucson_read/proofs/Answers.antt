@@ -20,13 +20,13 @@ use Rattle.spec_tucson.specs.TextReading.{Begun, goesOn, readLines, readText}
 use Rattle.spec_tucson.specs.ReadCall.{namesOf, yearsOf, countsOf, widthsOf, roomFor, readOutcome, filled}
 use Rattle.tucson_lines.proofs.GoodLines.{good-name, name-length}
 use Rattle.tucson_scan.specs.Scan.{scanTold}
-use Rattle.tucson_fill.specs.Write.{seriesIn, WriteAsks, Written}
+use Rattle.tucson_read.specs.Write.{seriesIn, WriteAsks, Written}
 use Rattle.base_outcome.specs.Machine.{reply}
 use Rattle.base_outcome.specs.declared.Answer.{Answer}
 use Rattle.base_outcome.specs.declared.Answer.the-variants as answer-cases
 use Rattle.tucson_scan.specs.declared.Scanned.the-variants as scanned-cases
-use Rattle.tucson_fill.proofs.Sets.{sets-front}
-use Rattle.tucson_fill.proofs.Writes.{turn-more, turn-last}
+use Rattle.tucson_read.proofs.Sets.{sets-front}
+use Rattle.tucson_read.proofs.Writes.{turn-more, turn-last}
 
 -- ---- what the first pass says
 pub scan-refused : (o : Outcome (List Series)) (code place : ℕ) → scanned-cases.Refused code place ≡ scanTold 0 0 o → o ≡ refusal code place

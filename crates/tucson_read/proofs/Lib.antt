@@ -1,2 +1,6 @@
 -- The laws of the call.
+pub mod Sets
+pub mod Filling
+pub mod Inverting
+pub mod Writes
 pub mod Answers

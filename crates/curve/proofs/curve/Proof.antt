@@ -14,7 +14,7 @@ use Rattle.curve_places.specs.Offsets.{columnLimit}
 use Rattle.curve_parts.specs.Parts.{Lent, lent}
 use Rattle.curve_start.specs.Machine.{Call, call, CurvesTold}
 use Rattle.curve_start.proofs.Fronted.{fronted, early-bounded, late-bounded}
-use Rattle.curve_values.specs.Pairs.{pairOf}
+use Rattle.curve.specs.Pairs.{pairOf}
 use Rattle.curve.proofs.Call.{refused-answers, refused-values, written-answers, written-values}
 use Rattle.curve.proofs.Pairs.{pairs-fronted}
 use Rattle.curve.proofs.curve.Statement.{statement}

@@ -16,7 +16,7 @@ use Rattle.spec_spline.specs.Reading.{fine}
 use Rattle.build_space.specs.Machine.{space}
 use Rattle.spec_calls.specs.Positions.{positionCount}
 use Rattle.curve_reach.specs.Machine.{reply}
-use Rattle.curve_search.specs.Machine.{reachesHeld, found}
+use Rattle.curve_reach_search.specs.Machine.{reachesHeld, found}
 use Rattle.curve_reach.proofs.Call.{found-reached, nowhere-reached}
 use Rattle.curve_reach.proofs.first_reach.Statement.{statement}
 use Rattle.curve_reach.proofs.first_reach.Tie as tie

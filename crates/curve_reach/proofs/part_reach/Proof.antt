@@ -14,7 +14,7 @@ use Rattle.curve_ordinates.specs.declared.Wood.{Wood}
 use Rattle.spec_calls.specs.Positions.{positionCount}
 use Rattle.spec_calls.specs.Reach.{reachedAt}
 use Rattle.curve_reach.specs.Machine.{chosen}
-use Rattle.curve_search.specs.Machine.{reachesHeld}
+use Rattle.curve_reach_search.specs.Machine.{reachesHeld}
 use Rattle.curve_reach.proofs.part_reach.Statement.{statement}
 use Rattle.curve_reach.proofs.part_reach.Tie as tie
 

@@ -21,7 +21,7 @@ use Rattle.base_outcome.specs.Machine.{reply}
 use Rattle.base_outcome.proofs.Reply.{Counted, count-inverts, refused-inverts}
 use Rattle.spec_spline.proofs.Pairs.{half-le}
 use Rattle.curve_ordinates.specs.Wood.{woodOf}
-use Rattle.indices_positions.specs.Words.{wordPositions, ringsTaken}
+use Rattle.indices.specs.Words.{wordPositions, ringsTaken}
 use Rattle.indices.proofs.Call.{Ends, ended, Given, outcomeOf, ends-refused, ends-unchanged, ends-indexed, first-short, second-short}
 use Rattle.indices.proofs.Call.{third-short, fourth-short, handed-on, rings-answered, values-kept}
 use Rattle.indices.proofs.indices.Statement.{statement}

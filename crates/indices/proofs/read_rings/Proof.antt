@@ -8,7 +8,7 @@ use mir.Syntax.{w32}
 use mir.ValLaws.{toZ-ofZ}
 use Rattle.build_space.specs.Machine.{space}
 use Rattle.spec_spline.specs.CurveCall.{CurveEnd, curveEnd}
-use Rattle.indices_positions.specs.Words.{wordPositions}
+use Rattle.indices.specs.Words.{wordPositions}
 use Rattle.indices.proofs.read_rings.Statement.{statement}
 use Rattle.indices.proofs.read_rings.Tie as tie
 

@@ -4,8 +4,8 @@ use mathlib.Core.Path.{_≡_}
 use Rattle.base_outcome.specs.Outcome.{answer}
 use Rattle.base_text.specs.Bytes.{Text}
 use Rattle.spec_sheet.specs.SheetReading.{Lists, read}
-use Rattle.sheet_scan.specs.Machine.{ListsAt}
-use Rattle.sheet_scan.proofs.Sheets.{scanned-refusal, scanned-lists}
+use Rattle.sheet_read.specs.Scanned.{ListsAt}
+use Rattle.sheet_read.proofs.Sheets.{scanned-refusal, scanned-lists}
 use Rattle.sheet_read.proofs.Answers.{refused, answered, numerals-at, pairs-at, fill-ready, fills}
 use Rattle.sheet_read.proofs.read.Statement.{statement}
 use Rattle.sheet_read.proofs.read.Tie as tie

@@ -1,2 +1,0 @@
--- The crate's hand-written modules.
-pub mod Mixed

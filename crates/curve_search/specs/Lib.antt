@@ -1,3 +1,0 @@
--- What the contracts of curve_search cite beside the definitions of crates spec_spline and spec_calls.
-pub mod Machine
-pub mod Asks

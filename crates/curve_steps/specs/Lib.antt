@@ -1,3 +1,0 @@
--- What the contracts of curve_steps cite beside the definitions of crate spec_spline.
-pub mod Machine
-pub mod Asks

@@ -1,2 +1,0 @@
--- What the contracts of curve_values cite beside the definitions of crate spec_spline.
-pub mod Pairs

@@ -1,3 +1,0 @@
--- Laws of the positions that fit 32 bits.
-pub mod Words
-pub mod Positions

@@ -1,2 +1,0 @@
--- What the contracts of tucson_fill cite beside the definitions of crates spec_tucson and tucson_lines.
-pub mod Write
