@@ -16,6 +16,8 @@ CHECKS = {
     "must-fail-table": ["tests/must_fail_table.py"],
     "r-made": ["tests/r_made.py"],
     "floors": ["docs/src/picture_floors.py", "--check"],
+    "columns": ["tests/columns.py"],
+    "wrong-columns": ["tests/columns.py", "--self-test"],
 }
 
 

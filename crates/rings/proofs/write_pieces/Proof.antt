@@ -77,7 +77,11 @@ module _ (c : tie.After-shared-slice-known4 Inv-loop μ-loop) where
       let x = begun .args in
       (h : Held (x .input .now) (woodOf (x .wood)) (x .breaks .now) (x .degrees .now) (x .orders .now) (x .coefs .now) (x .n) (x .names .now) (x .years .now)
       (x .counts .now) (x .widths .now)) → Turn h k start
-  turn h = record { within = c .before .before .before .before .before .before .before .loop-test .taken; starts = c .before .before .before .before .before .before .before .before .loop .inv .1 .1 h }
+  turn h = record {
+    within = c .before .before .before .before .before .before .before .loop-test .taken;
+    starts =
+        c .before .before .before .before .before .before .before .before .loop .inv .1 .1 h;
+  }
 
 shared-slice-read-start : tie.Need-shared-slice-read-start Inv-loop μ-loop
 shared-slice-read-start c = omega (arith, c .before .before .before .before .before .before .before .loop-test .taken, begun c .pre .0 .file .counts-held .fits)

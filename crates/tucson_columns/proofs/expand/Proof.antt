@@ -36,7 +36,9 @@ returns c =
     record { more = l .inv .more; within = l .inv .within; fits = l .inv .fits; full = λ h. c .if1 .taken; is = l .inv .is }
 
 put-byte-requires : tie.Need-put-byte-requires Inv-loop μ-loop
-put-byte-requires c κs = let l = c .before .before .before .before .loop in let s = c .before .before .before .before .before .before .before in record { size = l .inv .size ∙ s .pre .size; fits = omega (arith, l .inv .fits, s .pre .fits, c .before .before .if1 .left) }
+put-byte-requires c κs = let l = c .before .before .before .before .loop in let s =
+    c .before .before .before .before .before .before .before in record
+    { size = l .inv .size ∙ s .pre .size; fits = omega (arith, l .inv .fits, s .pre .fits, c .before .before .if1 .left) }
 
 loop-again : tie.Need-loop-again Inv-loop μ-loop
 loop-again c =
