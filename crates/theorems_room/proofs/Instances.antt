@@ -19,10 +19,12 @@ use Rattle.spec_table.specs.RingLines.{withoutLeading, bareName, holdsQuoted, d
 use Rattle.spec_table.specs.RingLinesCall.{ringLinesOutcome}
 use Rattle.theorems_files.proofs.Cases.{cleaning, ended}
 use Rattle.theorems_files.proofs.Files.{file, answers, file-cleaned}
+use Rattle.theorems_again.specs.Again.{notNamed, notSaid, AnsweredAgain}
 use Rattle.theorems_room.specs.Room.{lineEnds, Within}
 use Rattle.theorems_room.specs.TableRoom.{CallTypes}
 use Rattle.theorems_room.proofs.ByLines.{room-by-lines, never-short-by-lines}
 use Rattle.theorems_room.proofs.WholeFile.{room-by-bytes, never-short-by-bytes}
+use Rattle.theorems_room.proofs.Again.{half-is-cleaned-again}
 use Rattle.theorems_room.proofs.ByRings.{room-by-rings, never-short-by-rings}
 
 -- ---- files by their bytes
@@ -59,6 +61,10 @@ letter-cleaned = refl
 
 letter-room : Within letterAnswer 4 0 8
 letter-room = room-by-bytes letter 1 0 letterAnswer letter-cleaned
+
+tabbed-again : AnsweredAgain tabbedAnswer 100 0
+unfolding cleaning
+tabbed-again = half-is-cleaned-again tabbed 100 0 tabbedAnswer tabbed-cleaned (omega arith) 100 0 notNamed notSaid
 
 letter-has-room : (cleaned letter 1 0 then ifRoom 4 0 8) ≡ cleaned letter 1 0
 letter-has-room = never-short-by-bytes letter 1 0 4 0 8 (omega arith) (omega arith) (omega arith)
