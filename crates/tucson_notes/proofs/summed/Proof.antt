@@ -1,5 +1,4 @@
 -- The fields of a strict line stand in its columns.
-use borrow.Author.Needs.{needs}
 use mathlib.Core.Path.{_≡_, sym, _∙_, ap}
 use mathlib.Core.List.{dropLast}
 use mathlib.Core.Logic.{_⊎_, inl, inr}
@@ -51,21 +50,6 @@ module _ (s : tie.Start) where
       go (inl h) = rw (le-ltb ((n - 12) / fieldColumns) 2 (omega (arith, counted, h))) (sym (before-is line n within (s .pre .strict) h))
       go (inr h) = rw (lt-ltb ((n - 12) / fieldColumns) 2 (omega (arith, counted, h))) (sym (before-none line n within (s .pre .strict) h))
 
-sub-count : tie.Need-sub-count
-sub-count c = omega (arith, columns (c .before))
-
-field-requires : tie.Need-field-requires
-field-requires c κs = let s = c .before in omega (arith, columns s, some s, within s)
-
-field-requires-2 : tie.Need-field-requires-2
-field-requires-2 c κs = let s = c .before .before in omega (arith, columns s, some s, within s)
-
-sub-field : tie.Need-sub-field
-sub-field c = omega (arith, columns (c .before .before))
-
-field-before-requires : tie.Need-field-before-requires
-field-before-requires c κs = asks (c .before .before .before)
-
 returns : tie.Need-returns
 returns c =
     let s = c .before .before .before .before in
@@ -82,4 +66,7 @@ returns c =
     }
 
 pub summed-spec : {M : Type 1} → statement M
-summed-spec = tie.close (tie.spec sub-count field-requires sub-field field-requires-2 field-before-requires returns)
+summed-spec =
+    tie.close (tie.spec (λ c. omega (arith, columns (c .before))) (λ c κs. let s = c .before in omega (arith, columns s, some s, within s))
+    (λ c. omega (arith, columns (c .before .before))) (λ c κs. let s = c .before .before in omega (arith, columns s, some s, within s))
+    (λ c κs. asks (c .before .before .before)) returns)
