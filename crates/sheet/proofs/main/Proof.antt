@@ -21,7 +21,7 @@ zeros-are n = sym (length-replicate {0} {A = ℕ} n 0)
 
 pub main-spec : {M : Type 1} → statement M
 main-spec =
-    tie.close (tie.spec (λ c. zeros-are (textLimit + 1)) (λ c κs. tt) (λ c. refl) (λ c κs. tt) (λ c. tt)
+    tie.close (tie.spec (λ c. zeros-are (sheetLimit + 1)) (λ c κs. tt) (λ c. refl) (λ c κs. tt) (λ c. tt)
     (λ c. c .before .before .read-input .ensures .0) (λ c. c .before .before .before .read-input .ensures .1) (λ c. zeros-are printoutLimit)
     (λ c κs. tt) (λ c. fits c) (λ c. sym (length-take-le (c .before .before .sheet .result) _ (fits (c .before)))) (λ c κs. tt) (λ c. refl)
     (λ c κs. tt) (λ c. tt) (λ c. tt))
