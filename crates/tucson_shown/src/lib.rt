@@ -134,7 +134,7 @@ fn is_plain(text: &[u8], from: usize, to: usize, bytes: &mut [u8], line: &mut [u
     ensures { λ r. ⌜ PlainTold (slice from to (now (text .entry))) (to - from) r (now (bytes .exit)) (now (line .exit)) ⌝ }
 {
     let n = to - from;
-    if n > LINE {
+    if n > limits::LINE_COLUMNS {
         return false;
     }
     copy_cells(text, from, to, bytes);
