@@ -158,8 +158,8 @@ walzhik_reply walzhik_tucson_write(const uint8_t *names, size_t names_len, const
  *   notes    two cells for each note, its number and its line, by rising line, then number, none twice
  * An answer: number 0, place 0, and how many bytes, lines and notes there are (2 notes cells). A refusal: three zeros. Cells behind
  * an answer keep what they held; refusals write nothing. For a file of n bytes 2 n bytes of out, n / 10 cells of lines and
- * 2 n + 4 cells of notes are always enough; with 79 bytes, one cell and 22 cells for each byte 10 of the file and for two more, and 4
- * cells of notes besides, the call need not measure first what it takes, and is quicker.
+ * 2 n + 4 cells of notes are always enough, by proof; so are 79 bytes, one cell and 22 cells for each byte 10 of the file and for two
+ * more, and 4 cells of notes besides, with which the call need not measure first what it takes, and is quicker.
  * Notes, of what was taken off, left out or put for something else:
  *    1  the mark EF BB BF at the start of the file        7  a site name behind the tenth field
  *    2  byte 26 and what stands behind it                 8  the last line had no byte 10

@@ -21,7 +21,8 @@
  *   name     eight bytes, as Tucson files have them
  *   first    the year of the first ring
  *   widths, values, indices  of any number of rings, as the index calls leave them: two values and an index for each width
- *   out      at least as many bytes as the lines have: 87 for each ring are always enough. Bytes past them keep what they held.
+ *   out      at least as many bytes as the lines have: 87 for each ring are always enough, by proof. Bytes past them keep what
+ *            they held.
  * The answer is the count of bytes. Place is 0 in each refusal, none of which writes anything:
  *   2   the name has not eight bytes, or the lists do not fit each other
  *   11  a name that Tucson files do not allow

@@ -18,6 +18,8 @@ CHECKS = {
     "wrong-proofs-layout": ["tests/proofs_layout.py", "--self-test"],
     "r-made": ["tests/r_made.py"],
     "floors": ["docs/src/picture_floors.py", "--check"],
+    "columns": ["tests/columns.py"],
+    "wrong-columns": ["tests/columns.py", "--self-test"],
 }
 
 

@@ -24,7 +24,8 @@ use Rattle.base_outcome.specs.Search.{first, last, found}
 use Rattle.spec_spline.specs.Space.{Space, degree, firstColumn}
 use Rattle.spec_spline.specs.Conditions.{Entry, conditions}
 use Rattle.spec_spline.specs.Table.{Row, Table, entry, row, identity}
-use Rattle.spec_spline.specs.Step.{Span, count, jump, jumps, jumpsAt, zeroBetween, spanOf, span, partialSum, factor, quotientFactor, factors, newRow, newRows, step, Planned, planOver, planFrom, planned, rowsRenewed}
+use Rattle.spec_spline.specs.Step.{Span, count, jump, jumps, jumpsAt, zeroBetween, spanOf, span, partialSum, factor, quotientFactor, factors, newRow, newRows}
+use Rattle.spec_spline.specs.Step.{step, Planned, planOver, planFrom, planned, rowsRenewed}
 use Rattle.base_outcome.proofs.Outcome.{then-answers, then-refuses, collect-answers, collect-stops, collect-inverts, collect-refuses, repeat-keeps}
 use Rattle.base_outcome.proofs.Search.{Searched, search-first, first-none, first-at, first-ext, Last, SearchedBack, search-last, last-none, last-at}
 use Rattle.spec_spline.proofs.Step.{count-fits, products-none, products-more}

@@ -65,9 +65,13 @@ module _ (s : Space) (a : Accepted s) (wood : Wood) (coefs : List ℤ) (k : ℕ)
   close : CloseAt s wood coefs (piece s a wood coefs k) k r
   close = record {
     accepted = a;
-    exact-at-most = along (sym exact-is) (sym drawn-is) (exactTriangle-within F (halves (mostWeights s (a .table) k)) (exactOrdinates s (a .table) wood coefs k) (λ t. int (given s a wood coefs k t)) (degree s k)
+    exact-at-most = along (sym exact-is) (sym drawn-is)
+        (exactTriangle-within F (halves (mostWeights s (a .table) k)) (exactOrdinates s (a .table) wood coefs k) (λ t. int (given s a wood coefs k t))
+        (degree s k)
         (λ t l. given-within s a wood coefs k below t l .not-below) (degree s k) 0 (omega arith));
-    at-most-exact = along (sym drawn-is) (sym exact-is) (exactTriangle-within F (halves (mostWeights s (a .table) k)) (λ t. int (given s a wood coefs k t)) (exactOrdinates s (a .table) wood coefs k) (degree s k)
+    at-most-exact = along (sym drawn-is) (sym exact-is)
+        (exactTriangle-within F (halves (mostWeights s (a .table) k)) (λ t. int (given s a wood coefs k t)) (exactOrdinates s (a .table) wood coefs k)
+        (degree s k)
         (λ t l. given-within s a wood coefs k below t l .not-above) (degree s k) 0 (omega arith));
   }
     where

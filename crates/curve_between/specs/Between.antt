@@ -1,5 +1,5 @@
--- A piece is close to the exact curve between the positions too, where a screen draws: at every ring count from its segment's start, any fraction
--- from 0 to the segment's length, its polynomial differs by at most s/2 units from the polynomial of the exact curve.
+-- A piece is close to the exact curve between the positions too, where a screen draws: at every ring count from its segment's start, any
+-- fraction from 0 to the segment's length, its polynomial differs by at most s/2 units from the polynomial of the exact curve.
 use mathlib.Core.Path.{_≡_}
 use mathlib.Core.List.{List}
 use Prim.Native.Nat.{ℕ}
@@ -24,8 +24,10 @@ drawnPolynomial s p k = bernsteinForm (width s k) (degree s k) (λ t. int (getD 
 -- At r rings from the segment's start the difference is at most s/2, on either side; the accepted table is the call's.
 pub record CloseAt (s : Space) (wood : Wood) (coefs : List ℤ) (p : Piece) (k : ℕ) (r : ℚ) : Type 0 where
   pub accepted : Accepted s
-  pub exact-at-most : value (piece s (curveOrdinates s (accepted .table) wood coefs) k) r ≤ᵠ value (drawnPolynomial s p k) r +ᵠ halfTheWeights s (accepted .table) k
-  pub at-most-exact : value (drawnPolynomial s p k) r ≤ᵠ value (piece s (curveOrdinates s (accepted .table) wood coefs) k) r +ᵠ halfTheWeights s (accepted .table) k
+  pub exact-at-most : value (piece s (curveOrdinates s (accepted .table) wood coefs) k) r ≤ᵠ value (drawnPolynomial s p k) r +ᵠ
+      halfTheWeights s (accepted .table) k
+  pub at-most-exact : value (drawnPolynomial s p k) r ≤ᵠ value (piece s (curveOrdinates s (accepted .table) wood coefs) k) r +ᵠ
+      halfTheWeights s (accepted .table) k
 
 abbrev pub PiecesAreCloseBetween : Type 0
 PiecesAreCloseBetween = (s : Space) (wood : Wood) (coefs : List ℤ) (k numLength denLength : ℕ) (p : Piece)

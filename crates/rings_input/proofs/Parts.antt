@@ -13,7 +13,6 @@ use Rattle.base_text.specs.Bytes.{Text, newline, indexOf, beginsWith, stripped}
 use Rattle.base_text.proofs.Slice.{slice-all}
 use Rattle.base_text.proofs.Cutting.{stripped-none, stripped-some, index-within}
 use Rattle.curve_ordinates.specs.declared.Wood.the-variants.{Earlywood, Latewood}
-use Rattle.spec_spline.specs.Reading.{earlywood, latewood}
 use Rattle.spec_rings.specs.Parts.{earlywoodLine, latewoodLine, ofWood, headed, linesEnd}
 use Rattle.rings_input.specs.Machine.{HeadedAs}
 use Rattle.rings_input.specs.declared.FirstLine.the-variants.{Names, Other}
@@ -27,9 +26,7 @@ module _ (t : Text) where
 
   pub names-earlywood : beginsWith earlywoodLine (slice 0 (length t) t) ≡ true → HeadedAs t (headed t) (Names Earlywood 15)
   unfolding headed
-  names-earlywood e =
-      let s = stripped-some earlywoodLine t (begun earlywoodLine e) in
-      rw (s .1) (refl, (refl, s .0))
+  names-earlywood e = let s = stripped-some earlywoodLine t (begun earlywoodLine e) in rw (s .1) (refl, (refl, s .0))
 
   pub names-latewood : beginsWith earlywoodLine (slice 0 (length t) t) ≡ false → beginsWith latewoodLine (slice 0 (length t) t) ≡ true
       → HeadedAs t (headed t) (Names Latewood 14)

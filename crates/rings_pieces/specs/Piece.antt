@@ -37,7 +37,8 @@ pub record Held (input : Text) (wood : Wood) (breaks degrees orders coefs : List
   pub file : FileHeld (made .series) n names years counts widths
 
 -- The turn of series k, whose widths start here, and room for its lines.
-pub record Turn {input : Text} {wood : Wood} {breaks degrees orders coefs : List ℤ} {n : ℕ} {names : List ℕ} {years : List ℤ} {counts : List ℕ}
+pub record Turn {input : Text} {wood : Wood} {breaks degrees orders coefs : List ℤ} {n : ℕ} {names : List ℕ} {years : List ℤ}
+    {counts : List ℕ}
     {widths : List ℤ} (held : Held input wood breaks degrees orders coefs n names years counts widths) (k start : ℕ) : Type 0 where
   pub within : k < n
   pub starts : start ≡ length (widthsOf (take k (held .made .series)))

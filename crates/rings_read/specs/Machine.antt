@@ -63,7 +63,8 @@ abbrev pub fileJudged : Text → Space → List ℤ → Outcome (List Series)
 fileJudged t s coefs = seriesRead t then λ ss. curveAlone s coefs tableCells tableCells then λ r. answer ss
 
 -- What judging a file asks: a text that is not too long, and counts within their buffers.
-pub record FrontsAsk (text : Text) (b : ℕ) (breaks : List ℤ) (d : ℕ) (degrees : List ℤ) (o : ℕ) (orders : List ℤ) (c : ℕ) (coefs : List ℤ) : Type 0 where
+pub record FrontsAsk (text : Text) (b : ℕ) (breaks : List ℤ) (d : ℕ) (degrees : List ℤ) (o : ℕ) (orders : List ℤ) (c : ℕ)
+    (coefs : List ℤ) : Type 0 where
   pub short : length text ≤ textLimit
   pub breaks-fit : b ≤ length breaks
   pub degrees-fit : d ≤ length degrees
@@ -73,7 +74,9 @@ pub record FrontsAsk (text : Text) (b : ℕ) (breaks : List ℤ) (d : ℕ) (degr
 -- What is ready is held by the eight buffers, or the refusal is answered.
 abbrev pub JudgedAs : Outcome Ready → Readiness → List ℤ → List ℤ → List ℤ → List ℤ → List ℕ → List ℤ → List ℕ → List ℤ → Type 0
 JudgedAs (answer r) (judgements.Ready wood b d o c n) breaks degrees orders coefs names years counts widths =
-    (r .wood ≡ woodOf wood) × ((ListsHeld (r .lists) b d o c breaks degrees orders coefs) × (FileHeld (r .series) n names years counts widths))
+    (r .wood ≡ woodOf wood) × ((ListsHeld (r .lists) b d o c breaks degrees orders coefs)
+    × (FileHeld (r .series) n names years counts widths))
 JudgedAs (answer r) (judgements.Refused code place) breaks degrees orders coefs names years counts widths = ⊥
 JudgedAs (refusal code place) (judgements.Ready wood b d o c n) breaks degrees orders coefs names years counts widths = ⊥
-JudgedAs (refusal code place) (judgements.Refused number at) breaks degrees orders coefs names years counts widths = (code ≡ number) × (place ≡ at)
+JudgedAs (refusal code place) (judgements.Refused number at) breaks degrees orders coefs names years counts widths = (code ≡ number)
+    × (place ≡ at)

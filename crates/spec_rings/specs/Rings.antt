@@ -23,7 +23,8 @@ use Rattle.spec_rings.specs.Ready.{Ready, ready}
 
 -- The table's first line: series,year,width_mm,curve_mm,index and byte 10.
 abbrev pub headerLine : Text
-headerLine = 115 ∷ 101 ∷ 114 ∷ 105 ∷ 101 ∷ 115 ∷ comma ∷ 121 ∷ 101 ∷ 97 ∷ 114 ∷ comma ∷ 119 ∷ 105 ∷ 100 ∷ 116 ∷ 104 ∷ 95 ∷ 109 ∷ 109 ∷ comma ∷ 99
+headerLine = 115 ∷ 101 ∷ 114 ∷ 105 ∷ 101 ∷ 115 ∷ comma ∷ 121 ∷ 101 ∷ 97 ∷ 114 ∷ comma ∷ 119 ∷ 105 ∷ 100 ∷ 116 ∷ 104 ∷ 95 ∷ 109 ∷ 109 ∷
+    comma ∷ 99
     ∷ 117 ∷ 114 ∷ 118 ∷ 101 ∷ 95 ∷ 109 ∷ 109 ∷ comma ∷ 105 ∷ 110 ∷ 100 ∷ 101 ∷ 120 ∷ newline ∷ []
 
 -- ---- a series

@@ -124,5 +124,6 @@ mixed-refuses j t js g = then-refused (EightOrNine j) (factors j js g) (λ ws. n
     whole rs = take (g .f) t ++ (rs ++ drop (suc (g .l)) t)
 
 pub step-refuses : (j : ℕ) (κ : List Entry) (t : Table) → RefusedAs (EightOrNine j) (step j κ t)
-step-refuses j κ t = subst (RefusedAs (EightOrNine j)) (sym (step-in-order j κ t)) (then-refused (EightOrNine j) (jumps j κ t) (λ js. span j js then λ g. mixed j t js g) (either-8 j (jumps j κ t) (jumps-refuse-8 j κ t))
+step-refuses j κ t = subst (RefusedAs (EightOrNine j)) (sym (step-in-order j κ t))
+    (then-refused (EightOrNine j) (jumps j κ t) (λ js. span j js then λ g. mixed j t js g) (either-8 j (jumps j κ t) (jumps-refuse-8 j κ t))
     (λ js h. then-refused (EightOrNine j) (span j js) (λ g. mixed j t js g) (either-9 j (span j js) (span-refuses-9 j js)) (λ g k. mixed-refuses j t js g)))

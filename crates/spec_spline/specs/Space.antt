@@ -1,5 +1,6 @@
--- A space: breakpoints, degrees and continuity orders, the parts of a beam, and the refusals 2 to 5
--- and 15 (§ 1, § 3, § 4). The lists hold any whole numbers and have any length; all functions here are total. A segment is the laboratory's stretch; an order of -1 is its scar.
+-- A space: breakpoints, degrees and continuity orders, the parts of a beam, and the refusals 2 to 5 and 15 (§ 1, § 3, § 4). The lists
+-- hold any whole numbers and have any length; all functions here are total. A segment is the laboratory's stretch; an order of -1 is its
+-- scar.
 use mathlib.Core.Bool.{Bool, true, false, cond, not, _&&_, _||_}
 use mathlib.Core.List.{List}
 use mathlib.Core.Option.{Option, some, none, Option·getD}

@@ -16,7 +16,8 @@ use Rattle.spec_tucson.specs.FileText.{isMarked, textOf, endsEarly, text
 use Rattle.spec_tucson.specs.Shown.{hasEnd}
 use Rattle.spec_tucson.specs.StrictLine.{Kept}
 use Rattle.spec_tucson.specs.KeptLines.{noHeaderNamed, headerOf, keptLines}
-use Rattle.spec_tucson.specs.CleanSeries.{unitNotSaid, hundredthsSaid, thousandthsSaid, yearFault, seriesFault, refuseFault, closedLines, strictText, readKept}
+use Rattle.spec_tucson.specs.CleanSeries.{unitNotSaid, hundredthsSaid, thousandthsSaid, yearFault, seriesFault, refuseFault}
+use Rattle.spec_tucson.specs.CleanSeries.{closedLines, strictText, readKept}
 use Rattle.spec_tucson.specs.Notes as kinds
 use Rattle.spec_tucson.specs.CleanNotes.{Before, atLine, notesOf}
 

@@ -85,7 +85,8 @@ runsIn alone t = yearInName t || (alone && isShifted t)
 -- The first line of code 23, behind this one.
 unfoldable pub yearFault : Option Kept → List Kept → Option ℕ
 yearFault before [] = none
-yearFault before (k ∷ ks) = cond (runsIn (not (followsIts before k) && not (continues k ks)) (k .text)) (some (k .line)) (yearFault (some k) ks)
+yearFault before (k ∷ ks) = cond (runsIn (not (followsIts before k) && not (continues k ks)) (k .text)) (some (k .line))
+    (yearFault (some k) ks)
 
 -- ---- codes 24 and 25: the closing
 

@@ -39,7 +39,8 @@ anyWord (c ∷ cs) = (isLetter c || isHigh c) || anyWord cs
 -- A header line's columns 9 and on: nothing, or a blank, then words, and no digit where numbers of a data line end.
 unfoldable pub isCaption : Text → Bool
 isCaption t = eqb (length t) nameColumns
-    || (eqb (column 9 t) blank && (anyWord (drop 9 t) && (not (isDigit (column 12 t)) && (not (isDigit (column 18 t)) && not (isDigit (column 24 t))))))
+    || (eqb (column 9 t) blank && (anyWord (drop 9 t)
+    && (not (isDigit (column 12 t)) && (not (isDigit (column 18 t)) && not (isDigit (column 24 t))))))
 
 -- The shown line is line k of a header whose first one is the other.
 unfoldable pub isHeaderLine : Text → ℕ → Text → Bool

@@ -105,7 +105,8 @@ abbrev pub withMasked : ℕ → Option Text → Option Text
 withMasked c none = none
 withMasked c (some t) = some (c ∷ t)
 
--- ? for each character that is not ASCII, if the bytes are UTF-8; so many bytes of a character are still to come, the first of them in this range.
+-- ? for each character that is not ASCII, if the bytes are UTF-8; so many bytes of a character are still to come, the first of them in
+-- this range.
 unfoldable pub charactersFrom : ℕ → ℕ → ℕ → Text → Option Text
 charactersFrom zero low high [] = some []
 charactersFrom (suc n) low high [] = none

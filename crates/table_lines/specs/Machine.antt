@@ -30,7 +30,8 @@ rows label first cell widths values indices =
 
 -- The numbers of line j, with commas and byte 10.
 abbrev pub rowNumbers : Rows → ℕ → Text
-rowNumbers r j = numbersText (r .first +ℤ pos j) (getD (r .widths) j (pos 0)) (getD (r .values) (2 * j + r .cell) (pos 0)) (getD (r .indices) j (pos 0))
+rowNumbers r j = numbersText (r .first +ℤ pos j) (getD (r .widths) j (pos 0)) (getD (r .values) (2 * j + r .cell) (pos 0))
+    (getD (r .indices) j (pos 0))
 
 -- Line j.
 abbrev pub rowText : Rows → ℕ → Text

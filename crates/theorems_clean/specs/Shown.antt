@@ -23,16 +23,18 @@ pub data Masks (shownName name : Text) : Type 0 where
 -- The bytes of a strict line are those that are shown, but for ? in the eight bytes of its name where some of these are not ASCII.
 pub data Reads (bytes : Text) : Text → Type 0 where
   asShown : anyHigh bytes ≡ false → Reads bytes bytes
-  withName : (shownName name rest : Text) → anyHigh bytes ≡ true → bytes ≡ shownName ++ rest → length name ≡ nameColumns → Masks shownName name → anyHigh rest ≡ false
+  withName : (shownName name rest : Text) → anyHigh bytes ≡ true → bytes ≡ shownName ++ rest → length name ≡ nameColumns
+      → Masks shownName name → anyHigh rest ≡ false
       → Reads bytes (name ++ rest)
 
 -- A line of the answer: what is read of the shown bytes, or that with the closing that the caller says for -999.
 pub data Stands (unit : ℕ) (bytes : Text) : Text → Type 0 where
   read : {text : Text} → Reads bytes text → Stands unit bytes text
-  reclosed : (front : Text) → Reads bytes (front ++ columns fieldColumns unknownUnit) → Stands unit bytes (front ++ columns fieldColumns (closingOf unit))
+  reclosed : (front : Text) → Reads bytes (front ++ columns fieldColumns unknownUnit)
+      → Stands unit bytes (front ++ columns fieldColumns (closingOf unit))
 
--- Line i of the answer is what is shown of the line of the text that `lines` has for it: so every width stands in the file in the columns in
--- which it is shown.
+-- Line i of the answer is what is shown of the line of the text that `lines` has for it: so every width stands in the file in the columns
+-- in which it is shown.
 abbrev pub AnswersAreShown : Type 0
 AnswersAreShown =
     (t : Text) (header unit : ℕ) (c : Cleaned) → cleaned t header unit ≡ answer c →

@@ -41,7 +41,8 @@ pub data CurveRefusal (s : Space) (coefs positions : List ℤ) : ℕ → ℕ →
 
 -- An index call: those of the curve call at the rings' positions, 1 at 3 for its own buffer, 14 at a ring.
 pub data IndicesRefusal (s : Space) (coefs : List ℤ) (firstRing : ℤ) (widths : List ℤ) : ℕ → ℕ → Type 0 where
-  ofCurve : {code place : ℕ} → CurveRefusal s coefs (ringPositions firstRing (length widths)) code place → IndicesRefusal s coefs firstRing widths code place
+  ofCurve : {code place : ℕ} → CurveRefusal s coefs (ringPositions firstRing (length widths)) code place
+      → IndicesRefusal s coefs firstRing widths code place
   shortIndices : IndicesRefusal s coefs firstRing widths codes.shortBuffer 3
   atRing : (i : ℕ) → i < length widths → IndicesRefusal s coefs firstRing widths codes.ring (capped i)
 

@@ -90,7 +90,8 @@ IndicesPastAreKept = (c : RingsCall) (k : ℕ) → ringCount c ≤ k → getD (i
 
 -- The index of a present ring: "floor(256,000·width/value)" (§ 9), of a value above zero.
 abbrev pub PresentRingsAreDivided : Type 0
-PresentRingsAreDivided = (c : RingsCall) (n : ℕ) → indicesEnd c .answers ≡ answer n → (i : ℕ) → i < ringCount c → ringWidth (c .widths) i ≢ pos 0
+PresentRingsAreDivided = (c : RingsCall) (n : ℕ) → indicesEnd c .answers ≡ answer n → (i : ℕ) → i < ringCount c
+    → ringWidth (c .widths) i ≢ pos 0
     → (pos 0 <ℤ valueCell c i) × (indexCell c i ≡ floorDiv (indexScale *ℤ ringWidth (c .widths) i) (natAbs (valueCell c i)))
 
 -- "an absent ring, width 0, has -1 whatever its value" (§ 9).

@@ -29,4 +29,5 @@ LinesHaveOneList = (s : Space) → LegalLists s → (start slope : ℕ → ℚ) 
 
 -- Likewise of the weights of an accepted space.
 abbrev pub AcceptedLinesHaveOneList : Type 0
-AcceptedLinesHaveOneList = (s : Space) (a : Accepted s) (start slope : ℕ → ℚ) (o : Row) → Line s start slope o → OneCombination s (a .table) o
+AcceptedLinesHaveOneList = (s : Space) (a : Accepted s) (start slope : ℕ → ℚ) (o : Row) → Line s start slope o
+    → OneCombination s (a .table) o

@@ -1,5 +1,5 @@
--- At orders up to 1 every coefficient of every curve is one of its ordinates: for each row there is a column on which it alone has weight. At order 2
--- the middle one of three rows at a join has none.
+-- At orders up to 1 every coefficient of every curve is one of its ordinates: for each row there is a column on which it alone has
+-- weight. At order 2 the middle one of three rows at a join has none.
 use mathlib.Core.Path.{_≡_}
 use mathlib.Core.List.{List}
 use Prim.Native.Nat.{ℕ, _<_}

@@ -1,5 +1,5 @@
--- Minimal support: no curve of an accepted space lives on less than a row does. A curve that meets all join conditions and vanishes on every
--- column on which row i has no weight is a multiple of row i.
+-- Minimal support: no curve of an accepted space lives on less than a row does. A curve that meets all join conditions and vanishes on
+-- every column on which row i has no weight is a multiple of row i.
 use mathlib.Core.Path.{_≡_}
 use Prim.Native.Nat.{ℕ, _<_}
 use lib.IntN.{pos}
@@ -18,4 +18,5 @@ pub record Multiple (s : Space) (t : Table) (i : ℕ) (o : Row) : Type 0 where
   pub is : (c : ℕ) → c < columnCount s → entry o c ≡ factor *ᵠ cell t i c
 
 abbrev pub RowsAreMinimal : Type 0
-RowsAreMinimal = (s : Space) (a : Accepted s) (i : ℕ) → i < rowCount s → (o : Row) → MeetsAll s o → LivesOn s (a .table) i o → Multiple s (a .table) i o
+RowsAreMinimal = (s : Space) (a : Accepted s) (i : ℕ) → i < rowCount s → (o : Row) → MeetsAll s o → LivesOn s (a .table) i o
+    → Multiple s (a .table) i o

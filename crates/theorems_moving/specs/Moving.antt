@@ -1,6 +1,6 @@
--- Years or rings, the same values: where all breakpoints are multiplied by one number, from 1 on, and moved by another, and the positions with
--- them, no weight, no refusal of the build and no value changes. With 1 for the factor this is moving alone. Only number 3, the range of the
--- breakpoints, can come or go. (Nothing is said of the reach call or of consecutive rings, whose positions are not scaled.)
+-- Years or rings, the same values: where all breakpoints are multiplied by one number, from 1 on, and moved by another, and the positions
+-- with them, no weight, no refusal of the build and no value changes. With 1 for the factor this is moving alone. Only number 3, the
+-- range of the breakpoints, can come or go. (Nothing is said of the reach call or of consecutive rings, whose positions are not scaled.)
 use mathlib.Core.Path.{_≡_}
 use mathlib.Core.Bool.{true}
 use mathlib.Core.List.{List, map}

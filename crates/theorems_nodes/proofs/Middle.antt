@@ -191,7 +191,8 @@ module _ (s : Space) (a : Accepted s) (nodes : List ℚ) (N : AreNodes s (a .tab
     before r = cell (a .table) r (firstColumn s j + (degree s j - 1))
 
     S : supports.Support before (joinRow s j - 2) (joinRow s j - 1)
-    S = supports.support-ends (let z : rowsBefore s j + (degree s j - 1) - (rightConditions s j + (degree s j - 1) - (degree s j + 1)) ≡ joinRow s j - 2 = omega (arith, row-is, right-full, left-degree) in z)
+    S = supports.support-ends (let z : rowsBefore s j + (degree s j - 1) - (rightConditions s j + (degree s j - 1) - (degree s j + 1)) ≡ joinRow s j - 2 =
+        omega (arith, row-is, right-full, left-degree) in z)
         (let z : rowsBefore s j + max (degree s j - 1) (leftConditions s j - 1) ≡ joinRow s j - 1 = omega (arith, row-is, left-few, left-degree) in z)
         (supported s a j (degree s j - 1) (omega arith) (omega arith))
 
@@ -301,7 +302,8 @@ module _ (s : Space) (a : Accepted s) (nodes : List ℚ) (N : AreNodes s (a .tab
       own : node (joinRow s j - 2) ≡ placeOf s j (degree s j - 2)
       own = sym (single s a (firstColumn s j + (degree s j - 2)) (joinRow s j - 2) (segment-column s j (degree s j - 2) (omega arith) (omega arith))
           (omega (arith, rows-of, rows-enough j h full))
-          (supports.support-ends (let z : rowsBefore s j + (degree s j - 2) - (rightConditions s j + (degree s j - 2) - (degree s j + 1)) ≡ joinRow s j - 2 = omega (arith, row-is j h full, right-full j h full, big) in z)
+          (supports.support-ends (let z : rowsBefore s j + (degree s j - 2) - (rightConditions s j + (degree s j - 2) - (degree s j + 1)) ≡ joinRow s j - 2 =
+          omega (arith, row-is j h full, right-full j h full, big) in z)
           (let z : rowsBefore s j + max (degree s j - 2) (leftConditions s j - 1) ≡ joinRow s j - 2 = omega (arith, row-is j h full, few, big) in z)
           (supported s a j (degree s j - 2) (omega arith) (omega arith))) nodes)
           ∙ on-line j (degree s j - 2) (omega arith) (omega arith)
@@ -309,7 +311,8 @@ module _ (s : Space) (a : Accepted s) (nodes : List ℚ) (N : AreNodes s (a .tab
       parts : (int (pos 1) -ᵠ int (pos 0)) *ᵠ (placeOf s j (degree s j - 1) -ᵠ placeOf s j (degree s j - 2)) ≡ int (pos (width s j)) *ᵠ inv (int (pos (degree s j)))
       parts = ap₂ (λ x y. (int (pos 1) -ᵠ int (pos 0)) *ᵠ (x -ᵠ y))
           (place-is s c j (omega arith) (omega (arith, big)) (degree s j - 1)
-          ∙ ap (λ x. int (break s j) +ᵠ x *ᵠ (int (pos (width s j)) *ᵠ inv (int (pos (degree s j))))) (ap (λ n. int (pos n)) (let z : degree s j - 1 ≡ suc (degree s j - 2) = omega (arith, big) in z) ∙ int-suc (degree s j - 2)))
+          ∙ ap (λ x. int (break s j) +ᵠ x *ᵠ (int (pos (width s j)) *ᵠ inv (int (pos (degree s j)))))
+          (ap (λ n. int (pos n)) (let z : degree s j - 1 ≡ suc (degree s j - 2) = omega (arith, big) in z) ∙ int-suc (degree s j - 2)))
           (place-is s c j (omega arith) (omega (arith, big)) (degree s j - 2))
           ∙ step (int (break s j)) (int (pos (degree s j - 2))) (int (pos (width s j)) *ᵠ inv (int (pos (degree s j))))
         where

@@ -99,7 +99,9 @@ module _ (s : Space) (a : Accepted s) (nodes : List ℚ) (N : AreNodes s (a .tab
 
             here : (conditionCount s j + t ≤ degree s j + 1) ⊎ (degree s j + 1 < conditionCount s j + t) → Stands s (entry nodes i) j t
             here (inl m) = let z = cond-true (conditionCount s j) 0 (lt-ltb (suc j) (segments s) h) in alone l (omega arith)
-            here (inr m) = middle h full last-but-one (subst (λ r. placeOf s j t <ᵠ entry nodes r) is-row (subst (λ u. placeOf s j u <ᵠ entry nodes (joinRow s j - 1)) is-ordinate (after-left s a nodes N j h full)))
+            here (inr m) = middle h full last-but-one
+                (subst (λ r. placeOf s j t <ᵠ entry nodes r) is-row
+                (subst (λ u. placeOf s j u <ᵠ entry nodes (joinRow s j - 1)) is-ordinate (after-left s a nodes N j h full)))
                 (subst (λ r. entry nodes r <ᵠ placeOf s (suc j) 1) is-row (before-right s a nodes N j h full))
               where
                 facts : (conditionCount s j ≡ fullCount) × (suc t ≡ degree s j)
@@ -219,7 +221,8 @@ module _ (s : Space) (a : Accepted s) (nodes : List ℚ) (N : AreNodes s (a .tab
   rises = go order
     where
       go : (P .segment ≡ R .segment) ⊎ (P .segment < R .segment) → entry nodes i <ᵠ entry nodes (suc i)
-      go (inl z) = near (P .segment) (P .ordinate) (R .ordinate) (P .below) (P .row) (subst (λ n. rowsBefore s n + R .ordinate ≡ suc i) (sym z) (R .row)) (subst (λ n. R .ordinate ≤ degree s n) (sym z) (R .within))
+      go (inl z) = near (P .segment) (P .ordinate) (R .ordinate) (P .below) (P .row) (subst (λ n. rowsBefore s n + R .ordinate ≡ suc i) (sym z) (R .row))
+          (subst (λ n. R .ordinate ≤ degree s n) (sym z) (R .within))
           (P .stands) (subst (λ n. Stands s (entry nodes (suc i)) n (R .ordinate)) (sym z) (R .stands)) (subst (Behind (suc i)) (sym z) (R .last))
       go (inr z) = apart (P .segment) (P .ordinate) (R .segment) (R .ordinate) z (R .below) (P .within) (P .row) (R .row) (P .stands) (R .stands) (P .last)
 

@@ -1,5 +1,5 @@
--- At every order, and across discontinuities: multipliers that do not rise from row to row give a curve whose exact ordinates do not rise from column to
--- column. What rises at order 2 in the values of a list that does not rise is rounding alone.
+-- At every order, and across discontinuities: multipliers that do not rise from row to row give a curve whose exact ordinates do not rise
+-- from column to column. What rises at order 2 in the values of a list that does not rise is rounding alone.
 use mathlib.Core.List.{List}
 use Prim.Native.Nat.{ℕ, suc, _<_}
 use Rattle.base_exact.specs.Rational.{ℚ}

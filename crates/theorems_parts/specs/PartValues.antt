@@ -24,5 +24,6 @@ pub record OwnValue (s : Space) (x : Accepted s) (a : ℕ) (p : Accepted (partAt
   pub same : valueAt s (x .table) wood coefs y ≡ valueAt (partAt s a) (p .table) wood (partCoefficients s a coefs) y
 
 abbrev pub BeamValuesAreTheParts : Type 0
-BeamValuesAreTheParts = (s : Space) (x : Accepted s) (a : ℕ) → Starts s a → (p : Accepted (partAt s a)) (wood : Wood) (coefs : List ℤ) (y : ℤ)
+BeamValuesAreTheParts = (s : Space) (x : Accepted s) (a : ℕ) → Starts s a
+    → (p : Accepted (partAt s a)) (wood : Wood) (coefs : List ℤ) (y : ℤ)
     → InPart s a y → OwnValue s x a p wood coefs y

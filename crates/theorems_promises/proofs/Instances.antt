@@ -96,6 +96,7 @@ positive-cell3 : leastPositive ≤ℤ getD (valuesAfter (curveOutcome space1 coe
 positive-cell3 = positive-cells space1 coefs3 positions3 6000 6000 6000 legal3 [] latewood positive3 1 (omega arith)
 
 -- the 72 cells of column 2, 2/3 and 1/3 among them
-column3 : sum rowCells (λ i. heldFraction (curveEnd space1 coefs3 positions3 lent lent lent .numerators) (curveEnd space1 coefs3 positions3 lent lent lent .denominators) (rowCells * i + 2)) ≡ int (pos 1)
+column3 : sum rowCells (λ i. heldFraction (curveEnd space1 coefs3 positions3 lent lent lent .numerators)
+    (curveEnd space1 coefs3 positions3 lent lent lent .denominators) (rowCells * i + 2)) ≡ int (pos 1)
 unfolding startsPart lastPartStart last firstColumn
 column3 = curve-cells-sum-to-one space1 coefs3 positions3 lent lent lent (subst (λ n. Legal space1 coefs3 positions3 n n n) (sym lent-length) legal3) .sums 2 (omega arith)

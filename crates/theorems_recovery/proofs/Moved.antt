@@ -125,7 +125,8 @@ recover-in-order : (j : ℕ) (κ : List Entry) (r : Combination) → recoverStep
     jumps j κ (r .table) then λ js. span j js then λ g. factors j js g then λ ws. rowsRenewed j g ws (r .table) then λ t.
     (balanced j js (r .coefficients) then λ _. undone j g ws (r .coefficients)) then λ ds. answer (record { table = t; coefficients = ds }))
 unfolding recoverStep
-recover-in-order j κ r = then-planned j κ (r .table) (λ p. rowsRenewed j (p .span) (p .factors) (r .table) then λ t. undoing j p (r .coefficients) then λ ds. answer (record { table = t; coefficients = ds }))
+recover-in-order j κ r = then-planned j κ (r .table)
+    (λ p. rowsRenewed j (p .span) (p .factors) (r .table) then λ t. undoing j p (r .coefficients) then λ ds. answer (record { table = t; coefficients = ds }))
 
 -- ---- the step: a table in a larger one, with the coefficients xs for the rows above it and ys for the rows below it
 module _ {ρ : ℕ → ℕ} {j j′ : ℕ} {κ κ′ : List Entry} (E : Around ρ j j′ κ κ′) (xs ys : List ℚ) (count : length xs ≡ length (E .above)) where
@@ -153,7 +154,8 @@ module _ {ρ : ℕ → ℕ} {j j′ : ℕ} {κ κ′ : List Entry} (E : Around �
       (λ ds l. refl)))))
       ∙ ap (carried ρ within) (sym (recover-in-order j κ r))
     where
-      undoing-carried : (g : Span) (ws : List ℚ) → g .f ≤ g .l → g .l < length (r .coefficients) → undone j′ (movedSpan p g) ws (among (r .coefficients)) ≡ carried ρ among (undone j g ws (r .coefficients))
+      undoing-carried : (g : Span) (ws : List ℚ) → g .f ≤ g .l → g .l < length (r .coefficients)
+          → undone j′ (movedSpan p g) ws (among (r .coefficients)) ≡ carried ρ among (undone j g ws (r .coefficients))
       undoing-carried g ws o h = ap (λ m. undone j′ (movedSpan m g) ws (among (r .coefficients))) (sym count) ∙ undone-carried ρ j j′ (E .place) xs (r .coefficients) ys ws g o h
 
       balance : (js : List ℚ) → length js ≡ length (r .table) → balanced j′ (padded p q js) (among (r .coefficients)) ≡ carried ρ (λ u. u) (balanced j js (r .coefficients))

@@ -89,12 +89,12 @@ kept-count (r ∷ rs) h i b ks e = go (isData h i r) refl (λ c js. kept-count r
     go true d ih = let k = kept-data h i b r rs ks d e in omega (arith, ap length (k .is), ih _ (k .others) (k .rest))
     go false d ih = omega (arith, ih b ks (sym (kept-other h i b r rs d) ∙ e))
 
-closed-count : (unit : ℕ) (ks : List Kept) → length (closedLines unit ks) ≡ length ks
+pub closed-count : (unit : ℕ) (ks : List Kept) → length (closedLines unit ks) ≡ length ks
 unfolding closedLines
 closed-count unit [] = refl
 closed-count unit (k ∷ ks) = ap suc (closed-count unit ks)
 
-numbers-count : (ks : List Kept) → length (numbers ks) ≡ length ks
+pub numbers-count : (ks : List Kept) → length (numbers ks) ≡ length ks
 numbers-count [] = refl
 numbers-count (k ∷ ks) = ap suc (numbers-count ks)
 
@@ -110,7 +110,7 @@ if-count : (b : Bool) (n : ℕ) (ns : List ℕ) → length (noteIf b n ns) ≤ s
 if-count true n ns = omega arith
 if-count false n ns = omega arith
 
-remarks-count : (z : ℤ) (first : Bool) (a : Ahead) (fs : List ℤ) → length (remarks z first a fs) ≤ 3
+pub remarks-count : (z : ℤ) (first : Bool) (a : Ahead) (fs : List ℤ) → length (remarks z first a fs) ≤ 3
 unfolding remarks
 remarks-count z first a fs =
     omega (

@@ -1,6 +1,6 @@
--- The theorems with numbers: a file with three bytes 10, and a ring whose name has eight quotation marks and whose numbers are the least of
--- their types: 78 bytes.
-use mathlib.Core.List.{[], _∷_}
+-- The theorems with numbers: a file of 22 bytes with two lines, one of two bytes with eight cells of notes, and one with three bytes 10;
+-- a ring whose name has eight quotation marks and whose numbers are the least of their types: 78 bytes.
+use mathlib.Core.List.{[], _∷_, _++_}
 use mathlib.Core.Path.{_≡_, refl}
 use Prim.Native.Nat.{ℕ, zero, suc, _^_, _≤_}
 use native.Mathlib.Omega.{arith}
@@ -8,22 +8,68 @@ use lib.IntN.{pos, negℤ, natAbs}
 use lib.ListN.{length, getD}
 use Rattle.base_exact.specs.Floor.{nearest}
 use Rattle.base_exact.specs.Tabulate.{tab}
-use Rattle.base_outcome.specs.Outcome.{refuse, _then_}
+use Rattle.base_outcome.specs.Outcome.{answer, refuse, _then_}
+use Rattle.base_text.specs.Bytes.{Text, bytes, lines}
 use Rattle.base_text.specs.Numeral.{digitsUpTo, digits, decimal}
 use Rattle.spec_spline.specs.Reading.{latewood}
 use Rattle.spec_tucson.specs.Shown.{trimmed}
-use Rattle.spec_tucson.specs.CleanCall.{cleaned, ifRoom}
+use Rattle.spec_tucson.specs.CleanCall.{Cleaned, cleaned, ifRoom}
 use Rattle.spec_table.specs.Decimals.{lastDigits, withDecimals, millionths, indexText}
 use Rattle.spec_table.specs.RingLines.{withoutLeading, bareName, holdsQuoted, doubled, quotedName, numbersText, ringLine, linesOfRings, IndexedSeries, ringLines}
 use Rattle.spec_table.specs.RingLinesCall.{ringLinesOutcome}
-use Rattle.theorems_files.proofs.Cases.{cleaning}
+use Rattle.theorems_files.proofs.Cases.{cleaning, ended}
 use Rattle.theorems_files.proofs.Files.{file, answers, file-cleaned}
+use Rattle.theorems_again.specs.Again.{notNamed, notSaid, AnsweredAgain}
 use Rattle.theorems_room.specs.Room.{lineEnds, Within}
 use Rattle.theorems_room.specs.TableRoom.{CallTypes}
 use Rattle.theorems_room.proofs.ByLines.{room-by-lines, never-short-by-lines}
+use Rattle.theorems_room.proofs.WholeFile.{room-by-bytes, never-short-by-bytes}
+use Rattle.theorems_room.proofs.Again.{half-is-cleaned-again}
 use Rattle.theorems_room.proofs.ByRings.{room-by-rings, never-short-by-rings}
 
--- ---- a file
+-- ---- files by their bytes
+
+-- A series of two lines with tabs: 22 bytes, so two cells of lines are promised, and no more are needed.
+abbrev tabbed : Text
+tabbed = 65 ∷ 9 ∷ (bytes "   9" ++ (9 ∷ ended " 1" (65 ∷ 9 ∷ bytes "  10   999")))
+
+abbrev tabbedAnswer : Cleaned
+tabbedAnswer = record {
+  text = lines ("A          9     1" ∷ "A         10   999" ∷ []);
+  lines = 1 ∷ 2 ∷ [];
+  notes = 4 ∷ 1 ∷ 4 ∷ 2 ∷ 8 ∷ 2 ∷ [];
+}
+
+tabbed-cleaned : cleaned tabbed 100 0 ≡ answer tabbedAnswer
+unfolding cleaning
+tabbed-cleaned = refl
+
+tabbed-room : Within tabbedAnswer 44 2 48
+unfolding cleaning
+tabbed-room = room-by-bytes tabbed 100 0 tabbedAnswer tabbed-cleaned
+
+-- A header of one letter and a tab, without byte 10: 2 times 2 and 4 cells of notes.
+abbrev letter : Text
+letter = 65 ∷ 9 ∷ []
+
+abbrev letterAnswer : Cleaned
+letterAnswer = record { text = []; lines = []; notes = 4 ∷ 1 ∷ 5 ∷ 1 ∷ 8 ∷ 1 ∷ 9 ∷ 1 ∷ [] }
+
+letter-cleaned : cleaned letter 1 0 ≡ answer letterAnswer
+unfolding cleaning
+letter-cleaned = refl
+
+letter-room : Within letterAnswer 4 0 8
+letter-room = room-by-bytes letter 1 0 letterAnswer letter-cleaned
+
+tabbed-again : AnsweredAgain tabbedAnswer 100 0
+unfolding cleaning
+tabbed-again = half-is-cleaned-again tabbed 100 0 tabbedAnswer tabbed-cleaned (omega arith) 100 0 notNamed notSaid
+
+letter-has-room : (cleaned letter 1 0 then ifRoom 4 0 8) ≡ cleaned letter 1 0
+letter-has-room = never-short-by-bytes letter 1 0 4 0 8 (omega arith) (omega arith) (omega arith)
+
+-- ---- a file by its lines
 
 three-ends : lineEnds file ≡ 3
 unfolding cleaning lineEnds

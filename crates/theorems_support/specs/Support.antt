@@ -14,8 +14,8 @@ use Rattle.spec_spline.specs.CurveCall.{curveOutcome, valuesAfter}
 use Rattle.spec_spline.specs.ExactCurve.{weighsOn, Legal}
 use Rattle.theorems_values.specs.ValueLimits.{InSpan}
 
--- Row i is one of the p + 1 rows from v on, where p is the degree of segment j and v the sum, over the segments before it, of degree minus the
--- order behind each: `rowsBefore`, defined for the first segment of a part, is that sum for every segment.
+-- Row i is one of the p + 1 rows from v on, where p is the degree of segment j and v the sum, over the segments before it, of degree
+-- minus the order behind each: `rowsBefore`, defined for the first segment of a part, is that sum for every segment.
 pub record ActsOn (s : Space) (j i : ℕ) : Type 0 where
   pub from : rowsBefore s j ≤ i
   pub to : i ≤ rowsBefore s j + degree s j
@@ -56,7 +56,8 @@ abbrev pub OtherCellsStay : Type 0
 OtherCellsStay = (s : Space) (coefs changed positions : List ℤ) (numLength denLength valuesLength : ℕ)
     → Legal s coefs positions numLength denLength valuesLength
     → Legal s changed positions numLength denLength valuesLength
-    → (held before : List ℤ) (wood : Wood) (r : ℕ) → ((i : ℕ) → i < rowCount s → i ≢ r → coefficient wood coefs i ≡ coefficient wood changed i)
+    → (held before : List ℤ) (wood : Wood) (r : ℕ)
+    → ((i : ℕ) → i < rowCount s → i ≢ r → coefficient wood coefs i ≡ coefficient wood changed i)
     → (k : ℕ) → k < length positions
     → let j = segmentAt s (getD positions k (pos 0)) in
     (r < rowsBefore s j) ⊎ (rowsBefore s j + degree s j < r)

@@ -20,7 +20,8 @@ use Rattle.spec_tucson.specs.Line.{Line, fieldColumns, lineInColumns, same, tho
 use Rattle.spec_tucson.specs.Series.{hundredths}
 use Rattle.spec_tucson.specs.TextReading.{lastField}
 use Rattle.spec_tucson.specs.FileText.{tab, carriageReturn}
-use Rattle.spec_tucson.specs.Shown.{beforeCut, unended, isCut, hasEnd, endsInReturn, withoutReturn, expanded, anyTab, unlessTrailing, trimmed, lineBytes, inItsColumns, shown, hasReturn, hasTab, hasTrailing}
+use Rattle.spec_tucson.specs.Shown.{beforeCut, unended, isCut, hasEnd, endsInReturn, withoutReturn, expanded, anyTab, unlessTrailing, trimmed, lineBytes}
+use Rattle.spec_tucson.specs.Shown.{inItsColumns, shown, hasReturn, hasTab, hasTrailing}
 use Rattle.spec_tucson.specs.StrictLine.{lineColumns, hasSite, withoutSite, anyHigh, masked, orRefused, isStrict, strictBytes, shownFields, strictLine, Kept}
 use Rattle.spec_tucson.specs.CleanSeries.{continues, fieldsIn, fieldsOf, unknownUnit, unitNotSaid, hundredthsSaid, closingOf, closingAfter, isReclosed, reclosed, withEnd}
 use Rattle.spec_tucson.specs.CleanNotes.{noteIf, Ahead, oneMore, ahead, isLast, isAbsentEnd, isLikeClosing, isOtherUnit, widthsIn, remarks, isCutLine, keptNotes, lineNotes, atLine}

@@ -136,7 +136,15 @@ unfolding textOf unmarked
 whole-unmarked t e = refute (isMarked t) λ m.
     let u : cond (isMarked t) (drop 3 t) t ≡ drop 3 t = ap (λ (b : Bool). cond b (drop 3 t) t) m in
     let s : take (indexOf substitute (drop 3 t)) (drop 3 t) ≡ t = ap (λ (v : Text). take (indexOf substitute v) v) (sym u) ∙ e in
-    omega (arith, marked-some t m, ap length s, length-take-le (indexOf substitute (drop 3 t)) (drop 3 t) (index-within _ (drop 3 t)), index-within (λ c. lib.Dec.eqb c substitute) (drop 3 t), length-drop 3 t)
+    omega (
+      arith,
+      marked-some t m,
+      ap length s,
+      length-take-le (indexOf substitute (drop 3 t)) (drop 3 t) (index-within _ (drop 3 t)),
+      index-within
+          (λ c. lib.Dec.eqb c substitute) (drop 3 t),
+      length-drop 3 t,
+    )
 
 unmarked-same : (t : Text) → isMarked t ≡ false → unmarked t ≡ t
 unfolding unmarked
@@ -169,7 +177,10 @@ module _ (t : Text) (unit h : ℕ) (ks : List Kept) where
   unfolding allNotes markNote endNote
   whole-untold e x l c n =
       go (split x l lineNotesOf (cond (endsEarly t && allEnded (linesOf (textOf t))) (2 ∷ suc (length (linesOf (textOf t))) ∷ []) [])
-      (notes-paired (linesOf (textOf t)) unit h 1 (endsEarly t) atStart ks) (subst (λ (b : Bool). Noted x l (cond b (1 ∷ 1 ∷ []) [] ++ (lineNotesOf ++ cond (endsEarly t && allEnded (linesOf (textOf t))) (2 ∷ suc (length (linesOf (textOf t))) ∷ []) []))) (whole-unmarked t e) n))
+      (notes-paired (linesOf (textOf t)) unit h 1 (endsEarly t) atStart ks)
+      (subst (λ (b : Bool). Noted x l
+      (cond b (1 ∷ 1 ∷ []) [] ++ (lineNotesOf ++ cond (endsEarly t && allEnded (linesOf (textOf t))) (2 ∷ suc (length (linesOf (textOf t))) ∷ []) [])))
+      (whole-unmarked t e) n))
     where
       go : Noted x l lineNotesOf ⊎ Noted x l (cond (endsEarly t && allEnded (linesOf (textOf t))) (2 ∷ suc (length (linesOf (textOf t))) ∷ []) []) → ⊥
       go (inl a) = whole-notes (linesOf (textOf t)) unit h 1 atStart ks x l c (subst (λ (b : Bool). Noted x l (notesOf unit h b 1 atStart (linesOf (textOf t)) ks)) (whole-late t e) a)
@@ -180,7 +191,9 @@ module _ (t : Text) (unit h : ℕ) (ks : List Kept) where
   untold-whole u = text-is-file t (refute (isMarked t) marked) (refute (endsEarly t) early)
     where
       marked : isMarked t ≡ true → ⊥
-      marked m = u 1 1 refl (subst (λ (b : Bool). Noted 1 1 (cond b (1 ∷ 1 ∷ []) [] ++ (lineNotesOf ++ cond (endsEarly t && allEnded (linesOf (textOf t))) (2 ∷ suc (length (linesOf (textOf t))) ∷ []) []))) (sym m) first)
+      marked m = u 1 1 refl (subst (λ (b : Bool). Noted 1 1
+          (cond b (1 ∷ 1 ∷ []) [] ++ (lineNotesOf ++ cond (endsEarly t && allEnded (linesOf (textOf t))) (2 ∷ suc (length (linesOf (textOf t))) ∷ []) [])))
+          (sym m) first)
 
       behind-mark : (x l : ℕ) (b : Bool) (ns : List ℕ) → Noted x l ns → Noted x l (cond b (1 ∷ 1 ∷ []) [] ++ ns)
       behind-mark x l true ns n = behind n
@@ -189,7 +202,8 @@ module _ (t : Text) (unit h : ℕ) (ks : List Kept) where
       by-lines : (a : Bool) → allEnded (linesOf (textOf t)) ≡ a → endsEarly t ≡ true → ⊥
       by-lines true a e = u 2 (suc (length (linesOf (textOf t)))) refl
           (behind-mark 2 _ (isMarked t) _ (noted-tail 2 _ lineNotesOf _ (notes-paired (linesOf (textOf t)) unit h 1 (endsEarly t) atStart ks)
-          (subst (λ (b : Bool). Noted 2 (suc (length (linesOf (textOf t)))) (cond b (2 ∷ suc (length (linesOf (textOf t))) ∷ []) [])) (sym (ap (λ (x : Bool). x && allEnded (linesOf (textOf t))) e ∙ a)) first)))
+          (subst (λ (b : Bool). Noted 2 (suc (length (linesOf (textOf t)))) (cond b (2 ∷ suc (length (linesOf (textOf t))) ∷ []) []))
+          (sym (ap (λ (x : Bool). x && allEnded (linesOf (textOf t))) e ∙ a)) first)))
       by-lines false a e =
           let p = cut-told (linesOf (textOf t)) unit h 1 atStart ks a in
           u 2 (p .0) refl (behind-mark 2 (p .0) (isMarked t) _ (noted-before _ (subst (λ (b : Bool). Noted 2 (p .0) (notesOf unit h b 1 atStart (linesOf (textOf t)) ks)) (sym e) (p .1))))

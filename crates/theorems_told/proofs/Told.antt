@@ -73,7 +73,8 @@ notes-from (r ∷ rs) unit h i early b [] x l n = go (from-block x l i _ _ n) (n
 notes-from (r ∷ rs) unit h i early b (k ∷ ks) x l n = by-data (isData h i r) refl
     (λ c js m. notes-from rs unit h (suc i) early c js x l m)
   where
-    go : (c : Before) (js : List Kept) → (l ≡ i) ⊎ Noted x l (notesOf unit h early (suc i) c rs js) → ((c : Before) (js : List Kept) → Noted x l (notesOf unit h early (suc i) c rs js) → suc i ≤ l) → i ≤ l
+    go : (c : Before) (js : List Kept) → (l ≡ i) ⊎ Noted x l (notesOf unit h early (suc i) c rs js)
+        → ((c : Before) (js : List Kept) → Noted x l (notesOf unit h early (suc i) c rs js) → suc i ≤ l) → i ≤ l
     go c js (inl z) ih = omega arith
     go c js (inr r) ih = omega (arith, ih c js r)
 

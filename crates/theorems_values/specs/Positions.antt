@@ -1,4 +1,5 @@
--- The segment of a position (§ 6) in a space that passes the checks of its lists: each position of the span lies between two breakpoints or on one, and belongs to one segment.
+-- The segment of a position (§ 6) in a space that passes the checks of its lists: each position of the span lies between two breakpoints
+-- or on one, and belongs to one segment.
 use mathlib.Core.Path.{_≡_}
 use Prim.Native.Nat.{ℕ, suc, _<_}
 use lib.IntN.{ℤ, negsuc}

@@ -1,5 +1,6 @@
--- What is proved of a text and the series that the strict reader finds in it (§ 14, § 16): every width stands in a field of a line, in the
--- year that the line's year and the field's place give. The lines of a cleaned file stand in it in turn, as they are shown (`AnswersAreShown`).
+-- What is proved of a text and the series that the strict reader finds in it (§ 14, § 16): every width stands in a field of a line, in
+-- the year that the line's year and the field's place give. The lines of a cleaned file stand in it in turn, as they are shown
+-- (`AnswersAreShown`).
 use mathlib.Core.List.{List, [], _∷_, _++_, map}
 use mathlib.Core.Option.{some}
 use mathlib.Core.Path.{_≡_}

@@ -259,7 +259,8 @@ module _ (text : Text) (from to : ℕ) (t bytes : Text) (at n : ℕ) (size : len
 
   -- the words behind the name
   pub words-put : n ≡ nameColumns → anyWord (drop nameColumns t) ≡ anyWord (slice at to text)
-  words-put e = ap (λ (u : Text). anyWord (drop nameColumns u)) (sym is) ∙ ap anyWord (drop-at (take n bytes) (expanded n (slice at to text)) nameColumns (put-size ∙ e)) ∙ words-shown n (slice at to text)
+  words-put e = ap (λ (u : Text). anyWord (drop nameColumns u)) (sym is)
+      ∙ ap anyWord (drop-at (take n bytes) (expanded n (slice at to text)) nameColumns (put-size ∙ e)) ∙ words-shown n (slice at to text)
 
   pub words-none : at ≡ to → n ≤ nameColumns → anyWord (drop nameColumns t) ≡ anyWord (slice at to text)
   words-none e h =

@@ -106,7 +106,8 @@ NextTold unit shown text end later number (next-cases.Held h) = HeldNow unit sho
 NextTold unit shown text end later number next-cases.Misnamed = end ≡ legalities.Refused codes.fileBytes (capped number)
 
 abbrev pub FollowTold : ℕ → Held → Text → Text → Text → Text → ℕ → Next → Type 0
-FollowTold unit h oldShown old shown text number r = (end : Legality) (raw : Text) (later : Option Kept → Outcome (List Kept)) → shownFields raw ≡ shown
+FollowTold unit h oldShown old shown text number r = (end : Legality) (raw : Text) (later : Option Kept → Outcome (List Kept))
+    → shownFields raw ≡ shown
     → Holds unit h oldShown old end (λ before. keptThen before (record { line = number; raw = raw; text = text }) later)
     → NextTold unit shown text end later number r
 
@@ -140,7 +141,8 @@ TakenTold unit shown text end later number (taken-cases.Held h) = HeldBytes unit
 TakenTold unit shown text end later number (taken-cases.Refused code) = end ≡ legalities.Refused code (capped number)
 
 abbrev pub TakeTold : ℕ → Strict → Held → Text → Text → ℕ → Text → Text → Taken → Type 0
-TakeTold unit s h oldShown old number shown text r = (end : Legality) (raw : Text) (later : Option Kept → Outcome (List Kept)) → StrictTold raw s shown text
+TakeTold unit s h oldShown old number shown text r = (end : Legality) (raw : Text) (later : Option Kept → Outcome (List Kept))
+    → StrictTold raw s shown text
     → HeldBytes unit h oldShown old end (taking number raw later) → TakenTold unit shown text end later number r
 
 -- ---- the end

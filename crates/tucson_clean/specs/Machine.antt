@@ -59,7 +59,8 @@ pub record CountedAt (t : Text) (from stop : ℕ) (r : Tail) : Type 0 where
   pub counted : TailIs (part from stop t) r
 
 -- The strict text, the numbers of its lines and all notes, put from the beginnings of the buffers on.
-pub record AllPut (t : Text) (h unit : ℕ) (ks : List Kept) (out outAfter : Text) (lines linesAfter notes notesAfter : List ℕ) (r : Walked) : Type 0 where
+pub record AllPut (t : Text) (h unit : ℕ) (ks : List Kept) (out outAfter : Text) (lines linesAfter notes notesAfter : List ℕ)
+    (r : Walked) : Type 0 where
   pub bytes-put : Puts (ample (length (linesOf (textOf t))) .0) 0 (strictText (closedLines unit ks)) out outAfter (r .bytes)
   pub numbers-put : Puts (ample (length (linesOf (textOf t))) .1 .0) 0 (numbersOf (closedLines unit ks)) lines linesAfter (r .lines)
   pub cells-put : Puts (ample (length (linesOf (textOf t))) .1 .1) 0 (allNotes t unit h ks) notes notesAfter (r .cells)
@@ -83,15 +84,21 @@ counts (machine-cases.Counts b l n) = answer (record { bytes = b; lines = l; not
 counts (machine-cases.Refused code place) = refusal code place
 
 -- What the call ends with, where this is made of the file.
-pub record Ends (o : Outcome Cleaned) (out outAfter : Text) (lines linesAfter notes notesAfter : List ℕ) (r : machine.Cleaned) : Type 0 where
-  pub answers : counts r ≡ with-answer countsOf o
-  pub text-is : outAfter ≡ laid (λ c. c .text) o out
-  pub lines-are : linesAfter ≡ laid (λ c. c .lines) o lines
-  pub notes-are : notesAfter ≡ laid (λ c. c .notes) o notes
+pub record Ends (o : Outcome Cleaned) (out outAfter : Text) (lines linesAfter notes notesAfter : List ℕ) (r : machine.Cleaned) : Type 0
+  where
+    pub answers : counts r ≡ with-answer countsOf o
+    pub text-is : outAfter ≡ laid (λ c. c .text) o out
+    pub lines-are : linesAfter ≡ laid (λ c. c .lines) o lines
+    pub notes-are : notesAfter ≡ laid (λ c. c .notes) o notes
 
 -- What is made of the lines that are kept.
 abbrev pub madeOf : Text → ℕ → ℕ → List Kept → Cleaned
-madeOf t h unit ks = record { text = strictText (closedLines unit ks); lines = numbersOf (closedLines unit ks); notes = allNotes t unit h ks }
+madeOf t h unit ks = record {
+  text = strictText (closedLines unit ks);
+  lines = numbersOf (closedLines unit ks);
+  notes =
+      allNotes t unit h ks;
+}
 
 abbrev pub FillTold : Text → ℕ → ℕ → Text → Text → List ℕ → List ℕ → List ℕ → List ℕ → machine.Cleaned → Type 0
 FillTold t h unit out outAfter lines linesAfter notes notesAfter r = (ks : List Kept) → keptLines h 1 none (linesOf (textOf t)) ≡ answer ks

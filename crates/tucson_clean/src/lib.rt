@@ -200,7 +200,8 @@ fn clean_below(
     notes: &mut [usize],
 ) -> Cleaned
     requires { ⌜ BodyAt (now text) from stop ⌝ }
-    ensures { λ r. ⌜ Ends (cleanedBelow (now (text .entry)) unit header then ifRoom (length (now (out .entry))) (length (now (lines .entry))) (length (now (notes .entry))))
+    ensures { λ r. ⌜ Ends (cleanedBelow (now (text .entry)) unit header
+        then ifRoom (length (now (out .entry))) (length (now (lines .entry))) (length (now (notes .entry))))
         (now (out .entry)) (now (out .exit)) (now (lines .entry)) (now (lines .exit)) (now (notes .entry)) (now (notes .exit)) r ⌝ }
 {
     let checked = tucson_check::check(&text[from..stop], header, unit);

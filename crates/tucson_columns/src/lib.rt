@@ -6,7 +6,8 @@ ghost use Rattle.base_text.specs.Bytes.{Range};
 ghost use Rattle.spec_tucson.specs.Columns.{blank};
 ghost use Rattle.spec_tucson.specs.Shown.{tabBlanks};
 ghost use Rattle.tucson_lines.specs.Machine.{LineEnd};
-ghost use Rattle.tucson_columns.specs.Machine.{shownByte, isGap, Room, StopTold, ShownTold, LineShown, Put, ExpandAsks, Expanded, TrimTold};
+ghost use Rattle.tucson_columns.specs.Machine.{shownByte, isGap, Room, StopTold, ShownTold, LineShown, Put, ExpandAsks, Expanded};
+ghost use Rattle.tucson_columns.specs.Machine.{TrimTold};
 
 // The cells of an array that takes what is shown of a line: eight characters of four bytes in a name, and 64 columns behind that.
 pub const CELLS: usize = 96;

@@ -1,7 +1,6 @@
 -- A strict line's numbers: what each field adds to what is kept of those before it, and where they stand in the line.
 use mathlib.Core.Path.{_≡_, refl, sym, _∙_, ap, ap₂}
-use mathlib.Core.Bool.{Bool, true, false, cond, _&&_, _||_, not, and-assoc}
-use mathlib.Core.Bool.{and-true as and-true-right}
+use mathlib.Core.Bool.{Bool, true, false, cond, _&&_, _||_, not, and-assoc, and-true as and-true-right}
 use mathlib.Core.List.{List, [], _∷_, _++_, dropLast}
 use mathlib.Core.Option.{Option, some, none}
 use Prim.Native.Nat.{ℕ, zero, suc, _+_, _*_, _-_, _/_, _<_, _≤_}
@@ -76,8 +75,7 @@ module _ (t : Text) (at left : ℕ) (ws : List ℤ) (widths small nine : Bool) (
         small-are =
             rest .small-are ∙ ap (λ (fs : List ℤ). small && allHundredths fs) (sym all)
             ∙ sym (and-assoc small (leZ z (pos hundredthsLimit)) (allHundredths (m .later)));
-        nine-is =
-            rest .nine-is ∙ ap (λ (fs : List ℤ). nine || any999 fs) (sym all) ∙ or-assoc nine (same z hundredths) (any999 (m .later));
+        nine-is = rest .nine-is ∙ ap (λ (fs : List ℤ). nine || any999 fs) (sym all) ∙ or-assoc nine (same z hundredths) (any999 (m .later));
       }
 
 pub same-rest : {t : Text} {at left : ℕ} {ws : List ℤ} {widths small nine v r n : Bool} → v ≡ widths → r ≡ small → n ≡ nine

@@ -34,7 +34,8 @@ pub record LineAt (body : Text) (start first from end number : ℕ) : Type 0 whe
   pub at : LineEnd body from end
   pub more : from < length body
   pub few : number ≤ from + 1
-  pub lines : unblank first (linesOf (drop start body)) ≡ numbered number (slice from (end + 1) body) ∷ unblank (suc number) (linesOf (drop (end + 1) body))
+  pub lines : unblank first (linesOf (drop start body)) ≡ numbered number (slice from (end + 1) body) ∷ unblank (suc number)
+      (linesOf (drop (end + 1) body))
 
 abbrev pub LineTold : Text → ℕ → ℕ → Line → Type 0
 LineTold body start first (line-cases.At from end number) = LineAt body start first from end number

@@ -8,7 +8,6 @@ use native.Mathlib.Omega.{arith}
 use lib.Dec.{leb}
 use lib.IntN.{ℤ, pos}
 use lib.ListN.{length}
-use Rattle.base_exact.proofs.Decide.{clash}
 use Rattle.base_outcome.specs.Outcome.{Outcome, answer, refusal, capped, _then_, with-answer}
 use Rattle.base_outcome.specs.Machine.{legality}
 use Rattle.base_outcome.specs.declared.Legality.{Legality}

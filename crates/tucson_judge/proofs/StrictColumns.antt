@@ -16,7 +16,8 @@ use Rattle.base_text.specs.Bytes.{Text, newline, cut}
 use Rattle.base_text.proofs.Lacking.{lacks, byte, byte-outside, lacks-append, numeral-lacks, cut-first}
 use Rattle.base_text.specs.Numeral.{numeral}
 use Rattle.spec_tucson.specs.Columns.{blank, inColumns}
-use Rattle.spec_tucson.specs.Line.{Line, nameColumns, yearColumns, fieldColumns, decade, lastPrintable, allPrintable, allBlank, isName, withField, fieldNumerals, fieldCount, columnsFit, withNumerals, lineInColumns, ofCut, lineOf}
+use Rattle.spec_tucson.specs.Line.{Line, nameColumns, yearColumns, fieldColumns, decade, lastPrintable, allPrintable, allBlank, isName, withField}
+use Rattle.spec_tucson.specs.Line.{fieldNumerals, fieldCount, columnsFit, withNumerals, lineInColumns, ofCut, lineOf}
 use Rattle.spec_tucson.specs.TextReading.{lastField}
 use Rattle.spec_tucson.specs.CleanSeries.{withEnd}
 use Rattle.tucson_lines.proofs.GoodLines.{Columns, columns-parts, fits-parts}

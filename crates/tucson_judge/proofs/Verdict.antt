@@ -16,7 +16,8 @@ use Rattle.spec_tucson.specs.Line.{Line, same, lineInColumns}
 use Rattle.spec_tucson.specs.Series.{hundredths}
 use Rattle.spec_tucson.specs.TextReading.{Begun, lastField}
 use Rattle.spec_tucson.specs.StrictLine.{Kept}
-use Rattle.spec_tucson.specs.CleanSeries.{continues, followsIts, fieldsIn, fieldsOf, runsIn, yearFault, any999, widthFields, seen999, Fault, fault, orFault, closingFault, seriesFault, closedLines, readKept}
+use Rattle.spec_tucson.specs.CleanSeries.{continues, followsIts, fieldsIn, fieldsOf, runsIn, yearFault, any999, widthFields, seen999, Fault, fault, orFault}
+use Rattle.spec_tucson.specs.CleanSeries.{closingFault, seriesFault, closedLines, readKept}
 use Rattle.tucson_fields.specs.Machine.{NumbersOf}
 use Rattle.tucson_fields.specs.declared.Facts.{Facts}
 use Rattle.tucson_judge.specs.Judging.{lineFound, faultAt, markFound, closingFaultOf, refusedOr, readerTold, ReaderBehind, pick, verdict, Behind}

@@ -19,7 +19,8 @@ use Rattle.spec_tucson.specs.Series.{allHundredths}
 use Rattle.spec_tucson.specs.TextReading.{Begun, lastField, readLine}
 use Rattle.spec_tucson.specs.Writing.{allWidths}
 use Rattle.spec_tucson.specs.StrictLine.{Kept, isStrict}
-use Rattle.spec_tucson.specs.CleanSeries.{followsIts, continues, yearFault, closingAfter, isUnitFault, ifHundredths, Fault, fault, orFault, seriesFault, closedLines, readKept}
+use Rattle.spec_tucson.specs.CleanSeries.{followsIts, continues, yearFault, closingAfter, isUnitFault, ifHundredths, Fault, fault, orFault}
+use Rattle.spec_tucson.specs.CleanSeries.{seriesFault, closedLines, readKept}
 use Rattle.tucson_fields.specs.Machine.{NumbersOf}
 use Rattle.tucson_fields.specs.declared.Facts.{Facts}
 use Rattle.tucson_scan.specs.Scan.{Tracks, Told}
@@ -97,7 +98,8 @@ pub record JudgeAsks (f : Facts) (number : ℕ) : Type 0 where
   pub numbered : 1 ≤ number
 
 abbrev pub ReaderNext : ℕ → Facts → Bool → ℕ → Reader → Reader → Type 0
-ReaderNext unit f goes number r n = (k : Kept) (l : Line) (b : Option Begun) → k .line ≡ number → lineInColumns (k .text) ≡ some l → NumbersOf l f
+ReaderNext unit f goes number r n = (k : Kept) (l : Line) (b : Option Begun) → k .line ≡ number → lineInColumns (k .text) ≡ some l
+    → NumbersOf l f
     → TracksReader b r → ReaderBehind unit goes k b r n
 
 -- ---- all codes

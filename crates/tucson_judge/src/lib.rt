@@ -10,7 +10,8 @@ ghost use Rattle.spec_tucson.specs.Line.{decade, yearInDecade, isWidth, thousan
 ghost use Rattle.spec_tucson.specs.Line;
 ghost use Rattle.spec_tucson.specs.Series.{hundredths};
 ghost use Rattle.spec_tucson.specs.CleanSeries.{closingOf, isUnitFault, closingAfter, orFault};
-ghost use Rattle.tucson_judge.specs.Judging.{lineFound, markFound, closingFaultOf, lastAfter, FactsFit, PassedOf, ReaderNext, JudgeAsks, LineAsks, JudgedNext, Concluded};
+ghost use Rattle.tucson_judge.specs.Judging.{lineFound, markFound, closingFaultOf, lastAfter, FactsFit, PassedOf, ReaderNext};
+ghost use Rattle.tucson_judge.specs.Judging.{JudgeAsks, LineAsks, JudgedNext, Concluded};
 use base_outcome::Legality;
 use base_outcome::codes;
 use base_outcome::limits;

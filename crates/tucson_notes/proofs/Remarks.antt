@@ -1,7 +1,6 @@
 -- The remarks on a line by what is told of its fields.
 use mathlib.Core.Path.{_≡_, refl, sym, _∙_, ap, ap₂}
 use mathlib.Core.Bool.{Bool, true, false, cond, _&&_, _||_, not, and-false}
-use mathlib.Core.Bool.{and-true as and-true-right}
 use mathlib.Core.List.{List, [], _∷_, _++_, dropLast, append-assoc}
 use Prim.Native.Nat.{ℕ, suc, _+_, _-_, _<_, _≤_}
 use native.Mathlib.Omega.{arith}

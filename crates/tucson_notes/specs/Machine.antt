@@ -29,7 +29,8 @@ numberIn (some z) = z
 
 -- The field before the last of so many, in a line of n bytes; 0 where there is one alone.
 unfoldable pub beforeIn : ℕ → ℕ → Text → ℤ
-beforeIn count n line = cond (ltb count 2) (pos 0) (numberIn (inColumns (slice (n - 2 * fieldColumns) (n - 2 * fieldColumns + fieldColumns) line)))
+beforeIn count n line = cond (ltb count 2) (pos 0)
+    (numberIn (inColumns (slice (n - 2 * fieldColumns) (n - 2 * fieldColumns + fieldColumns) line)))
 
 -- A line of n bytes has so many fields, and this is the first.
 pub record BeforeAsks (line : Text) (count n : ℕ) (first : ℤ) : Type 0 where
@@ -77,7 +78,8 @@ pub record TellsLike (a : machine-ahead.Ahead) (f : machine-fields.Fields) (r : 
   pub told : (fs : List ℤ) → SumsUp fs f → r ≡ isLikeClosing (aheadOf a) (widthsIn (aheadOf a) fs)
 
 -- The remarks put from index `at` on.
-pub record PutsRemarks (at line : ℕ) (firstClosing : ℤ) (first : Bool) (a : machine-ahead.Ahead) (f : machine-fields.Fields) (before after : List ℕ) (next : ℕ) : Type 0 where
+pub record PutsRemarks (at line : ℕ) (firstClosing : ℤ) (first : Bool) (a : machine-ahead.Ahead) (f : machine-fields.Fields)
+    (before after : List ℕ) (next : ℕ) : Type 0 where
   pub told : (fs : List ℤ) → SumsUp fs f → Puts 6 at (atLine line (remarks firstClosing first (aheadOf a) fs)) before after next
 
 -- ---- what was changed in a line
@@ -85,7 +87,8 @@ pub record PutsRemarks (at line : ℕ) (firstClosing : ℤ) (first : Bool) (a : 
 -- The notes of what is not shown, with these behind them.
 unfoldable pub shownMarked : machine-marks.Marks → List ℕ → List ℕ
 shownMarked m ns =
-    noteIf (m .cut) kinds.cut (noteIf (m .returned) kinds.returned (noteIf (m .tabbed) kinds.tabbed (noteIf (m .trailing) kinds.trailing ns)))
+    noteIf (m .cut) kinds.cut (noteIf (m .returned) kinds.returned
+    (noteIf (m .tabbed) kinds.tabbed (noteIf (m .trailing) kinds.trailing ns)))
 
 -- The notes of what is changed in what is shown.
 unfoldable pub formMarked : machine-marks.Marks → List ℕ → List ℕ
@@ -112,4 +115,5 @@ pub record StrictAsks (line : Text) (n at : ℕ) : Type 0 where
 
 -- The bytes of the line, its last field the unit's closing or its own, and its end.
 unfoldable pub strictPut : Text → ℕ → Bool → ℕ → Text
-strictPut line n reclosed unit = withEnd (cond reclosed (take (n - fieldColumns) line ++ columns fieldColumns (closingOf unit)) (take n line))
+strictPut line n reclosed unit =
+    withEnd (cond reclosed (take (n - fieldColumns) line ++ columns fieldColumns (closingOf unit)) (take n line))

@@ -42,8 +42,8 @@ pub struct Ahead {
     pub fields: usize,
 }
 
-// What was changed in a line: byte 26 ends it, byte 13 and tabs were there, trailing blanks and a site name were taken off, it had no end, it
-// was not ASCII, its closing is the caller's.
+// What was changed in a line: byte 26 ends it, byte 13 and tabs were there, trailing blanks and a site name were taken off, it had no
+// end, it was not ASCII, its closing is the caller's.
 pub struct Marks {
     pub cut: bool,
     pub returned: bool,

@@ -235,7 +235,8 @@ fn strict_fields(text: &[u8], from: usize, end: usize, bytes: &mut [u8], line: &
     }
 }
 
-// The strict line that the line from the one index up to the other is: what is shown of it, and what it becomes, at the fronts of two arrays.
+// The strict line that the line from the one index up to the other is: what is shown of it, and what it becomes, at the fronts of two
+// arrays.
 pub fn strict_line(
     text: &[u8],
     from: usize,

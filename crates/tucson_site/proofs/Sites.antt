@@ -25,12 +25,10 @@ refute true h = absurd (h refl)
 refute false h = refl
 
 letter-no-gap : (c : ℕ) → isLetter c ≡ true → isGap c ≡ false
-letter-no-gap c e =
-    ap₂ _||_ (ne-eqb c blank (λ z. true-not-false e (ap isLetter z))) (ne-eqb c tab (λ z. true-not-false e (ap isLetter z)))
+letter-no-gap c e = ap₂ _||_ (ne-eqb c blank (λ z. true-not-false e (ap isLetter z))) (ne-eqb c tab (λ z. true-not-false e (ap isLetter z)))
 
 digit-no-gap : (c : ℕ) → isDigit c ≡ true → isGap c ≡ false
-digit-no-gap c e =
-    ap₂ _||_ (ne-eqb c blank (λ z. true-not-false e (ap isDigit z))) (ne-eqb c tab (λ z. true-not-false e (ap isDigit z)))
+digit-no-gap c e = ap₂ _||_ (ne-eqb c blank (λ z. true-not-false e (ap isDigit z))) (ne-eqb c tab (λ z. true-not-false e (ap isDigit z)))
 
 -- the bytes before the first one that is not such a byte
 front-lacks : (picks good : ℕ → Bool) → ((c : ℕ) → good c ≡ true → picks c ≡ false) → (t : Text)

@@ -74,4 +74,5 @@ pub record AheadAsks (text : Text) (past : ℕ) (line : Text) (n : ℕ) : Type 0
 
 -- What stands ahead of the line.
 abbrev pub AheadTold : ℕ → Text → ℕ → Text → ℕ → machine-ahead.Ahead → Type 0
-AheadTold unit text past line n r = (h i : ℕ) (k : Kept) (ks : List Kept) → k .text ≡ take n line → KeptBehind text h i k past ks → aheadOf r ≡ ahead unit (k ∷ ks)
+AheadTold unit text past line n r = (h i : ℕ) (k : Kept) (ks : List Kept) → k .text ≡ take n line → KeptBehind text h i k past ks
+    → aheadOf r ≡ ahead unit (k ∷ ks)

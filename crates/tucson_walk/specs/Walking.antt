@@ -17,7 +17,8 @@ use Rattle.spec_tucson.specs.Shown.{isBlankLine, hasEnd, hasReturn, hasTab, has
 use Rattle.spec_tucson.specs.StrictLine.{hasSite, lineColumns, shownFields, Kept}
 use Rattle.spec_tucson.specs.KeptLines.{keptLines}
 use Rattle.spec_tucson.specs.CleanSeries.{unknownUnit, unitNotSaid, continues, followsIts, reclosed, closedLines, withEnd, strictText}
-use Rattle.spec_tucson.specs.CleanNotes.{ahead, isCutLine, keptNotes, headerNotes, lineNotes, atLine, remarks, Before, closingOr, behind, notesOf}
+use Rattle.spec_tucson.specs.CleanNotes.{ahead, isCutLine, keptNotes, headerNotes, lineNotes, atLine, remarks, Before, closingOr, behind}
+use Rattle.spec_tucson.specs.CleanNotes.{notesOf}
 use Rattle.spec_tucson.specs.CleanCall.{atStart}
 use Rattle.tucson_lines.specs.Machine.{LineEnd}
 use Rattle.tucson_notes.specs.Machine.{SumsUp, aheadOf, marked, strictPut}
@@ -51,13 +52,19 @@ pub record Entered (unit : ℕ) (b : Before) (k : Kept) (ks : List Kept) (s r : 
   pub known-is : r .known ≡ true
 
 abbrev pub EnterTold : ℕ → Text → ℕ → Text → ℕ → Series → Series → Type 0
-EnterTold unit text past line n s r = (h i : ℕ) (b : Before) (k : Kept) (ks : List Kept) → k .text ≡ take n line → KeptBehind text h i k past ks
+EnterTold unit text past line n s r = (h i : ℕ) (b : Before) (k : Kept) (ks : List Kept) → k .text ≡ take n line
+    → KeptBehind text h i k past ks
     → Holds unit b (k ∷ ks) s → Entered unit b k ks s r
 
 -- One line of the series less is ahead.
 abbrev pub LeaveTold : Series → Series → Type 0
 LeaveTold s r = (n : ℕ) → s .ahead .count ≡ suc n
-    → r ≡ record { ahead = record { count = n; closing = s .ahead .closing; fields = s .ahead .fields }; known = s .known; first = s .first }
+    → r ≡ record {
+      ahead = record { count = n; closing = s .ahead .closing; fields = s .ahead .fields };
+      known = s .known;
+      first =
+          s .first;
+    }
 
 -- ---- one line
 
@@ -100,7 +107,8 @@ pub record KeptAsks (line : Text) (w : Walked) : Type 0 where
   pub near : FarFrom w
 
 -- The strict line, its number and its notes are put.
-pub record PutsKept (line : Text) (number unit : ℕ) (m : machine-marks.Marks) (first : Bool) (s : Series) (f : machine-fields.Fields) (w : Walked)
+pub record PutsKept (line : Text) (number unit : ℕ) (m : machine-marks.Marks) (first : Bool) (s : Series) (f : machine-fields.Fields)
+    (w : Walked)
     (out outAfter : Text) (lines linesAfter notes notesAfter : List ℕ) (r : Walked) : Type 0 where
   pub text-put : Puts 79 (w .bytes) (strictPut line (length line) (m .reclosed) unit) out outAfter (r .bytes)
   pub line-put : Puts 1 (w .lines) (number ∷ []) lines linesAfter (r .lines)
@@ -137,7 +145,8 @@ pub record Stepped (unit h : ℕ) (early : Bool) (text : Text) (from past i : �
   pub numbers-are : numbersOf (closedLines unit ks) ≡ numbers ++ numbersOf (closedLines unit others)
   pub cells : List ℕ
   pub cells-put : Puts 22 (w .cells) cells notes notesAfter (r .walked .cells)
-  pub cells-are : notesOf unit h early i b (linesOf (drop from text)) ks ≡ cells ++ notesOf unit h early (i + 1) later (linesOf (drop past text)) others
+  pub cells-are : notesOf unit h early i b (linesOf (drop from text)) ks ≡ cells
+      ++ notesOf unit h early (i + 1) later (linesOf (drop past text)) others
 
 -- What is told of a turn.
 pub record TurnTold (unit h : ℕ) (early : Bool) (text : Text) (from past i : ℕ) (t : Turn)
@@ -168,14 +177,17 @@ pub record Took (unit : ℕ) (early : Bool) (b : Before) (k : Kept) (ks : List K
   pub holds : Holds unit (behind closing k) ks (r .series)
   pub bytes-put : Puts 79 (t .walked .bytes) (withEnd (reclosed unit (continues k ks) (k .text))) out outAfter (r .walked .bytes)
   pub number-put : Puts 1 (t .walked .lines) (k .line ∷ []) lines linesAfter (r .walked .lines)
-  pub cells-put : Puts 22 (t .walked .cells) (atLine (k .line) (lineNotes early (k .raw) (keptNotes unit closing (not (followsIts (b .kept) k)) (ahead unit (k ∷ ks)) k)))
+  pub cells-put : Puts 22 (t .walked .cells)
+      (atLine (k .line) (lineNotes early (k .raw) (keptNotes unit closing (not (followsIts (b .kept) k)) (ahead unit (k ∷ ks)) k)))
       notes notesAfter (r .walked .cells)
 
 pub record TakeTold (unit : ℕ) (early : Bool) (text : Text) (from end number : ℕ) (shown line : Text) (n : ℕ) (site : Bool) (t : Turn)
     (out outAfter : Text) (lines linesAfter notes notesAfter : List ℕ) (r : Turn) : Type 0 where
   pub near : NearTo (t .walked) (r .walked)
-  pub told : (h i : ℕ) (b : Before) (k : Kept) (ks : List Kept) → k .line ≡ number → k .raw ≡ slice from (end + 1) text → k .text ≡ take n line
-      → shownFields (k .raw) ≡ shown → site ≡ hasSite (lines-shown.shown (k .raw)) → KeptBehind text h i k (end + 1) ks → Holds unit b (k ∷ ks) (t .series)
+  pub told : (h i : ℕ) (b : Before) (k : Kept) (ks : List Kept) → k .line ≡ number → k .raw ≡ slice from (end + 1) text
+      → k .text ≡ take n line
+      → shownFields (k .raw) ≡ shown → site ≡ hasSite (lines-shown.shown (k .raw)) → KeptBehind text h i k (end + 1) ks
+      → Holds unit b (k ∷ ks) (t .series)
       → Took unit early b k ks t out outAfter lines linesAfter notes notesAfter r
 
 -- ---- all lines
@@ -193,6 +205,8 @@ pub record WalkedAll (unit h : ℕ) (early : Bool) (text : Text) (at : ℕ) (ks 
   pub cells-put : Puts (22 * (length (linesOf text) + 1)) at (notesOf unit h early 1 atStart (linesOf text) ks) notes notesAfter (r .cells)
 
 -- What is told of the walk: how far the notes go at most, and what is put where all lines are strict lines.
-pub record WalkTold (unit h : ℕ) (early : Bool) (text : Text) (at : ℕ) (out outAfter : Text) (lines linesAfter notes notesAfter : List ℕ) (r : Walked) : Type 0 where
+pub record WalkTold (unit h : ℕ) (early : Bool) (text : Text) (at : ℕ) (out outAfter : Text) (lines linesAfter notes notesAfter : List ℕ)
+    (r : Walked) : Type 0 where
   pub near : r .cells ≤ at + 22 * (length text + 1)
-  pub told : (ks : List Kept) → keptLines h 1 none (linesOf text) ≡ answer ks → WalkedAll unit h early text at ks out outAfter lines linesAfter notes notesAfter r
+  pub told : (ks : List Kept) → keptLines h 1 none (linesOf text) ≡ answer ks
+      → WalkedAll unit h early text at ks out outAfter lines linesAfter notes notesAfter r

@@ -12,7 +12,8 @@ ghost use Rattle.spec_tucson.specs.CleanNotes.{atLine};
 ghost use Rattle.tucson_lines.specs.Machine.{LineEnd};
 ghost use Rattle.tucson_walk.specs.Skipping.{SkipTold};
 ghost use Rattle.tucson_walk.specs.Following.{FollowAsks, DiffersTold, Follows, LastAhead, AheadAsks, AheadTold};
-ghost use Rattle.tucson_walk.specs.Walking.{EnterTold, LeaveTold, reclosing, marksOf, otherNotes, OtherAsks, KeptAsks, PutsKept, TakeAsks, TakeTold, TurnAsks, TurnTold, WalkAsks, WalkTold};
+ghost use Rattle.tucson_walk.specs.Walking.{EnterTold, LeaveTold, reclosing, marksOf, otherNotes, OtherAsks, KeptAsks, PutsKept};
+ghost use Rattle.tucson_walk.specs.Walking.{TakeAsks, TakeTold, TurnAsks, TurnTold, WalkAsks, WalkTold};
 use base_outcome::limits;
 use tucson_notes::Ahead;
 use tucson_notes::Fields;
@@ -273,7 +274,8 @@ fn put_other(
     at: usize,
 ) -> usize
     requires { ⌜ OtherAsks (now text) from end at ⌝ }
-    ensures { λ r. ⌜ Puts 22 at (atLine number (otherNotes early (slice from (end + 1) (now (text .entry))))) (now (notes .entry)) (now (notes .exit)) r ⌝ }
+    ensures { λ r. ⌜ Puts 22 at (atLine number (otherNotes early (slice from (end + 1) (now (text .entry))))) (now (notes .entry))
+        (now (notes .exit)) r ⌝ }
 {
     let marks = marks_of(text, from, end, early, false, false, false);
     if tucson_shown::is_blank_line(text, from, end) {
@@ -341,7 +343,8 @@ fn take_line(
     notes: &mut [usize],
 ) -> Turn
     requires { ⌜ TakeAsks (now text) from end line n t ⌝ }
-    ensures { λ r. ⌜ TakeTold unit early (now (text .entry)) from end number (now (shown .entry)) line n site t (now (out .entry)) (now (out .exit))
+    ensures { λ r. ⌜ TakeTold unit early (now (text .entry)) from end number (now (shown .entry)) line n site t (now (out .entry))
+        (now (out .exit))
         (now (lines .entry)) (now (lines .exit)) (now (notes .entry)) (now (notes .exit)) r ⌝ }
 {
     let old = t.series;
@@ -426,8 +429,8 @@ fn step(
     }
 }
 
-// The strict text of the lines that are kept, their numbers, and the notes of all lines from the index `at` on, as far as the buffers reach;
-// and the indices behind them.
+// The strict text of the lines that are kept, their numbers, and the notes of all lines from the index `at` on, as far as the buffers
+// reach; and the indices behind them.
 pub fn walk(
     text: &[u8],
     early: bool,

@@ -15,12 +15,6 @@ Inv-loop text from count end at₀ left₀ at left = (at ≤ length text) × (fr
 abbrev μ-loop : tie.MeasureT-loop
 μ-loop text from count end at₀ left₀ at left = left
 
-loop-holds : tie.Need-loop-holds Inv-loop μ-loop
-loop-holds c = (c .before .pre, refl)
-
-find-requires : tie.Need-find-requires Inv-loop μ-loop
-find-requires c κs = record { ordered = c .before .loop .inv .0; within = omega arith }
-
 -- a turn of the loop, where the search has ended
 module _ (k : tie.After-find Inv-loop μ-loop) where
   abbrev text : Text
@@ -45,9 +39,6 @@ returns c =
       omega arith,
     )
 
-add-at : tie.Need-add-at Inv-loop μ-loop
-add-at c = let k = c .before in omega (arith, stop-within-text k, c .if1 .left)
-
 loop-again : tie.Need-loop-again Inv-loop μ-loop
 loop-again c =
     let k = c .before in
@@ -61,4 +52,7 @@ returns-2 c =
     (omega (arith, l .inv .1, no-lines (drop (l .at) (c .before .before .before .args .text .now)) (l .left) (omega arith)), l .inv .0)
 
 pub lines-end-spec : {M : Type 1} → statement M
-lines-end-spec = tie.close (tie.spec Inv-loop μ-loop loop-holds find-requires returns add-at (λ c. omega arith) (λ c. omega arith) loop-again returns-2)
+lines-end-spec =
+    tie.close (tie.spec Inv-loop μ-loop (λ c. (c .before .pre, refl))
+    (λ c κs. record { ordered = c .before .loop .inv .0; within = omega arith }) returns
+    (λ c. let k = c .before in omega (arith, stop-within-text k, c .if1 .left)) (λ c. omega arith) (λ c. omega arith) loop-again returns-2)

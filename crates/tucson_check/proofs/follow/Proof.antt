@@ -29,7 +29,13 @@ returns c end raw later is-shown holds =
     let a = s .args in
     let none-held = subst (λ (x : Bool). HoldsBy x (a .unit) (a .h) (a .old-shown .now) (a .old .now) end
     (λ before. keptThen before (record { line = a .number; raw = raw; text = a .line .now }) later)) (not-true (a .h .some) (c .if1 .taken)) holds in
-    record { shown-is = refl; size-is = refl; holds = held-first (a .unit) (a .number) (a .shown .now) (a .line .now) raw end later is-shown (s .pre .strict) (s .pre .numbered) (a .h .judged) _ _ none-held }
+    record {
+      shown-is = refl;
+      size-is = refl;
+      holds =
+          held-first (a .unit) (a .number) (a .shown .now) (a .line .now) raw end later is-shown (s .pre .strict) (s .pre .numbered) (a .h .judged) _ _
+          none-held;
+    }
 
 -- a line is held
 module _ (c : tie.Else1) where

@@ -19,12 +19,6 @@ returns c =
     let told = stop-empty (s .args .text .now) (s .args .from) (s .args .end) (s .pre) (c .if1 .taken) in
     record { after = omega (arith, within s); before = omega arith; are = told .0; returned = told .1 ∙ sym (le-ltb (s .args .end) (s .args .end) (omega arith)) }
 
-sub-if2 : tie.Need-sub-if2
-sub-if2 c = omega (arith, within (c .before), c .if1 .left)
-
-shared-slice-read-if2 : tie.Need-shared-slice-read-if2
-shared-slice-read-if2 c = omega (arith, within (c .before .before), c .before .if1 .left)
-
 returns-2 : tie.Need-returns-2
 returns-2 c =
     let s = c .before .before .before in
@@ -44,4 +38,5 @@ returns-3 c =
 
 pub line-stop-spec : {M : Type 1} → statement M
 line-stop-spec =
-    tie.close (tie.spec returns sub-if2 shared-slice-read-if2 (λ c. search needs) returns-2 returns-3)
+    tie.close (tie.spec returns (λ c. omega (arith, within (c .before), c .if1 .left))
+    (λ c. omega (arith, within (c .before .before), c .before .if1 .left)) (λ c. search needs) returns-2 returns-3)

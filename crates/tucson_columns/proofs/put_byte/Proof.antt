@@ -24,7 +24,8 @@ returns : tie.Need-returns
 returns c =
     let s = c .before .before .before .before .before .before in
     put-as (s .args .n) (s .args .bytes .now) _ _ _ _
-    (sym (ap (λ (b : Bool). cond b (replicate (tabBlanks (s .args .n)) blank) (s .args .byte ∷ [])) (eq-eqb (s .args .byte) tab (c .before .before .before .before .if1 .taken)))) (c .before .before .put-blanks .ensures)
+    (sym (ap (λ (b : Bool). cond b (replicate (tabBlanks (s .args .n)) blank) (s .args .byte ∷ []))
+    (eq-eqb (s .args .byte) tab (c .before .before .before .before .if1 .taken)))) (c .before .before .put-blanks .ensures)
 
 returns-2 : tie.Need-returns-2
 returns-2 c =
@@ -35,12 +36,5 @@ returns-2 c =
 
 pub put-byte-spec : {M : Type 1} → statement M
 put-byte-spec =
-    tie.close
-    (tie.spec
-    (λ c κs. search needs)
-    (λ c. search needs)
-    returns
-    (λ c. search needs)
-    (λ c. search needs)
-    (λ c. search needs)
+    tie.close (tie.spec (λ c κs. search needs) (λ c. search needs) returns (λ c. search needs) (λ c. search needs) (λ c. search needs)
     returns-2)

@@ -20,9 +20,6 @@ Inv-loop bytes n i₀ i = Trimming bytes n i
 abbrev μ-loop : tie.MeasureT-loop
 μ-loop bytes n i₀ i = i
 
-loop-holds : tie.Need-loop-holds Inv-loop μ-loop
-loop-holds c = record { within = omega arith; is = refl }
-
 returns : tie.Need-returns Inv-loop μ-loop
 returns c =
     let s = c .before .before .before .before in
@@ -54,15 +51,5 @@ returns-2 c =
 
 pub trim-blanks-spec : {M : Type 1} → statement M
 trim-blanks-spec =
-    tie.close
-    (tie.spec
-    Inv-loop
-    μ-loop
-    loop-holds
-    (λ c. omega arith)
-    (λ c. omega arith)
-    returns
-    (λ c. omega arith)
-    (λ c. omega arith)
-    loop-again
-    returns-2)
+    tie.close (tie.spec Inv-loop μ-loop (λ c. record { within = omega arith; is = refl }) (λ c. omega arith) (λ c. omega arith) returns
+    (λ c. omega arith) (λ c. omega arith) loop-again returns-2)

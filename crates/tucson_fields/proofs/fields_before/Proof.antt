@@ -79,9 +79,7 @@ module _ (c : tie.After-either Inv-loop μ-loop) where
   small-are = let h = z-fits in simp toZ-ofZ at (c .before .before .both2 .ensures)
 
   nine-is : c .either .result ≡ (l f .loop .nine || same z hundredths)
-  nine-is =
-      let h = z-fits in
-      c .either .ensures ∙ ap (λ (b : Bool). l f .loop .nine || b) (simp toZ-ofZ at (c .before .same .ensures))
+  nine-is = let h = z-fits in c .either .ensures ∙ ap (λ (b : Bool). l f .loop .nine || b) (simp toZ-ofZ at (c .before .same .ensures))
 
 loop-again : tie.Need-loop-again Inv-loop μ-loop
 loop-again c =
@@ -104,23 +102,7 @@ returns-2 c ws e =
 
 pub fields-before-spec : {M : Type 1} → statement M
 fields-before-spec =
-    tie.close
-    (tie.spec
-    Inv-loop
-    μ-loop
-    loop-holds
-    (λ c. let w = c .before .loop .inv .within in omega arith)
-    (λ c κs. let w = c .before .loop .inv .within in omega arith)
-    (λ c. search needs)
-    returns
-    (λ c. search needs)
-    (λ c κs. search needs)
-    (λ c κs. search needs)
-    (λ c κs. search needs)
-    (λ c κs. search needs)
-    (λ c κs. search needs)
-    (λ c. let w = l (f c) .loop .inv .within in omega arith)
-    (λ c. omega arith)
-    (λ c. omega arith)
-    loop-again
-    returns-2)
+    tie.close (tie.spec Inv-loop μ-loop loop-holds (λ c. let w = c .before .loop .inv .within in omega arith)
+    (λ c κs. let w = c .before .loop .inv .within in omega arith) (λ c. search needs) returns (λ c. search needs) (λ c κs. search needs)
+    (λ c κs. search needs) (λ c κs. search needs) (λ c κs. search needs) (λ c κs. search needs)
+    (λ c. let w = l (f c) .loop .inv .within in omega arith) (λ c. omega arith) (λ c. omega arith) loop-again returns-2)

@@ -28,12 +28,6 @@ module _ (c : tie.Start) where
   line : Stands t
   line = stands t (c .pre)
 
-sub-n : tie.Need-sub-n
-sub-n c = let s = line (c .before) in omega arith
-
-numeral-requires : tie.Need-numeral-requires
-numeral-requires c κs = let s = line (c .before) in omega arith
-
 returns : tie.Need-returns
 returns c =
     let k = c .before .before .before in
@@ -41,9 +35,6 @@ returns c =
     let bad = field-none _ (sym (k .numeral .ensures) ∙ c .before .enum-told .given .1) in
     let y = s .year in
     clash cc
-
-sub-numeral : tie.Need-sub-numeral
-sub-numeral c = let b = c .before .before .before .before .before in let s = line b in omega arith
 
 -- a year and a last field
 module _ (c : tie.After-known-told2) where
@@ -63,12 +54,6 @@ returns-2 c =
     let bad = field-none _ (sym (k .numeral2 .ensures) ∙ c .before .enum-told2 .given .1) in
     let y = s .last in
     clash cc
-
-sub-fields-before : tie.Need-sub-fields-before
-sub-fields-before c = let s = line (start c) in omega (arith, s .count)
-
-fields-before-requires : tie.Need-fields-before-requires
-fields-before-requires c κs = let s = line (start c) in omega (arith, s .count)
 
 returns-3 : tie.Need-returns-3
 returns-3 c =
@@ -103,20 +88,7 @@ returns-3 c =
 
 pub numbers-spec : {M : Type 1} → statement M
 numbers-spec =
-    tie.close
-    (tie.spec
-    sub-n
-    numeral-requires
-    (λ c. search needs)
-    (λ c. search needs)
-    (λ c κs. search needs)
-    returns
-    sub-numeral
-    (λ c κs. search needs)
-    (λ c. search needs)
-    (λ c. search needs)
-    (λ c κs. search needs)
-    returns-2
-    sub-fields-before
-    fields-before-requires
-    returns-3)
+    tie.close (tie.spec (λ c. let s = line (c .before) in omega arith) (λ c κs. let s = line (c .before) in omega arith) (λ c. search needs)
+    (λ c. search needs) (λ c κs. search needs) returns (λ c. let b = c .before .before .before .before .before in let s = line b in omega arith)
+    (λ c κs. search needs) (λ c. search needs) (λ c. search needs) (λ c κs. search needs) returns-2
+    (λ c. let s = line (start c) in omega (arith, s .count)) (λ c κs. let s = line (start c) in omega (arith, s .count)) returns-3)

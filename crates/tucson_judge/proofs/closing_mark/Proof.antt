@@ -12,9 +12,6 @@ use Rattle.tucson_judge.proofs.Closing.{mark-kept, mark-unit, mark-clos
 use Rattle.tucson_judge.proofs.closing_mark.Statement.{statement}
 use Rattle.tucson_judge.proofs.closing_mark.Tie as tie
 
-returns : tie.Need-returns
-returns c = mark-kept (c .before .before .args .m) _ (c .if1 .taken)
-
 -- the test of the unit
 unit-test : (c : tie.After-is-unit-fault) → c .is-unit-fault .result ≡ isUnitFault (c .before .before .before .args .unit) (c .before .before .before .args .last)
 unit-test c = let f = c .before .before .before .fits .last in simp toZ-ofZ at (c .is-unit-fault .ensures)
@@ -49,4 +46,5 @@ returns-4 c =
 
 pub closing-mark-spec : {M : Type 1} → statement M
 closing-mark-spec =
-    tie.close (tie.spec returns (λ c κs. search needs) returns-2 (λ c κs. search needs) (λ c κs. search needs) returns-3 returns-4)
+    tie.close (tie.spec (λ c. mark-kept (c .before .before .args .m) _ (c .if1 .taken)) (λ c κs. search needs) returns-2
+    (λ c κs. search needs) (λ c κs. search needs) returns-3 returns-4)

@@ -8,9 +8,6 @@ use Rattle.tucson_judge.proofs.Closing.{line-kept, no-line, line-some, 
 use Rattle.tucson_judge.proofs.first_line.Statement.{statement}
 use Rattle.tucson_judge.proofs.first_line.Tie as tie
 
-returns : tie.Need-returns
-returns c = line-kept (c .before .args .line) _ (c .if1 .taken)
-
 returns-2 : tie.Need-returns-2
 returns-2 c =
     let a = c .before .before .args in
@@ -24,4 +21,4 @@ returns-3 c =
     ∙ ap (λ (b : Bool). or-else (lineFound (a .line)) (cond b (some (a .number)) none)) (sym (c .if2 .left))
 
 pub first-line-spec : {M : Type 1} → statement M
-first-line-spec = tie.close (tie.spec returns returns-2 returns-3)
+first-line-spec = tie.close (tie.spec (λ c. line-kept (c .before .args .line) _ (c .if1 .taken)) returns-2 returns-3)

@@ -16,9 +16,7 @@ in-decade : (c : tie.After-year-in-decade) → c .year-in-decade .result ≡ yea
 in-decade c = let f = c .before .before .before .before .fits .year in simp toZ-ofZ at (c .year-in-decade .ensures)
 
 add-both : tie.Need-add-both
-add-both c =
-    let s = c .before .before .before .before in
-    omega (arith, in-decade c, year-below (s .args .year), s .pre)
+add-both c = let s = c .before .before .before .before in omega (arith, in-decade c, year-below (s .args .year), s .pre)
 
 returns : tie.Need-returns
 returns c =
@@ -36,13 +34,5 @@ returns c =
 
 pub is-good-spec : {M : Type 1} → statement M
 is-good-spec =
-    tie.close
-    (tie.spec
-    (λ c κs. search needs)
-    (λ c κs. search needs)
-    (λ c κs. search needs)
-    (λ c κs. search needs)
-    add-both
-    (λ c κs. search needs)
-    (λ c κs. search needs)
-    returns)
+    tie.close (tie.spec (λ c κs. search needs) (λ c κs. search needs) (λ c κs. search needs) (λ c κs. search needs) add-both
+    (λ c κs. search needs) (λ c κs. search needs) returns)

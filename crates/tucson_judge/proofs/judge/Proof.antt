@@ -5,8 +5,6 @@ use mathlib.Core.Option.{Option, some, none}
 use mathlib.Core.Path.{_≡_, refl, sym, _∙_, ap, ap₂}
 use Prim.Native.Nat.{ℕ, _≤_}
 use native.Mathlib.Omega.{arith}
-use lib.IntN.{ℤ}
-use lib.ListN.{length}
 use mir.Syntax.{w32}
 use mir.Val.{SFits}
 use Rattle.base_exact.proofs.Word.{toZ-ofZ}
@@ -25,10 +23,7 @@ use Rattle.tucson_judge.proofs.judge.Statement.{statement}
 use Rattle.tucson_judge.proofs.judge.Tie as tie
 
 runs-in-requires : tie.Need-runs-in-requires
-runs-in-requires c κs =
-    let s = c .before .before .before in
-    let l = stands (s .args .line .now) (s .pre .strict) in
-    omega (arith, l .size)
+runs-in-requires c κs = let s = c .before .before .before in let l = stands (s .args .line .now) (s .pre .strict) in omega (arith, l .size)
 
 -- the line's numbers
 module _ (c : tie.After-before2) where
@@ -102,15 +97,6 @@ returns-2 c k before b text-is at follows-is tracks =
 
 pub judge-spec : {M : Type 1} → statement M
 judge-spec =
-    tie.close
-    (tie.spec
-    (λ c κs. c .before .pre .strict)
-    (λ c κs. search needs)
-    runs-in-requires
-    (λ c κs. c .before .before .before .before .pre .numbered)
-    (λ c κs. search needs)
-    (λ c κs. search needs)
-    read-requires
-    returns
-    (λ c κs. search needs)
-    returns-2)
+    tie.close (tie.spec (λ c κs. c .before .pre .strict) (λ c κs. search needs) runs-in-requires
+    (λ c κs. c .before .before .before .before .pre .numbered) (λ c κs. search needs) (λ c κs. search needs) read-requires returns
+    (λ c κs. search needs) returns-2)

@@ -4,9 +4,7 @@ use borrow.Author.Tests.{not-true, not-false}
 use mathlib.Core.Bool.{Bool, true, false, _&&_, _||_}
 use mathlib.Core.Path.{_≡_, sym, _∙_, ap, subst}
 use Prim.Native.Nat.{ℕ, _+_}
-use native.Mathlib.Omega.{arith}
 use lib.Dec.{leb}
-use lib.IntN.{ℤ}
 use mir.Syntax.{w32}
 use mir.Val.{SFits}
 use Rattle.base_exact.proofs.Word.{toZ-ofZ}
@@ -31,10 +29,7 @@ module _ (c : tie.After-is-good) where
 
   is-good : c .is-good .result
       ≡ (leb (yearInDecade (s .args .f .year) + s .args .f .count) decade && (s .args .f .widths && (isWidth (s .args .last) || same (s .args .last) thousandths)))
-  is-good =
-      let y = year-fits in
-      let l = last-fits in
-      simp toZ-ofZ at (c .is-good .ensures)
+  is-good = let y = year-fits in let l = last-fits in simp toZ-ofZ at (c .is-good .ensures)
 
 returns : tie.Need-returns
 returns c place b t l is reads tracks =
@@ -61,9 +56,6 @@ returns-2 c place b t l is reads tracks =
     let told = good-line t l (a .f) (a .last) is reads (s k .pre .some-field) (sym (is-good k) ∙ not-false _ (e .if1 .left)) in
     subst (λ (m : Bool). Told place b (readLine place b m t) (c .extend .result)) (sym (c .before .before .before .if2 .taken)) (passed .told place b t tracks told)
 
-close-requires : tie.Need-close-requires
-close-requires c κs = s (c .before .before .before .before) .pre .some-field
-
 returns-3 : tie.Need-returns-3
 returns-3 c place b t l is reads tracks =
     let e = c .before .before .before .before in
@@ -77,4 +69,6 @@ returns-3 c place b t l is reads tracks =
     subst (λ (m : Bool). Told place b (readLine place b m t) (c .close .result)) (sym (c .before .before .before .if2 .left)) (passed .told place b t tracks told)
 
 pub pass-spec : {M : Type 1} → statement M
-pass-spec = tie.close (tie.spec (λ c κs. search needs) returns extend-requires returns-2 close-requires returns-3)
+pass-spec =
+    tie.close (tie.spec (λ c κs. search needs) returns extend-requires returns-2
+    (λ c κs. s (c .before .before .before .before) .pre .some-field) returns-3)

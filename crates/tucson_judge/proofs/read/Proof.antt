@@ -26,9 +26,6 @@ returns : tie.Need-returns
 returns c k l b at is numbers tracks =
     record { begun-behind = b; tracks = tracks; same-end = λ ks e. refused-stays (c .before .before .args .r) b b _ _ (c .if1 .taken) }
 
-pass-requires : tie.Need-pass-requires
-pass-requires c κs = c .before .before .before .before .pre .fit
-
 -- what is told of the line's step
 module _ (c : tie.After-pass) where
   abbrev s : tie.Start
@@ -76,12 +73,5 @@ returns-3 c k l b at is numbers tracks =
 
 pub read-spec : {M : Type 1} → statement M
 read-spec =
-    tie.close
-    (tie.spec
-    returns
-    (λ c κs. search needs)
-    pass-requires
-    (λ c. search needs)
-    (λ c. search needs)
-    returns-2
-    returns-3)
+    tie.close (tie.spec returns (λ c κs. search needs) (λ c κs. c .before .before .before .before .pre .fit) (λ c. search needs)
+    (λ c. search needs) returns-2 returns-3)

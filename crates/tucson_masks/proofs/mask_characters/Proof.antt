@@ -64,7 +64,8 @@ loop-again c =
           rw (add-one, take-suc-set (l .line) (l .count) (c .mask .result) (omega (arith, l .inv .size, l .inv .fewer, s .pre)))
           (l .inv .are
           ∙ ap (behind (take (l .count) (l .line))) (z .ensures .is
-          ∙ ap (λ (b : Bool). cond b none (withMasked (maskedByte (getD bytes (l .i) 0)) (charactersMasked (slice (l .i + z .result) (s .args .n) bytes)))) (ne-eqb (z .result) 0 (c .before .before .if1 .left)))
+          ∙ ap (λ (b : Bool). cond b none (withMasked (maskedByte (getD bytes (l .i) 0)) (charactersMasked (slice (l .i + z .result) (s .args .n) bytes))))
+          (ne-eqb (z .result) 0 (c .before .before .if1 .left)))
           ∙ behind-next (take (l .count) (l .line)) (maskedByte (getD bytes (l .i) 0)) (charactersMasked (slice (l .i + z .result) (s .args .n) bytes))
           ∙ ap (λ (x : ℕ). behind (take (l .count) (l .line) ++ (x ∷ [])) (charactersMasked (slice (l .i + z .result) (s .args .n) bytes))) (sym (c .mask .ensures)));
     }

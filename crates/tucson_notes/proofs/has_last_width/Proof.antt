@@ -1,5 +1,4 @@
 -- The last line, or the one before a last line that has the closing alone.
-use borrow.Author.Needs.{needs}
 use borrow.Author.Tests.{eq-eqb, ne-eqb}
 use mathlib.Core.Path.{_≡_, ap, _∙_, sym}
 use native.Mathlib.Omega.{arith}
@@ -21,9 +20,7 @@ returns-2 c =
 
 returns-3 : tie.Need-returns-3
 unfolding hasLastWidth aheadOf
-returns-3 c =
-    let n = c .before .before .before .before .args .ahead .count in
-    rw (ne-eqb n 1 (omega arith), ne-eqb n 2 (omega arith))
+returns-3 c = let n = c .before .before .before .before .args .ahead .count in rw (ne-eqb n 1 (omega arith), ne-eqb n 2 (omega arith))
 
 pub has-last-width-spec : {M : Type 1} → statement M
 has-last-width-spec = tie.close (tie.spec returns returns-2 returns-3)

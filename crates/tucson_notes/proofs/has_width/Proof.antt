@@ -1,9 +1,6 @@
 -- The closing is no width.
-use borrow.Author.Needs.{needs}
 use mathlib.Core.Path.{_≡_, ap, _∙_, sym}
 use mathlib.Core.Bool.{Bool, not}
-use mathlib.Core.List.{List}
-use lib.IntN.{ℤ}
 use Rattle.spec_tucson.specs.CleanNotes.{isEmpty}
 use Rattle.tucson_notes.specs.Machine.{widthsOn}
 use Rattle.tucson_notes.proofs.Remarks.{empty-last, empty-other}

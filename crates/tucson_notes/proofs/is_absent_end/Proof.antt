@@ -22,9 +22,7 @@ has c fs s = c .before .has-width .ensures .told fs s ∙ c .if1 .left
 
 returns : tie.Need-returns
 unfolding aheadOf
-returns c = record {
-  told = λ fs s. absent-none _ _ _ (c .before .has-width .ensures .told fs s ∙ c .if1 .taken);
-}
+returns c = record { told = λ fs s. absent-none _ _ _ (c .before .has-width .ensures .told fs s ∙ c .if1 .taken) }
 
 returns-2 : tie.Need-returns-2
 unfolding aheadOf
@@ -59,15 +57,5 @@ returns-3 c =
 
 pub is-absent-end-spec : {M : Type 1} → statement M
 is-absent-end-spec =
-    tie.close
-    (tie.spec
-    (λ c κs. search needs)
-    returns
-    (λ c κs. search needs)
-    (λ c κs. search needs)
-    returns-2
-    (λ c κs. search needs)
-    (λ c κs. search needs)
-    (λ c κs. search needs)
-    (λ c κs. search needs)
-    returns-3)
+    tie.close (tie.spec (λ c κs. search needs) returns (λ c κs. search needs) (λ c κs. search needs) returns-2 (λ c κs. search needs)
+    (λ c κs. search needs) (λ c κs. search needs) (λ c κs. search needs) returns-3)

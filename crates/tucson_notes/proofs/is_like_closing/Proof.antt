@@ -1,7 +1,6 @@
 -- The closing of thousandths, and the last width.
 use borrow.Author.Needs.{needs}
 use mathlib.Core.Bool.{Bool, false, _&&_}
-use mathlib.Core.List.{List}
 use mathlib.Core.Path.{_≡_, ap, ap₂, _∙_, sym}
 use lib.Dec.{eqb}
 use lib.IntN.{ℤ, pos}
@@ -37,4 +36,5 @@ returns-2 c =
 
 pub is-like-closing-spec : {M : Type 1} → statement M
 is-like-closing-spec =
-    tie.close (tie.spec (λ c κs. search needs) returns (λ c κs. search needs) (λ c κs. search needs) (λ c κs. search needs) (λ c κs. search needs) returns-2)
+    tie.close (tie.spec (λ c κs. search needs) returns (λ c κs. search needs) (λ c κs. search needs) (λ c κs. search needs)
+    (λ c κs. search needs) returns-2)

@@ -18,15 +18,6 @@ module _ (s : tie.Start) where
   some : 1 ≤ fieldCount (take (s .args .n) (s .args .line .now))
   some = strict-size (take (s .args .n) (s .args .line .now)) (s .pre .strict) .some-field
 
-sub-count : tie.Need-sub-count
-sub-count c = omega (arith, columns (c .before))
-
-sub-field : tie.Need-sub-field
-sub-field c = omega (arith, columns (c .before))
-
-field-requires : tie.Need-field-requires
-field-requires c κs = let s = c .before in omega (arith, columns s, some s, s .pre .within)
-
 returns : tie.Need-returns
 returns c =
     let s = c .before .before in
@@ -39,4 +30,6 @@ returns c =
     }
 
 pub last-field-spec : {M : Type 1} → statement M
-last-field-spec = tie.close (tie.spec sub-count sub-field field-requires returns)
+last-field-spec =
+    tie.close (tie.spec (λ c. omega (arith, columns (c .before))) (λ c. omega (arith, columns (c .before)))
+    (λ c κs. let s = c .before in omega (arith, columns s, some s, s .pre .within)) returns)

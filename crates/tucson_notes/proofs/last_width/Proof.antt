@@ -1,5 +1,4 @@
 -- The field before the closing, or the last one.
-use borrow.Author.Needs.{needs}
 use mathlib.Core.Path.{_≡_, ap, _∙_, sym}
 use mathlib.Core.Bool.{Bool, cond}
 use mir.Syntax.{w32}

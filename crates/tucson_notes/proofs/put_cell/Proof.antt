@@ -7,9 +7,6 @@ use Rattle.base_print.proofs.Buffer.{written-byte, written-byte-past}
 use Rattle.tucson_notes.proofs.put_cell.Statement.{statement}
 use Rattle.tucson_notes.proofs.put_cell.Tie as tie
 
-same-length : tie.Need-same-length
-same-length c = ⊎-elim (λ w. ap length (w .1) ∙ simp length-set) (λ w. ap length (w .1)) (c .if1 .came)
-
 returns : tie.Need-returns
 returns c = record {
   contents = ⊎-elim (λ w. w .1 ∙ written-byte _ _ _) (λ w. w .1 ∙ written-byte-past _ _ _ (w .0 .left)) (c .if1 .came);
@@ -18,4 +15,6 @@ returns c = record {
 }
 
 pub put-cell-spec : {M : Type 1} → statement M
-put-cell-spec = tie.close (tie.spec (λ c. search needs) (λ c. search needs) (λ c. search needs) same-length returns)
+put-cell-spec =
+    tie.close (tie.spec (λ c. search needs) (λ c. search needs) (λ c. search needs)
+    (λ c. ⊎-elim (λ w. ap length (w .1) ∙ simp length-set) (λ w. ap length (w .1)) (c .if1 .came)) returns)

@@ -7,7 +7,6 @@ use mathlib.Core.List.{[], _∷_}
 use mathlib.Core.Path.{_≡_, refl, sym, _∙_, ap}
 use Prim.Native.Nat.{ℕ}
 use lib.Dec.{eqb}
-use lib.IntN.{ℤ, pos}
 use Rattle.base_text.specs.Bytes.{Text}
 use Rattle.base_text.specs.Numeral.{digitsUpTo, digits, decimal}
 use Rattle.base_print.proofs.Buffer.{puts-as}
@@ -27,12 +26,14 @@ unfolding closingOf columns decimal digits digitsUpTo
 thousandths-are unit e = ap (λ (b : Bool). columns fieldColumns (cond b hundredths thousandths)) (sym e)
 
 returns : tie.Need-returns
-returns c = let s = c .before .before .before .before .before .before .before in puts-as (hundredths-are (s .args .unit) (eq-eqb (s .args .unit) 100 (omega arith))) (c .before .before .put-text .ensures)
+returns c = let s = c .before .before .before .before .before .before .before in puts-as
+    (hundredths-are (s .args .unit) (eq-eqb (s .args .unit) 100 (omega arith))) (c .before .before .put-text .ensures)
 
 returns-2 : tie.Need-returns-2
-returns-2 c = let s = c .before .before .before .before .before .before .before in puts-as (thousandths-are (s .args .unit) (ne-eqb (s .args .unit) 100 (omega arith))) (c .before .before .put-text2 .ensures)
+returns-2 c = let s = c .before .before .before .before .before .before .before in puts-as
+    (thousandths-are (s .args .unit) (ne-eqb (s .args .unit) 100 (omega arith))) (c .before .before .put-text2 .ensures)
 
 pub put-closing-spec : {M : Type 1} → statement M
 put-closing-spec =
-    tie.close
-    (tie.spec (λ c. search needs) (λ c κs. search needs) (λ c. search needs) returns (λ c. search needs) (λ c κs. search needs) (λ c. search needs) returns-2)
+    tie.close (tie.spec (λ c. search needs) (λ c κs. search needs) (λ c. search needs) returns (λ c. search needs) (λ c κs. search needs)
+    (λ c. search needs) returns-2)

@@ -15,7 +15,8 @@ returns c =
     let p1 = p2 .before .before .before .before in
     let s = c .before .before .before .before .before .before .before .before .before .before .before .before .before .before .before .before in
     puts-as (unit-closing (s .args .line .now) (s .args .n) (s .args .unit) (s .args .reclosed) (search needs))
-    (puts-within (let k = s .args .n - 6 - 0 in omega (arith, length-take-le k (s .args .line .now) (omega (arith, s .pre .within)), s .pre .short)) (puts-then (p1 .put-text .ensures) (puts-then (p2 .put-closing .ensures) (p3 .put .ensures))))
+    (puts-within (let k = s .args .n - 6 - 0 in omega (arith, length-take-le k (s .args .line .now) (omega (arith, s .pre .within)), s .pre .short))
+    (puts-then (p1 .put-text .ensures) (puts-then (p2 .put-closing .ensures) (p3 .put .ensures))))
 
 returns-2 : tie.Need-returns-2
 returns-2 c =
@@ -23,25 +24,11 @@ returns-2 c =
     let p1 = p2 .before .before .before .before in
     let s = c .before .before .before .before .before .before .before .before .before .before .before .before in
     puts-as (own-closing (s .args .line .now) (s .args .n) (s .args .unit) (s .args .reclosed) (search needs))
-    (puts-within (let k = s .args .n - 0 in omega (arith, length-take-le k (s .args .line .now) (omega (arith, s .pre .within)), s .pre .short)) (puts-then (p1 .put-bytes .ensures) (p2 .put2 .ensures)))
+    (puts-within (let k = s .args .n - 0 in omega (arith, length-take-le k (s .args .line .now) (omega (arith, s .pre .within)), s .pre .short))
+    (puts-then (p1 .put-bytes .ensures) (p2 .put2 .ensures)))
 
 pub put-strict-spec : {M : Type 1} → statement M
 put-strict-spec =
-    tie.close
-    (tie.spec
-    (λ c. search needs)
-    (λ c. search needs)
-    (λ c. search needs)
-    (λ c. search needs)
-    (λ c κs. search needs)
-    (λ c κs. search needs)
-    (λ c κs. search needs)
-    (λ c. search needs)
-    returns
-    (λ c. search needs)
-    (λ c. search needs)
-    (λ c. search needs)
-    (λ c κs. search needs)
-    (λ c κs. search needs)
-    (λ c. search needs)
-    returns-2)
+    tie.close (tie.spec (λ c. search needs) (λ c. search needs) (λ c. search needs) (λ c. search needs) (λ c κs. search needs)
+    (λ c κs. search needs) (λ c κs. search needs) (λ c. search needs) returns (λ c. search needs) (λ c. search needs) (λ c. search needs)
+    (λ c κs. search needs) (λ c κs. search needs) (λ c. search needs) returns-2)

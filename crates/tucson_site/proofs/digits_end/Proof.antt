@@ -29,9 +29,6 @@ Inv-loop text from to i₀ i = (i ≤ to) × (from + digitsBefore (slice from to
 abbrev μ-loop : tie.MeasureT-loop
 μ-loop text from to i₀ i = to - i
 
-loop-holds : tie.Need-loop-holds Inv-loop μ-loop
-loop-holds c = (c .pre .ordered, refl)
-
 returns : tie.Need-returns Inv-loop μ-loop
 returns c =
     let l = c .before .before .before .loop in
@@ -60,16 +57,5 @@ returns-3 c =
 
 pub digits-end-spec : {M : Type 1} → statement M
 digits-end-spec =
-    tie.close
-    (tie.spec
-    Inv-loop
-    μ-loop
-    loop-holds
-    (λ c. omega arith)
-    returns
-    (λ c. omega arith)
-    returns-2
-    (λ c. omega arith)
-    (λ c. omega arith)
-    loop-again
-    returns-3)
+    tie.close (tie.spec Inv-loop μ-loop (λ c. (c .pre .ordered, refl)) (λ c. omega arith) returns (λ c. omega arith) returns-2
+    (λ c. omega arith) (λ c. omega arith) loop-again returns-3)

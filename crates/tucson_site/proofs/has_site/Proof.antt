@@ -36,9 +36,6 @@ returns c =
     let k = c .before in
     sym (site-behind lineColumns (t k) ∙ ap (λ (b : Bool). b && isSiteName (drop (gapBefore (t k)) (t k))) (lt-leb 1 (gapBefore (t k)) (omega (arith, name-is k, c .if1 .taken))))
 
-is-site-name-requires : tie.Need-is-site-name-requires
-is-site-name-requires c κs = let k = c .before in record { ordered = name-within k; within = s k .pre .within }
-
 returns-2 : tie.Need-returns-2
 returns-2 c =
     let k = c .before .before in
@@ -48,4 +45,6 @@ returns-2 c =
     ∙ ap (λ (n : ℕ). slice n (s k .args .to) (s k .args .text .now)) (sym (name-is k))))
 
 pub has-site-spec : {M : Type 1} → statement M
-has-site-spec = tie.close (tie.spec (λ c κs. search needs) returns is-site-name-requires returns-2)
+has-site-spec =
+    tie.close (tie.spec (λ c κs. search needs) returns
+    (λ c κs. let k = c .before in record { ordered = name-within k; within = s k .pre .within }) returns-2)

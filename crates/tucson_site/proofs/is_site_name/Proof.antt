@@ -57,9 +57,6 @@ returns c = let k = c .before in sym (site-few (t k) (omega (arith, number-is k,
 returns-2 : tie.Need-returns-2
 returns-2 c = let k = c .before .before in sym (site-many (t k) (omega (arith, number-is k, c .if2 .taken)))
 
-digits-end-requires : tie.Need-digits-end-requires
-digits-end-requires c κs = let k = c .before .before in record { ordered = number-within k; within = s k .pre .within }
-
 -- and the digits
 module _ (c : tie.After-digits-end) where
   abbrev k1 : tie.After-letters-end
@@ -89,17 +86,11 @@ returns-3 c =
     let k = k1 d in
     sym (site-digits (t k) (u k) (rest k) (enough d) (few d) (λ e. c .if3 .taken (omega (arith, last-is d))))
 
-sub-if4 : tie.Need-sub-if4
-sub-if4 c = number-within (k1 (c .before))
-
 returns-4 : tie.Need-returns-4
 returns-4 c =
     let d = c .before .before in
     let k = k1 d in
     sym (site-long (t k) (u k) (rest k) (enough d) (few d) (omega (arith, last-is d, c .before .if3 .left)) (omega (arith, u-size d, c .if4 .taken)))
-
-letters-end-requires-2 : tie.Need-letters-end-requires-2
-letters-end-requires-2 c κs = let d = c .before .before in record { ordered = last-within d; within = s (k1 d) .pre .within }
 
 returns-5 : tie.Need-returns-5
 returns-5 c =
@@ -115,18 +106,7 @@ returns-5 c =
 
 pub is-site-name-spec : {M : Type 1} → statement M
 is-site-name-spec =
-    tie.close
-    (tie.spec
-    (λ c κs. search needs)
-    (λ c. search needs)
-    returns
-    (λ c. search needs)
-    returns-2
-    digits-end-requires
-    (λ c. search needs)
-    returns-3
-    sub-if4
-    (λ c. search needs)
-    returns-4
-    letters-end-requires-2
-    returns-5)
+    tie.close (tie.spec (λ c κs. search needs) (λ c. search needs) returns (λ c. search needs) returns-2
+    (λ c κs. let k = c .before .before in record { ordered = number-within k; within = s k .pre .within }) (λ c. search needs) returns-3
+    (λ c. number-within (k1 (c .before))) (λ c. search needs) returns-4
+    (λ c κs. let d = c .before .before in record { ordered = last-within d; within = s (k1 d) .pre .within }) returns-5)

@@ -19,9 +19,6 @@ Inv-loop text from to i₀ i = (i ≤ to) × (from + lettersBefore (slice from t
 abbrev μ-loop : tie.MeasureT-loop
 μ-loop text from to i₀ i = to - i
 
-loop-holds : tie.Need-loop-holds Inv-loop μ-loop
-loop-holds c = (c .before .pre .ordered, refl)
-
 returns : tie.Need-returns Inv-loop μ-loop
 returns c =
     let l = c .before .before .before .before .loop in
@@ -46,15 +43,5 @@ returns-2 c =
 
 pub letters-end-spec : {M : Type 1} → statement M
 letters-end-spec =
-    tie.close
-    (tie.spec
-    Inv-loop
-    μ-loop
-    loop-holds
-    (λ c. omega arith)
-    (λ c κs. search needs)
-    returns
-    (λ c. omega arith)
-    (λ c. omega arith)
-    loop-again
-    returns-2)
+    tie.close (tie.spec Inv-loop μ-loop (λ c. (c .before .pre .ordered, refl)) (λ c. omega arith) (λ c κs. search needs) returns
+    (λ c. omega arith) (λ c. omega arith) loop-again returns-2)
