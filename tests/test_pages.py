@@ -14,6 +14,8 @@ CHECKS = {
     "statements": ["tests/statements.py"],
     "wrong-statements": ["tests/statements.py", "--self-test"],
     "must-fail-table": ["tests/must_fail_table.py"],
+    "proofs-layout": ["tests/proofs_layout.py"],
+    "wrong-proofs-layout": ["tests/proofs_layout.py", "--self-test"],
     "r-made": ["tests/r_made.py"],
     "floors": ["docs/src/picture_floors.py", "--check"],
     "columns": ["tests/columns.py"],

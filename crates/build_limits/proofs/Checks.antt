@@ -1,5 +1,5 @@
 -- What a search found, as the refusal that it stands for or as what follows; and the whole check as the chain of its refusals.
-use mathlib.Core.Path.{_≡_, sym, _∙_, ap}
+use mathlib.Core.Path.{_≡_, refl, sym, _∙_, ap}
 use mathlib.Core.Bool.{true, false, cond}
 use mathlib.Core.Option.{Option, some, none}
 use Prim.Native.Nat.{ℕ, _+_, _-_}
@@ -9,8 +9,10 @@ use Rattle.base_outcome.specs.Outcome.{Outcome, answer, refusal, refuse, capped
 use Rattle.base_outcome.specs.Machine.{legality, found}
 use Rattle.base_outcome.specs.Search.{first}
 use Rattle.base_outcome.specs.Tests.{refuseFirst}
+use Rattle.base_outcome.specs.declared.Found.{Found}
 use Rattle.base_outcome.specs.declared.Found.the-variants.{At, Nothing}
-use Rattle.base_outcome.specs.declared.Legality.the-variants.{Legal, Refused}
+use Rattle.base_outcome.specs.declared.Legality.{Legality}
+use Rattle.base_outcome.specs.declared.Legality.the-variants.{Refused}
 use Rattle.base_outcome.proofs.Machine.{found-some-inverts, found-none-inverts, refusal-refused}
 use Rattle.base_outcome.proofs.Outcome.{capped-small}
 use Rattle.spec_spline.specs.Space.{Space, segments, lengthsFit, partEnd, partEndAt, checkedEntries, checked}
@@ -18,27 +20,25 @@ use Rattle.build_rules.specs.Rules.{broken}
 use Rattle.build_rules.specs.declared.Rule.the-variants.{Breakpoint, Span, Degree, Order, Segments}
 use Rattle.build_limits.specs.Checks.{breaksChecked, spansChecked, degreesChecked, ordersChecked, partsChecked}
 
--- ---- one refusal
+-- ---- one link of the chain: what its search finds is refused, else the rest of the chain answers
 
-module _ (code : ℕ) (o : Option ℕ) (rest : Outcome Space) where
-  refused-at : {i : ℕ} → found o ≡ At i → legality (refuseFirst code o rest) ≡ Refused code (capped i)
-  refused-at {i} e = refusal-refused (refuseFirst code o rest) (ap (λ q. refuseFirst code q rest) (found-some-inverts o e))
+pub record Link (code : ℕ) (o : Option ℕ) (rest whole : Outcome Space) : Type 0 where
+  pub is : whole ≡ refuseFirst code o rest
 
-  passed : found o ≡ Nothing → legality (refuseFirst code o rest) ≡ legality rest
-  passed e = ap (λ q. legality (refuseFirst code q rest)) (found-none-inverts o e)
+module _ {code : ℕ} {o : Option ℕ} {rest whole : Outcome Space} (h : Link code o rest whole) {f : Found} (searched : f ≡ found o) where
+  pub link-refused : {i p : ℕ} → f ≡ At i → p ≡ capped i → Refused code p ≡ legality whole
+  link-refused {i} {p} e place =
+      ap (Refused code) place ∙ sym (refusal-refused whole (h .is ∙ ap (λ q. refuseFirst code q rest) (found-some-inverts o (sym searched ∙ e))))
 
--- ---- the links of the chain
+  pub link-passed : {r : Legality} → f ≡ Nothing → r ≡ legality rest → r ≡ legality whole
+  link-passed {r} e next = next ∙ sym (ap legality (h .is ∙ ap (λ q. refuseFirst code q rest) (found-none-inverts o (sym searched ∙ e))))
+
+-- ---- the links
 
 module _ (s : Space) where
-  pub breaks-refused : {i : ℕ} → length (s .breaks) ≡ segments s + 1 → found (first (length (s .breaks)) (broken Breakpoint s)) ≡ At i
-      → legality (breaksChecked s) ≡ Refused 3 (capped i)
+  pub breaks-link : length (s .breaks) ≡ segments s + 1 → Link 3 (first (length (s .breaks)) (broken Breakpoint s)) (spansChecked s) (breaksChecked s)
   unfolding broken breaksChecked
-  breaks-refused n e = refused-at 3 _ (spansChecked s) (ap (λ k. found (first k (broken Breakpoint s))) (sym n) ∙ e)
-
-  pub breaks-pass : length (s .breaks) ≡ segments s + 1 → found (first (length (s .breaks)) (broken Breakpoint s)) ≡ Nothing
-      → legality (breaksChecked s) ≡ legality (spansChecked s)
-  unfolding broken breaksChecked
-  breaks-pass n e = passed 3 _ (spansChecked s) (ap (λ k. found (first k (broken Breakpoint s))) (sym n) ∙ e)
+  breaks-link n = record { is = ap (λ k. refuseFirst 3 (first k (broken Breakpoint s)) (spansChecked s)) (sym n) }
 
   -- at the end of the part
   pub spans-refused : {i : ℕ} → found (first (segments s) (broken Span s)) ≡ At i
@@ -50,34 +50,19 @@ module _ (s : Space) where
   unfolding broken spansChecked
   spans-pass e = ap (λ q. legality (refuseFirst 3 (partEndAt s q) (degreesChecked s))) (found-none-inverts _ e)
 
-  pub degrees-refused : {i : ℕ} → found (first (segments s) (broken Degree s)) ≡ At i → legality (degreesChecked s) ≡ Refused 4 (capped i)
+  pub degrees-link : Link 4 (first (segments s) (broken Degree s)) (ordersChecked s) (degreesChecked s)
   unfolding broken degreesChecked
-  degrees-refused e = refused-at 4 _ (ordersChecked s) e
+  degrees-link = record { is = refl }
 
-  pub degrees-pass : found (first (segments s) (broken Degree s)) ≡ Nothing → legality (degreesChecked s) ≡ legality (ordersChecked s)
-  unfolding broken degreesChecked
-  degrees-pass e = passed 4 _ (ordersChecked s) e
-
-  orders-count : segments s ≡ length (s .orders) + 1 → segments s - 1 ≡ length (s .orders)
-  orders-count n = omega arith
-
-  pub orders-refused : {i : ℕ} → segments s ≡ length (s .orders) + 1 → found (first (length (s .orders)) (broken Order s)) ≡ At i
-      → legality (ordersChecked s) ≡ Refused 5 (capped i)
+  pub orders-link : segments s ≡ length (s .orders) + 1 → Link 5 (first (length (s .orders)) (broken Order s)) (partsChecked s) (ordersChecked s)
   unfolding broken ordersChecked
-  orders-refused n e = refused-at 5 _ (partsChecked s) (ap (λ k. found (first k (broken Order s))) (orders-count n) ∙ e)
+  orders-link n =
+      let count : segments s - 1 ≡ length (s .orders) = omega arith in
+      record { is = ap (λ k. refuseFirst 5 (first k (broken Order s)) (partsChecked s)) count }
 
-  pub orders-pass : segments s ≡ length (s .orders) + 1 → found (first (length (s .orders)) (broken Order s)) ≡ Nothing
-      → legality (ordersChecked s) ≡ legality (partsChecked s)
-  unfolding broken ordersChecked
-  orders-pass n e = passed 5 _ (partsChecked s) (ap (λ k. found (first k (broken Order s))) (orders-count n) ∙ e)
-
-  pub parts-refused : {i : ℕ} → found (first (segments s) (broken Segments s)) ≡ At i → legality (partsChecked s) ≡ Refused 15 (capped i)
+  pub parts-link : Link 15 (first (segments s) (broken Segments s)) (answer s) (partsChecked s)
   unfolding broken partsChecked
-  parts-refused e = refused-at 15 _ (answer s) e
-
-  pub parts-pass : found (first (segments s) (broken Segments s)) ≡ Nothing → legality (partsChecked s) ≡ Legal
-  unfolding broken partsChecked legality
-  parts-pass e = passed 15 _ (answer s) e
+  parts-link = record { is = refl }
 
   -- ---- the whole check
 

@@ -25,16 +25,16 @@ joined s = space [] (s .args .degrees .now) (s .args .orders .now)
 counted : (c : tie.Else1) → length (c .before .before .args .coefs .now) ≡ 2 * rowCount (joined (c .before .before))
 counted c = c .if1 .left ∙ ap (λ (n : ℕ). 2 * n) (c .before .row-count .ensures)
 
-found-bad : (c : tie.After-bad) → first (length (c .before .before .before .before .before .args .coefs .now))
-    (badCoefficient (c .before .before .before .before .before .args .coefs .now)) ≡ some (c .bad .given .0 .0)
+found-bad : (c : tie.After-bad) → let cs = c .before .before .before .before .before .args .coefs .now in first (length cs) (badCoefficient cs) ≡ some (c .bad .given .0 .0)
 found-bad c =
-    ap (first (length (c .before .before .before .before .before .args .coefs .now))) (coefficient-outside _)
+    let cs = c .before .before .before .before .before .args .coefs .now in
+    ap (first (length cs)) (coefficient-outside cs)
     ∙ found-some-inverts _ (sym (c .before .before .first-outside .ensures) ∙ c .bad .given .1)
 
-none-bad : (c : tie.After-enum-told) → first (length (c .before .before .before .before .before .args .coefs .now))
-    (badCoefficient (c .before .before .before .before .before .args .coefs .now)) ≡ none
+none-bad : (c : tie.After-enum-told) → let cs = c .before .before .before .before .before .args .coefs .now in first (length cs) (badCoefficient cs) ≡ none
 none-bad c =
-    ap (first (length (c .before .before .before .before .before .args .coefs .now))) (coefficient-outside _)
+    let cs = c .before .before .before .before .before .args .coefs .now in
+    ap (first (length cs)) (coefficient-outside cs)
     ∙ found-none-inverts _ (sym (c .before .before .first-outside .ensures) ∙ c .enum-told .given .1)
 
 -- at most six columns a segment
@@ -54,8 +54,8 @@ returns c =
 
 returns-2 : tie.Need-returns-2
 returns-2 c =
-    let s = c .before .before .before .before .before .before .before in
-    sym (refusal-refused _ (coefficients-refused (joined s) (s .args .coefs .now) (counted (c .before .before .before .before .before))
+    let b = c .before .before .before .before .before in let s = b .before .before in
+    sym (refusal-refused _ (coefficients-refused (joined s) (s .args .coefs .now) (counted b)
     (found-bad (c .before .before)) ∙ ap (refusal 6) (sym (c .place .ensures))))
 
 returns-3 : tie.Need-returns-3

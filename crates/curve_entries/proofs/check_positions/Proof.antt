@@ -55,14 +55,14 @@ mul-high-2 : tie.Need-mul-high-2
 mul-high-2 c =
     let s = c .before .before in let f = break-fits s (s .args .m) (omega arith) in simp toZ-ofZ (fine-fits s (s .args .m) (omega arith))
 
-found-bad : (c : tie.After-bad) → searched (c .before .before .before .before .before) ≡ some (c .bad .given .0 .0)
+found-bad : (c : tie.After-bad) → let s = c .before .before .before .before .before in searched s ≡ some (c .bad .given .0 .0)
 found-bad c =
-    as-words (c .before .before .before .before .before)
+    let s = c .before .before .before .before .before in as-words s
     ∙ found-some-inverts _ (sym (c .before .before .first-outside .ensures) ∙ c .bad .given .1)
 
-none-bad : (c : tie.After-enum-told) → searched (c .before .before .before .before .before) ≡ none
+none-bad : (c : tie.After-enum-told) → let s = c .before .before .before .before .before in searched s ≡ none
 none-bad c =
-    as-words (c .before .before .before .before .before)
+    let s = c .before .before .before .before .before in as-words s
     ∙ found-none-inverts _ (sym (c .before .before .first-outside .ensures) ∙ c .enum-told .given .1)
 
 returns : tie.Need-returns

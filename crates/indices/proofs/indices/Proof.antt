@@ -160,8 +160,8 @@ module _ (k : tie.After-read-rings) {n : ℕ} (h : Counted valueCount (outcome (
       ap length (values-are k ∙ ap (λ o. valuesAfter o (values (start k))) (h .is))
       ∙ values-kept (h .result) (values (start k)) (omega (arith, counted .1, room-for-pairs))
 
-result-of : (t : tie.After-enum-told) → Counted valueCount (outcome (start (t .before .before .before .before .before .before))) (t .enum-told .given .0 .0)
-result-of t = count-inverts valueCount _ (ap reply (sym (t .enum-told .given .1)) ∙ answers-are (t .before .before .before .before .before .before))
+result-of : (t : tie.After-enum-told) → let k = t .before .before .before .before .before .before in Counted valueCount (outcome (start k)) (t .enum-told .given .0 .0)
+result-of t = let k = t .before .before .before .before .before .before in count-inverts valueCount _ (ap reply (sym (t .enum-told .given .1)) ∙ answers-are k)
 
 index-rings-requires : tie.Need-index-rings-requires
 index-rings-requires c κs =

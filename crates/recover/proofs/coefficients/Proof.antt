@@ -84,7 +84,7 @@ entries-told : (c : tie.After-check-ordinates) → let s = begun (c .before .bef
 entries-told c = let a = begun (c .before .before .before .before) .args in c .check-ordinates .ensures
     ∙ ap legality (ordinates-partial (a .breaks .now) (a .degrees .now) (a .orders .now) (a .ordinates .now))
 
-entries-pass : (c : tie.After-enum-told2) → let s = begun (c .before .before .before .before .before .before) in ordinatesChecked (lists s) (s .args .ordinates .now) ≡ answer tt
+entries-pass : (c : tie.After-enum-told2) → let b = c .before .before .before .before .before .before in let s = begun b in ordinatesChecked (lists s) (s .args .ordinates .now) ≡ answer tt
 entries-pass c = legal-answers _ (sym (entries-told (c .before .before)) ∙ c .enum-told2 .given .1) .is
 
 recover-parts-requires : tie.Need-recover-parts-requires

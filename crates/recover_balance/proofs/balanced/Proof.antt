@@ -106,10 +106,10 @@ module _ (a : tie.After-add-term Inv-loop μ-loop) (j : ℕ) (qs ps : List ℚ) 
 
 returns : tie.Need-returns Inv-loop μ-loop
 returns c j qs ps e h size =
-    let a = c .before .before in
+    let a = c .before .before in let t = a .before .before .before .before .before .loop-test in
     let l = at-loop a j qs ps .loop in
     let r = large-refused (added j qs ps (l .i) (value (l .sum))) (sym (added-is a j qs ps e h) ∙ c .enum-told .given .1) in
-    balance-large j qs ps (sum-stays j qs ps (suc (l .i)) (length qs) (omega (arith, size, a .before .before .before .before .before .loop-test .taken))
+    balance-large j qs ps (sum-stays j qs ps (suc (l .i)) (length qs) (omega (arith, size, t .taken))
     (sum-more j qs ps (l .i) (l .inv .state j qs ps e h) ∙ r .refuses))
 
 loop-again : tie.Need-loop-again Inv-loop μ-loop

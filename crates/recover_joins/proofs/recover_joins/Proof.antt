@@ -129,7 +129,7 @@ at-loop c = c .before .before .before .before
 abbrev start : tie.After-join-at Inv-loop μ-loop → tie.Start Inv-loop μ-loop
 start c = at-loop c .before .before .before .before
 
-taken : (c : tie.In-loop Inv-loop μ-loop) → c .before .loop .j < length (c .before .before .before .before .before .args .orders .now)
+taken : (c : tie.In-loop Inv-loop μ-loop) → let s = c .before .before .before .before .before in c .before .loop .j < length (s .args .orders .now)
 taken c = omega arith
 
 -- the bounds of a turn
@@ -138,8 +138,7 @@ record Turn (orders degrees j : ℕ) : Type 0 where
   count : orders + 1 ≡ degrees
   few : degrees ≤ 12
 
-turn : (c : tie.In-loop Inv-loop μ-loop) → Turn (length (c .before .before .before .before .before .args .orders .now))
-    (length (c .before .before .before .before .before .args .degrees .now)) (c .before .loop .j)
+turn : (c : tie.In-loop Inv-loop μ-loop) → let a = c .before .before .before .before .before .args in Turn (length (a .orders .now)) (length (a .degrees .now)) (c .before .loop .j)
 turn c = let p = c .before .before .before .before .before .pre .part in record { taken = omega arith; count = p .lists .order-count; few = p .few }
 
 module _ (c : tie.After-join-at Inv-loop μ-loop) where
@@ -167,16 +166,15 @@ module _ (c : tie.After-join-at Inv-loop μ-loop) where
 
 degree-at-requires-2 : tie.Need-degree-at-requires-2 Inv-loop μ-loop
 degree-at-requires-2 c κs =
-    let t = turn (c .before) in
-    (omega (arith, t .taken, t .count), c .before .before .before .before .before .before .pre .part .lists .degrees-legal)
+    let t = turn (c .before) in let s = c .before .before .before .before .before .before in (omega (arith, t .taken, t .count), s .pre .part .lists .degrees-legal)
 
 add-more : tie.Need-add-more Inv-loop μ-loop
 add-more c =
-    let t = turn (c .before .before) in
+    let t = turn (c .before .before) in let s = c .before .before .before .before .before .before .before in
     omega (
       arith,
       c .degree-at2 .ensures,
-      legal-degree-high _ _ _ (c .before .before .before .before .before .before .before .pre .part .lists)
+      legal-degree-high _ _ _ (s .pre .part .lists)
           (c .before .before .before .loop .j + 1) (omega (arith, t .taken, t .count)),
     )
 
@@ -290,12 +288,12 @@ returns-2 c =
 pub recover-joins-spec : {M : Type 1} → statement M
 recover-joins-spec =
     tie.close (tie.spec Inv-loop μ-loop degree-at-requires add-rows (λ c κs. search needs) append-requires loop-holds
-    (λ c κs. (turn c .taken, c .before .before .before .before .before .pre .part .lists .orders-legal))
+    (λ c κs. let s = c .before .before .before .before .before in (turn c .taken, s .pre .part .lists .orders-legal))
     (λ c. let t = turn (c .before) in omega (arith, t .taken, t .count, t .few)) degree-at-requires-2 add-more join-at-requires
     recover-join-requires (λ c κs. search needs) (λ c. search needs)
     (λ c. let x = sides (called c) in omega (arith, more-is x, here x .low))
     (λ c. let x = sides (called c) in omega (arith, here x .enough)) (λ c. search needs) (λ c κs. search needs)
-    (λ c. num-same (c .before .before .before .before .before .before .before))
-    (λ c. den-same (c .before .before .before .before .before .before .before)) returns (λ c. omega (arith, here (sides (called c)) .small))
+    (λ c. let b = c .before .before .before .before .before .before .before in num-same b)
+    (λ c. let b = c .before .before .before .before .before .before .before in den-same b) returns (λ c. omega (arith, here (sides (called c)) .small))
     (λ c. let t = turn (sides (called c) .before .before .before) in omega (arith, t .taken)) loop-again
     (λ c. c .before .loop .inv .num-long) (λ c. c .before .loop .inv .den-long) returns-2)

@@ -146,5 +146,5 @@ pub recover-orders-spec : {M : Type 1} → statement M
 recover-orders-spec =
     tie.close (tie.spec Inv-loop μ-loop loop-holds (λ c. omega arith) recover-step-requires (λ c. search needs) (λ c. omega arith)
     (λ c. omega arith) loop-again (λ c. search needs) (λ c κs. search needs)
-    (λ c. num-kept (c .before .before .before .before .before .before)) (λ c. den-kept (c .before .before .before .before .before .before))
+    (λ c. let b = c .before .before .before .before .before .before in num-kept b) (λ c. let b = c .before .before .before .before .before .before in den-kept b)
     returns (λ c. c .before .loop .inv .num-long) (λ c. c .before .loop .inv .den-long) returns-2)

@@ -21,14 +21,12 @@ segmented s = space [] (s .args .degrees .now) []
 counted : (c : tie.Else1) → length (c .before .before .args .ordinates .now) ≡ columnCount (segmented (c .before .before))
 counted c = c .if1 .left ∙ c .before .first-column .ensures
 
-found-bad : (c : tie.After-bad) → first (length (c .before .before .before .before .before .args .ordinates .now))
-    (badOrdinate (c .before .before .before .before .before .args .ordinates .now)) ≡ some (c .bad .given .0 .0)
-found-bad c = ap (first (length (c .before .before .before .before .before .args .ordinates .now))) (ordinate-outside _)
+found-bad : (c : tie.After-bad) → let b = c .before .before .before .before .before .args .ordinates .now in first (length b) (badOrdinate b) ≡ some (c .bad .given .0 .0)
+found-bad c = let b = c .before .before .before .before .before .args .ordinates .now in ap (first (length b)) (ordinate-outside b)
     ∙ found-some-inverts _ (sym (c .before .before .first-outside .ensures) ∙ c .bad .given .1)
 
-none-bad : (c : tie.After-enum-told) → first (length (c .before .before .before .before .before .args .ordinates .now))
-    (badOrdinate (c .before .before .before .before .before .args .ordinates .now)) ≡ none
-none-bad c = ap (first (length (c .before .before .before .before .before .args .ordinates .now))) (ordinate-outside _)
+none-bad : (c : tie.After-enum-told) → let b = c .before .before .before .before .before .args .ordinates .now in first (length b) (badOrdinate b) ≡ none
+none-bad c = let b = c .before .before .before .before .before .args .ordinates .now in ap (first (length b)) (ordinate-outside b)
     ∙ found-none-inverts _ (sym (c .before .before .first-outside .ensures) ∙ c .enum-told .given .1)
 
 returns : tie.Need-returns
@@ -36,8 +34,8 @@ returns c = sym (refusal-refused _ (ordinates-count (segmented (c .before .befor
 
 returns-2 : tie.Need-returns-2
 returns-2 c =
-    let s = c .before .before .before .before .before .before .before in
-    sym (refusal-refused _ (ordinates-refused (segmented s) (s .args .ordinates .now) (counted (c .before .before .before .before .before))
+    let b = c .before .before .before .before .before in let s = b .before .before in
+    sym (refusal-refused _ (ordinates-refused (segmented s) (s .args .ordinates .now) (counted b)
     (found-bad (c .before .before)) ∙ ap (refusal 18) (sym (c .place .ensures))))
 
 returns-3 : tie.Need-returns-3

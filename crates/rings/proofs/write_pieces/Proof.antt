@@ -60,31 +60,34 @@ returns c = tt
 mul-start : tie.Need-mul-start Inv-loop μ-loop
 mul-start c =
     let s = c .before .before .before .before .before .before .before .before .before .before .before in
-    omega (arith, c .before .before .before .before .before .before .loop-test .taken, s .pre .0 .file .names-held .fits)
+    let taken = c .before .before .before .before .before .before .loop-test .taken in
+    omega (arith, taken, s .pre .0 .file .names-held .fits)
 
 -- the end of the loop's body
 module _ (c : tie.After-shared-slice-known4 Inv-loop μ-loop) where
   abbrev begun : tie.Start Inv-loop μ-loop
   begun = c .before .before .before .before .before .before .before .before .before .before .before .before
 
+  abbrev entered : tie.In-loop Inv-loop μ-loop
+  entered = c .before .before .before .before .before .before .before
+
+  abbrev l : tie.At-loop Inv-loop μ-loop
+  l = entered .before
+
   abbrev k : ℕ
-  k = c .before .before .before .before .before .before .before .before .loop .k
+  k = l .loop .k
 
   abbrev start : ℕ
-  start = c .before .before .before .before .before .before .before .before .loop .start
+  start = l .loop .start
 
   turn :
       let x = begun .args in
       (h : Held (x .input .now) (woodOf (x .wood)) (x .breaks .now) (x .degrees .now) (x .orders .now) (x .coefs .now) (x .n) (x .names .now) (x .years .now)
       (x .counts .now) (x .widths .now)) → Turn h k start
-  turn h = record {
-    within = c .before .before .before .before .before .before .before .loop-test .taken;
-    starts =
-        c .before .before .before .before .before .before .before .before .loop .inv .1 .1 h;
-  }
+  turn h = record { within = entered .loop-test .taken; starts = l .loop .inv .1 .1 h }
 
 shared-slice-read-start : tie.Need-shared-slice-read-start Inv-loop μ-loop
-shared-slice-read-start c = omega (arith, c .before .before .before .before .before .before .before .loop-test .taken, begun c .pre .0 .file .counts-held .fits)
+shared-slice-read-start c = omega (arith, entered c .loop-test .taken, begun c .pre .0 .file .counts-held .fits)
 
 cast-start : tie.Need-cast-start Inv-loop μ-loop
 cast-start c = omega (arith, c .shared-slice-known4 .given (k c))
@@ -95,9 +98,9 @@ add-start c =
     omega (arith, count-is h (turn c h), widths-fit h (turn c h), begun c .pre .1)
 
 loop-again : tie.Need-loop-again Inv-loop μ-loop
-loop-again c = (
-  c .before .before .before .before .before .put-piece .kept .1 .1 .1 .1 .1 .1 .1 .1 .1 .1 .1 .1 .1 .0 ∙ c .before .before .before .before .before .before .before .before .loop .inv .0,
-  (omega (arith, c .before .before .before .before .before .before .before .loop-test .taken), λ h. omega (arith, count-is h (turn c h), next-start h (turn c h))),
+loop-again c = let p = c .before .before .before .before .before .put-piece in (
+  p .kept .1 .1 .1 .1 .1 .1 .1 .1 .1 .1 .1 .1 .1 .0 ∙ l c .loop .inv .0,
+  (omega (arith, entered c .loop-test .taken), λ h. omega (arith, count-is h (turn c h), next-start h (turn c h))),
 )
 
 returns-2 : tie.Need-returns-2 Inv-loop μ-loop

@@ -99,20 +99,20 @@ slice-aggregate-write-ready-2 : tie.Need-slice-aggregate-write-ready-2
 slice-aggregate-write-ready-2 k = let a = k .before .before .before .before .before in sym (length-take-le (d a) (degrees a) (made a .lists .degrees-held .fits))
 
 array-share-prefix-orders : tie.Need-array-share-prefix-orders
-array-share-prefix-orders k = made (k .before .before .before .before .before) .lists .orders-held .fits
+array-share-prefix-orders k = let b = k .before .before .before .before .before in made b .lists .orders-held .fits
 
 slice-aggregate-write-ready-3 : tie.Need-slice-aggregate-write-ready-3
 slice-aggregate-write-ready-3 k = let a = k .before .before .before .before .before .before in sym (length-take-le (o a) (orders a) (made a .lists .orders-held .fits))
 
 array-share-prefix-coefs : tie.Need-array-share-prefix-coefs
-array-share-prefix-coefs k = made (k .before .before .before .before .before .before) .lists .coefs-held .fits
+array-share-prefix-coefs k = let b = k .before .before .before .before .before .before in made b .lists .coefs-held .fits
 
 slice-aggregate-write-ready-4 : tie.Need-slice-aggregate-write-ready-4
 slice-aggregate-write-ready-4 k = let a = k .before .before .before .before .before .before .before in sym (length-take-le (c a) (coefs a) (made a .lists .coefs-held .fits))
 
 write-ready-requires : tie.Need-write-ready-requires
 write-ready-requires k κs =
-    let m = made (k .before .before .before .before .before .before .before .before .before .before .before) in
+    let b = k .before .before .before .before .before .before .before .before .before .before .before in let m = made b in
     record {
       made = m .made;
       is = m .is;

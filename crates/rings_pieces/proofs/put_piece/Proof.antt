@@ -58,16 +58,16 @@ module _ (s : tie.Start) where
       ∙ widths-are (s .pre .held) (s .pre .turn)
 
 cast-end : tie.Need-cast-end
-cast-end c = omega (arith, c .shared-slice-known4 .given (k (c .before .before .before .before .before)))
+cast-end c = let s = c .before .before .before .before .before in omega (arith, c .shared-slice-known4 .given (k s))
 
 add-end : tie.Need-add-end
-add-end c = omega (arith, part-small (c .before .before .before .before .before))
+add-end c = let s = c .before .before .before .before .before in omega (arith, part-small s)
 
 mul-put-series-2 : tie.Need-mul-put-series-2
-mul-put-series-2 c = omega (arith, part-small (c .before .before .before .before .before .before .before))
+mul-put-series-2 c = let s = c .before .before .before .before .before .before .before in omega (arith, part-small s)
 
 part-put-series-end-2 : tie.Need-part-put-series-end-2
-part-put-series-end-2 c = let h = part-fits (c .before .before .before .before .before .before .before) in search needs
+part-put-series-end-2 c = let s = c .before .before .before .before .before .before .before in let h = part-fits s in search needs
 
 put-series-requires : tie.Need-put-series-requires
 put-series-requires c κs =

@@ -46,24 +46,24 @@ module _ (k : tie.After-read-series) where
   read a e = subst (λ (a : Answer). SeriesHeld (seriesRead text) a names years counts widths) e (k .read-series .ensures)
 
 slice-aggregate-check-curve : tie.Need-slice-aggregate-check-curve
-slice-aggregate-check-curve c = let s =
-    c .before .before .before .before .before .before .before .before .before .before in sym
-    (length-take-le (s .args .b) (s .args .breaks .now) (s .pre .breaks-fit))
+slice-aggregate-check-curve c =
+    let s = c .before .before .before .before .before .before .before .before .before .before in
+    sym (length-take-le (s .args .b) (s .args .breaks .now) (s .pre .breaks-fit))
 
 slice-aggregate-check-curve-2 : tie.Need-slice-aggregate-check-curve-2
-slice-aggregate-check-curve-2 c = let s =
-    c .before .before .before .before .before .before .before .before .before .before .before in sym
-    (length-take-le (s .args .d) (s .args .degrees .now) (s .pre .degrees-fit))
+slice-aggregate-check-curve-2 c =
+    let s = c .before .before .before .before .before .before .before .before .before .before .before in
+    sym (length-take-le (s .args .d) (s .args .degrees .now) (s .pre .degrees-fit))
 
 slice-aggregate-check-curve-3 : tie.Need-slice-aggregate-check-curve-3
-slice-aggregate-check-curve-3 c = let s =
-    c .before .before .before .before .before .before .before .before .before .before .before .before in sym
-    (length-take-le (s .args .o) (s .args .orders .now) (s .pre .orders-fit))
+slice-aggregate-check-curve-3 c =
+    let s = c .before .before .before .before .before .before .before .before .before .before .before .before in
+    sym (length-take-le (s .args .o) (s .args .orders .now) (s .pre .orders-fit))
 
 slice-aggregate-check-curve-4 : tie.Need-slice-aggregate-check-curve-4
-slice-aggregate-check-curve-4 c = let s =
-    c .before .before .before .before .before .before .before .before .before .before .before .before .before in sym
-    (length-take-le (s .args .c) (s .args .coefs .now) (s .pre .coefs-fit))
+slice-aggregate-check-curve-4 c =
+    let s = c .before .before .before .before .before .before .before .before .before .before .before .before .before in
+    sym (length-take-le (s .args .c) (s .args .coefs .now) (s .pre .coefs-fit))
 
 returns : tie.Need-returns
 returns c =
@@ -72,15 +72,14 @@ returns c =
 
 returns-2 : tie.Need-returns-2
 returns-2 c =
-    let k = c .before .before .before .before .before .before .before .before .before .before .before in
-    curve-refused (seriesRead (text k)) (curve k) (names k) (years k) (counts k) (widths k) _ _ _
-    (read k _ (c .before .before .before .before .before .before .before .before .before .series2 .given .1))
+    let r = c .before .before .before .before .before .before .before .before .before in let k = r .before .before in
+    curve-refused (seriesRead (text k)) (curve k) (names k) (years k) (counts k) (widths k) _ _ _ (read k _ (r .series2 .given .1))
     (sym (c .before .legal .given .1) ∙ c .before .before .before .check-curve .ensures)
 
 returns-3 : tie.Need-returns-3
 returns-3 c =
-    let k = c .before .before .before .before .before .before .before .before .before .before in
-    file-held (seriesRead (text k)) (curve k) (names k) (years k) (counts k) (widths k) _ (read k _ (c .before .before .before .before .before .before .before .before .series2 .given .1))
+    let r = c .before .before .before .before .before .before .before .before in let k = r .before .before in
+    file-held (seriesRead (text k)) (curve k) (names k) (years k) (counts k) (widths k) _ (read k _ (r .series2 .given .1))
     (sym (c .enum-told .given .1) ∙ c .before .before .check-curve .ensures)
 
 pub judge-file-spec : {M : Type 1} → statement M

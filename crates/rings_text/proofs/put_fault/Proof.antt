@@ -32,14 +32,18 @@ module _ (k : tie.After-put-name) where
 returns : tie.Need-returns
 unfolding faultLine
 returns c =
-    let k = c .before .before .before .before .before .before .before .before .before .before .before .before .before .before .before .before .before .before .before .before .before .before .before in
+    let digits = c .before .before .before .before .before .before in
+    let words = digits .before .before .before .before in
+    let year = words .before .before .before .before .before in
+    let space = year .before .before .before .before in
+    let k = space .before .before .before .before in
     let s = k .before .before .before .before in
     let f : SFits w64 (s .args .year) = s .fits .year in
     front-then (front k)
-    (puts-then (c .before .before .before .before .before .before .before .before .before .before .before .before .before .before .before .before .before .before .before .put .ensures)
-    (puts-then (simp toZ-ofZ at (c .before .before .before .before .before .before .before .before .before .before .before .before .before .before .before .put-decimal .ensures))
-    (puts-then (c .before .before .before .before .before .before .before .before .before .before .put-text .ensures)
-    (puts-then (c .before .before .before .before .before .before .put-digits .ensures)
+    (puts-then (space .put .ensures)
+    (puts-then (simp toZ-ofZ at (year .put-decimal .ensures))
+    (puts-then (words .put-text .ensures)
+    (puts-then (digits .put-digits .ensures)
     (c .before .before .put2 .ensures)))))
     (omega (arith, room k, k .put-name .ensures .within))
 

@@ -137,24 +137,24 @@ put-lines-requires c κs =
 
 returns : tie.Need-returns
 returns c =
-    let k = c .before .before .before .before .before .before .before .before .before .before .before .before .before in
-    let f = fits-year k in
+    let k = c .before .before .before .before .before .before .before .before .before .before .before .before .before in let f = fits-year k in
+    let a = c .before .before .before .before .before .before .before .answer in let r = c .before .before .before .before .before .fault-ring in
     let y = c .before .before .before .before .year-of in
     let g : SFits w64 (y .result) = record { sfits = y .ok } in
-    let e : y .result ≡ year k +ℤ pos (c .before .before .before .before .before .fault-ring .result) = simp toZ-ofZ at (y .ensures) in
+    let e : y .result ≡ year k +ℤ pos (r .result) = simp toZ-ofZ at (y .ensures) in
     subst (λ (t : Text). Front t (c .before .before .put-fault .result) (c .before .before .put-fault .last .1 .1 .1 .0))
-    (ap (λ (z : ℤ). faultLine (name k) z (c .before .before .before .before .before .before .before .answer .given .0 .0))
-    (e ∙ ap (λ (j : ℕ). year k +ℤ pos j) (c .before .before .before .before .before .fault-ring .ensures))
+    (ap (λ (z : ℤ). faultLine (name k) z (a .given .0 .0))
+    (e ∙ ap (λ (j : ℕ). year k +ℤ pos j) (r .ensures))
     ∙ refused-text (wood k) (curve k) (coefs k) (name k) (year k) (widths k) (few k) values ring-indices values-long indices-long
-    (k .indices .result) (replies k) (c .before .before .before .before .before .before .before .answer .given .1))
+    (k .indices .result) (replies k) (a .given .1))
     (simp toZ-ofZ at (c .before .before .put-fault .ensures))
 
 returns-2 : tie.Need-returns-2
 returns-2 c =
-    let k = c .before .before .before .before .before .before .before .before .before .before .before .before in
+    let b = c .before .before .before .before .before .before in let k = b .before .before .before .before .before .before in
     let f = fits-year k in
     subst (λ (t : Text). Front t (c .before .before .put-lines .result) (c .before .before .put-lines .last .1 .1 .1 .1 .1 .1 .0))
-    (text k _ (c .before .before .before .before .before .before .enum-told .given .1))
+    (text k _ (b .enum-told .given .1))
     (simp toZ-ofZ at (c .before .before .put-lines .ensures))
 
 pub put-indexed-spec : {M : Type 1} → statement M

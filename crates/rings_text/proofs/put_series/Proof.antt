@@ -16,8 +16,8 @@ use Rattle.rings_text.proofs.put_series.Tie as tie
 
 returns : tie.Need-returns
 returns c =
-    let s = c .before .before .before .before .before .before .before .before in
-    let x = s .args in
+    let s = c .before .before .before .before .before .before .before .before in let x = s .args in
+    let many = c .before .before .before .before .before .if1 .taken in
     let f : SFits w32 (x .first) = s .fits .first in
     let y = c .before .before .before .before .year-of in
     let g : SFits w64 (y .result) = record { sfits = y .ok } in
@@ -25,7 +25,7 @@ returns c =
     subst (λ (t : Text). Front t (c .before .before .put-fault .result) (c .before .before .put-fault .last .1 .1 .1 .0))
     (ap (λ (z : ℤ). faultLine (x .name .now) z 2) e
     ∙ many-text (woodOf (x .wood)) (space (x .breaks .now) (x .degrees .now) (x .orders .now)) (x .coefs .now)
-    (x .name .now) (x .first) (x .widths .now) (s .pre .fitting) (c .before .before .before .before .before .if1 .taken))
+    (x .name .now) (x .first) (x .widths .now) (s .pre .fitting) many)
     (simp toZ-ofZ at (c .before .before .put-fault .ensures))
 
 returns-2 : tie.Need-returns-2

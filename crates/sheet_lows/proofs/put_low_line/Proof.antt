@@ -8,9 +8,7 @@ use Rattle.sheet_lows.proofs.put_low_line.Statement.{statement}
 use Rattle.sheet_lows.proofs.put_low_line.Tie as tie
 
 cast-put-decimal : tie.Need-cast-put-decimal
-cast-put-decimal c =
-    let f = c .before .before .before .before .before .before .before .fits .x in
-    simp toZ-ofZ (sfits-widen f)
+cast-put-decimal c = let f = c .before .before .before .before .before .before .before .fits .x in simp toZ-ofZ (sfits-widen f)
 
 returns : tie.Need-returns
 unfolding lowLine

@@ -54,7 +54,7 @@ module _ (k : tie.After-sort) where
   few = omega (arith, length-take-le count (k .sort .last .0) fits, collected .low-positions .ensures .0, lowPositions-few positions values)
 
 put-low-lines-requires : tie.Need-put-low-lines-requires
-put-low-lines-requires c κs = omega (arith, few (c .before .before), c .before .before .before .before .before .before .before .before .pre)
+put-low-lines-requires c κs = let s = c .before .before .before .before .before .before .before .before in omega (arith, few (c .before .before), s .pre)
 
 returns : tie.Need-returns
 returns c =

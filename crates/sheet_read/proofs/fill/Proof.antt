@@ -53,14 +53,17 @@ numeral-requires c κs =
 
 -- a turn's field, and the buffer before it
 module _ (c : tie.After-numeral Inv-loop μ-loop) where
+  abbrev begun : tie.Start Inv-loop μ-loop
+  begun = c .before .before .before .before .before
+
   abbrev text : Text
-  text = c .before .before .before .before .before .args .text .now
+  text = begun .args .text .now
 
   abbrev to : ℕ
-  to = c .before .before .before .before .before .args .to
+  to = begun .args .to
 
   abbrev before : List ℤ
-  before = c .before .before .before .before .before .args .list .now
+  before = begun .args .list .now
 
   abbrev list : List ℤ
   list = c .before .before .loop .list
@@ -75,7 +78,7 @@ module _ (c : tie.After-numeral Inv-loop μ-loop) where
   stop = c .before .separator .result
 
   abbrev zs : List ℤ
-  zs = numeralsAt text (c .before .before .before .before .before .args .from) to
+  zs = numeralsAt text (begun .args .from) to
 
   range : Range text start to
   range = omega arith
@@ -90,7 +93,7 @@ module _ (c : tie.After-numeral Inv-loop μ-loop) where
   filled = c .before .before .loop .inv .filled
 
   room : length list * 4 < 2 ^ 63
-  room = rw (filled-length zs (slice start to text) before list n filled) (c .before .before .before .before .before .good .1 .1 .1 .0 .1)
+  room = rw (filled-length zs (slice start to text) before list n filled) (begun .good .1 .1 .1 .0 .1)
 
   not-bad : c .numeral .result ≡ field-cases.Bad → ⊥
   not-bad e =
@@ -131,7 +134,7 @@ returns-3 c =
     simp toZ-ofZ (record { count = done .0; put = done .1 })
 
 add-start : tie.Need-add-start Inv-loop μ-loop
-add-start c = omega (arith, stops (c .before .before .before .before), c .before .before .before .before .before .before .before .before .before .good .0)
+add-start c = let k = c .before .before .before .before in omega (arith, stops k, begun k .good .0)
 
 loop-again : tie.Need-loop-again Inv-loop μ-loop
 loop-again c =

@@ -53,11 +53,11 @@ returns c =
 
 returns-2 : tie.Need-returns-2
 returns-2 c =
-    let k = c .before .before .before .before .before .before .before .before .before .before in
+    let degrees = c .before .before .before .before .before .before in let breaks = degrees .before .before in let k = breaks .before .before in
     let at = good k .2 in
     answered (text k) (good k .1)
-    (fills (numerals-at (at .breaks)) (c .before .before .before .before .before .before .before .before .fill .ensures))
-    (fills (numerals-at (at .degrees)) (c .before .before .before .before .before .before .fill2 .ensures))
+    (fills (numerals-at (at .breaks)) (breaks .fill .ensures))
+    (fills (numerals-at (at .degrees)) (degrees .fill2 .ensures))
     (fills (numerals-at (at .orders)) (c .before .before .before .before .fill3 .ensures))
     (fills (pairs-at (at .coefs)) (c .before .before .fill4 .ensures)) (fills (numerals-at (at .positions)) (c .fill5 .ensures))
 

@@ -91,5 +91,5 @@ sheet-spec =
     (λ c. let a = c .before .before in sym (length-take-le (counts a .breaks) _ (breaks-fit a))) (λ c. degrees-fit (c .before .before))
     (λ c. let a = c .before .before .before in sym (length-take-le (counts a .degrees) _ (degrees-fit a)))
     (λ c. orders-fit (c .before .before .before)) slice-aggregate-run-3 (λ c. coefs-fit (c .before .before .before .before))
-    slice-aggregate-run-4 (λ c. positions-fit (c .before .before .before .before .before)) slice-aggregate-run-5 run-requires
+    slice-aggregate-run-4 (λ c. let b = c .before .before .before .before .before in positions-fit b) slice-aggregate-run-5 run-requires
     (λ c. search needs) returns (λ c. search needs) returns-2)

@@ -24,8 +24,8 @@ returns c =
 
 returns-2 : tie.Need-returns-2 Inv-loop μ-loop
 returns-2 c =
-    let l = c .before .before .before .before .before .loop in
-    sym (l .inv .1 ∙ quoted-mark (c .before .before .before .before .before .before .args .bytes .now) (l .i) (omega arith) (c .before .before .if1 .left) (c .if2 .taken))
+    let b = c .before .before .before .before .before .before .args .bytes .now in let l = c .before .before .before .before .before .loop in
+    sym (l .inv .1 ∙ quoted-mark b (l .i) (omega arith) (c .before .before .if1 .left) (c .if2 .taken))
 
 loop-again : tie.Need-loop-again Inv-loop μ-loop
 loop-again c =

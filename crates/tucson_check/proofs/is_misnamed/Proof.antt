@@ -34,7 +34,7 @@ is-misnamed-spec =
     tie.close
     (tie.spec
     (λ c κs. c .before .before .before .before .pre .named-old)
-    (λ c κs. c .before .before .before .before .before .pre .named)
+    (λ c κs. let s = c .before .before .before .before .before in s .pre .named)
     slice-aggregate-same-text
     slice-aggregate-same-text-2
     (λ c κs. search needs)

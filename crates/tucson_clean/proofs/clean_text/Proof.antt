@@ -68,7 +68,7 @@ clean-text-spec =
     (λ c κs. search needs)
     (λ c. search needs)
     (λ c. search needs)
-    (λ c κs. stands (c .before .before .before .before .before .before .before .before))
+    (λ c κs. let b = c .before .before .before .before .before .before .before .before in stands b)
     returns
     (λ c. search needs)
     (λ c. search needs)

@@ -33,13 +33,14 @@ returns c =
     record { more = l .inv .more; within = l .inv .within; fits = l .inv .fits; full = λ h. c .if1 .taken; is = l .inv .is }
 
 put-byte-requires : tie.Need-put-byte-requires Inv-loop μ-loop
-put-byte-requires c κs = let l = c .before .before .before .before .loop in let s =
-    c .before .before .before .before .before .before .before in record
-    { size = l .inv .size ∙ s .pre .size; fits = omega (arith, l .inv .fits, s .pre .fits, c .before .before .if1 .left) }
+put-byte-requires c κs =
+    let l = c .before .before .before .before .loop in
+    let s = c .before .before .before .before .before .before .before in
+    record { size = l .inv .size ∙ s .pre .size; fits = omega (arith, l .inv .fits, s .pre .fits, c .before .before .if1 .left) }
 
 loop-again : tie.Need-loop-again Inv-loop μ-loop
 loop-again c =
-    let p = c .before .before .put-byte in
+    let p = c .before .before .put-byte in let more = c .before .before .before .before .before .if1 .left in
     let l = c .before .before .before .before .before .before .before .loop in
     let s = c .before .before .before .before .before .before .before .before .before .before in
     let text = s .args .text .now in
@@ -48,7 +49,7 @@ loop-again c =
       within = omega arith;
       fits =
           omega
-          (arith, l .inv .fits, s .pre .whole, p .ensures .next-is, byte-few (l .n) (getD text (l .i) 0), c .before .before .before .before .before .if1 .left);
+          (arith, l .inv .fits, s .pre .whole, p .ensures .next-is, byte-few (l .n) (getD text (l .i) 0), more);
       size = p .kept .0 ∙ l .inv .size;
       is =
           expand-next text (l .i) (s .args .to) (l .n) (l .bytes) (p .last .0) (p .result) (omega arith) (s .pre .range .within) (p .ensures .next-is) (p .ensures .are)

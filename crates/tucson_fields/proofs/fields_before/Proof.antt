@@ -67,7 +67,7 @@ module _ (c : tie.After-either Inv-loop μ-loop) where
   z-fits = record { sfits = c .before .before .before .before .before .known-told .given .0 .1 }
 
   is-field : inColumns (slice (l f .loop .at) (l f .loop .at + fieldColumns) (t f)) ≡ some z
-  is-field = field-some _ z (sym (f .numeral .ensures) ∙ c .before .before .before .before .before .before .field .given .1)
+  is-field = let g = c .before .before .before .before .before .before .field .given in field-some _ z (sym (f .numeral .ensures) ∙ g .1)
 
   widths-are : c .before .before .before .both .result ≡ (l f .loop .widths && isWidth z)
   widths-are =

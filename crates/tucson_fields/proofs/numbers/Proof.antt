@@ -50,7 +50,7 @@ module _ (c : tie.After-known-told2) where
 returns-2 : tie.Need-returns-2
 returns-2 c =
     let k = c .before .before .before in
-    let s = line (k .before .before .before .before .before .before) in
+    let b = k .before .before .before .before .before .before in let s = line b in
     let bad = field-none _ (sym (k .numeral2 .ensures) ∙ c .before .enum-told2 .given .1) in
     let y = s .last in
     clash cc
@@ -60,11 +60,11 @@ returns-3 c =
     let a = c .before in
     let s = line (start a) in
     let l = s .line in
-    let year : ℤ = c .before .before .before .before .before .before .year .given .0 .0 in
+    let found = c .before .before .before .before .before .before .year .given in let year : ℤ = found .0 .0 in
     let last : ℤ = c .before .before .last .given .0 .0 in
     let year-fits : SFits w32 year = record { sfits = c .before .before .before .before .before .known-told .given .0 .1 } in
     let last-fits : SFits w32 last = record { sfits = a .known-told2 .given .0 .1 } in
-    let is-year = field-some _ year (sym (j a .numeral .ensures) ∙ c .before .before .before .before .before .before .year .given .1) in
+    let is-year = field-some _ year (sym (j a .numeral .ensures) ∙ found .1) in
     let is-last = field-some _ last (sym (k a .numeral2 .ensures) ∙ c .before .before .last .given .1) in
     let same-year : l .year ≡ year = Option·some-injective _ _ (sym (s .year) ∙ is-year) in
     let same-last : lastField (l .fields) ≡ last = Option·some-injective _ _ (sym (s .last) ∙ is-last) in
@@ -89,6 +89,6 @@ returns-3 c =
 pub numbers-spec : {M : Type 1} → statement M
 numbers-spec =
     tie.close (tie.spec (λ c. let s = line (c .before) in omega arith) (λ c κs. let s = line (c .before) in omega arith) (λ c. search needs)
-    (λ c. search needs) (λ c κs. search needs) returns (λ c. let s = line (c .before .before .before .before .before) in omega arith)
+    (λ c. search needs) (λ c κs. search needs) returns (λ c. let b = c .before .before .before .before .before in let s = line b in omega arith)
     (λ c κs. search needs) (λ c. search needs) (λ c. search needs) (λ c κs. search needs) returns-2
     (λ c. let s = line (start c) in omega (arith, s .count)) (λ c κs. let s = line (start c) in omega (arith, s .count)) returns-3)

@@ -23,9 +23,7 @@ returns-2 c =
     mark-unit (a .m) (a .unit) (a .seen) (a .number) (a .last) (c .before .before .if1 .left) (s .pre) (sym (unit-test (c .before)) ∙ c .if2 .taken)
 
 -- the test of the closing
-closing-test : (c : tie.After-same)
-    → c .same .result ≡ same (closingAfter (c .before .before .before .before .before .before .args .unit)
-    (c .before .before .before .before .before .before .args .last)) hundredths
+closing-test : (c : tie.After-same) → let a = c .before .before .before .before .before .before .args in c .same .result ≡ same (closingAfter (a .unit) (a .last)) hundredths
 closing-test c =
     let s = c .before .before .before .before .before .before in
     let f = s .fits .last in

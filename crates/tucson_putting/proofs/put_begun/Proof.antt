@@ -25,7 +25,7 @@ put-fields-requires : tie.Need-put-fields-requires
 put-fields-requires c κs =
     let s = c .before .before .before .before .before .before .before .before .before .before .before in
     let f : SFits w32 (s .args .year) = s .fits .year in
-    let p = puts-wrote (c .before .before .before .before .before .before .before .put-text .ensures) in
+    let t = c .before .before .before .before .before .before .before .put-text in let p = puts-wrote (t .ensures) in
     let q = simp toZ-ofZ at (c .before .before .before .put-columns .ensures) in
     record {
       allowed = s .pre .allowed;

@@ -28,7 +28,7 @@ put-requires : tie.Need-put-requires
 put-requires c κs =
     let s = c .before .before .before .before .before .before .before .before .before .before .before in
     let f : SFits w32 (s .args .year) = s .fits .year in
-    let b = simp toZ-ofZ at (c .before .before .before .before .before .before .before .put-begun .ensures) in
+    let p = c .before .before .before .before .before .before .before .put-begun in let b = simp toZ-ofZ at (p .ensures) in
     let closing = c .before .before .before .put-columns .ensures in
     omega (arith, s .pre .fits, b .behind, closing .behind, columns-length 6 thousandths closing-length, begun-size (s .pre))
 

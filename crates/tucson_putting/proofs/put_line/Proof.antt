@@ -26,7 +26,7 @@ returns : tie.Need-returns
 returns c =
     let s = c .before .before .before .before .before .before .before .before .before .before in
     let f : SFits w32 (s .args .year) = s .fits .year in
-    let begun = simp toZ-ofZ at (c .before .before .before .before .before .before .put-begun .ensures) in
+    let p = c .before .before .before .before .before .before .put-begun in let begun = simp toZ-ofZ at (p .ensures) in
     wrote-as (line-ends (s .args .name .now) (s .args .year) (s .args .widths .now)) (wrote-then begun (puts-wrote (c .before .before .put .ensures)))
 
 pub put-line-spec : {M : Type 1} → statement M

@@ -109,5 +109,5 @@ pub fill-spec : {M : Type 1} → statement M
 fill-spec =
     tie.close (tie.spec Inv-loop μ-loop loop-holds (λ c. omega arith) (λ c κs. omega arith) (λ c. search needs)
     (λ c. absurd (not-bad (c .before .before) (c .enum-told .given .1))) returns (λ c. search needs) (λ c. omega arith)
-    (λ c. omega (arith, c .before .before .before .before .before .before .before .good)) (λ c. omega arith) (λ c. omega arith)
+    (λ c. let s = c .before .before .before .before .before .before .before in omega (arith, s .good)) (λ c. omega arith) (λ c. omega arith)
     (λ c. omega arith) (λ c. omega arith) loop-again (λ c. c .before .loop .inv .kept) returns-2)

@@ -177,7 +177,7 @@ convert-requires c κs =
     convert-ready (l (f y) .loop .inv) (line-end (f y)) (f y .before .loop-test .taken) (told y) (stops k) (c .before .before .fill2 .ensures)
 
 sub-enter : tie.Need-sub-enter Inv-loop μ-loop
-sub-enter c = let y = y2 (c .before .before .before .before .before .before) in omega (arith, l (f y) .loop .inv .at-is)
+sub-enter c = let b = c .before .before .before .before .before .before in let y = y2 b in omega (arith, l (f y) .loop .inv .at-is)
 
 enter-requires : tie.Need-enter-requires Inv-loop μ-loop
 enter-requires c κs =
@@ -202,13 +202,13 @@ add-series c =
 
 add-from-2 : tie.Need-add-from-2 Inv-loop μ-loop
 add-from-2 c =
-    let y = y2 (c .before .before .before .before .before .before .before .before .before .before .before .before .before .before .before) in
+    let b = c .before .before .before .before .before .before .before .before .before .before .before .before .before .before .before in let y = y2 b in
     let h = good y in
     omega (arith, s (f y) .good)
 
 loop-less-2 : tie.Need-loop-less-2 Inv-loop μ-loop
 loop-less-2 c =
-    let y = y2 (c .before .before .before .before .before .before .before .before .before .before .before .before .before .before .before) in
+    let b = c .before .before .before .before .before .before .before .before .before .before .before .before .before .before .before in let y = y2 b in
     let h = good y in
     let e = f y .before .loop-test .taken in
     omega arith

@@ -72,7 +72,7 @@ fit-line-requires c κs =
     }
 
 any-high-requires : tie.Need-any-high-requires
-any-high-requires c κs = range (j (c .before .before .before .before .before .before))
+any-high-requires c κs = let b = c .before .before .before .before .before .before in range (j b)
 
 -- more than any strict line has
 module _ (c : tie.After-any-high) where

@@ -116,7 +116,7 @@ below-limit : {count : ℕ} → count ≤ widthCells → count ≤ textLimit
 below-limit h = omega arith
 
 names-fit : (a : tie.After-series2) → n a * 8 ≤ length (names-read (done a))
-names-fit a = within-names (few a) (a .before .before .before .before .before .names2 .given)
+names-fit a = let read = a .before .before .before .before .before .names2 in within-names (few a) (read .given)
 
 years-fit : (a : tie.After-series2) → n a ≤ length (years-read (done a))
 years-fit a = within (few a) (a .before .before .before .before .years2 .given)
@@ -141,8 +141,8 @@ slice-aggregate-write-3 c = let a = c .before .before .before .before .before .b
 
 array-share-prefix-widths : tie.Need-array-share-prefix-widths
 array-share-prefix-widths c =
-    widths-fit (c .before .before .before .before .before .before) (c .before .before .before .sum .result)
-    (c .before .before .before .sum .ensures)
+    let sum = c .before .before .before .sum in let a = c .before .before .before .before .before .before in
+    widths-fit a (sum .result) (sum .ensures)
 
 slice-aggregate-write-4 : tie.Need-slice-aggregate-write-4
 slice-aggregate-write-4 c =
@@ -184,9 +184,9 @@ module _ (w : tie.After-write) where
       writeEnd (take (n a * nameColumns) (names-read k)) (take (n a) (years-read k)) (take (n a) (counts-read k)) (take m (widths-read k)) out
       ≡ record { answers = answer (length (text k)); text = written 0 (outcomeText (readText (text k))) out }
   writes =
-      let r = k .read .ensures .1 in
+      let r = k .read .ensures .1 in let sum = w .before .before .before .before .before .before .sum in
       writes-whole (text k) (short k) cells (answered a) out (w .before .write-arg .given .0 .1)
-      (r .0) (r .1 .0) (r .1 .1 .0) (r .1 .1 .1) (w .before .before .before .before .before .before .sum .ensures)
+      (r .0) (r .1 .0) (r .1 .1 .0) (r .1 .1 .1) (sum .ensures)
 
 returns-2 : tie.Need-returns-2
 unfolding reply
@@ -215,5 +215,5 @@ rewrite-spec =
     (λ c. counts-fit (c .before)) (λ c. let a = c .before .before in sym (length-take-le (n a) (counts-read (done a)) (counts-fit a)))
     (λ c κs. below-limit (few-widths (c .before .before))) (λ c. names-fit (c .before .before .before)) slice-aggregate-write
     (λ c. years-fit (c .before .before .before .before)) slice-aggregate-write-2
-    (λ c. counts-fit (c .before .before .before .before .before)) slice-aggregate-write-3 array-share-prefix-widths slice-aggregate-write-4
+    (λ c. let a = c .before .before .before .before .before in counts-fit a) slice-aggregate-write-3 array-share-prefix-widths slice-aggregate-write-4
     (λ c κs. tt) (λ c. c .match2 .keys1) (λ c κs. tt) (λ c. c .match2 .keys2) returns returns-2 returns-3)

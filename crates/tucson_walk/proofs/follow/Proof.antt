@@ -33,8 +33,11 @@ module _ (c : tie.After-strict-line) where
   abbrev b : tie.After-skip-blank
   b = e .before
 
+  abbrev begun : tie.Start
+  begun = b .before .before .before .before .before
+
   abbrev text : Text
-  text = b .before .before .before .before .before .args .text .now
+  text = begun .args .text .now
 
   abbrev at : ℕ
   at = b .skip-blank .result .at
@@ -42,7 +45,7 @@ module _ (c : tie.After-strict-line) where
   abbrev end : ℕ
   end = b .skip-blank .result .end
 
-  skipped : Skipped text (b .before .before .before .before .before .args .past) at
+  skipped : Skipped text (begun .args .past) at
   skipped = b .skip-blank .ensures .skipped
 
   more : at < length text
@@ -81,7 +84,7 @@ returns-5 c =
       within = omega (arith, sizes l);
       further = λ e. omega (arith, sizes l, skipped l .passed .after);
       stands = λ e. told-stands t;
-      told = λ h i k ks x name. next-line (skipped l) x (line-end l) (more l) (b l .before .before .before .before .before .args .line .now) t name (c .same-name .result) (c .same-name .ensures);
+      told = λ h i k ks x name. next-line (skipped l) x (line-end l) (more l) (begun l .args .line .now) t name (c .same-name .result) (c .same-name .ensures);
     }
 
 pub follow-spec : {M : Type 1} → statement M
@@ -97,7 +100,7 @@ follow-spec =
     (λ c. search needs)
     (λ c. search needs)
     (λ c κs. search needs)
-    (λ c. let l = c .before .before .before .before .before .before in omega (arith, sizes l, b l .before .before .before .before .before .good))
+    (λ c. let l = c .before .before .before .before .before .before in omega (arith, sizes l, begun l .good))
     returns-3
     returns-4
     returns-5)

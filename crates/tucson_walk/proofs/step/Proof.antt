@@ -27,14 +27,14 @@ use Rattle.tucson_walk.proofs.step.Tie as tie
 returns : tie.Need-returns
 returns c =
     let p = c .before .before .put-other in
-    let d = c .before .before .before .before .before .before .before in
+    let t = c .before .before .before .before .before .before in let d = t .before in
     let s = d .before .before .before .before .before in
     let a = s .args in
     record {
       near = record { bytes-near = omega arith; lines-near = omega arith; cells-near = p .ensures .near };
       told = λ b ks w.
           step-other (a .unit) (a .header) (a .early) (a .text .now) (a .from) (a .end) (a .number) b ks (a .t) (s .pre .line) (s .pre .more) w
-          (sym (d .is-data .ensures) ∙ not-true (d .is-data .result) (c .before .before .before .before .before .before .if1 .taken)) (p .ensures);
+          (sym (d .is-data .ensures) ∙ not-true (d .is-data .result) (t .if1 .taken)) (p .ensures);
     }
 
 -- a line of data

@@ -71,7 +71,7 @@ slice-aggregate-put-kept c = sym (front (s (c .before .before)))
 
 put-kept-requires : tie.Need-put-kept-requires
 put-kept-requires c κs =
-    let t = s (c .before .before .before .before .before) in
+    let m = c .before .before .before .before .before in let t = s m in
     record { short = omega (arith, front t, t .pre .short); long = omega (arith, front t, stands-long (t .pre .stands)); near = t .pre .near }
 
 returns : tie.Need-returns

@@ -31,8 +31,11 @@ given s = record {
 
 -- the lists fit
 module _ (c : tie.Else1) where
+  abbrev s : tie.Start
+  s = c .before .before .before .before .before
+
   abbrev g : Given
-  g = given (c .before .before .before .before .before)
+  g = given s
 
   fit : listsFit (g .names) (g .years) (g .counts) (g .widths) ≡ true
   fit = sym (c .before .lists-fit .ensures) ∙ not-false _ (c .if1 .left)
@@ -61,7 +64,7 @@ module _ (c : tie.After-text-fits) where
 
 returns : tie.Need-returns
 returns c =
-    let g = given (c .before .before .before .before .before) in
+    let s = c .before .before .before .before .before in let g = given s in
     ends-refused g (lists-misfit g (sym (c .before .lists-fit .ensures) ∙ not-true _ (c .if1 .taken)))
 
 returns-2 : tie.Need-returns-2

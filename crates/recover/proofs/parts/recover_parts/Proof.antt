@@ -176,10 +176,10 @@ module _ (c : tie.After-place Inv-loop μ-loop) where
   refused-at = c .before .before .before .before .before .before .before .before .before .before .before .before .before .before .before .before
 
 same-length : tie.Need-same-length Inv-loop μ-loop
-same-length c = c .before .before .before .before .before .before .before .before .clear .kept .0 ∙ num-same (refused-at c)
+same-length c = let k = c .before .before .before .before .before .before .before .before .clear .kept in k .0 ∙ num-same (refused-at c)
 
 same-length-2 : tie.Need-same-length-2 Inv-loop μ-loop
-same-length-2 c = c .before .before .before .before .before .before .before .before .clear .kept .1 .0 ∙ den-same (refused-at c)
+same-length-2 c = let k = c .before .before .before .before .before .before .before .before .clear .kept in k .1 .0 ∙ den-same (refused-at c)
 
 returns : tie.Need-returns Inv-loop μ-loop
 returns c =

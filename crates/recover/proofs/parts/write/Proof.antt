@@ -62,9 +62,8 @@ unfolding fraction
 den-part q = refl
 
 -- the turn's cell is inside
-inside : (c : tie.After-struct-told2 Inv-loop μ-loop) → (c .before .before .before .before .before .args .from + c .before .before .before .before .loop
-    .i < length (c .before .before .before .before .loop .coef-num)) × (c .before .before .before .before .before .args .from + c .before .before .before
-    .before .loop .i < length (c .before .before .before .before .loop .coef-den))
+inside : (c : tie.After-struct-told2 Inv-loop μ-loop) → let a = c .before .before .before .before in let at = a .before .args .from + a .loop .i in
+    (at < length (a .loop .coef-num)) × (at < length (a .loop .coef-den))
 inside c =
     let a = c .before .before .before .before in
     let p = a .before .pre in

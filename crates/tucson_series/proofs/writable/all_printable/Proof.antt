@@ -21,15 +21,14 @@ returns c =
 
 returns-2 : tie.Need-returns-2 Inv-loop μ-loop
 returns-2 c =
-    let l = c .before .before .before .before .loop in
-    sym (l .inv .1 ∙ printable-high (c .before .before .before .before .before .args .name .now) (l .i) (omega arith) (c .if2 .taken))
+    let name = c .before .before .before .before .before .args .name .now in let l = c .before .before .before .before .loop in
+    sym (l .inv .1 ∙ printable-high name (l .i) (omega arith) (c .if2 .taken))
 
 loop-again : tie.Need-loop-again Inv-loop μ-loop
 loop-again c =
-    let l = c .before .before .before .before .loop in (
+    let name = c .before .before .before .before .before .args .name .now in let l = c .before .before .before .before .loop in (
       omega arith,
-      l .inv .1 ∙ printable-next (c .before .before .before .before .before .args .name .now) (l .i) (omega arith) (c .before .if1 .left)
-          (c .if2 .left),
+      l .inv .1 ∙ printable-next name (l .i) (omega arith) (c .before .if1 .left) (c .if2 .left),
     )
 
 returns-3 : tie.Need-returns-3 Inv-loop μ-loop

@@ -126,5 +126,5 @@ first-unwritable-spec =
     (λ c. omega (arith, c .shared-slice-known3 .given (c .before .before .loop .k))) add-to
     (λ c. omega (arith, c .before .before .loop .inv .walked .passed)) (λ c. omega (arith, c .before .before .loop .inv .walked .passed))
     mul-is-writable-2 (λ c. omega arith) (λ c. omega arith) part-is-writable-end is-writable-requires add-at
-    (λ c. omega (arith, c .before .before .before .before .before .before .loop .inv .walked .passed))
-    (λ c. omega (arith, c .before .before .before .before .before .before .loop .inv .walked .passed)) loop-again returns returns-2)
+    (λ c. let l = c .before .before .before .before .before .before .loop in omega (arith, l .inv .walked .passed))
+    (λ c. let l = c .before .before .before .before .before .before .loop in omega (arith, l .inv .walked .passed)) loop-again returns returns-2)
