@@ -7,7 +7,8 @@ import os
 import shlex
 import subprocess
 import sys
-from collections.abc import Callable, Sequence
+from collections.abc import Callable, Iterator, Sequence
+from contextlib import contextmanager
 from pathlib import Path
 
 ROOT = Path(__file__).resolve().parents[1]
@@ -15,6 +16,7 @@ ARCHIVES = ROOT / "target/staticlib"
 CURVES, INDICES = ARCHIVES / "libwalzhik.a", ARCHIVES / "libwalzhik_indices.a"
 CC = ["cc", "-std=c11", "-O2", "-Wall", "-Wextra", "-Werror", "-Iinclude"]
 RUSTC = ["rustc", "--edition", "2021", "-O", "-D", "warnings", "-L", "target/staticlib"]
+SET_UP = ["./walzhik", "explain", "examples/sheets/w1.sheet"]  # the command sets the package up where that is not done
 SAID = 6000  # characters of what a command said that a failure shows
 
 
@@ -62,6 +64,16 @@ def built_once(own: Path) -> Built:
     made = Built((own.parent if "PYTEST_XDIST_WORKER" in os.environ else own) / "built")
     made.once("archives", lambda _: [ended(["rt", "staticlib", name]) for name in ("walzhik", "walzhik_indices")])
     return made
+
+
+@contextmanager
+def archives_at_rest(own: Path) -> Iterator[None]:
+    """While no other process of a run, whose own folder is this, builds the archives anew; the package is linked to them first."""
+    made = built_once(own)
+    with open(made.folder / "at_rest.lock", "w") as lock:
+        fcntl.flock(lock, fcntl.LOCK_EX)
+        ended(SET_UP)
+        yield
 
 
 def proved_programs(made: Built) -> Path:

@@ -6,10 +6,7 @@ from pathlib import Path
 from typing import Any
 
 import pytest
-from building import CURVES, INDICES, ROOT, Built, built_once, ended, proved_programs
-
-# The command sets the package up where that is not done.
-SET_UP = ["./walzhik", "explain", "examples/sheets/w1.sheet"]
+from building import CURVES, INDICES, ROOT, SET_UP, Built, built_once, ended, proved_programs
 
 # Scripts that the tests start as programs, and data beside them: pytest takes up test_*.py alone.
 collect_ignore_glob = ["reference/*", "outside/*", "driver/*"]

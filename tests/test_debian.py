@@ -55,8 +55,10 @@ def older(built: Built, programs: Path, package: None) -> list[Path]:
 def test_lintian(debs: list[Path]) -> None:
     """Nothing is said of the packages that debian/ does not answer."""
     assert [path.name.partition("_")[0] for path in debs] == sorted(PACKAGES)
-    root = ["--allow-root"]
-    assert ended(["lintian", *root, "--pedantic", "--display-info", "--fail-on", "error", *debs]) == ""
+    options = ["--allow-root", "--pedantic", "--display-info", "--fail-on", "error"]
+    # That tag takes bytes of machine code for words: which ones, another build changes, so no override fits.
+    options += ["--suppress-tags", "spelling-error-in-binary"]
+    assert ended(["lintian", *options, *debs]) == ""
 
 
 def test_what_is_not_proved_is_refused(tmp_path: Path) -> None:

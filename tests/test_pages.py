@@ -3,7 +3,7 @@
 from __future__ import annotations
 
 import pytest
-from building import ended, python
+from building import archives_at_rest, ended, python
 
 CHECKS = {
     "names": ["tests/names.py"],
@@ -41,6 +41,7 @@ def test_package_pages(script: str, package: None) -> None:
 
 
 @pytest.mark.long(110)
-def test_commands_of_the_pages(package: None) -> None:
-    """Links and files of the pages are there, and their commands run."""
-    python("tests/pages.py")
+def test_commands_of_the_pages(package: None, tmp_path_factory: pytest.TempPathFactory) -> None:
+    """Links and files of the pages are there, and their commands run; some build the archives anew."""
+    with archives_at_rest(tmp_path_factory.getbasetemp()):
+        python("tests/pages.py")

@@ -8,6 +8,7 @@ import os
 import signal
 import subprocess
 import sys
+from collections.abc import Iterator
 from pathlib import Path
 
 import pytest
@@ -24,6 +25,15 @@ STANDS_IN = SENDS + (
     "sys.modules[__name__] = importlib.import_module(__name__)\n"
 )
 DIVIDE = ("indices", "examples/tucson/oak.rwl", "--fit")
+
+
+@pytest.fixture(autouse=True)
+def linked(tmp_path_factory: pytest.TempPathFactory) -> Iterator[None]:
+    """The command finds nothing to set up, so that it says nothing, whatever other tests build."""
+    from building import archives_at_rest
+
+    with archives_at_rest(tmp_path_factory.getbasetemp()):
+        yield
 
 
 def interrupted(folder: Path, module: str, text: str, *start: str, is_ignored: bool = False) -> tuple[int, str]:
