@@ -3,7 +3,8 @@
 usage: quotations.py [--self-test]
 
 Every text in quotation marks in a comment of the crates must stand, line breaks and marks of emphasis apart, in the § that the comment
-names next after it (or, where none comes after it, last before it); "before § 1" is the page's head. Every § ends with a line
+names next after it (or, where none comes after it, last before it); "before § 1" is the page's head. Where a comment names a paragraph,
+`(§ 16, the header and the other lines)`, a § with paragraphs that begin in bold has these. Every § ends with a line
 `Definitions: crate: File, File; crate: File.`; each of these files is there and names the §, and every file of definitions in the crates
 spec_* is named. --self-test shows that each kind of fault is found.
 """
@@ -71,6 +72,17 @@ def quotation_faults(comment: str, page: dict[str, str]) -> list[str]:
     return faults + (["a quotation is not closed"] if comment.count('"') % 2 else [])
 
 
+def paragraph_faults(comment: str, page: str) -> list[str]:
+    """Paragraphs that a comment names and the § does not have."""
+    faults = []
+    for named in re.finditer(r"\(§ (\d+), ([^)\"]+)\)", comment):
+        text = sections(page).get(f"§ {named[1]}", "")
+        begun = {bold.rstrip(".").lower() for bold in re.findall(r"^\*\*(.+?)\*\*", text, re.MULTILINE)}
+        parts = named[2].split(" and ") if begun and named[2][0].isalpha() else []
+        faults += [f"§ {named[1]} has no paragraph {part}" for part in parts if part not in begun]
+    return faults
+
+
 def named_files(line: str) -> list[tuple[str, str]]:
     """The crates and files of a line of definitions."""
     places = (place.partition(": ") for place in line.rstrip(".").split("; "))
@@ -125,6 +137,11 @@ def self_test() -> int:
     missed = [text for text, fault in wrong.items() if fault not in quotation_faults(text, page)]
     right = ['"m from 1 to 48" (§ 1)', '(§ 12): "19 where that sum is not zero"', '"halves upwards" (before § 1)']
     missed += [text for text in right if quotation_faults(text, page)]
+    paragraphs = "## 16. Files\n\n**The text.** It ends.\n\n**A strict line** has columns.\n"
+    if paragraph_faults("(§ 16, the text and the lines)", paragraphs) != ["§ 16 has no paragraph the lines"]:
+        missed.append("a paragraph that is not there")
+    if paragraph_faults("(§ 16, the text and a strict line)", paragraphs):
+        missed.append("paragraphs that are there")
     lines = {
         "Definitions: spec_spline: Spaces.": "§ 1 names spec_spline: Spaces, which is not there",
         "Definitions: spec_splines: Space.": "§ 1 names spec_splines: Space, which is not there",
@@ -156,7 +173,8 @@ def main() -> int:
     for path in sorted(path for path in CRATES.rglob("*") if path.suffix in (".antt", ".rt")):
         for line, comment in comments(path.read_text(encoding="utf-8")):
             count += len(re.findall(r'"[^"]*"', comment))
-            faults += [f"{path.relative_to(ROOT)}:{line}: {fault}" for fault in quotation_faults(comment, texts)]
+            found = quotation_faults(comment, texts) + paragraph_faults(comment, page)
+            faults += [f"{path.relative_to(ROOT)}:{line}: {fault}" for fault in found]
     return status_of(faults, f"quotations: {count} in comments, {len(texts)} sections")
 
 

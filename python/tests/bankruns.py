@@ -16,7 +16,7 @@ from types import TracebackType
 from typing import Any
 
 import pytest
-from conftest import ROOT
+from running import ROOT
 
 FILES, SERIES, RINGS = 60, 3, 60
 THREADS = ("OMP_NUM_THREADS", "OPENBLAS_NUM_THREADS", "MKL_NUM_THREADS")

@@ -1,4 +1,4 @@
-"""What the tests share: where the checkout and its rational program are, one profile of hypothesis whose cases are the
+"""What the tests share: where the rational program is, one profile of hypothesis whose cases are the
 same in every run, and a way to run the command within the test's own process.
 """
 
@@ -8,14 +8,12 @@ import io
 import os
 import signal
 import sys
-from collections.abc import Callable
 from pathlib import Path
-from typing import NamedTuple
 
 import pytest
 from hypothesis import settings
+from running import ROOT, Ended, Run
 
-ROOT = Path(__file__).resolve().parents[2]
 sys.path[:0] = [str(ROOT / "tests" / "reference"), str(ROOT / "tests")]
 os.environ.setdefault("WALZHIK_ROOT", str(ROOT))
 # As the command does for its own process, before a test loads the numerical libraries: so workers can be copies of it.
@@ -36,17 +34,6 @@ def rings_program(tmp_path_factory: pytest.TempPathFactory) -> Path:
     from building import built_once, proved_programs
 
     return proved_programs(built_once(tmp_path_factory.getbasetemp())) / "rings"
-
-
-class Ended(NamedTuple):
-    """How a command has ended."""
-
-    status: int
-    out: str
-    err: str
-
-
-Run = Callable[..., Ended]
 
 
 @pytest.fixture

@@ -18,7 +18,7 @@ from time import monotonic, sleep
 import pytest
 from bankruns import FILES, MOST_SECONDS, Cluster, environment
 from bankruns import bank, disturbed, left, python, started, undisturbed  # noqa: F401
-from conftest import ROOT, Run
+from running import ROOT, Run
 
 from walzhik.bank.address import address
 from walzhik.bank.inputs import found

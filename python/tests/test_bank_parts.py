@@ -18,9 +18,9 @@ from pathlib import Path
 
 import pytest
 from bankruns import environment, python, refusals, report
-from conftest import Run
 from hypothesis import given
 from hypothesis import strategies as st
+from running import Run
 
 from walzhik import tucson
 from walzhik.bank import local, lock, reading, sketch

@@ -17,7 +17,7 @@ from pathlib import Path
 import pytest
 from bankruns import DAMAGED, FILES, REFUSED, RINGS, SERIES, SHORT, WINDOWS
 from bankruns import bank, disturbed, left, refusals, report, started, undisturbed  # noqa: F401
-from conftest import Run
+from running import Run
 
 from walzhik.bank.manifest import Manifest
 from walzhik.bank.records import Record

@@ -7,7 +7,7 @@ from pathlib import Path
 import numpy as np
 import pytest
 from commandline import OAK, rwl
-from conftest import Run
+from running import Run
 
 from walzhik.fit import fit, template
 from walzhik.sheet import read

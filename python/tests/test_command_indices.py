@@ -11,7 +11,7 @@ from pathlib import Path
 import numpy as np
 import pytest
 from commandline import OAK, PARTS, REFUSED, ROOF, UNUSABLE, line_sheet, rwl, table
-from conftest import ROOT, Run
+from running import ROOT, Run
 
 from walzhik import tucson
 from walzhik.sheet import Sheet, read

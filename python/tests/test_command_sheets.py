@@ -8,7 +8,7 @@ from pathlib import Path
 import numpy as np
 import pytest
 from commandline import GROWTH, OAK, PARTS, REFUSED, ROOF, UNUSABLE, line_sheet, rwl, table
-from conftest import ROOT, Run
+from running import ROOT, Run
 
 from walzhik.sheet import Sheet, read
 from walzhik.tucson import Series

@@ -15,7 +15,7 @@ from pathlib import Path
 import click
 import pytest
 from commandline import OAK, PARTS, REFUSED, ROOF, UNUSABLE
-from conftest import ROOT, Run
+from running import ROOT, Run
 
 from walzhik.cli import cli
 from walzhik.files import write_whole

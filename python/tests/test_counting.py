@@ -6,7 +6,7 @@ from pathlib import Path
 
 import pytest
 from commandline import OAK, ROOF, UNUSABLE, line_sheet, rwl, table
-from conftest import Run
+from running import Run
 
 from walzhik.counting import Counting
 from walzhik.sheet import read

@@ -7,7 +7,7 @@ from pathlib import Path
 
 import pytest
 from commandline import OAK, PARTS, REFUSED, ROOF, UNUSABLE, line_sheet
-from conftest import ROOT, Run
+from running import ROOT, Run
 
 from walzhik import tucson
 from walzhik.formats import kind_of

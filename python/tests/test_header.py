@@ -8,7 +8,7 @@ import subprocess
 from pathlib import Path
 
 import pytest
-from conftest import ROOT
+from running import ROOT
 
 from walzhik import _build
 from walzhik.words.table import table

@@ -12,7 +12,7 @@ from collections.abc import Iterator
 from pathlib import Path
 
 import pytest
-from conftest import ROOT
+from running import ROOT
 
 from walzhik.cli import INTERRUPTED
 

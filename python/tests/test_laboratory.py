@@ -11,9 +11,9 @@ from pathlib import Path
 from typing import NamedTuple
 
 import pytest
-from conftest import ROOT, Run
 from hypothesis import HealthCheck, assume, example, given, settings
 from hypothesis import strategies as st
+from running import ROOT, Run
 
 from space import Refusal
 from tucson import read_tucson

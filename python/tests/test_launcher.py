@@ -13,7 +13,7 @@ import sysconfig
 from pathlib import Path
 
 import pytest
-from conftest import ROOT
+from running import ROOT
 
 from walzhik import __version__
 
@@ -53,7 +53,8 @@ class Checkout:
         script(self.tools / "rt", KIT.format(notes=self.notes, root=ROOT, seconds=seconds))
 
     def environment(self) -> dict[str, str]:
-        kept = {name: value for name, value in os.environ.items() if name not in ("WALZHIK_ROOT", "PYTHONPATH")}
+        left_out = ("WALZHIK_ROOT", "PYTHONPATH", "RT_JOBS")
+        kept = {name: value for name, value in os.environ.items() if name not in left_out}
         return kept | {"PATH": f"{self.tools}:{os.environ['PATH']}"}
 
     def start(self, *arguments: str) -> subprocess.Popen[str]:
@@ -103,6 +104,14 @@ def test_a_program_of_the_table_of_crates_is_built_too(checkout: Checkout) -> No
     status, _, err = checkout.run("explain", SHEET)
     assert status == 2 and checkout.asked()[0] == "4 " + CHECK.replace("tucson", "tucson rings")
     assert "is not there. Remove" in err
+
+
+def test_how_many_crates_at_a_time_can_be_said(checkout: Checkout, monkeypatch: pytest.MonkeyPatch) -> None:
+    script(checkout.tools / "rt", f'#!/bin/sh\necho "$RT_JOBS $*" >>"{checkout.notes}"\n')
+    environment = checkout.environment() | {"RT_JOBS": "1"}
+    monkeypatch.setattr(checkout, "environment", lambda: environment)
+    checkout.run("explain", SHEET)
+    assert checkout.asked()[0] == "1 " + CHECK
 
 
 def test_a_newer_archive_is_linked_again(checkout: Checkout) -> None:

@@ -6,7 +6,7 @@ import ast
 from collections.abc import Iterator
 from pathlib import Path
 
-from conftest import ROOT
+from running import ROOT
 
 PACKAGE = ROOT / "python" / "src" / "walzhik"
 # From the lowest. A folder stands for all of its modules that are not named; what is named nowhere is of the library, between

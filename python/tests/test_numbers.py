@@ -7,9 +7,9 @@ from pathlib import Path
 
 import pytest
 from commandline import GROWTH, OAK, REFUSED, ROOF, UNUSABLE
-from conftest import Run
 from hypothesis import given
 from hypothesis import strategies as st
+from running import Run
 
 from walzhik.decimals import MOST_CHARACTERS, NoNumber, exact, whole
 

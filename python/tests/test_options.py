@@ -6,7 +6,7 @@ from pathlib import Path
 
 import pytest
 from commandline import OAK, ROOF, UNUSABLE
-from conftest import Run
+from running import Run
 
 
 @pytest.mark.parametrize(

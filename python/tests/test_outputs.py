@@ -12,7 +12,7 @@ from pathlib import Path
 
 import pytest
 from commandline import UNUSABLE, line_sheet, rwl
-from conftest import ROOT, Run
+from running import ROOT, Run
 
 from walzhik import commands
 from walzhik.files import same_as

@@ -6,7 +6,7 @@ from walzhik.explain import COUNT_ON
 from walzhik.promises import falls, furthest, index_line, most_moved, promises, reaches
 from walzhik.sheet import Sheet, lists_of
 
-from conftest import ROOT, Run
+from running import ROOT, Run
 
 BEAM = Sheet([0, 1, 2, 4], [1, 2, 3], [-1, 1], [(9, 0), (7, 1), (7, 2), (5, 3), (3, 3), (1, 4), (0, 9)])
 

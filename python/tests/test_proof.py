@@ -9,7 +9,7 @@ from pathlib import Path
 
 import click
 import pytest
-from conftest import ROOT, Run
+from running import ROOT, Run
 
 from walzhik import __version__, _build, _proof
 from walzhik.cli import GROUPS, cli, main

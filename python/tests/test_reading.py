@@ -6,7 +6,7 @@ from pathlib import Path
 
 import pytest
 from commandline import OAK, REFUSED, UNUSABLE
-from conftest import ROOT, Run
+from running import ROOT, Run
 
 from walzhik import tucson
 

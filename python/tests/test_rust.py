@@ -9,7 +9,7 @@ import subprocess
 from pathlib import Path
 
 import pytest
-from conftest import ROOT
+from running import ROOT
 
 
 def test_the_build_looks_at_the_archives(tmp_path: Path) -> None:

@@ -8,9 +8,9 @@ from pathlib import Path
 
 import pytest
 from commandline import OAK, PARTS, REFUSED, ROOF
-from conftest import ROOT, Run
 from hypothesis import given
 from hypothesis import strategies as st
+from running import ROOT, Run
 
 from walzhik import sheet
 from walzhik.curve import Curve

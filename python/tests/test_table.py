@@ -14,10 +14,10 @@ from random import Random
 import numpy as np
 import pytest
 from commandline import OAK, PARTS, REFUSED, ROOF, UNUSABLE, line_sheet, rwl, table
-from conftest import ROOT, Run
 from hypothesis import given
 from hypothesis import strategies as st
 from random_table import NAMES, random_input
+from running import ROOT, Run
 from table import TABLE_HEAD, all_lines, rings, series_of, sheet_of, wood_of
 
 from walzhik import Curve, Space, tucson

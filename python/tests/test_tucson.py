@@ -7,9 +7,9 @@ from pathlib import Path
 
 import numpy as np
 import pytest
-from conftest import ROOT
 from hypothesis import given
 from hypothesis import strategies as st
+from running import ROOT
 
 from walzhik import Refused, tucson
 from walzhik.tucson import Series

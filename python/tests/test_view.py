@@ -14,12 +14,12 @@ from zipfile import ZipFile
 
 import numpy as np
 import pytest
-from conftest import ROOT, Run
 from flask.testing import FlaskClient
 from hypothesis import given, settings
 from hypothesis import strategies as st
 from random_spaces import space_lists
 from random import Random
+from running import ROOT, Run
 
 from walzhik import Curve, Refused, Space, sheet, tucson
 from walzhik.counting import Counting

@@ -21,7 +21,7 @@ from typing import Any
 from urllib.parse import urlsplit
 
 import pytest
-from conftest import ROOT, Run
+from running import ROOT, Run
 from test_view import roof
 
 from walzhik.view.server import MOST_BODY, WAITING, Screen

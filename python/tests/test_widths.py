@@ -10,10 +10,10 @@ from pathlib import Path
 
 import pytest
 from commandline import OAK, REFUSED, UNUSABLE
-from conftest import ROOT, Run
 from damage import damaged
 from hypothesis import given
 from hypothesis import strategies as st
+from running import ROOT, Run
 
 from walzhik import tucson, widths
 from walzhik.errors import Refused

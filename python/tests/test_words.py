@@ -9,7 +9,7 @@ from collections.abc import Callable, Mapping
 from pathlib import Path
 
 import pytest
-from conftest import ROOT
+from running import ROOT
 
 from walzhik import Curve, Refused, Space, explain, notes, sheet, tucson
 from walzhik.recover import recover
